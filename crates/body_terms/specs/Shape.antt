@@ -39,6 +39,20 @@ abbrev pub is_answer : Step → Bool
 is_answer (Answer reply) = true
 is_answer _ = false
 
+-- a step of a body that changes nothing: it loads a cell, tests what was loaded, or is the stamp or the answer
+abbrev pub is_look : Step → Bool
+is_look (Load place into) = true
+is_look (Want reg word) = true
+is_look Stamp = true
+is_look (Answer reply) = true
+is_look _ = false
+
+-- the places that these steps load, in their order
+abbrev pub loaded_places : List Step → List ℕ
+loaded_places [] = []
+loaded_places (Load place into ∷ steps) = place ∷ loaded_places steps
+loaded_places (step ∷ steps) = loaded_places steps
+
 -- the values that a step uses; the register of a Want, a Fresh or a Store is used as a loaded word
 abbrev pub used_values : Step → List Value
 used_values (Want reg word) = Of reg ∷ []

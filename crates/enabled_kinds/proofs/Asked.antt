@@ -111,6 +111,7 @@ is_outside_kind (kinds.LoadThunk (Some d)) = true
 is_outside_kind (kinds.Hold thunk d) = true
 is_outside_kind (kinds.Join worker) = true
 is_outside_kind (kinds.LoadEntry request reply) = true
+is_outside_kind (kinds.ReadPlan thunk) = true
 is_outside_kind _ = false
 
 module _ (m : Meaning) (l : Layout) (rs : List Request) (r : ℕ) (p : PartState) where
@@ -145,6 +146,7 @@ module _ (m : Meaning) (l : Layout) (rs : List Request) (r : ℕ) (p : PartState
   not_inside (kinds.Hold thunk d) q free x h e = nothing (is_open_run q) x e
   not_inside (kinds.Join worker) q free x h e = nothing (is_open_run q) x e
   not_inside (kinds.LoadEntry request reply) q free x h e = nothing (is_open_run q) x e
+  not_inside (kinds.ReadPlan thunk) q free x h e = nothing (is_open_run q) x e
   not_inside _ q free x h e = absurd (not_both false h refl)
 
   outside_by : (k : EventKind) (o : Option RunState) (x : Spot × Access) → is_outside_kind k ≡ true → ask_by m l rs r k p o ≡ Some x → outside_ask m l rs r k p ≡ Some x

@@ -31,7 +31,7 @@ module _ (m : Meaning) (l : Layout) (rs : List Request) (r : ℕ) (p : PartState
     clear = λ k h e. dite (ℕ_discrete k n) (λ same. subst (MayNot m l rs r p) (sym same) none) (λ other. so_far.clear k (omega (arith, h, other)) e);
   }
 
-  pub one_set : (bits n bits' : ℕ) → n < 31 → bits' ≡ bit_or bits (1 * 2 ^ n % 2 ^ 64) → Gathered bits n → May m l rs r p n → Gathered bits' (n + 1)
+  pub one_set : (bits n bits' : ℕ) → n < 40 → bits' ≡ bit_or bits (1 * 2 ^ n % 2 ^ 64) → Gathered bits n → May m l rs r p n → Gathered bits' (n + 1)
   one_set bits n bits' few is so_far some =
       let within : n < 64 = omega (arith, few) in
       rw is (record {
@@ -41,11 +41,11 @@ module _ (m : Meaning) (l : Layout) (rs : List Request) (r : ℕ) (p : PartState
             (λ other. so_far.clear k (omega (arith, h, other)) (sym (bit_at_set_other w64 bits n within k other) ∙ e));
       })
 
-  bit_of : (bits n : ℕ) → Gathered bits n → 31 ≤ n → (k : ℕ) → May m l rs r p k → bit_at bits k ≡ 1
+  bit_of : (bits n : ℕ) → Gathered bits n → 40 ≤ n → (k : ℕ) → May m l rs r p k → bit_at bits k ≡ 1
   bit_of bits n all past k some =
       let few = few_kinds some.kind in
       let is = some.is_of in
       ⊎_elim (λ nought. absurd (not_both _ some.enabled (all.clear k (omega (arith, few, is, past)) nought some.kind some.is_of some.given))) (λ set. set) (zero_or_one (bit_at bits k) (bit_at-lt bits k))
 
-  pub all_told : (bits n : ℕ) → Gathered bits n → 31 ≤ n → AreEnabled m l rs r p bits
+  pub all_told : (bits n : ℕ) → Gathered bits n → 40 ≤ n → AreEnabled m l rs r p bits
   all_told bits n all past k = (all.set k, bit_of bits n all past k)

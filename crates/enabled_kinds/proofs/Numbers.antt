@@ -30,7 +30,9 @@ plain_only kinds.LoadDone k' e = the_same kinds.LoadDone k' e
 plain_only (kinds.Hold thunk d) k' e = absurd (absent k' e)
 plain_only kinds.SetDone k' e = the_same kinds.SetDone k' e
 plain_only kinds.Release k' e = the_same kinds.Release k' e
-plain_only kinds.ClockLoad k' e = the_same kinds.ClockLoad k' e
+plain_only kinds.ClockLoad k' e = absurd (absent k' e)
+plain_only (kinds.ReadPlan thunk) k' e = absurd (absent k' e)
+plain_only kinds.ReadClock k' e = absurd (absent k' e)
 plain_only kinds.StampExchange k' e = the_same kinds.StampExchange k' e
 plain_only kinds.ClockRaise k' e = the_same kinds.ClockRaise k' e
 plain_only kinds.ReplyExchange k' e = the_same kinds.ReplyExchange k' e
@@ -40,21 +42,27 @@ plain_only kinds.NestedLoad k' e = the_same kinds.NestedLoad k' e
 plain_only kinds.NestedHold k' e = the_same kinds.NestedHold k' e
 plain_only kinds.OutcomeLoad k' e = the_same kinds.OutcomeLoad k' e
 plain_only kinds.OutcomeCommit k' e = the_same kinds.OutcomeCommit k' e
+plain_only kinds.ReadReply k' e = the_same kinds.ReadReply k' e
+plain_only kinds.ReadStamp k' e = the_same kinds.ReadStamp k' e
 
 -- the kinds whose events carry arguments
-pub argued : (k : EventKind) → plain_kind (kind_number k) ≡ None → kind_number k ≢ 5 → kind_number k ≢ 9 → kind_number k ≢ 11 → kind_number k ≢ 12 → kind_number k ≢ 16 → kind_number k ≢ 18 → kind_number k ≢ 25 → kind_number k ≢ 26 → ⊥
-argued (kinds.ScanOne n) e n5 n9 n11 n12 n16 n18 n25 n26 = n5 refl
-argued (kinds.LoadCell place) e n5 n9 n11 n12 n16 n18 n25 n26 = n9 refl
-argued (kinds.PrivateLoad slot word) e n5 n9 n11 n12 n16 n18 n25 n26 = n11 refl
-argued (kinds.PrivateStore slot word number) e n5 n9 n11 n12 n16 n18 n25 n26 = n12 refl
-argued (kinds.LoadThunk d) e n5 n9 n11 n12 n16 n18 n25 n26 = n16 refl
-argued (kinds.Hold thunk d) e n5 n9 n11 n12 n16 n18 n25 n26 = n18 refl
-argued (kinds.Join worker) e n5 n9 n11 n12 n16 n18 n25 n26 = n25 refl
-argued (kinds.LoadEntry request reply) e n5 n9 n11 n12 n16 n18 n25 n26 = n26 refl
-argued _ e n5 n9 n11 n12 n16 n18 n25 n26 = present _ e
+pub argued : (k : EventKind) → plain_kind (kind_number k) ≡ None → kind_number k ≢ 5 → kind_number k ≢ 9 → kind_number k ≢ 11 → kind_number k ≢ 12 → kind_number k ≢ 16 → kind_number k ≢ 18 → kind_number k ≢ 21 → kind_number k ≢ 25 → kind_number k ≢ 26 → kind_number k ≢ 39 → ⊥
+argued (kinds.ScanOne n) e n5 n9 n11 n12 n16 n18 n21 n25 n26 n39 = n5 refl
+argued (kinds.LoadCell place) e n5 n9 n11 n12 n16 n18 n21 n25 n26 n39 = n9 refl
+argued (kinds.PrivateLoad slot word) e n5 n9 n11 n12 n16 n18 n21 n25 n26 n39 = n11 refl
+argued (kinds.PrivateStore slot word number) e n5 n9 n11 n12 n16 n18 n21 n25 n26 n39 = n12 refl
+argued (kinds.LoadThunk d) e n5 n9 n11 n12 n16 n18 n21 n25 n26 n39 = n16 refl
+argued (kinds.Hold thunk d) e n5 n9 n11 n12 n16 n18 n21 n25 n26 n39 = n18 refl
+argued kinds.ClockLoad e n5 n9 n11 n12 n16 n18 n21 n25 n26 n39 = n21 refl
+argued kinds.ReadClock e n5 n9 n11 n12 n16 n18 n21 n25 n26 n39 = n21 refl
+argued (kinds.Join worker) e n5 n9 n11 n12 n16 n18 n21 n25 n26 n39 = n25 refl
+argued (kinds.LoadEntry request reply) e n5 n9 n11 n12 n16 n18 n21 n25 n26 n39 = n26 refl
+argued (kinds.ReadPlan thunk) e n5 n9 n11 n12 n16 n18 n21 n25 n26 n39 = n39 refl
+argued _ e n5 n9 n11 n12 n16 n18 n21 n25 n26 n39 = present _ e
 
 pub given_plain : (k k' : EventKind) → plain_kind (kind_number k) ≡ Some k' → IsGiven k
 given_plain (kinds.Hold thunk d) k' e = absurd (absent k' e)
+given_plain (kinds.ReadPlan thunk) k' e = absurd (absent k' e)
 given_plain _ k' e = tt
 
 -- an event of a kind by its number
@@ -83,15 +91,24 @@ module _ (P : EventKind → Type 0) where
   only_hold each (kinds.Hold thunk d) e = each thunk d
   only_hold each _ e = absurd (omega (arith, e))
 
+  pub only_clock : P kinds.ClockLoad → P kinds.ReadClock → (k : EventKind) → kind_number k ≡ 21 → P k
+  only_clock inside outside kinds.ClockLoad e = inside
+  only_clock inside outside kinds.ReadClock e = outside
+  only_clock inside outside _ e = absurd (omega (arith, e))
+
   pub only_join : ((worker : ℕ) → P (kinds.Join worker)) → (k : EventKind) → kind_number k ≡ 25 → P k
   only_join each (kinds.Join worker) e = each worker
   only_join each _ e = absurd (omega (arith, e))
+
+  pub only_plan : ((thunk : Thunk) → P (kinds.ReadPlan thunk)) → (k : EventKind) → kind_number k ≡ 39 → P k
+  only_plan each (kinds.ReadPlan thunk) e = each thunk
+  only_plan each _ e = absurd (omega (arith, e))
 
   pub only_entry : ((request : ℕ) (reply : Bool) → P (kinds.LoadEntry request reply)) → (k : EventKind) → kind_number k ≡ 26 → P k
   only_entry each (kinds.LoadEntry request reply) e = each request reply
   only_entry each _ e = absurd (omega (arith, e))
 
-pub few_kinds : (k : EventKind) → kind_number k < 31
+pub few_kinds : (k : EventKind) → kind_number k < 40
 few_kinds kinds.EnterLoad = omega arith
 few_kinds kinds.Announce = omega arith
 few_kinds kinds.EnterAgain = omega arith
@@ -123,3 +140,7 @@ few_kinds kinds.NestedLoad = omega arith
 few_kinds kinds.NestedHold = omega arith
 few_kinds kinds.OutcomeLoad = omega arith
 few_kinds kinds.OutcomeCommit = omega arith
+few_kinds (kinds.ReadPlan thunk) = omega arith
+few_kinds kinds.ReadClock = omega arith
+few_kinds kinds.ReadReply = omega arith
+few_kinds kinds.ReadStamp = omega arith

@@ -3,6 +3,7 @@ use Rattle.std.specs.Prelude.{Bool, true, false, ◌==◌, ◌||◌, nat_lt, nat
 use Rattle.std.specs.List.{list_any}
 use Rattle.std.proofs.Common.{◌≡◌, ◌<◌, ℕ, List, length, ⊎_elim, sym, refl, ap, ◌∙◌, Option, Some, None, arith}
 use Rattle.map_history.specs.declared.op.Request.{Request}
+use Rattle.body_terms.specs.declared.thunk.Thunk.{Thunk}
 use Rattle.table_words.specs.declared.layout.Layout.{Layout}
 use Rattle.table_words.specs.declared.spot.Spot.{Spot}
 use Rattle.table_words.specs.declared.access.Access.{Access}
@@ -19,8 +20,9 @@ use Rattle.runner_steps.specs.Outside.{scan_one_ask, entry_spot}
 use Rattle.runner_steps.specs.Asks.{sizes_for}
 use Rattle.enabled_kinds.specs.Kinds.{kind_number, plain_kind, IsGiven}
 use Rattle.enabled_kinds.specs.May.{is_enabled, is_enabled_if, May, Tells}
+use Rattle.enabled_kinds.specs.Tried.{no_thunk}
 use Rattle.enabled_kinds.proofs.Asked.{absent, not_both, not_true, both, either, neither, equal, some_passes, none_passes, when_asks, asks_when, below, is_below, resting_asks, asked, enabled, asked_outside}
-use Rattle.enabled_kinds.proofs.Numbers.{plain_only, only_scan, only_cell, only_thunk, only_join, only_entry}
+use Rattle.enabled_kinds.proofs.Numbers.{plain_only, only_scan, only_cell, only_thunk, only_clock, only_plan, only_join, only_entry}
 
 module _ (m : Meaning) (l : Layout) (rs : List Request) (r : ℕ) (p : PartState) where
   abbrev can : EventKind → Bool
@@ -104,6 +106,25 @@ module _ (m : Meaning) (l : Layout) (rs : List Request) (r : ℕ) (p : PartState
   join_tells b found missed = record {
     found = λ h. let x = found h in one (kinds.Join x.0) tt x.1;
     missed = λ h. only_join (λ k. IsGiven k → can k ≡ false) (λ worker given. not_true (can (kinds.Join worker)) (λ e. not_both _ e (missed h worker (join_inside worker e))));
+  }
+
+  pub clock_tells : Tells m l rs r p 21 (can kinds.ClockLoad || can kinds.ReadClock)
+  clock_tells = record {
+    found = λ h. ⊎_elim (λ inside. one kinds.ClockLoad tt inside) (λ outside. one kinds.ReadClock tt outside)
+        (either (can kinds.ClockLoad) (can kinds.ReadClock) h);
+    missed = λ h. let no = neither (can kinds.ClockLoad) (can kinds.ReadClock) h in
+        only_clock (λ k. IsGiven k → can k ≡ false) (λ given. no.0) (λ given. no.1);
+  }
+
+  -- reads without a lock aren't enabled yet
+  plan_any : (thunk : Thunk) → can (kinds.ReadPlan no_thunk) ≡ false → can (kinds.ReadPlan thunk) ≡ false
+  plan_any thunk none = not_true (can (kinds.ReadPlan thunk)) (λ e.
+      let a = asked m l rs r p (kinds.ReadPlan thunk) e in absent a.ask (asked_outside m l rs r p (kinds.ReadPlan thunk) a refl))
+
+  pub plan_tells : Tells m l rs r p 39 (can (kinds.ReadPlan no_thunk))
+  plan_tells = record {
+    found = λ h. one (kinds.ReadPlan no_thunk) refl h;
+    missed = λ h. only_plan (λ k. IsGiven k → can k ≡ false) (λ thunk given. plan_any thunk h);
   }
 
   entry_below : (request : ℕ) (reply : Bool) → fits (sizes_for m l rs) (entry_spot request reply) ≡ true → fits (sizes_for m l rs) (entry_spot 0 false) ≡ true

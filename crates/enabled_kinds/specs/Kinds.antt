@@ -3,7 +3,7 @@ use Rattle.std.specs.Prelude.{◌≡◌, ◌==◌, ℕ, length, Option, Some, No
 use Rattle.runner_parts.specs.declared.event.EventKind.{EventKind}
 use Rattle.runner_parts.specs.declared.event.EventKind.TheVariants as kinds
 
--- the number of an event's kind
+-- the number of an event's kind; the clock is loaded in a run, and for a read without a lock
 abbrev pub kind_number : EventKind → ℕ
 kind_number kinds.EnterLoad = 0
 kind_number kinds.Announce = 1
@@ -36,6 +36,10 @@ kind_number kinds.NestedLoad = 27
 kind_number kinds.NestedHold = 28
 kind_number kinds.OutcomeLoad = 29
 kind_number kinds.OutcomeCommit = 30
+kind_number kinds.ReadClock = 21
+kind_number kinds.ReadReply = 35
+kind_number kinds.ReadStamp = 36
+kind_number (kinds.ReadPlan thunk) = 39
 
 -- the event of the kind with this number, where its events carry no argument
 abbrev pub plain_kind : ℕ → Option EventKind
@@ -55,7 +59,6 @@ plain_kind n =
     if n == 17 then Some kinds.LoadDone else (
     if n == 19 then Some kinds.SetDone else (
     if n == 20 then Some kinds.Release else (
-    if n == 21 then Some kinds.ClockLoad else (
     if n == 22 then Some kinds.StampExchange else (
     if n == 23 then Some kinds.ClockRaise else (
     if n == 24 then Some kinds.ReplyExchange else (
@@ -63,9 +66,12 @@ plain_kind n =
     if n == 28 then Some kinds.NestedHold else (
     if n == 29 then Some kinds.OutcomeLoad else (
     if n == 30 then Some kinds.OutcomeCommit else (
-    None)))))))))))))))))))))))
+    if n == 35 then Some kinds.ReadReply else (
+    if n == 36 then Some kinds.ReadStamp else (
+    None))))))))))))))))))))))))
 
 -- a thunk that an event carries has eight operands
 abbrev pub IsGiven : EventKind → Type 0
 IsGiven (kinds.Hold thunk descriptor) = length thunk.operands ≡ 8
+IsGiven (kinds.ReadPlan thunk) = length thunk.operands ≡ 8
 IsGiven _ = Unit {0}

@@ -50,3 +50,7 @@ stored_thunk stored d = let word = λ (j : ℕ). or_zero (last_stored stored d j
   word = word 3;
   operands = word 4 ∷ word 5 ∷ word 6 ∷ word 7 ∷ word 8 ∷ word 9 ∷ word 10 ∷ word 11 ∷ [];
 }
+
+-- a thunk of zeros: whether a read may be announced doesn't go by its thunk
+abbrev pub no_thunk : Thunk
+no_thunk = record { form = 0; request = 0; lock = 0; word = 0; operands = 0 ∷ 0 ∷ 0 ∷ 0 ∷ 0 ∷ 0 ∷ 0 ∷ 0 ∷ [] }

@@ -8,9 +8,9 @@ ghost use Rattle.runner_parts.specs.declared.event.EventKind.TheVariants as kind
 ghost use Rattle.epoch_core.specs.declared.stage.Stage.TheVariants.{Scanning};
 ghost use Rattle.runner_parts.specs.Tests.{last_stored};
 ghost use Rattle.enabled_kinds.specs.May.{is_enabled};
-ghost use Rattle.enabled_kinds.specs.Tried.{stored_thunk, or_zero};
+ghost use Rattle.enabled_kinds.specs.Tried.{stored_thunk, or_zero, no_thunk};
 
-use body_terms::Thunk;
+use body_terms::{Thunk, Word};
 use epoch_core::Stage;
 use map_history::Request;
 use runner_asks::{asks, last_stored, thunk_of};
@@ -295,6 +295,35 @@ pub fn may_publish<S: Structure>(
         }
     }
     false
+}
+
+/// A thunk of zeros: whether a read may be announced doesn't go by its thunk.
+fn no_thunk() -> Thunk
+    ensures { result ≡ no_thunk }
+{
+    Thunk {
+        form: 0,
+        request: 0,
+        lock: 0,
+        word: Word::from_bits(0),
+        operands: [0, 0, 0, 0, 0, 0, 0, 0],
+    }
+}
+
+/// Whether it may announce a read without a lock.
+pub fn may_announce_read<S: Structure>(
+    part: &Part,
+    structure: &S,
+    layout: Layout,
+    requests: &[Request],
+    runner: u32,
+) -> bool
+    requires limits { IsWithinLimits layout }
+    requires few { length requests.now ≤ 131072 }
+    ensures { result ≡ is_enabled (S.meaning structure.now) layout requests.now runner part.now (kinds.ReadPlan no_thunk) }
+{
+    let kind = EventKind::ReadPlan(no_thunk());
+    may(part, structure, layout, requests, runner, kind)
 }
 
 /// Whether the keeper may join a worker.

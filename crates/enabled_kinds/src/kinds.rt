@@ -5,8 +5,8 @@ ghost use Rattle.table_words.specs.Limits.{IsWithinLimits};
 ghost use Rattle.enabled_kinds.specs.May.{Tells, AreEnabled, is_enabled_if};
 
 use crate::arguments::{
-    may, may_begin, may_join, may_look_free, may_look_hand, may_prepare, may_publish, may_reread,
-    may_scan, may_walk,
+    may, may_announce_read, may_begin, may_join, may_look_free, may_look_hand, may_prepare,
+    may_publish, may_reread, may_scan, may_walk,
 };
 use crate::makes::{made_load, made_store};
 use crate::plain::plain_kind;
@@ -120,6 +120,37 @@ fn may_load_thunk<S: Structure>(
     further | first
 }
 
+/// Whether it may load the clock, in a run or for a read without a lock.
+fn may_load_clock<S: Structure>(
+    part: &Part,
+    structure: &S,
+    layout: Layout,
+    requests: &[Request],
+    runner: u32,
+) -> bool
+    requires limits { IsWithinLimits layout }
+    requires few { length requests.now ≤ 131072 }
+    ensures { Tells (S.meaning structure.now) layout requests.now runner part.now 21 result }
+{
+    let inside = may(
+        part,
+        structure,
+        layout,
+        requests,
+        runner,
+        EventKind::ClockLoad,
+    );
+    let outside = may(
+        part,
+        structure,
+        layout,
+        requests,
+        runner,
+        EventKind::ReadClock,
+    );
+    inside | outside
+}
+
 /// Whether it may make a step of the kind with this number.
 fn may_make<S: Structure>(
     part: &Part,
@@ -140,6 +171,7 @@ fn may_make<S: Structure>(
         12 => may_store_private(part, structure, layout, requests, runner),
         16 => may_load_thunk(part, structure, layout, requests, runner),
         18 => may_publish(part, structure, layout, requests, runner),
+        21 => may_load_clock(part, structure, layout, requests, runner),
         25 => may_join(part, structure, layout, requests, runner),
         26 => {
             let first = EventKind::LoadEntry {
@@ -148,6 +180,7 @@ fn may_make<S: Structure>(
             };
             may(part, structure, layout, requests, runner, first)
         }
+        39 => may_announce_read(part, structure, layout, requests, runner),
         _ => may_if(
             part,
             structure,
@@ -173,7 +206,7 @@ pub fn enabled<S: Structure>(
     ensures { AreEnabled (S.meaning structure.now) layout requests.now runner part.now result }
 {
     let mut bits = 0;
-    for number in 0..31u32 {
+    for number in 0..40u32 {
         if may_make(part, structure, layout, requests, runner, number) {
             bits |= 1u64 << number;
         }

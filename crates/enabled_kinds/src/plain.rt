@@ -26,7 +26,6 @@ pub fn plain_kind(number: u32) -> Option<EventKind>
         17 => Some(EventKind::LoadDone),
         19 => Some(EventKind::SetDone),
         20 => Some(EventKind::Release),
-        21 => Some(EventKind::ClockLoad),
         22 => Some(EventKind::StampExchange),
         23 => Some(EventKind::ClockRaise),
         24 => Some(EventKind::ReplyExchange),
@@ -34,6 +33,8 @@ pub fn plain_kind(number: u32) -> Option<EventKind>
         28 => Some(EventKind::NestedHold),
         29 => Some(EventKind::OutcomeLoad),
         30 => Some(EventKind::OutcomeCommit),
+        35 => Some(EventKind::ReadReply),
+        36 => Some(EventKind::ReadStamp),
         _ => None,
     }
 }

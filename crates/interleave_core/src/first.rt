@@ -46,6 +46,7 @@ fn first_part(alloc: Global, nodes: Vec<u32>, descriptors: Vec<u32>) -> Part
             cells: Vec::new(alloc),
             held: Vec::new(alloc),
             published: Vec::new(alloc),
+            look: None,
         },
         records: Records {
             known: Vec::new(alloc),
@@ -58,6 +59,7 @@ fn first_part(alloc: Global, nodes: Vec<u32>, descriptors: Vec<u32>) -> Part
             left: Vec::new(alloc),
             splits: 0,
             joined: Vec::new(alloc),
+            only_loads: false,
         },
         gone: false,
     }

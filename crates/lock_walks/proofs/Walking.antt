@@ -55,6 +55,7 @@ module _ (m : Meaning) where
     cells = append_assoc reads.cells readings ((place, word) ∷ []) i;
     held = names i;
     published = reads.published;
+    look = reads.look;
   })
     where
       names : (reads.held ++ names_read m readings) ++ (if m.is_lock place then named_by word else []) ≡ reads.held ++ names_read m (readings ++ (place, word) ∷ [])
@@ -65,7 +66,7 @@ module _ {T : Type 0} (m : Meaning) where
   walked_none r = record {
     loads = refl;
     at = λ epoch section is. is;
-    reads = (λ i. record { walk = none r.part.reads.walk i; cells = none r.part.reads.cells i; held = none r.part.reads.held i; published = r.part.reads.published });
+    reads = (λ i. record { walk = none r.part.reads.walk i; cells = none r.part.reads.cells i; held = none r.part.reads.held i; published = r.part.reads.published; look = r.part.reads.look });
     keeps = record { number = refl; nodes = refl; descriptors = refl; known = refl; finished = refl };
     same = refl;
   }

@@ -134,6 +134,8 @@ module _ (m : Meaning) (l : Layout) (rs : List Request) (r : ℕ) (f : Spot → 
   outside_knows kinds.EpochForRetire p asked = retire_knows p p.published
   outside_knows (kinds.LoadCell (Some place)) p asked = inl refl
   outside_knows (kinds.LoadThunk (Some d)) p asked = inl refl
+  outside_knows kinds.ReadReply p asked = some_none _ asked
+  outside_knows kinds.ReadStamp p asked = some_none _ asked
   outside_knows _ p asked = inl refl
 
   module _ (p : PartState) (q : RunState) where

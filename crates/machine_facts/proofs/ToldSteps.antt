@@ -90,7 +90,7 @@ module _ (m : Meaning) (l : Layout) (p : PartState) (none : p.run ≡ None) wher
   outside_told kinds.EpochForRetire found = retire_told found p.published
   outside_told (kinds.LoadCell None) found = rest p refl
   outside_told (kinds.LoadThunk None) found = rest p refl
-  outside_told _ found = rest p refl
+  outside_told _ found = rest _ refl
 
 -- a run that has still to load its words has them loaded one by one
 few_opened : (kind : EventKind) (q : RunState) (x : Spot × Access) → opening_ask kind q ≡ Some x → length q.opened < 13

@@ -155,7 +155,7 @@ module _ (m : Meaning) (l : Layout) where
     outside_same (kinds.LoadCell (Some place)) is = absurd (cc)
     outside_same (kinds.Hold thunk d) is = absurd (cc)
     outside_same kinds.EpochForRetire is = absurd (cc)
-    outside_same _ is = part_same p
+    outside_same _ is = by_reads p _ refl refl refl
 
   -- what is noted of a step changes nothing of that
   pub noted_same : (r : ℕ) (kind : EventKind) (spot : Spot) (access : Access) (p : PartState) (found : ℕ)

@@ -111,7 +111,7 @@ module _ (m : Meaning) (l : Layout) (p : PartState) (found : ℕ) where
   outside_keeps (kinds.Hold thunk d) = either (found == thunk.word) _ _ (same _ refl refl) (same _ refl refl)
   outside_keeps (kinds.LoadThunk (Some d)) = same _ refl refl
   outside_keeps kinds.EpochForRetire = retire_keeps p.published
-  outside_keeps _ = same p refl refl
+  outside_keeps _ = same _ refl refl
 
   pub stays : (kind : EventKind) (run : Option RunState) → Stays p (after_by m l kind p run found)
   stays kind None = outside_keeps kind

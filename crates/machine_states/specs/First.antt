@@ -51,6 +51,7 @@ first_part nodes descriptors = record {
     left = [];
     splits = 0;
     joined = [];
+    only_loads = false;
   };
   gone = false;
 }

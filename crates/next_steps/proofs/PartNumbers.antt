@@ -274,4 +274,4 @@ module _ (m : Meaning) (l : Layout) (p : PartState) (old : PartFits m l p) where
         hold_fits t d (subst (λ (y : Spot × Access). Fits (sizes_for m l rs) y.0) (sym h.is) fit) h.few
     outside_fits rs r (kinds.LoadThunk (Some d)) x fit e = by_fields _ refl refl refl refl refl
     outside_fits rs r kinds.EpochForRetire x fit e = retire_fits p.published refl
-    outside_fits rs r _ x fit e = unchanged
+    outside_fits rs r _ x fit e = by_fields _ refl refl refl refl refl

@@ -196,7 +196,7 @@ module _ (m : Meaning) (l : Layout) (y : PartState) (found : ℕ) where
   outside_keeps (kinds.Hold t d) = hold t d
   outside_keeps (kinds.LoadThunk (Some d)) = same _ refl
   outside_keeps kinds.EpochForRetire = retire_section y.published
-  outside_keeps kind = same y refl
+  outside_keeps kind = same _ refl
 
 one_here : (i : ℕ) → ◌≡◌ {A = ℕ} (cond (i == i) 1 0) 1
 one_here i = grind (arith, nat_tests)

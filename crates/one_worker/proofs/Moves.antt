@@ -196,4 +196,4 @@ module _ (m : Meaning) (l : Layout) (y : PartState) (found : ℕ) (kind : EventK
   outside_moves (kinds.Hold t d) is = hold t d
   outside_moves (kinds.LoadThunk (Some d)) is = as_before _ refl refl refl refl
   outside_moves kinds.EpochForRetire is = retire y.published
-  outside_moves kind' is = as_before y refl refl refl refl
+  outside_moves kind' is = as_before _ refl refl refl refl

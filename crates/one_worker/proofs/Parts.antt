@@ -172,4 +172,4 @@ module _ (m : Meaning) (l : Layout) (y : PartState) (found : ℕ) (kind : EventK
   outside_keeps (kinds.Hold t d) is = hold t d is
   outside_keeps (kinds.LoadThunk (Some d)) is = as_before _ refl refl
   outside_keeps kinds.EpochForRetire is = retire y.published
-  outside_keeps kind' is = as_before y refl refl
+  outside_keeps kind' is = as_before _ refl refl

@@ -18,6 +18,7 @@ use Rattle.table_words.specs.Places.{slot_count}
 use Rattle.structure_laws.specs.Meaning.{Meaning}
 use Rattle.epoch_core.specs.Moves.{is_clear}
 use Rattle.runner_parts.specs.declared.entries.Known.{Known}
+use Rattle.runner_parts.specs.declared.entries.Look.{Look}
 use Rattle.runner_parts.specs.declared.entries.Published.{Published}
 use Rattle.runner_parts.specs.declared.event.EventKind.{EventKind}
 use Rattle.runner_parts.specs.declared.event.EventKind.TheVariants as kinds
@@ -33,6 +34,7 @@ use Rattle.epoch_core.specs.State.{last_epoch}
 use Rattle.runner_steps.specs.Asks.{asks, outside_ask, line_ask, opening_ask}
 use Rattle.runner_steps.specs.AfterInRun as inside
 use Rattle.runner_steps.specs.AfterOutside as outside
+use Rattle.runner_steps.specs.Reads.{read_stamp_after, reply_known, stamp_known}
 use Rattle.runner_steps.specs.After.{outside_after, line_after, after_by, stepped}
 use Rattle.machine_states.specs.Sight.{Sight}
 use Rattle.machine_states.proofs.Sights.{if_some, some_none}
@@ -127,6 +129,20 @@ module _ (m : Meaning) (l : Layout) (p : PartState) where
       link = inl (sym over);
     }
 
+    -- a read's words are learned
+    reply_keeps : (o : Option Look) (p' : PartState) → p'.records.known ≡ reply_known m o found p.records → p'.published ≡ p.published → KeepsOn p p'
+    reply_keeps None p' known published = on p p' known published
+    reply_keeps (Some x) p' known published = learns_more p p' x.thunk.request true _ known published
+
+    stamp_keeps : (o : Option Look) (p' : PartState) → p'.records.known ≡ stamp_known o found p.records → p'.published ≡ p.published → KeepsOn p p'
+    stamp_keeps None p' known published = on p p' known published
+    stamp_keeps (Some x) p' known published = by (nat_lt x.clock last_clock) known
+      where
+        by : (b : Bool) → p'.records.known ≡ (if b then (learned p.records x.thunk.request false (written_once found (read_stamp_after x.clock))).known else p.records.known)
+            → KeepsOn p p'
+        by true known = learns_more p p' x.thunk.request false _ known published
+        by false known = on p p' known published
+
     outside_keeps : (kind : EventKind) → ((t : Thunk) (d : ℕ) → kind ≡ kinds.Hold t d → found ≢ t.word)
         → (kind ≡ kinds.EpochForRetire → link_of p.published ≡ 0) → KeepsOn p (outside_after m l kind p found)
     outside_keeps kinds.EnterLoad quiet over = on p _ refl refl
@@ -158,7 +174,9 @@ module _ (m : Meaning) (l : Layout) (p : PartState) where
     outside_keeps kinds.EpochForRetire quiet over = retire_keeps p.published refl (over refl)
     outside_keeps (kinds.LoadCell None) quiet over = on p p refl refl
     outside_keeps (kinds.LoadThunk None) quiet over = on p p refl refl
-    outside_keeps _ quiet over = on p p refl refl
+    outside_keeps kinds.ReadReply quiet over = reply_keeps p.reads.look _ refl refl
+    outside_keeps kinds.ReadStamp quiet over = stamp_keeps p.reads.look _ refl refl
+    outside_keeps _ quiet over = on p _ refl refl
 
   module _ (q : RunState) (is : p.run ≡ Some q) (opened : is_open_run q ≡ true) (found : ℕ) where
     fill_keeps : (slot : ℕ) (made : Option ℕ) → KeepsOn p (inside.fill_loaded m l slot p q made found)

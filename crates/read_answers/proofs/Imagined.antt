@@ -9,7 +9,7 @@ use Rattle.body_terms.specs.declared.step.Step.{Step}
 use Rattle.body_terms.specs.declared.step.Step.TheVariants.{Load, Want, Fresh, Take, Make, Stamp, Store, Retire, Answer}
 use Rattle.body_terms.specs.declared.thunk.Thunk.{Thunk}
 use Rattle.body_terms.specs.Shape as shape
-use Rattle.body_terms.specs.Shape.{phase}
+use Rattle.body_terms.specs.Shape.{phase, is_look}
 use Rattle.table_words.specs.declared.layout.Layout.{Layout}
 use Rattle.table_words.specs.Limits.{IsWithinLimits}
 use Rattle.structure_laws.specs.Scene.{Readings, Section, Scene, with_section}
@@ -26,7 +26,7 @@ use Rattle.structure_laws.proofs.Moves.{moves}
 use Rattle.section_lines.proofs.Phases.{sole, is_the_stamp}
 use Rattle.completed_memory.proofs.Finishing.{upd_twice}
 use Rattle.completed_memory.proofs.Completing.{true_false}
-use Rattle.read_answers.specs.Looks.{is_look, LookStands}
+use Rattle.read_answers.specs.Looks.{LookStands}
 
 -- an item of two lists in a row, from the first and from the second
 get_front : {A : Type 0} (xs ys : List A) (v : A) (i : ℕ) → slice_get xs i ≡ Some v → slice_get (xs ++ ys) i ≡ Some v

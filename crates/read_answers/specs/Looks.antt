@@ -1,23 +1,16 @@
 -- What a reader without a lock has found, and what of it stands.
-use Rattle.std.specs.Prelude.{ℕ, ◌<◌, ◌++◌, ◌≡◌, Bool, true, false, Some, slice_get}
+use Rattle.std.specs.Prelude.{ℕ, ◌<◌, ◌++◌, ◌≡◌, true, false, Some, slice_get}
 use Rattle.map_history.specs.declared.op.Op.{Op}
 use Rattle.body_terms.specs.Word.{is_free, is_spent}
+use Rattle.body_terms.specs.Shape.{is_look}
 use Rattle.body_terms.specs.declared.step.Step.{Step}
-use Rattle.body_terms.specs.declared.step.Step.TheVariants.{Load, Want, Stamp, Answer}
+use Rattle.body_terms.specs.declared.step.Step.TheVariants.{Load, Want}
 use Rattle.body_terms.specs.declared.thunk.Thunk.{Thunk}
 use Rattle.table_words.specs.declared.layout.Layout.{Layout}
 use Rattle.structure_laws.specs.Scene.{Cells, Readings, Scene}
 use Rattle.structure_laws.specs.Meaning.{Meaning}
 use Rattle.structure_laws.specs.Sections.{IsAllowed, Unheld}
 use Rattle.structure_laws.specs.Shape.{HasStep}
-
--- a step of a body that changes nothing: it loads a cell, tests what was loaded, or is the stamp or the answer
-abbrev pub is_look : Step → Bool
-is_look (Load place into) = true
-is_look (Want reg word) = true
-is_look Stamp = true
-is_look (Answer reply) = true
-is_look _ = false
 
 module _ (m : Meaning) where
   -- the thunk's body changes nothing

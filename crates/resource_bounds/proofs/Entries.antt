@@ -229,4 +229,4 @@ module _ (m : Meaning) (l : Layout) (p : PartState) (once : (t : ℕ) → times_
   outside_leaves (kinds.Hold t d) may = hold t d may
   outside_leaves (kinds.LoadThunk (Some d)) may = same (kinds.LoadThunk (Some d)) _ refl refl
   outside_leaves kinds.EpochForRetire may = retire_section p.published refl may
-  outside_leaves kind may = same kind p refl refl
+  outside_leaves kind may = same kind _ refl refl

@@ -254,4 +254,4 @@ module _ (m : Meaning) (p : ℕ) where
     outside_keeps none (kinds.Hold t d) may = hold_keeps t d may
     outside_keeps none (kinds.LoadThunk (Some d)) may = record { up = let before = ap by_run none in omega (arith, before) }
     outside_keeps none kinds.EpochForRetire may = retire y.published refl may
-    outside_keeps none kind may = as_is
+    outside_keeps none kind may = same _ refl refl refl

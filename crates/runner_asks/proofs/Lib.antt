@@ -1,2 +1,3 @@
 mod Latest
 mod Lines
+pub mod Loads

@@ -1,12 +1,12 @@
 //! What a runner can tell from what it keeps.
 ghost use Rattle.std.specs.Prelude.{◌≡◌, ◌<◌, ◌≤◌};
-ghost use Rattle.runner_parts.specs.Tests.{has_pair, is_walking, is_resting, is_outside, knows, is_answered, are_answered, is_next, is_readable, is_open};
+ghost use Rattle.runner_parts.specs.Tests.{has_pair, is_walking, is_resting, is_outside, knows, is_answered, are_answered, is_next, is_readable, is_open, is_planned_stage, is_looked, is_replied, is_between};
 ghost use Rattle.table_words.specs.Limits.{IsWithinLimits};
 
 use body_terms::{Place, Thunk, Word};
 use epoch_core::Stage;
 use map_history::Request;
-use runner_parts::{Known, Run};
+use runner_parts::{Known, Look, LookStage, Run};
 use structure_laws::Structure;
 use table_words::Layout;
 
@@ -107,4 +107,35 @@ pub fn is_readable<S: Structure>(structure: &S, walk: &[(Place, Word)], place: P
     }
     let slot = (place - fixed_cells) / 5;
     slot < structure.fixed_slots() || structure.reaches(walk, slot)
+}
+
+/// Whether the read's thunk was announced, and the clock isn't loaded for it yet.
+pub fn is_planned_stage(stage: LookStage) -> bool
+    ensures { result ≡ is_planned_stage stage }
+{
+    matches!(stage, LookStage::Planned)
+}
+
+/// Whether the clock was loaded for the read, and its reply isn't written yet.
+pub fn is_looked(stage: LookStage) -> bool
+    ensures { result ≡ is_looked stage }
+{
+    matches!(stage, LookStage::Looked)
+}
+
+/// Whether the read's reply was written, and its stamp is to come.
+pub fn is_replied(stage: LookStage) -> bool
+    ensures { result ≡ is_replied stage }
+{
+    matches!(stage, LookStage::Replied)
+}
+
+/// Whether the runner has written the reply of a read, and its stamp is to come.
+pub fn is_between(look: &Option<Look>) -> bool
+    ensures { result ≡ is_between look.now }
+{
+    match look {
+        None => false,
+        Some(look) => is_replied(look.stage),
+    }
 }

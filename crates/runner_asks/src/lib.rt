@@ -1,18 +1,21 @@
 //! What one runner may do next, computed: the word that an event meets, and how.
 //!
-//! `enabled` has `asks`, by `outside` for a runner in no run and `inside` for one in a run. `section` reads
-//! a run's place off its body's line and its trail, `knowledge` and `stores` say what a runner can tell from
-//! what it keeps. The definitions stand in `runner_steps` and `runner_parts`.
+//! `enabled` has `asks`, by `outside` for a runner in no run, `inside` for one in a run and `reads` for reads without
+//! a lock. `section` reads a run's place off its body's line and its trail, `knowledge` and `stores` say what a runner
+//! can tell from what it keeps. The definitions stand in `runner_steps` and `runner_parts`.
 #![tactic(auto)]
 
 mod enabled;
 mod inside;
 mod knowledge;
 mod outside;
+mod reads;
 mod section;
 mod stores;
 
 pub use enabled::asks;
 pub use inside::{LAST_CLOCK, is_open_run, last_of, next_of};
+pub use knowledge::is_between;
+pub use reads::{read_clock_ask, read_plan_ask, read_reply_ask, read_stamp_ask};
 pub use section::{is_end, leaves, reply_in, settled, source_value, thunk_of};
 pub use stores::last_stored;

@@ -12,7 +12,7 @@ use crate::stores::is_prepared;
 use body_terms::{Place, Thunk, Word};
 use epoch_core::{LAST_EPOCH, Stage};
 use map_history::Request;
-use runner_parts::{Part, Published, Reads, Records, has};
+use runner_parts::{Known, Part, Published, Reads, Records, has};
 use runner_steps::{cell_place, descriptor_count, descriptor_spot, held_word, slot_count};
 use structure_laws::Structure;
 use table_words::{Access, Layout, Spot};
@@ -301,7 +301,31 @@ fn is_due<S: Structure>(
     ensures { result ≡ is_due (S.meaning structure.now) layout requests.now runner records.now.known reads.now.walk
         thunk.now }
 {
+    is_due_by(
+        structure,
+        layout,
+        requests,
+        runner,
+        &records.known,
+        &reads.walk,
+        thunk,
+    )
+}
+
+/// Whether the thunk serves the worker's next request, by these known words and these readings.
+pub fn is_due_by<S: Structure>(
+    structure: &S,
+    layout: Layout,
+    requests: &[Request],
+    runner: u32,
+    known: &[Known],
+    walk: &[(Place, Word)],
+    thunk: &Thunk,
+) -> bool
+    requires { 1 ≤ layout.runners }
+    ensures { result ≡ is_due (S.meaning structure.now) layout requests.now runner known.now walk.now thunk.now }
+{
     let request = requests.get(thunk.request as usize).copied();
-    is_next(layout, runner, requests, &records.known, request)
-        && serves(structure, layout, &reads.walk, thunk, request)
+    is_next(layout, runner, requests, known, request)
+        && serves(structure, layout, walk, thunk, request)
 }

@@ -77,6 +77,7 @@ impl Model for Kept {
           left = [];
           splits = a.splits;
           joined = [];
+          only_loads = false;
         };
         gone = false;
       };

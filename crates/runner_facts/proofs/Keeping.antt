@@ -160,4 +160,4 @@ module _ (m : Meaning) (l : Layout) (p : PartState) where
     outside_keeps (kinds.Hold t d) h may = hold_keeps t d may.0 may.1
     outside_keeps (kinds.LoadThunk (Some d)) h may = keeps _ refl refl refl
     outside_keeps kinds.EpochForRetire h may = retire_keeps p.published refl
-    outside_keeps _ h may = same
+    outside_keeps _ h may = keeps _ refl refl refl

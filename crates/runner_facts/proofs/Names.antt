@@ -216,7 +216,7 @@ module _ (d g : ℕ) where
       outside_kept (kinds.Hold t d') h = hold_kept t d'
       outside_kept (kinds.LoadThunk (Some d')) h = same _ refl
       outside_kept kinds.EpochForRetire h = retire_kept p.published h
-      outside_kept _ h = old
+      outside_kept _ h = same _ refl
 
 -- what a step adds to the readings of an entered runner: a word that it found in a cell
 module _ (m : Meaning) (l : Layout) (p : PartState) (found : ℕ) (x : Spot × Access) where
@@ -365,7 +365,7 @@ module _ (m : Meaning) (l : Layout) (p : PartState) (found : ℕ) (x : Spot × A
       reads_either (found == t.word) _ _ (reads_one _ t.lock is refl refl) (reads_one _ t.lock is refl refl)
   outside_reads rs r (kinds.LoadThunk (Some d)) e = reads_same _ refl refl
   outside_reads rs r kinds.EpochForRetire e = retire_reads p.published
-  outside_reads rs r _ e = same_reads
+  outside_reads rs r _ e = reads_same _ refl refl
 
 -- in a state that meets the whole invariant a lock names a section that is in its descriptor and not retired
 module _ (m : Meaning) (l : Layout) (b : Beside) (s : Sight) (whole : IsWhole m l b s) (place d : ℕ) (lock : m.is_lock place ≡ true)

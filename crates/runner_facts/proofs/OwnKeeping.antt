@@ -197,4 +197,4 @@ module _ (m : Meaning) (l : Layout) (d : ℕ) (p : PartState) (found : ℕ) wher
   outside_keeps (kinds.Hold t d0) may = hold t d0 may
   outside_keeps (kinds.LoadThunk (Some d0)) may = same _ refl refl refl
   outside_keeps kinds.EpochForRetire may = retire p.published refl
-  outside_keeps kind may = same p refl refl refl
+  outside_keeps kind may = same _ refl refl refl

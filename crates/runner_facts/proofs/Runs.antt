@@ -167,4 +167,4 @@ module _ (m : Meaning) (l : Layout) (y : PartState) (found : ℕ) (kind : EventK
     outside_runs (kinds.Hold t d) = begins_either (found == t.word) _ _ (still _ refl) (still _ refl)
     outside_runs (kinds.LoadThunk (Some d)) = opens d
     outside_runs kinds.EpochForRetire = retire y.published
-    outside_runs kind' = still y refl
+    outside_runs kind' = still _ refl

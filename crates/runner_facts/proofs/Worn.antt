@@ -293,7 +293,7 @@ module _ (m : Meaning) (l : Layout) (word : Spot → ℕ) where
     outside_worn (kinds.Hold t d) h = either (found == t.word) _ _ (rests _ refl (same p.nodes)) (rests _ refl (same p.nodes))
     outside_worn (kinds.LoadThunk (Some d)) h = kept p _ (same p.nodes) (fills_unmade _ refl) old
     outside_worn kinds.EpochForRetire h = retire_worn p.published
-    outside_worn _ h = old
+    outside_worn _ h = rests _ refl (same p.nodes)
 
 -- each step
 module _ (m : Meaning) (l : Layout) (rs : List Request) (s s' : Sight) (r : ℕ) (kind : EventKind) (st : IsStep m l rs s s' r kind)

@@ -1,5 +1,5 @@
 -- How a runner's lists change.
-use Rattle.std.specs.Prelude.{ℕ, ◌+◌, ◌-◌, List, [], ◌∷◌, ◌++◌, Bool, true, false, not, ◌==◌, ◌&&◌, ◌||◌, nat_lt, nat_le, map, length, if◌then◌else◌}
+use Rattle.std.specs.Prelude.{ℕ, ◌+◌, ◌-◌, List, [], ◌∷◌, ◌++◌, Bool, true, false, not, ◌==◌, ◌&&◌, ◌||◌, nat_lt, nat_le, map, length, None, if◌then◌else◌}
 use Rattle.std.specs.List.{filter}
 use Rattle.body_terms.specs.Word.{value_of, version_of, is_free}
 use Rattle.table_words.specs.declared.layout.Layout.{Layout}
@@ -98,7 +98,7 @@ descriptor_retired d descriptor epoch = record d { limbo = d.limbo ++ record { s
 
 -- nothing has been read yet
 abbrev pub no_reads : ReadsState
-no_reads = record { walk = []; cells = []; held = []; published = [] }
+no_reads = record { walk = []; cells = []; held = []; published = []; look = None }
 
 -- one more cell was read
 abbrev pub cell_read : ReadsState → ℕ → ℕ → ReadsState

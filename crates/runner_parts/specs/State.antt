@@ -8,6 +8,7 @@ use Rattle.runner_parts.specs.declared.entries.Stored.{Stored}
 use Rattle.runner_parts.specs.declared.entries.Known.{Known}
 use Rattle.runner_parts.specs.declared.entries.Published.{Published}
 use Rattle.runner_parts.specs.declared.entries.Left.{Left}
+use Rattle.runner_parts.specs.declared.entries.Look.{Look}
 
 -- a run in progress
 pub record RunState : Type 0 where
@@ -49,6 +50,8 @@ pub record ReadsState : Type 0 where
   pub cells : List (ℕ × ℕ)
   pub held : List ℕ
   pub published : List ℕ
+  -- the read without a lock that it has announced
+  pub look : Option Look
 
 -- what a runner keeps for good
 pub record RecordsState : Type 0 where
@@ -65,6 +68,8 @@ pub record RecordsState : Type 0 where
   pub left : List Left
   pub splits : ℕ
   pub joined : List ℕ
+  -- since it entered it has made no other step than loads of cells, and those with which a read begins
+  pub only_loads : Bool
 
 -- what one runner is at and keeps
 pub record PartState : Type 0 where

@@ -10,6 +10,9 @@ use Rattle.epoch_core.specs.declared.stage.Stage.{Stage}
 use Rattle.epoch_core.specs.declared.stage.Stage.TheVariants as stages
 use Rattle.runner_parts.specs.declared.entries.Stored.{Stored}
 use Rattle.runner_parts.specs.declared.entries.Known.{Known}
+use Rattle.runner_parts.specs.declared.entries.Look.{Look}
+use Rattle.runner_parts.specs.declared.entries.LookStage.{LookStage}
+use Rattle.runner_parts.specs.declared.entries.LookStage.TheVariants.{Planned, Looked, Replied, Stamped}
 use Rattle.runner_parts.specs.State.{RunState}
 
 -- the list has this number
@@ -98,3 +101,29 @@ is_readable m walk place =
     nat_lt place m.fixed_cells
     || (m.is_lock place || (nat_lt ((place - m.fixed_cells) / 5) m.fixed_slots
     || m.reaches walk ((place - m.fixed_cells) / 5)))
+
+-- the read's thunk was announced, and the clock isn't loaded for it yet
+abbrev pub is_planned_stage : LookStage → Bool
+is_planned_stage Planned = true
+is_planned_stage Looked = false
+is_planned_stage Replied = false
+is_planned_stage Stamped = false
+
+-- the clock was loaded for the read, and its reply isn't written yet
+abbrev pub is_looked : LookStage → Bool
+is_looked Planned = false
+is_looked Looked = true
+is_looked Replied = false
+is_looked Stamped = false
+
+-- the read's reply was written, and its stamp is to come
+abbrev pub is_replied : LookStage → Bool
+is_replied Planned = false
+is_replied Looked = false
+is_replied Replied = true
+is_replied Stamped = false
+
+-- the runner has written the reply of a read, and its stamp is to come
+abbrev pub is_between : Option Look → Bool
+is_between None = false
+is_between (Some x) = is_replied x.stage

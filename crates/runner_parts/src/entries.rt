@@ -47,6 +47,27 @@ pub struct Published {
     pub over: bool,
 }
 
+/// How far a read without a lock has come: its thunk was announced, the clock was loaded for it, its reply word was
+/// written, its stamp too.
+#[derive(Clone, Copy, Debug, PartialEq, Eq)]
+pub enum LookStage {
+    Planned,
+    Looked,
+    Replied,
+    Stamped,
+}
+
+/// A read without a lock: its thunk, the clock that was loaded for it, how many readings the runner had and how
+/// many stamp and reply words it knew then, and how far it has come. Up to the load of the clock its numbers are 0.
+#[derive(Clone, Copy, Debug, PartialEq, Eq)]
+pub struct Look {
+    pub thunk: Thunk,
+    pub clock: u64,
+    pub walked: usize,
+    pub known: usize,
+    pub stage: LookStage,
+}
+
 /// What stood in a word after the runner's step on it.
 #[derive(Clone, Copy, Debug, PartialEq, Eq)]
 pub struct Left {

@@ -42,6 +42,12 @@ pub enum EventKind {
     NestedHold,
     OutcomeLoad,
     OutcomeCommit,
+    /// Carries the thunk that a read without a lock has planned, and announces it.
+    ReadPlan(Thunk),
+    /// The load of the clock for a read without a lock.
+    ReadClock,
+    ReadReply,
+    ReadStamp,
 }
 
 /// One step of one runner. Workers are numbered from 0, and the keeper has the number after the last.

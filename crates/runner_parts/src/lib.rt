@@ -12,7 +12,7 @@ mod part;
 mod run;
 mod stores;
 
-pub use entries::{Known, Left, Published, Retired, Stored, Tested};
+pub use entries::{Known, Left, Look, LookStage, Published, Retired, Stored, Tested};
 pub use event::{Event, EventKind};
 pub use lists::{Descriptors, Nodes, Reads, Records};
 pub use lists_change::has;

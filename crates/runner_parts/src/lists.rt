@@ -1,6 +1,6 @@
 //! The lists of a runner.
 
-use crate::entries::{Known, Left, Retired, Stored, Tested};
+use crate::entries::{Known, Left, Look, Retired, Stored, Tested};
 use crate::run::Finished;
 use body_terms::{Place, Word};
 use std::marker::Model;
@@ -48,13 +48,14 @@ impl Model for Descriptors {
 }
 
 /// What a runner has read since it entered: the loads outside a run, all loads and exchanges of cells, the
-/// descriptors that it holds, and the descriptors of the sections that it published.
+/// descriptors that it holds, the descriptors of the sections that it published, and its read without a lock.
 #[derive(Drop)]
 pub struct Reads {
     pub walk: Vec<(Place, Word)>,
     pub cells: Vec<(Place, Word)>,
     pub held: Vec<u32>,
     pub published: Vec<u32>,
+    pub look: Option<Look>,
 }
 
 impl Model for Reads {
@@ -67,6 +68,7 @@ impl Model for Reads {
       cells = a.cells.items;
       held = a.held.items;
       published = a.published.items;
+      look = a.look;
     } };
 }
 
@@ -76,7 +78,8 @@ impl Model for Reads {
 /// a scan of its met an announcement that wasn't idle, or a step of its found the epoch other than its own
 /// steps had left it; and of the keeper what its steps since the last join left, in order, how many workers
 /// were split off, which were joined, and whether it joined one when its own steps had met the epoch, so that
-/// they may have crossed the worker's.
+/// they may have crossed the worker's; and whether it has only loaded cells since it entered, and announced a read
+/// and loaded the clock for it.
 #[derive(Drop)]
 pub struct Records {
     pub known: Vec<Known>,
@@ -89,6 +92,7 @@ pub struct Records {
     pub left: Vec<Left>,
     pub splits: u32,
     pub joined: Vec<u32>,
+    pub only_loads: bool,
 }
 
 impl Model for Records {
@@ -107,5 +111,6 @@ impl Model for Records {
       left = a.left.items;
       splits = a.splits;
       joined = a.joined.items;
+      only_loads = a.only_loads;
     } };
 }

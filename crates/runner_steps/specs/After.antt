@@ -14,6 +14,7 @@ use Rattle.body_terms.specs.declared.micro.Micro.{Micro}
 use Rattle.runner_parts.specs.State.{RunState, PartState, RecordsState}
 use Rattle.runner_steps.specs.Sections.{is_open_run, next_of}
 use Rattle.runner_steps.specs.AfterOutside.{with_stage, entered, scan_one_after, advance_after, split_after, read_after, entry_after, private_load_after, private_store_after, hold_after, open_after, retire_after}
+use Rattle.runner_steps.specs.Reads.{read_plan_after, read_clock_after, read_reply_after, read_stamped_after, only_loads_after}
 use Rattle.runner_steps.specs.AfterInRun.{opened_more, commit_after, cell_loaded, cell_exchanged, fill_loaded, fill_stored, make_committed, retire_committed, number_loaded, stamp_agreed, clock_raised, reply_agreed, lock_committed, done_set, lock_released, place_of, retired_slot_of, reply_word_of}
 
 -- the keeper has joined this worker
@@ -38,6 +39,10 @@ outside_after m l (kinds.PrivateStore slot word number) p found = private_store_
 outside_after m l (kinds.Hold thunk d) p found = hold_after thunk d p found
 outside_after m l (kinds.LoadThunk (Some d)) p found = open_after d p found
 outside_after m l kinds.EpochForRetire p found = retire_after p p.published found
+outside_after m l (kinds.ReadPlan thunk) p found = read_plan_after thunk p
+outside_after m l kinds.ReadClock p found = read_clock_after p found
+outside_after m l kinds.ReadReply p found = read_reply_after m p found
+outside_after m l kinds.ReadStamp p found = read_stamped_after p found
 outside_after m l _ p found = p
 
 -- the part after an event of a run that stood before this step
@@ -119,6 +124,7 @@ noted l r kind spot access found s = record s {
   crossed = ((is_busy kind found || is_moved spot found s.epoch_seen) || s.crossed);
   crosses = (is_late_join kind s.epoch_seen || s.crosses);
   left = (if r == l.runners then left_more kind spot (written access found) s.left else s.left);
+  only_loads = only_loads_after kind s.only_loads;
 }
 
 -- the stepping runner's part after the event, which met this spot and found this word

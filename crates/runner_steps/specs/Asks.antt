@@ -31,6 +31,11 @@ outside_ask m l requests r (kinds.PrivateStore slot word number) p = private_sto
 outside_ask m l requests r (kinds.Hold thunk d) p = hold_ask m l requests r thunk d p
 outside_ask m l requests r (kinds.LoadThunk (Some d)) p = open_ask d p
 outside_ask m l requests r kinds.EpochForRetire p = retire_ask p
+-- reads without a lock aren't enabled yet: no runner asks for their steps
+outside_ask m l requests r (kinds.ReadPlan thunk) p = None
+outside_ask m l requests r kinds.ReadClock p = None
+outside_ask m l requests r kinds.ReadReply p = None
+outside_ask m l requests r kinds.ReadStamp p = None
 outside_ask m l requests r _ p = None
 
 -- what a run asks that has loaded its thunk and its done word, and stands before this step; `free` is the

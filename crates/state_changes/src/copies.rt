@@ -58,6 +58,7 @@ fn reads_copy(alloc: Global, reads: &Reads) -> Result<Reads, AllocError>
         cells: Vec::from_slice(alloc, &reads.cells)?,
         held: Vec::from_slice(alloc, &reads.held)?,
         published: Vec::from_slice(alloc, &reads.published)?,
+        look: reads.look,
     })
 }
 
@@ -98,6 +99,7 @@ fn records_copy(alloc: Global, records: &Records) -> Result<Records, AllocError>
         left: Vec::from_slice(alloc, &records.left)?,
         splits: records.splits,
         joined: Vec::from_slice(alloc, &records.joined)?,
+        only_loads: records.only_loads,
     })
 }
 

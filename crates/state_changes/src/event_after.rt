@@ -4,6 +4,7 @@ ghost use Rattle.table_words.specs.Limits.{IsWithinLimits};
 ghost use Rattle.table_words.specs.Access.{written, wins};
 ghost use Rattle.runner_steps.specs.AfterInRun.{with_run};
 ghost use Rattle.runner_steps.specs.After.{line_after, stepped, counted, epoch_after, own_epoch, is_busy, is_moved, is_late_join, left_more, noted, after};
+ghost use Rattle.runner_steps.specs.Reads.{only_loads_after};
 
 use crate::inside::{place_of, reply_word_of, retired_slot_of};
 use crate::line::{
@@ -173,6 +174,17 @@ fn left_more(
     Ok(())
 }
 
+/// Whether the runner has made no other step than loads of cells since it entered, and those with which a read begins.
+fn only_loads_after(kind: &EventKind, before: bool) -> bool
+    ensures { result ≡ only_loads_after kind.now before }
+{
+    match kind {
+        EventKind::EnterAgain => true,
+        EventKind::LoadCell(_) | EventKind::ReadPlan(_) | EventKind::ReadClock => before,
+        _ => false,
+    }
+}
+
 /// One more step was made, which found this number at this spot; it is counted among those that won where it
 /// changed its word by an exchange or a raise.
 fn note(
@@ -197,6 +209,7 @@ fn note(
         || records.crossed;
     records.crosses = is_late_join(kind, records.epoch_seen) || records.crosses;
     records.epoch_seen = epoch_after(spot, number, records.epoch_seen);
+    records.only_loads = only_loads_after(kind, records.only_loads);
     if runner == layout.runners {
         left_more(&mut records.left, alloc, kind, spot, number)
     } else {

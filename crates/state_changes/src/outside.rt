@@ -3,12 +3,14 @@ ghost use Rattle.std.specs.Prelude.{◌≡◌, ◌≤◌, ◌<◌, ◌^◌, OnOk
 ghost use Rattle.table_words.specs.Limits.{IsWithinLimits};
 ghost use Rattle.runner_steps.specs.AfterOutside.{with_stage, entered, collected, scanned, scan_one_after, advance_after, split_after, read_after, entry_after, private_load_after, private_store_after, published_by, hold_after, open_after, retire_after};
 ghost use Rattle.runner_parts.specs.Lists.{no_reads};
+ghost use Rattle.runner_steps.specs.Reads.{read_plan_after, read_clock_after, read_reply_after, read_stamped_after};
 ghost use Rattle.runner_steps.specs.After.{joins, outside_after};
 
 use body_terms::{Place, Thunk};
 use epoch_core::{LAST_EPOCH, Stage};
-use runner_parts::{EventKind, Part, Published, Reads, Run};
-use runner_steps::slot_count;
+use runner_asks::{LAST_CLOCK, reply_in};
+use runner_parts::{EventKind, Look, LookStage, Part, Published, Reads, Run};
+use runner_steps::{agreed_on, slot_count};
 use std::alloc::{AllocError, Global};
 use structure_laws::Structure;
 use table_words::Layout;
@@ -22,6 +24,7 @@ fn no_reads(alloc: Global) -> Reads
         cells: Vec::new(alloc),
         held: Vec::new(alloc),
         published: Vec::new(alloc),
+        look: None,
     }
 }
 
@@ -215,6 +218,70 @@ fn retired(part: &mut Part, found: u64) -> Result<(), AllocError>
     }
 }
 
+/// A read without a lock is announced.
+fn planned(part: &mut Part, thunk: &Thunk)
+    ensures { part.new ≡ read_plan_after thunk.now part.old }
+{
+    part.reads.look = Some(Look {
+        thunk: *thunk,
+        clock: 0,
+        walked: 0,
+        known: 0,
+        stage: LookStage::Planned,
+    });
+}
+
+/// The clock was loaded for it.
+fn looked(part: &mut Part, found: u64)
+    ensures { part.new ≡ read_clock_after part.old found }
+{
+    if let Some(look) = part.reads.look {
+        part.reads.look = Some(Look {
+            thunk: look.thunk,
+            clock: found,
+            walked: part.reads.walk.len(),
+            known: part.records.known.len(),
+            stage: LookStage::Looked,
+        });
+    }
+}
+
+/// The read's reply word was written, or stood there: what it holds afterwards is known.
+#[tactic(auto, using(crate::proofs::Learning::learned_is))]
+fn replied<S: Structure>(part: &mut Part, structure: &S, found: u64) -> Result<(), AllocError>
+    ensures { OnOk result (part.new ≡ read_reply_after (S.meaning structure.now) part.old found) }
+{
+    let Some(look) = part.reads.look else {
+        return Ok(());
+    };
+    part.reads.look = Some(Look {
+        stage: LookStage::Replied,
+        ..look
+    });
+    let body = structure.body(&look.thunk);
+    let reply = agreed_on(found, reply_in(&body));
+    part.records.learn(look.thunk.request, true, reply)
+}
+
+/// The read's stamp word was written, or stood there: what it holds afterwards is known.
+#[tactic(auto, using(crate::proofs::Learning::learned_is))]
+fn stamped(part: &mut Part, found: u64) -> Result<(), AllocError>
+    ensures { OnOk result (part.new ≡ read_stamped_after part.old found) }
+{
+    let Some(look) = part.reads.look else {
+        return Ok(());
+    };
+    part.reads.look = Some(Look {
+        stage: LookStage::Stamped,
+        ..look
+    });
+    if look.clock >= LAST_CLOCK {
+        return Ok(());
+    }
+    let stamp = agreed_on(found, 2 * look.clock + 1);
+    part.records.learn(look.thunk.request, false, stamp)
+}
+
 /// The part after an event outside a run, which found this word.
 pub fn outside_after<S: Structure>(
     part: &mut Part,
@@ -265,6 +332,10 @@ pub fn outside_after<S: Structure>(
         ),
         EventKind::LoadThunk(Some(descriptor)) => return opened(part, alloc, *descriptor, found),
         EventKind::EpochForRetire => return retired(part, found),
+        EventKind::ReadPlan(thunk) => planned(part, thunk),
+        EventKind::ReadClock => looked(part, found),
+        EventKind::ReadReply => return replied(part, structure, found),
+        EventKind::ReadStamp => return stamped(part, found),
         _ => {}
     }
     Ok(())

@@ -48,6 +48,7 @@ reads_walked m reads readings = record {
   cells = reads.cells ++ readings;
   held = reads.held ++ names_read m readings;
   published = reads.published;
+  look = reads.look;
 }
 
 module _ (m : Meaning) (plans : Planning) (layout : Layout) (op : Op) where

@@ -161,7 +161,7 @@ told_same false p q r e e' = e'
 
 module _ (m : Meaning) (l : Layout) (p : PartState) (q : RunState) (micro : Micro) (found : ℕ) where
   knows_more : (request : ℕ) (reply : Bool) (number : ℕ) → told_part (record p { records = learned p.records request reply number }) ≡ told_part p
-  knows_more request reply number = ap (λ (n : ℕ). record (told_part p) { records = record { known = []; finished = []; events = 0; won = 0; epoch_seen = 0; crossed = false; crosses = false; left = []; splits = n; joined = [] } }) (learns p.records request reply number)
+  knows_more request reply number = ap (λ (n : ℕ). record (told_part p) { records = record { known = []; finished = []; events = 0; won = 0; epoch_seen = 0; crossed = false; crosses = false; left = []; splits = n; joined = []; only_loads = false } }) (learns p.records request reply number)
 
   -- a run that is over leaves them, and the section that the code keeps as published
   over_told : (p' : PartState) (q' : RunState) → told_part (run_over m l p' q') ≡ told_part p'

@@ -204,6 +204,7 @@ noted_alike l r slot word number spot a b z e = ap (λ (moved : Bool). record z 
   epoch_seen = epoch_after spot number z.epoch_seen;
   crossed = (moved || z.crossed);
   left = (if r == l.runners then left_more (kinds.PrivateStore slot word number) spot number z.left else z.left);
+  only_loads = false;
 }) e
 
 module _ {T : Type 0} (m : Meaning) (t : TableState T) (r : RunnerState T) (own : IsOf t r) (slot word number : ℕ) (enabled : IsEnabled m (kinds.PrivateStore slot word number) r) where

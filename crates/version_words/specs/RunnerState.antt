@@ -50,6 +50,7 @@ told_part p = record {
     left = [];
     splits = p.records.splits;
     joined = [];
+    only_loads = false;
   };
   gone = false;
 }
