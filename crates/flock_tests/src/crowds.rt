@@ -5,12 +5,12 @@ use crate::checks::is_found_legal;
 use crate::legal::is_legal;
 use crate::program::{Ended, TABLES, bytes_of, run, run_gated};
 use body_terms::StepKind;
+use flock_tool::runner_gate::{Pause, ScriptedGates};
 use std::alloc::{AllocError, Global};
 use std::process::Abort;
 use std::sync::Wait;
 use std::test::Fail;
 use std::thread::Threads;
-use tool_tests::runner_gate::{Pause, ScriptedGates};
 
 // A runner waits at its first ask of one kind until another was asked with another kind.
 const fn pause(runner: u32, at: StepKind, until_runner: u32, until: StepKind) -> Pause {

@@ -1,10 +1,10 @@
 //! A check of reports that knows nothing of how they came about: it reads the lines, and replays
 //! the requests in the order of their ranks on a plain map.
 
+use flock_tool::trace_reader::{SureSource, Traces, read_traces};
 use itoa::Buffer;
 use map_history::{Book, Reply, Request};
 use std::alloc::{AllocError, Global};
-use tool_tests::trace_reader::{SureSource, Traces, read_traces};
 
 /// The line of a request: its trace, its rank where it was served, and its printed reply.
 #[derive(Clone, Copy)]

@@ -2,8 +2,7 @@
 
 use crate::checks::is_found_legal;
 use crate::legal::is_legal;
-use crate::program::{Ended, TABLES, bytes_of, run};
-use itoa::Buffer;
+use crate::program::{TABLES, bytes_of, cut, run};
 use std::alloc::{AllocError, Global};
 use std::process::Abort;
 use std::sync::Wait;
@@ -31,11 +30,6 @@ const ON_ONE_TABLE: &str = "\
 0 run --table hash --nodes 4|flock 1/trace/ins 1 1/ins 2 2/ins 3 3/|trace 0/0 new/1 new/2 new/final 3/|
 ";
 
-// What stands before the first bar of a row, and what behind it.
-fn cut(row: &str) -> (&str, &str) {
-    row.split_once('|').unwrap_or((row, ""))
-}
-
 // Whether a row comes out as it says, with these words behind its own, and the program finds the
 // report legal, where one was printed.
 fn comes_out<T: Threads + Wait + Sync>(
@@ -51,13 +45,8 @@ fn comes_out<T: Threads + Wait + Sync>(
     let line = format!(in alloc; "{words} {more}")?;
     let text = bytes_of(alloc, text)?;
     let ended = run(rt, alloc, &line, text.clone()?)?;
-    let (report, told) = (bytes_of(alloc, report)?, bytes_of(alloc, told)?);
-    Ok(
-        Buffer::new().format(ended.status) == status
-            && ended.sink.bytes() == report.as_slice()
-            && ended.faults.bytes() == told.as_slice()
-            && (report.is_empty() || is_found_legal(rt, alloc, &text, &report)?),
-    )
+    let comes_out = ended.is_as(alloc, status, report, told)?;
+    Ok(comes_out && (report.is_empty() || is_found_legal(rt, alloc, &text, ended.sink.bytes())?))
 }
 
 #[test]

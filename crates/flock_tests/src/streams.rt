@@ -2,17 +2,15 @@
 //! for a line feed.
 ghost use Rattle.std.specs.Prelude.{None};
 
-use crate::program::{Ended, bytes_of};
-use itoa::Buffer;
+use crate::program::{Ended, bytes_of, quiet_sink, run_from, status_of};
+use flock_tool::report_text::{Failed, MemorySink, Sink};
+use flock_tool::runner_gate::PlannedGates;
+use flock_tool::trace_reader::{MemorySource, SureSource};
 use std::alloc::{AllocError, Global};
 use std::process::Abort;
 use std::sync::Wait;
 use std::test::Fail;
 use std::thread::Threads;
-use tool_tests::report_text::{Failed, MemorySink, Sink};
-use tool_tests::runner_gate::PlannedGates;
-use tool_tests::trace_reader::{MemorySource, SureSource};
-use tool_tests::{quiet_sink, status_of};
 
 const TEXT: &str = "flock 1/trace/ins 5 70/";
 
@@ -36,23 +34,9 @@ fn run_pieces<T: Threads + Wait + Sync>(
     text: Vec<u8>,
     pieces: Vec<usize>,
     fails: Vec<u64>,
-) -> Ended {
+) -> Result<Ended, AllocError> {
     let mut source = MemorySource::new(text, pieces, fails);
-    let (mut sink, mut faults) = (quiet_sink(alloc), quiet_sink(alloc));
-    let status = status_of(
-        rt,
-        alloc,
-        &[command],
-        &mut source,
-        &mut sink,
-        &mut faults,
-        &mut PlannedGates::new(),
-    );
-    Ended {
-        status,
-        sink,
-        faults,
-    }
+    run_from(rt, alloc, command, &mut source, &mut PlannedGates::new())
 }
 
 // The sizes of so many pieces of one byte.
@@ -72,15 +56,10 @@ fn prefix_gives<T: Threads + Wait + Sync>(
     let mut text = bytes_of(alloc, TEXT)?;
     text.truncate(length);
     let (one, none) = (Vec::new(alloc), Vec::new(alloc));
-    let whole = run_pieces(rt, alloc, "run", text.clone()?, one, none);
+    let whole = run_pieces(rt, alloc, "run", text.clone()?, one, none)?;
     let bytes = bytewise(alloc, length)?;
-    let pieces = run_pieces(rt, alloc, "run", text, bytes, Vec::new(alloc));
-    let (report, told) = (bytes_of(alloc, report)?, bytes_of(alloc, told)?);
-    Ok(
-        Buffer::new().format(whole.status) == status
-            && whole.is(pieces.status, &report, &told)
-            && pieces.is(whole.status, &report, &told),
-    )
+    let pieces = run_pieces(rt, alloc, "run", text, bytes, Vec::new(alloc))?;
+    Ok(whole.is_as(alloc, status, report, told)? && pieces.is_as(alloc, status, report, told)?)
 }
 
 #[test]
@@ -114,7 +93,7 @@ fn each_read_fails_in_turn(rt: HostRuntime) -> Result<(), Fail> {
             bytes_of(alloc, TEXT)?,
             bytewise(alloc, 23)?,
             fails,
-        );
+        )?;
         if failing <= 24 {
             assert!(rt; ended.is(8, b"", b"flock: read fault\n"), "at {failing}");
         } else {
@@ -139,7 +118,7 @@ fn a_bad_line_before_a_failed_read_is_told(rt: HostRuntime) -> Result<(), Fail> 
         bytes_of(alloc, "flock 1/foo/")?,
         Vec::new(alloc),
         fails,
-    );
+    )?;
     assert!(rt; ended.is(3, b"", b"flock: line 2: unknown word\n"));
     Ok(())
 }
@@ -162,7 +141,7 @@ fn each_read_of_a_check_fails_in_turn(rt: HostRuntime) -> Result<(), Fail> {
         for failing in 1..=reads.saturating_add(1) {
             let fails = vec![in alloc; failing; 1]?;
             let pieces = bytewise(alloc, text.len())?;
-            let ended = run_pieces(&rt, alloc, "check", text.clone()?, pieces, fails);
+            let ended = run_pieces(&rt, alloc, "check", text.clone()?, pieces, fails)?;
             if failing <= reads {
                 assert!(rt; ended.is(8, b"", b"flock: read fault\n"), "at {failing}");
             } else {

@@ -5,3 +5,5 @@ pub mod Planned
 pub mod Serving
 mod Numbered
 mod Unlocked
+mod HashRow
+mod Next

@@ -2,3 +2,6 @@ pub mod Scenes
 pub mod Workers
 pub mod Asked
 pub mod Closing
+pub mod HashScene
+pub mod TreeScene
+pub mod AttemptScene

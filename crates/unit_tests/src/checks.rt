@@ -31,71 +31,86 @@ fn fails(line: u32, kind: BadReport) -> Verdict {
     Verdict::Fails { line, kind }
 }
 
+// Reports on the text that are legal.
+const LEGAL: [&str; 2] = [
+    "trace 0\n0 new\n1 dup\n2 val 70\nfinal 1\n",
+    "trace 0\n0 new\n- unserved\n- unserved\nfinal 1\n",
+];
+
+// Reports on the text that aren't, with the first line that fails and how.
+const FAILING: [(&str, u32, BadReport); 14] = [
+    (
+        "trace 0\n0 new\n1 dup\n2 val 80\nfinal 1\n",
+        4,
+        BadReport::Reply,
+    ),
+    (
+        "trace 0\n0 new\n2 dup\n1 val 70\nfinal 1\n",
+        4,
+        BadReport::Rank,
+    ),
+    (
+        "trace 0\n0 new\n- unserved\n1 val 70\nfinal 1\n",
+        4,
+        BadReport::Rank,
+    ),
+    (
+        "trace 0\n0 new\n1 dup\n2 val 70\nfinal 2\n",
+        5,
+        BadReport::Final,
+    ),
+    ("trace 0\n0 new\n1 dup\n2 val 70\n", 5, BadReport::Form),
+    ("", 1, BadReport::Form),
+    (
+        "trace 00\n0 new\n1 dup\n2 val 70\nfinal 1\n",
+        1,
+        BadReport::Form,
+    ),
+    (
+        "trace 0\n00 new\n1 dup\n2 val 70\nfinal 1\n",
+        2,
+        BadReport::Form,
+    ),
+    (
+        "trace 0\n0 new\n1 dup\n2 val 4294967296\nfinal 1\n",
+        4,
+        BadReport::Form,
+    ),
+    (
+        "trace 0\n0 new\n1 dup\n2 val 70\nfinal 1",
+        5,
+        BadReport::Form,
+    ),
+    (
+        "trace 0\n0 new\n1 dup\n2 val 70\nfinal 1\n\n",
+        6,
+        BadReport::Form,
+    ),
+    (
+        "trace 0\n0 new\n3 dup\n2 val 70\nfinal 1\n",
+        3,
+        BadReport::Rank,
+    ),
+    (
+        "trace 0\n0 new\n0 dup\n2 val 70\nfinal 1\n",
+        3,
+        BadReport::Rank,
+    ),
+    (
+        "trace 0\n123456789012345678901234567890 new\n1 dup\n2 val 70\nfinal 1\n",
+        2,
+        BadReport::Rank,
+    ),
+];
+
 #[test]
 fn each_test_finds_its_first_failing_line(rt: HostRuntime) -> Result<(), Fail> {
     let alloc = rt.alloc();
-    let rows = [
-        ("trace 0\n0 new\n1 dup\n2 val 70\nfinal 1\n", Verdict::Legal),
-        (
-            "trace 0\n0 new\n1 dup\n2 val 80\nfinal 1\n",
-            fails(4, BadReport::Reply),
-        ),
-        (
-            "trace 0\n0 new\n2 dup\n1 val 70\nfinal 1\n",
-            fails(4, BadReport::Rank),
-        ),
-        (
-            "trace 0\n0 new\n- unserved\n1 val 70\nfinal 1\n",
-            fails(4, BadReport::Rank),
-        ),
-        (
-            "trace 0\n0 new\n- unserved\n- unserved\nfinal 1\n",
-            Verdict::Legal,
-        ),
-        (
-            "trace 0\n0 new\n1 dup\n2 val 70\nfinal 2\n",
-            fails(5, BadReport::Final),
-        ),
-        (
-            "trace 0\n0 new\n1 dup\n2 val 70\n",
-            fails(5, BadReport::Form),
-        ),
-        ("", fails(1, BadReport::Form)),
-        (
-            "trace 00\n0 new\n1 dup\n2 val 70\nfinal 1\n",
-            fails(1, BadReport::Form),
-        ),
-        (
-            "trace 0\n00 new\n1 dup\n2 val 70\nfinal 1\n",
-            fails(2, BadReport::Form),
-        ),
-        (
-            "trace 0\n0 new\n1 dup\n2 val 4294967296\nfinal 1\n",
-            fails(4, BadReport::Form),
-        ),
-        (
-            "trace 0\n0 new\n1 dup\n2 val 70\nfinal 1",
-            fails(5, BadReport::Form),
-        ),
-        (
-            "trace 0\n0 new\n1 dup\n2 val 70\nfinal 1\n\n",
-            fails(6, BadReport::Form),
-        ),
-        (
-            "trace 0\n0 new\n3 dup\n2 val 70\nfinal 1\n",
-            fails(3, BadReport::Rank),
-        ),
-        (
-            "trace 0\n0 new\n0 dup\n2 val 70\nfinal 1\n",
-            fails(3, BadReport::Rank),
-        ),
-        (
-            "trace 0\n123456789012345678901234567890 new\n1 dup\n2 val 70\nfinal 1\n",
-            fails(2, BadReport::Rank),
-        ),
-    ];
-    for (report, expected) in rows {
-        assert!(rt; is_judged(alloc, TEXT, report, expected)?);
+    for report in LEGAL {
+        assert!(rt; is_judged(alloc, TEXT, report, Verdict::Legal)?);
+    }
+    for (report, line, kind) in FAILING {
+        assert!(rt; is_judged(alloc, TEXT, report, fails(line, kind))?);
     }
     assert!(rt; is_judged(alloc, "flock 1\n", "final 0\n", Verdict::Legal)?);
     Ok(())

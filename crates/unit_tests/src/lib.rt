@@ -10,8 +10,6 @@ mod checks;
 #[cfg(test)]
 mod command_lines;
 #[cfg(test)]
-mod counts;
-#[cfg(test)]
 mod gates;
 #[cfg(test)]
 mod generated_texts;

@@ -1,0 +1,115 @@
+//! Tests.
+ghost use Rattle.std.specs.Prelude.{◌≡◌, ◌≤◌, true, IfOk};
+ghost use Rattle.map_history.specs.Keys.{key_of, is_format_1};
+
+use crate::hash_scene::{new_table, pairs_of, plan_and_publish};
+use crate::scripts::scripted;
+use crate::turns::{Offer, Turn, read_lock, run_own, side_by_side};
+use crate::workers::{crew, gather};
+use body_terms::{Outcome, StepKind};
+use map_history::Op;
+use runner_gate::Free;
+use std::alloc::{AllocError, Global};
+use std::thread::Threads;
+
+/// How both workers' runs of the first one's section ended, how many loads its plan made, and the pairs after it.
+#[derive(Drop)]
+struct Row {
+    planned: u64,
+    ran: Turn,
+    helped: Turn,
+    pairs: Vec<(u32, u32)>,
+}
+
+/// The first worker plans its request and publishes the section, and then the second one reads the held word. Then both
+/// are at the section, each on a thread and with its gate.
+fn helped<R: Threads + Sync>(
+    rt: &R,
+    alloc: Global,
+    op: Op,
+    lines: &[(u32, StepKind, u32, StepKind)],
+) -> Result<Row, AllocError>
+    requires keys { key_of op ≤ 4294967293 }
+    requires format { is_format_1 op ≡ true }
+{
+    let ops = (op, Op::Get(1));
+    let (table, keeper) = new_table(alloc, ops)?;
+    let (keeper, first, second) = crew(&table, alloc, keeper)?;
+    let (first, offered, planned) = plan_and_publish(&table, first, ops);
+    let Offer::Published(section) = offered else {
+        return Err(AllocError);
+    };
+    let (second, held) = read_lock(&table, second, 0);
+    let (gate, other) = scripted(alloc, lines)?;
+    let (first, second) = side_by_side(rt, &table, (first, section, gate), (second, held, other));
+    let (first, ran) = first;
+    let (second, helped) = second;
+    let Some(helped) = helped else {
+        return Err(AllocError);
+    };
+    let words = gather(table, keeper, first, second);
+    let pairs = pairs_of(alloc, &words)?;
+    Ok(Row {
+        planned,
+        ran,
+        helped,
+        pairs,
+    })
+}
+
+#[test]
+fn a_get_is_answered_in_21_steps_and_helped_too_late(rt: HostRuntime) -> Result<(), AllocError> {
+    let lines = [
+        (1, StepKind::Opening, 0, StepKind::Release),
+        (0, StepKind::Release, 1, StepKind::Release),
+    ];
+    let row = helped(&rt, rt.alloc(), Op::Get(1), &lines)?;
+    let absent = Outcome::Answered(21474836480);
+    assert!(&rt; row.planned == 3 && row.ran.steps == 21);
+    assert!(&rt; row.ran.came_to(&absent, &[4294967296], false));
+    assert!(&rt; row.helped.came_to(&absent, &[4294967296], true));
+    assert!(&rt; row.pairs.is_empty());
+    Ok(())
+}
+
+#[test]
+fn a_worker_that_waits_in_its_section_is_helped_to_the_end(
+    rt: HostRuntime,
+) -> Result<(), AllocError> {
+    let lines = [
+        (1, StepKind::Opening, 0, StepKind::Private),
+        (0, StepKind::Private, 1, StepKind::Release),
+    ];
+    let row = helped(&rt, rt.alloc(), Op::Ins(5, 70), &lines)?;
+    let inserted = Outcome::Answered(4294967296);
+    let trail = [4294967296, 4294967296, 3];
+    assert!(&rt; row.ran.steps == 36 && row.ran.came_to(&inserted, &trail, false));
+    assert!(&rt; row.helped.steps == 36 && row.helped.came_to(&inserted, &trail, false));
+    assert!(&rt; row.pairs.as_slice() == [(5, 70)].as_slice());
+    Ok(())
+}
+
+#[test]
+fn the_contents_are_in_order_of_key(rt: HostRuntime) -> Result<(), AllocError> {
+    let ops = (Op::Ins(3, 30), Op::Ins(5, 50));
+    let (table, keeper) = new_table(rt.alloc(), ops)?;
+    let (keeper, first, second) = crew(&table, rt.alloc(), keeper)?;
+    let (first, offered, _) = plan_and_publish(&table, first, ops);
+    let Offer::Published(section) = offered else {
+        return Err(AllocError);
+    };
+    let (first, one) = run_own(&table, first, section, &mut Free::new());
+    let (second, offered, loads) = plan_and_publish(&table, second, ops);
+    let Offer::Published(section) = offered else {
+        return Err(AllocError);
+    };
+    let (second, two) = run_own(&table, second, section, &mut Free::new());
+    let words = gather(table, keeper, first, second);
+    let pairs = pairs_of(rt.alloc(), &words)?;
+    assert!(&rt; one.steps == 36 && two.steps == 36 && loads == 5);
+    assert!(&rt; pairs.as_slice() == [(3, 30), (5, 50)].as_slice());
+    assert!(&rt;
+        words.entry(0) == Some((2, 4294967296)) && words.entry(1) == Some((4, 4294967296))
+    );
+    Ok(())
+}
