@@ -1,6 +1,6 @@
 -- The end of an attempt's own section.
 use Rattle.std.specs.Prelude.{true, false, slice_get}
-use Rattle.std.proofs.Common.{◌≡◌, ◌≢◌, ℕ, ◌-◌, ◌≤◌, length, refl, sym, ap, ◌∙◌, subst, arith, inr, Option, Some, None, [], ◌∷◌, ◌++◌, ◌+◌}
+use Rattle.std.proofs.Common.{◌≡◌, ◌≢◌, ℕ, ◌-◌, ◌≤◌, List, length, refl, sym, ap, ◌∙◌, subst, arith, inr, Option, Some, None, [], ◌∷◌, ◌++◌, ◌+◌}
 use Rattle.std.proofs.lemmas.Bool.{true≢false}
 use Rattle.map_history.specs.declared.op.Request.{Request}
 use Rattle.map_history.specs.declared.reply.Reply.{Reply}
@@ -19,11 +19,15 @@ use Rattle.structure_laws.specs.Shape.{Shaped}
 use Rattle.structure_laws.specs.Planner.{PlannerLaws}
 use Rattle.runner_parts.specs.declared.event.EventKind.TheVariants as kinds
 use Rattle.runner_parts.specs.declared.entries.Published.{Published}
-use Rattle.runner_parts.specs.State.{NodesState, ReadsState}
+use Rattle.runner_parts.specs.State.{NodesState, PartState, ReadsState}
 use Rattle.runner_parts.specs.Tests.{has, has_pair, is_answered}
 use Rattle.runner_steps.specs.AfterOutside.{retire_after}
+use Rattle.machine_states.specs.World.{World}
+use Rattle.machine_states.specs.Reached.{Reached}
+use Rattle.machine_states.specs.Sight.{sight, part_or_first}
 use Rattle.lock_words.specs.machine_invariant.specs.After.{AreAllowed}
 use Rattle.lock_words.specs.runner_facts.proofs.Names.{pair_last}
+use Rattle.lock_words.specs.Stale.{StaleStand}
 use Rattle.lock_walks.specs.version_words.specs.RunnerState.{RunnerState}
 use Rattle.lock_walks.specs.version_words.specs.TableState.{TableState, IsOf}
 use Rattle.lock_walks.specs.epoch_slots.specs.Entries.{HasLeave}
@@ -232,10 +236,26 @@ module _ {T : Type 0} (m : Meaning) (laws : Laws m) (t : TableState T) (limits :
       }
 
       -- the own section goes by what the plan had read
-      module _ (per_pair : ℕ) (planner : PlannerLaws m per_pair) where
-        left_stale : (place expected read : ℕ) → of_outcome outcome ≡ answers.Stale place expected read
-            → WasRead is.tries.readings place expected × (m.is_lock place ≡ false → expected ≢ read)
-        left_stale place expected read e =
+      module _ (per_pair : ℕ) (planner : PlannerLaws m per_pair)
+          (differ : (w : World) → Reached m t.layout t.requests w → StaleStand (sight m t.layout t.requests w)) where
+        -- and it found another word
+        words_differ : (place expected read : ℕ) → of_outcome outcome ≡ answers.Stale place expected read → expected ≢ read
+        words_differ place expected read e =
+            let at = length is.published.part.records.finished in
+            (stand is.ends.reached.world is.ends.reached.reached).finished ran.number at place expected read is.ends.finished
+            (ap (λ (p : PartState). slice_get p.records.finished at) (ap part_or_first is.ends.reached.own)
+            ∙ (ap (λ fs. slice_get fs at) is.ends.kept ∙ get_last is.published.part.records.finished is.ends.finished))
+            (is.ends.same_outcome ∙ stale_outcome outcome place expected read e)
+          where
+            stand : (w : World) → Reached m ran.layout ran.requests w → StaleStand (sight m ran.layout ran.requests w)
+            stand = subst (λ (l : Layout). (w : World) → Reached m l ran.requests w → StaleStand (sight m l ran.requests w))
+                (sym own_ran.layout)
+                (subst (λ (rs : List Request). (w : World) → Reached m t.layout rs w → StaleStand (sight m t.layout rs w))
+                (sym own_ran.requests) differ)
+
+        was_planned : (place expected read : ℕ) → of_outcome outcome ≡ answers.Stale place expected read
+            → WasRead is.tries.readings place expected
+        was_planned place expected read e =
             let cause = is.ends.cause other in
             section_stale m per_pair planner ran.layout (subst IsWithinLimits (sym own_ran.layout) limits) request.op
             (allowed_at old.requests request.number request is.tries.plans.enters.may.there (subst AreAllowed (sym requests_old) allowed).each)
@@ -252,6 +272,10 @@ module _ {T : Type 0} (m : Meaning) (laws : Laws m) (t : TableState T) (limits :
             planned_is = planned_shaped m laws planning request is.tries.readings thunk old is.tries.planned
                 (subst IsWithinLimits (sym planned_layout) limits)
                 (subst AreAllowed (sym (is.tries.plans.still.requests ∙ requests_old)) allowed) is.tries.plans
+
+        left_stale : (place expected read : ℕ) → of_outcome outcome ≡ answers.Stale place expected read
+            → WasRead is.tries.readings place expected × (expected ≢ read)
+        left_stale place expected read e = (was_planned place expected read e, words_differ place expected read e)
 
         abbrev has_left : SectionHasLeft m planning request (of_outcome outcome) old retired
         has_left = record {

@@ -135,9 +135,9 @@ module _ (l : Layout) (d : ℕ) (trail : List ℕ) (place expected read : ℕ) w
   abbrev told_by : Outcome
   told_by = outcomes.Stale place expected read
 
-  -- a cell's, where another word is agreed; or one of a Take
+  -- a cell's, or one of a Take
   abbrev IsStaleAt : Micro → Type 0
-  IsStaleAt micro = ((log : ℕ) × (micro ≡ CheckWord place log expected) × (expected ≢ read))
+  IsStaleAt micro = ((log : ℕ) × (micro ≡ CheckWord place log expected))
       ⊎ (((log : ℕ) × (micro ≡ CheckFree place log expected)) ⊎ ((log : ℕ) × (micro ≡ CheckHeld place log expected)))
 
   abbrev Same : ℕ → ℕ → ℕ → Type 0
@@ -155,12 +155,9 @@ module _ (l : Layout) (d : ℕ) (trail : List ℕ) (place expected read : ℕ) w
   by_test true p x y e = absurd (none_some _ (sym e))
   by_test false p x y e = by_refusal (is_free y) (is_spent l.version_max y) p x y (some_same _ _ e)
 
-  by_want : (b : Bool) (p x y : ℕ) → (y == x) ≡ b → cond b None (Some (outcomes.Stale p x y)) ≡ Some told_by → Same p x y × (expected ≢ read)
-  by_want true p x y test e = absurd (none_some _ (sym e))
-  by_want false p x y test e = let same = same_words p x y (some_same _ _ e) in (same, λ both. differ x y test (same.1 ∙ (both ∙ sym same.2)))
-    where
-      differ : (x y : ℕ) → (y == x) ≡ false → x ≡ y → ⊥
-      differ x y h both = grind (arith, nat_tests)
+  by_want : (b : Bool) (p x y : ℕ) → cond b None (Some (outcomes.Stale p x y)) ≡ Some told_by → Same p x y
+  by_want true p x y e = absurd (none_some _ (sym e))
+  by_want false p x y e = same_words p x y (some_same _ _ e)
 
   by_fresh : (b : Bool) (p y : ℕ) → cond b (Some (outcomes.Spent p y)) None ≡ Some told_by → ⊥
   by_fresh true p y e = let z = some_same _ _ e in cc
@@ -168,8 +165,8 @@ module _ (l : Layout) (d : ℕ) (trail : List ℕ) (place expected read : ℕ) w
 
   stale_at : (micro : Micro) → leaves (setting_of l d) trail micro ≡ Some told_by → IsStaleAt micro
   stale_at (CheckWord p log x) e =
-      let h = by_want (slice_index trail log == x) p x (slice_index trail log) refl e in
-      inl (log, (λ i. CheckWord (h.0.0 i) log (h.0.1 i)), h.1)
+      let h = by_want (slice_index trail log == x) p x (slice_index trail log) e in
+      inl (log, λ i. CheckWord (h.0 i) log (h.1 i))
   stale_at (CheckFresh p log) e = absurd (by_fresh _ p (slice_index trail log) e)
   stale_at (CheckFree p log x) e =
       let h = by_test (is_takable (setting_of l d) x (slice_index trail log)) p x (slice_index trail log) e in
@@ -183,32 +180,23 @@ module _ (l : Layout) (d : ℕ) (trail : List ℕ) (place expected read : ℕ) w
 module _ (m : Meaning) (per_pair : ℕ) (planner : PlannerLaws m per_pair) (l : Layout) (limits : IsWithinLimits l) (op : Op) (allowed : IsAllowed op)
     (readings : Readings) (thunk : Thunk) (fits : m.fits l op readings thunk ≡ true) (shaped : Shaped m l readings thunk)
     (d : ℕ) (trail : List ℕ) (place expected read : ℕ) where
-  abbrev WasPlanned : Type 0
-  WasPlanned = WasRead readings place expected × (m.is_lock place ≡ false → expected ≢ read)
+  taken : (n p w : ℕ) → HasStep m thunk n (Take p w) → p ≡ place → w ≡ expected → WasRead readings place expected
+  taken n p w here same_place same_word = let k = shaped.take_read n p w here in (k.0, k.1 ∙ (λ i. Some (same_place i, same_word i)))
 
-  taken : (micro : Micro) (at : ℕ) → micro_at (line (m.body thunk)) at ≡ micro → (n p w : ℕ) → HasStep m thunk n (Take p w) → p ≡ place → w ≡ expected → WasPlanned
-  taken micro at is n p w here same_place same_word =
-      let k = shaped.take_read n p w here in (
-        (k.0, k.1 ∙ (λ i. Some (same_place i, same_word i))),
-        λ unlocked. absurd (true_false (sym (ap m.is_lock (sym same_place) ∙ shaped.take_lock n p w here) ∙ unlocked)),
-      )
-    where
-      true_false : true ≡ false → ⊥
-      true_false e = cc
-
-  was_planned : (at : ℕ) → IsStaleAt l d trail place expected read (micro_at (line (m.body thunk)) at) → WasPlanned
+  was_planned : (at : ℕ) → IsStaleAt l d trail place expected read (micro_at (line (m.body thunk)) at) → WasRead readings place expected
   was_planned at stale = ⊎_elim
       (λ want. let w = wanted_at (m.body thunk) shaped.shape at place want.0 expected want.1 in
-      (((planner.over l limits).want_read readings op thunk allowed fits w.load w.want place w.register expected w.loads w.wants), λ unlocked. want.2))
+      (planner.over l limits).want_read readings op thunk allowed fits w.load w.want place w.register expected w.loads w.wants)
       (λ take. ⊎_elim
       (λ free. let o = of_take (m.body thunk) at (CheckFree place free.0 expected) free.1 refl in
       let same = o.2.same in
-      taken (CheckFree place free.0 expected) at free.1 o.2.from.n o.0 o.1 o.2.from.here (let z = same in cc) (let z = same in cc))
+      taken o.2.from.n o.0 o.1 o.2.from.here (let z = same in cc) (let z = same in cc))
       (λ held. let o = of_take (m.body thunk) at (CheckHeld place held.0 expected) held.1 refl in
       let same = o.2.same in
-      taken (CheckHeld place held.0 expected) at held.1 o.2.from.n o.0 o.1 o.2.from.here (let z = same in cc) (let z = same in cc))
+      taken o.2.from.n o.0 o.1 o.2.from.here (let z = same in cc) (let z = same in cc))
       take)
       stale
 
-  pub section_stale : (at : ℕ) → leaves (setting_of l d) trail (micro_at (line (m.body thunk)) at) ≡ Some (outcomes.Stale place expected read) → WasPlanned
+  pub section_stale : (at : ℕ) → leaves (setting_of l d) trail (micro_at (line (m.body thunk)) at) ≡ Some (outcomes.Stale place expected read)
+      → WasRead readings place expected
   section_stale at e = was_planned at (stale_at l d trail place expected read (micro_at (line (m.body thunk)) at) e)

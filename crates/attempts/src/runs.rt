@@ -18,6 +18,7 @@ use body_terms::{Outcome, StepKind, Steps};
 use lock_walks::Planner;
 use lock_walks::try_lock::{RunEnd, Section, retire_section, run_section};
 use lock_walks::version_words::{FlockTable, Runner};
+use lock_words::stale_words_differ;
 use map_history::Request;
 use runner_gate::Gate;
 
@@ -49,6 +50,7 @@ pub fn conclude<S: Planner, G: Gate, L>(
     if let Outcome::Answered(_) = outcome {
         learn(table, runner, request)
     } else {
+        stale_words_differ(table.structure());
         turn_away(table, runner, section_left(outcome), gate, steps)
     }
 }

@@ -55,7 +55,7 @@ module _ (m : Meaning) (l : Layout) (a : AgreementState) (s : Sight) (joined : I
         let count = in_trail.counted ∙ ap x.slot here.at in
         omega (arith, next, rises, count, place))
 
-    edge : (j : ℕ) → j < q.at → j < x.edge
+    pub edge : (j : ℕ) → j < q.at → j < x.edge
     edge j below = let behind = in_trail.behind in let same = here.at in omega (arith, below, behind, same)
 
     code : (i : ℕ) → x.code i ≡ micro_at (line_of m q) i

@@ -96,24 +96,35 @@ module _ (m : Meaning) (laws : Laws m) (l : Layout) (limits : IsWithinLimits l) 
   word_now : (k : ℕ) → s'.word (LogWord d k) ≡ put s.word x.0 (written x.1 (s.word x.0)) (LogWord d k)
   word_now k = ap (λ (y : Sight). y.word (LogWord d k)) st.step.next
 
-  pub agreed_before : (place word : ℕ) → IsAgreed m s' d place word → IsTaken m s d place word
-  agreed_before place word agreed = ⊎_elim (λ stays. stood (word_now agreed.log ∙ stays)) (λ writes. wrote writes) (log_step agreed.log)
+  -- the stepping runner is in a run of the section and commits this word next, at this place of the line
+  pub record Brings (place word at log : ℕ) : Type 0 where
+    pub run : RunState
+    pub runs : p.run ≡ Some run
+    pub of_section : run.descriptor ≡ d
+    pub opened : length run.opened ≡ 13
+    pub there : at ≡ run.at
+    pub commits : CommitsLock (micro_at (line_of m run) run.at) place log
+    pub loaded : run.word ≡ word
+
+  pub agreed_from : (place word : ℕ) (agreed : IsAgreed m s' d place word)
+      → (s.word (LogWord d agreed.log) ≡ word) ⊎ Brings place word agreed.at agreed.log
+  agreed_from place word agreed = ⊎_elim (λ stays. stood (word_now agreed.log ∙ stays)) (λ writes. wrote writes) (log_step agreed.log)
     where
       commits : CommitsLock (micro_at (line (m.body (thunk_in s.word d))) agreed.at) place agreed.log
       commits = subst (λ (t : Thunk). CommitsLock (micro_at (line (m.body t)) agreed.at) place agreed.log) same_thunk agreed.commits
 
-      stood : s'.word (LogWord d agreed.log) ≡ s.word (LogWord d agreed.log) → IsTaken m s d place word
-      stood same = inl (record { at = agreed.at; log = agreed.log; commits = commits; agreed = sym same ∙ agreed.agreed })
+      stood : s'.word (LogWord d agreed.log) ≡ s.word (LogWord d agreed.log)
+          → (s.word (LogWord d agreed.log) ≡ word) ⊎ Brings place word agreed.at agreed.log
+      stood same = inl (sym same ∙ agreed.agreed)
 
-      wrote : Writes agreed.log → IsTaken m s d place word
+      wrote : Writes agreed.log → (s.word (LogWord d agreed.log) ≡ word) ⊎ Brings place word agreed.at agreed.log
       wrote writes = ⊎_elim
           (λ none. inr (record {
-            runner = r;
             run = q;
             runs = writes.runs;
             of_section = writes.commits.of;
             opened = full;
-            log = agreed.log;
+            there = same_place;
             commits = here;
             loaded = sym (writes.commits.carried carried) ∙ (sym (now ∙ log_now s.word d agreed.log writes.commits.proposal none) ∙ agreed.agreed);
           }))
@@ -157,3 +168,23 @@ module _ (m : Meaning) (laws : Laws m) (l : Layout) (limits : IsWithinLimits l) 
 
           carried : carries (next_of m q) ≡ true
           carried = ap carries (sym next_line) ∙ (lock_commit (micro_at (line_of m q) q.at) place agreed.log here).2
+
+  pub agreed_before : (place word : ℕ) → IsAgreed m s' d place word → IsTaken m s d place word
+  agreed_before place word agreed = ⊎_elim
+      (λ stood. inl (record {
+        at = agreed.at;
+        log = agreed.log;
+        commits = subst (λ (t : Thunk). CommitsLock (micro_at (line (m.body t)) agreed.at) place agreed.log) same_thunk agreed.commits;
+        agreed = stood;
+      }))
+      (λ load. inr (record {
+        runner = r;
+        run = load.run;
+        runs = load.runs;
+        of_section = load.of_section;
+        opened = load.opened;
+        log = agreed.log;
+        commits = load.commits;
+        loaded = load.loaded;
+      }))
+      (agreed_from place word agreed)

@@ -9,3 +9,6 @@ mod Agreeing
 mod TakenLeaving
 mod TakenKept
 pub mod TakenReached
+mod StaleLeaving
+mod StaleKept
+pub mod StaleReached

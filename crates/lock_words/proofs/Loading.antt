@@ -1,6 +1,6 @@
 -- A run that commits a lock's word next loaded it with its last step.
 use Rattle.std.specs.Prelude.{◌⊎◌, cond, Bool, true, false, if◌then◌else◌}
-use Rattle.std.proofs.Common.{◌≡◌, ℕ, ◌+◌, List, [], ◌∷◌, length, length-append, refl, sym, ap, ◌∙◌, subst, ⊎_elim, inl, inr, arith, Option, Some, None}
+use Rattle.std.proofs.Common.{◌≡◌, ℕ, suc, ◌+◌, List, [], ◌∷◌, length, length-append, refl, sym, ap, ◌∙◌, subst, ⊎_elim, inl, inr, arith, Option, Some, None}
 use Rattle.map_history.specs.declared.op.Request.{Request}
 use Rattle.body_terms.specs.Line.{line, micro_at, is_event, is_check}
 use Rattle.body_terms.specs.Run.{settled}
@@ -66,7 +66,7 @@ module _ (m : Meaning) (l : Layout) (rs : List Request) (s s' : Sight) (r : ℕ)
     pub runs : (s.part i).run ≡ Some run
     pub descriptor : run.descriptor ≡ q'.descriptor
     pub opened : run.opened ≡ q'.opened
-    pub by : ((run.at ≡ q'.at) × (run.word ≡ q'.word)) ⊎ (q'.word ≡ s.word (spots.Cell place))
+    pub by : ((run.at ≡ q'.at) × (run.word ≡ q'.word)) ⊎ ((q'.word ≡ s.word (spots.Cell place)) × (q'.at ≡ suc run.at))
 
   abbrev Loaded : ℕ → PartState → Type 0
   Loaded i p' = (q' : RunState) (place log : ℕ) → p'.run ≡ Some q' → length q'.opened ≡ 13
@@ -99,7 +99,7 @@ module _ (m : Meaning) (l : Layout) (rs : List Request) (s s' : Sight) (r : ℕ)
         opened = opened;
         by = ⊎_elim
             (λ waits. inl (sym waits.0 ∙ ap (λ (u : RunState). u.at) same, sym waits.1 ∙ ap (λ (u : RunState). u.word) same))
-            (λ rests. inr (sym (ap (λ (u : RunState). u.word) same) ∙ rested rests.0 (sym (ap (λ (u : RunState). u.at) same) ∙ rests.1) rests.2))
+            (λ rests. let h = rested rests.0 (sym (ap (λ (u : RunState). u.at) same) ∙ rests.1) rests.2 in inr (sym (ap (λ (u : RunState). u.word) same) ∙ h.0, h.1))
             goes.at;
       }
         where
@@ -113,7 +113,7 @@ module _ (m : Meaning) (l : Layout) (rs : List Request) (s s' : Sight) (r : ℕ)
           here = subst (λ (micro : Micro). CommitsLock micro place log) (sym (code q'.at ∙ same_line q'.at)) commits
 
           rested : (trail : List ℕ) → q'.at ≡ settled (setting_of l q.descriptor) trail (line_of m q) (q.at + 1)
-              → (loads_lock kind ≡ true → q1.word ≡ found) → q1.word ≡ s.word (spots.Cell place)
+              → (loads_lock kind ≡ true → q1.word ≡ found) → (q1.word ≡ s.word (spots.Cell place)) × (q'.at ≡ suc q.at)
           rested trail at word = ⊎_elim
               (λ nested.
               let load = section_line.ordered.nested_before q'.at place log nested in
@@ -121,14 +121,14 @@ module _ (m : Meaning) (l : Layout) (rs : List Request) (s s' : Sight) (r : ℕ)
               let back = rests_behind (setting_of l q.descriptor) trail (line_of m q) q.at load.0 (sym at ∙ load.1) (ap is_check in_run) in
               let event = event_next m q (micros.NestedLoad place log) (ap (micro_at (line_of m q)) (sym back) ∙ in_run) refl in
               let asks = nested_kind m l p.nodes.free q x place log kind (ap (λ u. line_ask m l kind p.nodes.free q u) (sym event) ∙ e) in
-              word (ap loads_lock asks.0) ∙ ap (λ (u : Spot × Access). s.word u.0) (sym asks.1))
+              (word (ap loads_lock asks.0) ∙ ap (λ (u : Spot × Access). s.word u.0) (sym asks.1), load.1 ∙ ap suc back))
               (λ outcome.
               let load = section_line.ordered.outcome_before q'.at place log outcome in
               let in_run = sym (code load.0) ∙ load.2 in
               let back = rests_behind (setting_of l q.descriptor) trail (line_of m q) q.at load.0 (sym at ∙ load.1) (ap is_check in_run) in
               let event = event_next m q (micros.OutcomeLoad place log) (ap (micro_at (line_of m q)) (sym back) ∙ in_run) refl in
               let asks = outcome_kind m l p.nodes.free q x place log kind (ap (λ u. line_ask m l kind p.nodes.free q u) (sym event) ∙ e) in
-              word (ap loads_lock asks.0) ∙ ap (λ (u : Spot × Access). s.word u.0) (sym asks.1))
+              (word (ap loads_lock asks.0) ∙ ap (λ (u : Spot × Access). s.word u.0) (sym asks.1), load.1 ∙ ap suc back))
               here
 
   in_opening : (q : RunState) → p.run ≡ Some q → Loaded r (opened_more p q found)

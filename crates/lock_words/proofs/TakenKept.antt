@@ -92,7 +92,7 @@ module _ (m : Meaning) (laws : Laws m) (l : Layout) (limits : IsWithinLimits l) 
   -- a word that is loaded behind the step
   by_load : (i d place word named : ℕ) (since : IsSince l s' i d) → IsLoaded m s' d place word → value_of word ≡ suc named
       → Says m s' since.entry place word named
-  by_load i d place word named since load names = ⊎_elim before found was.by
+  by_load i d place word named since load names = ⊎_elim before (λ loaded. found loaded.0) was.by
     where
       was : Was m l rs s s' r kind st load.runner load.run place
       was = loaded_before m l rs s s' r kind st load.runner load.run place load.log load.runs load.opened load.commits

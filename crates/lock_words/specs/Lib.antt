@@ -1,5 +1,6 @@
 pub mod Spent
 pub mod Taken
+pub mod Stale
 -- Passed on to the layers above, so that they needn't name these libraries themselves.
 pub use Rattle.runner_facts.specs.machine_agreement
 pub use Rattle.runner_facts.specs.machine_invariant
