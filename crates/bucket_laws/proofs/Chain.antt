@@ -4,7 +4,7 @@ use Rattle.std.specs.Prelude.{Option, Some, None}
 use mathlib.Core.Logic.{dite}
 use native.Mathlib.Decide.{ℕ_discrete}
 use Rattle.body_terms.specs.Update.{upd}
-use Rattle.bucket_laws.specs.Chain.{Nodes, with_head, with_next, IsBeside, Chains, Contents}
+use Rattle.bucket_laws.specs.Chain.{Nodes, with_head, with_next, with_value, IsBeside, Chains, Contents}
 
 -- a slot in no chain links the first node of its bucket and becomes the head; its rank is above the bucket's
 pub insert : (bucket : ℕ → ℕ) (n : Nodes) (on : ℕ → Bool) (rank : ℕ → ℕ) (chains : Chains bucket n on rank) (i t top : ℕ)
@@ -120,3 +120,40 @@ same_on bucket n on on' rank rank' chains chains' u on_u = split (n.head (bucket
     split zero none = absurd (chains.head_none (bucket (n.key u)) u none on_u refl)
     split (suc t) link = let there = chains.head_on _ t link in let there' = chains'.head_on _ t link in
         below bucket n on on' rank rank' chains chains' u on_u (rank t) t (omega arith) there.0 there'.0 there.1 (chains.head_top _ t u link on_u refl)
+
+-- chains are those of any memory that agrees on heads and on the slots in them
+pub chains_agree : (bucket : ℕ → ℕ) (n n' : Nodes) (on : ℕ → Bool) (rank : ℕ → ℕ) (chains : Chains bucket n on rank) (heads : (i : ℕ) → n'.head i ≡ n.head i)
+    (keys : (u : ℕ) → on u ≡ true → n'.key u ≡ n.key u) (links : (u : ℕ) → on u ≡ true → n'.next u ≡ n.next u) → Chains bucket n' on rank
+chains_agree bucket n n' on rank chains heads keys links = record {
+  head_on = λ i t h. let there = chains.head_on i t (sym (heads i) ∙ h) in (there.0, ap bucket (keys t there.0) ∙ there.1);
+  head_top = λ i t u h on_u of. chains.head_top i t u (sym (heads i) ∙ h) on_u (ap bucket (sym (keys u on_u)) ∙ of);
+  head_none = λ i u h on_u of. chains.head_none i u (sym (heads i) ∙ h) on_u (ap bucket (sym (keys u on_u)) ∙ of);
+  next_on = λ s t on_s h. let there = chains.next_on s t on_s (sym (links s on_s) ∙ h) in (there.0, ap bucket (keys t there.0) ∙ there.1 ∙ ap bucket (sym (keys s on_s)), there.2);
+  next_top = λ s t u on_s h on_u beside. chains.next_top s t u on_s (sym (links s on_s) ∙ h) on_u (ap bucket (sym (keys u on_u)) ∙ beside ∙ ap bucket (keys s on_s));
+  next_none = λ s u on_s h on_u beside. chains.next_none s u on_s (sym (links s on_s) ∙ h) on_u (ap bucket (sym (keys u on_u)) ∙ beside ∙ ap bucket (keys s on_s));
+  rank_once = λ s t on_s on_t beside. chains.rank_once s t on_s on_t (ap bucket (sym (keys s on_s)) ∙ beside ∙ ap bucket (keys t on_t));
+  key_once = λ s t on_s on_t same. chains.key_once s t on_s on_t (sym (keys s on_s) ∙ same ∙ keys t on_t);
+}
+
+-- the contents after the value of a slot has changed
+pub set_contents : (n : Nodes) (on : ℕ → Bool) (lookup : ℕ → Option ℕ) (contents : Contents n on lookup) (t v : ℕ) → on t ≡ true
+    → ((u : ℕ) → on u ≡ true → n.key u ≡ n.key t → u ≡ t) → Contents (with_value n t v) on (upd lookup (n.key t) (Some v))
+set_contents n on lookup contents t v on_t once = record {
+  pair = λ u on_u. dite (ℕ_discrete u t)
+      (λ e. same lookup (n.key t) (n.key u) (Some v) (ap n.key e) ∙ ap Some (sym (same_value n.value t u v e)))
+      (λ ne. other lookup (n.key t) (n.key u) (Some v) (λ e. ne (once u on_u e)) ∙ (contents.pair u on_u ∙ ap Some (sym (other_value n.value t u v ne))));
+  slot = λ key value h. dite (ℕ_discrete key (n.key t)) (λ e. (t, on_t, sym e))
+      (λ ne. contents.slot key value (sym (other lookup (n.key t) key (Some v) ne) ∙ h));
+}
+  where
+    same : (f : ℕ → Option ℕ) (k x : ℕ) (v : Option ℕ) → x ≡ k → upd f k v x ≡ v
+    same f k x v e = grind arith
+
+    other : (f : ℕ → Option ℕ) (k x : ℕ) (v : Option ℕ) → x ≢ k → upd f k v x ≡ f x
+    other f k x v ne = grind arith
+
+    same_value : (f : ℕ → ℕ) (k x v : ℕ) → x ≡ k → upd f k v x ≡ v
+    same_value f k x v e = grind arith
+
+    other_value : (f : ℕ → ℕ) (k x v : ℕ) → x ≢ k → upd f k v x ≡ f x
+    other_value f k x v ne = grind arith

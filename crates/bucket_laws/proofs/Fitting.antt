@@ -12,19 +12,20 @@ use Rattle.table_words.specs.declared.layout.Layout.{Layout}
 use Rattle.structure_laws.specs.Scene.{Readings}
 use Rattle.structure_laws.specs.Fitting.{Leaves, StoresNothing, Fitting}
 use Rattle.bucket_laws.specs.Walk.{AtEnd, Bounds, Walk, form_for, operands_for, start, is_wanted, wanted_at, fed, fits_walk, walk}
-use Rattle.bucket_laws.specs.Buckets.{Insert, Remove, bounds, walk_of, table}
+use Rattle.bucket_laws.specs.Buckets.{Insert, Remove, Set, bounds, walk_of, table}
 use Rattle.bucket_laws.proofs.Fit.{IsFit, fit_of, read_number}
 use Rattle.bucket_laws.proofs.Forms.{step_in, answer_step}
 
 -- a body that reads alone answers what leaves the map as it was
-read_leaves : (op : Op) (w : Walk) (found : Bool) → form_for op found ≡ 1 → Leaves op (slice_index (operands_for op w found) 1)
-read_leaves (Get key) w found form = tt
-read_leaves (Ins key value) w true form = refl
-read_leaves (Ins key value) w false form = absurd (omega arith)
-read_leaves (Del key) w true form = absurd (omega arith)
-read_leaves (Del key) w false form = refl
-read_leaves (Put key value) w found form = absurd (omega arith)
-read_leaves (Mov from to) w found form = absurd (omega arith)
+read_leaves : (buckets : ℕ) (op : Op) (w : Walk) (found : Bool) → form_for op found ≡ 1 → Leaves op (slice_index (operands_for buckets op w found) 1)
+read_leaves buckets (Get key) w found form = tt
+read_leaves buckets (Ins key value) w true form = refl
+read_leaves buckets (Ins key value) w false form = absurd (omega arith)
+read_leaves buckets (Del key) w true form = absurd (omega arith)
+read_leaves buckets (Del key) w false form = refl
+read_leaves buckets (Put key value) w true form = absurd (omega arith)
+read_leaves buckets (Put key value) w false form = absurd (omega arith)
+read_leaves buckets (Mov from to) w found form = absurd (omega arith)
 
 -- of two walks, of which one goes on and the other stops
 either : (one more stopped : Walk) (c : Bool) → (one.stage ≡ AtEnd → more ≡ one)
@@ -60,9 +61,10 @@ module _ (buckets : ℕ) (bucket : ℕ → ℕ) where
     still : StoresNothing (table buckets bucket) thunk → (j reply : ℕ) → slice_get ((table buckets bucket).body thunk) j ≡ Some (Answer reply) → Leaves op reply
     still none j reply h = ⊎_elim
         (λ read. subst (Leaves op) (sym (read.1 ∙ ap (λ numbers. slice_index numbers 1) fit.operands))
-        (read_leaves op (walk_of buckets bucket layout op readings) (walk_of buckets bucket layout op readings).found (sym fit.form ∙ read_number thunk read.0)))
+        (read_leaves buckets op (walk_of buckets bucket layout op readings) (walk_of buckets bucket layout op readings).found (sym fit.form ∙ read_number thunk read.0)))
         (⊎_elim (λ insert. absurd (none 7 1 (Made 2) (step_in thunk Insert 7 insert.0)))
-        (λ remove. absurd (none 6 1 (Const (operand thunk 3)) (step_in thunk Remove 6 remove.0))))
+        (⊎_elim (λ remove. absurd (none 6 1 (Const (operand thunk 3)) (step_in thunk Remove 6 remove.0)))
+        (λ sets. absurd (none 6 1 (Const (operand thunk 2)) (step_in thunk Set 6 sets.0)))))
         (answer_step thunk j reply h)
 
   pub table_fitting : (layout : Layout) → Fitting (table buckets bucket) layout

@@ -1,5 +1,5 @@
 -- The map after an operation, as a look-up; and the reply, by what is looked up.
-use Rattle.std.proofs.Common.{◌≡◌, ℕ, ◌*◌, Bool, true, false, cond, refl, sym, ap, ◌∙◌, arith}
+use Rattle.std.proofs.Common.{◌≡◌, ℕ, ◌*◌, Bool, true, false, cond, refl, sym, ap, ◌∙◌, arith, ◌+◌}
 use Rattle.std.proofs.lemmas.Cmp.{nat_cmp_total}
 use Rattle.std.specs.Prelude.{◌==◌, ◌^◌, Option, Some, None, if◌then◌else◌, is_some, slice_index}
 use Rattle.std.specs.Ordering.{nat_cmp, eq_by_cmp}
@@ -10,11 +10,13 @@ use Rattle.map_history.specs.declared.op.Op.{Op}
 use Rattle.map_history.specs.declared.op.Op.TheVariants.{Get, Ins, Del, Put, Mov}
 use Rattle.map_history.specs.declared.reply.Reply.TheVariants.{New, Dup, Gone, Absent}
 use Rattle.map_history.specs.Keys.{key_of}
-use Rattle.map_history.specs.Replay.{Pairs, found, reply_of, map_after}
+use Rattle.map_history.specs.AtKey.{Gets}
+use Rattle.map_history.specs.Replay.{Pairs, found, replaced, reply_of, map_after}
 use Rattle.map_history.specs.Words.{word_of}
 use Rattle.body_terms.specs.Update.{upd}
 use Rattle.structure_laws.proofs.Changes.{upd_same, upd_other}
 use Rattle.bucket_laws.specs.Walk.{Walk, is_del, form_for, operands_for}
+use Rattle.bucket_laws.proofs.Fit.{PutsIn, keeps_gets}
 
 same_keys : (q k : ℕ) → eq_by_cmp nat_cmp q k ≡ (q == k)
 same_keys q k = grind arith
@@ -35,16 +37,17 @@ absent_same : (lookup : ℕ → Option ℕ) (key q : ℕ) → lookup key ≡ Non
 absent_same lookup key q h = dite (ℕ_discrete q key) (λ e. upd_same lookup key q None e ∙ sym h ∙ ap lookup (sym e)) (λ ne. upd_other lookup key q None ne)
 
 -- the reply word of a thunk that changes nothing
-pub read_reply : (pairs : Pairs) (op : Op) (w : Walk) (there : Bool) → form_for op there ≡ 1 → (there ≡ true → get pairs (key_of op) ≡ Some w.value) → (there ≡ false → get pairs (key_of op) ≡ None)
-    → slice_index (operands_for op w there) 1 ≡ word_of (reply_of pairs op)
-read_reply pairs (Get key) w true form some none = ap (λ o. word_of (found o)) (sym (some refl))
-read_reply pairs (Get key) w false form some none = ap (λ o. word_of (found o)) (sym (none refl))
-read_reply pairs (Ins key value) w true form some none = ap (λ b. word_of (if b then Dup else New)) (sym (is_there pairs key w.value (some refl)))
-read_reply pairs (Ins key value) w false form some none = absurd (omega arith)
-read_reply pairs (Del key) w true form some none = absurd (omega arith)
-read_reply pairs (Del key) w false form some none = ap (λ b. word_of (if b then Gone else Absent)) (sym (is_missing pairs key (none refl)))
-read_reply pairs (Put key value) w there form some none = absurd (omega arith)
-read_reply pairs (Mov from to) w there form some none = absurd (omega arith)
+pub read_reply : (buckets : ℕ) (pairs : Pairs) (op : Op) (w : Walk) (there : Bool) → form_for op there ≡ 1 → (there ≡ true → get pairs (key_of op) ≡ Some w.value) → (there ≡ false → get pairs (key_of op) ≡ None)
+    → slice_index (operands_for buckets op w there) 1 ≡ word_of (reply_of pairs op)
+read_reply buckets pairs (Get key) w true form some none = ap (λ o. word_of (found o)) (sym (some refl))
+read_reply buckets pairs (Get key) w false form some none = ap (λ o. word_of (found o)) (sym (none refl))
+read_reply buckets pairs (Ins key value) w true form some none = ap (λ b. word_of (if b then Dup else New)) (sym (is_there pairs key w.value (some refl)))
+read_reply buckets pairs (Ins key value) w false form some none = absurd (omega arith)
+read_reply buckets pairs (Del key) w true form some none = absurd (omega arith)
+read_reply buckets pairs (Del key) w false form some none = ap (λ b. word_of (if b then Gone else Absent)) (sym (is_missing pairs key (none refl)))
+read_reply buckets pairs (Put key value) w true form some none = absurd (omega arith)
+read_reply buckets pairs (Put key value) w false form some none = absurd (omega arith)
+read_reply buckets pairs (Mov from to) w there form some none = absurd (omega arith)
 
 -- and of one that puts a key in, or takes it out
 pub insert_reply : (pairs : Pairs) (op : Op) (there : Bool) → form_for op there ≡ 2 → get pairs (key_of op) ≡ None → 1 * 2 ^ 32 ≡ word_of (reply_of pairs op)
@@ -53,7 +56,8 @@ insert_reply pairs (Ins key value) true form none = absurd (omega arith)
 insert_reply pairs (Ins key value) false form none = ap (λ b. word_of (if b then Dup else New)) (sym (is_missing pairs key none))
 insert_reply pairs (Del key) true form none = absurd (omega arith)
 insert_reply pairs (Del key) false form none = absurd (omega arith)
-insert_reply pairs (Put key value) there form none = absurd (omega arith)
+insert_reply pairs (Put key value) true form none = absurd (omega arith)
+insert_reply pairs (Put key value) false form none = ap (λ o. word_of (replaced o)) (sym none)
 insert_reply pairs (Mov from to) there form none = absurd (omega arith)
 
 pub remove_reply : (pairs : Pairs) (op : Op) (value : ℕ) → is_del op ≡ true → get pairs (key_of op) ≡ Some value → 4 * 2 ^ 32 ≡ word_of (reply_of pairs op)
@@ -71,11 +75,27 @@ read_map pairs (Ins key v) value true form some none q = ap (λ b. get (if b the
 read_map pairs (Ins key v) value false form some none q = absurd (omega arith)
 read_map pairs (Del key) value true form some none q = absurd (omega arith)
 read_map pairs (Del key) value false form some none q = sym (get_removed pairs key q ∙ absent_same (get pairs) key q (none refl))
-read_map pairs (Put key v) value there form some none q = absurd (omega arith)
+read_map pairs (Put key v) value true form some none q = absurd (omega arith)
+read_map pairs (Put key v) value false form some none q = absurd (omega arith)
 read_map pairs (Mov from to) value there form some none q = absurd (omega arith)
 
-pub insert_map : (pairs : Pairs) (op : Op) (key value : ℕ) → op ≡ Ins key value → get pairs key ≡ None → (q : ℕ) → upd (get pairs) key (Some value) q ≡ get (map_after pairs op) q
-insert_map pairs op key value e none q = sym (ap (λ op. get (map_after pairs op) q) e ∙ ap (λ b. get (if b then pairs else insert pairs key value) q) (is_missing pairs key none) ∙ get_inserted pairs key value q)
+gets_same : (a b : ℕ) → Gets a ≡ Gets b → a ≡ b
+gets_same a b e = cc
+
+pub insert_map : (pairs : Pairs) (op : Op) (key value : ℕ) → PutsIn op key value → get pairs key ≡ None → (q : ℕ) → upd (get pairs) key (Some value) q ≡ get (map_after pairs op) q
+insert_map pairs (Get k) key value is none q = absurd (keeps_gets value is.1)
+insert_map pairs (Ins k v) key value is none q =
+    (λ i. upd (get pairs) (sym is.0 i) (Some (sym (gets_same v value is.1) i)) q) ∙ sym (ap (λ b. get (if b then pairs else insert pairs k v) q) (is_missing pairs k (ap (get pairs) is.0 ∙ none)) ∙ get_inserted pairs k v q)
+insert_map pairs (Del k) key value is none q = absurd (keeps_gets value is.1)
+insert_map pairs (Put k v) key value is none q = (λ i. upd (get pairs) (sym is.0 i) (Some (sym (gets_same v value is.1) i)) q) ∙ sym (get_inserted pairs k v q)
+insert_map pairs (Mov from to) key value is none q = absurd (keeps_gets value is.1)
+
+-- and of one that sets the value of a key that is there
+pub set_reply : (pairs : Pairs) (op : Op) (key value before : ℕ) → op ≡ Put key value → get pairs (key_of op) ≡ Some before → 6 * 2 ^ 32 + before ≡ word_of (reply_of pairs op)
+set_reply pairs op key value before e some = ap (λ o. word_of (replaced o)) (sym (ap (λ op. get pairs (key_of op)) (sym e) ∙ some)) ∙ ap (λ op. word_of (reply_of pairs op)) (sym e)
+
+pub set_map : (pairs : Pairs) (op : Op) (key value : ℕ) → op ≡ Put key value → (q : ℕ) → upd (get pairs) (key_of op) (Some value) q ≡ get (map_after pairs op) q
+set_map pairs op key value e q = ap (λ op. upd (get pairs) (key_of op) (Some value) q) e ∙ sym (get_inserted pairs key value q) ∙ ap (λ op. get (map_after pairs op) q) (sym e)
 
 pub remove_map : (pairs : Pairs) (op : Op) → is_del op ≡ true → (q : ℕ) → upd (get pairs) (key_of op) None q ≡ get (map_after pairs op) q
 remove_map pairs (Get key) del q = absurd (cc)

@@ -9,7 +9,7 @@ use Rattle.body_terms.specs.Word.{value_of}
 use Rattle.section_body.specs.Bucket.{bucket_head}
 use Rattle.structure_laws.specs.Scene.{Cells}
 use Rattle.structure_laws.proofs.Changes.{upd_same, upd_other}
-use Rattle.bucket_laws.specs.Chain.{Nodes, with_head, with_next}
+use Rattle.bucket_laws.specs.Chain.{Nodes, with_head, with_next, with_value}
 use Rattle.bucket_laws.specs.Walk.{cell_at}
 use Rattle.bucket_laws.specs.Buckets.{nodes}
 
@@ -59,6 +59,15 @@ module _ (buckets : ℕ) (bucket : ℕ → ℕ) (cells : Cells) where
       (fun_ext (λ u. other (cell_at buckets bucket t 3) (cell_at buckets bucket u 2) word (λ e. omega arith)))
       (fun_ext (λ u. dite (ℕ_discrete u t) (λ e. upd_same now.next t u (value_of word) e ∙ ap value_of (sym (upd_same cells (cell_at buckets bucket t 3) (cell_at buckets bucket u 3) word (ap (λ u. cell_at buckets bucket u 3) e))))
       (λ ne. upd_other now.next t u (value_of word) ne ∙ other (cell_at buckets bucket t 3) (cell_at buckets bucket u 3) word (λ e. ne (omega arith)))))
+
+  -- a node's value has changed
+  pub value_changed : (t word : ℕ) → with_value now t (value_of word) ≡ nodes buckets bucket (upd cells (cell_at buckets bucket t 2) word)
+  value_changed t word = nodes_same _ _ _ _ _ _ _ _
+      (fun_ext (λ j. clip_same j buckets (value_of (cells (bucket_head j))) (value_of (upd cells (cell_at buckets bucket t 2) word (bucket_head j))) (λ lower. other (cell_at buckets bucket t 2) (bucket_head j) word (λ e. omega arith))))
+      (fun_ext (λ u. other (cell_at buckets bucket t 2) (cell_at buckets bucket u 1) word (λ e. omega arith)))
+      (fun_ext (λ u. dite (ℕ_discrete u t) (λ e. upd_same now.value t u (value_of word) e ∙ ap value_of (sym (upd_same cells (cell_at buckets bucket t 2) (cell_at buckets bucket u 2) word (ap (λ u. cell_at buckets bucket u 2) e))))
+      (λ ne. upd_other now.value t u (value_of word) ne ∙ other (cell_at buckets bucket t 2) (cell_at buckets bucket u 2) word (λ e. ne (omega arith)))))
+      (fun_ext (λ u. other (cell_at buckets bucket t 2) (cell_at buckets bucket u 3) word (λ e. omega arith)))
 
   -- a cell that is neither a head nor a key, value or link of a node has changed
   pub none_changed : (p word : ℕ) → ((j : ℕ) → j < buckets → bucket_head j ≢ p) → ((u k : ℕ) → 1 ≤ k → k ≤ 3 → cell_at buckets bucket u k ≢ p) → now ≡ nodes buckets bucket (upd cells p word)

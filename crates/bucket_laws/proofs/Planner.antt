@@ -1,11 +1,12 @@
 -- What the hash table gives to those who plan sections on it.
-use Rattle.std.proofs.Common.{◌≡◌, ◌≢◌, ℕ, suc, ◌*◌, ◌<◌, ◌≤◌, true, cond, List, [], ◌∷◌, length, refl, sym, ap, ◌∙◌, subst, ⊎_elim, arith}
+use Rattle.std.proofs.Common.{◌≡◌, ◌≢◌, ℕ, suc, ◌*◌, ◌<◌, ◌≤◌, true, cond, List, [], ◌∷◌, length, refl, sym, ap, ◌∙◌, subst, inl, ⊎_elim, arith}
 use Rattle.std.proofs.lemmas.Cmp.{nat_cmp_total}
 use Rattle.std.specs.Prelude.{◌-◌, ◌^◌, Some, None, is_some, slice_get}
 use Rattle.std.specs.Ordering.{nat_cmp}
 use Rattle.std.specs.FinMap.{get, remove, len, empty_of_len, get-empty, len-remove}
 use Rattle.std.proofs.lemmas.Option.{none-some}
 use Rattle.map_history.specs.declared.op.Op.{Op}
+use Rattle.map_history.specs.declared.op.Op.TheVariants.{Get, Ins, Del, Put, Mov}
 use Rattle.map_history.specs.Keys.{key_of}
 use Rattle.map_history.specs.Replay.{Pairs}
 use Rattle.section_body.specs.Bucket.{bucket_index, bucket_edition}
@@ -21,10 +22,10 @@ use Rattle.structure_laws.proofs.Changes.{upd_other}
 use Rattle.bucket_laws.specs.Walk.{Walk, Stage, AtEdition, AtEnd, start, Bounds, is_wanted, wanted_at, fed, walk}
 use Rattle.bucket_laws.specs.Buckets.{form_of, nodes, bounds, walk_of, BucketsKept, BucketsStand, table, buckets_meaning}
 use Rattle.bucket_laws.proofs.Chain.{same_on}
-use Rattle.bucket_laws.proofs.Fit.{fit_of}
+use Rattle.bucket_laws.proofs.Fit.{PutsIn, keeps_gets, fit_of}
 use Rattle.bucket_laws.proofs.Forms.{load_step, want_step, make_step, answer_step}
 use Rattle.bucket_laws.proofs.Maps.{get_removed}
-use Rattle.bucket_laws.proofs.Sections.{read_insert, insert_remove}
+use Rattle.bucket_laws.proofs.Sections.{read_insert, insert_remove, insert_set}
 use Rattle.bucket_laws.proofs.TableLaws.{bucket_small}
 use Rattle.bucket_laws.proofs.Walks.{bool_cases, wanted_eq, is_first, edition_kept}
 
@@ -94,7 +95,7 @@ module _ (buckets : ℕ) (bucket : ℕ → ℕ) (small : (key : ℕ) → bucket 
       let lock = fit.lock in
       let place : p ≡ bucket_edition (bucket (key_of op)) = ⊎_elim
       (λ edition. let at = edition.2 in omega arith)
-      (⊎_elim (λ insert. absurd (let one = insert.2 in let zero = wanted.0 in omega arith)) (λ remove. absurd (let one = remove.2 in let zero = wanted.0 in omega arith)))
+      (⊎_elim (λ insert. absurd (let one = insert.2 in let zero = wanted.0 in omega arith)) (⊎_elim (λ remove. absurd (let one = remove.2 in let zero = wanted.0 in omega arith)) (λ sets. absurd (let one = sets.2 in let zero = wanted.0 in omega arith))))
       (load_step thunk i p r load) in
       subst (λ p. IsAmong readings p w) (sym place) (subst (λ w. IsAmong readings (bucket_edition (bucket (key_of op))) w) (sym (wanted.1 ∙ fit.edition)) read)
     where
@@ -108,8 +109,15 @@ module _ (buckets : ℕ) (bucket : ℕ → ℕ) (small : (key : ℕ) → bucket 
       let form = (make_step thunk i r init make).0 in
       let insert = (fit.insert form).1 in
       let added : reply ≡ 1 * 2 ^ 32 = ⊎_elim (λ read. absurd (read_insert (form_of thunk) read.0 form))
-      (⊎_elim (λ new. new.1) (λ gone. absurd (insert_remove (form_of thunk) form gone.0))) (answer_step thunk j reply answer) in
-      subst (λ op. Adds op reply) (sym insert.2) added
+      (⊎_elim (λ new. new.1) (⊎_elim (λ gone. absurd (insert_remove (form_of thunk) form gone.0)) (λ sets. absurd (insert_set (form_of thunk) form sets.0)))) (answer_step thunk j reply answer) in
+      adds_new op insert.0 insert.1 reply insert.2 added
+    where
+      adds_new : (op : Op) (key v reply : ℕ) → PutsIn op key v → reply ≡ 1 * 2 ^ 32 → Adds op reply
+      adds_new (Get k) key v reply is added = absurd (keeps_gets v is.1)
+      adds_new (Ins k value) key v reply is added = added
+      adds_new (Del k) key v reply is added = absurd (keeps_gets v is.1)
+      adds_new (Put k value) key v reply is added = inl added
+      adds_new (Mov from to) key v reply is added = absurd (keeps_gets v is.1)
 
   module _ (s : Scene) (pairs : Pairs) (slots : List ℕ) (before : StandsFor (table buckets bucket) layout s pairs) (quiet : IsQuiet (table buckets bucket) s) (used : AreInUse (table buckets bucket) s slots) where
     abbrev kept : BucketsKept buckets bucket layout s

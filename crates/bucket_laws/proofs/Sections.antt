@@ -14,8 +14,8 @@ use Rattle.structure_laws.specs.Scene.{Section, Scene}
 use Rattle.structure_laws.specs.Sections.{Here, IsStep}
 use Rattle.structure_laws.specs.Sound.{Sound}
 use Rattle.bucket_laws.specs.Walk.{AtEnd, Walk, cell_at}
-use Rattle.bucket_laws.specs.Buckets.{Form, Read, Insert, Remove, form_of, body_of, IsLinkOf, IsMissing, Knows, IsPending, walk_of, BucketsKept, table}
-use Rattle.bucket_laws.proofs.Forms.{step_in, read_stores, insert_stores, remove_stores}
+use Rattle.bucket_laws.specs.Buckets.{Form, Read, Insert, Remove, Set, form_of, body_of, IsLinkOf, IsReached, IsMissing, Knows, IsPending, walk_of, BucketsKept, table}
+use Rattle.bucket_laws.proofs.Forms.{step_in, read_stores, insert_stores, remove_stores, set_stores}
 use Rattle.bucket_laws.proofs.Fit.{IsFit, fit_of}
 
 pub insert_remove : (f : Form) → f ≡ Insert → f ≡ Remove → ⊥
@@ -26,6 +26,15 @@ read_insert f a b = cc
 
 pub read_remove : (f : Form) → f ≡ Read → f ≡ Remove → ⊥
 read_remove f a b = cc
+
+pub read_set : (f : Form) → f ≡ Read → f ≡ Set → ⊥
+read_set f a b = cc
+
+pub insert_set : (f : Form) → f ≡ Insert → f ≡ Set → ⊥
+insert_set f a b = cc
+
+pub remove_set : (f : Form) → f ≡ Remove → f ≡ Set → ⊥
+remove_set f a b = cc
 
 module _ (buckets : ℕ) (bucket : ℕ → ℕ) (layout : Layout) (s : Scene) (sound : Sound (table buckets bucket) layout s) (kept : BucketsKept buckets bucket layout s) where
   -- the bucket of a section, and its walk
@@ -70,17 +79,22 @@ module _ (buckets : ℕ) (bucket : ℕ → ℕ) (layout : Layout) (s : Scene) (s
   pub read_knows : (d : ℕ) (x : Section) → Here s d x → form_of x.thunk ≡ Read → 2 ≤ x.at → Knows buckets bucket s.cells kept.on kept.rank x.op (walk_at x) AtEnd
   read_knows d x here form past = knows d x here
       (edition_now d x Read here form refl refl past (λ i v store. absurd (read_stores x.thunk i 0 v form store)))
-      (λ pending. ⊎_elim (λ insert. read_insert (form_of x.thunk) form insert.0) (λ remove. read_remove (form_of x.thunk) form remove.0) pending.1)
+      (λ pending. ⊎_elim (λ insert. read_insert (form_of x.thunk) form insert.0) (⊎_elim (λ remove. read_remove (form_of x.thunk) form remove.0) (λ sets. read_set (form_of x.thunk) form sets.0)) pending.1)
 
   pub insert_knows : (d : ℕ) (x : Section) → Here s d x → form_of x.thunk ≡ Insert → 2 ≤ x.at → x.at ≤ 7 → Knows buckets bucket s.cells kept.on kept.rank x.op (walk_at x) AtEnd
   insert_knows d x here form past early = knows d x here
       (edition_now d x Insert here form refl refl past (λ i v store. ⊎_elim (λ head. absurd (let one = head.1 in omega arith)) (λ edition. let last = edition.0 in omega arith) (insert_stores x.thunk i 0 v form store)))
-      (λ pending. ⊎_elim (λ insert. let at = insert.1 in omega arith) (λ remove. insert_remove (form_of x.thunk) form remove.0) pending.1)
+      (λ pending. ⊎_elim (λ insert. let at = insert.1 in omega arith) (⊎_elim (λ remove. insert_remove (form_of x.thunk) form remove.0) (λ sets. insert_set (form_of x.thunk) form sets.0)) pending.1)
 
   pub remove_knows : (d : ℕ) (x : Section) → Here s d x → form_of x.thunk ≡ Remove → 2 ≤ x.at → x.at ≤ 6 → Knows buckets bucket s.cells kept.on kept.rank x.op (walk_at x) AtEnd
   remove_knows d x here form past early = knows d x here
       (edition_now d x Remove here form refl refl past (λ i v store. ⊎_elim (λ link. absurd (let one = link.1 in omega arith)) (λ edition. let last = edition.0 in omega arith) (remove_stores x.thunk i 0 v form store)))
-      (λ pending. ⊎_elim (λ insert. insert_remove (form_of x.thunk) insert.0 form) (λ remove. let at = remove.1 in omega arith) pending.1)
+      (λ pending. ⊎_elim (λ insert. insert_remove (form_of x.thunk) insert.0 form) (⊎_elim (λ remove. let at = remove.1 in omega arith) (λ sets. remove_set (form_of x.thunk) form sets.0)) pending.1)
+
+  pub set_knows : (d : ℕ) (x : Section) → Here s d x → form_of x.thunk ≡ Set → 2 ≤ x.at → x.at ≤ 6 → Knows buckets bucket s.cells kept.on kept.rank x.op (walk_at x) AtEnd
+  set_knows d x here form past early = knows d x here
+      (edition_now d x Set here form refl refl past (λ i v store. ⊎_elim (λ value. absurd (let one = value.1 in omega arith)) (λ edition. let last = edition.0 in omega arith) (set_stores x.thunk i 0 v form store)))
+      (λ pending. ⊎_elim (λ insert. insert_set (form_of x.thunk) insert.0 form) (⊎_elim (λ remove. remove_set (form_of x.thunk) remove.0 form) (λ sets. let at = sets.1 in omega arith)) pending.1)
 
   -- the new node's link is the head's
   pub insert_head : (d : ℕ) (x : Section) → Here s d x → form_of x.thunk ≡ Insert → 2 ≤ x.at → x.at ≤ 7 → operand x.thunk 3 ≡ value_of (s.cells (bucket_head (bucket_of x)))
@@ -109,3 +123,16 @@ module _ (buckets : ℕ) (bucket : ℕ → ℕ) (layout : Layout) (s : Scene) (s
         key = ap (λ t. value_of (s.cells (cell_at buckets bucket t 1))) slot ∙ found.1;
         next = ap (λ t. value_of (s.cells (cell_at buckets bucket t 3))) slot ∙ found.3 fits.1.0 ∙ sym fits.1.3;
       }
+
+  -- the node whose value is to be set is the one that the walk found, and has the value that it read
+  pub record IsSetTarget (x : Section) : Type 0 where
+    pub reached : IsReached buckets bucket s.cells kept.on (bucket_of x) (walk_at x)
+    pub place : operand x.thunk 1 ≡ cell_at buckets bucket (walk_at x).slot 2
+    pub key : value_of (s.cells (cell_at buckets bucket (walk_at x).slot 1)) ≡ key_of x.op
+    pub value : value_of (s.cells (cell_at buckets bucket (walk_at x).slot 2)) ≡ (walk_at x).value
+
+  pub set_target : (d : ℕ) (x : Section) → Here s d x → form_of x.thunk ≡ Set → 2 ≤ x.at → x.at ≤ 6 → IsSetTarget x
+  set_target d x here form past early =
+      let fits = (fit d x here).sets form in
+      let found = (set_knows d x here form past early).1 fits.0 in
+      record { reached = found.0; place = fits.1.3; key = found.1; value = found.2 }

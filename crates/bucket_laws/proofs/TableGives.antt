@@ -5,7 +5,7 @@ use Rattle.std.specs.List.{list_any}
 use Rattle.small_lemmas.proofs.Bools.{both_of as both_true}
 use Rattle.small_lemmas.proofs.Numbers.{suc_equal as suc_eq, tested_equal as equal_of}
 use Rattle.map_history.specs.Keys.{key_of, DependsOn}
-use Rattle.map_history.proofs.Cells.{format_1_one_keyed, key_is}
+use Rattle.map_history.proofs.Cells.{key_is}
 use Rattle.body_terms.specs.Word.{value_of, next_word}
 use Rattle.section_body.specs.Bucket.{bucket_lock, bucket_head, operand}
 use Rattle.body_terms.specs.declared.value.Value.{Value}
@@ -19,9 +19,10 @@ use Rattle.structure_laws.specs.Sound.{Sound}
 use Rattle.structure_laws.specs.Gives.{Gives}
 use Rattle.structure_laws.proofs.Changes.{upd_other}
 use Rattle.bucket_laws.specs.Walk.{cell_at}
-use Rattle.bucket_laws.specs.Buckets.{Insert, Remove, form_of, is_link_place, guard_of, BucketsKept, table}
-use Rattle.bucket_laws.proofs.Forms.{step_in, load_step, remove_stores, retire_step}
-use Rattle.bucket_laws.proofs.Sections.{fit, one_bucket, insert_head, remove_target}
+use Rattle.bucket_laws.specs.Buckets.{Insert, Remove, Set, form_of, is_link_place, guard_of, IsNode, IsValueOf, BucketsKept, table}
+use Rattle.bucket_laws.proofs.Forms.{step_in, load_step, remove_stores, set_stores, retire_step}
+use Rattle.bucket_laws.proofs.Sections.{fit, walk_at, one_bucket, insert_head, remove_target, set_target}
+use Rattle.bucket_laws.proofs.Walks.{reached_on}
 use Rattle.bucket_laws.proofs.Places.{lt_true, lt_of, head_link, node_link, guard_low, guard_node}
 
 true_false : {b : Bool} → b ≡ true → b ≡ false → ⊥
@@ -103,6 +104,21 @@ module _ (buckets : ℕ) (bucket : ℕ → ℕ) (small : (key : ℕ) → bucket 
       let passed : x.at ≤ 4 → ⊥ = λ low. true_false {b = true} refl (settled 4 (Fresh 1) low (step_in x.thunk Remove 4 form)) in
       omega arith
 
+  pub set_settled : (x : Section) → form_of x.thunk ≡ Set → Settled (table buckets bucket) x → 5 ≤ x.at
+  set_settled x form settled =
+      let passed : x.at ≤ 4 → ⊥ = λ low. true_false {b = true} refl (settled 4 (Fresh 1) low (step_in x.thunk Set 4 form)) in
+      omega arith
+
+  -- the node whose value is to be set stands in the chain, and the thunk names the cell of its value
+  pub set_node : (d : ℕ) (x : Section) → Here s d x → form_of x.thunk ≡ Set → 2 ≤ x.at → x.at ≤ 6
+      → IsNode buckets bucket s.cells kept.on (bucket (key_of x.op)) (walk_at buckets bucket layout s sound kept x).slot
+  set_node d x here form low high = reached_on buckets bucket small s.cells kept.on kept.rank kept.chains (key_of x.op) (walk_at buckets bucket layout s sound kept x)
+      (set_target buckets bucket layout s sound kept d x here form low high).reached
+
+  pub set_valued : (d : ℕ) (x : Section) → Here s d x → form_of x.thunk ≡ Set → 2 ≤ x.at → x.at ≤ 6
+      → IsValueOf buckets bucket s.cells kept.on (bucket (key_of x.op)) (operand x.thunk 1)
+  set_valued d x here form low high = ((walk_at buckets bucket layout s sound kept x).slot, set_node d x here form low high, (set_target buckets bucket layout s sound kept d x here form low high).place)
+
   -- the node behind the thunk's link stands in the chain
   pub target_on : (d : ℕ) (x : Section) → Here s d x → form_of x.thunk ≡ Remove → 2 ≤ x.at → x.at ≤ 6 → kept.on (operand x.thunk 2) ≡ true
   target_on d x here form low high =
@@ -136,9 +152,11 @@ module _ (buckets : ℕ) (bucket : ℕ → ℕ) (small : (key : ℕ) → bucket 
       λ rest third at. inl (ap ((table buckets bucket).guard s.cells) at ∙ guard_low buckets guard i rest (small (key_of x.op)) third ∙ sym lock) in
       ⊎_elim (λ edition. low 1 (omega arith) (let at = edition.2 in omega arith))
       (⊎_elim (λ insert. low 2 (omega arith) (let at = insert.3 in omega arith))
-      (λ remove. ⊎_elim (λ head. low 2 (omega arith) (remove.3 ∙ head))
+      (⊎_elim (λ remove. ⊎_elim (λ head. low 2 (omega arith) (remove.3 ∙ head))
       (λ node. inl (ap ((table buckets bucket).guard s.cells) (remove.3 ∙ node.2) ∙ guard_node buckets guard node.0 3 (omega arith) ∙ ap bucket_lock node.1.1 ∙ sym lock))
-      (kept.linked d x here remove.0 (let third = remove.1 in omega arith))))
+      (kept.linked d x here remove.0 (let third = remove.1 in omega arith)))
+      (λ sets. let node = kept.valued d x here sets.0 (let third = sets.1 in omega arith) in
+      inl (ap ((table buckets bucket).guard s.cells) (sets.3 ∙ node.2) ∙ guard_node buckets guard node.0 2 (omega arith) ∙ ap bucket_lock node.1.1 ∙ sym lock))))
       (load_step x.thunk j p r load)
 
   -- what is still to be stored to is a fixed cell or a cell of a live slot
@@ -148,12 +166,14 @@ module _ (buckets : ℕ) (bucket : ℕ → ℕ) (small : (key : ℕ) → bucket 
       let low = small (key_of x.op) in
       ⊎_elim (λ edition. inl (let at = edition.2 in omega arith))
       (⊎_elim (λ insert. inl (let at = insert.3 in omega arith))
-      (λ remove. ⊎_elim (λ head. inl (let at = remove.3 ∙ head in omega arith))
+      (⊎_elim (λ remove. ⊎_elim (λ head. inl (let at = remove.3 ∙ head in omega arith))
       (λ node. inr (node.0, (3, omega arith, remove.3 ∙ node.2), kept.on_live node.0 node.1.0))
-      (kept.linked d x here remove.0 (let past = remove_settled x remove.0 settled in omega arith))))
+      (kept.linked d x here remove.0 (let past = remove_settled x remove.0 settled in omega arith)))
+      (λ sets. let node = kept.valued d x here sets.0 (let past = set_settled x sets.0 settled in omega arith) in
+      inr (node.0, (2, omega arith, sets.3 ∙ node.2), kept.on_live node.0 node.1.0))))
       (load_step x.thunk j p r load)
 
-  -- a Store is to an edition or a link, so it leaves each key, and with it each guard
+  -- a Store is to an edition, a link or a value, so it leaves each key, and with it each guard
   steady_guard_store : (d j p q r : ℕ) (x : Section) (v : Value) → Here s d x → IsStep (table buckets bucket) x x.at (Store r v) → IsStep (table buckets bucket) x j (Load p r)
       → (table buckets bucket).guard (upd s.cells p (next_word (x.reg r) (value_in x.reg v))) q ≡ (table buckets bucket).guard s.cells q
   steady_guard_store d j p q r x v here store load =
@@ -164,9 +184,10 @@ module _ (buckets : ℕ) (bucket : ℕ → ℕ) (small : (key : ℕ) → bucket 
       guard_stays buckets bucket s.cells p (next_word (x.reg r) (value_in x.reg v)) q (λ high same.
       ⊎_elim (λ edition. let at = edition.2 in no_fixed p key (omega arith) (omega arith) same)
       (⊎_elim (λ insert. let at = insert.3 in no_fixed p key (omega arith) (omega arith) same)
-      (λ remove. ⊎_elim (λ head. let at = remove.3 ∙ head in no_fixed p key (omega arith) (omega arith) same)
+      (⊎_elim (λ remove. ⊎_elim (λ head. let at = remove.3 ∙ head in no_fixed p key (omega arith) (omega arith) same)
       (λ node. no_key node.0 t (same ∙ remove.3 ∙ node.2))
-      (kept.linked d x here remove.0 (store_late x r v remove.0 store))))
+      (kept.linked d x here remove.0 (store_late x r v remove.0 store)))
+      (λ sets. let node = kept.valued d x here sets.0 (set_late x r v sets.0 store) in no_value node.0 t (same ∙ sets.3 ∙ node.2))))
       (load_step x.thunk j p r load))
     where
       no_fixed : (p key : ℕ) → p < 3 * buckets → 3 * buckets ≤ key → key ≡ p → ⊥
@@ -174,6 +195,12 @@ module _ (buckets : ℕ) (bucket : ℕ → ℕ) (small : (key : ℕ) → bucket 
 
       no_key : (u t : ℕ) → 3 * buckets + 5 * t + 1 ≡ 3 * buckets + 5 * u + 3 → ⊥
       no_key u t same = omega arith
+
+      no_value : (u t : ℕ) → 3 * buckets + 5 * t + 1 ≡ 3 * buckets + 5 * u + 2 → ⊥
+      no_value u t same = omega arith
+
+      set_late : (x : Section) (r : ℕ) (v : Value) → form_of x.thunk ≡ Set → IsStep (table buckets bucket) x x.at (Store r v) → 3 ≤ x.at
+      set_late x r v form store = ⊎_elim (λ six. let at = six.0 in omega arith) (λ seven. let at = seven.0 in omega arith) (set_stores x.thunk x.at r v form store)
 
       store_late : (x : Section) (r : ℕ) (v : Value) → form_of x.thunk ≡ Remove → IsStep (table buckets bucket) x x.at (Store r v) → 3 ≤ x.at
       store_late x r v form store = ⊎_elim (λ six. let at = six.0 in omega arith) (λ seven. let at = seven.0 in omega arith) (remove_stores x.thunk x.at r v form store)
@@ -219,4 +246,4 @@ module _ (buckets : ℕ) (bucket : ℕ → ℕ) (small : (key : ℕ) → bucket 
       used t safe = ⊎_elim (λ live. live_free (s.status t) live) (λ retired. retired_free (s.status t) retired.0 retired.1) safe
 
       own_key : (d : ℕ) (x : Section) (key : ℕ) → Here s d x → DependsOn x.op key → key_of x.op ≡ key
-      own_key d x key here depends = key_is x.op key (format_1_one_keyed x.op (fit buckets bucket layout s sound kept d x here).served) depends
+      own_key d x key here depends = key_is x.op key (fit buckets bucket layout s sound kept d x here).one depends

@@ -11,6 +11,7 @@ use Rattle.map_history.specs.Keys.{key_of}
 use Rattle.body_terms.specs.Update.{upd}
 use Rattle.body_terms.specs.Word.{value_of}
 use Rattle.section_body.specs.Bucket.{bucket_edition, bucket_head, operand, insert_steps, remove_steps}
+use Rattle.bucket_bodies.specs.Table.{set_steps}
 use Rattle.body_terms.specs.declared.step.Step.{Step}
 use Rattle.body_terms.specs.declared.step.Step.TheVariants.{Want, Fresh, Stamp, Answer}
 use Rattle.body_terms.specs.declared.thunk.Thunk.{Thunk}
@@ -20,9 +21,9 @@ use Rattle.structure_laws.specs.Scene.{Readings, Section, Status, Free, Live, Re
 use Rattle.structure_laws.specs.Sections.{Here, Settled, Ended, is_exit}
 use Rattle.structure_laws.specs.Keeps.{Keeps}
 use Rattle.structure_laws.proofs.Changes.{upd_same, upd_other, upd_some, upd_none}
-use Rattle.bucket_laws.specs.Chain.{Nodes, Chains}
 use Rattle.bucket_laws.specs.Walk.{Walk, start, cell_at, walk}
-use Rattle.bucket_laws.specs.Buckets.{Insert, Remove, form_of, nodes, Knows, IsWalked, walk_of, bounds, BucketsKept, table}
+use Rattle.bucket_laws.specs.Buckets.{Insert, Remove, Set, form_of, nodes, Knows, IsWalked, walk_of, bounds, BucketsKept, table}
+use Rattle.bucket_laws.proofs.Chain.{chains_agree}
 use Rattle.bucket_laws.proofs.Elsewhere.{IsElsewhere, knows_on}
 use Rattle.bucket_laws.proofs.Forms.{step_in, no_take}
 use Rattle.bucket_laws.proofs.NodeChanges.{clip_same}
@@ -30,31 +31,23 @@ use Rattle.bucket_laws.proofs.TableSteps.{quiet_kept, load_kept, make_kept, reti
 use Rattle.bucket_laws.proofs.TableStores.{table_store}
 use Rattle.bucket_laws.proofs.Walks.{knows_fed, walk_push, is_first, edition_kept}
 
--- chains are those of any memory that agrees on heads and on the slots in them
-pub chains_agree : (bucket : ℕ → ℕ) (n n' : Nodes) (on : ℕ → Bool) (rank : ℕ → ℕ) (chains : Chains bucket n on rank) (heads : (i : ℕ) → n'.head i ≡ n.head i)
-    (keys : (u : ℕ) → on u ≡ true → n'.key u ≡ n.key u) (links : (u : ℕ) → on u ≡ true → n'.next u ≡ n.next u) → Chains bucket n' on rank
-chains_agree bucket n n' on rank chains heads keys links = record {
-  head_on = λ i t h. let there = chains.head_on i t (sym (heads i) ∙ h) in (there.0, ap bucket (keys t there.0) ∙ there.1);
-  head_top = λ i t u h on_u of. chains.head_top i t u (sym (heads i) ∙ h) on_u (ap bucket (sym (keys u on_u)) ∙ of);
-  head_none = λ i u h on_u of. chains.head_none i u (sym (heads i) ∙ h) on_u (ap bucket (sym (keys u on_u)) ∙ of);
-  next_on = λ s t on_s h. let there = chains.next_on s t on_s (sym (links s on_s) ∙ h) in (there.0, ap bucket (keys t there.0) ∙ there.1 ∙ ap bucket (sym (keys s on_s)), there.2);
-  next_top = λ s t u on_s h on_u beside. chains.next_top s t u on_s (sym (links s on_s) ∙ h) on_u (ap bucket (sym (keys u on_u)) ∙ beside ∙ ap bucket (keys s on_s));
-  next_none = λ s u on_s h on_u beside. chains.next_none s u on_s (sym (links s on_s) ∙ h) on_u (ap bucket (sym (keys u on_u)) ∙ beside ∙ ap bucket (keys s on_s));
-  rank_once = λ s t on_s on_t beside. chains.rank_once s t on_s on_t (ap bucket (sym (keys s on_s)) ∙ beside ∙ ap bucket (keys t on_t));
-  key_once = λ s t on_s on_t same. chains.key_once s t on_s on_t (sym (keys s on_s) ∙ same ∙ keys t on_t);
-}
-
 insert_late : (t : Thunk) (j : ℕ) (step : Step) → slice_get (insert_steps t) j ≡ Some step → 5 ≤ j → is_exit step ≡ false
 insert_late t j step h low = grind arith
 
 remove_late : (t : Thunk) (j : ℕ) (step : Step) → slice_get (remove_steps t) j ≡ Some step → 5 ≤ j → is_exit step ≡ false
 remove_late t j step h low = grind arith
 
+set_late : (t : Thunk) (j : ℕ) (step : Step) → slice_get (set_steps t) j ≡ Some step → 5 ≤ j → is_exit step ≡ false
+set_late t j step h low = grind arith
+
 insert_whole : (t : Thunk) (j : ℕ) → slice_get (insert_steps t) j ≡ None → j ≤ 9 → ⊥
 insert_whole t j h low = grind arith
 
 remove_whole : (t : Thunk) (j : ℕ) → slice_get (remove_steps t) j ≡ None → j ≤ 9 → ⊥
 remove_whole t j h low = grind arith
+
+set_whole : (t : Thunk) (j : ℕ) → slice_get (set_steps t) j ≡ None → j ≤ 8 → ⊥
+set_whole t j h low = grind arith
 
 module _ (buckets : ℕ) (bucket : ℕ → ℕ) where
   -- a section past its exits isn't done before its last step
@@ -63,6 +56,9 @@ module _ (buckets : ℕ) (bucket : ℕ → ℕ) where
 
   remove_open : (x : Section) → form_of x.thunk ≡ Remove → 5 ≤ x.at → x.at ≤ 9 → (Settled (table buckets bucket) x → Ended (table buckets bucket) x) → ⊥
   remove_open x form low high ended = remove_whole x.thunk x.at (sym (step_in x.thunk Remove x.at form) ∙ ended (λ j step le h. remove_late x.thunk j step (sym (step_in x.thunk Remove j form) ∙ h) (omega arith))) high
+
+  set_open : (x : Section) → form_of x.thunk ≡ Set → 5 ≤ x.at → x.at ≤ 8 → (Settled (table buckets bucket) x → Ended (table buckets bucket) x) → ⊥
+  set_open x form low high ended = set_whole x.thunk x.at (sym (step_in x.thunk Set x.at form) ∙ ended (λ j step le h. set_late x.thunk j step (sym (step_in x.thunk Set j form) ∙ h) (omega arith))) high
 
 module _ (buckets : ℕ) (bucket : ℕ → ℕ) (small : (key : ℕ) → bucket key < buckets) (layout : Layout) (s : Scene) (kept : BucketsKept buckets bucket layout s) where
   -- a runner's readings change
@@ -75,6 +71,7 @@ module _ (buckets : ℕ) (bucket : ℕ → ℕ) (small : (key : ℕ) → bucket 
     readers = λ q readings op h. dite (ℕ_discrete q r) (λ e. walks readings op (sym (upd_same s.reader r q new e) ∙ h)) (λ ne. kept.readers q readings op (sym (upd_other s.reader r q new ne) ∙ h));
     sections = kept.sections;
     linked = kept.linked;
+    valued = kept.valued;
     live = kept.live;
     limbo = kept.limbo;
     made = λ e z h form low high. let was = kept.made e z h form low high in record { slot = was.slot; link = was.link; live = was.live; out = was.out; key = was.key; value = was.value; next = was.next };
@@ -110,6 +107,7 @@ module _ (buckets : ℕ) (bucket : ℕ → ℕ) (small : (key : ℕ) → bucket 
     made = λ e z h form low high. ⊎_elim (λ same. absurd (early z same.1 (omega arith)))
         (λ other. let was = kept.made e z other.1 form low high in record { slot = was.slot; link = was.link; live = was.live; out = was.out; key = was.key; value = was.value; next = was.next }) (put e z h);
     linked = λ e z h form low. ⊎_elim (λ same. absurd (early z same.1 (omega arith))) (λ other. kept.linked e z other.1 form low) (put e z h);
+    valued = λ e z h form low. ⊎_elim (λ same. absurd (early z same.1 (omega arith))) (λ other. kept.valued e z other.1 form low) (put e z h);
     taken = λ e z h form low high. ⊎_elim (λ same. absurd (early z same.1 (omega arith)))
         (λ other. let was = kept.taken e z other.1 form low high in record { live = was.live; out = was.out; key = was.key; next = was.next }) (put e z h);
     live = λ t live. ⊎_elim inl (⊎_elim
@@ -144,6 +142,7 @@ module _ (buckets : ℕ) (bucket : ℕ → ℕ) (small : (key : ℕ) → bucket 
     sections = λ e z h. walked z.op (walk_of buckets bucket layout z.op z.readings) (kept.sections e z (left e z h).1);
     made = λ e z h form low high. let was = kept.made e z (left e z h).1 form low high in record { slot = was.slot; link = was.link; live = was.live; out = was.out; key = was.key; value = was.value; next = was.next };
     linked = λ e z h form low. kept.linked e z (left e z h).1 form low;
+    valued = λ e z h form low. kept.valued e z (left e z h).1 form low;
     taken = λ e z h form low high. let was = kept.taken e z (left e z h).1 form low high in record { live = was.live; out = was.out; key = was.key; next = was.next };
     live = λ t live. ⊎_elim inl (⊎_elim
         (λ new. inr (inl (new.0, new.1, stays new.0 new.1 new.2 (λ same. insert_open buckets bucket x (ap (λ z. form_of z.thunk) (sym same) ∙ new.3) (let at = ap (λ z. z.at) same in let low = new.4 in omega arith) (let at = ap (λ z. z.at) same in let high = new.5 in omega arith) ended) ∙ new.2, new.3, new.4, new.5, new.6)))
@@ -160,7 +159,8 @@ module _ (buckets : ℕ) (bucket : ℕ → ℕ) (small : (key : ℕ) → bucket 
       walked : (op : Op) (w : Walk) → IsWalked buckets bucket s kept.on kept.rank op w → IsWalked buckets bucket (with_section s d None) kept.on kept.rank op w
       walked op w before edition free = before edition (λ e z there pending. free e z (stays e z there (λ same. ⊎_elim
           (λ insert. insert_open buckets bucket x (ap (λ z. form_of z.thunk) (sym same) ∙ insert.0) (let at = ap (λ z. z.at) same in let eight = insert.1 in omega arith) (let at = ap (λ z. z.at) same in let eight = insert.1 in omega arith) ended)
-          (λ remove. remove_open buckets bucket x (ap (λ z. form_of z.thunk) (sym same) ∙ remove.0) (let at = ap (λ z. z.at) same in let seven = remove.1 in omega arith) (let at = ap (λ z. z.at) same in let seven = remove.1 in omega arith) ended) pending.1) ∙ there) pending)
+          (⊎_elim (λ remove. remove_open buckets bucket x (ap (λ z. form_of z.thunk) (sym same) ∙ remove.0) (let at = ap (λ z. z.at) same in let seven = remove.1 in omega arith) (let at = ap (λ z. z.at) same in let seven = remove.1 in omega arith) ended)
+          (λ sets. set_open buckets bucket x (ap (λ z. form_of z.thunk) (sym same) ∙ sets.0) (let at = ap (λ z. z.at) same in let seven = sets.1 in omega arith) (let at = ap (λ z. z.at) same in let seven = sets.1 in omega arith) ended)) pending.1) ∙ there) pending)
 
   live_free : (x : Status) → x ≡ Live → x ≢ Free
   live_free x live free = cc
@@ -203,6 +203,7 @@ module _ (buckets : ℕ) (bucket : ℕ → ℕ) (small : (key : ℕ) → bucket 
           next = ap value_of (same was.slot 3 used (omega arith)) ∙ was.next;
         };
         linked = λ d x here form low. ⊎_elim inl (λ node. inr (node.0, (node.1.0, ap (λ word. bucket (value_of word)) (on_same node.0 1 node.1.0 (omega arith)) ∙ node.1.1), node.2)) (kept.linked d x here form low);
+        valued = λ d x here form low. let node = kept.valued d x here form low in (node.0, (node.1.0, ap (λ word. bucket (value_of word)) (on_same node.0 1 node.1.0 (omega arith)) ∙ node.1.1), node.2);
         taken = λ d x here form low high. let was = kept.taken d x here form low high in let used = live_free (s.status (operand x.thunk 2)) was.live in record {
           live = was.live;
           out = was.out;
@@ -226,6 +227,7 @@ module _ (buckets : ℕ) (bucket : ℕ → ℕ) (small : (key : ℕ) → bucket 
         readers = kept.readers;
         sections = kept.sections;
         linked = kept.linked;
+        valued = kept.valued;
         made = λ d x here form low high. let was = kept.made d x here form low high in record { slot = was.slot; link = was.link; live = still was.slot was.live; out = was.out; key = was.key; value = was.value; next = was.next };
         taken = λ d x here form low high. let was = kept.taken d x here form low high in record { live = still (operand x.thunk 2) was.live; out = was.out; key = was.key; next = was.next };
         live = λ u live. dite (ℕ_discrete u t) (λ e. absurd (free_live (sym (upd_same s.status t u Free e) ∙ live))) (λ ne. kept.live u (sym (other u ne) ∙ live));
@@ -256,6 +258,7 @@ module _ (buckets : ℕ) (bucket : ℕ → ℕ) (small : (key : ℕ) → bucket 
     readers = kept.readers;
     sections = kept.sections;
     linked = kept.linked;
+    valued = kept.valued;
     live = kept.live;
     made = λ d x here form low high. let was = kept.made d x here form low high in record { slot = was.slot; link = was.link; live = was.live; out = was.out; key = was.key; value = was.value; next = was.next };
     taken = λ d x here form low high. let was = kept.taken d x here form low high in record { live = was.live; out = was.out; key = was.key; next = was.next };

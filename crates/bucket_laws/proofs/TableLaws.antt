@@ -6,11 +6,13 @@ use Rattle.std.specs.Ordering.{nat_cmp}
 use Rattle.small_lemmas.proofs.Numbers.{equal_tested as eq_true}
 use Rattle.map_history.specs.declared.op.Op.{Op}
 use Rattle.map_history.specs.declared.op.Op.TheVariants.{Get, Ins, Del, Put, Mov}
-use Rattle.map_history.specs.Keys.{key_of, value_given, is_format_1}
+use Rattle.map_history.specs.Keys.{key_of, value_given, IsOneKeyed}
 use Rattle.map_history.specs.Replay.{Pairs}
 use Rattle.body_terms.specs.Update.{upd}
 use Rattle.body_terms.specs.Word.{value_of}
-use Rattle.section_body.specs.Bucket.{bucket_index, bucket_head, operand, is_small, fits_insert, fits_remove, bucket_steps}
+use Rattle.section_body.specs.Bucket.{bucket_index, bucket_head, operand, is_small, fits_insert, fits_remove}
+use Rattle.bucket_bodies.specs.Table.{fits_set, table_steps}
+use Rattle.body_terms.specs.Memory.{cell_of}
 use Rattle.body_terms.specs.Shape.{IsShaped}
 use Rattle.body_terms.specs.declared.value.Value.{Value}
 use Rattle.body_terms.specs.declared.value.Value.TheVariants.{Const, Made}
@@ -30,15 +32,15 @@ use Rattle.structure_laws.proofs.Changes.{upd_other}
 use Rattle.structure_laws.proofs.Costs.{shaped_cost}
 use Rattle.bucket_laws.specs.Chain.{Nodes, Chains, Contents}
 use Rattle.bucket_laws.specs.Walk.{AtEdition, AtEnd, Walk, cell_at, form_for, operands_for}
-use Rattle.bucket_laws.specs.Buckets.{Read, Insert, Remove, Empty, form_of, body_of, nodes, is_link_place, walk_of, bounds, BucketsKept, BucketsStand, table, buckets_meaning}
-use Rattle.bucket_laws.proofs.Chain.{same_on}
-use Rattle.bucket_laws.proofs.Fit.{IsFit, fit_of, insert_operands, remove_operands}
+use Rattle.bucket_laws.specs.Buckets.{Form, Read, Insert, Remove, Set, Empty, form_of, body_of, nodes, is_link_place, walk_of, bounds, BucketsKept, BucketsStand, table, buckets_meaning}
+use Rattle.bucket_laws.proofs.Chain.{same_on, chains_agree}
+use Rattle.bucket_laws.proofs.Fit.{IsFit, fit_of, insert_operands, remove_operands, set_operands, puts_given}
 use Rattle.bucket_laws.proofs.Fitting.{table_fitting}
-use Rattle.bucket_laws.proofs.Forms.{node_init, steps_of, no_take, load_step, store_step, make_step, answer_step}
+use Rattle.bucket_laws.proofs.Forms.{node_init, steps_of, no_take, LoadCase, load_step, StoreCase, store_step, make_step, answer_step}
 use Rattle.bucket_laws.proofs.NodeChanges.{clip_same}
 use Rattle.bucket_laws.proofs.TableGives.{reached, table_gives}
-use Rattle.bucket_laws.proofs.TableKeeps.{chains_agree, lock_at, table_keeps}
-use Rattle.bucket_laws.proofs.TableShape.{read_shaped, insert_shaped, remove_shaped}
+use Rattle.bucket_laws.proofs.TableKeeps.{lock_at, table_keeps}
+use Rattle.bucket_laws.proofs.TableShape.{read_shaped, insert_shaped, remove_shaped, set_shaped}
 use Rattle.bucket_laws.proofs.TableTurn.{table_answers, table_stores}
 use Rattle.bucket_laws.proofs.WalkFacts.{Gives, walk_facts}
 
@@ -48,29 +50,30 @@ live_free x live free = cc
 retired_free : (x : Status) (y : ℕ) → x ≡ Retired y → x ≢ Free
 retired_free x y retired free = cc
 
-is_read : (a p b q c r : Bool) → a ≡ true → p ≡ true → cond a (cond p Read Empty) (cond b (cond q Insert Empty) (cond c (cond r Remove Empty) Empty)) ≡ Read
-is_read true true b q c r h h' = refl
-is_read true false b q c r h h' = absurd (cc)
-is_read false p b q c r h h' = absurd (cc)
+-- a thunk's form, by its number and by whether its numbers fit
+abbrev by_tests : Bool → Bool → Bool → Bool → Bool → Bool → Bool → Bool → Form
+by_tests d s a p b q c r = cond d (cond s Set Empty) (cond a (cond p Read Empty) (cond b (cond q Insert Empty) (cond c (cond r Remove Empty) Empty)))
 
-is_insert : (a p b q c r : Bool) → a ≡ false → b ≡ true → q ≡ true → cond a (cond p Read Empty) (cond b (cond q Insert Empty) (cond c (cond r Remove Empty) Empty)) ≡ Insert
-is_insert true p b q c r h h' h'' = absurd (cc)
-is_insert false p true true c r h h' h'' = refl
-is_insert false p true false c r h h' h'' = absurd (cc)
-is_insert false p false q c r h h' h'' = absurd (cc)
+is_set : (d s a p b q c r : Bool) → d ≡ true → s ≡ true → by_tests d s a p b q c r ≡ Set
+is_set d s a p b q c r h h' = (λ i. by_tests (h i) (h' i) a p b q c r)
 
-is_remove : (a p b q c r : Bool) → a ≡ false → b ≡ false → c ≡ true → r ≡ true → cond a (cond p Read Empty) (cond b (cond q Insert Empty) (cond c (cond r Remove Empty) Empty)) ≡ Remove
-is_remove true p b q c r h h' h'' h3 = absurd (cc)
-is_remove false p true q c r h h' h'' h3 = absurd (cc)
-is_remove false p false q true true h h' h'' h3 = refl
-is_remove false p false q true false h h' h'' h3 = absurd (cc)
-is_remove false p false q false r h h' h'' h3 = absurd (cc)
+is_read : (d s a p b q c r : Bool) → d ≡ false → a ≡ true → p ≡ true → by_tests d s a p b q c r ≡ Read
+is_read d s a p b q c r other h h' = (λ i. by_tests (other i) s (h i) (h' i) b q c r)
+
+is_insert : (d s a p b q c r : Bool) → d ≡ false → a ≡ false → b ≡ true → q ≡ true → by_tests d s a p b q c r ≡ Insert
+is_insert d s a p b q c r other none h h' = (λ i. by_tests (other i) s (none i) p (h i) (h' i) c r)
+
+is_remove : (d s a p b q c r : Bool) → d ≡ false → a ≡ false → b ≡ false → c ≡ true → r ≡ true → by_tests d s a p b q c r ≡ Remove
+is_remove d s a p b q c r other none none' h h' = (λ i. by_tests (other i) s (none i) p (none' i) q (h i) (h' i))
 
 small_is : (n : ℕ) → n < 2 ^ 32 → is_small n ≡ true
 small_is n low = grind arith
 
 eq_false : (a b c : ℕ) → a ≡ b → b ≢ c → (a == c) ≡ false
 eq_false a b c e ne = grind arith
+
+three_true : (a b c : Bool) → a ≡ true → b ≡ true → c ≡ true → (a && (b && c)) ≡ true
+three_true a b c h h' h'' = (λ i. h i && (h' i && h'' i))
 
 four_true : (a b c d : Bool) → a ≡ true → b ≡ true → c ≡ true → d ≡ true → (a && (b && (c && d))) ≡ true
 four_true a b c d h h' h'' h3 = grind arith
@@ -81,28 +84,33 @@ no_lock_low i r n low high = let rest : (3 * i + r) % 3 ≢ 0 = (λ e. omega ari
 no_lock_high : (p n : ℕ) → n ≤ p → (nat_lt p n && (p % 3 == 0)) ≡ false
 no_lock_high p n high = grind arith
 
-pub form_cases : (op : Op) (found : Bool) → is_format_1 op ≡ true → (form_for op found ≡ 1) ⊎ (form_for op found ≡ 2) ⊎ (form_for op found ≡ 3)
-form_cases (Get key) found served = inl refl
-form_cases (Ins key value) true served = inl refl
-form_cases (Ins key value) false served = inr (inl refl)
-form_cases (Del key) true served = inr (inr refl)
-form_cases (Del key) false served = inl refl
-form_cases (Put key value) found served = absurd (cc)
-form_cases (Mov from to) found served = absurd (cc)
+no_other : (key : ℕ) → Some key ≡ None → ⊥
+no_other key e = cc
+
+pub form_cases : (op : Op) (found : Bool) → IsOneKeyed op → (form_for op found ≡ 1) ⊎ (form_for op found ≡ 2) ⊎ (form_for op found ≡ 3) ⊎ (form_for op found ≡ 4)
+form_cases (Get key) found one = inl refl
+form_cases (Ins key value) true one = inl refl
+form_cases (Ins key value) false one = inr (inl refl)
+form_cases (Del key) true one = inr (inr (inl refl))
+form_cases (Del key) false one = inl refl
+form_cases (Put key value) true one = inr (inr (inr refl))
+form_cases (Put key value) false one = inr (inl refl)
+form_cases (Mov from to) found one = absurd (no_other to one)
 
 -- the reply word of a thunk that changes nothing isn't 0
-reply_some : (op : Op) (w : Walk) (found : Bool) → form_for op found ≡ 1 → 0 < slice_index (operands_for op w found) 1
-reply_some (Get key) w true form = positive w.value
+reply_some : (buckets : ℕ) (op : Op) (w : Walk) (found : Bool) → form_for op found ≡ 1 → 0 < slice_index (operands_for buckets op w found) 1
+reply_some buckets (Get key) w true form = positive w.value
   where
     positive : (v : ℕ) → 0 < 3 * 2 ^ 32 + v
     positive v = omega arith
-reply_some (Get key) w false form = omega arith
-reply_some (Ins key value) w true form = omega arith
-reply_some (Ins key value) w false form = absurd (omega arith)
-reply_some (Del key) w true form = absurd (omega arith)
-reply_some (Del key) w false form = omega arith
-reply_some (Put key value) w there form = absurd (omega arith)
-reply_some (Mov from to) w there form = absurd (omega arith)
+reply_some buckets (Get key) w false form = omega arith
+reply_some buckets (Ins key value) w true form = omega arith
+reply_some buckets (Ins key value) w false form = absurd (omega arith)
+reply_some buckets (Del key) w true form = absurd (omega arith)
+reply_some buckets (Del key) w false form = omega arith
+reply_some buckets (Put key value) w true form = absurd (omega arith)
+reply_some buckets (Put key value) w false form = absurd (omega arith)
+reply_some buckets (Mov from to) w there form = absurd (omega arith)
 
 module _ (buckets : ℕ) (bucket : ℕ → ℕ) (small : (key : ℕ) → bucket key < buckets) (few : 3 * buckets ≤ 12288) (layout : Layout) (limits : IsWithinLimits layout) (s : Scene) (sound : Sound (table buckets bucket) layout s)
     (r : ℕ) (readings : Readings) (op : Op) (thunk : Thunk) (reader : s.reader r ≡ Some readings) (allowed : IsAllowed op) (fits : (table buckets bucket).fits layout op readings thunk ≡ true) where
@@ -140,45 +148,74 @@ module _ (buckets : ℕ) (bucket : ℕ → ℕ) (small : (key : ℕ) → bucket 
   lock_small : thunk.lock + 2 < 2 ^ 32
   lock_small = let at = lock_is in let low = small (key_of op) in omega arith
 
-  number_at : (k : ℕ) → operand thunk k ≡ slice_index (operands_for op own_walk own_walk.found) k
+  number_at : (k : ℕ) → operand thunk k ≡ slice_index (operands_for buckets op own_walk own_walk.found) k
   number_at k = ap (λ numbers. slice_index numbers k) fit.operands
 
+  not_form : (n k : ℕ) → form_for op own_walk.found ≡ n → n ≢ k → (thunk.form == k) ≡ false
+  not_form n k form ne = eq_false thunk.form n k (fit.form ∙ form) ne
+
   read_form : form_for op own_walk.found ≡ 1 → form_of thunk ≡ Read
-  read_form form = is_read (thunk.form == 1) (is_small (thunk.lock + 1)) (thunk.form == 2) (fits_insert thunk) (thunk.form == 3)
-      (fits_remove thunk) (eq_true thunk.form 1 (fit.form ∙ form)) (small_is (thunk.lock + 1) (let low = lock_small in omega arith))
+  read_form form = is_read (thunk.form == 4) (fits_set thunk) (thunk.form == 1) (is_small (thunk.lock + 1)) (thunk.form == 2) (fits_insert thunk) (thunk.form == 3)
+      (fits_remove thunk) (not_form 1 4 form (λ e. omega arith)) (eq_true thunk.form 1 (fit.form ∙ form)) (small_is (thunk.lock + 1) (let low = lock_small in omega arith))
 
   insert_form : form_for op own_walk.found ≡ 2 → form_of thunk ≡ Insert
   insert_form form =
-      let named = (insert_operands op own_walk own_walk.found form).1 in
-      let is_key : key_of op ≡ named.0 = ap key_of named.2 in
+      let named = (insert_operands buckets op own_walk own_walk.found form).1 in
+      let is_key : key_of op ≡ named.0 = named.2.0 in
       let key_low = allowed.keys (key_of op) (inl refl) in
-      let value_low = allowed.value named.1 (ap value_given named.2) in
+      let value_low = allowed.value named.1 (puts_given op named.0 named.1 named.2) in
       let head_low = (walk_facts buckets bucket small (bounds buckets bucket layout) op readings).head_small in
-      is_insert _ _ _ _ _ _ (eq_false thunk.form 2 1 (fit.form ∙ form) (λ e. omega arith)) (eq_true thunk.form 2 (fit.form ∙ form))
+      is_insert (thunk.form == 4) (fits_set thunk) (thunk.form == 1) (is_small (thunk.lock + 1)) (thunk.form == 2) (fits_insert thunk) (thunk.form == 3) (fits_remove thunk)
+      (not_form 2 4 form (λ e. omega arith)) (not_form 2 1 form (λ e. omega arith)) (eq_true thunk.form 2 (fit.form ∙ form))
       (four_true _ _ _ _ (small_is (thunk.lock + 2) lock_small) (small_is (operand thunk 1) (let at = number_at 1 ∙ named.3 in omega arith)) (small_is (operand thunk 2) (let at = number_at 2 ∙ named.4 in omega arith))
       (small_is (operand thunk 3) (let at = number_at 3 ∙ named.5 in omega arith)))
 
   remove_form : form_for op own_walk.found ≡ 3 → form_of thunk ≡ Remove
   remove_form form =
-      let named = (remove_operands op own_walk own_walk.found form).1 in
+      let named = (remove_operands buckets op own_walk own_walk.found form).1 in
       let facts = walk_facts buckets bucket small (bounds buckets bucket layout) op readings in
       let slot_low = facts.slot_small in
       let next_low = facts.next_small in
       let place_low = place_small in
-      is_remove _ _ _ _ _ _ (eq_false thunk.form 3 1 (fit.form ∙ form) (λ e. omega arith)) (eq_false thunk.form 3 2 (fit.form ∙ form) (λ e. omega arith)) (eq_true thunk.form 3 (fit.form ∙ form))
+      is_remove (thunk.form == 4) (fits_set thunk) (thunk.form == 1) (is_small (thunk.lock + 1)) (thunk.form == 2) (fits_insert thunk) (thunk.form == 3) (fits_remove thunk)
+      (not_form 3 4 form (λ e. omega arith)) (not_form 3 1 form (λ e. omega arith)) (not_form 3 2 form (λ e. omega arith)) (eq_true thunk.form 3 (fit.form ∙ form))
       (four_true _ _ _ _ (small_is (thunk.lock + 1) (let low = lock_small in omega arith)) (small_is (operand thunk 1) (let at = number_at 1 ∙ named.1 in omega arith)) (small_is (operand thunk 2) (let at = number_at 2 ∙ named.2 in omega arith))
       (small_is (operand thunk 3) (let at = number_at 3 ∙ named.3 in omega arith)))
+
+  -- the slot of the node that the walk found was read in a link
+  found_given : own_walk.found ≡ true → Gives buckets bucket small readings own_walk.slot
+  found_given found = (walk_facts buckets bucket small (bounds buckets bucket layout) op readings).slot (inr (inr (inr found)))
+
+  set_form : form_for op own_walk.found ≡ 4 → form_of thunk ≡ Set
+  set_form form =
+      let operands = set_operands buckets op own_walk own_walk.found form in
+      let named = operands.1 in
+      let low = within own_walk.slot (found_given operands.0) in
+      let nodes = limits.few_nodes in
+      let runners = limits.few_runners in
+      let value_low = allowed.value named.1 (ap value_given named.2) in
+      is_set (thunk.form == 4) (fits_set thunk) (thunk.form == 1) (is_small (thunk.lock + 1)) (thunk.form == 2) (fits_insert thunk) (thunk.form == 3) (fits_remove thunk)
+      (eq_true thunk.form 4 (fit.form ∙ form))
+      (three_true _ _ _ (small_is (thunk.lock + 1) (let low = lock_small in omega arith)) (small_is (operand thunk 1) (let at = number_at 1 ∙ named.3 in omega arith)) (small_is (operand thunk 2) (let at = number_at 2 ∙ named.4 in omega arith)))
+
+  -- the cell of the value that is to be set
+  set_cell : form_of thunk ≡ Set → (t : ℕ) × Gives buckets bucket small readings t × (operand thunk 1 ≡ 3 * buckets + 5 * t + 2)
+  set_cell form = let sets = fit.sets form in (own_walk.slot, found_given sets.0, sets.1.3)
 
   -- what a removal's link is
   remove_link : form_of thunk ≡ Remove → (operand thunk 1 ≡ 3 * own + 2) ⊎ ((t : ℕ) × Gives buckets bucket small readings t × (operand thunk 1 ≡ 3 * buckets + 5 * t + 3))
   remove_link form = let named = (fit.remove form).1 in ⊎_elim (λ head. inl (named.1 ∙ head)) (λ node. inr (node.0, node.1, named.1 ∙ node.2)) link_place
 
-  shaped : IsShaped (bucket_steps thunk)
+  shaped : IsShaped (table_steps thunk)
   shaped = subst IsShaped (sym (steps_of thunk)) (⊎_elim
       (λ form. subst (λ f. IsShaped (body_of f thunk)) (sym (read_form form)) (read_shaped thunk))
       (⊎_elim (λ form. subst (λ f. IsShaped (body_of f thunk)) (sym (insert_form form)) (insert_shaped thunk))
-      (λ form. subst (λ f. IsShaped (body_of f thunk)) (sym (remove_form form)) (remove_shaped thunk (apart (remove_form form))))) (form_cases op own_walk.found fit.served))
+      (⊎_elim (λ form. subst (λ f. IsShaped (body_of f thunk)) (sym (remove_form form)) (remove_shaped thunk (apart (remove_form form))))
+      (λ form. subst (λ f. IsShaped (body_of f thunk)) (sym (set_form form)) (set_shaped thunk (set_apart (set_form form)))))) (form_cases op own_walk.found fit.one))
     where
+      set_apart : form_of thunk ≡ Set → operand thunk 1 ≢ thunk.lock + 1
+      set_apart form e = let at = lock_is in let low = small (key_of op) in let place = (set_cell form).2 in omega arith
+
       apart : form_of thunk ≡ Remove → operand thunk 1 ≢ thunk.lock + 1
       apart form e = let at = lock_is in let low = small (key_of op) in ⊎_elim (λ head. omega arith) (λ node. let place = node.2 in omega arith) (remove_link form)
 
@@ -191,26 +228,26 @@ module _ (buckets : ℕ) (bucket : ℕ → ℕ) (small : (key : ℕ) → bucket 
   lock_is_lock : (i : ℕ) → i < buckets → (nat_lt (3 * i) (3 * buckets) && (3 * i % 3 == 0)) ≡ true
   lock_is_lock i low = let rest : 3 * i % 3 ≡ 0 = omega arith in let below : 3 * i < 3 * buckets = omega arith in grind arith
 
-  no_insert : form_of thunk ≡ Insert → form_of thunk ≡ Remove → ⊥
-  no_insert a b = cc
-
   abbrev PlaceIs : ℕ → Type 0
-  PlaceIs p = ((k : ℕ) × (1 ≤ k) × (k ≤ 2) × (p ≡ 3 * own + k)) ⊎ ((t : ℕ) × Gives buckets bucket small readings t × (p ≡ 3 * buckets + 5 * t + 3))
+  PlaceIs p = ((k : ℕ) × (1 ≤ k) × (k ≤ 2) × (p ≡ 3 * own + k)) ⊎ ((t k : ℕ) × Gives buckets bucket small readings t × (k < 5) × (p ≡ 3 * buckets + 5 * t + k))
 
-  load_place : (j p r : ℕ) → slice_get (bucket_steps thunk) j ≡ Some (Load p r) → PlaceIs p
+  load_place : (j p r : ℕ) → slice_get (table_steps thunk) j ≡ Some (Load p r) → PlaceIs p
   load_place j p r h = let lock = lock_is in ⊎_elim (λ edition. inl (1, omega arith, omega arith, (let at = edition.2 in omega arith)))
       (⊎_elim (λ insert. inl (2, omega arith, omega arith, (let at = insert.3 in omega arith)))
-      (λ remove. ⊎_elim (λ head. inl (2, omega arith, omega arith, remove.3 ∙ head)) (λ node. inr (node.0, node.1, remove.3 ∙ node.2)) (remove_link remove.0))) (load_step thunk j p r h)
+      (⊎_elim (λ remove. ⊎_elim (λ head. inl (2, omega arith, omega arith, remove.3 ∙ head)) (λ node. inr (node.0, 3, node.1, omega arith, remove.3 ∙ node.2)) (remove_link remove.0))
+      (λ sets. let cell = set_cell sets.0 in inr (cell.0, 2, cell.1, omega arith, sets.3 ∙ cell.2)))) (load_step thunk j p r h)
 
-  store_small : (j r : ℕ) (v : Value) → slice_get (bucket_steps thunk) j ≡ Some (Store r v) → IsSmall v
+  store_small : (j r : ℕ) (v : Value) → slice_get (table_steps thunk) j ≡ Some (Store r v) → IsSmall v
   store_small j r v h = ⊎_elim (λ a. subst IsSmall (sym a.3) tt) (⊎_elim (λ a. subst IsSmall (sym a.3) (omega arith))
       (⊎_elim (λ a. subst IsSmall (sym a.3) (let named = (fit.remove a.0).1 in let low = (walk_facts buckets bucket small (bounds buckets bucket layout) op readings).next_small in let at = named.3 in omega arith))
-      (λ a. subst IsSmall (sym a.3) (omega arith)))) (store_step thunk j r v h)
+      (⊎_elim (λ a. subst IsSmall (sym a.3) (omega arith))
+      (⊎_elim (λ a. subst IsSmall (sym a.3) (let named = (fit.sets a.0).1 in let low = allowed.value named.1 (ap value_given named.2) in let at = named.4 in omega arith))
+      (λ a. subst IsSmall (sym a.3) (omega arith)))))) (store_step thunk j r v h)
 
   pub table_shaped : Shaped (table buckets bucket) layout readings thunk
   table_shaped = record {
     shape = shaped;
-    brief = shaped_cost (bucket_steps thunk) shaped;
+    brief = shaped_cost (table_steps thunk) shaped;
     outer_lock = ap (λ p. nat_lt p (3 * buckets) && (p % 3 == 0)) lock_is ∙ lock_is_lock own (small (key_of op));
     outer_known = inl (let at = lock_is in let low = small (key_of op) in omega arith);
     take_lock = λ j l w h. absurd (no_take thunk j l w h);
@@ -221,19 +258,21 @@ module _ (buckets : ℕ) (bucket : ℕ → ℕ) (small : (key : ℕ) → bucket 
     take_free = λ j l w h. absurd (no_take thunk j l w h);
     take_unspent = λ j l w h. absurd (no_take thunk j l w h);
     load_unlocked = λ j p r h. ⊎_elim (λ low. ap (λ p. nat_lt p (3 * buckets) && (p % 3 == 0)) low.3 ∙ no_lock_low own low.0 (3 * buckets) low.1 low.2)
-        (λ node. no_lock_high p (3 * buckets) (let at = node.2 in omega arith)) (load_place j p r h);
-    load_known = λ j p r h. ⊎_elim (λ low. inl (let at = low.3 in let high = low.2 in let below = small (key_of op) in omega arith)) (λ node. inr (node.0, (3, omega arith, node.2), inr node.1)) (load_place j p r h);
-    load_once = λ i j p q r h h'. once (load_step thunk i p q h) (load_step thunk j p r h');
-    store_once = λ i j r v w h h'. stored (store_step thunk i r v h) (store_step thunk j r w h');
+        (λ node. no_lock_high p (3 * buckets) (let at = node.4 in omega arith)) (load_place j p r h);
+    load_known = λ j p r h. ⊎_elim (λ low. inl (let at = low.3 in let high = low.2 in let below = small (key_of op) in omega arith)) (λ node. inr (node.0, (node.1, node.3, node.4), inr node.2)) (load_place j p r h);
+    load_once = λ i j p q r h h'. once i j p (loads_at i p q (load_step thunk i p q h)) (loads_at j p r (load_step thunk j p r h'));
+    store_once = λ i j r v w h h'. stores_at i r v (store_step thunk i r v h) ∙ sym (stores_at j r w (store_step thunk j r w h'));
     store_small = store_small;
     make_whole = λ j r init h. ap (λ init. length init.cells) (make_step thunk j r init h).3;
     make_small = λ j r i init v h at. init_small i v (make_step thunk j r init h).0 (sym (ap (λ init. slice_get init.cells i) (make_step thunk j r init h).3) ∙ at);
     make_unlocked = λ j r i t init v h at lock. absurd (let below = (lock_at buckets (3 * buckets + 5 * t + i) lock).0 in omega arith);
-    answers = λ j n h. ⊎_elim (λ read. let at = read.1 ∙ number_at 1 in let some = reply_some op own_walk own_walk.found (read_back read.0) in omega arith) (⊎_elim (λ insert. let at = insert.1 in omega arith) (λ remove. let at = remove.1 in omega arith)) (answer_step thunk j n h);
+    answers = λ j n h. ⊎_elim (λ read. let at = read.1 ∙ number_at 1 in let some = reply_some buckets op own_walk own_walk.found (read_back read.0) in omega arith)
+        (⊎_elim (λ insert. let at = insert.1 in omega arith) (⊎_elim (λ remove. let at = remove.1 in omega arith) (λ sets. let at = sets.1 ∙ (fit.sets sets.0).1.5 in omega arith))) (answer_step thunk j n h);
   }
     where
       read_back : form_of thunk ≡ Read → form_for op own_walk.found ≡ 1
-      read_back form = ⊎_elim (λ one. one) (⊎_elim (λ two. absurd (read_insert (sym form ∙ insert_form two))) (λ three. absurd (read_remove (sym form ∙ remove_form three)))) (form_cases op own_walk.found fit.served)
+      read_back form = ⊎_elim (λ one. one) (⊎_elim (λ two. absurd (read_insert (sym form ∙ insert_form two)))
+          (⊎_elim (λ three. absurd (read_remove (sym form ∙ remove_form three))) (λ four. absurd (read_set (sym form ∙ set_form four))))) (form_cases op own_walk.found fit.one)
         where
           read_insert : Read ≡ Insert → ⊥
           read_insert e = cc
@@ -241,37 +280,40 @@ module _ (buckets : ℕ) (bucket : ℕ → ℕ) (small : (key : ℕ) → bucket 
           read_remove : Read ≡ Remove → ⊥
           read_remove e = cc
 
-      edition_link : {p : ℕ} → p ≡ thunk.lock + 1 → (operand thunk 1 ≡ 3 * own + 2) ⊎ ((t : ℕ) × Gives buckets bucket small readings t × (operand thunk 1 ≡ 3 * buckets + 5 * t + 3)) → p ≡ operand thunk 1 → ⊥
-      edition_link e link e' = let lock = lock_is in let low = small (key_of op) in ⊎_elim (λ head. omega arith) (λ node. let at = node.2 in omega arith) link
+          read_set : Read ≡ Set → ⊥
+          read_set e = cc
 
-      once : {i j p q r : ℕ} → ((i ≡ 0) × (q ≡ 0) × (p ≡ thunk.lock + 1)) ⊎ ((form_of thunk ≡ Insert) × (i ≡ 3) × (q ≡ 1) × (p ≡ thunk.lock + 2)) ⊎ ((form_of thunk ≡ Remove) × (i ≡ 3) × (q ≡ 1) × (p ≡ operand thunk 1))
-          → ((j ≡ 0) × (r ≡ 0) × (p ≡ thunk.lock + 1)) ⊎ ((form_of thunk ≡ Insert) × (j ≡ 3) × (r ≡ 1) × (p ≡ thunk.lock + 2)) ⊎ ((form_of thunk ≡ Remove) × (j ≡ 3) × (r ≡ 1) × (p ≡ operand thunk 1)) → i ≡ j
-      once a b = ⊎_elim
-          (λ first. ⊎_elim (λ first'. first.0 ∙ sym first'.0) (⊎_elim (λ insert. absurd (let x = first.2 in let y = insert.3 in omega arith)) (λ remove. absurd (edition_link first.2 (remove_link remove.0) remove.3))) b)
-          (⊎_elim
-          (λ insert. ⊎_elim (λ first'. absurd (let x = first'.2 in let y = insert.3 in omega arith)) (⊎_elim (λ insert'. insert.1 ∙ sym insert'.1) (λ remove. insert.1 ∙ sym remove.1)) b)
-          (λ remove. ⊎_elim (λ first'. absurd (edition_link first'.2 (remove_link remove.0) remove.3)) (⊎_elim (λ insert'. remove.1 ∙ sym insert'.1) (λ remove'. remove.1 ∙ sym remove'.1)) b)) a
+      -- the edition is loaded first, and any other place later
+      loads_at : (i p r : ℕ) → LoadCase (form_of thunk) thunk i p r → ((i ≡ 0) × (p ≡ thunk.lock + 1)) ⊎ ((i ≡ 3) × (p ≢ thunk.lock + 1))
+      loads_at i p r cases = let lock = lock_is in let low = small (key_of op) in ⊎_elim (λ first. inl (first.0, first.2))
+          (⊎_elim (λ insert. inr (insert.1, λ e. let at = insert.3 in omega arith))
+          (⊎_elim (λ remove. inr (remove.1, λ e. let at = remove.3 in ⊎_elim (λ head. omega arith) (λ node. let place = node.2 in omega arith) (remove_link remove.0)))
+          (λ sets. inr (sets.1, λ e. let at = sets.3 in let place = (set_cell sets.0).2 in omega arith)))) cases
 
-      stored : {i j r : ℕ} {v w : Value}
-          → ((form_of thunk ≡ Insert) × (i ≡ 7) × (r ≡ 1) × (v ≡ Made 2)) ⊎ ((form_of thunk ≡ Insert) × (i ≡ 8) × (r ≡ 0) × (v ≡ Const 0)) ⊎ ((form_of thunk ≡ Remove) × (i ≡ 6) × (r ≡ 1) × (v ≡ Const (operand thunk 3))) ⊎ ((form_of thunk ≡ Remove) × (i ≡ 7) × (r ≡ 0) × (v ≡ Const 0))
-          → ((form_of thunk ≡ Insert) × (j ≡ 7) × (r ≡ 1) × (w ≡ Made 2)) ⊎ ((form_of thunk ≡ Insert) × (j ≡ 8) × (r ≡ 0) × (w ≡ Const 0)) ⊎ ((form_of thunk ≡ Remove) × (j ≡ 6) × (r ≡ 1) × (w ≡ Const (operand thunk 3))) ⊎ ((form_of thunk ≡ Remove) × (j ≡ 7) × (r ≡ 0) × (w ≡ Const 0)) → i ≡ j
-      stored a b = ⊎_elim
-          (λ x. ⊎_elim (λ y. x.1 ∙ sym y.1) (⊎_elim (λ y. absurd (apart x.2 y.2)) (⊎_elim (λ y. absurd (no_insert x.0 y.0)) (λ y. absurd (no_insert x.0 y.0)))) b)
-          (⊎_elim
-          (λ x. ⊎_elim (λ y. absurd (apart y.2 x.2)) (⊎_elim (λ y. x.1 ∙ sym y.1) (⊎_elim (λ y. absurd (no_insert x.0 y.0)) (λ y. absurd (no_insert x.0 y.0)))) b)
-          (⊎_elim
-          (λ x. ⊎_elim (λ y. absurd (no_insert y.0 x.0)) (⊎_elim (λ y. absurd (no_insert y.0 x.0)) (⊎_elim (λ y. x.1 ∙ sym y.1) (λ y. absurd (apart x.2 y.2)))) b)
-          (λ x. ⊎_elim (λ y. absurd (no_insert y.0 x.0)) (⊎_elim (λ y. absurd (no_insert y.0 x.0)) (⊎_elim (λ y. absurd (apart y.2 x.2)) (λ y. x.1 ∙ sym y.1))) b))) a
+      once : (i j p : ℕ) → ((i ≡ 0) × (p ≡ thunk.lock + 1)) ⊎ ((i ≡ 3) × (p ≢ thunk.lock + 1)) → ((j ≡ 0) × (p ≡ thunk.lock + 1)) ⊎ ((j ≡ 3) × (p ≢ thunk.lock + 1)) → i ≡ j
+      once i j p a b = ⊎_elim (λ x. ⊎_elim (λ y. x.0 ∙ sym y.0) (λ y. absurd (y.1 x.1)) b) (λ x. ⊎_elim (λ y. absurd (x.1 y.1)) (λ y. x.0 ∙ sym y.0) b) a
+
+      -- the place of a Store goes by the form and the register
+      store_at : Form → ℕ → ℕ
+      store_at Read r = 0
+      store_at Insert r = 8 - r
+      store_at Remove r = 7 - r
+      store_at Set r = 7 - r
+      store_at Empty r = 0
+
+      stores_at : (i r : ℕ) (v : Value) → StoreCase (form_of thunk) thunk i r v → i ≡ store_at (form_of thunk) r
+      stores_at i r v cases = ⊎_elim (λ a. a.1 ∙ at a.0 a.2) (⊎_elim (λ a. a.1 ∙ at a.0 a.2) (⊎_elim (λ a. a.1 ∙ at a.0 a.2) (⊎_elim (λ a. a.1 ∙ at a.0 a.2)
+          (⊎_elim (λ a. a.1 ∙ at a.0 a.2) (λ a. a.1 ∙ at a.0 a.2))))) cases
         where
-          apart : {r : ℕ} → r ≡ 1 → r ≡ 0 → ⊥
-          apart e e' = omega arith
+          at : {f : Form} {n : ℕ} → form_of thunk ≡ f → r ≡ n → store_at f n ≡ store_at (form_of thunk) r
+          at form same = (λ k. store_at (sym form k) (sym same k))
 
       init_small : (i : ℕ) (v : Value) → form_of thunk ≡ Insert → slice_get (node_init thunk).cells i ≡ Some v → IsSmall v
       init_small i v form h =
           let named = (fit.insert form).1 in
-          let is_key : key_of op ≡ named.0 = ap key_of named.2 in
+          let is_key : key_of op ≡ named.0 = named.2.0 in
           let key_low : operand thunk 1 < 2 ^ 32 = (let low = allowed.keys (key_of op) (inl refl) in let at = named.3 in omega arith) in
-          let value_low : operand thunk 2 < 2 ^ 32 = (let low = allowed.value named.1 (ap value_given named.2) in let at = named.4 in omega arith) in
+          let value_low : operand thunk 2 < 2 ^ 32 = (let low = allowed.value named.1 (puts_given op named.0 named.1 named.2) in let at = named.4 in omega arith) in
           let head_low : operand thunk 3 < 2 ^ 32 = (let low = (walk_facts buckets bucket small (bounds buckets bucket layout) op readings).head_small in let at = named.5 in omega arith) in
           cells i h key_low value_low head_low
         where
@@ -368,6 +410,7 @@ module _ (buckets : ℕ) (bucket : ℕ → ℕ) (small : (key : ℕ) → bucket 
     sections = λ d x h. absurd (none_section (sym (first.section d) ∙ h));
     made = λ d x h. absurd (none_section (sym (first.section d) ∙ h));
     linked = λ d x h. absurd (none_section (sym (first.section d) ∙ h));
+    valued = λ d x h. absurd (none_section (sym (first.section d) ∙ h));
     taken = λ d x h. absurd (none_section (sym (first.section d) ∙ h));
     live = λ t h. absurd (not_live t (sym (first.status t) ∙ h));
     limbo = λ q y t h. absurd (not_retired q y (sym (first.status q) ∙ h));

@@ -4,6 +4,7 @@ use Rattle.std.proofs.lemmas.List.Elements.{All-nil, All-cons}
 use Rattle.std.specs.Prelude.{◌==◌, ◌^◌, ◌⊎◌, Some, List, [], ◌∷◌, All, Contains, nat_lt}
 use Rattle.small_lemmas.proofs.Lists.{some_same as some_inj}
 use Rattle.section_body.specs.Bucket.{operand, read_steps, insert_steps, remove_steps}
+use Rattle.bucket_bodies.specs.Table.{set_steps}
 use Rattle.body_terms.specs.declared.value.Value.{Value}
 use Rattle.body_terms.specs.declared.value.Value.TheVariants.{Const, Of, Made}
 use Rattle.body_terms.specs.declared.step.Step.{Step}
@@ -189,4 +190,78 @@ remove_shaped t apart = record {
   set_once = λ i j reg earlier later lt a b c d. remove_set_once i j reg lt (remove_setter t i reg earlier a c) (remove_setter t j reg later b d);
   fresh = remove_fresh t;
   stored_once = λ i j a b v w lt x y e. apart (remove_places t i j a b v w lt x y e);
+}
+
+-- register 0 holds the edition's word, and register 1 that of the value
+set_edition : (t : Thunk) (i : ℕ) → 0 < i → LoadedBefore (set_steps t) i 0
+set_edition t i positive = record { by = 0; place = t.lock + 1; earlier = positive; loads = refl }
+
+set_value : (t : Thunk) (i : ℕ) → 3 < i → LoadedBefore (set_steps t) i 1
+set_value t i later = record { by = 3; place = operand t 1; earlier = later; loads = refl }
+
+set_used : (t : Thunk) (i : ℕ) (step : Step) → IsStep (set_steps t) i step → All (SetBefore (set_steps t) i) (used_values step)
+set_used t zero step h = used_by (set_steps t) 0 (Load (t.lock + 1) 0) step h (nothing_used (set_steps t) 0)
+set_used t (suc zero) step h = used_by (set_steps t) 1 (Want 0 (operand t 0)) step h (one_used (set_steps t) 1 (Of 0) (set_edition t 1 (omega arith)))
+set_used t (suc (suc zero)) step h = used_by (set_steps t) 2 (Fresh 0) step h (one_used (set_steps t) 2 (Of 0) (set_edition t 2 (omega arith)))
+set_used t (suc (suc (suc zero))) step h = used_by (set_steps t) 3 (Load (operand t 1) 1) step h (nothing_used (set_steps t) 3)
+set_used t (suc (suc (suc (suc zero)))) step h = used_by (set_steps t) 4 (Fresh 1) step h (one_used (set_steps t) 4 (Of 1) (set_value t 4 (omega arith)))
+set_used t (suc (suc (suc (suc (suc zero))))) step h = used_by (set_steps t) 5 Stamp step h (nothing_used (set_steps t) 5)
+set_used t (suc (suc (suc (suc (suc (suc zero)))))) step h = used_by (set_steps t) 6 (Store 1 (Const (operand t 2))) step h (two_used (set_steps t) 6 (Of 1) (Const (operand t 2)) (set_value t 6 (omega arith)) tt)
+set_used t (suc (suc (suc (suc (suc (suc (suc zero))))))) step h = used_by (set_steps t) 7 (Store 0 (Const 0)) step h (two_used (set_steps t) 7 (Of 0) (Const 0) (set_edition t 7 (omega arith)) tt)
+set_used t (suc (suc (suc (suc (suc (suc (suc (suc zero)))))))) step h = used_by (set_steps t) 8 (Answer (operand t 3)) step h (nothing_used (set_steps t) 8)
+set_used t (suc (suc (suc (suc (suc (suc (suc (suc (suc i))))))))) step h = absurd (cc)
+
+set_fresh : (t : Thunk) (i reg : ℕ) (value : Value) → IsStep (set_steps t) i (Store reg value) → FreshBefore (set_steps t) i reg
+set_fresh t i reg value h = pick (places t i reg value h)
+  where
+    places : (t : Thunk) (i reg : ℕ) (value : Value) → IsStep (set_steps t) i (Store reg value) → ((i ≡ 6) × (reg ≡ 1)) ⊎ ((i ≡ 7) × (reg ≡ 0))
+    places t i reg value h = grind arith
+
+    pick : ((i ≡ 6) × (reg ≡ 1)) ⊎ ((i ≡ 7) × (reg ≡ 0)) → FreshBefore (set_steps t) i reg
+    pick (inl a) = record { by = 4; earlier = (let at = a.0 in omega arith); tests = ap (λ r. Some (Fresh r)) (sym a.1) }
+    pick (inr b) = record { by = 2; earlier = (let at = b.0 in omega arith); tests = ap (λ r. Some (Fresh r)) (sym b.1) }
+
+set_store_at : (t : Thunk) (i a : ℕ) (v : Value) → IsStep (set_steps t) i (Store a v) → ((i ≡ 6) × (a ≡ 1)) ⊎ ((i ≡ 7) × (a ≡ 0))
+set_store_at t i a v h = grind arith
+
+-- the two places to which a section stores that sets a value
+set_places : (t : Thunk) (i j a b : ℕ) (v w : Value) → i < j → IsStep (set_steps t) i (Store a v) → IsStep (set_steps t) j (Store b w) → store_place (set_steps t) i a ≡ store_place (set_steps t) j b → operand t 1 ≡ t.lock + 1
+set_places t i j a b v w lt x y e = go (set_store_at t i a v x) (set_store_at t j b w y)
+  where
+    go : ((i ≡ 6) × (a ≡ 1)) ⊎ ((i ≡ 7) × (a ≡ 0)) → ((j ≡ 6) × (b ≡ 1)) ⊎ ((j ≡ 7) × (b ≡ 0)) → operand t 1 ≡ t.lock + 1
+    go (inl p) (inl q) = absurd (let first = p.0 in let second = q.0 in omega arith)
+    go (inl p) (inr q) = ap (λ i. store_place (set_steps t) i 1) (sym p.0) ∙ ap (λ a. store_place (set_steps t) i a) (sym p.1) ∙ e ∙ ap (λ b. store_place (set_steps t) j b) q.1 ∙ ap (λ j. store_place (set_steps t) j 0) q.0
+    go (inr p) q = absurd (after q (let first = p.0 in omega arith))
+      where
+        after : ((j ≡ 6) × (b ≡ 1)) ⊎ ((j ≡ 7) × (b ≡ 0)) → 7 < j → ⊥
+        after (inl q) late = let at = q.0 in omega arith
+        after (inr q) late = let at = q.0 in omega arith
+
+abbrev set_phase : ℕ → ℕ
+set_phase j = cond (nat_lt j 5) 1 (cond (j == 5) 3 (cond (nat_lt j 8) 4 6))
+
+set_phase_at : (t : Thunk) (j : ℕ) (step : Step) → IsStep (set_steps t) j step → phase step ≡ set_phase j
+set_phase_at t j step h = grind arith
+
+set_phase_rises : (i j : ℕ) → i < j → set_phase i ≤ set_phase j
+set_phase_rises i j lt = grind arith
+
+set_setter : (t : Thunk) (i reg : ℕ) (step : Step) → IsStep (set_steps t) i step → Contains (set_registers step) reg → ((i ≡ 0) × (reg ≡ 0)) ⊎ ((i ≡ 3) × (reg ≡ 1))
+set_setter t i reg step h sets = grind arith
+
+set_set_once : (i j reg : ℕ) → i < j → ((i ≡ 0) × (reg ≡ 0)) ⊎ ((i ≡ 3) × (reg ≡ 1)) → ((j ≡ 0) × (reg ≡ 0)) ⊎ ((j ≡ 3) × (reg ≡ 1)) → ⊥
+set_set_once i j reg lt a b = grind arith
+
+pub set_shaped : (t : Thunk) → operand t 1 ≢ t.lock + 1 → IsShaped (set_steps t)
+set_shaped t apart = record {
+  short = omega arith;
+  phases = λ i j earlier later lt a b. let first = set_phase_at t i earlier a in let second = set_phase_at t j later b in let rises = set_phase_rises i j lt in omega arith;
+  makes = omega arith;
+  stamps = refl;
+  answers = refl;
+  used = set_used t;
+  within = λ i step h. grind arith;
+  set_once = λ i j reg earlier later lt a b c d. set_set_once i j reg lt (set_setter t i reg earlier a c) (set_setter t j reg later b d);
+  fresh = set_fresh t;
+  stored_once = λ i j a b v w lt x y e. apart (set_places t i j a b v w lt x y e);
 }

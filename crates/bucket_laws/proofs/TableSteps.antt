@@ -9,12 +9,14 @@ use Rattle.map_history.specs.declared.op.Op.{Op}
 use Rattle.map_history.specs.Keys.{key_of}
 use Rattle.body_terms.specs.Update.{upd}
 use Rattle.body_terms.specs.Word.{value_of}
-use Rattle.section_body.specs.Bucket.{operand, bucket_steps}
+use Rattle.section_body.specs.Bucket.{operand}
+use Rattle.bucket_bodies.specs.Table.{table_steps}
 use Rattle.body_terms.specs.declared.value.Value.{Value}
 use Rattle.body_terms.specs.declared.value.Value.TheVariants.{Const, Made}
 use Rattle.body_terms.specs.declared.value.Init.{Init}
 use Rattle.body_terms.specs.declared.step.Step.{Step}
 use Rattle.body_terms.specs.declared.step.Step.TheVariants.{Load, Make, Store, Retire}
+use Rattle.body_terms.specs.declared.thunk.Thunk.{Thunk}
 use Rattle.table_words.specs.declared.layout.Layout.{Layout}
 use Rattle.structure_laws.specs.Scene.{Section, Status, Free, Live, Retired, Scene, with_status, passes, sets}
 use Rattle.structure_laws.specs.Sections.{Here, IsStep, value_in}
@@ -24,11 +26,11 @@ use Rattle.structure_laws.specs.Keeps.{IsPrepared}
 use Rattle.structure_laws.proofs.Changes.{upd_same, upd_other, upd_some}
 use Rattle.structure_laws.proofs.Progress.{stepped}
 use Rattle.bucket_laws.specs.Walk.{Walk, cell_at}
-use Rattle.bucket_laws.specs.Buckets.{Form, Insert, Remove, form_of, body_of, IsLinkOf, IsPending, IsWalked, walk_of, IsMade, IsTaken, BucketsKept, table}
-use Rattle.bucket_laws.proofs.Forms.{node_init, step_in, load_step, make_step, retire_step}
+use Rattle.bucket_laws.specs.Buckets.{Form, Insert, Remove, Set, form_of, body_of, IsLinkOf, IsValueOf, IsPending, IsWalked, walk_of, IsMade, IsTaken, BucketsKept, table}
+use Rattle.bucket_laws.proofs.Forms.{node_init, step_in, LoadCase, load_step, make_step, retire_step}
 use Rattle.bucket_laws.proofs.Places.{is_node_link}
-use Rattle.bucket_laws.proofs.Sections.{fit, one_bucket, insert_remove, remove_target}
-use Rattle.bucket_laws.proofs.TableGives.{next_leads}
+use Rattle.bucket_laws.proofs.Sections.{fit, one_bucket, insert_remove, insert_set, remove_set, remove_target}
+use Rattle.bucket_laws.proofs.TableGives.{next_leads, set_valued}
 
 pub suc_eq : (a b : ℕ) → suc a ≡ suc b → a ≡ b
 suc_eq a b e = omega arith
@@ -56,7 +58,7 @@ module _ (buckets : ℕ) (bucket : ℕ → ℕ) (layout : Layout) (s : Scene) (k
   pub owned_key : (sound : Sound (table buckets bucket) layout s) (d : ℕ) (x : Section) (t : ℕ) → s.section d ≡ Some x → Owns x t → value_of (s.cells (cell_at buckets bucket t 1)) ≡ key_of x.op
   owned_key sound d x t here owns = ⊎_elim
       (λ new. let made = kept.made d x here new.0 new.1 new.2 in let named = ((fit buckets bucket layout s sound kept d x here).insert new.0).1 in
-      ap (λ t. value_of (s.cells (cell_at buckets bucket t 1))) (suc_eq t made.slot (sym new.3 ∙ made.link)) ∙ made.key ∙ named.3 ∙ ap key_of (sym named.2))
+      ap (λ t. value_of (s.cells (cell_at buckets bucket t 1))) (suc_eq t made.slot (sym new.3 ∙ made.link)) ∙ made.key ∙ named.3 ∙ sym named.2.0)
       (λ old. ap (λ t. value_of (s.cells (cell_at buckets bucket t 1))) (sym old.3) ∙ (kept.taken d x here old.0 old.1 old.2).key) owns
 
   -- so no two sections hold one slot
@@ -72,12 +74,13 @@ module _ (buckets : ℕ) (bucket : ℕ → ℕ) (small : (key : ℕ) → bucket 
   step_kept : (status : ℕ → Status) (reg : ℕ → ℕ) → ((i : ℕ) → IsPending x i → ⊥) → ((t : ℕ) → kept.on t ≡ true → status t ≡ Live)
       → (form_of x.thunk ≡ Insert → 6 ≤ suc x.at → suc x.at ≤ 7 → IsMade buckets bucket (next_scene status reg) kept.on (stepped x reg))
       → (form_of x.thunk ≡ Remove → 3 ≤ suc x.at → IsLinkOf buckets bucket s.cells kept.on (bucket (key_of x.op)) (operand x.thunk 1))
+      → (form_of x.thunk ≡ Set → 3 ≤ suc x.at → IsValueOf buckets bucket s.cells kept.on (bucket (key_of x.op)) (operand x.thunk 1))
       → (form_of x.thunk ≡ Remove → 7 ≤ suc x.at → suc x.at ≤ 8 → IsTaken buckets bucket (next_scene status reg) kept.on (stepped x reg))
       → ((e : ℕ) (z : Section) (t : ℕ) → e ≢ d → s.section e ≡ Some z → Owns z t → status t ≡ Live)
       → ((t : ℕ) → status t ≡ Live → (kept.on t ≡ true) ⊎ ((e : ℕ) × (z : Section) × (e ≢ d) × (s.section e ≡ Some z) × Owns z t) ⊎ Owns (stepped x reg) t)
       → ((q y t : ℕ) → status q ≡ Retired y → s.epoch ≤ y + 1 → value_of (s.cells (cell_at buckets bucket q 3)) ≡ suc t → (status t ≡ Live) ⊎ ((z : ℕ) × (status t ≡ Retired z) × (y ≤ z)))
       → BucketsKept buckets bucket layout (next_scene status reg)
-  step_kept status reg quiet on_live made linked taken others live limbo = record {
+  step_kept status reg quiet on_live made linked valued taken others live limbo = record {
     on = kept.on;
     rank = kept.rank;
     chains = kept.chains;
@@ -93,6 +96,9 @@ module _ (buckets : ℕ) (bucket : ℕ → ℕ) (small : (key : ℕ) → bucket 
     linked = λ e z h form low. ⊎_elim
         (λ same. subst (λ z. form_of z.thunk ≡ Remove → 3 ≤ z.at → IsLinkOf buckets bucket s.cells kept.on (bucket (key_of z.op)) (operand z.thunk 1)) same.1 linked form low)
         (λ other. kept.linked e z other.1 form low) (upd_some s.section d e (stepped x reg) z h);
+    valued = λ e z h form low. ⊎_elim
+        (λ same. subst (λ z. form_of z.thunk ≡ Set → 3 ≤ z.at → IsValueOf buckets bucket s.cells kept.on (bucket (key_of z.op)) (operand z.thunk 1)) same.1 valued form low)
+        (λ other. kept.valued e z other.1 form low) (upd_some s.section d e (stepped x reg) z h);
     taken = λ e z h form low high. ⊎_elim
         (λ same. subst (λ z. form_of z.thunk ≡ Remove → 7 ≤ z.at → z.at ≤ 8 → IsTaken buckets bucket (next_scene status reg) kept.on z) same.1 taken form low high)
         (λ other. let was = kept.taken e z other.1 form low high in
@@ -114,12 +120,13 @@ module _ (buckets : ℕ) (bucket : ℕ → ℕ) (small : (key : ℕ) → bucket 
 
   -- the step at this place, where the form is known
   step_is : (b : Step) (f : Form) (j : ℕ) (known : Step) → IsStep (table buckets bucket) x x.at b → form_of x.thunk ≡ f → slice_get (body_of f x.thunk) j ≡ Some known → x.at ≡ j → b ≡ known
-  step_is b f j known h form at e = some_inj (sym h ∙ ap (slice_get (bucket_steps x.thunk)) e ∙ step_in x.thunk f j form ∙ at)
+  step_is b f j known h form at e = some_inj (sym h ∙ ap (slice_get (table_steps x.thunk)) e ∙ step_in x.thunk f j form ∙ at)
 
   -- a section that doesn't come to a Store has no change pending
   unpending : (b : Step) → IsStep (table buckets bucket) x x.at b → ((r : ℕ) (v : Value) → b ≢ Store r v) → (i : ℕ) → IsPending x i → ⊥
   unpending b h no_store i pending = ⊎_elim (λ insert. no_store 0 (Const 0) (step_is b Insert 8 (Store 0 (Const 0)) h insert.0 refl insert.1))
-      (λ remove. no_store 0 (Const 0) (step_is b Remove 7 (Store 0 (Const 0)) h remove.0 refl remove.1)) pending.1
+      (⊎_elim (λ remove. no_store 0 (Const 0) (step_is b Remove 7 (Store 0 (Const 0)) h remove.0 refl remove.1))
+      (λ sets. no_store 0 (Const 0) (step_is b Set 7 (Store 0 (Const 0)) h sets.0 refl sets.1))) pending.1
 
   -- a Want, a Fresh, a Stamp or an Answer
   pub quiet_kept : (b : Step) → IsStep (table buckets bucket) x x.at b → ((r : ℕ) (v : Value) → b ≢ Store r v) → ((init : Init) (r : ℕ) → b ≢ Make init r) → ((t : ℕ) → b ≢ Retire t) → BucketsKept buckets bucket layout (passes s d x)
@@ -128,6 +135,7 @@ module _ (buckets : ℕ) (bucket : ℕ → ℕ) (small : (key : ℕ) → bucket 
       (λ six. let was = kept.made d x here form (omega arith) (omega arith) in
       record { slot = was.slot; link = was.link; live = was.live; out = was.out; key = was.key; value = was.value; next = was.next }) (split 5 x.at (omega arith) (omega arith)))
       (λ form low. ⊎_elim (λ two. (remove_target buckets bucket layout s sound kept d x here form (omega arith) (omega arith)).link) (λ past. kept.linked d x here form past) (reach 2 x.at (omega arith)))
+      (λ form low. ⊎_elim (λ two. set_valued buckets bucket small layout s sound kept d x here form (omega arith) (omega arith)) (λ past. kept.valued d x here form past) (reach 2 x.at (omega arith)))
       (λ form low high. absurd (⊎_elim (λ six. no_store 1 (Const (operand x.thunk 3)) (step_is b Remove 6 (Store 1 (Const (operand x.thunk 3))) h form refl six))
       (λ seven. no_store 0 (Const 0) (step_is b Remove 7 (Store 0 (Const 0)) h form refl seven)) (split 6 x.at (omega arith) (omega arith))))
       (λ e z t ne there owns. owned_live buckets bucket layout s kept e z t there owns)
@@ -156,20 +164,23 @@ module _ (buckets : ℕ) (bucket : ℕ → ℕ) (small : (key : ℕ) → bucket 
   -- a Load
   pub load_kept : (p r n : ℕ) → IsStep (table buckets bucket) x x.at (Load p r) → BucketsKept buckets bucket layout (sets s d x r n)
   load_kept p r n h =
-      let early = at_most (load_step x.thunk x.at p r h) in
+      let loads = load_step x.thunk x.at p r h in
+      let early = at_most (form_of x.thunk) x.thunk x.at p r loads in
       step_kept s.status (upd x.reg r n) (unpending (Load p r) h (λ q v e. cc)) kept.on_live (λ form low high. absurd (omega arith))
-      (λ form low. kept.linked d x here form (at_three form (load_step x.thunk x.at p r h) low)) (λ form low high. absurd (omega arith))
+      (λ form low. kept.linked d x here form (at_three (form_of x.thunk) x.thunk x.at p r loads low)) (λ form low. kept.valued d x here form (at_three (form_of x.thunk) x.thunk x.at p r loads low)) (λ form low high. absurd (omega arith))
       (λ e z t ne there owns. owned_live buckets bucket layout s kept e z t there owns)
       (λ t live. live_cases buckets bucket layout s kept t live inl (λ e z there owns. dite (ℕ_discrete e d)
       (λ same. absurd (owns_none t (omega arith) (subst (λ z. Owns z t) (some_inj (sym there ∙ ap s.section same ∙ here)) owns)))
       (λ ne. inr (inl (e, z, ne, there, owns)))))
       kept.limbo
     where
-      at_most : {f : Form} {j p r : ℕ} {a b c : ℕ} → ((j ≡ 0) × (r ≡ 0) × (p ≡ a)) ⊎ ((f ≡ Insert) × (j ≡ 3) × (r ≡ 1) × (p ≡ b)) ⊎ ((f ≡ Remove) × (j ≡ 3) × (r ≡ 1) × (p ≡ c)) → j ≤ 3
-      at_most cases = ⊎_elim (λ first. let at = first.0 in omega arith) (⊎_elim (λ insert. let at = insert.1 in omega arith) (λ remove. let at = remove.1 in omega arith)) cases
+      at_most : (f : Form) (t : Thunk) (j p r : ℕ) → LoadCase f t j p r → j ≤ 3
+      at_most f t j p r cases = ⊎_elim (λ first. let at = first.0 in omega arith)
+          (⊎_elim (λ insert. let at = insert.1 in omega arith) (⊎_elim (λ remove. let at = remove.1 in omega arith) (λ sets. let at = sets.1 in omega arith))) cases
 
-      at_three : {f : Form} {j p r : ℕ} {a b c : ℕ} → f ≡ Remove → ((j ≡ 0) × (r ≡ 0) × (p ≡ a)) ⊎ ((f ≡ Insert) × (j ≡ 3) × (r ≡ 1) × (p ≡ b)) ⊎ ((f ≡ Remove) × (j ≡ 3) × (r ≡ 1) × (p ≡ c)) → 3 ≤ suc j → 3 ≤ j
-      at_three form cases low = ⊎_elim (λ first. absurd (let at = first.0 in omega arith)) (⊎_elim (λ insert. let at = insert.1 in omega arith) (λ remove. let at = remove.1 in omega arith)) cases
+      at_three : (f : Form) (t : Thunk) (j p r : ℕ) → LoadCase f t j p r → 3 ≤ suc j → 3 ≤ j
+      at_three f t j p r cases low = ⊎_elim (λ first. absurd (let at = first.0 in omega arith))
+          (⊎_elim (λ insert. let at = insert.1 in omega arith) (⊎_elim (λ remove. let at = remove.1 in omega arith) (λ sets. let at = sets.1 in omega arith))) cases
 
   -- a Make
   pub make_kept : (t r : ℕ) (init : Init) → IsStep (table buckets bucket) x x.at (Make init r) → IsPrepared (table buckets bucket) layout s x t init → BucketsKept buckets bucket layout (with_status (sets s d x r (suc t)) t Live)
@@ -188,7 +199,7 @@ module _ (buckets : ℕ) (bucket : ℕ → ℕ) (small : (key : ℕ) → bucket 
         value = cell 2 (Const (operand x.thunk 2)) (omega arith) refl;
         next = cell 3 (Const (operand x.thunk 3)) (omega arith) refl;
       })
-      (λ form low. absurd (insert_remove (form_of x.thunk) step.0 form)) (λ form low high. absurd (insert_remove (form_of x.thunk) step.0 form))
+      (λ form low. absurd (insert_remove (form_of x.thunk) step.0 form)) (λ form low. absurd (insert_set (form_of x.thunk) step.0 form)) (λ form low high. absurd (insert_remove (form_of x.thunk) step.0 form))
       (λ e z u ne there owns. live_too u (owned_live buckets bucket layout s kept e z u there owns))
       (λ u live. dite (ℕ_discrete u t)
       (λ same. inr (inr (inl (step.0, (let five = step.1 in omega arith), (let five = step.1 in omega arith), upd_same x.reg r 2 (suc t) (sym step.2) ∙ ap suc (sym same)))))
@@ -221,7 +232,7 @@ module _ (buckets : ℕ) (bucket : ℕ → ℕ) (small : (key : ℕ) → bucket 
       let on_other : (u : ℕ) → kept.on u ≡ true → u ≢ t = λ u on e. both_ways _ (ap kept.on e ∙ out) on in
       step_kept (upd s.status t (Retired y)) x.reg (unpending (Retire t) h (λ q v e. cc)) (λ u on. other u (on_other u on) ∙ kept.on_live u on)
       (λ form low high. absurd (insert_remove (form_of x.thunk) form step.0))
-      (λ form low. kept.linked d x here form (let eight = step.1 in omega arith)) (λ form low high. absurd (let eight = step.1 in omega arith))
+      (λ form low. kept.linked d x here form (let eight = step.1 in omega arith)) (λ form low. absurd (remove_set (form_of x.thunk) step.0 form)) (λ form low high. absurd (let eight = step.1 in omega arith))
       (λ e z u ne there owns'. other u (λ same. ne (owned_once buckets bucket layout s kept sound e d z x t there here (subst (Owns z) same owns') owns)) ∙ owned_live buckets bucket layout s kept e z u there owns')
       (λ u live. dite (ℕ_discrete u t) (λ same. absurd (retired_live y (sym (upd_same s.status t u (Retired y) same) ∙ live)))
       (λ ne. live_cases buckets bucket layout s kept u (sym (other u ne) ∙ live) inl (λ e z there owns'. dite (ℕ_discrete e d)

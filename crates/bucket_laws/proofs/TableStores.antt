@@ -24,12 +24,12 @@ use Rattle.structure_laws.proofs.Limits.{links_small, value-small}
 use Rattle.structure_laws.proofs.Progress.{stepped}
 use Rattle.bucket_laws.specs.Chain.{Chains, with_head, with_next}
 use Rattle.bucket_laws.specs.Walk.{cell_at}
-use Rattle.bucket_laws.specs.Buckets.{Insert, Remove, form_of, nodes, IsNode, IsLinkOf, IsWalked, walk_of, Knows, IsTaken, BucketsKept, table}
-use Rattle.bucket_laws.proofs.Chain.{insert, remove_first, remove_next}
+use Rattle.bucket_laws.specs.Buckets.{Insert, Remove, Set, form_of, nodes, IsNode, IsLinkOf, IsValueOf, IsWalked, walk_of, Knows, IsTaken, BucketsKept, table}
+use Rattle.bucket_laws.proofs.Chain.{insert, remove_first, remove_next, chains_agree}
 use Rattle.bucket_laws.proofs.Elsewhere.{IsElsewhere, knows_on, edition_seen}
-use Rattle.bucket_laws.proofs.Forms.{store_step, insert_loads, remove_loads}
-use Rattle.bucket_laws.proofs.NodeChanges.{head_changed, next_changed, none_changed}
-use Rattle.bucket_laws.proofs.Sections.{fit, one_bucket, insert_head, insert_missing, insert_remove, remove_target, IsTarget}
+use Rattle.bucket_laws.proofs.Forms.{store_step, insert_loads, remove_loads, set_loads}
+use Rattle.bucket_laws.proofs.NodeChanges.{head_changed, next_changed, none_changed, clip_same}
+use Rattle.bucket_laws.proofs.Sections.{fit, one_bucket, insert_head, insert_missing, insert_remove, insert_set, remove_set, remove_target, IsTarget}
 use Rattle.bucket_laws.proofs.TableGives.{target_on}
 use Rattle.bucket_laws.proofs.TableSteps.{Owns, live_cases, owned_once, suc_eq}
 use Rattle.bucket_laws.proofs.Walks.{head_is, is_first}
@@ -57,6 +57,7 @@ module _ (buckets : ℕ) (bucket : ℕ → ℕ) (small : (key : ℕ) → bucket 
     pub out : (u : ℕ) → kept.on u ≡ false → (Owns x u → ⊥) → on u ≡ false
     pub made : form_of x.thunk ≡ Insert → 6 ≤ suc x.at → suc x.at ≤ 7 → ⊥
     pub linked : form_of x.thunk ≡ Remove → IsLinkOf buckets bucket cells on own (operand x.thunk 1)
+    pub valued : form_of x.thunk ≡ Set → IsValueOf buckets bucket cells on own (operand x.thunk 1)
     pub taken : form_of x.thunk ≡ Remove → 7 ≤ suc x.at → suc x.at ≤ 8 → IsTaken buckets bucket (stored_scene cells) on (stepped x x.reg)
     pub live : (t : ℕ) → kept.on t ≡ true → (on t ≡ true) ⊎ Owns (stepped x x.reg) t
     pub owned : (t : ℕ) → Owns x t → (on t ≡ true) ⊎ Owns (stepped x x.reg) t
@@ -82,6 +83,10 @@ module _ (buckets : ℕ) (bucket : ℕ → ℕ) (small : (key : ℕ) → bucket 
           value = ap value_of (change.outside was.slot 2 was.out (omega arith) (omega arith)) ∙ was.value;
           next = ap value_of (change.outside was.slot 3 was.out (omega arith) (omega arith)) ∙ was.next;
         })
+        (upd_some s.section d e (stepped x x.reg) z h);
+    valued = λ e z h form low. ⊎_elim
+        (λ same. subst (λ z. form_of z.thunk ≡ Set → IsValueOf buckets bucket cells on (bucket (key_of z.op)) (operand z.thunk 1)) same.1 change.valued form)
+        (λ other. let node = kept.valued e z other.1 form low in (node.0, apart_node e z other.0 other.1 node.0 node.1, node.2))
         (upd_some s.section d e (stepped x x.reg) z h);
     linked = λ e z h form low. ⊎_elim
         (λ same. subst (λ z. form_of z.thunk ≡ Remove → IsLinkOf buckets bucket cells on (bucket (key_of z.op)) (operand z.thunk 1)) same.1 change.linked form)
@@ -136,7 +141,7 @@ module _ (buckets : ℕ) (bucket : ℕ → ℕ) (small : (key : ℕ) → bucket 
       mine t cases = ⊎_elim inl (λ owns. held t d (stepped x x.reg) (upd_same s.section d d (Some (stepped x x.reg)) refl) owns) cases
 
   -- the section's change is pending, so no walk of its bucket knows anything
-  pending_walks : (cells : Cells) (on : ℕ → Bool) (rank : ℕ → ℕ) → ((form_of x.thunk ≡ Insert) × (suc x.at ≡ 8)) ⊎ ((form_of x.thunk ≡ Remove) × (suc x.at ≡ 7)) → (op : Op) (readings : Readings)
+  pending_walks : (cells : Cells) (on : ℕ → Bool) (rank : ℕ → ℕ) → ((form_of x.thunk ≡ Insert) × (suc x.at ≡ 8)) ⊎ ((form_of x.thunk ≡ Remove) × (suc x.at ≡ 7)) ⊎ ((form_of x.thunk ≡ Set) × (suc x.at ≡ 7)) → (op : Op) (readings : Readings)
       → IsRead (table buckets bucket) s readings → bucket (key_of op) ≡ own → IsWalked buckets bucket (stored_scene cells) on rank op (walk_of buckets bucket layout op readings)
   pending_walks cells on rank pending op readings read same edition none =
       absurd (none d (stepped x x.reg) (upd_same s.section d d (Some (stepped x x.reg)) refl) ((fit buckets bucket layout s sound kept d x here).lock ∙ ap bucket_lock (sym same), pending))
@@ -155,7 +160,7 @@ module _ (buckets : ℕ) (bucket : ℕ → ℕ) (small : (key : ℕ) → bucket 
       let named = ((fit buckets bucket layout s sound kept d x here).insert form).1 in
       let narrow = links_small layout 0 t limits (omega arith) (sound.within t (live_free (s.status t) made.live)) in
       let value : value_of word ≡ suc t = stored ∙ ap value_of made.link ∙ value-small (suc t) narrow in
-      let key : now.key t ≡ key_of x.op = made.key ∙ named.3 ∙ ap key_of (sym named.2) in
+      let key : now.key t ≡ key_of x.op = made.key ∙ named.3 ∙ sym named.2.0 in
       let missing = insert_missing buckets bucket layout s sound kept d x here form (omega arith) (omega arith) in
       let first : now.next t ≡ now.head own = made.next ∙ insert_head buckets bucket layout s sound kept d x here form (omega arith) (omega arith) ∙ sym (head_is buckets bucket small s.cells (key_of x.op)) in
       let top = top_of (now.head own) refl in (
@@ -180,6 +185,7 @@ module _ (buckets : ℕ) (bucket : ℕ → ℕ) (small : (key : ℕ) → bucket 
           out = λ u out free. upd_other kept.on t u true (λ e. free (inl (form, omega arith, omega arith, made.link ∙ ap suc (sym e)))) ∙ out;
           made = λ f low high. omega arith;
           linked = λ f. absurd (insert_remove (form_of x.thunk) form f);
+          valued = λ f. absurd (insert_set (form_of x.thunk) form f);
           taken = λ f low high. absurd (insert_remove (form_of x.thunk) form f);
           live = λ u on. inl (dite (ℕ_discrete u t) (λ e. upd_same kept.on t u true e) (λ ne. upd_other kept.on t u true ne ∙ on));
           owned = λ u owns. ⊎_elim (λ new. inl (upd_same kept.on t u true (suc_eq u t (sym new.3 ∙ made.link)))) (λ old. absurd (insert_remove (form_of x.thunk) form old.0)) owns;
@@ -193,8 +199,8 @@ module _ (buckets : ℕ) (bucket : ℕ → ℕ) (small : (key : ℕ) → bucket 
       top_of zero e = (0, λ u on of. absurd (kept.chains.head_none own u e on of))
       top_of (suc t) e = (suc (kept.rank t), λ u on of. let lower = kept.chains.head_top own t u e on of in omega arith)
 
-  -- the edition, once the chain has changed
-  edition_change : (word : ℕ) → ((form_of x.thunk ≡ Insert) × (x.at ≡ 8)) ⊎ ((form_of x.thunk ≡ Remove) × (x.at ≡ 7)) → version_of (s.cells (bucket_edition own)) < version_of word
+  -- the edition, once the chain or a value in it has changed
+  edition_change : (word : ℕ) → ((form_of x.thunk ≡ Insert) × (x.at ≡ 8)) ⊎ ((form_of x.thunk ≡ Remove) × (x.at ≡ 7)) ⊎ ((form_of x.thunk ≡ Set) × (x.at ≡ 7)) → version_of (s.cells (bucket_edition own)) < version_of word
       → IsOwnChange (upd s.cells (bucket_edition own) word) kept.on kept.rank
   edition_change word stage rises =
       let low = small (key_of x.op) in
@@ -223,19 +229,24 @@ module _ (buckets : ℕ) (bucket : ℕ → ℕ) (small : (key : ℕ) → bucket 
             (is_first buckets bucket small (walk_of buckets bucket layout op readings).stage);
         outside = λ u k out low high. cell u k;
         out = λ u out free. out;
-        made = λ f low high. ⊎_elim (λ insert. let at = insert.1 in omega arith) (λ remove. insert_remove (form_of x.thunk) f remove.0) stage;
+        made = λ f low high. ⊎_elim (λ insert. let at = insert.1 in omega arith) (⊎_elim (λ remove. insert_remove (form_of x.thunk) f remove.0) (λ sets. insert_set (form_of x.thunk) f sets.0)) stage;
         linked = λ f. ⊎_elim (λ insert. absurd (insert_remove (form_of x.thunk) insert.0 f))
-            (λ remove. ⊎_elim inl (λ node. inr (node.0, (node.1.0, ap (λ word. bucket (value_of word)) (cell node.0 1) ∙ node.1.1), node.2)) (kept.linked d x here f (let at = remove.1 in omega arith))) stage;
+            (⊎_elim (λ remove. ⊎_elim inl (λ node. inr (node.0, (node.1.0, ap (λ word. bucket (value_of word)) (cell node.0 1) ∙ node.1.1), node.2)) (kept.linked d x here f (let at = remove.1 in omega arith)))
+            (λ sets. absurd (remove_set (form_of x.thunk) f sets.0))) stage;
+        valued = λ f. ⊎_elim (λ insert. absurd (insert_set (form_of x.thunk) insert.0 f))
+            (⊎_elim (λ remove. absurd (remove_set (form_of x.thunk) remove.0 f))
+            (λ sets. let node = kept.valued d x here f (let at = sets.1 in omega arith) in (node.0, (node.1.0, ap (λ word. bucket (value_of word)) (cell node.0 1) ∙ node.1.1), node.2))) stage;
         taken = λ f low high. ⊎_elim (λ insert. absurd (insert_remove (form_of x.thunk) insert.0 f))
-            (λ remove. let was = kept.taken d x here f (let at = remove.1 in omega arith) (let at = remove.1 in omega arith) in record {
+            (⊎_elim (λ remove. let was = kept.taken d x here f (let at = remove.1 in omega arith) (let at = remove.1 in omega arith) in record {
               live = was.live;
               out = was.out;
               key = ap value_of (cell (operand x.thunk 2) 1) ∙ was.key;
               next = λ t leads. let node = was.next t (ap value_of (sym (cell (operand x.thunk 2) 3)) ∙ leads) in (node.0, ap (λ word. bucket (value_of word)) (cell t 1) ∙ node.1);
-            }) stage;
+            })
+            (λ sets. absurd (remove_set (form_of x.thunk) f sets.0))) stage;
         live = λ t on. inl on;
-        owned = λ t owns. ⊎_elim (λ new. ⊎_elim (λ insert. absurd (let at = insert.1 in let early = new.2 in omega arith)) (λ remove. absurd (insert_remove (form_of x.thunk) new.0 remove.0)) stage)
-            (λ old. ⊎_elim (λ insert. absurd (insert_remove (form_of x.thunk) insert.0 old.0)) (λ remove. inr (inr (old.0, (let at = remove.1 in omega arith), (let at = remove.1 in omega arith), old.3))) stage) owns;
+        owned = λ t owns. ⊎_elim (λ new. ⊎_elim (λ insert. absurd (let at = insert.1 in let early = new.2 in omega arith)) (⊎_elim (λ remove. absurd (insert_remove (form_of x.thunk) new.0 remove.0)) (λ sets. absurd (insert_set (form_of x.thunk) new.0 sets.0))) stage)
+            (λ old. ⊎_elim (λ insert. absurd (insert_remove (form_of x.thunk) insert.0 old.0)) (⊎_elim (λ remove. inr (inr (old.0, (let at = remove.1 in omega arith), (let at = remove.1 in omega arith), old.3))) (λ sets. absurd (remove_set (form_of x.thunk) old.0 sets.0))) stage) owns;
       }
     where
       older : (w now next : ℕ) → (w < now) ⊎ (w ≡ now) → now < next → next ≡ w → ⊥
@@ -276,11 +287,12 @@ module _ (buckets : ℕ) (bucket : ℕ → ℕ) (small : (key : ℕ) → bucket 
         back = λ u node. ((still u node.0).0, ap (λ word. bucket (value_of word)) (sym (upd_other s.cells link_place (cell_at buckets bucket u 1) word (keys u))) ∙ node.1);
       };
       edition = λ i lower ne. upd_other s.cells link_place (bucket_edition i) word (editions i lower);
-      walks = pending_walks (upd s.cells link_place word) (upd kept.on gone false) kept.rank (inr (form, omega arith));
+      walks = pending_walks (upd s.cells link_place word) (upd kept.on gone false) kept.rank (inr (inl (form, omega arith)));
       outside = λ u k out low high. upd_other s.cells link_place (cell_at buckets bucket u k) word (apart u k (inl out) low high);
       out = λ u out free. dite (ℕ_discrete u gone) (λ e. upd_same kept.on gone u false e) (λ ne. upd_other kept.on gone u false ne ∙ out);
       made = λ f low high. insert_remove (form_of x.thunk) f form;
       linked = λ f. linked;
+      valued = λ f. absurd (remove_set (form_of x.thunk) form f);
       taken = λ f low high. record {
         live = kept.on_live gone gone_on;
         out = upd_same kept.on gone gone false refl;
@@ -337,6 +349,40 @@ module _ (buckets : ℕ) (bucket : ℕ → ℕ) (small : (key : ℕ) → bucket 
         apart u k cases same = ⊎_elim (λ out. both_ways _ (ap kept.on (sym same) ∙ out) node.0)
             (⊎_elim (λ away. away.1 (sym away.2.1 ∙ ap (λ u. bucket (value_of (s.cells (cell_at buckets bucket u 1)))) same ∙ node.1)) (λ e. stays (sym same ∙ e))) cases
 
+  -- the value of a node of the bucket
+  set_change : (word : ℕ) → form_of x.thunk ≡ Set → x.at ≡ 6 → (t : ℕ) → IsNode buckets bucket s.cells kept.on own t → operand x.thunk 1 ≡ cell_at buckets bucket t 2
+      → IsOwnChange (upd s.cells (cell_at buckets bucket t 2) word) kept.on kept.rank
+  set_change word form at t node placed =
+      let place = cell_at buckets bucket t 2 in
+      let keys : (u : ℕ) → upd s.cells place word (cell_at buckets bucket u 1) ≡ s.cells (cell_at buckets bucket u 1) = λ u. upd_other s.cells place (cell_at buckets bucket u 1) word (λ e. omega arith) in
+      record {
+        chains = chains_agree bucket (nodes buckets bucket s.cells) (nodes buckets bucket (upd s.cells place word)) kept.on kept.rank kept.chains
+            (λ i. clip_same i buckets (value_of (upd s.cells place word (bucket_head i))) (value_of (s.cells (bucket_head i))) (λ low. ap value_of (upd_other s.cells place (bucket_head i) word (λ e. omega arith))))
+            (λ u on. ap value_of (keys u)) (λ u on. ap value_of (upd_other s.cells place (cell_at buckets bucket u 3) word (λ e. omega arith)));
+        on_live = kept.on_live;
+        elsewhere = λ i lower ne. record {
+          head = upd_other s.cells place (bucket_head i) word (λ e. omega arith);
+          stays = λ u other. other.0;
+          ranks = λ u other. refl;
+          cell = λ u k other low high. upd_other s.cells place (cell_at buckets bucket u k) word
+              (λ e. ne (sym other.1 ∙ ap (λ u. bucket (value_of (s.cells (cell_at buckets bucket u 1)))) (one_slot u k low high e) ∙ node.1));
+          back = λ u other. (other.0, ap (λ word. bucket (value_of word)) (sym (keys u)) ∙ other.1);
+        };
+        edition = λ i lower ne. upd_other s.cells place (bucket_edition i) word (λ e. omega arith);
+        walks = pending_walks (upd s.cells place word) kept.on kept.rank (inr (inr (form, omega arith)));
+        outside = λ u k out low high. upd_other s.cells place (cell_at buckets bucket u k) word (λ e. both_ways _ (ap kept.on (sym (one_slot u k low high e)) ∙ out) node.0);
+        out = λ u out free. out;
+        made = λ f low high. insert_set (form_of x.thunk) f form;
+        linked = λ f. absurd (remove_set (form_of x.thunk) f form);
+        valued = λ f. (t, (node.0, ap (λ word. bucket (value_of word)) (keys t) ∙ node.1), placed);
+        taken = λ f low high. absurd (remove_set (form_of x.thunk) f form);
+        live = λ u on. inl on;
+        owned = λ u owns. absurd (⊎_elim (λ new. insert_set (form_of x.thunk) new.0 form) (λ old. remove_set (form_of x.thunk) old.0 form) owns);
+      }
+    where
+      one_slot : (u k : ℕ) → 1 ≤ k → k ≤ 3 → cell_at buckets bucket u k ≡ cell_at buckets bucket t 2 → u ≡ t
+      one_slot u k low high e = omega arith
+
   -- every Store of the section
   pub table_store : (j p r : ℕ) (v : Value) → IsStep (table buckets bucket) x x.at (Store r v) → IsStep (table buckets bucket) x j (Load p r) → s.cells p ≡ x.reg r
       → BucketsKept buckets bucket layout (with_cell (passes s d x) p (next_word (x.reg r) (value_in x.reg v)))
@@ -350,7 +396,15 @@ module _ (buckets : ℕ) (bucket : ℕ → ℕ) (small : (key : ℕ) → bucket 
       (⊎_elim
       (λ link. let place = remove_place link.0 (λ first. absurd (let one = link.2 in omega arith)) in
       subst (λ p. BucketsKept buckets bucket layout (stored_scene (upd s.cells p (next_word (x.reg r) (value_in x.reg v))))) (sym place) (link_stored link.0 link.1 (numbered link.0 link.1 link.3)))
-      (λ edition. edition_stored (edition_place (inr edition.0) edition.2) (inr (edition.0, edition.1)) edition.3)))
+      (⊎_elim
+      (λ edition. edition_stored (edition_place (inr (inl edition.0)) edition.2) (inr (inl (edition.0, edition.1))) edition.3)
+      (⊎_elim
+      (λ value. let node = kept.valued d x here value.0 (let at = value.1 in omega arith) in
+      let place : p ≡ cell_at buckets bucket node.0 2 = set_place value.0 (λ first. absurd (let one = value.2 in omega arith)) ∙ node.2 in
+      subst (λ p. BucketsKept buckets bucket layout (stored_scene (upd s.cells p (next_word (x.reg r) (value_in x.reg v))))) (sym place)
+      (store_kept (upd s.cells (cell_at buckets bucket node.0 2) (next_word (x.reg r) (value_in x.reg v))) kept.on kept.rank
+      (set_change (next_word (x.reg r) (value_in x.reg v)) value.0 value.1 node.0 node.1 node.2)))
+      (λ edition. edition_stored (edition_place (inr (inr edition.0)) edition.2) (inr (inr (edition.0, edition.1))) edition.3)))))
       (store_step x.thunk x.at r v store)
     where
       value : v ≡ Made 2 → value_of (next_word (x.reg r) (value_in x.reg v)) ≡ value_of (x.reg 2)
@@ -362,12 +416,17 @@ module _ (buckets : ℕ) (bucket : ℕ → ℕ) (small : (key : ℕ) → bucket 
       remove_place : form_of x.thunk ≡ Remove → (r ≡ 0 → ⊥) → p ≡ operand x.thunk 1
       remove_place form ne = ⊎_elim (λ first. absurd (ne first.1)) (λ second. second.2) (remove_loads x.thunk j p r form load)
 
-      edition_place : (form_of x.thunk ≡ Insert) ⊎ (form_of x.thunk ≡ Remove) → r ≡ 0 → p ≡ bucket_edition own
+      set_place : form_of x.thunk ≡ Set → (r ≡ 0 → ⊥) → p ≡ operand x.thunk 1
+      set_place form ne = ⊎_elim (λ first. absurd (ne first.1)) (λ second. second.2) (set_loads x.thunk j p r form load)
+
+      edition_place : (form_of x.thunk ≡ Insert) ⊎ (form_of x.thunk ≡ Remove) ⊎ (form_of x.thunk ≡ Set) → r ≡ 0 → p ≡ bucket_edition own
       edition_place forms none = ⊎_elim
           (λ form. ⊎_elim (λ first. let lock = lock_is in let at = first.2 in omega arith) (λ second. absurd (let one = second.1 in omega arith)) (insert_loads x.thunk j p r form load))
-          (λ form. ⊎_elim (λ first. let lock = lock_is in let at = first.2 in omega arith) (λ second. absurd (let one = second.1 in omega arith)) (remove_loads x.thunk j p r form load)) forms
+          (⊎_elim
+          (λ form. ⊎_elim (λ first. let lock = lock_is in let at = first.2 in omega arith) (λ second. absurd (let one = second.1 in omega arith)) (remove_loads x.thunk j p r form load))
+          (λ form. ⊎_elim (λ first. let lock = lock_is in let at = first.2 in omega arith) (λ second. absurd (let one = second.1 in omega arith)) (set_loads x.thunk j p r form load))) forms
 
-      edition_stored : p ≡ bucket_edition own → ((form_of x.thunk ≡ Insert) × (x.at ≡ 8)) ⊎ ((form_of x.thunk ≡ Remove) × (x.at ≡ 7)) → v ≡ Const 0
+      edition_stored : p ≡ bucket_edition own → ((form_of x.thunk ≡ Insert) × (x.at ≡ 8)) ⊎ ((form_of x.thunk ≡ Remove) × (x.at ≡ 7)) ⊎ ((form_of x.thunk ≡ Set) × (x.at ≡ 7)) → v ≡ Const 0
           → BucketsKept buckets bucket layout (stored_scene (upd s.cells p (next_word (x.reg r) (value_in x.reg v))))
       edition_stored place stage zero_value =
           let next = ap (λ v. version_of (next_word (x.reg r) (value_in x.reg v))) zero_value ∙ version-next_word (x.reg r) 0 (omega arith) in

@@ -8,7 +8,7 @@ use Rattle.std.proofs.lemmas.Option.{none-some}
 use mathlib.Core.Logic.{dite}
 use native.Mathlib.Decide.{ℕ_discrete}
 use Rattle.small_lemmas.proofs.Lists.{none_if_never as none_is}
-use Rattle.map_history.specs.Keys.{key_of}
+use Rattle.map_history.specs.Keys.{key_of, value_given}
 use Rattle.map_history.specs.Replay.{Pairs, reply_of, map_after}
 use Rattle.map_history.specs.Words.{word_of}
 use Rattle.body_terms.specs.Update.{upd}
@@ -24,16 +24,16 @@ use Rattle.structure_laws.specs.Sections.{Here, IsStep, value_in}
 use Rattle.structure_laws.specs.InTurn.{StandsFor, AtStamp, AfterStores}
 use Rattle.structure_laws.proofs.Changes.{upd_same, upd_other, value-next_word, value_small}
 use Rattle.structure_laws.proofs.Limits.{links_small, value-small}
-use Rattle.bucket_laws.specs.Chain.{Nodes, with_head, with_next, Chains, Contents}
+use Rattle.bucket_laws.specs.Chain.{Nodes, with_head, with_next, with_value, Chains, Contents}
 use Rattle.bucket_laws.specs.Walk.{Walk, cell_at}
-use Rattle.bucket_laws.specs.Buckets.{Read, Insert, Remove, form_of, nodes, IsFound, IsMissing, BucketsKept, BucketsStand, table}
-use Rattle.bucket_laws.proofs.Chain.{insert, remove_first, remove_next, insert_contents, remove_contents, same_on}
+use Rattle.bucket_laws.specs.Buckets.{Read, Insert, Remove, Set, form_of, nodes, IsFound, IsMissing, BucketsKept, BucketsStand, table}
+use Rattle.bucket_laws.proofs.Chain.{insert, remove_first, remove_next, chains_agree, insert_contents, remove_contents, set_contents, same_on}
 use Rattle.bucket_laws.proofs.Fit.{read_number, insert_number}
-use Rattle.bucket_laws.proofs.Forms.{step_in, stamp_step, answer_step, read_stores, insert_loads, remove_loads}
-use Rattle.bucket_laws.proofs.Maps.{read_reply, insert_reply, remove_reply, read_map, insert_map, remove_map}
+use Rattle.bucket_laws.proofs.Forms.{step_in, stamp_step, answer_step, read_stores, insert_loads, remove_loads, set_loads}
+use Rattle.bucket_laws.proofs.Maps.{read_reply, insert_reply, remove_reply, set_reply, read_map, insert_map, remove_map, set_map}
 use Rattle.bucket_laws.proofs.NodeChanges.{clip_same, clip_to, clip_in, clip_out}
-use Rattle.bucket_laws.proofs.Sections.{fit, walk_at, read_knows, remove_knows, insert_head, insert_missing, remove_target, insert_remove, read_insert, read_remove}
-use Rattle.bucket_laws.proofs.TableGives.{target_on}
+use Rattle.bucket_laws.proofs.Sections.{fit, walk_at, read_knows, remove_knows, set_knows, insert_head, insert_missing, remove_target, set_target, insert_remove, read_insert, read_remove, read_set, insert_set, remove_set}
+use Rattle.bucket_laws.proofs.TableGives.{target_on, set_node}
 use Rattle.bucket_laws.proofs.Walks.{bool_cases, head_is, reached_on}
 
 abbrev nodes_from : (a b c e : ℕ → ℕ) → Nodes
@@ -104,21 +104,31 @@ module _ (buckets : ℕ) (bucket : ℕ → ℕ) (small : (key : ℕ) → bucket 
   remove_looks : form_of x.thunk ≡ Remove → x.at ≡ 5 → get pairs (key_of x.op) ≡ Some own_walk.value
   remove_looks form at = found_is ((remove_knows buckets bucket layout s before.sound kept d x here form (omega arith) (omega arith)).1 ((fit buckets bucket layout s before.sound kept d x here).remove form).0)
 
+  set_looks : form_of x.thunk ≡ Set → x.at ≡ 5 → get pairs (key_of x.op) ≡ Some own_walk.value
+  set_looks form at = found_is ((set_knows buckets bucket layout s before.sound kept d x here form (omega arith) (omega arith)).1 ((fit buckets bucket layout s before.sound kept d x here).sets form).0)
+
   pub table_answers : (j n : ℕ) → IsStep (table buckets bucket) x j (Answer n) → n ≡ word_of (reply_of pairs x.op)
   table_answers j n h =
       let fits = fit buckets bucket layout s before.sound kept d x here in
       ⊎_elim
       (λ read. ⊎_elim
       (λ answer. let looks = read_looks read.0 read.1 in
-      answer.1 ∙ ap (λ numbers. slice_index numbers 1) fits.operands ∙ read_reply pairs x.op own_walk own_walk.found (sym fits.form ∙ read_number x.thunk read.0) looks.0 looks.1)
-      (⊎_elim (λ answer. absurd (read_insert (form_of x.thunk) read.0 answer.0)) (λ answer. absurd (read_remove (form_of x.thunk) read.0 answer.0))) (answer_step x.thunk j n h))
+      answer.1 ∙ ap (λ numbers. slice_index numbers 1) fits.operands ∙ read_reply buckets pairs x.op own_walk own_walk.found (sym fits.form ∙ read_number x.thunk read.0) looks.0 looks.1)
+      (⊎_elim (λ answer. absurd (read_insert (form_of x.thunk) read.0 answer.0))
+      (⊎_elim (λ answer. absurd (read_remove (form_of x.thunk) read.0 answer.0)) (λ answer. absurd (read_set (form_of x.thunk) read.0 answer.0)))) (answer_step x.thunk j n h))
       (⊎_elim
       (λ insert. ⊎_elim (λ answer. absurd (read_insert (form_of x.thunk) answer.0 insert.0))
       (⊎_elim (λ answer. answer.1 ∙ insert_reply pairs x.op own_walk.found (sym fits.form ∙ insert_number x.thunk insert.0) (insert_looks insert.0 insert.1))
-      (λ answer. absurd (insert_remove (form_of x.thunk) insert.0 answer.0))) (answer_step x.thunk j n h))
+      (⊎_elim (λ answer. absurd (insert_remove (form_of x.thunk) insert.0 answer.0)) (λ answer. absurd (insert_set (form_of x.thunk) insert.0 answer.0)))) (answer_step x.thunk j n h))
+      (⊎_elim
       (λ remove. ⊎_elim (λ answer. absurd (read_remove (form_of x.thunk) answer.0 remove.0))
       (⊎_elim (λ answer. absurd (insert_remove (form_of x.thunk) answer.0 remove.0))
-      (λ answer. answer.1 ∙ remove_reply pairs x.op own_walk.value (fits.remove remove.0).1.0 (remove_looks remove.0 remove.1))) (answer_step x.thunk j n h)))
+      (⊎_elim (λ answer. answer.1 ∙ remove_reply pairs x.op own_walk.value (fits.remove remove.0).1.0 (remove_looks remove.0 remove.1))
+      (λ answer. absurd (remove_set (form_of x.thunk) remove.0 answer.0)))) (answer_step x.thunk j n h))
+      (λ sets. ⊎_elim (λ answer. absurd (read_set (form_of x.thunk) answer.0 sets.0))
+      (⊎_elim (λ answer. absurd (insert_set (form_of x.thunk) answer.0 sets.0))
+      (⊎_elim (λ answer. absurd (remove_set (form_of x.thunk) answer.0 sets.0))
+      (λ answer. let named = (fits.sets sets.0).1 in answer.1 ∙ named.5 ∙ set_reply pairs x.op named.0 named.1 own_walk.value named.2 (set_looks sets.0 sets.1)))) (answer_step x.thunk j n h))))
       (stamp_step x.thunk x.at stamp.stamp)
 
   module _ (after : Cells) (stores : AfterStores (table buckets bucket) x s.cells after) where
@@ -138,6 +148,11 @@ module _ (buckets : ℕ) (bucket : ℕ → ℕ) (small : (key : ℕ) → bucket 
     remove_same form p first second = stores.same p (λ i j r v store load.
         let lock = lock_is in
         ⊎_elim (λ edition. first (let at = edition.2 in omega arith)) (λ link. second link.2) (remove_loads x.thunk j p r form load))
+
+    set_same : form_of x.thunk ≡ Set → (p : ℕ) → p ≢ 3 * own + 1 → p ≢ operand x.thunk 1 → after p ≡ s.cells p
+    set_same form p first second = stores.same p (λ i j r v store load.
+        let lock = lock_is in
+        ⊎_elim (λ edition. first (let at = edition.2 in omega arith)) (λ value. second value.2) (set_loads x.thunk j p r form load))
 
     -- a section that reads alone
     read_stands : form_of x.thunk ≡ Read → x.at ≡ 2 → BucketsStand buckets bucket (slot_count layout 0) after (map_after pairs x.op)
@@ -172,7 +187,7 @@ module _ (buckets : ℕ) (bucket : ℕ → ℕ) (small : (key : ℕ) → bucket 
         let narrow = links_small layout 0 t limits (omega arith) within in
         let lock = lock_is in
         let named = (fits.insert form).1 in
-        let key : now.key t ≡ key_of x.op = made.key ∙ named.3 ∙ ap key_of (sym named.2) in
+        let key : now.key t ≡ key_of x.op = made.key ∙ named.3 ∙ sym named.2.0 in
         let none = insert_looks form at in
         let out : stands.on t ≡ false = bool_cases (stands.on t) (λ on. absurd (both_ways _ made.out (kept_on t on))) (λ off. off) in
         let stored : value_of (after (3 * own + 2)) ≡ suc t =
@@ -195,8 +210,8 @@ module _ (buckets : ℕ) (bucket : ℕ → ℕ) (small : (key : ℕ) → bucket 
           contents = contents_same then_nodes (upd stands.on t true) (upd (get pairs) (now.key t) (Some (now.value t))) (get (map_after pairs x.op))
               (subst (λ n. Contents n (upd stands.on t true) (upd (get pairs) (now.key t) (Some (now.value t)))) same
               (insert_contents now stands.on (get pairs) stands.contents own t out (ap (get pairs) key ∙ none)))
-              (λ q. ap (λ k. upd (get pairs) k (Some (now.value t)) q) (key ∙ ap key_of named.2) ∙ ap (λ v. upd (get pairs) named.0 (Some v) q) (made.value ∙ named.4)
-              ∙ insert_map pairs x.op named.0 named.1 named.2 (ap (get pairs) (sym (ap key_of named.2)) ∙ none) q);
+              (λ q. ap (λ k. upd (get pairs) k (Some (now.value t)) q) (key ∙ named.2.0) ∙ ap (λ v. upd (get pairs) named.0 (Some v) q) (made.value ∙ named.4)
+              ∙ insert_map pairs x.op named.0 named.1 named.2 (ap (get pairs) (sym named.2.0) ∙ none) q);
         }
       where
         top_of : (link : ℕ) → now.head own ≡ link → (top : ℕ) × ((u : ℕ) → stands.on u ≡ true → bucket (now.key u) ≡ own → stands.rank u < top)
@@ -251,5 +266,37 @@ module _ (buckets : ℕ) (bucket : ℕ → ℕ) (small : (key : ℕ) → bucket 
               (λ q. ap (λ k. upd (get pairs) k None q) key ∙ remove_map pairs x.op ((fit buckets bucket layout s before.sound kept d x here).remove form).1.0 q);
         }
 
+    -- a node with a new value
+    set_stands : form_of x.thunk ≡ Set → x.at ≡ 5 → BucketsStand buckets bucket (slot_count layout 0) after (map_after pairs x.op)
+    set_stands form at =
+        let target = set_target buckets bucket layout s before.sound kept d x here form (omega arith) (omega arith) in
+        let named = ((fit buckets bucket layout s before.sound kept d x here).sets form).1 in
+        let t = own_walk.slot in
+        let on_t : stands.on t ≡ true = stands_on t (set_node buckets bucket small layout s before.sound kept d x here form (omega arith) (omega arith)).0 in
+        let narrow : operand x.thunk 2 < 2 ^ 32 = (let low = (before.sound.allowed d x here).value named.1 (ap value_given named.2) in let at = named.4 in omega arith) in
+        let stored : value_of (after (3 * buckets + 5 * t + 2)) ≡ operand x.thunk 2 =
+        ap (λ p. value_of (after p)) (sym target.place) ∙ ap value_of (stores.changed 6 3 (operand x.thunk 1) 1 (Const (operand x.thunk 2)) (step_in x.thunk Set 6 form) (step_in x.thunk Set 3 form))
+        ∙ value-next_word (x.reg 1) (operand x.thunk 2) narrow in
+        let low = small (key_of x.op) in
+        let same : with_value now t (operand x.thunk 2) ≡ then_nodes = nodes_same _ _ _ _ _ _ _ _
+        (fun_ext (λ j. clip_same j buckets (value_of (s.cells (bucket_head j))) (value_of (after (bucket_head j))) (λ lower. ap value_of (sym (set_same form (3 * j + 2) (λ e. omega arith) (λ e. let at = target.place in omega arith))))))
+        (fun_ext (λ u. ap value_of (sym (set_same form (3 * buckets + 5 * u + 1) (λ e. omega arith) (λ e. let at = target.place in omega arith)))))
+        (fun_ext (λ u. dite (ℕ_discrete u t)
+        (λ e. upd_same now.value t u (operand x.thunk 2) e ∙ sym stored ∙ ap (λ u. value_of (after (3 * buckets + 5 * u + 2))) (sym e))
+        (λ ne. upd_other now.value t u (operand x.thunk 2) ne ∙ ap value_of (sym (set_same form (3 * buckets + 5 * u + 2) (λ e. omega arith) (λ e. ne (let at = target.place in omega arith)))))))
+        (fun_ext (λ u. ap value_of (sym (set_same form (3 * buckets + 5 * u + 3) (λ e. omega arith) (λ e. let at = target.place in omega arith))))) in
+        record {
+          on = stands.on;
+          rank = stands.rank;
+          within = stands.within;
+          chains = subst (λ n. Chains bucket n stands.on stands.rank) same
+              (chains_agree bucket now (with_value now t (operand x.thunk 2)) stands.on stands.rank stands.chains (λ i. refl) (λ u on. refl) (λ u on. refl));
+          contents = contents_same then_nodes stands.on (upd (get pairs) (now.key t) (Some (operand x.thunk 2))) (get (map_after pairs x.op))
+              (subst (λ n. Contents n stands.on (upd (get pairs) (now.key t) (Some (operand x.thunk 2)))) same
+              (set_contents now stands.on (get pairs) stands.contents t (operand x.thunk 2) on_t (λ u on e. stands.chains.key_once u t on on_t e)))
+              (λ q. ap (λ k. upd (get pairs) k (Some (operand x.thunk 2)) q) target.key ∙ ap (λ v. upd (get pairs) (key_of x.op) (Some v) q) named.4
+              ∙ set_map pairs x.op named.0 named.1 named.2 q);
+        }
+
     pub table_stores : BucketsStand buckets bucket (slot_count layout 0) after (map_after pairs x.op)
-    table_stores = ⊎_elim (λ read. read_stands read.0 read.1) (⊎_elim (λ insert. insert_stands insert.0 insert.1) (λ remove. remove_stands remove.0 remove.1)) (stamp_step x.thunk x.at stamp.stamp)
+    table_stores = ⊎_elim (λ read. read_stands read.0 read.1) (⊎_elim (λ insert. insert_stands insert.0 insert.1) (⊎_elim (λ remove. remove_stands remove.0 remove.1) (λ sets. set_stands sets.0 sets.1))) (stamp_step x.thunk x.at stamp.stamp)

@@ -49,20 +49,24 @@ module _ (buckets : ℕ) (bucket : ℕ → ℕ) (small : (key : ℕ) → bucket 
   given (reading ∷ readings) (suc i) p w t h link leads =
       or_right (is_link_place buckets bucket reading.0 && (value_of reading.1 == suc t)) (list_any (λ reading. is_link_place buckets bucket reading.0 && (value_of reading.1 == suc t)) readings) (given readings i p w t h link leads)
 
-  -- the place of the last link, and what is small
+  -- the walk's last link led to the slot at which it is now
+  abbrev pub IsAtNode : Walk → Type 0
+  IsAtNode w = (w.stage ≡ AtKey) ⊎ (w.stage ≡ AtValue) ⊎ (w.stage ≡ AtNext) ⊎ (w.found ≡ true)
+
+  -- the place of the last link, the slot to which it leads, and what is small
   pub record WalkFacts (all : Readings) (op : Op) (w : Walk) : Type 0 where
     pub place : w.stage ≢ AtEdition → (w.place ≡ bucket_head (bucket (key_of op))) ⊎ ((t : ℕ) × Gives all t × (w.place ≡ cell_at buckets bucket t 3))
-    pub slot : w.stage ≡ AtKey → Gives all w.slot
+    pub slot : IsAtNode w → Gives all w.slot
     pub head_small : w.head < 2 ^ 32
     pub slot_small : w.slot < 2 ^ 32
     pub next_small : w.next < 2 ^ 32
 
   facts_fed : (all : Readings) (b : Bounds) (op : Op) (w : Walk) (stage : Stage) (p word i : ℕ) → WalkFacts all op w → w.stage ≡ stage → wanted_at buckets bucket (bucket (key_of op)) w stage ≡ Some p
       → slice_get all i ≡ Some (p, word) → WalkFacts all op (fed buckets bucket b op w stage word)
-  facts_fed all b op w AtEdition p word i facts at want h = record { place = λ ne. inl refl; slot = λ e. absurd (cc); head_small = facts.head_small; slot_small = facts.slot_small; next_small = facts.next_small }
+  facts_fed all b op w AtEdition p word i facts at want h = record { place = λ ne. inl refl; slot = λ e. ⊎_elim (λ key. absurd (let is = key in cc)) (⊎_elim (λ value. absurd (let is = value in cc)) (⊎_elim (λ next. absurd (let is = next in cc)) (λ found. facts.slot (inr (inr (inr found)))))) e; head_small = facts.head_small; slot_small = facts.slot_small; next_small = facts.next_small }
   facts_fed all b op w AtLink p word i facts at want h = record {
     place = λ ne. facts.place (λ e. link_edition (sym at ∙ e));
-    slot = λ e. let some = is_not (value_of word) 0 (not_none (value_of word == 0) (nat_le b.links (suc w.links)) e) in
+    slot = λ e. let some = is_not (value_of word) 0 (not_none (value_of word == 0) (nat_le b.links (suc w.links)) (at_key (value_of word == 0) (nat_le b.links (suc w.links)) e)) in
         given all i p word (value_of word - 1) h (ap (is_link_place buckets bucket) (sym (some_eq w.place p want)) ∙ link_is (facts.place (λ e'. link_edition (sym at ∙ e')))) (omega arith);
     head_small = pick (w.place == bucket_head (bucket (key_of op))) (value_of word) w.head (value_small word) facts.head_small;
     slot_small = let low = value_small word in omega arith;
@@ -71,6 +75,23 @@ module _ (buckets : ℕ) (bucket : ℕ → ℕ) (small : (key : ℕ) → bucket 
     where
       link_edition : AtLink ≡ AtEdition → ⊥
       link_edition e = cc
+
+      at_key : (none far : Bool) → (cond none AtLock (cond far Refused AtKey) ≡ AtKey) ⊎ (cond none AtLock (cond far Refused AtKey) ≡ AtValue) ⊎ (cond none AtLock (cond far Refused AtKey) ≡ AtNext) ⊎ (false ≡ true)
+          → cond none AtLock (cond far Refused AtKey) ≡ AtKey
+      at_key none far e = ⊎_elim (λ key. key) (⊎_elim (λ value. absurd (no_value none far value)) (⊎_elim (λ next. absurd (no_next none far next)) (λ found. absurd (false_true found)))) e
+        where
+          no_value : (none far : Bool) → cond none AtLock (cond far Refused AtKey) ≡ AtValue → ⊥
+          no_value true far e = cc
+          no_value false true e = cc
+          no_value false false e = cc
+
+          no_next : (none far : Bool) → cond none AtLock (cond far Refused AtKey) ≡ AtNext → ⊥
+          no_next true far e = cc
+          no_next false true e = cc
+          no_next false false e = cc
+
+          false_true : false ≡ true → ⊥
+          false_true e = cc
 
       link_is : (w.place ≡ bucket_head (bucket (key_of op))) ⊎ ((t : ℕ) × Gives all t × (w.place ≡ cell_at buckets bucket t 3)) → is_link_place buckets bucket w.place ≡ true
       link_is place = ⊎_elim (λ head. ap (is_link_place buckets bucket) head ∙ is_head_link buckets (bucket (key_of op)) (small (key_of op))) (λ node. ap (is_link_place buckets bucket) node.2 ∙ is_node_link buckets node.0) place
@@ -84,11 +105,11 @@ module _ (buckets : ℕ) (bucket : ℕ → ℕ) (small : (key : ℕ) → bucket 
       key_edition e = cc
 
       pick : (c : Bool) → WalkFacts all op (cond c (record w { stage = AtValue }) (record w { stage = AtLink; place = cell_at buckets bucket w.slot 3 }))
-      pick true = record { place = λ ne. facts.place (λ e. key_edition (sym at ∙ e)); slot = λ e. absurd (cc); head_small = facts.head_small; slot_small = facts.slot_small; next_small = facts.next_small }
-      pick false = record { place = λ ne. inr (w.slot, facts.slot at, refl); slot = λ e. absurd (cc); head_small = facts.head_small; slot_small = facts.slot_small; next_small = facts.next_small }
+      pick true = record { place = λ ne. facts.place (λ e. key_edition (sym at ∙ e)); slot = λ e. facts.slot (inl at); head_small = facts.head_small; slot_small = facts.slot_small; next_small = facts.next_small }
+      pick false = record { place = λ ne. inr (w.slot, facts.slot (inl at), refl); slot = λ e. facts.slot (inl at); head_small = facts.head_small; slot_small = facts.slot_small; next_small = facts.next_small }
   facts_fed all b op w AtValue p word i facts at want h = record {
     place = λ ne. facts.place (λ e. value_edition (sym at ∙ e));
-    slot = λ e. absurd (no_key (is_del op) e);
+    slot = λ e. facts.slot (inr (inl at));
     head_small = facts.head_small;
     slot_small = facts.slot_small;
     next_small = facts.next_small;
@@ -96,13 +117,9 @@ module _ (buckets : ℕ) (bucket : ℕ → ℕ) (small : (key : ℕ) → bucket 
     where
       value_edition : AtValue ≡ AtEdition → ⊥
       value_edition e = cc
-
-      no_key : (c : Bool) → cond c AtNext AtLock ≡ AtKey → ⊥
-      no_key true e = cc
-      no_key false e = cc
   facts_fed all b op w AtNext p word i facts at want h = record {
     place = λ ne. facts.place (λ e. next_edition (sym at ∙ e));
-    slot = λ e. absurd (cc);
+    slot = λ e. facts.slot (inr (inr (inl at)));
     head_small = facts.head_small;
     slot_small = facts.slot_small;
     next_small = value_small word;
@@ -112,7 +129,7 @@ module _ (buckets : ℕ) (bucket : ℕ → ℕ) (small : (key : ℕ) → bucket 
       next_edition e = cc
   facts_fed all b op w AtLock p word i facts at want h = record {
     place = λ ne. facts.place (λ e. lock_edition (sym at ∙ e));
-    slot = λ e. absurd (no_key (is_free word && not (is_spent b.version_max word)) e);
+    slot = λ e. facts.slot (inr (inr (inr (found (is_free word && not (is_spent b.version_max word)) e))));
     head_small = facts.head_small;
     slot_small = facts.slot_small;
     next_small = facts.next_small;
@@ -121,9 +138,20 @@ module _ (buckets : ℕ) (bucket : ℕ → ℕ) (small : (key : ℕ) → bucket 
       lock_edition : AtLock ≡ AtEdition → ⊥
       lock_edition e = cc
 
-      no_key : (c : Bool) → cond c AtEnd Refused ≡ AtKey → ⊥
-      no_key true e = cc
-      no_key false e = cc
+      found : (c : Bool) → (cond c AtEnd Refused ≡ AtKey) ⊎ (cond c AtEnd Refused ≡ AtValue) ⊎ (cond c AtEnd Refused ≡ AtNext) ⊎ (w.found ≡ true) → w.found ≡ true
+      found c e = ⊎_elim (λ key. absurd (no_key c key)) (⊎_elim (λ value. absurd (no_value c value)) (⊎_elim (λ next. absurd (no_next c next)) (λ found. found))) e
+        where
+          no_key : (c : Bool) → cond c AtEnd Refused ≡ AtKey → ⊥
+          no_key true e = cc
+          no_key false e = cc
+
+          no_value : (c : Bool) → cond c AtEnd Refused ≡ AtValue → ⊥
+          no_value true e = cc
+          no_value false e = cc
+
+          no_next : (c : Bool) → cond c AtEnd Refused ≡ AtNext → ⊥
+          no_next true e = cc
+          no_next false e = cc
   facts_fed all b op w AtEnd p word i facts at want h = absurd (none-some p want)
   facts_fed all b op w Refused p word i facts at want h = absurd (none-some p want)
 
@@ -143,4 +171,4 @@ module _ (buckets : ℕ) (bucket : ℕ → ℕ) (small : (key : ℕ) → bucket 
 
   pub walk_facts : (b : Bounds) (op : Op) (readings : Readings) → WalkFacts readings op (walk buckets bucket b op start readings)
   walk_facts b op readings = facts_walked readings b op start readings (λ i reading h. (i, h))
-      (record { place = λ ne. absurd (ne refl); slot = λ e. absurd (cc); head_small = omega arith; slot_small = omega arith; next_small = omega arith })
+      (record { place = λ ne. absurd (ne refl); slot = λ e. ⊎_elim (λ key. absurd (let is = key in cc)) (⊎_elim (λ value. absurd (let is = value in cc)) (⊎_elim (λ next. absurd (let is = next in cc)) (λ found. absurd (let is = found in cc)))) e; head_small = omega arith; slot_small = omega arith; next_small = omega arith })

@@ -6,7 +6,8 @@ use Rattle.map_history.specs.declared.op.Op.{Op}
 use Rattle.map_history.specs.Keys.{key_of}
 use Rattle.map_history.specs.Replay.{Pairs}
 use Rattle.body_terms.specs.Word.{value_of}
-use Rattle.section_body.specs.Bucket.{bucket_index, bucket_lock, bucket_edition, bucket_head, operand, fits_read, fits_insert, fits_remove, read_steps, insert_steps, remove_steps, bucket_steps}
+use Rattle.section_body.specs.Bucket.{bucket_index, bucket_lock, bucket_edition, bucket_head, operand, fits_read, fits_insert, fits_remove, read_steps, insert_steps, remove_steps}
+use Rattle.bucket_bodies.specs.Table.{fits_set, set_steps, table_steps}
 use Rattle.body_terms.specs.declared.step.Step.{Step}
 use Rattle.body_terms.specs.declared.thunk.Thunk.{Thunk}
 use Rattle.table_words.specs.declared.layout.Layout.{Layout}
@@ -16,30 +17,35 @@ use Rattle.structure_laws.specs.Meaning.{Meaning}
 use Rattle.bucket_laws.specs.Chain.{Nodes, Chains, Contents}
 use Rattle.bucket_laws.specs.Walk.{Stage, AtEdition, AtLink, AtKey, AtValue, AtNext, AtLock, AtEnd, Refused, Walk, start, is_del, Bounds, cell_at, walk, fits_walk}
 
--- what a thunk's section does: it reads alone, puts a new node at a head, takes a node out, or has no body
+-- what a thunk's section does: it reads alone, puts a new node at a head, takes a node out, sets the value of one, or
+-- has no body
 pub data Form : Type 0 where
   Read : Form
   Insert : Form
   Remove : Form
+  Set : Form
   Empty : Form
 
 abbrev pub form_of : Thunk → Form
 form_of t =
-    cond (t.form == 1) (cond (fits_read t) Read Empty)
+    cond (t.form == 4) (cond (fits_set t) Set Empty)
+    (cond (t.form == 1) (cond (fits_read t) Read Empty)
     (cond (t.form == 2) (cond (fits_insert t) Insert Empty)
     (cond (t.form == 3) (cond (fits_remove t) Remove Empty)
-    Empty))
+    Empty)))
 
 abbrev pub body_of : Form → Thunk → List Step
 body_of Read t = read_steps t
 body_of Insert t = insert_steps t
 body_of Remove t = remove_steps t
+body_of Set t = set_steps t
 body_of Empty t = []
 
--- the section has changed its chain and not yet its edition
+-- the section has changed its chain, or a value in it, and not yet its edition
 abbrev pub IsPending : Section → ℕ → Type 0
 IsPending x i = (x.thunk.lock ≡ bucket_lock i)
-    × (((form_of x.thunk ≡ Insert) × (x.at ≡ 8)) ⊎ ((form_of x.thunk ≡ Remove) × (x.at ≡ 7)))
+    × (((form_of x.thunk ≡ Insert) × (x.at ≡ 8)) ⊎ ((form_of x.thunk ≡ Remove) × (x.at ≡ 7))
+    ⊎ ((form_of x.thunk ≡ Set) × (x.at ≡ 7)))
 
 module _ (buckets : ℕ) (bucket : ℕ → ℕ) where
   -- the links of the chains
@@ -67,6 +73,10 @@ module _ (buckets : ℕ) (bucket : ℕ → ℕ) where
   -- this place is a link of the chain of bucket i
   abbrev pub IsLinkOf : Cells → (ℕ → Bool) → ℕ → ℕ → Type 0
   IsLinkOf cells on i p = (p ≡ bucket_head i) ⊎ ((t : ℕ) × IsNode cells on i t × (p ≡ cell_at buckets bucket t 3))
+
+  -- this place is the cell of a value in the chain of bucket i
+  abbrev pub IsValueOf : Cells → (ℕ → Bool) → ℕ → ℕ → Type 0
+  IsValueOf cells on i p = (t : ℕ) × IsNode cells on i t × (p ≡ cell_at buckets bucket t 2)
 
   -- a node with this key stands at this link or behind it
   abbrev pub IsAhead : Cells → (ℕ → Bool) → (ℕ → ℕ) → ℕ → ℕ → Type 0
@@ -153,6 +163,8 @@ module _ (buckets : ℕ) (bucket : ℕ → ℕ) where
         → IsMade s on x
     pub linked : (d : ℕ) (x : Section) → s.section d ≡ Some x → form_of x.thunk ≡ Remove → 3 ≤ x.at
         → IsLinkOf s.cells on (bucket (key_of x.op)) (operand x.thunk 1)
+    pub valued : (d : ℕ) (x : Section) → s.section d ≡ Some x → form_of x.thunk ≡ Set → 3 ≤ x.at
+        → IsValueOf s.cells on (bucket (key_of x.op)) (operand x.thunk 1)
     pub taken : (d : ℕ) (x : Section) → s.section d ≡ Some x → form_of x.thunk ≡ Remove → 7 ≤ x.at → x.at ≤ 8
         → IsTaken s on x
     -- a live slot stands in a chain, or is a section's new node, or one that it has taken out
@@ -186,7 +198,7 @@ module _ (buckets : ℕ) (bucket : ℕ → ℕ) where
     fixed_slots = 0;
     first_value = λ place. 0;
     is_lock = λ place. nat_lt place (3 * buckets) && (place % 3 == 0);
-    body = bucket_steps;
+    body = table_steps;
     reaches = λ readings slot. list_any (λ reading. is_link_place reading.0 && (value_of reading.1 == suc slot))
         readings;
     fits = λ layout op readings thunk. fits_walk buckets bucket op (walk_of layout op readings) thunk;

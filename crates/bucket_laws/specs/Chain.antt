@@ -15,6 +15,9 @@ with_head n bucket link = record n { head = upd n.head bucket link }
 abbrev pub with_next : Nodes → ℕ → ℕ → Nodes
 with_next n slot link = record n { next = upd n.next slot link }
 
+abbrev pub with_value : Nodes → ℕ → ℕ → Nodes
+with_value n slot value = record n { value = upd n.value slot value }
+
 module _ (bucket : ℕ → ℕ) where
   -- the keys of the two slots are of one bucket
   abbrev pub IsBeside : Nodes → ℕ → ℕ → Type 0

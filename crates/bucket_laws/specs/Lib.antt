@@ -2,3 +2,5 @@ pub mod Chain
 pub mod Walk
 pub mod Buckets
 pub mod Short
+-- Passed on to the layers above, so that they needn't name this library themselves.
+pub use Rattle.bucket_bodies

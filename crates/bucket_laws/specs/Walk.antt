@@ -1,8 +1,8 @@
 -- The walk of a key through its bucket, read off a list of readings, and the thunk that is the one for it.
-use Rattle.std.specs.Prelude.{ℕ, suc, ◌+◌, ◌*◌, ◌-◌, ◌^◌, Bool, true, false, cond, not, ◌&&◌, ◌==◌, nat_le, List, [], ◌∷◌, Option, None, Some}
+use Rattle.std.specs.Prelude.{ℕ, suc, ◌+◌, ◌*◌, ◌-◌, ◌^◌, Bool, true, false, cond, not, ◌&&◌, ◌==◌, nat_le, is_none, List, [], ◌∷◌, Option, None, Some}
 use Rattle.map_history.specs.declared.op.Op.{Op}
 use Rattle.map_history.specs.declared.op.Op.TheVariants.{Get, Ins, Del, Put, Mov}
-use Rattle.map_history.specs.Keys.{key_of, is_format_1}
+use Rattle.map_history.specs.Keys.{key_of, other_key_of}
 use Rattle.body_terms.specs.Memory.{cell_of}
 use Rattle.body_terms.specs.Word.{value_of, is_free, is_spent}
 use Rattle.section_body.specs.Bucket.{bucket_lock, bucket_edition, bucket_head}
@@ -82,6 +82,10 @@ pub record Bounds : Type 0 where
   pub links : ℕ
   pub version_max : ℕ
 
+-- the table has thunks for operations with one key
+abbrev pub has_one_key : Op → Bool
+has_one_key op = is_none (other_key_of op)
+
 -- the form of the thunk for a whole walk; 0 where the table doesn't serve the operation
 abbrev pub form_for : Op → Bool → ℕ
 form_for (Get key) found = 1
@@ -89,19 +93,22 @@ form_for (Ins key value) true = 1
 form_for (Ins key value) false = 2
 form_for (Del key) true = 3
 form_for (Del key) false = 1
-form_for (Put key value) found = 0
+form_for (Put key value) true = 4
+form_for (Put key value) false = 2
 form_for (Mov from to) found = 0
 
--- its operands
-abbrev pub operands_for : Op → Walk → Bool → List ℕ
-operands_for (Get key) w true = w.edition ∷ (3 * 2 ^ 32 + w.value) ∷ 0 ∷ 0 ∷ 0 ∷ 0 ∷ 0 ∷ 0 ∷ []
-operands_for (Get key) w false = w.edition ∷ 5 * 2 ^ 32 ∷ 0 ∷ 0 ∷ 0 ∷ 0 ∷ 0 ∷ 0 ∷ []
-operands_for (Ins key value) w true = w.edition ∷ 2 * 2 ^ 32 ∷ 0 ∷ 0 ∷ 0 ∷ 0 ∷ 0 ∷ 0 ∷ []
-operands_for (Ins key value) w false = w.edition ∷ key ∷ value ∷ w.head ∷ 0 ∷ 0 ∷ 0 ∷ 0 ∷ []
-operands_for (Del key) w true = w.edition ∷ w.place ∷ w.slot ∷ w.next ∷ 0 ∷ 0 ∷ 0 ∷ 0 ∷ []
-operands_for (Del key) w false = w.edition ∷ 5 * 2 ^ 32 ∷ 0 ∷ 0 ∷ 0 ∷ 0 ∷ 0 ∷ 0 ∷ []
-operands_for (Put key value) w found = w.edition ∷ 0 ∷ 0 ∷ 0 ∷ 0 ∷ 0 ∷ 0 ∷ 0 ∷ []
-operands_for (Mov from to) w found = w.edition ∷ 0 ∷ 0 ∷ 0 ∷ 0 ∷ 0 ∷ 0 ∷ 0 ∷ []
+-- its operands, in a table of so many buckets
+abbrev pub operands_for : ℕ → Op → Walk → Bool → List ℕ
+operands_for buckets (Get key) w true = w.edition ∷ (3 * 2 ^ 32 + w.value) ∷ 0 ∷ 0 ∷ 0 ∷ 0 ∷ 0 ∷ 0 ∷ []
+operands_for buckets (Get key) w false = w.edition ∷ 5 * 2 ^ 32 ∷ 0 ∷ 0 ∷ 0 ∷ 0 ∷ 0 ∷ 0 ∷ []
+operands_for buckets (Ins key value) w true = w.edition ∷ 2 * 2 ^ 32 ∷ 0 ∷ 0 ∷ 0 ∷ 0 ∷ 0 ∷ 0 ∷ []
+operands_for buckets (Ins key value) w false = w.edition ∷ key ∷ value ∷ w.head ∷ 0 ∷ 0 ∷ 0 ∷ 0 ∷ []
+operands_for buckets (Del key) w true = w.edition ∷ w.place ∷ w.slot ∷ w.next ∷ 0 ∷ 0 ∷ 0 ∷ 0 ∷ []
+operands_for buckets (Del key) w false = w.edition ∷ 5 * 2 ^ 32 ∷ 0 ∷ 0 ∷ 0 ∷ 0 ∷ 0 ∷ 0 ∷ []
+operands_for buckets (Put key value) w true =
+    w.edition ∷ cell_of (3 * buckets) w.slot 2 ∷ value ∷ (6 * 2 ^ 32 + w.value) ∷ 0 ∷ 0 ∷ 0 ∷ 0 ∷ []
+operands_for buckets (Put key value) w false = w.edition ∷ key ∷ value ∷ w.head ∷ 0 ∷ 0 ∷ 0 ∷ 0 ∷ []
+operands_for buckets (Mov from to) w found = w.edition ∷ 0 ∷ 0 ∷ 0 ∷ 0 ∷ 0 ∷ 0 ∷ 0 ∷ []
 
 module _ (buckets : ℕ) (bucket : ℕ → ℕ) where
   abbrev pub cell_at : ℕ → ℕ → ℕ
@@ -149,9 +156,9 @@ module _ (buckets : ℕ) (bucket : ℕ → ℕ) where
   walk b op w (reading ∷ readings) = cond (is_wanted (wanted_at (bucket (key_of op)) w w.stage) reading.0)
       (walk b op (fed b op w w.stage reading.1) readings) w
 
-  -- the operation is served, the walk is whole and met no refusal, and the thunk is the one for it
+  -- the operation has one key, the walk is whole and met no refusal, and the thunk is the one for it
   abbrev pub fits_walk : Op → Walk → Thunk → Bool
-  fits_walk op w thunk = is_format_1 op && (is_end w.stage &&
+  fits_walk op w thunk = has_one_key op && (is_end w.stage &&
       ((thunk.form == form_for op w.found) &&
       ((thunk.lock == bucket_lock (bucket (key_of op))) &&
-      ((thunk.word == w.word) && same_numbers thunk.operands (operands_for op w w.found)))))
+      ((thunk.word == w.word) && same_numbers thunk.operands (operands_for buckets op w w.found)))))

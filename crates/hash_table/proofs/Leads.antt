@@ -7,14 +7,14 @@ use Rattle.small_lemmas.proofs.Lists.{same_number as some_eq}
 use Rattle.small_lemmas.proofs.Numbers.{self_tested as self}
 use Rattle.map_history.specs.declared.op.Op.{Op}
 use Rattle.map_history.specs.declared.op.Op.TheVariants.{Get, Ins, Del, Put, Mov}
-use Rattle.map_history.specs.Keys.{key_of, is_format_1}
+use Rattle.map_history.specs.Keys.{key_of}
 use Rattle.body_terms.specs.Word.{value_of, is_free, is_spent}
 use Rattle.section_body.specs.Bucket.{bucket_index, bucket_lock, bucket_edition}
 use Rattle.table_words.specs.declared.layout.Layout.{Layout}
 use Rattle.table_words.specs.Places.{slot_count}
 use Rattle.structure_laws.specs.Scene.{Readings}
 use Rattle.runner_parts.specs.Tests.{is_readable}
-use Rattle.bucket_laws.specs.Walk.{Stage, AtEdition, AtLink, AtKey, AtValue, AtNext, AtLock, AtEnd, Refused, Walk, is_del, is_end, same_numbers, Bounds, cell_at, wanted_at, fed, form_for, operands_for, fits_walk}
+use Rattle.bucket_laws.specs.Walk.{Stage, AtEdition, AtLink, AtKey, AtValue, AtNext, AtLock, AtEnd, Refused, Walk, is_del, has_one_key, is_end, same_numbers, Bounds, cell_at, wanted_at, fed, form_for, operands_for, fits_walk}
 use Rattle.bucket_laws.specs.Buckets.{buckets_meaning, table, bounds, is_link_place, LinksWithin}
 use Rattle.bucket_laws.proofs.Places.{third, slot_at, lt_true, lt_false, eq_true, eq_false}
 use Rattle.bucket_laws.proofs.TableLaws.{bucket_small}
@@ -204,20 +204,21 @@ module _ (bits : ℕ) (few : bits ≤ 12) (layout : Layout) (op : Op) where
   ends_at w AtEnd wants goes = refl
   ends_at w Refused wants goes = absurd (cc)
 
-  fits_so : is_format_1 op ≡ true → (w : Walk) (number : ℕ) → w.stage ≡ AtEnd → fits_walk (2 ^ bits) hash op w (thunk_by (record first { walk = w }) number) ≡ true
-  fits_so served w number at = (λ i. served i && (is_end (at i) && (self (form_for op w.found) i && (self (bucket_lock (hash (key_of op))) i && (self w.word i && same_self (operands_for op w w.found) i)))))
+  fits_so : has_one_key op ≡ true → (w : Walk) (number : ℕ) → w.stage ≡ AtEnd → fits_walk (2 ^ bits) hash op w (thunk_by (record first { walk = w }) number) ≡ true
+  fits_so served w number at = (λ i. served i && (is_end (at i) && (self (form_for op w.found) i && (self (bucket_lock (hash (key_of op))) i && (self w.word i && same_self (operands_for (2 ^ bits) op w w.found) i)))))
 
-  eight : (o : Op) (w : Walk) (found : Bool) → length (operands_for o w found) ≡ 8
+  eight : (o : Op) (w : Walk) (found : Bool) → length (operands_for (2 ^ bits) o w found) ≡ 8
   eight (Get key) w true = refl
   eight (Get key) w false = refl
   eight (Ins key value) w true = refl
   eight (Ins key value) w false = refl
   eight (Del key) w true = refl
   eight (Del key) w false = refl
-  eight (Put key value) w found = refl
+  eight (Put key value) w true = refl
+  eight (Put key value) w false = refl
   eight (Mov from to) w found = refl
 
-  thunk_for : is_format_1 op ≡ true → (number : ℕ) (readings : Readings) → wanted_at (2 ^ bits) hash (hash (key_of op)) (walk_in bits layout op readings) (walk_in bits layout op readings).stage ≡ None
+  thunk_for : has_one_key op ≡ true → (number : ℕ) (readings : Readings) → wanted_at (2 ^ bits) hash (hash (key_of op)) (walk_in bits layout op readings) (walk_in bits layout op readings).stage ≡ None
       → is_refused_at (walk_in bits layout op readings).stage ≡ false
       → IsThunkFor bucket_way (buckets_meaning bits) layout first number readings (thunk_by (record first { walk = walk_in bits layout op readings }) number)
   thunk_for served number readings wants goes =
@@ -233,7 +234,7 @@ module _ (bits : ℕ) (few : bits ≤ 12) (layout : Layout) (op : Op) where
         read = known.2;
       }
 
-  pub leads : is_format_1 op ≡ true → Leads bucket_way (buckets_meaning bits) layout first
+  pub leads : has_one_key op ≡ true → Leads bucket_way (buckets_meaning bits) layout first
   leads served = record {
     begins = (bucket_edition (hash (key_of op)), refl);
     shorter = walk_nearer;

@@ -84,5 +84,5 @@ thunk_by w number = record {
   request = number;
   lock = bucket_lock (bucket_by w);
   word = w.walk.word;
-  operands = operands_for w.op w.walk w.walk.found;
+  operands = operands_for (2 ^ w.bits) w.op w.walk w.walk.found;
 }

@@ -8,9 +8,9 @@ ghost use Rattle.hash_table.specs.Walking.{begun};
 
 use crate::walk::BucketWalk;
 use body_terms::{Body, Place, Thunk, Word};
+use bucket_laws::bucket_bodies::{table_body, table_body_in};
 use lock_walks::follow;
 use map_history::Op;
-use section_body::{bucket_body, bucket_body_in};
 use structure_laws::Structure;
 use table_words::Layout;
 
@@ -94,11 +94,11 @@ impl Structure for HashTable {
     }
 
     fn body(&self, thunk: &Thunk) -> Body {
-        bucket_body(thunk)
+        table_body(thunk)
     }
 
     fn body_in(&self, thunk: &Thunk, body: &mut Body) {
-        bucket_body_in(thunk, body);
+        table_body_in(thunk, body);
     }
 
     fn reaches(&self, readings: &[(Place, Word)], slot: u32) -> bool {

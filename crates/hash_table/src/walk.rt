@@ -245,12 +245,12 @@ impl BucketWalk {
         self.stage == Stage::Refused
     }
 
-    /// Whether the operation is served, the walk is whole, and this is the thunk for it.
+    /// Whether the operation has one key, the walk is whole, and this is the thunk for it.
     pub fn fits(&self, thunk: &Thunk) -> bool
         ensures { result ≡ fits_walk (2 ^ self.now.bits) (λ key. bucket_index key self.now.bits)
             self.now.op self.now.walk thunk.now }
     {
-        self.op.least_format() == 1
+        self.op.other_key().is_none()
             && self.stage == Stage::End
             && thunk.form == self.form()
             && thunk.lock == self.lock()
@@ -271,28 +271,29 @@ impl BucketWalk {
         }
     }
 
-    /// The form of the section's body: one that reads alone, that puts a node in, or that takes one out. An operation
-    /// that isn't served has none.
+    /// The form of the section's body: one that reads alone, that puts a node in, that takes one out, or that sets the
+    /// value of one. An operation with a second key has none.
     fn form(&self) -> u64
         ensures { result ≡ form_for self.now.op self.now.walk.found }
     {
         match (self.op, self.found) {
-            (Op::Ins(_, _), false) => 2,
+            (Op::Ins(_, _) | Op::Put(_, _), false) => 2,
             (Op::Del(_), true) => 3,
-            (Op::Put(_, _) | Op::Mov(_, _), _) => 0,
+            (Op::Put(_, _), true) => 4,
+            (Op::Mov(_, _), _) => 0,
             _ => 1,
         }
     }
 
     /// The operands of the section's body.
     fn operands(&self) -> [u64; 8]
-        ensures { result ≡ operands_for self.now.op self.now.walk self.now.walk.found }
+        ensures { result ≡ operands_for (2 ^ self.now.bits) self.now.op self.now.walk self.now.walk.found }
     {
         let edition = self.edition.bits();
         match (self.op, self.found) {
             (Op::Get(_), true) => read(edition, Reply::Val(self.value)),
             (Op::Ins(_, _), true) => read(edition, Reply::Dup),
-            (Op::Ins(key, value), false) => [
+            (Op::Ins(key, value) | Op::Put(key, value), false) => [
                 edition,
                 u64::from(key),
                 u64::from(value),
@@ -313,7 +314,17 @@ impl BucketWalk {
                 0,
             ],
             (Op::Get(_) | Op::Del(_), false) => read(edition, Reply::Absent),
-            (Op::Put(_, _) | Op::Mov(_, _), _) => [edition, 0, 0, 0, 0, 0, 0, 0],
+            (Op::Put(_, value), true) => [
+                edition,
+                self.cell(2),
+                u64::from(value),
+                Reply::Was(self.value).word(),
+                0,
+                0,
+                0,
+                0,
+            ],
+            (Op::Mov(_, _), _) => [edition, 0, 0, 0, 0, 0, 0, 0],
         }
     }
 }

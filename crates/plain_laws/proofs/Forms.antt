@@ -1,4 +1,4 @@
--- The runs of the hash table's three bodies.
+-- The runs of the hash table's four bodies.
 use Rattle.std.proofs.Common.{◌≡◌, ◌≢◌, ℕ, ◌+◌, ◌*◌, List, [], ◌∷◌, refl, sym, ap, subst, arith, Some, None}
 use Rattle.std.specs.Prelude.{true, false, cond, ◌==◌, ◌^◌}
 use Rattle.std.proofs.lemmas.Bool.Decides.{nat_tests}
@@ -6,6 +6,7 @@ use Rattle.body_terms.specs.Update.{upd}
 use Rattle.body_terms.specs.Word.{value_of, version_of, next_word}
 use Rattle.body_terms.specs.Memory.{cell_of}
 use Rattle.section_body.specs.Bucket.{operand, read_steps, insert_steps, remove_steps}
+use Rattle.tree_laws.specs.bucket_laws.specs.bucket_bodies.specs.Table.{set_steps}
 use Rattle.body_terms.specs.Line.{line}
 use Rattle.body_terms.specs.Run.{Setting, Run, ran, exchanged}
 use Rattle.body_terms.specs.declared.outcome.Outcome.TheVariants.{Answered, Stale, Spent}
@@ -58,6 +59,9 @@ module _ (s : Setting) (cells : ℕ → ℕ) (clock stamp reply : ℕ) (t : Thun
   abbrev pub removed_cells : ℕ → ℕ
   removed_cells = exchanged (exchanged cells (operand t 1) link (next_word link (operand t 3))) (t.lock + 1) edition (next_word edition 0)
 
+  abbrev pub set_cells : ℕ → ℕ
+  set_cells = exchanged (exchanged cells (operand t 1) link (next_word link (operand t 2))) (t.lock + 1) edition (next_word edition 0)
+
   pub read_run : edition ≡ operand t 0 → Ends (operand t 1) cells (ran s begun (line (read_steps t)))
   read_run same =
       subst (λ o. Ends (operand t 1) cells (ran s (record begun { trail = edition ∷ []; outcome = o }) (ClockLoad ∷ StampExchange ∷ ClockRaise ∷ ReplyExchange (operand t 1) ∷ [])))
@@ -91,3 +95,16 @@ module _ (s : Setting) (cells : ℕ → ℕ) (clock stamp reply : ℕ) (t : Thun
       (sym (fresh_passes (t.lock + 1) edition s.version_max unspent))
       (subst (λ o. Ends (4 * 2 ^ 32) removed_cells (ran s (record begun { trail = edition ∷ link ∷ []; outcome = o }) taken_out))
       (sym (fresh_passes (operand t 1) link s.version_max unspent_link)) (record { answered = refl; left = refl })))
+
+  abbrev valued : List Micro
+  valued =
+      ClockLoad ∷ StampExchange ∷ ClockRaise ∷ ExchangeCell (operand t 1) 1 (Fixed (operand t 2)) ∷ ExchangeCell (t.lock + 1) 0 (Fixed 0) ∷ ReplyExchange (operand t 3) ∷ []
+
+  pub set_run : edition ≡ operand t 0 → version_of edition ≢ s.version_max → version_of link ≢ s.version_max → Ends (operand t 3) set_cells (ran s begun (line (set_steps t)))
+  set_run same unspent unspent_value =
+      subst (λ o. Ends (operand t 3) set_cells (ran s (record begun { trail = edition ∷ []; outcome = o }) (CheckFresh (t.lock + 1) 0 ∷ LoadCell (operand t 1) 1 ∷ Commit (operand t 1) 1 ∷ CheckFresh (operand t 1) 1 ∷ valued)))
+      (sym (word_passes (t.lock + 1) (operand t 0) edition same))
+      (subst (λ o. Ends (operand t 3) set_cells (ran s (record begun { trail = edition ∷ []; outcome = o }) (LoadCell (operand t 1) 1 ∷ Commit (operand t 1) 1 ∷ CheckFresh (operand t 1) 1 ∷ valued)))
+      (sym (fresh_passes (t.lock + 1) edition s.version_max unspent))
+      (subst (λ o. Ends (operand t 3) set_cells (ran s (record begun { trail = edition ∷ link ∷ []; outcome = o }) valued))
+      (sym (fresh_passes (operand t 1) link s.version_max unspent_value)) (record { answered = refl; left = refl })))

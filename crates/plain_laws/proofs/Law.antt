@@ -9,13 +9,14 @@ use Rattle.std.proofs.lemmas.Option.{none-some}
 use Rattle.small_lemmas.proofs.Lists.{none_if_never as none_is}
 use Rattle.small_lemmas.proofs.Numbers.{equal_tested as equal_number, other_tested as other_number}
 use Rattle.map_history.specs.declared.op.Op.{Op}
-use Rattle.map_history.specs.declared.op.Op.TheVariants.{Ins}
+use Rattle.map_history.specs.declared.op.Op.TheVariants.{Put}
 use Rattle.map_history.specs.Keys.{key_of, value_given}
 use Rattle.map_history.specs.Replay.{Pairs, map_after}
 use Rattle.body_terms.specs.Update.{upd}
 use Rattle.body_terms.specs.Word.{value_of, next_word}
 use Rattle.body_terms.specs.Memory.{PlainMemory, cell_of}
 use Rattle.section_body.specs.Bucket.{bucket_index, bucket_edition, bucket_head, operand, is_small, fits_read, fits_insert, fits_remove, read_steps, insert_steps, remove_steps, bucket_steps}
+use Rattle.tree_laws.specs.bucket_laws.specs.bucket_bodies.specs.Table.{fits_set, set_steps, table_steps}
 use Rattle.body_terms.specs.Run.{exchanged}
 use Rattle.body_terms.specs.Plain.{plain_setting, plain_run}
 use Rattle.body_terms.specs.declared.outcome.Outcome.TheVariants.{Answered}
@@ -23,19 +24,18 @@ use Rattle.body_terms.specs.declared.step.Step.{Step}
 use Rattle.body_terms.specs.declared.thunk.Thunk.{Thunk}
 use Rattle.structure_laws.specs.Scene.{Readings}
 use Rattle.structure_laws.proofs.Changes.{upd_same, upd_other, value-next_word, value_small}
-use Rattle.tree_laws.specs.bucket_laws.specs.Chain.{Nodes, with_head, with_next, Chains, Contents}
+use Rattle.tree_laws.specs.bucket_laws.specs.Chain.{Nodes, with_head, with_next, with_value, Chains, Contents}
 use Rattle.tree_laws.specs.bucket_laws.specs.Walk.{Walk, Bounds, Stage, AtEdition, AtEnd, start, walk, fed, wanted_at, is_wanted, is_del, cell_at, form_for}
 use Rattle.tree_laws.specs.bucket_laws.specs.Buckets.{nodes, BucketsStand, Knows, IsFound, IsMissing}
-use Rattle.tree_laws.specs.bucket_laws.proofs.Chain.{insert, remove_first, remove_next, insert_contents, remove_contents}
-use Rattle.tree_laws.specs.bucket_laws.proofs.Fit.{IsFit, fit_of, insert_operands, remove_operands}
-use Rattle.tree_laws.specs.bucket_laws.proofs.Maps.{read_reply, insert_reply, remove_reply, read_map, insert_map, remove_map}
-use Rattle.tree_laws.specs.bucket_laws.proofs.NodeChanges.{head_changed, next_changed, none_changed}
-use Rattle.tree_laws.specs.bucket_laws.proofs.TableKeeps.{chains_agree}
+use Rattle.tree_laws.specs.bucket_laws.proofs.Chain.{insert, remove_first, remove_next, chains_agree, insert_contents, remove_contents, set_contents}
+use Rattle.tree_laws.specs.bucket_laws.proofs.Fit.{IsFit, PutsIn, fit_of, puts_given, insert_operands, remove_operands, set_operands}
+use Rattle.tree_laws.specs.bucket_laws.proofs.Maps.{read_reply, insert_reply, remove_reply, set_reply, read_map, insert_map, remove_map, set_map}
+use Rattle.tree_laws.specs.bucket_laws.proofs.NodeChanges.{head_changed, next_changed, value_changed, none_changed}
 use Rattle.tree_laws.specs.bucket_laws.proofs.TableLaws.{form_cases}
 use Rattle.tree_laws.specs.bucket_laws.proofs.TableTurn.{upd_within, upd_on}
 use Rattle.tree_laws.specs.bucket_laws.proofs.Walks.{wanted_eq, head_is, reached_on, knows_fed, is_first, edition_kept}
 use Rattle.plain_laws.specs.Runs.{cells_of, HasSmallNumbers, AreRead, bucket, HasContents, IsWalked, IsUnspent, IsOut, DoesTheOperation, RunsDoTheOperations}
-use Rattle.plain_laws.proofs.Forms.{filled_cells, inserted_cells, removed_cells, read_run, insert_run, remove_run}
+use Rattle.plain_laws.proofs.Forms.{filled_cells, inserted_cells, removed_cells, set_cells, read_run, insert_run, remove_run, set_run}
 
 -- contents go by what is looked up
 contents_same : (n : Nodes) (on : ℕ → Bool) (lookup lookup' : ℕ → Option ℕ) → Contents n on lookup → ((key : ℕ) → lookup key ≡ lookup' key) → Contents n on lookup'
@@ -76,6 +76,12 @@ all_true : (a b c d : Bool) → a ≡ true → b ≡ true → c ≡ true → d �
 all_true a b c d p q r t = rw (p, q, r, t) refl
 
 -- the body of each form
+kept_body : (t : Thunk) → t.form ≢ 4 → table_steps t ≡ bucket_steps t
+kept_body t ne = ap (λ b. cond b (cond (fits_set t) (set_steps t) []) (bucket_steps t)) (other_number t.form 4 ne)
+
+set_body : (t : Thunk) → t.form ≡ 4 → fits_set t ≡ true → table_steps t ≡ set_steps t
+set_body t form fits = ap (λ b. cond b (cond (fits_set t) (set_steps t) []) (bucket_steps t)) (equal_number t.form 4 form) ∙ ap (λ b. cond b (set_steps t) []) fits
+
 read_body : (t : Thunk) → t.form ≡ 1 → fits_read t ≡ true → bucket_steps t ≡ read_steps t
 read_body t form fits = ap (λ b. cond b (cond (fits_read t) (read_steps t) []) (cond (t.form == 2) (cond (fits_insert t) (insert_steps t) []) (cond (t.form == 3) (cond (fits_remove t) (remove_steps t) []) []))) (equal_number t.form 1 form) ∙ ap (λ b. cond b (read_steps t) []) fits
 
@@ -229,12 +235,12 @@ module _ (bits slots request : ℕ) (memory : PlainMemory) (pairs : Pairs) (op :
   Does steps = DoesTheOperation bits slots pairs op (plain_run steps request memory [])
 
   -- a body that reads alone
-  read_case : form_for op x.found ≡ 1 → Does (bucket_steps thunk)
+  read_case : form_for op x.found ≡ 1 → Does (table_steps thunk)
   read_case form =
       let small : fits_read thunk ≡ true = small_is (thunk.lock + 1) (let at = fit.lock in let low = own_low in let most = few in omega arith) in
       let ends = read_run (plain_setting (read_steps thunk) [] memory) cells memory.clock (slice_index memory.stamps request) (slice_index memory.replies request) thunk wanted in
-      subst Does (sym (read_body thunk (fit.form ∙ form) small)) (record {
-        answer = ends.answered ∙ ap (λ n. Some (Answered n)) (ap (λ ns. slice_index ns 1) fit.operands ∙ read_reply pairs op x x.found form looks_found looks_missing);
+      subst Does (sym (kept_body thunk (λ four. let own = fit.form ∙ form in omega arith) ∙ read_body thunk (fit.form ∙ form) small)) (record {
+        answer = ends.answered ∙ ap (λ n. Some (Answered n)) (ap (λ ns. slice_index ns 1) fit.operands ∙ read_reply (2 ^ bits) pairs op x x.found form looks_found looks_missing);
         contents = subst (λ f. BucketsStand (2 ^ bits) (bucket bits) slots f (map_after pairs op)) (sym ends.left) (record {
           on = stands.on;
           rank = stands.rank;
@@ -249,14 +255,14 @@ module _ (bits slots request : ℕ) (memory : PlainMemory) (pairs : Pairs) (op :
     abbrev t : ℕ
     t = slice_index memory.free 0
 
-    named : (key : ℕ) × (v : ℕ) × (op ≡ Ins key v) × (operand thunk 1 ≡ key) × (operand thunk 2 ≡ v) × (operand thunk 3 ≡ x.head)
-    named = (let n = (insert_operands op x x.found form).1 in (n.0, n.1, n.2, ap (λ ns. slice_index ns 1) fit.operands ∙ n.3, ap (λ ns. slice_index ns 2) fit.operands ∙ n.4, ap (λ ns. slice_index ns 3) fit.operands ∙ n.5))
+    named : (key : ℕ) × (v : ℕ) × PutsIn op key v × (operand thunk 1 ≡ key) × (operand thunk 2 ≡ v) × (operand thunk 3 ≡ x.head)
+    named = (let n = (insert_operands (2 ^ bits) op x x.found form).1 in (n.0, n.1, n.2, ap (λ ns. slice_index ns 1) fit.operands ∙ n.3, ap (λ ns. slice_index ns 2) fit.operands ∙ n.4, ap (λ ns. slice_index ns 3) fit.operands ∙ n.5))
 
     none : get pairs (key_of op) ≡ None
-    none = looks_missing (insert_operands op x x.found form).0
+    none = looks_missing (insert_operands (2 ^ bits) op x x.found form).0
 
     small_numbers : (named.0 < 2 ^ 32) × (named.1 < 2 ^ 32)
-    small_numbers = (numbers.keys named.0 (inl (ap key_of named.2)), numbers.value named.1 (ap value_given named.2))
+    small_numbers = (numbers.keys named.0 (inl named.2.0), numbers.value named.1 (puts_given op named.0 named.1 named.2))
 
     key_small : operand thunk 1 < 2 ^ 32
     key_small = subst (λ n. n < 2 ^ 32) (sym named.3) small_numbers.0
@@ -349,7 +355,7 @@ module _ (bits slots request : ℕ) (memory : PlainMemory) (pairs : Pairs) (op :
             upd_other (upd (upd (upd (upd f (place 0) a) (place 1) b) (place 2) c) (place 3) (word 3)) (place 4) (place 3) e r ∙ upd_same (upd (upd (upd f (place 0) a) (place 1) b) (place 2) c) (place 3) (place 3) (word 3) refl
 
     key_is : made.key t ≡ key_of op
-    key_is = made_key ∙ (named.3 ∙ ap key_of (sym named.2))
+    key_is = made_key ∙ (named.3 ∙ sym named.2.0)
 
     head_stays : made.head own ≡ value_of (cells (bucket_head own))
     head_stays = head_is (2 ^ bits) (bucket bits) (λ key. bucket_within bits key contents.few) filled (key_of op) ∙ ap value_of (low_stays (bucket_head own) (let low = own_low in omega arith))
@@ -401,17 +407,17 @@ module _ (bits slots request : ℕ) (memory : PlainMemory) (pairs : Pairs) (op :
           contents = contents_same (nodes (2 ^ bits) (bucket bits) after) (upd stands.on t true) (upd (get pairs) (made.key t) (Some (made.value t))) (get (map_after pairs op))
               (subst (λ n. Contents n (upd stands.on t true) (upd (get pairs) (made.key t) (Some (made.value t)))) nodes_after
               (insert_contents made stands.on (get pairs) contents_made own t out (ap (get pairs) key_is ∙ none)))
-              (λ q. ap (λ k. upd (get pairs) k (Some (made.value t)) q) (key_is ∙ ap key_of named.2) ∙ (ap (λ v. upd (get pairs) named.0 (Some v) q) (made_value ∙ named.4)
-              ∙ insert_map pairs op named.0 named.1 named.2 (ap (get pairs) (sym (ap key_of named.2)) ∙ none) q));
+              (λ q. ap (λ k. upd (get pairs) k (Some (made.value t)) q) (key_is ∙ named.2.0) ∙ (ap (λ v. upd (get pairs) named.0 (Some v) q) (made_value ∙ named.4)
+              ∙ insert_map pairs op named.0 named.1 named.2 (ap (get pairs) (sym named.2.0) ∙ none) q));
         }
 
-    insert_case : Does (bucket_steps thunk)
+    insert_case : Does (table_steps thunk)
     insert_case =
         let ends = insert_run (plain_setting (insert_steps thunk) [] memory) cells memory.clock (slice_index memory.stamps request) (slice_index memory.replies request) thunk wanted (unspent.edition (λ one. let own = fit.form ∙ form in omega arith)) (unspent.head (fit.form ∙ form)) in
         let written : inserted_cells (plain_setting (insert_steps thunk) [] memory) cells memory.clock (slice_index memory.stamps request) (slice_index memory.replies request) thunk ≡ after =
         exchanges_write filled (thunk.lock + 2) (thunk.lock + 1) (cells (thunk.lock + 2)) link_word (cells (thunk.lock + 1)) edition_word
         (low_stays (thunk.lock + 2) (let at = fit.lock in let low = own_low in omega arith)) (low_stays (thunk.lock + 1) (let at = fit.lock in let low = own_low in omega arith)) (λ e. omega arith) in
-        subst Does (sym (insert_body thunk (fit.form ∙ form) fits)) (record {
+        subst Does (sym (kept_body thunk (λ four. let own = fit.form ∙ form in omega arith) ∙ insert_body thunk (fit.form ∙ form) fits)) (record {
           answer = ends.answered ∙ ap (λ n. Some (Answered n)) (insert_reply pairs op x.found form none);
           contents = subst (λ f. BucketsStand (2 ^ bits) (bucket bits) slots f (map_after pairs op)) (sym (ends.left ∙ written)) stands_after;
         })
@@ -419,7 +425,7 @@ module _ (bits slots request : ℕ) (memory : PlainMemory) (pairs : Pairs) (op :
   -- a node taken out
   module _ (form : form_for op x.found ≡ 3) where
     removal : (x.found ≡ true) × ((is_del op ≡ true) × (operand thunk 1 ≡ x.place) × (operand thunk 2 ≡ x.slot) × (operand thunk 3 ≡ x.next))
-    removal = (let n = remove_operands op x x.found form in (n.0, (n.1.0, ap (λ ns. slice_index ns 1) fit.operands ∙ n.1.1, ap (λ ns. slice_index ns 2) fit.operands ∙ n.1.2, ap (λ ns. slice_index ns 3) fit.operands ∙ n.1.3)))
+    removal = (let n = remove_operands (2 ^ bits) op x x.found form in (n.0, (n.1.0, ap (λ ns. slice_index ns 1) fit.operands ∙ n.1.1, ap (λ ns. slice_index ns 2) fit.operands ∙ n.1.2, ap (λ ns. slice_index ns 3) fit.operands ∙ n.1.3)))
 
     found : IsFound (2 ^ bits) (bucket bits) cells stands.on op x
     found = known.1 removal.0
@@ -498,14 +504,76 @@ module _ (bits slots request : ℕ) (memory : PlainMemory) (pairs : Pairs) (op :
         refl refl (remove_next (bucket bits) here stands.on stands.rank stands.chains node.0 x.slot node.1.0 link))
         found.0.0
 
-    remove_case : Does (bucket_steps thunk)
+    remove_case : Does (table_steps thunk)
     remove_case =
         let ends = remove_run (plain_setting (remove_steps thunk) [] memory) cells memory.clock (slice_index memory.stamps request) (slice_index memory.replies request) thunk wanted (unspent.edition (λ one. let own = fit.form ∙ form in omega arith)) (unspent.link (fit.form ∙ form)) in
         let written : removed_cells (plain_setting (remove_steps thunk) [] memory) cells memory.clock (slice_index memory.stamps request) (slice_index memory.replies request) thunk ≡ left =
         exchanges_write cells (operand thunk 1) (thunk.lock + 1) (cells (operand thunk 1)) new_link (cells (thunk.lock + 1)) new_edition refl refl edition_apart in
-        subst Does (sym (remove_body thunk (fit.form ∙ form) removal_fits)) (record {
+        subst Does (sym (kept_body thunk (λ four. let own = fit.form ∙ form in omega arith) ∙ remove_body thunk (fit.form ∙ form) removal_fits)) (record {
           answer = ends.answered ∙ ap (λ n. Some (Answered n)) (remove_reply pairs op x.value removal.1.0 (looks_found removal.0));
           contents = subst (λ f. BucketsStand (2 ^ bits) (bucket bits) slots f (map_after pairs op)) (sym (ends.left ∙ written)) stands_left;
+        })
+
+  -- a node with a new value
+  module _ (form : form_for op x.found ≡ 4) where
+    setting : (x.found ≡ true) × (key v : ℕ) × (op ≡ Put key v) × (operand thunk 1 ≡ cell_at (2 ^ bits) (bucket bits) x.slot 2) × (operand thunk 2 ≡ v) × (operand thunk 3 ≡ 6 * 2 ^ 32 + x.value)
+    setting = (let n = set_operands (2 ^ bits) op x x.found form in
+        (n.0, n.1.0, n.1.1, n.1.2, ap (λ ns. slice_index ns 1) fit.operands ∙ n.1.3, ap (λ ns. slice_index ns 2) fit.operands ∙ n.1.4, ap (λ ns. slice_index ns 3) fit.operands ∙ n.1.5))
+
+    set_found : IsFound (2 ^ bits) (bucket bits) cells stands.on op x
+    set_found = known.1 setting.0
+
+    set_on : stands.on x.slot ≡ true
+    set_on = found_node set_found
+
+    set_small : operand thunk 2 < 2 ^ 32
+    set_small = (let low = numbers.value setting.2 (ap value_given setting.3) in let at = setting.5 in omega arith)
+
+    cell_small : operand thunk 1 < 2 ^ 32
+    cell_small = (let w = stands.within x.slot set_on in let f = contents.room in let p = contents.places in let at = setting.4 in omega arith)
+
+    set_fits : fits_set thunk ≡ true
+    set_fits = (λ i. small_is (thunk.lock + 1) (let at = fit.lock in let low = own_low in let most = few in omega arith) i && (small_is (operand thunk 1) cell_small i && small_is (operand thunk 2) set_small i))
+
+    abbrev new_word : ℕ
+    new_word = next_word (cells (operand thunk 1)) (operand thunk 2)
+
+    abbrev set_edition : ℕ
+    set_edition = next_word (cells (thunk.lock + 1)) 0
+
+    abbrev set_left : ℕ → ℕ
+    set_left = upd (upd cells (operand thunk 1) new_word) (thunk.lock + 1) set_edition
+
+    set_apart : thunk.lock + 1 ≢ operand thunk 1
+    set_apart same = (let at = edition_place in let p = setting.4 in let low = own_low in omega arith)
+
+    set_nodes : with_value here x.slot (operand thunk 2) ≡ nodes (2 ^ bits) (bucket bits) set_left
+    set_nodes = ap (with_value here x.slot) (sym (value-next_word (cells (operand thunk 1)) (operand thunk 2) set_small))
+        ∙ (value_changed (2 ^ bits) (bucket bits) cells x.slot new_word ∙ (ap (λ p. nodes (2 ^ bits) (bucket bits) (upd cells p new_word)) (sym setting.4)
+        ∙ none_changed (2 ^ bits) (bucket bits) (upd cells (operand thunk 1) new_word) (thunk.lock + 1) set_edition
+        (λ j low e. (let at = edition_place in omega arith)) (λ u k low high e. (let at = edition_place in let l = own_low in omega arith))))
+
+    set_stands : BucketsStand (2 ^ bits) (bucket bits) slots set_left (map_after pairs op)
+    set_stands = record {
+      on = stands.on;
+      rank = stands.rank;
+      within = stands.within;
+      chains = subst (λ n. Chains (bucket bits) n stands.on stands.rank) set_nodes
+          (chains_agree (bucket bits) here (with_value here x.slot (operand thunk 2)) stands.on stands.rank stands.chains (λ i. refl) (λ u on. refl) (λ u on. refl));
+      contents = contents_same (nodes (2 ^ bits) (bucket bits) set_left) stands.on (upd (get pairs) (here.key x.slot) (Some (operand thunk 2))) (get (map_after pairs op))
+          (subst (λ n. Contents n stands.on (upd (get pairs) (here.key x.slot) (Some (operand thunk 2)))) set_nodes
+          (set_contents here stands.on (get pairs) stands.contents x.slot (operand thunk 2) set_on (λ u on e. stands.chains.key_once u x.slot on set_on e)))
+          (λ q. ap (λ k. upd (get pairs) k (Some (operand thunk 2)) q) set_found.1 ∙ (ap (λ v. upd (get pairs) (key_of op) (Some v) q) setting.5 ∙ set_map pairs op setting.1 setting.2 setting.3 q));
+    }
+
+    set_case : Does (table_steps thunk)
+    set_case =
+        let ends = set_run (plain_setting (set_steps thunk) [] memory) cells memory.clock (slice_index memory.stamps request) (slice_index memory.replies request) thunk wanted (unspent.edition (λ one. let own = fit.form ∙ form in omega arith)) (unspent.value (fit.form ∙ form)) in
+        let written : set_cells (plain_setting (set_steps thunk) [] memory) cells memory.clock (slice_index memory.stamps request) (slice_index memory.replies request) thunk ≡ set_left =
+        exchanges_write cells (operand thunk 1) (thunk.lock + 1) (cells (operand thunk 1)) new_word (cells (thunk.lock + 1)) set_edition refl refl set_apart in
+        subst Does (sym (set_body thunk (fit.form ∙ form) set_fits)) (record {
+          answer = ends.answered ∙ ap (λ n. Some (Answered n)) (setting.6 ∙ set_reply pairs op setting.1 setting.2 x.value setting.3 (looks_found setting.0));
+          contents = subst (λ f. BucketsStand (2 ^ bits) (bucket bits) slots f (map_after pairs op)) (sym (ends.left ∙ written)) set_stands;
         })
 
 pub runs_do_the_operations : RunsDoTheOperations
@@ -516,5 +584,7 @@ runs_do_the_operations bits slots request memory pairs op thunk contents numbers
     (λ one. read_case bits slots request memory pairs op thunk contents numbers walked unspent one)
     (λ more. ⊎_elim
     (λ two. insert_case bits slots request memory pairs op thunk contents numbers walked unspent two (free (form ∙ two)))
-    (λ three. remove_case bits slots request memory pairs op thunk contents numbers walked unspent three) more)
-    (form_cases op walked_found (fit bits slots request memory pairs op thunk contents numbers walked unspent).served)
+    (λ last. ⊎_elim
+    (λ three. remove_case bits slots request memory pairs op thunk contents numbers walked unspent three)
+    (λ four. set_case bits slots request memory pairs op thunk contents numbers walked unspent four) last) more)
+    (form_cases op walked_found (fit bits slots request memory pairs op thunk contents numbers walked unspent).one)

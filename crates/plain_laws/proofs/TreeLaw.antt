@@ -25,6 +25,7 @@ use Rattle.structure_laws.specs.Scene.{Cells}
 use Rattle.structure_laws.specs.Sections.{IsAllowed}
 use Rattle.structure_laws.proofs.Changes.{upd_same, upd_other, value-next_word, value_small, equal_of}
 use Rattle.tree_laws.specs.bucket_laws.specs.Walk.{is_del}
+use Rattle.tree_laws.specs.bucket_laws.proofs.Fit.{puts_ins}
 use Rattle.tree_laws.specs.bucket_laws.proofs.Maps.{get_removed, insert_map, remove_map}
 use Rattle.plain_laws.specs.Runs.{cells_of}
 use Rattle.tree_laws.specs.tree_bodies.specs.Tree.{lock_of, key_cell, left_of, right_of, mark_of, child_of, slot_in, body_of, tree_steps, look_steps, delete_steps, parent_in, leaf_in, sibling_of, is_left, is_right, names_removed, fits_delete}
@@ -482,7 +483,7 @@ module _ (slots request : ℕ) (memory : PlainMemory) (pairs : Pairs) (op : Op) 
       contents = contents_same (nodes after) then_covers (upd (get pairs) (made.key f) (Some (made.child false f))) (get (map_after pairs op))
           (contents_alike (with_child made side a (suc t)) (nodes after) then_covers then_alike (upd (get pairs) (made.key f) (Some (made.child false f))) (kept.contents (get pairs) leaf_real made_contents))
           (λ q. (λ i. upd (get pairs) ((leaf_key ∙ number_at 3 numbers) i) (Some ((leaf_value ∙ number_at 4 numbers) i)) q)
-          ∙ insert_map pairs op is.0 is.1 is.2 (ap (get pairs) key_is ∙ missing_is is.3) q);
+          ∙ insert_map pairs op is.0 is.1 (puts_ins op is.0 is.1 is.2) (ap (get pairs) key_is ∙ missing_is is.3) q);
     }
 
     inner_same : (b : Bool) → cond b (inner_for true thunk) (inner_for false thunk) ≡ inner_for b thunk

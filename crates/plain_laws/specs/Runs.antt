@@ -6,12 +6,13 @@ use Rattle.map_history.specs.Replay.{Pairs, reply_of, map_after}
 use Rattle.map_history.specs.Words.{word_of}
 use Rattle.body_terms.specs.Word.{version_of}
 use Rattle.body_terms.specs.Memory.{PlainMemory}
-use Rattle.section_body.specs.Bucket.{bucket_index, bucket_steps, operand}
+use Rattle.section_body.specs.Bucket.{bucket_index, operand}
 use Rattle.body_terms.specs.Run.{Run}
 use Rattle.body_terms.specs.Plain.{plain_run}
 use Rattle.body_terms.specs.declared.outcome.Outcome.TheVariants.{Answered}
 use Rattle.body_terms.specs.declared.thunk.Thunk.{Thunk}
 use Rattle.structure_laws.specs.Scene.{Readings}
+use Rattle.tree_laws.specs.bucket_laws.specs.bucket_bodies.specs.Table.{table_steps}
 use Rattle.tree_laws.specs.bucket_laws.specs.Walk.{Bounds, start, walk, fits_walk}
 use Rattle.tree_laws.specs.bucket_laws.specs.Buckets.{BucketsStand}
 
@@ -55,6 +56,7 @@ module _ (bits : ℕ) where
     pub edition : thunk.form ≢ 1 → version_of (cells_of memory (thunk.lock + 1)) ≢ memory.version_max
     pub head : thunk.form ≡ 2 → version_of (cells_of memory (thunk.lock + 2)) ≢ memory.version_max
     pub link : thunk.form ≡ 3 → version_of (cells_of memory (operand thunk 1)) ≢ memory.version_max
+    pub value : thunk.form ≡ 4 → version_of (cells_of memory (operand thunk 1)) ≢ memory.version_max
 
   -- the slot of the Make, the first free one, is one of the memory's, stands in no chain and has a link
   pub record IsOut (slots : ℕ) (memory : PlainMemory) (pairs : Pairs) (contents : HasContents slots memory pairs) : Type
@@ -74,4 +76,4 @@ RunsDoTheOperations = (bits slots request : ℕ) (memory : PlainMemory) (pairs :
     → (contents : HasContents bits slots memory pairs) → HasSmallNumbers op → IsWalked bits memory op thunk
     → IsUnspent bits memory thunk
     → (thunk.form ≡ 2 → IsOut bits slots memory pairs contents)
-    → DoesTheOperation bits slots pairs op (plain_run (bucket_steps thunk) request memory [])
+    → DoesTheOperation bits slots pairs op (plain_run (table_steps thunk) request memory [])

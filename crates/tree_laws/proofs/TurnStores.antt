@@ -22,6 +22,7 @@ use Rattle.structure_laws.specs.Sections.{IsStep}
 use Rattle.structure_laws.specs.InTurn.{StandsFor, AtStamp, AfterStores, InTurn}
 use Rattle.structure_laws.proofs.Changes.{upd_same, upd_other, equal_of, value-next_word, value_small}
 use Rattle.structure_laws.proofs.Limits.{links_small, value-small}
+use Rattle.bucket_laws.proofs.Fit.{puts_ins}
 use Rattle.bucket_laws.proofs.Maps.{get_removed, insert_map, remove_map}
 use Rattle.tree_bodies.specs.Tree.{key_cell, mark_of, child_of, Form, Look, Insert, Delete, form_of, body_of}
 use Rattle.tree_laws.specs.Search.{Nodes, Covers, IsInner, IsLeaf, Contents, with_child, RemovalKeeps, InsertionKeeps, thrice, ViewsAgree}
@@ -257,7 +258,7 @@ module _ (layout : Layout) (limits : IsWithinLimits layout) (s : Scene) (pairs :
           (contents_alike (with_child now side a (suc inner.slot)) (nodes after) then_covers then_alike _
           (keeps.contents (get pairs) leaf_low map))
           (λ q. (λ i. upd (get pairs) (new_named i) (Some (value_named i)) q)
-          ∙ insert_map pairs x.op is.key is.value is.op (ap (get pairs) (sym (ap key_of is.op)) ∙ none) q);
+          ∙ insert_map pairs x.op is.key is.value (puts_ins x.op is.key is.value is.op) (ap (get pairs) (sym (ap key_of is.op)) ∙ none) q);
     }
       where
         none : get pairs (key_of x.op) ≡ None

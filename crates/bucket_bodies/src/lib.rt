@@ -1,0 +1,6 @@
+//! All bodies of the hash table's sections: what a section on the table does, as data.
+#![tactic(auto)]
+
+mod bodies;
+
+pub use bodies::{table_body, table_body_in};
