@@ -1,6 +1,6 @@
 -- Asking a gate, step by step.
-use Rattle.std.specs.Prelude.{min, ◌^◌, Bool, true, false}
-use Rattle.std.proofs.Common.{◌≡◌, ℕ, ◌+◌, ◌-◌, ◌≤◌, refl, ap, ◌∙◌, subst, arith}
+use Rattle.std.specs.Prelude.{Bool, true}
+use Rattle.std.proofs.Common.{◌≡◌, ℕ, ◌+◌, ◌≤◌, refl, ap, ◌∙◌, subst, arith}
 use Rattle.fault_count.specs.Rose.{Rose}
 use Rattle.body_terms.specs.Counted.{counted_on}
 use Rattle.runner_gate.specs.Asks.{Asks, asked_on}

@@ -1,11 +1,10 @@
 -- What a Stale tells as expected: a mark's unmarked word, or a word that the plan had read.
 use Rattle.std.specs.Prelude.{◌==◌, ◌&&◌, ◌-◌, ◌⊎◌, cond, Bool, true, false, slice_get, slice_index, if◌then◌else◌}
-use Rattle.std.proofs.Common.{◌≡◌, ◌≢◌, ℕ, ◌+◌, List, [], ◌∷◌, ◌++◌, length, refl, sym, ap, ◌∙◌, subst, ⊎_elim, inl, inr, arith, Option, Some, None}
+use Rattle.std.proofs.Common.{◌≡◌, ◌≢◌, ℕ, ◌+◌, List, [], ◌∷◌, ◌++◌, length, refl, sym, ap, ◌∙◌, subst, ⊎_elim, inl, inr, arith, Some, None}
 use Rattle.std.proofs.lemmas.Bool.Decides.{nat_tests}
 use Rattle.small_lemmas.proofs.Bools.{both_of}
 use Rattle.small_lemmas.proofs.Numbers.{tested_equal}
 use Rattle.map_history.specs.declared.op.Op.{Op}
-use Rattle.map_history.specs.declared.op.Request.{Request}
 use Rattle.body_terms.specs.Line.{line, micro_at}
 use Rattle.body_terms.specs.Run.{leaves, refusal, is_takable}
 use Rattle.body_terms.specs.Word.{value_of, version_of, pack, held_word, is_free, is_spent}
@@ -15,7 +14,7 @@ use Rattle.body_terms.specs.declared.outcome.Outcome.{Outcome}
 use Rattle.body_terms.specs.declared.outcome.Outcome.TheVariants as outcomes
 use Rattle.body_terms.specs.declared.outcome.Refused.{Refused}
 use Rattle.body_terms.specs.declared.outcome.Refused.TheVariants as refusals
-use Rattle.body_terms.specs.declared.step.Step.TheVariants.{Load, Take}
+use Rattle.body_terms.specs.declared.step.Step.TheVariants.{Take}
 use Rattle.body_terms.specs.declared.thunk.Thunk.{Thunk}
 use Rattle.section_lines.proofs.Sources.{of_take}
 use Rattle.section_lines.proofs.Wants.{wanted_at}

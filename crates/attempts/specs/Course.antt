@@ -168,7 +168,8 @@ module _ {T : Type 0} (m : Meaning) (planning : Planning) (request : Request) wh
     pub outcome : Outcome
     pub left : HasLeft thunk outcome old new
     pub same : answer ≡ of_outcome outcome
-    -- the plan had read what the section wanted of a cell, or expected of a further lock; the agreed word is another one
+    -- the plan had read what the section wanted of a cell, or expected of a further lock; the agreed word is another
+    -- one
     pub stale : (place expected read : ℕ) → answer ≡ answers.Stale place expected read
         → WasRead left.run.ended.tries.readings place expected × (expected ≢ read)
 
