@@ -13,7 +13,7 @@ use std::sync::Arc;
 use std::sync::atomic::{AtomicBool, Ordering};
 use std::thread::yield_now;
 
-/// How often a flag is loaded at most while a gate waits for it.
+/// How often a flag is loaded at most while a gate waits for it, where nothing else is said.
 const MAX_LOADS: u32 = 1_000_000_000;
 
 /// After how many loads the thread is yielded.
@@ -36,11 +36,13 @@ pub struct Pause {
     pub until: StepKind,
 }
 
-/// A line with its flag, which is raised once the ask that it waits for has come.
+/// A line with its flag, which is raised once the ask that it waits for has come, and how often the flag is loaded at
+/// most.
 #[derive(Debug, Drop)]
 struct Line {
     pause: Pause,
     has_come: AtomicBool,
+    max_loads: u32,
 }
 
 impl Line {
@@ -53,13 +55,15 @@ impl Line {
 
     /// Waits where the line says that this ask waits. False where the limit on loads was reached.
     fn wait(&self, runner: u32, kind: StepKind) -> bool {
-        self.pause.runner != runner || self.pause.at != kind || is_raised(&self.has_come)
+        self.pause.runner != runner
+            || self.pause.at != kind
+            || is_raised(&self.has_come, self.max_loads)
     }
 }
 
 /// Waits until the flag is raised. False where the limit on loads was reached.
-fn is_raised(flag: &AtomicBool) -> bool {
-    for loads in 0..MAX_LOADS {
+fn is_raised(flag: &AtomicBool, max_loads: u32) -> bool {
+    for loads in 0..max_loads {
         if flag.load(Ordering::SeqCst) {
             return true;
         }
@@ -78,7 +82,7 @@ fn is_first(was_asked: &mut [bool; KINDS], kind: StepKind) -> bool {
     is_first
 }
 
-/// A gate of a script. It halts where it has waited for the limit of 1,000,000,000 loads.
+/// A gate of a script. It halts where it has waited for the limit on loads.
 #[derive(Debug, Drop)]
 pub struct Scripted {
     plan: GatePlan,
@@ -134,8 +138,20 @@ impl Model for ScriptedGates {
 }
 
 impl ScriptedGates {
-    /// Gates of this script, none given yet. The Err is want of memory for the list of flags.
+    /// Gates of this script, none given yet, which wait for 1,000,000,000 loads at most. The Err is want of memory for
+    /// the list of flags.
     pub fn new(alloc: Global, pauses: Vec<Pause>) -> Result<ScriptedGates, AllocError>
+        ensures { IfOk result (λ gates. gates ≡ none_counted) }
+    {
+        ScriptedGates::with_limit(alloc, pauses, MAX_LOADS)
+    }
+
+    /// The same, with gates that wait for so many loads at most.
+    pub fn with_limit(
+        alloc: Global,
+        pauses: Vec<Pause>,
+        max_loads: u32,
+    ) -> Result<ScriptedGates, AllocError>
         ensures { IfOk result (λ gates. gates ≡ none_counted) }
     {
         let mut lines = Vec::with_capacity(alloc, pauses.len())?;
@@ -143,6 +159,7 @@ impl ScriptedGates {
             lines.push(Line {
                 pause,
                 has_come: AtomicBool::new(false),
+                max_loads,
             })?;
         }
         Ok(ScriptedGates {

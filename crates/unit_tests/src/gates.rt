@@ -4,7 +4,6 @@ use body_terms::StepKind;
 use runner_gate::{
     Free, FreeGates, Gate, Gates, HaltAt, Pass, Pause, PlannedGates, Scripted, ScriptedGates,
 };
-use std::alloc::{AllocError, Global};
 use std::sync::atomic::{AtomicBool, Ordering};
 use std::test::Fail;
 use std::thread;
@@ -44,23 +43,23 @@ fn gates_follow_their_plan_or_never_halt(rt: HostRuntime) {
     );
 }
 
-/// Gates of a script in which the gate of 0, at `at`, waits for that of 1 at `Hold`, and the gate of 1, as it
-/// enters, for that of 0.
-fn crossed(alloc: Global, at: StepKind) -> Result<ScriptedGates, AllocError> {
-    let mut pauses = Vec::new(alloc);
-    pauses.push(Pause {
-        runner: 0,
-        at,
-        until_runner: 1,
-        until: StepKind::Hold,
-    })?;
-    pauses.push(Pause {
-        runner: 1,
-        at: StepKind::Entered,
-        until_runner: 0,
-        until: StepKind::Entered,
-    })?;
-    ScriptedGates::new(alloc, pauses)
+/// A script in which the gate of 0, at `at`, waits for that of 1 at `Hold`, and the gate of 1, as it enters, for that
+/// of 0.
+fn crossed(at: StepKind) -> [Pause; 2] {
+    [
+        Pause {
+            runner: 0,
+            at,
+            until_runner: 1,
+            until: StepKind::Hold,
+        },
+        Pause {
+            runner: 1,
+            at: StepKind::Entered,
+            until_runner: 0,
+            until: StepKind::Entered,
+        },
+    ]
 }
 
 /// Whether the gate lets its runner go on as it enters, and where the flag is up then.
@@ -77,7 +76,8 @@ fn publishes(gate: &mut Scripted, flag: &AtomicBool) -> bool {
 
 #[test]
 fn two_gates_wait_for_each_other(rt: HostRuntime) -> Result<(), Fail> {
-    let mut gates = crossed(rt.alloc(), StepKind::Entered)?;
+    let pauses = crossed(StepKind::Entered).to_vec(rt.alloc())?;
+    let mut gates = ScriptedGates::new(rt.alloc(), pauses)?;
     let (mut first, mut second) = (gates.gate(0, None), gates.gate(1, None));
     let flag = AtomicBool::new(false);
     let (enters, goes_on) = thread::join(
@@ -94,7 +94,8 @@ fn two_gates_wait_for_each_other(rt: HostRuntime) -> Result<(), Fail> {
 
 #[test]
 fn a_gate_that_waits_in_vain_halts(rt: HostRuntime) -> Result<(), Fail> {
-    let mut gates = crossed(rt.alloc(), StepKind::Walk)?;
+    let pauses = crossed(StepKind::Walk).to_vec(rt.alloc())?;
+    let mut gates = ScriptedGates::with_limit(rt.alloc(), pauses, 10_000)?;
     let mut gate = gates.gate(0, None);
     assert_eq!(rt; halts(&mut gate), [false, true, false]);
     gates.back(gate);
