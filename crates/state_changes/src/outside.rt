@@ -232,7 +232,7 @@ fn planned(part: &mut Part, thunk: &Thunk)
 }
 
 /// The clock was loaded for it.
-fn looked(part: &mut Part, found: u64)
+fn timed(part: &mut Part, found: u64)
     ensures { part.new ≡ read_clock_after part.old found }
 {
     if let Some(look) = part.reads.look {
@@ -333,7 +333,7 @@ pub fn outside_after<S: Structure>(
         EventKind::LoadThunk(Some(descriptor)) => return opened(part, alloc, *descriptor, found),
         EventKind::EpochForRetire => return retired(part, found),
         EventKind::ReadPlan(thunk) => planned(part, thunk),
-        EventKind::ReadClock => looked(part, found),
+        EventKind::ReadClock => timed(part, found),
         EventKind::ReadReply => return replied(part, structure, found),
         EventKind::ReadStamp => return stamped(part, found),
         _ => {}
