@@ -1,3 +1,4 @@
 pub mod Sums
 pub mod Leading
+mod Wanting
 pub mod Listing

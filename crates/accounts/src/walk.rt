@@ -2,6 +2,7 @@
 ghost use Rattle.std.specs.Prelude.{◌≡◌, ◌≢◌, ◌<◌};
 ghost use Rattle.account_laws.specs.Accounts.{accounts_of};
 ghost use Rattle.lock_walks.specs.Way.{Leads};
+ghost use Rattle.lock_walks.specs.Wants.{WantsWereRead};
 ghost use Rattle.accounts.specs.Walk.{is_open, found_after, thunk_by, transfer_planning, transfer_way};
 
 use crate::body::lock_of;
@@ -24,7 +25,7 @@ pub enum Found {
 }
 
 /// How far the walk of a transfer has come.
-#[derive(Drop, Debug)]
+#[derive(Clone, Copy, Debug)]
 pub struct TransferWalk {
     transfer: Transfer,
     lock: Place,
@@ -86,7 +87,7 @@ fn thunk_by(
 
 impl Accounts {
     /// The walk that plans this transfer between two of the accounts, which has loaded nothing. It is for a request
-    /// with any operation, since accounts serve no map.
+    /// with any operation, since accounts serve no map. What the sections of accounts want of a balance was read there.
     pub fn walk(&self, layout: Layout, op: Op, transfer: Transfer) -> TransferWalk
         requires from { transfer.from < self.now.accounts }
         requires to { transfer.to < self.now.accounts }
@@ -94,6 +95,7 @@ impl Accounts {
         ensures op { result.op ≡ op }
         ensures planning { transfer_way.planning result ≡ transfer_planning transfer }
         ensures leads { Leads transfer_way (accounts_of self.now.accounts self.now.opening) layout result }
+        ensures wants { WantsWereRead (accounts_of self.now.accounts self.now.opening) }
     {
         let _few = self.count();
         let lower = transfer.lower();

@@ -16,7 +16,6 @@ use Rattle.runner_gate.specs.Asks.{Asks}
 use Rattle.structure_laws.specs.Meaning.{Meaning}
 use Rattle.structure_laws.specs.Laws.{Laws}
 use Rattle.structure_laws.specs.Shape.{Shaped}
-use Rattle.structure_laws.specs.Planner.{PlannerLaws}
 use Rattle.runner_parts.specs.declared.event.EventKind.TheVariants as kinds
 use Rattle.runner_parts.specs.declared.entries.Published.{Published}
 use Rattle.runner_parts.specs.State.{NodesState, PartState, ReadsState}
@@ -39,6 +38,7 @@ use Rattle.lock_walks.specs.try_lock.specs.Reached.{IsReached}
 use Rattle.lock_walks.specs.try_lock.specs.Retires.{IsOver, HasRetired}
 use Rattle.lock_walks.proofs.Each.{get_last}
 use Rattle.attempts.specs.Knowing.{KnowsMore, IsStill, IsOwn}
+use Rattle.lock_walks.specs.Wants.{WantsWereRead}
 use Rattle.attempts.specs.Course.{of_outcome, IsEmptyHanded, WasRead, HasEnded, HasRun, SectionHasLeft}
 use Rattle.attempts.specs.Attempts.{IsServed}
 use Rattle.attempts.specs.Rests.{MayLeave, MayLearn, HasLearnt, HasTurned, Rests}
@@ -236,7 +236,7 @@ module _ {T : Type 0} (m : Meaning) (laws : Laws m) (t : TableState T) (limits :
       }
 
       -- the own section goes by what the plan had read
-      module _ (per_pair : ℕ) (planner : PlannerLaws m per_pair)
+      module _ (wants : WantsWereRead m)
           (differ : (w : World) → Reached m t.layout t.requests w → StaleStand (sight m t.layout t.requests w)) where
         -- and it found another word
         words_differ : (place expected read : ℕ) → of_outcome outcome ≡ answers.Stale place expected read → expected ≢ read
@@ -257,7 +257,7 @@ module _ {T : Type 0} (m : Meaning) (laws : Laws m) (t : TableState T) (limits :
             → WasRead is.tries.readings place expected
         was_planned place expected read e =
             let cause = is.ends.cause other in
-            section_stale m per_pair planner ran.layout (subst IsWithinLimits (sym own_ran.layout) limits) request.op
+            section_stale m wants ran.layout (subst IsWithinLimits (sym own_ran.layout) limits) request.op
             (allowed_at old.requests request.number request is.tries.plans.enters.may.there (subst AreAllowed (sym requests_old) allowed).each)
             is.tries.readings thunk
             (ap (λ (l : Layout). m.fits l request.op is.tries.readings thunk) (own_ran.layout ∙ sym layout_old) ∙ is.tries.plans.answers.fits)

@@ -25,7 +25,6 @@ use Rattle.structure_laws.specs.Meaning.{Meaning}
 use Rattle.structure_laws.specs.Cells.{slots}
 use Rattle.structure_laws.specs.Sections.{IsAllowed}
 use Rattle.structure_laws.specs.Shape.{HasStep, Shaped}
-use Rattle.structure_laws.specs.Planner.{PlannerLaws}
 use Rattle.runner_steps.specs.Sections.{setting_of}
 use Rattle.machine_states.proofs.Steps.{some_same, none_some}
 use Rattle.lock_walks.specs.try_lock.specs.declared.planned.Planned.{Planned}
@@ -34,6 +33,7 @@ use Rattle.lock_walks.specs.try_lock.specs.Planning.{Planning}
 use Rattle.lock_walks.specs.try_lock.specs.Plans as plan
 use Rattle.lock_walks.specs.try_lock.specs.Publishes.{refused_by}
 use Rattle.lock_walks.proofs.Each.{get_last}
+use Rattle.lock_walks.specs.Wants.{WantsWereRead}
 use Rattle.attempts.specs.Course.{of_plan, of_refusal, of_outcome, WasRead, IsMarked}
 use Rattle.attempts.specs.declared.answers.Attempt.TheVariants as answers
 
@@ -176,7 +176,7 @@ module _ (l : Layout) (d : ℕ) (trail : List ℕ) (place expected read : ℕ) w
   stale_at _ e = absurd (none_some _ (sym e))
 
 -- so the plan had read the word
-module _ (m : Meaning) (per_pair : ℕ) (planner : PlannerLaws m per_pair) (l : Layout) (limits : IsWithinLimits l) (op : Op) (allowed : IsAllowed op)
+module _ (m : Meaning) (wants : WantsWereRead m) (l : Layout) (limits : IsWithinLimits l) (op : Op) (allowed : IsAllowed op)
     (readings : Readings) (thunk : Thunk) (fits : m.fits l op readings thunk ≡ true) (shaped : Shaped m l readings thunk)
     (d : ℕ) (trail : List ℕ) (place expected read : ℕ) where
   taken : (n p w : ℕ) → HasStep m thunk n (Take p w) → p ≡ place → w ≡ expected → WasRead readings place expected
@@ -185,7 +185,7 @@ module _ (m : Meaning) (per_pair : ℕ) (planner : PlannerLaws m per_pair) (l : 
   was_planned : (at : ℕ) → IsStaleAt l d trail place expected read (micro_at (line (m.body thunk)) at) → WasRead readings place expected
   was_planned at stale = ⊎_elim
       (λ want. let w = wanted_at (m.body thunk) shaped.shape at place want.0 expected want.1 in
-      (planner.over l limits).want_read readings op thunk allowed fits w.load w.want place w.register expected w.loads w.wants)
+      wants l limits readings op thunk allowed fits w.load w.want place w.register expected w.loads w.wants)
       (λ take. ⊎_elim
       (λ free. let o = of_take (m.body thunk) at (CheckFree place free.0 expected) free.1 refl in
       let same = o.2.same in

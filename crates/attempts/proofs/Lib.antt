@@ -1,25 +1,25 @@
 pub mod Knowing
-mod Helping
-mod Reaching
+pub mod Helping
+pub mod Reaching
 pub mod Refilling
-mod Leaving
+pub mod Leaving
 pub mod Learning
-mod Counting
-mod Courses
-mod Locks
-mod Turning
-mod Trying
-mod Planning
-mod RealTime
-mod Refusing
-mod Expected
+pub mod Counting
+pub mod Courses
+pub mod Locks
+pub mod Turning
+pub mod Trying
+pub mod Planning
+pub mod RealTime
+pub mod Refusing
+pub mod Expected
 pub mod Placing
-mod Along
-mod LastSteps
-mod Costs
-mod Telling
-mod Stamps
-mod Away
-mod Cutting
-mod Concluding
-mod Wholly
+pub mod Along
+pub mod LastSteps
+pub mod Costs
+pub mod Telling
+pub mod Stamps
+pub mod Away
+pub mod Cutting
+pub mod Concluding
+pub mod Wholly

@@ -38,7 +38,7 @@ use Rattle.settling.specs.keeper_facts.specs.Freed.{IsFreed, IsPublished, LocksT
 use Rattle.settling.specs.runner_facts.specs.Keeper.{AllJoined}
 use Rattle.threaded_runs.specs.Own.{own_requests}
 use Rattle.threaded_runs.specs.Runs.{AreEntered, stamp_of}
-use Rattle.threaded_runs.proofs.Keeping.{length-falling}
+use Rattle.settled_tables.proofs.Keeping.{length-falling}
 use Rattle.threaded_runs.proofs.Owning.{numbered}
 use Rattle.threaded_runs.proofs.Closing.{end, word_is}
 

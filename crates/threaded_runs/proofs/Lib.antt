@@ -1,5 +1,4 @@
 mod Picked
-mod Keeping
 mod Counting
 mod Seats
 mod Owning

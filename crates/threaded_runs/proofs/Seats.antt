@@ -17,25 +17,8 @@ use Rattle.serving.specs.declared.answers.Served.{Served}
 use Rattle.threaded_runs.specs.declared.job.Job.{Job}
 use Rattle.threaded_runs.specs.declared.job.Finished.{Finished}
 use Rattle.threaded_runs.specs.Jobs.{IsSeated, AllSeated, AllUnhalted, AllGiven, AreBack, IsBack, HasRun, AllRun, IsKept, AllKept, MayRun}
-use Rattle.threaded_runs.proofs.Keeping.{keeps_part, keeps_parts}
-
--- a fact of each place, and of one more
-pub one_more : {X : Type 0} (P : ℕ → X → Type 0) (xs ys : List X) (x : X) → ys ≡ xs ++ x ∷ [] → ((i : ℕ) (d : X) → i < length xs → P i (get_or xs i d)) → P (length xs) x
-    → (i : ℕ) (d : X) → i < length ys → P i (get_or ys i d)
-one_more P xs ys x is all here i d below = dite (ℕ_discrete i (length xs))
-    (λ e. let last : get_or ys i d ≡ x = ap (λ l. get_or l i d) is ∙ (ap (λ (k : ℕ). get_or (xs ++ x ∷ []) k d) e ∙ get_or-append_seam xs x [] d) in subst (P i) (sym last) (subst (λ (k : ℕ). P k x) (sym e) here))
-    (λ ne.
-    let long : length ys ≡ length xs + 1 = ap length is ∙ length-append xs (x ∷ []) in
-    let low : i < length xs = omega arith in
-    let same : get_or ys i d ≡ get_or xs i d = ap (λ l. get_or l i d) is ∙ get_or_append_left xs (x ∷ []) d i low in subst (P i) (sym same) (all i d low))
-
--- what is left of a list behind its next element
-pub rest_behind : {X : Type 0} (whole old new : List X) (x : X) (past next many left : ℕ) → old ≡ x ∷ new → left + 1 ≡ many
-    → ((k : ℕ) (d : X) → k < many → get_or old k d ≡ get_or whole (past + k) d) → past + 1 ≡ next → (k : ℕ) (d : X) → k < left → get_or new k d ≡ get_or whole (next + k) d
-rest_behind whole old new x past next many left is lens all longer k d low =
-    let below : suc k < many = omega (arith, low, lens) in
-    let same : past + suc k ≡ next + k = omega (arith, longer) in
-    sym (ap (λ xs. get_or xs (suc k) d) is) ∙ (all (suc k) d below ∙ ap (λ (n : ℕ). get_or whole n d) same)
+use Rattle.settled_tables.proofs.Keeping.{keeps_part, keeps_parts}
+use Rattle.settled_tables.proofs.Working.{one_more}
 
 module _ {T H : Type 0} where
   pub seated_more : (planning : Planning) (t : TableState T) (jobs jobs' : List (Job T H)) (j : Job T H) (worker : ℕ) → jobs' ≡ jobs ++ j ∷ [] → length jobs ≡ worker → IsSeated planning t worker j

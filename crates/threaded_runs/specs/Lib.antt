@@ -1,5 +1,4 @@
 pub mod Own
-pub mod Keeper
 pub mod Counts
 pub mod Jobs
 pub mod Runs

@@ -2,7 +2,7 @@
 ghost use Rattle.std.specs.Prelude.{◌≡◌, ◌+◌, ◌<◌, ◌≤◌, IfOk, OnErr, All, List, [], true, length, vec_len};
 ghost use Rattle.map_history.specs.Requests.{AreInOrder};
 ghost use Rattle.closed_words.specs.version_words.specs.TableState.{IsOf};
-ghost use Rattle.threaded_runs.specs.Keeper.{IsIdleKeeper};
+ghost use Rattle.settled_tables.specs.Keeper.{IsIdleKeeper};
 ghost use Rattle.threaded_runs.specs.Counts.{halts_counted, plans_given, plans_from, returns_counted, GivesFront};
 ghost use Rattle.threaded_runs.specs.Jobs.{IsSeated, AllSeated, AllUnhalted, AllGiven, AreBack, AllKept, asks_counted};
 

@@ -50,7 +50,7 @@ returns-in_default g c =
           let t = c.args.table.now in
           let differ = subst (λ s. (w : World) → Reached (g.S.Structure.meaning s) t.layout t.requests w → StaleStand (sight (g.S.Structure.meaning s) t.layout t.requests w)) c.structure.ensures
           (λ w reached. c.stale_words_differ.ensures t.layout t.requests w (c.requires.own.limits _ refl) (c.requires.own.allowed _ refl) reached) in
-          left_concluded (g.S.Structure.meaning c.args.table.now.structure) (met.laws c.args.table.now.structure) c.args.table.now (c.requires.own.limits _ refl) (c.requires.own.allowed _ refl) (g.S.Planner.planning c.args.table.now.structure) c.args.request.now c.args.section thunk c.args.outcome trail old c.args.runner c.requires.own is c.retire_section-runner.result c.retire_section-runner.ensures.own c.retire_section-runner.ensures.retired c.in_default.not-Answered _ (plans.plans_lawfully c.args.table.now.structure) differ c.turn_away.result.1 c.turn_away.result.0 c.turn_away.ensures.own (IsSeen g.G.Gate.halts g.G.Gate.asks) _ _ _ _ _ _ (c.args.gate.now, refl, refl)
+          left_concluded (g.S.Structure.meaning c.args.table.now.structure) (met.laws c.args.table.now.structure) c.args.table.now (c.requires.own.limits _ refl) (c.requires.own.allowed _ refl) (g.S.Planner.planning c.args.table.now.structure) c.args.request.now c.args.section thunk c.args.outcome trail old c.args.runner c.requires.own is c.retire_section-runner.result c.retire_section-runner.ensures.own c.retire_section-runner.ensures.retired c.in_default.not-Answered (λ l limits. ((plans.plans_lawfully c.args.table.now.structure).over l limits).want_read) differ c.turn_away.result.1 c.turn_away.result.0 c.turn_away.ensures.own (IsSeen g.G.Gate.halts g.G.Gate.asks) _ _ _ _ _ _ (c.args.gate.now, refl, refl)
           (subst (λ a. HasTurned (g.S.Structure.meaning c.args.table.now.structure) a c.turn_away.result.1 c.retire_section-runner.result c.turn_away.result.0 (g.G.Gate.halts c.args.gate.now) (g.G.Gate.halts c.turn_away.new.gate) (g.G.Gate.asks c.args.gate.now) (g.G.Gate.asks c.turn_away.new.gate) c.args.steps.now.count c.turn_away.new.steps.count) c.section_left.ensures
           c.turn_away.ensures.turned);
     }

@@ -4,11 +4,12 @@ use Rattle.table_words.specs.declared.layout.Layout.{Layout}
 use Rattle.closed_words.specs.version_words.proofs.Stages.{may_join}
 use Rattle.settling.specs.runner_gate.specs.Counts.{plus, halts_after}
 use Rattle.threaded_runs.specs.declared.job.Finished.{Finished}
-use Rattle.threaded_runs.specs.Keeper.{IsIdleKeeper}
+use Rattle.settled_tables.specs.Keeper.{IsIdleKeeper}
 use Rattle.threaded_runs.specs.Counts.{halts_counted, returns_counted}
 use Rattle.threaded_runs.specs.Jobs.{IsBack, asks_counted}
-use Rattle.threaded_runs.proofs.Keeping.{then_gathered}
-use Rattle.threaded_runs.proofs.Seats.{kept_more, rest_behind}
+use Rattle.settled_tables.proofs.Keeping.{then_gathered}
+use Rattle.settled_tables.proofs.Working.{rest_behind}
+use Rattle.threaded_runs.proofs.Seats.{kept_more}
 use Rattle.threaded_runs.proofs.Counting.{halts_more, counted_so, asks_next, one_returned}
 use Rattle.threaded_runs.proofs.seating.gather.Goals as goal
 

@@ -5,12 +5,18 @@ use Rattle.table_words.specs.declared.layout.Layout.{Layout}
 use Rattle.closed_words.specs.version_words.proofs.Stages.{may_split}
 use Rattle.serving.specs.Serving.{MayServe}
 use Rattle.threaded_runs.specs.Own.{own_requests}
+use Rattle.settled_tables.proofs.Keeping.{then_idle}
 use Rattle.threaded_runs.proofs.Owning.{worker_may_serve}
 use Rattle.threaded_runs.proofs.seating.seat_worker.Goals as goal
 
 pub runner-requires-clause-next : goal.runner-requires-clause-next
 runner-requires-clause-next g c κs within = may_split _ c.args.keeper c.args.worker c.requires.keeper.keeper
     (let few = c.requires.worker in let same = ap (λ (l : Layout). l.runners) c.requires.own.layout in omega (arith, few, same))
+
+pub returns-in-Ok-clause-keeper : goal.returns-in-Ok-clause-keeper
+returns-in-Ok-clause-keeper g c =
+    let few : c.args.worker < c.args.keeper.layout.runners = (let low = c.requires.worker in let same = ap (λ (l : Layout). l.runners) c.requires.own.layout in omega (arith, low, same)) in
+    then_idle (g.S.Structure.meaning c.args.table.now.structure) c.args.keeper c.in-Ok.keeper c.args.worker c.in-Ok.ensures.event c.requires.keeper few
 
 pub returns-in-Ok-clause-job : goal.returns-in-Ok-clause-job
 returns-in-Ok-clause-job g c =

@@ -1,6 +1,7 @@
 use Rattle.std.proofs.Common.{rules, ◌≡◌, ℕ, ◌<◌, length, subst, sym, ap, ◌∙◌, arith, vec_len}
 use Rattle.machine_states.specs.First.{keeper_part}
 use Rattle.closed_words.specs.Histories.{HaveHistory}
+use Rattle.closed_words.specs.version_words.specs.TableState.{first_keeper}
 use Rattle.serving.specs.attempt_bounds.specs.Lone.{LoneAttemptsAreServed}
 use Rattle.threaded_runs.specs.Counts.{returns_counted}
 use Rattle.threaded_runs.specs.Jobs.{asks_counted}
@@ -9,12 +10,18 @@ use Rattle.threaded_runs.specs.Gates.{GatesCameBack}
 use Rattle.threaded_runs.specs.Lone.{ServesAlone}
 use Rattle.threaded_runs.specs.Runs.{AreServed}
 use Rattle.threaded_runs.proofs.Counting.{front_all, front_none, on_err}
-use Rattle.threaded_runs.proofs.Keeping.{has_all, may_settle, settled_all}
+use Rattle.settled_tables.proofs.Keeping.{first_is_idle, has_all, may_settle, settled_all}
 use Rattle.threaded_runs.proofs.Seats.{are_back}
 use Rattle.threaded_runs.proofs.Ending.{IsLawful, all_served, asked_often, gates_came_back}
 use Rattle.serving.specs.attempt_bounds.specs.Spared.{AttemptsSpareSlots}
 use Rattle.threaded_runs.proofs.Lone.{IsFresh, served_alone, asked_alone}
 use Rattle.threaded_runs.proofs.table_run.run_table.Goals as goal
+
+pub make_jobs-requires-clause-keeper : goal.make_jobs-requires-clause-keeper
+make_jobs-requires-clause-keeper g c κs within =
+    let t = c.in_ok-table.table in
+    first_is_idle (g.S.Structure.meaning t.structure) t c.in_ok-table.keeper
+    (subst (λ s. c.in_ok-table.keeper ≡ first_keeper (g.S.Structure.meaning s) t) (sym c.in_ok-table.ensures.table.structure) c.in_ok-table.ensures.keeper)
 
 pub gather-requires-clause-back : goal.gather-requires-clause-back
 gather-requires-clause-back g c κs within =

@@ -6,6 +6,7 @@ use Rattle.accounts.specs.declared.walk.Found.TheVariants.{Nothing}
 use Rattle.accounts.specs.declared.walk.TransferWalk.{TransferWalk}
 use Rattle.accounts.proofs.Leading.{leads}
 use Rattle.accounts.proofs.Sums.{in_order, below}
+use Rattle.accounts.proofs.Wanting.{wants_were_read}
 use Rattle.accounts.proofs.table.Accounts.walk.Goals as goal
 
 pub returns-clause-leads : goal.returns-clause-leads
@@ -15,3 +16,6 @@ returns-clause-leads c =
     subst (λ place. Leads {W = TransferWalk} transfer_way (accounts_of s.accounts s.opening) c.args.layout (record { transfer = t; lock = place; version_max = c.args.layout.version_max; op = c.args.op; found = Nothing }))
     (sym (c.lock_of.ensures ∙ ap lock_of c.lower-lower.ensures))
     (leads s.accounts s.opening c.args.layout c.args.op t (in_order t c.requires.apart) (below s.accounts t c.requires.from c.requires.to))
+
+pub returns-clause-wants : goal.returns-clause-wants
+returns-clause-wants c = wants_were_read c.args.self.now.accounts c.args.self.now.opening

@@ -22,7 +22,7 @@ use Rattle.closed_words.specs.version_words.proofs.Stages.{first_is_keeper, then
 use Rattle.std.specs.Option.{IsSome}
 use Rattle.settling.specs.Settled.{MaySettle, Settles}
 use Rattle.machine_states.proofs.Marks.{Stays, stays}
-use Rattle.threaded_runs.specs.Keeper.{IsIdleKeeper}
+use Rattle.settled_tables.specs.Keeper.{IsIdleKeeper}
 
 -- a part of the machine's that doesn't go by the records
 abbrev IsBlind : {B : Type 0} → (PartState → B) → Type 0

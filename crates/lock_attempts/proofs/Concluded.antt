@@ -1,0 +1,131 @@
+-- The end of an attempt's own section.
+use Rattle.std.specs.Prelude.{Bool, true, false, Result, Ok, Err}
+use Rattle.std.proofs.Common.{◌≡◌, ◌≢◌, ℕ, ◌+◌, length, refl, sym, ap, ◌∙◌, subst, ⊎_elim, arith, Option, Some, None}
+use Rattle.std.proofs.lemmas.Bool.{true≢false}
+use Rattle.map_history.specs.declared.op.Request.{Request}
+use Rattle.body_terms.specs.Trail.{Agreed}
+use Rattle.body_terms.specs.declared.outcome.Outcome.{Outcome}
+use Rattle.body_terms.specs.declared.outcome.Outcome.TheVariants as outcomes
+use Rattle.body_terms.specs.declared.thunk.Thunk.{Thunk}
+use Rattle.table_words.specs.Limits.{IsWithinLimits}
+use Rattle.runner_gate.specs.Asks.{Asks}
+use Rattle.structure_laws.specs.Meaning.{Meaning}
+use Rattle.structure_laws.specs.Laws.{Laws}
+use Rattle.runner_parts.specs.Tests.{is_answered}
+use Rattle.machine_states.specs.Sight.{Sight, sight}
+use Rattle.lock_words.specs.machine_invariant.specs.After.{AreAllowed}
+use Rattle.lock_words.specs.machine_invariant.specs.Sections.{IsAnswered, IsLeft}
+use Rattle.lock_walks.specs.version_words.specs.RunnerState.{RunnerState}
+use Rattle.lock_walks.specs.version_words.specs.TableState.{TableState, IsOf}
+use Rattle.lock_walks.specs.epoch_slots.specs.Entries.{HasLeave, Exits}
+use Rattle.lock_walks.specs.commit_log.proofs.Asked.{asked_none}
+use Rattle.lock_walks.specs.try_lock.specs.declared.section.Section.{Section}
+use Rattle.lock_walks.specs.try_lock.specs.Planning.{Planning}
+use Rattle.lock_walks.specs.try_lock.specs.Retires.{HasRetired}
+use Rattle.attempts.specs.Knowing.{KnowsMore}
+use Rattle.attempts.specs.Course.{HasEnded, HasRun}
+use Rattle.attempts.specs.Attempts.{is_halted, is_refusal}
+use Rattle.attempts.specs.Rests.{MayLearn}
+use Rattle.attempts.specs.declared.answers.Attempt.{Attempt}
+use Rattle.attempts.specs.declared.answers.Attempt.TheVariants as answers
+use Rattle.attempts.proofs.Knowing.{knows_same, knows_on, no_other_on, no_other_same}
+use Rattle.attempts.proofs.Reaching.{exits_reached}
+use Rattle.attempts.proofs.Counting.{counted_steps}
+use Rattle.attempts.proofs.Concluding.{may_learn}
+use Rattle.lock_attempts.specs.Sections.{is_done, HappenedOnce, HasAnswered}
+use Rattle.lock_attempts.specs.Parts.{AnswersLast}
+
+-- who turns away answers its refusal, or was halted
+pub undone : (got answer : Attempt) → (is_halted got ≡ false → got ≡ answer) → is_refusal answer ≡ true → is_done got ≡ false
+undone (answers.Done reply stamp) answer same refusal = absurd (true≢false (sym refusal ∙ ap is_refusal (sym (same refl))))
+undone (answers.Busy place word) answer same refusal = refl
+undone (answers.Stale place expected read) answer same refusal = refl
+undone (answers.Far loads) answer same refusal = refl
+undone (answers.Short short) answer same refusal = refl
+undone (answers.Spent place word) answer same refusal = refl
+undone answers.Halted answer same refusal = refl
+
+module _ {T : Type 0} (m : Meaning) (laws : Laws m) (t : TableState T) (limits : IsWithinLimits t.layout) (allowed : AreAllowed t.requests)
+    (planning : Planning) (request : Request) (section : Section) (thunk : Thunk) (outcome : Outcome) (trail : Agreed) (old ran : RunnerState T)
+    (own_ran : IsOf t ran) (is : HasEnded m planning request section thunk outcome trail old ran)
+    (retired : RunnerState T) (own_retired : IsOf t retired) (retires : HasRetired m section.descriptor ran retired)
+    (answer : ℕ) (answered : outcome ≡ outcomes.Answered answer) where
+  abbrev s : Sight
+  s = sight m ran.layout ran.requests is.ends.reached.world
+
+  learns : MayLearn m request retired
+  learns = may_learn m laws t limits allowed planning request section thunk outcome trail old ran own_ran is retired own_retired retires answer answered
+
+  pub answered_leave : HasLeave retired
+  answered_leave = learns.leave
+
+  number : retired.number ≡ ran.number
+  number = ap (λ (y : RunnerState T). y.number) retires.event.made
+
+  section_answered : IsAnswered m is.ends.components.agreement s section.descriptor
+  section_answered = ⊎_elim
+      (λ (done : IsAnswered m is.ends.components.agreement s section.descriptor). done)
+      (λ (left : IsLeft m is.ends.components.agreement s section.descriptor).
+      absurd (is.ends.facts.outcomes.left ran.number section.descriptor answer is.ends.finished is.ends.used is.ends.ends left (is.ends.same_outcome ∙ answered)))
+      (is.ends.facts.sound.sections.in_effects.over section.descriptor is.ends.used is.ends.is_done.done)
+
+  once : HappenedOnce m is.ends.components s section.descriptor
+  once =
+      let effects = is.ends.facts.sound.sections.in_effects in
+      record {
+        answered = section_answered;
+        stored = λ i place log value step. effects.stored section.descriptor i place log value section_answered step;
+        stamped = effects.stamped section.descriptor section_answered;
+        replied = effects.replied section.descriptor section_answered;
+      }
+
+  abbrev pub counted : ℕ
+  counted = length is.tries.readings + is.made
+
+  -- the own run, with its answer, in as many steps
+  abbrev Answering : Outcome → Type 0
+  Answering o = (r : HasRun m planning request thunk o trail old retired) × (counted ≡ length r.ended.tries.readings + r.ended.made)
+      × HappenedOnce m r.ended.ends.components (sight m r.ran.layout r.ran.requests r.ended.ends.reached.world) r.section.descriptor
+
+  answering : Answering (outcomes.Answered answer)
+  answering = subst Answering answered (record { section = section; ran = ran; ended = is; retires = retires }, refl, once)
+
+  module _ (new : RunnerState T) (exits : Exits m retired new) where
+    abbrev has_answered : HasAnswered m planning request answer old new
+    has_answered = record {
+      thunk = thunk;
+      trail = trail;
+      retired = retired;
+      run = answering.0;
+      once = answering.2;
+      exits = exits;
+      knows = ap (λ xs. is_answered xs request.number) exits.keeps.known ∙ learns.knows;
+      tidy = record {
+        at = exits.at;
+        hand = ap (λ n. n.hand) exits.keeps.nodes ∙ learns.hand.hand;
+        tests = ap (λ n. n.tests) exits.keeps.nodes ∙ learns.hand.tests;
+      };
+      reached = exits_reached m retired new exits;
+    }
+
+    knows_ran : KnowsMore ran retired
+    knows_ran = knows_same ran retired number retires.known retires.finished
+
+    same_runs : length new.part.records.finished ≡ length ran.part.records.finished
+    same_runs = ap length (exits.keeps.finished ∙ retires.finished)
+
+    no_steps : (n : ℕ) → n + 0 ≡ n
+    no_steps n = omega arith
+
+    pub answered_last : (halts : ℕ) (asks : Asks) (steps : ℕ)
+        → AnswersLast m planning request true counted 0 answer old ran new halts halts asks asks steps steps
+    answered_last halts asks steps = record {
+      answers = has_answered;
+      knows = knows_on ran retired new knows_ran (knows_same retired new exits.keeps.number exits.keeps.known exits.keeps.finished);
+      no_other = no_other_same request.number ran new (exits.keeps.known ∙ retires.known);
+      made = 0;
+      made_is = no_steps counted ∙ answering.1;
+      asked = counted_steps 0 true halts halts asks asks steps steps (asked_none halts asks steps);
+      runs = omega (arith, same_runs);
+      few = omega arith;
+    }

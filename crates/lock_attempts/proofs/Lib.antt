@@ -1,0 +1,5 @@
+mod Concluded
+mod Along
+mod Repeated
+mod Numbering
+mod Spending

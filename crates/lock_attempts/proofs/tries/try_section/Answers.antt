@@ -1,0 +1,54 @@
+use Rattle.std.proofs.Common.{Ok, Err, length, refl, sym, ap, ◌∙◌, subst}
+use Rattle.table_words.specs.Limits.{IsWithinLimits}
+use Rattle.lock_words.specs.machine_invariant.specs.After.{AreAllowed}
+use Rattle.lock_walks.specs.try_lock.specs.Publishes.{Publishes}
+use Rattle.attempts.specs.Counted.{IsSeen}
+use Rattle.attempts.specs.Attempts.{is_refusal}
+use Rattle.attempts.specs.Rests.{MayLeave, HasTurned}
+use Rattle.attempts.proofs.Courses.{may_publish, refused_may_leave}
+use Rattle.attempts.proofs.Locks.{planned_shaped}
+use Rattle.attempts.proofs.Trying.{tried_of, refusal_of_lock}
+use Rattle.attempts.proofs.Wholly.{lost_rests}
+use Rattle.lock_attempts.proofs.Concluded.{undone}
+use Rattle.lock_attempts.proofs.Along.{section_tried}
+use Rattle.lock_attempts.proofs.tries.try_section.Goals as goal
+
+pub publish-runner-requires-clause-publishable : goal.publish-runner-requires-clause-publishable
+publish-runner-requires-clause-publishable g c κs within =
+    let e = c.requires.planned in
+    may_publish (g.S.Structure.meaning c.args.table.now.structure) e.0 e.1 e.2 e.3 c.args.thunk.now c.args.runner e.4
+
+pub run_own-requires-clause-tried : goal.run_own-requires-clause-tried
+run_own-requires-clause-tried g c κs within =
+    let e = c.requires.planned in
+    (e.0, e.1, e.2, c.args.thunk.now, (tried_of (g.S.Structure.meaning c.args.table.now.structure) e.0 e.1 e.2 e.3 c.args.thunk.now c.args.runner e.4 (Ok c.in-Ok.section) c.publish-runner.result.0 (subst (λ a. Publishes (g.S.Structure.meaning c.args.table.now.structure) c.args.thunk.now a c.args.runner c.publish-runner.result.0) c.in-Ok.is c.publish-runner.ensures.publishes) (c.publish-runner.ensures.own.layout ∙ sym c.requires.own.layout) (c.publish-runner.ensures.own.requests ∙ sym c.requires.own.requests)))
+
+pub turn_away-runner-requires-clause-refusal : goal.turn_away-runner-requires-clause-refusal
+turn_away-runner-requires-clause-refusal g c κs within =
+    ap is_refusal c.lock_refused.ensures ∙ refusal_of_lock c.args.thunk.now.lock c.in-Err.refused
+
+pub turn_away-runner-requires-clause-next : goal.turn_away-runner-requires-clause-next
+turn_away-runner-requires-clause-next g c κs within =
+    let met = g.met.S.Structure g.world.𝓛 g.world.𝓜 g.world.𝓡 ((λ s allowed. allowed), (λ patient. patient), (λ alone. alone), (λ cuts. cuts)) in
+    let e = c.requires.planned in
+    subst (λ a. MayLeave (g.S.Structure.meaning c.args.table.now.structure) a c.publish-runner.result.0) (sym c.lock_refused.ensures)
+    (refused_may_leave (g.S.Structure.meaning c.args.table.now.structure) e.0 e.1 e.2 c.args.thunk.now c.in-Err.refused c.publish-runner.result.0
+    (tried_of (g.S.Structure.meaning c.args.table.now.structure) e.0 e.1 e.2 e.3 c.args.thunk.now c.args.runner e.4 (Err c.in-Err.refused) c.publish-runner.result.0 (subst (λ a. Publishes (g.S.Structure.meaning c.args.table.now.structure) c.args.thunk.now a c.args.runner c.publish-runner.result.0) c.in-Err.is c.publish-runner.ensures.publishes) (c.publish-runner.ensures.own.layout ∙ sym c.requires.own.layout) (c.publish-runner.ensures.own.requests ∙ sym c.requires.own.requests))
+    (planned_shaped (g.S.Structure.meaning c.args.table.now.structure) (met.laws c.args.table.now.structure) e.0 e.1 e.3 c.args.thunk.now e.2 c.args.runner
+    (subst IsWithinLimits (sym c.requires.own.layout) (c.requires.own.limits _ refl)) (subst AreAllowed (sym c.requires.own.requests) (c.requires.own.allowed _ refl)) e.4).outer_lock)
+
+pub returns-in-Ok-clause-rests : goal.returns-in-Ok-clause-rests
+returns-in-Ok-clause-rests g c =
+    λ planning request old readings planned.
+    section_tried (g.S.Structure.meaning c.args.table.now.structure) planning request c.args.thunk.now c.in-Ok.section (length readings) old c.args.runner c.publish-runner.result.0 c.run_own.result.0 c.run_own.result.1 (subst (λ a. Publishes (g.S.Structure.meaning c.args.table.now.structure) c.args.thunk.now a c.args.runner c.publish-runner.result.0) c.in-Ok.is c.publish-runner.ensures.publishes) (c.publish-runner.ensures.own.layout ∙ sym c.requires.own.layout) (c.publish-runner.ensures.own.requests ∙ sym c.requires.own.requests) (IsSeen g.G.Gate.halts g.G.Gate.asks) _ _ _ _ _ _
+    (c.run_own.ensures.rests planning request old c.args.thunk.now (tried_of (g.S.Structure.meaning c.args.table.now.structure) planning request old readings c.args.thunk.now c.args.runner planned (Ok c.in-Ok.section) c.publish-runner.result.0 (subst (λ a. Publishes (g.S.Structure.meaning c.args.table.now.structure) c.args.thunk.now a c.args.runner c.publish-runner.result.0) c.in-Ok.is c.publish-runner.ensures.publishes) (c.publish-runner.ensures.own.layout ∙ sym c.requires.own.layout) (c.publish-runner.ensures.own.requests ∙ sym c.requires.own.requests)))
+
+pub returns-in-Err-clause-rests : goal.returns-in-Err-clause-rests
+returns-in-Err-clause-rests g c =
+    let met = g.met.S.Structure g.world.𝓛 g.world.𝓜 g.world.𝓡 ((λ s allowed. allowed), (λ patient. patient), (λ alone. alone), (λ cuts. cuts)) in
+    let turned = (subst (λ a. HasTurned (g.S.Structure.meaning c.args.table.now.structure) a c.turn_away-runner.result.1 c.publish-runner.result.0 c.turn_away-runner.result.0 (g.G.Gate.halts c.args.gate.now) (g.G.Gate.halts c.turn_away-runner.new.gate) (g.G.Gate.asks c.args.gate.now) (g.G.Gate.asks c.turn_away-runner.new.gate) c.args.steps.now.count c.turn_away-runner.new.steps.count) c.lock_refused.ensures c.turn_away-runner.ensures.turned) in
+    λ planning request old readings planned. (
+      undone c.turn_away-runner.result.1 _ turned.same (refusal_of_lock c.args.thunk.now.lock c.in-Err.refused),
+      lost_rests (g.S.Structure.meaning c.args.table.now.structure) (met.laws c.args.table.now.structure) c.args.table.now (c.requires.own.limits _ refl) (c.requires.own.allowed _ refl) planning request c.args.thunk.now c.in-Err.refused old c.args.runner c.publish-runner.result.0 c.publish-runner.ensures.own readings planned (subst (λ a. Publishes (g.S.Structure.meaning c.args.table.now.structure) c.args.thunk.now a c.args.runner c.publish-runner.result.0) c.in-Err.is c.publish-runner.ensures.publishes) (c.publish-runner.ensures.own.layout ∙ sym c.requires.own.layout) (c.publish-runner.ensures.own.requests ∙ sym c.requires.own.requests)
+          c.turn_away-runner.result.1 c.turn_away-runner.result.0 c.turn_away-runner.ensures.own (IsSeen g.G.Gate.halts g.G.Gate.asks) _ _ _ _ _ _ (c.args.gate.now, refl, refl) turned,
+    )

@@ -1,0 +1,82 @@
+//! The run of an own section, and what is answered by it.
+ghost use Rattle.std.specs.Prelude.{◌+◌, length, true, false, Ok};
+ghost use Rattle.map_history.specs.declared.op.Request.{Request};
+ghost use Rattle.body_terms.specs.Trail.{Agreed};
+ghost use Rattle.body_terms.specs.declared.thunk.Thunk.{Thunk};
+ghost use Rattle.lock_walks.specs.version_words.specs.RunnerState.{RunnerState};
+ghost use Rattle.lock_walks.specs.version_words.specs.TableState.{IsOf};
+ghost use Rattle.lock_walks.specs.try_lock.specs.Planning.{Planning};
+ghost use Rattle.attempts.specs.Counted.{IsSeen};
+ghost use Rattle.attempts.specs.Course.{HasTried, HasEnded};
+ghost use Rattle.attempts.specs.Attempts.{most_of_run};
+ghost use Rattle.lock_walks.specs.Wants.{WantsWereRead};
+ghost use Rattle.lock_attempts.specs.Parts.{SectionRests};
+
+use attempts::epoch_slots::exit;
+use attempts::try_lock::{RunEnd, Section, retire_section, run_section};
+use attempts::version_words::{FlockTable, Runner};
+use attempts::{Attempt, goes_on, section_left, turn_away};
+use body_terms::{Outcome, StepKind, Steps};
+use lock_words::stale_words_differ;
+use runner_gate::Gate;
+use structure_laws::Structure;
+
+/// Retires the own section, which was run to its end with this outcome, and leaves: where it answered, with that
+/// number, else with the refusal by which it left.
+fn conclude<S: Structure, G: Gate, L>(
+    table: &FlockTable<S>,
+    runner: Runner<S>,
+    section: Section,
+    outcome: Outcome,
+    gate: &mut G,
+    steps: &mut Steps<L>,
+) -> (Runner<S>, Result<u64, Attempt>)
+    requires own { IsOf table.now runner }
+    requires wants { WantsWereRead (S.meaning table.now.structure) }
+    requires ended { (planning : Planning) × (request : Request) × (old : RunnerState S) × (thunk : Thunk) × (trail : Agreed)
+        × HasEnded (S.meaning table.now.structure) planning request section thunk outcome trail old runner }
+    ensures own { IsOf table.now result.0 }
+    ensures rests { (planning : Planning) (request : Request) (old : RunnerState S) (thunk : Thunk) (trail : Agreed)
+        → (ended : HasEnded (S.meaning table.now.structure) planning request section thunk outcome trail old runner)
+        → SectionRests (S.meaning table.now.structure) planning request true
+        (length ended.tries.readings + ended.made) 0 result.1 old runner result.0 (IsSeen G.halts G.asks)
+        (G.halts gate.old) (G.halts gate.new) (G.asks gate.old) (G.asks gate.new) steps.old.count steps.new.count }
+{
+    stale_words_differ(table.structure());
+    let runner = retire_section(table, runner, section);
+    if let Outcome::Answered(reply) = outcome {
+        (exit(table, runner), Ok(reply))
+    } else {
+        let (runner, answer) = turn_away(table, runner, section_left(outcome), gate, steps);
+        (runner, Err(answer))
+    }
+}
+
+/// Runs the own section, which was just published, to its end, retires it and leaves. The gate is asked once before.
+pub fn run_own<S: Structure, G: Gate, L>(
+    table: &FlockTable<S>,
+    runner: Runner<S>,
+    section: Section,
+    gate: &mut G,
+    steps: &mut Steps<L>,
+) -> (Runner<S>, Result<u64, Attempt>)
+    requires own { IsOf table.now runner }
+    requires wants { WantsWereRead (S.meaning table.now.structure) }
+    requires tried { (planning : Planning) × (request : Request) × (old : RunnerState S) × (thunk : Thunk)
+        × HasTried (S.meaning table.now.structure) planning request thunk (Ok section) old runner }
+    ensures own { IsOf table.now result.0 }
+    ensures rests { (planning : Planning) (request : Request) (old : RunnerState S) (thunk : Thunk)
+        → (tried : HasTried (S.meaning table.now.structure) planning request thunk (Ok section) old runner)
+        → SectionRests (S.meaning table.now.structure) planning request false (length tried.readings) most_of_run
+        result.1 old runner result.0 (IsSeen G.halts G.asks)
+        (G.halts gate.old) (G.halts gate.new) (G.asks gate.old) (G.asks gate.new) steps.old.count steps.new.count }
+{
+    if !goes_on(gate, StepKind::Hold) {
+        return (runner, Err(Attempt::Halted));
+    }
+    let (runner, end) = run_section(table, runner, &section, gate, steps);
+    match end {
+        RunEnd::Done(outcome, _) => conclude(table, runner, section, outcome, gate, steps),
+        RunEnd::Halted => (runner, Err(Attempt::Halted)),
+    }
+}

@@ -1,0 +1,12 @@
+use Rattle.std.proofs.Common.{refl}
+use Rattle.lock_tests.proofs.Banks.{new_bank, all_may_move}
+use Rattle.lock_tests.proofs.bank.open_bank.Goals as goal
+
+pub returns-clause-bank : goal.returns-clause-bank
+returns-clause-bank c =
+    new_bank c.args.accounts c.args.workers c.args.each c.in_ok-table.table _ _ _ c.in_ok-table.ensures.table c.new-bank.ensures.accounts c.new-bank.ensures.opening refl c.in_ok-tickets.ensures.tickets
+
+pub returns-clause-workers : goal.returns-clause-workers
+returns-clause-workers c =
+    all_may_move c.args.accounts c.args.workers c.args.each c.in_ok-table.table _ _ _ c.in_ok-table.ensures.table c.new-bank.ensures.accounts c.new-bank.ensures.opening refl c.in_ok-tickets.ensures.tickets
+    c.requires.accounts.0 c.requires.some.1 c.requires.few c.in_ok-table.runners.items c.in_ok-table.ensures.len c.in_ok-table.ensures.workers
