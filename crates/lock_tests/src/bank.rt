@@ -100,8 +100,9 @@ pub fn move_money<G: Gate>(
             &mut steps,
         );
         runner = next;
-        if answer.is_err() {
-            return (runner, turn);
+        match answer {
+            Ok(_) => {}
+            Err(_) => return (runner, turn),
         }
     }
     (runner, each)
@@ -118,7 +119,7 @@ impl Moved {
     /// All balances together.
     pub fn sum(&self) -> u64 {
         let mut sum: u64 = 0;
-        for &balance in &self.balances {
+        for &balance in self.balances.iter() {
             sum = sum.saturating_add(u64::from(balance));
         }
         sum

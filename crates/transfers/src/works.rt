@@ -1,6 +1,6 @@
 //! What a worker does.
-ghost use Rattle.std.specs.Prelude.{◌≡◌, ◌≢◌, ◌<◌, ◌≤◌};
-ghost use Rattle.accounts.specs.version_words.specs.TableState.{IsOf};
+ghost use Rattle.std.specs.Prelude.{◌≢◌, ◌<◌, ◌≤◌};
+ghost use Rattle.settled_tables.specs.Seats.{CameBack};
 ghost use Rattle.transfers.specs.Scene.{MayWork};
 
 use accounts::{Accounts, Transfer};
@@ -39,14 +39,14 @@ fn choose(worker: u32, turn: u32, amount: u32) -> Transfer
     ensures to { result.to < 8 }
     ensures apart { result.from ≢ result.to }
 {
-    let from = (worker + turn * (worker + 1)) % ACCOUNTS;
+    let from = (worker + turn) % ACCOUNTS;
     let to = (from + 1 + turn % (ACCOUNTS - 1)) % ACCOUNTS;
     Transfer { from, to, amount }
 }
 
 /// The next amount, by the number with which the last transfer answered: one more than it moved.
 fn next_amount(answered: u64) -> u32 {
-    (answered * 3 % 7) as u32 + 1
+    (answered % 7 * 3 % 7) as u32 + 1
 }
 
 /// Makes the worker's transfers, each of an amount that is chosen by what the one before it moved.
@@ -56,8 +56,7 @@ pub fn work<G: Gate>(
     gate: &mut G,
 ) -> (Runner<Accounts>, Report)
     requires may { MayWork table.now runner }
-    ensures own { IsOf table.now result.0 }
-    ensures number { result.0.number ≡ runner.number }
+    ensures back { CameBack table.now runner result }
     ensures made { result.1.made ≤ 100 }
 {
     let worker = runner.number();

@@ -1,6 +1,19 @@
-use Rattle.std.proofs.Common.{refl}
+use Rattle.std.proofs.Common.{refl, arith}
 use Rattle.lock_tests.proofs.Banks.{new_bank, all_may_move}
 use Rattle.lock_tests.proofs.bank.open_bank.Goals as goal
+
+pub open_table-requires-clause-limits : goal.open_table-requires-clause-limits
+open_table-requires-clause-limits c κs within =
+    let some = c.requires.some.0 in let few = c.requires.workers in
+    record {
+      some_runners = some;
+      few_runners = few;
+      few_nodes = omega (arith, few);
+      some_sections = omega arith;
+      few_sections = omega arith;
+      some_versions = omega arith;
+      few_versions = omega arith;
+    }
 
 pub returns-clause-bank : goal.returns-clause-bank
 returns-clause-bank c =

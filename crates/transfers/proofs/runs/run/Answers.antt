@@ -1,4 +1,5 @@
 use Rattle.std.proofs.Common.{◌≡◌, ◌*◌, ℕ, refl, sym, ap, ◌∙◌, subst, vec_len}
+use Rattle.table_words.specs.declared.layout.Layout.{Layout}
 use Rattle.account_laws.specs.Accounts.{accounts_of}
 use Rattle.accounts.specs.declared.table.Accounts.{Accounts}
 use Rattle.settled_tables.specs.Keeper.{IsIdleKeeper}
@@ -20,6 +21,10 @@ close_table-requires-clause-keeper g c κs within =
 pub close_table-requires-clause-back : goal.close_table-requires-clause-back
 close_table-requires-clause-back g c κs within =
     all_back c.in_ok-table.table c.in_ok-table.workers.items c.in_ok-backs.backs.items c.in_ok-backs.ensures.len c.in_ok-table.ensures.workers c.in_ok-backs.ensures.each
+
+pub close_table-requires-clause-each : goal.close_table-requires-clause-each
+close_table-requires-clause-each g c κs within =
+    c.in_ok-backs.ensures.len ∙ (c.in_ok-table.ensures.len ∙ sym (ap (λ (l : Layout). l.runners) c.in_ok-table.ensures.table.layout))
 
 pub returns-clause-sum : goal.returns-clause-sum
 returns-clause-sum g c =

@@ -1,9 +1,12 @@
-use Rattle.std.proofs.Common.{◌≡◌, ℕ, refl, sym, ap, ◌∙◌, subst, arith}
+use Rattle.std.specs.Prelude.{Result, IfOk}
+use Rattle.std.proofs.Common.{◌≡◌, ℕ, ◌+◌, refl, sym, ap, ◌∙◌, subst, arith}
 use Rattle.map_history.specs.declared.op.Op.TheVariants.{Get}
+use Rattle.attempts.specs.declared.answers.Attempt.{Attempt}
 use Rattle.lock_walks.specs.Wants.{WantsWereRead}
 use Rattle.account_laws.specs.Accounts.{accounts_of}
 use Rattle.accounts.specs.declared.table.Accounts.{Accounts}
 use Rattle.lock_attempts.specs.Tickets.{tickets_for}
+use Rattle.lock_attempts.specs.declared.tickets.Tickets.{Tickets}
 use Rattle.transfers.proofs.works.work.Goals as goal
 
 pub tickets_of-tickets-requires-clause-own : goal.tickets_of-tickets-requires-clause-own
@@ -40,3 +43,24 @@ spend_ticket-next-requires-clause-wants g c κs within =
 
 pub spend_ticket-next-requires-clause-serves : goal.spend_ticket-next-requires-clause-serves
 spend_ticket-next-requires-clause-serves g c κs within = ap (λ p. p.serves (Get 0)) c.walk-walk.ensures.planning
+
+pub loop-turn-preserved : goal.loop-turn-preserved
+loop-turn-preserved g c =
+    let was = c.loop-turn.invariant in
+    let used : c.spend_ticket-next.new.tickets ≡ record (c.loop-turn.tickets) { next = c.loop-turn.tickets.next + 1 } =
+    subst (λ (a : Result ℕ Attempt). IfOk a (λ x. c.spend_ticket-next.new.tickets ≡ record (c.loop-turn.tickets) { next = c.loop-turn.tickets.next + 1 })) c.in-Ok.is c.spend_ticket-next.ensures.used in (
+      c.spend_ticket-next.ensures.own,
+      c.spend_ticket-next.ensures.number ∙ was.1,
+      c.spend_ticket-next.ensures.tickets (λ e. absurd (let z = sym c.in-Ok.is ∙ e in cc)),
+      (let next = ap (λ (x : Tickets). x.next) used in let before = was.3 in omega (arith, next, before)),
+      ap (λ (x : Tickets). x.end) used ∙ was.4,
+    )
+
+pub returns-in-Err-clause-back : goal.returns-in-Err-clause-back
+returns-in-Err-clause-back g c = record {
+  own = c.spend_ticket-next.ensures.own;
+  number = c.spend_ticket-next.ensures.number ∙ c.loop-turn.invariant.1;
+}
+
+pub returns-clause-back : goal.returns-clause-back
+returns-clause-back g c = record { own = c.loop-turn.invariant.0; number = c.loop-turn.invariant.1 }
