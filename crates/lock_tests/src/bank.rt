@@ -1,8 +1,9 @@
 //! Workers that move money between accounts.
 ghost use Rattle.std.specs.Prelude.{◌≡◌, ◌≢◌, ◌*◌, ◌<◌, ◌≤◌, IfOk, All, vec_len};
-ghost use Rattle.accounts.specs.account_laws.specs.Accounts.{accounts_of};
-ghost use Rattle.accounts.specs.version_words.specs.TableState.{IsOf};
+ghost use Rattle.account_laws.specs.Accounts.{accounts_of};
+ghost use Rattle.lock_walks.specs.version_words.specs.TableState.{IsOf};
 ghost use Rattle.settled_tables.specs.Keeper.{IsIdleKeeper};
+ghost use Rattle.settled_tables.specs.Seats.{AreNewWorkers, CameBack, AllCameBack};
 ghost use Rattle.lock_tests.specs.Bank.{IsBank, MayMove};
 
 use accounts::{Accounts, Transfer, balances};

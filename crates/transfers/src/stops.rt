@@ -1,5 +1,5 @@
 //! A gate that stops its worker for good between the two stores of a transfer.
-ghost use Rattle.std.specs.Prelude.{None};
+ghost use Rattle.std.specs.Prelude.{◌≡◌, None};
 
 use body_terms::StepKind;
 use runner_gate::{Gate, Pass};
