@@ -1,0 +1,100 @@
+//! What a worker does.
+ghost use Rattle.std.specs.Prelude.{◌≢◌, ◌<◌, ◌≤◌};
+ghost use Rattle.settled_tables.specs.Seats.{CameBack};
+ghost use Rattle.transfers.specs.Scene.{MayWork};
+
+use accounts::{Accounts, Transfer};
+use body_terms::Steps;
+use lock_attempts::attempts::Attempt;
+use lock_attempts::attempts::version_words::{FlockTable, Runner};
+use lock_attempts::{spend_ticket, tickets_of};
+use map_history::Op;
+use runner_gate::Gate;
+
+/// How many workers there are, and how many transfers each is to make.
+pub const WORKERS: u32 = 4;
+
+pub const EACH: u32 = 100;
+
+/// How many accounts there are, and what each has at first.
+pub const ACCOUNTS: u32 = 8;
+
+pub const OPENING: u32 = 10_000;
+
+/// How often a transfer is attempted again where it was refused.
+const TRIES: u32 = 1_000_000;
+
+/// What a worker reports: how many transfers it made, and whether it was stopped inside one more.
+#[derive(Clone, Copy, Debug, PartialEq, Eq)]
+pub struct Report {
+    pub made: u32,
+    pub stopped: bool,
+}
+
+/// The transfer that a worker makes next: from one account to another, by the worker's number and its turn, of so much.
+fn choose(worker: u32, turn: u32, amount: u32) -> Transfer
+    requires worker { worker < 4 }
+    requires turn { turn < 100 }
+    ensures from { result.from < 8 }
+    ensures to { result.to < 8 }
+    ensures apart { result.from ≢ result.to }
+{
+    let from = (worker + turn) % ACCOUNTS;
+    let to = (from + 1 + turn % (ACCOUNTS - 1)) % ACCOUNTS;
+    Transfer { from, to, amount }
+}
+
+/// The next amount, by the number with which the last transfer answered: one more than it moved.
+fn next_amount(answered: u64) -> u32 {
+    (answered % 7 * 3 % 7) as u32 + 1
+}
+
+/// Makes the worker's transfers, each of an amount that is chosen by what the one before it moved.
+pub fn work<G: Gate>(
+    table: &FlockTable<Accounts>,
+    mut runner: Runner<Accounts>,
+    gate: &mut G,
+) -> (Runner<Accounts>, Report)
+    requires may { MayWork table.now runner }
+    ensures back { CameBack table.now runner result }
+    ensures made { result.1.made ≤ 100 }
+{
+    let worker = runner.number();
+    let mut tickets = tickets_of(table, &runner, EACH);
+    let mut steps = Steps::<()>::new();
+    let mut amount = 1;
+    for turn in 0..EACH {
+        let transfer = choose(worker, turn, amount);
+        let walk = table.structure().walk(table.layout(), Op::Get(0), transfer);
+        let (next, answer) = spend_ticket(
+            table,
+            runner,
+            &mut tickets,
+            walk,
+            TRIES,
+            gate,
+            &mut steps,
+        );
+        runner = next;
+        match answer {
+            Ok(answered) => amount = next_amount(answered),
+            Err(refused) => {
+                let stopped = refused == Attempt::Halted;
+                return (
+                    runner,
+                    Report {
+                        made: turn,
+                        stopped,
+                    },
+                );
+            }
+        }
+    }
+    (
+        runner,
+        Report {
+            made: EACH,
+            stopped: false,
+        },
+    )
+}
