@@ -20,12 +20,12 @@ use Rattle.structure_laws.specs.InTurn.{StandsFor}
 use Rattle.structure_laws.specs.Planner.{Adds, IsQuiet, AreInUse, PlannerLaws}
 use Rattle.structure_laws.proofs.Changes.{upd_other}
 use Rattle.bucket_laws.specs.Walk.{Walk, Stage, AtEdition, AtEnd, start, Bounds, is_wanted, wanted_at, fed, walk}
-use Rattle.bucket_laws.specs.Buckets.{form_of, nodes, bounds, walk_of, BucketsKept, BucketsStand, table, buckets_meaning}
+use Rattle.bucket_laws.specs.Halves.{Insert}
+use Rattle.bucket_laws.specs.Buckets.{nodes, bounds, walk_of, BucketsKept, BucketsStand, table, buckets_meaning}
 use Rattle.bucket_laws.proofs.Chain.{same_on}
 use Rattle.bucket_laws.proofs.Fit.{PutsIn, keeps_gets, fit_of}
-use Rattle.bucket_laws.proofs.Forms.{load_step, want_step, make_step, answer_step}
+use Rattle.bucket_laws.proofs.Halves.{half_is, one_half, number_is, answer_for, load_step, want_step, make_step, answer_step}
 use Rattle.bucket_laws.proofs.Maps.{get_removed}
-use Rattle.bucket_laws.proofs.Sections.{read_insert, insert_remove, insert_set}
 use Rattle.bucket_laws.proofs.TableLaws.{bucket_small}
 use Rattle.bucket_laws.proofs.Walks.{bool_cases, wanted_eq, is_first, edition_kept}
 
@@ -93,11 +93,13 @@ module _ (buckets : ℕ) (bucket : ℕ → ℕ) (small : (key : ℕ) → bucket 
       let wanted = want_step thunk j r w want in
       let read = edition_read buckets bucket small (bounds buckets bucket layout) op readings start readings (λ i p n at. (i, at)) (λ ne. absurd (ne refl)) (λ e. end_edition (sym fit.stage ∙ e)) in
       let lock = fit.lock in
-      let place : p ≡ bucket_edition (bucket (key_of op)) = ⊎_elim
-      (λ edition. let at = edition.2 in omega arith)
-      (⊎_elim (λ insert. absurd (let one = insert.2 in let zero = wanted.0 in omega arith)) (⊎_elim (λ remove. absurd (let one = remove.2 in let zero = wanted.0 in omega arith)) (λ sets. absurd (let one = sets.2 in let zero = wanted.0 in omega arith))))
-      (load_step thunk i p r load) in
-      subst (λ p. IsAmong readings p w) (sym place) (subst (λ w. IsAmong readings (bucket_edition (bucket (key_of op))) w) (sym (wanted.1 ∙ fit.edition)) read)
+      let loaded = load_step thunk i p r load in
+      let half = half_is thunk loaded.0 loaded.1 in
+      let same = half.lock in
+      let register : r ≡ loaded.0.edition_reg = wanted.2 ∙ ap (λ h. h.edition_reg) (one_half thunk wanted.0 loaded.0 wanted.1 loaded.1) in
+      let place : p ≡ bucket_edition (bucket (key_of op)) = ⊎_elim (λ edition. let at = edition.2 in omega arith)
+      (λ target. absurd (half.registers.0 (sym register ∙ target.2))) loaded.2 in
+      subst (λ p. IsAmong readings p w) (sym place) (subst (λ w. IsAmong readings (bucket_edition (bucket (key_of op))) w) (sym (wanted.3 ∙ fit.edition)) read)
     where
       end_edition : AtEnd ≡ AtEdition → ⊥
       end_edition e = cc
@@ -106,10 +108,12 @@ module _ (buckets : ℕ) (bucket : ℕ → ℕ) (small : (key : ℕ) → bucket 
       → slice_get ((table buckets bucket).body thunk) i ≡ Some (Make init r) → slice_get ((table buckets bucket).body thunk) j ≡ Some (Answer reply) → Adds op reply
   make_adds readings op thunk fits i j r reply init make answer =
       let fit = fit_of buckets bucket op (walk_of buckets bucket layout op readings) thunk fits in
-      let form = (make_step thunk i r init make).0 in
-      let insert = (fit.insert form).1 in
-      let added : reply ≡ 1 * 2 ^ 32 = ⊎_elim (λ read. absurd (read_insert (form_of thunk) read.0 form))
-      (⊎_elim (λ new. new.1) (⊎_elim (λ gone. absurd (insert_remove (form_of thunk) form gone.0)) (λ sets. absurd (insert_set (form_of thunk) form sets.0)))) (answer_step thunk j reply answer) in
+      let made = make_step thunk i r init make in
+      let kind = (half_is thunk made.0 made.1).insert.1 made.2 in
+      let insert = (fit.insert (number_is thunk made.0 made.1 Insert kind)).1 in
+      let answered = answer_step thunk j reply answer in
+      let added : reply ≡ 1 * 2 ^ 32 = answered.2 ∙ ap (λ h. answer_for h.kind thunk) (one_half thunk answered.0 made.0 answered.1 made.1)
+      ∙ ap (λ k. answer_for k thunk) kind in
       adds_new op insert.0 insert.1 reply insert.2 added
     where
       adds_new : (op : Op) (key v reply : ℕ) → PutsIn op key v → reply ≡ 1 * 2 ^ 32 → Adds op reply
@@ -132,7 +136,7 @@ module _ (buckets : ℕ) (bucket : ℕ → ℕ) (small : (key : ℕ) → bucket 
     -- with nothing open, a live slot stands in a chain
     on : (i t : ℕ) → slice_get slots i ≡ Some t → stands.on t ≡ true
     on i t at = same_on bucket (nodes buckets bucket s.cells) kept.on stands.on kept.rank stands.rank kept.chains stands.chains t
-        (⊎_elim (λ there. there) (⊎_elim (λ made. absurd (none_section (sym (quiet made.0) ∙ made.2))) (λ taken. absurd (none_section (sym (quiet taken.0) ∙ taken.2)))) (kept.live t (used.live i t at)))
+        (⊎_elim (λ there. there) (λ owned. absurd (none_section (sym (quiet owned.0) ∙ owned.2))) (kept.live t (used.live i t at)))
 
     sized : length slots ≤ 1 * len pairs
     sized =

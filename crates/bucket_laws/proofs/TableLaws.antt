@@ -1,17 +1,16 @@
 -- The hash table meets the laws.
 use Rattle.std.proofs.Common.{◌≡◌, ◌≢◌, ℕ, zero, suc, ◌+◌, ◌*◌, ◌<◌, ◌≤◌, Bool, true, false, cond, refl, sym, ap, ◌∙◌, subst, inl, inr, ⊎_elim, arith}
-use Rattle.std.specs.Prelude.{◌==◌, ◌&&◌, ◌-◌, ◌/◌, ◌%◌, ◌^◌, ◌⊎◌, nat_lt, Option, Some, None, slice_get, slice_index, length}
+use Rattle.std.specs.Prelude.{◌==◌, ◌&&◌, ◌-◌, ◌/◌, ◌%◌, ◌^◌, ◌⊎◌, nat_lt, Option, Some, None, slice_get, slice_index, length, Contains}
 use Rattle.std.specs.FinMap.{get, empty, get-empty}
 use Rattle.std.specs.Ordering.{nat_cmp}
-use Rattle.small_lemmas.proofs.Numbers.{equal_tested as eq_true}
 use Rattle.map_history.specs.declared.op.Op.{Op}
 use Rattle.map_history.specs.declared.op.Op.TheVariants.{Get, Ins, Del, Put, Mov}
 use Rattle.map_history.specs.Keys.{key_of, value_given, IsOneKeyed}
 use Rattle.map_history.specs.Replay.{Pairs}
 use Rattle.body_terms.specs.Update.{upd}
 use Rattle.body_terms.specs.Word.{value_of}
-use Rattle.section_body.specs.Bucket.{bucket_index, bucket_head, operand, is_small, fits_insert, fits_remove}
-use Rattle.bucket_bodies.specs.Table.{fits_set, table_steps}
+use Rattle.section_body.specs.Bucket.{bucket_index, bucket_head, operand, is_small}
+use Rattle.bucket_bodies.specs.Table.{table_steps}
 use Rattle.body_terms.specs.Memory.{cell_of}
 use Rattle.body_terms.specs.Shape.{IsShaped}
 use Rattle.body_terms.specs.declared.value.Value.{Value}
@@ -32,11 +31,14 @@ use Rattle.structure_laws.proofs.Changes.{upd_other}
 use Rattle.structure_laws.proofs.Costs.{shaped_cost}
 use Rattle.bucket_laws.specs.Chain.{Nodes, Chains, Contents}
 use Rattle.bucket_laws.specs.Walk.{AtEdition, AtEnd, Walk, cell_at, form_for, operands_for}
-use Rattle.bucket_laws.specs.Buckets.{Form, Read, Insert, Remove, Set, Empty, form_of, body_of, nodes, is_link_place, walk_of, bounds, BucketsKept, BucketsStand, table, buckets_meaning}
+use Rattle.bucket_laws.specs.Halves.{Kind, Look, Insert, Remove, Set, Half, halves}
+use Rattle.bucket_laws.specs.Buckets.{nodes, is_link_place, walk_of, bounds, BucketsKept, BucketsStand, table, buckets_meaning}
 use Rattle.bucket_laws.proofs.Chain.{same_on, chains_agree}
 use Rattle.bucket_laws.proofs.Fit.{IsFit, fit_of, insert_operands, remove_operands, set_operands, puts_given}
 use Rattle.bucket_laws.proofs.Fitting.{table_fitting}
-use Rattle.bucket_laws.proofs.Forms.{node_init, steps_of, no_take, LoadCase, load_step, StoreCase, store_step, make_step, answer_step}
+use Rattle.bucket_laws.proofs.Halves.{node_init, steps_for, number_of, fits_for, stored_for, answer_for, HasKind, kind_is}
+use Rattle.bucket_laws.proofs.Halves.{half_is, one_half, number_is, place_is, no_take, IsLoad, load_step, IsStore, store_step}
+use Rattle.bucket_laws.proofs.Halves.{make_step, answer_step}
 use Rattle.bucket_laws.proofs.NodeChanges.{clip_same}
 use Rattle.bucket_laws.proofs.TableGives.{reached, table_gives}
 use Rattle.bucket_laws.proofs.TableKeeps.{lock_at, table_keeps}
@@ -50,27 +52,8 @@ live_free x live free = cc
 retired_free : (x : Status) (y : ℕ) → x ≡ Retired y → x ≢ Free
 retired_free x y retired free = cc
 
--- a thunk's form, by its number and by whether its numbers fit
-abbrev by_tests : Bool → Bool → Bool → Bool → Bool → Bool → Bool → Bool → Form
-by_tests d s a p b q c r = cond d (cond s Set Empty) (cond a (cond p Read Empty) (cond b (cond q Insert Empty) (cond c (cond r Remove Empty) Empty)))
-
-is_set : (d s a p b q c r : Bool) → d ≡ true → s ≡ true → by_tests d s a p b q c r ≡ Set
-is_set d s a p b q c r h h' = (λ i. by_tests (h i) (h' i) a p b q c r)
-
-is_read : (d s a p b q c r : Bool) → d ≡ false → a ≡ true → p ≡ true → by_tests d s a p b q c r ≡ Read
-is_read d s a p b q c r other h h' = (λ i. by_tests (other i) s (h i) (h' i) b q c r)
-
-is_insert : (d s a p b q c r : Bool) → d ≡ false → a ≡ false → b ≡ true → q ≡ true → by_tests d s a p b q c r ≡ Insert
-is_insert d s a p b q c r other none h h' = (λ i. by_tests (other i) s (none i) p (h i) (h' i) c r)
-
-is_remove : (d s a p b q c r : Bool) → d ≡ false → a ≡ false → b ≡ false → c ≡ true → r ≡ true → by_tests d s a p b q c r ≡ Remove
-is_remove d s a p b q c r other none none' h h' = (λ i. by_tests (other i) s (none i) p (none' i) q (h i) (h' i))
-
 small_is : (n : ℕ) → n < 2 ^ 32 → is_small n ≡ true
 small_is n low = grind arith
-
-eq_false : (a b c : ℕ) → a ≡ b → b ≢ c → (a == c) ≡ false
-eq_false a b c e ne = grind arith
 
 three_true : (a b c : Bool) → a ≡ true → b ≡ true → c ≡ true → (a && (b && c)) ≡ true
 three_true a b c h h' h'' = (λ i. h i && (h' i && h'' i))
@@ -151,34 +134,31 @@ module _ (buckets : ℕ) (bucket : ℕ → ℕ) (small : (key : ℕ) → bucket 
   number_at : (k : ℕ) → operand thunk k ≡ slice_index (operands_for buckets op own_walk own_walk.found) k
   number_at k = ap (λ numbers. slice_index numbers k) fit.operands
 
-  not_form : (n k : ℕ) → form_for op own_walk.found ≡ n → n ≢ k → (thunk.form == k) ≡ false
-  not_form n k form ne = eq_false thunk.form n k (fit.form ∙ form) ne
+  numbered : (k : Kind) → form_for op own_walk.found ≡ number_of k → fits_for k thunk ≡ true → HasKind thunk k
+  numbered k form small = kind_is thunk k (fit.form ∙ form) small
 
-  read_form : form_for op own_walk.found ≡ 1 → form_of thunk ≡ Read
-  read_form form = is_read (thunk.form == 4) (fits_set thunk) (thunk.form == 1) (is_small (thunk.lock + 1)) (thunk.form == 2) (fits_insert thunk) (thunk.form == 3)
-      (fits_remove thunk) (not_form 1 4 form (λ e. omega arith)) (eq_true thunk.form 1 (fit.form ∙ form)) (small_is (thunk.lock + 1) (let low = lock_small in omega arith))
+  look_form : form_for op own_walk.found ≡ 1 → HasKind thunk Look
+  look_form form = numbered Look form (small_is (thunk.lock + 1) (let low = lock_small in omega arith))
 
-  insert_form : form_for op own_walk.found ≡ 2 → form_of thunk ≡ Insert
+  insert_form : form_for op own_walk.found ≡ 2 → HasKind thunk Insert
   insert_form form =
       let named = (insert_operands buckets op own_walk own_walk.found form).1 in
       let is_key : key_of op ≡ named.0 = named.2.0 in
       let key_low = allowed.keys (key_of op) (inl refl) in
       let value_low = allowed.value named.1 (puts_given op named.0 named.1 named.2) in
       let head_low = (walk_facts buckets bucket small (bounds buckets bucket layout) op readings).head_small in
-      is_insert (thunk.form == 4) (fits_set thunk) (thunk.form == 1) (is_small (thunk.lock + 1)) (thunk.form == 2) (fits_insert thunk) (thunk.form == 3) (fits_remove thunk)
-      (not_form 2 4 form (λ e. omega arith)) (not_form 2 1 form (λ e. omega arith)) (eq_true thunk.form 2 (fit.form ∙ form))
+      numbered Insert form
       (four_true _ _ _ _ (small_is (thunk.lock + 2) lock_small) (small_is (operand thunk 1) (let at = number_at 1 ∙ named.3 in omega arith)) (small_is (operand thunk 2) (let at = number_at 2 ∙ named.4 in omega arith))
       (small_is (operand thunk 3) (let at = number_at 3 ∙ named.5 in omega arith)))
 
-  remove_form : form_for op own_walk.found ≡ 3 → form_of thunk ≡ Remove
+  remove_form : form_for op own_walk.found ≡ 3 → HasKind thunk Remove
   remove_form form =
       let named = (remove_operands buckets op own_walk own_walk.found form).1 in
       let facts = walk_facts buckets bucket small (bounds buckets bucket layout) op readings in
       let slot_low = facts.slot_small in
       let next_low = facts.next_small in
       let place_low = place_small in
-      is_remove (thunk.form == 4) (fits_set thunk) (thunk.form == 1) (is_small (thunk.lock + 1)) (thunk.form == 2) (fits_insert thunk) (thunk.form == 3) (fits_remove thunk)
-      (not_form 3 4 form (λ e. omega arith)) (not_form 3 1 form (λ e. omega arith)) (not_form 3 2 form (λ e. omega arith)) (eq_true thunk.form 3 (fit.form ∙ form))
+      numbered Remove form
       (four_true _ _ _ _ (small_is (thunk.lock + 1) (let low = lock_small in omega arith)) (small_is (operand thunk 1) (let at = number_at 1 ∙ named.1 in omega arith)) (small_is (operand thunk 2) (let at = number_at 2 ∙ named.2 in omega arith))
       (small_is (operand thunk 3) (let at = number_at 3 ∙ named.3 in omega arith)))
 
@@ -186,7 +166,7 @@ module _ (buckets : ℕ) (bucket : ℕ → ℕ) (small : (key : ℕ) → bucket 
   found_given : own_walk.found ≡ true → Gives buckets bucket small readings own_walk.slot
   found_given found = (walk_facts buckets bucket small (bounds buckets bucket layout) op readings).slot (inr (inr (inr found)))
 
-  set_form : form_for op own_walk.found ≡ 4 → form_of thunk ≡ Set
+  set_form : form_for op own_walk.found ≡ 4 → HasKind thunk Set
   set_form form =
       let operands = set_operands buckets op own_walk own_walk.found form in
       let named = operands.1 in
@@ -194,29 +174,30 @@ module _ (buckets : ℕ) (bucket : ℕ → ℕ) (small : (key : ℕ) → bucket 
       let nodes = limits.few_nodes in
       let runners = limits.few_runners in
       let value_low = allowed.value named.1 (ap value_given named.2) in
-      is_set (thunk.form == 4) (fits_set thunk) (thunk.form == 1) (is_small (thunk.lock + 1)) (thunk.form == 2) (fits_insert thunk) (thunk.form == 3) (fits_remove thunk)
-      (eq_true thunk.form 4 (fit.form ∙ form))
+      numbered Set form
       (three_true _ _ _ (small_is (thunk.lock + 1) (let low = lock_small in omega arith)) (small_is (operand thunk 1) (let at = number_at 1 ∙ named.3 in omega arith)) (small_is (operand thunk 2) (let at = number_at 2 ∙ named.4 in omega arith)))
 
   -- the cell of the value that is to be set
-  set_cell : form_of thunk ≡ Set → (t : ℕ) × Gives buckets bucket small readings t × (operand thunk 1 ≡ 3 * buckets + 5 * t + 2)
+  set_cell : thunk.form ≡ 4 → (t : ℕ) × Gives buckets bucket small readings t × (operand thunk 1 ≡ 3 * buckets + 5 * t + 2)
   set_cell form = let sets = fit.sets form in (own_walk.slot, found_given sets.0, sets.1.3)
 
   -- what a removal's link is
-  remove_link : form_of thunk ≡ Remove → (operand thunk 1 ≡ 3 * own + 2) ⊎ ((t : ℕ) × Gives buckets bucket small readings t × (operand thunk 1 ≡ 3 * buckets + 5 * t + 3))
+  remove_link : thunk.form ≡ 3 → (operand thunk 1 ≡ 3 * own + 2) ⊎ ((t : ℕ) × Gives buckets bucket small readings t × (operand thunk 1 ≡ 3 * buckets + 5 * t + 3))
   remove_link form = let named = (fit.remove form).1 in ⊎_elim (λ head. inl (named.1 ∙ head)) (λ node. inr (node.0, node.1, named.1 ∙ node.2)) link_place
 
   shaped : IsShaped (table_steps thunk)
-  shaped = subst IsShaped (sym (steps_of thunk)) (⊎_elim
-      (λ form. subst (λ f. IsShaped (body_of f thunk)) (sym (read_form form)) (read_shaped thunk))
-      (⊎_elim (λ form. subst (λ f. IsShaped (body_of f thunk)) (sym (insert_form form)) (insert_shaped thunk))
-      (⊎_elim (λ form. subst (λ f. IsShaped (body_of f thunk)) (sym (remove_form form)) (remove_shaped thunk (apart (remove_form form))))
-      (λ form. subst (λ f. IsShaped (body_of f thunk)) (sym (set_form form)) (set_shaped thunk (set_apart (set_form form)))))) (form_cases op own_walk.found fit.one))
+  shaped = ⊎_elim (λ form. of_kind Look (look_form form) (read_shaped thunk))
+      (⊎_elim (λ form. of_kind Insert (insert_form form) (insert_shaped thunk))
+      (⊎_elim (λ form. let kind = remove_form form in of_kind Remove kind (remove_shaped thunk (apart kind.0)))
+      (λ form. let kind = set_form form in of_kind Set kind (set_shaped thunk (set_apart kind.0))))) (form_cases op own_walk.found fit.one)
     where
-      set_apart : form_of thunk ≡ Set → operand thunk 1 ≢ thunk.lock + 1
+      of_kind : (k : Kind) → HasKind thunk k → IsShaped (steps_for k thunk) → IsShaped (table_steps thunk)
+      of_kind k kind shape = subst IsShaped (sym kind.1) shape
+
+      set_apart : thunk.form ≡ 4 → operand thunk 1 ≢ thunk.lock + 1
       set_apart form e = let at = lock_is in let low = small (key_of op) in let place = (set_cell form).2 in omega arith
 
-      apart : form_of thunk ≡ Remove → operand thunk 1 ≢ thunk.lock + 1
+      apart : thunk.form ≡ 3 → operand thunk 1 ≢ thunk.lock + 1
       apart form e = let at = lock_is in let low = small (key_of op) in ⊎_elim (λ head. omega arith) (λ node. let place = node.2 in omega arith) (remove_link form)
 
   abbrev known : ℕ → Type 0
@@ -231,18 +212,39 @@ module _ (buckets : ℕ) (bucket : ℕ → ℕ) (small : (key : ℕ) → bucket 
   abbrev PlaceIs : ℕ → Type 0
   PlaceIs p = ((k : ℕ) × (1 ≤ k) × (k ≤ 2) × (p ≡ 3 * own + k)) ⊎ ((t k : ℕ) × Gives buckets bucket small readings t × (k < 5) × (p ≡ 3 * buckets + 5 * t + k))
 
+  -- what a half changes
+  place_of : (h : Half) → Contains (halves thunk) h → h.change < h.edition
+      → (h.target ≡ 3 * own + 2) ⊎ ((t k : ℕ) × Gives buckets bucket small readings t × (k < 5) × (h.target ≡ 3 * buckets + 5 * t + k))
+  place_of h has changes = by h.kind refl
+    where
+      by : (k : Kind) → h.kind ≡ k → (h.target ≡ 3 * own + 2) ⊎ ((t k : ℕ) × Gives buckets bucket small readings t × (k < 5) × (h.target ≡ 3 * buckets + 5 * t + k))
+      by Look kind = let none = (half_is thunk h has).look.0 kind in absurd (omega arith)
+      by Insert kind = let lock = lock_is in let place : h.target ≡ thunk.lock + 2 = place_is thunk h has Insert kind in inl (omega arith)
+      by Remove kind = let place = place_is thunk h has Remove kind in
+          ⊎_elim (λ head. inl (place ∙ head)) (λ node. inr (node.0, 3, node.1, omega arith, place ∙ node.2)) (remove_link (number_is thunk h has Remove kind))
+      by Set kind = let cell = set_cell (number_is thunk h has Set kind) in inr (cell.0, 2, cell.1, omega arith, place_is thunk h has Set kind ∙ cell.2)
+
   load_place : (j p r : ℕ) → slice_get (table_steps thunk) j ≡ Some (Load p r) → PlaceIs p
-  load_place j p r h = let lock = lock_is in ⊎_elim (λ edition. inl (1, omega arith, omega arith, (let at = edition.2 in omega arith)))
-      (⊎_elim (λ insert. inl (2, omega arith, omega arith, (let at = insert.3 in omega arith)))
-      (⊎_elim (λ remove. ⊎_elim (λ head. inl (2, omega arith, omega arith, remove.3 ∙ head)) (λ node. inr (node.0, 3, node.1, omega arith, remove.3 ∙ node.2)) (remove_link remove.0))
-      (λ sets. let cell = set_cell sets.0 in inr (cell.0, 2, cell.1, omega arith, sets.3 ∙ cell.2)))) (load_step thunk j p r h)
+  load_place j p r load =
+      let step = load_step thunk j p r load in
+      let lock = lock_is in
+      let same = (half_is thunk step.0 step.1).lock in
+      ⊎_elim (λ edition. let at = edition.2 in inl (1, omega arith, omega arith, omega arith))
+      (λ target. ⊎_elim (λ head. inl (2, omega arith, omega arith, target.3 ∙ head)) (λ node. inr (node.0, node.1, node.2, node.3, target.3 ∙ node.4))
+      (place_of step.0 step.1 target.0)) step.2
 
   store_small : (j r : ℕ) (v : Value) → slice_get (table_steps thunk) j ≡ Some (Store r v) → IsSmall v
-  store_small j r v h = ⊎_elim (λ a. subst IsSmall (sym a.3) tt) (⊎_elim (λ a. subst IsSmall (sym a.3) (omega arith))
-      (⊎_elim (λ a. subst IsSmall (sym a.3) (let named = (fit.remove a.0).1 in let low = (walk_facts buckets bucket small (bounds buckets bucket layout) op readings).next_small in let at = named.3 in omega arith))
-      (⊎_elim (λ a. subst IsSmall (sym a.3) (omega arith))
-      (⊎_elim (λ a. subst IsSmall (sym a.3) (let named = (fit.sets a.0).1 in let low = allowed.value named.1 (ap value_given named.2) in let at = named.4 in omega arith))
-      (λ a. subst IsSmall (sym a.3) (omega arith)))))) (store_step thunk j r v h)
+  store_small j r v store =
+      let step = store_step thunk j r v store in
+      ⊎_elim (λ change. subst IsSmall (sym change.2) (by step.0 step.1 step.0.kind refl)) (λ edition. subst IsSmall (sym edition.2) (omega arith)) step.3
+    where
+      by : (h : Half) → Contains (halves thunk) h → (k : Kind) → h.kind ≡ k → IsSmall (stored_for k thunk)
+      by h has Look kind = omega arith
+      by h has Insert kind = tt
+      by h has Remove kind = let named = (fit.remove (number_is thunk h has Remove kind)).1 in
+          let low = (walk_facts buckets bucket small (bounds buckets bucket layout) op readings).next_small in let at = named.3 in omega arith
+      by h has Set kind = let named = (fit.sets (number_is thunk h has Set kind)).1 in
+          let low = allowed.value named.1 (ap value_given named.2) in let at = named.4 in omega arith
 
   pub table_shaped : Shaped (table buckets bucket) layout readings thunk
   table_shaped = record {
@@ -260,55 +262,54 @@ module _ (buckets : ℕ) (bucket : ℕ → ℕ) (small : (key : ℕ) → bucket 
     load_unlocked = λ j p r h. ⊎_elim (λ low. ap (λ p. nat_lt p (3 * buckets) && (p % 3 == 0)) low.3 ∙ no_lock_low own low.0 (3 * buckets) low.1 low.2)
         (λ node. no_lock_high p (3 * buckets) (let at = node.4 in omega arith)) (load_place j p r h);
     load_known = λ j p r h. ⊎_elim (λ low. inl (let at = low.3 in let high = low.2 in let below = small (key_of op) in omega arith)) (λ node. inr (node.0, (node.1, node.3, node.4), inr node.2)) (load_place j p r h);
-    load_once = λ i j p q r h h'. once i j p (loads_at i p q (load_step thunk i p q h)) (loads_at j p r (load_step thunk j p r h'));
-    store_once = λ i j r v w h h'. stores_at i r v (store_step thunk i r v h) ∙ sym (stores_at j r w (store_step thunk j r w h'));
+    load_once = λ i j p q r h h'. loaded_once i j p q r h h';
+    store_once = λ i j r v w h h'. stored_once (store_step thunk i r v h) (store_step thunk j r w h');
     store_small = store_small;
-    make_whole = λ j r init h. ap (λ init. length init.cells) (make_step thunk j r init h).3;
-    make_small = λ j r i init v h at. init_small i v (make_step thunk j r init h).0 (sym (ap (λ init. slice_get init.cells i) (make_step thunk j r init h).3) ∙ at);
+    make_whole = λ j r init h. ap (λ init. length init.cells) (make_step thunk j r init h).5;
+    make_small = λ j r i init v h at. let make = make_step thunk j r init h in
+        init_small i v (number_is thunk make.0 make.1 Insert ((half_is thunk make.0 make.1).insert.1 make.2)) (sym (ap (λ init. slice_get init.cells i) make.5) ∙ at);
     make_unlocked = λ j r i t init v h at lock. absurd (let below = (lock_at buckets (3 * buckets + 5 * t + i) lock).0 in omega arith);
-    answers = λ j n h. ⊎_elim (λ read. let at = read.1 ∙ number_at 1 in let some = reply_some buckets op own_walk own_walk.found (read_back read.0) in omega arith)
-        (⊎_elim (λ insert. let at = insert.1 in omega arith) (⊎_elim (λ remove. let at = remove.1 in omega arith) (λ sets. let at = sets.1 ∙ (fit.sets sets.0).1.5 in omega arith))) (answer_step thunk j n h);
+    answers = λ j n h. let answer = answer_step thunk j n h in subst (λ n. 0 < n) (sym answer.2) (answers answer.0 answer.1 answer.0.kind refl);
   }
     where
-      read_back : form_of thunk ≡ Read → form_for op own_walk.found ≡ 1
-      read_back form = ⊎_elim (λ one. one) (⊎_elim (λ two. absurd (read_insert (sym form ∙ insert_form two)))
-          (⊎_elim (λ three. absurd (read_remove (sym form ∙ remove_form three))) (λ four. absurd (read_set (sym form ∙ set_form four))))) (form_cases op own_walk.found fit.one)
+      answers : (h : Half) → Contains (halves thunk) h → (k : Kind) → h.kind ≡ k → 0 < answer_for k thunk
+      answers h has Look kind = let at = number_at 1 in
+          let some = reply_some buckets op own_walk own_walk.found (sym fit.form ∙ number_is thunk h has Look kind) in omega arith
+      answers h has Insert kind = omega arith
+      answers h has Remove kind = omega arith
+      answers h has Set kind = let at = (fit.sets (number_is thunk h has Set kind)).1.5 in omega arith
+
+      -- the edition and what the half changes are two places
+      target_apart : (h : Half) → Contains (halves thunk) h → h.change < h.edition → h.target ≡ h.lock + 1 → ⊥
+      target_apart h has changes e =
+          let lock = lock_is in
+          let same = (half_is thunk h has).lock in
+          let low = small (key_of op) in
+          ⊎_elim (λ head. omega arith) (λ node. let at = node.4 in omega arith) (place_of h has changes)
+
+      loaded_once : (i j p q r : ℕ) → slice_get (table_steps thunk) i ≡ Some (Load p q) → slice_get (table_steps thunk) j ≡ Some (Load p r) → i ≡ j
+      loaded_once i j p q r one other =
+          let step = load_step thunk i p q one in
+          let step' = load_step thunk j p r other in
+          by step.0 step.1 step.2 (subst (λ h. IsLoad h j p r) (one_half thunk step'.0 step.0 step'.1 step.1) step'.2)
         where
-          read_insert : Read ≡ Insert → ⊥
-          read_insert e = cc
+          by : (h : Half) → Contains (halves thunk) h → IsLoad h i p q → IsLoad h j p r → i ≡ j
+          by h has a b = ⊎_elim
+              (λ x. ⊎_elim (λ y. let at = x.0 in let at' = y.0 in omega arith) (λ y. absurd (target_apart h has y.0 (sym y.3 ∙ x.2))) b)
+              (λ x. ⊎_elim (λ y. absurd (target_apart h has x.0 (sym x.3 ∙ y.2))) (λ y. x.1 ∙ sym y.1) b) a
 
-          read_remove : Read ≡ Remove → ⊥
-          read_remove e = cc
-
-          read_set : Read ≡ Set → ⊥
-          read_set e = cc
-
-      -- the edition is loaded first, and any other place later
-      loads_at : (i p r : ℕ) → LoadCase (form_of thunk) thunk i p r → ((i ≡ 0) × (p ≡ thunk.lock + 1)) ⊎ ((i ≡ 3) × (p ≢ thunk.lock + 1))
-      loads_at i p r cases = let lock = lock_is in let low = small (key_of op) in ⊎_elim (λ first. inl (first.0, first.2))
-          (⊎_elim (λ insert. inr (insert.1, λ e. let at = insert.3 in omega arith))
-          (⊎_elim (λ remove. inr (remove.1, λ e. let at = remove.3 in ⊎_elim (λ head. omega arith) (λ node. let place = node.2 in omega arith) (remove_link remove.0)))
-          (λ sets. inr (sets.1, λ e. let at = sets.3 in let place = (set_cell sets.0).2 in omega arith)))) cases
-
-      once : (i j p : ℕ) → ((i ≡ 0) × (p ≡ thunk.lock + 1)) ⊎ ((i ≡ 3) × (p ≢ thunk.lock + 1)) → ((j ≡ 0) × (p ≡ thunk.lock + 1)) ⊎ ((j ≡ 3) × (p ≢ thunk.lock + 1)) → i ≡ j
-      once i j p a b = ⊎_elim (λ x. ⊎_elim (λ y. x.0 ∙ sym y.0) (λ y. absurd (y.1 x.1)) b) (λ x. ⊎_elim (λ y. absurd (x.1 y.1)) (λ y. x.0 ∙ sym y.0) b) a
-
-      -- the place of a Store goes by the form and the register
-      store_at : Form → ℕ → ℕ
-      store_at Read r = 0
-      store_at Insert r = 8 - r
-      store_at Remove r = 7 - r
-      store_at Set r = 7 - r
-      store_at Empty r = 0
-
-      stores_at : (i r : ℕ) (v : Value) → StoreCase (form_of thunk) thunk i r v → i ≡ store_at (form_of thunk) r
-      stores_at i r v cases = ⊎_elim (λ a. a.1 ∙ at a.0 a.2) (⊎_elim (λ a. a.1 ∙ at a.0 a.2) (⊎_elim (λ a. a.1 ∙ at a.0 a.2) (⊎_elim (λ a. a.1 ∙ at a.0 a.2)
-          (⊎_elim (λ a. a.1 ∙ at a.0 a.2) (λ a. a.1 ∙ at a.0 a.2))))) cases
+      -- the place of a Store goes by the half and the register
+      stored_once : {i j r : ℕ} {v w : Value} → (h : Half) × Contains (halves thunk) h × (h.change < h.edition) × IsStore thunk h i r v
+          → (h : Half) × Contains (halves thunk) h × (h.change < h.edition) × IsStore thunk h j r w → i ≡ j
+      stored_once {i} {j} {r} {v} {w} one other = by one.0 one.1 one.3 (subst (λ h. IsStore thunk h j r w) (one_half thunk other.0 one.0 other.1 one.1) other.3)
         where
-          at : {f : Form} {n : ℕ} → form_of thunk ≡ f → r ≡ n → store_at f n ≡ store_at (form_of thunk) r
-          at form same = (λ k. store_at (sym form k) (sym same k))
+          by : (h : Half) → Contains (halves thunk) h → IsStore thunk h i r v → IsStore thunk h j r w → i ≡ j
+          by h has a b =
+              let apart = (half_is thunk h has).registers.0 in
+              ⊎_elim (λ x. ⊎_elim (λ y. x.0 ∙ sym y.0) (λ y. absurd (apart (sym y.1 ∙ x.1))) b)
+              (λ x. ⊎_elim (λ y. absurd (apart (sym x.1 ∙ y.1))) (λ y. x.0 ∙ sym y.0) b) a
 
-      init_small : (i : ℕ) (v : Value) → form_of thunk ≡ Insert → slice_get (node_init thunk).cells i ≡ Some v → IsSmall v
+      init_small : (i : ℕ) (v : Value) → thunk.form ≡ 2 → slice_get (node_init thunk).cells i ≡ Some v → IsSmall v
       init_small i v form h =
           let named = (fit.insert form).1 in
           let is_key : key_of op ≡ named.0 = named.2.0 in
@@ -408,10 +409,9 @@ module _ (buckets : ℕ) (bucket : ℕ → ℕ) (small : (key : ℕ) → bucket 
     on_live = λ t on. absurd (false_true on);
     readers = λ r readings op h. absurd (none_some (sym (first.reader r) ∙ h));
     sections = λ d x h. absurd (none_section (sym (first.section d) ∙ h));
-    made = λ d x h. absurd (none_section (sym (first.section d) ∙ h));
-    linked = λ d x h. absurd (none_section (sym (first.section d) ∙ h));
-    valued = λ d x h. absurd (none_section (sym (first.section d) ∙ h));
-    taken = λ d x h. absurd (none_section (sym (first.section d) ∙ h));
+    made = λ d x h at. absurd (none_section (sym (first.section d) ∙ at));
+    target = λ d x h at. absurd (none_section (sym (first.section d) ∙ at));
+    taken = λ d x h at. absurd (none_section (sym (first.section d) ∙ at));
     live = λ t h. absurd (not_live t (sym (first.status t) ∙ h));
     limbo = λ q y t h. absurd (not_retired q y (sym (first.status q) ∙ h));
   }
