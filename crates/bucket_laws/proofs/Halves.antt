@@ -1,7 +1,7 @@
 -- Where the steps of a half stand in its body, and of which half a step is.
 use Rattle.std.proofs.Common.{◌≡◌, ◌≢◌, ℕ, zero, suc, ◌+◌, ◌<◌, ◌≤◌, Bool, true, false, cond, refl, sym, ap, ◌∙◌, subst}
 use Rattle.std.proofs.Common.{inl, inr, ⊎_elim, arith}
-use Rattle.std.specs.Prelude.{◌==◌, ◌*◌, ◌^◌, ◌⊎◌, Some, None, List, [], ◌∷◌, Contains, length, slice_get, slice_index_or}
+use Rattle.std.specs.Prelude.{◌==◌, ◌*◌, ◌^◌, ◌⊎◌, Some, None, List, [], ◌∷◌, Contains, slice_get, slice_index_or}
 use Rattle.small_lemmas.proofs.Numbers.{tested_equal as equal_of}
 use Rattle.section_body.specs.Bucket.{operand, fits_read, fits_insert, fits_remove}
 use Rattle.section_body.specs.Bucket.{read_steps, insert_steps, remove_steps}
@@ -353,8 +353,11 @@ module _ (t : Thunk) where
       → (k : Kind) × Contains (halves t) (half_of k t) × StepIs (steps_for k t) j step
   by_half j step h = ⊎_elim
       (λ none. absurd (empty_step j step (subst (λ body. StepIs body j step) none.0 h)))
-      (λ some. (some.0, subst (λ hs. Contains hs (half_of some.0 t)) (sym some.1.2) (0, omega arith, refl),
-      subst (λ body. StepIs body j step) some.1.1 h)) body_cases
+      (λ some. (
+        some.0,
+        subst (λ hs. Contains hs (half_of some.0 t)) (sym some.1.2) (0, omega arith, refl),
+        subst (λ body. StepIs body j step) some.1.1 h,
+      )) body_cases
 
   pub no_take : (j l w : ℕ) → StepIs (table_steps t) j (Take l w) → ⊥
   no_take j l w h = let by = by_half j (Take l w) h in no_take_in by.0 t j l w by.2

@@ -1,17 +1,15 @@
 -- What holds of an open section of the hash table.
-use Rattle.std.proofs.Common.{◌≡◌, ◌≢◌, ℕ, suc, ◌+◌, ◌*◌, ◌<◌, ◌≤◌, Bool, true, refl, sym, ap, ◌∙◌, subst, inl, inr, ⊎_elim, arith}
-use Rattle.std.specs.Prelude.{◌⊎◌, Some, slice_get}
+use Rattle.std.proofs.Common.{◌≡◌, ℕ, suc, ◌+◌, ◌*◌, ◌<◌, ◌≤◌, Bool, refl, sym, ap, ◌∙◌, subst, inl, inr, ⊎_elim, arith}
+use Rattle.std.specs.Prelude.{◌⊎◌, Some}
 use mathlib.Core.Logic.{dite}
 use native.Mathlib.Decide.{ℕ_discrete}
 use Rattle.small_lemmas.proofs.Lists.{some_same as some_inj}
 use Rattle.map_history.specs.Keys.{key_of}
 use Rattle.body_terms.specs.Word.{value_of}
 use Rattle.section_body.specs.Bucket.{bucket_lock, bucket_edition, bucket_head, operand}
-use Rattle.body_terms.specs.declared.value.Value.{Value}
-use Rattle.body_terms.specs.declared.step.Step.TheVariants.{Load, Want, Store}
 use Rattle.table_words.specs.declared.layout.Layout.{Layout}
 use Rattle.structure_laws.specs.Scene.{Cells, Section, Scene}
-use Rattle.structure_laws.specs.Sections.{Here, IsStep}
+use Rattle.structure_laws.specs.Sections.{Here}
 use Rattle.structure_laws.specs.Sound.{Sound}
 use Rattle.bucket_laws.specs.Halves.{Kind, Look, Insert, Remove, Set, Half, HasHalf, IsPending}
 use Rattle.bucket_laws.specs.Walk.{AtEnd, Walk, cell_at}

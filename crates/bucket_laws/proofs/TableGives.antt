@@ -145,8 +145,10 @@ module _ (buckets : ℕ) (bucket : ℕ → ℕ) (small : (key : ℕ) → bucket 
   pub target_live : (d : ℕ) (x : Section) (h : Half) → Here s d x → HasHalf x h → h.wanted ≤ x.at → x.at ≤ h.retire → h.kind ≡ Remove
       → (s.status (operand x.thunk 2) ≡ Live) × (value_of (s.cells (cell_at buckets bucket (operand x.thunk 2) 1)) ≡ key_of x.op)
   target_live d x h here has past early kind = ⊎_elim
-      (λ before. (kept.on_live (operand x.thunk 2) (target_on d x h here has past before kind),
-      (remove_target buckets bucket layout s sound kept d x h here has past before kind).key))
+      (λ before. (
+        kept.on_live (operand x.thunk 2) (target_on d x h here has past before kind),
+        (remove_target buckets bucket layout s sound kept d x h here has past before kind).key,
+      ))
       (λ after. let was = kept.taken d x h here has (after, early) in (was.live, was.key)) (split x.at h.change)
     where
       split : (a b : ℕ) → (a ≤ b) ⊎ (b < a)

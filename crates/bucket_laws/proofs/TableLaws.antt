@@ -11,10 +11,8 @@ use Rattle.body_terms.specs.Update.{upd}
 use Rattle.body_terms.specs.Word.{value_of}
 use Rattle.section_body.specs.Bucket.{bucket_index, bucket_head, operand, is_small}
 use Rattle.bucket_bodies.specs.Table.{table_steps}
-use Rattle.body_terms.specs.Memory.{cell_of}
 use Rattle.body_terms.specs.Shape.{IsShaped}
 use Rattle.body_terms.specs.declared.value.Value.{Value}
-use Rattle.body_terms.specs.declared.value.Value.TheVariants.{Const, Made}
 use Rattle.body_terms.specs.declared.step.Step.TheVariants.{Load, Store}
 use Rattle.body_terms.specs.declared.thunk.Thunk.{Thunk}
 use Rattle.table_words.specs.declared.layout.Layout.{Layout}

@@ -12,11 +12,10 @@ use Rattle.body_terms.specs.Word.{value_of}
 use Rattle.section_body.specs.Bucket.{operand}
 use Rattle.bucket_bodies.specs.Table.{table_steps}
 use Rattle.body_terms.specs.declared.value.Value.{Value}
-use Rattle.body_terms.specs.declared.value.Value.TheVariants.{Const, Made}
+use Rattle.body_terms.specs.declared.value.Value.TheVariants.{Const}
 use Rattle.body_terms.specs.declared.value.Init.{Init}
 use Rattle.body_terms.specs.declared.step.Step.{Step}
 use Rattle.body_terms.specs.declared.step.Step.TheVariants.{Load, Make, Store, Retire}
-use Rattle.body_terms.specs.declared.thunk.Thunk.{Thunk}
 use Rattle.table_words.specs.declared.layout.Layout.{Layout}
 use Rattle.structure_laws.specs.Scene.{Section, Status, Free, Live, Retired, Scene, with_status, passes, sets}
 use Rattle.structure_laws.specs.Sections.{Here, IsStep, value_in}
@@ -28,7 +27,7 @@ use Rattle.structure_laws.proofs.Progress.{stepped}
 use Rattle.bucket_laws.specs.Walk.{Walk, cell_at}
 use Rattle.bucket_laws.specs.Halves.{Half, HasHalf, IsMaking, IsTaking, IsPending, Owns, Insert}
 use Rattle.bucket_laws.specs.Buckets.{IsTargetOf, IsWalked, walk_of, IsMade, IsTaken, BucketsKept, table}
-use Rattle.bucket_laws.proofs.Halves.{IsHalf, half_is, one_half, number_is, stored_for, node_init, load_step, make_step, retire_step}
+use Rattle.bucket_laws.proofs.Halves.{half_is, one_half, number_is, stored_for, node_init, load_step, make_step, retire_step}
 use Rattle.bucket_laws.proofs.Places.{is_node_link}
 use Rattle.bucket_laws.proofs.Sections.{fit, one_bucket}
 use Rattle.bucket_laws.proofs.TableGives.{next_leads, target_now}
@@ -161,11 +160,16 @@ module _ (buckets : ℕ) (bucket : ℕ → ℕ) (small : (key : ℕ) → bucket 
     still_pending reg i pending =
         let h = pending.0 in
         let late : h.change < x.at = pending.3 in
-        let early : x.at ≤ h.edition = pending.4 in
-        (h, pending.1, pending.2, omega arith, ⊎_elim
-        (λ last. absurd (no_store h.edition_reg (Const 0) (step_at b h.edition (Store h.edition_reg (Const 0)) step
-        ((half_is x.thunk h pending.1).steps (omega arith)).3 last)))
-        (λ before. before) (below_or x.at h.edition early))
+        let early : x.at ≤ h.edition = pending.4 in (
+          h,
+          pending.1,
+          pending.2,
+          omega arith,
+          ⊎_elim
+              (λ last. absurd (no_store h.edition_reg (Const 0) (step_at b h.edition (Store h.edition_reg (Const 0)) step
+              ((half_is x.thunk h pending.1).steps (omega arith)).3 last)))
+              (λ before. before) (below_or x.at h.edition early),
+        )
 
     -- and what was taken out before it still is
     still_taken : (h : Half) → HasHalf x h → IsTaking (stepped x x.reg) h → IsTaking x h

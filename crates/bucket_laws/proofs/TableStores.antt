@@ -29,7 +29,7 @@ use Rattle.bucket_laws.specs.Halves.{Kind, Look, Insert, Remove, Set, Half, HasH
 use Rattle.bucket_laws.specs.Buckets.{nodes, IsNode, IsLinkOf, IsValueOf, IsTargetOf, IsWalked, walk_of, Knows, IsTaken, BucketsKept, table}
 use Rattle.bucket_laws.proofs.Chain.{insert, remove_first, remove_next, chains_agree}
 use Rattle.bucket_laws.proofs.Elsewhere.{IsElsewhere, knows_on, edition_seen}
-use Rattle.bucket_laws.proofs.Halves.{IsHalf, half_is, one_half, number_is, place_is, stored_for, IsStore, store_step, load_place}
+use Rattle.bucket_laws.proofs.Halves.{IsHalf, half_is, one_half, number_is, place_is, stored_for, store_step, load_place}
 use Rattle.bucket_laws.proofs.NodeChanges.{head_changed, next_changed, none_changed, clip_same}
 use Rattle.bucket_laws.proofs.Sections.{target_stays, fit, one_bucket, half_lock, making_known}
 use Rattle.bucket_laws.proofs.Sections.{insert_head, insert_missing, remove_target, IsTarget}

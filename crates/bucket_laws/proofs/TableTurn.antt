@@ -15,7 +15,7 @@ use Rattle.body_terms.specs.Update.{upd}
 use Rattle.body_terms.specs.Word.{value_of, next_word}
 use Rattle.section_body.specs.Bucket.{bucket_head, operand}
 use Rattle.bucket_bodies.specs.Table.{table_steps}
-use Rattle.body_terms.specs.declared.value.Value.TheVariants.{Const, Made}
+use Rattle.body_terms.specs.declared.value.Value.TheVariants.{Made}
 use Rattle.body_terms.specs.declared.step.Step.TheVariants.{Answer}
 use Rattle.table_words.specs.declared.layout.Layout.{Layout}
 use Rattle.table_words.specs.Limits.{IsWithinLimits}
