@@ -13,7 +13,7 @@ use Rattle.bucket_laws.specs.Walk.{AtEnd, Bounds, Walk, form_for, operands_for, 
 use Rattle.bucket_laws.specs.Halves.{Kind, Look, Insert, Remove, Set, Half, halves}
 use Rattle.bucket_laws.specs.Buckets.{bounds, walk_of, table}
 use Rattle.bucket_laws.proofs.Fit.{IsFit, fit_of}
-use Rattle.bucket_laws.proofs.Halves.{half_is, number_is, stored_for, answer_for, answer_step}
+use Rattle.bucket_laws.proofs.Halves.{half_is, number_is, stored_for, answer_for, step_of}
 
 -- a body that reads alone answers what leaves the map as it was
 read_leaves : (buckets : ℕ) (op : Op) (w : Walk) (found : Bool) → form_for op found ≡ 1 → Leaves op (slice_index (operands_for buckets op w found) 1)
@@ -65,7 +65,7 @@ module _ (buckets : ℕ) (bucket : ℕ → ℕ) where
 
     still : StoresNothing (table buckets bucket) thunk → (j reply : ℕ) → slice_get ((table buckets bucket).body thunk) j ≡ Some (Answer reply) → Leaves op reply
     still none j reply h =
-        let answer = answer_step thunk j reply h in
+        let answer = step_of thunk j (Answer reply) h in
         subst (Leaves op) (sym answer.2) (by answer.0 answer.1 answer.0.kind refl)
       where
         by : (h : Half) → Contains (halves thunk) h → (k : Kind) → h.kind ≡ k → Leaves op (answer_for k thunk)

@@ -2,6 +2,7 @@
 use Rattle.std.proofs.Common.{◌≡◌, ◌≢◌, ℕ, zero, suc, ◌+◌, ◌<◌, ◌≤◌, Bool, true, false, cond, refl, sym, ap, ◌∙◌, subst}
 use Rattle.std.proofs.Common.{inl, inr, ⊎_elim, arith}
 use Rattle.std.specs.Prelude.{◌==◌, ◌*◌, ◌^◌, ◌⊎◌, Some, None, List, [], ◌∷◌, Contains, slice_get, slice_index_or}
+use Rattle.small_lemmas.proofs.Lists.{some_same as some_inj}
 use Rattle.small_lemmas.proofs.Numbers.{tested_equal as equal_of}
 use Rattle.section_body.specs.Bucket.{operand, fits_read, fits_insert, fits_remove}
 use Rattle.section_body.specs.Bucket.{read_steps, insert_steps, remove_steps}
@@ -73,13 +74,6 @@ pub record IsHalf (t : Thunk) (body : List Step) (h : Half) : Type 0 where
   -- past its Make there is no exit, and the body goes on behind its places
   pub no_exit : (j : ℕ) (step : Step) → StepIs body j step → h.made ≤ j → is_exit step ≡ false
   pub whole : (j : ℕ) → slice_get body j ≡ None → h.made < j → (h.edition < j) × (h.retire < j)
-
--- a body without a Take
-no_take_in : (k : Kind) (t : Thunk) (j l w : ℕ) → StepIs (steps_for k t) j (Take l w) → ⊥
-no_take_in Look t j l w h = grind arith
-no_take_in Insert t j l w h = grind arith
-no_take_in Remove t j l w h = grind arith
-no_take_in Set t j l w h = grind arith
 
 -- past the exits
 late : (k : Kind) (t : Thunk) (j : ℕ) (step : Step) → StepIs (steps_for k t) j step → (half_of k t).made ≤ j
@@ -170,76 +164,44 @@ half_in Set t number = record {
   whole = ended Set t;
 }
 
-kind_same : (k : Kind) (t : Thunk) → (half_of k t).kind ≡ k
-kind_same Look t = refl
-kind_same Insert t = refl
-kind_same Remove t = refl
-kind_same Set t = refl
-
--- a Load is of the edition, or of the place that the half changes
-abbrev pub IsLoad : Half → ℕ → ℕ → ℕ → Type 0
-IsLoad h j p r = ((suc (suc j) ≡ h.wanted) × (r ≡ h.edition_reg) × (p ≡ h.lock + 1))
+-- what a step at this place of the half's body is
+abbrev pub IsOf : Thunk → Half → ℕ → Step → Type 0
+IsOf t h j (Load p r) = ((suc (suc j) ≡ h.wanted) × (r ≡ h.edition_reg) × (p ≡ h.lock + 1))
     ⊎ ((h.change < h.edition) × (j ≡ h.load) × (r ≡ h.target_reg) × (p ≡ h.target))
+IsOf t h j (Want r w) = (r ≡ h.edition_reg) × (w ≡ operand t 0)
+IsOf t h j (Fresh r) = Unit {0}
+IsOf t h j (Take l w) = ⊥
+IsOf t h j (Make init r) = (h.made < h.change) × (j ≡ h.made) × (r ≡ h.node_reg) × (init ≡ node_init t)
+IsOf t h j Stamp = (h.wanted ≤ j) × (j ≤ h.change) × (h.made < h.change → h.made < j)
+IsOf t h j (Store r v) = (h.change < h.edition) × (((j ≡ h.change) × (r ≡ h.target_reg) × (v ≡ stored_for h.kind t))
+    ⊎ ((j ≡ h.edition) × (r ≡ h.edition_reg) × (v ≡ Const 0)))
+IsOf t h j (Retire slot) = (h.change < h.retire) × (j ≡ h.retire) × (slot ≡ operand t 2)
+IsOf t h j (Answer n) = n ≡ answer_for h.kind t
 
-load_in : (k : Kind) (t : Thunk) (j p r : ℕ) → StepIs (steps_for k t) j (Load p r) → IsLoad (half_of k t) j p r
-load_in Look t j p r h = grind arith
-load_in Insert t j p r h = grind arith
-load_in Remove t j p r h = grind arith
-load_in Set t j p r h = grind arith
+empty_step : (j : ℕ) (step : Step) → StepIs [] j step → ⊥
+empty_step j step h = grind arith
 
--- a Store is to that place, or to the edition
-abbrev pub IsStore : Thunk → Half → ℕ → ℕ → Value → Type 0
-IsStore t h j r v = ((j ≡ h.change) × (r ≡ h.target_reg) × (v ≡ stored_for h.kind t))
-    ⊎ ((j ≡ h.edition) × (r ≡ h.edition_reg) × (v ≡ Const 0))
+-- a fact of each step of a body and its place
+abbrev pub Each : (ℕ → Step → Type 0) → List Step → Type 0
+Each P [] = Unit {0}
+Each P (step ∷ steps) = P 0 step × Each (λ j. P (suc j)) steps
 
-pub store_in : (k : Kind) (t : Thunk) (j r : ℕ) (v : Value) → StepIs (steps_for k t) j (Store r v)
-    → ((half_of k t).change < (half_of k t).edition) × IsStore t (half_of k t) j r v
-store_in Look t j r v h = absurd (grind arith)
-store_in Insert t j r v h = (omega arith, grind arith)
-store_in Remove t j r v h = (omega arith, grind arith)
-store_in Set t j r v h = (omega arith, grind arith)
+pub each_at : (P : ℕ → Step → Type 0) (steps : List Step) → Each P steps → (j : ℕ) (step : Step) → StepIs steps j step → P j step
+each_at P [] each j step h = absurd (empty_step j step h)
+each_at P (first ∷ steps) each zero step h = subst (P 0) (some_inj h) each.0
+each_at P (first ∷ steps) each (suc j) step h = each_at (λ j. P (suc j)) steps each.1 j step h
 
-want_in : (k : Kind) (t : Thunk) (j r w : ℕ) → StepIs (steps_for k t) j (Want r w)
-    → (r ≡ (half_of k t).edition_reg) × (w ≡ operand t 0)
-want_in Look t j r w h = (grind arith, grind arith)
-want_in Insert t j r w h = (grind arith, grind arith)
-want_in Remove t j r w h = (grind arith, grind arith)
-want_in Set t j r w h = (grind arith, grind arith)
-
-abbrev IsMake : Thunk → Half → ℕ → ℕ → Init → Type 0
-IsMake t h j r init = (h.made < h.change) × (j ≡ h.made) × (r ≡ h.node_reg) × (init ≡ node_init t)
-
-make_in : (k : Kind) (t : Thunk) (j r : ℕ) (init : Init) → StepIs (steps_for k t) j (Make init r)
-    → IsMake t (half_of k t) j r init
-make_in Look t j r init h = absurd (grind arith)
-make_in Insert t j r init h = (omega arith, grind arith, grind arith, grind arith)
-make_in Remove t j r init h = absurd (grind arith)
-make_in Set t j r init h = absurd (grind arith)
-
-abbrev IsRetire : Thunk → Half → ℕ → ℕ → Type 0
-IsRetire t h j slot = (h.change < h.retire) × (j ≡ h.retire) × (slot ≡ operand t 2)
-
-retire_in : (k : Kind) (t : Thunk) (j slot : ℕ) → StepIs (steps_for k t) j (Retire slot)
-    → IsRetire t (half_of k t) j slot
-retire_in Look t j slot h = absurd (grind arith)
-retire_in Insert t j slot h = absurd (grind arith)
-retire_in Remove t j slot h = (omega arith, grind arith, grind arith)
-retire_in Set t j slot h = absurd (grind arith)
-
-abbrev IsStamp : Half → ℕ → Type 0
-IsStamp h j = (h.wanted ≤ j) × (j ≤ h.change) × (h.made < h.change → h.made < j)
-
-stamp_in : (k : Kind) (t : Thunk) (j : ℕ) → StepIs (steps_for k t) j Stamp → IsStamp (half_of k t) j
-stamp_in Look t j h = let at : j ≡ 2 = grind arith in (omega arith, omega arith, λ lt. absurd (omega arith))
-stamp_in Insert t j h = let at : j ≡ 6 = grind arith in (omega arith, omega arith, λ lt. omega arith)
-stamp_in Remove t j h = let at : j ≡ 5 = grind arith in (omega arith, omega arith, λ lt. absurd (omega arith))
-stamp_in Set t j h = let at : j ≡ 5 = grind arith in (omega arith, omega arith, λ lt. absurd (omega arith))
-
-answer_in : (k : Kind) (t : Thunk) (j n : ℕ) → StepIs (steps_for k t) j (Answer n) → n ≡ answer_for k t
-answer_in Look t j n h = grind arith
-answer_in Insert t j n h = let same : n ≡ 1 * 2 ^ 32 = grind arith in same
-answer_in Remove t j n h = let same : n ≡ 4 * 2 ^ 32 = grind arith in same
-answer_in Set t j n h = grind arith
+pub steps_in : (k : Kind) (t : Thunk) → Each (IsOf t (half_of k t)) (steps_for k t)
+steps_in Look t = (inl (refl, refl, refl), ((refl, refl), ((omega arith, omega arith, λ lt. absurd (omega arith)), (refl, tt))))
+steps_in Insert t = (inl (refl, refl, refl), ((refl, refl), (tt, (inr (omega arith, refl, refl, refl), (tt,
+    ((omega arith, refl, refl, refl), ((omega arith, omega arith, λ lt. omega arith), ((omega arith, inl (refl, refl, refl)),
+    ((omega arith, inr (refl, refl, refl)), (refl, tt))))))))))
+steps_in Remove t = (inl (refl, refl, refl), ((refl, refl), (tt, (inr (omega arith, refl, refl, refl), (tt,
+    ((omega arith, omega arith, λ lt. absurd (omega arith)), ((omega arith, inl (refl, refl, refl)),
+    ((omega arith, inr (refl, refl, refl)), ((omega arith, refl, refl), (refl, tt))))))))))
+steps_in Set t = (inl (refl, refl, refl), ((refl, refl), (tt, (inr (omega arith, refl, refl, refl), (tt,
+    ((omega arith, omega arith, λ lt. absurd (omega arith)), ((omega arith, inl (refl, refl, refl)),
+    ((omega arith, inr (refl, refl, refl)), (refl, tt)))))))))
 
 -- of one half it is the only one
 only : (h h' : Half) → Contains (h ∷ []) h' → h ≡ h'
@@ -252,15 +214,6 @@ only h h' has = at has.0 has.1 has.2
 abbrev tests : {A : Type 0} → (d s a p b q c r : Bool) → (set look insert remove none : A) → A
 tests d s a p b q c r set look insert remove none =
     cond d (cond s set none) (cond a (cond p look none) (cond b (cond q insert none) (cond c (cond r remove none) none)))
-
-eq_true : (a b : ℕ) → a ≡ b → (a == b) ≡ true
-eq_true a b h = grind arith
-
-eq_false : (a b c : ℕ) → a ≡ b → b ≢ c → (a == c) ≡ false
-eq_false a b c e ne = grind arith
-
-empty_step : (j : ℕ) (step : Step) → StepIs [] j step → ⊥
-empty_step j step h = grind arith
 
 -- whether each number of the form fits
 abbrev pub fits_for : Kind → Thunk → Bool
@@ -285,17 +238,10 @@ module _ (t : Thunk) where
 
   pick_for : {A : Type 0} (k : Kind) (of_kind : Kind → A) (none : A) → t.form ≡ number_of k → fits_for k t ≡ true
       → picked (of_kind Set) (of_kind Look) (of_kind Insert) (of_kind Remove) none ≡ of_kind k
-  pick_for Look of_kind none e f = (λ i. tests (eq_false t.form 1 4 e (λ e. omega arith) i) (fits_set t)
-      (eq_true t.form 1 e i) (f i) (t.form == 2) (fits_insert t) (t.form == 3) (fits_remove t) (of_kind Set)
-      (of_kind Look) (of_kind Insert) (of_kind Remove) none)
-  pick_for Insert of_kind none e f = (λ i. tests (eq_false t.form 2 4 e (λ e. omega arith) i) (fits_set t)
-      (eq_false t.form 2 1 e (λ e. omega arith) i) (fits_read t) (eq_true t.form 2 e i) (f i) (t.form == 3)
-      (fits_remove t) (of_kind Set) (of_kind Look) (of_kind Insert) (of_kind Remove) none)
-  pick_for Remove of_kind none e f = (λ i. tests (eq_false t.form 3 4 e (λ e. omega arith) i) (fits_set t)
-      (eq_false t.form 3 1 e (λ e. omega arith) i) (fits_read t) (eq_false t.form 3 2 e (λ e. omega arith) i)
-      (fits_insert t) (eq_true t.form 3 e i) (f i) (of_kind Set) (of_kind Look) (of_kind Insert) (of_kind Remove) none)
-  pick_for Set of_kind none e f = (λ i. tests (eq_true t.form 4 e i) (f i) (t.form == 1) (fits_read t) (t.form == 2)
-      (fits_insert t) (t.form == 3) (fits_remove t) (of_kind Set) (of_kind Look) (of_kind Insert) (of_kind Remove) none)
+  pick_for Look of_kind none e f = grind arith
+  pick_for Insert of_kind none e f = grind arith
+  pick_for Remove of_kind none e f = grind arith
+  pick_for Set of_kind none e f = grind arith
 
   pub kind_is : (k : Kind) → t.form ≡ number_of k → fits_for k t ≡ true → HasKind k
   kind_is k number fits =
@@ -349,69 +295,38 @@ module _ (t : Thunk) where
       ∙ only (half_of some.0 t) h' (subst (λ hs. Contains hs h') some.1.2 has')) body_cases
 
   -- a step of the body is one of its half's
-  by_half : (j : ℕ) (step : Step) → StepIs (table_steps t) j step
-      → (k : Kind) × Contains (halves t) (half_of k t) × StepIs (steps_for k t) j step
-  by_half j step h = ⊎_elim
-      (λ none. absurd (empty_step j step (subst (λ body. StepIs body j step) none.0 h)))
-      (λ some. (
-        some.0,
-        subst (λ hs. Contains hs (half_of some.0 t)) (sym some.1.2) (0, omega arith, refl),
-        subst (λ body. StepIs body j step) some.1.1 h,
+  pub step_of : (j : ℕ) (step : Step) → StepIs (table_steps t) j step
+      → (h : Half) × Contains (halves t) h × IsOf t h j step
+  step_of j step at = ⊎_elim
+      (λ none. absurd (empty_step j step (subst (λ body. StepIs body j step) none.0 at)))
+      (λ some. let k = some.0 in (
+        half_of k t,
+        subst (λ hs. Contains hs (half_of k t)) (sym some.1.2) (0, omega arith, refl),
+        each_at (IsOf t (half_of k t)) (steps_for k t) (steps_in k t) j step (subst (λ body. StepIs body j step) some.1.1 at),
       )) body_cases
 
   pub no_take : (j l w : ℕ) → StepIs (table_steps t) j (Take l w) → ⊥
-  no_take j l w h = let by = by_half j (Take l w) h in no_take_in by.0 t j l w by.2
+  no_take j l w at = (step_of j (Take l w) at).2
 
-  pub load_step : (j p r : ℕ) → StepIs (table_steps t) j (Load p r) → (h : Half) × Contains (halves t) h × IsLoad h j p r
-  load_step j p r h = let by = by_half j (Load p r) h in (half_of by.0 t, by.1, load_in by.0 t j p r by.2)
-
-  pub store_step : (j r : ℕ) (v : Value) → StepIs (table_steps t) j (Store r v)
-      → (h : Half) × Contains (halves t) h × (h.change < h.edition) × IsStore t h j r v
-  store_step j r v h =
-      let by = by_half j (Store r v) h in let store = store_in by.0 t j r v by.2 in (half_of by.0 t, by.1, store.0, store.1)
-
-  pub want_step : (j r w : ℕ) → StepIs (table_steps t) j (Want r w)
-      → (h : Half) × Contains (halves t) h × (r ≡ h.edition_reg) × (w ≡ operand t 0)
-  want_step j r w h =
-      let by = by_half j (Want r w) h in let want = want_in by.0 t j r w by.2 in (half_of by.0 t, by.1, want.0, want.1)
-
-  pub make_step : (j r : ℕ) (init : Init) → StepIs (table_steps t) j (Make init r)
-      → (h : Half) × Contains (halves t) h × (h.made < h.change) × (j ≡ h.made) × (r ≡ h.node_reg) × (init ≡ node_init t)
-  make_step j r init h =
-      let by = by_half j (Make init r) h in
-      let make = make_in by.0 t j r init by.2 in
-      (half_of by.0 t, by.1, make.0, make.1, make.2, make.3)
-
-  pub retire_step : (j slot : ℕ) → StepIs (table_steps t) j (Retire slot)
-      → (h : Half) × Contains (halves t) h × (h.change < h.retire) × (j ≡ h.retire) × (slot ≡ operand t 2)
-  retire_step j slot h =
-      let by = by_half j (Retire slot) h in
-      let retire = retire_in by.0 t j slot by.2 in
-      (half_of by.0 t, by.1, retire.0, retire.1, retire.2)
-
-  -- the Stamp comes once the edition is known and a node is made, before any change
-  pub stamp_step : (j : ℕ) → StepIs (table_steps t) j Stamp
-      → (h : Half) × Contains (halves t) h × (h.wanted ≤ j) × (j ≤ h.change) × (h.made < h.change → h.made < j)
-  stamp_step j h =
-      let by = by_half j Stamp h in
-      let stamp = stamp_in by.0 t j by.2 in
-      (half_of by.0 t, by.1, stamp.0, stamp.1, stamp.2)
-
-  pub answer_step : (j n : ℕ) → StepIs (table_steps t) j (Answer n)
-      → (h : Half) × Contains (halves t) h × (n ≡ answer_for h.kind t)
-  answer_step j n h =
-      let by = by_half j (Answer n) h in
-      (half_of by.0 t, by.1, answer_in by.0 t j n by.2 ∙ ap (λ k. answer_for k t) (sym (kind_same by.0 t)))
-
-  -- where the half changes something, what it does stands where the half says
   module _ (h : Half) (has : Contains (halves t) h) where
+    -- and so of this one
+    pub half_step : (j : ℕ) (step : Step) → StepIs (table_steps t) j step → IsOf t h j step
+    half_step j step at = let of = step_of j step at in subst (λ h. IsOf t h j step) (one_half of.0 h of.1 has) of.2
+
     -- each Store is at its change or later
     pub store_late : (i r : ℕ) (v : Value) → StepIs (table_steps t) i (Store r v) → h.change ≤ i
     store_late i r v store =
-        let step = store_step i r v store in
-        let late : step.0.change ≤ i = ⊎_elim (λ a. let at = a.0 in omega arith)
-        (λ b. let at = b.0 in let order = (half_is step.0 step.1).order.3 in omega arith) step.3 in
-        subst (λ h. h.change ≤ i) (one_half step.0 h step.1 has) late
+        let pending = (half_is h has).order.3 in
+        ⊎_elim (λ change. let at = change.0 in omega arith) (λ edition. let at = edition.0 in omega arith)
+        (half_step i (Store r v) store).1
+
+    -- what is loaded into a register goes by the register
+    pub load_place : (j p r : ℕ) → StepIs (table_steps t) j (Load p r)
+        → (r ≡ h.target_reg → p ≡ h.target) × (r ≡ h.edition_reg → p ≡ h.lock + 1)
+    load_place j p r load =
+        let apart = (half_is h has).registers.0 in
+        ⊎_elim (λ edition. (λ same. absurd (apart (sym edition.1 ∙ same)), λ same. edition.2))
+        (λ target. (λ same. target.3, λ same. absurd (apart (sym same ∙ target.2)))) (half_step j (Load p r) load)
 
     -- the number of its form, and the place that it changes, by its kind
     pub number_is : (k : Kind) → h.kind ≡ k → t.form ≡ number_of k
@@ -419,14 +334,3 @@ module _ (t : Thunk) where
 
     pub place_is : (k : Kind) → h.kind ≡ k → h.target ≡ (half_of k t).target
     place_is k kind = (half_is h has).place ∙ ap (λ k. (half_of k t).target) kind
-
-    -- and what it loads into a register goes by the register
-    pub load_place : (j p r : ℕ) → StepIs (table_steps t) j (Load p r)
-        → (r ≡ h.target_reg → p ≡ h.target) × (r ≡ h.edition_reg → p ≡ h.lock + 1)
-    load_place j p r load =
-        let step = load_step j p r load in
-        let apart = (half_is step.0 step.1).registers.0 in
-        subst (λ h. (r ≡ h.target_reg → p ≡ h.target) × (r ≡ h.edition_reg → p ≡ h.lock + 1))
-        (one_half step.0 h step.1 has)
-        (⊎_elim (λ edition. (λ same. absurd (apart (sym edition.1 ∙ same)), λ same. edition.2))
-        (λ target. (λ same. target.3, λ same. absurd (apart (sym same ∙ target.2)))) step.2)

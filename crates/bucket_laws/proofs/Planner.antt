@@ -24,7 +24,7 @@ use Rattle.bucket_laws.specs.Halves.{Insert}
 use Rattle.bucket_laws.specs.Buckets.{nodes, bounds, walk_of, BucketsKept, BucketsStand, table, buckets_meaning}
 use Rattle.bucket_laws.proofs.Chain.{same_on}
 use Rattle.bucket_laws.proofs.Fit.{PutsIn, keeps_gets, fit_of}
-use Rattle.bucket_laws.proofs.Halves.{half_is, one_half, number_is, answer_for, load_step, want_step, make_step, answer_step}
+use Rattle.bucket_laws.proofs.Halves.{half_is, number_is, answer_for, step_of, half_step}
 use Rattle.bucket_laws.proofs.Maps.{get_removed}
 use Rattle.bucket_laws.proofs.TableLaws.{bucket_small}
 use Rattle.bucket_laws.proofs.Walks.{bool_cases, wanted_eq, is_first, edition_kept}
@@ -90,16 +90,14 @@ module _ (buckets : ℕ) (bucket : ℕ → ℕ) (small : (key : ℕ) → bucket 
       → slice_get ((table buckets bucket).body thunk) i ≡ Some (Load p r) → slice_get ((table buckets bucket).body thunk) j ≡ Some (Want r w) → IsAmong readings p w
   want_read readings op thunk fits i j p r w load want =
       let fit = fit_of buckets bucket op (walk_of buckets bucket layout op readings) thunk fits in
-      let wanted = want_step thunk j r w want in
+      let wanted = step_of thunk j (Want r w) want in
       let read = edition_read buckets bucket small (bounds buckets bucket layout) op readings start readings (λ i p n at. (i, at)) (λ ne. absurd (ne refl)) (λ e. end_edition (sym fit.stage ∙ e)) in
       let lock = fit.lock in
-      let loaded = load_step thunk i p r load in
-      let half = half_is thunk loaded.0 loaded.1 in
+      let half = half_is thunk wanted.0 wanted.1 in
       let same = half.lock in
-      let register : r ≡ loaded.0.edition_reg = wanted.2 ∙ ap (λ h. h.edition_reg) (one_half thunk wanted.0 loaded.0 wanted.1 loaded.1) in
       let place : p ≡ bucket_edition (bucket (key_of op)) = ⊎_elim (λ edition. let at = edition.2 in omega arith)
-      (λ target. absurd (half.registers.0 (sym register ∙ target.2))) loaded.2 in
-      subst (λ p. IsAmong readings p w) (sym place) (subst (λ w. IsAmong readings (bucket_edition (bucket (key_of op))) w) (sym (wanted.3 ∙ fit.edition)) read)
+      (λ target. absurd (half.registers.0 (sym wanted.2.0 ∙ target.2))) (half_step thunk wanted.0 wanted.1 i (Load p r) load) in
+      subst (λ p. IsAmong readings p w) (sym place) (subst (λ w. IsAmong readings (bucket_edition (bucket (key_of op))) w) (sym (wanted.2.1 ∙ fit.edition)) read)
     where
       end_edition : AtEnd ≡ AtEdition → ⊥
       end_edition e = cc
@@ -108,12 +106,10 @@ module _ (buckets : ℕ) (bucket : ℕ → ℕ) (small : (key : ℕ) → bucket 
       → slice_get ((table buckets bucket).body thunk) i ≡ Some (Make init r) → slice_get ((table buckets bucket).body thunk) j ≡ Some (Answer reply) → Adds op reply
   make_adds readings op thunk fits i j r reply init make answer =
       let fit = fit_of buckets bucket op (walk_of buckets bucket layout op readings) thunk fits in
-      let made = make_step thunk i r init make in
-      let kind = (half_is thunk made.0 made.1).insert.1 made.2 in
+      let made = step_of thunk i (Make init r) make in
+      let kind = (half_is thunk made.0 made.1).insert.1 made.2.0 in
       let insert = (fit.insert (number_is thunk made.0 made.1 Insert kind)).1 in
-      let answered = answer_step thunk j reply answer in
-      let added : reply ≡ 1 * 2 ^ 32 = answered.2 ∙ ap (λ h. answer_for h.kind thunk) (one_half thunk answered.0 made.0 answered.1 made.1)
-      ∙ ap (λ k. answer_for k thunk) kind in
+      let added : reply ≡ 1 * 2 ^ 32 = half_step thunk made.0 made.1 j (Answer reply) answer ∙ ap (λ k. answer_for k thunk) kind in
       adds_new op insert.0 insert.1 reply insert.2 added
     where
       adds_new : (op : Op) (key v reply : ℕ) → PutsIn op key v → reply ≡ 1 * 2 ^ 32 → Adds op reply

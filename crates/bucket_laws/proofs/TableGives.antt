@@ -22,7 +22,7 @@ use Rattle.structure_laws.proofs.Changes.{upd_other}
 use Rattle.bucket_laws.specs.Walk.{cell_at}
 use Rattle.bucket_laws.specs.Halves.{Kind, Look, Insert, Remove, Set, Half, HasHalf, IsMaking}
 use Rattle.bucket_laws.specs.Buckets.{is_link_place, guard_of, IsNode, IsTargetOf, BucketsKept, table}
-use Rattle.bucket_laws.proofs.Halves.{half_is, one_half, store_late, place_is, load_step, retire_step}
+use Rattle.bucket_laws.proofs.Halves.{half_is, store_late, place_is, step_of, half_step}
 use Rattle.bucket_laws.proofs.Sections.{IsPlaceIn, target_place, fit, walk_at, one_bucket, half_lock, making_known}
 use Rattle.bucket_laws.proofs.Sections.{insert_head, remove_target, set_target}
 use Rattle.bucket_laws.proofs.Walks.{reached_on}
@@ -159,7 +159,7 @@ module _ (buckets : ℕ) (bucket : ℕ → ℕ) (small : (key : ℕ) → bucket 
       → ((h : Half) → HasHalf x h → h.change < h.edition → j ≡ h.load → h.load ≤ x.at)
       → (p ≡ 3 * bucket (key_of x.op) + 1) ⊎ IsPlaceIn buckets bucket s.cells kept.on (bucket (key_of x.op)) p
   loaded_place d j p r x here load past =
-      let step = load_step x.thunk j p r load in
+      let step = step_of x.thunk j (Load p r) load in
       let h = step.0 in
       ⊎_elim (λ edition. inl (edition.2 ∙ ap (λ n. n + 1) (half_lock buckets bucket layout s sound kept d x h here step.1)))
       (λ target. inr (subst (IsPlaceIn buckets bucket s.cells kept.on (bucket (key_of x.op))) (sym target.3)
@@ -234,11 +234,11 @@ module _ (buckets : ℕ) (bucket : ℕ → ℕ) (small : (key : ℕ) → bucket 
         let one = one_bucket buckets bucket layout s sound kept d e x y here there (ap bucket (sym key ∙ key')) in
         (one, retired_at d e i j t x y here there one h h');
     retire_unlinked = λ d t p x here h used links.
-        let step = retire_step x.thunk x.at t h in
-        let lt = step.2 in
-        let at = step.3 in
+        let step = step_of x.thunk x.at (Retire t) h in
+        let lt = step.2.0 in
+        let at = step.2.1 in
         let taken = kept.taken d x step.0 here step.1 (omega arith, omega arith) in
-        true_false (used_leads p t used links) (ap kept.on step.4 ∙ taken.out);
+        true_false (used_leads p t used links) (ap kept.on step.2.2 ∙ taken.out);
     store_used = store_used;
     one_key = λ map d e x y here there ne settled settled' unstored unstored' key depends depends'.
         ne (one_bucket buckets bucket layout s sound kept d e x y here there (ap bucket (own_key d x key here depends ∙ sym (own_key e y key there depends'))));
@@ -251,23 +251,22 @@ module _ (buckets : ℕ) (bucket : ℕ → ℕ) (small : (key : ℕ) → bucket 
       retiring : (d j t : ℕ) (x : Section) → Here s d x → Settled (table buckets bucket) x → x.at ≤ j → IsStep (table buckets bucket) x j (Retire t)
           → (s.status t ≡ Live) × (value_of (s.cells (cell_at buckets bucket t 1)) ≡ key_of x.op)
       retiring d j t x here settled le h =
-          let step = retire_step x.thunk j t h in
+          let step = step_of x.thunk j (Retire t) h in
           let half = half_is x.thunk step.0 step.1 in
-          let kind = half.remove.1 step.2 in
-          let lt = step.2 in
-          let at = step.3 in
-          let making = half.order.2 in
+          let lt = step.2.0 in
+          let at = step.2.1 in
           let known = half.order.0 in
+          let making = half.order.2 in
           let past = half_settled x step.0 step.1 (half.changing (omega arith)) settled in
-          subst (λ t. (s.status t ≡ Live) × (value_of (s.cells (cell_at buckets bucket t 1)) ≡ key_of x.op)) (sym step.4)
-          (target_live d x step.0 here step.1 (omega arith) (omega arith) kind)
+          subst (λ t. (s.status t ≡ Live) × (value_of (s.cells (cell_at buckets bucket t 1)) ≡ key_of x.op)) (sym step.2.2)
+          (target_live d x step.0 here step.1 (omega arith) (omega arith) (half.remove.1 lt))
 
       -- one section retires at one place of its body
       retired_at : (d e i j t : ℕ) (x y : Section) → Here s d x → Here s e y → d ≡ e → IsStep (table buckets bucket) x i (Retire t) → IsStep (table buckets bucket) y j (Retire t) → i ≡ j
       retired_at d e i j t x y here there same h h' =
-          let step = retire_step x.thunk i t h in
-          let step' = retire_step x.thunk j t (subst (λ z. IsStep (table buckets bucket) z j (Retire t)) (some_inj (sym there ∙ ap s.section (sym same) ∙ here)) h') in
-          step.3 ∙ ap (λ h. h.retire) (one_half x.thunk step.0 step'.0 step.1 step'.1) ∙ sym step'.3
+          let step = step_of x.thunk i (Retire t) h in
+          let h'' = subst (λ z. IsStep (table buckets bucket) z j (Retire t)) (some_inj (sym there ∙ ap s.section (sym same) ∙ here)) h' in
+          step.2.1 ∙ sym (half_step x.thunk step.0 step.1 j (Retire t) h'').1
 
       own_key : (d : ℕ) (x : Section) (key : ℕ) → Here s d x → DependsOn x.op key → key_of x.op ≡ key
       own_key d x key here depends = key_is x.op key (fit buckets bucket layout s sound kept d x here).one depends

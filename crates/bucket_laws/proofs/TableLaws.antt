@@ -13,7 +13,7 @@ use Rattle.section_body.specs.Bucket.{bucket_index, bucket_head, operand, is_sma
 use Rattle.bucket_bodies.specs.Table.{table_steps}
 use Rattle.body_terms.specs.Shape.{IsShaped}
 use Rattle.body_terms.specs.declared.value.Value.{Value}
-use Rattle.body_terms.specs.declared.step.Step.TheVariants.{Load, Store}
+use Rattle.body_terms.specs.declared.step.Step.TheVariants.{Load, Make, Store, Answer}
 use Rattle.body_terms.specs.declared.thunk.Thunk.{Thunk}
 use Rattle.table_words.specs.declared.layout.Layout.{Layout}
 use Rattle.table_words.specs.Limits.{IsWithinLimits}
@@ -35,8 +35,7 @@ use Rattle.bucket_laws.proofs.Chain.{same_on, chains_agree}
 use Rattle.bucket_laws.proofs.Fit.{IsFit, fit_of, insert_operands, remove_operands, set_operands, puts_given}
 use Rattle.bucket_laws.proofs.Fitting.{table_fitting}
 use Rattle.bucket_laws.proofs.Halves.{node_init, steps_for, number_of, fits_for, stored_for, answer_for, HasKind, kind_is}
-use Rattle.bucket_laws.proofs.Halves.{half_is, one_half, number_is, place_is, no_take, IsLoad, load_step, IsStore, store_step}
-use Rattle.bucket_laws.proofs.Halves.{make_step, answer_step}
+use Rattle.bucket_laws.proofs.Halves.{half_is, number_is, place_is, step_of, no_take, half_step}
 use Rattle.bucket_laws.proofs.NodeChanges.{clip_same}
 use Rattle.bucket_laws.proofs.TableGives.{reached, table_gives}
 use Rattle.bucket_laws.proofs.TableKeeps.{lock_at, table_keeps}
@@ -224,7 +223,7 @@ module _ (buckets : ℕ) (bucket : ℕ → ℕ) (small : (key : ℕ) → bucket 
 
   load_place : (j p r : ℕ) → slice_get (table_steps thunk) j ≡ Some (Load p r) → PlaceIs p
   load_place j p r load =
-      let step = load_step thunk j p r load in
+      let step = step_of thunk j (Load p r) load in
       let lock = lock_is in
       let same = (half_is thunk step.0 step.1).lock in
       ⊎_elim (λ edition. let at = edition.2 in inl (1, omega arith, omega arith, omega arith))
@@ -233,8 +232,8 @@ module _ (buckets : ℕ) (bucket : ℕ → ℕ) (small : (key : ℕ) → bucket 
 
   store_small : (j r : ℕ) (v : Value) → slice_get (table_steps thunk) j ≡ Some (Store r v) → IsSmall v
   store_small j r v store =
-      let step = store_step thunk j r v store in
-      ⊎_elim (λ change. subst IsSmall (sym change.2) (by step.0 step.1 step.0.kind refl)) (λ edition. subst IsSmall (sym edition.2) (omega arith)) step.3
+      let step = step_of thunk j (Store r v) store in
+      ⊎_elim (λ change. subst IsSmall (sym change.2) (by step.0 step.1 step.0.kind refl)) (λ edition. subst IsSmall (sym edition.2) (omega arith)) step.2.1
     where
       by : (h : Half) → Contains (halves thunk) h → (k : Kind) → h.kind ≡ k → IsSmall (stored_for k thunk)
       by h has Look kind = omega arith
@@ -260,14 +259,14 @@ module _ (buckets : ℕ) (bucket : ℕ → ℕ) (small : (key : ℕ) → bucket 
     load_unlocked = λ j p r h. ⊎_elim (λ low. ap (λ p. nat_lt p (3 * buckets) && (p % 3 == 0)) low.3 ∙ no_lock_low own low.0 (3 * buckets) low.1 low.2)
         (λ node. no_lock_high p (3 * buckets) (let at = node.4 in omega arith)) (load_place j p r h);
     load_known = λ j p r h. ⊎_elim (λ low. inl (let at = low.3 in let high = low.2 in let below = small (key_of op) in omega arith)) (λ node. inr (node.0, (node.1, node.3, node.4), inr node.2)) (load_place j p r h);
-    load_once = λ i j p q r h h'. loaded_once i j p q r h h';
-    store_once = λ i j r v w h h'. stored_once (store_step thunk i r v h) (store_step thunk j r w h');
+    load_once = loaded_once;
+    store_once = stored_once;
     store_small = store_small;
-    make_whole = λ j r init h. ap (λ init. length init.cells) (make_step thunk j r init h).5;
-    make_small = λ j r i init v h at. let make = make_step thunk j r init h in
-        init_small i v (number_is thunk make.0 make.1 Insert ((half_is thunk make.0 make.1).insert.1 make.2)) (sym (ap (λ init. slice_get init.cells i) make.5) ∙ at);
+    make_whole = λ j r init h. ap (λ init. length init.cells) (step_of thunk j (Make init r) h).2.3;
+    make_small = λ j r i init v h at. let make = step_of thunk j (Make init r) h in
+        init_small i v (number_is thunk make.0 make.1 Insert ((half_is thunk make.0 make.1).insert.1 make.2.0)) (sym (ap (λ init. slice_get init.cells i) make.2.3) ∙ at);
     make_unlocked = λ j r i t init v h at lock. absurd (let below = (lock_at buckets (3 * buckets + 5 * t + i) lock).0 in omega arith);
-    answers = λ j n h. let answer = answer_step thunk j n h in subst (λ n. 0 < n) (sym answer.2) (answers answer.0 answer.1 answer.0.kind refl);
+    answers = λ j n h. let answer = step_of thunk j (Answer n) h in subst (λ n. 0 < n) (sym answer.2) (answers answer.0 answer.1 answer.0.kind refl);
   }
     where
       answers : (h : Half) → Contains (halves thunk) h → (k : Kind) → h.kind ≡ k → 0 < answer_for k thunk
@@ -287,25 +286,21 @@ module _ (buckets : ℕ) (bucket : ℕ → ℕ) (small : (key : ℕ) → bucket 
 
       loaded_once : (i j p q r : ℕ) → slice_get (table_steps thunk) i ≡ Some (Load p q) → slice_get (table_steps thunk) j ≡ Some (Load p r) → i ≡ j
       loaded_once i j p q r one other =
-          let step = load_step thunk i p q one in
-          let step' = load_step thunk j p r other in
-          by step.0 step.1 step.2 (subst (λ h. IsLoad h j p r) (one_half thunk step'.0 step.0 step'.1 step.1) step'.2)
-        where
-          by : (h : Half) → Contains (halves thunk) h → IsLoad h i p q → IsLoad h j p r → i ≡ j
-          by h has a b = ⊎_elim
-              (λ x. ⊎_elim (λ y. let at = x.0 in let at' = y.0 in omega arith) (λ y. absurd (target_apart h has y.0 (sym y.3 ∙ x.2))) b)
-              (λ x. ⊎_elim (λ y. absurd (target_apart h has x.0 (sym x.3 ∙ y.2))) (λ y. x.1 ∙ sym y.1) b) a
+          let step = step_of thunk i (Load p q) one in
+          ⊎_elim
+          (λ x. ⊎_elim (λ y. let at = x.0 in let at' = y.0 in omega arith) (λ y. absurd (target_apart step.0 step.1 y.0 (sym y.3 ∙ x.2)))
+          (half_step thunk step.0 step.1 j (Load p r) other))
+          (λ x. ⊎_elim (λ y. absurd (target_apart step.0 step.1 x.0 (sym x.3 ∙ y.2))) (λ y. x.1 ∙ sym y.1)
+          (half_step thunk step.0 step.1 j (Load p r) other)) step.2
 
       -- the place of a Store goes by the half and the register
-      stored_once : {i j r : ℕ} {v w : Value} → (h : Half) × Contains (halves thunk) h × (h.change < h.edition) × IsStore thunk h i r v
-          → (h : Half) × Contains (halves thunk) h × (h.change < h.edition) × IsStore thunk h j r w → i ≡ j
-      stored_once {i} {j} {r} {v} {w} one other = by one.0 one.1 one.3 (subst (λ h. IsStore thunk h j r w) (one_half thunk other.0 one.0 other.1 one.1) other.3)
-        where
-          by : (h : Half) → Contains (halves thunk) h → IsStore thunk h i r v → IsStore thunk h j r w → i ≡ j
-          by h has a b =
-              let apart = (half_is thunk h has).registers.0 in
-              ⊎_elim (λ x. ⊎_elim (λ y. x.0 ∙ sym y.0) (λ y. absurd (apart (sym y.1 ∙ x.1))) b)
-              (λ x. ⊎_elim (λ y. absurd (apart (sym x.1 ∙ y.1))) (λ y. x.0 ∙ sym y.0) b) a
+      stored_once : (i j r : ℕ) (v w : Value) → slice_get (table_steps thunk) i ≡ Some (Store r v) → slice_get (table_steps thunk) j ≡ Some (Store r w) → i ≡ j
+      stored_once i j r v w one other =
+          let step = step_of thunk i (Store r v) one in
+          let apart = (half_is thunk step.0 step.1).registers.0 in
+          ⊎_elim
+          (λ x. ⊎_elim (λ y. x.0 ∙ sym y.0) (λ y. absurd (apart (sym y.1 ∙ x.1))) (half_step thunk step.0 step.1 j (Store r w) other).1)
+          (λ x. ⊎_elim (λ y. absurd (apart (sym x.1 ∙ y.1))) (λ y. x.0 ∙ sym y.0) (half_step thunk step.0 step.1 j (Store r w) other).1) step.2.1
 
       init_small : (i : ℕ) (v : Value) → thunk.form ≡ 2 → slice_get (node_init thunk).cells i ≡ Some v → IsSmall v
       init_small i v form h =

@@ -27,7 +27,7 @@ use Rattle.structure_laws.proofs.Progress.{stepped}
 use Rattle.bucket_laws.specs.Walk.{Walk, cell_at}
 use Rattle.bucket_laws.specs.Halves.{Half, HasHalf, IsMaking, IsTaking, IsPending, Owns, Insert}
 use Rattle.bucket_laws.specs.Buckets.{IsTargetOf, IsWalked, walk_of, IsMade, IsTaken, BucketsKept, table}
-use Rattle.bucket_laws.proofs.Halves.{half_is, one_half, number_is, stored_for, node_init, load_step, make_step, retire_step}
+use Rattle.bucket_laws.proofs.Halves.{half_is, number_is, stored_for, node_init, step_of, half_step}
 use Rattle.bucket_laws.proofs.Places.{is_node_link}
 use Rattle.bucket_laws.proofs.Sections.{fit, one_bucket}
 use Rattle.bucket_laws.proofs.TableGives.{next_leads, target_now}
@@ -89,10 +89,11 @@ module _ (buckets : ℕ) (bucket : ℕ → ℕ) (small : (key : ℕ) → bucket 
       → ((h : Half) → HasHalf x h → IsMaking (stepped x reg) h → IsMade buckets bucket s.cells status kept.on x.thunk (reg h.node_reg))
       → ((h : Half) → HasHalf x h → IsTaking (stepped x reg) h → IsTaken buckets bucket s.cells status kept.on (operand x.thunk 2) (key_of x.op))
       → ((e : ℕ) (z : Section) (t : ℕ) → e ≢ d → s.section e ≡ Some z → Owns z t → status t ≡ Live)
-      → ((t : ℕ) → status t ≡ Live → (kept.on t ≡ true) ⊎ ((e : ℕ) × (z : Section) × (e ≢ d) × (s.section e ≡ Some z) × Owns z t) ⊎ Owns (stepped x reg) t)
+      → ((t : ℕ) → status t ≡ Live → (s.status t ≡ Live) ⊎ Owns (stepped x reg) t)
+      → ((t : ℕ) → status t ≡ Live → Owns x t → Owns (stepped x reg) t)
       → ((q y t : ℕ) → status q ≡ Retired y → s.epoch ≤ y + 1 → value_of (s.cells (cell_at buckets bucket q 3)) ≡ suc t → (status t ≡ Live) ⊎ ((z : ℕ) × (status t ≡ Retired z) × (y ≤ z)))
       → BucketsKept buckets bucket layout (next_scene status reg)
-  step_kept status reg quiet on_live made taken others live limbo = record {
+  step_kept status reg quiet on_live made taken others new own limbo = record {
     on = kept.on;
     rank = kept.rank;
     chains = kept.chains;
@@ -124,12 +125,16 @@ module _ (buckets : ℕ) (bucket : ℕ → ℕ) (small : (key : ℕ) → bucket 
           next = was.next;
         })
         (upd_some s.section d e (stepped x reg) z at);
-    live = λ t h. ⊎_elim inl (⊎_elim
-        (λ other. inr (other.0, other.1, upd_other s.section d other.0 (Some (stepped x reg)) other.2 ∙ other.3, other.4))
-        (λ own. inr (d, stepped x reg, upd_same s.section d d (Some (stepped x reg)) refl, own))) (live t h);
+    live = λ t now. ⊎_elim (λ live. live_cases buckets bucket layout s kept t live inl (λ e z there owns. dite (ℕ_discrete e d)
+        (λ same. mine t (own t now (subst (λ z. Owns z t) (itself e z there same) owns)))
+        (λ ne. inr (e, z, upd_other s.section d e (Some (stepped x reg)) ne ∙ there, owns)))) (mine t) (new t now);
     limbo = limbo;
   }
     where
+      mine : (t : ℕ) → Owns (stepped x reg) t → (kept.on t ≡ true)
+          ⊎ ((e : ℕ) × (z : Section) × (upd s.section d (Some (stepped x reg)) e ≡ Some z) × Owns z t)
+      mine t owns = inr (d, stepped x reg, upd_same s.section d d (Some (stepped x reg)) refl, owns)
+
       walked : (op : Op) (w : Walk) → IsWalked buckets bucket s kept.on kept.rank op w → IsWalked buckets bucket (next_scene status reg) kept.on kept.rank op w
       walked op w before edition none = before edition (λ e z there pending. dite (ℕ_discrete e d)
           (λ same. none d (stepped x reg) (upd_same s.section d d (Some (stepped x reg)) refl)
@@ -216,63 +221,59 @@ module _ (buckets : ℕ) (bucket : ℕ → ℕ) (small : (key : ℕ) → bucket 
           (λ h has making. kept.made d x h here has (still_made h has making))
           (λ h has taking. kept.taken d x h here has (still_taken h has taking))
           (λ e z t ne there owns. owned_live buckets bucket layout s kept e z t there owns)
-          (λ t live. live_cases buckets bucket layout s kept t live inl (λ e z there owns. dite (ℕ_discrete e d)
-          (λ same. inr (inr (carried t (subst (λ z. Owns z t) (itself e z there same) owns))))
-          (λ ne. inr (inl (e, z, ne, there, owns)))))
-          kept.limbo
+          (λ t live. inl live) (λ t live owns. carried t owns) kept.limbo
 
   -- a section before its Make holds no slot
-  owns_none : (h : Half) → HasHalf x h → x.at ≤ h.made → (t : ℕ) → Owns x t → ⊥
-  owns_none h has early t owns =
-      let same : x.at ≤ owns.0.made = subst (λ h. x.at ≤ h.made) (one_half x.thunk h owns.0 has owns.1) early in
+  owns_none : ((h : Half) → HasHalf x h → x.at ≤ h.made) → (t : ℕ) → Owns x t → ⊥
+  owns_none early t owns =
+      let before = early owns.0 owns.1 in
       let making = (half_is x.thunk owns.0 owns.1).order.2 in
       ⊎_elim (λ new. let low = new.0.0 in omega arith) (λ old. let low = old.0.0 in omega arith) owns.2
 
   -- a Load
   pub load_kept : (p r n : ℕ) → IsStep (table buckets bucket) x x.at (Load p r) → BucketsKept buckets bucket layout (sets s d x r n)
   load_kept p r n step =
-      let loads = load_step x.thunk x.at p r step in
-      let half = half_is x.thunk loads.0 loads.1 in
-      let known = half.order.0 in
-      let loaded = half.order.1 in
-      let early : suc x.at ≤ loads.0.made = ⊎_elim (λ edition. let at = edition.0 in omega arith) (λ target. let at = target.1 in omega arith) loads.2 in
-      let no_store : (q : ℕ) (v : Value) → Load p r ≢ Store q v = λ q v e. cc in
       step_kept s.status (upd x.reg r n) (still_pending (Load p r) step no_store (upd x.reg r n)) kept.on_live
-      (λ h has making. absurd (let low : suc x.at ≤ h.made = subst (λ h. suc x.at ≤ h.made) (one_half x.thunk loads.0 h loads.1 has) early in let late = making.0 in omega arith))
+      (λ h has making. absurd (let before = early h has in let late = making.0 in omega arith))
       (λ h has taking. kept.taken d x h here has (still_taken (Load p r) step no_store h has taking))
       (λ e z t ne there owns. owned_live buckets bucket layout s kept e z t there owns)
-      (λ t live. live_cases buckets bucket layout s kept t live inl (λ e z there owns. dite (ℕ_discrete e d)
-      (λ same. absurd (owns_none loads.0 loads.1 (omega arith) t (subst (λ z. Owns z t) (itself e z there same) owns)))
-      (λ ne. inr (inl (e, z, ne, there, owns)))))
-      kept.limbo
+      (λ t live. inl live) (λ t live owns. absurd (owns_none (λ h has. let before = early h has in omega arith) t owns)) kept.limbo
+    where
+      no_store : (q : ℕ) (v : Value) → Load p r ≢ Store q v
+      no_store q v e = cc
+
+      early : (h : Half) → HasHalf x h → suc x.at ≤ h.made
+      early h has =
+          let order = (half_is x.thunk h has).order in
+          ⊎_elim (λ edition. let at = edition.0 in omega (arith, order)) (λ target. let at = target.1 in omega (arith, order))
+          (half_step x.thunk h has x.at (Load p r) step)
 
   -- a Make
   pub make_kept : (t r : ℕ) (init : Init) → IsStep (table buckets bucket) x x.at (Make init r) → IsPrepared (table buckets bucket) layout s x t init → BucketsKept buckets bucket layout (with_status (sets s d x r (suc t)) t Live)
   make_kept t r init step prepared =
-      let make = make_step x.thunk x.at r init step in
-      let at : x.at ≡ make.0.made = make.3 in
-      let lt : make.0.made < make.0.change = make.2 in
+      let make = step_of x.thunk x.at (Make init r) step in
+      let lt = make.2.0 in
+      let at = make.2.1 in
       let no_store : (q : ℕ) (v : Value) → Make init r ≢ Store q v = λ q v e. cc in
       let live_too : (u : ℕ) → s.status u ≡ Live → upd s.status t Live u ≡ Live = λ u live. dite (ℕ_discrete u t) (λ e. upd_same s.status t u Live e) (λ ne. upd_other s.status t u Live ne ∙ live) in
       let cell : (k : ℕ) (v : Value) → k < 5 → slice_get (node_init x.thunk).cells k ≡ Some v → value_of (s.cells (cell_at buckets bucket t k)) ≡ value_in x.reg v =
-      λ k v low at. prepared.cells k v low (ap (λ init. slice_get init.cells k) make.5 ∙ at) in
+      λ k v low at. prepared.cells k v low (ap (λ init. slice_get init.cells k) make.2.3 ∙ at) in
       step_kept (upd s.status t Live) (upd x.reg r (suc t)) (still_pending (Make init r) step no_store (upd x.reg r (suc t))) (λ u on. live_too u (kept.on_live u on))
       (λ h has making. record {
         slot = t;
-        link = upd_same x.reg r h.node_reg (suc t) (sym (make.4 ∙ ap (λ h. h.node_reg) (one_half x.thunk make.0 h make.1 has)));
+        link = upd_same x.reg r h.node_reg (suc t) (sym (half_step x.thunk h has x.at (Make init r) step).2);
         live = upd_same s.status t t Live refl;
         out = off (kept.on t) refl;
         key = cell 1 (Const (operand x.thunk 1)) (omega arith) refl;
         value = cell 2 (Const (operand x.thunk 2)) (omega arith) refl;
         next = cell 3 (Const (operand x.thunk 3)) (omega arith) refl;
       })
-      (λ h has taking. absurd (let low : x.at < h.change = subst (λ h. x.at < h.change) (one_half x.thunk make.0 h make.1 has) (omega arith) in let late = taking.0 in omega arith))
+      (λ h has taking. absurd (let here = half_step x.thunk h has x.at (Make init r) step in let lt = here.0 in let at = here.1 in let late = taking.0 in omega arith))
       (λ e z u ne there owns. live_too u (owned_live buckets bucket layout s kept e z u there owns))
       (λ u live. dite (ℕ_discrete u t)
-      (λ same. inr (inr (make.0, make.1, inl ((omega arith, omega arith), upd_same x.reg r make.0.node_reg (suc t) (sym make.4) ∙ ap suc (sym same)))))
-      (λ other. live_cases buckets bucket layout s kept u (sym (upd_other s.status t u Live other) ∙ live) inl (λ e z there owns. dite (ℕ_discrete e d)
-      (λ same. absurd (owns_none make.0 make.1 (omega arith) u (subst (λ z. Owns z u) (itself e z there same) owns)))
-      (λ ne. inr (inl (e, z, ne, there, owns))))))
+      (λ same. inr (make.0, make.1, inl ((omega arith, omega arith), upd_same x.reg r make.0.node_reg (suc t) (sym make.2.2) ∙ ap suc (sym same))))
+      (λ other. inl (sym (upd_other s.status t u Live other) ∙ live)))
+      (λ u live owns. absurd (owns_none (λ h has. let at = (half_step x.thunk h has x.at (Make init r) step).1 in omega arith) u owns))
       (λ q y u retired recent leads. dite (ℕ_discrete q t) (λ same. absurd (live_retired y (sym (upd_same s.status t q Live same) ∙ retired)))
       (λ other. ⊎_elim (λ live. inl (live_too u live))
       (λ late. dite (ℕ_discrete u t) (λ same. inl (upd_same s.status t u Live same)) (λ ne. inr (late.0, upd_other s.status t u Live ne ∙ late.1, late.2)))
@@ -292,22 +293,20 @@ module _ (buckets : ℕ) (bucket : ℕ → ℕ) (small : (key : ℕ) → bucket 
   pub retire_kept : (t y : ℕ) → IsStep (table buckets bucket) x x.at (Retire t) → ((q z i : ℕ) → i < 5 → s.status q ≡ Retired z → Links (table buckets bucket) s (cell_at buckets bucket q i) t → z ≤ y)
       → BucketsKept buckets bucket layout (with_status (passes s d x) t (Retired y))
   retire_kept t y h links =
-      let step = retire_step x.thunk x.at t h in
-      let at : x.at ≡ step.0.retire = step.3 in
-      let lt : step.0.change < step.0.retire = step.2 in
+      let step = step_of x.thunk x.at (Retire t) h in
+      let lt = step.2.0 in
+      let at = step.2.1 in
       let no_store : (q : ℕ) (v : Value) → Retire t ≢ Store q v = λ q v e. cc in
-      let owns : Owns x t = (step.0, step.1, inr ((omega arith, omega arith), sym step.4)) in
+      let owns : Owns x t = (step.0, step.1, inr ((omega arith, omega arith), sym step.2.2)) in
       let out = owned_out buckets bucket layout s kept d x t here owns in
       let other : (u : ℕ) → u ≢ t → upd s.status t (Retired y) u ≡ s.status u = λ u ne. upd_other s.status t u (Retired y) ne in
       let on_other : (u : ℕ) → kept.on u ≡ true → u ≢ t = λ u on e. both_ways _ (ap kept.on e ∙ out) on in
       step_kept (upd s.status t (Retired y)) x.reg (still_pending (Retire t) h no_store x.reg) (λ u on. other u (on_other u on) ∙ kept.on_live u on)
-      (λ h has making. absurd (let low : h.change < x.at = subst (λ h. h.change < x.at) (one_half x.thunk step.0 h step.1 has) (omega arith) in let early = making.1 in omega arith))
-      (λ h has taking. absurd (let last : x.at ≡ h.retire = subst (λ h. x.at ≡ h.retire) (one_half x.thunk step.0 h step.1 has) at in let early = taking.1 in omega arith))
+      (λ g has making. absurd (let early = making.1 in let here = retired g has in let lt = here.0 in let at = here.1 in omega arith))
+      (λ g has taking. absurd (let early = taking.1 in let at = (retired g has).1 in omega arith))
       (λ e z u ne there owns'. other u (λ same. ne (owned_once buckets bucket layout s kept sound e d z x t there here (subst (Owns z) same owns') owns)) ∙ owned_live buckets bucket layout s kept e z u there owns')
-      (λ u live. dite (ℕ_discrete u t) (λ same. absurd (retired_live y (sym (upd_same s.status t u (Retired y) same) ∙ live)))
-      (λ ne. live_cases buckets bucket layout s kept u (sym (other u ne) ∙ live) inl (λ e z there owns'. dite (ℕ_discrete e d)
-      (λ same. absurd (ne (sole u step.0 step.1 at lt (subst (λ z. Owns z u) (itself e z there same) owns') step.4)))
-      (λ ne'. inr (inl (e, z, ne', there, owns'))))))
+      (λ u live. inl (sym (other u (kept_apart u live)) ∙ live))
+      (λ u live owns'. absurd (kept_apart u live (sole u owns')))
       (λ q z u retired recent leads. dite (ℕ_discrete q t)
       (λ same. let on = next_leads buckets bucket small layout s sound kept q u (ap s.status same ∙ owned_live buckets bucket layout s kept d x t here owns) leads in
       inl (other u (on_other u on) ∙ kept.on_live u on))
@@ -320,7 +319,14 @@ module _ (buckets : ℕ) (bucket : ℕ → ℕ) (small : (key : ℕ) → bucket 
       retired_live : (y : ℕ) → Retired y ≡ Live → ⊥
       retired_live y e = cc
 
-      sole : (u : ℕ) (h : Half) → HasHalf x h → x.at ≡ h.retire → h.change < h.retire → Owns x u → t ≡ operand x.thunk 2 → u ≡ t
-      sole u h has at lt owns named = ⊎_elim
-          (λ new. absurd (let late : owns.0.change < x.at = subst (λ h. h.change < x.at) (one_half x.thunk h owns.0 has owns.1) (omega arith) in let early = new.0.1 in omega arith))
-          (λ old. sym old.1 ∙ sym named) owns.2
+      kept_apart : (u : ℕ) → upd s.status t (Retired y) u ≡ Live → u ≢ t
+      kept_apart u live same = retired_live y (sym (upd_same s.status t u (Retired y) same) ∙ live)
+
+      retired : (g : Half) → HasHalf x g → (g.change < g.retire) × (x.at ≡ g.retire) × (t ≡ operand x.thunk 2)
+      retired g has = half_step x.thunk g has x.at (Retire t) h
+
+      -- no other slot is the section's
+      sole : (u : ℕ) → Owns x u → u ≡ t
+      sole u owns =
+          let here = retired owns.0 owns.1 in
+          ⊎_elim (λ new. absurd (let lt = here.0 in let at = here.1 in let early = new.0.1 in omega arith)) (λ old. sym old.1 ∙ sym here.2) owns.2

@@ -29,7 +29,7 @@ use Rattle.bucket_laws.specs.Halves.{Kind, Look, Insert, Remove, Set, Half, HasH
 use Rattle.bucket_laws.specs.Buckets.{nodes, IsNode, IsLinkOf, IsValueOf, IsTargetOf, IsWalked, walk_of, Knows, IsTaken, BucketsKept, table}
 use Rattle.bucket_laws.proofs.Chain.{insert, remove_first, remove_next, chains_agree}
 use Rattle.bucket_laws.proofs.Elsewhere.{IsElsewhere, knows_on, edition_seen}
-use Rattle.bucket_laws.proofs.Halves.{IsHalf, half_is, one_half, number_is, place_is, stored_for, store_step, load_place}
+use Rattle.bucket_laws.proofs.Halves.{IsHalf, half_is, one_half, number_is, place_is, stored_for, step_of, load_place}
 use Rattle.bucket_laws.proofs.NodeChanges.{head_changed, next_changed, none_changed, clip_same}
 use Rattle.bucket_laws.proofs.Sections.{target_stays, fit, one_bucket, half_lock, making_known}
 use Rattle.bucket_laws.proofs.Sections.{insert_head, insert_missing, remove_target, IsTarget}
@@ -454,9 +454,10 @@ module _ (buckets : ℕ) (bucket : ℕ → ℕ) (small : (key : ℕ) → bucket 
   pub table_store : (j p r : ℕ) (v : Value) → IsStep (table buckets bucket) x x.at (Store r v) → IsStep (table buckets bucket) x j (Load p r) → s.cells p ≡ x.reg r
       → BucketsKept buckets bucket layout (with_cell (passes s d x) p (next_word (x.reg r) (value_in x.reg v)))
   table_store j p r v store load found =
-      let step = store_step x.thunk x.at r v store in
+      let step = step_of x.thunk x.at (Store r v) store in
       let h = step.0 in
+      let changes = step.2.0 in
       let place = load_place x.thunk h step.1 j p r load in
       ⊎_elim
-      (λ change. subst (KeptAt j p r v load found h step.1 step.2) (sym (place.0 change.1)) (changed j p r v load found h step.1 step.2 h.kind refl change.0 change.2))
-      (λ edition. edited j p r v load found h step.1 step.2 edition.0 (place.1 edition.1) edition.2) step.3
+      (λ change. subst (KeptAt j p r v load found h step.1 changes) (sym (place.0 change.1)) (changed j p r v load found h step.1 changes h.kind refl change.0 change.2))
+      (λ edition. edited j p r v load found h step.1 changes edition.0 (place.1 edition.1) edition.2) step.2.1

@@ -1,5 +1,5 @@
 -- The hash table's sections, one after the other, do what the map does.
-use Rattle.std.proofs.Common.{◌≡◌, ◌≢◌, ℕ, zero, suc, ◌+◌, ◌*◌, ◌<◌, ◌≤◌, Bool, true, false, refl, sym, ap, ◌∙◌, subst, ⊎_elim, arith}
+use Rattle.std.proofs.Common.{◌≡◌, ◌≢◌, ℕ, zero, suc, ◌+◌, ◌*◌, ◌<◌, Bool, true, false, refl, sym, ap, ◌∙◌, subst, ⊎_elim, arith}
 use Rattle.std.proofs.Math.Path.{fun_ext}
 use Rattle.std.specs.Prelude.{◌^◌, Option, Some, None, slice_index}
 use Rattle.std.specs.FinMap.{get}
@@ -16,7 +16,7 @@ use Rattle.body_terms.specs.Word.{value_of, next_word}
 use Rattle.section_body.specs.Bucket.{bucket_head, operand}
 use Rattle.bucket_bodies.specs.Table.{table_steps}
 use Rattle.body_terms.specs.declared.value.Value.TheVariants.{Made}
-use Rattle.body_terms.specs.declared.step.Step.TheVariants.{Answer}
+use Rattle.body_terms.specs.declared.step.Step.TheVariants.{Load, Stamp, Store, Answer}
 use Rattle.table_words.specs.declared.layout.Layout.{Layout}
 use Rattle.table_words.specs.Limits.{IsWithinLimits}
 use Rattle.table_words.specs.Places.{slot_count}
@@ -31,8 +31,8 @@ use Rattle.bucket_laws.specs.Halves.{Kind, Look, Insert, Remove, Set, Half, HasH
 use Rattle.bucket_laws.specs.Buckets.{nodes, IsFound, IsMissing, BucketsKept, BucketsStand, table}
 use Rattle.bucket_laws.proofs.Chain.{insert, remove_first, remove_next, chains_agree, insert_contents, remove_contents, set_contents, same_on}
 use Rattle.bucket_laws.proofs.Fit.{IsFit}
-use Rattle.bucket_laws.proofs.Halves.{IsHalf, half_is, one_half, number_of, number_is, place_is, stored_for, answer_for}
-use Rattle.bucket_laws.proofs.Halves.{load_step, store_step, stamp_step, answer_step}
+use Rattle.bucket_laws.proofs.Halves.{IsHalf, half_is, number_of, number_is, place_is, stored_for, answer_for}
+use Rattle.bucket_laws.proofs.Halves.{IsOf, step_of, half_step}
 use Rattle.bucket_laws.proofs.Maps.{read_reply, insert_reply, remove_reply, set_reply, read_map, insert_map, remove_map, set_map}
 use Rattle.bucket_laws.proofs.NodeChanges.{clip_same, clip_to, clip_in, clip_out}
 use Rattle.bucket_laws.proofs.Sections.{fit, walk_at, half_lock, knows, insert_head, remove_target, set_target}
@@ -97,8 +97,8 @@ module _ (buckets : ℕ) (bucket : ℕ → ℕ) (small : (key : ℕ) → bucket 
   missing_is missing = none_is (get pairs (key_of x.op)) (λ v h. let there = stands.contents.slot (key_of x.op) v h in missing there.0 (kept_on there.0 there.1) there.2)
 
   -- its half, at the Stamp
-  step : (h : Half) × HasHalf x h × (h.wanted ≤ x.at) × (x.at ≤ h.change) × (h.made < h.change → h.made < x.at)
-  step = stamp_step x.thunk x.at stamp.stamp
+  step : (h : Half) × HasHalf x h × IsOf x.thunk h x.at Stamp
+  step = step_of x.thunk x.at Stamp stamp.stamp
 
   abbrev h : Half
   h = step.0
@@ -118,7 +118,7 @@ module _ (buckets : ℕ) (bucket : ℕ → ℕ) (small : (key : ℕ) → bucket 
   -- what its walk found or missed is in the map or isn't
   looks : (own_walk.found ≡ true → get pairs (key_of x.op) ≡ Some own_walk.value) × (own_walk.found ≡ false → get pairs (key_of x.op) ≡ None)
   looks =
-      let known = knows buckets bucket layout s before.sound kept d x h here has step.2 step.3 in
+      let known = knows buckets bucket layout s before.sound kept d x h here has step.2.0 step.2.1 in
       (λ found. found_is (known.1 found), λ missing. missing_is (known.2 missing))
 
   fits : IsFit buckets bucket x.op own_walk x.thunk
@@ -126,8 +126,7 @@ module _ (buckets : ℕ) (bucket : ℕ → ℕ) (small : (key : ℕ) → bucket 
 
   pub table_answers : (j n : ℕ) → IsStep (table buckets bucket) x j (Answer n) → n ≡ word_of (reply_of pairs x.op)
   table_answers j n answers =
-      let answer = answer_step x.thunk j n answers in
-      answer.2 ∙ ap (λ h. answer_for h.kind x.thunk) (one_half x.thunk answer.0 h answer.1 has) ∙ by h.kind refl
+      half_step x.thunk h has j (Answer n) answers ∙ by h.kind refl
     where
       by : (k : Kind) → h.kind ≡ k → answer_for k x.thunk ≡ word_of (reply_of pairs x.op)
       by Look kind = ap (λ numbers. slice_index numbers 1) fits.operands
@@ -147,11 +146,9 @@ module _ (buckets : ℕ) (bucket : ℕ → ℕ) (small : (key : ℕ) → bucket 
     -- cells that the section doesn't store to
     unstored : (p : ℕ) → (h.change < h.edition → (p ≢ 3 * own + 1) × (p ≢ h.target)) → after p ≡ s.cells p
     unstored p other = stores.same p (λ i j r v store load.
-        let stored = store_step x.thunk i r v store in
-        let changes = subst (λ h. h.change < h.edition) (one_half x.thunk stored.0 h stored.1 has) stored.2 in
-        let loaded = load_step x.thunk j p r load in
-        ⊎_elim (λ edition. (other changes).0 (edition.2 ∙ ap (λ n. n + 1) (half_lock buckets bucket layout s before.sound kept d x loaded.0 here loaded.1)))
-        (λ target. (other changes).1 (target.3 ∙ ap (λ h. h.target) (one_half x.thunk loaded.0 h loaded.1 has))) loaded.2)
+        let changes = (half_step x.thunk h has i (Store r v) store).0 in
+        ⊎_elim (λ edition. (other changes).0 (edition.2 ∙ ap (λ n. n + 1) (half_lock buckets bucket layout s before.sound kept d x h here has)))
+        (λ target. (other changes).1 target.3) (half_step x.thunk h has j (Load p r) load))
 
     same_cell : (p : ℕ) → p ≢ 3 * own + 1 → p ≢ h.target → after p ≡ s.cells p
     same_cell p first second = unstored p (λ changes. (first, second))
@@ -187,7 +184,7 @@ module _ (buckets : ℕ) (bucket : ℕ → ℕ) (small : (key : ℕ) → bucket 
     insert_stands : h.kind ≡ Insert → BucketsStand buckets bucket (slot_count layout 0) after (map_after pairs x.op)
     insert_stands kind =
         let lt = half.insert.0 kind in
-        let made = kept.made d x h here has (step.4 lt, step.3) in
+        let made = kept.made d x h here has (step.2.2 lt, step.2.1) in
         let t = made.slot in
         let low = small (key_of x.op) in
         let within = before.sound.within t (live_free (s.status t) made.live) in
@@ -209,7 +206,7 @@ module _ (buckets : ℕ) (bucket : ℕ → ℕ) (small : (key : ℕ) → bucket 
         (fun_ext (λ u. ap value_of (sym (same_cell (3 * buckets + 5 * u + 2) (λ e. omega arith) (λ e. omega arith)))))
         (fun_ext (λ u. ap value_of (sym (same_cell (3 * buckets + 5 * u + 3) (λ e. omega arith) (λ e. omega arith))))) in
         let top = top_of (now.head own) refl in
-        let first : now.next t ≡ now.head own = made.next ∙ insert_head buckets bucket layout s before.sound kept d x h here has step.2 step.3 kind ∙ sym (head_is buckets bucket small s.cells (key_of x.op)) in
+        let first : now.next t ≡ now.head own = made.next ∙ insert_head buckets bucket layout s before.sound kept d x h here has step.2.0 step.2.1 kind ∙ sym (head_is buckets bucket small s.cells (key_of x.op)) in
         let new : (u : ℕ) → stands.on u ≡ true → now.key u ≢ now.key t = λ u on e. none-some _ (sym (ap (get pairs) (e ∙ key) ∙ none) ∙ stands.contents.pair u on) in
         record {
           on = upd stands.on t true;
@@ -231,9 +228,9 @@ module _ (buckets : ℕ) (bucket : ℕ → ℕ) (small : (key : ℕ) → bucket 
     -- a node taken out
     remove_stands : h.kind ≡ Remove → BucketsStand buckets bucket (slot_count layout 0) after (map_after pairs x.op)
     remove_stands kind =
-        let target = remove_target buckets bucket layout s before.sound kept d x h here has step.2 step.3 kind in
+        let target = remove_target buckets bucket layout s before.sound kept d x h here has step.2.0 step.2.1 kind in
         let t = operand x.thunk 2 in
-        let on_t : stands.on t ≡ true = stands_on t (target_on buckets bucket small layout s before.sound kept d x h here has step.2 step.3 kind) in
+        let on_t : stands.on t ≡ true = stands_on t (target_on buckets bucket small layout s before.sound kept d x h here has step.2.0 step.2.1 kind) in
         let narrow : operand x.thunk 3 < 2 ^ 32 = subst (λ z. z < 2 ^ 32) target.next (value_small (s.cells (cell_at buckets bucket t 3))) in
         let low = small (key_of x.op) in
         let stored : value_of (after h.target) ≡ operand x.thunk 3 =
@@ -277,10 +274,10 @@ module _ (buckets : ℕ) (bucket : ℕ → ℕ) (small : (key : ℕ) → bucket 
     -- a node with a new value
     set_stands : h.kind ≡ Set → BucketsStand buckets bucket (slot_count layout 0) after (map_after pairs x.op)
     set_stands kind =
-        let target = set_target buckets bucket layout s before.sound kept d x h here has step.2 step.3 kind in
+        let target = set_target buckets bucket layout s before.sound kept d x h here has step.2.0 step.2.1 kind in
         let named = (fits.sets (number Set kind)).1 in
         let t = own_walk.slot in
-        let on_t : stands.on t ≡ true = stands_on t (set_node buckets bucket small layout s before.sound kept d x h here has step.2 step.3 kind).0 in
+        let on_t : stands.on t ≡ true = stands_on t (set_node buckets bucket small layout s before.sound kept d x h here has step.2.0 step.2.1 kind).0 in
         let narrow : operand x.thunk 2 < 2 ^ 32 = (let low = (before.sound.allowed d x here).value named.1 (ap value_given named.2) in let at = named.4 in omega arith) in
         let stored : value_of (after (3 * buckets + 5 * t + 2)) ≡ operand x.thunk 2 =
         ap (λ p. value_of (after p)) (sym target.place) ∙ ap value_of (changed Set kind (λ e. cc)) ∙ value-next_word (x.reg h.target_reg) (operand x.thunk 2) narrow in
