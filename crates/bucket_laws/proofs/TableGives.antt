@@ -89,12 +89,12 @@ module _ (buckets : ℕ) (bucket : ℕ → ℕ) (small : (key : ℕ) → bucket 
       new : (d : ℕ) (x : Section) (h : Half) → s.section d ≡ Some x → HasHalf x h → IsMaking x h → x.reg h.node_reg ≡ suc q → kept.on t ≡ true
       new d x h here has making reg =
           let made = kept.made d x h here has making in
-          let same : made.slot ≡ q = suc_eq made.slot q (sym made.link ∙ reg) in
+          let same : made.0 ≡ q = suc_eq made.0 q (sym made.1 ∙ reg) in
           let early = making.0 in
           let known = making_known buckets bucket layout s sound kept x h has (omega arith) in
           let kind = (half_is x.thunk h has).insert.1 (omega arith) in
           head_leads (bucket (key_of x.op)) t (small (key_of x.op))
-          (sym (insert_head buckets bucket layout s sound kept d x h here has known making.1 kind) ∙ sym made.next
+          (sym (insert_head buckets bucket layout s sound kept d x h here has known making.1 kind) ∙ sym made.2.next
           ∙ ap (λ q. value_of (s.cells (cell_at buckets bucket q 3))) same ∙ leads)
 
   -- so every link in use does
@@ -149,7 +149,8 @@ module _ (buckets : ℕ) (bucket : ℕ → ℕ) (small : (key : ℕ) → bucket 
         kept.on_live (operand x.thunk 2) (target_on d x h here has past before kind),
         (remove_target buckets bucket layout s sound kept d x h here has past before kind).key,
       ))
-      (λ after. let was = kept.taken d x h here has (after, early) in (was.live, was.key)) (split x.at h.change)
+      (λ after. ((kept.owned d x (operand x.thunk 2) here (h, has, inr ((after, early), refl))).0, (kept.taken d x h here has (after, early)).key))
+      (split x.at h.change)
     where
       split : (a b : ℕ) → (a ≤ b) ⊎ (b < a)
       split a b = search arith
@@ -237,8 +238,7 @@ module _ (buckets : ℕ) (bucket : ℕ → ℕ) (small : (key : ℕ) → bucket 
         let step = step_of x.thunk x.at (Retire t) h in
         let lt = step.2.0 in
         let at = step.2.1 in
-        let taken = kept.taken d x step.0 here step.1 (omega arith, omega arith) in
-        true_false (used_leads p t used links) (ap kept.on step.2.2 ∙ taken.out);
+        true_false (used_leads p t used links) (kept.owned d x t here (step.0, step.1, inr ((omega arith, omega arith), sym step.2.2))).1;
     store_used = store_used;
     one_key = λ map d e x y here there ne settled settled' unstored unstored' key depends depends'.
         ne (one_bucket buckets bucket layout s sound kept d e x y here there (ap bucket (own_key d x key here depends ∙ sym (own_key e y key there depends'))));

@@ -52,6 +52,7 @@ module _ (buckets : ℕ) (bucket : ℕ → ℕ) (small : (key : ℕ) → bucket 
     made = kept.made;
     target = kept.target;
     taken = kept.taken;
+    owned = kept.owned;
     live = kept.live;
     limbo = kept.limbo;
   }
@@ -86,6 +87,8 @@ module _ (buckets : ℕ) (bucket : ℕ → ℕ) (small : (key : ℕ) → bucket 
     target = λ e z h at has changes low. ⊎_elim (λ same. absurd (let known = (half_is z.thunk h has).order.0 in early z same.1 (omega arith)))
         (λ other. kept.target e z h other.1 has changes low) (put e z at);
     taken = λ e z h at has taking. ⊎_elim (λ same. absurd (let low = taking.0 in early z same.1 (omega arith))) (λ other. kept.taken e z h other.1 has taking) (put e z at);
+    owned = λ e z t at owns. ⊎_elim (λ same. absurd (⊎_elim (λ new. let low = new.0.0 in early z same.1 (omega arith)) (λ old. let low = old.0.0 in early z same.1 (omega arith)) owns.2))
+        (λ other. kept.owned e z t other.1 owns) (put e z at);
     live = λ t live. ⊎_elim inl (λ owned. inr (owned.0, owned.1, stays owned.0 owned.1 owned.2 ∙ owned.2, owned.3)) (kept.live t live);
     limbo = kept.limbo;
   }
@@ -117,6 +120,7 @@ module _ (buckets : ℕ) (bucket : ℕ → ℕ) (small : (key : ℕ) → bucket 
     made = λ e z h at has making. kept.made e z h (left e z at).1 has making;
     target = λ e z h at has changes low. kept.target e z h (left e z at).1 has changes low;
     taken = λ e z h at has taking. kept.taken e z h (left e z at).1 has taking;
+    owned = λ e z t at owns. kept.owned e z t (left e z at).1 owns;
     live = λ t live. ⊎_elim inl (λ owned. inr (owned.0, owned.1, stays owned.0 owned.1 owned.2 (λ same. owns_none t (subst (λ z. Owns z t) same owned.3)) ∙ owned.2, owned.3))
         (kept.live t live);
     limbo = kept.limbo;
@@ -176,23 +180,20 @@ module _ (buckets : ℕ) (bucket : ℕ → ℕ) (small : (key : ℕ) → bucket 
             (λ u on. ap value_of (on_same u 1 on (omega arith))) (λ u on. ap value_of (on_same u 3 on (omega arith)));
         readers = λ r readings op h. walked op (walk_of buckets bucket layout op readings) (kept.readers r readings op h);
         sections = λ d x here. walked x.op (walk_of buckets bucket layout x.op x.readings) (kept.sections d x here);
-        made = λ d x h here has making. let was = kept.made d x h here has making in let used = live_free (s.status was.slot) was.live in record {
-          slot = was.slot;
-          link = was.link;
-          live = was.live;
-          out = was.out;
-          key = ap value_of (same was.slot 1 used (omega arith)) ∙ was.key;
-          value = ap value_of (same was.slot 2 used (omega arith)) ∙ was.value;
-          next = ap value_of (same was.slot 3 used (omega arith)) ∙ was.next;
-        };
+        made = λ d x h here has making. let was = kept.made d x h here has making in
+            let used = live_free (s.status was.0) (kept.owned d x was.0 here (h, has, inl (making, was.1))).0 in (was.0, was.1, record {
+              key = ap value_of (same was.0 1 used (omega arith)) ∙ was.2.key;
+              value = ap value_of (same was.0 2 used (omega arith)) ∙ was.2.value;
+              next = ap value_of (same was.0 3 used (omega arith)) ∙ was.2.next;
+            });
         target = λ d x h here has changes low. target_stays buckets bucket h.kind s.cells (upd s.cells p w) kept.on kept.on (bucket (key_of x.op)) h.target
             (λ u node. (node.0, ap (λ word. bucket (value_of word)) (on_same u 1 node.0 (omega arith)) ∙ node.1)) (kept.target d x h here has changes low);
-        taken = λ d x h here has taking. let was = kept.taken d x h here has taking in let used = live_free (s.status (operand x.thunk 2)) was.live in record {
-          live = was.live;
-          out = was.out;
-          key = ap value_of (same (operand x.thunk 2) 1 used (omega arith)) ∙ was.key;
-          next = λ t leads. let node = was.next t (ap value_of (sym (same (operand x.thunk 2) 3 used (omega arith))) ∙ leads) in (node.0, ap (λ word. bucket (value_of word)) (on_same t 1 node.0 (omega arith)) ∙ node.1);
-        };
+        taken = λ d x h here has taking. let was = kept.taken d x h here has taking in
+            let used = live_free (s.status (operand x.thunk 2)) (kept.owned d x (operand x.thunk 2) here (h, has, inr (taking, refl))).0 in record {
+              key = ap value_of (same (operand x.thunk 2) 1 used (omega arith)) ∙ was.key;
+              next = λ t leads. let node = was.next t (ap value_of (sym (same (operand x.thunk 2) 3 used (omega arith))) ∙ leads) in (node.0, ap (λ word. bucket (value_of word)) (on_same t 1 node.0 (omega arith)) ∙ node.1);
+            };
+        owned = kept.owned;
         live = kept.live;
         limbo = λ q y t retired recent leads. kept.limbo q y t retired recent (ap value_of (sym (same q 3 (retired_free (s.status q) y retired) (omega arith))) ∙ leads);
       }
@@ -210,8 +211,9 @@ module _ (buckets : ℕ) (bucket : ℕ → ℕ) (small : (key : ℕ) → bucket 
         readers = kept.readers;
         sections = kept.sections;
         target = kept.target;
-        made = λ d x h here has making. let was = kept.made d x h here has making in record { slot = was.slot; link = was.link; live = still was.slot was.live; out = was.out; key = was.key; value = was.value; next = was.next };
-        taken = λ d x h here has taking. let was = kept.taken d x h here has taking in record { live = still (operand x.thunk 2) was.live; out = was.out; key = was.key; next = was.next };
+        made = kept.made;
+        taken = kept.taken;
+        owned = λ d x u here owns. let was = kept.owned d x u here owns in (still u was.0, was.1);
         live = λ u live. dite (ℕ_discrete u t) (λ e. absurd (free_live (sym (upd_same s.status t u Free e) ∙ live))) (λ ne. kept.live u (sym (other u ne) ∙ live));
         limbo = λ q z u late recent leads. dite (ℕ_discrete q t) (λ e. absurd (free_retired z (sym (upd_same s.status t q Free e) ∙ late)))
             (λ ne. ⊎_elim (λ live. inl (still u live))
@@ -242,6 +244,7 @@ module _ (buckets : ℕ) (bucket : ℕ → ℕ) (small : (key : ℕ) → bucket 
     made = kept.made;
     target = kept.target;
     taken = kept.taken;
+    owned = kept.owned;
     live = kept.live;
     limbo = λ q y t retired recent leads. kept.limbo q y t retired (omega arith) leads;
   }

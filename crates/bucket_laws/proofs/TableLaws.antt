@@ -405,6 +405,7 @@ module _ (buckets : ℕ) (bucket : ℕ → ℕ) (small : (key : ℕ) → bucket 
     made = λ d x h at. absurd (none_section (sym (first.section d) ∙ at));
     target = λ d x h at. absurd (none_section (sym (first.section d) ∙ at));
     taken = λ d x h at. absurd (none_section (sym (first.section d) ∙ at));
+    owned = λ d x t at. absurd (none_section (sym (first.section d) ∙ at));
     live = λ t h. absurd (not_live t (sym (first.status t) ∙ h));
     limbo = λ q y t h. absurd (not_retired q y (sym (first.status q) ∙ h));
   }

@@ -27,7 +27,7 @@ use Rattle.structure_laws.proofs.Progress.{stepped}
 use Rattle.bucket_laws.specs.Walk.{Walk, cell_at}
 use Rattle.bucket_laws.specs.Halves.{Half, HasHalf, IsMaking, IsTaking, IsPending, Owns, Insert}
 use Rattle.bucket_laws.specs.Buckets.{IsTargetOf, IsWalked, walk_of, IsMade, IsTaken, BucketsKept, table}
-use Rattle.bucket_laws.proofs.Halves.{half_is, number_is, stored_for, node_init, step_of, half_step}
+use Rattle.bucket_laws.proofs.Halves.{IsOf, half_is, number_is, stored_for, node_init, step_of, half_step}
 use Rattle.bucket_laws.proofs.Places.{is_node_link}
 use Rattle.bucket_laws.proofs.Sections.{fit, one_bucket}
 use Rattle.bucket_laws.proofs.TableGives.{next_leads, target_now}
@@ -43,23 +43,8 @@ module _ (buckets : ℕ) (bucket : ℕ → ℕ) (layout : Layout) (s : Scene) (k
   pub live_cases : {A : Type 0} → (t : ℕ) → s.status t ≡ Live → (kept.on t ≡ true → A) → ((d : ℕ) (x : Section) → s.section d ≡ Some x → Owns x t → A) → A
   live_cases t live on owned = ⊎_elim on (λ held. owned held.0 held.1 held.2 held.3) (kept.live t live)
 
-  -- a slot that a section holds is live, is in no chain, and has the operation's key
-  owned_facts : (d : ℕ) (x : Section) (t : ℕ) → s.section d ≡ Some x → Owns x t
-      → (s.status t ≡ Live) × (kept.on t ≡ false)
-  owned_facts d x t here owns = ⊎_elim
-      (λ new. let made = kept.made d x owns.0 here owns.1 new.0 in
-      let same : t ≡ made.slot = suc_eq t made.slot (sym new.1 ∙ made.link) in (ap s.status same ∙ made.live, ap kept.on same ∙ made.out))
-      (λ old. let taken = kept.taken d x owns.0 here owns.1 old.0 in (ap s.status (sym old.1) ∙ taken.live, ap kept.on (sym old.1) ∙ taken.out))
-      owns.2
-
-  pub owned_live : (d : ℕ) (x : Section) (t : ℕ) → s.section d ≡ Some x → Owns x t → s.status t ≡ Live
-  owned_live d x t here owns = (owned_facts d x t here owns).0
-
-  pub owned_out : (d : ℕ) (x : Section) (t : ℕ) → s.section d ≡ Some x → Owns x t → kept.on t ≡ false
-  owned_out d x t here owns = (owned_facts d x t here owns).1
-
-  -- a new node has the operation's key
-  pub making_kind : (x : Section) (h : Half) → HasHalf x h → IsMaking x h → h.kind ≡ Insert
+  -- a slot that a section holds has the operation's key
+  making_kind : (x : Section) (h : Half) → HasHalf x h → IsMaking x h → h.kind ≡ Insert
   making_kind x h has making = let early = making.0 in let late = making.1 in (half_is x.thunk h has).insert.1 (omega arith)
 
   pub owned_key : (sound : Sound (table buckets bucket) layout s) (d : ℕ) (x : Section) (t : ℕ) → s.section d ≡ Some x → Owns x t → value_of (s.cells (cell_at buckets bucket t 1)) ≡ key_of x.op
@@ -67,7 +52,7 @@ module _ (buckets : ℕ) (bucket : ℕ → ℕ) (layout : Layout) (s : Scene) (k
       (λ new. let made = kept.made d x owns.0 here owns.1 new.0 in
       let number = number_is x.thunk owns.0 owns.1 Insert (making_kind x owns.0 owns.1 new.0) in
       let named = ((fit buckets bucket layout s sound kept d x here).insert number).1 in
-      ap (λ t. value_of (s.cells (cell_at buckets bucket t 1))) (suc_eq t made.slot (sym new.1 ∙ made.link)) ∙ made.key ∙ named.3 ∙ sym named.2.0)
+      ap (λ t. value_of (s.cells (cell_at buckets bucket t 1))) (suc_eq t made.0 (sym new.1 ∙ made.1)) ∙ made.2.key ∙ named.3 ∙ sym named.2.0)
       (λ old. ap (λ t. value_of (s.cells (cell_at buckets bucket t 1))) (sym old.1) ∙ (kept.taken d x owns.0 here owns.1 old.0).key) owns.2
 
   -- so no two sections hold one slot
@@ -86,14 +71,15 @@ module _ (buckets : ℕ) (bucket : ℕ → ℕ) (small : (key : ℕ) → bucket 
 
   step_kept : (status : ℕ → Status) (reg : ℕ → ℕ) → ((i : ℕ) → IsPending x i → IsPending (stepped x reg) i)
       → ((t : ℕ) → kept.on t ≡ true → status t ≡ Live)
-      → ((h : Half) → HasHalf x h → IsMaking (stepped x reg) h → IsMade buckets bucket s.cells status kept.on x.thunk (reg h.node_reg))
-      → ((h : Half) → HasHalf x h → IsTaking (stepped x reg) h → IsTaken buckets bucket s.cells status kept.on (operand x.thunk 2) (key_of x.op))
+      → ((h : Half) → HasHalf x h → IsMaking (stepped x reg) h → (t : ℕ) × (reg h.node_reg ≡ suc t) × IsMade buckets bucket s.cells x.thunk t)
+      → ((h : Half) → HasHalf x h → IsTaking (stepped x reg) h → IsTaken buckets bucket s.cells kept.on (operand x.thunk 2) (key_of x.op))
+      → ((t : ℕ) → Owns (stepped x reg) t → (status t ≡ Live) × (kept.on t ≡ false))
       → ((e : ℕ) (z : Section) (t : ℕ) → e ≢ d → s.section e ≡ Some z → Owns z t → status t ≡ Live)
       → ((t : ℕ) → status t ≡ Live → (s.status t ≡ Live) ⊎ Owns (stepped x reg) t)
       → ((t : ℕ) → status t ≡ Live → Owns x t → Owns (stepped x reg) t)
       → ((q y t : ℕ) → status q ≡ Retired y → s.epoch ≤ y + 1 → value_of (s.cells (cell_at buckets bucket q 3)) ≡ suc t → (status t ≡ Live) ⊎ ((z : ℕ) × (status t ≡ Retired z) × (y ≤ z)))
       → BucketsKept buckets bucket layout (next_scene status reg)
-  step_kept status reg quiet on_live made taken others new own limbo = record {
+  step_kept status reg quiet on_live made taken held others new own limbo = record {
     on = kept.on;
     rank = kept.rank;
     chains = kept.chains;
@@ -102,29 +88,16 @@ module _ (buckets : ℕ) (bucket : ℕ → ℕ) (small : (key : ℕ) → bucket 
     sections = λ e z h. ⊎_elim (λ same. subst (λ z. IsWalked buckets bucket (next_scene status reg) kept.on kept.rank z.op (walk_of buckets bucket layout z.op z.readings)) same.1 (walked x.op (walk_of buckets bucket layout x.op x.readings) (kept.sections d x here)))
         (λ other. walked z.op (walk_of buckets bucket layout z.op z.readings) (kept.sections e z other.1)) (upd_some s.section d e (stepped x reg) z h);
     made = λ e z h at has making. ⊎_elim
-        (λ same. subst (λ z. (h : Half) → HasHalf z h → IsMaking z h → IsMade buckets bucket s.cells status kept.on z.thunk (z.reg h.node_reg)) same.1 made h has making)
-        (λ other. let was = kept.made e z h other.1 has making in record {
-          slot = was.slot;
-          link = was.link;
-          live = others e z was.slot other.0 other.1 (h, has, inl (making, was.link));
-          out = was.out;
-          key = was.key;
-          value = was.value;
-          next = was.next;
-        })
-        (upd_some s.section d e (stepped x reg) z at);
+        (λ same. subst (λ z. (h : Half) → HasHalf z h → IsMaking z h → (t : ℕ) × (z.reg h.node_reg ≡ suc t) × IsMade buckets bucket s.cells z.thunk t) same.1 made h has making)
+        (λ other. kept.made e z h other.1 has making) (upd_some s.section d e (stepped x reg) z at);
     target = λ e z h at has changes low. ⊎_elim
         (λ same. subst (λ z. (h : Half) → HasHalf z h → h.change < h.edition → h.load ≤ z.at → IsTargetOf buckets bucket h.kind s.cells kept.on (bucket (key_of z.op)) h.target) same.1 target h has changes low)
         (λ other. kept.target e z h other.1 has changes low) (upd_some s.section d e (stepped x reg) z at);
     taken = λ e z h at has taking. ⊎_elim
-        (λ same. subst (λ z. (h : Half) → HasHalf z h → IsTaking z h → IsTaken buckets bucket s.cells status kept.on (operand z.thunk 2) (key_of z.op)) same.1 taken h has taking)
-        (λ other. let was = kept.taken e z h other.1 has taking in record {
-          live = others e z (operand z.thunk 2) other.0 other.1 (h, has, inr (taking, refl));
-          out = was.out;
-          key = was.key;
-          next = was.next;
-        })
-        (upd_some s.section d e (stepped x reg) z at);
+        (λ same. subst (λ z. (h : Half) → HasHalf z h → IsTaking z h → IsTaken buckets bucket s.cells kept.on (operand z.thunk 2) (key_of z.op)) same.1 taken h has taking)
+        (λ other. kept.taken e z h other.1 has taking) (upd_some s.section d e (stepped x reg) z at);
+    owned = λ e z t at owns. ⊎_elim (λ same. held t (subst (λ z. Owns z t) (sym same.1) owns))
+        (λ other. (others e z t other.0 other.1 owns, (kept.owned e z t other.1 owns).1)) (upd_some s.section d e (stepped x reg) z at);
     live = λ t now. ⊎_elim (λ live. live_cases buckets bucket layout s kept t live inl (λ e z there owns. dite (ℕ_discrete e d)
         (λ same. mine t (own t now (subst (λ z. Owns z t) (itself e z there same) owns)))
         (λ ne. inr (e, z, upd_other s.section d e (Some (stepped x reg)) ne ∙ there, owns)))) (mine t) (new t now);
@@ -220,8 +193,8 @@ module _ (buckets : ℕ) (bucket : ℕ → ℕ) (small : (key : ℕ) → bucket 
       quiet_kept = step_kept s.status x.reg (still_pending x.reg) kept.on_live
           (λ h has making. kept.made d x h here has (still_made h has making))
           (λ h has taking. kept.taken d x h here has (still_taken h has taking))
-          (λ e z t ne there owns. owned_live buckets bucket layout s kept e z t there owns)
-          (λ t live. inl live) (λ t live owns. carried t owns) kept.limbo
+          (λ t owns. kept.owned d x t here (owns.0, owns.1, ⊎_elim (λ new. inl (still_made owns.0 owns.1 new.0, new.1)) (λ old. inr (still_taken owns.0 owns.1 old.0, old.1)) owns.2))
+          (λ e z t ne there owns. (kept.owned e z t there owns).0) (λ t live. inl live) (λ t live owns. carried t owns) kept.limbo
 
   -- a section before its Make holds no slot
   owns_none : ((h : Half) → HasHalf x h → x.at ≤ h.made) → (t : ℕ) → Owns x t → ⊥
@@ -236,8 +209,9 @@ module _ (buckets : ℕ) (bucket : ℕ → ℕ) (small : (key : ℕ) → bucket 
       step_kept s.status (upd x.reg r n) (still_pending (Load p r) step no_store (upd x.reg r n)) kept.on_live
       (λ h has making. absurd (let before = early h has in let late = making.0 in omega arith))
       (λ h has taking. kept.taken d x h here has (still_taken (Load p r) step no_store h has taking))
-      (λ e z t ne there owns. owned_live buckets bucket layout s kept e z t there owns)
-      (λ t live. inl live) (λ t live owns. absurd (owns_none (λ h has. let before = early h has in omega arith) t owns)) kept.limbo
+      (λ t owns. kept.owned d x t here (owns.0, owns.1, ⊎_elim (λ new. absurd (let before = early owns.0 owns.1 in let late = new.0.0 in omega arith))
+      (λ old. inr (still_taken (Load p r) step no_store owns.0 owns.1 old.0, old.1)) owns.2))
+      (λ e z t ne there owns. (kept.owned e z t there owns).0) (λ t live. inl live) (λ t live owns. absurd (owns_none (λ h has. let before = early h has in omega arith) t owns)) kept.limbo
     where
       no_store : (q : ℕ) (v : Value) → Load p r ≢ Store q v
       no_store q v e = cc
@@ -259,21 +233,19 @@ module _ (buckets : ℕ) (bucket : ℕ → ℕ) (small : (key : ℕ) → bucket 
       let cell : (k : ℕ) (v : Value) → k < 5 → slice_get (node_init x.thunk).cells k ≡ Some v → value_of (s.cells (cell_at buckets bucket t k)) ≡ value_in x.reg v =
       λ k v low at. prepared.cells k v low (ap (λ init. slice_get init.cells k) make.2.3 ∙ at) in
       step_kept (upd s.status t Live) (upd x.reg r (suc t)) (still_pending (Make init r) step no_store (upd x.reg r (suc t))) (λ u on. live_too u (kept.on_live u on))
-      (λ h has making. record {
-        slot = t;
-        link = upd_same x.reg r h.node_reg (suc t) (sym (half_step x.thunk h has x.at (Make init r) step).2);
-        live = upd_same s.status t t Live refl;
-        out = off (kept.on t) refl;
+      (λ h has making. (t, upd_same x.reg r h.node_reg (suc t) (sym (made h has).2), record {
         key = cell 1 (Const (operand x.thunk 1)) (omega arith) refl;
         value = cell 2 (Const (operand x.thunk 2)) (omega arith) refl;
         next = cell 3 (Const (operand x.thunk 3)) (omega arith) refl;
-      })
-      (λ h has taking. absurd (let here = half_step x.thunk h has x.at (Make init r) step in let lt = here.0 in let at = here.1 in let late = taking.0 in omega arith))
-      (λ e z u ne there owns. live_too u (owned_live buckets bucket layout s kept e z u there owns))
+      }))
+      (λ h has taking. absurd (taking_none h has taking))
+      (λ u owns. ⊎_elim (λ new. let same : u ≡ t = suc_eq u t (sym new.1 ∙ upd_same x.reg r owns.0.node_reg (suc t) (sym (made owns.0 owns.1).2)) in
+      (upd_same s.status t u Live same, off (kept.on u) (ap kept.on (sym same)))) (λ old. absurd (taking_none owns.0 owns.1 old.0)) owns.2)
+      (λ e z u ne there owns. live_too u (kept.owned e z u there owns).0)
       (λ u live. dite (ℕ_discrete u t)
       (λ same. inr (make.0, make.1, inl ((omega arith, omega arith), upd_same x.reg r make.0.node_reg (suc t) (sym make.2.2) ∙ ap suc (sym same))))
       (λ other. inl (sym (upd_other s.status t u Live other) ∙ live)))
-      (λ u live owns. absurd (owns_none (λ h has. let at = (half_step x.thunk h has x.at (Make init r) step).1 in omega arith) u owns))
+      (λ u live owns. absurd (owns_none (λ h has. let at = (made h has).1 in omega arith) u owns))
       (λ q y u retired recent leads. dite (ℕ_discrete q t) (λ same. absurd (live_retired y (sym (upd_same s.status t q Live same) ∙ retired)))
       (λ other. ⊎_elim (λ live. inl (live_too u live))
       (λ late. dite (ℕ_discrete u t) (λ same. inl (upd_same s.status t u Live same)) (λ ne. inr (late.0, upd_other s.status t u Live ne ∙ late.1, late.2)))
@@ -284,6 +256,12 @@ module _ (buckets : ℕ) (bucket : ℕ → ℕ) (small : (key : ℕ) → bucket 
 
       live_free : Live ≡ Free → ⊥
       live_free e = cc
+
+      made : (h : Half) → HasHalf x h → IsOf x.thunk h x.at (Make init r)
+      made h has = half_step x.thunk h has x.at (Make init r) step
+
+      taking_none : (h : Half) → HasHalf x h → IsTaking (stepped x (upd x.reg r (suc t))) h → ⊥
+      taking_none h has taking = let lt = (made h has).0 in let at = (made h has).1 in let late = taking.0 in omega arith
 
       off : (b : Bool) → kept.on t ≡ b → b ≡ false
       off true e = absurd (live_free (sym (kept.on_live t e) ∙ prepared.in_hand))
@@ -298,17 +276,17 @@ module _ (buckets : ℕ) (bucket : ℕ → ℕ) (small : (key : ℕ) → bucket 
       let at = step.2.1 in
       let no_store : (q : ℕ) (v : Value) → Retire t ≢ Store q v = λ q v e. cc in
       let owns : Owns x t = (step.0, step.1, inr ((omega arith, omega arith), sym step.2.2)) in
-      let out = owned_out buckets bucket layout s kept d x t here owns in
+      let held = kept.owned d x t here owns in
       let other : (u : ℕ) → u ≢ t → upd s.status t (Retired y) u ≡ s.status u = λ u ne. upd_other s.status t u (Retired y) ne in
-      let on_other : (u : ℕ) → kept.on u ≡ true → u ≢ t = λ u on e. both_ways _ (ap kept.on e ∙ out) on in
+      let on_other : (u : ℕ) → kept.on u ≡ true → u ≢ t = λ u on e. both_ways _ (ap kept.on e ∙ held.1) on in
       step_kept (upd s.status t (Retired y)) x.reg (still_pending (Retire t) h no_store x.reg) (λ u on. other u (on_other u on) ∙ kept.on_live u on)
-      (λ g has making. absurd (let early = making.1 in let here = retired g has in let lt = here.0 in let at = here.1 in omega arith))
-      (λ g has taking. absurd (let early = taking.1 in let at = (retired g has).1 in omega arith))
-      (λ e z u ne there owns'. other u (λ same. ne (owned_once buckets bucket layout s kept sound e d z x t there here (subst (Owns z) same owns') owns)) ∙ owned_live buckets bucket layout s kept e z u there owns')
+      (λ g has making. absurd (making_none g has making)) (λ g has taking. absurd (taking_none g has taking))
+      (λ u owns'. absurd (⊎_elim (λ new. making_none owns'.0 owns'.1 new.0) (λ old. taking_none owns'.0 owns'.1 old.0) owns'.2))
+      (λ e z u ne there owns'. other u (λ same. ne (owned_once buckets bucket layout s kept sound e d z x t there here (subst (Owns z) same owns') owns)) ∙ (kept.owned e z u there owns').0)
       (λ u live. inl (sym (other u (kept_apart u live)) ∙ live))
       (λ u live owns'. absurd (kept_apart u live (sole u owns')))
       (λ q z u retired recent leads. dite (ℕ_discrete q t)
-      (λ same. let on = next_leads buckets bucket small layout s sound kept q u (ap s.status same ∙ owned_live buckets bucket layout s kept d x t here owns) leads in
+      (λ same. let on = next_leads buckets bucket small layout s sound kept q u (ap s.status same ∙ held.0) leads in
       inl (other u (on_other u on) ∙ kept.on_live u on))
       (λ ne. let before = sym (other q ne) ∙ retired in
       ⊎_elim (λ live. dite (ℕ_discrete u t) (λ same. inr (y, upd_same s.status t u (Retired y) same, links q z 3 (omega arith) before (is_node_link buckets q, leads ∙ ap suc same))) (λ ne'. inl (other u ne' ∙ live)))
@@ -324,6 +302,12 @@ module _ (buckets : ℕ) (bucket : ℕ → ℕ) (small : (key : ℕ) → bucket 
 
       retired : (g : Half) → HasHalf x g → (g.change < g.retire) × (x.at ≡ g.retire) × (t ≡ operand x.thunk 2)
       retired g has = half_step x.thunk g has x.at (Retire t) h
+
+      making_none : (g : Half) → HasHalf x g → IsMaking (stepped x x.reg) g → ⊥
+      making_none g has making = let lt = (retired g has).0 in let at = (retired g has).1 in let early = making.1 in omega arith
+
+      taking_none : (g : Half) → HasHalf x g → IsTaking (stepped x x.reg) g → ⊥
+      taking_none g has taking = let at = (retired g has).1 in let early = taking.1 in omega arith
 
       -- no other slot is the section's
       sole : (u : ℕ) → Owns x u → u ≡ t

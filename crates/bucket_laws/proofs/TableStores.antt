@@ -59,7 +59,8 @@ module _ (buckets : ℕ) (bucket : ℕ → ℕ) (small : (key : ℕ) → bucket 
     pub outside : (u k : ℕ) → kept.on u ≡ false → 1 ≤ k → k ≤ 3 → cells (cell_at buckets bucket u k) ≡ s.cells (cell_at buckets bucket u k)
     pub out : (u : ℕ) → kept.on u ≡ false → (Owns x u → ⊥) → on u ≡ false
     pub target : IsTargetOf buckets bucket h.kind cells on own h.target
-    pub taken : suc x.at ≤ h.retire → IsTaken buckets bucket cells s.status on (operand x.thunk 2) (key_of x.op)
+    pub held : suc x.at ≤ h.retire → (s.status (operand x.thunk 2) ≡ Live) × (on (operand x.thunk 2) ≡ false)
+    pub taken : suc x.at ≤ h.retire → IsTaken buckets bucket cells on (operand x.thunk 2) (key_of x.op)
     pub live : (t : ℕ) → kept.on t ≡ true → (on t ≡ true) ⊎ OwnsBy (stepped x x.reg) h t
     pub owned : (t : ℕ) → OwnsBy x h t → (on t ≡ true) ⊎ OwnsBy (stepped x x.reg) h t
 
@@ -75,15 +76,12 @@ module _ (buckets : ℕ) (bucket : ℕ → ℕ) (small : (key : ℕ) → bucket 
         (λ other. walked z.op z.readings (sound.published e z other.1) (kept.sections e z other.1)) (upd_some s.section d e (stepped x x.reg) z at);
     made = λ e z g at has' making. ⊎_elim
         (λ same. absurd (subst (λ z. (g : Half) → HasHalf z g → IsMaking z g → ⊥) same.1 none_made g has' making))
-        (λ other. let was = kept.made e z g other.1 has' making in record {
-          slot = was.slot;
-          link = was.link;
-          live = was.live;
-          out = change.out was.slot was.out (λ owns. other.0 (owned_once buckets bucket layout s kept sound e d z x was.slot other.1 here (g, has', inl (making, was.link)) owns));
-          key = ap value_of (change.outside was.slot 1 was.out (omega arith) (omega arith)) ∙ was.key;
-          value = ap value_of (change.outside was.slot 2 was.out (omega arith) (omega arith)) ∙ was.value;
-          next = ap value_of (change.outside was.slot 3 was.out (omega arith) (omega arith)) ∙ was.next;
-        })
+        (λ other. let was = kept.made e z g other.1 has' making in
+        let out = (kept.owned e z was.0 other.1 (g, has', inl (making, was.1))).1 in (was.0, was.1, record {
+          key = ap value_of (change.outside was.0 1 out (omega arith) (omega arith)) ∙ was.2.key;
+          value = ap value_of (change.outside was.0 2 out (omega arith) (omega arith)) ∙ was.2.value;
+          next = ap value_of (change.outside was.0 3 out (omega arith) (omega arith)) ∙ was.2.next;
+        }))
         (upd_some s.section d e (stepped x x.reg) z at);
     target = λ e z g at has' changes low. ⊎_elim
         (λ same. subst (λ z. (g : Half) → HasHalf z g → IsTargetOf buckets bucket g.kind cells on (bucket (key_of z.op)) g.target) same.1
@@ -91,14 +89,17 @@ module _ (buckets : ℕ) (bucket : ℕ → ℕ) (small : (key : ℕ) → bucket 
         (λ other. target_stays buckets bucket g.kind s.cells cells kept.on on (bucket (key_of z.op)) g.target (apart_node e z other.0 other.1) (kept.target e z g other.1 has' changes low))
         (upd_some s.section d e (stepped x x.reg) z at);
     taken = λ e z g at has' taking. ⊎_elim
-        (λ same. subst (λ z. (g : Half) → HasHalf z g → IsTaking z g → IsTaken buckets bucket cells s.status on (operand z.thunk 2) (key_of z.op)) same.1
+        (λ same. subst (λ z. (g : Half) → HasHalf z g → IsTaking z g → IsTaken buckets bucket cells on (operand z.thunk 2) (key_of z.op)) same.1
         (λ g has' taking. change.taken (subst (λ g. suc x.at ≤ g.retire) (one_half x.thunk g h has' has) taking.1)) g has' taking)
-        (λ other. let was = kept.taken e z g other.1 has' taking in record {
-          live = was.live;
-          out = change.out (operand z.thunk 2) was.out (λ owns. other.0 (owned_once buckets bucket layout s kept sound e d z x (operand z.thunk 2) other.1 here (g, has', inr (taking, refl)) owns));
-          key = ap value_of (change.outside (operand z.thunk 2) 1 was.out (omega arith) (omega arith)) ∙ was.key;
-          next = λ t leads. apart_node e z other.0 other.1 t (was.next t (ap value_of (sym (change.outside (operand z.thunk 2) 3 was.out (omega arith) (omega arith))) ∙ leads));
+        (λ other. let was = kept.taken e z g other.1 has' taking in
+        let out = (kept.owned e z (operand z.thunk 2) other.1 (g, has', inr (taking, refl))).1 in record {
+          key = ap value_of (change.outside (operand z.thunk 2) 1 out (omega arith) (omega arith)) ∙ was.key;
+          next = λ t leads. apart_node e z other.0 other.1 t (was.next t (ap value_of (sym (change.outside (operand z.thunk 2) 3 out (omega arith) (omega arith))) ∙ leads));
         })
+        (upd_some s.section d e (stepped x x.reg) z at);
+    owned = λ e z t at owns. ⊎_elim (λ same. held t (subst (λ z. Owns z t) (sym same.1) owns))
+        (λ other. let was = kept.owned e z t other.1 owns in
+        (was.0, change.out t was.1 (λ mine. other.0 (owned_once buckets bucket layout s kept sound e d z x t other.1 here owns mine))))
         (upd_some s.section d e (stepped x x.reg) z at);
     live = λ t live. live_cases buckets bucket layout s kept t live (λ on_t. mine t (change.live t on_t)) (λ e z there owns. dite (ℕ_discrete e d)
         (λ same. mine t (change.owned t (its_own t (subst (λ z. Owns z t) (some_inj (sym there ∙ ap s.section same ∙ here)) owns))))
@@ -134,6 +135,10 @@ module _ (buckets : ℕ) (bucket : ℕ → ℕ) (small : (key : ℕ) → bucket 
 
       none_made : (g : Half) → HasHalf x g → IsMaking (stepped x x.reg) g → ⊥
       none_made g has' making = let early : suc x.at ≤ h.change = subst (λ g. suc x.at ≤ g.change) (one_half x.thunk g h has' has) making.1 in omega arith
+
+      held : (t : ℕ) → Owns (stepped x x.reg) t → (s.status t ≡ Live) × (on t ≡ false)
+      held t owns = ⊎_elim (λ new. absurd (none_made owns.0 owns.1 new.0))
+          (λ old. subst (λ t. (s.status t ≡ Live) × (on t ≡ false)) old.1 (change.held (subst (λ g. suc x.at ≤ g.retire) (one_half x.thunk owns.0 h owns.1 has) old.0.1))) owns.2
 
       its_own : (t : ℕ) → Owns x t → OwnsBy x h t
       its_own t owns = subst (λ g. OwnsBy x g t) (one_half x.thunk owns.0 h owns.1 has) owns.2
@@ -190,9 +195,8 @@ module _ (buckets : ℕ) (bucket : ℕ → ℕ) (small : (key : ℕ) → bucket 
           target = target_stays buckets bucket h.kind s.cells (upd s.cells (bucket_edition own) word) kept.on kept.on own h.target
               (λ u node. (node.0, ap (λ word. bucket (value_of word)) (cell u 1) ∙ node.1))
               (kept.target d x h here has changes (let loaded = half.order.1 in let making = half.order.2 in omega arith));
+          held = λ low. kept.owned d x (operand x.thunk 2) here (h, has, inr ((omega arith, omega arith), refl));
           taken = λ low. let was = kept.taken d x h here has (omega arith, omega arith) in record {
-            live = was.live;
-            out = was.out;
             key = ap value_of (cell (operand x.thunk 2) 1) ∙ was.key;
             next = λ t leads. let node = was.next t (ap value_of (sym (cell (operand x.thunk 2) 3)) ∙ leads) in (node.0, ap (λ word. bucket (value_of word)) (cell t 1) ∙ node.1);
           };
@@ -229,26 +233,27 @@ module _ (buckets : ℕ) (bucket : ℕ → ℕ) (small : (key : ℕ) → bucket 
           let lt = half.insert.0 kind in
           let making : IsMaking x h = (omega arith, omega arith) in
           let made = kept.made d x h here has making in
-          let t = made.slot in
+          let t = made.0 in
+          let held = kept.owned d x t here (h, has, inl (making, made.1)) in
           let now = nodes buckets bucket s.cells in
           let low = small (key_of x.op) in
           let named = ((fit buckets bucket layout s sound kept d x here).insert (number_is x.thunk h has Insert kind)).1 in
-          let narrow = links_small layout 0 t limits (omega arith) (sound.within t (live_free (s.status t) made.live)) in
-          let value : value_of word ≡ suc t = stored ∙ ap value_of made.link ∙ value-small (suc t) narrow in
-          let key : now.key t ≡ key_of x.op = made.key ∙ named.3 ∙ sym named.2.0 in
+          let narrow = links_small layout 0 t limits (omega arith) (sound.within t (live_free (s.status t) held.0)) in
+          let value : value_of word ≡ suc t = stored ∙ ap value_of made.1 ∙ value-small (suc t) narrow in
+          let key : now.key t ≡ key_of x.op = made.2.key ∙ named.3 ∙ sym named.2.0 in
           let missing = insert_missing buckets bucket layout s sound kept d x h here has past early kind in
-          let first : now.next t ≡ now.head own = made.next ∙ insert_head buckets bucket layout s sound kept d x h here has past early kind ∙ sym (head_is buckets bucket small s.cells (key_of x.op)) in
+          let first : now.next t ≡ now.head own = made.2.next ∙ insert_head buckets bucket layout s sound kept d x h here has past early kind ∙ sym (head_is buckets bucket small s.cells (key_of x.op)) in
           let top = top_of (now.head own) refl in (
             upd kept.on t true,
             upd kept.rank t top.0,
             record {
               chains = subst (λ n. Chains bucket n (upd kept.on t true) (upd kept.rank t top.0)) (ap (with_head now own) (sym value) ∙ head_changed buckets bucket s.cells own word low)
-                  (insert bucket now kept.on kept.rank kept.chains own t top.0 made.out (ap bucket key) first top.1 (λ u on e. missing u on (e ∙ key)));
-              on_live = λ u on. dite (ℕ_discrete u t) (λ e. ap s.status e ∙ made.live) (λ ne. kept.on_live u (sym (upd_other kept.on t u true ne) ∙ on));
+                  (insert bucket now kept.on kept.rank kept.chains own t top.0 held.1 (ap bucket key) first top.1 (λ u on e. missing u on (e ∙ key)));
+              on_live = λ u on. dite (ℕ_discrete u t) (λ e. ap s.status e ∙ held.0) (λ ne. kept.on_live u (sym (upd_other kept.on t u true ne) ∙ on));
               elsewhere = λ i lower ne. record {
                 head = upd_other s.cells (bucket_head own) (bucket_head i) word (λ e. ne (omega arith));
                 stays = λ u node. dite (ℕ_discrete u t) (λ e. upd_same kept.on t u true e) (λ other. upd_other kept.on t u true other ∙ node.0);
-                ranks = λ u node. upd_other kept.rank t u top.0 (λ e. both_ways _ (ap kept.on e ∙ made.out) node.0);
+                ranks = λ u node. upd_other kept.rank t u top.0 (λ e. both_ways _ (ap kept.on e ∙ held.1) node.0);
                 cell = λ u k node low high. upd_other s.cells (bucket_head own) (cell_at buckets bucket u k) word (λ e. omega arith);
                 back = λ u node.
                     let same : value_of (upd s.cells (bucket_head own) word (cell_at buckets bucket u 1)) ≡ value_of (s.cells (cell_at buckets bucket u 1)) = ap value_of (upd_other s.cells (bucket_head own) (cell_at buckets bucket u 1) word (λ e. omega arith)) in
@@ -257,12 +262,13 @@ module _ (buckets : ℕ) (bucket : ℕ → ℕ) (small : (key : ℕ) → bucket 
               edition = λ i lower ne. upd_other s.cells (bucket_head own) (bucket_edition i) word (λ e. omega arith);
               walks = pending_walks (upd s.cells (bucket_head own) word) (upd kept.on t true) (upd kept.rank t top.0) at;
               outside = λ u k out low high. upd_other s.cells (bucket_head own) (cell_at buckets bucket u k) word (λ e. omega arith);
-              out = λ u out free. upd_other kept.on t u true (λ e. free (h, has, inl (making, made.link ∙ ap suc (sym e)))) ∙ out;
+              out = λ u out free. upd_other kept.on t u true (λ e. free (h, has, inl (making, made.1 ∙ ap suc (sym e)))) ∙ out;
               target = let lock = lock_is in let place = place_is x.thunk h has Insert kind in
                   subst (λ k. IsTargetOf buckets bucket k (upd s.cells (bucket_head own) word) (upd kept.on t true) own h.target) (sym kind) (omega arith);
+              held = λ low. absurd (insert_remove kind (half.remove.1 (omega arith)));
               taken = λ low. absurd (insert_remove kind (half.remove.1 (omega arith)));
               live = λ u on. inl (dite (ℕ_discrete u t) (λ e. upd_same kept.on t u true e) (λ ne. upd_other kept.on t u true ne ∙ on));
-              owned = λ u owns. ⊎_elim (λ new. inl (upd_same kept.on t u true (suc_eq u t (sym new.1 ∙ made.link)))) (λ old. absurd (let late = old.0.0 in omega arith)) owns;
+              owned = λ u owns. ⊎_elim (λ new. inl (upd_same kept.on t u true (suc_eq u t (sym new.1 ∙ made.1)))) (λ old. absurd (let late = old.0.0 in omega arith)) owns;
             },
           )
         where
@@ -312,9 +318,8 @@ module _ (buckets : ℕ) (bucket : ℕ → ℕ) (small : (key : ℕ) → bucket 
           outside = λ u k out low high. upd_other s.cells link_place (cell_at buckets bucket u k) word (apart u k (inl out) low high);
           out = λ u out free. dite (ℕ_discrete u gone) (λ e. upd_same kept.on gone u false e) (λ ne. upd_other kept.on gone u false ne ∙ out);
           target = subst (λ k. IsTargetOf buckets bucket k (upd s.cells link_place word) (upd kept.on gone false) own h.target) (sym kind) linked;
+          held = λ low. (kept.on_live gone gone_on, upd_same kept.on gone gone false refl);
           taken = λ low. record {
-            live = kept.on_live gone gone_on;
-            out = upd_same kept.on gone gone false refl;
             key = ap value_of (upd_other s.cells link_place (cell_at buckets bucket gone 1) word (keys gone)) ∙ target.key;
             next = λ t leads.
                 let there = kept.chains.next_on gone t gone_on (ap value_of (sym (upd_other s.cells link_place (cell_at buckets bucket gone 3) word (apart gone 3 (inr (inr refl)) (omega arith) (omega arith)))) ∙ leads) in (
@@ -393,6 +398,7 @@ module _ (buckets : ℕ) (bucket : ℕ → ℕ) (small : (key : ℕ) → bucket 
             out = λ u out free. out;
             target = subst (λ k. IsTargetOf buckets bucket k (upd s.cells place word) kept.on own h.target) (sym kind)
                 (t, (node.0, ap (λ word. bucket (value_of word)) (keys t) ∙ node.1), placed);
+            held = λ low. absurd (remove_set (half.remove.1 (omega arith)) kind);
             taken = λ low. absurd (remove_set (half.remove.1 (omega arith)) kind);
             live = λ u on. inl on;
             owned = λ u owns. absurd (not_owned Set kind (λ e. cc) u owns);

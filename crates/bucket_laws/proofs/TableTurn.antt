@@ -1,5 +1,5 @@
 -- The hash table's sections, one after the other, do what the map does.
-use Rattle.std.proofs.Common.{◌≡◌, ◌≢◌, ℕ, zero, suc, ◌+◌, ◌*◌, ◌<◌, Bool, true, false, refl, sym, ap, ◌∙◌, subst, ⊎_elim, arith}
+use Rattle.std.proofs.Common.{◌≡◌, ◌≢◌, ℕ, zero, suc, ◌+◌, ◌*◌, ◌<◌, Bool, true, false, refl, sym, ap, ◌∙◌, subst, inl, ⊎_elim, arith}
 use Rattle.std.proofs.Math.Path.{fun_ext}
 use Rattle.std.specs.Prelude.{◌^◌, Option, Some, None, slice_index}
 use Rattle.std.specs.FinMap.{get}
@@ -185,28 +185,29 @@ module _ (buckets : ℕ) (bucket : ℕ → ℕ) (small : (key : ℕ) → bucket 
     insert_stands kind =
         let lt = half.insert.0 kind in
         let made = kept.made d x h here has (step.2.2 lt, step.2.1) in
-        let t = made.slot in
+        let t = made.0 in
+        let held = kept.owned d x t here (h, has, inl ((step.2.2 lt, step.2.1), made.1)) in
         let low = small (key_of x.op) in
-        let within = before.sound.within t (live_free (s.status t) made.live) in
+        let within = before.sound.within t (live_free (s.status t) held.0) in
         let narrow = links_small layout 0 t limits (omega arith) within in
         let lock = lock_is in
         let target = place_is x.thunk h has Insert kind in
         let place : h.target ≡ 3 * own + 2 = omega arith in
         let fit = fits.insert (number Insert kind) in
         let named = fit.1 in
-        let key : now.key t ≡ key_of x.op = made.key ∙ named.3 ∙ sym named.2.0 in
+        let key : now.key t ≡ key_of x.op = made.2.key ∙ named.3 ∙ sym named.2.0 in
         let none = looks.1 fit.0 in
-        let out : stands.on t ≡ false = bool_cases (stands.on t) (λ on. absurd (both_ways _ made.out (kept_on t on))) (λ off. off) in
+        let out : stands.on t ≡ false = bool_cases (stands.on t) (λ on. absurd (both_ways _ held.1 (kept_on t on))) (λ off. off) in
         let stored : value_of (after (3 * own + 2)) ≡ suc t =
         ap (λ p. value_of (after p)) (sym place) ∙ ap value_of (changed Insert kind (λ e. cc))
-        ∙ value-next_word (x.reg h.target_reg) (value_in x.reg (Made 2)) (value_small (x.reg 2)) ∙ ap value_of (ap x.reg (sym half.registers.1) ∙ made.link) ∙ value-small (suc t) narrow in
+        ∙ value-next_word (x.reg h.target_reg) (value_in x.reg (Made 2)) (value_small (x.reg 2)) ∙ ap value_of (ap x.reg (sym half.registers.1) ∙ made.1) ∙ value-small (suc t) narrow in
         let same : with_head now own (suc t) ≡ then_nodes = nodes_same _ _ _ _ _ _ _ _
         (heads_after (suc t) (λ j lower ne. same_cell (3 * j + 2) (λ e. omega arith) (λ e. ne (omega arith))) stored)
         (fun_ext (λ u. ap value_of (sym (same_cell (3 * buckets + 5 * u + 1) (λ e. omega arith) (λ e. omega arith)))))
         (fun_ext (λ u. ap value_of (sym (same_cell (3 * buckets + 5 * u + 2) (λ e. omega arith) (λ e. omega arith)))))
         (fun_ext (λ u. ap value_of (sym (same_cell (3 * buckets + 5 * u + 3) (λ e. omega arith) (λ e. omega arith))))) in
         let top = top_of (now.head own) refl in
-        let first : now.next t ≡ now.head own = made.next ∙ insert_head buckets bucket layout s before.sound kept d x h here has step.2.0 step.2.1 kind ∙ sym (head_is buckets bucket small s.cells (key_of x.op)) in
+        let first : now.next t ≡ now.head own = made.2.next ∙ insert_head buckets bucket layout s before.sound kept d x h here has step.2.0 step.2.1 kind ∙ sym (head_is buckets bucket small s.cells (key_of x.op)) in
         let new : (u : ℕ) → stands.on u ≡ true → now.key u ≢ now.key t = λ u on e. none-some _ (sym (ap (get pairs) (e ∙ key) ∙ none) ∙ stands.contents.pair u on) in
         record {
           on = upd stands.on t true;
@@ -217,7 +218,7 @@ module _ (buckets : ℕ) (bucket : ℕ → ℕ) (small : (key : ℕ) → bucket 
           contents = contents_same then_nodes (upd stands.on t true) (upd (get pairs) (now.key t) (Some (now.value t))) (get (map_after pairs x.op))
               (subst (λ n. Contents n (upd stands.on t true) (upd (get pairs) (now.key t) (Some (now.value t)))) same
               (insert_contents now stands.on (get pairs) stands.contents own t out (ap (get pairs) key ∙ none)))
-              (λ q. ap (λ k. upd (get pairs) k (Some (now.value t)) q) (key ∙ named.2.0) ∙ ap (λ v. upd (get pairs) named.0 (Some v) q) (made.value ∙ named.4)
+              (λ q. ap (λ k. upd (get pairs) k (Some (now.value t)) q) (key ∙ named.2.0) ∙ ap (λ v. upd (get pairs) named.0 (Some v) q) (made.2.value ∙ named.4)
               ∙ insert_map pairs x.op named.0 named.1 named.2 (ap (get pairs) (sym named.2.0) ∙ none) q);
         }
       where

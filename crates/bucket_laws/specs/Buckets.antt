@@ -12,7 +12,7 @@ use Rattle.bucket_bodies.specs.Table.{table_steps}
 use Rattle.body_terms.specs.declared.thunk.Thunk.{Thunk}
 use Rattle.table_words.specs.declared.layout.Layout.{Layout}
 use Rattle.table_words.specs.Places.{slot_count}
-use Rattle.structure_laws.specs.Scene.{Cells, Readings, Section, Status, Live, Retired, Scene}
+use Rattle.structure_laws.specs.Scene.{Cells, Readings, Section, Live, Retired, Scene}
 use Rattle.structure_laws.specs.Meaning.{Meaning}
 use Rattle.bucket_laws.specs.Chain.{Nodes, Chains, Contents}
 use Rattle.bucket_laws.specs.Halves.{Kind, Look, Insert, Remove, Set, Half}
@@ -111,21 +111,14 @@ module _ (buckets : ℕ) (bucket : ℕ → ℕ) where
   abbrev pub walk_of : Layout → Op → Readings → Walk
   walk_of layout op readings = walk buckets bucket (bounds layout) op start readings
 
-  -- a new node of a thunk, of which a register holds the link: live, in no chain, with what its Init gave
-  pub record IsMade (cells : Cells) (status : ℕ → Status) (on : ℕ → Bool) (thunk : Thunk) (word : ℕ) : Type 0 where
-    pub slot : ℕ
-    pub link : word ≡ suc slot
-    pub live : status slot ≡ Live
-    pub out : on slot ≡ false
+  -- a new node holds what the Init of this thunk's body gave
+  pub record IsMade (cells : Cells) (thunk : Thunk) (slot : ℕ) : Type 0 where
     pub key : value_of (cells (cell_at buckets bucket slot 1)) ≡ operand thunk 1
     pub value : value_of (cells (cell_at buckets bucket slot 2)) ≡ operand thunk 2
     pub next : value_of (cells (cell_at buckets bucket slot 3)) ≡ operand thunk 3
 
-  -- the node with this key that a section has taken out: live, in no chain, and its link leads into the chain of its
-  -- bucket
-  pub record IsTaken (cells : Cells) (status : ℕ → Status) (on : ℕ → Bool) (gone sought : ℕ) : Type 0 where
-    pub live : status gone ≡ Live
-    pub out : on gone ≡ false
+  -- a node with this key was taken out: its link leads into the chain of its bucket
+  pub record IsTaken (cells : Cells) (on : ℕ → Bool) (gone sought : ℕ) : Type 0 where
     pub key : value_of (cells (cell_at buckets bucket gone 1)) ≡ sought
     pub next : (t : ℕ) → value_of (cells (cell_at buckets bucket gone 3)) ≡ suc t → IsNode cells on (bucket sought) t
 
@@ -141,12 +134,14 @@ module _ (buckets : ℕ) (bucket : ℕ → ℕ) where
     -- the node that a half has made and not linked; what a half changes, once it is loaded; and the node that it has
     -- taken out and not retired
     pub made : (d : ℕ) (x : Section) (h : Half) → s.section d ≡ Some x → HasHalf x h → IsMaking x h
-        → IsMade s.cells s.status on x.thunk (x.reg h.node_reg)
+        → (t : ℕ) × (x.reg h.node_reg ≡ suc t) × IsMade s.cells x.thunk t
     pub target : (d : ℕ) (x : Section) (h : Half) → s.section d ≡ Some x → HasHalf x h → h.change < h.edition
         → h.load ≤ x.at → IsTargetOf h.kind s.cells on (bucket (key_of x.op)) h.target
     pub taken : (d : ℕ) (x : Section) (h : Half) → s.section d ≡ Some x → HasHalf x h → IsTaking x h
-        → IsTaken s.cells s.status on (operand x.thunk 2) (key_of x.op)
-    -- a live slot stands in a chain, or is a section's new node, or one that it has taken out
+        → IsTaken s.cells on (operand x.thunk 2) (key_of x.op)
+    -- what a section holds is live and in no chain, and a live slot stands in a chain, or a section holds it
+    pub owned : (d : ℕ) (x : Section) (t : ℕ) → s.section d ≡ Some x → Owns x t
+        → (s.status t ≡ Live) × (on t ≡ false)
     pub live : (t : ℕ) → s.status t ≡ Live
         → (on t ≡ true) ⊎ ((d : ℕ) × (x : Section) × (s.section d ≡ Some x) × Owns x t)
     pub limbo : (q y t : ℕ) → s.status q ≡ Retired y → s.epoch ≤ y + 1

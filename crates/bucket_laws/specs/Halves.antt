@@ -81,7 +81,7 @@ IsTaking x h = (h.change < x.at) × (x.at ≤ h.retire)
 abbrev pub IsPending : Section → ℕ → Type 0
 IsPending x i = (h : Half) × HasHalf x h × (h.lock ≡ bucket_lock i) × (h.change < x.at) × (x.at ≤ h.edition)
 
--- the slot is the new node of the section's half, or the node that it has taken out
+-- the section's half holds this slot: its new node, or the node that it has taken out
 abbrev pub OwnsBy : Section → Half → ℕ → Type 0
 OwnsBy x h t = (IsMaking x h × (x.reg h.node_reg ≡ suc t)) ⊎ (IsTaking x h × (operand x.thunk 2 ≡ t))
 
