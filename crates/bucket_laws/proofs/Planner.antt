@@ -5,6 +5,8 @@ use Rattle.std.specs.Prelude.{◌-◌, ◌^◌, Some, None, is_some, slice_get}
 use Rattle.std.specs.Ordering.{nat_cmp}
 use Rattle.std.specs.FinMap.{get, remove, len, empty_of_len, get-empty, len-remove}
 use Rattle.std.proofs.lemmas.Option.{none-some}
+use Rattle.small_lemmas.proofs.Lists.{none_not_some}
+use Rattle.small_lemmas.proofs.Numbers.{suc_equal, zero_not_suc}
 use Rattle.map_history.specs.declared.op.Op.{Op}
 use Rattle.map_history.specs.declared.op.Op.TheVariants.{Get, Ins, Del, Put, Mov}
 use Rattle.map_history.specs.Keys.{key_of}
@@ -74,16 +76,10 @@ few_slots key (t ∷ slots) pairs once there =
     let size : len (remove pairs (key t)) ≡ len pairs - 1 = len-remove nat_cmp_total pairs (key t) ∙ ap (λ b. cond b (len pairs - 1) (len pairs)) (ap is_some first.1) in
     let some : len pairs ≢ 0 = λ e. none-some first.0 (sym (ap (λ m. get m (key t)) (empty_of_len pairs e) ∙ get-empty nat_cmp (key t)) ∙ first.1) in
     let rest : length slots ≤ len (remove pairs (key t)) = few_slots key slots (remove pairs (key t))
-    (λ i j u v at also same. suc_eq i j (once (suc i) (suc j) u v at also same))
+    (λ i j u v at also same. suc_equal i j (once (suc i) (suc j) u v at also same))
     (λ i u at. let found = there (suc i) u at in
-    (found.0, get_removed pairs (key t) (key u) ∙ upd_other (get pairs) (key t) (key u) None (λ same. zero_suc i (sym (once (suc i) 0 u t at refl same))) ∙ found.1)) in
+    (found.0, get_removed pairs (key t) (key u) ∙ upd_other (get pairs) (key t) (key u) None (λ same. zero_not_suc i (sym (once (suc i) 0 u t at refl same))) ∙ found.1)) in
     omega arith
-  where
-    suc_eq : (a b : ℕ) → suc a ≡ suc b → a ≡ b
-    suc_eq a b e = omega arith
-
-    zero_suc : (i : ℕ) → 0 ≡ suc i → ⊥
-    zero_suc i e = omega arith
 
 module _ (buckets : ℕ) (bucket : ℕ → ℕ) (small : (key : ℕ) → bucket key < buckets) (layout : Layout) where
   want_read : (readings : Readings) (op : Op) (thunk : Thunk) → (table buckets bucket).fits layout op readings thunk ≡ true → (i j p r w : ℕ)
@@ -126,13 +122,10 @@ module _ (buckets : ℕ) (bucket : ℕ → ℕ) (small : (key : ℕ) → bucket 
     abbrev stands : BucketsStand buckets bucket (slot_count layout 0) s.cells pairs
     stands = before.stands
 
-    none_section : {x : Section} → None ≡ Some x → ⊥
-    none_section e = cc
-
     -- with nothing open, a live slot stands in a chain
     on : (i t : ℕ) → slice_get slots i ≡ Some t → stands.on t ≡ true
     on i t at = same_on bucket (nodes buckets bucket s.cells) kept.on stands.on kept.rank stands.rank kept.chains stands.chains t
-        (⊎_elim (λ there. there) (λ owned. absurd (none_section (sym (quiet owned.0) ∙ owned.2))) (kept.live t (used.live i t at)))
+        (⊎_elim (λ there. there) (λ owned. absurd (none_not_some owned.1 (sym (quiet owned.0) ∙ owned.2))) (kept.live t (used.live i t at)))
 
     sized : length slots ≤ 1 * len pairs
     sized =

@@ -2,7 +2,7 @@
 use Rattle.std.proofs.Common.{◌≡◌, ◌≢◌, ℕ, suc, ◌+◌, ◌*◌, ◌<◌, ◌≤◌, Bool, true, false, cond, refl, sym, ap, ◌∙◌, subst, inl, inr, ⊎_elim, arith}
 use Rattle.std.specs.Prelude.{◌==◌, ◌&&◌, ◌||◌, ◌⊎◌, ◌-◌, ◌/◌, ◌%◌, nat_lt, Some, [], ◌∷◌, slice_get}
 use Rattle.std.specs.List.{list_any}
-use Rattle.small_lemmas.proofs.Bools.{both_of as both_true}
+use Rattle.small_lemmas.proofs.Bools.{both_of as both_true, not_both}
 use Rattle.small_lemmas.proofs.Lists.{some_same as some_inj}
 use Rattle.small_lemmas.proofs.Numbers.{suc_equal as suc_eq, tested_equal as equal_of}
 use Rattle.map_history.specs.Keys.{key_of, DependsOn}
@@ -28,18 +28,18 @@ use Rattle.bucket_laws.proofs.Sections.{insert_head, remove_target, set_target}
 use Rattle.bucket_laws.proofs.Walks.{reached_on}
 use Rattle.bucket_laws.proofs.Places.{lt_true, lt_of, head_link, node_link, guard_low, guard_node}
 
-true_false : {b : Bool} → b ≡ true → b ≡ false → ⊥
-true_false e e' = cc
-
 or_cases : {A : Type 0} → (a b : Bool) → (a || b) ≡ true → (a ≡ true → A) → (b ≡ true → A) → A
 or_cases true b h f g = f refl
 or_cases false b h f g = g h
 
-live_free : (x : Status) → x ≡ Live → x ≢ Free
+pub live_free : (x : Status) → x ≡ Live → x ≢ Free
 live_free x live free = cc
 
-retired_free : (x : Status) (y : ℕ) → x ≡ Retired y → x ≢ Free
+pub retired_free : (x : Status) (y : ℕ) → x ≡ Retired y → x ≢ Free
 retired_free x y retired free = cc
+
+pub live_retired : (x : Status) (y : ℕ) → x ≡ Live → x ≡ Retired y → ⊥
+live_retired x y live retired = cc
 
 -- what readings reach, they reach by a word of a link
 pub reached : (is_link : ℕ → Bool) (readings : Readings) (t : ℕ) → list_any (λ reading. is_link reading.0 && (value_of reading.1 == suc t)) readings ≡ true
@@ -112,7 +112,7 @@ module _ (buckets : ℕ) (bucket : ℕ → ℕ) (small : (key : ℕ) → bucket 
   pub half_settled : (x : Section) (h : Half) → HasHalf x h → h.change < h.edition → Settled (table buckets bucket) x → h.load < x.at
   half_settled x h has changes settled =
       let half = half_is x.thunk h has in
-      let passed : x.at ≤ suc h.load → ⊥ = λ low. true_false {b = true} refl (settled (suc h.load) (Fresh h.target_reg) low (half.steps changes).1) in
+      let passed : x.at ≤ suc h.load → ⊥ = λ low. not_both refl (settled (suc h.load) (Fresh h.target_reg) low (half.steps changes).1) in
       omega arith
 
   -- the node whose value is to be set stands in the chain
@@ -238,7 +238,7 @@ module _ (buckets : ℕ) (bucket : ℕ → ℕ) (small : (key : ℕ) → bucket 
         let step = step_of x.thunk x.at (Retire t) h in
         let lt = step.2.0 in
         let at = step.2.1 in
-        true_false (used_leads p t used links) (kept.owned d x t here (step.0, step.1, inr ((omega arith, omega arith), sym step.2.2))).1;
+        not_both (used_leads p t used links) (kept.owned d x t here (step.0, step.1, inr ((omega arith, omega arith), sym step.2.2))).1;
     store_used = store_used;
     one_key = λ map d e x y here there ne settled settled' unstored unstored' key depends depends'.
         ne (one_bucket buckets bucket layout s sound kept d e x y here there (ap bucket (own_key d x key here depends ∙ sym (own_key e y key there depends'))));

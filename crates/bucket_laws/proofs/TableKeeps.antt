@@ -4,7 +4,7 @@ use Rattle.std.specs.Prelude.{◌==◌, ◌&&◌, ◌%◌, ◌⊎◌, nat_lt, Op
 use mathlib.Core.Logic.{dite}
 use native.Mathlib.Decide.{ℕ_discrete}
 use Rattle.small_lemmas.proofs.Bools.{both_of as both_true}
-use Rattle.small_lemmas.proofs.Lists.{some_same as some_inj}
+use Rattle.small_lemmas.proofs.Lists.{some_same as some_inj, none_not_some}
 use Rattle.small_lemmas.proofs.Numbers.{tested_less as lt_of, tested_equal as equal_of}
 use Rattle.map_history.specs.declared.op.Op.{Op}
 use Rattle.map_history.specs.Keys.{key_of}
@@ -27,6 +27,8 @@ use Rattle.bucket_laws.proofs.Elsewhere.{IsElsewhere, knows_on}
 use Rattle.bucket_laws.proofs.Halves.{half_is, no_take}
 use Rattle.bucket_laws.proofs.NodeChanges.{clip_same}
 use Rattle.bucket_laws.proofs.Sections.{target_stays}
+use Rattle.bucket_laws.proofs.Places.{head_lock, one_slot}
+use Rattle.bucket_laws.proofs.TableGives.{live_free, retired_free, live_retired}
 use Rattle.bucket_laws.proofs.TableSteps.{quiet_kept, load_kept, make_kept, retire_kept}
 use Rattle.bucket_laws.proofs.TableStores.{table_store}
 use Rattle.bucket_laws.proofs.Walks.{knows_fed, walk_push, is_first, edition_kept}
@@ -93,9 +95,6 @@ module _ (buckets : ℕ) (bucket : ℕ → ℕ) (small : (key : ℕ) → bucket 
     limbo = kept.limbo;
   }
     where
-      none_some : {x : Section} → None ≡ Some x → ⊥
-      none_some e = cc
-
       put : (e : ℕ) (z : Section) → upd s.section d (Some (opened op thunk readings)) e ≡ Some z → ((e ≡ d) × (opened op thunk readings ≡ z)) ⊎ ((e ≢ d) × (s.section e ≡ Some z))
       put e z h = upd_some s.section d e (opened op thunk readings) z h
 
@@ -103,7 +102,7 @@ module _ (buckets : ℕ) (bucket : ℕ → ℕ) (small : (key : ℕ) → bucket 
       early z same low = let at = ap (λ z. z.at) same in omega arith
 
       stays : (e : ℕ) (z : Section) → s.section e ≡ Some z → upd s.section d (Some (opened op thunk readings)) e ≡ s.section e
-      stays e z there = upd_other s.section d e (Some (opened op thunk readings)) (λ same. none_some (sym none ∙ ap s.section (sym same) ∙ there))
+      stays e z there = upd_other s.section d e (Some (opened op thunk readings)) (λ same. none_not_some z (sym none ∙ ap s.section (sym same) ∙ there))
 
       walked : (op' : Op) (w : Walk) → IsWalked buckets bucket s kept.on kept.rank op' w → IsWalked buckets bucket (with_section s d (Some (opened op thunk readings))) kept.on kept.rank op' w
       walked op' w before edition free = before edition (λ e z there pending. free e z (stays e z there ∙ there) pending)
@@ -148,12 +147,6 @@ module _ (buckets : ℕ) (bucket : ℕ → ℕ) (small : (key : ℕ) → bucket 
       walked : (op : Op) (w : Walk) → IsWalked buckets bucket s kept.on kept.rank op w → IsWalked buckets bucket (with_section s d None) kept.on kept.rank op w
       walked op w before edition free = before edition (λ e z there pending. free e z
           (stays e z there (λ same. not_pending (bucket (key_of op)) (subst (λ z. IsPending z (bucket (key_of op))) same pending)) ∙ there) pending)
-
-  live_free : (x : Status) → x ≡ Live → x ≢ Free
-  live_free x live free = cc
-
-  retired_free : (x : Status) (y : ℕ) → x ≡ Retired y → x ≢ Free
-  retired_free x y retired free = cc
 
   -- a cell changes that is no edition, no head, and in no node but a free one
   cell_kept : (p w : ℕ) → ((i : ℕ) → i < buckets → (bucket_edition i ≢ p) × (bucket_head i ≢ p)) → ((u k : ℕ) → s.status u ≢ Free → k < 5 → cell_at buckets bucket u k ≢ p) → BucketsKept buckets bucket layout (with_cell s p w)
@@ -214,22 +207,13 @@ module _ (buckets : ℕ) (bucket : ℕ → ℕ) (small : (key : ℕ) → bucket 
         made = kept.made;
         taken = kept.taken;
         owned = λ d x u here owns. let was = kept.owned d x u here owns in (still u was.0, was.1);
-        live = λ u live. dite (ℕ_discrete u t) (λ e. absurd (free_live (sym (upd_same s.status t u Free e) ∙ live))) (λ ne. kept.live u (sym (other u ne) ∙ live));
-        limbo = λ q z u late recent leads. dite (ℕ_discrete q t) (λ e. absurd (free_retired z (sym (upd_same s.status t q Free e) ∙ late)))
+        live = λ u live. dite (ℕ_discrete u t) (λ e. absurd (live_free _ live (upd_same s.status t u Free e))) (λ ne. kept.live u (sym (other u ne) ∙ live));
+        limbo = λ q z u late recent leads. dite (ℕ_discrete q t) (λ e. absurd (retired_free _ z late (upd_same s.status t q Free e)))
             (λ ne. ⊎_elim (λ live. inl (still u live))
             (λ later. inr (later.0, other u (λ e. let same = retired_in (sym later.1 ∙ ap s.status e ∙ retired) in let order = later.2 in omega arith) ∙ later.1, later.2))
             (kept.limbo q z u (sym (other q ne) ∙ late) recent leads));
       }
     where
-      live_retired : (x : Status) (y : ℕ) → x ≡ Live → x ≡ Retired y → ⊥
-      live_retired x y e e' = cc
-
-      free_live : Free ≡ Live → ⊥
-      free_live e = cc
-
-      free_retired : (z : ℕ) → Free ≡ Retired z → ⊥
-      free_retired z e = cc
-
       retired_in : {z w : ℕ} → Retired z ≡ Retired w → z ≡ w
       retired_in e = cc
 
@@ -258,7 +242,7 @@ table_keeps buckets bucket small layout limits = record {
   enters = λ s r sound kept sound'. readers_kept buckets bucket small layout s kept r (Some []) (λ readings op e. subst (λ readings. IsWalked buckets bucket s kept.on kept.rank op (walk_of buckets bucket layout op readings)) (some_inj e) (start_walked buckets bucket small layout s kept op));
   reads = λ s r p readings reader known sound kept sound'. readers_kept buckets bucket small layout s kept r (Some (readings ++ (p, s.cells p) ∷ []))
       (λ longer op e. subst (λ readings. IsWalked buckets bucket s kept.on kept.rank op (walk_of buckets bucket layout op readings)) (some_inj e) (read_walked buckets bucket small layout s kept op readings p (kept.readers r readings op reader)));
-  leaves = λ s r sound kept sound'. readers_kept buckets bucket small layout s kept r None (λ readings op e. absurd (none_some e));
+  leaves = λ s r sound kept sound'. readers_kept buckets bucket small layout s kept r None (λ readings op e. absurd (none_not_some readings e));
   holds = λ s r d readings op thunk reader publishes none sound kept sound'. holds_kept buckets bucket small layout s kept r d readings op thunk reader none;
   load = λ s d p r x here h sound kept sound'. load_kept buckets bucket small layout s sound kept d x here p r (s.cells p) h;
   want = λ s d r w x here h equal sound kept sound'. quiet_kept buckets bucket small layout s sound kept d x here (Want r w) h (λ q v e. cc) (λ init q e. cc) (λ t e. cc);
@@ -277,14 +261,5 @@ table_keeps buckets bucket small layout limits = record {
   advance = λ s sound kept sound'. advance_kept buckets bucket small layout s kept;
 }
   where
-    none_some : {x : Readings} → None ≡ Some x → ⊥
-    none_some e = cc
-
     edition_lock : (i p : ℕ) → p % 3 ≡ 0 → 3 * i + 1 ≡ p → ⊥
     edition_lock i p at e = omega arith
-
-    head_lock : (i p : ℕ) → p % 3 ≡ 0 → 3 * i + 2 ≡ p → ⊥
-    head_lock i p at e = omega arith
-
-    one_slot : (n u t k i : ℕ) → k < 5 → i < 5 → n + 5 * u + k ≡ n + 5 * t + i → u ≡ t
-    one_slot n u t k i low low' e = omega arith

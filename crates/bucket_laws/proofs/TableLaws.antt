@@ -3,6 +3,10 @@ use Rattle.std.proofs.Common.{◌≡◌, ◌≢◌, ℕ, zero, suc, ◌+◌, ◌
 use Rattle.std.specs.Prelude.{◌==◌, ◌&&◌, ◌-◌, ◌/◌, ◌%◌, ◌^◌, ◌⊎◌, nat_lt, Option, Some, None, slice_get, slice_index, length, Contains}
 use Rattle.std.specs.FinMap.{get, empty, get-empty}
 use Rattle.std.specs.Ordering.{nat_cmp}
+use Rattle.std.proofs.lemmas.Nat.{pow_pos, pow_below, shr_below}
+use Rattle.small_lemmas.proofs.Bools.{false_not_true, both_hold}
+use Rattle.small_lemmas.proofs.Lists.{none_not_some, some_not_none, some_same}
+use Rattle.small_lemmas.proofs.Numbers.{zero_not_suc, last_or_before}
 use Rattle.map_history.specs.declared.op.Op.{Op}
 use Rattle.map_history.specs.declared.op.Op.TheVariants.{Get, Ins, Del, Put, Mov}
 use Rattle.map_history.specs.Keys.{key_of, value_given, IsOneKeyed}
@@ -37,35 +41,21 @@ use Rattle.bucket_laws.proofs.Fitting.{table_fitting}
 use Rattle.bucket_laws.proofs.Halves.{node_init, steps_for, number_of, fits_for, stored_for, answer_for, HasKind, kind_is}
 use Rattle.bucket_laws.proofs.Halves.{half_is, number_is, place_is, step_of, no_take, half_step}
 use Rattle.bucket_laws.proofs.NodeChanges.{clip_same}
-use Rattle.bucket_laws.proofs.TableGives.{reached, table_gives}
+use Rattle.bucket_laws.proofs.Places.{head_lock, one_slot}
+use Rattle.bucket_laws.proofs.TableGives.{live_free, retired_free, reached, table_gives}
 use Rattle.bucket_laws.proofs.TableKeeps.{lock_at, table_keeps}
 use Rattle.bucket_laws.proofs.TableShape.{read_shaped, insert_shaped, remove_shaped, set_shaped}
 use Rattle.bucket_laws.proofs.TableTurn.{table_answers, table_stores}
 use Rattle.bucket_laws.proofs.WalkFacts.{Gives, walk_facts}
 
-live_free : (x : Status) → x ≡ Live → x ≢ Free
-live_free x live free = cc
-
-retired_free : (x : Status) (y : ℕ) → x ≡ Retired y → x ≢ Free
-retired_free x y retired free = cc
-
 small_is : (n : ℕ) → n < 2 ^ 32 → is_small n ≡ true
 small_is n low = grind arith
-
-three_true : (a b c : Bool) → a ≡ true → b ≡ true → c ≡ true → (a && (b && c)) ≡ true
-three_true a b c h h' h'' = (λ i. h i && (h' i && h'' i))
-
-four_true : (a b c d : Bool) → a ≡ true → b ≡ true → c ≡ true → d ≡ true → (a && (b && (c && d))) ≡ true
-four_true a b c d h h' h'' h3 = grind arith
 
 no_lock_low : (i r n : ℕ) → 1 ≤ r → r ≤ 2 → (nat_lt (3 * i + r) n && ((3 * i + r) % 3 == 0)) ≡ false
 no_lock_low i r n low high = let rest : (3 * i + r) % 3 ≢ 0 = (λ e. omega arith) in grind arith
 
 no_lock_high : (p n : ℕ) → n ≤ p → (nat_lt p n && (p % 3 == 0)) ≡ false
 no_lock_high p n high = grind arith
-
-no_other : (key : ℕ) → Some key ≡ None → ⊥
-no_other key e = cc
 
 pub form_cases : (op : Op) (found : Bool) → IsOneKeyed op → (form_for op found ≡ 1) ⊎ (form_for op found ≡ 2) ⊎ (form_for op found ≡ 3) ⊎ (form_for op found ≡ 4)
 form_cases (Get key) found one = inl refl
@@ -75,7 +65,7 @@ form_cases (Del key) true one = inr (inr (inl refl))
 form_cases (Del key) false one = inl refl
 form_cases (Put key value) true one = inr (inr (inr refl))
 form_cases (Put key value) false one = inr (inl refl)
-form_cases (Mov from to) found one = absurd (no_other to one)
+form_cases (Mov from to) found one = absurd (some_not_none to one)
 
 -- the reply word of a thunk that changes nothing isn't 0
 reply_some : (buckets : ℕ) (op : Op) (w : Walk) (found : Bool) → form_for op found ≡ 1 → 0 < slice_index (operands_for buckets op w found) 1
@@ -128,51 +118,9 @@ module _ (buckets : ℕ) (bucket : ℕ → ℕ) (small : (key : ℕ) → bucket 
   lock_small : thunk.lock + 2 < 2 ^ 32
   lock_small = let at = lock_is in let low = small (key_of op) in omega arith
 
-  number_at : (k : ℕ) → operand thunk k ≡ slice_index (operands_for buckets op own_walk own_walk.found) k
-  number_at k = ap (λ numbers. slice_index numbers k) fit.operands
-
-  numbered : (k : Kind) → form_for op own_walk.found ≡ number_of k → fits_for k thunk ≡ true → HasKind thunk k
-  numbered k form small = kind_is thunk k (fit.form ∙ form) small
-
-  look_form : form_for op own_walk.found ≡ 1 → HasKind thunk Look
-  look_form form = numbered Look form (small_is (thunk.lock + 1) (let low = lock_small in omega arith))
-
-  insert_form : form_for op own_walk.found ≡ 2 → HasKind thunk Insert
-  insert_form form =
-      let named = (insert_operands buckets op own_walk own_walk.found form).1 in
-      let is_key : key_of op ≡ named.0 = named.2.0 in
-      let key_low = allowed.keys (key_of op) (inl refl) in
-      let value_low = allowed.value named.1 (puts_given op named.0 named.1 named.2) in
-      let head_low = (walk_facts buckets bucket small (bounds buckets bucket layout) op readings).head_small in
-      numbered Insert form
-      (four_true _ _ _ _ (small_is (thunk.lock + 2) lock_small) (small_is (operand thunk 1) (let at = number_at 1 ∙ named.3 in omega arith)) (small_is (operand thunk 2) (let at = number_at 2 ∙ named.4 in omega arith))
-      (small_is (operand thunk 3) (let at = number_at 3 ∙ named.5 in omega arith)))
-
-  remove_form : form_for op own_walk.found ≡ 3 → HasKind thunk Remove
-  remove_form form =
-      let named = (remove_operands buckets op own_walk own_walk.found form).1 in
-      let facts = walk_facts buckets bucket small (bounds buckets bucket layout) op readings in
-      let slot_low = facts.slot_small in
-      let next_low = facts.next_small in
-      let place_low = place_small in
-      numbered Remove form
-      (four_true _ _ _ _ (small_is (thunk.lock + 1) (let low = lock_small in omega arith)) (small_is (operand thunk 1) (let at = number_at 1 ∙ named.1 in omega arith)) (small_is (operand thunk 2) (let at = number_at 2 ∙ named.2 in omega arith))
-      (small_is (operand thunk 3) (let at = number_at 3 ∙ named.3 in omega arith)))
-
   -- the slot of the node that the walk found was read in a link
   found_given : own_walk.found ≡ true → Gives buckets bucket small readings own_walk.slot
   found_given found = (walk_facts buckets bucket small (bounds buckets bucket layout) op readings).slot (inr (inr (inr found)))
-
-  set_form : form_for op own_walk.found ≡ 4 → HasKind thunk Set
-  set_form form =
-      let operands = set_operands buckets op own_walk own_walk.found form in
-      let named = operands.1 in
-      let low = within own_walk.slot (found_given operands.0) in
-      let nodes = limits.few_nodes in
-      let runners = limits.few_runners in
-      let value_low = allowed.value named.1 (ap value_given named.2) in
-      numbered Set form
-      (three_true _ _ _ (small_is (thunk.lock + 1) (let low = lock_small in omega arith)) (small_is (operand thunk 1) (let at = number_at 1 ∙ named.3 in omega arith)) (small_is (operand thunk 2) (let at = number_at 2 ∙ named.4 in omega arith)))
 
   -- the cell of the value that is to be set
   set_cell : thunk.form ≡ 4 → (t : ℕ) × Gives buckets bucket small readings t × (operand thunk 1 ≡ 3 * buckets + 5 * t + 2)
@@ -182,20 +130,57 @@ module _ (buckets : ℕ) (bucket : ℕ → ℕ) (small : (key : ℕ) → bucket 
   remove_link : thunk.form ≡ 3 → (operand thunk 1 ≡ 3 * own + 2) ⊎ ((t : ℕ) × Gives buckets bucket small readings t × (operand thunk 1 ≡ 3 * buckets + 5 * t + 3))
   remove_link form = let named = (fit.remove form).1 in ⊎_elim (λ head. inl (named.1 ∙ head)) (λ node. inr (node.0, node.1, named.1 ∙ node.2)) link_place
 
+  -- the operands are small
+  insert_small : thunk.form ≡ 2 → (operand thunk 1 < 2 ^ 32) × (operand thunk 2 < 2 ^ 32) × (operand thunk 3 < 2 ^ 32)
+  insert_small form =
+      let named = (fit.insert form).1 in
+      let is_key : key_of op ≡ named.0 = named.2.0 in
+      let key_low = allowed.keys (key_of op) (inl refl) in
+      let value_low = allowed.value named.1 (puts_given op named.0 named.1 named.2) in
+      let head_low = (walk_facts buckets bucket small (bounds buckets bucket layout) op readings).head_small in
+      ((let at = named.3 in omega arith), (let at = named.4 in omega arith), (let at = named.5 in omega arith))
+
+  remove_small : thunk.form ≡ 3 → (operand thunk 1 < 2 ^ 32) × (operand thunk 2 < 2 ^ 32) × (operand thunk 3 < 2 ^ 32)
+  remove_small form =
+      let named = (fit.remove form).1 in
+      let facts = walk_facts buckets bucket small (bounds buckets bucket layout) op readings in
+      let place_low = place_small in
+      let slot_low = facts.slot_small in
+      let next_low = facts.next_small in
+      ((let at = named.1 in omega arith), (let at = named.2 in omega arith), (let at = named.3 in omega arith))
+
+  set_small : thunk.form ≡ 4 → (operand thunk 1 < 2 ^ 32) × (operand thunk 2 < 2 ^ 32)
+  set_small form =
+      let named = (fit.sets form).1 in
+      let cell = set_cell form in
+      let low = within cell.0 cell.1 in
+      let nodes = limits.few_nodes in
+      let runners = limits.few_runners in
+      let value_low = allowed.value named.1 (ap value_given named.2) in
+      ((let at = cell.2 in omega arith), (let at = named.4 in omega arith))
+
+  -- so the body is the one of its form
+  kind_of : (k : Kind) → thunk.form ≡ number_of k → HasKind thunk k
+  kind_of Look form = kind_is thunk Look form (small_is _ (let low = lock_small in omega arith))
+  kind_of Insert form = let low = insert_small form in kind_is thunk Insert form (both_hold _ _ (small_is _ lock_small)
+      (both_hold _ _ (small_is _ low.0) (both_hold _ _ (small_is _ low.1) (small_is _ low.2))))
+  kind_of Remove form = let low = remove_small form in kind_is thunk Remove form (both_hold _ _ (small_is _ (let low = lock_small in omega arith))
+      (both_hold _ _ (small_is _ low.0) (both_hold _ _ (small_is _ low.1) (small_is _ low.2))))
+  kind_of Set form = let low = set_small form in kind_is thunk Set form (both_hold _ _ (small_is _ (let low = lock_small in omega arith))
+      (both_hold _ _ (small_is _ low.0) (small_is _ low.1)))
+
   shaped : IsShaped (table_steps thunk)
-  shaped = ⊎_elim (λ form. of_kind Look (look_form form) (read_shaped thunk))
-      (⊎_elim (λ form. of_kind Insert (insert_form form) (insert_shaped thunk))
-      (⊎_elim (λ form. let kind = remove_form form in of_kind Remove kind (remove_shaped thunk (apart kind.0)))
-      (λ form. let kind = set_form form in of_kind Set kind (set_shaped thunk (set_apart kind.0))))) (form_cases op own_walk.found fit.one)
+  shaped = ⊎_elim (by Look) (⊎_elim (by Insert) (⊎_elim (by Remove) (by Set))) (form_cases op own_walk.found fit.one)
     where
-      of_kind : (k : Kind) → HasKind thunk k → IsShaped (steps_for k thunk) → IsShaped (table_steps thunk)
-      of_kind k kind shape = subst IsShaped (sym kind.1) shape
+      shape : (k : Kind) → thunk.form ≡ number_of k → IsShaped (steps_for k thunk)
+      shape Look form = read_shaped thunk
+      shape Insert form = insert_shaped thunk
+      shape Remove form = remove_shaped thunk (λ e. let at = lock_is in let low = small (key_of op) in
+          ⊎_elim (λ head. omega arith) (λ node. let place = node.2 in omega arith) (remove_link form))
+      shape Set form = set_shaped thunk (λ e. let at = lock_is in let low = small (key_of op) in let place = (set_cell form).2 in omega arith)
 
-      set_apart : thunk.form ≡ 4 → operand thunk 1 ≢ thunk.lock + 1
-      set_apart form e = let at = lock_is in let low = small (key_of op) in let place = (set_cell form).2 in omega arith
-
-      apart : thunk.form ≡ 3 → operand thunk 1 ≢ thunk.lock + 1
-      apart form e = let at = lock_is in let low = small (key_of op) in ⊎_elim (λ head. omega arith) (λ node. let place = node.2 in omega arith) (remove_link form)
+      by : (k : Kind) → form_for op own_walk.found ≡ number_of k → IsShaped (table_steps thunk)
+      by k form = let kind = kind_of k (fit.form ∙ form) in subst IsShaped (sym kind.1) (shape k kind.0)
 
   abbrev known : ℕ → Type 0
   known = IsKnown (table buckets bucket) readings
@@ -238,10 +223,8 @@ module _ (buckets : ℕ) (bucket : ℕ → ℕ) (small : (key : ℕ) → bucket 
       by : (h : Half) → Contains (halves thunk) h → (k : Kind) → h.kind ≡ k → IsSmall (stored_for k thunk)
       by h has Look kind = omega arith
       by h has Insert kind = tt
-      by h has Remove kind = let named = (fit.remove (number_is thunk h has Remove kind)).1 in
-          let low = (walk_facts buckets bucket small (bounds buckets bucket layout) op readings).next_small in let at = named.3 in omega arith
-      by h has Set kind = let named = (fit.sets (number_is thunk h has Set kind)).1 in
-          let low = allowed.value named.1 (ap value_given named.2) in let at = named.4 in omega arith
+      by h has Remove kind = (remove_small (number_is thunk h has Remove kind)).2
+      by h has Set kind = (set_small (number_is thunk h has Set kind)).1
 
   pub table_shaped : Shaped (table buckets bucket) layout readings thunk
   table_shaped = record {
@@ -270,7 +253,7 @@ module _ (buckets : ℕ) (bucket : ℕ → ℕ) (small : (key : ℕ) → bucket 
   }
     where
       answers : (h : Half) → Contains (halves thunk) h → (k : Kind) → h.kind ≡ k → 0 < answer_for k thunk
-      answers h has Look kind = let at = number_at 1 in
+      answers h has Look kind = let at = ap (λ numbers. slice_index numbers 1) fit.operands in
           let some = reply_some buckets op own_walk own_walk.found (sym fit.form ∙ number_is thunk h has Look kind) in omega arith
       answers h has Insert kind = omega arith
       answers h has Remove kind = omega arith
@@ -303,23 +286,14 @@ module _ (buckets : ℕ) (bucket : ℕ → ℕ) (small : (key : ℕ) → bucket 
           (λ x. ⊎_elim (λ y. absurd (apart (sym x.1 ∙ y.1))) (λ y. x.0 ∙ sym y.0) (half_step thunk step.0 step.1 j (Store r w) other).1) step.2.1
 
       init_small : (i : ℕ) (v : Value) → thunk.form ≡ 2 → slice_get (node_init thunk).cells i ≡ Some v → IsSmall v
-      init_small i v form h =
-          let named = (fit.insert form).1 in
-          let is_key : key_of op ≡ named.0 = named.2.0 in
-          let key_low : operand thunk 1 < 2 ^ 32 = (let low = allowed.keys (key_of op) (inl refl) in let at = named.3 in omega arith) in
-          let value_low : operand thunk 2 < 2 ^ 32 = (let low = allowed.value named.1 (puts_given op named.0 named.1 named.2) in let at = named.4 in omega arith) in
-          let head_low : operand thunk 3 < 2 ^ 32 = (let low = (walk_facts buckets bucket small (bounds buckets bucket layout) op readings).head_small in let at = named.5 in omega arith) in
-          cells i h key_low value_low head_low
+      init_small i v form h = let low = insert_small form in cells i h low.0 low.1 low.2
         where
-          some_inj : {x y : Value} → Some x ≡ Some y → x ≡ y
-          some_inj e = cc
-
           cells : (i : ℕ) → slice_get (node_init thunk).cells i ≡ Some v → operand thunk 1 < 2 ^ 32 → operand thunk 2 < 2 ^ 32 → operand thunk 3 < 2 ^ 32 → IsSmall v
-          cells zero h a b c = subst IsSmall (some_inj h) (omega arith)
-          cells (suc zero) h a b c = subst IsSmall (some_inj h) a
-          cells (suc (suc zero)) h a b c = subst IsSmall (some_inj h) b
-          cells (suc (suc (suc zero))) h a b c = subst IsSmall (some_inj h) c
-          cells (suc (suc (suc (suc zero)))) h a b c = subst IsSmall (some_inj h) (omega arith)
+          cells zero h a b c = subst IsSmall (some_same h) (omega arith)
+          cells (suc zero) h a b c = subst IsSmall (some_same h) a
+          cells (suc (suc zero)) h a b c = subst IsSmall (some_same h) b
+          cells (suc (suc (suc zero))) h a b c = subst IsSmall (some_same h) c
+          cells (suc (suc (suc (suc zero)))) h a b c = subst IsSmall (some_same h) (omega arith)
           cells (suc (suc (suc (suc (suc i))))) h a b c = absurd (cc)
 
 -- contents are those of any memory that agrees on the slots in the chains
@@ -354,13 +328,6 @@ module _ (buckets : ℕ) (bucket : ℕ → ℕ) (small : (key : ℕ) → bucket 
         (λ u k on first last e. live_free (s.status u) (before.kept.on_live u (same_on bucket (nodes buckets bucket s.cells) before.stands.on before.kept.on before.stands.rank before.kept.rank before.stands.chains before.kept.chains u on))
         (ap s.status (one_slot (3 * buckets) u t k i (omega arith) low e) ∙ free));
   }
-    where
-      head_lock : (i p : ℕ) → p % 3 ≡ 0 → 3 * i + 2 ≡ p → ⊥
-      head_lock i p at e = omega arith
-
-      one_slot : (n u t k i : ℕ) → k < 5 → i < 5 → n + 5 * u + k ≡ n + 5 * t + i → u ≡ t
-      one_slot n u t k i low low' e = omega arith
-
   -- in the first memory no slot stands in a chain
   first_value : (s : Scene) → IsFirst (table buckets bucket) s → (p : ℕ) → value_of (s.cells p) ≡ 0
   first_value s first p = ap value_of (first.cells p) ∙ zero_word (nat_lt p (3 * buckets + 5 * 0))
@@ -371,22 +338,16 @@ module _ (buckets : ℕ) (bucket : ℕ → ℕ) (small : (key : ℕ) → bucket 
 
   first_chains : (s : Scene) → IsFirst (table buckets bucket) s → Chains bucket (nodes buckets bucket s.cells) (λ t. false) (λ t. 0)
   first_chains s first = record {
-    head_on = λ i t h. absurd (zero_suc t (sym (head i) ∙ h));
-    head_top = λ i t u h on. absurd (false_true on);
-    head_none = λ i u h on. absurd (false_true on);
-    next_on = λ p t on. absurd (false_true on);
-    next_top = λ p t u on. absurd (false_true on);
-    next_none = λ p u on. absurd (false_true on);
-    rank_once = λ p t on. absurd (false_true on);
-    key_once = λ p t on. absurd (false_true on);
+    head_on = λ i t h. absurd (zero_not_suc t (sym (head i) ∙ h));
+    head_top = λ i t u h on. absurd (false_not_true on);
+    head_none = λ i u h on. absurd (false_not_true on);
+    next_on = λ p t on. absurd (false_not_true on);
+    next_top = λ p t u on. absurd (false_not_true on);
+    next_none = λ p u on. absurd (false_not_true on);
+    rank_once = λ p t on. absurd (false_not_true on);
+    key_once = λ p t on. absurd (false_not_true on);
   }
     where
-      false_true : false ≡ true → ⊥
-      false_true e = cc
-
-      zero_suc : (t : ℕ) → 0 ≡ suc t → ⊥
-      zero_suc t e = omega arith
-
       head : (i : ℕ) → cond (nat_lt i buckets) (value_of (s.cells (bucket_head i))) 0 ≡ 0
       head i = ap (λ v. cond (nat_lt i buckets) v 0) (first_value s first (bucket_head i)) ∙ either (nat_lt i buckets)
         where
@@ -399,26 +360,17 @@ module _ (buckets : ℕ) (bucket : ℕ → ℕ) (small : (key : ℕ) → bucket 
     on = λ t. false;
     rank = λ t. 0;
     chains = first_chains s first;
-    on_live = λ t on. absurd (false_true on);
-    readers = λ r readings op h. absurd (none_some (sym (first.reader r) ∙ h));
-    sections = λ d x h. absurd (none_section (sym (first.section d) ∙ h));
-    made = λ d x h at. absurd (none_section (sym (first.section d) ∙ at));
-    target = λ d x h at. absurd (none_section (sym (first.section d) ∙ at));
-    taken = λ d x h at. absurd (none_section (sym (first.section d) ∙ at));
-    owned = λ d x t at. absurd (none_section (sym (first.section d) ∙ at));
+    on_live = λ t on. absurd (false_not_true on);
+    readers = λ r readings op h. absurd (none_not_some readings (sym (first.reader r) ∙ h));
+    sections = λ d x h. absurd (none_not_some x (sym (first.section d) ∙ h));
+    made = λ d x h at. absurd (none_not_some x (sym (first.section d) ∙ at));
+    target = λ d x h at. absurd (none_not_some x (sym (first.section d) ∙ at));
+    taken = λ d x h at. absurd (none_not_some x (sym (first.section d) ∙ at));
+    owned = λ d x t at. absurd (none_not_some x (sym (first.section d) ∙ at));
     live = λ t h. absurd (not_live t (sym (first.status t) ∙ h));
     limbo = λ q y t h. absurd (not_retired q y (sym (first.status q) ∙ h));
   }
     where
-      false_true : false ≡ true → ⊥
-      false_true e = cc
-
-      none_some : {x : Readings} → None ≡ Some x → ⊥
-      none_some e = cc
-
-      none_section : {x : Section} → None ≡ Some x → ⊥
-      none_section e = cc
-
       not_live : (t : ℕ) → cond (nat_lt t 0) Live Free ≡ Live → ⊥
       not_live t h = grind arith
 
@@ -429,17 +381,10 @@ module _ (buckets : ℕ) (bucket : ℕ → ℕ) (small : (key : ℕ) → bucket 
   first_stands s first = record {
     on = λ t. false;
     rank = λ t. 0;
-    within = λ t on. absurd (false_true on);
+    within = λ t on. absurd (false_not_true on);
     chains = first_chains s first;
-    contents = record { pair = λ t on. absurd (false_true on); slot = λ key value h. absurd (none_some (sym (get-empty nat_cmp key) ∙ h)) };
+    contents = record { pair = λ t on. absurd (false_not_true on); slot = λ key value h. absurd (none_not_some value (sym (get-empty nat_cmp key) ∙ h)) };
   }
-    where
-      false_true : false ≡ true → ⊥
-      false_true e = cc
-
-      none_some : {v : ℕ} → None ≡ Some v → ⊥
-      none_some e = cc
-
 -- the hash table over any number of buckets, and any function of keys to buckets
 pub table_laws : (buckets : ℕ) (bucket : ℕ → ℕ) → ((key : ℕ) → bucket key < buckets) → 3 * buckets ≤ 12288 → Laws (table buckets bucket)
 table_laws buckets bucket small few = record {
@@ -459,69 +404,21 @@ table_laws buckets bucket small few = record {
     no_link : (p : ℕ) → (p < 3 * buckets) × (p % 3 ≡ 0) → is_link_place buckets bucket p ≡ false
     no_link p at = let low = at.0 in let rest = at.1 in grind arith
 
--- each number up to 12 by itself
-each_bits : (P : ℕ → Type 0) → P 0 → P 1 → P 2 → P 3 → P 4 → P 5 → P 6 → P 7 → P 8 → P 9 → P 10 → P 11 → P 12 → (n : ℕ) → n ≤ 12 → P n
-each_bits P p0 p1 p2 p3 p4 p5 p6 p7 p8 p9 p10 p11 p12 zero low = p0
-each_bits P p0 p1 p2 p3 p4 p5 p6 p7 p8 p9 p10 p11 p12 (suc zero) low = p1
-each_bits P p0 p1 p2 p3 p4 p5 p6 p7 p8 p9 p10 p11 p12 (suc (suc zero)) low = p2
-each_bits P p0 p1 p2 p3 p4 p5 p6 p7 p8 p9 p10 p11 p12 (suc (suc (suc zero))) low = p3
-each_bits P p0 p1 p2 p3 p4 p5 p6 p7 p8 p9 p10 p11 p12 (suc (suc (suc (suc zero)))) low = p4
-each_bits P p0 p1 p2 p3 p4 p5 p6 p7 p8 p9 p10 p11 p12 (suc (suc (suc (suc (suc zero))))) low = p5
-each_bits P p0 p1 p2 p3 p4 p5 p6 p7 p8 p9 p10 p11 p12 (suc (suc (suc (suc (suc (suc zero)))))) low = p6
-each_bits P p0 p1 p2 p3 p4 p5 p6 p7 p8 p9 p10 p11 p12 (suc (suc (suc (suc (suc (suc (suc zero))))))) low = p7
-each_bits P p0 p1 p2 p3 p4 p5 p6 p7 p8 p9 p10 p11 p12 (suc (suc (suc (suc (suc (suc (suc (suc zero)))))))) low = p8
-each_bits P p0 p1 p2 p3 p4 p5 p6 p7 p8 p9 p10 p11 p12 (suc (suc (suc (suc (suc (suc (suc (suc (suc zero))))))))) low = p9
-each_bits P p0 p1 p2 p3 p4 p5 p6 p7 p8 p9 p10 p11 p12 (suc (suc (suc (suc (suc (suc (suc (suc (suc (suc zero)))))))))) low = p10
-each_bits P p0 p1 p2 p3 p4 p5 p6 p7 p8 p9 p10 p11 p12 (suc (suc (suc (suc (suc (suc (suc (suc (suc (suc (suc zero))))))))))) low = p11
-each_bits P p0 p1 p2 p3 p4 p5 p6 p7 p8 p9 p10 p11 p12 (suc (suc (suc (suc (suc (suc (suc (suc (suc (suc (suc (suc zero)))))))))))) low = p12
-each_bits P p0 p1 p2 p3 p4 p5 p6 p7 p8 p9 p10 p11 p12 (suc (suc (suc (suc (suc (suc (suc (suc (suc (suc (suc (suc (suc n))))))))))))) low = absurd (omega arith)
-
-remainder_small : (n : ℕ) → n % 2 ^ 32 < 2 ^ 32
-remainder_small n = omega arith
-
-quotient_1 : (n : ℕ) → n < 2 ^ 32 → n / 2 ^ (32 - 1) < 2 ^ 1
-quotient_1 n low = omega arith
-
-quotient_2 : (n : ℕ) → n < 2 ^ 32 → n / 2 ^ (32 - 2) < 2 ^ 2
-quotient_2 n low = omega arith
-
-quotient_3 : (n : ℕ) → n < 2 ^ 32 → n / 2 ^ (32 - 3) < 2 ^ 3
-quotient_3 n low = omega arith
-
-quotient_4 : (n : ℕ) → n < 2 ^ 32 → n / 2 ^ (32 - 4) < 2 ^ 4
-quotient_4 n low = omega arith
-
-quotient_5 : (n : ℕ) → n < 2 ^ 32 → n / 2 ^ (32 - 5) < 2 ^ 5
-quotient_5 n low = omega arith
-
-quotient_6 : (n : ℕ) → n < 2 ^ 32 → n / 2 ^ (32 - 6) < 2 ^ 6
-quotient_6 n low = omega arith
-
-quotient_7 : (n : ℕ) → n < 2 ^ 32 → n / 2 ^ (32 - 7) < 2 ^ 7
-quotient_7 n low = omega arith
-
-quotient_8 : (n : ℕ) → n < 2 ^ 32 → n / 2 ^ (32 - 8) < 2 ^ 8
-quotient_8 n low = omega arith
-
-quotient_9 : (n : ℕ) → n < 2 ^ 32 → n / 2 ^ (32 - 9) < 2 ^ 9
-quotient_9 n low = omega arith
-
-quotient_10 : (n : ℕ) → n < 2 ^ 32 → n / 2 ^ (32 - 10) < 2 ^ 10
-quotient_10 n low = omega arith
-
-quotient_11 : (n : ℕ) → n < 2 ^ 32 → n / 2 ^ (32 - 11) < 2 ^ 11
-quotient_11 n low = omega arith
-
-quotient_12 : (n : ℕ) → n < 2 ^ 32 → n / 2 ^ (32 - 12) < 2 ^ 12
-quotient_12 n low = omega arith
-
 -- the hash function leads to a bucket
 pub bucket_small : (bits key : ℕ) → bits ≤ 12 → bucket_index key bits < 2 ^ bits
-bucket_small bits key few = let low = remainder_small (key * 2654435769) in
-    each_bits (λ bits. bucket_index key bits < 2 ^ bits) (omega arith) (quotient_1 (key * 2654435769 % 2 ^ 32) low) (quotient_2 (key * 2654435769 % 2 ^ 32) low) (quotient_3 (key * 2654435769 % 2 ^ 32) low) (quotient_4 (key * 2654435769 % 2 ^ 32) low) (quotient_5 (key * 2654435769 % 2 ^ 32) low) (quotient_6 (key * 2654435769 % 2 ^ 32) low) (quotient_7 (key * 2654435769 % 2 ^ 32) low) (quotient_8 (key * 2654435769 % 2 ^ 32) low) (quotient_9 (key * 2654435769 % 2 ^ 32) low) (quotient_10 (key * 2654435769 % 2 ^ 32) low) (quotient_11 (key * 2654435769 % 2 ^ 32) low) (quotient_12 (key * 2654435769 % 2 ^ 32) low) bits few
+bucket_small bits key few = by (bits == 0)
+  where
+    remainder : (n : ℕ) → n % 2 ^ 32 < 2 ^ (bits + (32 - bits))
+    remainder n = let whole : bits + (32 - bits) ≡ 32 = omega arith in
+        subst (λ k. n % 2 ^ 32 < 2 ^ k) (sym whole) (omega arith)
+
+    by : (none : Bool) → cond none 0 ((key * 2654435769 % 2 ^ 32) / 2 ^ (32 - bits)) < 2 ^ bits
+    by true = pow_pos bits
+    by false = shr_below (key * 2654435769 % 2 ^ 32) bits (32 - bits) (remainder (key * 2654435769))
 
 buckets_few : (bits : ℕ) → bits ≤ 12 → 3 * 2 ^ bits ≤ 12288
-buckets_few bits few = each_bits (λ bits. 3 * 2 ^ bits ≤ 12288) (omega arith) (omega arith) (omega arith) (omega arith) (omega arith) (omega arith) (omega arith) (omega arith) (omega arith) (omega arith) (omega arith) (omega arith) (omega arith) bits few
+buckets_few bits few = ⊎_elim (λ less. let below = pow_below bits 12 less in omega arith)
+    (λ most. let same = ap (λ n. 2 ^ n) most in omega arith) (last_or_before bits 12 (omega arith))
 
 -- the hash table with 2 ^ bits buckets meets the laws
 pub buckets_laws : (bits : ℕ) → bits ≤ 12 → Laws (buckets_meaning bits)

@@ -5,6 +5,7 @@ use Rattle.std.proofs.lemmas.Bool.{both_ways}
 use mathlib.Core.Logic.{dite}
 use native.Mathlib.Decide.{ℕ_discrete}
 use Rattle.small_lemmas.proofs.Lists.{some_same as some_inj}
+use Rattle.small_lemmas.proofs.Numbers.{suc_equal}
 use Rattle.map_history.specs.declared.op.Op.{Op}
 use Rattle.map_history.specs.Keys.{key_of}
 use Rattle.body_terms.specs.Update.{upd}
@@ -30,10 +31,7 @@ use Rattle.bucket_laws.specs.Buckets.{IsTargetOf, IsWalked, walk_of, IsMade, IsT
 use Rattle.bucket_laws.proofs.Halves.{IsOf, half_is, number_is, stored_for, node_init, step_of, half_step}
 use Rattle.bucket_laws.proofs.Places.{is_node_link}
 use Rattle.bucket_laws.proofs.Sections.{fit, one_bucket}
-use Rattle.bucket_laws.proofs.TableGives.{next_leads, target_now}
-
-pub suc_eq : (a b : ℕ) → suc a ≡ suc b → a ≡ b
-suc_eq a b e = omega arith
+use Rattle.bucket_laws.proofs.TableGives.{live_free, live_retired, next_leads, target_now}
 
 pub below_or : (a b : ℕ) → a ≤ b → (a ≡ b) ⊎ (a < b)
 below_or a b low = search arith
@@ -52,7 +50,7 @@ module _ (buckets : ℕ) (bucket : ℕ → ℕ) (layout : Layout) (s : Scene) (k
       (λ new. let made = kept.made d x owns.0 here owns.1 new.0 in
       let number = number_is x.thunk owns.0 owns.1 Insert (making_kind x owns.0 owns.1 new.0) in
       let named = ((fit buckets bucket layout s sound kept d x here).insert number).1 in
-      ap (λ t. value_of (s.cells (cell_at buckets bucket t 1))) (suc_eq t made.0 (sym new.1 ∙ made.1)) ∙ made.2.key ∙ named.3 ∙ sym named.2.0)
+      ap (λ t. value_of (s.cells (cell_at buckets bucket t 1))) (suc_equal t made.0 (sym new.1 ∙ made.1)) ∙ made.2.key ∙ named.3 ∙ sym named.2.0)
       (λ old. ap (λ t. value_of (s.cells (cell_at buckets bucket t 1))) (sym old.1) ∙ (kept.taken d x owns.0 here owns.1 old.0).key) owns.2
 
   -- so no two sections hold one slot
@@ -239,24 +237,18 @@ module _ (buckets : ℕ) (bucket : ℕ → ℕ) (small : (key : ℕ) → bucket 
         next = cell 3 (Const (operand x.thunk 3)) (omega arith) refl;
       }))
       (λ h has taking. absurd (taking_none h has taking))
-      (λ u owns. ⊎_elim (λ new. let same : u ≡ t = suc_eq u t (sym new.1 ∙ upd_same x.reg r owns.0.node_reg (suc t) (sym (made owns.0 owns.1).2)) in
+      (λ u owns. ⊎_elim (λ new. let same : u ≡ t = suc_equal u t (sym new.1 ∙ upd_same x.reg r owns.0.node_reg (suc t) (sym (made owns.0 owns.1).2)) in
       (upd_same s.status t u Live same, off (kept.on u) (ap kept.on (sym same)))) (λ old. absurd (taking_none owns.0 owns.1 old.0)) owns.2)
       (λ e z u ne there owns. live_too u (kept.owned e z u there owns).0)
       (λ u live. dite (ℕ_discrete u t)
       (λ same. inr (make.0, make.1, inl ((omega arith, omega arith), upd_same x.reg r make.0.node_reg (suc t) (sym make.2.2) ∙ ap suc (sym same))))
       (λ other. inl (sym (upd_other s.status t u Live other) ∙ live)))
       (λ u live owns. absurd (owns_none (λ h has. let at = (made h has).1 in omega arith) u owns))
-      (λ q y u retired recent leads. dite (ℕ_discrete q t) (λ same. absurd (live_retired y (sym (upd_same s.status t q Live same) ∙ retired)))
+      (λ q y u retired recent leads. dite (ℕ_discrete q t) (λ same. absurd (live_retired _ y (upd_same s.status t q Live same) retired))
       (λ other. ⊎_elim (λ live. inl (live_too u live))
       (λ late. dite (ℕ_discrete u t) (λ same. inl (upd_same s.status t u Live same)) (λ ne. inr (late.0, upd_other s.status t u Live ne ∙ late.1, late.2)))
       (kept.limbo q y u (sym (upd_other s.status t q Live other) ∙ retired) recent leads)))
     where
-      live_retired : (y : ℕ) → Live ≡ Retired y → ⊥
-      live_retired y e = cc
-
-      live_free : Live ≡ Free → ⊥
-      live_free e = cc
-
       made : (h : Half) → HasHalf x h → IsOf x.thunk h x.at (Make init r)
       made h has = half_step x.thunk h has x.at (Make init r) step
 
@@ -264,7 +256,7 @@ module _ (buckets : ℕ) (bucket : ℕ → ℕ) (small : (key : ℕ) → bucket 
       taking_none h has taking = let lt = (made h has).0 in let at = (made h has).1 in let late = taking.0 in omega arith
 
       off : (b : Bool) → kept.on t ≡ b → b ≡ false
-      off true e = absurd (live_free (sym (kept.on_live t e) ∙ prepared.in_hand))
+      off true e = absurd (live_free (s.status t) (kept.on_live t e) prepared.in_hand)
       off false e = refl
 
   -- a Retire
@@ -294,11 +286,8 @@ module _ (buckets : ℕ) (bucket : ℕ → ℕ) (small : (key : ℕ) → bucket 
       (λ ne'. inr (late.0, other u ne' ∙ late.1, late.2)))
       (kept.limbo q z u before recent leads)))
     where
-      retired_live : (y : ℕ) → Retired y ≡ Live → ⊥
-      retired_live y e = cc
-
       kept_apart : (u : ℕ) → upd s.status t (Retired y) u ≡ Live → u ≢ t
-      kept_apart u live same = retired_live y (sym (upd_same s.status t u (Retired y) same) ∙ live)
+      kept_apart u live same = live_retired _ y live (upd_same s.status t u (Retired y) same)
 
       retired : (g : Half) → HasHalf x g → (g.change < g.retire) × (x.at ≡ g.retire) × (t ≡ operand x.thunk 2)
       retired g has = half_step x.thunk g has x.at (Retire t) h

@@ -5,6 +5,7 @@ use Rattle.std.proofs.lemmas.Bool.{both_ways}
 use mathlib.Core.Logic.{dite}
 use native.Mathlib.Decide.{ℕ_discrete}
 use Rattle.small_lemmas.proofs.Lists.{some_same as some_inj}
+use Rattle.small_lemmas.proofs.Numbers.{suc_equal}
 use Rattle.map_history.specs.declared.op.Op.{Op}
 use Rattle.map_history.specs.Keys.{key_of}
 use Rattle.body_terms.specs.Update.{upd}
@@ -33,12 +34,9 @@ use Rattle.bucket_laws.proofs.Halves.{IsHalf, half_is, one_half, number_is, plac
 use Rattle.bucket_laws.proofs.NodeChanges.{head_changed, next_changed, none_changed, clip_same}
 use Rattle.bucket_laws.proofs.Sections.{target_stays, fit, one_bucket, half_lock, making_known}
 use Rattle.bucket_laws.proofs.Sections.{insert_head, insert_missing, remove_target, IsTarget}
-use Rattle.bucket_laws.proofs.TableGives.{target_on, target_now}
-use Rattle.bucket_laws.proofs.TableSteps.{live_cases, owned_once, suc_eq}
+use Rattle.bucket_laws.proofs.TableGives.{live_free, live_retired, target_on, target_now}
+use Rattle.bucket_laws.proofs.TableSteps.{live_cases, owned_once}
 use Rattle.bucket_laws.proofs.Walks.{head_is, is_first}
-
-live_retired : (x : Status) (y : ℕ) → x ≡ Live → x ≡ Retired y → ⊥
-live_retired x y e e' = cc
 
 module _ (buckets : ℕ) (bucket : ℕ → ℕ) (small : (key : ℕ) → bucket key < buckets) (layout : Layout) (limits : IsWithinLimits layout) (s : Scene) (sound : Sound (table buckets bucket) layout s) (kept : BucketsKept buckets bucket layout s)
     (d : ℕ) (x : Section) (here : Here s d x) where
@@ -59,8 +57,8 @@ module _ (buckets : ℕ) (bucket : ℕ → ℕ) (small : (key : ℕ) → bucket 
     pub outside : (u k : ℕ) → kept.on u ≡ false → 1 ≤ k → k ≤ 3 → cells (cell_at buckets bucket u k) ≡ s.cells (cell_at buckets bucket u k)
     pub out : (u : ℕ) → kept.on u ≡ false → (Owns x u → ⊥) → on u ≡ false
     pub target : IsTargetOf buckets bucket h.kind cells on own h.target
-    pub held : suc x.at ≤ h.retire → (s.status (operand x.thunk 2) ≡ Live) × (on (operand x.thunk 2) ≡ false)
-    pub taken : suc x.at ≤ h.retire → IsTaken buckets bucket cells on (operand x.thunk 2) (key_of x.op)
+    pub taken : suc x.at ≤ h.retire → (s.status (operand x.thunk 2) ≡ Live) × (on (operand x.thunk 2) ≡ false)
+        × IsTaken buckets bucket cells on (operand x.thunk 2) (key_of x.op)
     pub live : (t : ℕ) → kept.on t ≡ true → (on t ≡ true) ⊎ OwnsBy (stepped x x.reg) h t
     pub owned : (t : ℕ) → OwnsBy x h t → (on t ≡ true) ⊎ OwnsBy (stepped x x.reg) h t
 
@@ -90,7 +88,7 @@ module _ (buckets : ℕ) (bucket : ℕ → ℕ) (small : (key : ℕ) → bucket 
         (upd_some s.section d e (stepped x x.reg) z at);
     taken = λ e z g at has' taking. ⊎_elim
         (λ same. subst (λ z. (g : Half) → HasHalf z g → IsTaking z g → IsTaken buckets bucket cells on (operand z.thunk 2) (key_of z.op)) same.1
-        (λ g has' taking. change.taken (subst (λ g. suc x.at ≤ g.retire) (one_half x.thunk g h has' has) taking.1)) g has' taking)
+        (λ g has' taking. (change.taken (still_held g has' taking)).2) g has' taking)
         (λ other. let was = kept.taken e z g other.1 has' taking in
         let out = (kept.owned e z (operand z.thunk 2) other.1 (g, has', inr (taking, refl))).1 in record {
           key = ap value_of (change.outside (operand z.thunk 2) 1 out (omega arith) (omega arith)) ∙ was.key;
@@ -136,9 +134,12 @@ module _ (buckets : ℕ) (bucket : ℕ → ℕ) (small : (key : ℕ) → bucket 
       none_made : (g : Half) → HasHalf x g → IsMaking (stepped x x.reg) g → ⊥
       none_made g has' making = let early : suc x.at ≤ h.change = subst (λ g. suc x.at ≤ g.change) (one_half x.thunk g h has' has) making.1 in omega arith
 
+      still_held : (g : Half) → HasHalf x g → IsTaking (stepped x x.reg) g → suc x.at ≤ h.retire
+      still_held g has' taking = subst (λ g. suc x.at ≤ g.retire) (one_half x.thunk g h has' has) taking.1
+
       held : (t : ℕ) → Owns (stepped x x.reg) t → (s.status t ≡ Live) × (on t ≡ false)
       held t owns = ⊎_elim (λ new. absurd (none_made owns.0 owns.1 new.0))
-          (λ old. subst (λ t. (s.status t ≡ Live) × (on t ≡ false)) old.1 (change.held (subst (λ g. suc x.at ≤ g.retire) (one_half x.thunk owns.0 h owns.1 has) old.0.1))) owns.2
+          (λ old. let was = change.taken (still_held owns.0 owns.1 old.0) in (ap s.status (sym old.1) ∙ was.0, ap on (sym old.1) ∙ was.1)) owns.2
 
       its_own : (t : ℕ) → Owns x t → OwnsBy x h t
       its_own t owns = subst (λ g. OwnsBy x g t) (one_half x.thunk owns.0 h owns.1 has) owns.2
@@ -195,11 +196,12 @@ module _ (buckets : ℕ) (bucket : ℕ → ℕ) (small : (key : ℕ) → bucket 
           target = target_stays buckets bucket h.kind s.cells (upd s.cells (bucket_edition own) word) kept.on kept.on own h.target
               (λ u node. (node.0, ap (λ word. bucket (value_of word)) (cell u 1) ∙ node.1))
               (kept.target d x h here has changes (let loaded = half.order.1 in let making = half.order.2 in omega arith));
-          held = λ low. kept.owned d x (operand x.thunk 2) here (h, has, inr ((omega arith, omega arith), refl));
-          taken = λ low. let was = kept.taken d x h here has (omega arith, omega arith) in record {
-            key = ap value_of (cell (operand x.thunk 2) 1) ∙ was.key;
-            next = λ t leads. let node = was.next t (ap value_of (sym (cell (operand x.thunk 2) 3)) ∙ leads) in (node.0, ap (λ word. bucket (value_of word)) (cell t 1) ∙ node.1);
-          };
+          taken = λ low.
+              let was = kept.taken d x h here has (omega arith, omega arith) in
+              let held = kept.owned d x (operand x.thunk 2) here (h, has, inr ((omega arith, omega arith), refl)) in (held.0, held.1, record {
+                key = ap value_of (cell (operand x.thunk 2) 1) ∙ was.key;
+                next = λ t leads. let node = was.next t (ap value_of (sym (cell (operand x.thunk 2) 3)) ∙ leads) in (node.0, ap (λ word. bucket (value_of word)) (cell t 1) ∙ node.1);
+              });
           live = λ t on. inl on;
           owned = λ t owns. ⊎_elim (λ new. absurd (let late = new.0.1 in omega arith))
               (λ old. let late = old.0.0 in let low = old.0.1 in let last = half.last (omega arith) in inr (inr ((omega arith, omega arith), old.1))) owns;
@@ -265,16 +267,12 @@ module _ (buckets : ℕ) (bucket : ℕ → ℕ) (small : (key : ℕ) → bucket 
               out = λ u out free. upd_other kept.on t u true (λ e. free (h, has, inl (making, made.1 ∙ ap suc (sym e)))) ∙ out;
               target = let lock = lock_is in let place = place_is x.thunk h has Insert kind in
                   subst (λ k. IsTargetOf buckets bucket k (upd s.cells (bucket_head own) word) (upd kept.on t true) own h.target) (sym kind) (omega arith);
-              held = λ low. absurd (insert_remove kind (half.remove.1 (omega arith)));
               taken = λ low. absurd (insert_remove kind (half.remove.1 (omega arith)));
               live = λ u on. inl (dite (ℕ_discrete u t) (λ e. upd_same kept.on t u true e) (λ ne. upd_other kept.on t u true ne ∙ on));
-              owned = λ u owns. ⊎_elim (λ new. inl (upd_same kept.on t u true (suc_eq u t (sym new.1 ∙ made.1)))) (λ old. absurd (let late = old.0.0 in omega arith)) owns;
+              owned = λ u owns. ⊎_elim (λ new. inl (upd_same kept.on t u true (suc_equal u t (sym new.1 ∙ made.1)))) (λ old. absurd (let late = old.0.0 in omega arith)) owns;
             },
           )
         where
-          live_free : (x : Status) → x ≡ Live → x ≢ Free
-          live_free x live free = cc
-
           top_of : (link : ℕ) → (nodes buckets bucket s.cells).head own ≡ link → (top : ℕ) × ((u : ℕ) → kept.on u ≡ true → bucket ((nodes buckets bucket s.cells).key u) ≡ own → kept.rank u < top)
           top_of zero e = (0, λ u on of. absurd (kept.chains.head_none own u e on of))
           top_of (suc t) e = (suc (kept.rank t), λ u on of. let lower = kept.chains.head_top own t u e on of in omega arith)
@@ -318,15 +316,14 @@ module _ (buckets : ℕ) (bucket : ℕ → ℕ) (small : (key : ℕ) → bucket 
           outside = λ u k out low high. upd_other s.cells link_place (cell_at buckets bucket u k) word (apart u k (inl out) low high);
           out = λ u out free. dite (ℕ_discrete u gone) (λ e. upd_same kept.on gone u false e) (λ ne. upd_other kept.on gone u false ne ∙ out);
           target = subst (λ k. IsTargetOf buckets bucket k (upd s.cells link_place word) (upd kept.on gone false) own h.target) (sym kind) linked;
-          held = λ low. (kept.on_live gone gone_on, upd_same kept.on gone gone false refl);
-          taken = λ low. record {
+          taken = λ low. (kept.on_live gone gone_on, upd_same kept.on gone gone false refl, record {
             key = ap value_of (upd_other s.cells link_place (cell_at buckets bucket gone 1) word (keys gone)) ∙ target.key;
             next = λ t leads.
                 let there = kept.chains.next_on gone t gone_on (ap value_of (sym (upd_other s.cells link_place (cell_at buckets bucket gone 3) word (apart gone 3 (inr (inr refl)) (omega arith) (omega arith)))) ∙ leads) in (
                   upd_other kept.on gone t false (λ e. let falls = there.2 in let same = ap kept.rank e in omega arith) ∙ there.0,
                   ap (λ word. bucket (value_of word)) (upd_other s.cells link_place (cell_at buckets bucket t 1) word (keys t)) ∙ there.1 ∙ gone_node.1,
                 );
-          };
+          });
           live = λ u on. dite (ℕ_discrete u gone) (λ e. let late = half.remove.0 kind in inr (inr ((omega arith, omega arith), sym e))) (λ ne. inl (upd_other kept.on gone u false ne ∙ on));
           owned = λ u owns. absurd (not_owned Remove kind (λ e. cc) u owns);
         }
@@ -398,7 +395,6 @@ module _ (buckets : ℕ) (bucket : ℕ → ℕ) (small : (key : ℕ) → bucket 
             out = λ u out free. out;
             target = subst (λ k. IsTargetOf buckets bucket k (upd s.cells place word) kept.on own h.target) (sym kind)
                 (t, (node.0, ap (λ word. bucket (value_of word)) (keys t) ∙ node.1), placed);
-            held = λ low. absurd (remove_set (half.remove.1 (omega arith)) kind);
             taken = λ low. absurd (remove_set (half.remove.1 (omega arith)) kind);
             live = λ u on. inl on;
             owned = λ u owns. absurd (not_owned Set kind (λ e. cc) u owns);

@@ -36,7 +36,7 @@ use Rattle.bucket_laws.proofs.Halves.{IsOf, step_of, half_step}
 use Rattle.bucket_laws.proofs.Maps.{read_reply, insert_reply, remove_reply, set_reply, read_map, insert_map, remove_map, set_map}
 use Rattle.bucket_laws.proofs.NodeChanges.{clip_same, clip_to, clip_in, clip_out}
 use Rattle.bucket_laws.proofs.Sections.{fit, walk_at, half_lock, knows, insert_head, remove_target, set_target}
-use Rattle.bucket_laws.proofs.TableGives.{target_on, set_node}
+use Rattle.bucket_laws.proofs.TableGives.{live_free, target_on, set_node}
 use Rattle.bucket_laws.proofs.Walks.{bool_cases, head_is, reached_on}
 
 abbrev nodes_from : (a b c e : ℕ → ℕ) → Nodes
@@ -56,9 +56,6 @@ upd_within n on t u low within h = dite (ℕ_discrete u t) (λ e. omega arith) (
 
 pub upd_on : (on : ℕ → Bool) (t u : ℕ) → upd on t false u ≡ true → on u ≡ true
 upd_on on t u h = dite (ℕ_discrete u t) (λ e. absurd (both_ways _ (upd_same on t u false e) h)) (λ ne. sym (upd_other on t u false ne) ∙ h)
-
-live_free : (x : Status) → x ≡ Live → x ≢ Free
-live_free x live free = cc
 
 module _ (buckets : ℕ) (bucket : ℕ → ℕ) (small : (key : ℕ) → bucket key < buckets) (layout : Layout) (limits : IsWithinLimits layout) (s : Scene) (pairs : Pairs) (d : ℕ) (x : Section)
     (before : StandsFor (table buckets bucket) layout s pairs) (stamp : AtStamp (table buckets bucket) s d x) where
