@@ -13,7 +13,7 @@ use Rattle.map_history.specs.Replay.{Pairs, reply_of, map_after}
 use Rattle.map_history.specs.Words.{word_of}
 use Rattle.body_terms.specs.Update.{upd}
 use Rattle.body_terms.specs.Word.{value_of, next_word}
-use Rattle.section_body.specs.Bucket.{bucket_head, operand}
+use Rattle.section_body.specs.Bucket.{bucket_edition, bucket_head, operand}
 use Rattle.bucket_bodies.specs.Table.{table_steps}
 use Rattle.body_terms.specs.declared.value.Value.TheVariants.{Made}
 use Rattle.body_terms.specs.declared.step.Step.TheVariants.{Load, Stamp, Store, Answer}
@@ -34,17 +34,10 @@ use Rattle.bucket_laws.proofs.Fit.{IsFit}
 use Rattle.bucket_laws.proofs.Halves.{IsHalf, half_is, number_of, number_is, place_is, stored_for, answer_for}
 use Rattle.bucket_laws.proofs.Halves.{IsOf, step_of, half_step}
 use Rattle.bucket_laws.proofs.Maps.{read_reply, insert_reply, remove_reply, set_reply, read_map, insert_map, remove_map, set_map}
-use Rattle.bucket_laws.proofs.NodeChanges.{clip_same, clip_to, clip_in, clip_out}
+use Rattle.bucket_laws.proofs.NodeChanges.{head_changed, next_changed, value_changed, none_changed}
 use Rattle.bucket_laws.proofs.Sections.{fit, walk_at, half_lock, knows, insert_head, remove_target, set_target}
 use Rattle.bucket_laws.proofs.TableGives.{live_free, target_on, set_node}
 use Rattle.bucket_laws.proofs.Walks.{bool_cases, head_is, reached_on}
-
-abbrev nodes_from : (a b c e : ℕ → ℕ) → Nodes
-nodes_from a b c e = record { head = a; key = b; value = c; next = e }
-
--- nodes with the same values are the same
-nodes_same : (a b c e a' b' c' e' : ℕ → ℕ) → a ≡ a' → b ≡ b' → c ≡ c' → e ≡ e' → nodes_from a b c e ≡ nodes_from a' b' c' e'
-nodes_same a b c e a' b' c' e' p q r t = ap (λ z. nodes_from z b c e) p ∙ ap (λ z. nodes_from a' z c e) q ∙ ap (λ z. nodes_from a' b' z e) r ∙ ap (λ z. nodes_from a' b' c' z) t
 
 -- contents go by what is looked up
 contents_same : (n : Nodes) (on : ℕ → Bool) (lookup lookup' : ℕ → Option ℕ) → Contents n on lookup → ((key : ℕ) → lookup key ≡ lookup' key) → Contents n on lookup'
@@ -170,12 +163,18 @@ module _ (buckets : ℕ) (bucket : ℕ → ℕ) (small : (key : ℕ) → bucket 
               (read_map pairs x.op own_walk.value own_walk.found (sym fits.form ∙ number Look kind) looks.0 looks.1);
         })
 
-    -- the heads after a head has changed
-    heads_after : (link : ℕ) → ((j : ℕ) → j < buckets → j ≢ own → after (3 * j + 2) ≡ s.cells (3 * j + 2)) → value_of (after (3 * own + 2)) ≡ link → upd now.head own link ≡ then_nodes.head
-    heads_after link same stored = fun_ext (λ j. clip_to j buckets (value_of (after (bucket_head j))) (upd now.head own link j)
-        (λ low. dite (ℕ_discrete j own) (λ e. upd_same now.head own j link e ∙ sym stored ∙ ap (λ i. value_of (after (3 * i + 2))) (sym e))
-        (λ ne. upd_other now.head own j link ne ∙ clip_in j buckets (value_of (s.cells (bucket_head j))) low ∙ ap value_of (sym (same j low ne))))
-        (λ high. upd_other now.head own j link (λ e. let low = small (key_of x.op) in omega arith) ∙ clip_out j buckets (value_of (s.cells (bucket_head j))) high))
+    -- the cells are those after this change and that of the edition, and the nodes those after this change
+    after_is : upd (upd s.cells h.target (after h.target)) (bucket_edition own) (after (bucket_edition own)) ≡ after
+    after_is = fun_ext (λ p. dite (ℕ_discrete p (bucket_edition own))
+        (λ e. upd_same (upd s.cells h.target (after h.target)) (bucket_edition own) p (after (bucket_edition own)) e ∙ ap after (sym e))
+        (λ first. upd_other (upd s.cells h.target (after h.target)) (bucket_edition own) p (after (bucket_edition own)) first
+        ∙ dite (ℕ_discrete p h.target) (λ e. upd_same s.cells h.target p (after h.target) e ∙ ap after (sym e))
+        (λ second. upd_other s.cells h.target p (after h.target) second ∙ sym (same_cell p first second))))
+
+    nodes_after : (p : ℕ) → h.target ≡ p → nodes buckets bucket (upd s.cells p (after h.target)) ≡ then_nodes
+    nodes_after p place = let low = small (key_of x.op) in ap (λ p. nodes buckets bucket (upd s.cells p (after h.target))) (sym place)
+        ∙ none_changed buckets bucket (upd s.cells h.target (after h.target)) (bucket_edition own) (after (bucket_edition own))
+        (λ j lower e. omega arith) (λ u k first last e. omega arith) ∙ ap (nodes buckets bucket) after_is
 
     -- a new node at the head
     insert_stands : h.kind ≡ Insert → BucketsStand buckets bucket (slot_count layout 0) after (map_after pairs x.op)
@@ -195,14 +194,11 @@ module _ (buckets : ℕ) (bucket : ℕ → ℕ) (small : (key : ℕ) → bucket 
         let key : now.key t ≡ key_of x.op = made.2.key ∙ named.3 ∙ sym named.2.0 in
         let none = looks.1 fit.0 in
         let out : stands.on t ≡ false = bool_cases (stands.on t) (λ on. absurd (both_ways _ held.1 (kept_on t on))) (λ off. off) in
-        let stored : value_of (after (3 * own + 2)) ≡ suc t =
-        ap (λ p. value_of (after p)) (sym place) ∙ ap value_of (changed Insert kind (λ e. cc))
-        ∙ value-next_word (x.reg h.target_reg) (value_in x.reg (Made 2)) (value_small (x.reg 2)) ∙ ap value_of (ap x.reg (sym half.registers.1) ∙ made.1) ∙ value-small (suc t) narrow in
-        let same : with_head now own (suc t) ≡ then_nodes = nodes_same _ _ _ _ _ _ _ _
-        (heads_after (suc t) (λ j lower ne. same_cell (3 * j + 2) (λ e. omega arith) (λ e. ne (omega arith))) stored)
-        (fun_ext (λ u. ap value_of (sym (same_cell (3 * buckets + 5 * u + 1) (λ e. omega arith) (λ e. omega arith)))))
-        (fun_ext (λ u. ap value_of (sym (same_cell (3 * buckets + 5 * u + 2) (λ e. omega arith) (λ e. omega arith)))))
-        (fun_ext (λ u. ap value_of (sym (same_cell (3 * buckets + 5 * u + 3) (λ e. omega arith) (λ e. omega arith))))) in
+        let stored : value_of (after h.target) ≡ suc t = ap value_of (changed Insert kind (λ e. cc))
+        ∙ value-next_word (x.reg h.target_reg) (value_in x.reg (Made 2)) (value_small (x.reg 2))
+        ∙ ap value_of (ap x.reg (sym half.registers.1) ∙ made.1) ∙ value-small (suc t) narrow in
+        let same : with_head now own (suc t) ≡ then_nodes = ap (with_head now own) (sym stored)
+        ∙ head_changed buckets bucket s.cells own (after h.target) low ∙ nodes_after (bucket_head own) place in
         let top = top_of (now.head own) refl in
         let first : now.next t ≡ now.head own = made.2.next ∙ insert_head buckets bucket layout s before.sound kept d x h here has step.2.0 step.2.1 kind ∙ sym (head_is buckets bucket small s.cells (key_of x.op)) in
         let new : (u : ℕ) → stands.on u ≡ true → now.key u ≢ now.key t = λ u on e. none-some _ (sym (ap (get pairs) (e ∙ key) ∙ none) ∙ stands.contents.pair u on) in
@@ -235,22 +231,14 @@ module _ (buckets : ℕ) (bucket : ℕ → ℕ) (small : (key : ℕ) → bucket 
         ap value_of (changed Remove kind (λ e. cc)) ∙ value-next_word (x.reg h.target_reg) (operand x.thunk 3) narrow in
         ⊎_elim
         (λ head.
-        let same : with_head now own (operand x.thunk 3) ≡ then_nodes = nodes_same _ _ _ _ _ _ _ _
-        (heads_after (operand x.thunk 3) (λ j lower ne. same_cell (3 * j + 2) (λ e. omega arith) (λ e. ne (omega arith))) (ap (λ p. value_of (after p)) (sym head) ∙ stored))
-        (fun_ext (λ u. ap value_of (sym (same_cell (3 * buckets + 5 * u + 1) (λ e. omega arith) (λ e. omega arith)))))
-        (fun_ext (λ u. ap value_of (sym (same_cell (3 * buckets + 5 * u + 2) (λ e. omega arith) (λ e. omega arith)))))
-        (fun_ext (λ u. ap value_of (sym (same_cell (3 * buckets + 5 * u + 3) (λ e. omega arith) (λ e. omega arith))))) in
+        let same : with_head now own (operand x.thunk 3) ≡ then_nodes = ap (with_head now own) (sym stored)
+        ∙ head_changed buckets bucket s.cells own (after h.target) low ∙ nodes_after (bucket_head own) head in
         let link : now.head own ≡ suc t = head_is buckets bucket small s.cells (key_of x.op) ∙ ap (λ p. value_of (s.cells p)) (sym head) ∙ target.leads in
         finish kind target.key on_t (with_head now own (operand x.thunk 3)) same refl refl
         (subst (λ link. Chains bucket (with_head now own link) (upd stands.on t false) stands.rank) target.next (remove_first bucket now stands.on stands.rank stands.chains own t link)))
         (λ node.
-        let same : with_next now node.0 (operand x.thunk 3) ≡ then_nodes = nodes_same _ _ _ _ _ _ _ _
-        (fun_ext (λ j. clip_same j buckets (value_of (s.cells (bucket_head j))) (value_of (after (bucket_head j))) (λ lower. ap value_of (sym (same_cell (3 * j + 2) (λ e. omega arith) (λ e. let at = node.2 in omega arith))))))
-        (fun_ext (λ u. ap value_of (sym (same_cell (3 * buckets + 5 * u + 1) (λ e. omega arith) (λ e. let at = node.2 in omega arith)))))
-        (fun_ext (λ u. ap value_of (sym (same_cell (3 * buckets + 5 * u + 2) (λ e. omega arith) (λ e. let at = node.2 in omega arith)))))
-        (fun_ext (λ u. dite (ℕ_discrete u node.0)
-        (λ e. upd_same now.next node.0 u (operand x.thunk 3) e ∙ sym stored ∙ ap (λ p. value_of (after p)) (node.2 ∙ ap (λ u. 3 * buckets + 5 * u + 3) (sym e)))
-        (λ ne. upd_other now.next node.0 u (operand x.thunk 3) ne ∙ ap value_of (sym (same_cell (3 * buckets + 5 * u + 3) (λ e. omega arith) (λ e. ne (let at = node.2 in omega arith))))))) in
+        let same : with_next now node.0 (operand x.thunk 3) ≡ then_nodes = ap (with_next now node.0) (sym stored)
+        ∙ next_changed buckets bucket s.cells node.0 (after h.target) ∙ nodes_after (cell_at buckets bucket node.0 3) node.2 in
         let link : now.next node.0 ≡ suc t = ap (λ p. value_of (s.cells p)) (sym node.2) ∙ target.leads in
         finish kind target.key on_t (with_next now node.0 (operand x.thunk 3)) same refl refl
         (subst (λ link. Chains bucket (with_next now node.0 link) (upd stands.on t false) stands.rank) target.next (remove_next bucket now stands.on stands.rank stands.chains node.0 t (stands_on node.0 node.1.0) link)))
@@ -277,16 +265,10 @@ module _ (buckets : ℕ) (bucket : ℕ → ℕ) (small : (key : ℕ) → bucket 
         let t = own_walk.slot in
         let on_t : stands.on t ≡ true = stands_on t (set_node buckets bucket small layout s before.sound kept d x h here has step.2.0 step.2.1 kind).0 in
         let narrow : operand x.thunk 2 < 2 ^ 32 = (let low = (before.sound.allowed d x here).value named.1 (ap value_given named.2) in let at = named.4 in omega arith) in
-        let stored : value_of (after (3 * buckets + 5 * t + 2)) ≡ operand x.thunk 2 =
-        ap (λ p. value_of (after p)) (sym target.place) ∙ ap value_of (changed Set kind (λ e. cc)) ∙ value-next_word (x.reg h.target_reg) (operand x.thunk 2) narrow in
-        let low = small (key_of x.op) in
-        let same : with_value now t (operand x.thunk 2) ≡ then_nodes = nodes_same _ _ _ _ _ _ _ _
-        (fun_ext (λ j. clip_same j buckets (value_of (s.cells (bucket_head j))) (value_of (after (bucket_head j))) (λ lower. ap value_of (sym (same_cell (3 * j + 2) (λ e. omega arith) (λ e. let at = target.place in omega arith))))))
-        (fun_ext (λ u. ap value_of (sym (same_cell (3 * buckets + 5 * u + 1) (λ e. omega arith) (λ e. let at = target.place in omega arith)))))
-        (fun_ext (λ u. dite (ℕ_discrete u t)
-        (λ e. upd_same now.value t u (operand x.thunk 2) e ∙ sym stored ∙ ap (λ u. value_of (after (3 * buckets + 5 * u + 2))) (sym e))
-        (λ ne. upd_other now.value t u (operand x.thunk 2) ne ∙ ap value_of (sym (same_cell (3 * buckets + 5 * u + 2) (λ e. omega arith) (λ e. ne (let at = target.place in omega arith)))))))
-        (fun_ext (λ u. ap value_of (sym (same_cell (3 * buckets + 5 * u + 3) (λ e. omega arith) (λ e. let at = target.place in omega arith))))) in
+        let stored : value_of (after h.target) ≡ operand x.thunk 2 =
+        ap value_of (changed Set kind (λ e. cc)) ∙ value-next_word (x.reg h.target_reg) (operand x.thunk 2) narrow in
+        let same : with_value now t (operand x.thunk 2) ≡ then_nodes = ap (with_value now t) (sym stored)
+        ∙ value_changed buckets bucket s.cells t (after h.target) ∙ nodes_after (cell_at buckets bucket t 2) target.place in
         record {
           on = stands.on;
           rank = stands.rank;
