@@ -29,7 +29,7 @@ use Rattle.bucket_laws.specs.Chain.{Nodes, with_head, with_next, with_value, Cha
 use Rattle.bucket_laws.specs.Walk.{Walk, cell_at}
 use Rattle.bucket_laws.specs.Halves.{Kind, Look, Insert, Remove, Set, Half, HasHalf}
 use Rattle.bucket_laws.specs.Buckets.{nodes, IsFound, IsMissing, BucketsKept, BucketsStand, table}
-use Rattle.bucket_laws.proofs.Chain.{insert, remove_first, remove_next, chains_agree, insert_contents, remove_contents, set_contents, same_on}
+use Rattle.bucket_laws.proofs.Chain.{insert, top_of, remove_first, remove_next, chains_agree, insert_contents, remove_contents, set_contents, same_on}
 use Rattle.bucket_laws.proofs.Fit.{IsFit}
 use Rattle.bucket_laws.proofs.Halves.{IsHalf, half_is, number_of, number_is, place_is, stored_for, answer_for}
 use Rattle.bucket_laws.proofs.Halves.{IsOf, step_of, half_step}
@@ -199,7 +199,7 @@ module _ (buckets : ℕ) (bucket : ℕ → ℕ) (small : (key : ℕ) → bucket 
         ∙ ap value_of (ap x.reg (sym half.registers.1) ∙ made.1) ∙ value-small (suc t) narrow in
         let same : with_head now own (suc t) ≡ then_nodes = ap (with_head now own) (sym stored)
         ∙ head_changed buckets bucket s.cells own (after h.target) low ∙ nodes_after (bucket_head own) place in
-        let top = top_of (now.head own) refl in
+        let top = top_of bucket now stands.on stands.rank stands.chains own in
         let first : now.next t ≡ now.head own = made.2.next ∙ insert_head buckets bucket layout s before.sound kept d x h here has step.2.0 step.2.1 kind ∙ sym (head_is buckets bucket small s.cells (key_of x.op)) in
         let new : (u : ℕ) → stands.on u ≡ true → now.key u ≢ now.key t = λ u on e. none-some _ (sym (ap (get pairs) (e ∙ key) ∙ none) ∙ stands.contents.pair u on) in
         record {
@@ -214,10 +214,6 @@ module _ (buckets : ℕ) (bucket : ℕ → ℕ) (small : (key : ℕ) → bucket 
               (λ q. ap (λ k. upd (get pairs) k (Some (now.value t)) q) (key ∙ named.2.0) ∙ ap (λ v. upd (get pairs) named.0 (Some v) q) (made.2.value ∙ named.4)
               ∙ insert_map pairs x.op named.0 named.1 named.2 (ap (get pairs) (sym named.2.0) ∙ none) q);
         }
-      where
-        top_of : (link : ℕ) → now.head own ≡ link → (top : ℕ) × ((u : ℕ) → stands.on u ≡ true → bucket (now.key u) ≡ own → stands.rank u < top)
-        top_of zero e = (0, λ u on of. absurd (stands.chains.head_none own u e on of))
-        top_of (suc t) e = (suc (stands.rank t), λ u on of. let lower = stands.chains.head_top own t u e on of in omega arith)
 
     -- a node taken out
     remove_stands : h.kind ≡ Remove → BucketsStand buckets bucket (slot_count layout 0) after (map_after pairs x.op)
