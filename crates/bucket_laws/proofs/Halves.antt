@@ -270,7 +270,7 @@ module _ (t : Thunk) where
   by_tests false s false p false q true false four one two three = inl (refl, refl)
   by_tests false s false p false q false r four one two three = inl (refl, refl)
 
-  body_cases : ((table_steps t ≡ []) × (halves t ≡ [])) ⊎ ((k : Kind) × HasKind k)
+  pub body_cases : ((table_steps t ≡ []) × (halves t ≡ [])) ⊎ ((k : Kind) × HasKind k)
   body_cases = ⊎_elim (λ none. inl (none.0, halves_are ∙ none.1))
       (λ some. inr (some.0, (some.1, some.2, halves_are ∙ some.3)))
       (by_tests (t.form == 4) (fits_set t) (t.form == 1) (fits_read t) (t.form == 2) (fits_insert t) (t.form == 3)

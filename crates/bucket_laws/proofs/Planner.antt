@@ -29,43 +29,11 @@ use Rattle.bucket_laws.proofs.Fit.{PutsIn, keeps_gets, fit_of}
 use Rattle.bucket_laws.proofs.Halves.{half_is, number_is, answer_for, step_of, half_step}
 use Rattle.bucket_laws.proofs.Maps.{get_removed}
 use Rattle.bucket_laws.proofs.TableLaws.{bucket_small}
-use Rattle.bucket_laws.proofs.Walks.{bool_cases, wanted_eq, is_first, edition_kept}
+use Rattle.bucket_laws.proofs.Elsewhere.{edition_seen}
 
 -- a word was read at a place
 abbrev IsAmong : Readings → ℕ → ℕ → Type 0
 IsAmong readings p w = (k : ℕ) × (slice_get readings k ≡ Some (p, w))
-
--- the edition of a walk past its first load was read
-module _ (buckets : ℕ) (bucket : ℕ → ℕ) (small : (key : ℕ) → bucket key < buckets) (b : Bounds) (op : Op) (all : Readings) where
-  abbrev edition_place : ℕ
-  edition_place = bucket_edition (bucket (key_of op))
-
-  abbrev IsRead : Walk → Type 0
-  IsRead w = w.stage ≢ AtEdition → IsAmong all edition_place w.edition
-
-  first_fed : (w : Walk) (p n : ℕ) (stage : Stage) → stage ≡ AtEdition → wanted_at buckets bucket (bucket (key_of op)) w stage ≡ Some p → IsAmong all p n
-      → IsAmong all edition_place (fed buckets bucket b op w stage n).edition
-  first_fed w p n stage first want among =
-      subst (λ stage. wanted_at buckets bucket (bucket (key_of op)) w stage ≡ Some p → IsAmong all edition_place (fed buckets bucket b op w stage n).edition) (sym first)
-      (λ is. subst (λ p. IsAmong all p n) (some_eq p edition_place (sym is)) among) want
-    where
-      some_eq : (a b : ℕ) → Some a ≡ Some b → a ≡ b
-      some_eq a b e = cc
-
-  one_fed : (w : Walk) (p n : ℕ) → wanted_at buckets bucket (bucket (key_of op)) w w.stage ≡ Some p → IsAmong all p n → IsRead w → IsRead (fed buckets bucket b op w w.stage n)
-  one_fed w p n want among read later = ⊎_elim
-      (λ first. first_fed w p n w.stage first want among)
-      (λ ne. subst (IsAmong all edition_place) (sym (edition_kept buckets bucket small b op w w.stage n ne)) (read ne))
-      (is_first buckets bucket small w.stage)
-
-  edition_read : (w : Walk) (readings : Readings) → ((i p n : ℕ) → slice_get readings i ≡ Some (p, n) → IsAmong all p n) → IsRead w → IsRead (walk buckets bucket b op w readings)
-  unfolding walk
-  edition_read w [] among read = read
-  edition_read w (reading ∷ readings) among read = bool_cases (is_wanted (wanted_at buckets bucket (bucket (key_of op)) w w.stage) reading.0)
-      (λ e. subst IsRead (ap (λ c. cond c (walk buckets bucket b op (fed buckets bucket b op w w.stage reading.1) readings) w) (sym e))
-      (edition_read (fed buckets bucket b op w w.stage reading.1) readings (λ i p n at. among (suc i) p n at)
-      (one_fed w reading.0 reading.1 (wanted_eq _ reading.0 e) (among 0 reading.0 reading.1 refl) read)))
-      (λ e. subst IsRead (ap (λ c. cond c (walk buckets bucket b op (fed buckets bucket b op w w.stage reading.1) readings) w) (sym e)) read)
 
 -- slots with different keys that the map has are no more than its pairs
 few_slots : (key : ℕ → ℕ) (slots : List ℕ) (pairs : Pairs) → ((i j t u : ℕ) → slice_get slots i ≡ Some t → slice_get slots j ≡ Some u → key t ≡ key u → i ≡ j)
@@ -87,7 +55,7 @@ module _ (buckets : ℕ) (bucket : ℕ → ℕ) (small : (key : ℕ) → bucket 
   want_read readings op thunk fits i j p r w load want =
       let fit = fit_of buckets bucket op (walk_of buckets bucket layout op readings) thunk fits in
       let wanted = step_of thunk j (Want r w) want in
-      let read = edition_read buckets bucket small (bounds buckets bucket layout) op readings start readings (λ i p n at. (i, at)) (λ ne. absurd (ne refl)) (λ e. end_edition (sym fit.stage ∙ e)) in
+      let read = edition_seen buckets bucket small (bounds buckets bucket layout) op readings (λ e. end_edition (sym fit.stage ∙ e)) in
       let lock = fit.lock in
       let half = half_is thunk wanted.0 wanted.1 in
       let same = half.lock in
