@@ -21,6 +21,15 @@ insert bucket n on rank chains i t top out beside first high new = record {
   key_once = grind arith;
 }
 
+-- a rank above all those of a bucket
+pub top_of : (bucket : ℕ → ℕ) (n : Nodes) (on : ℕ → Bool) (rank : ℕ → ℕ) (chains : Chains bucket n on rank) (i : ℕ)
+    → (top : ℕ) × ((u : ℕ) → on u ≡ true → bucket (n.key u) ≡ i → rank u < top)
+top_of bucket n on rank chains i = by (n.head i) refl
+  where
+    by : (link : ℕ) → n.head i ≡ link → (top : ℕ) × ((u : ℕ) → on u ≡ true → bucket (n.key u) ≡ i → rank u < top)
+    by zero e = (0, λ u there of. absurd (chains.head_none i u e there of))
+    by (suc t) e = (suc (rank t), λ u there of. let lower = chains.head_top i t u e there of in omega arith)
+
 -- the slot behind the head of its bucket leaves the chain
 pub remove_first : (bucket : ℕ → ℕ) (n : Nodes) (on : ℕ → Bool) (rank : ℕ → ℕ) (chains : Chains bucket n on rank) (i t : ℕ)
     → n.head i ≡ suc t → Chains bucket (with_head n i (n.next t)) (upd on t false) rank

@@ -1,6 +1,7 @@
 -- What a walk knows stands where nothing of its bucket changes.
 use Rattle.std.proofs.Common.{◌≡◌, ◌≢◌, ℕ, suc, ◌<◌, ◌≤◌, Bool, true, false, cond, refl, sym, ap, ◌∙◌, subst, inl, inr, ⊎_elim, arith}
 use Rattle.std.specs.Prelude.{◌⊎◌, Some, [], ◌∷◌, slice_get}
+use Rattle.small_lemmas.proofs.Lists.{some_same}
 use Rattle.small_lemmas.proofs.Numbers.{suc_equal as suc_eq}
 use Rattle.map_history.specs.declared.op.Op.{Op}
 use Rattle.map_history.specs.Keys.{key_of}
@@ -10,7 +11,7 @@ use Rattle.structure_laws.specs.Scene.{Cells, Readings}
 use Rattle.bucket_laws.specs.Chain.{Chains}
 use Rattle.bucket_laws.specs.Walk.{Stage, AtEdition, AtLink, AtKey, AtValue, AtNext, AtLock, AtEnd, Refused, Walk, start, is_wanted, Bounds, cell_at, wanted_at, fed, walk}
 use Rattle.bucket_laws.specs.Buckets.{nodes, IsNode, IsLinkOf, IsAhead, IsReached, IsFound, IsMissing, Knows}
-use Rattle.bucket_laws.proofs.Walks.{head_is, reached_on, wanted_eq, is_first, edition_kept}
+use Rattle.bucket_laws.proofs.Walks.{bool_cases, head_is, reached_on, wanted_eq, is_first, edition_kept}
 
 module _ (buckets : ℕ) (bucket : ℕ → ℕ) where
   -- the chain of bucket i and the cells of its nodes are the same in two memories
@@ -86,38 +87,44 @@ module _ (buckets : ℕ) (bucket : ℕ → ℕ) where
     knows_on AtEnd known = (known.0 ∙ ap value_of (sym same.head), λ found. found_on (known.1 found), λ missing. missing_on (known.2 missing))
     knows_on Refused known = tt
 
+  -- a word was read at the place of the operation's edition
+  abbrev IsAmong : Op → Readings → ℕ → Type 0
+  IsAmong op readings w = (k : ℕ) × (slice_get readings k ≡ Some (bucket_edition (bucket (key_of op)), w))
+
   -- a walk past its edition has read it
-  edition_read : (small : (key : ℕ) → bucket key < buckets) (b : Bounds) (op : Op) (w : Walk) (readings : Readings) → (walk buckets bucket b op w readings).stage ≢ AtEdition
-      → ((w.stage ≢ AtEdition) × ((walk buckets bucket b op w readings).edition ≡ w.edition)) ⊎ ((i : ℕ) × (slice_get readings i ≡ Some (bucket_edition (bucket (key_of op)), (walk buckets bucket b op w readings).edition)))
-  unfolding walk
-  edition_read small b op w [] ne = inl (ne, refl)
-  edition_read small b op w (reading ∷ readings) ne = go (is_wanted (wanted_at buckets bucket (bucket (key_of op)) w w.stage) reading.0) refl (edition_read small b op (fed buckets bucket b op w w.stage reading.1) readings) ne
-    where
-      some_eq : (p q : ℕ) → Some p ≡ Some q → p ≡ q
-      some_eq p q e = cc
+  module _ (small : (key : ℕ) → bucket key < buckets) (b : Bounds) (op : Op) (all : Readings) where
+    abbrev IsSeen : Walk → Type 0
+    IsSeen w = w.stage ≢ AtEdition → IsAmong op all w.edition
 
-      go : (c : Bool) → is_wanted (wanted_at buckets bucket (bucket (key_of op)) w w.stage) reading.0 ≡ c
-          → ((walk buckets bucket b op (fed buckets bucket b op w w.stage reading.1) readings).stage ≢ AtEdition
-          → (((fed buckets bucket b op w w.stage reading.1).stage ≢ AtEdition) × ((walk buckets bucket b op (fed buckets bucket b op w w.stage reading.1) readings).edition ≡ (fed buckets bucket b op w w.stage reading.1).edition))
-          ⊎ ((i : ℕ) × (slice_get readings i ≡ Some (bucket_edition (bucket (key_of op)), (walk buckets bucket b op (fed buckets bucket b op w w.stage reading.1) readings).edition))))
-          → (cond c (walk buckets bucket b op (fed buckets bucket b op w w.stage reading.1) readings) w).stage ≢ AtEdition
-          → ((w.stage ≢ AtEdition) × ((cond c (walk buckets bucket b op (fed buckets bucket b op w w.stage reading.1) readings) w).edition ≡ w.edition))
-          ⊎ ((i : ℕ) × (slice_get (reading ∷ readings) i ≡ Some (bucket_edition (bucket (key_of op)), (cond c (walk buckets bucket b op (fed buckets bucket b op w w.stage reading.1) readings) w).edition)))
-      go false e again ne = inl (ne, refl)
-      go true e again ne = ⊎_elim
-          (λ kept. ⊎_elim
-          (λ first.
-          let place : bucket_edition (bucket (key_of op)) ≡ reading.0 = some_eq (bucket_edition (bucket (key_of op))) reading.0 (sym (ap (wanted_at buckets bucket (bucket (key_of op)) w) first) ∙ wanted_eq (wanted_at buckets bucket (bucket (key_of op)) w w.stage) reading.0 e) in
-          let word : (walk buckets bucket b op (fed buckets bucket b op w w.stage reading.1) readings).edition ≡ reading.1 = kept.1 ∙ ap (λ stage. (fed buckets bucket b op w stage reading.1).edition) first in
-          inr (0, ap Some (pair_eq reading.0 (bucket_edition (bucket (key_of op))) reading.1 ((walk buckets bucket b op (fed buckets bucket b op w w.stage reading.1) readings).edition) (sym place) (sym word))))
-          (λ later. inl (later, kept.1 ∙ edition_kept buckets bucket small b op w w.stage reading.1 later)) (is_first buckets bucket small w.stage))
-          (λ found. inr (suc found.0, found.1))
-          (again ne)
-        where
-          pair_eq : (a c d f : ℕ) → a ≡ c → d ≡ f → ◌≡◌ {A = ℕ × ℕ} (a, d) (c, f)
-          pair_eq a c d f p q = ap (λ z. let pair : ℕ × ℕ = (z, d) in pair) p ∙ ap (λ z. let pair : ℕ × ℕ = (c, z) in pair) q
+    first_fed : (w : Walk) (p n i : ℕ) (stage : Stage) → stage ≡ AtEdition
+        → wanted_at buckets bucket (bucket (key_of op)) w stage ≡ Some p → slice_get all i ≡ Some (p, n)
+        → IsAmong op all (fed buckets bucket b op w stage n).edition
+    first_fed w p n i stage first want at = subst (λ stage. wanted_at buckets bucket (bucket (key_of op)) w stage ≡ Some p
+        → IsAmong op all (fed buckets bucket b op w stage n).edition) (sym first)
+        (λ is. (i, subst (λ p. slice_get all i ≡ Some (p, n)) (sym (some_same is)) at)) want
 
-  -- a list of readings that is read: the edition of a walk past it stands at its place, or a later one does
-  pub edition_seen : (small : (key : ℕ) → bucket key < buckets) (b : Bounds) (op : Op) (readings : Readings) → (walk buckets bucket b op start readings).stage ≢ AtEdition
-      → (i : ℕ) × (slice_get readings i ≡ Some (bucket_edition (bucket (key_of op)), (walk buckets bucket b op start readings).edition))
-  edition_seen small b op readings ne = ⊎_elim (λ first. absurd (first.0 refl)) (λ found. found) (edition_read small b op start readings ne)
+    seen_from : (w : Walk) (readings : Readings)
+        → ((i p n : ℕ) → slice_get readings i ≡ Some (p, n) → (j : ℕ) × (slice_get all j ≡ Some (p, n)))
+        → IsSeen w → IsSeen (walk buckets bucket b op w readings)
+    unfolding walk
+    seen_from w [] among seen = seen
+    seen_from w (reading ∷ readings) among seen = bool_cases goes
+        (λ e. subst IsSeen (ap (λ c. cond c (walk buckets bucket b op next readings) w) (sym e))
+        (seen_from next readings (λ i p n at. among (suc i) p n at) (λ later. ⊎_elim
+        (λ first. let here = among 0 reading.0 reading.1 refl in
+        first_fed w reading.0 reading.1 here.0 w.stage first (wanted_eq _ reading.0 e) here.1)
+        (λ ne. subst (IsAmong op all) (sym (edition_kept buckets bucket small b op w w.stage reading.1 ne)) (seen ne))
+        (is_first buckets bucket small w.stage))))
+        (λ e. subst IsSeen (ap (λ c. cond c (walk buckets bucket b op next readings) w) (sym e)) seen)
+      where
+        goes : Bool
+        goes = is_wanted (wanted_at buckets bucket (bucket (key_of op)) w w.stage) reading.0
+
+        next : Walk
+        next = fed buckets bucket b op w w.stage reading.1
+
+  pub edition_seen : (small : (key : ℕ) → bucket key < buckets) (b : Bounds) (op : Op) (readings : Readings)
+      → (walk buckets bucket b op start readings).stage ≢ AtEdition
+      → IsAmong op readings (walk buckets bucket b op start readings).edition
+  edition_seen small b op readings ne =
+      seen_from small b op readings start readings (λ i p n at. (i, at)) (λ first. absurd (first refl)) ne

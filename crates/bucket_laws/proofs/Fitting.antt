@@ -1,20 +1,19 @@
 -- A thunk that fits a walk goes on to fit, and a body without a Store answers what leaves the map as it was.
-use Rattle.std.proofs.Common.{◌≡◌, ℕ, Bool, true, false, cond, refl, sym, ap, ◌∙◌, subst, ⊎_elim, arith}
-use Rattle.std.specs.Prelude.{[], ◌∷◌, ◌++◌, slice_get, slice_index, Some}
+use Rattle.std.proofs.Common.{◌≡◌, ℕ, Bool, true, false, cond, refl, sym, ap, ◌∙◌, subst, inl, inr, ⊎_elim, arith}
+use Rattle.std.specs.Prelude.{[], ◌∷◌, ◌++◌, ◌⊎◌, Contains, slice_get, slice_index, Some}
 use Rattle.map_history.specs.declared.op.Op.{Op}
 use Rattle.map_history.specs.declared.op.Op.TheVariants.{Get, Ins, Del, Put, Mov}
 use Rattle.map_history.specs.Keys.{key_of}
-use Rattle.section_body.specs.Bucket.{operand}
-use Rattle.body_terms.specs.declared.value.Value.TheVariants.{Const, Made}
 use Rattle.body_terms.specs.declared.step.Step.TheVariants.{Answer}
 use Rattle.body_terms.specs.declared.thunk.Thunk.{Thunk}
 use Rattle.table_words.specs.declared.layout.Layout.{Layout}
 use Rattle.structure_laws.specs.Scene.{Readings}
 use Rattle.structure_laws.specs.Fitting.{Leaves, StoresNothing, Fitting}
 use Rattle.bucket_laws.specs.Walk.{AtEnd, Bounds, Walk, form_for, operands_for, start, is_wanted, wanted_at, fed, fits_walk, walk}
-use Rattle.bucket_laws.specs.Buckets.{Insert, Remove, Set, bounds, walk_of, table}
-use Rattle.bucket_laws.proofs.Fit.{IsFit, fit_of, read_number}
-use Rattle.bucket_laws.proofs.Forms.{step_in, answer_step}
+use Rattle.bucket_laws.specs.Halves.{Kind, Look, Insert, Remove, Set, Half, halves}
+use Rattle.bucket_laws.specs.Buckets.{bounds, walk_of, table}
+use Rattle.bucket_laws.proofs.Fit.{IsFit, fit_of}
+use Rattle.bucket_laws.proofs.Halves.{half_is, number_is, stored_for, answer_for, step_of}
 
 -- a body that reads alone answers what leaves the map as it was
 read_leaves : (buckets : ℕ) (op : Op) (w : Walk) (found : Bool) → form_for op found ≡ 1 → Leaves op (slice_index (operands_for buckets op w found) 1)
@@ -32,6 +31,12 @@ either : (one more stopped : Walk) (c : Bool) → (one.stage ≡ AtEnd → more 
     → (cond c one stopped).stage ≡ AtEnd → cond c more stopped ≡ cond c one stopped
 either one more stopped true h e = h e
 either one more stopped false h e = refl
+
+looks_or : (k : Kind) → (k ≡ Look) ⊎ (k ≡ Look → ⊥)
+looks_or Look = inl refl
+looks_or Insert = inr (λ e. cc)
+looks_or Remove = inr (λ e. cc)
+looks_or Set = inr (λ e. cc)
 
 module _ (buckets : ℕ) (bucket : ℕ → ℕ) where
   module _ (b : Bounds) (op : Op) where
@@ -59,13 +64,17 @@ module _ (buckets : ℕ) (bucket : ℕ → ℕ) where
     fits_on more = ap (λ w. fits_walk buckets bucket op w thunk) (walk_on (bounds buckets bucket layout) op start readings more fit.stage) ∙ fits
 
     still : StoresNothing (table buckets bucket) thunk → (j reply : ℕ) → slice_get ((table buckets bucket).body thunk) j ≡ Some (Answer reply) → Leaves op reply
-    still none j reply h = ⊎_elim
-        (λ read. subst (Leaves op) (sym (read.1 ∙ ap (λ numbers. slice_index numbers 1) fit.operands))
-        (read_leaves buckets op (walk_of buckets bucket layout op readings) (walk_of buckets bucket layout op readings).found (sym fit.form ∙ read_number thunk read.0)))
-        (⊎_elim (λ insert. absurd (none 7 1 (Made 2) (step_in thunk Insert 7 insert.0)))
-        (⊎_elim (λ remove. absurd (none 6 1 (Const (operand thunk 3)) (step_in thunk Remove 6 remove.0)))
-        (λ sets. absurd (none 6 1 (Const (operand thunk 2)) (step_in thunk Set 6 sets.0)))))
-        (answer_step thunk j reply h)
+    still none j reply h =
+        let answer = step_of thunk j (Answer reply) h in
+        subst (Leaves op) (sym answer.2) (by answer.0 answer.1 answer.0.kind refl)
+      where
+        by : (h : Half) → Contains (halves thunk) h → (k : Kind) → h.kind ≡ k → Leaves op (answer_for k thunk)
+        by h has k kind = ⊎_elim
+            (λ look. subst (λ k. Leaves op (answer_for k thunk)) (sym look) (subst (Leaves op) (sym (ap (λ numbers. slice_index numbers 1) fit.operands))
+            (read_leaves buckets op (walk_of buckets bucket layout op readings) (walk_of buckets bucket layout op readings).found
+            (sym fit.form ∙ number_is thunk h has Look (kind ∙ look)))))
+            (λ other. let half = half_is thunk h has in
+            absurd (none h.change h.target_reg (stored_for h.kind thunk) (half.steps (half.look.1 (λ e. other (sym kind ∙ e)))).2)) (looks_or k)
 
   pub table_fitting : (layout : Layout) → Fitting (table buckets bucket) layout
   table_fitting layout = record {

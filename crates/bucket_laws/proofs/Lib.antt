@@ -2,7 +2,7 @@ pub mod Chain
 pub mod Elsewhere
 pub mod Fit
 mod Fitting
-pub mod Forms
+pub mod Halves
 pub mod Maps
 pub mod NodeChanges
 pub mod Places

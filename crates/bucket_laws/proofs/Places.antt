@@ -17,6 +17,13 @@ eq_true a b h = grind arith
 pub eq_false : (a b : ℕ) → a ≢ b → (a == b) ≡ false
 eq_false a b h = grind arith
 
+-- a lock is no head, and a cell of a node is of one slot
+pub head_lock : (i p : ℕ) → p % 3 ≡ 0 → 3 * i + 2 ≡ p → ⊥
+head_lock i p at e = omega arith
+
+pub one_slot : (n u t k i : ℕ) → k < 5 → i < 5 → n + 5 * u + k ≡ n + 5 * t + i → u ≡ t
+one_slot n u t k i low low' e = omega arith
+
 -- the part of a bucket's place
 pub third : (i r : ℕ) → r < 3 → (3 * i + r) % 3 ≡ r
 third i r h = omega arith

@@ -5,6 +5,8 @@ use Rattle.std.specs.Prelude.{◌-◌, ◌^◌, Some, None, is_some, slice_get}
 use Rattle.std.specs.Ordering.{nat_cmp}
 use Rattle.std.specs.FinMap.{get, remove, len, empty_of_len, get-empty, len-remove}
 use Rattle.std.proofs.lemmas.Option.{none-some}
+use Rattle.small_lemmas.proofs.Lists.{none_not_some}
+use Rattle.small_lemmas.proofs.Numbers.{suc_equal, zero_not_suc}
 use Rattle.map_history.specs.declared.op.Op.{Op}
 use Rattle.map_history.specs.declared.op.Op.TheVariants.{Get, Ins, Del, Put, Mov}
 use Rattle.map_history.specs.Keys.{key_of}
@@ -20,50 +22,18 @@ use Rattle.structure_laws.specs.InTurn.{StandsFor}
 use Rattle.structure_laws.specs.Planner.{Adds, IsQuiet, AreInUse, PlannerLaws}
 use Rattle.structure_laws.proofs.Changes.{upd_other}
 use Rattle.bucket_laws.specs.Walk.{Walk, Stage, AtEdition, AtEnd, start, Bounds, is_wanted, wanted_at, fed, walk}
-use Rattle.bucket_laws.specs.Buckets.{form_of, nodes, bounds, walk_of, BucketsKept, BucketsStand, table, buckets_meaning}
+use Rattle.bucket_laws.specs.Halves.{Insert}
+use Rattle.bucket_laws.specs.Buckets.{nodes, bounds, walk_of, BucketsKept, BucketsStand, table, buckets_meaning}
 use Rattle.bucket_laws.proofs.Chain.{same_on}
 use Rattle.bucket_laws.proofs.Fit.{PutsIn, keeps_gets, fit_of}
-use Rattle.bucket_laws.proofs.Forms.{load_step, want_step, make_step, answer_step}
+use Rattle.bucket_laws.proofs.Halves.{half_is, number_is, answer_for, step_of, half_step}
 use Rattle.bucket_laws.proofs.Maps.{get_removed}
-use Rattle.bucket_laws.proofs.Sections.{read_insert, insert_remove, insert_set}
 use Rattle.bucket_laws.proofs.TableLaws.{bucket_small}
-use Rattle.bucket_laws.proofs.Walks.{bool_cases, wanted_eq, is_first, edition_kept}
+use Rattle.bucket_laws.proofs.Elsewhere.{edition_seen}
 
 -- a word was read at a place
 abbrev IsAmong : Readings → ℕ → ℕ → Type 0
 IsAmong readings p w = (k : ℕ) × (slice_get readings k ≡ Some (p, w))
-
--- the edition of a walk past its first load was read
-module _ (buckets : ℕ) (bucket : ℕ → ℕ) (small : (key : ℕ) → bucket key < buckets) (b : Bounds) (op : Op) (all : Readings) where
-  abbrev edition_place : ℕ
-  edition_place = bucket_edition (bucket (key_of op))
-
-  abbrev IsRead : Walk → Type 0
-  IsRead w = w.stage ≢ AtEdition → IsAmong all edition_place w.edition
-
-  first_fed : (w : Walk) (p n : ℕ) (stage : Stage) → stage ≡ AtEdition → wanted_at buckets bucket (bucket (key_of op)) w stage ≡ Some p → IsAmong all p n
-      → IsAmong all edition_place (fed buckets bucket b op w stage n).edition
-  first_fed w p n stage first want among =
-      subst (λ stage. wanted_at buckets bucket (bucket (key_of op)) w stage ≡ Some p → IsAmong all edition_place (fed buckets bucket b op w stage n).edition) (sym first)
-      (λ is. subst (λ p. IsAmong all p n) (some_eq p edition_place (sym is)) among) want
-    where
-      some_eq : (a b : ℕ) → Some a ≡ Some b → a ≡ b
-      some_eq a b e = cc
-
-  one_fed : (w : Walk) (p n : ℕ) → wanted_at buckets bucket (bucket (key_of op)) w w.stage ≡ Some p → IsAmong all p n → IsRead w → IsRead (fed buckets bucket b op w w.stage n)
-  one_fed w p n want among read later = ⊎_elim
-      (λ first. first_fed w p n w.stage first want among)
-      (λ ne. subst (IsAmong all edition_place) (sym (edition_kept buckets bucket small b op w w.stage n ne)) (read ne))
-      (is_first buckets bucket small w.stage)
-
-  edition_read : (w : Walk) (readings : Readings) → ((i p n : ℕ) → slice_get readings i ≡ Some (p, n) → IsAmong all p n) → IsRead w → IsRead (walk buckets bucket b op w readings)
-  unfolding walk
-  edition_read w [] among read = read
-  edition_read w (reading ∷ readings) among read = bool_cases (is_wanted (wanted_at buckets bucket (bucket (key_of op)) w w.stage) reading.0)
-      (λ e. subst IsRead (ap (λ c. cond c (walk buckets bucket b op (fed buckets bucket b op w w.stage reading.1) readings) w) (sym e))
-      (edition_read (fed buckets bucket b op w w.stage reading.1) readings (λ i p n at. among (suc i) p n at)
-      (one_fed w reading.0 reading.1 (wanted_eq _ reading.0 e) (among 0 reading.0 reading.1 refl) read)))
-      (λ e. subst IsRead (ap (λ c. cond c (walk buckets bucket b op (fed buckets bucket b op w w.stage reading.1) readings) w) (sym e)) read)
 
 -- slots with different keys that the map has are no more than its pairs
 few_slots : (key : ℕ → ℕ) (slots : List ℕ) (pairs : Pairs) → ((i j t u : ℕ) → slice_get slots i ≡ Some t → slice_get slots j ≡ Some u → key t ≡ key u → i ≡ j)
@@ -74,30 +44,24 @@ few_slots key (t ∷ slots) pairs once there =
     let size : len (remove pairs (key t)) ≡ len pairs - 1 = len-remove nat_cmp_total pairs (key t) ∙ ap (λ b. cond b (len pairs - 1) (len pairs)) (ap is_some first.1) in
     let some : len pairs ≢ 0 = λ e. none-some first.0 (sym (ap (λ m. get m (key t)) (empty_of_len pairs e) ∙ get-empty nat_cmp (key t)) ∙ first.1) in
     let rest : length slots ≤ len (remove pairs (key t)) = few_slots key slots (remove pairs (key t))
-    (λ i j u v at also same. suc_eq i j (once (suc i) (suc j) u v at also same))
+    (λ i j u v at also same. suc_equal i j (once (suc i) (suc j) u v at also same))
     (λ i u at. let found = there (suc i) u at in
-    (found.0, get_removed pairs (key t) (key u) ∙ upd_other (get pairs) (key t) (key u) None (λ same. zero_suc i (sym (once (suc i) 0 u t at refl same))) ∙ found.1)) in
+    (found.0, get_removed pairs (key t) (key u) ∙ upd_other (get pairs) (key t) (key u) None (λ same. zero_not_suc i (sym (once (suc i) 0 u t at refl same))) ∙ found.1)) in
     omega arith
-  where
-    suc_eq : (a b : ℕ) → suc a ≡ suc b → a ≡ b
-    suc_eq a b e = omega arith
-
-    zero_suc : (i : ℕ) → 0 ≡ suc i → ⊥
-    zero_suc i e = omega arith
 
 module _ (buckets : ℕ) (bucket : ℕ → ℕ) (small : (key : ℕ) → bucket key < buckets) (layout : Layout) where
   want_read : (readings : Readings) (op : Op) (thunk : Thunk) → (table buckets bucket).fits layout op readings thunk ≡ true → (i j p r w : ℕ)
       → slice_get ((table buckets bucket).body thunk) i ≡ Some (Load p r) → slice_get ((table buckets bucket).body thunk) j ≡ Some (Want r w) → IsAmong readings p w
   want_read readings op thunk fits i j p r w load want =
       let fit = fit_of buckets bucket op (walk_of buckets bucket layout op readings) thunk fits in
-      let wanted = want_step thunk j r w want in
-      let read = edition_read buckets bucket small (bounds buckets bucket layout) op readings start readings (λ i p n at. (i, at)) (λ ne. absurd (ne refl)) (λ e. end_edition (sym fit.stage ∙ e)) in
+      let wanted = step_of thunk j (Want r w) want in
+      let read = edition_seen buckets bucket small (bounds buckets bucket layout) op readings (λ e. end_edition (sym fit.stage ∙ e)) in
       let lock = fit.lock in
-      let place : p ≡ bucket_edition (bucket (key_of op)) = ⊎_elim
-      (λ edition. let at = edition.2 in omega arith)
-      (⊎_elim (λ insert. absurd (let one = insert.2 in let zero = wanted.0 in omega arith)) (⊎_elim (λ remove. absurd (let one = remove.2 in let zero = wanted.0 in omega arith)) (λ sets. absurd (let one = sets.2 in let zero = wanted.0 in omega arith))))
-      (load_step thunk i p r load) in
-      subst (λ p. IsAmong readings p w) (sym place) (subst (λ w. IsAmong readings (bucket_edition (bucket (key_of op))) w) (sym (wanted.1 ∙ fit.edition)) read)
+      let half = half_is thunk wanted.0 wanted.1 in
+      let same = half.lock in
+      let place : p ≡ bucket_edition (bucket (key_of op)) = ⊎_elim (λ edition. let at = edition.2 in omega arith)
+      (λ target. absurd (half.registers.0 (sym wanted.2.0 ∙ target.2))) (half_step thunk wanted.0 wanted.1 i (Load p r) load) in
+      subst (λ p. IsAmong readings p w) (sym place) (subst (λ w. IsAmong readings (bucket_edition (bucket (key_of op))) w) (sym (wanted.2.1 ∙ fit.edition)) read)
     where
       end_edition : AtEnd ≡ AtEdition → ⊥
       end_edition e = cc
@@ -106,10 +70,10 @@ module _ (buckets : ℕ) (bucket : ℕ → ℕ) (small : (key : ℕ) → bucket 
       → slice_get ((table buckets bucket).body thunk) i ≡ Some (Make init r) → slice_get ((table buckets bucket).body thunk) j ≡ Some (Answer reply) → Adds op reply
   make_adds readings op thunk fits i j r reply init make answer =
       let fit = fit_of buckets bucket op (walk_of buckets bucket layout op readings) thunk fits in
-      let form = (make_step thunk i r init make).0 in
-      let insert = (fit.insert form).1 in
-      let added : reply ≡ 1 * 2 ^ 32 = ⊎_elim (λ read. absurd (read_insert (form_of thunk) read.0 form))
-      (⊎_elim (λ new. new.1) (⊎_elim (λ gone. absurd (insert_remove (form_of thunk) form gone.0)) (λ sets. absurd (insert_set (form_of thunk) form sets.0)))) (answer_step thunk j reply answer) in
+      let made = step_of thunk i (Make init r) make in
+      let kind = (half_is thunk made.0 made.1).insert.1 made.2.0 in
+      let insert = (fit.insert (number_is thunk made.0 made.1 Insert kind)).1 in
+      let added : reply ≡ 1 * 2 ^ 32 = half_step thunk made.0 made.1 j (Answer reply) answer ∙ ap (λ k. answer_for k thunk) kind in
       adds_new op insert.0 insert.1 reply insert.2 added
     where
       adds_new : (op : Op) (key v reply : ℕ) → PutsIn op key v → reply ≡ 1 * 2 ^ 32 → Adds op reply
@@ -126,13 +90,10 @@ module _ (buckets : ℕ) (bucket : ℕ → ℕ) (small : (key : ℕ) → bucket 
     abbrev stands : BucketsStand buckets bucket (slot_count layout 0) s.cells pairs
     stands = before.stands
 
-    none_section : {x : Section} → None ≡ Some x → ⊥
-    none_section e = cc
-
     -- with nothing open, a live slot stands in a chain
     on : (i t : ℕ) → slice_get slots i ≡ Some t → stands.on t ≡ true
     on i t at = same_on bucket (nodes buckets bucket s.cells) kept.on stands.on kept.rank stands.rank kept.chains stands.chains t
-        (⊎_elim (λ there. there) (⊎_elim (λ made. absurd (none_section (sym (quiet made.0) ∙ made.2))) (λ taken. absurd (none_section (sym (quiet taken.0) ∙ taken.2)))) (kept.live t (used.live i t at)))
+        (⊎_elim (λ there. there) (λ owned. absurd (none_not_some owned.1 (sym (quiet owned.0) ∙ owned.2))) (kept.live t (used.live i t at)))
 
     sized : length slots ≤ 1 * len pairs
     sized =

@@ -1,64 +1,45 @@
 -- The hash table keeps what it keeps, by every move.
-use Rattle.std.proofs.Common.{◌≡◌, ◌≢◌, ℕ, suc, ◌+◌, ◌*◌, ◌<◌, ◌≤◌, Bool, true, false, refl, sym, ap, ◌∙◌, subst, inl, inr, ⊎_elim, arith}
-use Rattle.std.specs.Prelude.{◌==◌, ◌&&◌, ◌%◌, ◌⊎◌, nat_lt, Option, Some, None, [], ◌∷◌, ◌++◌, slice_get}
+use Rattle.std.proofs.Common.{◌≡◌, ◌≢◌, ℕ, suc, ◌+◌, ◌*◌, ◌<◌, ◌≤◌, true, refl, sym, ap, ◌∙◌, subst, inl, inr, ⊎_elim, arith}
+use Rattle.std.specs.Prelude.{◌==◌, ◌&&◌, ◌%◌, ◌⊎◌, nat_lt, Option, Some, None, [], ◌∷◌, ◌++◌}
 use mathlib.Core.Logic.{dite}
 use native.Mathlib.Decide.{ℕ_discrete}
 use Rattle.small_lemmas.proofs.Bools.{both_of as both_true}
-use Rattle.small_lemmas.proofs.Lists.{some_same as some_inj}
+use Rattle.small_lemmas.proofs.Lists.{some_same as some_inj, none_not_some}
 use Rattle.small_lemmas.proofs.Numbers.{tested_less as lt_of, tested_equal as equal_of}
 use Rattle.map_history.specs.declared.op.Op.{Op}
 use Rattle.map_history.specs.Keys.{key_of}
 use Rattle.body_terms.specs.Update.{upd}
 use Rattle.body_terms.specs.Word.{value_of}
-use Rattle.section_body.specs.Bucket.{bucket_edition, bucket_head, operand, insert_steps, remove_steps}
-use Rattle.bucket_bodies.specs.Table.{set_steps}
-use Rattle.body_terms.specs.declared.step.Step.{Step}
+use Rattle.section_body.specs.Bucket.{bucket_edition, bucket_head, operand}
 use Rattle.body_terms.specs.declared.step.Step.TheVariants.{Want, Fresh, Stamp, Answer}
 use Rattle.body_terms.specs.declared.thunk.Thunk.{Thunk}
 use Rattle.table_words.specs.declared.layout.Layout.{Layout}
 use Rattle.table_words.specs.Limits.{IsWithinLimits}
 use Rattle.structure_laws.specs.Scene.{Readings, Section, Status, Free, Live, Retired, Scene, with_cell, with_reader, with_section, with_status, opened}
-use Rattle.structure_laws.specs.Sections.{Here, Settled, Ended, is_exit}
+use Rattle.structure_laws.specs.Sections.{Here, Settled, Ended}
 use Rattle.structure_laws.specs.Keeps.{Keeps}
 use Rattle.structure_laws.proofs.Changes.{upd_same, upd_other, upd_some, upd_none}
 use Rattle.bucket_laws.specs.Walk.{Walk, start, cell_at, walk}
-use Rattle.bucket_laws.specs.Buckets.{Insert, Remove, Set, form_of, nodes, Knows, IsWalked, walk_of, bounds, BucketsKept, table}
+use Rattle.bucket_laws.specs.Halves.{Half, HasHalf, IsPending, Owns}
+use Rattle.bucket_laws.specs.Buckets.{nodes, Knows, IsWalked, walk_of, bounds, BucketsKept, table}
 use Rattle.bucket_laws.proofs.Chain.{chains_agree}
 use Rattle.bucket_laws.proofs.Elsewhere.{IsElsewhere, knows_on}
-use Rattle.bucket_laws.proofs.Forms.{step_in, no_take}
+use Rattle.bucket_laws.proofs.Halves.{half_is, no_take}
 use Rattle.bucket_laws.proofs.NodeChanges.{clip_same}
+use Rattle.bucket_laws.proofs.Sections.{target_stays}
+use Rattle.bucket_laws.proofs.Places.{head_lock, one_slot}
+use Rattle.bucket_laws.proofs.TableGives.{live_free, retired_free, live_retired}
 use Rattle.bucket_laws.proofs.TableSteps.{quiet_kept, load_kept, make_kept, retire_kept}
 use Rattle.bucket_laws.proofs.TableStores.{table_store}
 use Rattle.bucket_laws.proofs.Walks.{knows_fed, walk_push, is_first, edition_kept}
 
-insert_late : (t : Thunk) (j : ℕ) (step : Step) → slice_get (insert_steps t) j ≡ Some step → 5 ≤ j → is_exit step ≡ false
-insert_late t j step h low = grind arith
-
-remove_late : (t : Thunk) (j : ℕ) (step : Step) → slice_get (remove_steps t) j ≡ Some step → 5 ≤ j → is_exit step ≡ false
-remove_late t j step h low = grind arith
-
-set_late : (t : Thunk) (j : ℕ) (step : Step) → slice_get (set_steps t) j ≡ Some step → 5 ≤ j → is_exit step ≡ false
-set_late t j step h low = grind arith
-
-insert_whole : (t : Thunk) (j : ℕ) → slice_get (insert_steps t) j ≡ None → j ≤ 9 → ⊥
-insert_whole t j h low = grind arith
-
-remove_whole : (t : Thunk) (j : ℕ) → slice_get (remove_steps t) j ≡ None → j ≤ 9 → ⊥
-remove_whole t j h low = grind arith
-
-set_whole : (t : Thunk) (j : ℕ) → slice_get (set_steps t) j ≡ None → j ≤ 8 → ⊥
-set_whole t j h low = grind arith
-
-module _ (buckets : ℕ) (bucket : ℕ → ℕ) where
-  -- a section past its exits isn't done before its last step
-  insert_open : (x : Section) → form_of x.thunk ≡ Insert → 5 ≤ x.at → x.at ≤ 9 → (Settled (table buckets bucket) x → Ended (table buckets bucket) x) → ⊥
-  insert_open x form low high ended = insert_whole x.thunk x.at (sym (step_in x.thunk Insert x.at form) ∙ ended (λ j step le h. insert_late x.thunk j step (sym (step_in x.thunk Insert j form) ∙ h) (omega arith))) high
-
-  remove_open : (x : Section) → form_of x.thunk ≡ Remove → 5 ≤ x.at → x.at ≤ 9 → (Settled (table buckets bucket) x → Ended (table buckets bucket) x) → ⊥
-  remove_open x form low high ended = remove_whole x.thunk x.at (sym (step_in x.thunk Remove x.at form) ∙ ended (λ j step le h. remove_late x.thunk j step (sym (step_in x.thunk Remove j form) ∙ h) (omega arith))) high
-
-  set_open : (x : Section) → form_of x.thunk ≡ Set → 5 ≤ x.at → x.at ≤ 8 → (Settled (table buckets bucket) x → Ended (table buckets bucket) x) → ⊥
-  set_open x form low high ended = set_whole x.thunk x.at (sym (step_in x.thunk Set x.at form) ∙ ended (λ j step le h. set_late x.thunk j step (sym (step_in x.thunk Set j form) ∙ h) (omega arith))) high
+-- a section that has made a node, or changed its bucket, isn't done before its last step
+half_open : (buckets : ℕ) (bucket : ℕ → ℕ) (x : Section) (h : Half) → HasHalf x h → h.made < x.at → (x.at ≤ h.edition) ⊎ (x.at ≤ h.retire)
+    → (Settled (table buckets bucket) x → Ended (table buckets bucket) x) → ⊥
+half_open buckets bucket x h has low high ended =
+    let half = half_is x.thunk h has in
+    let past = half.whole x.at (ended (λ j step le at. half.no_exit j step at (omega arith))) low in
+    ⊎_elim (λ edition. let after = past.0 in omega arith) (λ retire. let after = past.1 in omega arith) high
 
 module _ (buckets : ℕ) (bucket : ℕ → ℕ) (small : (key : ℕ) → bucket key < buckets) (layout : Layout) (s : Scene) (kept : BucketsKept buckets bucket layout s) where
   -- a runner's readings change
@@ -70,12 +51,12 @@ module _ (buckets : ℕ) (bucket : ℕ → ℕ) (small : (key : ℕ) → bucket 
     on_live = kept.on_live;
     readers = λ q readings op h. dite (ℕ_discrete q r) (λ e. walks readings op (sym (upd_same s.reader r q new e) ∙ h)) (λ ne. kept.readers q readings op (sym (upd_other s.reader r q new ne) ∙ h));
     sections = kept.sections;
-    linked = kept.linked;
-    valued = kept.valued;
+    made = kept.made;
+    target = kept.target;
+    taken = kept.taken;
+    owned = kept.owned;
     live = kept.live;
     limbo = kept.limbo;
-    made = λ e z h form low high. let was = kept.made e z h form low high in record { slot = was.slot; link = was.link; live = was.live; out = was.out; key = was.key; value = was.value; next = was.next };
-    taken = λ e z h form low high. let was = kept.taken e z h form low high in record { live = was.live; out = was.out; key = was.key; next = was.next };
   }
 
   start_walked : (op : Op) → IsWalked buckets bucket s kept.on kept.rank op (walk_of buckets bucket layout op [])
@@ -104,21 +85,16 @@ module _ (buckets : ℕ) (bucket : ℕ → ℕ) (small : (key : ℕ) → bucket 
     sections = λ e z h. ⊎_elim
         (λ same. subst (λ z. IsWalked buckets bucket (with_section s d (Some (opened op thunk readings))) kept.on kept.rank z.op (walk_of buckets bucket layout z.op z.readings)) same.1 (walked op (walk_of buckets bucket layout op readings) (kept.readers r readings op reader)))
         (λ other. walked z.op (walk_of buckets bucket layout z.op z.readings) (kept.sections e z other.1)) (put e z h);
-    made = λ e z h form low high. ⊎_elim (λ same. absurd (early z same.1 (omega arith)))
-        (λ other. let was = kept.made e z other.1 form low high in record { slot = was.slot; link = was.link; live = was.live; out = was.out; key = was.key; value = was.value; next = was.next }) (put e z h);
-    linked = λ e z h form low. ⊎_elim (λ same. absurd (early z same.1 (omega arith))) (λ other. kept.linked e z other.1 form low) (put e z h);
-    valued = λ e z h form low. ⊎_elim (λ same. absurd (early z same.1 (omega arith))) (λ other. kept.valued e z other.1 form low) (put e z h);
-    taken = λ e z h form low high. ⊎_elim (λ same. absurd (early z same.1 (omega arith)))
-        (λ other. let was = kept.taken e z other.1 form low high in record { live = was.live; out = was.out; key = was.key; next = was.next }) (put e z h);
-    live = λ t live. ⊎_elim inl (⊎_elim
-        (λ new. inr (inl (new.0, new.1, stays new.0 new.1 new.2 ∙ new.2, new.3, new.4, new.5, new.6)))
-        (λ old. inr (inr (old.0, old.1, stays old.0 old.1 old.2 ∙ old.2, old.3, old.4, old.5, old.6)))) (kept.live t live);
+    made = λ e z h at has making. ⊎_elim (λ same. absurd (let low = making.0 in early z same.1 (omega arith))) (λ other. kept.made e z h other.1 has making) (put e z at);
+    target = λ e z h at has changes low. ⊎_elim (λ same. absurd (let known = (half_is z.thunk h has).order.0 in early z same.1 (omega arith)))
+        (λ other. kept.target e z h other.1 has changes low) (put e z at);
+    taken = λ e z h at has taking. ⊎_elim (λ same. absurd (let low = taking.0 in early z same.1 (omega arith))) (λ other. kept.taken e z h other.1 has taking) (put e z at);
+    owned = λ e z t at owns. ⊎_elim (λ same. absurd (⊎_elim (λ new. let low = new.0.0 in early z same.1 (omega arith)) (λ old. let low = old.0.0 in early z same.1 (omega arith)) owns.2))
+        (λ other. kept.owned e z t other.1 owns) (put e z at);
+    live = λ t live. ⊎_elim inl (λ owned. inr (owned.0, owned.1, stays owned.0 owned.1 owned.2 ∙ owned.2, owned.3)) (kept.live t live);
     limbo = kept.limbo;
   }
     where
-      none_some : {x : Section} → None ≡ Some x → ⊥
-      none_some e = cc
-
       put : (e : ℕ) (z : Section) → upd s.section d (Some (opened op thunk readings)) e ≡ Some z → ((e ≡ d) × (opened op thunk readings ≡ z)) ⊎ ((e ≢ d) × (s.section e ≡ Some z))
       put e z h = upd_some s.section d e (opened op thunk readings) z h
 
@@ -126,7 +102,7 @@ module _ (buckets : ℕ) (bucket : ℕ → ℕ) (small : (key : ℕ) → bucket 
       early z same low = let at = ap (λ z. z.at) same in omega arith
 
       stays : (e : ℕ) (z : Section) → s.section e ≡ Some z → upd s.section d (Some (opened op thunk readings)) e ≡ s.section e
-      stays e z there = upd_other s.section d e (Some (opened op thunk readings)) (λ same. none_some (sym none ∙ ap s.section (sym same) ∙ there))
+      stays e z there = upd_other s.section d e (Some (opened op thunk readings)) (λ same. none_not_some z (sym none ∙ ap s.section (sym same) ∙ there))
 
       walked : (op' : Op) (w : Walk) → IsWalked buckets bucket s kept.on kept.rank op' w → IsWalked buckets bucket (with_section s d (Some (opened op thunk readings))) kept.on kept.rank op' w
       walked op' w before edition free = before edition (λ e z there pending. free e z (stays e z there ∙ there) pending)
@@ -140,13 +116,12 @@ module _ (buckets : ℕ) (bucket : ℕ → ℕ) (small : (key : ℕ) → bucket 
     on_live = kept.on_live;
     readers = λ q readings op h. walked op (walk_of buckets bucket layout op readings) (kept.readers q readings op h);
     sections = λ e z h. walked z.op (walk_of buckets bucket layout z.op z.readings) (kept.sections e z (left e z h).1);
-    made = λ e z h form low high. let was = kept.made e z (left e z h).1 form low high in record { slot = was.slot; link = was.link; live = was.live; out = was.out; key = was.key; value = was.value; next = was.next };
-    linked = λ e z h form low. kept.linked e z (left e z h).1 form low;
-    valued = λ e z h form low. kept.valued e z (left e z h).1 form low;
-    taken = λ e z h form low high. let was = kept.taken e z (left e z h).1 form low high in record { live = was.live; out = was.out; key = was.key; next = was.next };
-    live = λ t live. ⊎_elim inl (⊎_elim
-        (λ new. inr (inl (new.0, new.1, stays new.0 new.1 new.2 (λ same. insert_open buckets bucket x (ap (λ z. form_of z.thunk) (sym same) ∙ new.3) (let at = ap (λ z. z.at) same in let low = new.4 in omega arith) (let at = ap (λ z. z.at) same in let high = new.5 in omega arith) ended) ∙ new.2, new.3, new.4, new.5, new.6)))
-        (λ old. inr (inr (old.0, old.1, stays old.0 old.1 old.2 (λ same. remove_open buckets bucket x (ap (λ z. form_of z.thunk) (sym same) ∙ old.3) (let at = ap (λ z. z.at) same in let low = old.4 in omega arith) (let at = ap (λ z. z.at) same in let high = old.5 in omega arith) ended) ∙ old.2, old.3, old.4, old.5, old.6)))) (kept.live t live);
+    made = λ e z h at has making. kept.made e z h (left e z at).1 has making;
+    target = λ e z h at has changes low. kept.target e z h (left e z at).1 has changes low;
+    taken = λ e z h at has taking. kept.taken e z h (left e z at).1 has taking;
+    owned = λ e z t at owns. kept.owned e z t (left e z at).1 owns;
+    live = λ t live. ⊎_elim inl (λ owned. inr (owned.0, owned.1, stays owned.0 owned.1 owned.2 (λ same. owns_none t (subst (λ z. Owns z t) same owned.3)) ∙ owned.2, owned.3))
+        (kept.live t live);
     limbo = kept.limbo;
   }
     where
@@ -156,17 +131,22 @@ module _ (buckets : ℕ) (bucket : ℕ → ℕ) (small : (key : ℕ) → bucket 
       stays : (e : ℕ) (z : Section) → s.section e ≡ Some z → (z ≡ x → ⊥) → upd s.section d None e ≡ s.section e
       stays e z there other = upd_other s.section d e None (λ same. other (some_inj (sym there ∙ ap s.section same ∙ here)))
 
+      owns_none : (t : ℕ) → Owns x t → ⊥
+      owns_none t owns =
+          let order = (half_is x.thunk owns.0 owns.1).order.4 in
+          let making = (half_is x.thunk owns.0 owns.1).order.2 in
+          ⊎_elim (λ new. let low = new.0.0 in let high = new.0.1 in half_open buckets bucket x owns.0 owns.1 low (inr (omega arith)) ended)
+          (λ old. let low = old.0.0 in half_open buckets bucket x owns.0 owns.1 (omega arith) (inr old.0.1) ended) owns.2
+
+      not_pending : (i : ℕ) → IsPending x i → ⊥
+      not_pending i pending =
+          let making = (half_is x.thunk pending.0 pending.1).order.2 in
+          let low = pending.3 in
+          half_open buckets bucket x pending.0 pending.1 (omega arith) (inl pending.4) ended
+
       walked : (op : Op) (w : Walk) → IsWalked buckets bucket s kept.on kept.rank op w → IsWalked buckets bucket (with_section s d None) kept.on kept.rank op w
-      walked op w before edition free = before edition (λ e z there pending. free e z (stays e z there (λ same. ⊎_elim
-          (λ insert. insert_open buckets bucket x (ap (λ z. form_of z.thunk) (sym same) ∙ insert.0) (let at = ap (λ z. z.at) same in let eight = insert.1 in omega arith) (let at = ap (λ z. z.at) same in let eight = insert.1 in omega arith) ended)
-          (⊎_elim (λ remove. remove_open buckets bucket x (ap (λ z. form_of z.thunk) (sym same) ∙ remove.0) (let at = ap (λ z. z.at) same in let seven = remove.1 in omega arith) (let at = ap (λ z. z.at) same in let seven = remove.1 in omega arith) ended)
-          (λ sets. set_open buckets bucket x (ap (λ z. form_of z.thunk) (sym same) ∙ sets.0) (let at = ap (λ z. z.at) same in let seven = sets.1 in omega arith) (let at = ap (λ z. z.at) same in let seven = sets.1 in omega arith) ended)) pending.1) ∙ there) pending)
-
-  live_free : (x : Status) → x ≡ Live → x ≢ Free
-  live_free x live free = cc
-
-  retired_free : (x : Status) (y : ℕ) → x ≡ Retired y → x ≢ Free
-  retired_free x y retired free = cc
+      walked op w before edition free = before edition (λ e z there pending. free e z
+          (stays e z there (λ same. not_pending (bucket (key_of op)) (subst (λ z. IsPending z (bucket (key_of op))) same pending)) ∙ there) pending)
 
   -- a cell changes that is no edition, no head, and in no node but a free one
   cell_kept : (p w : ℕ) → ((i : ℕ) → i < buckets → (bucket_edition i ≢ p) × (bucket_head i ≢ p)) → ((u k : ℕ) → s.status u ≢ Free → k < 5 → cell_at buckets bucket u k ≢ p) → BucketsKept buckets bucket layout (with_cell s p w)
@@ -193,23 +173,20 @@ module _ (buckets : ℕ) (bucket : ℕ → ℕ) (small : (key : ℕ) → bucket 
             (λ u on. ap value_of (on_same u 1 on (omega arith))) (λ u on. ap value_of (on_same u 3 on (omega arith)));
         readers = λ r readings op h. walked op (walk_of buckets bucket layout op readings) (kept.readers r readings op h);
         sections = λ d x here. walked x.op (walk_of buckets bucket layout x.op x.readings) (kept.sections d x here);
-        made = λ d x here form low high. let was = kept.made d x here form low high in let used = live_free (s.status was.slot) was.live in record {
-          slot = was.slot;
-          link = was.link;
-          live = was.live;
-          out = was.out;
-          key = ap value_of (same was.slot 1 used (omega arith)) ∙ was.key;
-          value = ap value_of (same was.slot 2 used (omega arith)) ∙ was.value;
-          next = ap value_of (same was.slot 3 used (omega arith)) ∙ was.next;
-        };
-        linked = λ d x here form low. ⊎_elim inl (λ node. inr (node.0, (node.1.0, ap (λ word. bucket (value_of word)) (on_same node.0 1 node.1.0 (omega arith)) ∙ node.1.1), node.2)) (kept.linked d x here form low);
-        valued = λ d x here form low. let node = kept.valued d x here form low in (node.0, (node.1.0, ap (λ word. bucket (value_of word)) (on_same node.0 1 node.1.0 (omega arith)) ∙ node.1.1), node.2);
-        taken = λ d x here form low high. let was = kept.taken d x here form low high in let used = live_free (s.status (operand x.thunk 2)) was.live in record {
-          live = was.live;
-          out = was.out;
-          key = ap value_of (same (operand x.thunk 2) 1 used (omega arith)) ∙ was.key;
-          next = λ t leads. let node = was.next t (ap value_of (sym (same (operand x.thunk 2) 3 used (omega arith))) ∙ leads) in (node.0, ap (λ word. bucket (value_of word)) (on_same t 1 node.0 (omega arith)) ∙ node.1);
-        };
+        made = λ d x h here has making. let was = kept.made d x h here has making in
+            let used = live_free (s.status was.0) (kept.owned d x was.0 here (h, has, inl (making, was.1))).0 in (was.0, was.1, record {
+              key = ap value_of (same was.0 1 used (omega arith)) ∙ was.2.key;
+              value = ap value_of (same was.0 2 used (omega arith)) ∙ was.2.value;
+              next = ap value_of (same was.0 3 used (omega arith)) ∙ was.2.next;
+            });
+        target = λ d x h here has changes low. target_stays buckets bucket h.kind s.cells (upd s.cells p w) kept.on kept.on (bucket (key_of x.op)) h.target
+            (λ u node. (node.0, ap (λ word. bucket (value_of word)) (on_same u 1 node.0 (omega arith)) ∙ node.1)) (kept.target d x h here has changes low);
+        taken = λ d x h here has taking. let was = kept.taken d x h here has taking in
+            let used = live_free (s.status (operand x.thunk 2)) (kept.owned d x (operand x.thunk 2) here (h, has, inr (taking, refl))).0 in record {
+              key = ap value_of (same (operand x.thunk 2) 1 used (omega arith)) ∙ was.key;
+              next = λ t leads. let node = was.next t (ap value_of (sym (same (operand x.thunk 2) 3 used (omega arith))) ∙ leads) in (node.0, ap (λ word. bucket (value_of word)) (on_same t 1 node.0 (omega arith)) ∙ node.1);
+            };
+        owned = kept.owned;
         live = kept.live;
         limbo = λ q y t retired recent leads. kept.limbo q y t retired recent (ap value_of (sym (same q 3 (retired_free (s.status q) y retired) (omega arith))) ∙ leads);
       }
@@ -226,26 +203,17 @@ module _ (buckets : ℕ) (bucket : ℕ → ℕ) (small : (key : ℕ) → bucket 
         on_live = λ u on. still u (kept.on_live u on);
         readers = kept.readers;
         sections = kept.sections;
-        linked = kept.linked;
-        valued = kept.valued;
-        made = λ d x here form low high. let was = kept.made d x here form low high in record { slot = was.slot; link = was.link; live = still was.slot was.live; out = was.out; key = was.key; value = was.value; next = was.next };
-        taken = λ d x here form low high. let was = kept.taken d x here form low high in record { live = still (operand x.thunk 2) was.live; out = was.out; key = was.key; next = was.next };
-        live = λ u live. dite (ℕ_discrete u t) (λ e. absurd (free_live (sym (upd_same s.status t u Free e) ∙ live))) (λ ne. kept.live u (sym (other u ne) ∙ live));
-        limbo = λ q z u late recent leads. dite (ℕ_discrete q t) (λ e. absurd (free_retired z (sym (upd_same s.status t q Free e) ∙ late)))
+        target = kept.target;
+        made = kept.made;
+        taken = kept.taken;
+        owned = λ d x u here owns. let was = kept.owned d x u here owns in (still u was.0, was.1);
+        live = λ u live. dite (ℕ_discrete u t) (λ e. absurd (live_free _ live (upd_same s.status t u Free e))) (λ ne. kept.live u (sym (other u ne) ∙ live));
+        limbo = λ q z u late recent leads. dite (ℕ_discrete q t) (λ e. absurd (retired_free _ z late (upd_same s.status t q Free e)))
             (λ ne. ⊎_elim (λ live. inl (still u live))
             (λ later. inr (later.0, other u (λ e. let same = retired_in (sym later.1 ∙ ap s.status e ∙ retired) in let order = later.2 in omega arith) ∙ later.1, later.2))
             (kept.limbo q z u (sym (other q ne) ∙ late) recent leads));
       }
     where
-      live_retired : (x : Status) (y : ℕ) → x ≡ Live → x ≡ Retired y → ⊥
-      live_retired x y e e' = cc
-
-      free_live : Free ≡ Live → ⊥
-      free_live e = cc
-
-      free_retired : (z : ℕ) → Free ≡ Retired z → ⊥
-      free_retired z e = cc
-
       retired_in : {z w : ℕ} → Retired z ≡ Retired w → z ≡ w
       retired_in e = cc
 
@@ -257,11 +225,11 @@ module _ (buckets : ℕ) (bucket : ℕ → ℕ) (small : (key : ℕ) → bucket 
     on_live = kept.on_live;
     readers = kept.readers;
     sections = kept.sections;
-    linked = kept.linked;
-    valued = kept.valued;
+    made = kept.made;
+    target = kept.target;
+    taken = kept.taken;
+    owned = kept.owned;
     live = kept.live;
-    made = λ d x here form low high. let was = kept.made d x here form low high in record { slot = was.slot; link = was.link; live = was.live; out = was.out; key = was.key; value = was.value; next = was.next };
-    taken = λ d x here form low high. let was = kept.taken d x here form low high in record { live = was.live; out = was.out; key = was.key; next = was.next };
     limbo = λ q y t retired recent leads. kept.limbo q y t retired (omega arith) leads;
   }
 
@@ -274,7 +242,7 @@ table_keeps buckets bucket small layout limits = record {
   enters = λ s r sound kept sound'. readers_kept buckets bucket small layout s kept r (Some []) (λ readings op e. subst (λ readings. IsWalked buckets bucket s kept.on kept.rank op (walk_of buckets bucket layout op readings)) (some_inj e) (start_walked buckets bucket small layout s kept op));
   reads = λ s r p readings reader known sound kept sound'. readers_kept buckets bucket small layout s kept r (Some (readings ++ (p, s.cells p) ∷ []))
       (λ longer op e. subst (λ readings. IsWalked buckets bucket s kept.on kept.rank op (walk_of buckets bucket layout op readings)) (some_inj e) (read_walked buckets bucket small layout s kept op readings p (kept.readers r readings op reader)));
-  leaves = λ s r sound kept sound'. readers_kept buckets bucket small layout s kept r None (λ readings op e. absurd (none_some e));
+  leaves = λ s r sound kept sound'. readers_kept buckets bucket small layout s kept r None (λ readings op e. absurd (none_not_some readings e));
   holds = λ s r d readings op thunk reader publishes none sound kept sound'. holds_kept buckets bucket small layout s kept r d readings op thunk reader none;
   load = λ s d p r x here h sound kept sound'. load_kept buckets bucket small layout s sound kept d x here p r (s.cells p) h;
   want = λ s d r w x here h equal sound kept sound'. quiet_kept buckets bucket small layout s sound kept d x here (Want r w) h (λ q v e. cc) (λ init q e. cc) (λ t e. cc);
@@ -293,14 +261,5 @@ table_keeps buckets bucket small layout limits = record {
   advance = λ s sound kept sound'. advance_kept buckets bucket small layout s kept;
 }
   where
-    none_some : {x : Readings} → None ≡ Some x → ⊥
-    none_some e = cc
-
     edition_lock : (i p : ℕ) → p % 3 ≡ 0 → 3 * i + 1 ≡ p → ⊥
     edition_lock i p at e = omega arith
-
-    head_lock : (i p : ℕ) → p % 3 ≡ 0 → 3 * i + 2 ≡ p → ⊥
-    head_lock i p at e = omega arith
-
-    one_slot : (n u t k i : ℕ) → k < 5 → i < 5 → n + 5 * u + k ≡ n + 5 * t + i → u ≡ t
-    one_slot n u t k i low low' e = omega arith

@@ -1,22 +1,23 @@
 -- The hash table meets the laws.
 use Rattle.std.proofs.Common.{◌≡◌, ◌≢◌, ℕ, zero, suc, ◌+◌, ◌*◌, ◌<◌, ◌≤◌, Bool, true, false, cond, refl, sym, ap, ◌∙◌, subst, inl, inr, ⊎_elim, arith}
-use Rattle.std.specs.Prelude.{◌==◌, ◌&&◌, ◌-◌, ◌/◌, ◌%◌, ◌^◌, ◌⊎◌, nat_lt, Option, Some, None, slice_get, slice_index, length}
+use Rattle.std.specs.Prelude.{◌==◌, ◌&&◌, ◌-◌, ◌/◌, ◌%◌, ◌^◌, ◌⊎◌, nat_lt, Option, Some, None, slice_get, slice_index, length, Contains}
 use Rattle.std.specs.FinMap.{get, empty, get-empty}
 use Rattle.std.specs.Ordering.{nat_cmp}
-use Rattle.small_lemmas.proofs.Numbers.{equal_tested as eq_true}
+use Rattle.std.proofs.lemmas.Nat.{pow_pos, pow_below, shr_below}
+use Rattle.small_lemmas.proofs.Bools.{false_not_true, both_hold}
+use Rattle.small_lemmas.proofs.Lists.{none_not_some, some_not_none, some_same}
+use Rattle.small_lemmas.proofs.Numbers.{zero_not_suc, last_or_before}
 use Rattle.map_history.specs.declared.op.Op.{Op}
 use Rattle.map_history.specs.declared.op.Op.TheVariants.{Get, Ins, Del, Put, Mov}
 use Rattle.map_history.specs.Keys.{key_of, value_given, IsOneKeyed}
 use Rattle.map_history.specs.Replay.{Pairs}
 use Rattle.body_terms.specs.Update.{upd}
 use Rattle.body_terms.specs.Word.{value_of}
-use Rattle.section_body.specs.Bucket.{bucket_index, bucket_head, operand, is_small, fits_insert, fits_remove}
-use Rattle.bucket_bodies.specs.Table.{fits_set, table_steps}
-use Rattle.body_terms.specs.Memory.{cell_of}
+use Rattle.section_body.specs.Bucket.{bucket_index, bucket_head, operand, is_small}
+use Rattle.bucket_bodies.specs.Table.{table_steps}
 use Rattle.body_terms.specs.Shape.{IsShaped}
 use Rattle.body_terms.specs.declared.value.Value.{Value}
-use Rattle.body_terms.specs.declared.value.Value.TheVariants.{Const, Made}
-use Rattle.body_terms.specs.declared.step.Step.TheVariants.{Load, Store}
+use Rattle.body_terms.specs.declared.step.Step.TheVariants.{Load, Make, Store, Answer}
 use Rattle.body_terms.specs.declared.thunk.Thunk.{Thunk}
 use Rattle.table_words.specs.declared.layout.Layout.{Layout}
 use Rattle.table_words.specs.Limits.{IsWithinLimits}
@@ -32,60 +33,29 @@ use Rattle.structure_laws.proofs.Changes.{upd_other}
 use Rattle.structure_laws.proofs.Costs.{shaped_cost}
 use Rattle.bucket_laws.specs.Chain.{Nodes, Chains, Contents}
 use Rattle.bucket_laws.specs.Walk.{AtEdition, AtEnd, Walk, cell_at, form_for, operands_for}
-use Rattle.bucket_laws.specs.Buckets.{Form, Read, Insert, Remove, Set, Empty, form_of, body_of, nodes, is_link_place, walk_of, bounds, BucketsKept, BucketsStand, table, buckets_meaning}
+use Rattle.bucket_laws.specs.Halves.{Kind, Look, Insert, Remove, Set, Half, halves}
+use Rattle.bucket_laws.specs.Buckets.{nodes, is_link_place, walk_of, bounds, BucketsKept, BucketsStand, table, buckets_meaning}
 use Rattle.bucket_laws.proofs.Chain.{same_on, chains_agree}
 use Rattle.bucket_laws.proofs.Fit.{IsFit, fit_of, insert_operands, remove_operands, set_operands, puts_given}
 use Rattle.bucket_laws.proofs.Fitting.{table_fitting}
-use Rattle.bucket_laws.proofs.Forms.{node_init, steps_of, no_take, LoadCase, load_step, StoreCase, store_step, make_step, answer_step}
+use Rattle.bucket_laws.proofs.Halves.{node_init, steps_for, number_of, fits_for, stored_for, answer_for, HasKind, kind_is}
+use Rattle.bucket_laws.proofs.Halves.{half_is, number_is, place_is, step_of, no_take, half_step}
 use Rattle.bucket_laws.proofs.NodeChanges.{clip_same}
-use Rattle.bucket_laws.proofs.TableGives.{reached, table_gives}
+use Rattle.bucket_laws.proofs.Places.{head_lock, one_slot}
+use Rattle.bucket_laws.proofs.TableGives.{live_free, retired_free, reached, table_gives}
 use Rattle.bucket_laws.proofs.TableKeeps.{lock_at, table_keeps}
 use Rattle.bucket_laws.proofs.TableShape.{read_shaped, insert_shaped, remove_shaped, set_shaped}
 use Rattle.bucket_laws.proofs.TableTurn.{table_answers, table_stores}
 use Rattle.bucket_laws.proofs.WalkFacts.{Gives, walk_facts}
 
-live_free : (x : Status) → x ≡ Live → x ≢ Free
-live_free x live free = cc
-
-retired_free : (x : Status) (y : ℕ) → x ≡ Retired y → x ≢ Free
-retired_free x y retired free = cc
-
--- a thunk's form, by its number and by whether its numbers fit
-abbrev by_tests : Bool → Bool → Bool → Bool → Bool → Bool → Bool → Bool → Form
-by_tests d s a p b q c r = cond d (cond s Set Empty) (cond a (cond p Read Empty) (cond b (cond q Insert Empty) (cond c (cond r Remove Empty) Empty)))
-
-is_set : (d s a p b q c r : Bool) → d ≡ true → s ≡ true → by_tests d s a p b q c r ≡ Set
-is_set d s a p b q c r h h' = (λ i. by_tests (h i) (h' i) a p b q c r)
-
-is_read : (d s a p b q c r : Bool) → d ≡ false → a ≡ true → p ≡ true → by_tests d s a p b q c r ≡ Read
-is_read d s a p b q c r other h h' = (λ i. by_tests (other i) s (h i) (h' i) b q c r)
-
-is_insert : (d s a p b q c r : Bool) → d ≡ false → a ≡ false → b ≡ true → q ≡ true → by_tests d s a p b q c r ≡ Insert
-is_insert d s a p b q c r other none h h' = (λ i. by_tests (other i) s (none i) p (h i) (h' i) c r)
-
-is_remove : (d s a p b q c r : Bool) → d ≡ false → a ≡ false → b ≡ false → c ≡ true → r ≡ true → by_tests d s a p b q c r ≡ Remove
-is_remove d s a p b q c r other none none' h h' = (λ i. by_tests (other i) s (none i) p (none' i) q (h i) (h' i))
-
 small_is : (n : ℕ) → n < 2 ^ 32 → is_small n ≡ true
 small_is n low = grind arith
-
-eq_false : (a b c : ℕ) → a ≡ b → b ≢ c → (a == c) ≡ false
-eq_false a b c e ne = grind arith
-
-three_true : (a b c : Bool) → a ≡ true → b ≡ true → c ≡ true → (a && (b && c)) ≡ true
-three_true a b c h h' h'' = (λ i. h i && (h' i && h'' i))
-
-four_true : (a b c d : Bool) → a ≡ true → b ≡ true → c ≡ true → d ≡ true → (a && (b && (c && d))) ≡ true
-four_true a b c d h h' h'' h3 = grind arith
 
 no_lock_low : (i r n : ℕ) → 1 ≤ r → r ≤ 2 → (nat_lt (3 * i + r) n && ((3 * i + r) % 3 == 0)) ≡ false
 no_lock_low i r n low high = let rest : (3 * i + r) % 3 ≢ 0 = (λ e. omega arith) in grind arith
 
 no_lock_high : (p n : ℕ) → n ≤ p → (nat_lt p n && (p % 3 == 0)) ≡ false
 no_lock_high p n high = grind arith
-
-no_other : (key : ℕ) → Some key ≡ None → ⊥
-no_other key e = cc
 
 pub form_cases : (op : Op) (found : Bool) → IsOneKeyed op → (form_for op found ≡ 1) ⊎ (form_for op found ≡ 2) ⊎ (form_for op found ≡ 3) ⊎ (form_for op found ≡ 4)
 form_cases (Get key) found one = inl refl
@@ -95,7 +65,7 @@ form_cases (Del key) true one = inr (inr (inl refl))
 form_cases (Del key) false one = inl refl
 form_cases (Put key value) true one = inr (inr (inr refl))
 form_cases (Put key value) false one = inr (inl refl)
-form_cases (Mov from to) found one = absurd (no_other to one)
+form_cases (Mov from to) found one = absurd (some_not_none to one)
 
 -- the reply word of a thunk that changes nothing isn't 0
 reply_some : (buckets : ℕ) (op : Op) (w : Walk) (found : Bool) → form_for op found ≡ 1 → 0 < slice_index (operands_for buckets op w found) 1
@@ -148,76 +118,69 @@ module _ (buckets : ℕ) (bucket : ℕ → ℕ) (small : (key : ℕ) → bucket 
   lock_small : thunk.lock + 2 < 2 ^ 32
   lock_small = let at = lock_is in let low = small (key_of op) in omega arith
 
-  number_at : (k : ℕ) → operand thunk k ≡ slice_index (operands_for buckets op own_walk own_walk.found) k
-  number_at k = ap (λ numbers. slice_index numbers k) fit.operands
-
-  not_form : (n k : ℕ) → form_for op own_walk.found ≡ n → n ≢ k → (thunk.form == k) ≡ false
-  not_form n k form ne = eq_false thunk.form n k (fit.form ∙ form) ne
-
-  read_form : form_for op own_walk.found ≡ 1 → form_of thunk ≡ Read
-  read_form form = is_read (thunk.form == 4) (fits_set thunk) (thunk.form == 1) (is_small (thunk.lock + 1)) (thunk.form == 2) (fits_insert thunk) (thunk.form == 3)
-      (fits_remove thunk) (not_form 1 4 form (λ e. omega arith)) (eq_true thunk.form 1 (fit.form ∙ form)) (small_is (thunk.lock + 1) (let low = lock_small in omega arith))
-
-  insert_form : form_for op own_walk.found ≡ 2 → form_of thunk ≡ Insert
-  insert_form form =
-      let named = (insert_operands buckets op own_walk own_walk.found form).1 in
-      let is_key : key_of op ≡ named.0 = named.2.0 in
-      let key_low = allowed.keys (key_of op) (inl refl) in
-      let value_low = allowed.value named.1 (puts_given op named.0 named.1 named.2) in
-      let head_low = (walk_facts buckets bucket small (bounds buckets bucket layout) op readings).head_small in
-      is_insert (thunk.form == 4) (fits_set thunk) (thunk.form == 1) (is_small (thunk.lock + 1)) (thunk.form == 2) (fits_insert thunk) (thunk.form == 3) (fits_remove thunk)
-      (not_form 2 4 form (λ e. omega arith)) (not_form 2 1 form (λ e. omega arith)) (eq_true thunk.form 2 (fit.form ∙ form))
-      (four_true _ _ _ _ (small_is (thunk.lock + 2) lock_small) (small_is (operand thunk 1) (let at = number_at 1 ∙ named.3 in omega arith)) (small_is (operand thunk 2) (let at = number_at 2 ∙ named.4 in omega arith))
-      (small_is (operand thunk 3) (let at = number_at 3 ∙ named.5 in omega arith)))
-
-  remove_form : form_for op own_walk.found ≡ 3 → form_of thunk ≡ Remove
-  remove_form form =
-      let named = (remove_operands buckets op own_walk own_walk.found form).1 in
-      let facts = walk_facts buckets bucket small (bounds buckets bucket layout) op readings in
-      let slot_low = facts.slot_small in
-      let next_low = facts.next_small in
-      let place_low = place_small in
-      is_remove (thunk.form == 4) (fits_set thunk) (thunk.form == 1) (is_small (thunk.lock + 1)) (thunk.form == 2) (fits_insert thunk) (thunk.form == 3) (fits_remove thunk)
-      (not_form 3 4 form (λ e. omega arith)) (not_form 3 1 form (λ e. omega arith)) (not_form 3 2 form (λ e. omega arith)) (eq_true thunk.form 3 (fit.form ∙ form))
-      (four_true _ _ _ _ (small_is (thunk.lock + 1) (let low = lock_small in omega arith)) (small_is (operand thunk 1) (let at = number_at 1 ∙ named.1 in omega arith)) (small_is (operand thunk 2) (let at = number_at 2 ∙ named.2 in omega arith))
-      (small_is (operand thunk 3) (let at = number_at 3 ∙ named.3 in omega arith)))
-
   -- the slot of the node that the walk found was read in a link
   found_given : own_walk.found ≡ true → Gives buckets bucket small readings own_walk.slot
   found_given found = (walk_facts buckets bucket small (bounds buckets bucket layout) op readings).slot (inr (inr (inr found)))
 
-  set_form : form_for op own_walk.found ≡ 4 → form_of thunk ≡ Set
-  set_form form =
-      let operands = set_operands buckets op own_walk own_walk.found form in
-      let named = operands.1 in
-      let low = within own_walk.slot (found_given operands.0) in
-      let nodes = limits.few_nodes in
-      let runners = limits.few_runners in
-      let value_low = allowed.value named.1 (ap value_given named.2) in
-      is_set (thunk.form == 4) (fits_set thunk) (thunk.form == 1) (is_small (thunk.lock + 1)) (thunk.form == 2) (fits_insert thunk) (thunk.form == 3) (fits_remove thunk)
-      (eq_true thunk.form 4 (fit.form ∙ form))
-      (three_true _ _ _ (small_is (thunk.lock + 1) (let low = lock_small in omega arith)) (small_is (operand thunk 1) (let at = number_at 1 ∙ named.3 in omega arith)) (small_is (operand thunk 2) (let at = number_at 2 ∙ named.4 in omega arith)))
-
   -- the cell of the value that is to be set
-  set_cell : form_of thunk ≡ Set → (t : ℕ) × Gives buckets bucket small readings t × (operand thunk 1 ≡ 3 * buckets + 5 * t + 2)
+  set_cell : thunk.form ≡ 4 → (t : ℕ) × Gives buckets bucket small readings t × (operand thunk 1 ≡ 3 * buckets + 5 * t + 2)
   set_cell form = let sets = fit.sets form in (own_walk.slot, found_given sets.0, sets.1.3)
 
   -- what a removal's link is
-  remove_link : form_of thunk ≡ Remove → (operand thunk 1 ≡ 3 * own + 2) ⊎ ((t : ℕ) × Gives buckets bucket small readings t × (operand thunk 1 ≡ 3 * buckets + 5 * t + 3))
+  remove_link : thunk.form ≡ 3 → (operand thunk 1 ≡ 3 * own + 2) ⊎ ((t : ℕ) × Gives buckets bucket small readings t × (operand thunk 1 ≡ 3 * buckets + 5 * t + 3))
   remove_link form = let named = (fit.remove form).1 in ⊎_elim (λ head. inl (named.1 ∙ head)) (λ node. inr (node.0, node.1, named.1 ∙ node.2)) link_place
 
-  shaped : IsShaped (table_steps thunk)
-  shaped = subst IsShaped (sym (steps_of thunk)) (⊎_elim
-      (λ form. subst (λ f. IsShaped (body_of f thunk)) (sym (read_form form)) (read_shaped thunk))
-      (⊎_elim (λ form. subst (λ f. IsShaped (body_of f thunk)) (sym (insert_form form)) (insert_shaped thunk))
-      (⊎_elim (λ form. subst (λ f. IsShaped (body_of f thunk)) (sym (remove_form form)) (remove_shaped thunk (apart (remove_form form))))
-      (λ form. subst (λ f. IsShaped (body_of f thunk)) (sym (set_form form)) (set_shaped thunk (set_apart (set_form form)))))) (form_cases op own_walk.found fit.one))
-    where
-      set_apart : form_of thunk ≡ Set → operand thunk 1 ≢ thunk.lock + 1
-      set_apart form e = let at = lock_is in let low = small (key_of op) in let place = (set_cell form).2 in omega arith
+  -- the operands are small
+  insert_small : thunk.form ≡ 2 → (operand thunk 1 < 2 ^ 32) × (operand thunk 2 < 2 ^ 32) × (operand thunk 3 < 2 ^ 32)
+  insert_small form =
+      let named = (fit.insert form).1 in
+      let is_key : key_of op ≡ named.0 = named.2.0 in
+      let key_low = allowed.keys (key_of op) (inl refl) in
+      let value_low = allowed.value named.1 (puts_given op named.0 named.1 named.2) in
+      let head_low = (walk_facts buckets bucket small (bounds buckets bucket layout) op readings).head_small in
+      ((let at = named.3 in omega arith), (let at = named.4 in omega arith), (let at = named.5 in omega arith))
 
-      apart : form_of thunk ≡ Remove → operand thunk 1 ≢ thunk.lock + 1
-      apart form e = let at = lock_is in let low = small (key_of op) in ⊎_elim (λ head. omega arith) (λ node. let place = node.2 in omega arith) (remove_link form)
+  remove_small : thunk.form ≡ 3 → (operand thunk 1 < 2 ^ 32) × (operand thunk 2 < 2 ^ 32) × (operand thunk 3 < 2 ^ 32)
+  remove_small form =
+      let named = (fit.remove form).1 in
+      let facts = walk_facts buckets bucket small (bounds buckets bucket layout) op readings in
+      let place_low = place_small in
+      let slot_low = facts.slot_small in
+      let next_low = facts.next_small in
+      ((let at = named.1 in omega arith), (let at = named.2 in omega arith), (let at = named.3 in omega arith))
+
+  set_small : thunk.form ≡ 4 → (operand thunk 1 < 2 ^ 32) × (operand thunk 2 < 2 ^ 32)
+  set_small form =
+      let named = (fit.sets form).1 in
+      let cell = set_cell form in
+      let low = within cell.0 cell.1 in
+      let nodes = limits.few_nodes in
+      let runners = limits.few_runners in
+      let value_low = allowed.value named.1 (ap value_given named.2) in
+      ((let at = cell.2 in omega arith), (let at = named.4 in omega arith))
+
+  -- so the body is the one of its form
+  kind_of : (k : Kind) → thunk.form ≡ number_of k → HasKind thunk k
+  kind_of Look form = kind_is thunk Look form (small_is _ (let low = lock_small in omega arith))
+  kind_of Insert form = let low = insert_small form in kind_is thunk Insert form (both_hold _ _ (small_is _ lock_small)
+      (both_hold _ _ (small_is _ low.0) (both_hold _ _ (small_is _ low.1) (small_is _ low.2))))
+  kind_of Remove form = let low = remove_small form in kind_is thunk Remove form (both_hold _ _ (small_is _ (let low = lock_small in omega arith))
+      (both_hold _ _ (small_is _ low.0) (both_hold _ _ (small_is _ low.1) (small_is _ low.2))))
+  kind_of Set form = let low = set_small form in kind_is thunk Set form (both_hold _ _ (small_is _ (let low = lock_small in omega arith))
+      (both_hold _ _ (small_is _ low.0) (small_is _ low.1)))
+
+  shaped : IsShaped (table_steps thunk)
+  shaped = ⊎_elim (by Look) (⊎_elim (by Insert) (⊎_elim (by Remove) (by Set))) (form_cases op own_walk.found fit.one)
+    where
+      shape : (k : Kind) → thunk.form ≡ number_of k → IsShaped (steps_for k thunk)
+      shape Look form = read_shaped thunk
+      shape Insert form = insert_shaped thunk
+      shape Remove form = remove_shaped thunk (λ e. let at = lock_is in let low = small (key_of op) in
+          ⊎_elim (λ head. omega arith) (λ node. let place = node.2 in omega arith) (remove_link form))
+      shape Set form = set_shaped thunk (λ e. let at = lock_is in let low = small (key_of op) in let place = (set_cell form).2 in omega arith)
+
+      by : (k : Kind) → form_for op own_walk.found ≡ number_of k → IsShaped (table_steps thunk)
+      by k form = let kind = kind_of k (fit.form ∙ form) in subst IsShaped (sym kind.1) (shape k kind.0)
 
   abbrev known : ℕ → Type 0
   known = IsKnown (table buckets bucket) readings
@@ -231,18 +194,37 @@ module _ (buckets : ℕ) (bucket : ℕ → ℕ) (small : (key : ℕ) → bucket 
   abbrev PlaceIs : ℕ → Type 0
   PlaceIs p = ((k : ℕ) × (1 ≤ k) × (k ≤ 2) × (p ≡ 3 * own + k)) ⊎ ((t k : ℕ) × Gives buckets bucket small readings t × (k < 5) × (p ≡ 3 * buckets + 5 * t + k))
 
+  -- what a half changes
+  place_of : (h : Half) → Contains (halves thunk) h → h.change < h.edition
+      → (h.target ≡ 3 * own + 2) ⊎ ((t k : ℕ) × Gives buckets bucket small readings t × (k < 5) × (h.target ≡ 3 * buckets + 5 * t + k))
+  place_of h has changes = by h.kind refl
+    where
+      by : (k : Kind) → h.kind ≡ k → (h.target ≡ 3 * own + 2) ⊎ ((t k : ℕ) × Gives buckets bucket small readings t × (k < 5) × (h.target ≡ 3 * buckets + 5 * t + k))
+      by Look kind = let none = (half_is thunk h has).look.0 kind in absurd (omega arith)
+      by Insert kind = let lock = lock_is in let place : h.target ≡ thunk.lock + 2 = place_is thunk h has Insert kind in inl (omega arith)
+      by Remove kind = let place = place_is thunk h has Remove kind in
+          ⊎_elim (λ head. inl (place ∙ head)) (λ node. inr (node.0, 3, node.1, omega arith, place ∙ node.2)) (remove_link (number_is thunk h has Remove kind))
+      by Set kind = let cell = set_cell (number_is thunk h has Set kind) in inr (cell.0, 2, cell.1, omega arith, place_is thunk h has Set kind ∙ cell.2)
+
   load_place : (j p r : ℕ) → slice_get (table_steps thunk) j ≡ Some (Load p r) → PlaceIs p
-  load_place j p r h = let lock = lock_is in ⊎_elim (λ edition. inl (1, omega arith, omega arith, (let at = edition.2 in omega arith)))
-      (⊎_elim (λ insert. inl (2, omega arith, omega arith, (let at = insert.3 in omega arith)))
-      (⊎_elim (λ remove. ⊎_elim (λ head. inl (2, omega arith, omega arith, remove.3 ∙ head)) (λ node. inr (node.0, 3, node.1, omega arith, remove.3 ∙ node.2)) (remove_link remove.0))
-      (λ sets. let cell = set_cell sets.0 in inr (cell.0, 2, cell.1, omega arith, sets.3 ∙ cell.2)))) (load_step thunk j p r h)
+  load_place j p r load =
+      let step = step_of thunk j (Load p r) load in
+      let lock = lock_is in
+      let same = (half_is thunk step.0 step.1).lock in
+      ⊎_elim (λ edition. let at = edition.2 in inl (1, omega arith, omega arith, omega arith))
+      (λ target. ⊎_elim (λ head. inl (2, omega arith, omega arith, target.3 ∙ head)) (λ node. inr (node.0, node.1, node.2, node.3, target.3 ∙ node.4))
+      (place_of step.0 step.1 target.0)) step.2
 
   store_small : (j r : ℕ) (v : Value) → slice_get (table_steps thunk) j ≡ Some (Store r v) → IsSmall v
-  store_small j r v h = ⊎_elim (λ a. subst IsSmall (sym a.3) tt) (⊎_elim (λ a. subst IsSmall (sym a.3) (omega arith))
-      (⊎_elim (λ a. subst IsSmall (sym a.3) (let named = (fit.remove a.0).1 in let low = (walk_facts buckets bucket small (bounds buckets bucket layout) op readings).next_small in let at = named.3 in omega arith))
-      (⊎_elim (λ a. subst IsSmall (sym a.3) (omega arith))
-      (⊎_elim (λ a. subst IsSmall (sym a.3) (let named = (fit.sets a.0).1 in let low = allowed.value named.1 (ap value_given named.2) in let at = named.4 in omega arith))
-      (λ a. subst IsSmall (sym a.3) (omega arith)))))) (store_step thunk j r v h)
+  store_small j r v store =
+      let step = step_of thunk j (Store r v) store in
+      ⊎_elim (λ change. subst IsSmall (sym change.2) (by step.0 step.1 step.0.kind refl)) (λ edition. subst IsSmall (sym edition.2) (omega arith)) step.2.1
+    where
+      by : (h : Half) → Contains (halves thunk) h → (k : Kind) → h.kind ≡ k → IsSmall (stored_for k thunk)
+      by h has Look kind = omega arith
+      by h has Insert kind = tt
+      by h has Remove kind = (remove_small (number_is thunk h has Remove kind)).2
+      by h has Set kind = (set_small (number_is thunk h has Set kind)).1
 
   pub table_shaped : Shaped (table buckets bucket) layout readings thunk
   table_shaped = record {
@@ -260,72 +242,58 @@ module _ (buckets : ℕ) (bucket : ℕ → ℕ) (small : (key : ℕ) → bucket 
     load_unlocked = λ j p r h. ⊎_elim (λ low. ap (λ p. nat_lt p (3 * buckets) && (p % 3 == 0)) low.3 ∙ no_lock_low own low.0 (3 * buckets) low.1 low.2)
         (λ node. no_lock_high p (3 * buckets) (let at = node.4 in omega arith)) (load_place j p r h);
     load_known = λ j p r h. ⊎_elim (λ low. inl (let at = low.3 in let high = low.2 in let below = small (key_of op) in omega arith)) (λ node. inr (node.0, (node.1, node.3, node.4), inr node.2)) (load_place j p r h);
-    load_once = λ i j p q r h h'. once i j p (loads_at i p q (load_step thunk i p q h)) (loads_at j p r (load_step thunk j p r h'));
-    store_once = λ i j r v w h h'. stores_at i r v (store_step thunk i r v h) ∙ sym (stores_at j r w (store_step thunk j r w h'));
+    load_once = loaded_once;
+    store_once = stored_once;
     store_small = store_small;
-    make_whole = λ j r init h. ap (λ init. length init.cells) (make_step thunk j r init h).3;
-    make_small = λ j r i init v h at. init_small i v (make_step thunk j r init h).0 (sym (ap (λ init. slice_get init.cells i) (make_step thunk j r init h).3) ∙ at);
+    make_whole = λ j r init h. ap (λ init. length init.cells) (step_of thunk j (Make init r) h).2.3;
+    make_small = λ j r i init v h at. let make = step_of thunk j (Make init r) h in
+        init_small i v (number_is thunk make.0 make.1 Insert ((half_is thunk make.0 make.1).insert.1 make.2.0)) (sym (ap (λ init. slice_get init.cells i) make.2.3) ∙ at);
     make_unlocked = λ j r i t init v h at lock. absurd (let below = (lock_at buckets (3 * buckets + 5 * t + i) lock).0 in omega arith);
-    answers = λ j n h. ⊎_elim (λ read. let at = read.1 ∙ number_at 1 in let some = reply_some buckets op own_walk own_walk.found (read_back read.0) in omega arith)
-        (⊎_elim (λ insert. let at = insert.1 in omega arith) (⊎_elim (λ remove. let at = remove.1 in omega arith) (λ sets. let at = sets.1 ∙ (fit.sets sets.0).1.5 in omega arith))) (answer_step thunk j n h);
+    answers = λ j n h. let answer = step_of thunk j (Answer n) h in subst (λ n. 0 < n) (sym answer.2) (answers answer.0 answer.1 answer.0.kind refl);
   }
     where
-      read_back : form_of thunk ≡ Read → form_for op own_walk.found ≡ 1
-      read_back form = ⊎_elim (λ one. one) (⊎_elim (λ two. absurd (read_insert (sym form ∙ insert_form two)))
-          (⊎_elim (λ three. absurd (read_remove (sym form ∙ remove_form three))) (λ four. absurd (read_set (sym form ∙ set_form four))))) (form_cases op own_walk.found fit.one)
+      answers : (h : Half) → Contains (halves thunk) h → (k : Kind) → h.kind ≡ k → 0 < answer_for k thunk
+      answers h has Look kind = let at = ap (λ numbers. slice_index numbers 1) fit.operands in
+          let some = reply_some buckets op own_walk own_walk.found (sym fit.form ∙ number_is thunk h has Look kind) in omega arith
+      answers h has Insert kind = omega arith
+      answers h has Remove kind = omega arith
+      answers h has Set kind = let at = (fit.sets (number_is thunk h has Set kind)).1.5 in omega arith
+
+      -- the edition and what the half changes are two places
+      target_apart : (h : Half) → Contains (halves thunk) h → h.change < h.edition → h.target ≡ h.lock + 1 → ⊥
+      target_apart h has changes e =
+          let lock = lock_is in
+          let same = (half_is thunk h has).lock in
+          let low = small (key_of op) in
+          ⊎_elim (λ head. omega arith) (λ node. let at = node.4 in omega arith) (place_of h has changes)
+
+      loaded_once : (i j p q r : ℕ) → slice_get (table_steps thunk) i ≡ Some (Load p q) → slice_get (table_steps thunk) j ≡ Some (Load p r) → i ≡ j
+      loaded_once i j p q r one other =
+          let step = step_of thunk i (Load p q) one in
+          ⊎_elim
+          (λ x. ⊎_elim (λ y. let at = x.0 in let at' = y.0 in omega arith) (λ y. absurd (target_apart step.0 step.1 y.0 (sym y.3 ∙ x.2)))
+          (half_step thunk step.0 step.1 j (Load p r) other))
+          (λ x. ⊎_elim (λ y. absurd (target_apart step.0 step.1 x.0 (sym x.3 ∙ y.2))) (λ y. x.1 ∙ sym y.1)
+          (half_step thunk step.0 step.1 j (Load p r) other)) step.2
+
+      -- the place of a Store goes by the half and the register
+      stored_once : (i j r : ℕ) (v w : Value) → slice_get (table_steps thunk) i ≡ Some (Store r v) → slice_get (table_steps thunk) j ≡ Some (Store r w) → i ≡ j
+      stored_once i j r v w one other =
+          let step = step_of thunk i (Store r v) one in
+          let apart = (half_is thunk step.0 step.1).registers.0 in
+          ⊎_elim
+          (λ x. ⊎_elim (λ y. x.0 ∙ sym y.0) (λ y. absurd (apart (sym y.1 ∙ x.1))) (half_step thunk step.0 step.1 j (Store r w) other).1)
+          (λ x. ⊎_elim (λ y. absurd (apart (sym x.1 ∙ y.1))) (λ y. x.0 ∙ sym y.0) (half_step thunk step.0 step.1 j (Store r w) other).1) step.2.1
+
+      init_small : (i : ℕ) (v : Value) → thunk.form ≡ 2 → slice_get (node_init thunk).cells i ≡ Some v → IsSmall v
+      init_small i v form h = let low = insert_small form in cells i h low.0 low.1 low.2
         where
-          read_insert : Read ≡ Insert → ⊥
-          read_insert e = cc
-
-          read_remove : Read ≡ Remove → ⊥
-          read_remove e = cc
-
-          read_set : Read ≡ Set → ⊥
-          read_set e = cc
-
-      -- the edition is loaded first, and any other place later
-      loads_at : (i p r : ℕ) → LoadCase (form_of thunk) thunk i p r → ((i ≡ 0) × (p ≡ thunk.lock + 1)) ⊎ ((i ≡ 3) × (p ≢ thunk.lock + 1))
-      loads_at i p r cases = let lock = lock_is in let low = small (key_of op) in ⊎_elim (λ first. inl (first.0, first.2))
-          (⊎_elim (λ insert. inr (insert.1, λ e. let at = insert.3 in omega arith))
-          (⊎_elim (λ remove. inr (remove.1, λ e. let at = remove.3 in ⊎_elim (λ head. omega arith) (λ node. let place = node.2 in omega arith) (remove_link remove.0)))
-          (λ sets. inr (sets.1, λ e. let at = sets.3 in let place = (set_cell sets.0).2 in omega arith)))) cases
-
-      once : (i j p : ℕ) → ((i ≡ 0) × (p ≡ thunk.lock + 1)) ⊎ ((i ≡ 3) × (p ≢ thunk.lock + 1)) → ((j ≡ 0) × (p ≡ thunk.lock + 1)) ⊎ ((j ≡ 3) × (p ≢ thunk.lock + 1)) → i ≡ j
-      once i j p a b = ⊎_elim (λ x. ⊎_elim (λ y. x.0 ∙ sym y.0) (λ y. absurd (y.1 x.1)) b) (λ x. ⊎_elim (λ y. absurd (x.1 y.1)) (λ y. x.0 ∙ sym y.0) b) a
-
-      -- the place of a Store goes by the form and the register
-      store_at : Form → ℕ → ℕ
-      store_at Read r = 0
-      store_at Insert r = 8 - r
-      store_at Remove r = 7 - r
-      store_at Set r = 7 - r
-      store_at Empty r = 0
-
-      stores_at : (i r : ℕ) (v : Value) → StoreCase (form_of thunk) thunk i r v → i ≡ store_at (form_of thunk) r
-      stores_at i r v cases = ⊎_elim (λ a. a.1 ∙ at a.0 a.2) (⊎_elim (λ a. a.1 ∙ at a.0 a.2) (⊎_elim (λ a. a.1 ∙ at a.0 a.2) (⊎_elim (λ a. a.1 ∙ at a.0 a.2)
-          (⊎_elim (λ a. a.1 ∙ at a.0 a.2) (λ a. a.1 ∙ at a.0 a.2))))) cases
-        where
-          at : {f : Form} {n : ℕ} → form_of thunk ≡ f → r ≡ n → store_at f n ≡ store_at (form_of thunk) r
-          at form same = (λ k. store_at (sym form k) (sym same k))
-
-      init_small : (i : ℕ) (v : Value) → form_of thunk ≡ Insert → slice_get (node_init thunk).cells i ≡ Some v → IsSmall v
-      init_small i v form h =
-          let named = (fit.insert form).1 in
-          let is_key : key_of op ≡ named.0 = named.2.0 in
-          let key_low : operand thunk 1 < 2 ^ 32 = (let low = allowed.keys (key_of op) (inl refl) in let at = named.3 in omega arith) in
-          let value_low : operand thunk 2 < 2 ^ 32 = (let low = allowed.value named.1 (puts_given op named.0 named.1 named.2) in let at = named.4 in omega arith) in
-          let head_low : operand thunk 3 < 2 ^ 32 = (let low = (walk_facts buckets bucket small (bounds buckets bucket layout) op readings).head_small in let at = named.5 in omega arith) in
-          cells i h key_low value_low head_low
-        where
-          some_inj : {x y : Value} → Some x ≡ Some y → x ≡ y
-          some_inj e = cc
-
           cells : (i : ℕ) → slice_get (node_init thunk).cells i ≡ Some v → operand thunk 1 < 2 ^ 32 → operand thunk 2 < 2 ^ 32 → operand thunk 3 < 2 ^ 32 → IsSmall v
-          cells zero h a b c = subst IsSmall (some_inj h) (omega arith)
-          cells (suc zero) h a b c = subst IsSmall (some_inj h) a
-          cells (suc (suc zero)) h a b c = subst IsSmall (some_inj h) b
-          cells (suc (suc (suc zero))) h a b c = subst IsSmall (some_inj h) c
-          cells (suc (suc (suc (suc zero)))) h a b c = subst IsSmall (some_inj h) (omega arith)
+          cells zero h a b c = subst IsSmall (some_same h) (omega arith)
+          cells (suc zero) h a b c = subst IsSmall (some_same h) a
+          cells (suc (suc zero)) h a b c = subst IsSmall (some_same h) b
+          cells (suc (suc (suc zero))) h a b c = subst IsSmall (some_same h) c
+          cells (suc (suc (suc (suc zero)))) h a b c = subst IsSmall (some_same h) (omega arith)
           cells (suc (suc (suc (suc (suc i))))) h a b c = absurd (cc)
 
 -- contents are those of any memory that agrees on the slots in the chains
@@ -360,13 +328,6 @@ module _ (buckets : ℕ) (bucket : ℕ → ℕ) (small : (key : ℕ) → bucket 
         (λ u k on first last e. live_free (s.status u) (before.kept.on_live u (same_on bucket (nodes buckets bucket s.cells) before.stands.on before.kept.on before.stands.rank before.kept.rank before.stands.chains before.kept.chains u on))
         (ap s.status (one_slot (3 * buckets) u t k i (omega arith) low e) ∙ free));
   }
-    where
-      head_lock : (i p : ℕ) → p % 3 ≡ 0 → 3 * i + 2 ≡ p → ⊥
-      head_lock i p at e = omega arith
-
-      one_slot : (n u t k i : ℕ) → k < 5 → i < 5 → n + 5 * u + k ≡ n + 5 * t + i → u ≡ t
-      one_slot n u t k i low low' e = omega arith
-
   -- in the first memory no slot stands in a chain
   first_value : (s : Scene) → IsFirst (table buckets bucket) s → (p : ℕ) → value_of (s.cells p) ≡ 0
   first_value s first p = ap value_of (first.cells p) ∙ zero_word (nat_lt p (3 * buckets + 5 * 0))
@@ -377,22 +338,16 @@ module _ (buckets : ℕ) (bucket : ℕ → ℕ) (small : (key : ℕ) → bucket 
 
   first_chains : (s : Scene) → IsFirst (table buckets bucket) s → Chains bucket (nodes buckets bucket s.cells) (λ t. false) (λ t. 0)
   first_chains s first = record {
-    head_on = λ i t h. absurd (zero_suc t (sym (head i) ∙ h));
-    head_top = λ i t u h on. absurd (false_true on);
-    head_none = λ i u h on. absurd (false_true on);
-    next_on = λ p t on. absurd (false_true on);
-    next_top = λ p t u on. absurd (false_true on);
-    next_none = λ p u on. absurd (false_true on);
-    rank_once = λ p t on. absurd (false_true on);
-    key_once = λ p t on. absurd (false_true on);
+    head_on = λ i t h. absurd (zero_not_suc t (sym (head i) ∙ h));
+    head_top = λ i t u h on. absurd (false_not_true on);
+    head_none = λ i u h on. absurd (false_not_true on);
+    next_on = λ p t on. absurd (false_not_true on);
+    next_top = λ p t u on. absurd (false_not_true on);
+    next_none = λ p u on. absurd (false_not_true on);
+    rank_once = λ p t on. absurd (false_not_true on);
+    key_once = λ p t on. absurd (false_not_true on);
   }
     where
-      false_true : false ≡ true → ⊥
-      false_true e = cc
-
-      zero_suc : (t : ℕ) → 0 ≡ suc t → ⊥
-      zero_suc t e = omega arith
-
       head : (i : ℕ) → cond (nat_lt i buckets) (value_of (s.cells (bucket_head i))) 0 ≡ 0
       head i = ap (λ v. cond (nat_lt i buckets) v 0) (first_value s first (bucket_head i)) ∙ either (nat_lt i buckets)
         where
@@ -405,26 +360,17 @@ module _ (buckets : ℕ) (bucket : ℕ → ℕ) (small : (key : ℕ) → bucket 
     on = λ t. false;
     rank = λ t. 0;
     chains = first_chains s first;
-    on_live = λ t on. absurd (false_true on);
-    readers = λ r readings op h. absurd (none_some (sym (first.reader r) ∙ h));
-    sections = λ d x h. absurd (none_section (sym (first.section d) ∙ h));
-    made = λ d x h. absurd (none_section (sym (first.section d) ∙ h));
-    linked = λ d x h. absurd (none_section (sym (first.section d) ∙ h));
-    valued = λ d x h. absurd (none_section (sym (first.section d) ∙ h));
-    taken = λ d x h. absurd (none_section (sym (first.section d) ∙ h));
+    on_live = λ t on. absurd (false_not_true on);
+    readers = λ r readings op h. absurd (none_not_some readings (sym (first.reader r) ∙ h));
+    sections = λ d x h. absurd (none_not_some x (sym (first.section d) ∙ h));
+    made = λ d x h at. absurd (none_not_some x (sym (first.section d) ∙ at));
+    target = λ d x h at. absurd (none_not_some x (sym (first.section d) ∙ at));
+    taken = λ d x h at. absurd (none_not_some x (sym (first.section d) ∙ at));
+    owned = λ d x t at. absurd (none_not_some x (sym (first.section d) ∙ at));
     live = λ t h. absurd (not_live t (sym (first.status t) ∙ h));
     limbo = λ q y t h. absurd (not_retired q y (sym (first.status q) ∙ h));
   }
     where
-      false_true : false ≡ true → ⊥
-      false_true e = cc
-
-      none_some : {x : Readings} → None ≡ Some x → ⊥
-      none_some e = cc
-
-      none_section : {x : Section} → None ≡ Some x → ⊥
-      none_section e = cc
-
       not_live : (t : ℕ) → cond (nat_lt t 0) Live Free ≡ Live → ⊥
       not_live t h = grind arith
 
@@ -435,17 +381,10 @@ module _ (buckets : ℕ) (bucket : ℕ → ℕ) (small : (key : ℕ) → bucket 
   first_stands s first = record {
     on = λ t. false;
     rank = λ t. 0;
-    within = λ t on. absurd (false_true on);
+    within = λ t on. absurd (false_not_true on);
     chains = first_chains s first;
-    contents = record { pair = λ t on. absurd (false_true on); slot = λ key value h. absurd (none_some (sym (get-empty nat_cmp key) ∙ h)) };
+    contents = record { pair = λ t on. absurd (false_not_true on); slot = λ key value h. absurd (none_not_some value (sym (get-empty nat_cmp key) ∙ h)) };
   }
-    where
-      false_true : false ≡ true → ⊥
-      false_true e = cc
-
-      none_some : {v : ℕ} → None ≡ Some v → ⊥
-      none_some e = cc
-
 -- the hash table over any number of buckets, and any function of keys to buckets
 pub table_laws : (buckets : ℕ) (bucket : ℕ → ℕ) → ((key : ℕ) → bucket key < buckets) → 3 * buckets ≤ 12288 → Laws (table buckets bucket)
 table_laws buckets bucket small few = record {
@@ -465,69 +404,21 @@ table_laws buckets bucket small few = record {
     no_link : (p : ℕ) → (p < 3 * buckets) × (p % 3 ≡ 0) → is_link_place buckets bucket p ≡ false
     no_link p at = let low = at.0 in let rest = at.1 in grind arith
 
--- each number up to 12 by itself
-each_bits : (P : ℕ → Type 0) → P 0 → P 1 → P 2 → P 3 → P 4 → P 5 → P 6 → P 7 → P 8 → P 9 → P 10 → P 11 → P 12 → (n : ℕ) → n ≤ 12 → P n
-each_bits P p0 p1 p2 p3 p4 p5 p6 p7 p8 p9 p10 p11 p12 zero low = p0
-each_bits P p0 p1 p2 p3 p4 p5 p6 p7 p8 p9 p10 p11 p12 (suc zero) low = p1
-each_bits P p0 p1 p2 p3 p4 p5 p6 p7 p8 p9 p10 p11 p12 (suc (suc zero)) low = p2
-each_bits P p0 p1 p2 p3 p4 p5 p6 p7 p8 p9 p10 p11 p12 (suc (suc (suc zero))) low = p3
-each_bits P p0 p1 p2 p3 p4 p5 p6 p7 p8 p9 p10 p11 p12 (suc (suc (suc (suc zero)))) low = p4
-each_bits P p0 p1 p2 p3 p4 p5 p6 p7 p8 p9 p10 p11 p12 (suc (suc (suc (suc (suc zero))))) low = p5
-each_bits P p0 p1 p2 p3 p4 p5 p6 p7 p8 p9 p10 p11 p12 (suc (suc (suc (suc (suc (suc zero)))))) low = p6
-each_bits P p0 p1 p2 p3 p4 p5 p6 p7 p8 p9 p10 p11 p12 (suc (suc (suc (suc (suc (suc (suc zero))))))) low = p7
-each_bits P p0 p1 p2 p3 p4 p5 p6 p7 p8 p9 p10 p11 p12 (suc (suc (suc (suc (suc (suc (suc (suc zero)))))))) low = p8
-each_bits P p0 p1 p2 p3 p4 p5 p6 p7 p8 p9 p10 p11 p12 (suc (suc (suc (suc (suc (suc (suc (suc (suc zero))))))))) low = p9
-each_bits P p0 p1 p2 p3 p4 p5 p6 p7 p8 p9 p10 p11 p12 (suc (suc (suc (suc (suc (suc (suc (suc (suc (suc zero)))))))))) low = p10
-each_bits P p0 p1 p2 p3 p4 p5 p6 p7 p8 p9 p10 p11 p12 (suc (suc (suc (suc (suc (suc (suc (suc (suc (suc (suc zero))))))))))) low = p11
-each_bits P p0 p1 p2 p3 p4 p5 p6 p7 p8 p9 p10 p11 p12 (suc (suc (suc (suc (suc (suc (suc (suc (suc (suc (suc (suc zero)))))))))))) low = p12
-each_bits P p0 p1 p2 p3 p4 p5 p6 p7 p8 p9 p10 p11 p12 (suc (suc (suc (suc (suc (suc (suc (suc (suc (suc (suc (suc (suc n))))))))))))) low = absurd (omega arith)
-
-remainder_small : (n : ℕ) → n % 2 ^ 32 < 2 ^ 32
-remainder_small n = omega arith
-
-quotient_1 : (n : ℕ) → n < 2 ^ 32 → n / 2 ^ (32 - 1) < 2 ^ 1
-quotient_1 n low = omega arith
-
-quotient_2 : (n : ℕ) → n < 2 ^ 32 → n / 2 ^ (32 - 2) < 2 ^ 2
-quotient_2 n low = omega arith
-
-quotient_3 : (n : ℕ) → n < 2 ^ 32 → n / 2 ^ (32 - 3) < 2 ^ 3
-quotient_3 n low = omega arith
-
-quotient_4 : (n : ℕ) → n < 2 ^ 32 → n / 2 ^ (32 - 4) < 2 ^ 4
-quotient_4 n low = omega arith
-
-quotient_5 : (n : ℕ) → n < 2 ^ 32 → n / 2 ^ (32 - 5) < 2 ^ 5
-quotient_5 n low = omega arith
-
-quotient_6 : (n : ℕ) → n < 2 ^ 32 → n / 2 ^ (32 - 6) < 2 ^ 6
-quotient_6 n low = omega arith
-
-quotient_7 : (n : ℕ) → n < 2 ^ 32 → n / 2 ^ (32 - 7) < 2 ^ 7
-quotient_7 n low = omega arith
-
-quotient_8 : (n : ℕ) → n < 2 ^ 32 → n / 2 ^ (32 - 8) < 2 ^ 8
-quotient_8 n low = omega arith
-
-quotient_9 : (n : ℕ) → n < 2 ^ 32 → n / 2 ^ (32 - 9) < 2 ^ 9
-quotient_9 n low = omega arith
-
-quotient_10 : (n : ℕ) → n < 2 ^ 32 → n / 2 ^ (32 - 10) < 2 ^ 10
-quotient_10 n low = omega arith
-
-quotient_11 : (n : ℕ) → n < 2 ^ 32 → n / 2 ^ (32 - 11) < 2 ^ 11
-quotient_11 n low = omega arith
-
-quotient_12 : (n : ℕ) → n < 2 ^ 32 → n / 2 ^ (32 - 12) < 2 ^ 12
-quotient_12 n low = omega arith
-
 -- the hash function leads to a bucket
 pub bucket_small : (bits key : ℕ) → bits ≤ 12 → bucket_index key bits < 2 ^ bits
-bucket_small bits key few = let low = remainder_small (key * 2654435769) in
-    each_bits (λ bits. bucket_index key bits < 2 ^ bits) (omega arith) (quotient_1 (key * 2654435769 % 2 ^ 32) low) (quotient_2 (key * 2654435769 % 2 ^ 32) low) (quotient_3 (key * 2654435769 % 2 ^ 32) low) (quotient_4 (key * 2654435769 % 2 ^ 32) low) (quotient_5 (key * 2654435769 % 2 ^ 32) low) (quotient_6 (key * 2654435769 % 2 ^ 32) low) (quotient_7 (key * 2654435769 % 2 ^ 32) low) (quotient_8 (key * 2654435769 % 2 ^ 32) low) (quotient_9 (key * 2654435769 % 2 ^ 32) low) (quotient_10 (key * 2654435769 % 2 ^ 32) low) (quotient_11 (key * 2654435769 % 2 ^ 32) low) (quotient_12 (key * 2654435769 % 2 ^ 32) low) bits few
+bucket_small bits key few = by (bits == 0)
+  where
+    remainder : (n : ℕ) → n % 2 ^ 32 < 2 ^ (bits + (32 - bits))
+    remainder n = let whole : bits + (32 - bits) ≡ 32 = omega arith in
+        subst (λ k. n % 2 ^ 32 < 2 ^ k) (sym whole) (omega arith)
+
+    by : (none : Bool) → cond none 0 ((key * 2654435769 % 2 ^ 32) / 2 ^ (32 - bits)) < 2 ^ bits
+    by true = pow_pos bits
+    by false = shr_below (key * 2654435769 % 2 ^ 32) bits (32 - bits) (remainder (key * 2654435769))
 
 buckets_few : (bits : ℕ) → bits ≤ 12 → 3 * 2 ^ bits ≤ 12288
-buckets_few bits few = each_bits (λ bits. 3 * 2 ^ bits ≤ 12288) (omega arith) (omega arith) (omega arith) (omega arith) (omega arith) (omega arith) (omega arith) (omega arith) (omega arith) (omega arith) (omega arith) (omega arith) (omega arith) bits few
+buckets_few bits few = ⊎_elim (λ less. let below = pow_below bits 12 less in omega arith)
+    (λ most. let same = ap (λ n. 2 ^ n) most in omega arith) (last_or_before bits 12 (omega arith))
 
 -- the hash table with 2 ^ bits buckets meets the laws
 pub buckets_laws : (bits : ℕ) → bits ≤ 12 → Laws (buckets_meaning bits)

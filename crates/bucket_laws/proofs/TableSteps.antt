@@ -5,6 +5,7 @@ use Rattle.std.proofs.lemmas.Bool.{both_ways}
 use mathlib.Core.Logic.{dite}
 use native.Mathlib.Decide.{ℕ_discrete}
 use Rattle.small_lemmas.proofs.Lists.{some_same as some_inj}
+use Rattle.small_lemmas.proofs.Numbers.{suc_equal}
 use Rattle.map_history.specs.declared.op.Op.{Op}
 use Rattle.map_history.specs.Keys.{key_of}
 use Rattle.body_terms.specs.Update.{upd}
@@ -12,11 +13,10 @@ use Rattle.body_terms.specs.Word.{value_of}
 use Rattle.section_body.specs.Bucket.{operand}
 use Rattle.bucket_bodies.specs.Table.{table_steps}
 use Rattle.body_terms.specs.declared.value.Value.{Value}
-use Rattle.body_terms.specs.declared.value.Value.TheVariants.{Const, Made}
+use Rattle.body_terms.specs.declared.value.Value.TheVariants.{Const}
 use Rattle.body_terms.specs.declared.value.Init.{Init}
 use Rattle.body_terms.specs.declared.step.Step.{Step}
 use Rattle.body_terms.specs.declared.step.Step.TheVariants.{Load, Make, Store, Retire}
-use Rattle.body_terms.specs.declared.thunk.Thunk.{Thunk}
 use Rattle.table_words.specs.declared.layout.Layout.{Layout}
 use Rattle.structure_laws.specs.Scene.{Section, Status, Free, Live, Retired, Scene, with_status, passes, sets}
 use Rattle.structure_laws.specs.Sections.{Here, IsStep, value_in}
@@ -26,40 +26,32 @@ use Rattle.structure_laws.specs.Keeps.{IsPrepared}
 use Rattle.structure_laws.proofs.Changes.{upd_same, upd_other, upd_some}
 use Rattle.structure_laws.proofs.Progress.{stepped}
 use Rattle.bucket_laws.specs.Walk.{Walk, cell_at}
-use Rattle.bucket_laws.specs.Buckets.{Form, Insert, Remove, Set, form_of, body_of, IsLinkOf, IsValueOf, IsPending, IsWalked, walk_of, IsMade, IsTaken, BucketsKept, table}
-use Rattle.bucket_laws.proofs.Forms.{node_init, step_in, LoadCase, load_step, make_step, retire_step}
+use Rattle.bucket_laws.specs.Halves.{Half, HasHalf, IsMaking, IsTaking, IsPending, Owns, Insert}
+use Rattle.bucket_laws.specs.Buckets.{IsTargetOf, IsWalked, walk_of, IsMade, IsTaken, BucketsKept, table}
+use Rattle.bucket_laws.proofs.Halves.{IsOf, half_is, number_is, stored_for, node_init, step_of, half_step}
 use Rattle.bucket_laws.proofs.Places.{is_node_link}
-use Rattle.bucket_laws.proofs.Sections.{fit, one_bucket, insert_remove, insert_set, remove_set, remove_target}
-use Rattle.bucket_laws.proofs.TableGives.{next_leads, set_valued}
+use Rattle.bucket_laws.proofs.Sections.{fit, one_bucket}
+use Rattle.bucket_laws.proofs.TableGives.{live_free, live_retired, next_leads, target_now}
 
-pub suc_eq : (a b : ℕ) → suc a ≡ suc b → a ≡ b
-suc_eq a b e = omega arith
-
--- a section holds this slot: its new node, or the one that it has taken out
-abbrev pub Owns : Section → ℕ → Type 0
-Owns x t = ((form_of x.thunk ≡ Insert) × (6 ≤ x.at) × (x.at ≤ 7) × (x.reg 2 ≡ suc t)) ⊎ ((form_of x.thunk ≡ Remove) × (7 ≤ x.at) × (x.at ≤ 8) × (operand x.thunk 2 ≡ t))
+pub below_or : (a b : ℕ) → a ≤ b → (a ≡ b) ⊎ (a < b)
+below_or a b low = search arith
 
 module _ (buckets : ℕ) (bucket : ℕ → ℕ) (layout : Layout) (s : Scene) (kept : BucketsKept buckets bucket layout s) where
   -- a live slot stands in a chain, or a section holds it
   pub live_cases : {A : Type 0} → (t : ℕ) → s.status t ≡ Live → (kept.on t ≡ true → A) → ((d : ℕ) (x : Section) → s.section d ≡ Some x → Owns x t → A) → A
-  live_cases t live on owned = ⊎_elim on (⊎_elim (λ made. owned made.0 made.1 made.2 (inl (made.3, made.4, made.5, made.6))) (λ taken. owned taken.0 taken.1 taken.2 (inr (taken.3, taken.4, taken.5, taken.6)))) (kept.live t live)
+  live_cases t live on owned = ⊎_elim on (λ held. owned held.0 held.1 held.2 held.3) (kept.live t live)
 
-  -- a slot that a section holds is live, is in no chain, and has the operation's key
-  pub owned_live : (d : ℕ) (x : Section) (t : ℕ) → s.section d ≡ Some x → Owns x t → s.status t ≡ Live
-  owned_live d x t here owns = ⊎_elim
-      (λ new. let made = kept.made d x here new.0 new.1 new.2 in ap s.status (suc_eq t made.slot (sym new.3 ∙ made.link)) ∙ made.live)
-      (λ old. ap s.status (sym old.3) ∙ (kept.taken d x here old.0 old.1 old.2).live) owns
-
-  pub owned_out : (d : ℕ) (x : Section) (t : ℕ) → s.section d ≡ Some x → Owns x t → kept.on t ≡ false
-  owned_out d x t here owns = ⊎_elim
-      (λ new. let made = kept.made d x here new.0 new.1 new.2 in ap kept.on (suc_eq t made.slot (sym new.3 ∙ made.link)) ∙ made.out)
-      (λ old. ap kept.on (sym old.3) ∙ (kept.taken d x here old.0 old.1 old.2).out) owns
+  -- a slot that a section holds has the operation's key
+  making_kind : (x : Section) (h : Half) → HasHalf x h → IsMaking x h → h.kind ≡ Insert
+  making_kind x h has making = let early = making.0 in let late = making.1 in (half_is x.thunk h has).insert.1 (omega arith)
 
   pub owned_key : (sound : Sound (table buckets bucket) layout s) (d : ℕ) (x : Section) (t : ℕ) → s.section d ≡ Some x → Owns x t → value_of (s.cells (cell_at buckets bucket t 1)) ≡ key_of x.op
   owned_key sound d x t here owns = ⊎_elim
-      (λ new. let made = kept.made d x here new.0 new.1 new.2 in let named = ((fit buckets bucket layout s sound kept d x here).insert new.0).1 in
-      ap (λ t. value_of (s.cells (cell_at buckets bucket t 1))) (suc_eq t made.slot (sym new.3 ∙ made.link)) ∙ made.key ∙ named.3 ∙ sym named.2.0)
-      (λ old. ap (λ t. value_of (s.cells (cell_at buckets bucket t 1))) (sym old.3) ∙ (kept.taken d x here old.0 old.1 old.2).key) owns
+      (λ new. let made = kept.made d x owns.0 here owns.1 new.0 in
+      let number = number_is x.thunk owns.0 owns.1 Insert (making_kind x owns.0 owns.1 new.0) in
+      let named = ((fit buckets bucket layout s sound kept d x here).insert number).1 in
+      ap (λ t. value_of (s.cells (cell_at buckets bucket t 1))) (suc_equal t made.0 (sym new.1 ∙ made.1)) ∙ made.2.key ∙ named.3 ∙ sym named.2.0)
+      (λ old. ap (λ t. value_of (s.cells (cell_at buckets bucket t 1))) (sym old.1) ∙ (kept.taken d x owns.0 here owns.1 old.0).key) owns.2
 
   -- so no two sections hold one slot
   pub owned_once : (sound : Sound (table buckets bucket) layout s) (d e : ℕ) (x y : Section) (t : ℕ) → s.section d ≡ Some x → s.section e ≡ Some y → Owns x t → Owns y t → d ≡ e
@@ -71,16 +63,21 @@ module _ (buckets : ℕ) (bucket : ℕ → ℕ) (small : (key : ℕ) → bucket 
   abbrev next_scene : (ℕ → Status) → (ℕ → ℕ) → Scene
   next_scene status reg = record s { status = status; section = upd s.section d (Some (stepped x reg)) }
 
-  step_kept : (status : ℕ → Status) (reg : ℕ → ℕ) → ((i : ℕ) → IsPending x i → ⊥) → ((t : ℕ) → kept.on t ≡ true → status t ≡ Live)
-      → (form_of x.thunk ≡ Insert → 6 ≤ suc x.at → suc x.at ≤ 7 → IsMade buckets bucket (next_scene status reg) kept.on (stepped x reg))
-      → (form_of x.thunk ≡ Remove → 3 ≤ suc x.at → IsLinkOf buckets bucket s.cells kept.on (bucket (key_of x.op)) (operand x.thunk 1))
-      → (form_of x.thunk ≡ Set → 3 ≤ suc x.at → IsValueOf buckets bucket s.cells kept.on (bucket (key_of x.op)) (operand x.thunk 1))
-      → (form_of x.thunk ≡ Remove → 7 ≤ suc x.at → suc x.at ≤ 8 → IsTaken buckets bucket (next_scene status reg) kept.on (stepped x reg))
+  -- the section that stands at the descriptor is this one
+  itself : (e : ℕ) (z : Section) → s.section e ≡ Some z → e ≡ d → z ≡ x
+  itself e z there same = some_inj (sym there ∙ ap s.section same ∙ here)
+
+  step_kept : (status : ℕ → Status) (reg : ℕ → ℕ) → ((i : ℕ) → IsPending x i → IsPending (stepped x reg) i)
+      → ((t : ℕ) → kept.on t ≡ true → status t ≡ Live)
+      → ((h : Half) → HasHalf x h → IsMaking (stepped x reg) h → (t : ℕ) × (reg h.node_reg ≡ suc t) × IsMade buckets bucket s.cells x.thunk t)
+      → ((h : Half) → HasHalf x h → IsTaking (stepped x reg) h → IsTaken buckets bucket s.cells kept.on (operand x.thunk 2) (key_of x.op))
+      → ((t : ℕ) → Owns (stepped x reg) t → (status t ≡ Live) × (kept.on t ≡ false))
       → ((e : ℕ) (z : Section) (t : ℕ) → e ≢ d → s.section e ≡ Some z → Owns z t → status t ≡ Live)
-      → ((t : ℕ) → status t ≡ Live → (kept.on t ≡ true) ⊎ ((e : ℕ) × (z : Section) × (e ≢ d) × (s.section e ≡ Some z) × Owns z t) ⊎ Owns (stepped x reg) t)
+      → ((t : ℕ) → status t ≡ Live → (s.status t ≡ Live) ⊎ Owns (stepped x reg) t)
+      → ((t : ℕ) → status t ≡ Live → Owns x t → Owns (stepped x reg) t)
       → ((q y t : ℕ) → status q ≡ Retired y → s.epoch ≤ y + 1 → value_of (s.cells (cell_at buckets bucket q 3)) ≡ suc t → (status t ≡ Live) ⊎ ((z : ℕ) × (status t ≡ Retired z) × (y ≤ z)))
       → BucketsKept buckets bucket layout (next_scene status reg)
-  step_kept status reg quiet on_live made linked valued taken others live limbo = record {
+  step_kept status reg quiet on_live made taken held others new own limbo = record {
     on = kept.on;
     rank = kept.rank;
     chains = kept.chains;
@@ -88,158 +85,200 @@ module _ (buckets : ℕ) (bucket : ℕ → ℕ) (small : (key : ℕ) → bucket 
     readers = λ r readings op h. walked op (walk_of buckets bucket layout op readings) (kept.readers r readings op h);
     sections = λ e z h. ⊎_elim (λ same. subst (λ z. IsWalked buckets bucket (next_scene status reg) kept.on kept.rank z.op (walk_of buckets bucket layout z.op z.readings)) same.1 (walked x.op (walk_of buckets bucket layout x.op x.readings) (kept.sections d x here)))
         (λ other. walked z.op (walk_of buckets bucket layout z.op z.readings) (kept.sections e z other.1)) (upd_some s.section d e (stepped x reg) z h);
-    made = λ e z h form low high. ⊎_elim
-        (λ same. subst (λ z. form_of z.thunk ≡ Insert → 6 ≤ z.at → z.at ≤ 7 → IsMade buckets bucket (next_scene status reg) kept.on z) same.1 made form low high)
-        (λ other. let was = kept.made e z other.1 form low high in
-        record { slot = was.slot; link = was.link; live = others e z was.slot other.0 other.1 (inl (form, low, high, was.link)); out = was.out; key = was.key; value = was.value; next = was.next })
-        (upd_some s.section d e (stepped x reg) z h);
-    linked = λ e z h form low. ⊎_elim
-        (λ same. subst (λ z. form_of z.thunk ≡ Remove → 3 ≤ z.at → IsLinkOf buckets bucket s.cells kept.on (bucket (key_of z.op)) (operand z.thunk 1)) same.1 linked form low)
-        (λ other. kept.linked e z other.1 form low) (upd_some s.section d e (stepped x reg) z h);
-    valued = λ e z h form low. ⊎_elim
-        (λ same. subst (λ z. form_of z.thunk ≡ Set → 3 ≤ z.at → IsValueOf buckets bucket s.cells kept.on (bucket (key_of z.op)) (operand z.thunk 1)) same.1 valued form low)
-        (λ other. kept.valued e z other.1 form low) (upd_some s.section d e (stepped x reg) z h);
-    taken = λ e z h form low high. ⊎_elim
-        (λ same. subst (λ z. form_of z.thunk ≡ Remove → 7 ≤ z.at → z.at ≤ 8 → IsTaken buckets bucket (next_scene status reg) kept.on z) same.1 taken form low high)
-        (λ other. let was = kept.taken e z other.1 form low high in
-        record { live = others e z (operand z.thunk 2) other.0 other.1 (inr (form, low, high, refl)); out = was.out; key = was.key; next = was.next })
-        (upd_some s.section d e (stepped x reg) z h);
-    live = λ t h. ⊎_elim inl (⊎_elim (λ other. owned t other.0 other.1 (upd_other s.section d other.0 (Some (stepped x reg)) other.2 ∙ other.3) other.4) (λ own. owned t d (stepped x reg) (upd_same s.section d d (Some (stepped x reg)) refl) own)) (live t h);
+    made = λ e z h at has making. ⊎_elim
+        (λ same. subst (λ z. (h : Half) → HasHalf z h → IsMaking z h → (t : ℕ) × (z.reg h.node_reg ≡ suc t) × IsMade buckets bucket s.cells z.thunk t) same.1 made h has making)
+        (λ other. kept.made e z h other.1 has making) (upd_some s.section d e (stepped x reg) z at);
+    target = λ e z h at has changes low. ⊎_elim
+        (λ same. subst (λ z. (h : Half) → HasHalf z h → h.change < h.edition → h.load ≤ z.at → IsTargetOf buckets bucket h.kind s.cells kept.on (bucket (key_of z.op)) h.target) same.1 target h has changes low)
+        (λ other. kept.target e z h other.1 has changes low) (upd_some s.section d e (stepped x reg) z at);
+    taken = λ e z h at has taking. ⊎_elim
+        (λ same. subst (λ z. (h : Half) → HasHalf z h → IsTaking z h → IsTaken buckets bucket s.cells kept.on (operand z.thunk 2) (key_of z.op)) same.1 taken h has taking)
+        (λ other. kept.taken e z h other.1 has taking) (upd_some s.section d e (stepped x reg) z at);
+    owned = λ e z t at owns. ⊎_elim (λ same. held t (subst (λ z. Owns z t) (sym same.1) owns))
+        (λ other. (others e z t other.0 other.1 owns, (kept.owned e z t other.1 owns).1)) (upd_some s.section d e (stepped x reg) z at);
+    live = λ t now. ⊎_elim (λ live. live_cases buckets bucket layout s kept t live inl (λ e z there owns. dite (ℕ_discrete e d)
+        (λ same. mine t (own t now (subst (λ z. Owns z t) (itself e z there same) owns)))
+        (λ ne. inr (e, z, upd_other s.section d e (Some (stepped x reg)) ne ∙ there, owns)))) (mine t) (new t now);
     limbo = limbo;
   }
     where
+      mine : (t : ℕ) → Owns (stepped x reg) t → (kept.on t ≡ true)
+          ⊎ ((e : ℕ) × (z : Section) × (upd s.section d (Some (stepped x reg)) e ≡ Some z) × Owns z t)
+      mine t owns = inr (d, stepped x reg, upd_same s.section d d (Some (stepped x reg)) refl, owns)
+
       walked : (op : Op) (w : Walk) → IsWalked buckets bucket s kept.on kept.rank op w → IsWalked buckets bucket (next_scene status reg) kept.on kept.rank op w
       walked op w before edition none = before edition (λ e z there pending. dite (ℕ_discrete e d)
-          (λ same. quiet (bucket (key_of op)) (subst (λ z. IsPending z (bucket (key_of op))) (some_inj (sym there ∙ ap s.section same ∙ here)) pending))
+          (λ same. none d (stepped x reg) (upd_same s.section d d (Some (stepped x reg)) refl)
+          (quiet (bucket (key_of op)) (subst (λ z. IsPending z (bucket (key_of op))) (itself e z there same) pending)))
           (λ ne. none e z (upd_other s.section d e (Some (stepped x reg)) ne ∙ there) pending))
 
-      owned : (t e : ℕ) (z : Section) → upd s.section d (Some (stepped x reg)) e ≡ Some z → Owns z t → (kept.on t ≡ true)
-          ⊎ ((e : ℕ) × (z : Section) × (upd s.section d (Some (stepped x reg)) e ≡ Some z) × (form_of z.thunk ≡ Insert) × (6 ≤ z.at) × (z.at ≤ 7) × (z.reg 2 ≡ suc t))
-          ⊎ ((e : ℕ) × (z : Section) × (upd s.section d (Some (stepped x reg)) e ≡ Some z) × (form_of z.thunk ≡ Remove) × (7 ≤ z.at) × (z.at ≤ 8) × (operand z.thunk 2 ≡ t))
-      owned t e z h owns = ⊎_elim (λ new. inr (inl (e, z, h, new.0, new.1, new.2, new.3))) (λ old. inr (inr (e, z, h, old.0, old.1, old.2, old.3))) owns
+      target : (h : Half) → HasHalf x h → h.change < h.edition → h.load ≤ suc x.at → IsTargetOf buckets bucket h.kind s.cells kept.on (bucket (key_of x.op)) h.target
+      target h has changes low =
+          let half = half_is x.thunk h has in
+          let known = half.order.0 in
+          let loaded = half.order.1 in
+          let making = half.order.2 in
+          ⊎_elim (λ now. target_now buckets bucket small layout s sound kept d x h here has changes (omega arith) (omega arith))
+          (λ before. kept.target d x h here has changes (omega arith)) (below_or h.load (suc x.at) low)
 
-  -- the step at this place, where the form is known
-  step_is : (b : Step) (f : Form) (j : ℕ) (known : Step) → IsStep (table buckets bucket) x x.at b → form_of x.thunk ≡ f → slice_get (body_of f x.thunk) j ≡ Some known → x.at ≡ j → b ≡ known
-  step_is b f j known h form at e = some_inj (sym h ∙ ap (slice_get (table_steps x.thunk)) e ∙ step_in x.thunk f j form ∙ at)
+  -- the step at this place, where it is known
+  step_at : (b : Step) (j : ℕ) (known : Step) → IsStep (table buckets bucket) x x.at b → IsStep (table buckets bucket) x j known → x.at ≡ j → b ≡ known
+  step_at b j known h stands e = some_inj (sym h ∙ ap (slice_get (table_steps x.thunk)) e ∙ stands)
 
-  -- a section that doesn't come to a Store has no change pending
-  unpending : (b : Step) → IsStep (table buckets bucket) x x.at b → ((r : ℕ) (v : Value) → b ≢ Store r v) → (i : ℕ) → IsPending x i → ⊥
-  unpending b h no_store i pending = ⊎_elim (λ insert. no_store 0 (Const 0) (step_is b Insert 8 (Store 0 (Const 0)) h insert.0 refl insert.1))
-      (⊎_elim (λ remove. no_store 0 (Const 0) (step_is b Remove 7 (Store 0 (Const 0)) h remove.0 refl remove.1))
-      (λ sets. no_store 0 (Const 0) (step_is b Set 7 (Store 0 (Const 0)) h sets.0 refl sets.1))) pending.1
+  -- a step that is no Store stands neither at a half's change nor at its edition
+  module _ (b : Step) (step : IsStep (table buckets bucket) x x.at b) (no_store : (r : ℕ) (v : Value) → b ≢ Store r v) where
+    no_change : (h : Half) → HasHalf x h → h.made < h.retire → x.at ≡ h.change → ⊥
+    no_change h has moves at = let half = half_is x.thunk h has in no_store h.target_reg (stored_for h.kind x.thunk)
+        (step_at b h.change (Store h.target_reg (stored_for h.kind x.thunk)) step (half.steps (half.changing moves)).2 at)
 
-  -- a Want, a Fresh, a Stamp or an Answer
-  pub quiet_kept : (b : Step) → IsStep (table buckets bucket) x x.at b → ((r : ℕ) (v : Value) → b ≢ Store r v) → ((init : Init) (r : ℕ) → b ≢ Make init r) → ((t : ℕ) → b ≢ Retire t) → BucketsKept buckets bucket layout (passes s d x)
-  quiet_kept b h no_store no_make no_retire = step_kept s.status x.reg (unpending b h no_store) kept.on_live
-      (λ form low high. ⊎_elim (λ five. absurd (no_make (node_init x.thunk) 2 (step_is b Insert 5 (Make (node_init x.thunk) 2) h form refl five)))
-      (λ six. let was = kept.made d x here form (omega arith) (omega arith) in
-      record { slot = was.slot; link = was.link; live = was.live; out = was.out; key = was.key; value = was.value; next = was.next }) (split 5 x.at (omega arith) (omega arith)))
-      (λ form low. ⊎_elim (λ two. (remove_target buckets bucket layout s sound kept d x here form (omega arith) (omega arith)).link) (λ past. kept.linked d x here form past) (reach 2 x.at (omega arith)))
-      (λ form low. ⊎_elim (λ two. set_valued buckets bucket small layout s sound kept d x here form (omega arith) (omega arith)) (λ past. kept.valued d x here form past) (reach 2 x.at (omega arith)))
-      (λ form low high. absurd (⊎_elim (λ six. no_store 1 (Const (operand x.thunk 3)) (step_is b Remove 6 (Store 1 (Const (operand x.thunk 3))) h form refl six))
-      (λ seven. no_store 0 (Const 0) (step_is b Remove 7 (Store 0 (Const 0)) h form refl seven)) (split 6 x.at (omega arith) (omega arith))))
-      (λ e z t ne there owns. owned_live buckets bucket layout s kept e z t there owns)
-      (λ t live. live_cases buckets bucket layout s kept t live inl (λ e z there owns. dite (ℕ_discrete e d)
-      (λ same. inr (inr (carried t (subst (λ z. Owns z t) (some_inj (sym there ∙ ap s.section same ∙ here)) owns))))
-      (λ ne. inr (inl (e, z, ne, there, owns)))))
-      kept.limbo
-    where
-      split : (n j : ℕ) → n ≤ j → j ≤ suc n → (j ≡ n) ⊎ (j ≡ suc n)
-      split n j low high = search arith
+    -- so it leaves a change pending
+    still_pending : (reg : ℕ → ℕ) (i : ℕ) → IsPending x i → IsPending (stepped x reg) i
+    still_pending reg i pending =
+        let h = pending.0 in
+        let late : h.change < x.at = pending.3 in
+        let early : x.at ≤ h.edition = pending.4 in (
+          h,
+          pending.1,
+          pending.2,
+          omega arith,
+          ⊎_elim
+              (λ last. absurd (no_store h.edition_reg (Const 0) (step_at b h.edition (Store h.edition_reg (Const 0)) step
+              ((half_is x.thunk h pending.1).steps (omega arith)).3 last)))
+              (λ before. before) (below_or x.at h.edition early),
+        )
 
-      reach : (n j : ℕ) → n ≤ j → (j ≡ n) ⊎ (suc n ≤ j)
-      reach n j low = search arith
+    -- and what was taken out before it still is
+    still_taken : (h : Half) → HasHalf x h → IsTaking (stepped x x.reg) h → IsTaking x h
+    still_taken h has taking =
+        let late : h.change ≤ x.at = (let low = taking.0 in omega arith) in
+        let early : suc x.at ≤ h.retire = taking.1 in
+        let making = (half_is x.thunk h has).order.2 in
+        ⊎_elim (λ now. absurd (no_change h has (omega arith) (sym now))) (λ before. (before, omega arith)) (below_or h.change x.at late)
+
+    -- a step that makes and retires nothing either leaves a section what it holds
+    module _ (no_make : (init : Init) (r : ℕ) → b ≢ Make init r) (no_retire : (t : ℕ) → b ≢ Retire t) where
+      still_made : (h : Half) → HasHalf x h → IsMaking (stepped x x.reg) h → IsMaking x h
+      still_made h has making =
+          let late : h.made ≤ x.at = (let low = making.0 in omega arith) in
+          let early : suc x.at ≤ h.change = making.1 in
+          ⊎_elim (λ now. absurd (no_make (node_init x.thunk) h.node_reg (step_at b h.made (Make (node_init x.thunk) h.node_reg) step
+          ((half_is x.thunk h has).makes (omega arith)) (sym now))))
+          (λ before. (before, omega arith)) (below_or h.made x.at late)
 
       carried : (t : ℕ) → Owns x t → Owns (stepped x x.reg) t
-      carried t owns = ⊎_elim
-          (λ new. ⊎_elim (λ six. inl (new.0, (let at = six in omega arith), (let at = six in omega arith), new.3))
-          (λ seven. absurd (no_store 1 (Made 2) (step_is b Insert 7 (Store 1 (Made 2)) h new.0 refl seven))) (split 6 x.at new.1 new.2))
-          (λ old. absurd (⊎_elim (λ seven. no_store 0 (Const 0) (step_is b Remove 7 (Store 0 (Const 0)) h old.0 refl seven))
-          (λ eight. no_retire (operand x.thunk 2) (step_is b Remove 8 (Retire (operand x.thunk 2)) h old.0 refl eight)) (split 7 x.at old.1 old.2))) owns
+      carried t owns = ⊎_elim (λ new. (h, owns.1, inl (on_making new.0, new.1))) (λ old. (h, owns.1, inr (on_taking old.0, old.1))) owns.2
+        where
+          h : Half
+          h = owns.0
+
+          on_making : IsMaking x h → IsMaking (stepped x x.reg) h
+          on_making making =
+              let late : h.made < x.at = making.0 in
+              let early : x.at ≤ h.change = making.1 in
+              let taking = (half_is x.thunk h owns.1).order.4 in
+              ⊎_elim (λ now. absurd (no_change h owns.1 (omega arith) now)) (λ before. (omega arith, before)) (below_or x.at h.change early)
+
+          on_taking : IsTaking x h → IsTaking (stepped x x.reg) h
+          on_taking taking =
+              let late : h.change < x.at = taking.0 in
+              let early : x.at ≤ h.retire = taking.1 in
+              ⊎_elim (λ now. absurd (no_retire (operand x.thunk 2) (step_at b h.retire (Retire (operand x.thunk 2)) step
+              ((half_is x.thunk h owns.1).retires (omega arith)) now)))
+              (λ before. (omega arith, before)) (below_or x.at h.retire early)
+
+      -- a Want, a Fresh, a Stamp or an Answer
+      pub quiet_kept : BucketsKept buckets bucket layout (passes s d x)
+      quiet_kept = step_kept s.status x.reg (still_pending x.reg) kept.on_live
+          (λ h has making. kept.made d x h here has (still_made h has making))
+          (λ h has taking. kept.taken d x h here has (still_taken h has taking))
+          (λ t owns. kept.owned d x t here (owns.0, owns.1, ⊎_elim (λ new. inl (still_made owns.0 owns.1 new.0, new.1)) (λ old. inr (still_taken owns.0 owns.1 old.0, old.1)) owns.2))
+          (λ e z t ne there owns. (kept.owned e z t there owns).0) (λ t live. inl live) (λ t live owns. carried t owns) kept.limbo
 
   -- a section before its Make holds no slot
-  owns_none : (t : ℕ) → x.at ≤ 5 → Owns x t → ⊥
-  owns_none t early owns = ⊎_elim (λ new. let low = new.1 in omega arith) (λ old. let low = old.1 in omega arith) owns
+  owns_none : ((h : Half) → HasHalf x h → x.at ≤ h.made) → (t : ℕ) → Owns x t → ⊥
+  owns_none early t owns =
+      let before = early owns.0 owns.1 in
+      let making = (half_is x.thunk owns.0 owns.1).order.2 in
+      ⊎_elim (λ new. let low = new.0.0 in omega arith) (λ old. let low = old.0.0 in omega arith) owns.2
 
   -- a Load
   pub load_kept : (p r n : ℕ) → IsStep (table buckets bucket) x x.at (Load p r) → BucketsKept buckets bucket layout (sets s d x r n)
-  load_kept p r n h =
-      let loads = load_step x.thunk x.at p r h in
-      let early = at_most (form_of x.thunk) x.thunk x.at p r loads in
-      step_kept s.status (upd x.reg r n) (unpending (Load p r) h (λ q v e. cc)) kept.on_live (λ form low high. absurd (omega arith))
-      (λ form low. kept.linked d x here form (at_three (form_of x.thunk) x.thunk x.at p r loads low)) (λ form low. kept.valued d x here form (at_three (form_of x.thunk) x.thunk x.at p r loads low)) (λ form low high. absurd (omega arith))
-      (λ e z t ne there owns. owned_live buckets bucket layout s kept e z t there owns)
-      (λ t live. live_cases buckets bucket layout s kept t live inl (λ e z there owns. dite (ℕ_discrete e d)
-      (λ same. absurd (owns_none t (omega arith) (subst (λ z. Owns z t) (some_inj (sym there ∙ ap s.section same ∙ here)) owns)))
-      (λ ne. inr (inl (e, z, ne, there, owns)))))
-      kept.limbo
+  load_kept p r n step =
+      step_kept s.status (upd x.reg r n) (still_pending (Load p r) step no_store (upd x.reg r n)) kept.on_live
+      (λ h has making. absurd (let before = early h has in let late = making.0 in omega arith))
+      (λ h has taking. kept.taken d x h here has (still_taken (Load p r) step no_store h has taking))
+      (λ t owns. kept.owned d x t here (owns.0, owns.1, ⊎_elim (λ new. absurd (let before = early owns.0 owns.1 in let late = new.0.0 in omega arith))
+      (λ old. inr (still_taken (Load p r) step no_store owns.0 owns.1 old.0, old.1)) owns.2))
+      (λ e z t ne there owns. (kept.owned e z t there owns).0) (λ t live. inl live) (λ t live owns. absurd (owns_none (λ h has. let before = early h has in omega arith) t owns)) kept.limbo
     where
-      at_most : (f : Form) (t : Thunk) (j p r : ℕ) → LoadCase f t j p r → j ≤ 3
-      at_most f t j p r cases = ⊎_elim (λ first. let at = first.0 in omega arith)
-          (⊎_elim (λ insert. let at = insert.1 in omega arith) (⊎_elim (λ remove. let at = remove.1 in omega arith) (λ sets. let at = sets.1 in omega arith))) cases
+      no_store : (q : ℕ) (v : Value) → Load p r ≢ Store q v
+      no_store q v e = cc
 
-      at_three : (f : Form) (t : Thunk) (j p r : ℕ) → LoadCase f t j p r → 3 ≤ suc j → 3 ≤ j
-      at_three f t j p r cases low = ⊎_elim (λ first. absurd (let at = first.0 in omega arith))
-          (⊎_elim (λ insert. let at = insert.1 in omega arith) (⊎_elim (λ remove. let at = remove.1 in omega arith) (λ sets. let at = sets.1 in omega arith))) cases
+      early : (h : Half) → HasHalf x h → suc x.at ≤ h.made
+      early h has =
+          let order = (half_is x.thunk h has).order in
+          ⊎_elim (λ edition. let at = edition.0 in omega (arith, order)) (λ target. let at = target.1 in omega (arith, order))
+          (half_step x.thunk h has x.at (Load p r) step)
 
   -- a Make
   pub make_kept : (t r : ℕ) (init : Init) → IsStep (table buckets bucket) x x.at (Make init r) → IsPrepared (table buckets bucket) layout s x t init → BucketsKept buckets bucket layout (with_status (sets s d x r (suc t)) t Live)
-  make_kept t r init h prepared =
-      let step = make_step x.thunk x.at r init h in
+  make_kept t r init step prepared =
+      let make = step_of x.thunk x.at (Make init r) step in
+      let lt = make.2.0 in
+      let at = make.2.1 in
+      let no_store : (q : ℕ) (v : Value) → Make init r ≢ Store q v = λ q v e. cc in
       let live_too : (u : ℕ) → s.status u ≡ Live → upd s.status t Live u ≡ Live = λ u live. dite (ℕ_discrete u t) (λ e. upd_same s.status t u Live e) (λ ne. upd_other s.status t u Live ne ∙ live) in
       let cell : (k : ℕ) (v : Value) → k < 5 → slice_get (node_init x.thunk).cells k ≡ Some v → value_of (s.cells (cell_at buckets bucket t k)) ≡ value_in x.reg v =
-      λ k v low at. prepared.cells k v low (ap (λ init. slice_get init.cells k) step.3 ∙ at) in
-      step_kept (upd s.status t Live) (upd x.reg r (suc t)) (unpending (Make init r) h (λ q v e. cc)) (λ u on. live_too u (kept.on_live u on))
-      (λ form low high. record {
-        slot = t;
-        link = upd_same x.reg r 2 (suc t) (sym step.2);
-        live = upd_same s.status t t Live refl;
-        out = off (kept.on t) refl;
+      λ k v low at. prepared.cells k v low (ap (λ init. slice_get init.cells k) make.2.3 ∙ at) in
+      step_kept (upd s.status t Live) (upd x.reg r (suc t)) (still_pending (Make init r) step no_store (upd x.reg r (suc t))) (λ u on. live_too u (kept.on_live u on))
+      (λ h has making. (t, upd_same x.reg r h.node_reg (suc t) (sym (made h has).2), record {
         key = cell 1 (Const (operand x.thunk 1)) (omega arith) refl;
         value = cell 2 (Const (operand x.thunk 2)) (omega arith) refl;
         next = cell 3 (Const (operand x.thunk 3)) (omega arith) refl;
-      })
-      (λ form low. absurd (insert_remove (form_of x.thunk) step.0 form)) (λ form low. absurd (insert_set (form_of x.thunk) step.0 form)) (λ form low high. absurd (insert_remove (form_of x.thunk) step.0 form))
-      (λ e z u ne there owns. live_too u (owned_live buckets bucket layout s kept e z u there owns))
+      }))
+      (λ h has taking. absurd (taking_none h has taking))
+      (λ u owns. ⊎_elim (λ new. let same : u ≡ t = suc_equal u t (sym new.1 ∙ upd_same x.reg r owns.0.node_reg (suc t) (sym (made owns.0 owns.1).2)) in
+      (upd_same s.status t u Live same, off (kept.on u) (ap kept.on (sym same)))) (λ old. absurd (taking_none owns.0 owns.1 old.0)) owns.2)
+      (λ e z u ne there owns. live_too u (kept.owned e z u there owns).0)
       (λ u live. dite (ℕ_discrete u t)
-      (λ same. inr (inr (inl (step.0, (let five = step.1 in omega arith), (let five = step.1 in omega arith), upd_same x.reg r 2 (suc t) (sym step.2) ∙ ap suc (sym same)))))
-      (λ other. live_cases buckets bucket layout s kept u (sym (upd_other s.status t u Live other) ∙ live) inl (λ e z there owns. dite (ℕ_discrete e d)
-      (λ same. absurd (owns_none u (let five = step.1 in omega arith) (subst (λ z. Owns z u) (some_inj (sym there ∙ ap s.section same ∙ here)) owns)))
-      (λ ne. inr (inl (e, z, ne, there, owns))))))
-      (λ q y u retired recent leads. dite (ℕ_discrete q t) (λ same. absurd (live_retired y (sym (upd_same s.status t q Live same) ∙ retired)))
+      (λ same. inr (make.0, make.1, inl ((omega arith, omega arith), upd_same x.reg r make.0.node_reg (suc t) (sym make.2.2) ∙ ap suc (sym same))))
+      (λ other. inl (sym (upd_other s.status t u Live other) ∙ live)))
+      (λ u live owns. absurd (owns_none (λ h has. let at = (made h has).1 in omega arith) u owns))
+      (λ q y u retired recent leads. dite (ℕ_discrete q t) (λ same. absurd (live_retired _ y (upd_same s.status t q Live same) retired))
       (λ other. ⊎_elim (λ live. inl (live_too u live))
       (λ late. dite (ℕ_discrete u t) (λ same. inl (upd_same s.status t u Live same)) (λ ne. inr (late.0, upd_other s.status t u Live ne ∙ late.1, late.2)))
       (kept.limbo q y u (sym (upd_other s.status t q Live other) ∙ retired) recent leads)))
     where
-      live_retired : (y : ℕ) → Live ≡ Retired y → ⊥
-      live_retired y e = cc
+      made : (h : Half) → HasHalf x h → IsOf x.thunk h x.at (Make init r)
+      made h has = half_step x.thunk h has x.at (Make init r) step
 
-      live_free : Live ≡ Free → ⊥
-      live_free e = cc
+      taking_none : (h : Half) → HasHalf x h → IsTaking (stepped x (upd x.reg r (suc t))) h → ⊥
+      taking_none h has taking = let lt = (made h has).0 in let at = (made h has).1 in let late = taking.0 in omega arith
 
       off : (b : Bool) → kept.on t ≡ b → b ≡ false
-      off true e = absurd (live_free (sym (kept.on_live t e) ∙ prepared.in_hand))
+      off true e = absurd (live_free (s.status t) (kept.on_live t e) prepared.in_hand)
       off false e = refl
 
   -- a Retire
   pub retire_kept : (t y : ℕ) → IsStep (table buckets bucket) x x.at (Retire t) → ((q z i : ℕ) → i < 5 → s.status q ≡ Retired z → Links (table buckets bucket) s (cell_at buckets bucket q i) t → z ≤ y)
       → BucketsKept buckets bucket layout (with_status (passes s d x) t (Retired y))
   retire_kept t y h links =
-      let step = retire_step x.thunk x.at t h in
-      let owns : Owns x t = inr (step.0, (let eight = step.1 in omega arith), (let eight = step.1 in omega arith), sym step.2) in
-      let out = owned_out buckets bucket layout s kept d x t here owns in
+      let step = step_of x.thunk x.at (Retire t) h in
+      let lt = step.2.0 in
+      let at = step.2.1 in
+      let no_store : (q : ℕ) (v : Value) → Retire t ≢ Store q v = λ q v e. cc in
+      let owns : Owns x t = (step.0, step.1, inr ((omega arith, omega arith), sym step.2.2)) in
+      let held = kept.owned d x t here owns in
       let other : (u : ℕ) → u ≢ t → upd s.status t (Retired y) u ≡ s.status u = λ u ne. upd_other s.status t u (Retired y) ne in
-      let on_other : (u : ℕ) → kept.on u ≡ true → u ≢ t = λ u on e. both_ways _ (ap kept.on e ∙ out) on in
-      step_kept (upd s.status t (Retired y)) x.reg (unpending (Retire t) h (λ q v e. cc)) (λ u on. other u (on_other u on) ∙ kept.on_live u on)
-      (λ form low high. absurd (insert_remove (form_of x.thunk) form step.0))
-      (λ form low. kept.linked d x here form (let eight = step.1 in omega arith)) (λ form low. absurd (remove_set (form_of x.thunk) step.0 form)) (λ form low high. absurd (let eight = step.1 in omega arith))
-      (λ e z u ne there owns'. other u (λ same. ne (owned_once buckets bucket layout s kept sound e d z x t there here (subst (Owns z) same owns') owns)) ∙ owned_live buckets bucket layout s kept e z u there owns')
-      (λ u live. dite (ℕ_discrete u t) (λ same. absurd (retired_live y (sym (upd_same s.status t u (Retired y) same) ∙ live)))
-      (λ ne. live_cases buckets bucket layout s kept u (sym (other u ne) ∙ live) inl (λ e z there owns'. dite (ℕ_discrete e d)
-      (λ same. absurd (ne (sole u (subst (λ z. Owns z u) (some_inj (sym there ∙ ap s.section same ∙ here)) owns') step.0 step.2)))
-      (λ ne'. inr (inl (e, z, ne', there, owns'))))))
+      let on_other : (u : ℕ) → kept.on u ≡ true → u ≢ t = λ u on e. both_ways _ (ap kept.on e ∙ held.1) on in
+      step_kept (upd s.status t (Retired y)) x.reg (still_pending (Retire t) h no_store x.reg) (λ u on. other u (on_other u on) ∙ kept.on_live u on)
+      (λ g has making. absurd (making_none g has making)) (λ g has taking. absurd (taking_none g has taking))
+      (λ u owns'. absurd (⊎_elim (λ new. making_none owns'.0 owns'.1 new.0) (λ old. taking_none owns'.0 owns'.1 old.0) owns'.2))
+      (λ e z u ne there owns'. other u (λ same. ne (owned_once buckets bucket layout s kept sound e d z x t there here (subst (Owns z) same owns') owns)) ∙ (kept.owned e z u there owns').0)
+      (λ u live. inl (sym (other u (kept_apart u live)) ∙ live))
+      (λ u live owns'. absurd (kept_apart u live (sole u owns')))
       (λ q z u retired recent leads. dite (ℕ_discrete q t)
-      (λ same. let on = next_leads buckets bucket small layout s sound kept q u (ap s.status same ∙ owned_live buckets bucket layout s kept d x t here owns) leads in
+      (λ same. let on = next_leads buckets bucket small layout s sound kept q u (ap s.status same ∙ held.0) leads in
       inl (other u (on_other u on) ∙ kept.on_live u on))
       (λ ne. let before = sym (other q ne) ∙ retired in
       ⊎_elim (λ live. dite (ℕ_discrete u t) (λ same. inr (y, upd_same s.status t u (Retired y) same, links q z 3 (omega arith) before (is_node_link buckets q, leads ∙ ap suc same))) (λ ne'. inl (other u ne' ∙ live)))
@@ -247,8 +286,20 @@ module _ (buckets : ℕ) (bucket : ℕ → ℕ) (small : (key : ℕ) → bucket 
       (λ ne'. inr (late.0, other u ne' ∙ late.1, late.2)))
       (kept.limbo q z u before recent leads)))
     where
-      retired_live : (y : ℕ) → Retired y ≡ Live → ⊥
-      retired_live y e = cc
+      kept_apart : (u : ℕ) → upd s.status t (Retired y) u ≡ Live → u ≢ t
+      kept_apart u live same = live_retired _ y live (upd_same s.status t u (Retired y) same)
 
-      sole : (u : ℕ) → Owns x u → form_of x.thunk ≡ Remove → t ≡ operand x.thunk 2 → u ≡ t
-      sole u owns form named = ⊎_elim (λ new. absurd (insert_remove (form_of x.thunk) new.0 form)) (λ old. sym old.3 ∙ sym named) owns
+      retired : (g : Half) → HasHalf x g → (g.change < g.retire) × (x.at ≡ g.retire) × (t ≡ operand x.thunk 2)
+      retired g has = half_step x.thunk g has x.at (Retire t) h
+
+      making_none : (g : Half) → HasHalf x g → IsMaking (stepped x x.reg) g → ⊥
+      making_none g has making = let lt = (retired g has).0 in let at = (retired g has).1 in let early = making.1 in omega arith
+
+      taking_none : (g : Half) → HasHalf x g → IsTaking (stepped x x.reg) g → ⊥
+      taking_none g has taking = let at = (retired g has).1 in let early = taking.1 in omega arith
+
+      -- no other slot is the section's
+      sole : (u : ℕ) → Owns x u → u ≡ t
+      sole u owns =
+          let here = retired owns.0 owns.1 in
+          ⊎_elim (λ new. absurd (let lt = here.0 in let at = here.1 in let early = new.0.1 in omega arith)) (λ old. sym old.1 ∙ sym here.2) owns.2

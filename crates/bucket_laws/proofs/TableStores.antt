@@ -5,6 +5,7 @@ use Rattle.std.proofs.lemmas.Bool.{both_ways}
 use mathlib.Core.Logic.{dite}
 use native.Mathlib.Decide.{ℕ_discrete}
 use Rattle.small_lemmas.proofs.Lists.{some_same as some_inj}
+use Rattle.small_lemmas.proofs.Numbers.{suc_equal}
 use Rattle.map_history.specs.declared.op.Op.{Op}
 use Rattle.map_history.specs.Keys.{key_of}
 use Rattle.body_terms.specs.Update.{upd}
@@ -16,26 +17,26 @@ use Rattle.body_terms.specs.declared.step.Step.TheVariants.{Load, Store}
 use Rattle.table_words.specs.declared.layout.Layout.{Layout}
 use Rattle.table_words.specs.Limits.{IsWithinLimits}
 use Rattle.table_words.specs.Places.{slot_count}
+use Rattle.bucket_bodies.specs.Table.{table_steps}
 use Rattle.structure_laws.specs.Scene.{Cells, Readings, Section, Status, Free, Live, Retired, Scene, with_cell, passes}
 use Rattle.structure_laws.specs.Sections.{Here, IsStep, value_in}
 use Rattle.structure_laws.specs.Sound.{IsRead, Sound}
 use Rattle.structure_laws.proofs.Changes.{upd_same, upd_other, upd_some, value-next_word, version-next_word, value_small}
 use Rattle.structure_laws.proofs.Limits.{links_small, value-small}
 use Rattle.structure_laws.proofs.Progress.{stepped}
-use Rattle.bucket_laws.specs.Chain.{Chains, with_head, with_next}
-use Rattle.bucket_laws.specs.Walk.{cell_at}
-use Rattle.bucket_laws.specs.Buckets.{Insert, Remove, Set, form_of, nodes, IsNode, IsLinkOf, IsValueOf, IsWalked, walk_of, Knows, IsTaken, BucketsKept, table}
-use Rattle.bucket_laws.proofs.Chain.{insert, remove_first, remove_next, chains_agree}
+use Rattle.bucket_laws.specs.Chain.{Nodes, Chains, with_head, with_next, with_value}
+use Rattle.bucket_laws.specs.Walk.{Walk, cell_at}
+use Rattle.bucket_laws.specs.Halves.{Kind, Look, Insert, Remove, Set, Half, HasHalf, IsMaking, IsTaking, IsPending, Owns, OwnsBy}
+use Rattle.bucket_laws.specs.Buckets.{nodes, IsNode, IsTargetOf, IsWalked, walk_of, bounds, Knows, IsMade, IsTaken, BucketsKept, table}
+use Rattle.bucket_laws.proofs.Chain.{insert, top_of, remove_first, remove_next, chains_agree}
 use Rattle.bucket_laws.proofs.Elsewhere.{IsElsewhere, knows_on, edition_seen}
-use Rattle.bucket_laws.proofs.Forms.{store_step, insert_loads, remove_loads, set_loads}
-use Rattle.bucket_laws.proofs.NodeChanges.{head_changed, next_changed, none_changed, clip_same}
-use Rattle.bucket_laws.proofs.Sections.{fit, one_bucket, insert_head, insert_missing, insert_remove, insert_set, remove_set, remove_target, IsTarget}
-use Rattle.bucket_laws.proofs.TableGives.{target_on}
-use Rattle.bucket_laws.proofs.TableSteps.{Owns, live_cases, owned_once, suc_eq}
+use Rattle.bucket_laws.proofs.Halves.{IsHalf, half_is, one_half, number_is, place_is, stored_for, step_of, load_place}
+use Rattle.bucket_laws.proofs.NodeChanges.{head_changed, next_changed, value_changed, none_changed}
+use Rattle.bucket_laws.proofs.Sections.{IsPlaceIn, target_place, target_stays, fit, one_bucket, half_lock, making_known}
+use Rattle.bucket_laws.proofs.Sections.{insert_head, insert_missing, remove_target, IsTarget}
+use Rattle.bucket_laws.proofs.TableGives.{live_free, live_retired, target_on, target_now}
+use Rattle.bucket_laws.proofs.TableSteps.{live_cases, owned_once}
 use Rattle.bucket_laws.proofs.Walks.{head_is, is_first}
-
-live_retired : (x : Status) (y : ℕ) → x ≡ Live → x ≡ Retired y → ⊥
-live_retired x y e e' = cc
 
 module _ (buckets : ℕ) (bucket : ℕ → ℕ) (small : (key : ℕ) → bucket key < buckets) (layout : Layout) (limits : IsWithinLimits layout) (s : Scene) (sound : Sound (table buckets bucket) layout s) (kept : BucketsKept buckets bucket layout s)
     (d : ℕ) (x : Section) (here : Here s d x) where
@@ -46,403 +47,482 @@ module _ (buckets : ℕ) (bucket : ℕ → ℕ) (small : (key : ℕ) → bucket 
   abbrev stored_scene : Cells → Scene
   stored_scene cells = record s { cells = cells; section = upd s.section d (Some (stepped x x.reg)) }
 
-  -- what a change of the section's own bucket has to show
-  pub record IsOwnChange (cells : Cells) (on : ℕ → Bool) (rank : ℕ → ℕ) : Type 0 where
-    pub chains : Chains bucket (nodes buckets bucket cells) on rank
-    pub on_live : (t : ℕ) → on t ≡ true → s.status t ≡ Live
-    pub elsewhere : (i : ℕ) → i < buckets → i ≢ own → IsElsewhere buckets bucket s.cells cells kept.on on kept.rank rank i
-    pub edition : (i : ℕ) → i < buckets → i ≢ own → cells (bucket_edition i) ≡ s.cells (bucket_edition i)
-    pub walks : (op : Op) (readings : Readings) → IsRead (table buckets bucket) s readings → bucket (key_of op) ≡ own → IsWalked buckets bucket (stored_scene cells) on rank op (walk_of buckets bucket layout op readings)
-    pub outside : (u k : ℕ) → kept.on u ≡ false → 1 ≤ k → k ≤ 3 → cells (cell_at buckets bucket u k) ≡ s.cells (cell_at buckets bucket u k)
-    pub out : (u : ℕ) → kept.on u ≡ false → (Owns x u → ⊥) → on u ≡ false
-    pub made : form_of x.thunk ≡ Insert → 6 ≤ suc x.at → suc x.at ≤ 7 → ⊥
-    pub linked : form_of x.thunk ≡ Remove → IsLinkOf buckets bucket cells on own (operand x.thunk 1)
-    pub valued : form_of x.thunk ≡ Set → IsValueOf buckets bucket cells on own (operand x.thunk 1)
-    pub taken : form_of x.thunk ≡ Remove → 7 ≤ suc x.at → suc x.at ≤ 8 → IsTaken buckets bucket (stored_scene cells) on (stepped x x.reg)
-    pub live : (t : ℕ) → kept.on t ≡ true → (on t ≡ true) ⊎ Owns (stepped x x.reg) t
-    pub owned : (t : ℕ) → Owns x t → (on t ≡ true) ⊎ Owns (stepped x x.reg) t
+  abbrev now : Nodes
+  now = nodes buckets bucket s.cells
 
-  store_kept : (cells : Cells) (on : ℕ → Bool) (rank : ℕ → ℕ) → IsOwnChange cells on rank → BucketsKept buckets bucket layout (stored_scene cells)
-  store_kept cells on rank change = record {
-    on = on;
-    rank = rank;
-    chains = change.chains;
-    on_live = change.on_live;
-    readers = λ r readings op h. walked op readings (sound.readers r readings h) (kept.readers r readings op h);
-    sections = λ e z h. ⊎_elim
-        (λ same. subst (λ z. IsWalked buckets bucket (stored_scene cells) on rank z.op (walk_of buckets bucket layout z.op z.readings)) same.1 (walked x.op x.readings (sound.published d x here) (kept.sections d x here)))
-        (λ other. walked z.op z.readings (sound.published e z other.1) (kept.sections e z other.1)) (upd_some s.section d e (stepped x x.reg) z h);
-    made = λ e z h form low high. ⊎_elim
-        (λ same. absurd (subst (λ z. form_of z.thunk ≡ Insert → 6 ≤ z.at → z.at ≤ 7 → ⊥) same.1 change.made form low high))
-        (λ other. let was = kept.made e z other.1 form low high in record {
-          slot = was.slot;
-          link = was.link;
-          live = was.live;
-          out = change.out was.slot was.out (λ owns. other.0 (owned_once buckets bucket layout s kept sound e d z x was.slot other.1 here (inl (form, low, high, was.link)) owns));
-          key = ap value_of (change.outside was.slot 1 was.out (omega arith) (omega arith)) ∙ was.key;
-          value = ap value_of (change.outside was.slot 2 was.out (omega arith) (omega arith)) ∙ was.value;
-          next = ap value_of (change.outside was.slot 3 was.out (omega arith) (omega arith)) ∙ was.next;
-        })
-        (upd_some s.section d e (stepped x x.reg) z h);
-    valued = λ e z h form low. ⊎_elim
-        (λ same. subst (λ z. form_of z.thunk ≡ Set → IsValueOf buckets bucket cells on (bucket (key_of z.op)) (operand z.thunk 1)) same.1 change.valued form)
-        (λ other. let node = kept.valued e z other.1 form low in (node.0, apart_node e z other.0 other.1 node.0 node.1, node.2))
-        (upd_some s.section d e (stepped x x.reg) z h);
-    linked = λ e z h form low. ⊎_elim
-        (λ same. subst (λ z. form_of z.thunk ≡ Remove → IsLinkOf buckets bucket cells on (bucket (key_of z.op)) (operand z.thunk 1)) same.1 change.linked form)
-        (λ other. ⊎_elim inl (λ node. inr (node.0, apart_node e z other.0 other.1 node.0 node.1, node.2)) (kept.linked e z other.1 form low))
-        (upd_some s.section d e (stepped x x.reg) z h);
-    taken = λ e z h form low high. ⊎_elim
-        (λ same. subst (λ z. form_of z.thunk ≡ Remove → 7 ≤ z.at → z.at ≤ 8 → IsTaken buckets bucket (stored_scene cells) on z) same.1 change.taken form low high)
-        (λ other. let was = kept.taken e z other.1 form low high in record {
-          live = was.live;
-          out = change.out (operand z.thunk 2) was.out (λ owns. other.0 (owned_once buckets bucket layout s kept sound e d z x (operand z.thunk 2) other.1 here (inr (form, low, high, refl)) owns));
-          key = ap value_of (change.outside (operand z.thunk 2) 1 was.out (omega arith) (omega arith)) ∙ was.key;
-          next = λ t leads. apart_node e z other.0 other.1 t (was.next t (ap value_of (sym (change.outside (operand z.thunk 2) 3 was.out (omega arith) (omega arith))) ∙ leads));
-        })
-        (upd_some s.section d e (stepped x x.reg) z h);
-    live = λ t live. live_cases buckets bucket layout s kept t live (λ on_t. mine t (change.live t on_t)) (λ e z there owns. dite (ℕ_discrete e d)
-        (λ same. mine t (change.owned t (subst (λ z. Owns z t) (some_inj (sym there ∙ ap s.section same ∙ here)) owns)))
-        (λ ne. held t e z (upd_other s.section d e (Some (stepped x x.reg)) ne ∙ there) owns));
-    limbo = λ q y t retired recent leads. kept.limbo q y t retired recent (ap value_of (sym (change.outside q 3 (retired_out q y retired (kept.on q) refl) (omega arith) (omega arith))) ∙ leads);
-  }
-    where
-      retired_out : (q y : ℕ) → s.status q ≡ Retired y → (b : Bool) → kept.on q ≡ b → b ≡ false
-      retired_out q y retired true e = absurd (live_retired (s.status q) y (kept.on_live q e) retired)
-      retired_out q y retired false e = refl
-
-      apart : (e : ℕ) (z : Section) → e ≢ d → s.section e ≡ Some z → bucket (key_of z.op) ≢ own
-      apart e z ne there same = ne (one_bucket buckets bucket layout s sound kept e d z x there here same)
-
-      apart_node : (e : ℕ) (z : Section) → e ≢ d → s.section e ≡ Some z → (t : ℕ) → IsNode buckets bucket s.cells kept.on (bucket (key_of z.op)) t → IsNode buckets bucket cells on (bucket (key_of z.op)) t
-      apart_node e z ne there t node =
-          let same = change.elsewhere (bucket (key_of z.op)) (small (key_of z.op)) (apart e z ne there) in
-          (same.stays t node, ap (λ word. bucket (value_of word)) (same.cell t 1 node (omega arith) (omega arith)) ∙ node.1)
-
-      walked : (op : Op) (readings : Readings) → IsRead (table buckets bucket) s readings → IsWalked buckets bucket s kept.on kept.rank op (walk_of buckets bucket layout op readings)
-          → IsWalked buckets bucket (stored_scene cells) on rank op (walk_of buckets bucket layout op readings)
-      walked op readings read before = dite (ℕ_discrete (bucket (key_of op)) own) (change.walks op readings read)
-          (λ ne. λ edition none. knows_on buckets bucket small s.cells cells kept.on on kept.rank rank kept.chains op (walk_of buckets bucket layout op readings) (change.elsewhere (bucket (key_of op)) (small (key_of op)) ne) (walk_of buckets bucket layout op readings).stage
-          (before (sym (change.edition (bucket (key_of op)) (small (key_of op)) ne) ∙ edition) (λ e z there pending. dite (ℕ_discrete e d)
-          (λ same. ne (lock_bucket (sym (subst (λ z. z.thunk.lock ≡ bucket_lock (bucket (key_of op))) (some_inj (sym there ∙ ap s.section same ∙ here)) pending.0) ∙ (fit buckets bucket layout s sound kept d x here).lock)))
-          (λ ne'. none e z (upd_other s.section d e (Some (stepped x x.reg)) ne' ∙ there) pending))))
-        where
-          lock_bucket : {i j : ℕ} → 3 * i ≡ 3 * j → i ≡ j
-          lock_bucket e = omega arith
-
-      held : (t e : ℕ) (z : Section) → upd s.section d (Some (stepped x x.reg)) e ≡ Some z → Owns z t → (on t ≡ true)
-          ⊎ ((e : ℕ) × (z : Section) × (upd s.section d (Some (stepped x x.reg)) e ≡ Some z) × (form_of z.thunk ≡ Insert) × (6 ≤ z.at) × (z.at ≤ 7) × (z.reg 2 ≡ suc t))
-          ⊎ ((e : ℕ) × (z : Section) × (upd s.section d (Some (stepped x x.reg)) e ≡ Some z) × (form_of z.thunk ≡ Remove) × (7 ≤ z.at) × (z.at ≤ 8) × (operand z.thunk 2 ≡ t))
-      held t e z h owns = ⊎_elim (λ new. inr (inl (e, z, h, new.0, new.1, new.2, new.3))) (λ old. inr (inr (e, z, h, old.0, old.1, old.2, old.3))) owns
-
-      mine : (t : ℕ) → (on t ≡ true) ⊎ Owns (stepped x x.reg) t → (on t ≡ true)
-          ⊎ ((e : ℕ) × (z : Section) × (upd s.section d (Some (stepped x x.reg)) e ≡ Some z) × (form_of z.thunk ≡ Insert) × (6 ≤ z.at) × (z.at ≤ 7) × (z.reg 2 ≡ suc t))
-          ⊎ ((e : ℕ) × (z : Section) × (upd s.section d (Some (stepped x x.reg)) e ≡ Some z) × (form_of z.thunk ≡ Remove) × (7 ≤ z.at) × (z.at ≤ 8) × (operand z.thunk 2 ≡ t))
-      mine t cases = ⊎_elim inl (λ owns. held t d (stepped x x.reg) (upd_same s.section d d (Some (stepped x x.reg)) refl) owns) cases
-
-  -- the section's change is pending, so no walk of its bucket knows anything
-  pending_walks : (cells : Cells) (on : ℕ → Bool) (rank : ℕ → ℕ) → ((form_of x.thunk ≡ Insert) × (suc x.at ≡ 8)) ⊎ ((form_of x.thunk ≡ Remove) × (suc x.at ≡ 7)) ⊎ ((form_of x.thunk ≡ Set) × (suc x.at ≡ 7)) → (op : Op) (readings : Readings)
-      → IsRead (table buckets bucket) s readings → bucket (key_of op) ≡ own → IsWalked buckets bucket (stored_scene cells) on rank op (walk_of buckets bucket layout op readings)
-  pending_walks cells on rank pending op readings read same edition none =
-      absurd (none d (stepped x x.reg) (upd_same s.section d d (Some (stepped x x.reg)) refl) ((fit buckets bucket layout s sound kept d x here).lock ∙ ap bucket_lock (sym same), pending))
+  abbrev walk_in : Op → Readings → Walk
+  walk_in = walk_of buckets bucket layout
 
   lock_is : x.thunk.lock ≡ 3 * own
   lock_is = (fit buckets bucket layout s sound kept d x here).lock
 
-  -- a new node at the head
-  insert_change : (word : ℕ) → form_of x.thunk ≡ Insert → x.at ≡ 7 → value_of word ≡ value_of (x.reg 2)
-      → (on : ℕ → Bool) × (rank : ℕ → ℕ) × IsOwnChange (upd s.cells (bucket_head own) word) on rank
-  insert_change word form at stored =
-      let made = kept.made d x here form (omega arith) (omega arith) in
-      let t = made.slot in
-      let now = nodes buckets bucket s.cells in
-      let low = small (key_of x.op) in
-      let named = ((fit buckets bucket layout s sound kept d x here).insert form).1 in
-      let narrow = links_small layout 0 t limits (omega arith) (sound.within t (live_free (s.status t) made.live)) in
-      let value : value_of word ≡ suc t = stored ∙ ap value_of made.link ∙ value-small (suc t) narrow in
-      let key : now.key t ≡ key_of x.op = made.key ∙ named.3 ∙ sym named.2.0 in
-      let missing = insert_missing buckets bucket layout s sound kept d x here form (omega arith) (omega arith) in
-      let first : now.next t ≡ now.head own = made.next ∙ insert_head buckets bucket layout s sound kept d x here form (omega arith) (omega arith) ∙ sym (head_is buckets bucket small s.cells (key_of x.op)) in
-      let top = top_of (now.head own) refl in (
-        upd kept.on t true,
-        upd kept.rank t top.0,
-        record {
-          chains = subst (λ n. Chains bucket n (upd kept.on t true) (upd kept.rank t top.0)) (ap (with_head now own) (sym value) ∙ head_changed buckets bucket s.cells own word low)
-              (insert bucket now kept.on kept.rank kept.chains own t top.0 made.out (ap bucket key) first top.1 (λ u on e. missing u on (e ∙ key)));
-          on_live = λ u on. dite (ℕ_discrete u t) (λ e. ap s.status e ∙ made.live) (λ ne. kept.on_live u (sym (upd_other kept.on t u true ne) ∙ on));
-          elsewhere = λ i lower ne. record {
-            head = upd_other s.cells (bucket_head own) (bucket_head i) word (λ e. ne (omega arith));
-            stays = λ u node. dite (ℕ_discrete u t) (λ e. upd_same kept.on t u true e) (λ other. upd_other kept.on t u true other ∙ node.0);
-            ranks = λ u node. upd_other kept.rank t u top.0 (λ e. both_ways _ (ap kept.on e ∙ made.out) node.0);
-            cell = λ u k node low high. upd_other s.cells (bucket_head own) (cell_at buckets bucket u k) word (λ e. omega arith);
-            back = λ u node.
-                let same : value_of (upd s.cells (bucket_head own) word (cell_at buckets bucket u 1)) ≡ value_of (s.cells (cell_at buckets bucket u 1)) = ap value_of (upd_other s.cells (bucket_head own) (cell_at buckets bucket u 1) word (λ e. omega arith)) in
-                (dite (ℕ_discrete u t) (λ e. absurd (ne (sym node.1 ∙ ap bucket same ∙ ap (λ u. bucket (now.key u)) e ∙ ap bucket key))) (λ other. sym (upd_other kept.on t u true other) ∙ node.0), ap bucket (sym same) ∙ node.1);
-          };
-          edition = λ i lower ne. upd_other s.cells (bucket_head own) (bucket_edition i) word (λ e. omega arith);
-          walks = pending_walks (upd s.cells (bucket_head own) word) (upd kept.on t true) (upd kept.rank t top.0) (inl (form, omega arith));
-          outside = λ u k out low high. upd_other s.cells (bucket_head own) (cell_at buckets bucket u k) word (λ e. omega arith);
-          out = λ u out free. upd_other kept.on t u true (λ e. free (inl (form, omega arith, omega arith, made.link ∙ ap suc (sym e)))) ∙ out;
-          made = λ f low high. omega arith;
-          linked = λ f. absurd (insert_remove (form_of x.thunk) form f);
-          valued = λ f. absurd (insert_set (form_of x.thunk) form f);
-          taken = λ f low high. absurd (insert_remove (form_of x.thunk) form f);
-          live = λ u on. inl (dite (ℕ_discrete u t) (λ e. upd_same kept.on t u true e) (λ ne. upd_other kept.on t u true ne ∙ on));
-          owned = λ u owns. ⊎_elim (λ new. inl (upd_same kept.on t u true (suc_eq u t (sym new.3 ∙ made.link)))) (λ old. absurd (insert_remove (form_of x.thunk) form old.0)) owns;
-        },
-      )
-    where
-      live_free : (x : Status) → x ≡ Live → x ≢ Free
-      live_free x live free = cc
+  -- a place of the section's own bucket: its edition, its head, or the value or link of a node in its chain
+  abbrev IsOwnPlace : ℕ → Type 0
+  IsOwnPlace p = (p ≡ bucket_edition own) ⊎ IsPlaceIn buckets bucket s.cells kept.on own p
 
-      top_of : (link : ℕ) → (nodes buckets bucket s.cells).head own ≡ link → (top : ℕ) × ((u : ℕ) → kept.on u ≡ true → bucket ((nodes buckets bucket s.cells).key u) ≡ own → kept.rank u < top)
-      top_of zero e = (0, λ u on of. absurd (kept.chains.head_none own u e on of))
-      top_of (suc t) e = (suc (kept.rank t), λ u on of. let lower = kept.chains.head_top own t u e on of in omega arith)
+  -- a change of such a place leaves the keys, the other buckets, and the slots in no chain
+  module _ (p word : ℕ) (place : IsOwnPlace p) where
+    head_stays : (i : ℕ) → i < buckets → i ≢ own → upd s.cells p word (bucket_head i) ≡ s.cells (bucket_head i)
+    head_stays i low ne = upd_other s.cells p (bucket_head i) word (λ e. ⊎_elim (λ edition. omega arith)
+        (⊎_elim (λ head. ne (omega arith)) (λ node. let at = node.5 in omega arith)) place)
 
-  -- the edition, once the chain or a value in it has changed
-  edition_change : (word : ℕ) → ((form_of x.thunk ≡ Insert) × (x.at ≡ 8)) ⊎ ((form_of x.thunk ≡ Remove) × (x.at ≡ 7)) ⊎ ((form_of x.thunk ≡ Set) × (x.at ≡ 7)) → version_of (s.cells (bucket_edition own)) < version_of word
-      → IsOwnChange (upd s.cells (bucket_edition own) word) kept.on kept.rank
-  edition_change word stage rises =
-      let low = small (key_of x.op) in
-      let same : (i : ℕ) → IsElsewhere buckets bucket s.cells (upd s.cells (bucket_edition own) word) kept.on kept.on kept.rank kept.rank i = λ i. record {
-        head = upd_other s.cells (bucket_edition own) (bucket_head i) word (λ e. omega arith);
-        stays = λ u node. node.0;
-        ranks = λ u node. refl;
-        cell = λ u k node low high. upd_other s.cells (bucket_edition own) (cell_at buckets bucket u k) word (λ e. omega arith);
-        back = λ u node. (node.0, ap (λ word. bucket (value_of word)) (sym (upd_other s.cells (bucket_edition own) (cell_at buckets bucket u 1) word (λ e. omega arith))) ∙ node.1);
-      } in
-      let cell : (u k : ℕ) → upd s.cells (bucket_edition own) word (cell_at buckets bucket u k) ≡ s.cells (cell_at buckets bucket u k) = λ u k. upd_other s.cells (bucket_edition own) (cell_at buckets bucket u k) word (λ e. omega arith) in
-      record {
-        chains = subst (λ n. Chains bucket n kept.on kept.rank) (none_changed buckets bucket s.cells (bucket_edition own) word (λ j lower e. omega arith) (λ u k low high e. omega arith)) kept.chains;
-        on_live = kept.on_live;
-        elsewhere = λ i lower ne. same i;
-        edition = λ i lower ne. upd_other s.cells (bucket_edition own) (bucket_edition i) word (λ e. ne (omega arith));
-        walks = λ op readings read mine edition none. ⊎_elim
-            (λ first. subst (Knows buckets bucket (upd s.cells (bucket_edition own) word) kept.on kept.rank op (walk_of buckets bucket layout op readings)) (sym first) tt)
-            (λ later.
-            let seen = edition_seen buckets bucket small (record { links = slot_count layout 0 + 8; version_max = layout.version_max }) op readings later in
-            let stood = read.seen seen.0 (bucket_edition (bucket (key_of op))) (walk_of buckets bucket layout op readings).edition seen.1 in
-            let at = ap bucket_edition mine in
-            absurd (older (version_of (walk_of buckets bucket layout op readings).edition) (version_of (s.cells (bucket_edition own))) (version_of word)
-            (⊎_elim (λ less. inl (let same = ap (λ p. version_of (s.cells p)) at in omega arith)) (λ equal. inr (ap version_of equal ∙ ap (λ p. version_of (s.cells p)) at)) stood) rises
-            (ap version_of (sym (upd_same s.cells (bucket_edition own) (bucket_edition (bucket (key_of op))) word at) ∙ edition))))
-            (is_first buckets bucket small (walk_of buckets bucket layout op readings).stage);
-        outside = λ u k out low high. cell u k;
-        out = λ u out free. out;
-        made = λ f low high. ⊎_elim (λ insert. let at = insert.1 in omega arith) (⊎_elim (λ remove. insert_remove (form_of x.thunk) f remove.0) (λ sets. insert_set (form_of x.thunk) f sets.0)) stage;
-        linked = λ f. ⊎_elim (λ insert. absurd (insert_remove (form_of x.thunk) insert.0 f))
-            (⊎_elim (λ remove. ⊎_elim inl (λ node. inr (node.0, (node.1.0, ap (λ word. bucket (value_of word)) (cell node.0 1) ∙ node.1.1), node.2)) (kept.linked d x here f (let at = remove.1 in omega arith)))
-            (λ sets. absurd (remove_set (form_of x.thunk) f sets.0))) stage;
-        valued = λ f. ⊎_elim (λ insert. absurd (insert_set (form_of x.thunk) insert.0 f))
-            (⊎_elim (λ remove. absurd (remove_set (form_of x.thunk) remove.0 f))
-            (λ sets. let node = kept.valued d x here f (let at = sets.1 in omega arith) in (node.0, (node.1.0, ap (λ word. bucket (value_of word)) (cell node.0 1) ∙ node.1.1), node.2))) stage;
-        taken = λ f low high. ⊎_elim (λ insert. absurd (insert_remove (form_of x.thunk) insert.0 f))
-            (⊎_elim (λ remove. let was = kept.taken d x here f (let at = remove.1 in omega arith) (let at = remove.1 in omega arith) in record {
-              live = was.live;
-              out = was.out;
-              key = ap value_of (cell (operand x.thunk 2) 1) ∙ was.key;
-              next = λ t leads. let node = was.next t (ap value_of (sym (cell (operand x.thunk 2) 3)) ∙ leads) in (node.0, ap (λ word. bucket (value_of word)) (cell t 1) ∙ node.1);
-            })
-            (λ sets. absurd (remove_set (form_of x.thunk) f sets.0))) stage;
-        live = λ t on. inl on;
-        owned = λ t owns. ⊎_elim (λ new. ⊎_elim (λ insert. absurd (let at = insert.1 in let early = new.2 in omega arith)) (⊎_elim (λ remove. absurd (insert_remove (form_of x.thunk) new.0 remove.0)) (λ sets. absurd (insert_set (form_of x.thunk) new.0 sets.0))) stage)
-            (λ old. ⊎_elim (λ insert. absurd (insert_remove (form_of x.thunk) insert.0 old.0)) (⊎_elim (λ remove. inr (inr (old.0, (let at = remove.1 in omega arith), (let at = remove.1 in omega arith), old.3))) (λ sets. absurd (remove_set (form_of x.thunk) old.0 sets.0))) stage) owns;
-      }
-    where
-      older : (w now next : ℕ) → (w < now) ⊎ (w ≡ now) → now < next → next ≡ w → ⊥
-      older w now next cases less same = ⊎_elim (λ lt. omega arith) (λ e. omega arith) cases
+    edition_stays : (i : ℕ) → i < buckets → i ≢ own
+        → upd s.cells p word (bucket_edition i) ≡ s.cells (bucket_edition i)
+    edition_stays i low ne = upd_other s.cells p (bucket_edition i) word (λ e. ⊎_elim (λ edition. ne (omega arith))
+        (⊎_elim (λ head. omega arith) (λ node. let at = node.5 in omega arith)) place)
 
-  -- a node leaves its chain: what both places of its link have in common
-  module _ (word : ℕ) (form : form_of x.thunk ≡ Remove) (at : x.at ≡ 6) (stored : value_of word ≡ operand x.thunk 3) where
-    abbrev gone : ℕ
-    gone = operand x.thunk 2
+    key_stays : (u : ℕ) → upd s.cells p word (cell_at buckets bucket u 1) ≡ s.cells (cell_at buckets bucket u 1)
+    key_stays u = upd_other s.cells p (cell_at buckets bucket u 1) word (λ e. let low = small (key_of x.op) in
+        ⊎_elim (λ edition. omega arith) (⊎_elim (λ head. omega arith)
+        (λ node. let two = node.3 in let three = node.4 in let at = node.5 in omega arith)) place)
 
-    abbrev link_place : ℕ
-    link_place = operand x.thunk 1
+    cell_stays : (u k : ℕ) → (kept.on u ≡ false) ⊎ (bucket (now.key u) ≢ own) → 1 ≤ k → k ≤ 3
+        → upd s.cells p word (cell_at buckets bucket u k) ≡ s.cells (cell_at buckets bucket u k)
+    cell_stays u k away first last = upd_other s.cells p (cell_at buckets bucket u k) word
+        (λ e. let low = small (key_of x.op) in ⊎_elim (λ edition. omega arith) (⊎_elim (λ head. omega arith)
+        (λ node. let three = node.4 in let at = node.5 in not_away node.0 node.2 (omega arith))) place)
+      where
+        not_away : (t : ℕ) → IsNode buckets bucket s.cells kept.on own t → u ≡ t → ⊥
+        not_away t node same = ⊎_elim (λ out. both_ways _ (ap kept.on (sym same) ∙ out) node.0)
+            (λ other. other (ap (λ u. bucket (now.key u)) same ∙ node.1)) away
 
-    target : IsTarget buckets bucket layout s sound kept x
-    target = remove_target buckets bucket layout s sound kept d x here form (omega arith) (omega arith)
+    node_stays : (on : ℕ → Bool) (i t : ℕ) → on t ≡ true → bucket (now.key t) ≡ i
+        → IsNode buckets bucket (upd s.cells p word) on i t
+    node_stays on i t there of_i = (there, ap (λ word. bucket (value_of word)) (key_stays t) ∙ of_i)
 
-    gone_on : kept.on gone ≡ true
-    gone_on = target_on buckets bucket small layout s sound kept d x here form (omega arith) (omega arith)
-
-    gone_node : IsNode buckets bucket s.cells kept.on own gone
-    gone_node = (gone_on, ap bucket target.key)
-
-    -- the link stands in a head, or in a node that stays
-    remove_change : Chains bucket (nodes buckets bucket (upd s.cells link_place word)) (upd kept.on gone false) kept.rank
-        → ((u k : ℕ) → (kept.on u ≡ false) ⊎ ((i : ℕ) × (i ≢ own) × IsNode buckets bucket s.cells kept.on i u) ⊎ (u ≡ gone) → 1 ≤ k → k ≤ 3 → cell_at buckets bucket u k ≢ link_place)
-        → ((u : ℕ) → cell_at buckets bucket u 1 ≢ link_place)
-        → ((i : ℕ) → i < buckets → i ≢ own → bucket_head i ≢ link_place) → ((i : ℕ) → i < buckets → bucket_edition i ≢ link_place)
-        → IsLinkOf buckets bucket (upd s.cells link_place word) (upd kept.on gone false) own link_place
-        → IsOwnChange (upd s.cells link_place word) (upd kept.on gone false) kept.rank
-    remove_change chains apart keys heads editions linked = record {
-      chains = chains;
-      on_live = λ u on. kept.on_live u (still u on).0;
-      elsewhere = λ i lower ne. record {
-        head = upd_other s.cells link_place (bucket_head i) word (heads i lower ne);
-        stays = λ u node. upd_other kept.on gone u false (λ e. ne (sym node.1 ∙ ap (λ u. bucket (value_of (s.cells (cell_at buckets bucket u 1)))) e ∙ gone_node.1)) ∙ node.0;
-        ranks = λ u node. refl;
-        cell = λ u k node low high. upd_other s.cells link_place (cell_at buckets bucket u k) word (apart u k (inr (inl (i, ne, node))) low high);
-        back = λ u node. ((still u node.0).0, ap (λ word. bucket (value_of word)) (sym (upd_other s.cells link_place (cell_at buckets bucket u 1) word (keys u))) ∙ node.1);
-      };
-      edition = λ i lower ne. upd_other s.cells link_place (bucket_edition i) word (editions i lower);
-      walks = pending_walks (upd s.cells link_place word) (upd kept.on gone false) kept.rank (inr (inl (form, omega arith)));
-      outside = λ u k out low high. upd_other s.cells link_place (cell_at buckets bucket u k) word (apart u k (inl out) low high);
-      out = λ u out free. dite (ℕ_discrete u gone) (λ e. upd_same kept.on gone u false e) (λ ne. upd_other kept.on gone u false ne ∙ out);
-      made = λ f low high. insert_remove (form_of x.thunk) f form;
-      linked = λ f. linked;
-      valued = λ f. absurd (remove_set (form_of x.thunk) form f);
-      taken = λ f low high. record {
-        live = kept.on_live gone gone_on;
-        out = upd_same kept.on gone gone false refl;
-        key = ap value_of (upd_other s.cells link_place (cell_at buckets bucket gone 1) word (keys gone)) ∙ target.key;
-        next = λ t leads.
-            let there = kept.chains.next_on gone t gone_on (ap value_of (sym (upd_other s.cells link_place (cell_at buckets bucket gone 3) word (apart gone 3 (inr (inr refl)) (omega arith) (omega arith)))) ∙ leads) in (
-              upd_other kept.on gone t false (λ e. let falls = there.2 in let same = ap kept.rank e in omega arith) ∙ there.0,
-              ap (λ word. bucket (value_of word)) (upd_other s.cells link_place (cell_at buckets bucket t 1) word (keys t)) ∙ there.1 ∙ gone_node.1,
-            );
-      };
-      live = λ u on. dite (ℕ_discrete u gone) (λ e. inr (inr (form, (omega arith), (omega arith), sym e))) (λ ne. inl (upd_other kept.on gone u false ne ∙ on));
-      owned = λ u owns. absurd (⊎_elim (λ new. insert_remove (form_of x.thunk) new.0 form) (λ old. let late = old.1 in omega arith) owns);
+    elsewhere : (on : ℕ → Bool) (rank : ℕ → ℕ)
+        → ((u : ℕ) → bucket (now.key u) ≢ own → (on u ≡ kept.on u) × (kept.on u ≡ true → rank u ≡ kept.rank u))
+        → (i : ℕ) → i < buckets → i ≢ own
+        → IsElsewhere buckets bucket s.cells (upd s.cells p word) kept.on on kept.rank rank i
+    elsewhere on rank others i low ne = record {
+      head = head_stays i low ne;
+      stays = λ u node. (others u (away u node.1)).0 ∙ node.0;
+      ranks = λ u node. (others u (away u node.1)).1 node.0;
+      cell = λ u k node first last. cell_stays u k (inr (away u node.1)) first last;
+      back = λ u node. let of_i = was u node.1 in (sym (others u (away u of_i)).0 ∙ node.0, of_i);
     }
       where
-        still : (u : ℕ) → upd kept.on gone false u ≡ true → (kept.on u ≡ true) × (u ≢ gone)
-        still u on = dite (ℕ_discrete u gone) (λ e. absurd (both_ways _ (upd_same kept.on gone u false e) on)) (λ ne. (sym (upd_other kept.on gone u false ne) ∙ on, ne))
+        away : (u : ℕ) → bucket (now.key u) ≡ i → bucket (now.key u) ≢ own
+        away u of_i same = ne (sym of_i ∙ same)
 
-    remove_head : link_place ≡ bucket_head own → IsOwnChange (upd s.cells link_place word) (upd kept.on gone false) kept.rank
-    remove_head head =
-        let now = nodes buckets bucket s.cells in
-        let low = small (key_of x.op) in
-        let leads : now.head own ≡ suc gone = head_is buckets bucket small s.cells (key_of x.op) ∙ ap (λ p. value_of (s.cells p)) (sym head) ∙ target.leads in
-        remove_change
-        (subst (λ p. Chains bucket (nodes buckets bucket (upd s.cells p word)) (upd kept.on gone false) kept.rank) (sym head)
-        (subst (λ n. Chains bucket n (upd kept.on gone false) kept.rank) (ap (with_head now own) (target.next ∙ sym stored) ∙ head_changed buckets bucket s.cells own word low)
-        (remove_first bucket now kept.on kept.rank kept.chains own gone leads)))
-        (λ u k cases first last e. omega arith) (λ u e. omega arith) (λ i lower ne e. ne (omega arith)) (λ i lower e. omega arith) (inl head)
+        was : (u : ℕ) → bucket (value_of (upd s.cells p word (cell_at buckets bucket u 1))) ≡ i → bucket (now.key u) ≡ i
+        was u of_i = ap (λ word. bucket (value_of word)) (sym (key_stays u)) ∙ of_i
 
-    remove_node : (v : ℕ) → IsNode buckets bucket s.cells kept.on own v → link_place ≡ cell_at buckets bucket v 3 → IsOwnChange (upd s.cells link_place word) (upd kept.on gone false) kept.rank
-    remove_node v node place =
-        let now = nodes buckets bucket s.cells in
-        let leads : now.next v ≡ suc gone = ap (λ p. value_of (s.cells p)) (sym place) ∙ target.leads in
-        let there = kept.chains.next_on v gone node.0 leads in
-        let other : v ≢ gone = λ e. let falls = there.2 in let same = ap kept.rank e in omega arith in
-        remove_change
-        (subst (λ p. Chains bucket (nodes buckets bucket (upd s.cells p word)) (upd kept.on gone false) kept.rank) (sym place)
-        (subst (λ n. Chains bucket n (upd kept.on gone false) kept.rank) (ap (with_next now v) (target.next ∙ sym stored) ∙ next_changed buckets bucket s.cells v word)
-        (remove_next bucket now kept.on kept.rank kept.chains v gone node.0 leads)))
-        (λ u k cases first last e. apart u k cases (own_cell u k first last (sym place ∙ sym e)))
-        (λ u e. omega arith) (λ i lower ne e. omega arith) (λ i lower e. omega arith)
-        (inr (v, (upd_other kept.on gone v false other ∙ node.0, ap (λ word. bucket (value_of word)) (upd_other s.cells link_place (cell_at buckets bucket v 1) word (λ e. omega arith)) ∙ node.1), place))
+  -- what a change by one of its halves has to show
+  pub record IsOwnChange (h : Half) (p word : ℕ) (on : ℕ → Bool) (rank : ℕ → ℕ) : Type 0 where
+    pub place : IsOwnPlace p
+    pub chains : Chains bucket (nodes buckets bucket (upd s.cells p word)) on rank
+    pub on_live : (t : ℕ) → on t ≡ true → s.status t ≡ Live
+    pub others : (u : ℕ) → bucket (now.key u) ≢ own
+        → (on u ≡ kept.on u) × (kept.on u ≡ true → rank u ≡ kept.rank u)
+    pub walks : (op : Op) (readings : Readings) → IsRead (table buckets bucket) s readings → bucket (key_of op) ≡ own
+        → IsWalked buckets bucket (stored_scene (upd s.cells p word)) on rank op (walk_in op readings)
+    pub out : (u : ℕ) → kept.on u ≡ false → (Owns x u → ⊥) → on u ≡ false
+    pub target : IsTargetOf buckets bucket h.kind (upd s.cells p word) on own h.target
+    pub taken : suc x.at ≤ h.retire → (s.status (operand x.thunk 2) ≡ Live) × (on (operand x.thunk 2) ≡ false)
+        × IsTaken buckets bucket (upd s.cells p word) on (operand x.thunk 2) (key_of x.op)
+    pub live : (t : ℕ) → kept.on t ≡ true → (on t ≡ true) ⊎ OwnsBy (stepped x x.reg) h t
+    pub owned : (t : ℕ) → OwnsBy x h t → (on t ≡ true) ⊎ OwnsBy (stepped x x.reg) h t
+
+  module _ (h : Half) (has : HasHalf x h) (past : h.change ≤ x.at) (p word : ℕ) (on : ℕ → Bool) (rank : ℕ → ℕ)
+      (change : IsOwnChange h p word on rank) where
+    abbrev cells : Cells
+    cells = upd s.cells p word
+
+    retired_out : (q y : ℕ) → s.status q ≡ Retired y → (b : Bool) → kept.on q ≡ b → b ≡ false
+    retired_out q y retired true e = absurd (live_retired (s.status q) y (kept.on_live q e) retired)
+    retired_out q y retired false e = refl
+
+    apart : (e : ℕ) (z : Section) → e ≢ d → s.section e ≡ Some z → bucket (key_of z.op) ≢ own
+    apart e z ne there same = ne (one_bucket buckets bucket layout s sound kept e d z x there here same)
+
+    same_in : (i : ℕ) → i < buckets → i ≢ own → IsElsewhere buckets bucket s.cells cells kept.on on kept.rank rank i
+    same_in = elsewhere p word change.place on rank change.others
+
+    apart_node : (e : ℕ) (z : Section) → e ≢ d → s.section e ≡ Some z → (t : ℕ)
+        → IsNode buckets bucket s.cells kept.on (bucket (key_of z.op)) t
+        → IsNode buckets bucket cells on (bucket (key_of z.op)) t
+    apart_node e z ne there t node = node_stays p word change.place on (bucket (key_of z.op)) t
+        ((same_in (bucket (key_of z.op)) (small (key_of z.op)) (apart e z ne there)).stays t node) node.1
+
+    itself : (e : ℕ) (z : Section) → s.section e ≡ Some z → e ≡ d → z ≡ x
+    itself e z there same = some_inj (sym there ∙ ap s.section same ∙ here)
+
+    walked : (op : Op) (readings : Readings) → IsRead (table buckets bucket) s readings
+        → IsWalked buckets bucket s kept.on kept.rank op (walk_in op readings)
+        → IsWalked buckets bucket (stored_scene cells) on rank op (walk_in op readings)
+    walked op readings read before = dite (ℕ_discrete (bucket (key_of op)) own) (change.walks op readings read)
+        (λ ne edition none. knows_on buckets bucket small s.cells cells kept.on on kept.rank rank kept.chains op
+        (walk_in op readings) (same_in (bucket (key_of op)) (small (key_of op)) ne) (walk_in op readings).stage
+        (before (sym (edition_stays p word change.place (bucket (key_of op)) (small (key_of op)) ne) ∙ edition)
+        (λ e z there pending. dite (ℕ_discrete e d)
+        (λ same. ne (own_lock (subst (λ z. IsPending z (bucket (key_of op))) (itself e z there same) pending)))
+        (λ ne'. none e z (upd_other s.section d e (Some (stepped x x.reg)) ne' ∙ there) pending))))
       where
-        own_cell : (u k : ℕ) → 1 ≤ k → k ≤ 3 → cell_at buckets bucket v 3 ≡ cell_at buckets bucket u k → u ≡ v
-        own_cell u k first last e = omega arith
+        own_lock : IsPending x (bucket (key_of op)) → bucket (key_of op) ≡ own
+        own_lock pending = let lock = pending.2 in
+            let same = half_lock buckets bucket layout s sound kept d x pending.0 here pending.1 in omega arith
 
-        stays : v ≢ gone
-        stays e =
-            let leads : value_of (s.cells (cell_at buckets bucket v 3)) ≡ suc gone = ap (λ p. value_of (s.cells p)) (sym place) ∙ target.leads in
-            let falls = (kept.chains.next_on v gone node.0 leads).2 in
-            let same = ap kept.rank e in
-            omega arith
+    none_made : (g : Half) → HasHalf x g → IsMaking (stepped x x.reg) g → ⊥
+    none_made g has' making =
+        let early : suc x.at ≤ h.change = subst (λ g. suc x.at ≤ g.change) (one_half x.thunk g h has' has) making.1 in
+        omega arith
 
-        apart : (u k : ℕ) → (kept.on u ≡ false) ⊎ ((i : ℕ) × (i ≢ own) × IsNode buckets bucket s.cells kept.on i u) ⊎ (u ≡ gone) → u ≡ v → ⊥
-        apart u k cases same = ⊎_elim (λ out. both_ways _ (ap kept.on (sym same) ∙ out) node.0)
-            (⊎_elim (λ away. away.1 (sym away.2.1 ∙ ap (λ u. bucket (value_of (s.cells (cell_at buckets bucket u 1)))) same ∙ node.1)) (λ e. stays (sym same ∙ e))) cases
+    still_held : (g : Half) → HasHalf x g → IsTaking (stepped x x.reg) g → suc x.at ≤ h.retire
+    still_held g has' taking = subst (λ g. suc x.at ≤ g.retire) (one_half x.thunk g h has' has) taking.1
 
-  -- the value of a node of the bucket
-  set_change : (word : ℕ) → form_of x.thunk ≡ Set → x.at ≡ 6 → (t : ℕ) → IsNode buckets bucket s.cells kept.on own t → operand x.thunk 1 ≡ cell_at buckets bucket t 2
-      → IsOwnChange (upd s.cells (cell_at buckets bucket t 2) word) kept.on kept.rank
-  set_change word form at t node placed =
-      let place = cell_at buckets bucket t 2 in
-      let keys : (u : ℕ) → upd s.cells place word (cell_at buckets bucket u 1) ≡ s.cells (cell_at buckets bucket u 1) = λ u. upd_other s.cells place (cell_at buckets bucket u 1) word (λ e. omega arith) in
-      record {
-        chains = chains_agree bucket (nodes buckets bucket s.cells) (nodes buckets bucket (upd s.cells place word)) kept.on kept.rank kept.chains
-            (λ i. clip_same i buckets (value_of (upd s.cells place word (bucket_head i))) (value_of (s.cells (bucket_head i))) (λ low. ap value_of (upd_other s.cells place (bucket_head i) word (λ e. omega arith))))
-            (λ u on. ap value_of (keys u)) (λ u on. ap value_of (upd_other s.cells place (cell_at buckets bucket u 3) word (λ e. omega arith)));
-        on_live = kept.on_live;
-        elsewhere = λ i lower ne. record {
-          head = upd_other s.cells place (bucket_head i) word (λ e. omega arith);
-          stays = λ u other. other.0;
-          ranks = λ u other. refl;
-          cell = λ u k other low high. upd_other s.cells place (cell_at buckets bucket u k) word
-              (λ e. ne (sym other.1 ∙ ap (λ u. bucket (value_of (s.cells (cell_at buckets bucket u 1)))) (one_slot u k low high e) ∙ node.1));
-          back = λ u other. (other.0, ap (λ word. bucket (value_of word)) (sym (keys u)) ∙ other.1);
-        };
-        edition = λ i lower ne. upd_other s.cells place (bucket_edition i) word (λ e. omega arith);
-        walks = pending_walks (upd s.cells place word) kept.on kept.rank (inr (inr (form, omega arith)));
-        outside = λ u k out low high. upd_other s.cells place (cell_at buckets bucket u k) word (λ e. both_ways _ (ap kept.on (sym (one_slot u k low high e)) ∙ out) node.0);
-        out = λ u out free. out;
-        made = λ f low high. insert_set (form_of x.thunk) f form;
-        linked = λ f. absurd (remove_set (form_of x.thunk) f form);
-        valued = λ f. (t, (node.0, ap (λ word. bucket (value_of word)) (keys t) ∙ node.1), placed);
-        taken = λ f low high. absurd (remove_set (form_of x.thunk) f form);
-        live = λ u on. inl on;
-        owned = λ u owns. absurd (⊎_elim (λ new. insert_set (form_of x.thunk) new.0 form) (λ old. remove_set (form_of x.thunk) old.0 form) owns);
+    held : (t : ℕ) → Owns (stepped x x.reg) t → (s.status t ≡ Live) × (on t ≡ false)
+    held t owns = ⊎_elim (λ new. absurd (none_made owns.0 owns.1 new.0))
+        (λ old. let was = change.taken (still_held owns.0 owns.1 old.0) in
+        (ap s.status (sym old.1) ∙ was.0, ap on (sym old.1) ∙ was.1)) owns.2
+
+    its_own : (t : ℕ) → Owns x t → OwnsBy x h t
+    its_own t owns = subst (λ g. OwnsBy x g t) (one_half x.thunk owns.0 h owns.1 has) owns.2
+
+    mine : (t : ℕ) → (on t ≡ true) ⊎ OwnsBy (stepped x x.reg) h t → (on t ≡ true)
+        ⊎ ((e : ℕ) × (z : Section) × (upd s.section d (Some (stepped x x.reg)) e ≡ Some z) × Owns z t)
+    mine t cases = ⊎_elim inl
+        (λ owns. inr (d, stepped x x.reg, upd_same s.section d d (Some (stepped x x.reg)) refl, (h, has, owns))) cases
+
+    -- what another section has made, taken out or holds
+    made_on : (e : ℕ) (z : Section) (g : Half) → s.section e ≡ Some z → HasHalf z g → IsMaking z g
+        → (t : ℕ) × (z.reg g.node_reg ≡ suc t) × IsMade buckets bucket cells z.thunk t
+    made_on e z g there has' making =
+        let was = kept.made e z g there has' making in
+        let out = (kept.owned e z was.0 there (g, has', inl (making, was.1))).1 in
+        let same : (k : ℕ) → 1 ≤ k → k ≤ 3 → value_of (cells (cell_at buckets bucket was.0 k))
+        ≡ value_of (s.cells (cell_at buckets bucket was.0 k)) =
+        λ k low high. ap value_of (cell_stays p word change.place was.0 k (inl out) low high) in (was.0, was.1, record {
+          key = same 1 (omega arith) (omega arith) ∙ was.2.key;
+          value = same 2 (omega arith) (omega arith) ∙ was.2.value;
+          next = same 3 (omega arith) (omega arith) ∙ was.2.next;
+        })
+
+    taken_on : (e : ℕ) (z : Section) (g : Half) → e ≢ d → s.section e ≡ Some z → HasHalf z g → IsTaking z g
+        → IsTaken buckets bucket cells on (operand z.thunk 2) (key_of z.op)
+    taken_on e z g ne there has' taking =
+        let was = kept.taken e z g there has' taking in
+        let gone = operand z.thunk 2 in
+        let out = (kept.owned e z gone there (g, has', inr (taking, refl))).1 in
+        let same = cell_stays p word change.place gone 3 (inl out) (omega arith) (omega arith) in record {
+          key = ap value_of (key_stays p word change.place gone) ∙ was.key;
+          next = λ t leads. apart_node e z ne there t (was.next t (ap value_of (sym same) ∙ leads));
+        }
+
+    store_kept : BucketsKept buckets bucket layout (stored_scene cells)
+    store_kept = record {
+      on = on;
+      rank = rank;
+      chains = change.chains;
+      on_live = change.on_live;
+      readers = λ r readings op at. walked op readings (sound.readers r readings at) (kept.readers r readings op at);
+      sections = λ e z at. ⊎_elim
+          (λ same. subst (λ z. IsWalked buckets bucket (stored_scene cells) on rank z.op (walk_in z.op z.readings)) same.1
+          (walked x.op x.readings (sound.published d x here) (kept.sections d x here)))
+          (λ other. walked z.op z.readings (sound.published e z other.1) (kept.sections e z other.1)) (changed e z at);
+      made = λ e z g at has' making. ⊎_elim
+          (λ same. absurd (subst (λ z. (g : Half) → HasHalf z g → IsMaking z g → ⊥) same.1 none_made g has' making))
+          (λ other. made_on e z g other.1 has' making) (changed e z at);
+      target = λ e z g at has' changes low. ⊎_elim
+          (λ same. subst (λ z. (g : Half) → HasHalf z g
+          → IsTargetOf buckets bucket g.kind cells on (bucket (key_of z.op)) g.target) same.1
+          (λ g has'. subst (λ g. IsTargetOf buckets bucket g.kind cells on own g.target)
+          (one_half x.thunk h g has has') change.target) g has')
+          (λ other. target_stays buckets bucket g.kind s.cells cells kept.on on (bucket (key_of z.op)) g.target
+          (apart_node e z other.0 other.1) (kept.target e z g other.1 has' changes low)) (changed e z at);
+      taken = λ e z g at has' taking. ⊎_elim
+          (λ same. subst (λ z. (g : Half) → HasHalf z g → IsTaking z g
+          → IsTaken buckets bucket cells on (operand z.thunk 2) (key_of z.op)) same.1
+          (λ g has' taking. (change.taken (still_held g has' taking)).2) g has' taking)
+          (λ other. taken_on e z g other.0 other.1 has' taking) (changed e z at);
+      owned = λ e z t at owns. ⊎_elim (λ same. held t (subst (λ z. Owns z t) (sym same.1) owns))
+          (λ other. let was = kept.owned e z t other.1 owns in (was.0, change.out t was.1
+          (λ mine. other.0 (owned_once buckets bucket layout s kept sound e d z x t other.1 here owns mine)))) (changed e z at);
+      live = λ t live. live_cases buckets bucket layout s kept t live (λ on_t. mine t (change.live t on_t))
+          (λ e z there owns. dite (ℕ_discrete e d)
+          (λ same. mine t (change.owned t (its_own t (subst (λ z. Owns z t) (itself e z there same) owns))))
+          (λ ne. inr (e, z, upd_other s.section d e (Some (stepped x x.reg)) ne ∙ there, owns)));
+      limbo = λ q y t retired recent leads. kept.limbo q y t retired recent (ap value_of (sym (cell_stays p word
+          change.place q 3 (inl (retired_out q y retired (kept.on q) refl)) (omega arith) (omega arith))) ∙ leads);
+    }
+      where
+        changed : (e : ℕ) (z : Section) → upd s.section d (Some (stepped x x.reg)) e ≡ Some z
+            → ((e ≡ d) × (stepped x x.reg ≡ z)) ⊎ ((e ≢ d) × (s.section e ≡ Some z))
+        changed e z at = upd_some s.section d e (stepped x x.reg) z at
+
+  -- the half that makes the change
+  module _ (h : Half) (has : HasHalf x h) (changes : h.change < h.edition) where
+    half : IsHalf x.thunk (table_steps x.thunk) h
+    half = half_is x.thunk h has
+
+    -- the edition, once the chain or a value in it has changed
+    edition_change : (word : ℕ) → x.at ≡ h.edition → version_of (s.cells (bucket_edition own)) < version_of word
+        → IsOwnChange h (bucket_edition own) word kept.on kept.rank
+    edition_change word at rises = record {
+      place = inl refl;
+      chains = let low = small (key_of x.op) in subst (λ n. Chains bucket n kept.on kept.rank)
+          (none_changed buckets bucket s.cells (bucket_edition own) word (λ j lower e. omega arith) (λ u k low high e. omega arith))
+          kept.chains;
+      on_live = kept.on_live;
+      others = λ u away. (refl, λ on. refl);
+      walks = λ op readings read mine edition none. ⊎_elim
+          (λ first. subst (Knows buckets bucket (upd s.cells (bucket_edition own) word) kept.on kept.rank op (walk_in op readings))
+          (sym first) tt)
+          (λ later.
+          let seen = edition_seen buckets bucket small (bounds buckets bucket layout) op readings later in
+          let stood = read.seen seen.0 (bucket_edition (bucket (key_of op))) (walk_in op readings).edition seen.1 in
+          let at = ap bucket_edition mine in
+          absurd (older (version_of (walk_in op readings).edition) (version_of (s.cells (bucket_edition own))) (version_of word)
+          (⊎_elim (λ less. inl (let same = ap (λ p. version_of (s.cells p)) at in omega arith))
+          (λ equal. inr (ap version_of equal ∙ ap (λ p. version_of (s.cells p)) at)) stood) rises
+          (ap version_of (sym (upd_same s.cells (bucket_edition own) (bucket_edition (bucket (key_of op))) word at) ∙ edition))))
+          (is_first buckets bucket small (walk_in op readings).stage);
+      out = λ u out free. out;
+      target = target_stays buckets bucket h.kind s.cells (upd s.cells (bucket_edition own) word) kept.on kept.on own h.target
+          (λ u node. node_stays (bucket_edition own) word (inl refl) kept.on own u node.0 node.1)
+          (kept.target d x h here has changes (omega (arith, half.order)));
+      taken = λ low.
+          let was = kept.taken d x h here has (omega arith, omega arith) in
+          let gone = operand x.thunk 2 in
+          let held = kept.owned d x gone here (h, has, inr ((omega arith, omega arith), refl)) in
+          let same = cell_stays (bucket_edition own) word (inl refl) gone 3 (inl held.1) (omega arith) (omega arith) in
+          (held.0, held.1, record {
+            key = ap value_of (key_stays (bucket_edition own) word (inl refl) gone) ∙ was.key;
+            next = λ t leads. let node = was.next t (ap value_of (sym same) ∙ leads) in
+                node_stays (bucket_edition own) word (inl refl) kept.on own t node.0 node.1;
+          });
+      live = λ t on. inl on;
+      owned = λ t owns. ⊎_elim (λ new. absurd (let late = new.0.1 in omega arith))
+          (λ old. let late = old.0.0 in let low = old.0.1 in let last = half.last (omega arith) in
+          inr (inr ((omega arith, omega arith), old.1))) owns;
+    }
+      where
+        older : (w now next : ℕ) → (w < now) ⊎ (w ≡ now) → now < next → next ≡ w → ⊥
+        older w now next cases less same = ⊎_elim (λ lt. omega arith) (λ e. omega arith) cases
+
+    -- at its change
+    module _ (at : x.at ≡ h.change) (word : ℕ) where
+      past : h.wanted ≤ x.at
+      past = making_known buckets bucket layout s sound kept x h has (omega (arith, half.order))
+
+      early : x.at ≤ h.change
+      early = omega arith
+
+      target_at : (k : Kind) → h.kind ≡ k → IsTargetOf buckets bucket k s.cells kept.on own h.target
+      target_at k kind = subst (λ k. IsTargetOf buckets bucket k s.cells kept.on own h.target) kind
+          (target_now buckets bucket small layout s sound kept d x h here has changes past early)
+
+      place : IsOwnPlace h.target
+      place = inr (target_place buckets bucket h.kind s.cells kept.on own h.target (target_at h.kind refl))
+
+      abbrev after : Cells
+      after = upd s.cells h.target word
+
+      -- it is pending, so no walk of its bucket knows anything
+      pending_walks : (on : ℕ → Bool) (rank : ℕ → ℕ) (op : Op) (readings : Readings)
+          → IsRead (table buckets bucket) s readings → bucket (key_of op) ≡ own
+          → IsWalked buckets bucket (stored_scene after) on rank op (walk_in op readings)
+      pending_walks on rank op readings read same edition none =
+          absurd (none d (stepped x x.reg) (upd_same s.section d d (Some (stepped x x.reg)) refl)
+          (h, has, half_lock buckets bucket layout s sound kept d x h here has ∙ ap bucket_lock (sym same),
+          omega arith, omega arith))
+
+      -- one that makes no node holds no slot yet
+      not_owned : (k : Kind) → h.kind ≡ k → (k ≡ Insert → ⊥) → (u : ℕ) → OwnsBy x h u → ⊥
+      not_owned k kind other u owns = ⊎_elim (λ new. let low = new.0.0 in other (sym kind ∙ half.insert.1 (omega arith)))
+          (λ old. let low = old.0.0 in omega arith) owns
+
+      -- and one that takes none out retires none
+      none_taken : (k : Kind) → h.kind ≡ k → (k ≡ Remove → ⊥) → suc x.at ≤ h.retire → ⊥
+      none_taken k kind other low = other (sym kind ∙ half.remove.1 (omega arith))
+
+      -- the chains at the place that is changed
+      chains_at : (p : ℕ) (on : ℕ → Bool) (rank : ℕ → ℕ) (n : Nodes) → h.target ≡ p
+          → n ≡ nodes buckets bucket (upd s.cells p word) → Chains bucket n on rank
+          → Chains bucket (nodes buckets bucket after) on rank
+      chains_at p on rank n same changed chains =
+          subst (λ p. Chains bucket (nodes buckets bucket (upd s.cells p word)) on rank) (sym same)
+          (subst (λ n. Chains bucket n on rank) changed chains)
+
+      -- a new node at the head
+      insert_change : h.kind ≡ Insert → value_of word ≡ value_of (x.reg h.node_reg)
+          → (on : ℕ → Bool) × (rank : ℕ → ℕ) × IsOwnChange h h.target word on rank
+      insert_change kind stored =
+          let lt = half.insert.0 kind in
+          let making : IsMaking x h = (omega arith, omega arith) in
+          let made = kept.made d x h here has making in
+          let t = made.0 in
+          let held = kept.owned d x t here (h, has, inl (making, made.1)) in
+          let low = small (key_of x.op) in
+          let head : h.target ≡ bucket_head own = target_at Insert kind in
+          let named = ((fit buckets bucket layout s sound kept d x here).insert (number_is x.thunk h has Insert kind)).1 in
+          let narrow = links_small layout 0 t limits (omega arith) (sound.within t (live_free (s.status t) held.0)) in
+          let value : value_of word ≡ suc t = stored ∙ ap value_of made.1 ∙ value-small (suc t) narrow in
+          let key : now.key t ≡ key_of x.op = made.2.key ∙ named.3 ∙ sym named.2.0 in
+          let missing = insert_missing buckets bucket layout s sound kept d x h here has past early kind in
+          let first : now.next t ≡ now.head own = made.2.next
+          ∙ insert_head buckets bucket layout s sound kept d x h here has past early kind
+          ∙ sym (head_is buckets bucket small s.cells (key_of x.op)) in
+          let top = top_of bucket now kept.on kept.rank kept.chains own in
+          let other : (u : ℕ) → bucket (now.key u) ≢ own → u ≢ t = λ u away e.
+          away (ap (λ u. bucket (now.key u)) e ∙ ap bucket key) in (
+            upd kept.on t true,
+            upd kept.rank t top.0,
+            record {
+              place = place;
+              chains = chains_at (bucket_head own) (upd kept.on t true) (upd kept.rank t top.0) (with_head now own (suc t)) head
+                  (ap (with_head now own) (sym value) ∙ head_changed buckets bucket s.cells own word low)
+                  (insert bucket now kept.on kept.rank kept.chains own t top.0 held.1 (ap bucket key) first top.1
+                  (λ u on e. missing u on (e ∙ key)));
+              on_live = λ u on. dite (ℕ_discrete u t) (λ e. ap s.status e ∙ held.0)
+                  (λ ne. kept.on_live u (sym (upd_other kept.on t u true ne) ∙ on));
+              others = λ u away. (upd_other kept.on t u true (other u away),
+              λ on. upd_other kept.rank t u top.0 (other u away));
+              walks = pending_walks (upd kept.on t true) (upd kept.rank t top.0);
+              out = λ u out free. upd_other kept.on t u true (λ e. free (h, has, inl (making, made.1 ∙ ap suc (sym e)))) ∙ out;
+              target = subst (λ k. IsTargetOf buckets bucket k after (upd kept.on t true) own h.target) (sym kind) head;
+              taken = λ low. absurd (none_taken Insert kind (λ e. cc) low);
+              live = λ u on. inl (dite (ℕ_discrete u t) (λ e. upd_same kept.on t u true e)
+                  (λ ne. upd_other kept.on t u true ne ∙ on));
+              owned = λ u owns. ⊎_elim (λ new. inl (upd_same kept.on t u true (suc_equal u t (sym new.1 ∙ made.1))))
+                  (λ old. absurd (let late = old.0.0 in omega arith)) owns;
+            },
+          )
+
+      -- a node leaves its chain
+      remove_change : h.kind ≡ Remove → value_of word ≡ operand x.thunk 3
+          → IsOwnChange h h.target word (upd kept.on (operand x.thunk 2) false) kept.rank
+      remove_change kind stored = record {
+        place = place;
+        chains = let low = small (key_of x.op) in ⊎_elim
+            (λ head. chains_at (bucket_head own) off kept.rank (with_head now own (now.next gone)) head
+            (ap (with_head now own) (target.next ∙ sym stored) ∙ head_changed buckets bucket s.cells own word low)
+            (remove_first bucket now kept.on kept.rank kept.chains own gone
+            (head_is buckets bucket small s.cells (key_of x.op) ∙ ap (λ p. value_of (s.cells p)) (sym head) ∙ target.leads)))
+            (λ node. chains_at (cell_at buckets bucket node.0 3) off kept.rank (with_next now node.0 (now.next gone)) node.2
+            (ap (with_next now node.0) (target.next ∙ sym stored) ∙ next_changed buckets bucket s.cells node.0 word)
+            (remove_next bucket now kept.on kept.rank kept.chains node.0 gone node.1.0 (leads node.0 node.2))) target.link;
+        on_live = λ u on. kept.on_live u (still u on);
+        others = λ u away. (upd_other kept.on gone u false
+        (λ e. away (ap (λ u. bucket (now.key u)) e ∙ ap bucket target.key)), λ on. refl);
+        walks = pending_walks off kept.rank;
+        out = λ u out free. dite (ℕ_discrete u gone) (λ e. upd_same kept.on gone u false e)
+            (λ ne. upd_other kept.on gone u false ne ∙ out);
+        target = subst (λ k. IsTargetOf buckets bucket k after off own h.target) (sym kind) (⊎_elim inl
+            (λ node. inr (node.0, node_stays h.target word place off own node.0
+            (upd_other kept.on gone node.0 false (before node.0 node.1.0 node.2) ∙ node.1.0) node.1.1, node.2)) target.link);
+        taken = λ low. (kept.on_live gone gone_on, upd_same kept.on gone gone false refl, record {
+          key = ap value_of (key_stays h.target word place gone) ∙ target.key;
+          next = λ t leads. let there = kept.chains.next_on gone t gone_on (ap value_of (sym link_stays) ∙ leads) in
+              node_stays h.target word place off own t (upd_other kept.on gone t false
+              (λ e. let falls = there.2 in let same = ap kept.rank e in omega arith) ∙ there.0) (there.1 ∙ ap bucket target.key);
+        });
+        live = λ u on. dite (ℕ_discrete u gone)
+            (λ e. let late = half.remove.0 kind in inr (inr ((omega arith, omega arith), sym e)))
+            (λ ne. inl (upd_other kept.on gone u false ne ∙ on));
+        owned = λ u owns. absurd (not_owned Remove kind (λ e. cc) u owns);
       }
-    where
-      one_slot : (u k : ℕ) → 1 ≤ k → k ≤ 3 → cell_at buckets bucket u k ≡ cell_at buckets bucket t 2 → u ≡ t
-      one_slot u k low high e = omega arith
+        where
+          gone : ℕ
+          gone = operand x.thunk 2
+
+          off : ℕ → Bool
+          off = upd kept.on gone false
+
+          target : IsTarget buckets bucket layout s sound kept x h
+          target = remove_target buckets bucket layout s sound kept d x h here has past early kind
+
+          gone_on : kept.on gone ≡ true
+          gone_on = target_on buckets bucket small layout s sound kept d x h here has past early kind
+
+          still : (u : ℕ) → off u ≡ true → kept.on u ≡ true
+          still u on = dite (ℕ_discrete u gone) (λ e. absurd (both_ways _ (upd_same kept.on gone u false e) on))
+              (λ ne. sym (upd_other kept.on gone u false ne) ∙ on)
+
+          leads : (v : ℕ) → h.target ≡ cell_at buckets bucket v 3 → now.next v ≡ suc gone
+          leads v place = ap (λ p. value_of (s.cells p)) (sym place) ∙ target.leads
+
+          before : (v : ℕ) → kept.on v ≡ true → h.target ≡ cell_at buckets bucket v 3 → v ≢ gone
+          before v on place e = let falls = (kept.chains.next_on v gone on (leads v place)).2 in
+              let same = ap kept.rank e in omega arith
+
+          link_stays : after (cell_at buckets bucket gone 3) ≡ s.cells (cell_at buckets bucket gone 3)
+          link_stays = upd_other s.cells h.target (cell_at buckets bucket gone 3) word (λ e. let low = small (key_of x.op) in
+              ⊎_elim (λ head. omega arith)
+              (λ node. let at = node.2 in before node.0 node.1.0 node.2 (omega arith)) target.link)
+
+      -- the value of a node of the bucket
+      set_change : h.kind ≡ Set → IsOwnChange h h.target word kept.on kept.rank
+      set_change kind = let node = target_at Set kind in record {
+        place = place;
+        chains = chains_at (cell_at buckets bucket node.0 2) kept.on kept.rank (with_value now node.0 (value_of word)) node.2
+            (value_changed buckets bucket s.cells node.0 word)
+            (chains_agree bucket now (with_value now node.0 (value_of word)) kept.on kept.rank kept.chains
+            (λ i. refl) (λ u on. refl) (λ u on. refl));
+        on_live = kept.on_live;
+        others = λ u away. (refl, λ on. refl);
+        walks = pending_walks kept.on kept.rank;
+        out = λ u out free. out;
+        target = subst (λ k. IsTargetOf buckets bucket k after kept.on own h.target) (sym kind)
+            (node.0, node_stays h.target word place kept.on own node.0 node.1.0 node.1.1, node.2);
+        taken = λ low. absurd (none_taken Set kind (λ e. cc) low);
+        live = λ u on. inl on;
+        owned = λ u owns. absurd (not_owned Set kind (λ e. cc) u owns);
+      }
+
+  -- a Store of this half, of a register that was loaded from this place
+  module _ (j p r : ℕ) (v : Value) (load : IsStep (table buckets bucket) x j (Load p r)) (found : s.cells p ≡ x.reg r)
+      (h : Half) (has : HasHalf x h) (changes : h.change < h.edition) where
+    abbrev word : ℕ
+    word = next_word (x.reg r) (value_in x.reg v)
+
+    abbrev KeptAt : ℕ → Type 0
+    KeptAt p = BucketsKept buckets bucket layout (stored_scene (upd s.cells p word))
+
+    made_value : v ≡ Made 2 → value_of word ≡ value_of (x.reg h.node_reg)
+    made_value made = ap (λ v. value_of (next_word (x.reg r) (value_in x.reg v))) made
+        ∙ value-next_word (x.reg r) (value_of (x.reg 2)) (value_small (x.reg 2))
+        ∙ ap (λ r. value_of (x.reg r)) (sym (half_is x.thunk h has).registers.1)
+
+    removed_value : h.kind ≡ Remove → x.at ≡ h.change → v ≡ Const (operand x.thunk 3) → value_of word ≡ operand x.thunk 3
+    removed_value kind at number =
+        let leaves = remove_target buckets bucket layout s sound kept d x h here has (past h has changes at word)
+        (early h has changes at word) kind in
+        let narrow : operand x.thunk 3 < 2 ^ 32 = subst (λ z. z < 2 ^ 32) leaves.next
+        (value_small (s.cells (cell_at buckets bucket (operand x.thunk 2) 3))) in
+        ap (λ v. value_of (next_word (x.reg r) (value_in x.reg v))) number
+        ∙ value-next_word (x.reg r) (operand x.thunk 3) narrow
+
+    -- at the place that the half changes
+    changed : (k : Kind) → h.kind ≡ k → x.at ≡ h.change → v ≡ stored_for k x.thunk → KeptAt h.target
+    changed Look kind at stored = let none = (half_is x.thunk h has).look.0 kind in absurd (omega arith)
+    changed Insert kind at stored = let change = insert_change h has changes at word kind (made_value stored) in
+        store_kept h has (omega arith) h.target word change.0 change.1 change.2
+    changed Remove kind at stored = store_kept h has (omega arith) h.target word (upd kept.on (operand x.thunk 2) false)
+        kept.rank (remove_change h has changes at word kind (removed_value kind at stored))
+    changed Set kind at stored =
+        store_kept h has (omega arith) h.target word kept.on kept.rank (set_change h has changes at word kind)
+
+    edited : x.at ≡ h.edition → p ≡ h.lock + 1 → v ≡ Const 0 → KeptAt p
+    edited at same zero_value =
+        let lock = half_lock buckets bucket layout s sound kept d x h here has in
+        let edition : p ≡ bucket_edition own = omega arith in
+        let next = ap (λ v. version_of (next_word (x.reg r) (value_in x.reg v))) zero_value
+        ∙ version-next_word (x.reg r) 0 (omega arith) in
+        let was = ap version_of (ap s.cells (sym edition) ∙ found) in
+        subst KeptAt (sym edition) (store_kept h has (omega arith) (bucket_edition own) word kept.on kept.rank
+        (edition_change h has changes word at (omega arith)))
 
   -- every Store of the section
-  pub table_store : (j p r : ℕ) (v : Value) → IsStep (table buckets bucket) x x.at (Store r v) → IsStep (table buckets bucket) x j (Load p r) → s.cells p ≡ x.reg r
+  pub table_store : (j p r : ℕ) (v : Value) → IsStep (table buckets bucket) x x.at (Store r v)
+      → IsStep (table buckets bucket) x j (Load p r) → s.cells p ≡ x.reg r
       → BucketsKept buckets bucket layout (with_cell (passes s d x) p (next_word (x.reg r) (value_in x.reg v)))
-  table_store j p r v store load found = ⊎_elim
-      (λ head. let place = insert_place head.0 (λ first. absurd (let one = head.2 in omega arith)) in
-      let change = insert_change (next_word (x.reg r) (value_in x.reg v)) head.0 head.1 (value head.3) in
-      subst (λ p. BucketsKept buckets bucket layout (stored_scene (upd s.cells p (next_word (x.reg r) (value_in x.reg v))))) (sym place)
-      (store_kept (upd s.cells (bucket_head own) (next_word (x.reg r) (value_in x.reg v))) change.0 change.1 change.2))
-      (⊎_elim
-      (λ edition. edition_stored (edition_place (inl edition.0) edition.2) (inl (edition.0, edition.1)) edition.3)
-      (⊎_elim
-      (λ link. let place = remove_place link.0 (λ first. absurd (let one = link.2 in omega arith)) in
-      subst (λ p. BucketsKept buckets bucket layout (stored_scene (upd s.cells p (next_word (x.reg r) (value_in x.reg v))))) (sym place) (link_stored link.0 link.1 (numbered link.0 link.1 link.3)))
-      (⊎_elim
-      (λ edition. edition_stored (edition_place (inr (inl edition.0)) edition.2) (inr (inl (edition.0, edition.1))) edition.3)
-      (⊎_elim
-      (λ value. let node = kept.valued d x here value.0 (let at = value.1 in omega arith) in
-      let place : p ≡ cell_at buckets bucket node.0 2 = set_place value.0 (λ first. absurd (let one = value.2 in omega arith)) ∙ node.2 in
-      subst (λ p. BucketsKept buckets bucket layout (stored_scene (upd s.cells p (next_word (x.reg r) (value_in x.reg v))))) (sym place)
-      (store_kept (upd s.cells (cell_at buckets bucket node.0 2) (next_word (x.reg r) (value_in x.reg v))) kept.on kept.rank
-      (set_change (next_word (x.reg r) (value_in x.reg v)) value.0 value.1 node.0 node.1 node.2)))
-      (λ edition. edition_stored (edition_place (inr (inr edition.0)) edition.2) (inr (inr (edition.0, edition.1))) edition.3)))))
-      (store_step x.thunk x.at r v store)
-    where
-      value : v ≡ Made 2 → value_of (next_word (x.reg r) (value_in x.reg v)) ≡ value_of (x.reg 2)
-      value made = ap (λ v. value_of (next_word (x.reg r) (value_in x.reg v))) made ∙ value-next_word (x.reg r) (value_of (x.reg 2)) (value_small (x.reg 2))
-
-      insert_place : form_of x.thunk ≡ Insert → (r ≡ 0 → ⊥) → p ≡ bucket_head own
-      insert_place form ne = ⊎_elim (λ first. absurd (ne first.1)) (λ second. let lock = lock_is in let at = second.2 in omega arith) (insert_loads x.thunk j p r form load)
-
-      remove_place : form_of x.thunk ≡ Remove → (r ≡ 0 → ⊥) → p ≡ operand x.thunk 1
-      remove_place form ne = ⊎_elim (λ first. absurd (ne first.1)) (λ second. second.2) (remove_loads x.thunk j p r form load)
-
-      set_place : form_of x.thunk ≡ Set → (r ≡ 0 → ⊥) → p ≡ operand x.thunk 1
-      set_place form ne = ⊎_elim (λ first. absurd (ne first.1)) (λ second. second.2) (set_loads x.thunk j p r form load)
-
-      edition_place : (form_of x.thunk ≡ Insert) ⊎ (form_of x.thunk ≡ Remove) ⊎ (form_of x.thunk ≡ Set) → r ≡ 0 → p ≡ bucket_edition own
-      edition_place forms none = ⊎_elim
-          (λ form. ⊎_elim (λ first. let lock = lock_is in let at = first.2 in omega arith) (λ second. absurd (let one = second.1 in omega arith)) (insert_loads x.thunk j p r form load))
-          (⊎_elim
-          (λ form. ⊎_elim (λ first. let lock = lock_is in let at = first.2 in omega arith) (λ second. absurd (let one = second.1 in omega arith)) (remove_loads x.thunk j p r form load))
-          (λ form. ⊎_elim (λ first. let lock = lock_is in let at = first.2 in omega arith) (λ second. absurd (let one = second.1 in omega arith)) (set_loads x.thunk j p r form load))) forms
-
-      edition_stored : p ≡ bucket_edition own → ((form_of x.thunk ≡ Insert) × (x.at ≡ 8)) ⊎ ((form_of x.thunk ≡ Remove) × (x.at ≡ 7)) ⊎ ((form_of x.thunk ≡ Set) × (x.at ≡ 7)) → v ≡ Const 0
-          → BucketsKept buckets bucket layout (stored_scene (upd s.cells p (next_word (x.reg r) (value_in x.reg v))))
-      edition_stored place stage zero_value =
-          let next = ap (λ v. version_of (next_word (x.reg r) (value_in x.reg v))) zero_value ∙ version-next_word (x.reg r) 0 (omega arith) in
-          let was = ap version_of (ap s.cells (sym place) ∙ found) in
-          subst (λ p. BucketsKept buckets bucket layout (stored_scene (upd s.cells p (next_word (x.reg r) (value_in x.reg v))))) (sym place)
-          (store_kept (upd s.cells (bucket_edition own) (next_word (x.reg r) (value_in x.reg v))) kept.on kept.rank (edition_change (next_word (x.reg r) (value_in x.reg v)) stage (omega arith)))
-
-      numbered : form_of x.thunk ≡ Remove → x.at ≡ 6 → v ≡ Const (operand x.thunk 3) → value_of (next_word (x.reg r) (value_in x.reg v)) ≡ operand x.thunk 3
-      numbered form at number =
-          let leaves = remove_target buckets bucket layout s sound kept d x here form (omega arith) (omega arith) in
-          let narrow : operand x.thunk 3 < 2 ^ 32 = subst (λ z. z < 2 ^ 32) leaves.next (value_small (s.cells (cell_at buckets bucket (operand x.thunk 2) 3))) in
-          ap (λ v. value_of (next_word (x.reg r) (value_in x.reg v))) number ∙ value-next_word (x.reg r) (operand x.thunk 3) narrow
-
-      link_stored : form_of x.thunk ≡ Remove → x.at ≡ 6 → value_of (next_word (x.reg r) (value_in x.reg v)) ≡ operand x.thunk 3
-          → BucketsKept buckets bucket layout (stored_scene (upd s.cells (operand x.thunk 1) (next_word (x.reg r) (value_in x.reg v))))
-      link_stored form at stored =
-          let word = next_word (x.reg r) (value_in x.reg v) in
-          store_kept (upd s.cells (operand x.thunk 1) word) (upd kept.on (operand x.thunk 2) false) kept.rank
-          (⊎_elim (λ head. remove_head word form at stored head) (λ node. remove_node word form at stored node.0 node.1 node.2) (target word form at stored).link)
+  table_store j p r v store load found =
+      let step = step_of x.thunk x.at (Store r v) store in
+      let h = step.0 in
+      let changes = step.2.0 in
+      let place = load_place x.thunk h step.1 j p r load in
+      ⊎_elim
+      (λ change. subst (KeptAt j p r v load found h step.1 changes) (sym (place.0 change.1))
+      (changed j p r v load found h step.1 changes h.kind refl change.0 change.2))
+      (λ edition. edited j p r v load found h step.1 changes edition.0 (place.1 edition.1) edition.2) step.2.1

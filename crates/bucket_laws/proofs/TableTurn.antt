@@ -1,5 +1,5 @@
 -- The hash table's sections, one after the other, do what the map does.
-use Rattle.std.proofs.Common.{◌≡◌, ◌≢◌, ℕ, zero, suc, ◌+◌, ◌*◌, ◌<◌, Bool, true, false, refl, sym, ap, ◌∙◌, subst, ⊎_elim, arith}
+use Rattle.std.proofs.Common.{◌≡◌, ◌≢◌, ℕ, zero, suc, ◌+◌, ◌*◌, ◌<◌, Bool, true, false, refl, sym, ap, ◌∙◌, subst, inl, ⊎_elim, arith}
 use Rattle.std.proofs.Math.Path.{fun_ext}
 use Rattle.std.specs.Prelude.{◌^◌, Option, Some, None, slice_index}
 use Rattle.std.specs.FinMap.{get}
@@ -12,10 +12,11 @@ use Rattle.map_history.specs.Keys.{key_of, value_given}
 use Rattle.map_history.specs.Replay.{Pairs, reply_of, map_after}
 use Rattle.map_history.specs.Words.{word_of}
 use Rattle.body_terms.specs.Update.{upd}
-use Rattle.body_terms.specs.Word.{value_of}
-use Rattle.section_body.specs.Bucket.{bucket_head, operand}
-use Rattle.body_terms.specs.declared.value.Value.TheVariants.{Const, Made}
-use Rattle.body_terms.specs.declared.step.Step.TheVariants.{Answer}
+use Rattle.body_terms.specs.Word.{value_of, next_word}
+use Rattle.section_body.specs.Bucket.{bucket_edition, bucket_head, operand}
+use Rattle.bucket_bodies.specs.Table.{table_steps}
+use Rattle.body_terms.specs.declared.value.Value.TheVariants.{Made}
+use Rattle.body_terms.specs.declared.step.Step.TheVariants.{Load, Stamp, Store, Answer}
 use Rattle.table_words.specs.declared.layout.Layout.{Layout}
 use Rattle.table_words.specs.Limits.{IsWithinLimits}
 use Rattle.table_words.specs.Places.{slot_count}
@@ -26,22 +27,17 @@ use Rattle.structure_laws.proofs.Changes.{upd_same, upd_other, value-next_word, 
 use Rattle.structure_laws.proofs.Limits.{links_small, value-small}
 use Rattle.bucket_laws.specs.Chain.{Nodes, with_head, with_next, with_value, Chains, Contents}
 use Rattle.bucket_laws.specs.Walk.{Walk, cell_at}
-use Rattle.bucket_laws.specs.Buckets.{Read, Insert, Remove, Set, form_of, nodes, IsFound, IsMissing, BucketsKept, BucketsStand, table}
-use Rattle.bucket_laws.proofs.Chain.{insert, remove_first, remove_next, chains_agree, insert_contents, remove_contents, set_contents, same_on}
-use Rattle.bucket_laws.proofs.Fit.{read_number, insert_number}
-use Rattle.bucket_laws.proofs.Forms.{step_in, stamp_step, answer_step, read_stores, insert_loads, remove_loads, set_loads}
+use Rattle.bucket_laws.specs.Halves.{Kind, Look, Insert, Remove, Set, Half, HasHalf}
+use Rattle.bucket_laws.specs.Buckets.{nodes, IsFound, IsMissing, BucketsKept, BucketsStand, table}
+use Rattle.bucket_laws.proofs.Chain.{insert, top_of, remove_first, remove_next, chains_agree, insert_contents, remove_contents, set_contents, same_on}
+use Rattle.bucket_laws.proofs.Fit.{IsFit}
+use Rattle.bucket_laws.proofs.Halves.{IsHalf, half_is, number_of, number_is, place_is, stored_for, answer_for}
+use Rattle.bucket_laws.proofs.Halves.{IsOf, step_of, half_step}
 use Rattle.bucket_laws.proofs.Maps.{read_reply, insert_reply, remove_reply, set_reply, read_map, insert_map, remove_map, set_map}
-use Rattle.bucket_laws.proofs.NodeChanges.{clip_same, clip_to, clip_in, clip_out}
-use Rattle.bucket_laws.proofs.Sections.{fit, walk_at, read_knows, remove_knows, set_knows, insert_head, insert_missing, remove_target, set_target, insert_remove, read_insert, read_remove, read_set, insert_set, remove_set}
-use Rattle.bucket_laws.proofs.TableGives.{target_on, set_node}
+use Rattle.bucket_laws.proofs.NodeChanges.{head_changed, next_changed, value_changed, none_changed}
+use Rattle.bucket_laws.proofs.Sections.{fit, walk_at, half_lock, knows, insert_head, remove_target, set_target}
+use Rattle.bucket_laws.proofs.TableGives.{live_free, target_on, set_node}
 use Rattle.bucket_laws.proofs.Walks.{bool_cases, head_is, reached_on}
-
-abbrev nodes_from : (a b c e : ℕ → ℕ) → Nodes
-nodes_from a b c e = record { head = a; key = b; value = c; next = e }
-
--- nodes with the same values are the same
-nodes_same : (a b c e a' b' c' e' : ℕ → ℕ) → a ≡ a' → b ≡ b' → c ≡ c' → e ≡ e' → nodes_from a b c e ≡ nodes_from a' b' c' e'
-nodes_same a b c e a' b' c' e' p q r t = ap (λ z. nodes_from z b c e) p ∙ ap (λ z. nodes_from a' z c e) q ∙ ap (λ z. nodes_from a' b' z e) r ∙ ap (λ z. nodes_from a' b' c' z) t
 
 -- contents go by what is looked up
 contents_same : (n : Nodes) (on : ℕ → Bool) (lookup lookup' : ℕ → Option ℕ) → Contents n on lookup → ((key : ℕ) → lookup key ≡ lookup' key) → Contents n on lookup'
@@ -53,9 +49,6 @@ upd_within n on t u low within h = dite (ℕ_discrete u t) (λ e. omega arith) (
 
 pub upd_on : (on : ℕ → Bool) (t u : ℕ) → upd on t false u ≡ true → on u ≡ true
 upd_on on t u h = dite (ℕ_discrete u t) (λ e. absurd (both_ways _ (upd_same on t u false e) h)) (λ ne. sym (upd_other on t u false ne) ∙ h)
-
-live_free : (x : Status) → x ≡ Live → x ≢ Free
-live_free x live free = cc
 
 module _ (buckets : ℕ) (bucket : ℕ → ℕ) (small : (key : ℕ) → bucket key < buckets) (layout : Layout) (limits : IsWithinLimits layout) (s : Scene) (pairs : Pairs) (d : ℕ) (x : Section)
     (before : StandsFor (table buckets bucket) layout s pairs) (stamp : AtStamp (table buckets bucket) s d x) where
@@ -93,43 +86,45 @@ module _ (buckets : ℕ) (bucket : ℕ → ℕ) (small : (key : ℕ) → bucket 
   missing_is : IsMissing buckets bucket s.cells kept.on (key_of x.op) → get pairs (key_of x.op) ≡ None
   missing_is missing = none_is (get pairs (key_of x.op)) (λ v h. let there = stands.contents.slot (key_of x.op) v h in missing there.0 (kept_on there.0 there.1) there.2)
 
-  read_looks : form_of x.thunk ≡ Read → x.at ≡ 2 → (own_walk.found ≡ true → get pairs (key_of x.op) ≡ Some own_walk.value) × (own_walk.found ≡ false → get pairs (key_of x.op) ≡ None)
-  read_looks form at =
-      let knows = read_knows buckets bucket layout s before.sound kept d x here form (omega arith) in
-      (λ found. found_is (knows.1 found), λ missing. missing_is (knows.2 missing))
+  -- its half, at the Stamp
+  step : (h : Half) × HasHalf x h × IsOf x.thunk h x.at Stamp
+  step = step_of x.thunk x.at Stamp stamp.stamp
 
-  insert_looks : form_of x.thunk ≡ Insert → x.at ≡ 6 → get pairs (key_of x.op) ≡ None
-  insert_looks form at = missing_is (insert_missing buckets bucket layout s before.sound kept d x here form (omega arith) (omega arith))
+  abbrev h : Half
+  h = step.0
 
-  remove_looks : form_of x.thunk ≡ Remove → x.at ≡ 5 → get pairs (key_of x.op) ≡ Some own_walk.value
-  remove_looks form at = found_is ((remove_knows buckets bucket layout s before.sound kept d x here form (omega arith) (omega arith)).1 ((fit buckets bucket layout s before.sound kept d x here).remove form).0)
+  has : HasHalf x h
+  has = step.1
 
-  set_looks : form_of x.thunk ≡ Set → x.at ≡ 5 → get pairs (key_of x.op) ≡ Some own_walk.value
-  set_looks form at = found_is ((set_knows buckets bucket layout s before.sound kept d x here form (omega arith) (omega arith)).1 ((fit buckets bucket layout s before.sound kept d x here).sets form).0)
+  half : IsHalf x.thunk (table_steps x.thunk) h
+  half = half_is x.thunk h has
+
+  number : (k : Kind) → h.kind ≡ k → x.thunk.form ≡ number_of k
+  number k kind = number_is x.thunk h has k kind
+
+  changing : (k : Kind) → h.kind ≡ k → (k ≡ Look → ⊥) → h.change < h.edition
+  changing k kind other = half.look.1 (λ e. other (sym kind ∙ e))
+
+  -- what its walk found or missed is in the map or isn't
+  looks : (own_walk.found ≡ true → get pairs (key_of x.op) ≡ Some own_walk.value) × (own_walk.found ≡ false → get pairs (key_of x.op) ≡ None)
+  looks =
+      let known = knows buckets bucket layout s before.sound kept d x h here has step.2.0 step.2.1 in
+      (λ found. found_is (known.1 found), λ missing. missing_is (known.2 missing))
+
+  fits : IsFit buckets bucket x.op own_walk x.thunk
+  fits = fit buckets bucket layout s before.sound kept d x here
 
   pub table_answers : (j n : ℕ) → IsStep (table buckets bucket) x j (Answer n) → n ≡ word_of (reply_of pairs x.op)
-  table_answers j n h =
-      let fits = fit buckets bucket layout s before.sound kept d x here in
-      ⊎_elim
-      (λ read. ⊎_elim
-      (λ answer. let looks = read_looks read.0 read.1 in
-      answer.1 ∙ ap (λ numbers. slice_index numbers 1) fits.operands ∙ read_reply buckets pairs x.op own_walk own_walk.found (sym fits.form ∙ read_number x.thunk read.0) looks.0 looks.1)
-      (⊎_elim (λ answer. absurd (read_insert (form_of x.thunk) read.0 answer.0))
-      (⊎_elim (λ answer. absurd (read_remove (form_of x.thunk) read.0 answer.0)) (λ answer. absurd (read_set (form_of x.thunk) read.0 answer.0)))) (answer_step x.thunk j n h))
-      (⊎_elim
-      (λ insert. ⊎_elim (λ answer. absurd (read_insert (form_of x.thunk) answer.0 insert.0))
-      (⊎_elim (λ answer. answer.1 ∙ insert_reply pairs x.op own_walk.found (sym fits.form ∙ insert_number x.thunk insert.0) (insert_looks insert.0 insert.1))
-      (⊎_elim (λ answer. absurd (insert_remove (form_of x.thunk) insert.0 answer.0)) (λ answer. absurd (insert_set (form_of x.thunk) insert.0 answer.0)))) (answer_step x.thunk j n h))
-      (⊎_elim
-      (λ remove. ⊎_elim (λ answer. absurd (read_remove (form_of x.thunk) answer.0 remove.0))
-      (⊎_elim (λ answer. absurd (insert_remove (form_of x.thunk) answer.0 remove.0))
-      (⊎_elim (λ answer. answer.1 ∙ remove_reply pairs x.op own_walk.value (fits.remove remove.0).1.0 (remove_looks remove.0 remove.1))
-      (λ answer. absurd (remove_set (form_of x.thunk) remove.0 answer.0)))) (answer_step x.thunk j n h))
-      (λ sets. ⊎_elim (λ answer. absurd (read_set (form_of x.thunk) answer.0 sets.0))
-      (⊎_elim (λ answer. absurd (insert_set (form_of x.thunk) answer.0 sets.0))
-      (⊎_elim (λ answer. absurd (remove_set (form_of x.thunk) answer.0 sets.0))
-      (λ answer. let named = (fits.sets sets.0).1 in answer.1 ∙ named.5 ∙ set_reply pairs x.op named.0 named.1 own_walk.value named.2 (set_looks sets.0 sets.1)))) (answer_step x.thunk j n h))))
-      (stamp_step x.thunk x.at stamp.stamp)
+  table_answers j n answers =
+      half_step x.thunk h has j (Answer n) answers ∙ by h.kind refl
+    where
+      by : (k : Kind) → h.kind ≡ k → answer_for k x.thunk ≡ word_of (reply_of pairs x.op)
+      by Look kind = ap (λ numbers. slice_index numbers 1) fits.operands
+          ∙ read_reply buckets pairs x.op own_walk own_walk.found (sym fits.form ∙ number Look kind) looks.0 looks.1
+      by Insert kind = insert_reply pairs x.op own_walk.found (sym fits.form ∙ number Insert kind) (looks.1 (fits.insert (number Insert kind)).0)
+      by Remove kind = let found = fits.remove (number Remove kind) in remove_reply pairs x.op own_walk.value found.1.0 (looks.0 found.0)
+      by Set kind = let found = fits.sets (number Set kind) in let named = found.1 in
+          named.5 ∙ set_reply pairs x.op named.0 named.1 own_walk.value named.2 (looks.0 found.0)
 
   module _ (after : Cells) (stores : AfterStores (table buckets bucket) x s.cells after) where
     abbrev then_nodes : Nodes
@@ -139,67 +134,73 @@ module _ (buckets : ℕ) (bucket : ℕ → ℕ) (small : (key : ℕ) → bucket 
     lock_is = (fit buckets bucket layout s before.sound kept d x here).lock
 
     -- cells that the section doesn't store to
-    insert_same : form_of x.thunk ≡ Insert → (p : ℕ) → p ≢ 3 * own + 1 → p ≢ 3 * own + 2 → after p ≡ s.cells p
-    insert_same form p first second = stores.same p (λ i j r v store load.
-        let lock = lock_is in
-        ⊎_elim (λ edition. first (let at = edition.2 in omega arith)) (λ head. second (let at = head.2 in omega arith)) (insert_loads x.thunk j p r form load))
+    unstored : (p : ℕ) → (h.change < h.edition → (p ≢ 3 * own + 1) × (p ≢ h.target)) → after p ≡ s.cells p
+    unstored p other = stores.same p (λ i j r v store load.
+        let changes = (half_step x.thunk h has i (Store r v) store).0 in
+        ⊎_elim (λ edition. (other changes).0 (edition.2 ∙ ap (λ n. n + 1) (half_lock buckets bucket layout s before.sound kept d x h here has)))
+        (λ target. (other changes).1 target.3) (half_step x.thunk h has j (Load p r) load))
 
-    remove_same : form_of x.thunk ≡ Remove → (p : ℕ) → p ≢ 3 * own + 1 → p ≢ operand x.thunk 1 → after p ≡ s.cells p
-    remove_same form p first second = stores.same p (λ i j r v store load.
-        let lock = lock_is in
-        ⊎_elim (λ edition. first (let at = edition.2 in omega arith)) (λ link. second link.2) (remove_loads x.thunk j p r form load))
+    same_cell : (p : ℕ) → p ≢ 3 * own + 1 → p ≢ h.target → after p ≡ s.cells p
+    same_cell p first second = unstored p (λ changes. (first, second))
 
-    set_same : form_of x.thunk ≡ Set → (p : ℕ) → p ≢ 3 * own + 1 → p ≢ operand x.thunk 1 → after p ≡ s.cells p
-    set_same form p first second = stores.same p (λ i j r v store load.
-        let lock = lock_is in
-        ⊎_elim (λ edition. first (let at = edition.2 in omega arith)) (λ value. second value.2) (set_loads x.thunk j p r form load))
+    -- and the one that its half changes
+    changed : (k : Kind) → h.kind ≡ k → (k ≡ Look → ⊥) → after h.target ≡ next_word (x.reg h.target_reg) (value_in x.reg (stored_for k x.thunk))
+    changed k kind other = let changes = changing k kind other in
+        stores.changed h.change h.load h.target h.target_reg (stored_for h.kind x.thunk) (half.steps changes).2 (half.steps changes).0
+        ∙ ap (λ k. next_word (x.reg h.target_reg) (value_in x.reg (stored_for k x.thunk))) kind
 
     -- a section that reads alone
-    read_stands : form_of x.thunk ≡ Read → x.at ≡ 2 → BucketsStand buckets bucket (slot_count layout 0) after (map_after pairs x.op)
-    read_stands form at =
-        let fits = fit buckets bucket layout s before.sound kept d x here in
-        let same : s.cells ≡ after = fun_ext (λ p. sym (stores.same p (λ i j r v store load. read_stores x.thunk i r v form store))) in
-        let looks = read_looks form at in
+    read_stands : h.kind ≡ Look → BucketsStand buckets bucket (slot_count layout 0) after (map_after pairs x.op)
+    read_stands kind =
+        let same : s.cells ≡ after = fun_ext (λ p. sym (unstored p (λ lt. let none = half.look.0 kind in absurd (omega arith)))) in
         subst (λ cells. BucketsStand buckets bucket (slot_count layout 0) cells (map_after pairs x.op)) same
         (record {
           on = stands.on;
           rank = stands.rank;
           within = stands.within;
           chains = stands.chains;
-          contents = contents_same now stands.on (get pairs) (get (map_after pairs x.op)) stands.contents (read_map pairs x.op own_walk.value own_walk.found (sym fits.form ∙ read_number x.thunk form) looks.0 looks.1);
+          contents = contents_same now stands.on (get pairs) (get (map_after pairs x.op)) stands.contents
+              (read_map pairs x.op own_walk.value own_walk.found (sym fits.form ∙ number Look kind) looks.0 looks.1);
         })
 
-    -- the heads after a head has changed
-    heads_after : (link : ℕ) → ((j : ℕ) → j < buckets → j ≢ own → after (3 * j + 2) ≡ s.cells (3 * j + 2)) → value_of (after (3 * own + 2)) ≡ link → upd now.head own link ≡ then_nodes.head
-    heads_after link same stored = fun_ext (λ j. clip_to j buckets (value_of (after (bucket_head j))) (upd now.head own link j)
-        (λ low. dite (ℕ_discrete j own) (λ e. upd_same now.head own j link e ∙ sym stored ∙ ap (λ i. value_of (after (3 * i + 2))) (sym e))
-        (λ ne. upd_other now.head own j link ne ∙ clip_in j buckets (value_of (s.cells (bucket_head j))) low ∙ ap value_of (sym (same j low ne))))
-        (λ high. upd_other now.head own j link (λ e. let low = small (key_of x.op) in omega arith) ∙ clip_out j buckets (value_of (s.cells (bucket_head j))) high))
+    -- the cells are those after this change and that of the edition, and the nodes those after this change
+    after_is : upd (upd s.cells h.target (after h.target)) (bucket_edition own) (after (bucket_edition own)) ≡ after
+    after_is = fun_ext (λ p. dite (ℕ_discrete p (bucket_edition own))
+        (λ e. upd_same (upd s.cells h.target (after h.target)) (bucket_edition own) p (after (bucket_edition own)) e ∙ ap after (sym e))
+        (λ first. upd_other (upd s.cells h.target (after h.target)) (bucket_edition own) p (after (bucket_edition own)) first
+        ∙ dite (ℕ_discrete p h.target) (λ e. upd_same s.cells h.target p (after h.target) e ∙ ap after (sym e))
+        (λ second. upd_other s.cells h.target p (after h.target) second ∙ sym (same_cell p first second))))
+
+    nodes_after : (p : ℕ) → h.target ≡ p → nodes buckets bucket (upd s.cells p (after h.target)) ≡ then_nodes
+    nodes_after p place = let low = small (key_of x.op) in ap (λ p. nodes buckets bucket (upd s.cells p (after h.target))) (sym place)
+        ∙ none_changed buckets bucket (upd s.cells h.target (after h.target)) (bucket_edition own) (after (bucket_edition own))
+        (λ j lower e. omega arith) (λ u k first last e. omega arith) ∙ ap (nodes buckets bucket) after_is
 
     -- a new node at the head
-    insert_stands : form_of x.thunk ≡ Insert → x.at ≡ 6 → BucketsStand buckets bucket (slot_count layout 0) after (map_after pairs x.op)
-    insert_stands form at =
-        let fits = fit buckets bucket layout s before.sound kept d x here in
-        let made = kept.made d x here form (omega arith) (omega arith) in
-        let t = made.slot in
+    insert_stands : h.kind ≡ Insert → BucketsStand buckets bucket (slot_count layout 0) after (map_after pairs x.op)
+    insert_stands kind =
+        let lt = half.insert.0 kind in
+        let made = kept.made d x h here has (step.2.2 lt, step.2.1) in
+        let t = made.0 in
+        let held = kept.owned d x t here (h, has, inl ((step.2.2 lt, step.2.1), made.1)) in
         let low = small (key_of x.op) in
-        let within = before.sound.within t (live_free (s.status t) made.live) in
+        let within = before.sound.within t (live_free (s.status t) held.0) in
         let narrow = links_small layout 0 t limits (omega arith) within in
         let lock = lock_is in
-        let named = (fits.insert form).1 in
-        let key : now.key t ≡ key_of x.op = made.key ∙ named.3 ∙ sym named.2.0 in
-        let none = insert_looks form at in
-        let out : stands.on t ≡ false = bool_cases (stands.on t) (λ on. absurd (both_ways _ made.out (kept_on t on))) (λ off. off) in
-        let stored : value_of (after (3 * own + 2)) ≡ suc t =
-        ap (λ p. value_of (after p)) (omega arith) ∙ ap value_of (stores.changed 7 3 (x.thunk.lock + 2) 1 (Made 2) (step_in x.thunk Insert 7 form) (step_in x.thunk Insert 3 form))
-        ∙ value-next_word (x.reg 1) (value_in x.reg (Made 2)) (value_small (x.reg 2)) ∙ ap value_of made.link ∙ value-small (suc t) narrow in
-        let same : with_head now own (suc t) ≡ then_nodes = nodes_same _ _ _ _ _ _ _ _
-        (heads_after (suc t) (λ j lower ne. insert_same form (3 * j + 2) (λ e. omega arith) (λ e. ne (omega arith))) stored)
-        (fun_ext (λ u. ap value_of (sym (insert_same form (3 * buckets + 5 * u + 1) (λ e. omega arith) (λ e. omega arith)))))
-        (fun_ext (λ u. ap value_of (sym (insert_same form (3 * buckets + 5 * u + 2) (λ e. omega arith) (λ e. omega arith)))))
-        (fun_ext (λ u. ap value_of (sym (insert_same form (3 * buckets + 5 * u + 3) (λ e. omega arith) (λ e. omega arith))))) in
-        let top = top_of (now.head own) refl in
-        let first : now.next t ≡ now.head own = made.next ∙ insert_head buckets bucket layout s before.sound kept d x here form (omega arith) (omega arith) ∙ sym (head_is buckets bucket small s.cells (key_of x.op)) in
+        let target = place_is x.thunk h has Insert kind in
+        let place : h.target ≡ 3 * own + 2 = omega arith in
+        let fit = fits.insert (number Insert kind) in
+        let named = fit.1 in
+        let key : now.key t ≡ key_of x.op = made.2.key ∙ named.3 ∙ sym named.2.0 in
+        let none = looks.1 fit.0 in
+        let out : stands.on t ≡ false = bool_cases (stands.on t) (λ on. absurd (both_ways _ held.1 (kept_on t on))) (λ off. off) in
+        let stored : value_of (after h.target) ≡ suc t = ap value_of (changed Insert kind (λ e. cc))
+        ∙ value-next_word (x.reg h.target_reg) (value_in x.reg (Made 2)) (value_small (x.reg 2))
+        ∙ ap value_of (ap x.reg (sym half.registers.1) ∙ made.1) ∙ value-small (suc t) narrow in
+        let same : with_head now own (suc t) ≡ then_nodes = ap (with_head now own) (sym stored)
+        ∙ head_changed buckets bucket s.cells own (after h.target) low ∙ nodes_after (bucket_head own) place in
+        let top = top_of bucket now stands.on stands.rank stands.chains own in
+        let first : now.next t ≡ now.head own = made.2.next ∙ insert_head buckets bucket layout s before.sound kept d x h here has step.2.0 step.2.1 kind ∙ sym (head_is buckets bucket small s.cells (key_of x.op)) in
         let new : (u : ℕ) → stands.on u ≡ true → now.key u ≢ now.key t = λ u on e. none-some _ (sym (ap (get pairs) (e ∙ key) ∙ none) ∙ stands.contents.pair u on) in
         record {
           on = upd stands.on t true;
@@ -210,52 +211,38 @@ module _ (buckets : ℕ) (bucket : ℕ → ℕ) (small : (key : ℕ) → bucket 
           contents = contents_same then_nodes (upd stands.on t true) (upd (get pairs) (now.key t) (Some (now.value t))) (get (map_after pairs x.op))
               (subst (λ n. Contents n (upd stands.on t true) (upd (get pairs) (now.key t) (Some (now.value t)))) same
               (insert_contents now stands.on (get pairs) stands.contents own t out (ap (get pairs) key ∙ none)))
-              (λ q. ap (λ k. upd (get pairs) k (Some (now.value t)) q) (key ∙ named.2.0) ∙ ap (λ v. upd (get pairs) named.0 (Some v) q) (made.value ∙ named.4)
+              (λ q. ap (λ k. upd (get pairs) k (Some (now.value t)) q) (key ∙ named.2.0) ∙ ap (λ v. upd (get pairs) named.0 (Some v) q) (made.2.value ∙ named.4)
               ∙ insert_map pairs x.op named.0 named.1 named.2 (ap (get pairs) (sym named.2.0) ∙ none) q);
         }
-      where
-        top_of : (link : ℕ) → now.head own ≡ link → (top : ℕ) × ((u : ℕ) → stands.on u ≡ true → bucket (now.key u) ≡ own → stands.rank u < top)
-        top_of zero e = (0, λ u on of. absurd (stands.chains.head_none own u e on of))
-        top_of (suc t) e = (suc (stands.rank t), λ u on of. let lower = stands.chains.head_top own t u e on of in omega arith)
 
     -- a node taken out
-    remove_stands : form_of x.thunk ≡ Remove → x.at ≡ 5 → BucketsStand buckets bucket (slot_count layout 0) after (map_after pairs x.op)
-    remove_stands form at =
-        let target = remove_target buckets bucket layout s before.sound kept d x here form (omega arith) (omega arith) in
-        let fits = fit buckets bucket layout s before.sound kept d x here in
+    remove_stands : h.kind ≡ Remove → BucketsStand buckets bucket (slot_count layout 0) after (map_after pairs x.op)
+    remove_stands kind =
+        let target = remove_target buckets bucket layout s before.sound kept d x h here has step.2.0 step.2.1 kind in
         let t = operand x.thunk 2 in
-        let on_t : stands.on t ≡ true = stands_on t (target_on buckets bucket small layout s before.sound kept d x here form (omega arith) (omega arith)) in
+        let on_t : stands.on t ≡ true = stands_on t (target_on buckets bucket small layout s before.sound kept d x h here has step.2.0 step.2.1 kind) in
         let narrow : operand x.thunk 3 < 2 ^ 32 = subst (λ z. z < 2 ^ 32) target.next (value_small (s.cells (cell_at buckets bucket t 3))) in
         let low = small (key_of x.op) in
-        let stored : value_of (after (operand x.thunk 1)) ≡ operand x.thunk 3 =
-        ap value_of (stores.changed 6 3 (operand x.thunk 1) 1 (Const (operand x.thunk 3)) (step_in x.thunk Remove 6 form) (step_in x.thunk Remove 3 form))
-        ∙ value-next_word (x.reg 1) (operand x.thunk 3) narrow in
+        let stored : value_of (after h.target) ≡ operand x.thunk 3 =
+        ap value_of (changed Remove kind (λ e. cc)) ∙ value-next_word (x.reg h.target_reg) (operand x.thunk 3) narrow in
         ⊎_elim
         (λ head.
-        let same : with_head now own (operand x.thunk 3) ≡ then_nodes = nodes_same _ _ _ _ _ _ _ _
-        (heads_after (operand x.thunk 3) (λ j lower ne. remove_same form (3 * j + 2) (λ e. omega arith) (λ e. ne (omega arith))) (ap (λ p. value_of (after p)) (sym head) ∙ stored))
-        (fun_ext (λ u. ap value_of (sym (remove_same form (3 * buckets + 5 * u + 1) (λ e. omega arith) (λ e. omega arith)))))
-        (fun_ext (λ u. ap value_of (sym (remove_same form (3 * buckets + 5 * u + 2) (λ e. omega arith) (λ e. omega arith)))))
-        (fun_ext (λ u. ap value_of (sym (remove_same form (3 * buckets + 5 * u + 3) (λ e. omega arith) (λ e. omega arith))))) in
+        let same : with_head now own (operand x.thunk 3) ≡ then_nodes = ap (with_head now own) (sym stored)
+        ∙ head_changed buckets bucket s.cells own (after h.target) low ∙ nodes_after (bucket_head own) head in
         let link : now.head own ≡ suc t = head_is buckets bucket small s.cells (key_of x.op) ∙ ap (λ p. value_of (s.cells p)) (sym head) ∙ target.leads in
-        finish form target.key on_t (with_head now own (operand x.thunk 3)) same refl refl
+        finish kind target.key on_t (with_head now own (operand x.thunk 3)) same refl refl
         (subst (λ link. Chains bucket (with_head now own link) (upd stands.on t false) stands.rank) target.next (remove_first bucket now stands.on stands.rank stands.chains own t link)))
         (λ node.
-        let same : with_next now node.0 (operand x.thunk 3) ≡ then_nodes = nodes_same _ _ _ _ _ _ _ _
-        (fun_ext (λ j. clip_same j buckets (value_of (s.cells (bucket_head j))) (value_of (after (bucket_head j))) (λ lower. ap value_of (sym (remove_same form (3 * j + 2) (λ e. omega arith) (λ e. let at = node.2 in omega arith))))))
-        (fun_ext (λ u. ap value_of (sym (remove_same form (3 * buckets + 5 * u + 1) (λ e. omega arith) (λ e. let at = node.2 in omega arith)))))
-        (fun_ext (λ u. ap value_of (sym (remove_same form (3 * buckets + 5 * u + 2) (λ e. omega arith) (λ e. let at = node.2 in omega arith)))))
-        (fun_ext (λ u. dite (ℕ_discrete u node.0)
-        (λ e. upd_same now.next node.0 u (operand x.thunk 3) e ∙ sym stored ∙ ap (λ p. value_of (after p)) (node.2 ∙ ap (λ u. 3 * buckets + 5 * u + 3) (sym e)))
-        (λ ne. upd_other now.next node.0 u (operand x.thunk 3) ne ∙ ap value_of (sym (remove_same form (3 * buckets + 5 * u + 3) (λ e. omega arith) (λ e. ne (let at = node.2 in omega arith))))))) in
+        let same : with_next now node.0 (operand x.thunk 3) ≡ then_nodes = ap (with_next now node.0) (sym stored)
+        ∙ next_changed buckets bucket s.cells node.0 (after h.target) ∙ nodes_after (cell_at buckets bucket node.0 3) node.2 in
         let link : now.next node.0 ≡ suc t = ap (λ p. value_of (s.cells p)) (sym node.2) ∙ target.leads in
-        finish form target.key on_t (with_next now node.0 (operand x.thunk 3)) same refl refl
+        finish kind target.key on_t (with_next now node.0 (operand x.thunk 3)) same refl refl
         (subst (λ link. Chains bucket (with_next now node.0 link) (upd stands.on t false) stands.rank) target.next (remove_next bucket now stands.on stands.rank stands.chains node.0 t (stands_on node.0 node.1.0) link)))
         target.link
       where
-        finish : form_of x.thunk ≡ Remove → now.key (operand x.thunk 2) ≡ key_of x.op → stands.on (operand x.thunk 2) ≡ true → (n : Nodes) → n ≡ then_nodes → n.key ≡ now.key → n.value ≡ now.value
+        finish : h.kind ≡ Remove → now.key (operand x.thunk 2) ≡ key_of x.op → stands.on (operand x.thunk 2) ≡ true → (n : Nodes) → n ≡ then_nodes → n.key ≡ now.key → n.value ≡ now.value
             → Chains bucket n (upd stands.on (operand x.thunk 2) false) stands.rank → BucketsStand buckets bucket (slot_count layout 0) after (map_after pairs x.op)
-        finish form key on n same keys values chains = record {
+        finish kind key on n same keys values chains = record {
           on = upd stands.on (operand x.thunk 2) false;
           rank = stands.rank;
           within = λ u on. stands.within u (upd_on stands.on (operand x.thunk 2) u on);
@@ -263,28 +250,21 @@ module _ (buckets : ℕ) (bucket : ℕ → ℕ) (small : (key : ℕ) → bucket 
           contents = contents_same then_nodes (upd stands.on (operand x.thunk 2) false) (upd (get pairs) (now.key (operand x.thunk 2)) None) (get (map_after pairs x.op))
               (subst (λ n. Contents n (upd stands.on (operand x.thunk 2) false) (upd (get pairs) (now.key (operand x.thunk 2)) None)) same
               (remove_contents now n stands.on (get pairs) stands.contents (operand x.thunk 2) keys values on (λ u on_u e. stands.chains.key_once u (operand x.thunk 2) on_u on e)))
-              (λ q. ap (λ k. upd (get pairs) k None q) key ∙ remove_map pairs x.op ((fit buckets bucket layout s before.sound kept d x here).remove form).1.0 q);
+              (λ q. ap (λ k. upd (get pairs) k None q) key ∙ remove_map pairs x.op (fits.remove (number Remove kind)).1.0 q);
         }
 
     -- a node with a new value
-    set_stands : form_of x.thunk ≡ Set → x.at ≡ 5 → BucketsStand buckets bucket (slot_count layout 0) after (map_after pairs x.op)
-    set_stands form at =
-        let target = set_target buckets bucket layout s before.sound kept d x here form (omega arith) (omega arith) in
-        let named = ((fit buckets bucket layout s before.sound kept d x here).sets form).1 in
+    set_stands : h.kind ≡ Set → BucketsStand buckets bucket (slot_count layout 0) after (map_after pairs x.op)
+    set_stands kind =
+        let target = set_target buckets bucket layout s before.sound kept d x h here has step.2.0 step.2.1 kind in
+        let named = (fits.sets (number Set kind)).1 in
         let t = own_walk.slot in
-        let on_t : stands.on t ≡ true = stands_on t (set_node buckets bucket small layout s before.sound kept d x here form (omega arith) (omega arith)).0 in
+        let on_t : stands.on t ≡ true = stands_on t (set_node buckets bucket small layout s before.sound kept d x h here has step.2.0 step.2.1 kind).0 in
         let narrow : operand x.thunk 2 < 2 ^ 32 = (let low = (before.sound.allowed d x here).value named.1 (ap value_given named.2) in let at = named.4 in omega arith) in
-        let stored : value_of (after (3 * buckets + 5 * t + 2)) ≡ operand x.thunk 2 =
-        ap (λ p. value_of (after p)) (sym target.place) ∙ ap value_of (stores.changed 6 3 (operand x.thunk 1) 1 (Const (operand x.thunk 2)) (step_in x.thunk Set 6 form) (step_in x.thunk Set 3 form))
-        ∙ value-next_word (x.reg 1) (operand x.thunk 2) narrow in
-        let low = small (key_of x.op) in
-        let same : with_value now t (operand x.thunk 2) ≡ then_nodes = nodes_same _ _ _ _ _ _ _ _
-        (fun_ext (λ j. clip_same j buckets (value_of (s.cells (bucket_head j))) (value_of (after (bucket_head j))) (λ lower. ap value_of (sym (set_same form (3 * j + 2) (λ e. omega arith) (λ e. let at = target.place in omega arith))))))
-        (fun_ext (λ u. ap value_of (sym (set_same form (3 * buckets + 5 * u + 1) (λ e. omega arith) (λ e. let at = target.place in omega arith)))))
-        (fun_ext (λ u. dite (ℕ_discrete u t)
-        (λ e. upd_same now.value t u (operand x.thunk 2) e ∙ sym stored ∙ ap (λ u. value_of (after (3 * buckets + 5 * u + 2))) (sym e))
-        (λ ne. upd_other now.value t u (operand x.thunk 2) ne ∙ ap value_of (sym (set_same form (3 * buckets + 5 * u + 2) (λ e. omega arith) (λ e. ne (let at = target.place in omega arith)))))))
-        (fun_ext (λ u. ap value_of (sym (set_same form (3 * buckets + 5 * u + 3) (λ e. omega arith) (λ e. let at = target.place in omega arith))))) in
+        let stored : value_of (after h.target) ≡ operand x.thunk 2 =
+        ap value_of (changed Set kind (λ e. cc)) ∙ value-next_word (x.reg h.target_reg) (operand x.thunk 2) narrow in
+        let same : with_value now t (operand x.thunk 2) ≡ then_nodes = ap (with_value now t) (sym stored)
+        ∙ value_changed buckets bucket s.cells t (after h.target) ∙ nodes_after (cell_at buckets bucket t 2) target.place in
         record {
           on = stands.on;
           rank = stands.rank;
@@ -299,4 +279,10 @@ module _ (buckets : ℕ) (bucket : ℕ → ℕ) (small : (key : ℕ) → bucket 
         }
 
     pub table_stores : BucketsStand buckets bucket (slot_count layout 0) after (map_after pairs x.op)
-    table_stores = ⊎_elim (λ read. read_stands read.0 read.1) (⊎_elim (λ insert. insert_stands insert.0 insert.1) (⊎_elim (λ remove. remove_stands remove.0 remove.1) (λ sets. set_stands sets.0 sets.1))) (stamp_step x.thunk x.at stamp.stamp)
+    table_stores = by h.kind refl
+      where
+        by : (k : Kind) → h.kind ≡ k → BucketsStand buckets bucket (slot_count layout 0) after (map_after pairs x.op)
+        by Look kind = read_stands kind
+        by Insert kind = insert_stands kind
+        by Remove kind = remove_stands kind
+        by Set kind = set_stands kind

@@ -4,7 +4,7 @@ use Rattle.std.specs.Prelude.{◌==◌, ◌&&◌, not, ◌-◌, ◌⊎◌, nat_l
 use Rattle.std.proofs.lemmas.Option.{none-some}
 use Rattle.std.proofs.lemmas.Bool.{both_ways}
 use Rattle.small_lemmas.proofs.Lists.{same_number as some_eq}
-use Rattle.small_lemmas.proofs.Numbers.{tested_equal as is_eq, tested_other as is_not, zero_not_suc as zero_suc}
+use Rattle.small_lemmas.proofs.Numbers.{suc_equal, tested_equal as is_eq, tested_other as is_not, zero_not_suc as zero_suc}
 use Rattle.map_history.specs.declared.op.Op.{Op}
 use Rattle.map_history.specs.Keys.{key_of}
 use Rattle.body_terms.specs.Word.{value_of, is_free, is_spent}
@@ -52,13 +52,10 @@ module _ (buckets : ℕ) (bucket : ℕ → ℕ) (small : (key : ℕ) → bucket 
       lower : rank u < rank s
       lower =
           let here = ahead u on_u same in
-          let at : s ≡ here.0 = suc_eq s here.0 here.1 in
+          let at : s ≡ here.0 = suc_equal s here.0 here.1 in
           let le : rank u ≤ rank s = subst (λ z. rank u ≤ rank z) (sym at) here.2 in
           let ne : rank u ≢ rank s = λ e. other (sym (ap (λ z. value_of (cells (cell_at buckets bucket z 1))) (chains.rank_once u s on_u node.0 (ap bucket same ∙ sym node.1) e)) ∙ same) in
           omega arith
-        where
-          suc_eq : (a b : ℕ) → suc a ≡ suc b → a ≡ b
-          suc_eq a b e = omega arith
 
       split : (link : ℕ) → value_of (cells (cell_at buckets bucket s 3)) ≡ link → (t : ℕ) × (link ≡ suc t) × (rank u ≤ rank t)
       split zero e = absurd (let last = chains.next_none s u node.0 e on_u (ap bucket same ∙ sym node.1) in let below = lower in omega arith)

@@ -1,51 +1,24 @@
 -- The hash table: its meaning, and what it keeps in every scene.
-use Rattle.std.specs.Prelude.{ℕ, suc, ◌+◌, ◌*◌, ◌-◌, ◌/◌, ◌%◌, ◌^◌, ◌<◌, ◌≤◌, ◌≡◌, ◌≢◌, ◌⊎◌, Bool, true, false, cond, ◌&&◌, ◌==◌, nat_lt, List, [], Some, slice_get}
+use Rattle.std.specs.Prelude.{ℕ, suc, ◌+◌, ◌*◌, ◌-◌, ◌/◌, ◌%◌, ◌^◌, ◌<◌, ◌≤◌, ◌≡◌, ◌≢◌, ◌⊎◌}
+use Rattle.std.specs.Prelude.{Bool, true, false, cond, ◌&&◌, ◌==◌, nat_lt, Some, slice_get}
 use Rattle.std.specs.List.{list_any}
 use Rattle.std.specs.FinMap.{get}
 use Rattle.map_history.specs.declared.op.Op.{Op}
 use Rattle.map_history.specs.Keys.{key_of}
 use Rattle.map_history.specs.Replay.{Pairs}
 use Rattle.body_terms.specs.Word.{value_of}
-use Rattle.section_body.specs.Bucket.{bucket_index, bucket_lock, bucket_edition, bucket_head, operand, fits_read, fits_insert, fits_remove, read_steps, insert_steps, remove_steps}
-use Rattle.bucket_bodies.specs.Table.{fits_set, set_steps, table_steps}
-use Rattle.body_terms.specs.declared.step.Step.{Step}
+use Rattle.section_body.specs.Bucket.{bucket_index, bucket_lock, bucket_edition, bucket_head, operand}
+use Rattle.bucket_bodies.specs.Table.{table_steps}
 use Rattle.body_terms.specs.declared.thunk.Thunk.{Thunk}
 use Rattle.table_words.specs.declared.layout.Layout.{Layout}
 use Rattle.table_words.specs.Places.{slot_count}
 use Rattle.structure_laws.specs.Scene.{Cells, Readings, Section, Live, Retired, Scene}
 use Rattle.structure_laws.specs.Meaning.{Meaning}
 use Rattle.bucket_laws.specs.Chain.{Nodes, Chains, Contents}
-use Rattle.bucket_laws.specs.Walk.{Stage, AtEdition, AtLink, AtKey, AtValue, AtNext, AtLock, AtEnd, Refused, Walk, start, is_del, Bounds, cell_at, walk, fits_walk}
-
--- what a thunk's section does: it reads alone, puts a new node at a head, takes a node out, sets the value of one, or
--- has no body
-pub data Form : Type 0 where
-  Read : Form
-  Insert : Form
-  Remove : Form
-  Set : Form
-  Empty : Form
-
-abbrev pub form_of : Thunk → Form
-form_of t =
-    cond (t.form == 4) (cond (fits_set t) Set Empty)
-    (cond (t.form == 1) (cond (fits_read t) Read Empty)
-    (cond (t.form == 2) (cond (fits_insert t) Insert Empty)
-    (cond (t.form == 3) (cond (fits_remove t) Remove Empty)
-    Empty)))
-
-abbrev pub body_of : Form → Thunk → List Step
-body_of Read t = read_steps t
-body_of Insert t = insert_steps t
-body_of Remove t = remove_steps t
-body_of Set t = set_steps t
-body_of Empty t = []
-
--- the section has changed its chain, or a value in it, and not yet its edition
-abbrev pub IsPending : Section → ℕ → Type 0
-IsPending x i = (x.thunk.lock ≡ bucket_lock i)
-    × (((form_of x.thunk ≡ Insert) × (x.at ≡ 8)) ⊎ ((form_of x.thunk ≡ Remove) × (x.at ≡ 7))
-    ⊎ ((form_of x.thunk ≡ Set) × (x.at ≡ 7)))
+use Rattle.bucket_laws.specs.Halves.{Kind, Look, Insert, Remove, Set, Half}
+use Rattle.bucket_laws.specs.Halves.{HasHalf, IsMaking, IsTaking, IsPending, Owns}
+use Rattle.bucket_laws.specs.Walk.{Stage, AtEdition, AtLink, AtKey, AtValue, AtNext, AtLock, AtEnd, Refused}
+use Rattle.bucket_laws.specs.Walk.{Walk, start, is_del, Bounds, cell_at, walk, fits_walk}
 
 module _ (buckets : ℕ) (bucket : ℕ → ℕ) where
   -- the links of the chains
@@ -77,6 +50,13 @@ module _ (buckets : ℕ) (bucket : ℕ → ℕ) where
   -- this place is the cell of a value in the chain of bucket i
   abbrev pub IsValueOf : Cells → (ℕ → Bool) → ℕ → ℕ → Type 0
   IsValueOf cells on i p = (t : ℕ) × IsNode cells on i t × (p ≡ cell_at buckets bucket t 2)
+
+  -- this place is what a half of this kind changes in bucket i
+  abbrev pub IsTargetOf : Kind → Cells → (ℕ → Bool) → ℕ → ℕ → Type 0
+  IsTargetOf Look cells on i p = ⊥
+  IsTargetOf Insert cells on i p = p ≡ bucket_head i
+  IsTargetOf Remove cells on i p = IsLinkOf cells on i p
+  IsTargetOf Set cells on i p = IsValueOf cells on i p
 
   -- a node with this key stands at this link or behind it
   abbrev pub IsAhead : Cells → (ℕ → Bool) → (ℕ → ℕ) → ℕ → ℕ → Type 0
@@ -131,24 +111,16 @@ module _ (buckets : ℕ) (bucket : ℕ → ℕ) where
   abbrev pub walk_of : Layout → Op → Readings → Walk
   walk_of layout op readings = walk buckets bucket (bounds layout) op start readings
 
-  -- a section's new node: live, in no chain, with what its Init gave
-  pub record IsMade (s : Scene) (on : ℕ → Bool) (x : Section) : Type 0 where
-    pub slot : ℕ
-    pub link : x.reg 2 ≡ suc slot
-    pub live : s.status slot ≡ Live
-    pub out : on slot ≡ false
-    pub key : value_of (s.cells (cell_at buckets bucket slot 1)) ≡ operand x.thunk 1
-    pub value : value_of (s.cells (cell_at buckets bucket slot 2)) ≡ operand x.thunk 2
-    pub next : value_of (s.cells (cell_at buckets bucket slot 3)) ≡ operand x.thunk 3
+  -- a new node holds what the Init of this thunk's body gave
+  pub record IsMade (cells : Cells) (thunk : Thunk) (slot : ℕ) : Type 0 where
+    pub key : value_of (cells (cell_at buckets bucket slot 1)) ≡ operand thunk 1
+    pub value : value_of (cells (cell_at buckets bucket slot 2)) ≡ operand thunk 2
+    pub next : value_of (cells (cell_at buckets bucket slot 3)) ≡ operand thunk 3
 
-  -- the node that a section has taken out: live, in no chain, with the operation's key, and its link leads into the
-  -- chain of its bucket
-  pub record IsTaken (s : Scene) (on : ℕ → Bool) (x : Section) : Type 0 where
-    pub live : s.status (operand x.thunk 2) ≡ Live
-    pub out : on (operand x.thunk 2) ≡ false
-    pub key : value_of (s.cells (cell_at buckets bucket (operand x.thunk 2) 1)) ≡ key_of x.op
-    pub next : (t : ℕ) → value_of (s.cells (cell_at buckets bucket (operand x.thunk 2) 3)) ≡ suc t
-        → IsNode s.cells on (bucket (key_of x.op)) t
+  -- a node with this key was taken out: its link leads into the chain of its bucket
+  pub record IsTaken (cells : Cells) (on : ℕ → Bool) (gone sought : ℕ) : Type 0 where
+    pub key : value_of (cells (cell_at buckets bucket gone 1)) ≡ sought
+    pub next : (t : ℕ) → value_of (cells (cell_at buckets bucket gone 3)) ≡ suc t → IsNode cells on (bucket sought) t
 
   pub record BucketsKept (layout : Layout) (s : Scene) : Type 0 where
     pub on : ℕ → Bool
@@ -159,20 +131,19 @@ module _ (buckets : ℕ) (bucket : ℕ → ℕ) where
         → IsWalked s on rank op (walk_of layout op readings)
     pub sections : (d : ℕ) (x : Section) → s.section d ≡ Some x
         → IsWalked s on rank x.op (walk_of layout x.op x.readings)
-    pub made : (d : ℕ) (x : Section) → s.section d ≡ Some x → form_of x.thunk ≡ Insert → 6 ≤ x.at → x.at ≤ 7
-        → IsMade s on x
-    pub linked : (d : ℕ) (x : Section) → s.section d ≡ Some x → form_of x.thunk ≡ Remove → 3 ≤ x.at
-        → IsLinkOf s.cells on (bucket (key_of x.op)) (operand x.thunk 1)
-    pub valued : (d : ℕ) (x : Section) → s.section d ≡ Some x → form_of x.thunk ≡ Set → 3 ≤ x.at
-        → IsValueOf s.cells on (bucket (key_of x.op)) (operand x.thunk 1)
-    pub taken : (d : ℕ) (x : Section) → s.section d ≡ Some x → form_of x.thunk ≡ Remove → 7 ≤ x.at → x.at ≤ 8
-        → IsTaken s on x
-    -- a live slot stands in a chain, or is a section's new node, or one that it has taken out
-    pub live : (t : ℕ) → s.status t ≡ Live → (on t ≡ true)
-        ⊎ ((d : ℕ) × (x : Section) × (s.section d ≡ Some x) × (form_of x.thunk ≡ Insert) × (6 ≤ x.at) × (x.at ≤ 7)
-        × (x.reg 2 ≡ suc t))
-        ⊎ ((d : ℕ) × (x : Section) × (s.section d ≡ Some x) × (form_of x.thunk ≡ Remove) × (7 ≤ x.at) × (x.at ≤ 8)
-        × (operand x.thunk 2 ≡ t))
+    -- the node that a half has made and not linked; what a half changes, once it is loaded; and the node that it has
+    -- taken out and not retired
+    pub made : (d : ℕ) (x : Section) (h : Half) → s.section d ≡ Some x → HasHalf x h → IsMaking x h
+        → (t : ℕ) × (x.reg h.node_reg ≡ suc t) × IsMade s.cells x.thunk t
+    pub target : (d : ℕ) (x : Section) (h : Half) → s.section d ≡ Some x → HasHalf x h → h.change < h.edition
+        → h.load ≤ x.at → IsTargetOf h.kind s.cells on (bucket (key_of x.op)) h.target
+    pub taken : (d : ℕ) (x : Section) (h : Half) → s.section d ≡ Some x → HasHalf x h → IsTaking x h
+        → IsTaken s.cells on (operand x.thunk 2) (key_of x.op)
+    -- what a section holds is live and in no chain, and a live slot stands in a chain, or a section holds it
+    pub owned : (d : ℕ) (x : Section) (t : ℕ) → s.section d ≡ Some x → Owns x t
+        → (s.status t ≡ Live) × (on t ≡ false)
+    pub live : (t : ℕ) → s.status t ≡ Live
+        → (on t ≡ true) ⊎ ((d : ℕ) × (x : Section) × (s.section d ≡ Some x) × Owns x t)
     pub limbo : (q y t : ℕ) → s.status q ≡ Retired y → s.epoch ≤ y + 1
         → value_of (s.cells (cell_at buckets bucket q 3)) ≡ suc t
         → (s.status t ≡ Live) ⊎ ((z : ℕ) × (s.status t ≡ Retired z) × (y ≤ z))

@@ -1,5 +1,6 @@
 pub mod Chain
 pub mod Walk
+pub mod Halves
 pub mod Buckets
 pub mod Short
 -- Passed on to the layers above, so that they needn't name this library themselves.
