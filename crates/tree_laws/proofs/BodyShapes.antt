@@ -1,7 +1,7 @@
 -- The tree's bodies have the shape of a body.
 use Rattle.std.proofs.Common.{◌≡◌, ◌≢◌, ℕ, zero, suc, ◌+◌, ◌*◌, ◌<◌, ◌≤◌, Bool, true, false, cond, refl, sym, ap, ◌∙◌, subst, inl, inr, ⊎_elim, arith}
 use Rattle.std.proofs.lemmas.List.Elements.{All-nil, All-cons}
-use Rattle.std.specs.Prelude.{◌==◌, ◌^◌, ◌⊎◌, Some, List, [], ◌∷◌, All, Contains, nat_lt}
+use Rattle.std.specs.Prelude.{◌==◌, ◌-◌, ◌^◌, ◌⊎◌, Some, List, [], ◌∷◌, All, Contains, nat_lt}
 use Rattle.body_terms.specs.Word.{value_of}
 use Rattle.section_body.specs.Bucket.{operand}
 use Rattle.body_terms.specs.declared.value.Value.{Value}
@@ -89,7 +89,7 @@ insert_phase_rises : (i j : ℕ) → i < j → insert_phase i ≤ insert_phase j
 insert_phase_rises i j lt = grind arith
 
 abbrev replace_phase : ℕ → ℕ
-replace_phase j = cond (nat_lt j 5) 1 (cond (j == 5) 2 (cond (j == 6) 3 (cond (j == 7) 4 (cond (j == 8) 5 6))))
+replace_phase j = cond (nat_lt j 5) 1 (j - 3)
 
 replace_phase_at : (t : Thunk) (j : ℕ) (step : Step) → IsStep (replace_steps t) j step → phase step ≡ replace_phase j
 replace_phase_at t zero step h = phase_is (Load (operand t 0) 0) step h
@@ -228,8 +228,7 @@ module _ (t : Thunk) where
       (λ r init e. let m = replace_make t i r init (at_step (replace_steps t) i step (Make init r) e h) in
       subst (λ init. All (SetBefore (replace_steps t) i) init.cells) (sym m.2) (five_set (replace_steps t) i (Const 0)
       (Const (operand t 3)) (Const 0) (Const (operand t 4)) (Const 0) tt tt tt tt tt))
-      (λ r v e. let s = replace_store t i r v (at_step (replace_steps t) i step (Store r v) e h) in
-      (
+      (λ r v e. let s = replace_store t i r v (at_step (replace_steps t) i step (Store r v) e h) in (
         replace_loaded i r (inl (let at = s.0 in omega (arith, at), s.1)),
         subst (SetBefore (replace_steps t) i) (sym s.2) (new_leaf_made i (let at = s.0 in omega (arith, at))),
       ))

@@ -583,7 +583,7 @@ module _ (layout : Layout) (limits : IsWithinLimits layout) (s : Scene) (sound :
       )
       by (Old form i8 is) (Old form' j8 is') = (
         one_leaf d e x y here there t is is' (old d x here settled form i le i8)
-        (old e y there settled' form' j le' j8),
+            (old e y there settled' form' j le' j8),
         i8 ∙ sym j8,
       )
       by (Leaf form i16 is) (Old form' j8 is') = absurd (delete_replace x y (one_section d e x y here there

@@ -105,8 +105,7 @@ module _ (layout : Layout) (s : Scene) (sound : Sound tree layout s) (kept : Tre
       (inl (insert.0, omega (arith, seven), omega (arith, seven)), stamp_regs insert.0 seven)
   leaf_before (inr replace) =
       let low = replace.1 in let high = replace.2 in
-      let six = replace_stamp replace.0 (omega (arith, low)) (omega (arith, high)) in
-      (
+      let six = replace_stamp replace.0 (omega (arith, low)) (omega (arith, high)) in (
         inr (replace.0, omega (arith, six), omega (arith, six)),
         regs (step_known x b h Replace replace.0 6 Stamp refl six),
       )
@@ -118,8 +117,7 @@ module _ (layout : Layout) (s : Scene) (sound : Sound tree layout s) (kept : Tre
       (inl (insert.0, omega (arith, seven), omega (arith, seven)), stamp_regs insert.0 seven)
   leaf_onward (inr replace) =
       let low = replace.1 in
-      let six = replace_stamp replace.0 (omega (arith, low)) replace.2 in
-      (
+      let six = replace_stamp replace.0 (omega (arith, low)) replace.2 in (
         inr (replace.0, omega (arith, six), omega (arith, six)),
         regs (step_known x b h Replace replace.0 6 Stamp refl six),
       )

@@ -266,9 +266,11 @@ module _ (n : Nodes) (g : Covers) (d : Bool) (a l f : ℕ) (sh : SearchTree n g)
     up_linked = λ x on some. (parent_at x on some).0;
     up_inner = λ x on some. (parent_at x on some).1;
     up_child = λ x on some. (parent_at x on some).2;
-    inner_key = λ s on inner. let at = inner_at s on inner in let key = sh.inner_key s at.0 at.1 in
-        (subst (λ lo. lo < n.key s) (sym (lo_old s at.2)) key.0, subst (λ hi. n.key s < hi) (sym
-        (hi_old s at.2)) key.1);
+    inner_key = λ s on inner. let at = inner_at s on inner in let key = sh.inner_key s at.0 at.1 in (
+      subst (λ lo. lo < n.key s) (sym (lo_old s at.2)) key.0,
+      subst (λ hi. n.key s < hi) (sym
+          (hi_old s at.2)) key.1,
+    );
     leaf_key = λ s on leaf. leaf_at (λ s. (after.lo s ≤ n.key s) × (n.key s < after.hi s)) new_key
         (λ s was is_leaf nf nl. let key = sh.leaf_key s was is_leaf in
         (subst (λ lo. lo ≤ n.key s) (sym (lo_old s nf)) key.0, subst (λ hi. n.key s < hi) (sym (hi_old s nf)) key.1))
@@ -303,8 +305,7 @@ module _ (n : Nodes) (g : Covers) (d : Bool) (a l f : ℕ) (sh : SearchTree n g)
     leaf = λ key value e. dite (ℕ_discrete key (n.key f))
         (λ same. (f, link_new, same_links true f (leaf_not_a f is.new_leaf) ∙ is.new_leaf, real, sym same))
         (λ ne. let old = contents.leaf key value (sym (upd_other lookup (n.key f) key (Some (n.child false f)) ne)
-        ∙ e) in
-        (
+        ∙ e) in (
           old.0,
           links old.0 old.1 (λ same. ne (sym old.4 ∙ (ap n.key same ∙ sym is.same_key))),
           same_links true old.0 (leaf_not_a old.0 old.2) ∙ old.2,
