@@ -402,7 +402,7 @@ module _ (slots request : ℕ) (memory : PlainMemory) (pairs : Pairs) (op : Op) 
     )
     inner_facts false e = (
       inner_cell 1 (operand thunk 3) (omega arith) (ap (λ b. slice_index (inner_values b thunk (value_of
-      (f + 1))) 1) e) new_key_small,
+          (f + 1))) 1) e) new_key_small,
       inner_cell 3 (value_of (f + 1)) (omega arith) (ap (λ b. slice_index (inner_values b thunk (value_of (f + 1))) 3) e) (value_small (f + 1)) ∙ leaf_link,
       inner_cell 2 (value_of (operand thunk 1)) (omega arith) (ap (λ b. slice_index (inner_values b thunk (value_of (f + 1))) 2) e) (value_small (operand thunk 1)) ∙ old_link_value,
     )
@@ -595,15 +595,15 @@ module _ (slots request : ℕ) (memory : PlainMemory) (pairs : Pairs) (op : Op) 
       child = λ b s on. ap value_of (old_child b s on);
     }
 
-    new_key : then_made.key new ≡ key
-    new_key = new_cell 1 (operand thunk 3) (omega arith) refl
+    own_key : then_made.key new ≡ key
+    own_key = new_cell 1 (operand thunk 3) (omega arith) refl
         (key_small put.key put.value gives (number_at 3 put.numbers)) ∙ (number_at 3 put.numbers ∙ sym gives.0)
 
-    new_left : IsLeaf then_made new
-    new_left = new_cell 2 0 (omega arith) refl (omega arith)
+    own_left : IsLeaf then_made new
+    own_left = new_cell 2 0 (omega arith) refl (omega arith)
 
-    new_value : then_made.child false new ≡ put.value
-    new_value = new_cell 3 (operand thunk 4) (omega arith) refl
+    own_value : then_made.child false new ≡ put.value
+    own_value = new_cell 3 (operand thunk 4) (omega arith) refl
         (value_low put.key put.value gives (number_at 4 put.numbers)) ∙ number_at 4 put.numbers
 
     replaces_it : IsReplacement then_made c below above l new
@@ -613,8 +613,8 @@ module _ (slots request : ℕ) (memory : PlainMemory) (pairs : Pairs) (op : Op) 
       old = one_alike.child below above parent_on ∙ link_leads;
       old_leaf = one_alike.child true l at.linked ∙ leaf_is;
       leaf_out = free.out;
-      new_leaf = new_left;
-      same_key = new_key ∙ (sym (key_there put.hit) ∙ sym (one_alike.key l at.linked));
+      new_leaf = own_left;
+      same_key = own_key ∙ (sym (key_there put.hit) ∙ sym (one_alike.key l at.linked));
     }
 
     one_tree : SearchTree then_made c
@@ -627,17 +627,17 @@ module _ (slots request : ℕ) (memory : PlainMemory) (pairs : Pairs) (op : Op) 
     new_covers = replaced c above l new
 
     -- the cells after the Store
-    abbrev new_link : ℕ
-    new_link = next_word (cells (operand thunk 0)) (value_of (new + 1))
+    abbrev link_to_new : ℕ
+    link_to_new = next_word (cells (operand thunk 0)) (value_of (new + 1))
 
     abbrev with_new : Cells
-    with_new = upd one_made (child_of below above) new_link
+    with_new = upd one_made (child_of below above) link_to_new
 
     as_made : (p : ℕ) → p ≢ child_of below above → with_new p ≡ one_made p
-    as_made p ne = upd_other one_made (child_of below above) p new_link ne
+    as_made p ne = upd_other one_made (child_of below above) p link_to_new ne
 
     new_stored : value_of (with_new (child_of below above)) ≡ suc new
-    new_stored = ap value_of (upd_same one_made (child_of below above) (child_of below above) new_link refl)
+    new_stored = ap value_of (upd_same one_made (child_of below above) (child_of below above) link_to_new refl)
         ∙ (value-next_word (cells (operand thunk 0)) (value_of (new + 1)) (value_small (new + 1))
         ∙ link_of new free.within)
 
@@ -686,7 +686,7 @@ module _ (slots request : ℕ) (memory : PlainMemory) (pairs : Pairs) (op : Op) 
           (sentinels_alike n then_made c one_alike stands.tree stands.sentinels)
           (fixed_on 1 stands.sentinels.first (omega arith)) (fixed_on 2 stands.sentinels.last (omega arith)) not_root;
       unmarked = λ s on inner. ap value_of (as_made (mark_of s) (mark_apart below s above)) ∙ ⊎_elim
-          (λ e. absurd (made_leaf_no_inner s (subst (IsLeaf then_made) (sym e) new_left) (inner_before s inner)))
+          (λ e. absurd (made_leaf_no_inner s (subst (IsLeaf then_made) (sym e) own_left) (inner_before s inner)))
           (λ was. ap value_of (old_cell s 4 (omega arith) was.0) ∙ stands.unmarked s was.0
           (subst (λ v. 0 < v) (one_alike.child true s was.0) (inner_before s inner)))
           (which_is s on);
@@ -696,7 +696,7 @@ module _ (slots request : ℕ) (memory : PlainMemory) (pairs : Pairs) (op : Op) 
           (upd (get pairs) (then_made.key new) (Some (then_made.child false new)))
           (replaced_kept.contents (get pairs) new_real (contents_alike n then_made c one_alike
           (get pairs) stands.contents)))
-          (λ q. (λ i. upd (get pairs) (new_key i) (Some (new_value i)) q)
+          (λ q. (λ i. upd (get pairs) (own_key i) (Some (own_value i)) q)
           ∙ set_map pairs op put.key put.value put.put q);
     }
 
@@ -718,9 +718,9 @@ module _ (slots request : ℕ) (memory : PlainMemory) (pairs : Pairs) (op : Op) 
         (unspent.link (λ e. let form' = fit.form ∙ form in omega (arith, e, form'))) in
         let written : replaced_cells setting cells memory.clock (slice_index memory.stamps request)
         (slice_index memory.replies request) thunk ≡ with_new = exchange_writes one_made (operand thunk 0)
-        (cells (operand thunk 0)) new_link (ap one_made place ∙ (old_child below above parent_on ∙ ap cells
+        (cells (operand thunk 0)) link_to_new (ap one_made place ∙ (old_child below above parent_on ∙ ap cells
         (sym place)))
-        ∙ ap (λ p. upd one_made p new_link) place in
+        ∙ ap (λ p. upd one_made p link_to_new) place in
         subst Does (sym (ap (λ f. body_of f thunk) (is_replace thunk (fit.form ∙ form) fits))) (record {
           answer = ends.answered ∙ ap (λ m. Some (Answered m)) (number_at 5 put.numbers
               ∙ set_reply pairs op put.key put.value w.value put.put
