@@ -1,4 +1,4 @@
-// The text of generated requests, and of traces without requests.
+// The text of generated requests, of `put`, and of traces without requests.
 use command_line::trace_reader::{Gen, SureSource, generate, read_traces};
 use printed_traces::trace_text;
 use std::test::Fail;
@@ -21,6 +21,17 @@ fn generated_requests_are_printed(rt: HostRuntime) -> Result<(), Fail> {
     let read = read_traces(alloc, &mut source).ok().ok_or("refused")?;
     assert_eq!(rt; read.count, 1);
     assert_eq!(rt; read.requests.as_slice(), traces.requests.as_slice());
+    Ok(())
+}
+
+#[test]
+fn a_put_is_printed_in_format_2(rt: HostRuntime) -> Result<(), Fail> {
+    let alloc = rt.alloc();
+    let text = b"flock 2\ntrace\nins 5 70\nput 5 80\ntrace\n";
+    let mut source = SureSource::new(text.to_vec(alloc)?, Vec::new(alloc));
+    let traces = read_traces(alloc, &mut source).ok().ok_or("refused")?;
+    let printed = trace_text(alloc, traces.requests.as_slice(), traces.count)?;
+    assert!(rt; printed.as_slice() == text.as_slice());
     Ok(())
 }
 
