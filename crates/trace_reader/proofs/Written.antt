@@ -1,6 +1,6 @@
 -- A request as it is mostly written: its line is one line, and says what it asks.
 use Rattle.std.proofs.Common.{◌≡◌, ℕ, ◌+◌, ◌-◌, ◌*◌, ◌≤◌, Bool, true, false, cond, List, [], ◌∷◌, ◌++◌, Option, None, Some, codes, length, refl, sym, ap, ◌∙◌, arith, get_or, take, drop, append_assoc, length-append, subst, zero, suc, add-one}
-use Rattle.std.specs.Prelude.{◌==◌, ◌&&◌, ◌||◌, All, filter, is_none, nat_le, nat_lt, not, slice_index, unwrap_or}
+use Rattle.std.specs.Prelude.{◌==◌, ◌&&◌, ◌||◌, All, filter, nat_le, nat_lt, not, slice_index}
 use Rattle.std.specs.Char.{is_ascii, is_ascii_digit}
 use Rattle.std.specs.List.{list_all, IsSplitAt}
 use Rattle.std.specs.Str.{bytes_eq}
@@ -16,7 +16,6 @@ use Rattle.map_history.specs.declared.op.Op.{Op}
 use Rattle.map_history.specs.declared.op.Op.TheVariants.{Get, Ins, Del, Put}
 use Rattle.map_history.specs.Keys.{key_of, least_format}
 use Rattle.trace_reader.specs.declared.line.Line.TheVariants.{Ask}
-use Rattle.trace_reader.specs.declared.traces.BadLine.{BadLine}
 use Rattle.trace_reader.specs.declared.traces.BadLine.TheVariants.{BadNumber, KeyTooLarge, NotAscii, UnknownWord, ValueTooLarge}
 use Rattle.trace_reader.specs.Fields.{content_of, fields_in, fields_of, is_blank, is_comment, is_number, value_of}
 use Rattle.trace_reader.specs.Line.{asked_by, asked_by_words, begun_by_words, counts, fault_of_counted, fault_of_words, first_found, is_trace, request_tests, tests_of, words_count}
@@ -193,10 +192,6 @@ pair_fields word key value digits more one are also =
     first_word digits more (digits_letters digits are.each) (lt-ltb 0 _ are.some)
     ∙ ap (λ words. digits ∷ words) (last_word more (digits_letters more also.each) (lt-ltb 0 _ also.some)))
 
--- the tests of a request behind a trace, by how many numbers are wanted
-abbrev tests_by : Option ℕ → List (List ℕ) → List (Bool × BadLine)
-tests_by wanted numbers = (is_none wanted, UnknownWord) ∷ request_tests true (unwrap_or wanted 0) numbers
-
 -- what it says, where the format has the word
 pair_said : (op : Op) (format : ℕ) (word : List ℕ) (key value : ℕ) (digits more : List ℕ) → IsLetters word → is_comment (word ∷ digits ∷ more ∷ []) ≡ false → AreDigits key digits → AreDigits value more
     → first_found (tests_of format true word (digits ∷ more ∷ [])) ≡ None → is_trace word ≡ false → asked_by word (digits ∷ more ∷ []) ≡ Some op → least_format op ≤ format → key_of op ≤ 4294967293
@@ -235,7 +230,7 @@ ins_said format key value digits more known are also small fits =
 pub put_said : (format key value : ℕ) (digits more : List ℕ) → 2 ≤ format → AreDigits key digits → AreDigits value more → key ≤ 4294967293 → value ≤ 4294967295 → Says (Ask (Put key value)) (Some format) true (put_line digits more)
 put_said format key value digits more known are also small fits =
     pair_said (Put key value) format (codes "put") key value digits more (record { printed = refl; letters = refl; some = refl }) refl are also
-    (ap (λ b. first_found (tests_by (cond b (Some 2) None) (digits ∷ more ∷ []))) (le-leb 2 format known) ∙ two_numbers digits more key value are also small fits) refl
+    (ap (λ b. cond (not b) (Some UnknownWord) (first_found (request_tests true 2 (digits ∷ more ∷ [])))) (le-leb 2 format known) ∙ two_numbers digits more key value are also small fits) refl
     (ap (λ n. Some (Put n (value_of more))) are.value ∙ ap (λ n. Some (Put key n)) also.value) known small
 
 -- bytes that begin with a word of four bytes

@@ -1,5 +1,5 @@
 -- One line of a text: whether it counts, what is wrong with it, and what it asks.
-use Rattle.std.specs.Prelude.{ℕ, ◌==◌, Bool, true, false, ◌&&◌, not, List, [], ◌∷◌, length, Option, None, Some, is_none, is_some, unwrap_or, if◌then◌else◌, nat_le, nat_lt, codes}
+use Rattle.std.specs.Prelude.{ℕ, ◌==◌, Bool, true, false, ◌&&◌, not, List, [], ◌∷◌, length, Option, None, Some, is_some, unwrap_or, if◌then◌else◌, nat_le, nat_lt, codes}
 use Rattle.std.specs.List.{list_all, slice_index_or}
 use Rattle.std.specs.Char.{is_ascii}
 use Rattle.std.specs.Str.{bytes_eq}
@@ -17,15 +17,19 @@ words_count (word ∷ words) = not (is_comment (word ∷ words))
 abbrev pub counts : List ℕ → Bool
 counts line = words_count (fields_of line)
 
--- how many numbers stand behind a word, where the format has it
-abbrev pub wanted_by : (format : ℕ) → List ℕ → Option ℕ
-wanted_by format word =
+-- how many numbers stand behind a word, where it is known
+abbrev pub wanted_by : List ℕ → Option ℕ
+wanted_by word =
     if bytes_eq word (codes "trace") then Some 0
     else if bytes_eq word (codes "get") then Some 1
     else if bytes_eq word (codes "del") then Some 1
     else if bytes_eq word (codes "ins") then Some 2
-    else if bytes_eq word (codes "put") && nat_le 2 format then Some 2
+    else if bytes_eq word (codes "put") then Some 2
     else None
+
+-- the format has the word: `put` is of format 2 alone
+abbrev pub has_word : (format : ℕ) → List ℕ → Bool
+has_word format word = if bytes_eq word (codes "put") then nat_le 2 format else is_some (wanted_by word)
 
 abbrev pub is_trace : List ℕ → Bool
 is_trace word = bytes_eq word (codes "trace")
@@ -53,8 +57,8 @@ request_tests begun wanted numbers =
 -- a trace has begun, or begins here
 abbrev pub tests_of : (format : ℕ) → Bool → List ℕ → List (List ℕ) → List (Bool × BadLine)
 tests_of format begun word numbers =
-    (is_none (wanted_by format word), UnknownWord)
-    ∷ request_tests (if is_trace word then true else begun) (unwrap_or (wanted_by format word) 0) numbers
+    (not (has_word format word), UnknownWord)
+    ∷ request_tests (if is_trace word then true else begun) (unwrap_or (wanted_by word) 0) numbers
 
 abbrev pub fault_of_words : (format : ℕ) → Bool → List (List ℕ) → Option BadLine
 fault_of_words format begun [] = None

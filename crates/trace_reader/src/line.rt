@@ -1,5 +1,6 @@
 // What one line says.
-ghost use Rattle.std.specs.Prelude.{◌≡◌, ◌≢◌, ◌≤◌, ◌<◌, ◌∷◌, [], true, None, Some, IfErr, IfOk, IfNone, IfSome, OnOk, length};
+ghost use Rattle.std.specs.Prelude.{◌≡◌, ◌≢◌, ◌≤◌, ◌<◌, ◌∷◌, [], true, None, Some, IfErr, IfOk, IfNone, IfSome, OnOk, length, nat_le, not};
+ghost use Rattle.map_history.specs.declared.op.Op.TheVariants.{Put};
 ghost use Rattle.trace_reader.specs.Fields.{fields_in, value_of};
 ghost use Rattle.trace_reader.specs.Formats.{IsFormat};
 ghost use Rattle.trace_reader.specs.Line.{fault_of, fault_of_words, field, first_found, format_named, header_of, request_tests};
@@ -97,10 +98,7 @@ fn read_words(word: &[u8], rest: &[u8], format: u32, begun: bool) -> Result<Line
             let (key, value) = read_pair(rest, begun)?;
             Ok(Line::Ask(Op::Ins(key, value)))
         }
-        b"put" if format >= 2 => {
-            let (key, value) = read_pair(rest, begun)?;
-            Ok(Line::Ask(Op::Put(key, value)))
-        }
+        b"put" => read_put(rest, format, begun),
         _ => Err(BadLine::UnknownWord),
     }
 }
@@ -154,6 +152,25 @@ fn value_in_range(value: u64) -> Result<u32, BadLine>
         return Err(BadLine::ValueTooLarge);
     }
     Ok(value as u32)
+}
+
+// What stands behind `put`, a word that a text of format 1 doesn't know.
+fn read_put(rest: &[u8], format: u32, begun: bool) -> Result<Line, BadLine>
+    ensures fault { IfErr result (λ kind. first_found ((not (nat_le 2 format), BadLine.UnknownWord)
+        ∷ request_tests begun 2 (fields_in rest.now)) ≡ Some kind) }
+    ensures none { OnOk result (first_found ((not (nat_le 2 format), BadLine.UnknownWord)
+        ∷ request_tests begun 2 (fields_in rest.now)) ≡ None) }
+    ensures said { IfOk result (λ said. said
+        ≡ Line.Ask (Put (value_of (field (fields_in rest.now) 0)) (value_of (field (fields_in rest.now) 1)))) }
+    ensures key { OnOk result (value_of (field (fields_in rest.now) 0) ≤ 4294967293) }
+    ensures format { OnOk result (2 ≤ format) }
+    ensures begun { OnOk result (begun ≡ true) }
+{
+    if format < 2 {
+        return Err(BadLine::UnknownWord);
+    }
+    let (key, value) = read_pair(rest, begun)?;
+    Ok(Line::Ask(Op::Put(key, value)))
 }
 
 // The key and the value of an `ins` or a `put`.

@@ -6,8 +6,8 @@ ghost use Rattle.trace_reader.specs.Answer.{AreTracesOf};
 ghost use Rattle.trace_reader.specs.Formats.{AreOfFormat, format_for};
 ghost use Rattle.trace_reader.specs.Printed.{HaveSmallValues, printed};
 
-/// A trace text that is printed for requests of a format that is read is in the grammar, its requests are these, and its
-/// format is the least one that has them.
+/// A trace text that is printed for requests that can be asked in format 2 is in the grammar, its requests are these,
+/// and its format is the least one that has them.
 pub fn printed_text_is_read()
     ensures { (requests : List Request) (traces : ℕ) → AreInOrder requests traces → HaveSmallValues requests
         → AreOfFormat 2 requests

@@ -1,6 +1,7 @@
 // A text from its bytes: those of the line that has begun, and what the lines before it say.
 ghost use Rattle.std.specs.Prelude.{◌≡◌, ℕ, List, [], ◌∷◌, ◌++◌, ◌+◌, ◌<◌, ◌≤◌, ◌==◌, length, vec_len};
 ghost use Rattle.std.specs.Prelude.{true, OnOk, OnSome, IfOk, IfErr, IfNone, IfSome, nat_lt, position};
+ghost use Rattle.std.proofs.Props.{props};
 ghost use Rattle.trace_reader.specs.Formats.{IsFormat};
 
 use crate::limits::MAX_BYTES;
@@ -38,7 +39,7 @@ pub struct Reader {
     // the format of the header, where a finished line is it
     format: Option<u32>,
     traces: Traces,
-    ghost known: { IfSome format IsFormat },
+    ghost known: { IfSome format IsFormat } by { Prim.hlevel props },
     ghost few_bytes: { bytes ≤ 4194304 },
     ghost fewer_lines: { lines + vec_len line ≤ bytes },
     ghost few_traces: { traces.count ≤ 64 },
