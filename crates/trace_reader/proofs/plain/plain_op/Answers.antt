@@ -1,4 +1,4 @@
-use Rattle.std.proofs.Common.{arith, subst, ◌≤◌}
+use Rattle.std.proofs.Common.{subst, ◌≤◌}
 use Rattle.trace_reader.specs.declared.plain.Word.TheVariants.{Get, Ins, Del, Put}
 use Rattle.trace_reader.specs.Plain.{format_of_word}
 use Rattle.trace_reader.proofs.Written.{del_read, get_read, ins_read, put_read, word_first}
