@@ -2,7 +2,8 @@
 ghost use Rattle.std.specs.Prelude.{◌+◌, ◌*◌, ◌≤◌};
 
 use crate::gates::StoppingGates;
-use crate::texts::{Row, run_text};
+use crate::puts::put_requests;
+use crate::texts::{Row, run_requests, run_text};
 use body_terms::StepKind;
 use map_history::Reply;
 use std::alloc::{AllocError, Global};
@@ -45,6 +46,25 @@ fn requests_of_each_kind_are_answered_in_turn(rt: HostRuntime) -> Result<(), All
     assert!(&rt; are_answered_from(&rt, rt.alloc(), 0)?);
     assert!(&rt; are_answered_from(&rt, rt.alloc(), 7)?);
     assert!(&rt; are_answered_from(&rt, rt.alloc(), 12264)?);
+    Ok(())
+}
+
+#[test]
+fn a_put_sets_its_key_whatever_stood_there(rt: HostRuntime) -> Result<(), AllocError> {
+    let requests = put_requests();
+    let mut gates = FreeGates::new();
+    let row = run_requests(&rt, rt.alloc(), 0, &requests, &[None], &mut gates)?;
+    let replies = row.replies(rt.alloc())?;
+    let told = [
+        Some(Reply::New),
+        Some(Reply::Was(70)),
+        Some(Reply::Val(80)),
+        Some(Reply::Gone),
+        Some(Reply::New),
+    ];
+    assert!(&rt; replies.as_slice() == told.as_slice());
+    assert!(&rt; row.answers.as_slice() == [Served::All].as_slice());
+    assert!(&rt; row.pairs.as_slice() == [(5, 90)].as_slice());
     Ok(())
 }
 

@@ -1,8 +1,9 @@
 //! A run of the requests of a text.
-ghost use Rattle.std.specs.Prelude.{◌≡◌, ◌+◌, ◌*◌, ◌≤◌, ◌&&◌, All, length, nat_lt, true};
+ghost use Rattle.std.specs.Prelude.{◌≡◌, ◌+◌, ◌*◌, ◌≤◌, ◌&&◌, All, length, is_none, nat_lt, true};
 ghost use Rattle.std.specs.List.{list_all};
 ghost use Rattle.map_history.specs.declared.op.Request.{Request as Asked};
-ghost use Rattle.map_history.specs.Keys.{key_of, is_format_1};
+ghost use Rattle.map_history.specs.Keys.{key_of, other_key_of};
+ghost use Rattle.map_history.specs.Requests.{AreInOrder};
 ghost use Rattle.direct_table.specs.direct_laws.specs.Direct.{serves};
 
 use crate::runs::{Ended, run_direct};
@@ -46,13 +47,13 @@ fn bytes_of(alloc: Global, text: &str) -> Result<Vec<u8>, AllocError> {
     Ok(bytes)
 }
 
-/// Whether each of these requests is get, ins or del, of a key below eight.
+/// Whether each of these requests has one key, and it is below eight.
 fn are_low(requests: &[Request]) -> bool
-    ensures { result ≡ list_all (λ (x : Asked). is_format_1 x.op && nat_lt (key_of x.op) 8) requests.now }
+    ensures { result ≡ list_all (λ (x : Asked). is_none (other_key_of x.op) && nat_lt (key_of x.op) 8) requests.now }
 {
     requests
         .iter()
-        .all(|x| x.op.least_format() == 1 && x.op.key() < 8)
+        .all(|x| x.op.other_key().is_none() && x.op.key() < 8)
 }
 
 /// Whether the table of eight keys serves each of them.
@@ -99,6 +100,23 @@ pub fn run_text<R: Threads + Wait + Sync, G: Gates>(
     if !are_served(requests) {
         return Err(AllocError);
     }
+    run_requests(rt, alloc, base, requests, halts, gates)
+}
+
+/// Runs these requests on a new table of eight keys, whose cells begin at this place. The Err is want of memory.
+pub fn run_requests<R: Threads + Wait + Sync, G: Gates>(
+    rt: &R,
+    alloc: Global,
+    base: u32,
+    requests: &[Request],
+    halts: &[Option<u64>],
+    gates: &mut G,
+) -> Result<Row, AllocError>
+    requires base { base + 3 * 8 ≤ 12288 }
+    requires ordered { AreInOrder requests.now 64 }
+    requires served { All (λ (x : Asked). serves 8 x.op ≡ true) requests.now }
+    requires workers { (1 ≤ length halts.now) × (length halts.now ≤ 16) }
+{
     let end = run_direct(rt, alloc, base, requests, halts, gates)?;
     let entries = entries_of(alloc, &end, requests)?;
     let Ended {
