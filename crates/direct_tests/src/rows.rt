@@ -2,8 +2,7 @@
 ghost use Rattle.std.specs.Prelude.{◌+◌, ◌*◌, ◌≤◌};
 
 use crate::gates::StoppingGates;
-use crate::puts::put_requests;
-use crate::texts::{Row, run_requests, run_text};
+use crate::texts::{Row, run_text};
 use body_terms::StepKind;
 use map_history::Reply;
 use std::alloc::{AllocError, Global};
@@ -51,9 +50,9 @@ fn requests_of_each_kind_are_answered_in_turn(rt: HostRuntime) -> Result<(), All
 
 #[test]
 fn a_put_sets_its_key_whatever_stood_there(rt: HostRuntime) -> Result<(), AllocError> {
-    let requests = put_requests();
+    let text = "flock 2/trace/put 5 70/put 5 80/get 5/del 5/put 5 90/";
     let mut gates = FreeGates::new();
-    let row = run_requests(&rt, rt.alloc(), 0, &requests, &[None], &mut gates)?;
+    let row = run_text(&rt, rt.alloc(), 0, text, &[None], &mut gates)?;
     let replies = row.replies(rt.alloc())?;
     let told = [
         Some(Reply::New),

@@ -3,7 +3,6 @@ ghost use Rattle.std.specs.Prelude.{◌≡◌, ◌+◌, ◌*◌, ◌≤◌, ◌&
 ghost use Rattle.std.specs.List.{list_all};
 ghost use Rattle.map_history.specs.declared.op.Request.{Request as Asked};
 ghost use Rattle.map_history.specs.Keys.{key_of, other_key_of};
-ghost use Rattle.map_history.specs.Requests.{AreInOrder};
 ghost use Rattle.direct_table.specs.direct_laws.specs.Direct.{serves};
 
 use crate::runs::{Ended, run_direct};
@@ -100,23 +99,6 @@ pub fn run_text<R: Threads + Wait + Sync, G: Gates>(
     if !are_served(requests) {
         return Err(AllocError);
     }
-    run_requests(rt, alloc, base, requests, halts, gates)
-}
-
-/// Runs these requests on a new table of eight keys, whose cells begin at this place. The Err is want of memory.
-pub fn run_requests<R: Threads + Wait + Sync, G: Gates>(
-    rt: &R,
-    alloc: Global,
-    base: u32,
-    requests: &[Request],
-    halts: &[Option<u64>],
-    gates: &mut G,
-) -> Result<Row, AllocError>
-    requires base { base + 3 * 8 ≤ 12288 }
-    requires ordered { AreInOrder requests.now 64 }
-    requires served { All (λ (x : Asked). serves 8 x.op ≡ true) requests.now }
-    requires workers { (1 ≤ length halts.now) × (length halts.now ≤ 16) }
-{
     let end = run_direct(rt, alloc, base, requests, halts, gates)?;
     let entries = entries_of(alloc, &end, requests)?;
     let Ended {
