@@ -12,8 +12,9 @@ pub is_gen_text : (plan : Gen) (count : ℕ) (requests : List Request) (text han
 is_gen_text plan count requests text handed counted are same is =
     same ∙ is ∙ ap (λ r. printed r count) are ∙ ap (printed (generated plan)) counted
 
-pub is_read : (plan : Gen) (count : ℕ) (requests : List Request) (text : List ℕ) → count ≡ plan.traces → requests ≡ generated plan → text ≡ gen_text plan → AreTracesOf (record { count = count; requests = requests }) text → IsRead plan
-is_read plan count requests text counted are same read =
-    subst (λ (t : List ℕ). AreTracesOf (record { count = plan.traces; requests = generated plan }) t) same
-    (subst (λ (r : List Request). AreTracesOf (record { count = plan.traces; requests = r }) text) are
-    (subst (λ (n : ℕ). AreTracesOf (record { count = n; requests = requests }) text) counted read))
+pub is_read : (plan : Gen) (format count : ℕ) (requests : List Request) (text : List ℕ) → format ≡ 1 → count ≡ plan.traces → requests ≡ generated plan → text ≡ gen_text plan → AreTracesOf (record { format = format; count = count; requests = requests }) text → IsRead plan
+is_read plan format count requests text first counted are same read =
+    subst (λ (t : List ℕ). AreTracesOf (record { format = 1; count = plan.traces; requests = generated plan }) t) same
+    (subst (λ (r : List Request). AreTracesOf (record { format = 1; count = plan.traces; requests = r }) text) are
+    (subst (λ (n : ℕ). AreTracesOf (record { format = 1; count = n; requests = requests }) text) counted
+    (subst (λ (f : ℕ). AreTracesOf (record { format = f; count = count; requests = requests }) text) first read)))

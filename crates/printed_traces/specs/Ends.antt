@@ -21,9 +21,9 @@ pub record IsPlanInRange (plan : Gen) : Type 0 where
 abbrev pub gen_text : Gen → List ℕ
 gen_text plan = printed (generated plan) plan.traces
 
--- the grammar relates it to these requests
+-- the grammar relates it to these requests, and it is of format 1
 abbrev pub IsRead : Gen → Type 0
-IsRead plan = AreTracesOf (record { count = plan.traces; requests = generated plan }) (gen_text plan)
+IsRead plan = AreTracesOf (record { format = 1; count = plan.traces; requests = generated plan }) (gen_text plan)
 
 -- the text was added to the sink, and nothing else; or a part of it, from the front
 abbrev pub Prints : Gen → Option (List ℕ) → Option (List ℕ) → Type 0

@@ -1,10 +1,19 @@
 // The lines of a trace text, each with the line feed that ends it.
 ghost use Rattle.std.specs.Prelude.{◌≡◌, ◌++◌, OnOk, codes, decimal, flat_map};
-ghost use Rattle.trace_reader.specs.Printed.{beginnings, line_of, with_feed};
+ghost use Rattle.trace_reader.specs.Printed.{beginnings, header_line, line_of, with_feed};
 
 use itoa::Buffer;
 use map_history::Op;
 use std::alloc::AllocError;
+
+/// Adds the header that names this format.
+pub fn push_header(text: &mut Vec<u8>, format: u32) -> Result<(), AllocError>
+    ensures { OnOk result (text.new.items ≡ text.old.items ++ with_feed (header_line format)) }
+{
+    push_word(text, b"flock ", format)?;
+    text.push(b'\n')?;
+    Ok(())
+}
 
 /// Adds lines that begin so many traces.
 pub fn push_beginnings(text: &mut Vec<u8>, count: u32) -> Result<(), AllocError>

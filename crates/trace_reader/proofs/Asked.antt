@@ -1,13 +1,13 @@
 -- The traces and requests of lines that go on.
-use Rattle.std.proofs.Common.{◌≡◌, ℕ, ◌+◌, ◌-◌, Bool, true, false, ◌||◌, cond, List, [], ◌∷◌, ◌++◌, Option, None, Some, is_some, length, refl, sym, ap, ◌∙◌, append_assoc, arith, length-append, zero-add}
+use Rattle.std.proofs.Common.{◌≡◌, ℕ, ◌+◌, ◌-◌, Bool, true, false, cond, List, [], ◌∷◌, ◌++◌, Option, None, Some, is_some, length, refl, sym, ap, ◌∙◌, append_assoc, arith, length-append, zero-add}
 use Rattle.std.proofs.lemmas.List.{append-nil}
 use Rattle.std.proofs.lemmas.List.Sums.{sum_by-append}
-use Rattle.std.specs.List.{list_any}
+use Rattle.std.specs.Option.{option_or}
 use Rattle.map_history.specs.declared.op.Op.{Op}
 use Rattle.map_history.specs.declared.op.Request.{Request}
 use Rattle.trace_reader.specs.declared.traces.Traces.{Traces}
-use Rattle.trace_reader.specs.Line.{counts, asked, begins_trace}
-use Rattle.trace_reader.specs.Text.{request_by, requests_behind, requests_in, traces_in, asks_in}
+use Rattle.trace_reader.specs.Line.{asked, begins_trace, header_in}
+use Rattle.trace_reader.specs.Text.{format_in, request_by, requests_behind, requests_in, traces_in, asks_in}
 use Rattle.trace_reader.specs.Answer.{AreTracesIn}
 
 requests_behind-push : (before lines : List (List ℕ)) (line : List ℕ) → requests_behind before (lines ++ line ∷ []) ≡ requests_behind before lines ++ request_by (before ++ lines) (asked line)
@@ -38,21 +38,18 @@ length-requests_behind before (line ∷ lines) =
 pub length-requests_in : (lines : List (List ℕ)) → length (requests_in lines) ≡ asks_in lines
 length-requests_in lines = length-requests_behind [] lines
 
-list_any-append : (lines : List (List ℕ)) (line : List ℕ) → list_any counts (lines ++ line ∷ []) ≡ (list_any counts lines || counts line)
-list_any-append [] line = either (counts line)
-  where
-    either : (b : Bool) → (b || false) ≡ (false || b)
-    either true = refl
-    either false = refl
-list_any-append (x ∷ lines) line = ap (λ b. counts x || b) (list_any-append lines line) ∙ regroup (counts x) (list_any counts lines) (counts line)
-  where
-    regroup : (a b c : Bool) → (a || (b || c)) ≡ ((a || b) || c)
-    regroup true b c = refl
-    regroup false b c = refl
+or_none : (a : Option ℕ) → option_or a None ≡ a
+or_none None = refl
+or_none (Some format) = refl
 
--- whether a line counts, with one more line
-pub list_any-push : (lines : List (List ℕ)) (line : List ℕ) (now before counted : Bool) → now ≡ (before || counted) → before ≡ list_any counts lines → counts line ≡ counted → now ≡ list_any counts (lines ++ line ∷ [])
-list_any-push lines line now before counted e is c = e ∙ ap (λ b. b || counted) is ∙ ap (λ b. list_any counts lines || b) (sym c) ∙ sym (list_any-append lines line)
+or_assoc : (a b c : Option ℕ) → option_or a (option_or b c) ≡ option_or (option_or a b) c
+or_assoc None b c = refl
+or_assoc (Some format) b c = refl
+
+-- the format of the first header, with one more line
+pub format_in-push : (lines : List (List ℕ)) (line : List ℕ) → format_in (lines ++ line ∷ []) ≡ option_or (format_in lines) (header_in line)
+format_in-push [] line = or_none (header_in line)
+format_in-push (x ∷ lines) line = ap (option_or (header_in x)) (format_in-push lines line) ∙ or_assoc (header_in x) (format_in lines) (header_in line)
 
 -- a line that says nothing of a trace and asks nothing
 pub AreTracesIn-none : (before after : Traces) (lines : List (List ℕ)) (line : List ℕ) → begins_trace line ≡ false → asked line ≡ None → after.count ≡ before.count → after.requests ≡ before.requests → AreTracesIn before lines → AreTracesIn after (lines ++ line ∷ [])

@@ -1,18 +1,50 @@
--- What a line asks is an operation of format 1, and depends on its first key alone.
-use Rattle.std.proofs.Common.{◌≡◌, ℕ, ◌≤◌, Bool, true, false, cond, List, [], ◌∷◌, ◌++◌, Option, None, Some, refl, subst, arith}
-use Rattle.std.specs.Prelude.{codes}
+-- The formats of operations, of what lines ask, and of requests.
+use Rattle.std.proofs.Common.{◌≡◌, ℕ, zero, suc, ◌-◌, ◌≤◌, Bool, true, false, cond, List, [], ◌∷◌, ◌++◌, Option, None, Some, length, refl, sym, subst, arith}
+use Rattle.std.specs.Prelude.{codes, fold, max}
 use Rattle.std.specs.Str.{bytes_eq}
 use Rattle.std.proofs.lemmas.List.Elements.{All-append}
 use Rattle.map_history.specs.declared.op.Op.{Op}
-use Rattle.map_history.specs.declared.op.Op.TheVariants.{Get, Ins, Del}
+use Rattle.map_history.specs.declared.op.Op.TheVariants.{Get, Ins, Del, Put, Mov}
 use Rattle.map_history.specs.declared.op.Request.{Request}
-use Rattle.map_history.specs.Keys.{key_of, DependsOn, is_format_1}
+use Rattle.map_history.specs.Keys.{key_of, least_format, DependsOn, IsOneKeyed, is_format_1}
 use Rattle.map_history.specs.Requests.{AreOfFormat1}
-use Rattle.map_history.proofs.Cells.{format_1_one_keyed, key_is}
+use Rattle.map_history.proofs.Cells.{key_is}
+use Rattle.trace_reader.specs.declared.line.Line.{Line}
+use Rattle.trace_reader.specs.declared.line.Line.TheVariants.{Skipped, Header, Trace, Ask}
+use Rattle.trace_reader.specs.declared.traces.Traces.{Traces}
 use Rattle.trace_reader.specs.Fields.{value_of, fields_of}
+use Rattle.trace_reader.specs.Formats.{AreOfFormat, format_for}
 use Rattle.trace_reader.specs.Line.{field, asked_by_words, asked}
-use Rattle.trace_reader.specs.Text.{request_by, requests_behind, requests_in}
+use Rattle.trace_reader.specs.Reader.{AreAskedIn, TracesAfter}
+use Rattle.trace_reader.specs.Said.{IsAskedIn, IsPlaced, format_after}
 use Rattle.trace_reader.proofs.Ordered.{All-one}
+
+-- an operation of a format that is read has one key
+pub one_keyed : (op : Op) → least_format op ≤ 2 → IsOneKeyed op
+one_keyed (Get key) low = refl
+one_keyed (Ins key value) low = refl
+one_keyed (Del key) low = refl
+one_keyed (Put key value) low = refl
+one_keyed (Mov from to) low = absurd (omega (arith, low))
+
+-- of format 1 are get, ins and del
+pub format_1 : (op : Op) → least_format op ≤ 1 → is_format_1 op ≡ true
+format_1 (Get key) low = refl
+format_1 (Ins key value) low = refl
+format_1 (Del key) low = refl
+format_1 (Put key value) low = absurd (omega (arith, low))
+format_1 (Mov from to) low = absurd (omega (arith, low))
+
+pub within_1 : (op : Op) → is_format_1 op ≡ true → least_format op ≤ 1
+within_1 (Get key) is = omega arith
+within_1 (Ins key value) is = omega arith
+within_1 (Del key) is = omega arith
+within_1 (Put key value) is = absurd (cc)
+within_1 (Mov from to) is = absurd (cc)
+
+-- where its first key is small, so is each key on which it depends
+pub keys_low : (op : Op) → IsOneKeyed op → key_of op ≤ 4294967293 → (key : ℕ) → DependsOn op key → key ≤ 4294967293
+keys_low op one low key on = subst (λ n. n ≤ 4294967293) (key_is op key one on) low
 
 some_same : (a b : Op) → Some a ≡ Some b → a ≡ b
 some_same a b e = cc
@@ -20,40 +52,83 @@ some_same a b e = cc
 none_some : (op : Op) → None ≡ Some op → ⊥
 none_some op e = cc
 
-by_words : (words : List (List ℕ)) (op : Op) → asked_by_words words ≡ Some op → is_format_1 op ≡ true
+by_words : (words : List (List ℕ)) (op : Op) → asked_by_words words ≡ Some op → IsOneKeyed op
 by_words [] op e = absurd (none_some op e)
-by_words (word ∷ numbers) op e = by (bytes_eq word (codes "get")) (bytes_eq word (codes "del")) (bytes_eq word (codes "ins")) e
+by_words (word ∷ numbers) op e = by (bytes_eq word (codes "get")) (bytes_eq word (codes "del")) (bytes_eq word (codes "ins")) (bytes_eq word (codes "put")) e
   where
     first : ℕ
     first = value_of (field numbers 0)
 
-    by : (a b c : Bool) → cond a (Some (Get first)) (cond b (Some (Del first)) (cond c (Some (Ins first (value_of (field numbers 1)))) None)) ≡ Some op
-        → is_format_1 op ≡ true
-    by true b c e = subst (λ o. is_format_1 o ≡ true) (some_same _ op e) refl
-    by false true c e = subst (λ o. is_format_1 o ≡ true) (some_same _ op e) refl
-    by false false true e = subst (λ o. is_format_1 o ≡ true) (some_same _ op e) refl
-    by false false false e = absurd (none_some op e)
+    second : ℕ
+    second = value_of (field numbers 1)
 
-pub asked_format : (line : List ℕ) (op : Op) → asked line ≡ Some op → is_format_1 op ≡ true
-asked_format line op e = by_words (fields_of line) op e
+    by : (a b c d : Bool) → cond a (Some (Get first)) (cond b (Some (Del first)) (cond c (Some (Ins first second)) (cond d (Some (Put first second)) None))) ≡ Some op
+        → IsOneKeyed op
+    by true b c d e = subst IsOneKeyed (some_same _ op e) refl
+    by false true c d e = subst IsOneKeyed (some_same _ op e) refl
+    by false false true d e = subst IsOneKeyed (some_same _ op e) refl
+    by false false false true e = subst IsOneKeyed (some_same _ op e) refl
+    by false false false false e = absurd (none_some op e)
 
--- where its first key is small, so is each key on which it depends
-pub keys_low : (op : Op) → is_format_1 op ≡ true → key_of op ≤ 4294967293 → (key : ℕ) → DependsOn op key → key ≤ 4294967293
-keys_low op first low key on = subst (λ n. n ≤ 4294967293) (key_is op key (format_1_one_keyed op first) on) low
+-- so has what a line asks
+pub asked_one_keyed : (line : List ℕ) (op : Op) → asked line ≡ Some op → IsOneKeyed op
+asked_one_keyed line op e = by_words (fields_of line) op e
 
-abbrev OfFormat1 : Request → Type 0
-OfFormat1 request = is_format_1 request.op ≡ true
+-- the format that requests need, from request to request
+abbrev needed : ℕ → Request → ℕ
+needed format request = max format (least_format request.op)
 
-behind_format : (before lines : List (List ℕ)) → AreOfFormat1 (requests_behind before lines)
-behind_format before [] = λ k d low. absurd (omega (arith, low))
-behind_format before (line ∷ lines) =
-    All-append OfFormat1 (request_by before (asked line)) (requests_behind (before ++ line ∷ []) lines)
-    (by (asked line) refl) (behind_format (before ++ line ∷ []) lines)
-  where
-    by : (o : Option Op) → asked line ≡ o → AreOfFormat1 (request_by before o)
-    by None none = λ k d low. absurd (omega (arith, low))
-    by (Some op) is = All-one OfFormat1 _ (asked_format line op is)
+reaches : (format : ℕ) (requests : List Request) → format ≤ fold needed format requests
+reaches format [] = omega arith
+reaches format (request ∷ requests) = omega (arith, reaches (needed format request) requests)
 
--- so are the requests of lines
-pub requests_format : (lines : List (List ℕ)) → AreOfFormat1 (requests_in lines)
-requests_format lines = behind_format [] lines
+covers : (format : ℕ) (requests : List Request) → AreOfFormat (fold needed format requests) requests
+covers format [] k d early = absurd (omega (arith, early))
+covers format (request ∷ requests) zero d early = omega (arith, reaches (needed format request) requests)
+covers format (request ∷ requests) (suc k) d early = covers (needed format request) requests k d (omega (arith, early))
+
+stays : (format bound : ℕ) (requests : List Request) → format ≤ bound → AreOfFormat bound requests → fold needed format requests ≤ bound
+stays format bound [] low each = low
+stays format bound (request ∷ requests) low each =
+    stays (needed format request) bound requests (omega (arith, low, each 0 request (omega arith))) (λ k d early. each (suc k) d (omega (arith, early)))
+
+-- it has them all, and no lower one does
+pub format_for_some : (requests : List Request) → 1 ≤ format_for requests
+format_for_some requests = reaches 1 requests
+
+pub format_for_covers : (requests : List Request) → AreOfFormat (format_for requests) requests
+format_for_covers requests = covers 1 requests
+
+pub format_for_within : (bound : ℕ) (requests : List Request) → 1 ≤ bound → AreOfFormat bound requests → format_for requests ≤ bound
+format_for_within bound requests some each = stays 1 bound requests some each
+
+pub first_within : (bound : ℕ) (requests : List Request) → 1 ≤ bound → AreOfFormat1 requests → AreOfFormat bound requests
+first_within bound requests some first k d early = omega (arith, some, within_1 _ (first k d early))
+
+pub format_for_1 : (requests : List Request) → AreOfFormat1 requests → format_for requests ≡ 1
+format_for_1 requests first =
+    omega (arith, format_for_some requests, format_for_within 1 requests (omega arith) (first_within 1 requests (omega arith) first))
+
+-- the requests behind one more line are of the header's format
+same_formats : (format : Option ℕ) (before after : List Request) → after ≡ before → AreAskedIn format before → AreAskedIn format after
+same_formats format before after same are = subst (AreAskedIn format) (sym same) are
+
+one_more_format : (format : Option ℕ) (before after : List Request) (request : Request) → IsAskedIn format request.op → after ≡ before ++ request ∷ [] → AreAskedIn format before → AreAskedIn format after
+one_more_format None before after request asked added are = absurd asked
+one_more_format (Some format) before after request asked added are =
+    subst (AreOfFormat format) (sym added)
+    (All-append (λ (r : Request). least_format r.op ≤ format) before (request ∷ []) are (All-one (λ (r : Request). least_format r.op ≤ format) request asked))
+
+header_format : (format : Option ℕ) (number : ℕ) (requests : List Request) → format ≡ None → AreAskedIn format requests → AreOfFormat number requests
+header_format format number requests none are =
+    let empty : requests ≡ [] = subst (λ f. AreAskedIn f requests) none are in
+    subst (AreOfFormat number) (sym empty) (λ k d early. absurd (omega (arith, early)))
+
+pub formats_behind : (said : Line) (format : Option ℕ) (begun : Bool) (before after : Traces) → IsPlaced said format begun → TracesAfter said before after → AreAskedIn format before.requests
+    → AreAskedIn (format_after format said) after.requests
+formats_behind Skipped format begun before after placed (same, still) are = same_formats format before.requests after.requests still are
+formats_behind (Header number) format begun before after (none, known) (same, still) are =
+    subst (AreOfFormat number) (sym still) (header_format format number before.requests none are)
+formats_behind Trace format begun before after placed (more, few, still) are = same_formats format before.requests after.requests still are
+formats_behind (Ask op) format begun before after (asked, begins, small) (same, added, few) are =
+    one_more_format format before.requests after.requests (record { trace = before.count - 1; number = length before.requests; op = op }) asked added are

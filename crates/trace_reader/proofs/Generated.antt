@@ -8,6 +8,7 @@ use Rattle.map_history.specs.declared.op.Request.{Request}
 use Rattle.map_history.specs.declared.op.Op.TheVariants.{Get, Ins, Del}
 use Rattle.map_history.specs.Keys.{key_of, is_format_1}
 use Rattle.map_history.specs.Requests.{AreInOrder, AreOfFormat1}
+use Rattle.map_history.proofs.Cells.{format_1_one_keyed}
 use Rattle.trace_reader.proofs.Formats.{keys_low}
 use Rattle.trace_reader.specs.declared.generator.Gen.{Gen}
 use Rattle.trace_reader.specs.Generator.{IsPlan, generated, generated_at, key_by, next_state, op_by, output_at, state_after}
@@ -85,5 +86,5 @@ generated_in_order plan is =
       keys = λ k d early. rw (at k d (omega (arith, size))) (
           let output = output_at plan.seed (2 * k + 1) in
           let key : key_of (generated_at plan k).op ≡ key_by plan (k / plan.length) output = op_key (output_at plan.seed (2 * k)) (key_by plan (k / plan.length) output) in
-          keys_low (generated_at plan k).op (op_format (output_at plan.seed (2 * k)) (key_by plan (k / plan.length) output)) (omega (arith, key, key_small plan (k / plan.length) output is (trace_within plan k (omega (arith, size))))));
+          keys_low (generated_at plan k).op (format_1_one_keyed (generated_at plan k).op (op_format (output_at plan.seed (2 * k)) (key_by plan (k / plan.length) output))) (omega (arith, key, key_small plan (k / plan.length) output is (trace_within plan k (omega (arith, size))))));
     }

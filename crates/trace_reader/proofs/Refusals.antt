@@ -1,16 +1,14 @@
 -- The first refusal of a text that is known up to a line.
-use Rattle.std.proofs.Common.{◌≡◌, ℕ, suc, ◌+◌, ◌-◌, ◌<◌, ◌≤◌, Bool, true, false, cond, leb, List, [], ◌∷◌, ◌++◌, None, Some, length, take, get_or, refl, sym, ap, ◌∙◌, arith, length-append, below_more, append_assoc}
+use Rattle.std.proofs.Common.{◌≡◌, ℕ, suc, ◌+◌, ◌-◌, ◌<◌, ◌≤◌, Bool, true, false, cond, leb, List, [], ◌∷◌, ◌++◌, Option, None, Some, is_some, length, take, get_or, refl, sym, ap, ◌∙◌, arith, length-append, below_more, append_assoc}
 use Rattle.std.proofs.lemmas.Bool.{lt-ltb, le-ltb, le-leb, lt-leb}
 use Rattle.std.proofs.lemmas.List.{take-append-le, append-nil}
 use Rattle.std.proofs.Math.ListN.{get_or-append}
 use Rattle.std.proofs.Math.Seq.{get_or-append_seam, take-append_seam, take-append-add}
-use Rattle.std.specs.List.{list_any}
 use Rattle.trace_reader.specs.declared.traces.TraceError.{TraceError}
 use Rattle.trace_reader.specs.declared.traces.TraceError.TheVariants.{TooLarge, Malformed}
 use Rattle.trace_reader.specs.declared.traces.BadLine.TheVariants.{NoHeader}
-use Rattle.trace_reader.specs.Line.{counts}
 use Rattle.trace_reader.specs.Lines.{pieces_of, ended, last_line, lines_in, lines_of}
-use Rattle.trace_reader.specs.Text.{lines_read, line_at, refusal_of, end_refusal, refusal_at, IsFirstRefusal, IsAccepted}
+use Rattle.trace_reader.specs.Text.{format_in, lines_read, line_at, refusal_of, end_refusal, refusal_at, IsFirstRefusal, IsAccepted}
 use Rattle.trace_reader.specs.Answer.{NoneRefused}
 use Rattle.trace_reader.proofs.Lines.{IsCut, is_cut, pieces_of-feed, ended-append, lines_in-append}
 
@@ -122,7 +120,7 @@ too_large text rest byte lines line cut full none =
     let front : take 4194304 (text ++ byte ∷ rest) ≡ text = ap (λ n. take n (text ++ byte ∷ rest)) (sym full) ∙ take-append_seam text (byte ∷ rest) in
     let read : lines_read (text ++ byte ∷ rest) ≡ lines =
     lines_read-past _ past ∙ ap (λ t. ended (pieces_of t)) front ∙ ap ended cut ∙ ended-append lines line [] ∙ append-nil lines in
-    end_refused _ lines _ read none (ap (λ b. cond b (Some (TooLarge 4194305)) (cond (list_any counts (lines_of (text ++ byte ∷ rest))) None (Some (Malformed (length (lines_of (text ++ byte ∷ rest)) + 1) NoHeader)))) (lt-ltb 4194304 _ past))
+    end_refused _ lines _ read none (ap (λ b. cond b (Some (TooLarge 4194305)) (cond (is_some (format_in (lines_of (text ++ byte ∷ rest)))) None (Some (Malformed (length (lines_of (text ++ byte ∷ rest)) + 1) NoHeader)))) (lt-ltb 4194304 _ past))
 
 -- the lines of a text that ends here: with the last piece, where it isn't empty
 pub ended_lines : (text : List ℕ) (lines : List (List ℕ)) (line : List ℕ) → pieces_of text ≡ lines ++ line ∷ [] → length text ≤ 4194304 → lines_read text ≡ lines ++ last_line line
@@ -132,9 +130,9 @@ pub lines_of-read : (text : List ℕ) (lines : List (List ℕ)) → length text 
 lines_of-read text lines within read = sym (lines_read-within text within) ∙ read
 
 -- what the end of a text within the limit is refused for
-pub end_refusal-within : (text : List ℕ) (lines : List (List ℕ)) (header : Bool) → length text ≤ 4194304 → lines_read text ≡ lines → list_any counts lines ≡ header → end_refusal text ≡ cond header None (Some (Malformed (length lines + 1) NoHeader))
-end_refusal-within text lines header within read counted =
+pub end_refusal-within : (text : List ℕ) (lines : List (List ℕ)) (format : Option ℕ) → length text ≤ 4194304 → lines_read text ≡ lines → format_in lines ≡ format → end_refusal text ≡ cond (is_some format) None (Some (Malformed (length lines + 1) NoHeader))
+end_refusal-within text lines format within read header =
     let same : lines_of text ≡ lines = lines_of-read text lines within read in
-    ap (λ b. cond b (Some (TooLarge 4194305)) (cond (list_any counts (lines_of text)) None (Some (Malformed (length (lines_of text) + 1) NoHeader)))) (le-ltb 4194304 (length text) within)
-    ∙ ap (λ l. cond (list_any counts l) None (Some (Malformed (length l + 1) NoHeader))) same
-    ∙ ap (λ b. cond b None (Some (Malformed (length lines + 1) NoHeader))) counted
+    ap (λ b. cond b (Some (TooLarge 4194305)) (cond (is_some (format_in (lines_of text))) None (Some (Malformed (length (lines_of text) + 1) NoHeader)))) (le-ltb 4194304 (length text) within)
+    ∙ ap (λ l. cond (is_some (format_in l)) None (Some (Malformed (length l + 1) NoHeader))) same
+    ∙ ap (λ f. cond (is_some f) None (Some (Malformed (length lines + 1) NoHeader))) header

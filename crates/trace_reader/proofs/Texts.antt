@@ -1,14 +1,15 @@
 -- What a reader knows of the text that it has read, after the next byte and at the end.
-use Rattle.std.proofs.Common.{◌≡◌, ◌≢◌, ℕ, ◌+◌, ◌≤◌, ◌<◌, true, false, List, [], ◌∷◌, ◌++◌, length, refl, sym, ap, ◌∙◌, arith, length-append, Err}
+use Rattle.std.proofs.Common.{◌≡◌, ◌≢◌, ℕ, ◌+◌, ◌≤◌, ◌<◌, List, [], ◌∷◌, ◌++◌, None, Some, length, refl, sym, ap, ◌∙◌, subst, arith, length-append, Err}
 use Rattle.std.proofs.lemmas.List.{append-nil}
 use Rattle.trace_reader.specs.declared.reader.Reader.{Reader}
 use Rattle.trace_reader.specs.declared.traces.TraceError.{TraceError}
 use Rattle.trace_reader.specs.declared.traces.TraceError.TheVariants.{ReadFault, Memory, TooLarge, Malformed, TooManyTraces, TooManyRequests}
 use Rattle.trace_reader.specs.declared.traces.BadLine.TheVariants.{NoHeader}
 use Rattle.trace_reader.specs.Lines.{last_line, lines_of, pieces_of, IsOneLine}
-use Rattle.trace_reader.specs.Text.{lines_read, refusal_of, traces_in, requests_in, IsFirstRefusal}
+use Rattle.trace_reader.specs.Text.{format_in, lines_read, refusal_of, traces_in, requests_in, IsFirstRefusal}
 use Rattle.trace_reader.specs.Answer.{AreTracesOf, IsAnswered}
-use Rattle.trace_reader.specs.Reader.{StandsBehind, StandsAt, StandsAtEnd, IfOfText, IsRefusedFor, Refuses}
+use Rattle.trace_reader.specs.Formats.{AreOfFormat}
+use Rattle.trace_reader.specs.Reader.{AreAskedIn, StandsBehind, StandsAt, StandsAtEnd, IfOfText, IsRefusedFor, Refuses}
 use Rattle.trace_reader.proofs.Lines.{pieces_of-feed, pieces_of-onward, last_line-begun}
 use Rattle.trace_reader.proofs.Refusals.{first_refused, end_refused, all_accepted, line_read, too_large, ended_lines, end_refusal-within, lines_of-read}
 
@@ -120,17 +121,23 @@ last_line_refused old begun few error refused text at =
     (λ is. first_refused text at.lines old.line.items [] error (whole_line old text at begun (omega (arith, at.bytes, few))) at.behind.none_refused is)
 
 -- what the end answers
-pub no_header : (reader : Reader) (text : List ℕ) → StandsAtEnd reader text → reader.has_header ≡ false → IsFirstRefusal text (Malformed (reader.lines + 1) NoHeader)
+pub no_header : (reader : Reader) (text : List ℕ) → StandsAtEnd reader text → reader.format ≡ None → IsFirstRefusal text (Malformed (reader.lines + 1) NoHeader)
 no_header reader text at none =
-    rw at.behind.count (end_refused text at.lines _ at.read at.behind.none_refused (end_refusal-within text at.lines false at.within at.read (sym at.behind.header ∙ none)))
+    rw at.behind.count (end_refused text at.lines _ at.read at.behind.none_refused (end_refusal-within text at.lines None at.within at.read (sym at.behind.header ∙ none)))
 
-pub accepted : (reader : Reader) (text : List ℕ) → StandsAtEnd reader text → reader.has_header ≡ true → AreTracesOf reader.traces text
-accepted reader text at header =
+pub formats_read : (reader : Reader) (text : List ℕ) (format : ℕ) → StandsAtEnd reader text → reader.format ≡ Some format → AreOfFormat format reader.traces.requests
+formats_read reader text format at header = subst (λ f. AreAskedIn f reader.traces.requests) header at.behind.formats
+
+pub accepted : (reader : Reader) (text : List ℕ) (format : ℕ) → StandsAtEnd reader text → reader.format ≡ Some format → AreTracesOf (record reader.traces { format = format }) text
+accepted reader text format at header =
     let same : lines_of text ≡ at.lines = lines_of-read text at.lines at.within at.read in
+    let named : format_in at.lines ≡ Some format = sym at.behind.header ∙ header in
     record {
-      accepted = all_accepted text at.lines at.read at.behind.none_refused (end_refusal-within text at.lines true at.within at.read (sym at.behind.header ∙ header));
+      accepted = all_accepted text at.lines at.read at.behind.none_refused (end_refusal-within text at.lines (Some format) at.within at.read named);
+      format = ap format_in same ∙ named;
       count = at.behind.traces.count ∙ ap traces_in (sym same);
       requests = at.behind.traces.requests ∙ ap requests_in (sym same);
+      formats = formats_read reader text format at header;
     }
 
 pub answered : (error : TraceError) (text : List ℕ) → Refuses error text → IsAnswered (Err error) text

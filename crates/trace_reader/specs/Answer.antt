@@ -1,11 +1,12 @@
 -- What the reading of a text answers.
-use Rattle.std.specs.Prelude.{◌≡◌, ◌≤◌, ◌<◌, ℕ, Err, List, None, Ok, Option, Result, length, take, ◌⊎◌, IsOk}
+use Rattle.std.specs.Prelude.{◌≡◌, ◌≤◌, ◌<◌, ℕ, Err, List, None, Ok, Option, Result, Some, length, take, ◌⊎◌, IsOk}
 use Rattle.trace_reader.specs.declared.traces.Traces.{Traces}
 use Rattle.trace_reader.specs.declared.traces.TraceError.{TraceError}
 use Rattle.trace_reader.specs.declared.traces.TraceError.TheVariants.{ReadFault, Memory, TooLarge, Malformed, TooManyTraces, TooManyRequests}
+use Rattle.trace_reader.specs.Formats.{AreOfFormat}
 use Rattle.trace_reader.specs.Lines.{pieces_of, ended}
 use Rattle.trace_reader.specs.Source.{Moves}
-use Rattle.trace_reader.specs.Text.{traces_in, requests_in, traces_of, requests_of, refusal_of, line_at, IsAccepted, IsFirstRefusal}
+use Rattle.trace_reader.specs.Text.{traces_in, requests_in, format_of, traces_of, requests_of, refusal_of, line_at, IsAccepted, IsFirstRefusal}
 
 -- the traces are those of these lines
 pub record AreTracesIn (traces : Traces) (lines : List (List ℕ)) : Type 0 where
@@ -15,8 +16,11 @@ pub record AreTracesIn (traces : Traces) (lines : List (List ℕ)) : Type 0 wher
 -- the text is in the grammar, and these are its traces
 pub record AreTracesOf (traces : Traces) (text : List ℕ) : Type 0 where
   pub accepted : IsAccepted text
+  pub format : format_of text ≡ Some traces.format
   pub count : traces.count ≡ traces_of text
   pub requests : traces.requests ≡ requests_of text
+  -- each request can be asked in a text of this format
+  pub formats : AreOfFormat traces.format traces.requests
 
 -- the error is what the text is refused for, if it is one of the text
 abbrev pub IsRefusal : TraceError → List ℕ → Type 0

@@ -1,5 +1,6 @@
 pub mod Answer
 pub mod Fields
+pub mod Formats
 pub mod Generator
 pub mod Line
 pub mod Lines

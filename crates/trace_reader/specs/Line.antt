@@ -1,10 +1,10 @@
 -- One line of a text: whether it counts, what is wrong with it, and what it asks.
-use Rattle.std.specs.Prelude.{ℕ, ◌==◌, Bool, true, false, ◌&&◌, not, List, [], ◌∷◌, length, Option, None, Some, is_none, unwrap_or, if◌then◌else◌, nat_lt, codes}
+use Rattle.std.specs.Prelude.{ℕ, ◌==◌, Bool, true, false, ◌&&◌, not, List, [], ◌∷◌, length, Option, None, Some, is_some, unwrap_or, if◌then◌else◌, nat_le, nat_lt, codes}
 use Rattle.std.specs.List.{list_all, slice_index_or}
 use Rattle.std.specs.Char.{is_ascii}
 use Rattle.std.specs.Str.{bytes_eq}
 use Rattle.map_history.specs.declared.op.Op.{Op}
-use Rattle.map_history.specs.declared.op.Op.TheVariants.{Get, Ins, Del}
+use Rattle.map_history.specs.declared.op.Op.TheVariants.{Get, Ins, Del, Put}
 use Rattle.trace_reader.specs.declared.traces.BadLine.{BadLine}
 use Rattle.trace_reader.specs.declared.traces.BadLine.TheVariants.{NotAscii, NoHeader, UnknownWord, RequestBeforeTrace, MissingField, ExtraField, BadNumber, KeyTooLarge, ValueTooLarge}
 use Rattle.trace_reader.specs.Fields.{content_of, fields_of, is_comment, is_number, value_of}
@@ -24,7 +24,12 @@ wanted_by word =
     else if bytes_eq word (codes "get") then Some 1
     else if bytes_eq word (codes "del") then Some 1
     else if bytes_eq word (codes "ins") then Some 2
+    else if bytes_eq word (codes "put") then Some 2
     else None
+
+-- the format has the word: `put` is of format 2 alone
+abbrev pub has_word : (format : ℕ) → List ℕ → Bool
+has_word format word = if bytes_eq word (codes "put") then nat_le 2 format else is_some (wanted_by word)
 
 abbrev pub is_trace : List ℕ → Bool
 is_trace word = bytes_eq word (codes "trace")
@@ -50,31 +55,43 @@ request_tests begun wanted numbers =
     ∷ []
 
 -- a trace has begun, or begins here
-abbrev pub tests_of : Bool → List ℕ → List (List ℕ) → List (Bool × BadLine)
-tests_of begun word numbers =
-    (is_none (wanted_by word), UnknownWord)
+abbrev pub tests_of : (format : ℕ) → Bool → List ℕ → List (List ℕ) → List (Bool × BadLine)
+tests_of format begun word numbers =
+    (not (has_word format word), UnknownWord)
     ∷ request_tests (if is_trace word then true else begun) (unwrap_or (wanted_by word) 0) numbers
 
-abbrev pub fault_of_words : Bool → List (List ℕ) → Option BadLine
-fault_of_words begun [] = None
-fault_of_words begun (word ∷ numbers) = first_found (tests_of begun word numbers)
+abbrev pub fault_of_words : (format : ℕ) → Bool → List (List ℕ) → Option BadLine
+fault_of_words format begun [] = None
+fault_of_words format begun (word ∷ numbers) = first_found (tests_of format begun word numbers)
 
--- the header is `flock 1`
-abbrev pub is_header : List (List ℕ) → Bool
-is_header fields = length fields == 2 && bytes_eq (field fields 0) (codes "flock") && bytes_eq (field fields 1)
-    (codes "1")
+-- the format that a field names
+abbrev pub format_named : List ℕ → Option ℕ
+format_named number =
+    if bytes_eq number (codes "1") then Some 1 else if bytes_eq number (codes "2") then Some 2 else None
 
--- the fault of a line that counts, behind a header or not
-abbrev pub fault_of_counted : (header begun : Bool) → List ℕ → Option BadLine
-fault_of_counted header begun line =
+-- the format that these fields name as a header: it is `flock 1` or `flock 2`
+abbrev pub header_of : List (List ℕ) → Option ℕ
+header_of fields =
+    if length fields == 2 && bytes_eq (field fields 0) (codes "flock") then format_named (field fields 1) else None
+
+-- the same of a line
+abbrev pub header_in : List ℕ → Option ℕ
+header_in line = if counts line then header_of (fields_of line) else None
+
+-- the fault of these fields, where they count, behind a header with this format or before any
+abbrev pub fault_of_fields : (format : Option ℕ) (begun : Bool) → List (List ℕ) → Option BadLine
+fault_of_fields None begun fields = if is_some (header_of fields) then None else Some NoHeader
+fault_of_fields (Some format) begun fields = fault_of_words format begun fields
+
+-- the fault of a line that counts
+abbrev pub fault_of_counted : (format : Option ℕ) (begun : Bool) → List ℕ → Option BadLine
+fault_of_counted format begun line =
     if not (list_all is_ascii (content_of line)) then Some NotAscii
-    else if header then fault_of_words begun (fields_of line)
-    else if is_header (fields_of line) then None
-    else Some NoHeader
+    else fault_of_fields format begun (fields_of line)
 
--- the fault of a line, where a header and a trace stand before it or not
-abbrev pub fault_of : (header begun : Bool) → List ℕ → Option BadLine
-fault_of header begun line = if counts line then fault_of_counted header begun line else None
+-- the fault of a line, where a header with this format stands before it or none, and a trace or none
+abbrev pub fault_of : (format : Option ℕ) (begun : Bool) → List ℕ → Option BadLine
+fault_of format begun line = if counts line then fault_of_counted format begun line else None
 
 -- what a request asks
 abbrev pub asked_by : List ℕ → List (List ℕ) → Option Op
@@ -82,6 +99,7 @@ asked_by word numbers =
     if bytes_eq word (codes "get") then Some (Get (value_of (field numbers 0)))
     else if bytes_eq word (codes "del") then Some (Del (value_of (field numbers 0)))
     else if bytes_eq word (codes "ins") then Some (Ins (value_of (field numbers 0)) (value_of (field numbers 1)))
+    else if bytes_eq word (codes "put") then Some (Put (value_of (field numbers 0)) (value_of (field numbers 1)))
     else None
 
 abbrev pub asked_by_words : List (List ℕ) → Option Op

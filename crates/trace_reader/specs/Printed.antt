@@ -3,6 +3,7 @@ use Rattle.std.specs.Prelude.{◌≤◌, ℕ, ◌+◌, ◌-◌, List, [], ◌∷
 use Rattle.map_history.specs.declared.op.Op.{Op}
 use Rattle.map_history.specs.declared.op.Op.TheVariants.{Get, Ins, Del, Put, Mov}
 use Rattle.map_history.specs.declared.op.Request.{Request}
+use Rattle.trace_reader.specs.Formats.{format_for}
 
 -- the line of a request
 abbrev pub line_of : Op → List ℕ
@@ -22,9 +23,13 @@ lines_behind begun [] traces = beginnings (traces - begun)
 lines_behind begun (request ∷ requests) traces = beginnings (request.trace + 1 - begun) ++ line_of request.op ∷
     lines_behind (request.trace + 1) requests traces
 
--- the header, and behind it the lines of the requests
+-- the header, which names a format
+abbrev pub header_line : ℕ → List ℕ
+header_line format = codes "flock " ++ decimal format
+
+-- the header with the least format that has the requests, and behind it their lines
 abbrev pub printed_lines : List Request → ℕ → List (List ℕ)
-printed_lines requests traces = codes "flock 1" ∷ lines_behind 0 requests traces
+printed_lines requests traces = header_line (format_for requests) ∷ lines_behind 0 requests traces
 
 -- each line is ended by a line feed
 abbrev pub with_feed : List ℕ → List ℕ

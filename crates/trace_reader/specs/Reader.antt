@@ -1,6 +1,6 @@
 -- A reader in the middle of a text.
-use Rattle.std.specs.Prelude.{◌≡◌, ◌<◌, ◌≤◌, ◌⊎◌, ℕ, ◌+◌, ◌-◌, List, [], ◌∷◌, ◌++◌, Bool, true, Option, Some, drop, length, nat_lt, take}
-use Rattle.std.specs.List.{list_any}
+use Rattle.std.specs.Prelude.{◌≡◌, ◌<◌, ◌≤◌, ◌⊎◌, ℕ, ◌+◌, ◌-◌, List, [], ◌∷◌, ◌++◌, true, Option, None, Some, drop, length, nat_lt, take}
+use Rattle.map_history.specs.declared.op.Request.{Request}
 use Rattle.map_history.specs.Requests.{AreInOrder}
 use Rattle.trace_reader.specs.declared.line.Line.{Line}
 use Rattle.trace_reader.specs.declared.line.Line.TheVariants.{Skipped, Header, Trace, Ask}
@@ -9,20 +9,26 @@ use Rattle.trace_reader.specs.declared.traces.Traces.{Traces}
 use Rattle.trace_reader.specs.declared.traces.TraceError.{TraceError}
 use Rattle.trace_reader.specs.declared.traces.TraceError.TheVariants.{ReadFault, Memory, TooLarge, Malformed, TooManyTraces, TooManyRequests}
 use Rattle.trace_reader.specs.Answer.{AreTracesIn, NoneRefused}
-use Rattle.trace_reader.specs.Line.{counts}
+use Rattle.trace_reader.specs.Formats.{AreOfFormat}
 use Rattle.trace_reader.specs.Lines.{pieces_of}
-use Rattle.trace_reader.specs.Text.{IsFirstRefusal, lines_read}
+use Rattle.trace_reader.specs.Text.{IsFirstRefusal, format_in, lines_read}
 
--- these lines were read whole: how many they are, whether one counts, and their traces
-pub record AreRead (finished : ℕ) (counted : Bool) (read : Traces) (lines : List (List ℕ)) : Type 0 where
+-- each request can be asked behind a header with this format; before any there is none
+abbrev pub AreAskedIn : Option ℕ → List Request → Type 0
+AreAskedIn None requests = requests ≡ []
+AreAskedIn (Some format) requests = AreOfFormat format requests
+
+-- these lines were read whole: how many they are, the format of their header, and their traces
+pub record AreRead (finished : ℕ) (format : Option ℕ) (read : Traces) (lines : List (List ℕ)) : Type 0 where
   pub count : finished ≡ length lines
-  pub header : counted ≡ list_any counts lines
+  pub header : format ≡ format_in lines
   pub none_refused : NoneRefused lines
   pub traces : AreTracesIn read lines
   pub ordered : AreInOrder read.requests read.count
+  pub formats : AreAskedIn format read.requests
 
 abbrev pub StandsBehind : Reader → List (List ℕ) → Type 0
-StandsBehind reader lines = AreRead reader.lines reader.has_header reader.traces lines
+StandsBehind reader lines = AreRead reader.lines reader.format reader.traces lines
 
 -- the reader has read this text: lines, and of the next line what it keeps
 pub record StandsAt (reader : Reader) (text : List ℕ) : Type 0 where
@@ -31,10 +37,9 @@ pub record StandsAt (reader : Reader) (text : List ℕ) : Type 0 where
   pub cut : pieces_of text ≡ lines ++ reader.line.items ∷ []
   pub bytes : length text ≡ reader.bytes
 
--- a line begins here, behind a header and a trace
+-- a line begins here, behind a trace
 pub record MayAsk (reader : Reader) : Type 0 where
   pub begins : reader.line.items ≡ []
-  pub headed : reader.has_header ≡ true
   pub begun : nat_lt 0 reader.traces.count ≡ true
 
 -- the line that ends there was read, with its line feed, of these bytes
@@ -71,7 +76,7 @@ Refuses error text = IfOfText error (IsFirstRefusal text error)
 -- what a line makes of the traces
 abbrev pub TracesAfter : Line → Traces → Traces → Type 0
 TracesAfter Skipped before after = (after.count ≡ before.count) × (after.requests ≡ before.requests)
-TracesAfter Header before after = (after.count ≡ before.count) × (after.requests ≡ before.requests)
+TracesAfter (Header number) before after = (after.count ≡ before.count) × (after.requests ≡ before.requests)
 TracesAfter Trace before after = (after.count ≡ before.count + 1) × (after.count ≤ 64)
     × (after.requests ≡ before.requests)
 TracesAfter (Ask op) before after =
@@ -86,7 +91,7 @@ TracesAfter (Ask op) before after =
 -- the line is one trace or one request too many, or memory is wanting
 abbrev pub ExcessOf : Line → Traces → TraceError → Type 0
 ExcessOf Skipped traces error = ⊥
-ExcessOf Header traces error = ⊥
+ExcessOf (Header number) traces error = ⊥
 ExcessOf Trace traces error = (error ≡ TooManyTraces 65) × (traces.count ≡ 64)
 ExcessOf (Ask op) traces error = (error ≡ Memory)
     ⊎ ((error ≡ TooManyRequests 131073) × (length traces.requests ≡ 131072))

@@ -1,13 +1,14 @@
 -- A whole text: what it is refused for, and where; or its traces and requests.
 use Rattle.std.specs.Prelude.{◌≡◌, ℕ, ◌+◌, ◌-◌, ◌<◌, ◌≤◌, ◌==◌, ◌&&◌, List, [], ◌∷◌, ◌++◌, length, take, Option, None, Some, is_some, if◌then◌else◌, nat_lt, nat_le, count_by}
-use Rattle.std.specs.List.{list_any, slice_index_or}
+use Rattle.std.specs.List.{slice_index_or}
+use Rattle.std.specs.Option.{option_or}
 use Rattle.map_history.specs.declared.op.Op.{Op}
 use Rattle.map_history.specs.declared.op.Request.{Request}
 use Rattle.trace_reader.specs.declared.traces.BadLine.{BadLine}
 use Rattle.trace_reader.specs.declared.traces.BadLine.TheVariants.{NoHeader}
 use Rattle.trace_reader.specs.declared.traces.TraceError.{TraceError}
 use Rattle.trace_reader.specs.declared.traces.TraceError.TheVariants.{TooLarge, Malformed, TooManyTraces, TooManyRequests}
-use Rattle.trace_reader.specs.Line.{counts, fault_of, asked, begins_trace}
+use Rattle.trace_reader.specs.Line.{fault_of, header_in, asked, begins_trace}
 use Rattle.trace_reader.specs.Lines.{pieces_of, ended, lines_of}
 
 -- how many traces the lines begin, and how many requests they make
@@ -17,9 +18,14 @@ traces_in lines = count_by begins_trace lines
 abbrev pub asks_in : List (List ℕ) → ℕ
 asks_in lines = count_by (λ line. is_some (asked line)) lines
 
+-- the format of the first header among these lines, if one is there
+abbrev pub format_in : List (List ℕ) → Option ℕ
+format_in [] = None
+format_in (line ∷ lines) = option_or (header_in line) (format_in lines)
+
 -- the fault of a line behind these lines
 abbrev pub fault_behind : List (List ℕ) → List ℕ → Option BadLine
-fault_behind before line = fault_of (list_any counts before) (nat_lt 0 (traces_in before)) line
+fault_behind before line = fault_of (format_in before) (nat_lt 0 (traces_in before)) line
 
 -- a line without a fault may still be one trace or one request too many
 abbrev pub excess_of : List (List ℕ) → List ℕ → Option TraceError
@@ -44,7 +50,7 @@ lines_read text = if nat_le (length text) 4194304 then lines_of text else ended 
 abbrev pub end_refusal : List ℕ → Option TraceError
 end_refusal text =
     if nat_lt 4194304 (length text) then Some (TooLarge 4194305)
-    else if list_any counts (lines_of text) then None
+    else if is_some (format_in (lines_of text)) then None
     else Some (Malformed (length (lines_of text) + 1) NoHeader)
 
 abbrev pub line_at : List (List ℕ) → ℕ → List ℕ
@@ -81,7 +87,10 @@ requests_behind before (line ∷ lines) = request_by before (asked line) ++ requ
 abbrev pub requests_in : List (List ℕ) → List Request
 requests_in lines = requests_behind [] lines
 
--- the traces and requests of a text
+-- the format, the traces and the requests of a text
+abbrev pub format_of : List ℕ → Option ℕ
+format_of text = format_in (lines_of text)
+
 abbrev pub traces_of : List ℕ → ℕ
 traces_of text = traces_in (lines_of text)
 

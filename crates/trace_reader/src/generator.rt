@@ -35,6 +35,7 @@ pub fn generate(alloc: Global, plan: &Gen) -> Result<Traces, AllocError>
     ensures requests { IfOk result (λ traces. traces.requests ≡ generated plan.now) }
     ensures ordered { IfOk result (λ traces. AreInOrder traces.requests traces.count) }
     ensures format { IfOk result (λ traces. AreOfFormat1 traces.requests) }
+    ensures header { IfOk result (λ traces. traces.format ≡ 1) }
 {
     let mut requests = Requests::new(alloc);
     let mut state = plan.seed;
@@ -45,6 +46,7 @@ pub fn generate(alloc: Global, plan: &Gen) -> Result<Traces, AllocError>
         state = second;
     }
     Ok(Traces {
+        format: 1,
         count: plan.traces,
         requests,
     })

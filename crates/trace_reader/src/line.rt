@@ -1,8 +1,9 @@
 // What one line says.
-ghost use Rattle.std.specs.Prelude.{◌≡◌, ◌≢◌, ◌≤◌, ◌<◌, ◌∷◌, [], true, false, None, IfErr, IfOk, IfNone, IfSome, OnOk, length};
-ghost use Rattle.map_history.specs.declared.op.Op.TheVariants.{Ins};
+ghost use Rattle.std.specs.Prelude.{◌≡◌, ◌≢◌, ◌≤◌, ◌<◌, ◌∷◌, [], true, None, Some, IfErr, IfOk, IfNone, IfSome, OnOk, length, nat_le, not};
+ghost use Rattle.map_history.specs.declared.op.Op.TheVariants.{Put};
 ghost use Rattle.trace_reader.specs.Fields.{fields_in, value_of};
-ghost use Rattle.trace_reader.specs.Line.{fault_of, fault_of_words, field, first_found, is_header, request_tests};
+ghost use Rattle.trace_reader.specs.Formats.{IsFormat};
+ghost use Rattle.trace_reader.specs.Line.{fault_of, fault_of_words, field, first_found, format_named, header_of, request_tests};
 ghost use Rattle.trace_reader.specs.Said.{Says, SaysWords};
 
 use crate::field::{content, first_byte, first_field, is_ascii, number};
@@ -15,15 +16,17 @@ use map_history::Op;
 pub enum Line {
     /// It counts for nothing.
     Skipped,
-    Header,
+    /// The header, with the format that it names.
+    Header(u32),
     Trace,
     Ask(Op),
 }
 
-/// Reads a line, where a header and a trace stand before it or not.
-pub fn read_line(line: &[u8], header: bool, begun: bool) -> Result<Line, BadLine>
-    ensures fault { IfErr result (λ kind. fault_of header begun line.now ≡ Some kind) }
-    ensures said { IfOk result (λ said. Says said header begun line.now) }
+/// Reads a line, where a header with this format stands before it or none, and a trace or none.
+pub fn read_line(line: &[u8], format: Option<u32>, begun: bool) -> Result<Line, BadLine>
+    requires { IfSome format IsFormat }
+    ensures fault { IfErr result (λ kind. fault_of format begun line.now ≡ Some kind) }
+    ensures said { IfOk result (λ said. Says said format begun line.now) }
 {
     let content = content(line);
     let Some(first) = first_byte(content) else {
@@ -38,22 +41,34 @@ pub fn read_line(line: &[u8], header: bool, begun: bool) -> Result<Line, BadLine
     if !is_ascii(content) {
         return Err(BadLine::NotAscii);
     }
-    if header {
-        read_words(word, rest, begun)
-    } else {
-        read_header(word, rest)
+    match format {
+        Some(format) => read_words(word, rest, format, begun),
+        None => Ok(Line::Header(read_header(word, rest)?)),
     }
 }
 
-// The header is `flock 1`.
-fn read_header(word: &[u8], rest: &[u8]) -> Result<Line, BadLine>
+// The format that a header names: it is `flock 1` or `flock 2`.
+fn read_header(word: &[u8], rest: &[u8]) -> Result<u32, BadLine>
     ensures fault { IfErr result (λ kind. (kind ≡ BadLine.NoHeader)
-        × (is_header (word.now ∷ fields_in rest.now) ≡ false)) }
-    ensures said { IfOk result (λ said. (said ≡ Line.Header) × (is_header (word.now ∷ fields_in rest.now) ≡ true)) }
+        × (header_of (word.now ∷ fields_in rest.now) ≡ None)) }
+    ensures named { IfOk result (λ format. header_of (word.now ∷ fields_in rest.now) ≡ Some format) }
+    ensures format { IfOk result IsFormat }
 {
     match (word, only_field(rest)) {
-        (b"flock", Some(b"1")) => Ok(Line::Header),
+        (b"flock", Some(number)) => read_format(number).ok_or(BadLine::NoHeader),
         _ => Err(BadLine::NoHeader),
+    }
+}
+
+// The format that a field names.
+fn read_format(number: &[u8]) -> Option<u32>
+    ensures named { result ≡ format_named number.now }
+    ensures format { IfSome result IsFormat }
+{
+    match number {
+        b"1" => Some(1),
+        b"2" => Some(2),
+        _ => None,
     }
 }
 
@@ -69,16 +84,21 @@ fn only_field(rest: &[u8]) -> Option<&[u8]>
     }
 }
 
-// A line behind the header.
-fn read_words(word: &[u8], rest: &[u8], begun: bool) -> Result<Line, BadLine>
-    ensures fault { IfErr result (λ kind. fault_of_words begun (word.now ∷ fields_in rest.now) ≡ Some kind) }
-    ensures said { IfOk result (λ said. SaysWords said begun word.now (fields_in rest.now)) }
+// A line behind a header with this format.
+fn read_words(word: &[u8], rest: &[u8], format: u32, begun: bool) -> Result<Line, BadLine>
+    requires { IsFormat format }
+    ensures fault { IfErr result (λ kind. fault_of_words format begun (word.now ∷ fields_in rest.now) ≡ Some kind) }
+    ensures said { IfOk result (λ said. SaysWords said format begun word.now (fields_in rest.now)) }
 {
     match word {
         b"trace" => read_trace(rest),
         b"get" => Ok(Line::Ask(Op::Get(read_key(rest, begun)?))),
         b"del" => Ok(Line::Ask(Op::Del(read_key(rest, begun)?))),
-        b"ins" => read_pair(rest, begun),
+        b"ins" => {
+            let (key, value) = read_pair(rest, begun)?;
+            Ok(Line::Ask(Op::Ins(key, value)))
+        }
+        b"put" => read_put(rest, format, begun),
         _ => Err(BadLine::UnknownWord),
     }
 }
@@ -134,13 +154,31 @@ fn value_in_range(value: u64) -> Result<u32, BadLine>
     Ok(value as u32)
 }
 
-// The key and the value of an `ins`.
-fn read_pair(rest: &[u8], begun: bool) -> Result<Line, BadLine>
+// What stands behind `put`, a word that a text of format 1 doesn't know.
+fn read_put(rest: &[u8], format: u32, begun: bool) -> Result<Line, BadLine>
+    ensures fault { IfErr result (λ kind. first_found ((not (nat_le 2 format), BadLine.UnknownWord)
+        ∷ request_tests begun 2 (fields_in rest.now)) ≡ Some kind) }
+    ensures none { OnOk result (first_found ((not (nat_le 2 format), BadLine.UnknownWord)
+        ∷ request_tests begun 2 (fields_in rest.now)) ≡ None) }
+    ensures said { IfOk result (λ said. said
+        ≡ Line.Ask (Put (value_of (field (fields_in rest.now) 0)) (value_of (field (fields_in rest.now) 1)))) }
+    ensures key { OnOk result (value_of (field (fields_in rest.now) 0) ≤ 4294967293) }
+    ensures format { OnOk result (2 ≤ format) }
+    ensures begun { OnOk result (begun ≡ true) }
+{
+    if format < 2 {
+        return Err(BadLine::UnknownWord);
+    }
+    let (key, value) = read_pair(rest, begun)?;
+    Ok(Line::Ask(Op::Put(key, value)))
+}
+
+// The key and the value of an `ins` or a `put`.
+fn read_pair(rest: &[u8], begun: bool) -> Result<(u32, u32), BadLine>
     ensures fault { IfErr result (λ kind. first_found (request_tests begun 2 (fields_in rest.now)) ≡ Some kind) }
     ensures none { OnOk result (first_found (request_tests begun 2 (fields_in rest.now)) ≡ None) }
-    ensures said { IfOk result (λ said. said
-        ≡ Line.Ask (Ins (value_of (field (fields_in rest.now) 0)) (value_of (field (fields_in rest.now) 1)))) }
-    ensures key { OnOk result (value_of (field (fields_in rest.now) 0) ≤ 4294967293) }
+    ensures key { IfOk result (λ pair. (pair.0 ≡ value_of (field (fields_in rest.now) 0)) × (pair.0 ≤ 4294967293)) }
+    ensures value { IfOk result (λ pair. pair.1 ≡ value_of (field (fields_in rest.now) 1)) }
     ensures begun { OnOk result (begun ≡ true) }
 {
     if !begun {
@@ -153,5 +191,5 @@ fn read_pair(rest: &[u8], begun: bool) -> Result<Line, BadLine>
     }
     let key = number(key).ok_or(BadLine::BadNumber)?;
     let value = number(value).ok_or(BadLine::BadNumber)?;
-    Ok(Line::Ask(Op::Ins(key_in_range(key)?, value_in_range(value)?)))
+    Ok((key_in_range(key)?, value_in_range(value)?))
 }

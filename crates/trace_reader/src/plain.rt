@@ -1,9 +1,10 @@
 // A request as it is mostly written, read in one pass: one blank between its fields, and behind the last nothing but
 // the line feed.
-ghost use Rattle.std.specs.Prelude.{◌≡◌, ◌≤◌, ◌+◌, ◌-◌, true, get_or, length, take, IfSome};
+ghost use Rattle.std.specs.Prelude.{◌≡◌, ◌≤◌, ◌+◌, ◌-◌, Some, true, get_or, length, take, IfSome};
 ghost use Rattle.std.specs.Char.{is_ascii_digit};
 ghost use Rattle.std.specs.Str.{bytes_eq};
-ghost use Rattle.trace_reader.specs.Plain.{AreDigits, BeginWithNumber, BeginWithRequest, IsRequestAt, text_of};
+ghost use Rattle.trace_reader.specs.Formats.{IsFormat};
+ghost use Rattle.trace_reader.specs.Plain.{AreDigits, BeginWithNumber, BeginWithPair, BeginWithRequest, IsRequestAt, format_of_word, text_of};
 
 use map_history::Op;
 
@@ -14,12 +15,13 @@ pub struct PlainRequest {
     pub end: usize,
 }
 
-/// The request with which the bytes begin, where it is written so. None says nothing of them: their line is to be read
-/// field by field.
-pub fn plain_request(bytes: &[u8]) -> Option<PlainRequest>
-    ensures { IfSome result (λ found. IsRequestAt bytes.now found.op found.end) }
+/// The request with which the bytes begin, where it is written so and the format has it. None says nothing of them:
+/// their line is to be read field by field.
+pub fn plain_request(bytes: &[u8], format: u32) -> Option<PlainRequest>
+    requires { IsFormat format }
+    ensures { IfSome result (λ found. IsRequestAt (Some format) bytes.now found.op found.end) }
 {
-    let (op, rest) = plain_op(bytes)?;
+    let (op, rest) = plain_op(bytes, format)?;
     Some(PlainRequest {
         op,
         end: bytes.len() - rest.len() - 1,
@@ -27,14 +29,14 @@ pub fn plain_request(bytes: &[u8]) -> Option<PlainRequest>
 }
 
 // What it asks, and what stands behind its line.
-fn plain_op(bytes: &[u8]) -> Option<(Op, &[u8])>
-    ensures { IfSome result (λ found. BeginWithRequest bytes.now found.0 found.1.now) }
+fn plain_op(bytes: &[u8], format: u32) -> Option<(Op, &[u8])>
+    requires { IsFormat format }
+    ensures { IfSome result (λ found. BeginWithRequest (Some format) bytes.now found.0 found.1.now) }
 {
     let (word, numbers) = bytes.split_at_checked(4)?;
-    match word_of(word)? {
+    match word_of(word, format)? {
         Word::Ins => {
-            let (key, value) = number_before(numbers, b' ')?;
-            let (value, rest) = number_before(value, b'\n')?;
+            let (key, value, rest) = plain_pair(numbers)?;
             Some((Op::Ins(key, value), rest))
         }
         Word::Get => {
@@ -45,7 +47,20 @@ fn plain_op(bytes: &[u8]) -> Option<(Op, &[u8])>
             let (key, rest) = number_before(numbers, b'\n')?;
             Some((Op::Del(key), rest))
         }
+        Word::Put => {
+            let (key, value, rest) = plain_pair(numbers)?;
+            Some((Op::Put(key, value), rest))
+        }
     }
+}
+
+// The key and the value with which the bytes begin, and what stands behind their line.
+fn plain_pair(bytes: &[u8]) -> Option<(u32, u32, &[u8])>
+    ensures { IfSome result (λ found. BeginWithPair bytes.now found.0 found.1 found.2.now) }
+{
+    let (key, more) = number_before(bytes, b' ')?;
+    let (value, rest) = number_before(more, b'\n')?;
+    Some((key, value, rest))
 }
 
 // The word with which a request begins.
@@ -54,16 +69,20 @@ enum Word {
     Get,
     Ins,
     Del,
+    Put,
 }
 
-// The word that these bytes are, with the blank behind it.
-fn word_of(bytes: &[u8]) -> Option<Word>
-    ensures { IfSome result (λ word. bytes_eq bytes.now (text_of word) ≡ true) }
+// The word that these bytes are, with the blank behind it, where the format has it.
+fn word_of(bytes: &[u8], format: u32) -> Option<Word>
+    requires { IsFormat format }
+    ensures text { IfSome result (λ word. bytes_eq bytes.now (text_of word) ≡ true) }
+    ensures format { IfSome result (λ word. format_of_word word ≤ format) }
 {
     match bytes {
         b"get " => Some(Word::Get),
         b"ins " => Some(Word::Ins),
         b"del " => Some(Word::Del),
+        b"put " if format >= 2 => Some(Word::Put),
         _ => None,
     }
 }

@@ -1,8 +1,9 @@
 // The reading of a whole text.
 ghost use Rattle.std.specs.Prelude.{◌≡◌, ◌≤◌, IsErrOf, IfOk, IfSome};
 ghost use Rattle.fault_count.specs.Rose.{Rose};
-ghost use Rattle.map_history.specs.Requests.{AreInOrder, AreOfFormat1};
+ghost use Rattle.map_history.specs.Requests.{AreInOrder};
 ghost use Rattle.trace_reader.specs.Answer.{Answers, IsExact, StopsBefore};
+ghost use Rattle.trace_reader.specs.Formats.{AreOfFormat, IsFormat};
 
 use crate::reader::Reader;
 use crate::source::Source;
@@ -22,7 +23,7 @@ pub fn read_traces<R: Source>(alloc: Global, source: &mut R) -> Result<Traces, T
     ensures exact { (Rose (R.faults source.old) (R.faults source.new) → ⊥)
         → IfSome (R.left source.old) (IsExact result) }
     ensures ordered { IfOk result (λ traces. AreInOrder traces.requests traces.count) }
-    ensures format { IfOk result (λ traces. AreOfFormat1 traces.requests) }
+    ensures format { IfOk result (λ traces. IsFormat traces.format × AreOfFormat traces.format traces.requests) }
 
     // A failed read is answered only where the source counted it, and where nothing before it is refused. Where the
     // source counted one, it is answered and nothing else.
@@ -37,7 +38,7 @@ pub fn read_traces<R: Source>(alloc: Global, source: &mut R) -> Result<Traces, T
 fn read_pieces<R: Source>(alloc: Global, source: &mut R) -> Result<Traces, TraceError>
     ensures answer { IfSome (R.left source.old) (Answers result) }
     ensures ordered { IfOk result (λ traces. AreInOrder traces.requests traces.count) }
-    ensures format { IfOk result (λ traces. AreOfFormat1 traces.requests) }
+    ensures format { IfOk result (λ traces. IsFormat traces.format × AreOfFormat traces.format traces.requests) }
     ensures fault { IsErrOf result TraceError.ReadFault → Rose (R.faults source.old) (R.faults source.new) }
     ensures steady { (IsErrOf result TraceError.ReadFault → ⊥) → R.faults source.new ≡ R.faults source.old }
     ensures first { IsErrOf result TraceError.ReadFault → StopsBefore (R.left source.old) (R.left source.new) }

@@ -1,6 +1,8 @@
 // A text from its bytes: those of the line that has begun, and what the lines before it say.
-ghost use Rattle.std.specs.Prelude.{◌≡◌, ◌||◌, ℕ, List, [], ◌∷◌, ◌++◌, ◌+◌, ◌<◌, ◌≤◌, ◌==◌, length, vec_len};
-ghost use Rattle.std.specs.Prelude.{true, OnOk, OnSome, IfOk, IfErr, IfNone, IfSome, IsTrue, nat_lt, position};
+ghost use Rattle.std.specs.Prelude.{◌≡◌, ℕ, List, [], ◌∷◌, ◌++◌, ◌+◌, ◌<◌, ◌≤◌, ◌==◌, length, vec_len};
+ghost use Rattle.std.specs.Prelude.{true, OnOk, OnSome, IfOk, IfErr, IfNone, IfSome, nat_lt, position};
+ghost use Rattle.std.proofs.Props.{props};
+ghost use Rattle.trace_reader.specs.Formats.{IsFormat};
 
 use crate::limits::MAX_BYTES;
 use crate::line::{Line, read_line};
@@ -34,9 +36,10 @@ pub struct Reader {
     // how many bytes were read, and how many lines are finished
     bytes: u32,
     lines: u32,
-    // whether a finished line counts: without a fault, the first that does is the header
-    has_header: bool,
+    // the format of the header, where a finished line is it
+    format: Option<u32>,
     traces: Traces,
+    ghost known: { IfSome format IsFormat } by { Prim.hlevel props },
     ghost few_bytes: { bytes ≤ 4194304 },
     ghost fewer_lines: { lines + vec_len line ≤ bytes },
     ghost few_traces: { traces.count ≤ 64 },
@@ -44,13 +47,14 @@ pub struct Reader {
 }
 
 impl Reader {
-    ghost use Rattle.map_history.specs.Requests.{AreInOrder, AreOfFormat1};
+    ghost use Rattle.map_history.specs.Requests.{AreInOrder};
     ghost use Rattle.trace_reader.specs.Answer.{Answers, IsAnswered};
+    ghost use Rattle.trace_reader.specs.Formats.{AreOfFormat};
     ghost use Rattle.trace_reader.specs.Lines.{IsOneLine};
     ghost use Rattle.trace_reader.specs.Plain.{IsRequestAt};
     ghost use Rattle.trace_reader.specs.Reader.{HasTakenLine, MayAsk, StandsAt, StandsAtEnd, StandsBehind};
     ghost use Rattle.trace_reader.specs.Reader.{IsRefusedFor, Refuses, TracesAfter, ExcessOf};
-    ghost use Rattle.trace_reader.specs.Said.{Says, is_counted, IsPlaced};
+    ghost use Rattle.trace_reader.specs.Said.{Says, IsPlaced, format_after};
     ghost use Rattle.trace_reader.specs.Text.{refusal_of};
 
     pub fn new(alloc: Global) -> Self
@@ -60,7 +64,7 @@ impl Reader {
             line: Vec::new(alloc),
             bytes: 0,
             lines: 0,
-            has_header: false,
+            format: None,
             traces: Traces::new(alloc),
         }
     }
@@ -102,14 +106,12 @@ impl Reader {
     // The request with which these bytes begin, where it is written plainly, may stand here, and is
     // within the limit of bytes.
     fn next_request(&self, bytes: &[u8]) -> Option<PlainRequest>
-        ensures request { IfSome result (λ found. IsRequestAt bytes.now found.op found.end) }
+        ensures request { IfSome result (λ found. IsRequestAt self.now.format bytes.now found.op found.end) }
         ensures placed { OnSome result (MayAsk self.now) }
         ensures room { IfSome result (λ found. self.now.bytes + found.end < 4194304) }
     {
-        if !self.may_ask() {
-            return None;
-        }
-        let request = plain_request(bytes)?;
+        let format = self.format_here()?;
+        let request = plain_request(bytes, format)?;
         if request.end < (MAX_BYTES - self.bytes) as usize {
             Some(request)
         } else {
@@ -117,18 +119,23 @@ impl Reader {
         }
     }
 
-    // A line begins here, behind a header and a trace.
-    fn may_ask(&self) -> bool
-        ensures { IsTrue result → MayAsk self.now }
+    // The format, where a line begins here, behind a trace.
+    fn format_here(&self) -> Option<u32>
+        ensures format { IfSome result (λ format. self.now.format ≡ Some format) }
+        ensures placed { OnSome result (MayAsk self.now) }
     {
-        self.line.is_empty() && self.has_header && self.traces.count > 0
+        if self.line.is_empty() && self.traces.count > 0 {
+            self.format
+        } else {
+            None
+        }
     }
 
     // Takes the line of that request, with its line feed.
     fn take_request(&mut self, op: Op, line: &[u8]) -> Result<(), TraceError>
         requires placed { MayAsk self.old }
         requires one { IsOneLine line.now }
-        requires says { Says (Line.Ask op) true true line.now }
+        requires says { Says (Line.Ask op) self.old.format true line.now }
         requires room { self.old.bytes + length line.now < 4194304 }
         ensures ok { OnOk result ((text : List ℕ) → StandsAt self.old text
             → StandsAt self.new (text ++ line.now ++ 10 ∷ [])) }
@@ -206,11 +213,11 @@ impl Reader {
     fn read_line(&self) -> Result<Line, TraceError>
         requires { self.now.lines < self.now.bytes }
         ensures said { IfOk result (λ said.
-            Says said self.now.has_header (nat_lt 0 self.now.traces.count) self.now.line.items) }
+            Says said self.now.format (nat_lt 0 self.now.traces.count) self.now.line.items) }
         ensures err { IfErr result (λ e. (lines : List (List ℕ)) → StandsBehind self.now lines
             → IsRefusedFor e (refusal_of lines self.now.line.items)) }
     {
-        match read_line(&self.line, self.has_header, self.traces.count > 0) {
+        match read_line(&self.line, self.format, self.traces.count > 0) {
             Ok(said) => Ok(said),
             Err(kind) => Err(self.malformed(kind)),
         }
@@ -218,8 +225,8 @@ impl Reader {
 
     // Takes in what it says.
     fn accept(&mut self, said: Line) -> Result<(), TraceError>
-        requires { IsPlaced said self.old.has_header (nat_lt 0 self.old.traces.count) }
-        ensures header { OnOk result (self.new.has_header ≡ (self.old.has_header || is_counted said)) }
+        requires { IsPlaced said self.old.format (nat_lt 0 self.old.traces.count) }
+        ensures header { OnOk result (self.new.format ≡ format_after self.old.format said) }
         ensures traces { OnOk result (TracesAfter said self.old.traces self.new.traces) }
         ensures same { (self.new.line.items ≡ self.old.line.items) × (self.new.bytes ≡ self.old.bytes)
             × (self.new.lines ≡ self.old.lines) }
@@ -227,7 +234,7 @@ impl Reader {
     {
         match said {
             Line::Skipped => {}
-            Line::Header => self.has_header = true,
+            Line::Header(format) => self.format = Some(format),
             Line::Trace => self.traces.begin_trace()?,
             Line::Ask(op) => self.traces.ask(op)?,
         }
@@ -240,13 +247,15 @@ impl Reader {
         ensures ordered { (text : List ℕ) → StandsAt self text
             → IfOk result (λ traces. AreInOrder traces.requests traces.count) }
         ensures format { (text : List ℕ) → StandsAt self text
-            → IfOk result (λ traces. AreOfFormat1 traces.requests) }
+            → IfOk result (λ traces. IsFormat traces.format × AreOfFormat traces.format traces.requests) }
     {
         self.end_last_line()?;
-        if !self.has_header {
+        let Some(format) = self.format else {
             return Err(self.malformed(BadLine::NoHeader));
-        }
-        Ok(self.traces)
+        };
+        let mut traces = self.traces;
+        traces.format = format;
+        Ok(traces)
     }
 
     // A last piece without a line feed is a line where it isn't empty.

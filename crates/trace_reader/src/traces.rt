@@ -8,9 +8,11 @@ use crate::source::Failed;
 use map_history::{Op, Request};
 use std::alloc::{AllocError, AllocFailed, Global};
 
-/// The requests of a text, in its order, and how many traces it has.
+/// The requests of a text, in its order, how many traces it has, and its format.
 #[derive(Debug, Drop)]
 pub struct Traces {
+    /// The number that its header names, 1 or 2.
+    pub format: u32,
     pub count: u32,
     pub requests: Requests,
 }
@@ -18,12 +20,13 @@ pub struct Traces {
 impl Traces {
     ghost use Rattle.trace_reader.specs.declared.traces.TraceError.TheVariants.{Memory, TooManyTraces, TooManyRequests};
 
-    /// No trace yet.
+    /// No trace yet, of the least format.
     pub(crate) fn new(alloc: Global) -> Self
         ensures count { result.count ≡ 0 }
         ensures requests { result.requests ≡ [] }
     {
         Self {
+            format: 1,
             count: 0,
             requests: Requests::new(alloc),
         }
@@ -80,9 +83,9 @@ impl Traces {
 pub enum BadLine {
     /// A byte above 127.
     NotAscii,
-    /// The first line that counts isn't `flock 1`.
+    /// The first line that counts is neither `flock 1` nor `flock 2`.
     NoHeader,
-    /// The first field isn't `trace`, `get`, `ins` or `del`.
+    /// The first field isn't `trace`, `get`, `ins` or `del`, nor `put` in a text of format 2.
     UnknownWord,
     /// A request before the first `trace`.
     RequestBeforeTrace,

@@ -117,6 +117,31 @@ fn each_test_finds_its_first_failing_line(rt: HostRuntime) -> Result<(), Fail> {
 }
 
 #[test]
+fn a_reply_to_put_tells_the_value_before(rt: HostRuntime) -> Result<(), Fail> {
+    let alloc = rt.alloc();
+    let text = "flock 2\ntrace\nput 5 70\nput 5 80\n";
+    let rows = [
+        ("trace 0\n0 new\n1 was 70\nfinal 1\n", Verdict::Legal),
+        (
+            "trace 0\n0 new\n1 was 80\nfinal 1\n",
+            fails(3, BadReport::Reply),
+        ),
+        (
+            "trace 0\n0 new\n1 val 70\nfinal 1\n",
+            fails(3, BadReport::Reply),
+        ),
+        (
+            "trace 0\n0 new\n1 was 4294967296\nfinal 1\n",
+            fails(3, BadReport::Form),
+        ),
+    ];
+    for (report, verdict) in rows {
+        assert!(rt; is_judged(alloc, text, report, verdict)?);
+    }
+    Ok(())
+}
+
+#[test]
 fn the_first_wrong_reply_is_by_line(rt: HostRuntime) -> Result<(), Fail> {
     let alloc = rt.alloc();
     let text = "flock 1\ntrace\nget 1\ntrace\nget 1\n";

@@ -44,6 +44,11 @@ fn every_kind_of_line(rt: HostRuntime) -> Result<(), Fail> {
         Request {
             trace: 2,
             number: 6,
+            op: Op::Put(6, 80),
+        },
+        Request {
+            trace: 2,
+            number: 7,
             op: Op::Get(6),
         },
     ];
@@ -54,6 +59,7 @@ fn every_kind_of_line(rt: HostRuntime) -> Result<(), Fail> {
         served(8, Reply::Gone),
         served(10, Reply::Absent),
         served(4, Reply::Val(4294967295)),
+        served(12, Reply::Was(4294967295)),
         None,
     ];
     let ranks = ranks(alloc, &entries)?;
@@ -61,7 +67,7 @@ fn every_kind_of_line(rt: HostRuntime) -> Result<(), Fail> {
     let written = write_report(3, &requests, &entries, &ranks, 4294967295, &mut sink);
     assert!(rt; written.is_ok());
     let want =
-        b"trace 0\n0 new\n1 dup\n3 val 70\n4 gone\n5 none\ntrace 1\ntrace 2\n2 val 4294967295\n- unserved\nfinal 4294967295\n";
+        b"trace 0\n0 new\n1 dup\n3 val 70\n4 gone\n5 none\ntrace 1\ntrace 2\n2 val 4294967295\n6 was 4294967295\n- unserved\nfinal 4294967295\n";
     assert_eq!(rt; sink.bytes(), want.as_slice());
     Ok(())
 }

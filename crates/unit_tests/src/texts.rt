@@ -1,6 +1,7 @@
-// The text of generated requests, and of traces without requests.
+// The text of generated requests, of `put`, and of traces without requests.
 use command_line::trace_reader::{Gen, SureSource, generate, read_traces};
 use printed_traces::trace_text;
+use std::alloc::{AllocError, Global};
 use std::test::Fail;
 
 #[test]
@@ -21,6 +22,33 @@ fn generated_requests_are_printed(rt: HostRuntime) -> Result<(), Fail> {
     let read = read_traces(alloc, &mut source).ok().ok_or("refused")?;
     assert_eq!(rt; read.count, 1);
     assert_eq!(rt; read.requests.as_slice(), traces.requests.as_slice());
+    Ok(())
+}
+
+// What a text is printed as, where it is read.
+fn printed_again(alloc: Global, text: &str) -> Result<Option<Vec<u8>>, AllocError> {
+    let mut source = SureSource::new(text.as_bytes().to_vec(alloc)?, Vec::new(alloc));
+    let Ok(traces) = read_traces(alloc, &mut source) else {
+        return Ok(None);
+    };
+    let printed = trace_text(alloc, traces.requests.as_slice(), traces.count)?;
+    Ok(Some(printed))
+}
+
+#[test]
+fn a_text_is_printed_in_the_least_format(rt: HostRuntime) -> Result<(), Fail> {
+    let alloc = rt.alloc();
+    let rows = [
+        (
+            "flock 2\ntrace\nins 5 70\nput 5 80\ntrace\n",
+            "flock 2\ntrace\nins 5 70\nput 5 80\ntrace\n",
+        ),
+        ("flock 2\ntrace\nget 5\n", "flock 1\ntrace\nget 5\n"),
+    ];
+    for (text, expected) in rows {
+        let printed = printed_again(alloc, text)?.ok_or("refused")?;
+        assert!(rt; printed.as_slice() == expected.as_bytes());
+    }
     Ok(())
 }
 

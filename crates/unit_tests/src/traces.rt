@@ -33,11 +33,52 @@ fn a_text_gives_its_requests(rt: HostRuntime) -> Result<(), Fail> {
             op: Op::Del(7),
         },
     ];
+    assert_eq!(rt; traces.format, 1);
     assert_eq!(rt; traces.count, 2);
     assert_eq!(rt; traces.requests.len(), 3);
     assert_eq!(rt; traces.requests.as_slice(), expected.as_slice());
     let back = traces.requests.into_vec();
     assert_eq!(rt; back.as_slice(), expected.as_slice());
+    Ok(())
+}
+
+#[test]
+fn a_text_of_format_2_has_put(rt: HostRuntime) -> Result<(), Fail> {
+    let alloc = rt.alloc();
+    let text = "flock 2\ntrace\nput 1 2\nput\t1 3\nins 1 4\nput 1 5";
+    let mut source = SureSource::new(bytes_of(alloc, text)?, Vec::new(alloc));
+    let traces = read_traces(alloc, &mut source).ok().ok_or("refused")?;
+    let expected = [Op::Put(1, 2), Op::Put(1, 3), Op::Ins(1, 4), Op::Put(1, 5)];
+    assert_eq!(rt; traces.format, 2);
+    assert_eq!(rt; traces.count, 1);
+    assert_eq!(rt; traces.requests.len(), 4);
+    for (request, op) in traces.requests.as_slice().iter().zip(expected) {
+        assert_eq!(rt; request.op, op);
+    }
+    Ok(())
+}
+
+#[test]
+fn a_word_or_a_format_that_is_unknown_is_refused(rt: HostRuntime) -> Result<(), Fail> {
+    let alloc = rt.alloc();
+    let rows = [
+        ("flock 1\ntrace\nput 1\n", 3, BadLine::UnknownWord),
+        ("flock 1\ntrace\nput 1 2\n", 3, BadLine::UnknownWord),
+        ("flock 2\ntrace\nput 1\n", 3, BadLine::MissingField),
+        (
+            "flock 2\ntrace\nput 4294967294 1\n",
+            3,
+            BadLine::KeyTooLarge,
+        ),
+        ("flock 2\ntrace\nmov 1 2\n", 3, BadLine::UnknownWord),
+        ("flock 3\n", 1, BadLine::NoHeader),
+        ("flock 2 2\n", 1, BadLine::NoHeader),
+    ];
+    for (text, line, kind) in rows {
+        let mut source = SureSource::new(bytes_of(alloc, text)?, Vec::new(alloc));
+        let expected = TraceError::Malformed { line, kind };
+        assert_eq!(rt; read_traces(alloc, &mut source).err(), Some(expected));
+    }
     Ok(())
 }
 
@@ -76,6 +117,7 @@ fn requests_are_generated(rt: HostRuntime) -> Result<(), Fail> {
     };
     let traces = generate(alloc, &plan)?;
     let expected = [Op::Del(58), Op::Ins(15, 150), Op::Get(27)];
+    assert_eq!(rt; traces.format, 1);
     assert_eq!(rt; traces.count, 1);
     assert_eq!(rt; traces.requests.len(), 3);
     for (request, op) in traces.requests.as_slice().iter().zip(expected) {

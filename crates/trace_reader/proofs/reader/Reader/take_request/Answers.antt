@@ -1,4 +1,4 @@
-use Rattle.std.proofs.Common.{◌∙◌, ◌+◌, ◌||◌, true, arith, refl, sym, ap}
+use Rattle.std.proofs.Common.{◌+◌, arith, refl}
 use Rattle.std.proofs.lemmas.Bool.{ltb-true}
 use Rattle.std.proofs.lemmas.Result.{err_from_is_err_and}
 use Rattle.trace_reader.specs.declared.line.Line.TheVariants.{Ask}
@@ -18,15 +18,15 @@ returns-in_err-ask-clause-err c =
     taken_refused c.args.self.now c.args.line.now c.requires.one placed.begins c.requires.room c.in_err-ask.field-0.0
     (λ lines behind.
     excess_line c.args.self.now lines c.args.line.now (Ask c.args.op) c.in_err-ask.field-0.0 behind
-    (says_there c.args.op _ _ c.args.line.now placed.headed placed.begun c.requires.says) c.in_err-ask.ensures.err))
+    (says_there c.args.op c.args.self.now.format _ c.args.line.now placed.begun c.requires.says) c.in_err-ask.ensures.err))
 
 pub returns-clause-ok : goal.returns-clause-ok
 returns-clause-ok c =
     let placed = c.requires.placed in
     line_taken c.args.self.now _ c.args.line.now c.requires.one placed.begins placed.begins
     (λ lines behind.
-    fine_line c.args.self.now (c.args.self.now.lines + 1) c.args.self.now.has_header c.ask.new.self lines c.args.line.now (Ask c.args.op) behind
-    (says_there c.args.op _ _ c.args.line.now placed.headed placed.begun c.requires.says)
+    fine_line c.args.self.now (c.args.self.now.lines + 1) c.args.self.now.format c.ask.new.self lines c.args.line.now (Ask c.args.op) behind
+    (says_there c.args.op c.args.self.now.format _ c.args.line.now placed.begun c.requires.says)
     (c.in_ok-ask.ensures.count, c.in_ok-ask.ensures.requests, c.in_ok-ask.ensures.few)
-    (placed.headed ∙ sym (ap (λ b. b || true) placed.headed)) refl)
+    refl refl)
     (omega (arith, c.requires.room))
