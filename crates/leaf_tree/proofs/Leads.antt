@@ -5,12 +5,12 @@ use Rattle.std.proofs.lemmas.Bool.Decides.{nat_tests}
 use Rattle.std.proofs.lemmas.Bool.{true≢false}
 use Rattle.small_lemmas.proofs.Bools.{false_not_true as false_true}
 use Rattle.map_history.specs.declared.op.Op.{Op}
-use Rattle.map_history.specs.Keys.{is_format_1}
 use Rattle.body_terms.specs.Word.{value_of, version_of, pack, is_free, is_spent}
 use Rattle.structure_laws.proofs.Changes.{equal_of}
 use Rattle.table_words.specs.declared.layout.Layout.{Layout}
 use Rattle.table_words.specs.Places.{slot_count}
 use Rattle.structure_laws.specs.Scene.{Readings}
+use Rattle.tree_walks.specs.bucket_laws.specs.Walk.{has_one_key}
 use Rattle.tree_walks.specs.bucket_laws.proofs.Places.{eq_true}
 use Rattle.tree_walks.specs.tree_laws.specs.Walk.{Walk}
 use Rattle.tree_walks.specs.tree_laws.specs.Leaves.{tree, walk_of, is_lock_place}
@@ -56,7 +56,7 @@ by_reading false false one free spent true true busy used stale too_far by_lock 
 by_reading false false one free spent true false busy used stale too_far by_lock by_mark is_far = absurd (false_true (is_far refl refl refl))
 by_reading false false one free spent false far busy used stale too_far by_lock by_mark is_far = refl
 
-module _ (layout : Layout) (op : Op) (served : is_format_1 op ≡ true) (far : FarLaw layout op) where
+module _ (layout : Layout) (op : Op) (served : has_one_key op ≡ true) (far : FarLaw layout op) where
   abbrev first : LeafWalk
   first = record { walk = first_walk layout op }
 

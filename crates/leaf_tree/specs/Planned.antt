@@ -1,7 +1,7 @@
 -- How the search tree plans.
 use Rattle.std.specs.Prelude.{◌+◌, ◌&&◌, nat_le}
-use Rattle.map_history.specs.Keys.{is_format_1}
 use Rattle.table_words.specs.Places.{slot_count}
+use Rattle.tree_walks.specs.bucket_laws.specs.Walk.{has_one_key}
 use Rattle.tree_walks.specs.tree_laws.specs.Leaves.{walk_of}
 use Rattle.tree_walks.specs.Walking.{is_refused_in, is_refused_of, wanted_by, fed_by, left_by, thunk_by}
 use Rattle.tree_walks.specs.Leading.{is_mark_place, wanted_in}
@@ -10,10 +10,10 @@ use Rattle.lock_walks.specs.Way.{Way}
 use Rattle.leaf_tree.specs.declared.walker.LeafWalk.{LeafWalk}
 
 -- a walk is too far where it was refused and has loaded as many links as there are node slots, and eight more. It
--- serves get, ins and del
+-- serves the operations with one key
 abbrev pub tree_planning : Planning
 tree_planning = record {
-  serves = is_format_1;
+  serves = has_one_key;
   wants = wanted_in;
   is_far = λ layout op readings. is_refused_in op (walk_of layout op readings) && nat_le (slot_count layout 3 + 8)
       (walk_of layout op readings).links;

@@ -26,7 +26,7 @@ impl Planner for LeafTree {
     ghost planning = { λ s. tree_planning };
 
     fn serves(&self, op: Op) -> bool {
-        op.least_format() == 1
+        op.other_key().is_none()
     }
 
     fn walk(&self, layout: Layout, op: Op) -> LeafWalk {

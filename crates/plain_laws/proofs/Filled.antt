@@ -1,4 +1,4 @@
--- Two slots that were filled.
+-- One slot that was filled, or two.
 use Rattle.std.proofs.Common.{◌≡◌, ◌≢◌, ℕ, zero, suc, ◌<◌, refl, ◌∙◌, arith}
 use Rattle.body_terms.specs.Update.{upd}
 use Rattle.body_terms.specs.Memory.{cell_of}
@@ -41,6 +41,20 @@ module _ (f place word : ℕ → ℕ) where
 -- the cells of one slot, and those of another
 slot_apart : (fixed f : ℕ) (i j : ℕ) → i < j → j < 5 → cell_of fixed f i ≢ cell_of fixed f j
 slot_apart fixed f i j less low e = omega (arith, e, less)
+
+module _ (cells : ℕ → ℕ) (fixed f : ℕ) (leaf : ℕ → ℕ) where
+  abbrev pub filled_one : ℕ → ℕ
+  filled_one = five cells (cell_of fixed f) leaf
+
+  pub one_own : (cell : ℕ) → cell < 5 → filled_one (cell_of fixed f cell) ≡ leaf cell
+  one_own cell low = five_at cells (cell_of fixed f) leaf (slot_apart fixed f) cell low
+
+  pub one_other : (s cell : ℕ) → cell < 5 → s ≢ f → filled_one (cell_of fixed s cell) ≡ cells (cell_of fixed s cell)
+  one_other s cell low ne = five_other cells (cell_of fixed f) leaf (cell_of fixed s cell)
+      (λ other less e. ne (slots cell other low less e))
+    where
+      slots : (cell other : ℕ) → cell < 5 → other < 5 → cell_of fixed s cell ≡ cell_of fixed f other → s ≡ f
+      slots cell other low less e = omega (arith, low, less, e)
 
 module _ (cells : ℕ → ℕ) (fixed f t : ℕ) (leaf inner : ℕ → ℕ) (differ : t ≢ f) where
   abbrev pub filled : ℕ → ℕ

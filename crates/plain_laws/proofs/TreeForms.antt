@@ -1,4 +1,4 @@
--- The runs of the search tree's three bodies.
+-- The runs of the search tree's four bodies.
 use Rattle.std.proofs.Common.{◌≡◌, ◌≢◌, ℕ, ◌+◌, ◌*◌, Bool, true, false, cond, List, [], ◌∷◌, refl, sym, ap, subst, Some, None}
 use Rattle.std.specs.Prelude.{◌==◌, ◌^◌, slice_index}
 use Rattle.body_terms.specs.Update.{upd}
@@ -17,7 +17,9 @@ use Rattle.body_terms.specs.declared.value.Init.{Init}
 use Rattle.body_terms.specs.declared.value.Value.TheVariants.{Const, Made}
 use Rattle.body_terms.specs.declared.thunk.Thunk.{Thunk}
 use Rattle.plain_laws.proofs.Forms.{Ends, word_passes, fresh_passes}
-use Rattle.tree_laws.specs.tree_bodies.specs.Tree.{lock_of, mark_of, leaf_init, inner_with, parent_in, leaf_in, sibling_of, look_steps, delete_steps}
+use Rattle.tree_laws.specs.tree_bodies.specs.Tree.{lock_of, mark_of, leaf_init, inner_with, parent_in, leaf_in}
+use Rattle.tree_laws.specs.tree_bodies.specs.Tree.{sibling_of}
+use Rattle.tree_laws.specs.tree_bodies.specs.Tree.{old_leaf, look_steps, delete_steps, replace_steps}
 
 -- five cells of a slot get these words
 abbrev pub five : (ℕ → ℕ) → (ℕ → ℕ) → (ℕ → ℕ) → ℕ → ℕ
@@ -86,24 +88,51 @@ module _ (s : Setting) (cells : ℕ → ℕ) (clock stamp reply : ℕ) (t : Thun
       PrivateLoad 0 3 ∷ PrivateStore 0 3 (Fixed 0) ∷ PrivateLoad 1 3 ∷ PrivateStore 1 3 (Fixed (operand t 3)) ∷ PrivateLoad 2 3 ∷ PrivateStore 2 3 (Fixed (value_of (operand t 1))) ∷
       PrivateLoad 3 3 ∷ PrivateStore 3 3 (Agreed 2) ∷ PrivateLoad 4 3 ∷ PrivateStore 4 3 (Fixed 0) ∷ stored
 
-  insert_passes : (side : Bool) → link ≡ operand t 1 → mark ≡ operand t 2 → version_of link ≢ s.version_max
-      → Ends (1 * 2 ^ 32) (inserted_cells side) (ran s (record begun { trail = link ∷ mark ∷ [] }) (made_nodes side))
-      → Ends (1 * 2 ^ 32) (inserted_cells side) (ran s begun (LoadCell (operand t 0) 0 ∷ Commit (operand t 0) 0 ∷ CheckWord (operand t 0) 0 (operand t 1) ∷ CheckFresh (operand t 0) 0 ∷
-      LoadCell (t.lock + 4) 1 ∷ Commit (t.lock + 4) 1 ∷ CheckWord (t.lock + 4) 1 (operand t 2) ∷ made_nodes side))
-  insert_passes side same unmarked unspent ends =
-      subst (λ o. Ends (1 * 2 ^ 32) (inserted_cells side) (ran s (record begun { trail = link ∷ []; outcome = o })
-      (CheckFresh (operand t 0) 0 ∷ LoadCell (t.lock + 4) 1 ∷ Commit (t.lock + 4) 1 ∷ CheckWord (t.lock + 4) 1 (operand t 2) ∷ made_nodes side)))
+  -- what comes before the Makes passes
+  abbrev front : List Micro → List Micro
+  front rest =
+      LoadCell (operand t 0) 0 ∷ Commit (operand t 0) 0 ∷ CheckWord (operand t 0) 0 (operand t 1) ∷
+      CheckFresh (operand t 0) 0 ∷ LoadCell (t.lock + 4) 1 ∷ Commit (t.lock + 4) 1 ∷
+      CheckWord (t.lock + 4) 1 (operand t 2) ∷ rest
+
+  front_passes : (answer : ℕ) (left : ℕ → ℕ) (rest : List Micro) → link ≡ operand t 1 → mark ≡ operand t 2
+      → version_of link ≢ s.version_max → Ends answer left (ran s (record begun { trail = link ∷ mark ∷ [] }) rest)
+      → Ends answer left (ran s begun (front rest))
+  front_passes answer left rest same unmarked unspent ends =
+      subst (λ o. Ends answer left (ran s (record begun { trail = link ∷ []; outcome = o }) (CheckFresh
+      (operand t 0) 0 ∷
+      LoadCell (t.lock + 4) 1 ∷ Commit (t.lock + 4) 1 ∷ CheckWord (t.lock + 4) 1 (operand t 2) ∷ rest)))
       (sym (word_passes (operand t 0) (operand t 1) link same))
-      (subst (λ o. Ends (1 * 2 ^ 32) (inserted_cells side) (ran s (record begun { trail = link ∷ []; outcome = o })
-      (LoadCell (t.lock + 4) 1 ∷ Commit (t.lock + 4) 1 ∷ CheckWord (t.lock + 4) 1 (operand t 2) ∷ made_nodes side)))
+      (subst (λ o. Ends answer left (ran s (record begun { trail = link ∷ []; outcome = o })
+      (LoadCell (t.lock + 4) 1 ∷ Commit (t.lock + 4) 1 ∷ CheckWord (t.lock + 4) 1 (operand t 2) ∷ rest)))
       (sym (fresh_passes (operand t 0) link s.version_max unspent))
-      (subst (λ o. Ends (1 * 2 ^ 32) (inserted_cells side) (ran s (record begun { trail = link ∷ mark ∷ []; outcome = o }) (made_nodes side)))
+      (subst (λ o. Ends answer left (ran s (record begun { trail = link ∷ mark ∷ []; outcome = o }) rest))
       (sym (word_passes (t.lock + 4) (operand t 2) mark unmarked)) ends))
 
   pub insert_run : (side : Bool) → link ≡ operand t 1 → mark ≡ operand t 2 → version_of link ≢ s.version_max
       → Ends (1 * 2 ^ 32) (inserted_cells side) (ran s begun (line (insert_with t (inner_for side t))))
-  insert_run true same unmarked unspent = insert_passes true same unmarked unspent (record { answered = refl; left = refl })
-  insert_run false same unmarked unspent = insert_passes false same unmarked unspent (record { answered = refl; left = refl })
+  insert_run true same unmarked unspent = front_passes (1 * 2 ^ 32) (inserted_cells true)
+      (made_nodes true) same unmarked
+      unspent (record { answered = refl; left = refl })
+  insert_run false same unmarked unspent = front_passes (1 * 2 ^ 32) (inserted_cells false) (made_nodes false) same
+      unmarked unspent (record { answered = refl; left = refl })
+
+  -- one that puts a leaf in the place of another
+  abbrev pub replaced_cells : ℕ → ℕ
+  replaced_cells = exchanged made_leaf (operand t 0) link (next_word link (value_of (s.slot 2 + 1)))
+
+  abbrev made_one : List Micro
+  made_one =
+      PrivateLoad 0 2 ∷ PrivateStore 0 2 (Fixed 0) ∷ PrivateLoad 1 2 ∷ PrivateStore 1 2 (Fixed (operand t 3)) ∷
+      PrivateLoad 2 2 ∷ PrivateStore 2 2 (Fixed 0) ∷ PrivateLoad 3 2 ∷ PrivateStore 3 2 (Fixed (operand t 4)) ∷
+      PrivateLoad 4 2 ∷ PrivateStore 4 2 (Fixed 0) ∷ MakeCommit 2 ∷ ClockLoad ∷ StampExchange ∷ ClockRaise ∷
+      ExchangeCell (operand t 0) 0 (Agreed 2) ∷ EpochForRetire (old_leaf t) 3 ∷ RetireCommit (old_leaf t) 3 ∷
+      ReplyExchange (operand t 5) ∷ []
+
+  pub replace_run : link ≡ operand t 1 → mark ≡ operand t 2 → version_of link ≢ s.version_max
+      → Ends (operand t 5) replaced_cells (ran s begun (line (replace_steps t)))
+  replace_run same unmarked unspent = front_passes (operand t 5) replaced_cells made_one same unmarked unspent
+      (record { answered = refl; left = refl })
 
   -- one that takes a leaf out
   abbrev leaf_link : ℕ

@@ -8,10 +8,10 @@ use Rattle.small_lemmas.proofs.Bools.{from_false as false_true}
 use Rattle.small_lemmas.proofs.Numbers.{equal_tested as eq_true, other_tested as eq_false}
 use Rattle.map_history.specs.declared.op.Op.{Op}
 use Rattle.map_history.specs.declared.op.Op.TheVariants.{Get, Ins, Del, Put, Mov}
-use Rattle.map_history.specs.Keys.{key_of, value_given}
+use Rattle.map_history.specs.Keys.{key_of}
 use Rattle.map_history.specs.Replay.{Pairs, map_after, reply_of}
 use Rattle.map_history.specs.Words.{word_of}
-use Rattle.map_history.specs.declared.reply.Reply.TheVariants.{New, Dup, Gone, Absent}
+use Rattle.map_history.specs.declared.reply.Reply.TheVariants.{Gone, Absent}
 use Rattle.body_terms.specs.Update.{upd}
 use Rattle.body_terms.specs.Word.{value_of, next_word, held_word, is_free, is_spent}
 use Rattle.body_terms.specs.Memory.{PlainMemory, cell_of}
@@ -25,27 +25,41 @@ use Rattle.structure_laws.specs.Scene.{Cells}
 use Rattle.structure_laws.specs.Sections.{IsAllowed}
 use Rattle.structure_laws.proofs.Changes.{upd_same, upd_other, value-next_word, value_small, equal_of}
 use Rattle.tree_laws.specs.bucket_laws.specs.Walk.{is_del}
-use Rattle.tree_laws.specs.bucket_laws.proofs.Fit.{puts_ins}
-use Rattle.tree_laws.specs.bucket_laws.proofs.Maps.{get_removed, insert_map, remove_map}
+use Rattle.tree_laws.specs.bucket_laws.proofs.Fit.{PutsIn, puts_given}
+use Rattle.tree_laws.specs.bucket_laws.proofs.Maps.{get_removed, insert_map, remove_map, set_map, set_reply}
 use Rattle.plain_laws.specs.Runs.{cells_of}
-use Rattle.tree_laws.specs.tree_bodies.specs.Tree.{lock_of, key_cell, left_of, right_of, mark_of, child_of, slot_in, body_of, tree_steps, look_steps, delete_steps, parent_in, leaf_in, sibling_of, is_left, is_right, names_removed, fits_delete}
-use Rattle.tree_laws.specs.Search.{Nodes, Covers, IsInner, IsLeaf, SearchTree, HasSentinels, Contents, with_child, IsRemoval, RemovalKeeps, removed, AreOrdered, IsInsertion, InsertionKeeps, thrice, inserted}
-use Rattle.tree_laws.specs.Walk.{Walk, Step as Link, start, node_of, step_place, walk, form_for, reply_for, operands_for, look_operands, insert_operands, delete_operands, lock_for}
+use Rattle.tree_laws.specs.tree_bodies.specs.Tree.{lock_of, key_cell, left_of, right_of, mark_of, child_of, slot_in}
+use Rattle.tree_laws.specs.tree_bodies.specs.Tree.{body_of}
+use Rattle.tree_laws.specs.tree_bodies.specs.Tree.{tree_steps, look_steps, delete_steps, replace_steps, parent_in}
+use Rattle.tree_laws.specs.tree_bodies.specs.Tree.{leaf_in}
+use Rattle.tree_laws.specs.tree_bodies.specs.Tree.{sibling_of, is_left, is_right, names_removed, fits_delete}
+use Rattle.tree_laws.specs.Search.{Nodes, Covers, IsInner, IsLeaf, SearchTree, HasSentinels, Contents, with_child}
+use Rattle.tree_laws.specs.Search.{IsRemoval}
+use Rattle.tree_laws.specs.Search.{RemovalKeeps, removed, AreOrdered, IsInsertion, InsertionKeeps, thrice, inserted}
+use Rattle.tree_laws.specs.Search.{IsReplacement, ReplacementKeeps, replaced}
+use Rattle.tree_laws.specs.Walk.{Walk, Step as Link, start, node_of, step_place, walk, form_for, reply_for}
+use Rattle.tree_laws.specs.Walk.{operands_for}
+use Rattle.tree_laws.specs.Walk.{look_operands, insert_operands, delete_operands, lock_for}
 use Rattle.tree_laws.specs.Leaves.{nodes, TreeStands}
 use Rattle.tree_laws.specs.Landing.{IsOnPath}
 use Rattle.tree_laws.proofs.Alike.{AreAlike, tree_alike, sentinels_alike, contents_alike, contents_same}
 use Rattle.tree_laws.proofs.Apart.{key_apart, mark_apart, key_no_mark, child_no_mark, mark_other}
 use Rattle.tree_laws.proofs.Changed.{changed_alike, other_child, changed_sentinels}
-use Rattle.tree_laws.proofs.Fit.{IsFit, fit_of, look_numbers, is_look, is_insert, is_delete, inserts, deletes, look_outer, cases}
+use Rattle.tree_laws.proofs.Fit.{IsFit, fit_of, look_numbers, is_look, is_insert, is_delete, is_replace, cases}
+use Rattle.tree_laws.proofs.Fit.{Inserts, inserts, deletes, Replaces, replaces, put_puts, look_outer, insert_outer}
+use Rattle.tree_laws.proofs.Fit.{replace_outer}
 use Rattle.tree_laws.proofs.Found.{walk_keyed, value_read}
 use Rattle.tree_laws.proofs.Insertion.{insertion_keeps}
 use Rattle.tree_laws.proofs.Removal.{removal_keeps}
-use Rattle.tree_laws.proofs.Turn.{there, gone, none_is, reply_is}
+use Rattle.tree_laws.proofs.Replacement as replacement
+use Rattle.tree_laws.proofs.Turn.{there, none_is, reply_is, new_reply}
 use Rattle.tree_laws.proofs.WalkReads.{is_past, is_late, is_marked, is_locked, IsAmong, Reads, walk_reads}
-use Rattle.plain_laws.specs.TreeRuns.{HasContents, IsWalked, IsUnspent, AreOut, DoesTheOperation, RunsDoTheOperations}
+use Rattle.plain_laws.specs.TreeRuns.{HasContents, IsWalked, IsUnspent, IsOut, AreOut, DoesTheOperation}
+use Rattle.plain_laws.specs.TreeRuns.{RunsDoTheOperations}
 use Rattle.plain_laws.proofs.Walks.{IsLink, Ended, walk_ends}
-use Rattle.plain_laws.proofs.TreeForms.{Passes, leaf_values, inner_values, inner_for, insert_with, inserted_cells, removed_cells, look_run, insert_run, delete_run}
-use Rattle.plain_laws.proofs.Filled.{filled, filled_inner, filled_leaf, filled_other}
+use Rattle.plain_laws.proofs.TreeForms.{Passes, leaf_values, inner_values, inner_for, insert_with, inserted_cells}
+use Rattle.plain_laws.proofs.TreeForms.{removed_cells, replaced_cells, look_run, insert_run, delete_run, replace_run}
+use Rattle.plain_laws.proofs.Filled.{filled, filled_inner, filled_leaf, filled_other, filled_one, one_own, one_other}
 
 small_is : (n : ℕ) → n < 2 ^ 32 → is_small n ≡ true
 small_is n low = grind (arith, nat_tests)
@@ -85,7 +99,8 @@ unchanged pairs (Del key) false form some none q = sym (get_removed pairs key q 
   where
     absent : (q key : ℕ) → get pairs key ≡ None → upd (get pairs) key None q ≡ get pairs q
     absent q key h = ⊎_elim (λ e. upd_same (get pairs) key q None e ∙ (sym h ∙ ap (get pairs) (sym e))) (λ ne. upd_other (get pairs) key q None ne) (cases_eq q key)
-unchanged pairs (Put key value) there form some none q = absurd (omega (arith, form))
+unchanged pairs (Put key value) true form some none q = absurd (omega (arith, form))
+unchanged pairs (Put key value) false form some none q = absurd (omega (arith, form))
 unchanged pairs (Mov from to) there form some none q = absurd (omega (arith, form))
 
 module _ (slots request : ℕ) (memory : PlainMemory) (pairs : Pairs) (op : Op) (thunk : Thunk) (contents : HasContents slots memory pairs) (allowed : IsAllowed op) (walked : IsWalked memory op thunk)
@@ -221,13 +236,43 @@ module _ (slots request : ℕ) (memory : PlainMemory) (pairs : Pairs) (op : Op) 
     link_small : is_small (operand thunk 0) ≡ true
     link_small = small_is (operand thunk 0) (subst (λ p. p < 2 ^ 32) (sym link) (step_low w.last parent_on))
 
+  -- the outer lock of a body that doesn't remove
+  outer_lock : (is_del op && w.found) ≡ false → thunk.lock ≡ lock_of w.last.from
+  outer_lock stays = fit.lock ∙ ap (λ b. cond b (lock_of w.grand.from) (lock_of w.last.from)) stays
+
+  -- a node slot has a link, and its cells have places
+  few : (s : ℕ) → s < slots → suc s < 2 ^ 32
+  few s within = let room = contents.room in let places = contents.places in omega (arith, within, room, places)
+
+  small_value : (v : ℕ) → v < 2 ^ 32 → value_of v ≡ v
+  small_value v small = omega (arith, small)
+
+  link_of : (s : ℕ) → s < slots → value_of (s + 1) ≡ suc s
+  link_of s within = small_value (s + 1) (let less = few s within in omega (arith, less))
+      ∙ (let z : s + 1 ≡ suc s = omega arith in z)
+
+  own_place : (s cell : ℕ) → cell_of 0 s cell ≡ cell_of memory.fixed_cells s cell
+  own_place s cell = ap (λ fixed. cell_of fixed s cell) (sym contents.fixed)
+
+  -- the numbers of a new leaf
+  key_small : (k v : ℕ) → PutsIn op k v → operand thunk 3 ≡ k → operand thunk 3 < 2 ^ 32
+  key_small k v puts e = let same = puts.0 in let small = low in omega (arith, e, same, small)
+
+  value_low : (k v : ℕ) → PutsIn op k v → operand thunk 4 ≡ v → operand thunk 4 < 2 ^ 32
+  value_low k v puts e = let small = allowed.value v (puts_given op k v puts) in omega (arith, e, small)
+
+  -- the root's right link stands
+  not_root : false ≡ w.last.side → 0 ≡ w.last.from → ⊥
+  not_root right zero = let k = ended.trail.link.right (sym right) in
+      let root = ap n.key (sym zero) ∙ stands.sentinels.root_key in let small = low in omega (arith, k, root, small)
+
   -- one that changes nothing
   module _ (form : form_for op w.found ≡ 11) where
     look : operands_for op w w.found ≡ look_operands w (reply_for op w w.found)
     look = look_numbers op w w.found form
 
     look_lock : thunk.lock ≡ lock_of w.last.from
-    look_lock = fit.lock ∙ ap (λ b. cond b (lock_of w.grand.from) (lock_of w.last.from)) (look_outer op w.found form)
+    look_lock = outer_lock (look_outer op w.found form)
 
     look_case : Does (tree_steps thunk)
     look_case =
@@ -248,20 +293,17 @@ module _ (slots request : ℕ) (memory : PlainMemory) (pairs : Pairs) (op : Op) 
 
   -- a leaf put in
   module _ (form : form_for op w.found ≡ 12) (free : AreOut slots memory pairs contents) where
-    is : (key value : ℕ) × (op ≡ Ins key value) × (w.found ≡ false)
-    is = inserts op w.found form
+    is : Inserts op w w.found
+    is = inserts op w w.found form
 
-    numbers : operands_for op w w.found ≡ insert_operands w is.0 is.1
-    numbers = ap (λ op. operands_for op w w.found) is.2 ∙ ap (operands_for (Ins is.0 is.1) w) is.3
+    numbers : operands_for op w w.found ≡ insert_operands w is.key is.value
+    numbers = is.numbers
 
     insert_lock : thunk.lock ≡ lock_of w.last.from
-    insert_lock = fit.lock ∙ ap (λ op. lock_for op w w.found) is.2
+    insert_lock = outer_lock (insert_outer op w.found form)
 
-    key_is : is.0 ≡ key
-    key_is = sym (ap key_of is.2)
-
-    value_small_is : is.1 < 2 ^ 32
-    value_small_is = allowed.value is.1 (ap value_given is.2)
+    key_is : is.key ≡ key
+    key_is = sym is.puts.0
 
     abbrev f : ℕ
     f = slice_index memory.free 0
@@ -278,9 +320,6 @@ module _ (slots request : ℕ) (memory : PlainMemory) (pairs : Pairs) (op : Op) 
     abbrev a : ℕ
     a = w.last.from
 
-    few : (s : ℕ) → s < slots → suc s < 2 ^ 32
-    few s within = let room = contents.room in let places = contents.places in omega (arith, within, room, places)
-
     -- the cells with and_from nodes
     abbrev leaf_word : ℕ → ℕ
     leaf_word cell = next_word (cells (cell_of memory.fixed_cells f cell)) (slice_index (leaf_values thunk) cell)
@@ -293,9 +332,6 @@ module _ (slots request : ℕ) (memory : PlainMemory) (pairs : Pairs) (op : Op) 
 
     abbrev made : Nodes
     made = nodes both_made
-
-    own_place : (s cell : ℕ) → cell_of 0 s cell ≡ cell_of memory.fixed_cells s cell
-    own_place s cell = ap (λ fixed. cell_of fixed s cell) (sym contents.fixed)
 
     leaf_cell : (cell v : ℕ) → cell < 5 → slice_index (leaf_values thunk) cell ≡ v → v < 2 ^ 32 → value_of (both_made (cell_of 0 f cell)) ≡ v
     leaf_cell cell v low is_v small = ap (λ p. value_of (both_made p)) (own_place f cell) ∙ (ap value_of (filled_leaf cells memory.fixed_cells f t leaf_word inner_word free.differ cell low)
@@ -334,29 +370,26 @@ module _ (slots request : ℕ) (memory : PlainMemory) (pairs : Pairs) (op : Op) 
     made_contents = contents_alike n made c made_alike (get pairs) stands.contents
 
     -- the new nodes
-    key_small : operand thunk 3 < 2 ^ 32
-    key_small = let e = number_at 3 numbers in let k = key_is in let small = low in omega (arith, e, k, small)
+    new_key_small : operand thunk 3 < 2 ^ 32
+    new_key_small = key_small is.key is.value is.puts (number_at 3 numbers)
 
-    value_low : operand thunk 4 < 2 ^ 32
-    value_low = let e = number_at 4 numbers in let v = value_small_is in omega (arith, e, v)
+    new_value_low : operand thunk 4 < 2 ^ 32
+    new_value_low = value_low is.key is.value is.puts (number_at 4 numbers)
 
     old_small : operand thunk 5 < 2 ^ 32
     old_small = let e = number_at 5 numbers in let k = reads.key_small in omega (arith, e, k)
 
     leaf_key : made.key f ≡ operand thunk 3
-    leaf_key = leaf_cell 1 (operand thunk 3) (omega arith) refl key_small
+    leaf_key = leaf_cell 1 (operand thunk 3) (omega arith) refl new_key_small
 
     leaf_left : IsLeaf made f
     leaf_left = leaf_cell 2 0 (omega arith) refl (omega arith)
 
     leaf_value : made.child false f ≡ operand thunk 4
-    leaf_value = leaf_cell 3 (operand thunk 4) (omega arith) refl value_low
-
-    small_value : (v : ℕ) → v < 2 ^ 32 → value_of v ≡ v
-    small_value v small = omega (arith, small)
+    leaf_value = leaf_cell 3 (operand thunk 4) (omega arith) refl new_value_low
 
     leaf_link : value_of (f + 1) ≡ suc f
-    leaf_link = small_value (f + 1) (let less = few f free.leaf_within in omega (arith, less)) ∙ (let z : f + 1 ≡ suc f = omega arith in z)
+    leaf_link = link_of f free.leaf_within
 
     old_link_value : value_of (operand thunk 1) ≡ suc l
     old_link_value = ap value_of (number_at 1 numbers) ∙ link_is
@@ -368,7 +401,8 @@ module _ (slots request : ℕ) (memory : PlainMemory) (pairs : Pairs) (op : Op) 
       inner_cell 3 (value_of (operand thunk 1)) (omega arith) (ap (λ b. slice_index (inner_values b thunk (value_of (f + 1))) 3) e) (value_small (operand thunk 1)) ∙ old_link_value,
     )
     inner_facts false e = (
-      inner_cell 1 (operand thunk 3) (omega arith) (ap (λ b. slice_index (inner_values b thunk (value_of (f + 1))) 1) e) key_small,
+      inner_cell 1 (operand thunk 3) (omega arith) (ap (λ b. slice_index (inner_values b thunk (value_of
+          (f + 1))) 1) e) new_key_small,
       inner_cell 3 (value_of (f + 1)) (omega arith) (ap (λ b. slice_index (inner_values b thunk (value_of (f + 1))) 3) e) (value_small (f + 1)) ∙ leaf_link,
       inner_cell 2 (value_of (operand thunk 1)) (omega arith) (ap (λ b. slice_index (inner_values b thunk (value_of (f + 1))) 2) e) (value_small (operand thunk 1)) ∙ old_link_value,
     )
@@ -387,7 +421,8 @@ module _ (slots request : ℕ) (memory : PlainMemory) (pairs : Pairs) (op : Op) 
     old_key = made_alike.key l at.linked ∙ (ended.keyed ∙ sym (number_at 5 numbers))
 
     keys_differ : operand thunk 3 ≢ operand thunk 5
-    keys_differ same = absurd (both_ways _ (sym keyed ∙ is.3) (eq_true w.key key (sym (number_at 5 numbers) ∙ (sym same ∙ (number_at 3 numbers ∙ key_is)))))
+    keys_differ same = absurd (both_ways _ (sym keyed ∙ is.missing) (eq_true w.key key (sym (number_at 5 numbers) ∙
+        (sym same ∙ (number_at 3 numbers ∙ key_is)))))
 
     insertion : IsInsertion made c side h a l t f
     insertion = record {
@@ -434,16 +469,13 @@ module _ (slots request : ℕ) (memory : PlainMemory) (pairs : Pairs) (op : Op) 
 
     stored : value_of (after (child_of side a)) ≡ suc t
     stored = ap value_of (upd_same both_made (child_of side a) (child_of side a) link_word refl) ∙ (value-next_word (cells (operand thunk 0)) (value_of (t + 1)) (value_small (t + 1))
-        ∙ (small_value (t + 1) (let less = few t free.inner_within in omega (arith, less)) ∙ (let z : t + 1 ≡ suc t = omega arith in z)))
+        ∙ link_of t free.inner_within)
 
     then_alike : AreAlike (with_child made side a (suc t)) (nodes after) then_covers
     then_alike = changed_alike both_made after side a (suc t) (λ s. same_cell (key_cell s) (key_apart side s a)) (λ b s ne. same_cell (child_of b s) ne) stored then_covers
 
     then_child : (b : Bool) (s : ℕ) → (b ≡ side → s ≢ a) → (nodes after).child b s ≡ made.child b s
     then_child = other_child both_made after side a (suc t) (λ s. same_cell (key_cell s) (key_apart side s a)) (λ b s ne. same_cell (child_of b s) ne) stored
-
-    not_root : false ≡ side → 0 ≡ a → ⊥
-    not_root right zero = let k = ended.trail.link.right (sym right) in let root = ap n.key (sym zero) ∙ stands.sentinels.root_key in let small = low in omega (arith, k, root, small)
 
     leaf_real : 3 ≤ f
     leaf_real = unfixed f
@@ -483,33 +515,217 @@ module _ (slots request : ℕ) (memory : PlainMemory) (pairs : Pairs) (op : Op) 
       contents = contents_same (nodes after) then_covers (upd (get pairs) (made.key f) (Some (made.child false f))) (get (map_after pairs op))
           (contents_alike (with_child made side a (suc t)) (nodes after) then_covers then_alike (upd (get pairs) (made.key f) (Some (made.child false f))) (kept.contents (get pairs) leaf_real made_contents))
           (λ q. (λ i. upd (get pairs) ((leaf_key ∙ number_at 3 numbers) i) (Some ((leaf_value ∙ number_at 4 numbers) i)) q)
-          ∙ insert_map pairs op is.0 is.1 (puts_ins op is.0 is.1 is.2) (ap (get pairs) key_is ∙ missing_is is.3) q);
+          ∙ insert_map pairs op is.key is.value is.puts (ap (get pairs) key_is ∙ missing_is is.missing) q);
     }
 
     inner_same : (b : Bool) → cond b (inner_for true thunk) (inner_for false thunk) ≡ inner_for b thunk
     inner_same true = refl
     inner_same false = refl
 
-    new_reply : (op : Op) (k v : ℕ) → op ≡ Ins k v → get pairs (key_of op) ≡ None → 1 * 2 ^ 32 ≡ word_of (reply_of pairs op)
-    new_reply (Get new_one) k v e none = absurd (let z = e in cc)
-    new_reply (Ins new_one value) k v e none = ap (λ b. word_of (if b then Dup else New)) (sym (gone pairs new_one none))
-    new_reply (Del new_one) k v e none = absurd (let z = e in cc)
-    new_reply (Put key value) k v e none = absurd (let z = e in cc)
-    new_reply (Mov from to) k v e none = absurd (let z = e in cc)
-
     insert_case : Does (tree_steps thunk)
     insert_case =
         let place = number_at 0 numbers in let word = number_at 1 numbers in let mark = number_at 2 numbers in
         let fits = and_from (is_small (thunk.lock + 4)) _ (lock_small place word mark insert_lock) (and_from (is_small (operand thunk 0)) _ (link_small place word mark insert_lock)
-        (and_from (is_small (operand thunk 3)) _ (small_is (operand thunk 3) key_small) (and_from (is_small (operand thunk 4)) (is_small (operand thunk 5)) (small_is (operand thunk 4) value_low) (small_is (operand thunk 5) old_small)))) in
+        (and_from (is_small (operand thunk 3)) _ (small_is (operand thunk 3) new_key_small) (and_from (is_small
+        (operand thunk 4)) (is_small (operand thunk 5)) (small_is (operand thunk 4) new_value_low) (small_is
+        (operand thunk 5) old_small)))) in
         let setting = plain_setting (insert_with thunk (inner_for h thunk)) (true ∷ []) memory in
         let ends = insert_run setting cells memory.clock (slice_index memory.stamps request) (slice_index memory.replies request) thunk h
         (link_wanted place word mark insert_lock) (mark_wanted place word mark insert_lock) (unspent.link (λ e. let form' = fit.form ∙ form in omega (arith, e, form'))) in
         let written : inserted_cells setting cells memory.clock (slice_index memory.stamps request) (slice_index memory.replies request) thunk h ≡ after =
         exchange_writes both_made (operand thunk 0) (cells (operand thunk 0)) link_word (ap both_made place ∙ (linked_child side a parent_on ∙ ap cells (sym place))) ∙ ap (λ p. upd both_made p link_word) place in
         subst Does (sym (ap (λ f. body_of f thunk) (is_insert thunk (fit.form ∙ form) fits) ∙ ap (insert_with thunk) (inner_same h))) (record {
-          answer = ends.answered ∙ ap (λ m. Some (Answered m)) (new_reply op is.0 is.1 is.2 (missing_is is.3));
+          answer = ends.answered ∙ ap (λ m. Some (Answered m)) (new_reply pairs op is.key is.value is.puts
+              (missing_is is.missing));
           contents = subst (λ g. TreeStands slots g (map_after pairs op)) (sym (ends.left ∙ written)) insert_stands;
+        })
+
+  -- a leaf put in the place of another
+  module _ (form : form_for op w.found ≡ 14) (free : IsOut slots memory pairs contents) where
+    put : Replaces op w w.found
+    put = replaces op w w.found form
+
+    gives : PutsIn op put.key put.value
+    gives = put_puts op put.key put.value put.put
+
+    replace_lock : thunk.lock ≡ lock_of w.last.from
+    replace_lock = outer_lock (replace_outer op w.found form)
+
+    abbrev new : ℕ
+    new = slice_index memory.free 0
+
+    abbrev above : ℕ
+    above = w.last.from
+
+    abbrev below : Bool
+    below = w.last.side
+
+    -- the cells with the new leaf
+    abbrev new_word : ℕ → ℕ
+    new_word cell = next_word (cells (cell_of memory.fixed_cells new cell)) (slice_index (leaf_values thunk) cell)
+
+    abbrev one_made : Cells
+    one_made = filled_one cells memory.fixed_cells new new_word
+
+    abbrev then_made : Nodes
+    then_made = nodes one_made
+
+    new_cell : (cell v : ℕ) → cell < 5 → slice_index (leaf_values thunk) cell ≡ v → v < 2 ^ 32
+        → value_of (one_made (cell_of 0 new cell)) ≡ v
+    new_cell cell v few is_v small = ap (λ p. value_of (one_made p)) (own_place new cell)
+        ∙ (ap value_of (one_own cells memory.fixed_cells new new_word cell few)
+        ∙ (ap (λ u. value_of (next_word (cells (cell_of memory.fixed_cells new cell)) u)) is_v
+        ∙ value-next_word (cells (cell_of memory.fixed_cells new cell)) v small))
+
+    not_new : (s : ℕ) → c.linked s ≡ true → s ≢ new
+    not_new s on e = absurd (both_ways _ (ap c.linked e ∙ free.out) on)
+
+    old_cell : (s cell : ℕ) → cell < 5 → c.linked s ≡ true → one_made (cell_of 0 s cell) ≡ cells (cell_of 0 s cell)
+    old_cell s cell few on = ap one_made (own_place s cell)
+        ∙ (one_other cells memory.fixed_cells new new_word s cell few (not_new s on) ∙ ap cells (sym
+        (own_place s cell)))
+
+    old_child : (b : Bool) (s : ℕ) → c.linked s ≡ true → one_made (child_of b s) ≡ cells (child_of b s)
+    old_child true s on = old_cell s 2 (omega arith) on
+    old_child false s on = old_cell s 3 (omega arith) on
+
+    one_alike : AreAlike n then_made c
+    one_alike = record {
+      key = λ s on. ap value_of (old_cell s 1 (omega arith) on);
+      child = λ b s on. ap value_of (old_child b s on);
+    }
+
+    own_key : then_made.key new ≡ key
+    own_key = new_cell 1 (operand thunk 3) (omega arith) refl
+        (key_small put.key put.value gives (number_at 3 put.numbers)) ∙ (number_at 3 put.numbers ∙ sym gives.0)
+
+    own_left : IsLeaf then_made new
+    own_left = new_cell 2 0 (omega arith) refl (omega arith)
+
+    own_value : then_made.child false new ≡ put.value
+    own_value = new_cell 3 (operand thunk 4) (omega arith) refl
+        (value_low put.key put.value gives (number_at 4 put.numbers)) ∙ number_at 4 put.numbers
+
+    replaces_it : IsReplacement then_made c below above l new
+    replaces_it = record {
+      above = parent_on;
+      above_inner = subst (λ v. 0 < v) (sym (one_alike.child true above parent_on)) parent_inner;
+      old = one_alike.child below above parent_on ∙ link_leads;
+      old_leaf = one_alike.child true l at.linked ∙ leaf_is;
+      leaf_out = free.out;
+      new_leaf = own_left;
+      same_key = own_key ∙ (sym (key_there put.hit) ∙ sym (one_alike.key l at.linked));
+    }
+
+    one_tree : SearchTree then_made c
+    one_tree = tree_alike n then_made c one_alike stands.tree
+
+    replaced_kept : ReplacementKeeps then_made c below above l new
+    replaced_kept = replacement.replacement_keeps then_made c below above l new one_tree replaces_it
+
+    abbrev new_covers : Covers
+    new_covers = replaced c above l new
+
+    -- the cells after the Store
+    abbrev link_to_new : ℕ
+    link_to_new = next_word (cells (operand thunk 0)) (value_of (new + 1))
+
+    abbrev with_new : Cells
+    with_new = upd one_made (child_of below above) link_to_new
+
+    as_made : (p : ℕ) → p ≢ child_of below above → with_new p ≡ one_made p
+    as_made p ne = upd_other one_made (child_of below above) p link_to_new ne
+
+    new_stored : value_of (with_new (child_of below above)) ≡ suc new
+    new_stored = ap value_of (upd_same one_made (child_of below above) (child_of below above) link_to_new refl)
+        ∙ (value-next_word (cells (operand thunk 0)) (value_of (new + 1)) (value_small (new + 1))
+        ∙ link_of new free.within)
+
+    new_keys : (s : ℕ) → with_new (key_cell s) ≡ one_made (key_cell s)
+    new_keys s = as_made (key_cell s) (key_apart below s above)
+
+    new_links : (b : Bool) (s : ℕ) → child_of b s ≢ child_of below above → with_new (child_of b s) ≡ one_made
+        (child_of b s)
+    new_links b s ne = as_made (child_of b s) ne
+
+    new_alike : AreAlike (with_child then_made below above (suc new)) (nodes with_new) new_covers
+    new_alike = changed_alike one_made with_new below above (suc new) new_keys new_links new_stored new_covers
+
+    new_child : (b : Bool) (s : ℕ) → (b ≡ below → s ≢ above) → (nodes with_new).child b s ≡ then_made.child b s
+    new_child = other_child one_made with_new below above (suc new) new_keys new_links new_stored
+
+    which_is : (s : ℕ) → new_covers.linked s ≡ true → (s ≡ new) ⊎ ((c.linked s ≡ true) × (s ≢ new) × (s ≢ l))
+    which_is s on = replacement.which then_made c below above l new one_tree replaces_it s on
+
+    fixed_on : (s : ℕ) → c.linked s ≡ true → s < 3 → new_covers.linked s ≡ true
+    fixed_on s on small = replacement.links then_made c below above l new one_tree replaces_it s on
+        (λ same. let high = real put.hit in omega (arith, same, high, small))
+
+    new_real : 3 ≤ new
+    new_real = unfixed new
+        (λ e. absurd (both_ways _ (ap c.linked (sym e) ∙ free.out) stands.tree.root))
+        (λ e. absurd (both_ways _ (ap c.linked (sym e) ∙ free.out) stands.sentinels.first))
+        (λ e. absurd (both_ways _ (ap c.linked (sym e) ∙ free.out) stands.sentinels.last))
+
+    inner_before : (s : ℕ) → IsInner (nodes with_new) s → IsInner then_made s
+    inner_before s inner = ⊎_elim (λ e. subst (IsInner then_made) (sym e) replaces_it.above_inner)
+        (λ ne. subst (λ v. 0 < v) (new_child true s (λ e. ne)) inner) (cases_eq s above)
+
+    made_leaf_no_inner : (s : ℕ) → IsLeaf then_made s → IsInner then_made s → ⊥
+    made_leaf_no_inner s leaf inner = omega (arith, leaf, inner)
+
+    replace_stands : TreeStands slots with_new (map_after pairs op)
+    replace_stands = record {
+      covers = new_covers;
+      within = λ s on. ⊎_elim (λ e. subst (λ k. k < slots) (sym e) free.within) (λ was. stands.within s was.0)
+          (which_is s on);
+      tree = tree_alike (with_child then_made below above (suc new)) (nodes with_new) new_covers new_alike
+          replaced_kept.tree;
+      sentinels = changed_sentinels one_made with_new below above (suc new) new_keys new_links new_stored
+          replaces_it.above_inner (omega arith) c new_covers
+          (sentinels_alike n then_made c one_alike stands.tree stands.sentinels)
+          (fixed_on 1 stands.sentinels.first (omega arith)) (fixed_on 2 stands.sentinels.last (omega arith)) not_root;
+      unmarked = λ s on inner. ap value_of (as_made (mark_of s) (mark_apart below s above)) ∙ ⊎_elim
+          (λ e. absurd (made_leaf_no_inner s (subst (IsLeaf then_made) (sym e) own_left) (inner_before s inner)))
+          (λ was. ap value_of (old_cell s 4 (omega arith) was.0) ∙ stands.unmarked s was.0
+          (subst (λ v. 0 < v) (one_alike.child true s was.0) (inner_before s inner)))
+          (which_is s on);
+      contents = contents_same (nodes with_new) new_covers
+          (upd (get pairs) (then_made.key new) (Some (then_made.child false new))) (get (map_after pairs op))
+          (contents_alike (with_child then_made below above (suc new)) (nodes with_new) new_covers new_alike
+          (upd (get pairs) (then_made.key new) (Some (then_made.child false new)))
+          (replaced_kept.contents (get pairs) new_real (contents_alike n then_made c one_alike
+          (get pairs) stands.contents)))
+          (λ q. (λ i. upd (get pairs) (own_key i) (Some (own_value i)) q)
+          ∙ set_map pairs op put.key put.value put.put q);
+    }
+
+    replace_case : Does (tree_steps thunk)
+    replace_case =
+        let place = number_at 0 put.numbers in let word = number_at 1 put.numbers in
+        let mark = number_at 2 put.numbers in
+        let fits = and_from (is_small (thunk.lock + 4)) _ (lock_small place word mark replace_lock)
+        (and_from (is_small (operand thunk 0)) _ (link_small place word mark replace_lock)
+        (and_from (is_small (operand thunk 3)) _
+        (small_is (operand thunk 3) (key_small put.key put.value gives (number_at 3 put.numbers)))
+        (and_from (is_small (operand thunk 4)) (nat_lt 0 (value_of (operand thunk 1)))
+        (small_is (operand thunk 4) (value_low put.key put.value gives (number_at 4 put.numbers)))
+        (some_is (value_of (operand thunk 1)) (subst (λ v. 0 < value_of v) (sym word) some))))) in
+        let setting = plain_setting (replace_steps thunk) (true ∷ []) memory in
+        let ends = replace_run setting cells memory.clock (slice_index memory.stamps request)
+        (slice_index memory.replies request) thunk (link_wanted place word mark replace_lock)
+        (mark_wanted place word mark replace_lock)
+        (unspent.link (λ e. let form' = fit.form ∙ form in omega (arith, e, form'))) in
+        let written : replaced_cells setting cells memory.clock (slice_index memory.stamps request)
+        (slice_index memory.replies request) thunk ≡ with_new = exchange_writes one_made (operand thunk 0)
+        (cells (operand thunk 0)) link_to_new (ap one_made place ∙ (old_child below above parent_on ∙ ap cells
+        (sym place)))
+        ∙ ap (λ p. upd one_made p link_to_new) place in
+        subst Does (sym (ap (λ f. body_of f thunk) (is_replace thunk (fit.form ∙ form) fits))) (record {
+          answer = ends.answered ∙ ap (λ m. Some (Answered m)) (number_at 5 put.numbers
+              ∙ set_reply pairs op put.key put.value w.value put.put
+              (found_is put.hit ∙ ap Some (value_is put.hit (ap is_del put.put))));
+          contents = subst (λ g. TreeStands slots g (map_after pairs op)) (sym (ends.left ∙ written)) replace_stands;
         })
 
   -- a leaf taken out
@@ -724,17 +940,17 @@ module _ (slots request : ℕ) (memory : PlainMemory) (pairs : Pairs) (op : Op) 
         })
 
 pub runs_do_the_operations : RunsDoTheOperations
-runs_do_the_operations slots request memory pairs op thunk contents allowed walked unspent free =
-    let hit = (walk walked.bounds op start walked.readings).found in
-    let its_form = (fit slots request memory pairs op thunk contents allowed walked unspent).form in
-    by (cases op hit (fit slots request memory pairs op thunk contents allowed walked unspent).served) its_form
+runs_do_the_operations slots request memory pairs op thunk contents allowed walked unspent free free_leaf = ⊎_elim
+    (look_case slots request memory pairs op thunk contents allowed walked unspent)
+    (⊎_elim (λ is. insert_case slots request memory pairs op thunk contents allowed walked unspent is (free (form
+    ∙ is)))
+    (⊎_elim (remove_case slots request memory pairs op thunk contents allowed walked unspent)
+    (λ is. replace_case slots request memory pairs op thunk contents allowed walked unspent is (free_leaf (form
+    ∙ is)))))
+    (cases op (walk walked.bounds op start walked.readings).found its.one)
   where
-    hits : Bool
-    hits = (walk walked.bounds op start walked.readings).found
+    its : IsFit op (walk walked.bounds op start walked.readings) thunk
+    its = fit slots request memory pairs op thunk contents allowed walked unspent
 
-    by : ((form_for op hits ≡ 11) × ((is_del op && hits) ≡ false)) ⊎ ((key value : ℕ) × (op ≡ Ins key value) × (hits ≡ false)) ⊎ ((key : ℕ) × (op ≡ Del key) × (hits ≡ true)) → thunk.form ≡ form_for op hits
-        → DoesTheOperation slots pairs op (plain_run (tree_steps thunk) request memory (true ∷ []))
-    by (inl look) form = look_case slots request memory pairs op thunk contents allowed walked unspent look.0
-    by (inr (inl ins)) form = let twelve : form_for op hits ≡ 12 = ap (λ op. form_for op hits) ins.2 ∙ ap (form_for (Ins ins.0 ins.1)) ins.3 in
-        insert_case slots request memory pairs op thunk contents allowed walked unspent twelve (free (form ∙ twelve))
-    by (inr (inr del)) form = remove_case slots request memory pairs op thunk contents allowed walked unspent (ap (λ op. form_for op hits) del.1 ∙ ap (form_for (Del del.0)) del.2)
+    form : thunk.form ≡ form_for op (walk walked.bounds op start walked.readings).found
+    form = its.form

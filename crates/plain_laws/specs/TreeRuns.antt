@@ -40,7 +40,13 @@ pub record IsUnspent (memory : PlainMemory) (thunk : Thunk) : Type 0 where
   pub mark : thunk.form ≡ 13 → version_of (cells_of memory (mark_of (parent_in thunk))) ≢ memory.version_max
   pub lock : thunk.form ≡ 13 → is_spent memory.version_max (operand thunk 3) ≡ false
 
--- the slots of the Makes, the first two free ones, are two of the memory's and not reached from the root
+-- the slot of the first Make, the first free one, is one of the memory's and not reached from the root
+pub record IsOut (slots : ℕ) (memory : PlainMemory) (pairs : Pairs) (contents : HasContents slots memory pairs) : Type
+    0 where
+  pub within : slice_index memory.free 0 < slots
+  pub out : contents.stands.covers.linked (slice_index memory.free 0) ≡ false
+
+-- the slots of both Makes of an insertion, the first two free ones, are so, and different
 pub record AreOut (slots : ℕ) (memory : PlainMemory) (pairs : Pairs) (contents : HasContents slots memory pairs) : Type
     0 where
   pub leaf_within : slice_index memory.free 0 < slots
@@ -58,5 +64,5 @@ pub record DoesTheOperation (slots : ℕ) (pairs : Pairs) (op : Op) (run : Run) 
 abbrev pub RunsDoTheOperations : Type 0
 RunsDoTheOperations = (slots request : ℕ) (memory : PlainMemory) (pairs : Pairs) (op : Op) (thunk : Thunk)
     → (contents : HasContents slots memory pairs) → IsAllowed op → IsWalked memory op thunk → IsUnspent memory thunk
-    → (thunk.form ≡ 12 → AreOut slots memory pairs contents)
+    → (thunk.form ≡ 12 → AreOut slots memory pairs contents) → (thunk.form ≡ 14 → IsOut slots memory pairs contents)
     → DoesTheOperation slots pairs op (plain_run (tree_steps thunk) request memory (true ∷ []))

@@ -63,6 +63,17 @@ insert_steps t =
     Load (operand t 0) 0 ∷ Want 0 (operand t 1) ∷ Fresh 0 ∷ Load (t.lock + 4) 1 ∷ Want 1 (operand t 2) ∷
     Make (leaf_init t) 2 ∷ Make (inner_init t) 3 ∷ Stamp ∷ Store 0 (Made 3) ∷ Answer (1 * 2 ^ 32) ∷ []
 
+-- the leaf that form 14 takes out
+abbrev pub old_leaf : Thunk → ℕ
+old_leaf t = slot_in (operand t 1)
+
+-- form 14, a new leaf in the place of one with the same key: the same link and mark word, key, value, the reply word
+abbrev pub replace_steps : Thunk → List Step
+replace_steps t =
+    Load (operand t 0) 0 ∷ Want 0 (operand t 1) ∷ Fresh 0 ∷ Load (t.lock + 4) 1 ∷
+    Want 1 (operand t 2) ∷ Make (leaf_init t) 2 ∷ Stamp ∷ Store 0 (Made 2) ∷ Retire (old_leaf t) ∷
+    Answer (operand t 5) ∷ []
+
 -- the slots of the parent and the leaf that form 13 takes out, on which side of the parent the leaf is, and the place
 -- of the parent's other link
 abbrev pub parent_in : Thunk → ℕ
@@ -107,11 +118,17 @@ fits_insert t = is_small (t.lock + 4) && (is_small (operand t 0)
 abbrev pub fits_delete : Thunk → Bool
 fits_delete t = is_small (t.lock + 4) && (is_small (operand t 0) && names_removed t)
 
--- what a thunk's section does: it reads alone, puts a new leaf into the tree, takes one out, or has no body
+abbrev pub fits_replace : Thunk → Bool
+fits_replace t = is_small (t.lock + 4) && (is_small (operand t 0)
+    && (is_small (operand t 3) && (is_small (operand t 4) && nat_lt 0 (value_of (operand t 1)))))
+
+-- what a thunk's section does: it reads alone, puts a new leaf into the tree, takes one out, puts a new one in the
+-- place of an old one, or has no body
 pub data Form : Type 0 where
   Look : Form
   Insert : Form
   Delete : Form
+  Replace : Form
   Empty : Form
 
 abbrev pub form_of : Thunk → Form
@@ -119,12 +136,14 @@ form_of t =
     cond (t.form == 11) (cond (fits_look t) Look Empty)
     (cond (t.form == 12) (cond (fits_insert t) Insert Empty)
     (cond (t.form == 13) (cond (fits_delete t) Delete Empty)
-    Empty))
+    (cond (t.form == 14) (cond (fits_replace t) Replace Empty)
+    Empty)))
 
 abbrev pub body_of : Form → Thunk → List Step
 body_of Look t = look_steps t
 body_of Insert t = insert_steps t
 body_of Delete t = delete_steps t
+body_of Replace t = replace_steps t
 body_of Empty t = []
 
 -- the body of a search tree's thunk; empty for another form, and where a number of the form doesn't fit

@@ -1,6 +1,9 @@
 //! The bodies of the search tree's thunks.
 ghost use Rattle.std.specs.Prelude.{◌≡◌, ◌+◌, ◌<◌, ◌^◌, ◌==◌, cond, nat_lt, None, Some, is_some, IfSome, OnSome};
-ghost use Rattle.tree_bodies.specs.Tree.{tree_steps, look_steps, insert_steps, delete_steps, leaf_with, inner_with, slot_in as link_slot, parent_in, leaf_in, sibling_of, mark_of, names_removed, fits_look, fits_insert, fits_delete};
+ghost use Rattle.tree_bodies.specs.Tree.{tree_steps, look_steps, insert_steps, delete_steps, replace_steps};
+ghost use Rattle.tree_bodies.specs.Tree.{fits_look, fits_insert, fits_delete, fits_replace, names_removed};
+ghost use Rattle.tree_bodies.specs.Tree.{leaf_with, inner_with, slot_in as link_slot, parent_in, leaf_in, sibling_of};
+ghost use Rattle.tree_bodies.specs.Tree.{mark_of};
 ghost use Rattle.body_terms.specs.Word.{value_of};
 ghost use Rattle.section_body.specs.Bucket.{operand};
 ghost use Rattle.body_terms.specs.declared.step.Step.TheVariants.{Load, Want, Take, Make, Store, Retire};
@@ -14,9 +17,9 @@ const NEW: u64 = 1 << 32;
 const GONE: u64 = 4 << 32;
 
 /// The body of a search tree's thunk: the sections of an external search tree with try-locks (Ben-David,
-/// Blelloch and Wei, 2022). It is empty where the form is none of the tree's three, where a place, key or
-/// value of the form isn't a `u32`, and for a removal also where a link leads to no slot, or where the
-/// link to the leaf isn't one of the parent's.
+/// Blelloch and Wei, 2022). It is empty where the form is none of the tree's four, where a place, key or
+/// value of the form isn't a `u32`, for a removal or a new value also where a link leads to no slot, and for a
+/// removal where the link to the leaf isn't one of the parent's.
 pub fn tree_body(thunk: &Thunk) -> Body
     ensures { result ≡ tree_steps thunk.now }
 {
@@ -33,6 +36,7 @@ pub fn tree_body_in(thunk: &Thunk, body: &mut Body)
         11 => fill_look(thunk, body),
         12 => fill_insert(thunk, body),
         13 => fill_delete(thunk, body),
+        14 => fill_replace(thunk, body),
         _ => None,
     };
     if filled.is_none() {
@@ -255,6 +259,34 @@ fn fill_delete(thunk: &Thunk, body: &mut Body) -> Option<()>
         retire(removed.parent),
         retire(removed.leaf),
         Step::Answer { reply: GONE },
+    ]);
+    Some(())
+}
+
+/// Form 14: a new leaf with another value in the place of the old one, which is retired. The operands are those
+/// of form 12 without the old leaf's key, then the reply word.
+fn fill_replace(thunk: &Thunk, body: &mut Body) -> Option<()>
+    ensures fits { is_some result ≡ fits_replace thunk.now }
+    ensures steps { OnSome result (body.new ≡ replace_steps thunk.now) }
+{
+    let mark = thunk.lock.checked_add(4)?;
+    let link = u32::try_from(thunk.operands[0]).ok()?;
+    let key = u32::try_from(thunk.operands[3]).ok()?;
+    let value = u32::try_from(thunk.operands[4]).ok()?;
+    let old = slot_in(Word::from_bits(thunk.operands[1]))?;
+    body.refill(&[
+        load(link, 0),
+        want(0, thunk.operands[1]),
+        Step::Fresh { reg: 0 },
+        load(mark, 1),
+        want(1, thunk.operands[2]),
+        make(leaf(key, value), 2),
+        Step::Stamp,
+        store(0, Value::Made(2)),
+        retire(old),
+        Step::Answer {
+            reply: thunk.operands[5],
+        },
     ]);
     Some(())
 }

@@ -1,7 +1,7 @@
 -- The tree's bodies have the shape of a body.
 use Rattle.std.proofs.Common.{◌≡◌, ◌≢◌, ℕ, zero, suc, ◌+◌, ◌*◌, ◌<◌, ◌≤◌, Bool, true, false, cond, refl, sym, ap, ◌∙◌, subst, inl, inr, ⊎_elim, arith}
 use Rattle.std.proofs.lemmas.List.Elements.{All-nil, All-cons}
-use Rattle.std.specs.Prelude.{◌==◌, ◌^◌, ◌⊎◌, Some, List, [], ◌∷◌, All, Contains, nat_lt}
+use Rattle.std.specs.Prelude.{◌==◌, ◌-◌, ◌^◌, ◌⊎◌, Some, List, [], ◌∷◌, All, Contains, nat_lt}
 use Rattle.body_terms.specs.Word.{value_of}
 use Rattle.section_body.specs.Bucket.{operand}
 use Rattle.body_terms.specs.declared.value.Value.{Value}
@@ -11,7 +11,10 @@ use Rattle.body_terms.specs.declared.step.Step.{Step}
 use Rattle.body_terms.specs.declared.step.Step.TheVariants.{Load, Want, Fresh, Take, Make, Stamp, Store, Retire, Answer}
 use Rattle.body_terms.specs.declared.thunk.Thunk.{Thunk}
 use Rattle.body_terms.specs.Shape.{IsShaped, IsStep, SetBefore, LoadedBefore, MadeBefore, FreshBefore, phase, used_values, set_registers, store_place}
-use Rattle.tree_bodies.specs.Tree.{lock_of, mark_of, inner_with, leaf_init, inner_init, parent_in, leaf_in, sibling_of, look_steps, insert_steps, delete_steps}
+use Rattle.tree_bodies.specs.Tree.{lock_of, mark_of, inner_with, leaf_init, inner_init, parent_in, leaf_in, sibling_of}
+use Rattle.tree_bodies.specs.Tree.{old_leaf}
+use Rattle.tree_bodies.specs.Tree.{look_steps, insert_steps, delete_steps, replace_steps}
+use Rattle.tree_laws.proofs.Forms.{replace_load, replace_want, replace_fresh, replace_make, replace_store}
 use Rattle.tree_laws.proofs.Forms.{insert_load, delete_load, look_want, insert_want, delete_want, insert_fresh, delete_fresh, insert_make, insert_store, delete_store, look_fresh, look_make, look_store, delete_make}
 
 module _ (body : List Step) (i : ℕ) where
@@ -84,6 +87,26 @@ insert_phase_at t (suc (suc (suc (suc (suc (suc (suc (suc (suc (suc i)))))))))) 
 
 insert_phase_rises : (i j : ℕ) → i < j → insert_phase i ≤ insert_phase j
 insert_phase_rises i j lt = grind arith
+
+abbrev replace_phase : ℕ → ℕ
+replace_phase j = cond (nat_lt j 5) 1 (j - 3)
+
+replace_phase_at : (t : Thunk) (j : ℕ) (step : Step) → IsStep (replace_steps t) j step → phase step ≡ replace_phase j
+replace_phase_at t zero step h = phase_is (Load (operand t 0) 0) step h
+replace_phase_at t (suc zero) step h = phase_is (Want 0 (operand t 1)) step h
+replace_phase_at t (suc (suc zero)) step h = phase_is (Fresh 0) step h
+replace_phase_at t (suc (suc (suc zero))) step h = phase_is (Load (t.lock + 4) 1) step h
+replace_phase_at t (suc (suc (suc (suc zero)))) step h = phase_is (Want 1 (operand t 2)) step h
+replace_phase_at t (suc (suc (suc (suc (suc zero))))) step h = phase_is (Make (leaf_init t) 2) step h
+replace_phase_at t (suc (suc (suc (suc (suc (suc zero)))))) step h = phase_is Stamp step h
+replace_phase_at t (suc (suc (suc (suc (suc (suc (suc zero))))))) step h = phase_is (Store 0 (Made 2)) step h
+replace_phase_at t (suc (suc (suc (suc (suc (suc (suc (suc zero)))))))) step h = phase_is (Retire (old_leaf t)) step h
+replace_phase_at t (suc (suc (suc (suc (suc (suc (suc (suc (suc zero))))))))) step h =
+    phase_is (Answer (operand t 5)) step h
+replace_phase_at t (suc (suc (suc (suc (suc (suc (suc (suc (suc (suc i)))))))))) step h = absurd (cc)
+
+replace_phase_rises : (i j : ℕ) → i < j → replace_phase i ≤ replace_phase j
+replace_phase_rises i j lt = grind arith
 
 abbrev delete_phase : ℕ → ℕ
 delete_phase j = cond (nat_lt j 12) 1 (cond (j == 12) 3 (cond (nat_lt j 15) 4 (cond (nat_lt j 17) 5 6)))
@@ -183,6 +206,68 @@ module _ (t : Thunk) where
     set_once = λ i j reg earlier later lt a b c d. insert_set_once i j reg lt (insert_setter i reg earlier a c) (insert_setter j reg later b d);
     fresh = λ i reg value h. let s = insert_store t i reg value h in record { by = 2; earlier = (let at = s.0 in omega arith); tests = ap (λ r. Some (Fresh r)) (sym s.1) };
     stored_once = λ i j a b v w lt x y e. let s = insert_store t i a v x in let s' = insert_store t j b w y in let at = s.0 in let at' = s'.0 in omega arith;
+  }
+
+  replace_loaded : (i r : ℕ) → ((1 ≤ i) × (r ≡ 0)) ⊎ ((4 ≤ i) × (r ≡ 1)) → LoadedBefore (replace_steps t) i r
+  replace_loaded i r (inl a) = subst (LoadedBefore (replace_steps t) i) (sym a.1)
+      (loaded (replace_steps t) i 0 (operand t 0) 0 refl (let at = a.0 in omega (arith, at)))
+  replace_loaded i r (inr b) = subst (LoadedBefore (replace_steps t) i) (sym b.1)
+      (loaded (replace_steps t) i 3 (t.lock + 4) 1 refl (let at = b.0 in omega (arith, at)))
+
+  new_leaf_made : (i : ℕ) → 5 < i → MadeBefore (replace_steps t) i 2
+  new_leaf_made i later = record { by = 5; init = leaf_init t; earlier = later; makes = refl }
+
+  replace_used : (i : ℕ) (step : Step) → IsStep (replace_steps t) i step
+      → All (SetBefore (replace_steps t) i) (used_values step)
+  replace_used i step h = used_by (replace_steps t) i step
+      (λ r w e. replace_loaded i r (⊎_elim (λ a. inl (let at = a.0 in omega (arith, at), a.1))
+      (λ b. inr (let at = b.0 in omega (arith, at), b.1))
+      (replace_want t i r w (at_step (replace_steps t) i step (Want r w) e h))))
+      (λ r e. let f = replace_fresh t i r (at_step (replace_steps t) i step (Fresh r) e h) in
+      replace_loaded i r (inl (let at = f.0 in omega (arith, at), f.1)))
+      (λ r init e. let m = replace_make t i r init (at_step (replace_steps t) i step (Make init r) e h) in
+      subst (λ init. All (SetBefore (replace_steps t) i) init.cells) (sym m.2) (five_set (replace_steps t) i (Const 0)
+      (Const (operand t 3)) (Const 0) (Const (operand t 4)) (Const 0) tt tt tt tt tt))
+      (λ r v e. let s = replace_store t i r v (at_step (replace_steps t) i step (Store r v) e h) in (
+        replace_loaded i r (inl (let at = s.0 in omega (arith, at), s.1)),
+        subst (SetBefore (replace_steps t) i) (sym s.2) (new_leaf_made i (let at = s.0 in omega (arith, at))),
+      ))
+
+  abbrev Sets : ℕ → ℕ → Type 0
+  Sets i reg = ((i ≡ 0) × (reg ≡ 0)) ⊎ ((i ≡ 3) × (reg ≡ 1)) ⊎ ((i ≡ 5) × (reg ≡ 2))
+
+  replace_setter : (i reg : ℕ) (step : Step) → IsStep (replace_steps t) i step → Contains (set_registers step) reg
+      → Sets i reg
+  replace_setter i reg step h has = ⊎_elim
+      (λ load. ⊎_elim (λ a. inl (a.0, a.1)) (λ b. inr (inl (b.0, b.1)))
+      (replace_load t i load.0 reg (at_step (replace_steps t) i step (Load load.0 reg) load.1 h)))
+      (λ make. let m = replace_make t i reg make.0 (at_step (replace_steps t) i step (Make make.0 reg) make.1 h) in
+      inr (inr (m.0, m.1)))
+      (set_by step reg has)
+
+  replace_set_once : (i j reg : ℕ) → i < j → Sets i reg → Sets j reg → ⊥
+  replace_set_once i j reg lt a b = grind arith
+
+  pub replace_shaped : IsShaped (replace_steps t)
+  replace_shaped = record {
+    short = omega arith;
+    phases = λ i j earlier later lt a b. let first = replace_phase_at t i earlier a in
+        let second = replace_phase_at t j later b in let rises = replace_phase_rises i j lt in
+        omega (arith, first, second, rises);
+    makes = omega arith;
+    stamps = refl;
+    answers = refl;
+    used = replace_used;
+    within = λ i step h. grind arith;
+    set_once = λ i j reg earlier later lt a b c d.
+        replace_set_once i j reg lt (replace_setter i reg earlier a c) (replace_setter j reg later b d);
+    fresh = λ i reg value h. let s = replace_store t i reg value h in record {
+      by = 2;
+      earlier = (let at = s.0 in omega (arith, at));
+      tests = ap (λ r. Some (Fresh r)) (sym s.1);
+    };
+    stored_once = λ i j a b v w lt x y e. let s = replace_store t i a v x in let s' = replace_store t j b w y in
+        let at = s.0 in let at' = s'.0 in omega (arith, lt, at, at');
   }
 
   delete_loaded : (i r : ℕ) → ((1 ≤ i) × (r ≡ 0)) ⊎ ((4 ≤ i) × (r ≡ 1)) ⊎ ((7 ≤ i) × (r ≡ 2)) ⊎ ((9 ≤ i) × (r ≡ 3)) ⊎ ((10 ≤ i) × (r ≡ 4)) → LoadedBefore (delete_steps t) i r

@@ -198,6 +198,7 @@ module _ (layout : Layout) (s : Scene) (first : IsFirst tree s) where
     new_leaf = λ d x h. absurd (no_section d x h);
     new_inner = λ d x h. absurd (no_section d x h);
     taken = λ d x h. absurd (no_section d x h);
+    replaced = λ d x h. absurd (no_section d x h);
     readers = λ r readings h. absurd (no_reader r readings h);
     published = λ d x h. absurd (no_section d x h);
     walks = λ r readings op h. absurd (no_reader r readings h);

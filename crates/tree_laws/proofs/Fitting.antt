@@ -11,7 +11,7 @@ use Rattle.table_words.specs.declared.layout.Layout.{Layout}
 use Rattle.structure_laws.specs.Scene.{Readings}
 use Rattle.structure_laws.specs.Fitting.{Leaves, Fitting}
 use Rattle.bucket_laws.specs.Walk.{Bounds, is_wanted}
-use Rattle.tree_bodies.specs.Tree.{Form, Look, Insert, Delete, Empty, form_of, body_of}
+use Rattle.tree_bodies.specs.Tree.{Form, Look, Insert, Delete, Replace, Empty, form_of, body_of}
 use Rattle.tree_laws.specs.Walk.{AtEnd, Walk, start, wanted_at, fed, walk, form_for, reply_for, fits_walk}
 use Rattle.tree_laws.specs.Leaves.{bounds, walk_of, tree}
 use Rattle.tree_laws.proofs.Fit.{IsFit, fit_of, look_numbers, numbers_of}
@@ -22,7 +22,8 @@ look_leaves : (op : Op) (w : Walk) (found : Bool) → form_for op found ≡ 11 �
 look_leaves (Get key) w found form = tt
 look_leaves (Ins key value) w found form = refl
 look_leaves (Del key) w found form = refl
-look_leaves (Put key value) w found form = absurd (omega (arith, form))
+look_leaves (Put key value) w true form = absurd (omega (arith, form))
+look_leaves (Put key value) w false form = absurd (omega (arith, form))
 look_leaves (Mov from to) w found form = absurd (omega (arith, form))
 
 -- of two walks, of which one goes on and the other stops
@@ -58,11 +59,12 @@ module _ (layout : Layout) (op : Op) (thunk : Thunk) (readings : Readings) (fits
 
   still_in : (f : Form) → form_of thunk ≡ f → Stores f → (j reply : ℕ) → slice_get (body_of f thunk) j ≡ Some (Answer reply) → Leaves op reply
   still_in Look e none j reply h =
-      let form = sym fit.form ∙ (numbers_of thunk Look e).0 refl in
+      let form = sym fit.form ∙ (numbers_of thunk).look e in
       subst (Leaves op) (sym (look_answer thunk j reply h ∙ ap (λ numbers. slice_index numbers 3) (fit.operands ∙ look_numbers op w w.found form)))
       (look_leaves op w w.found form)
   still_in Insert e none j reply h = absurd (none 8 0 (Made 3) refl)
   still_in Delete e none j reply h = absurd (none 13 4 (Const 1) refl)
+  still_in Replace e none j reply h = absurd (none 7 0 (Made 2) refl)
   still_in Empty e none j reply h = absurd (cc)
 
 pub tree_fitting : (layout : Layout) → Fitting tree layout

@@ -6,9 +6,10 @@ use Rattle.body_terms.specs.declared.value.Value.{Value}
 use Rattle.body_terms.specs.declared.value.Value.TheVariants.{Const, Of, Made}
 use Rattle.body_terms.specs.declared.value.Init.{Init}
 use Rattle.body_terms.specs.declared.step.Step.{Step}
-use Rattle.body_terms.specs.declared.step.Step.TheVariants.{Load, Want, Fresh, Take, Make, Store, Answer}
+use Rattle.body_terms.specs.declared.step.Step.TheVariants.{Load, Want, Fresh, Take, Make, Store, Retire, Answer}
 use Rattle.body_terms.specs.declared.thunk.Thunk.{Thunk}
-use Rattle.tree_bodies.specs.Tree.{lock_of, mark_of, leaf_init, inner_init, parent_in, sibling_of, look_steps, insert_steps, delete_steps}
+use Rattle.tree_bodies.specs.Tree.{lock_of, mark_of, leaf_init, inner_init, parent_in, sibling_of, old_leaf}
+use Rattle.tree_bodies.specs.Tree.{look_steps, insert_steps, delete_steps, replace_steps}
 
 module _ (t : Thunk) where
   abbrev pub IsLook : ℕ → Step → Type 0
@@ -20,12 +21,19 @@ module _ (t : Thunk) where
   abbrev pub IsDelete : ℕ → Step → Type 0
   IsDelete j step = slice_get (delete_steps t) j ≡ Some step
 
-  -- the loads of the three forms; the first two are the same for the forms 11 and 12 but for their places in the body
+  abbrev pub IsReplace : ℕ → Step → Type 0
+  IsReplace j step = slice_get (replace_steps t) j ≡ Some step
+
+  -- the loads of the four forms; the first two are the same for all but the removal, but for their places in the body
   pub look_load : (j p r : ℕ) → IsLook j (Load p r) → ((j ≡ 0) × (r ≡ 0) × (p ≡ operand t 0)) ⊎ ((j ≡ 2) × (r ≡ 1) × (p ≡ t.lock + 4))
   look_load j p r h = grind arith
 
   pub insert_load : (j p r : ℕ) → IsInsert j (Load p r) → ((j ≡ 0) × (r ≡ 0) × (p ≡ operand t 0)) ⊎ ((j ≡ 3) × (r ≡ 1) × (p ≡ t.lock + 4))
   insert_load j p r h = grind arith
+
+  pub replace_load : (j p r : ℕ) → IsReplace j (Load p r)
+      → ((j ≡ 0) × (r ≡ 0) × (p ≡ operand t 0)) ⊎ ((j ≡ 3) × (r ≡ 1) × (p ≡ t.lock + 4))
+  replace_load j p r h = grind arith
 
   pub delete_load : (j p r : ℕ) → IsDelete j (Load p r) → ((j ≡ 0) × (r ≡ 0) × (p ≡ operand t 0)) ⊎ ((j ≡ 3) × (r ≡ 1) × (p ≡ t.lock + 4))
       ⊎ ((j ≡ 6) × (r ≡ 2) × (p ≡ operand t 4)) ⊎ ((j ≡ 8) × (r ≡ 3) × (p ≡ sibling_of t)) ⊎ ((j ≡ 9) × (r ≡ 4) × (p ≡ mark_of (parent_in t)))
@@ -40,12 +48,28 @@ module _ (t : Thunk) where
   pub insert_want : (j r w : ℕ) → IsInsert j (Want r w) → ((j ≡ 1) × (r ≡ 0) × (w ≡ operand t 1)) ⊎ ((j ≡ 4) × (r ≡ 1) × (w ≡ operand t 2))
   insert_want j r w h = grind arith
 
+  pub replace_want : (j r w : ℕ) → IsReplace j (Want r w)
+      → ((j ≡ 1) × (r ≡ 0) × (w ≡ operand t 1)) ⊎ ((j ≡ 4) × (r ≡ 1) × (w ≡ operand t 2))
+  replace_want j r w h = grind arith
+
   pub delete_want : (j r w : ℕ) → IsDelete j (Want r w) → ((j ≡ 1) × (r ≡ 0) × (w ≡ operand t 1)) ⊎ ((j ≡ 4) × (r ≡ 1) × (w ≡ operand t 2))
       ⊎ ((j ≡ 7) × (r ≡ 2) × (w ≡ operand t 5)) ⊎ ((j ≡ 10) × (r ≡ 4) × (w ≡ operand t 6))
   delete_want j r w h = grind arith
 
   pub insert_fresh : (j r : ℕ) → IsInsert j (Fresh r) → (j ≡ 2) × (r ≡ 0)
   insert_fresh j r h = (grind arith, grind arith)
+
+  pub replace_fresh : (j r : ℕ) → IsReplace j (Fresh r) → (j ≡ 2) × (r ≡ 0)
+  replace_fresh j r h = (grind arith, grind arith)
+
+  pub replace_make : (j r : ℕ) (init : Init) → IsReplace j (Make init r) → (j ≡ 5) × (r ≡ 2) × (init ≡ leaf_init t)
+  replace_make j r init h = (grind arith, grind arith, grind arith)
+
+  pub replace_store : (j r : ℕ) (v : Value) → IsReplace j (Store r v) → (j ≡ 7) × (r ≡ 0) × (v ≡ Made 2)
+  replace_store j r v h = (grind arith, grind arith, grind arith)
+
+  pub replace_retire : (j slot : ℕ) → IsReplace j (Retire slot) → (j ≡ 8) × (slot ≡ old_leaf t)
+  replace_retire j slot h = (grind arith, grind arith)
 
   pub delete_fresh : (j r : ℕ) → IsDelete j (Fresh r) → ((j ≡ 2) × (r ≡ 0)) ⊎ ((j ≡ 11) × (r ≡ 4))
   delete_fresh j r h = grind arith
@@ -75,6 +99,9 @@ module _ (t : Thunk) where
   pub insert_take : (j l w : ℕ) → IsInsert j (Take l w) → ⊥
   insert_take j l w h = grind arith
 
+  pub replace_take : (j l w : ℕ) → IsReplace j (Take l w) → ⊥
+  replace_take j l w h = grind arith
+
   pub delete_make : (j r : ℕ) (init : Init) → IsDelete j (Make init r) → ⊥
   delete_make j r init h = grind arith
 
@@ -86,3 +113,6 @@ module _ (t : Thunk) where
 
   pub delete_answer : (j n : ℕ) → IsDelete j (Answer n) → n ≡ 4 * 2 ^ 32
   delete_answer j n h = grind arith
+
+  pub replace_answer : (j n : ℕ) → IsReplace j (Answer n) → n ≡ operand t 5
+  replace_answer j n h = grind arith

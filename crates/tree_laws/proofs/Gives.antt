@@ -4,7 +4,7 @@ use Rattle.std.proofs.Common.{◌≡◌, ◌≢◌, ℕ, suc, ◌+◌, ◌*◌, 
 use Rattle.std.proofs.lemmas.Bool.{cases_eq, both_ways}
 use Rattle.small_lemmas.proofs.Numbers.{suc_equal as suc_eq}
 use Rattle.map_history.specs.Keys.{key_of, DependsOn, HaveNoCommonKey}
-use Rattle.map_history.proofs.Cells.{format_1_one_keyed, key_is}
+use Rattle.map_history.proofs.Cells.{key_is}
 use Rattle.body_terms.specs.Word.{value_of, next_word}
 use Rattle.body_terms.specs.Update.{upd}
 use Rattle.section_body.specs.Bucket.{operand}
@@ -22,13 +22,20 @@ use Rattle.structure_laws.specs.Sound.{Sound}
 use Rattle.structure_laws.specs.Gives.{Gives}
 use Rattle.structure_laws.proofs.Changes.{upd_other, upd_same, equal_of, both_true, or_cases, value-next_word, value_small}
 use Rattle.bucket_laws.proofs.TableGives.{reached}
-use Rattle.tree_bodies.specs.Tree.{lock_of, left_of, right_of, mark_of, child_of, slot_in, Form, Look, Insert, Delete, Empty, form_of, body_of, look_steps, insert_steps, delete_steps, parent_in, leaf_in, sibling_of, is_left}
+use Rattle.tree_bodies.specs.Tree.{lock_of, left_of, right_of, mark_of, child_of, slot_in, Form, Look, Insert, Delete}
+use Rattle.tree_bodies.specs.Tree.{Replace}
+use Rattle.tree_bodies.specs.Tree.{Empty, form_of, body_of, look_steps, insert_steps, delete_steps, parent_in, leaf_in}
+use Rattle.tree_bodies.specs.Tree.{sibling_of, is_left, old_leaf}
 use Rattle.tree_laws.specs.Search.{Nodes, IsInner, IsLeaf}
 use Rattle.tree_laws.specs.Walk.{Walk, node_of}
-use Rattle.tree_laws.specs.Leaves.{is_left_place, is_right_place, is_link_in, shows_inner, shows_link, nodes, bounds, walk_of, TreeWalked, IsAsRead, IsTaken, HasInner, HasTaken, IsBetween, NewLeaf, NewInner, OldParent, OldLeaf, TreeKept, tree}
+use Rattle.tree_laws.specs.Leaves.{is_left_place, is_right_place, is_link_in, shows_inner, shows_link, nodes, bounds}
+use Rattle.tree_laws.specs.Leaves.{walk_of}
+use Rattle.tree_laws.specs.Leaves.{TreeWalked, IsAsRead, IsTaken, IsReplaced, HasInner, HasTaken, IsBetween}
+use Rattle.tree_laws.specs.Leaves.{NewLeaf, NewInner, OldParent, OldLeaf, ReplacedLeaf, TreeKept, tree}
 use Rattle.tree_laws.specs.Landing.{HasLanded}
 use Rattle.tree_laws.proofs.Fit.{fit_of}
-use Rattle.tree_laws.proofs.Forms.{look_load, insert_load, delete_load, look_store, insert_store, delete_store}
+use Rattle.tree_laws.proofs.Forms.{look_load, insert_load, delete_load, replace_load}
+use Rattle.tree_laws.proofs.Forms.{look_store, insert_store, delete_store, replace_store, replace_retire}
 use Rattle.tree_laws.proofs.Found.{walk_keyed}
 use Rattle.tree_laws.proofs.Shown.{some_of, below_of, shown_now}
 use Rattle.tree_laws.proofs.WalkReads.{is_late}
@@ -55,7 +62,7 @@ guard_is p t k low e = omega (arith, low, e)
 unfixed : (n : ℕ) → (n ≡ 0 → ⊥) → (n ≡ 1 → ⊥) → (n ≡ 2 → ⊥) → 3 ≤ n
 unfixed n zero one two = search arith
 
--- the steps that only a removal has
+-- what a removal retires; the forms 11 and 12 retire nothing
 pub delete_retire : (t : Thunk) (j slot : ℕ) → slice_get (delete_steps t) j ≡ Some (Retire slot) → ((j ≡ 15) × (slot ≡ parent_in t)) ⊎ ((j ≡ 16) × (slot ≡ leaf_in t))
 delete_retire t j slot h = grind arith
 
@@ -240,6 +247,9 @@ module _ (layout : Layout) (limits : IsWithinLimits layout) (s : Scene) (sound :
             (⊎_elim (λ a. inl a.2) (λ a. inr a.2) (look_load x.thunk j p r (open_section.step_as layout s sound kept d x here Look form j (Load p r) load)))
         by Insert form = plain (open_section.insert_is_plain layout s sound kept d x here form)
             (⊎_elim (λ a. inl a.2) (λ a. inr a.2) (insert_load x.thunk j p r (open_section.step_as layout s sound kept d x here Insert form j (Load p r) load)))
+        by Replace form = plain (open_section.replace_is_plain layout s sound kept d x here form)
+            (⊎_elim (λ a. inl a.2) (λ a. inr a.2) (replace_load x.thunk j p r
+            (open_section.step_as layout s sound kept d x here Replace form j (Load p r) load)))
         by Delete form =
             let is = removing form in
             ⊎_elim (λ a. outer (p - p % 5) (child_guard (w x).grand.side (w x).grand.from p (a.2 ∙ is.place) ∙ sym is.lock))
@@ -262,6 +272,10 @@ module _ (layout : Layout) (limits : IsWithinLimits layout) (s : Scene) (sound :
 
     insert_settled : form_of x.thunk ≡ Insert → Settled tree x → 5 ≤ x.at
     insert_settled form settled = let low = past_exit Insert form 4 (Want 1 (operand x.thunk 2)) refl refl settled in omega (arith, low)
+
+    replace_settled : form_of x.thunk ≡ Replace → Settled tree x → 5 ≤ x.at
+    replace_settled form settled = let low = past_exit Replace form 4 (Want 1 (operand x.thunk 2)) refl refl settled in
+        omega (arith, low)
 
     delete_settled : form_of x.thunk ≡ Delete → Settled tree x → 12 ≤ x.at
     delete_settled form settled = let low = past_exit Delete form 11 (Fresh 4) refl refl settled in omega (arith, low)
@@ -291,20 +305,53 @@ module _ (layout : Layout) (limits : IsWithinLimits layout) (s : Scene) (sound :
         (λ late. ap s.status (sym (removing form).parent) ∙ (out form late (omega (arith, few))).parent_live (let z : x.at ≡ 15 = omega (arith, few, late) in z))
         (early_or x.at (omega (arith, few)))
 
-    -- its key is a request's, so neither is a sentinel
-    leaf_key : form_of x.thunk ≡ Delete → now.key (node_of (w x)) ≤ 4294967293
-    leaf_key form =
-        let is = removing form in
+    -- a section that puts a leaf in the place of another: its numbers, and where the old leaf stands
+    replacing : form_of x.thunk ≡ Replace → open_section.IsReplacing layout s sound kept d x here
+    replacing form = open_section.replace_is_replacing layout s sound kept d x here form
+
+    plain_lock : form_of x.thunk ≡ Replace → x.thunk.lock ≡ lock_of (w x).last.from
+    plain_lock form = (open_section.replace_is_plain layout s sound kept d x here form).lock
+
+    old_out : form_of x.thunk ≡ Replace → x.at ≡ 8 → IsReplaced s kept.covers kept.once x
+    old_out form at = kept.replaced d x here (form, at)
+
+    unstored_or : (n : ℕ) → n ≤ 8 → (n ≤ 7) ⊎ (n ≡ 8)
+    unstored_or n few = search arith
+
+    old_up : form_of x.thunk ≡ Replace → 5 ≤ x.at → x.at ≤ 8 → kept.covers.up (node_of (w x)) ≡ (w x).last.from
+    old_up form at few = ⊎_elim
+        (λ early. (open_section.replace_landed layout s sound kept d x here form at early).up)
+        (λ late. ap kept.covers.up (sym (replacing form).leaf)
+        ∙ same_node (kept.covers.up (old_leaf x.thunk)) (w x).last.from (sym (old_out form late).leaf_up
+        ∙ plain_lock form))
+        (unstored_or x.at few)
+      where
+        same_node : (t u : ℕ) → lock_of t ≡ lock_of u → t ≡ u
+        same_node t u e = omega (arith, e)
+
+    old_live : form_of x.thunk ≡ Replace → 5 ≤ x.at → x.at ≤ 8 → s.status (node_of (w x)) ≡ Live
+    old_live form at few = ⊎_elim
+        (λ early. kept.linked_live (node_of (w x))
+        (open_section.replace_landed layout s sound kept d x here form at early).node.linked)
+        (λ late. ap s.status (sym (replacing form).leaf) ∙ (old_out form late).leaf_live)
+        (unstored_or x.at few)
+
+    -- a key that was found is a request's, so its leaf is no sentinel
+    found_key : (w x).found ≡ true → now.key (node_of (w x)) ≤ 4294967293
+    found_key hit =
         let read = open_section.leaf_key_is layout s sound kept d x here in
         let keyed = walk_keyed (bounds layout) x.op x.readings (ap is_late (open_section.stage_is layout s sound kept d x here)) in
-        let same : (w x).key ≡ key_of x.op = equal_of _ _ (sym keyed ∙ is.found) in
+        let same : (w x).key ≡ key_of x.op = equal_of _ _ (sym keyed ∙ hit) in
         let low = (sound.allowed d x here).keys (key_of x.op) (inl refl) in omega (arith, read, same, low)
 
-    pub leaf_unfixed : form_of x.thunk ≡ Delete → 3 ≤ node_of (w x)
-    leaf_unfixed form = unfixed (node_of (w x))
+    pub found_unfixed : (w x).found ≡ true → 3 ≤ node_of (w x)
+    found_unfixed hit = unfixed (node_of (w x))
         (λ zero. leaf_no_inner (node_of (w x)) leaf_is (subst (IsInner now) (sym zero) kept.tree.root_inner))
-        (λ one. let at = ap now.key one ∙ kept.sentinels.first_key in let low = leaf_key form in omega (arith, at, low))
-        (λ two. let at = ap now.key two ∙ kept.sentinels.last_key in let low = leaf_key form in omega (arith, at, low))
+        (λ one. let at = ap now.key one ∙ kept.sentinels.first_key in let low = found_key hit in omega (arith, at, low))
+        (λ two. let at = ap now.key two ∙ kept.sentinels.last_key in let low = found_key hit in omega (arith, at, low))
+
+    pub leaf_unfixed : form_of x.thunk ≡ Delete → 3 ≤ node_of (w x)
+    leaf_unfixed form = found_unfixed (removing form).found
 
     pub parent_unfixed : form_of x.thunk ≡ Delete → 8 ≤ x.at → x.at ≤ 15 → 3 ≤ (w x).last.from
     parent_unfixed form at few = ⊎_elim
@@ -339,37 +386,62 @@ module _ (layout : Layout) (limits : IsWithinLimits layout) (s : Scene) (sound :
     sibling_link : form_of x.thunk ≡ Delete → value_of (s.cells (sibling_of x.thunk)) ≡ now.child (not (w x).last.side) (w x).last.from
     sibling_link form = ap (λ p. value_of (s.cells p)) (open_section.sibling_place layout s sound kept d x here (removing form))
 
-    -- what it retires, and that it holds the parent's lock then
-    record IsRetiring (j t : ℕ) : Type 0 where
-      form : form_of x.thunk ≡ Delete
-      which : ((j ≡ 15) × (t ≡ (w x).last.from)) ⊎ ((j ≡ 16) × (t ≡ node_of (w x)))
+    -- what it retires: a parent and its leaf, or a leaf in whose place it has put another
+    data IsRetiring (j t : ℕ) : Type 0 where
+      Parent : form_of x.thunk ≡ Delete → j ≡ 15 → t ≡ (w x).last.from → IsRetiring j t
+      Leaf : form_of x.thunk ≡ Delete → j ≡ 16 → t ≡ node_of (w x) → IsRetiring j t
+      Old : form_of x.thunk ≡ Replace → j ≡ 8 → t ≡ node_of (w x) → IsRetiring j t
 
     retiring : (j t : ℕ) → IsStep tree x j (Retire t) → IsRetiring j t
     retiring j t h = by (form_of x.thunk) refl
       where
+        step : (f : Form) → form_of x.thunk ≡ f → slice_get (body_of f x.thunk) j ≡ Some (Retire t)
+        step f form = open_section.step_as layout s sound kept d x here f form j (Retire t) h
+
         by : (f : Form) → form_of x.thunk ≡ f → IsRetiring j t
-        by Look form = absurd (look_retire x.thunk j t (open_section.step_as layout s sound kept d x here Look form j (Retire t) h))
-        by Insert form = absurd (insert_retire x.thunk j t (open_section.step_as layout s sound kept d x here Insert form j (Retire t) h))
-        by Delete form = record {
-          form = form;
-          which = ⊎_elim (λ a. inl (a.0, a.1 ∙ (removing form).parent)) (λ a. inr (a.0, a.1 ∙ (removing form).leaf))
-              (delete_retire x.thunk j t (open_section.step_as layout s sound kept d x here Delete form j (Retire t) h));
-        }
-        by Empty form = absurd (no_step (Retire t) j (open_section.step_as layout s sound kept d x here Empty form j (Retire t) h))
+        by Look form = absurd (look_retire x.thunk j t (step Look form))
+        by Insert form = absurd (insert_retire x.thunk j t (step Insert form))
+        by Delete form = ⊎_elim (λ a. Parent form a.0 (a.1 ∙ (removing form).parent))
+            (λ a. Leaf form a.0 (a.1 ∙ (removing form).leaf)) (delete_retire x.thunk j t (step Delete form))
+        by Replace form = let a = replace_retire x.thunk j t (step Replace form) in
+            Old form a.0 (a.1 ∙ (replacing form).leaf)
+        by Empty form = absurd (no_step (Retire t) j (step Empty form))
 
     retire_live : (j t : ℕ) → Settled tree x → x.at ≤ j → IsStep tree x j (Retire t) → s.status t ≡ Live
-    retire_live j t settled le h =
-        let is = retiring j t h in
-        let past = delete_settled is.form settled in
-        ⊎_elim (λ a. let j15 = a.0 in ap s.status a.1 ∙ parent_live is.form (omega (arith, past)) (omega (arith, le, j15)))
-        (λ a. let j16 = a.0 in ap s.status a.1 ∙ leaf_live is.form (omega (arith, past)) (omega (arith, le, j16))) is.which
+    retire_live j t settled le h = by (retiring j t h)
+      where
+        by : IsRetiring j t → s.status t ≡ Live
+        by (Parent form j15 is) = let past = delete_settled form settled in
+            ap s.status is ∙ parent_live form (omega (arith, past)) (omega (arith, le, j15))
+        by (Leaf form j16 is) = let past = delete_settled form settled in
+            ap s.status is ∙ leaf_live form (omega (arith, past)) (omega (arith, le, j16))
+        by (Old form j8 is) = ap s.status is ∙ old_live form (replace_settled form settled) (omega (arith, le, j8))
 
     retire_unfixed : (j t : ℕ) → Settled tree x → x.at ≤ j → IsStep tree x j (Retire t) → 3 ≤ t
-    retire_unfixed j t settled le h =
-        let is = retiring j t h in
-        let past = delete_settled is.form settled in
-        ⊎_elim (λ a. let j15 = a.0 in subst (λ k. 3 ≤ k) (sym a.1) (parent_unfixed is.form (omega (arith, past)) (omega (arith, le, j15))))
-        (λ a. subst (λ k. 3 ≤ k) (sym a.1) (leaf_unfixed is.form)) is.which
+    retire_unfixed j t settled le h = by (retiring j t h)
+      where
+        by : IsRetiring j t → 3 ≤ t
+        by (Parent form j15 is) = let past = delete_settled form settled in
+            subst (λ k. 3 ≤ k) (sym is) (parent_unfixed form (omega (arith, past)) (omega (arith, le, j15)))
+        by (Leaf form j16 is) = subst (λ k. 3 ≤ k) (sym is) (leaf_unfixed form)
+        by (Old form j8 is) = subst (λ k. 3 ≤ k) (sym is) (found_unfixed (replacing form).found)
+
+    -- a leaf that it retires has the walk's last parent, whose lock it holds
+    record IsOldLeaf (t : ℕ) : Type 0 where
+      up : kept.covers.up t ≡ (w x).last.from
+      holds : Holds tree x (lock_of (w x).last.from)
+
+    old_leaf_at : form_of x.thunk ≡ Replace → 5 ≤ x.at → x.at ≤ 8 → IsOldLeaf (node_of (w x))
+    old_leaf_at form at few = record {
+      up = old_up form at few;
+      holds = outer (lock_of (w x).last.from) (sym (plain_lock form));
+    }
+
+    taken_leaf_at : form_of x.thunk ≡ Delete → 8 ≤ x.at → x.at ≤ 16 → IsOldLeaf (node_of (w x))
+    taken_leaf_at form at few = record {
+      up = leaf_up form at few;
+      holds = taken_lock form (omega (arith, at)) (lock_of (w x).last.from) refl;
+    }
 
     -- a section that can't leave any more and has stored nothing holds the lock of its leaf's parent, and the leaf covers its key
     record IsStanding : Type 0 where
@@ -391,6 +463,10 @@ module _ (layout : Layout) (limits : IsWithinLimits layout) (s : Scene) (sound :
         by (open_section.Inserts form) = plain (open_section.insert_is_plain layout s sound kept d x here form)
             (open_section.insert_landed layout s sound kept d x here form (insert_settled form settled)
             (unstored 8 0 (Made 3) (open_section.step_is layout s sound kept d x here Insert form 8 (Store 0 (Made 3)) refl)))
+        by (open_section.Replaces form) = plain (open_section.replace_is_plain layout s sound kept d x here form)
+            (open_section.replace_landed layout s sound kept d x here form (replace_settled form settled)
+            (unstored 7 0 (Made 2) (open_section.step_is layout s sound kept d x here Replace form 7 (Store 0
+            (Made 2)) refl)))
         by (open_section.Deletes form) =
             let past = delete_settled form settled in
             let few = unstored 13 4 (Const 1) (open_section.step_is layout s sound kept d x here Delete form 13 (Store 4 (Const 1)) refl) in
@@ -417,6 +493,17 @@ module _ (layout : Layout) (limits : IsWithinLimits layout) (s : Scene) (sound :
             ⊎_elim (λ a. child (w x).last.side (w x).last.from landed.parent.linked (a.2 ∙ is.place))
             (λ a. absurd (let one = a.1 in omega (arith, one, zero)))
             (insert_load x.thunk j p r (open_section.step_as layout s sound kept d x here Insert form j (Load p r) load))
+        by Replace form =
+            let at = replace_store x.thunk i r v
+            (open_section.step_as layout s sound kept d x here Replace form i (Store r v) store) in
+            let seven = at.0 in let zero = at.1 in
+            let is = open_section.replace_is_plain layout s sound kept d x here form in
+            let landed = open_section.replace_landed layout s sound kept d x here form (replace_settled form settled)
+            (omega (arith, le, seven)) in
+            ⊎_elim (λ a. child (w x).last.side (w x).last.from landed.parent.linked (a.2 ∙ is.place))
+            (λ a. absurd (let one = a.1 in omega (arith, one, zero)))
+            (replace_load x.thunk j p r
+            (open_section.step_as layout s sound kept d x here Replace form j (Load p r) load))
         by Delete form =
             let past = delete_settled form settled in
             let is = removing form in
@@ -429,44 +516,82 @@ module _ (layout : Layout) (limits : IsWithinLimits layout) (s : Scene) (sound :
             (delete_store x.thunk i r v (open_section.step_as layout s sound kept d x here Delete form i (Store r v) store))
         by Empty form = absurd (no_step (Store r v) i (open_section.step_as layout s sound kept d x here Empty form i (Store r v) store))
 
-  -- two sections that take out nodes of one parent are one
-  same_parent : (d e : ℕ) (x y : Section) → Here s d x → Here s e y → form_of x.thunk ≡ Delete → form_of y.thunk ≡ Delete → 5 < x.at → 5 < y.at
-      → (w x).last.from ≡ (w y).last.from → d ≡ e
-  same_parent d e x y here there form form' at at' same = ⊎_elim (λ one. one)
-      (λ ne. absurd (sound.apart d e x y here there ne (lock_of (w x).last.from) (taken_lock d x here form at (lock_of (w x).last.from) refl)
-      (taken_lock e y there form' at' (lock_of (w x).last.from) (ap lock_of same))))
+  -- two sections that hold the lock of one node are one
+  one_holder : (d e : ℕ) (x y : Section) → Here s d x → Here s e y → (t u : ℕ) → Holds tree x (lock_of t)
+      → Holds tree y (lock_of u) → t ≡ u → d ≡ e
+  one_holder d e x y here there t u holds holds' same = ⊎_elim (λ one. one)
+      (λ ne. absurd (sound.apart d e x y here there ne (lock_of t) holds
+      (subst (λ k. Holds tree y (lock_of k)) (sym same) holds')))
       (cases_eq d e)
 
-  retire_once : (d e i j t : ℕ) (x y : Section) → Here s d x → Here s e y → Settled tree x → Settled tree y → x.at ≤ i → y.at ≤ j
-      → IsStep tree x i (Retire t) → IsStep tree y j (Retire t) → (d ≡ e) × (i ≡ j)
-  retire_once d e i j t x y here there settled settled' le le' h h' = by is.which is'.which
+  one_section : (d e : ℕ) (x y : Section) → Here s d x → Here s e y → d ≡ e → x ≡ y
+  one_section d e x y here there one = some_eq x y (sym here ∙ (ap s.section one ∙ there))
+
+  delete_replace : (x y : Section) → x ≡ y → form_of x.thunk ≡ Delete → form_of y.thunk ≡ Replace → ⊥
+  delete_replace x y same form form' = two (sym form ∙ (ap (λ (z : Section). form_of z.thunk) same ∙ form'))
     where
-      is : IsRetiring d x here i t
-      is = retiring d x here i t h
+      two : Delete ≡ Replace → ⊥
+      two e = cc
 
-      is' : IsRetiring e y there j t
-      is' = retiring e y there j t h'
+  -- two sections that retire one leaf are one
+  one_leaf : (d e : ℕ) (x y : Section) (here : Here s d x) (there : Here s e y) (t : ℕ) → t ≡ node_of (w x)
+      → t ≡ node_of (w y) → IsOldLeaf d x here (node_of (w x)) → IsOldLeaf e y there (node_of (w y)) → d ≡ e
+  one_leaf d e x y here there t is is' a b = one_holder d e x y here there (w x).last.from
+      (w y).last.from a.holds b.holds
+      (sym a.up ∙ (ap kept.covers.up (sym is ∙ is') ∙ b.up))
 
-      past : 12 ≤ x.at
-      past = delete_settled d x here is.form settled
+  retire_once : (d e i j t : ℕ) (x y : Section) → Here s d x → Here s e y → Settled tree x → Settled tree y
+      → x.at ≤ i → y.at ≤ j
+      → IsStep tree x i (Retire t) → IsStep tree y j (Retire t) → (d ≡ e) × (i ≡ j)
+  retire_once d e i j t x y here there settled settled' le le' h h' = by (retiring d x here i t h)
+      (retiring e y there j t h')
+    where
+      taken : (d : ℕ) (x : Section) (here : Here s d x) → Settled tree x → form_of x.thunk ≡ Delete → (i : ℕ) → x.at ≤ i
+          → i ≡ 16 → IsOldLeaf d x here (node_of (w x))
+      taken d x here settled form i le i16 = let past = delete_settled d x here form settled in
+          taken_leaf_at d x here form (omega (arith, past)) (omega (arith, le, i16))
 
-      past' : 12 ≤ y.at
-      past' = delete_settled e y there is'.form settled'
+      old : (d : ℕ) (x : Section) (here : Here s d x) → Settled tree x → form_of x.thunk ≡ Replace → (i : ℕ) → x.at ≤ i
+          → i ≡ 8 → IsOldLeaf d x here (node_of (w x))
+      old d x here settled form i le i8 = old_leaf_at d x here form (replace_settled d x here form settled)
+          (omega (arith, le, i8))
 
-      one : (w x).last.from ≡ (w y).last.from → d ≡ e
-      one same = same_parent d e x y here there is.form is'.form (omega (arith, past)) (omega (arith, past')) same
+      holds : (d : ℕ) (x : Section) (here : Here s d x) → Settled tree x → form_of x.thunk ≡ Delete
+          → Holds tree x (lock_of (w x).last.from)
+      holds d x here settled form = let past = delete_settled d x here form settled in
+          taken_lock d x here form (omega (arith, past)) (lock_of (w x).last.from) refl
 
-      by : ((i ≡ 15) × (t ≡ (w x).last.from)) ⊎ ((i ≡ 16) × (t ≡ node_of (w x))) → ((j ≡ 15) × (t ≡ (w y).last.from)) ⊎ ((j ≡ 16) × (t ≡ node_of (w y)))
-          → (d ≡ e) × (i ≡ j)
-      by (inl a) (inl b) = (one (sym a.1 ∙ b.1), a.0 ∙ sym b.0)
-      by (inl a) (inr b) = absurd (leaf_no_inner t (subst (IsLeaf now) (sym b.1) (leaf_is e y there)) (subst (IsInner now) (sym a.1) (parent_inner d x here)))
-      by (inr a) (inl b) = absurd (leaf_no_inner t (subst (IsLeaf now) (sym a.1) (leaf_is d x here)) (subst (IsInner now) (sym b.1) (parent_inner e y there)))
-      by (inr a) (inr b) =
-          let i16 = a.0 in let j16 = b.0 in (
-            one (sym (leaf_up d x here is.form (omega (arith, past)) (omega (arith, le, i16))) ∙ (ap kept.covers.up (sym a.1 ∙ b.1)
-                ∙ leaf_up e y there is'.form (omega (arith, past')) (omega (arith, le', j16)))),
-            a.0 ∙ sym b.0,
-          )
+      not_both : (d e : ℕ) (x y : Section) (here : Here s d x) (there : Here s e y) → t ≡ (w x).last.from
+          → t ≡ node_of (w y) → ⊥
+      not_both d e x y here there is is' = leaf_no_inner t (subst (IsLeaf now) (sym is') (leaf_is e y there))
+          (subst (IsInner now) (sym is) (parent_inner d x here))
+
+      by : IsRetiring d x here i t → IsRetiring e y there j t → (d ≡ e) × (i ≡ j)
+      by (Parent form i15 is) (Parent form' j15 is') = (
+        one_holder d e x y here there (w x).last.from (w y).last.from (holds d x here settled form)
+            (holds e y there settled' form') (sym is ∙ is'),
+        i15 ∙ sym j15,
+      )
+      by (Parent form i15 is) (Leaf form' j16 is') = absurd (not_both d e x y here there is is')
+      by (Parent form i15 is) (Old form' j8 is') = absurd (not_both d e x y here there is is')
+      by (Leaf form i16 is) (Parent form' j15 is') = absurd (not_both e d y x there here is' is)
+      by (Old form i8 is) (Parent form' j15 is') = absurd (not_both e d y x there here is' is)
+      by (Leaf form i16 is) (Leaf form' j16 is') = (
+        one_leaf d e x y here there t is is' (taken d x here settled form i le i16)
+            (taken e y there settled' form' j le' j16),
+        i16 ∙ sym j16,
+      )
+      by (Old form i8 is) (Old form' j8 is') = (
+        one_leaf d e x y here there t is is' (old d x here settled form i le i8)
+            (old e y there settled' form' j le' j8),
+        i8 ∙ sym j8,
+      )
+      by (Leaf form i16 is) (Old form' j8 is') = absurd (delete_replace x y (one_section d e x y here there
+          (one_leaf d e x y here there t is is' (taken d x here settled form i le i16)
+          (old e y there settled' form' j le' j8))) form form')
+      by (Old form i8 is) (Leaf form' j16 is') = absurd (delete_replace y x (sym (one_section d e x y here there
+          (one_leaf d e x y here there t is is' (old d x here settled form i le i8)
+          (taken e y there settled' form' j le' j16)))) form' form)
 
   one_key : (d e : ℕ) (x y : Section) → Here s d x → Here s e y → d ≢ e → Settled tree x → Settled tree y → Unstored tree x → Unstored tree y → HaveNoCommonKey x.op y.op
   one_key d e x y here there ne settled settled' unstored unstored' key depends depends' = ⊎_elim
@@ -485,7 +610,7 @@ module _ (layout : Layout) (limits : IsWithinLimits layout) (s : Scene) (sound :
       b = standing e y there settled' unstored'
 
       own_key : (c : ℕ) (z : Section) → Here s c z → DependsOn z.op key → key_of z.op ≡ key
-      own_key c z at on = key_is z.op key (format_1_one_keyed z.op (fit_of z.op (w z) z.thunk (sound.fits c z at)).served) on
+      own_key c z at on = key_is z.op key (fit_of z.op (w z) z.thunk (sound.fits c z at)).one on
 
       mine : key_of x.op ≡ key
       mine = own_key d x here depends
@@ -545,6 +670,9 @@ module _ (layout : Layout) (limits : IsWithinLimits layout) (s : Scene) (sound :
           by false true e link = other (ap (λ c. now.child (not c) (w x).last.from) e ∙ link)
 
   between_leads : (d : ℕ) (x : Section) → Here s d x → (q t : ℕ) (b : Bool) → IsInner now q → now.child b q ≡ suc t → IsBetween x q → Leads t
+  between_leads d x here q t b inner link (ReplacedLeaf has leaf) =
+      absurd (leaf_no_inner q (subst (IsLeaf now) (sym (replacing d x here has.0).leaf ∙ leaf)
+      (leaf_is d x here)) inner)
   between_leads d x here q t b inner link (NewLeaf has reg) =
       let is = kept.new_leaf d x here has in
       absurd (leaf_no_inner q (subst (IsLeaf now) (suc_eq is.slot q (sym is.link ∙ reg)) is.leaf) inner)
@@ -573,7 +701,7 @@ module _ (layout : Layout) (limits : IsWithinLimits layout) (s : Scene) (sound :
   new_leaf_at : (d : ℕ) (x : Section) (here : Here s d x) → HasInner x → (t : ℕ) → x.reg 2 ≡ suc t → (s.status t ≡ Live) × (kept.once t ≡ false)
   new_leaf_at d x here has t reg =
       let low = has.1 in
-      let is = kept.new_leaf d x here (has.0, omega (arith, low), has.2) in
+      let is = kept.new_leaf d x here (inl (has.0, omega (arith, low), has.2)) in
       let same : is.slot ≡ t = suc_eq is.slot t (sym is.link ∙ reg) in
       (ap s.status (sym same) ∙ is.live, ap kept.once (sym same) ∙ is.new)
 
@@ -591,34 +719,63 @@ module _ (layout : Layout) (limits : IsWithinLimits layout) (s : Scene) (sound :
       let is = link_in q i (0 + 5 * q + i) t low refl links in
       kept.limbo q y t is.side retired recent is.inner is.leads
 
+  -- what a section retires was linked once and isn't linked; a leaf has the parent whose lock the section holds
+  record IsGone (d : ℕ) (x : Section) (here : Here s d x) (t : ℕ) : Type 0 where
+    out : kept.covers.linked t ≡ false
+    once : kept.once t ≡ true
+    leaf : IsLeaf now t → (t ≡ node_of (w x)) × IsOldLeaf d x here (node_of (w x))
+
+  gone : (d : ℕ) (x : Section) (here : Here s d x) (t : ℕ) → IsRetiring d x here x.at t → IsGone d x here t
+  gone d x here t (Parent form at is) =
+      let was = out d x here form (omega (arith, at)) (omega (arith, at)) in
+      let same = is ∙ sym (removing d x here form).parent in
+      record {
+        out = ap kept.covers.linked same ∙ was.parent_out;
+        once = ap kept.once same ∙ was.parent_once;
+        leaf = λ leaf. absurd (leaf_no_inner t leaf (subst (IsInner now) (sym is) (parent_inner d x here)));
+      }
+  gone d x here t (Leaf form at is) =
+      let was = out d x here form (omega (arith, at)) (omega (arith, at)) in
+      let same = is ∙ sym (removing d x here form).leaf in
+      record {
+        out = ap kept.covers.linked same ∙ was.leaf_out;
+        once = ap kept.once same ∙ was.leaf_once;
+        leaf = λ leaf. (is, taken_leaf_at d x here form (omega (arith, at)) (omega (arith, at)));
+      }
+  gone d x here t (Old form at is) =
+      let was = old_out d x here form at in
+      let same = is ∙ sym (replacing d x here form).leaf in
+      record {
+        out = ap kept.covers.linked same ∙ was.leaf_out;
+        once = ap kept.once same ∙ was.leaf_once;
+        leaf = λ leaf. (is, old_leaf_at d x here form (omega (arith, at)) (omega (arith, at)));
+      }
+
+  -- a section that has the leaf of a taken parent before it retires the parent isn't at another Retire
+  late_other : (d : ℕ) (x y : Section) (here : Here s d x) (t : ℕ) → x ≡ y → IsRetiring d x here x.at t
+      → IsLeaf now t → form_of y.thunk ≡ Delete → y.at ≡ 15 → ⊥
+  late_other d x y here t same (Parent form at is) leaf form' at' =
+      leaf_no_inner t leaf (subst (IsInner now) (sym is) (parent_inner d x here))
+  late_other d x y here t same (Leaf form at is) leaf form' at' = let places = ap (λ (z : Section). z.at) same in
+      omega (arith, at, at', places)
+  late_other d x y here t same (Old form at is) leaf form' at' = let places = ap (λ (z : Section). z.at) same in
+      omega (arith, at, at', places)
+
   retire_unlinked : (d t p : ℕ) (x : Section) → Here s d x → IsStep tree x x.at (Retire t) → InUse tree s p → Links tree s p t → ⊥
-  retire_unlinked d t p x here h used links = by is.which (used_leads p t used links)
+  retire_unlinked d t p x here h used links = by (used_leads p t used links)
     where
       is : IsRetiring d x here x.at t
       is = retiring d x here x.at t h
 
-      gone : 15 ≤ x.at → x.at ≤ 16 → IsTaken s kept.covers kept.once x
-      gone low few = out d x here is.form low few
-
-      no_link : (k : ℕ) → kept.covers.linked k ≡ false → t ≡ k → kept.covers.linked t ≡ true → ⊥
-      no_link k none same linked = both_ways _ (ap kept.covers.linked same ∙ none) linked
-
-      no_new : (k : ℕ) → kept.once k ≡ true → t ≡ k → kept.once t ≡ false → ⊥
-      no_new k once same none = both_ways _ none (ap kept.once same ∙ once)
-
-      by : ((x.at ≡ 15) × (t ≡ (w x).last.from)) ⊎ ((x.at ≡ 16) × (t ≡ node_of (w x))) → Leads t → ⊥
-      by (inl a) (Linked linked) = let at = a.0 in no_link (parent_in x.thunk) (gone (omega (arith, at)) (omega (arith, at))).parent_out (a.1 ∙ sym (removing d x here is.form).parent) linked
-      by (inr a) (Linked linked) = let at = a.0 in no_link (leaf_in x.thunk) (gone (omega (arith, at)) (omega (arith, at))).leaf_out (a.1 ∙ sym (removing d x here is.form).leaf) linked
-      by (inl a) (New e y there has reg) = let at = a.0 in no_new (parent_in x.thunk) (gone (omega (arith, at)) (omega (arith, at))).parent_once (a.1 ∙ sym (removing d x here is.form).parent) (new_leaf_at e y there has t reg).1
-      by (inr a) (New e y there has reg) = let at = a.0 in no_new (leaf_in x.thunk) (gone (omega (arith, at)) (omega (arith, at))).leaf_once (a.1 ∙ sym (removing d x here is.form).leaf) (new_leaf_at e y there has t reg).1
-      by (inl a) (Taken e y there has at15 same) = leaf_no_inner t (subst (IsLeaf now) same (leaf_is e y there)) (subst (IsInner now) (sym a.1) (parent_inner d x here))
-      by (inr a) (Taken e y there has at15 same) =
-          let at = a.0 in
-          let parents = sym (leaf_up d x here is.form (omega (arith, at)) (omega (arith, at))) ∙ (ap kept.covers.up (sym a.1 ∙ sym same)
-          ∙ leaf_up e y there has.0 (omega (arith, at15)) (omega (arith, at15))) in
-          let one = same_parent d e x y here there is.form has.0 (omega (arith, at)) (omega (arith, at15)) parents in
-          let sections : x ≡ y = some_eq x y (sym here ∙ (ap s.section one ∙ there)) in
-          let places = ap (λ (z : Section). z.at) sections in omega (arith, at, at15, places)
+      by : Leads t → ⊥
+      by (Linked linked) = both_ways _ (gone d x here t is).out linked
+      by (New e y there has reg) = both_ways _ (new_leaf_at e y there has t reg).1 (gone d x here t is).once
+      by (Taken e y there has at15 same) =
+          let leaf = subst (IsLeaf now) same (leaf_is e y there) in
+          let mine = (gone d x here t is).leaf leaf in
+          let its = taken_leaf_at e y there has.0 (omega (arith, at15)) (omega (arith, at15)) in
+          late_other d x y here t (one_section d e x y here there
+          (one_leaf d e x y here there t mine.0 (sym same) mine.1 its)) is leaf has.0 at15
 
   -- a link before a Store and behind it leads to a node
   pub record StoresLink (x : Section) (p r : ℕ) (v : Value) : Type 0 where
@@ -658,6 +815,23 @@ module _ (layout : Layout) (limits : IsWithinLimits layout) (s : Scene) (sound :
                 (insert_load x.thunk j p r (open_section.step_as layout s sound kept d x here Insert form j (Load p r) load));
             after = subst (λ (u : Value). 0 < value_in x.reg u) (sym at.2) (subst (λ k. 0 < value_of k) (sym new.link) (small_some new.slot (omega (arith, few, nodes, runners))));
           }
+      by Replace form =
+          let at = replace_store x.thunk x.at r v
+          (open_section.step_as layout s sound kept d x here Replace form x.at (Store r v) store) in
+          let seven = at.0 in let zero = at.1 in
+          let plain = open_section.replace_is_plain layout s sound kept d x here form in
+          let new = kept.new_leaf d x here (inr (form, omega (arith, seven), omega (arith, seven))) in
+          let few = sound.within new.slot (λ free. live_free new.slot new.live free) in
+          let nodes = limits.few_nodes in let runners = limits.few_runners in
+          record {
+            before = ⊎_elim
+                (λ a. left_inner (w x).last.side (w x).last.from p (a.2 ∙ plain.place) two (parent_inner d x here))
+                (λ a. absurd (let one = a.1 in omega (arith, one, zero)))
+                (replace_load x.thunk j p r
+                (open_section.step_as layout s sound kept d x here Replace form j (Load p r) load));
+            after = subst (λ (u : Value). 0 < value_in x.reg u) (sym at.2)
+                (subst (λ k. 0 < value_of k) (sym new.link) (small_some new.slot (omega (arith, few, nodes, runners))));
+          }
       by Delete form =
           let is = removing d x here form in
           let loads = delete_load x.thunk j p r (open_section.step_as layout s sound kept d x here Delete form j (Load p r) load) in
@@ -685,8 +859,8 @@ module _ (layout : Layout) (limits : IsWithinLimits layout) (s : Scene) (sound :
       let is = stores_link d j p r x v here store load (omega (arith, three, same)) in
       some_test _ _ (subst (λ n. 0 < n) (sym (value-next_word (x.reg r) (value_in x.reg v) (value_low d x here v store))) is.after) is.before)
     where
-      no_made : (n : ℕ) → Const n ≡ Made 3 → ⊥
-      no_made n e = cc
+      no_made : (n k : ℕ) → Const n ≡ Made k → ⊥
+      no_made n k e = cc
 
       no_of : (n : ℕ) → Const n ≡ Of 3 → ⊥
       no_of n e = cc
@@ -699,7 +873,10 @@ module _ (layout : Layout) (limits : IsWithinLimits layout) (s : Scene) (sound :
 
       const_low : (d : ℕ) (x : Section) (here : Here s d x) (n : ℕ) → IsStep tree x x.at (Store r (Const n)) → (f : Form) → form_of x.thunk ≡ f → n < 2 ^ 32
       const_low d x here n store Look form = absurd (look_store x.thunk x.at r (Const n) (open_section.step_as layout s sound kept d x here Look form x.at (Store r (Const n)) store))
-      const_low d x here n store Insert form = absurd (no_made n (insert_store x.thunk x.at r (Const n) (open_section.step_as layout s sound kept d x here Insert form x.at (Store r (Const n)) store)).2)
+      const_low d x here n store Insert form = absurd (no_made n 3 (insert_store x.thunk x.at r (Const n)
+          (open_section.step_as layout s sound kept d x here Insert form x.at (Store r (Const n)) store)).2)
+      const_low d x here n store Replace form = absurd (no_made n 2 (replace_store x.thunk x.at r (Const n)
+          (open_section.step_as layout s sound kept d x here Replace form x.at (Store r (Const n)) store)).2)
       const_low d x here n store Delete form = ⊎_elim (λ mark. one_low n mark.2) (λ link. absurd (no_of n link.2))
           (delete_store x.thunk x.at r (Const n) (open_section.step_as layout s sound kept d x here Delete form x.at (Store r (Const n)) store))
       const_low d x here n store Empty form = absurd (no_step (Store r (Const n)) x.at (open_section.step_as layout s sound kept d x here Empty form x.at (Store r (Const n)) store))

@@ -12,10 +12,11 @@ use Rattle.structure_laws.specs.Scene.{Cells, Section, Live, Scene}
 use Rattle.structure_laws.specs.Sections.{Here}
 use Rattle.structure_laws.specs.Sound.{Sound}
 use Rattle.structure_laws.proofs.Changes.{upd_same, upd_other}
-use Rattle.tree_bodies.specs.Tree.{lock_of, key_cell, mark_of, child_of, Form, Insert, Delete, form_of}
+use Rattle.tree_bodies.specs.Tree.{lock_of, key_cell, mark_of, child_of, Form, Insert, Delete, Replace, form_of}
 use Rattle.tree_laws.specs.Search.{Nodes, Covers, IsInner, IsLeaf, with_child, IsInsertion}
 use Rattle.tree_laws.specs.Walk.{Walk, node_of}
-use Rattle.tree_laws.specs.Leaves.{nodes, walk_of, IsNewLeaf, IsNewInner, HasLeaf, HasInner, IsBetween, NewLeaf, NewInner, OldParent, OldLeaf, TreeKept, tree}
+use Rattle.tree_laws.specs.Leaves.{nodes, walk_of, IsNewLeaf, IsNewInner, HasLeaf, HasInner, TreeKept, tree}
+use Rattle.tree_laws.specs.Leaves.{IsBetween, NewLeaf, NewInner, OldParent, OldLeaf, ReplacedLeaf}
 use Rattle.tree_laws.specs.Landing.{HasLanded}
 use Rattle.tree_laws.proofs.Alike.{tree_alike}
 use Rattle.tree_laws.proofs.Apart.{key_apart, mark_apart}
@@ -30,6 +31,9 @@ use Rattle.tree_laws.proofs.StoreChange.{marked_elsewhere, leaf_out, inner_out, 
 no_delete : (f : Form) → f ≡ Insert → f ≡ Delete → ⊥
 no_delete f e e' = cc
 
+no_replace : (f : Form) → f ≡ Insert → f ≡ Replace → ⊥
+no_replace f e e' = cc
+
 equal_low : (a b : ℕ) → a ≡ b → a ≤ b
 equal_low a b e = omega (arith, e)
 
@@ -41,7 +45,7 @@ module _ (layout : Layout) (s : Scene) (sound : Sound tree layout s) (kept : Tre
   abbrev now : Nodes
   now = nodes s.cells
 
-  -- two insertions that have made their leaves and not stored have different keys
+  -- two sections that have made their leaves and not stored have different keys
   keys_apart : (d e : ℕ) (x z : Section) → Here s d x → Here s e z → d ≢ e → HasLeaf x → HasLeaf z
       → key_of x.op ≢ key_of z.op
   keys_apart d e x z here there ne has has' same =
@@ -62,22 +66,19 @@ module _ (layout : Layout) (s : Scene) (sound : Sound tree layout s) (kept : Tre
       w x = walk_of layout x.op x.readings
 
       plain : (d : ℕ) (x : Section) (here : Here s d x) → HasLeaf x → open_section.IsPlain layout s sound kept d x here
-      plain d x here has = open_section.insert_is_plain layout s sound kept d x here has.0
+      plain d x here has = open_section.leaf_plain layout s sound kept d x here has
 
       landed : (d : ℕ) (x : Section) → Here s d x → HasLeaf x
           → HasLanded kept.covers (key_of x.op) (walk_of layout x.op x.readings)
-      landed d x here has = open_section.insert_landed layout s sound kept d x here has.0
-          (let low = has.1 in omega (arith, low)) has.2
+      landed d x here has = open_section.leaf_landed layout s sound kept d x here has
 
   -- a new leaf has its operation's key
   leaf_key : (d : ℕ) (x : Section) (here : Here s d x) (has : HasLeaf x)
       → now.key (kept.new_leaf d x here has).slot ≡ key_of x.op
-  leaf_key d x here has =
-      let is = open_section.insert_is_inserting layout s sound kept d x here has.0 in
-      (kept.new_leaf d x here has).key ∙ (is.new_key ∙ sym (ap key_of is.op))
+  leaf_key d x here has = (kept.new_leaf d x here has).key ∙ open_section.leaf_new_key layout s sound kept d x here has
 
   -- so new nodes of two sections are different nodes
-  leaves_apart : (d e : ℕ) (x z : Section) (here : Here s d x) (there : Here s e z) → d ≢ e
+  pub leaves_apart : (d e : ℕ) (x z : Section) (here : Here s d x) (there : Here s e z) → d ≢ e
       → (has : HasLeaf x) (has' : HasLeaf z) → x.reg 2 ≢ z.reg 2
   leaves_apart d e x z here there ne has has' same =
       let leaf = kept.new_leaf d x here has in
@@ -85,6 +86,22 @@ module _ (layout : Layout) (s : Scene) (sound : Sound tree layout s) (kept : Tre
       let one = suc_eq leaf.slot leaf'.slot (sym leaf.link ∙ (same ∙ leaf'.link)) in
       keys_apart d e x z here there ne has has'
       (sym (leaf_key d x here has) ∙ (ap now.key one ∙ leaf_key e z there has'))
+
+  -- a section with a new inner node has a new leaf
+  pub inner_leaf : (z : Section) → HasInner z → HasLeaf z
+  inner_leaf z has = inl (has.0, (let low = has.1 in omega (arith, low)), has.2)
+
+  -- a node over two others is an inner one
+  pub new_is_inner : (e : ℕ) (z : Section) (there : Here s e z) (has : HasInner z)
+      → IsInner now (kept.new_inner e z there has).slot
+  new_is_inner e z there has =
+      let new = kept.new_inner e z there has in
+      ⊎_elim
+      (λ left. let link = ap (λ b. now.child b new.slot) left
+      ∙ (new.new_side ∙ (kept.new_leaf e z there (inner_leaf z has)).link) in omega (arith, link))
+      (λ right. let link = ap (λ b. now.child b new.slot) right
+      ∙ inserting.old_side layout s sound kept e z there has.0 has.1 has.2 in omega (arith, link))
+      (other_side true (nat_lt (operand z.thunk 3) (operand z.thunk 5)))
 
 module _ (layout : Layout) (s : Scene) (sound : Sound tree layout s) (kept : TreeKept layout s)
     (d : ℕ) (x : Section) (here : Here s d x) (form : form_of x.thunk ≡ Insert) (at : x.at ≡ 8) where
@@ -182,7 +199,7 @@ module _ (layout : Layout) (s : Scene) (sound : Sound tree layout s) (kept : Tre
       let was = kept.new_leaf e z there has in
       let same : u ≡ was.slot = suc_eq u was.slot (sym reg ∙ was.link) in
       once_new u (leaf_out layout s kept e z u there has reg)
-      (λ is. leaves_apart layout s sound kept e d z x there here ne has (form, omega (arith, at), few)
+      (λ is. leaves_apart layout s sound kept e d z x there here ne has (inl (form, omega (arith, at), few))
       (reg ∙ (ap suc is ∙ sym leaf.link)))
       (λ is. leaf_no_inner t (subst (IsLeaf (nodes s.cells)) (sym same ∙ is) was.leaf) t_is_inner)
 
@@ -192,9 +209,10 @@ module _ (layout : Layout) (s : Scene) (sound : Sound tree layout s) (kept : Tre
       let was = kept.new_inner e z there has in
       let same : u ≡ was.slot = suc_eq u was.slot (sym reg ∙ was.link) in
       once_new u (inner_out layout s kept e z u there has reg)
-      (λ is. leaf_no_inner f leaf.leaf (subst (IsInner (nodes s.cells)) (sym same ∙ is) its_inner))
+      (λ is. leaf_no_inner f leaf.leaf (subst (IsInner (nodes s.cells)) (sym same ∙ is)
+      (new_is_inner layout s sound kept e z there has)))
       (λ is. ⊎_elim
-      (λ sides. leaves_apart layout s sound kept e d z x there here ne has_leaf (form, omega (arith, at), few)
+      (λ sides. leaves_apart layout s sound kept e d z x there here ne has_leaf (inl (form, omega (arith, at), few))
       (sym was.new_side ∙ (ap (λ b. (nodes s.cells).child b was.slot) sides
       ∙ (ap ((nodes s.cells).child h) (sym same ∙ is) ∙ inner.new_side))))
       (λ sides. both_ways _ (ap kept.once (suc_eq l its_leaf.slot
@@ -205,27 +223,13 @@ module _ (layout : Layout) (s : Scene) (sound : Sound tree layout s) (kept : Tre
       (other_side (its_side) h))
     where
       has_leaf : HasLeaf z
-      has_leaf = (has.0, (let low = has.1 in omega (arith, low)), has.2)
+      has_leaf = inner_leaf layout s sound kept z has
 
       its_leaf : IsNewLeaf s kept.once z
       its_leaf = kept.new_leaf e z there has_leaf
 
       its_side : Bool
       its_side = nat_lt (operand z.thunk 3) (operand z.thunk 5)
-
-      -- a node over two others is an inner one
-      its_inner : IsInner (nodes s.cells) (kept.new_inner e z there has).slot
-      its_inner =
-          let new = kept.new_inner e z there has in
-          ⊎_elim
-          (λ left. let link = ap (λ b. (nodes s.cells).child b new.slot) left ∙ (new.new_side ∙ its_leaf.link) in
-          omega (arith, link))
-          (λ right. let link = ap (λ b. (nodes s.cells).child b new.slot) right ∙ old_some in omega (arith, link))
-          (other_side true its_side)
-        where
-          old_some : (nodes s.cells).child (not its_side) (kept.new_inner e z there has).slot
-              ≡ suc (node_of (walk_of layout z.op z.readings))
-          old_some = inserting.old_side layout s sound kept e z there has.0 has.1 has.2
 
   module _ (p word : ℕ) (place : p ≡ child_of side a) (stores : value_of word ≡ suc t) where
     abbrev cells : Cells
@@ -319,9 +323,11 @@ module _ (layout : Layout) (s : Scene) (sound : Sound tree layout s) (kept : Tre
           (kept.marked u old.0 inner_u (λ none. mark (mark_same u ∙ none))))))) (which_is u on);
       was_linked = λ u on. inl (is_linked u (inr (inr on)));
       was_between = λ u between. inl (own_linked u between);
-      no_leaf = λ has. let high = has.2 in omega (arith, at, high);
+      no_leaf = λ has. ⊎_elim (λ insert. let high = insert.2 in omega (arith, at, high))
+          (λ replace. no_replace (form_of x.thunk) form replace.0) has;
       no_inner = λ has. let high = has.2 in omega (arith, at, high);
       taken = λ has. absurd (no_delete (form_of x.thunk) form has.0);
+      replaced = λ has. absurd (no_replace (form_of x.thunk) form has.0);
       leaf_new = leaf_other;
       inner_new = inner_other;
       sibling = λ e z u ne there has leads. is_linked u (inr (inr ((kept.taken e z there has).sibling u leads)));
@@ -332,6 +338,7 @@ module _ (layout : Layout) (s : Scene) (sound : Sound tree layout s) (kept : Tre
         own_linked u (NewInner has reg) = is_linked u (inl (suc_eq u t (sym reg ∙ inner.link)))
         own_linked u (OldParent has late parent) = absurd (no_delete (form_of x.thunk) form has.0)
         own_linked u (OldLeaf has old) = absurd (no_delete (form_of x.thunk) form has.0)
+        own_linked u (ReplacedLeaf has old) = absurd (no_replace (form_of x.thunk) form has.0)
 
     pub insert_kept : TreeKept layout (after_scene s d x cells)
     insert_kept = store_kept layout s sound kept d x here cells c once insert_change

@@ -31,7 +31,7 @@ module _ (layout : Layout) (s : Scene) (sound : Sound tree layout s) (kept : Tre
   landed = open_section.insert_landed layout s sound kept d x here form (omega (arith, past)) few
 
   abbrev pub leaf : IsNewLeaf s kept.once x
-  leaf = kept.new_leaf d x here (form, omega (arith, past), few)
+  leaf = kept.new_leaf d x here (inl (form, omega (arith, past), few))
 
   abbrev pub inner : IsNewInner s kept.once x
   inner = kept.new_inner d x here (form, past, few)
@@ -64,7 +64,7 @@ module _ (layout : Layout) (s : Scene) (sound : Sound tree layout s) (kept : Tre
       by false on = on
 
   pub new_key : now.key leaf.slot ≡ key_of x.op
-  new_key = leaf.key ∙ (is.new_key ∙ sym (ap key_of is.op))
+  new_key = leaf.key ∙ (is.new_key ∙ sym is.puts.0)
 
   old_key : now.key (node_of w) ≡ operand x.thunk 5
   old_key = open_section.leaf_key_is layout s sound kept d x here ∙ sym is.old_key
@@ -74,7 +74,7 @@ module _ (layout : Layout) (s : Scene) (sound : Sound tree layout s) (kept : Tre
 
   keys_differ : operand x.thunk 3 ≢ operand x.thunk 5
   keys_differ same = true_false
-      (eq_true w.key (key_of x.op) (sym is.old_key ∙ (sym same ∙ (is.new_key ∙ sym (ap key_of is.op)))))
+      (eq_true w.key (key_of x.op) (sym is.old_key ∙ (sym same ∙ (is.new_key ∙ sym is.puts.0))))
       (sym keyed ∙ is.missing)
     where
       eq_true : (a b : ℕ) → a ≡ b → (a == b) ≡ true

@@ -12,7 +12,7 @@ use Rattle.structure_laws.specs.Cells.{IsSafe}
 use Rattle.structure_laws.specs.Sound.{IsRead, Sound}
 use Rattle.structure_laws.proofs.Changes.{upd_same, upd_other}
 use Rattle.bucket_laws.proofs.TableGives.{reached}
-use Rattle.tree_bodies.specs.Tree.{left_of, parent_in, leaf_in}
+use Rattle.tree_bodies.specs.Tree.{left_of, parent_in, leaf_in, old_leaf}
 use Rattle.tree_laws.specs.Search.{Nodes, IsInner}
 use Rattle.tree_laws.specs.Walk.{Stage, AtRoot, AtLeft, AtKey, AtRight, AtValue, AtGrandLock, AtGrandMark, AtLock, AtMark, AtEnd, Refused, Walk, node_of}
 use Rattle.tree_laws.specs.Leaves.{shows_link, nodes, bounds, walk_of, IsAsRead, IsWalk, HasTaken, TreeKept, tree}
@@ -232,6 +232,12 @@ module _ (layout : Layout) (limits : IsWithinLimits layout) (s : Scene) (sound :
       leaf_up = was.leaf_up;
       leaf_live = still (leaf_in x.thunk) was.leaf_live;
       sibling = was.sibling;
+    };
+    replaced = λ d x here has. let was = kept.replaced d x here has in record {
+      leaf_once = once_still (old_leaf x.thunk) (live_other (old_leaf x.thunk) was.leaf_live) was.leaf_once;
+      leaf_out = was.leaf_out;
+      leaf_up = was.leaf_up;
+      leaf_live = still (old_leaf x.thunk) was.leaf_live;
     };
     readers = kept.readers;
     published = kept.published;

@@ -11,9 +11,13 @@ use Rattle.structure_laws.specs.Cells.{IsSafe, IsOutside}
 use Rattle.structure_laws.specs.Sound.{IsRead, Sound}
 use Rattle.structure_laws.proofs.Changes.{equal_of}
 use Rattle.tree_bodies.specs.Tree.{left_of, right_of, Delete, form_of, parent_in, leaf_in, sibling_of, is_left}
+use Rattle.tree_bodies.specs.Tree.{old_leaf}
 use Rattle.tree_laws.specs.Search.{Nodes, Covers, IsInner, IsLeaf}
 use Rattle.tree_laws.specs.Walk.{Stage, AtRoot, AtLeft, AtKey, AtRight, AtValue, AtGrandLock, AtGrandMark, AtLock, AtMark, AtEnd, Refused, Step, step_to, Walk, node_of}
-use Rattle.tree_laws.specs.Leaves.{nodes, walk_of, IsAsRead, IsPassed, IsFollowed, IsLeft, Knows, IsWalk, IsNewLeaf, IsNewInner, IsTaken, HasLeaf, HasInner, HasTaken, IsBetween, NewLeaf, NewInner, OldParent, OldLeaf, IsTrail, TreeKept, tree}
+use Rattle.tree_laws.specs.Leaves.{nodes, walk_of, IsAsRead, IsPassed, IsFollowed, IsLeft, Knows, IsWalk, IsNewLeaf}
+use Rattle.tree_laws.specs.Leaves.{IsNewInner}
+use Rattle.tree_laws.specs.Leaves.{IsTaken, IsReplaced, HasLeaf, HasInner, HasTaken, HasOld, IsTrail, TreeKept, tree}
+use Rattle.tree_laws.specs.Leaves.{IsBetween, NewLeaf, NewInner, OldParent, OldLeaf, ReplacedLeaf}
 use Rattle.tree_laws.proofs.Alike.{AreAlike, tree_alike, sentinels_alike}
 
 live_used : (s : Scene) (t : ℕ) → s.status t ≡ Live → s.status t ≢ Free
@@ -264,6 +268,8 @@ module _ (layout : Layout) (s : Scene) (kept : TreeKept layout s) where
       subst (λ u. s.status u ≡ Live) (suc_eq new.slot t (sym new.link ∙ link)) new.live
   between_live d x t here (OldParent has at is) = subst (λ u. s.status u ≡ Live) is
       ((kept.taken d x here has).parent_live at)
+  between_live d x t here (ReplacedLeaf has is) = subst (λ u. s.status u ≡ Live) is
+      (kept.replaced d x here has).leaf_live
   between_live d x t here (OldLeaf has is) = subst (λ u. s.status u ≡ Live) is (kept.taken d x here has).leaf_live
 
 -- a scene and one after it, with the same linked nodes
@@ -279,6 +285,7 @@ module _ (layout : Layout) (s s' : Scene) (sound : Sound tree layout s) (kept : 
     pub leaf : HasLeaf x → IsNewLeaf s' kept.once x
     pub inner : HasInner x → IsNewInner s' kept.once x
     pub taken : HasTaken x → IsTaken s' kept.covers kept.once x
+    pub replaced : HasOld x → IsReplaced s' kept.covers kept.once x
     pub read : IsAsRead next x.readings
     pub walk : IsWalk next kept.covers kept.once (key_of x.op) (walk_of layout x.op x.readings)
 
@@ -412,6 +419,16 @@ module _ (layout : Layout) (s s' : Scene) (sound : Sound tree layout s) (kept : 
             by true = sym (node.child false)
             by false = sym (node.child true)
 
+    replaced : (d : ℕ) (x : Section) → s'.section d ≡ Some x → HasOld x → IsReplaced s' kept.covers kept.once x
+    replaced d x h has = ⊎_elim
+        (λ old. let was = kept.replaced d x old.0 has in record {
+          leaf_once = was.leaf_once;
+          leaf_out = was.leaf_out;
+          leaf_up = was.leaf_up;
+          leaf_live = old.1 (old_leaf x.thunk) (ReplacedLeaf has refl);
+        })
+        (λ new. new.replaced has) (frame.section d x h)
+
     trail : (t u : ℕ) (b : Bool) → kept.once t ≡ true → IsSafe s' t → IsInner next t → next.child b t ≡ suc u
         → IsTrail next kept.covers kept.once t u b
     trail t u b once safe inner' link =
@@ -459,6 +476,7 @@ module _ (layout : Layout) (s s' : Scene) (sound : Sound tree layout s) (kept : 
       new_leaf = new_leaf;
       new_inner = new_inner;
       taken = taken;
+      replaced = replaced;
       readers = λ r readings h. ⊎_elim (λ old. same_read frame.same readings (sound.readers r readings old)
           (kept.readers r readings old)) (λ new. new.read) (frame.reader r readings h);
       published = λ d x h. ⊎_elim (λ old. same_read frame.same x.readings (sound.published d x old.0)

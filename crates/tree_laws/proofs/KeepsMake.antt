@@ -20,10 +20,12 @@ use Rattle.structure_laws.specs.Sound.{Sound}
 use Rattle.structure_laws.specs.Keeps.{IsPrepared}
 use Rattle.structure_laws.proofs.Changes.{upd_same, upd_other}
 use Rattle.structure_laws.proofs.Progress.{stepped}
-use Rattle.tree_bodies.specs.Tree.{Form, Look, Insert, Delete, Empty, form_of, inner_with, leaf_init, inner_init}
+use Rattle.tree_bodies.specs.Tree.{Form, Look, Insert, Delete, Replace, Empty, form_of, body_of, inner_with, leaf_init}
+use Rattle.tree_bodies.specs.Tree.{inner_init}
 use Rattle.tree_laws.specs.Search.{Nodes, IsInner, IsLeaf}
-use Rattle.tree_laws.specs.Leaves.{nodes, IsNewLeaf, IsNewInner, HasLeaf, HasInner, IsBetween, NewLeaf, NewInner, OldParent, OldLeaf, TreeKept, tree}
-use Rattle.tree_laws.proofs.Forms.{look_make, insert_make, delete_make}
+use Rattle.tree_laws.specs.Leaves.{nodes, IsNewLeaf, IsNewInner, HasLeaf, HasInner, TreeKept, tree}
+use Rattle.tree_laws.specs.Leaves.{IsBetween, NewLeaf, NewInner, OldParent, OldLeaf, ReplacedLeaf}
+use Rattle.tree_laws.proofs.Forms.{look_make, insert_make, delete_make, replace_make}
 use Rattle.tree_laws.proofs.KeepsFrame.{between_live}
 use Rattle.tree_laws.proofs.KeepsSlots.{step_kept}
 use Rattle.tree_laws.proofs.Open as open_section
@@ -86,6 +88,12 @@ module _ (layout : Layout) (limits : IsWithinLimits layout) (s : Scene) (sound :
   insert_delete : form_of x.thunk ≡ Insert → form_of x.thunk ≡ Delete → ⊥
   insert_delete a b = cc
 
+  insert_replace : form_of x.thunk ≡ Insert → form_of x.thunk ≡ Replace → ⊥
+  insert_replace a b = cc
+
+  replace_delete : form_of x.thunk ≡ Replace → form_of x.thunk ≡ Delete → ⊥
+  replace_delete a b = cc
+
   never : kept.once t ≡ false
   never = by (kept.once t) refl
     where
@@ -93,24 +101,26 @@ module _ (layout : Layout) (limits : IsWithinLimits layout) (s : Scene) (sound :
       by true e = absurd (kept.once_used t e prepared.in_hand)
       by false e = e
 
-  -- the step that is made, and the slot's values
-  making : (form_of x.thunk ≡ Insert) × (((x.at ≡ 5) × (r ≡ 2) × (init ≡ leaf_init x.thunk)) ⊎ ((x.at ≡ 6) × (r ≡ 3)
-      × (init ≡ inner_init x.thunk)))
+  -- which step is made: a leaf, of either form, or an inner node
+  data IsMaking : Type 0 where
+    Leaf : (form_of x.thunk ≡ Insert) ⊎ (form_of x.thunk ≡ Replace) → x.at ≡ 5 → r ≡ 2 → init ≡ leaf_init x.thunk
+        → IsMaking
+    Inner : form_of x.thunk ≡ Insert → x.at ≡ 6 → r ≡ 3 → init ≡ inner_init x.thunk → IsMaking
+
+  making : IsMaking
   making = by (form_of x.thunk) refl
     where
-      by : (f : Form) → form_of x.thunk ≡ f → (form_of x.thunk ≡ Insert)
-          × (((x.at ≡ 5) × (r ≡ 2) × (init ≡ leaf_init x.thunk)) ⊎ ((x.at ≡ 6) × (r ≡ 3) × (init ≡ inner_init x.thunk)))
-      by Look form = absurd (look_make x.thunk x.at r init
-          (open_section.step_as layout s sound kept d x here Look form x.at (Make init r) h))
-      by Insert form = (
-        form,
-        insert_make x.thunk x.at r init
-            (open_section.step_as layout s sound kept d x here Insert form x.at (Make init r) h),
-      )
-      by Delete form = absurd (delete_make x.thunk x.at r init
-          (open_section.step_as layout s sound kept d x here Delete form x.at (Make init r) h))
-      by Empty form = absurd (let z = open_section.step_as layout s sound kept d x here Empty form x.at
-          (Make init r) h in cc)
+      step : (f : Form) → form_of x.thunk ≡ f → slice_get (body_of f x.thunk) x.at ≡ Some (Make init r)
+      step f form = open_section.step_as layout s sound kept d x here f form x.at (Make init r) h
+
+      by : (f : Form) → form_of x.thunk ≡ f → IsMaking
+      by Look form = absurd (look_make x.thunk x.at r init (step Look form))
+      by Insert form = ⊎_elim (λ leaf. Leaf (inl form) leaf.0 leaf.1 leaf.2)
+          (λ inner. Inner form inner.0 inner.1 inner.2) (insert_make x.thunk x.at r init (step Insert form))
+      by Delete form = absurd (delete_make x.thunk x.at r init (step Delete form))
+      by Replace form = let leaf = replace_make x.thunk x.at r init (step Replace form) in
+          Leaf (inr form) leaf.0 leaf.1 leaf.2
+      by Empty form = absurd (let z = step Empty form in cc)
 
   cell : (known : Init) → init ≡ known → (k : ℕ) (v : Value) → k < 5 → slice_get known.cells k ≡ Some v
       → value_of (s.cells (0 + 5 * t + k)) ≡ value_in x.reg v
@@ -118,6 +128,8 @@ module _ (layout : Layout) (limits : IsWithinLimits layout) (s : Scene) (sound :
 
   -- what has to be shown of the new node
   record IsMade : Type 0 where
+    takes_none : form_of x.thunk ≡ Delete → ⊥
+    early : x.at ≤ 6
     own : (u : ℕ) → u ≡ t → IsBetween after u
     carried : (u : ℕ) → IsBetween x u → IsBetween after u
     fresh : IsInner now t → (0 < now.child false t) × (now.mark t ≤ 1)
@@ -136,7 +148,7 @@ module _ (layout : Layout) (limits : IsWithinLimits layout) (s : Scene) (sound :
         (λ ne. inl (λ free. some (other u ne ∙ free)));
     safe = λ u once safe. let back = sym (other u (λ e. both_ways _ (ap kept.once e ∙ never) once)) in
         ⊎_elim (λ live. inl (back ∙ live)) (λ retired. inr (retired.0, back ∙ retired.1, retired.2)) safe;
-    marks_none = λ form at. insert_delete making.0 form;
+    marks_none = λ form at. made.takes_none form;
     live = λ u live. dite (ℕ_discrete u t) (λ e. inr (inr (made.own u e)))
         (λ ne. ⊎_elim inl (λ between. dite (ℕ_discrete between.0 d)
         (λ same. inr (inr (made.carried u (subst (λ z. IsBetween z u) (some_eq between.1 x (sym between.2
@@ -155,7 +167,8 @@ module _ (layout : Layout) (limits : IsWithinLimits layout) (s : Scene) (sound :
     others = λ e z u ne there between. live_too u (between_live layout s kept e z u there between);
     new_leaf = made.new_leaf;
     new_inner = made.new_inner;
-    taken = λ has. absurd (insert_delete making.0 has.0);
+    taken = λ has. absurd (made.takes_none has.0);
+    replaced = λ has. absurd (let early = made.early in let at = has.1 in omega (arith, early, at));
   })
     where
       live_retired : (y : ℕ) → Live ≡ Retired y → ⊥
@@ -164,9 +177,13 @@ module _ (layout : Layout) (limits : IsWithinLimits layout) (s : Scene) (sound :
       live_free : Live ≡ Free → ⊥
       live_free e = cc
 
-  leaf_made : form_of x.thunk ≡ Insert → x.at ≡ 5 → r ≡ 2 → init ≡ leaf_init x.thunk → IsMade
+  leaf_made : (form_of x.thunk ≡ Insert) ⊎ (form_of x.thunk ≡ Replace) → x.at ≡ 5 → r ≡ 2 → init ≡ leaf_init x.thunk
+      → IsMade
   leaf_made form at two same = record {
-    own = λ u e. NewLeaf (form, omega (arith, at), omega (arith, at)) (link ∙ ap suc (sym e));
+    takes_none = λ delete. ⊎_elim (λ insert. insert_delete insert delete)
+        (λ replace. replace_delete replace delete) form;
+    early = omega (arith, at);
+    own = λ u e. NewLeaf (has_leaf form) (link ∙ ap suc (sym e));
     carried = λ u between. absurd (none u between);
     fresh = λ inner. absurd (no_inner inner);
     new_leaf = λ has. record {
@@ -181,6 +198,10 @@ module _ (layout : Layout) (limits : IsWithinLimits layout) (s : Scene) (sound :
     new_inner = λ has. absurd (let low = has.1 in omega (arith, at, low));
   }
     where
+      has_leaf : (form_of x.thunk ≡ Insert) ⊎ (form_of x.thunk ≡ Replace) → HasLeaf after
+      has_leaf (inl insert) = inl (insert, omega (arith, at), omega (arith, at))
+      has_leaf (inr replace) = inr (replace, omega (arith, at), omega (arith, at))
+
       link : reg 2 ≡ suc t
       link = upd_same x.reg r 2 (suc t) (sym two)
 
@@ -191,13 +212,17 @@ module _ (layout : Layout) (limits : IsWithinLimits layout) (s : Scene) (sound :
       no_inner inner = omega (arith, inner, leaf)
 
       none : (u : ℕ) → IsBetween x u → ⊥
-      none u (NewLeaf has is) = let low = has.1 in omega (arith, at, low)
+      none u (NewLeaf has is) = ⊎_elim (λ insert. let low = insert.1 in omega (arith, at, low))
+          (λ replace. let low = replace.1 in omega (arith, at, low)) has
       none u (NewInner has is) = let low = has.1 in omega (arith, at, low)
-      none u (OldParent has is parent) = insert_delete form has.0
-      none u (OldLeaf has is) = insert_delete form has.0
+      none u (OldParent has is parent) = let low = has.1 in omega (arith, at, low)
+      none u (OldLeaf has is) = let low = has.1 in omega (arith, at, low)
+      none u (ReplacedLeaf has is) = let late = has.1 in omega (arith, at, late)
 
   inner_made : form_of x.thunk ≡ Insert → x.at ≡ 6 → r ≡ 3 → init ≡ inner_init x.thunk → IsMade
   inner_made form at three same = record {
+    takes_none = insert_delete form;
+    early = omega (arith, at);
     own = λ u e. NewInner (form, omega (arith, at), omega (arith, at)) (link ∙ ap suc (sym e));
     carried = carried;
     fresh = λ inner. (
@@ -248,7 +273,7 @@ module _ (layout : Layout) (limits : IsWithinLimits layout) (s : Scene) (sound :
       kept_reg = upd_other x.reg r 2 (suc t) (λ e. omega (arith, e, three))
 
       was : IsNewLeaf s kept.once x
-      was = kept.new_leaf d x here (form, omega (arith, at), omega (arith, at))
+      was = kept.new_leaf d x here (inl (form, omega (arith, at), omega (arith, at)))
 
       small : value_of (x.reg 2) ≡ x.reg 2
       small =
@@ -272,11 +297,15 @@ module _ (layout : Layout) (limits : IsWithinLimits layout) (s : Scene) (sound :
       sides = by_side side (now.child true t) (now.child false t) x.reg (Made 2) (Const old) left right
 
       carried : (u : ℕ) → IsBetween x u → IsBetween after u
-      carried u (NewLeaf has reg) = NewLeaf (form, omega (arith, at), omega (arith, at)) (kept_reg ∙ reg)
+      carried u (NewLeaf has reg) = NewLeaf (inl (form, omega (arith, at), omega (arith, at))) (kept_reg ∙ reg)
       carried u (NewInner has reg) = absurd (let low = has.1 in omega (arith, at, low))
       carried u (OldParent has at parent) = absurd (insert_delete form has.0)
       carried u (OldLeaf has leaf) = absurd (insert_delete form has.0)
+      carried u (ReplacedLeaf has leaf) = absurd (insert_replace form has.0)
 
   pub make_kept : TreeKept layout next
-  make_kept = made_kept (⊎_elim (λ leaf. leaf_made making.0 leaf.0 leaf.1 leaf.2)
-      (λ inner. inner_made making.0 inner.0 inner.1 inner.2) making.1)
+  make_kept = made_kept (by making)
+    where
+      by : IsMaking → IsMade
+      by (Leaf form at two same) = leaf_made form at two same
+      by (Inner form at three same) = inner_made form at three same

@@ -21,8 +21,10 @@ use Rattle.structure_laws.specs.Sound.{Sound}
 use Rattle.structure_laws.specs.Keeps.{Publishes, Onward}
 use Rattle.structure_laws.proofs.Changes.{upd_same, upd_other, upd_some, upd_none, equal_of}
 use Rattle.structure_laws.proofs.Progress.{stepped}
-use Rattle.tree_bodies.specs.Tree.{child_of, Form, Insert, Delete, form_of, body_of, leaf_init, inner_init, insert_steps, delete_steps, parent_in, leaf_in}
-use Rattle.tree_laws.specs.Leaves.{is_lock_place, nodes, HasLeaf, HasInner, IsBetween, NewLeaf, NewInner, OldParent, OldLeaf, IsNewLeaf, IsNewInner, TreeKept, tree}
+use Rattle.tree_bodies.specs.Tree.{child_of, Form, Insert, Delete, Replace, form_of, body_of, leaf_init, inner_init}
+use Rattle.tree_bodies.specs.Tree.{insert_steps, delete_steps, replace_steps, parent_in, leaf_in, old_leaf}
+use Rattle.tree_laws.specs.Leaves.{is_lock_place, nodes, HasLeaf, HasInner, IsNewLeaf, IsNewInner, TreeKept, tree}
+use Rattle.tree_laws.specs.Leaves.{IsBetween, NewLeaf, NewInner, OldParent, OldLeaf, ReplacedLeaf}
 use Rattle.tree_laws.specs.Walk.{walk}
 use Rattle.tree_laws.proofs.KeepsFrame.{IsSameNode, IsKeptSection, IsKeptReader, passing_kept}
 
@@ -80,6 +82,46 @@ module _ (layout : Layout) (s : Scene) (sound : Sound tree layout s) (kept : Tre
   stamp_regs : form_of x.thunk ≡ Insert → x.at ≡ 7 → (r : ℕ) → reg r ≡ x.reg r
   stamp_regs form at = regs (step_known x b h Insert form 7 Stamp refl at)
 
+  -- so it does with a new leaf for the place of another, of which it has retired none
+  replace_stamp : form_of x.thunk ≡ Replace → 5 ≤ x.at → x.at ≤ 7 → x.at ≡ 6
+  replace_stamp form low high = ⊎_elim (λ five. absurd (no_make (leaf_init x.thunk) 2
+      (step_known x b h Replace form 5 (Make (leaf_init x.thunk) 2) refl five)))
+      (⊎_elim (λ six. six)
+      (λ seven. absurd (no_store 0 (Made 2) (step_known x b h Replace form 7 (Store 0 (Made 2)) refl seven))))
+      (split_three 5 x.at low high)
+
+  not_replacing : form_of x.thunk ≡ Replace → 7 ≤ x.at → x.at ≤ 8 → ⊥
+  not_replacing form low high = ⊎_elim
+      (λ seven. no_store 0 (Made 2) (step_known x b h Replace form 7 (Store 0 (Made 2)) refl seven))
+      (λ eight. no_retire (old_leaf x.thunk)
+      (step_known x b h Replace form 8 (Retire (old_leaf x.thunk)) refl eight))
+      (split_two 7 x.at low high)
+
+  -- it has made its leaf and stands at its Stamp
+  leaf_before : HasLeaf (stepped x reg) → HasLeaf x × ((r : ℕ) → reg r ≡ x.reg r)
+  leaf_before (inl insert) =
+      let low = insert.1 in let high = insert.2 in
+      let seven = at_stamp insert.0 (omega (arith, low)) (omega (arith, high)) in
+      (inl (insert.0, omega (arith, seven), omega (arith, seven)), stamp_regs insert.0 seven)
+  leaf_before (inr replace) =
+      let low = replace.1 in let high = replace.2 in
+      let six = replace_stamp replace.0 (omega (arith, low)) (omega (arith, high)) in (
+        inr (replace.0, omega (arith, six), omega (arith, six)),
+        regs (step_known x b h Replace replace.0 6 Stamp refl six),
+      )
+
+  leaf_onward : HasLeaf x → HasLeaf (stepped x reg) × ((r : ℕ) → reg r ≡ x.reg r)
+  leaf_onward (inl insert) =
+      let low = insert.1 in
+      let seven = at_stamp insert.0 (omega (arith, low)) insert.2 in
+      (inl (insert.0, omega (arith, seven), omega (arith, seven)), stamp_regs insert.0 seven)
+  leaf_onward (inr replace) =
+      let low = replace.1 in
+      let six = replace_stamp replace.0 (omega (arith, low)) replace.2 in (
+        inr (replace.0, omega (arith, six), omega (arith, six)),
+        regs (step_known x b h Replace replace.0 6 Stamp refl six),
+      )
+
   -- it has taken nothing out
   not_taking : form_of x.thunk ≡ Delete → 14 ≤ x.at → x.at ≤ 16 → ⊥
   not_taking form low high = ⊎_elim (λ at. no_store 0 (Of 3) (step_known x b h Delete form 14 (Store 0 (Of 3)) refl at))
@@ -90,14 +132,11 @@ module _ (layout : Layout) (s : Scene) (sound : Sound tree layout s) (kept : Tre
 
   leaf : HasLeaf (stepped x reg) → IsNewLeaf s' kept.once (stepped x reg)
   leaf has =
-      let low = has.1 in
-      let high = has.2 in
-      let seven = at_stamp has.0 (omega (arith, low)) (omega (arith, high)) in
-      let was = kept.new_leaf d x here (has.0, omega (arith, seven), omega (arith, seven)) in
+      let before = leaf_before has in
+      let was = kept.new_leaf d x here before.0 in
       record {
         slot = was.slot;
-        link = stamp_regs has.0 seven 2
-            ∙ was.link;
+        link = before.1 2 ∙ was.link;
         live = was.live;
         new = was.new;
         key = was.key;
@@ -125,15 +164,15 @@ module _ (layout : Layout) (s : Scene) (sound : Sound tree layout s) (kept : Tre
 
   -- what was between is so still
   onward : (t : ℕ) → IsBetween x t → IsBetween (stepped x reg) t
-  onward t (NewLeaf has link) = let low = has.1 in let high = has.2 in
-      let seven = at_stamp has.0 (omega (arith, low)) (omega (arith, high)) in
-      NewLeaf (has.0, omega (arith, seven), omega (arith, seven)) (stamp_regs has.0 seven 2 ∙ link)
+  onward t (NewLeaf has link) = let after = leaf_onward has in NewLeaf after.0 (after.1 2 ∙ link)
   onward t (NewInner has link) = let low = has.1 in let high = has.2 in
       let seven = at_stamp has.0 (omega (arith, low)) (omega (arith, high)) in
       NewInner (has.0, omega (arith, seven), omega (arith, seven)) (stamp_regs has.0 seven 3 ∙ link)
   onward t (OldParent has at is) = let low = has.1 in let high = has.2 in
       absurd (not_taking has.0 (omega (arith, low)) high)
   onward t (OldLeaf has is) = let low = has.1 in let high = has.2 in absurd (not_taking has.0 (omega (arith, low)) high)
+  onward t (ReplacedLeaf has is) = let at = has.1 in
+      absurd (not_replacing has.0 (omega (arith, at)) (omega (arith, at)))
 
   is_x : (e : ℕ) (y : Section) → s.section e ≡ Some y → e ≡ d → y ≡ x
   is_x e y there same = some_inj (sym there ∙ (ap s.section same ∙ here))
@@ -170,6 +209,7 @@ module _ (layout : Layout) (s : Scene) (sound : Sound tree layout s) (kept : Tre
         inner = inner;
         taken = λ has. let low = has.1 in let high = has.2 in
             absurd (not_taking has.0 (omega (arith, low)) (omega (arith, high)));
+        replaced = λ has. let at = has.1 in absurd (not_replacing has.0 (omega (arith, at)) (omega (arith, at)));
         read = kept.published d x here;
         walk = kept.sections d x here;
       }
@@ -236,9 +276,11 @@ keeps_holds layout s r d readings op thunk reader publishes none sound kept soun
     own : IsKeptSection layout s (with_section s d (Some (opened op thunk readings))) sound kept
         (opened op thunk readings)
     own = record {
-      leaf = λ has. absurd (let at = has.1 in omega (arith, at));
+      leaf = λ has. ⊎_elim (λ insert. absurd (let at = insert.1 in omega (arith, at)))
+          (λ replace. absurd (let at = replace.1 in omega (arith, at))) has;
       inner = λ has. absurd (let at = has.1 in omega (arith, at));
       taken = λ has. absurd (let at = has.1 in omega (arith, at));
+      replaced = λ has. absurd (let at = has.1 in omega (arith, at));
       read = kept.readers r readings reader;
       walk = kept.walks r readings op reader low;
     }
@@ -250,6 +292,13 @@ insert_late t j step h low = grind arith
 delete_late : (t : Thunk) (j : ℕ) (step : Step) → slice_get (delete_steps t) j ≡ Some step → 12 ≤ j
     → is_exit step ≡ false
 delete_late t j step h low = grind arith
+
+replace_late : (t : Thunk) (j : ℕ) (step : Step) → slice_get (replace_steps t) j ≡ Some step → 5 ≤ j
+    → is_exit step ≡ false
+replace_late t j step h low = grind arith
+
+replace_whole : (t : Thunk) (j : ℕ) → slice_get (replace_steps t) j ≡ None → j ≤ 9 → ⊥
+replace_whole t j h low = grind arith
 
 insert_whole : (t : Thunk) (j : ℕ) → slice_get (insert_steps t) j ≡ None → j ≤ 9 → ⊥
 insert_whole t j h low = grind arith
@@ -271,9 +320,19 @@ module _ (x : Section) (ended : Settled tree x → Ended tree x) where
       delete_late x.thunk j step (ap (λ f. slice_get (body_of f x.thunk) j) (sym form) ∙ h)
       (omega (arith, low, le)))) high
 
+  replace_unended : form_of x.thunk ≡ Replace → 5 ≤ x.at → x.at ≤ 9 → ⊥
+  replace_unended form low high = replace_whole x.thunk x.at (ap (λ f. slice_get (body_of f x.thunk) x.at) (sym form)
+      ∙ ended (λ j step le h.
+      replace_late x.thunk j step (ap (λ f. slice_get (body_of f x.thunk) j) (sym form) ∙ h)
+      (omega (arith, low, le)))) high
+
   holds_none : (t : ℕ) → IsBetween x t → ⊥
-  holds_none t (NewLeaf has link) = let low = has.1 in let high = has.2 in insert_unended has.0 (omega (arith, low))
-      (omega (arith, high))
+  holds_none t (NewLeaf has link) = ⊎_elim
+      (λ insert. let low = insert.1 in let high = insert.2 in
+      insert_unended insert.0 (omega (arith, low)) (omega (arith, high)))
+      (λ replace. let low = replace.1 in let high = replace.2 in
+      replace_unended replace.0 (omega (arith, low)) (omega (arith, high))) has
+  holds_none t (ReplacedLeaf has is) = let at = has.1 in replace_unended has.0 (omega (arith, at)) (omega (arith, at))
   holds_none t (NewInner has link) = let low = has.1 in let high = has.2 in insert_unended has.0 (omega (arith, low))
       (omega (arith, high))
   holds_none t (OldParent has at is) = let low = has.1 in let high = has.2 in delete_unended has.0

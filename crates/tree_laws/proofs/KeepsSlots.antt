@@ -14,7 +14,9 @@ use Rattle.structure_laws.proofs.Changes.{upd_same, upd_other, upd_some}
 use Rattle.structure_laws.proofs.Progress.{stepped}
 use Rattle.tree_bodies.specs.Tree.{left_of, right_of, child_of, Delete, form_of}
 use Rattle.tree_laws.specs.Search.{Nodes, IsInner}
-use Rattle.tree_laws.specs.Leaves.{is_left_place, is_right_place, is_link_in, nodes, IsNewLeaf, IsNewInner, IsTaken, HasLeaf, HasInner, HasTaken, IsBetween, TreeKept, tree}
+use Rattle.tree_laws.specs.Leaves.{is_left_place, is_right_place, is_link_in, nodes, IsNewLeaf, IsNewInner, IsTaken}
+use Rattle.tree_laws.specs.Leaves.{IsReplaced}
+use Rattle.tree_laws.specs.Leaves.{HasLeaf, HasInner, HasTaken, HasOld, IsBetween, TreeKept, tree}
 use Rattle.tree_laws.proofs.Gives.{tree_gives}
 use Rattle.tree_laws.proofs.KeepsFrame.{IsSameNode, IsKeptSection, frame_kept}
 use Rattle.tree_laws.proofs.Open.{side_cell, child_cell, side_high}
@@ -82,6 +84,7 @@ module _ (layout : Layout) (s : Scene) (sound : Sound tree layout s) (kept : Tre
     pub new_leaf : HasLeaf after → IsNewLeaf next kept.once after
     pub new_inner : HasInner after → IsNewInner next kept.once after
     pub taken : HasTaken after → IsTaken next kept.covers kept.once after
+    pub replaced : HasOld after → IsReplaced next kept.covers kept.once after
 
   pub step_kept : StepKeeps → TreeKept layout next
   step_kept keeps = frame_kept layout s next sound kept (record {
@@ -104,6 +107,7 @@ module _ (layout : Layout) (s : Scene) (sound : Sound tree layout s) (kept : Tre
           leaf = keeps.new_leaf;
           inner = keeps.new_inner;
           taken = keeps.taken;
+          replaced = keeps.replaced;
           read = kept.published d x here;
           walk = kept.sections d x here;
         })))

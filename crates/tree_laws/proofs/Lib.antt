@@ -7,6 +7,7 @@ mod Fitting
 pub mod TreeShape
 pub mod Removal
 pub mod Insertion
+pub mod Replacement
 pub mod Views
 pub mod Planning
 pub mod Landed
@@ -15,6 +16,7 @@ mod Open
 mod Gives
 pub mod Alike
 pub mod Turn
+mod ReplaceTurn
 mod TurnStores
 pub mod Shown
 mod Grown
@@ -26,6 +28,8 @@ mod Inserting
 mod InsertStore
 mod Removing
 mod LinkStore
+mod Replacing
+mod ReplaceStore
 mod KeepsStore
 pub mod KeepsFrame
 pub mod KeepsPass

@@ -21,7 +21,7 @@ use Rattle.tree_laws.proofs.Alike.{tree_alike}
 use Rattle.tree_laws.proofs.Apart.{key_apart, mark_apart}
 use Rattle.tree_laws.proofs.Changed.{changed_alike, other_child, changed_some, changed_same, changed_sentinels}
 use Rattle.tree_laws.proofs.Gives.{parent_unfixed, leaf_unfixed, taken_lock}
-use Rattle.tree_laws.proofs.MarkStore.{no_insert, none_between}
+use Rattle.tree_laws.proofs.MarkStore.{no_insert, none_between, has_no_leaf, has_no_old}
 use Rattle.tree_laws.proofs.Open as open_section
 use Rattle.tree_laws.proofs.Removal.{still, remains, a_not_p, a_not_l, b_not_p, b_not_l, b_linked}
 use Rattle.tree_laws.proofs.Removing as removing
@@ -238,9 +238,10 @@ module _ (layout : Layout) (limits : IsWithinLimits layout) (s : Scene) (sound :
           (λ nl. inl (stays_on u on np nl)) (cases_eq u l))
           (cases_eq u p);
       was_between = λ u between. absurd (none_between x form few u between);
-      no_leaf = λ has. no_insert (form_of x.thunk) form has.0;
+      no_leaf = has_no_leaf (passed x) form;
       no_inner = λ has. no_insert (form_of x.thunk) form has.0;
       taken = taken;
+      replaced = λ has. absurd (has_no_old (passed x) form has);
       leaf_new = λ e z t ne there has reg. leaf_out layout s kept e z t there has reg;
       inner_new = λ e z t ne there has reg. inner_out layout s kept e z t there has reg;
       sibling = sibling_stays;

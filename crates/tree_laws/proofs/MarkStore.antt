@@ -5,14 +5,15 @@ use Rattle.std.proofs.lemmas.Bool.{cases_eq, both_ways}
 use Rattle.body_terms.specs.Update.{upd}
 use Rattle.body_terms.specs.Word.{value_of}
 use Rattle.table_words.specs.declared.layout.Layout.{Layout}
-use Rattle.structure_laws.specs.Scene.{Cells, Section, Scene}
+use Rattle.structure_laws.specs.Scene.{Cells, Section, Scene, passed}
 use Rattle.structure_laws.specs.Sections.{Here}
 use Rattle.structure_laws.specs.Sound.{Sound}
 use Rattle.structure_laws.proofs.Changes.{upd_same, upd_other}
-use Rattle.tree_bodies.specs.Tree.{key_cell, mark_of, child_of, Form, Insert, Delete, form_of}
+use Rattle.tree_bodies.specs.Tree.{key_cell, mark_of, child_of, Form, Insert, Delete, Replace, form_of}
 use Rattle.tree_laws.specs.Search.{Nodes}
 use Rattle.tree_laws.specs.Walk.{Walk}
-use Rattle.tree_laws.specs.Leaves.{nodes, walk_of, IsBetween, NewLeaf, NewInner, OldParent, OldLeaf, TreeKept, tree}
+use Rattle.tree_laws.specs.Leaves.{nodes, walk_of, HasLeaf, HasOld, TreeKept, tree}
+use Rattle.tree_laws.specs.Leaves.{IsBetween, NewLeaf, NewInner, OldParent, OldLeaf, ReplacedLeaf}
 use Rattle.tree_laws.proofs.Alike.{AreAlike, tree_alike, sentinels_alike}
 use Rattle.tree_laws.proofs.Apart.{key_no_mark, child_no_mark, mark_other}
 use Rattle.tree_laws.proofs.KeepsFrame.{StaysNode}
@@ -22,9 +23,21 @@ use Rattle.tree_laws.proofs.Open as open_section
 pub no_insert : (f : Form) → f ≡ Delete → f ≡ Insert → ⊥
 no_insert f e e' = cc
 
+no_replace : (f : Form) → f ≡ Delete → f ≡ Replace → ⊥
+no_replace f e e' = cc
+
+-- a removal has neither a new leaf nor put one in the place of another
+pub has_no_leaf : (x : Section) → form_of x.thunk ≡ Delete → HasLeaf x → ⊥
+has_no_leaf x form (inl insert) = no_insert (form_of x.thunk) form insert.0
+has_no_leaf x form (inr replace) = no_replace (form_of x.thunk) form replace.0
+
+pub has_no_old : (x : Section) → form_of x.thunk ≡ Delete → HasOld x → ⊥
+has_no_old x form old = no_replace (form_of x.thunk) form old.0
+
 -- a removal that has not stored the link holds no node that is between
 pub none_between : (x : Section) → form_of x.thunk ≡ Delete → x.at ≤ 14 → (t : ℕ) → IsBetween x t → ⊥
-none_between x form few t (NewLeaf has reg) = no_insert (form_of x.thunk) form has.0
+none_between x form few t (NewLeaf has reg) = has_no_leaf x form has
+none_between x form few t (ReplacedLeaf has leaf) = has_no_old x form has
 none_between x form few t (NewInner has reg) = no_insert (form_of x.thunk) form has.0
 none_between x form few t (OldParent has at parent) = let late = has.1 in omega (arith, few, late)
 none_between x form few t (OldLeaf has leaf) = let late = has.1 in omega (arith, few, late)
@@ -103,9 +116,10 @@ module _ (layout : Layout) (s : Scene) (sound : Sound tree layout s) (kept : Tre
         (cases_eq t p);
     was_linked = λ t on. inl on;
     was_between = λ t between. absurd (none_between x form (omega (arith, at)) t between);
-    no_leaf = λ has. no_insert (form_of x.thunk) form has.0;
+    no_leaf = has_no_leaf (passed x) form;
     no_inner = λ has. no_insert (form_of x.thunk) form has.0;
     taken = λ has. let late = has.1 in absurd (omega (arith, at, late));
+    replaced = λ has. absurd (has_no_old (passed x) form has);
     leaf_new = λ e z t ne there has reg. leaf_out layout s kept e z t there has reg;
     inner_new = λ e z t ne there has reg. inner_out layout s kept e z t there has reg;
     sibling = λ e z t ne there has leads. (kept.taken e z there has).sibling t leads;

@@ -1,14 +1,14 @@
 -- What holds of an open section on the tree: its numbers, and the nodes that its walk has found.
-use Rattle.std.specs.Prelude.{◌||◌, not, ◌^◌, nat_lt, cond, Bool, true, false, Some, List, slice_get, slice_index}
+use Rattle.std.specs.Prelude.{◌||◌, ◌&&◌, not, ◌^◌, nat_lt, cond, Bool, true, false, Some, List, slice_get, slice_index}
 use Rattle.std.proofs.Common.{◌≡◌, ◌≢◌, ℕ, suc, ◌+◌, ◌*◌, ◌<◌, ◌≤◌, refl, sym, ap, ◌∙◌, subst, inl, ⊎_elim, arith}
-use Rattle.small_lemmas.proofs.Numbers.{other_tested as eq_false, equal_tested as eq_true}
-use Rattle.map_history.specs.declared.op.Op.TheVariants.{Ins, Del}
+use Rattle.small_lemmas.proofs.Numbers.{other_tested as eq_false, equal_tested as eq_true, less_tested as lt_test}
+use Rattle.map_history.specs.declared.op.Op.TheVariants.{Del, Put}
 use Rattle.map_history.specs.Keys.{key_of, value_given}
 use Rattle.body_terms.specs.Word.{value_of}
 use Rattle.section_body.specs.Bucket.{operand, is_small}
 use Rattle.body_terms.specs.declared.value.Value.{Value}
 use Rattle.body_terms.specs.declared.step.Step.{Step}
-use Rattle.body_terms.specs.declared.step.Step.TheVariants.{Store}
+use Rattle.body_terms.specs.declared.step.Step.TheVariants.{Load, Want, Store}
 use Rattle.table_words.specs.declared.layout.Layout.{Layout}
 use Rattle.table_words.specs.Limits.{IsWithinLimits}
 use Rattle.table_words.specs.Places.{slot_count}
@@ -17,13 +17,19 @@ use Rattle.structure_laws.specs.Sections.{Here, IsStep}
 use Rattle.structure_laws.specs.Cells.{IsSafe}
 use Rattle.structure_laws.specs.Sound.{Sound}
 use Rattle.bucket_laws.specs.Walk.{is_del}
-use Rattle.tree_bodies.specs.Tree.{lock_of, mark_of, left_of, right_of, child_of, slot_in, Form, Look, Insert, Delete, form_of, body_of, parent_in, leaf_in, sibling_of, is_left, is_right}
+use Rattle.bucket_laws.proofs.Fit.{PutsIn, puts_given}
+use Rattle.tree_bodies.specs.Tree.{lock_of, mark_of, left_of, right_of, child_of, slot_in, Form, Look, Insert, Delete}
+use Rattle.tree_bodies.specs.Tree.{Replace}
+use Rattle.tree_bodies.specs.Tree.{form_of, body_of, parent_in, leaf_in, sibling_of, is_left, is_right, old_leaf}
 use Rattle.tree_laws.specs.Search.{Nodes, IsInner, IsLeaf}
-use Rattle.tree_laws.specs.Walk.{Walk, AtEnd, Refused, step_place, step_to, node_of, form_for, insert_operands, delete_operands, operands_for, lock_for, reply_for}
-use Rattle.tree_laws.specs.Leaves.{nodes, bounds, walk_of, Knows, IsFollowed, IsWalk, TreeKept, tree}
+use Rattle.tree_laws.specs.Walk.{Walk, AtEnd, Refused, step_place, step_to, node_of, form_for, delete_operands}
+use Rattle.tree_laws.specs.Walk.{operands_for}
+use Rattle.tree_laws.specs.Walk.{lock_for, reply_for}
+use Rattle.tree_laws.specs.Leaves.{nodes, bounds, walk_of, Knows, IsFollowed, IsWalk, HasLeaf, TreeKept, tree}
 use Rattle.tree_laws.specs.Landing.{HasLanded}
-use Rattle.tree_laws.proofs.Fit.{IsFit, cases, look_numbers, inserts, deletes, look_outer, numbers_of, is_look, is_insert, is_delete}
-use Rattle.tree_laws.proofs.Forms.{look_store, insert_store, delete_store}
+use Rattle.tree_laws.proofs.Fit.{IsFit, cases, look_numbers, numbers_of, inserts, deletes, replaces, put_puts}
+use Rattle.tree_laws.proofs.Fit.{look_outer, insert_outer, replace_outer, is_look, is_insert, is_delete, is_replace}
+use Rattle.tree_laws.proofs.Forms.{look_store, insert_store, delete_store, replace_store}
 use Rattle.tree_laws.proofs.Landed.{fit, reads, walk, last, on_path, onward, from_safe, has_landed}
 use Rattle.tree_laws.proofs.WalkReads.{is_past, is_late, is_marked, both, IsFrom, Reads}
 
@@ -97,26 +103,26 @@ module _ (layout : Layout) (s : Scene) (sound : Sound tree layout s) (kept : Tre
     pub word : operand x.thunk 1 ≡ w.last.word
     pub mark : operand x.thunk 2 ≡ w.mark
 
+  plain_of : {numbers : List ℕ} → operands_for x.op w w.found ≡ numbers → (is_del x.op && w.found) ≡ false
+      → slice_index numbers 0 ≡ step_place w.last → slice_index numbers 1 ≡ w.last.word → slice_index numbers 2 ≡ w.mark
+      → IsPlain
+  plain_of numbers outer place word mark = record {
+    lock = fits.lock ∙ ap (λ c. cond c (lock_of w.grand.from) (lock_of w.last.from)) outer;
+    place = number_at 0 numbers ∙ place;
+    word = number_at 1 numbers ∙ word;
+    mark = number_at 2 numbers ∙ mark;
+  }
+
   look_plain : form_for x.op w.found ≡ 11 → IsPlain
-  look_plain form =
-      let numbers = look_numbers x.op w w.found form in
-      record {
-        lock = fits.lock ∙ ap (λ c. cond c (lock_of w.grand.from) (lock_of w.last.from)) (look_outer x.op w.found form);
-        place = number_at 0 numbers;
-        word = number_at 1 numbers;
-        mark = number_at 2 numbers;
-      }
+  look_plain form = plain_of (look_numbers x.op w w.found form) (look_outer x.op w.found form) refl refl refl
 
   insert_plain : form_for x.op w.found ≡ 12 → IsPlain
   insert_plain form =
-      let is = inserts x.op w.found form in
-      let numbers : operands_for x.op w w.found ≡ insert_operands w is.0 is.1 = ap (λ op. operands_for op w w.found) is.2 ∙ ap (operands_for (Ins is.0 is.1) w) is.3 in
-      record {
-        lock = fits.lock ∙ ap (λ op. lock_for op w w.found) is.2;
-        place = number_at 0 numbers;
-        word = number_at 1 numbers;
-        mark = number_at 2 numbers;
-      }
+      plain_of (inserts x.op w w.found form).numbers (insert_outer x.op w.found form) refl refl refl
+
+  replace_plain : form_for x.op w.found ≡ 14 → IsPlain
+  replace_plain form =
+      plain_of (replaces x.op w w.found form).numbers (replace_outer x.op w.found form) refl refl refl
 
   -- and of one that does
   pub record IsRemoving : Type 0 where
@@ -156,15 +162,26 @@ module _ (layout : Layout) (s : Scene) (sound : Sound tree layout s) (kept : Tre
       }
 
   pub look_is_plain : form_of x.thunk ≡ Look → IsPlain
-  look_is_plain form = look_plain (sym fits.form ∙ (numbers_of x.thunk Look form).0 refl)
+  look_is_plain form = look_plain (sym fits.form ∙ (numbers_of x.thunk).look form)
 
   pub insert_is_plain : form_of x.thunk ≡ Insert → IsPlain
-  insert_is_plain form = insert_plain (sym fits.form ∙ (numbers_of x.thunk Insert form).1 refl)
+  insert_is_plain form = insert_plain (sym fits.form ∙ (numbers_of x.thunk).insert form)
+
+  pub replace_is_plain : form_of x.thunk ≡ Replace → IsPlain
+  replace_is_plain form = replace_plain (sym fits.form ∙ (numbers_of x.thunk).replace form)
 
   pub delete_is_removing : form_of x.thunk ≡ Delete → IsRemoving
-  delete_is_removing form = delete_removing (sym fits.form ∙ (numbers_of x.thunk Delete form).2 refl)
+  delete_is_removing form = delete_removing (sym fits.form ∙ (numbers_of x.thunk).delete form)
 
-  -- a section that takes nothing out has landed where it has passed its Wants, and an insertion has not stored
+  -- a word that was loaded and wanted stands as long as the section has not stored to its register's place
+  stands : (f : Form) → form_of x.thunk ≡ f → (j k p r word : ℕ) → slice_get (body_of f x.thunk) j ≡ Some (Load p r)
+      → slice_get (body_of f x.thunk) k ≡ Some (Want r word) → j < x.at → k < x.at
+      → ((i : ℕ) (v : Value) → IsStep tree x i (Store r v) → x.at ≤ i) → s.cells p ≡ word
+  stands f form j k p r word load want passed passed' none =
+      sound.loaded d x here j p r passed (step_is f form j (Load p r) load) none
+      ∙ sound.wanted d x here k r word passed' (step_is f form k (Want r word) want)
+
+  -- a section that takes no parent out has landed where it has passed its Wants, and has not stored
   plain_lands : IsPlain → s.cells (operand x.thunk 0) ≡ operand x.thunk 1 → s.cells (x.thunk.lock + 4) ≡ operand x.thunk 2
       → HasLanded kept.covers key w
   plain_lands is link mark = has_landed layout s sound kept d x here
@@ -173,39 +190,58 @@ module _ (layout : Layout) (s : Scene) (sound : Sound tree layout s) (kept : Tre
 
   pub look_landed : form_of x.thunk ≡ Look → 4 ≤ x.at → HasLanded kept.covers key w
   look_landed form at = plain_lands (look_is_plain form)
-      (sound.loaded d x here 0 (operand x.thunk 0) 0 (omega (arith, at)) (step_is Look form 0 _ refl) (none 0)
-      ∙ sound.wanted d x here 1 0 (operand x.thunk 1) (omega (arith, at)) (step_is Look form 1 _ refl))
-      (sound.loaded d x here 2 (x.thunk.lock + 4) 1 (omega (arith, at)) (step_is Look form 2 _ refl) (none 1)
-      ∙ sound.wanted d x here 3 1 (operand x.thunk 2) (omega (arith, at)) (step_is Look form 3 _ refl))
+      (stands Look form 0 1 (operand x.thunk 0) 0 (operand x.thunk 1) refl refl (omega (arith, at)) (omega (arith, at))
+      (none 0))
+      (stands Look form 2 3 (x.thunk.lock + 4) 1 (operand x.thunk 2) refl refl (omega (arith, at)) (omega (arith, at))
+      (none 1))
     where
       none : (r i : ℕ) (v : Value) → IsStep tree x i (Store r v) → x.at ≤ i
       none r i v h = absurd (look_store x.thunk i r v (step_as Look form i (Store r v) h))
 
-  pub insert_landed : form_of x.thunk ≡ Insert → 5 ≤ x.at → x.at ≤ 8 → HasLanded kept.covers key w
-  insert_landed form at few = plain_lands (insert_is_plain form)
-      (sound.loaded d x here 0 (operand x.thunk 0) 0 (omega (arith, at)) (step_is Insert form 0 _ refl) (later 0)
-      ∙ sound.wanted d x here 1 0 (operand x.thunk 1) (omega (arith, at)) (step_is Insert form 1 _ refl))
-      (sound.loaded d x here 3 (x.thunk.lock + 4) 1 (omega (arith, at)) (step_is Insert form 3 _ refl) (later 1)
-      ∙ sound.wanted d x here 4 1 (operand x.thunk 2) (omega (arith, at)) (step_is Insert form 4 _ refl))
-    where
-      later : (r i : ℕ) (v : Value) → IsStep tree x i (Store r v) → x.at ≤ i
-      later r i v h = let eight = (insert_store x.thunk i r v (step_as Insert form i (Store r v) h)).0 in omega (arith, few, eight)
+  -- the link stands as it was read
+  plain_link : IsPlain → s.cells (operand x.thunk 0) ≡ operand x.thunk 1 → s.cells (step_place w.last) ≡ w.last.word
+  plain_link is link = ap s.cells (sym is.place) ∙ (link ∙ is.word)
 
-  pub insert_link : form_of x.thunk ≡ Insert → 5 ≤ x.at → x.at ≤ 8 → s.cells (step_place w.last) ≡ w.last.word
-  insert_link form at few =
-      let is = insert_is_plain form in
-      ap s.cells (sym is.place)
-      ∙ (sound.loaded d x here 0 (operand x.thunk 0) 0 (omega (arith, at)) (step_is Insert form 0 _ refl) (λ i v h. later i v h)
-      ∙ (sound.wanted d x here 1 0 (operand x.thunk 1) (omega (arith, at)) (step_is Insert form 1 _ refl) ∙ is.word))
-    where
-      later : (i : ℕ) (v : Value) → IsStep tree x i (Store 0 v) → x.at ≤ i
-      later i v h = let eight = (insert_store x.thunk i 0 v (step_as Insert form i (Store 0 v) h)).0 in omega (arith, few, eight)
+  module _ (form : form_of x.thunk ≡ Insert) (at : 5 ≤ x.at) (few : x.at ≤ 8) where
+    insert_later : (r i : ℕ) (v : Value) → IsStep tree x i (Store r v) → x.at ≤ i
+    insert_later r i v h = let eight = (insert_store x.thunk i r v (step_as Insert form i (Store r v) h)).0 in
+        omega (arith, few, eight)
+
+    insert_stands : s.cells (operand x.thunk 0) ≡ operand x.thunk 1
+    insert_stands = stands Insert form 0 1 (operand x.thunk 0) 0 (operand x.thunk 1) refl refl (omega (arith, at))
+        (omega (arith, at)) (insert_later 0)
+
+    pub insert_landed : HasLanded kept.covers key w
+    insert_landed = plain_lands (insert_is_plain form) insert_stands
+        (stands Insert form 3 4 (x.thunk.lock + 4) 1 (operand x.thunk 2) refl refl (omega (arith, at)) (omega
+        (arith, at))
+        (insert_later 1))
+
+    pub insert_link : s.cells (step_place w.last) ≡ w.last.word
+    insert_link = plain_link (insert_is_plain form) insert_stands
+
+  module _ (form : form_of x.thunk ≡ Replace) (at : 5 ≤ x.at) (few : x.at ≤ 7) where
+    replace_later : (r i : ℕ) (v : Value) → IsStep tree x i (Store r v) → x.at ≤ i
+    replace_later r i v h = let seven = (replace_store x.thunk i r v (step_as Replace form i (Store r v) h)).0 in
+        omega (arith, few, seven)
+
+    replace_stands : s.cells (operand x.thunk 0) ≡ operand x.thunk 1
+    replace_stands = stands Replace form 0 1 (operand x.thunk 0) 0 (operand x.thunk 1) refl refl (omega (arith, at))
+        (omega (arith, at)) (replace_later 0)
+
+    pub replace_landed : HasLanded kept.covers key w
+    replace_landed = plain_lands (replace_is_plain form) replace_stands
+        (stands Replace form 3 4 (x.thunk.lock + 4) 1 (operand x.thunk 2) refl refl (omega (arith, at))
+        (omega (arith, at)) (replace_later 1))
+
+    pub replace_link : s.cells (step_place w.last) ≡ w.last.word
+    replace_link = plain_link (replace_is_plain form) replace_stands
 
   -- the operation of an insertion, and its numbers
   pub record IsInserting : Type 0 where
     pub key : ℕ
     pub value : ℕ
-    pub op : x.op ≡ Ins key value
+    pub puts : PutsIn x.op key value
     pub missing : w.found ≡ false
     pub new_key : operand x.thunk 3 ≡ key
     pub new_value : operand x.thunk 4 ≡ value
@@ -213,13 +249,60 @@ module _ (layout : Layout) (s : Scene) (sound : Sound tree layout s) (kept : Tre
 
   pub insert_is_inserting : form_of x.thunk ≡ Insert → IsInserting
   insert_is_inserting form =
-      let of = inserts x.op w.found (sym fits.form ∙ (numbers_of x.thunk Insert form).1 refl) in
-      let numbers : operands_for x.op w w.found ≡ insert_operands w of.0 of.1 = ap (λ op. operands_for op w w.found) of.2 ∙ ap (operands_for (Ins of.0 of.1) w) of.3 in
-      record { key = of.0; value = of.1; op = of.2; missing = of.3; new_key = number_at 3 numbers; new_value = number_at 4 numbers; old_key = number_at 5 numbers }
+      let of = inserts x.op w w.found (sym fits.form ∙ (numbers_of x.thunk).insert form) in
+      record {
+        key = of.key;
+        value = of.value;
+        puts = of.puts;
+        missing = of.missing;
+        new_key = number_at 3 of.numbers;
+        new_value = number_at 4 of.numbers;
+        old_key = number_at 5 of.numbers;
+      }
+
+  -- and that of a replacement
+  pub record IsReplacing : Type 0 where
+    pub key : ℕ
+    pub value : ℕ
+    pub put : x.op ≡ Put key value
+    pub found : w.found ≡ true
+    pub new_key : operand x.thunk 3 ≡ key
+    pub new_value : operand x.thunk 4 ≡ value
+    pub reply : operand x.thunk 5 ≡ 6 * 2 ^ 32 + w.value
+    -- the leaf that it takes out is the walk's
+    pub leaf : old_leaf x.thunk ≡ node_of w
+
+  pub replace_is_replacing : form_of x.thunk ≡ Replace → IsReplacing
+  replace_is_replacing form =
+      let of = replaces x.op w w.found (sym fits.form ∙ (numbers_of x.thunk).replace form) in
+      record {
+        key = of.key;
+        value = of.value;
+        put = of.put;
+        found = of.hit;
+        new_key = number_at 3 of.numbers;
+        new_value = number_at 4 of.numbers;
+        reply = number_at 5 of.numbers;
+        leaf = ap slot_in (number_at 1 of.numbers);
+      }
+
+  -- of a section that has made its new leaf and not stored: its numbers, where it has landed, the leaf's key
+  pub leaf_plain : HasLeaf x → IsPlain
+  leaf_plain has = ⊎_elim (λ insert. insert_is_plain insert.0) (λ replace. replace_is_plain replace.0) has
+
+  pub leaf_landed : HasLeaf x → HasLanded kept.covers key w
+  leaf_landed has = ⊎_elim
+      (λ insert. insert_landed insert.0 (let low = insert.1 in omega (arith, low)) insert.2)
+      (λ replace. replace_landed replace.0 (let low = replace.1 in omega (arith, low)) replace.2) has
+
+  pub leaf_new_key : HasLeaf x → operand x.thunk 3 ≡ key
+  leaf_new_key has = ⊎_elim
+      (λ insert. let is = insert_is_inserting insert.0 in is.new_key ∙ sym is.puts.0)
+      (λ replace. let is = replace_is_replacing replace.0 in is.new_key ∙ sym (ap key_of is.put)) has
 
   -- the reply of a section that changes nothing
   pub look_form_is : form_of x.thunk ≡ Look → form_for x.op w.found ≡ 11
-  look_form_is form = sym fits.form ∙ (numbers_of x.thunk Look form).0 refl
+  look_form_is form = sym fits.form ∙ (numbers_of x.thunk).look form
 
   pub look_reply : form_of x.thunk ≡ Look → operand x.thunk 3 ≡ reply_for x.op w w.found
   look_reply form = number_at 3 (look_numbers x.op w w.found (look_form_is form))
@@ -327,11 +410,12 @@ module _ (layout : Layout) (s : Scene) (sound : Sound tree layout s) (kept : Tre
     cell_small : (t k : ℕ) → IsFrom x.readings t → k < 5 → 0 + 5 * t + k < 2 ^ 32
     cell_small t k from low = let high = within t from in let nodes = limits.few_nodes in let runners = limits.few_runners in omega (arith, low, high, nodes, runners)
 
-    -- the section has one of the three forms
+    -- the section has one of the four forms
     pub data Kind : Type 0 where
       Looks : form_of x.thunk ≡ Look → Kind
       Inserts : form_of x.thunk ≡ Insert → Kind
       Deletes : form_of x.thunk ≡ Delete → Kind
+      Replaces : form_of x.thunk ≡ Replace → Kind
 
     lock_small : IsPlain → is_small (x.thunk.lock + 4) ≡ true
     lock_small is = small_is (x.thunk.lock + 4) (let at = is.lock in let low = cell_small w.last.from 4 has_read.last_from (omega arith) in omega (arith, at, low))
@@ -343,16 +427,37 @@ module _ (layout : Layout) (s : Scene) (sound : Sound tree layout s) (kept : Tre
     looks : (form : form_for x.op w.found ≡ 11) → form_of x.thunk ≡ Look
     looks form = is_look x.thunk (fits.form ∙ form) (both _ _ (lock_small (look_plain form)) (place_small (look_plain form)))
 
-    inserts_it : (form : form_for x.op w.found ≡ 12) → form_of x.thunk ≡ Insert
+    -- both numbers of the new leaf are small
+    key_small : (key value : ℕ) → PutsIn x.op key value → operand x.thunk 3 ≡ key → is_small (operand x.thunk 3) ≡ true
+    key_small key value puts at = small_is (operand x.thunk 3)
+        (let low = (sound.allowed d x here).keys (key_of x.op) (inl refl) in let same = puts.0 in
+        omega (arith, low, at, same))
+
+    value_small : (key value : ℕ) → PutsIn x.op key value → operand x.thunk 4 ≡ value
+        → is_small (operand x.thunk 4) ≡ true
+    value_small key value puts at = small_is (operand x.thunk 4)
+        (let low = (sound.allowed d x here).value value (puts_given x.op key value puts) in omega (arith, low, at))
+
+    inserts_it : form_for x.op w.found ≡ 12 → form_of x.thunk ≡ Insert
     inserts_it form =
-        let of = inserts x.op w.found form in
-        let numbers : operands_for x.op w w.found ≡ insert_operands w of.0 of.1 = ap (λ op. operands_for op w w.found) of.2 ∙ ap (operands_for (Ins of.0 of.1) w) of.3 in
-        let allowed = sound.allowed d x here in
+        let of = inserts x.op w w.found form in
         is_insert x.thunk (fits.form ∙ form)
         (both _ _ (lock_small (insert_plain form)) (both _ _ (place_small (insert_plain form))
-        (both _ _ (small_is (operand x.thunk 3) (let low = allowed.keys (key_of x.op) (inl refl) in let at = number_at 3 numbers in let same : key_of x.op ≡ of.0 = ap key_of of.2 in omega (arith, low, at, same)))
-        (both _ _ (small_is (operand x.thunk 4) (let low = allowed.value of.1 (ap value_given of.2) in let at = number_at 4 numbers in omega (arith, low, at)))
-        (small_is (operand x.thunk 5) (let low = has_read.key_small in let at = number_at 5 numbers in omega (arith, low, at)))))))
+        (both _ _ (key_small of.key of.value of.puts (number_at 3 of.numbers))
+        (both _ _ (value_small of.key of.value of.puts (number_at 4 of.numbers))
+        (small_is (operand x.thunk 5) (let low = has_read.key_small in let at = number_at 5 of.numbers in
+        omega (arith, low, at)))))))
+
+    replaces_it : form_for x.op w.found ≡ 14 → form_of x.thunk ≡ Replace
+    replaces_it form =
+        let of = replaces x.op w w.found form in
+        let puts : PutsIn x.op of.key of.value = put_puts x.op of.key of.value of.put in
+        is_replace x.thunk (fits.form ∙ form)
+        (both _ _ (lock_small (replace_plain form)) (both _ _ (place_small (replace_plain form))
+        (both _ _ (key_small of.key of.value puts (number_at 3 of.numbers))
+        (both _ _ (value_small of.key of.value puts (number_at 4 of.numbers))
+        (lt_test 0 (value_of (operand x.thunk 1)) (subst (λ n. 0 < value_of n) (sym (number_at 1 of.numbers))
+        (has_read.some (ap is_past fits.stage))))))))
 
     deletes_it : (form : form_for x.op w.found ≡ 13) → form_of x.thunk ≡ Delete
     deletes_it form =
@@ -366,9 +471,6 @@ module _ (layout : Layout) (s : Scene) (sound : Sound tree layout s) (kept : Tre
         (both _ _ (small_is (mark_of (parent_in x.thunk)) (subst (λ t. mark_of t < 2 ^ 32) (sym is.parent) (cell_small w.last.from 4 has_read.last_from (omega arith))))
         (side_link w.last.side refl is))))))
       where
-        lt_test : (a b : ℕ) → a < b → nat_lt a b ≡ true
-        lt_test a b low = grind arith
-
         or_left : (a b : Bool) → a ≡ true → (a || b) ≡ true
         or_left a b h = grind arith
 
@@ -382,10 +484,9 @@ module _ (layout : Layout) (s : Scene) (sound : Sound tree layout s) (kept : Tre
             (is.leaf_place ∙ ap (λ b. child_of b w.last.from) e ∙ ap right_of (sym is.parent)))
 
     pub kind : Kind
-    kind = ⊎_elim (λ look. Looks (looks look.0))
-        (⊎_elim (λ insert. Inserts (inserts_it (ap (λ op. form_for op w.found) insert.2 ∙ ap (form_for (Ins insert.0 insert.1)) insert.3)))
-        (λ delete. Deletes (deletes_it (ap (λ op. form_for op w.found) delete.1 ∙ ap (form_for (Del delete.0)) delete.2))))
-        (cases x.op w.found fits.served)
+    kind = ⊎_elim (λ look. Looks (looks look)) (⊎_elim (λ insert. Inserts (inserts_it insert))
+        (⊎_elim (λ delete. Deletes (deletes_it delete)) (λ replace. Replaces (replaces_it replace))))
+        (cases x.op w.found fits.one)
 
   -- the parent's other link, by sides
   pub sibling_place : IsRemoving → sibling_of x.thunk ≡ child_of (not w.last.side) w.last.from

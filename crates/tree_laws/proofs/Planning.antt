@@ -1,8 +1,9 @@
--- What a body wants was read, and only insertions make nodes.
-use Rattle.std.proofs.Common.{◌≡◌, ℕ, ◌+◌, true, cond, inl, inr, refl, sym, ap, ◌∙◌, subst, ⊎_elim, arith}
-use Rattle.std.specs.Prelude.{◌⊎◌, Some, List, slice_get, slice_index}
+-- What a body wants was read, and only operations that add a pair, or put one in the place of another, make nodes.
+use Rattle.std.proofs.Common.{◌≡◌, ℕ, ◌+◌, ◌*◌, true, false, cond, inl, inr, refl, sym, ap, ◌∙◌, subst, ⊎_elim, arith}
+use Rattle.std.specs.Prelude.{◌⊎◌, ◌&&◌, ◌^◌, None, Some, List, slice_get, slice_index}
 use Rattle.map_history.specs.declared.op.Op.{Op}
-use Rattle.map_history.specs.declared.op.Op.TheVariants.{Ins, Del}
+use Rattle.map_history.specs.declared.op.Op.TheVariants.{Get, Ins, Del, Put, Mov}
+use Rattle.map_history.specs.AtKey.{Gets, change_at}
 use Rattle.section_body.specs.Bucket.{operand}
 use Rattle.body_terms.specs.declared.value.Init.{Init}
 use Rattle.body_terms.specs.declared.step.Step.TheVariants.{Load, Want, Make, Answer}
@@ -10,10 +11,17 @@ use Rattle.body_terms.specs.declared.thunk.Thunk.{Thunk}
 use Rattle.structure_laws.specs.Scene.{Readings}
 use Rattle.structure_laws.specs.Planner.{Adds}
 use Rattle.bucket_laws.specs.Walk.{Bounds, is_del}
-use Rattle.tree_bodies.specs.Tree.{lock_of, mark_of, slot_in, Form, Look, Insert, Delete, Empty, form_of, body_of, tree_steps, parent_in, sibling_of}
-use Rattle.tree_laws.specs.Walk.{Walk, start, step_place, operands_for, insert_operands, delete_operands, form_for, lock_for, fits_walk, walk}
-use Rattle.tree_laws.proofs.Fit.{IsFit, fit_of, look_numbers, numbers_of, inserts, deletes, look_outer}
-use Rattle.tree_laws.proofs.Forms.{look_load, insert_load, delete_load, look_want, insert_want, delete_want, look_make, insert_answer, delete_make}
+use Rattle.bucket_laws.proofs.Fit.{keeps_gets}
+use Rattle.tree_bodies.specs.Tree.{lock_of, mark_of, slot_in, Form, Look, Insert, Delete, Replace, Empty, form_of}
+use Rattle.tree_bodies.specs.Tree.{body_of}
+use Rattle.tree_bodies.specs.Tree.{tree_steps, parent_in, sibling_of}
+use Rattle.tree_laws.specs.Walk.{Walk, start, step_place, operands_for, delete_operands, form_for, lock_for, fits_walk}
+use Rattle.tree_laws.specs.Walk.{walk}
+use Rattle.tree_laws.proofs.Fit.{IsFit, fit_of, look_numbers, numbers_of, inserts, deletes, replaces}
+use Rattle.tree_laws.proofs.Fit.{look_outer, insert_outer, replace_outer}
+use Rattle.tree_laws.proofs.Forms.{look_load, insert_load, delete_load, replace_load}
+use Rattle.tree_laws.proofs.Forms.{look_want, insert_want, delete_want, replace_want}
+use Rattle.tree_laws.proofs.Forms.{look_make, delete_make, insert_answer, replace_answer}
 use Rattle.tree_laws.proofs.WalkReads.{is_past, is_late, is_marked, IsAmong, Reads, walk_reads}
 
 module _ (b : Bounds) (op : Op) (readings : Readings) (thunk : Thunk) (fits : fits_walk op (walk b op start readings) thunk ≡ true) where
@@ -41,7 +49,10 @@ module _ (b : Bounds) (op : Op) (readings : Readings) (thunk : Thunk) (fits : fi
   mark_at : (slot : ℕ) → thunk.lock ≡ lock_of slot → thunk.lock + 4 ≡ mark_of slot
   mark_at slot e = omega arith
 
-  -- both words that the forms 11 and 12 want
+  outer_lock : (is_del op && w.found) ≡ false → thunk.lock ≡ lock_of w.last.from
+  outer_lock stays = fit.lock ∙ ap (λ c. cond c (lock_of w.grand.from) (lock_of w.last.from)) stays
+
+  -- both words that the forms 11, 12 and 14 want
   module _ (link : operand thunk 0 ≡ step_place w.last) (word : operand thunk 1 ≡ w.last.word) (mark : operand thunk 2 ≡ w.mark) (lock : thunk.lock ≡ lock_of w.last.from) where
     link_read : (p n : ℕ) → p ≡ operand thunk 0 → n ≡ operand thunk 1 → Among p n
     link_read p n e e' = moved p n (step_place w.last) w.last.word (e ∙ link) (e' ∙ word) (reads.last_read past)
@@ -49,26 +60,39 @@ module _ (b : Bounds) (op : Op) (readings : Readings) (thunk : Thunk) (fits : fi
     mark_read : (p n : ℕ) → p ≡ thunk.lock + 4 → n ≡ operand thunk 2 → Among p n
     mark_read p n e e' = moved p n (mark_of w.last.from) w.mark (e ∙ mark_at w.last.from lock) (e' ∙ mark) (reads.mark_read fit.stage)
 
-  look_reads : form_for op w.found ≡ 11 → (i j p r n : ℕ) → slice_get (body_of Look thunk) i ≡ Some (Load p r) → slice_get (body_of Look thunk) j ≡ Some (Want r n) → Among p n
+    -- of a Load and a Want of one register, whose places in the body are these
+    plain_pair : (i j p r n a b c d : ℕ)
+        → ((i ≡ a) × (r ≡ 0) × (p ≡ operand thunk 0)) ⊎ ((i ≡ b) × (r ≡ 1) × (p ≡ thunk.lock + 4))
+        → ((j ≡ c) × (r ≡ 0) × (n ≡ operand thunk 1)) ⊎ ((j ≡ d) × (r ≡ 1) × (n ≡ operand thunk 2)) → Among p n
+    plain_pair i j p r n a b c d (inl l) (inl h) = link_read p n l.2 h.2
+    plain_pair i j p r n a b c d (inl l) (inr h) = absurd (let x = l.1 in let y = h.1 in omega (arith, x, y))
+    plain_pair i j p r n a b c d (inr l) (inl h) = absurd (let x = l.1 in let y = h.1 in omega (arith, x, y))
+    plain_pair i j p r n a b c d (inr l) (inr h) = mark_read p n l.2 h.2
+
+  abbrev Pairs : Form → Type 0
+  Pairs f = (i j p r n : ℕ) → slice_get (body_of f thunk) i ≡ Some (Load p r)
+      → slice_get (body_of f thunk) j ≡ Some (Want r n) → Among p n
+
+  look_reads : form_for op w.found ≡ 11 → Pairs Look
   look_reads form i j p r n load want =
       let numbers = look_numbers op w w.found form in
-      let link = number_at 0 numbers in let word = number_at 1 numbers in let mark = number_at 2 numbers in
-      let lock : thunk.lock ≡ lock_of w.last.from = fit.lock ∙ ap (λ c. cond c (lock_of w.grand.from) (lock_of w.last.from)) (look_outer op w.found form) in
-      ⊎_elim
-      (λ l. ⊎_elim (λ a. link_read link word mark lock p n l.2 a.2) (λ a. absurd (let x = l.1 in let y = a.1 in omega arith)) (look_want thunk j r n want))
-      (λ l. ⊎_elim (λ a. absurd (let x = l.1 in let y = a.1 in omega arith)) (λ a. mark_read link word mark lock p n l.2 a.2) (look_want thunk j r n want))
-      (look_load thunk i p r load)
+      plain_pair (number_at 0 numbers) (number_at 1 numbers) (number_at 2 numbers) (outer_lock
+      (look_outer op w.found form))
+      i j p r n 0 2 1 3 (look_load thunk i p r load) (look_want thunk j r n want)
 
-  insert_reads : form_for op w.found ≡ 12 → (i j p r n : ℕ) → slice_get (body_of Insert thunk) i ≡ Some (Load p r) → slice_get (body_of Insert thunk) j ≡ Some (Want r n) → Among p n
+  insert_reads : form_for op w.found ≡ 12 → Pairs Insert
   insert_reads form i j p r n load want =
-      let is = inserts op w.found form in
-      let numbers : operands_for op w w.found ≡ insert_operands w is.0 is.1 = ap (λ op. operands_for op w w.found) is.2 ∙ ap (operands_for (Ins is.0 is.1) w) is.3 in
-      let link = number_at 0 numbers in let word = number_at 1 numbers in let mark = number_at 2 numbers in
-      let lock : thunk.lock ≡ lock_of w.last.from = fit.lock ∙ ap (λ op. lock_for op w w.found) is.2 in
-      ⊎_elim
-      (λ l. ⊎_elim (λ a. link_read link word mark lock p n l.2 a.2) (λ a. absurd (let x = l.1 in let y = a.1 in omega arith)) (insert_want thunk j r n want))
-      (λ l. ⊎_elim (λ a. absurd (let x = l.1 in let y = a.1 in omega arith)) (λ a. mark_read link word mark lock p n l.2 a.2) (insert_want thunk j r n want))
-      (insert_load thunk i p r load)
+      let numbers = (inserts op w w.found form).numbers in
+      plain_pair (number_at 0 numbers) (number_at 1 numbers) (number_at 2 numbers) (outer_lock
+      (insert_outer op w.found form))
+      i j p r n 0 3 1 4 (insert_load thunk i p r load) (insert_want thunk j r n want)
+
+  replace_reads : form_for op w.found ≡ 14 → Pairs Replace
+  replace_reads form i j p r n load want =
+      let numbers = (replaces op w w.found form).numbers in
+      plain_pair (number_at 0 numbers) (number_at 1 numbers) (number_at 2 numbers) (outer_lock
+      (replace_outer op w.found form))
+      i j p r n 0 3 1 4 (replace_load thunk i p r load) (replace_want thunk j r n want)
 
   module _ (form : form_for op w.found ≡ 13) where
     removes : (key : ℕ) × (op ≡ Del key) × (w.found ≡ true)
@@ -116,21 +140,34 @@ module _ (b : Bounds) (op : Op) (readings : Readings) (thunk : Thunk) (fits : fi
     delete_reads : (i j p r n : ℕ) → slice_get (body_of Delete thunk) i ≡ Some (Load p r) → slice_get (body_of Delete thunk) j ≡ Some (Want r n) → Among p n
     delete_reads i j p r n load want = delete_pair i j p r n (delete_load thunk i p r load) (delete_want thunk j r n want)
 
-  reads_in : (f : Form) → form_of thunk ≡ f → (i j p r n : ℕ) → slice_get (body_of f thunk) i ≡ Some (Load p r) → slice_get (body_of f thunk) j ≡ Some (Want r n) → Among p n
-  reads_in Look e i j p r n load want = look_reads (sym fit.form ∙ (numbers_of thunk Look e).0 refl) i j p r n load want
-  reads_in Insert e i j p r n load want = insert_reads (sym fit.form ∙ (numbers_of thunk Insert e).1 refl) i j p r n load want
-  reads_in Delete e i j p r n load want = delete_reads (sym fit.form ∙ (numbers_of thunk Delete e).2 refl) i j p r n load want
-  reads_in Empty e i j p r n load want = absurd (cc)
+  reads_in : (f : Form) → form_of thunk ≡ f → Pairs f
+  reads_in Look e = look_reads (sym fit.form ∙ (numbers_of thunk).look e)
+  reads_in Insert e = insert_reads (sym fit.form ∙ (numbers_of thunk).insert e)
+  reads_in Delete e = delete_reads (sym fit.form ∙ (numbers_of thunk).delete e)
+  reads_in Replace e = replace_reads (sym fit.form ∙ (numbers_of thunk).replace e)
+  reads_in Empty e = λ i j p r n load want. absurd (let z = load in cc)
 
   pub wants_read : (i j p r n : ℕ) → slice_get (tree_steps thunk) i ≡ Some (Load p r) → slice_get (tree_steps thunk) j ≡ Some (Want r n) → Among p n
-  wants_read i j p r n load want = reads_in (form_of thunk) refl i j p r n load want
+  wants_read = reads_in (form_of thunk) refl
+
+  -- an operation that gives a value to an absent key answers that the pair is new
+  new_adds : (op : Op) (value reply : ℕ) → change_at None op ≡ Gets value → reply ≡ 1 * 2 ^ 32 → Adds op reply
+  new_adds (Get key) value reply gets new = absurd (keeps_gets value gets)
+  new_adds (Ins key v) value reply gets new = new
+  new_adds (Del key) value reply gets new = absurd (keeps_gets value gets)
+  new_adds (Put key v) value reply gets new = inl new
+  new_adds (Mov from to) value reply gets new = absurd (keeps_gets value gets)
 
   adds_in : (f : Form) → form_of thunk ≡ f → (i j r reply : ℕ) (init : Init) → slice_get (body_of f thunk) i ≡ Some (Make init r) → slice_get (body_of f thunk) j ≡ Some (Answer reply) → Adds op reply
   adds_in Look e i j r reply init make answer = absurd (look_make thunk i r init make)
   adds_in Insert e i j r reply init make answer =
-      let is = inserts op w.found (sym fit.form ∙ (numbers_of thunk Insert e).1 refl) in
-      subst (λ op. Adds op reply) (sym is.2) (insert_answer thunk j reply answer)
+      let is = inserts op w w.found (sym fit.form ∙ (numbers_of thunk).insert e) in
+      new_adds op is.value reply is.puts.1 (insert_answer thunk j reply answer)
   adds_in Delete e i j r reply init make answer = absurd (delete_make thunk i r init make)
+  adds_in Replace e i j r reply init make answer =
+      let is = replaces op w w.found (sym fit.form ∙ (numbers_of thunk).replace e) in
+      subst (λ op. Adds op reply) (sym is.put)
+      (inr (w.value, reads.value_low, replace_answer thunk j reply answer ∙ number_at 5 is.numbers))
   adds_in Empty e i j r reply init make answer = absurd (cc)
 
   pub makes_add : (i j r reply : ℕ) (init : Init) → slice_get (tree_steps thunk) i ≡ Some (Make init r) → slice_get (tree_steps thunk) j ≡ Some (Answer reply) → Adds op reply

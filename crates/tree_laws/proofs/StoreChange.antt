@@ -13,10 +13,13 @@ use Rattle.structure_laws.specs.Sections.{Here}
 use Rattle.structure_laws.specs.Cells.{IsSafe}
 use Rattle.structure_laws.specs.Sound.{IsRead, Sound}
 use Rattle.structure_laws.proofs.Changes.{upd_same, upd_other, upd_some}
-use Rattle.tree_bodies.specs.Tree.{Delete, form_of, parent_in, leaf_in, sibling_of, is_left, left_of, right_of}
+use Rattle.tree_bodies.specs.Tree.{lock_of, Delete, form_of, parent_in, leaf_in, sibling_of, is_left, left_of, right_of}
+use Rattle.tree_bodies.specs.Tree.{old_leaf}
 use Rattle.tree_laws.specs.Search.{Nodes, Covers, IsInner, SearchTree, HasSentinels}
 use Rattle.tree_laws.specs.Walk.{Walk}
-use Rattle.tree_laws.specs.Leaves.{nodes, walk_of, IsAsRead, IsWalk, IsTrail, IsNewLeaf, IsNewInner, IsTaken, HasLeaf, HasInner, HasTaken, IsBetween, TreeKept, tree}
+use Rattle.tree_laws.specs.Leaves.{nodes, walk_of, IsAsRead, IsWalk, IsTrail, IsNewLeaf, IsNewInner, IsTaken}
+use Rattle.tree_laws.specs.Leaves.{IsReplaced}
+use Rattle.tree_laws.specs.Leaves.{HasLeaf, HasInner, HasTaken, HasOld, IsBetween, TreeKept, tree}
 use Rattle.tree_laws.proofs.Grown.{still_walk, still_trail}
 use Rattle.tree_laws.proofs.KeepsFrame.{StaysNode, stays_inner, StaysPassed, read_stays}
 
@@ -99,6 +102,7 @@ module _ (layout : Layout) (s : Scene) (sound : Sound tree layout s) (kept : Tre
     pub no_leaf : HasLeaf (passed x) → ⊥
     pub no_inner : HasInner (passed x) → ⊥
     pub taken : HasTaken (passed x) → IsTaken (after_scene s d x cells) c once (passed x)
+    pub replaced : HasOld (passed x) → IsReplaced (after_scene s d x cells) c once (passed x)
     -- and the others'
     pub leaf_new : (e : ℕ) (z : Section) (t : ℕ) → e ≢ d → s.section e ≡ Some z → HasLeaf z → z.reg 2 ≡ suc t
         → once t ≡ false
@@ -196,6 +200,15 @@ module _ (layout : Layout) (s : Scene) (sound : Sound tree layout s) (kept : Tre
           sibling = λ t leads. change.sibling e z t ne there has (sym (sibling_stays z.thunk out) ∙ leads);
         }
 
+    replaced_kept : (e : ℕ) (z : Section) → e ≢ d → s.section e ≡ Some z → HasOld z
+        → IsReplaced (after_scene s d x cells) c once z
+    replaced_kept e z ne there has = let was = kept.replaced e z there has in record {
+      leaf_once = (change.grown (old_leaf z.thunk) was.leaf_once).once_linked;
+      leaf_out = change.out (old_leaf z.thunk) was.leaf_once was.leaf_out;
+      leaf_up = was.leaf_up ∙ ap lock_of (sym (change.up (old_leaf z.thunk) was.leaf_once was.leaf_out));
+      leaf_live = was.leaf_live;
+    }
+
     abbrev InSection : ℕ → Type 0
     InSection t = (c.linked t ≡ true)
         ⊎ ((e : ℕ) × (z : Section) × (upd s.section d (Some (passed x)) e ≡ Some z) × IsBetween z t)
@@ -279,6 +292,8 @@ module _ (layout : Layout) (s : Scene) (sound : Sound tree layout s) (kept : Tre
       new_inner = section_is (λ e z. HasInner z → IsNewInner (after_scene s d x cells) once z)
           (λ has. absurd (change.no_inner has)) inner_kept;
       taken = section_is (λ e z. HasTaken z → IsTaken (after_scene s d x cells) c once z) change.taken taken_kept;
+      replaced = section_is (λ e z. HasOld z → IsReplaced (after_scene s d x cells) c once z) change.replaced
+          replaced_kept;
       readers = λ r readings reader.
           still_read readings (sound.readers r readings reader) (kept.readers r readings reader);
       published = section_is (λ e z. IsAsRead then_nodes z.readings)

@@ -5,8 +5,8 @@ use Rattle.std.proofs.lemmas.Bool.{both_ways}
 use Rattle.small_lemmas.proofs.Bools.{or_first as or_left, or_second as or_right, negated as not_true}
 use Rattle.small_lemmas.proofs.Numbers.{other_tested as eq_false}
 use Rattle.map_history.specs.declared.op.Op.{Op}
-use Rattle.map_history.specs.declared.op.Op.TheVariants.{Ins, Del}
-use Rattle.map_history.specs.Keys.{key_of, value_given}
+use Rattle.map_history.specs.declared.op.Op.TheVariants.{Del}
+use Rattle.map_history.specs.Keys.{key_of}
 use Rattle.body_terms.specs.Word.{value_of, is_free, is_spent}
 use Rattle.body_terms.specs.Memory.{cell_of}
 use Rattle.section_body.specs.Bucket.{operand, is_small}
@@ -28,13 +28,22 @@ use Rattle.structure_laws.specs.Shape.{Shaped}
 use Rattle.structure_laws.proofs.Changes.{value_small, both_true}
 use Rattle.structure_laws.proofs.Costs.{shaped_cost}
 use Rattle.bucket_laws.specs.Walk.{is_del}
+use Rattle.bucket_laws.proofs.Fit.{PutsIn, puts_given}
 use Rattle.bucket_laws.proofs.TableGives.{reached}
-use Rattle.tree_bodies.specs.Tree.{lock_of, left_of, right_of, mark_of, child_of, slot_in, Look, Insert, Delete, leaf_with, inner_with, parent_in, is_left, is_right, sibling_of, look_steps, insert_steps, delete_steps, form_of, body_of, tree_steps}
+use Rattle.tree_bodies.specs.Tree.{lock_of, left_of, right_of, mark_of, child_of, slot_in, Look, Insert, Delete}
+use Rattle.tree_bodies.specs.Tree.{Replace}
+use Rattle.tree_bodies.specs.Tree.{leaf_with, inner_with, parent_in, is_left, is_right, sibling_of, form_of, body_of}
+use Rattle.tree_bodies.specs.Tree.{look_steps, insert_steps, delete_steps, replace_steps, tree_steps}
 use Rattle.tree_laws.specs.Search.{IsInner}
-use Rattle.tree_laws.specs.Walk.{Walk, AtRoot, AtEnd, Refused, step_place, step_to, form_for, insert_operands, delete_operands, operands_for}
+use Rattle.tree_laws.specs.Walk.{Walk, AtRoot, AtEnd, Refused, step_place, step_to, form_for, delete_operands}
+use Rattle.tree_laws.specs.Walk.{operands_for}
 use Rattle.tree_laws.specs.Leaves.{is_lock_place, shows_link, nodes, bounds, walk_of, IsFollowed, IsWalk, TreeKept, tree}
-use Rattle.tree_laws.proofs.BodyShapes.{look_shaped, insert_shaped, delete_shaped}
+use Rattle.tree_laws.proofs.BodyShapes.{look_shaped, insert_shaped, delete_shaped, replace_shaped}
 use Rattle.tree_laws.proofs.Fit.{IsFit, fit_of, cases, look_numbers, reply_some, is_look, is_insert, is_delete}
+use Rattle.tree_laws.proofs.Fit.{is_replace}
+use Rattle.tree_laws.proofs.Fit.{look_outer, insert_outer, replace_outer, Inserts, inserts, deletes, Replaces, replaces}
+use Rattle.tree_laws.proofs.Fit.{put_puts}
+use Rattle.tree_laws.proofs.Forms.{replace_load, replace_take, replace_make, replace_store, replace_answer}
 use Rattle.tree_laws.proofs.Forms.{look_load, insert_load, delete_load, look_take, look_make, look_store, look_answer, insert_take, insert_make, insert_store, insert_answer, delete_take, delete_make, delete_store, delete_answer}
 use Rattle.tree_laws.proofs.Shown.{lt_test, shown_now}
 use Rattle.tree_laws.proofs.WalkReads.{is_past, is_late, is_locked, both, eq_test, IsFrom, Reads, walk_reads}
@@ -231,28 +240,77 @@ module _ (layout : Layout) (limits : IsWithinLimits layout) (s : Scene) (sound :
       answers = λ j n h. let at = look_answer thunk j n (step_at look_body j (Answer n) h) ∙ number_at 3 (look_numbers op w w.found form) in let some = reply_some op w w.found in omega arith;
     }
 
+  -- the numbers of a new leaf
+  new_key_low : (key value : ℕ) → PutsIn op key value → operand thunk 3 ≡ key → operand thunk 3 < 2 ^ 32
+  new_key_low key value puts at = let low = allowed.keys (key_of op) (inl refl) in let same = puts.0 in
+      omega (arith, low, at, same)
+
+  new_value_low : (key value : ℕ) → PutsIn op key value → operand thunk 4 ≡ value → operand thunk 4 < 2 ^ 32
+  new_value_low key value puts at = let low = allowed.value value (puts_given op key value puts) in
+      omega (arith, low, at)
+
+  -- each first value of a new node has 32 bits, and that of the lock is 0
+  five_small : (a b c : Value) → IsSmall a → IsSmall b → IsSmall c → (i : ℕ) (v : Value) → slice_get
+      (Const 0 ∷ a ∷ b ∷ c ∷ Const 0 ∷ []) i ≡ Some v → IsSmall v
+  five_small a b c pa pb pc zero v h = subst IsSmall (same h) (omega arith)
+    where
+      same : {x y : Value} → Some x ≡ Some y → x ≡ y
+      same e = cc
+  five_small a b c pa pb pc (suc zero) v h = subst IsSmall (same h) pa
+    where
+      same : {x y : Value} → Some x ≡ Some y → x ≡ y
+      same e = cc
+  five_small a b c pa pb pc (suc (suc zero)) v h = subst IsSmall (same h) pb
+    where
+      same : {x y : Value} → Some x ≡ Some y → x ≡ y
+      same e = cc
+  five_small a b c pa pb pc (suc (suc (suc zero))) v h = subst IsSmall (same h) pc
+    where
+      same : {x y : Value} → Some x ≡ Some y → x ≡ y
+      same e = cc
+  five_small a b c pa pb pc (suc (suc (suc (suc zero)))) v h = subst IsSmall (same h) (omega arith)
+    where
+      same : {x y : Value} → Some x ≡ Some y → x ≡ y
+      same e = cc
+  five_small a b c pa pb pc (suc (suc (suc (suc (suc i))))) v h = absurd (cc)
+
+  five_unlocked : (a b c : Value) (i t : ℕ) (v : Value) → slice_get (Const 0 ∷ a ∷ b ∷ c ∷ Const 0 ∷ []) i ≡ Some v
+      → is_lock_place (cell_of 0 t i) ≡ true → v ≡ Const 0
+  five_unlocked a b c zero t v h lock = sym (same h)
+    where
+      same : {x y : Value} → Some x ≡ Some y → x ≡ y
+      same e = cc
+  five_unlocked a b c (suc i) t v h lock = absurd (both_ways _ (cell_unlocked t (suc i) (omega arith) (short i h)) lock)
+    where
+      short : (i : ℕ) → slice_get (a ∷ b ∷ c ∷ Const 0 ∷ []) i ≡ Some v → suc i < 5
+      short zero h = omega arith
+      short (suc zero) h = omega arith
+      short (suc (suc zero)) h = omega arith
+      short (suc (suc (suc zero))) h = omega arith
+      short (suc (suc (suc (suc i)))) h = absurd (cc)
+
   -- form 12
-  module _ (key value : ℕ) (is : op ≡ Ins key value) (found : w.found ≡ false) where
-    insert_numbers : operands_for op w w.found ≡ insert_operands w key value
-    insert_numbers = ap (λ op. operands_for op w w.found) is ∙ ap (operands_for (Ins key value) w) found
+  module _ (form : form_for op w.found ≡ 12) where
+    inserted : Inserts op w w.found
+    inserted = inserts op w w.found form
 
     insert_lock : thunk.lock ≡ lock_of parent
-    insert_lock = lock_at (ap (λ op. is_del op && w.found) is)
+    insert_lock = lock_at (insert_outer op w.found form)
 
     insert_place : operand thunk 0 ≡ step_place w.last
-    insert_place = number_at 0 insert_numbers
+    insert_place = number_at 0 inserted.numbers
 
     key_low : operand thunk 3 < 2 ^ 32
-    key_low = let low = allowed.keys (key_of op) (inl refl) in let at = number_at 3 insert_numbers in let same : key_of op ≡ key = ap key_of is in omega arith
+    key_low = new_key_low inserted.key inserted.value inserted.puts (number_at 3 inserted.numbers)
 
     value_low : operand thunk 4 < 2 ^ 32
-    value_low = let low = allowed.value value (ap value_given is) in let at = number_at 4 insert_numbers in omega arith
+    value_low = new_value_low inserted.key inserted.value inserted.puts (number_at 4 inserted.numbers)
 
     other_low : operand thunk 5 < 2 ^ 32
-    other_low = let low = reads.key_small in let at = number_at 5 insert_numbers in omega arith
+    other_low = let low = reads.key_small in let at = number_at 5 inserted.numbers in omega (arith, low, at)
 
     insert_form : form_of thunk ≡ Insert
-    insert_form = is_insert thunk (fit.form ∙ ap (λ op. form_for op w.found) is ∙ ap (form_for (Ins key value)) found)
+    insert_form = is_insert thunk (fit.form ∙ form)
         (both _ _ (small_is (thunk.lock + 4) (let at = insert_lock in let low = cell_small parent 4 reads.last_from (omega arith) in omega arith))
         (both _ _ (small_is (operand thunk 0) (subst (λ n. n < 2 ^ 32) (sym (insert_place ∙ child_cell w.last.side parent)) (cell_small parent (side_cell w.last.side) reads.last_from (let high = side_high w.last.side in omega arith))))
         (both _ _ (small_is (operand thunk 3) key_low) (both _ _ (small_is (operand thunk 4) value_low) (small_is (operand thunk 5) other_low)))))
@@ -271,44 +329,6 @@ module _ (layout : Layout) (limits : IsWithinLimits layout) (s : Scene) (sound :
     insert_once (inl a) (inr b) = absurd (places_apart a.2 b.2)
     insert_once (inr a) (inl b) = absurd (places_apart b.2 a.2)
     insert_once (inr a) (inr b) = a.0 ∙ sym b.0
-
-    -- each first value has 32 bits, and that of the lock is 0
-    five_small : (a b c : Value) → IsSmall a → IsSmall b → IsSmall c → (i : ℕ) (v : Value) → slice_get (Const 0 ∷ a ∷ b ∷ c ∷ Const 0 ∷ []) i ≡ Some v → IsSmall v
-    five_small a b c pa pb pc zero v h = subst IsSmall (same h) (omega arith)
-      where
-        same : {x y : Value} → Some x ≡ Some y → x ≡ y
-        same e = cc
-    five_small a b c pa pb pc (suc zero) v h = subst IsSmall (same h) pa
-      where
-        same : {x y : Value} → Some x ≡ Some y → x ≡ y
-        same e = cc
-    five_small a b c pa pb pc (suc (suc zero)) v h = subst IsSmall (same h) pb
-      where
-        same : {x y : Value} → Some x ≡ Some y → x ≡ y
-        same e = cc
-    five_small a b c pa pb pc (suc (suc (suc zero))) v h = subst IsSmall (same h) pc
-      where
-        same : {x y : Value} → Some x ≡ Some y → x ≡ y
-        same e = cc
-    five_small a b c pa pb pc (suc (suc (suc (suc zero)))) v h = subst IsSmall (same h) (omega arith)
-      where
-        same : {x y : Value} → Some x ≡ Some y → x ≡ y
-        same e = cc
-    five_small a b c pa pb pc (suc (suc (suc (suc (suc i))))) v h = absurd (cc)
-
-    five_unlocked : (a b c : Value) (i t : ℕ) (v : Value) → slice_get (Const 0 ∷ a ∷ b ∷ c ∷ Const 0 ∷ []) i ≡ Some v → is_lock_place (cell_of 0 t i) ≡ true → v ≡ Const 0
-    five_unlocked a b c zero t v h lock = sym (same h)
-      where
-        same : {x y : Value} → Some x ≡ Some y → x ≡ y
-        same e = cc
-    five_unlocked a b c (suc i) t v h lock = absurd (both_ways _ (cell_unlocked t (suc i) (omega arith) (short i h)) lock)
-      where
-        short : (i : ℕ) → slice_get (a ∷ b ∷ c ∷ Const 0 ∷ []) i ≡ Some v → suc i < 5
-        short zero h = omega arith
-        short (suc zero) h = omega arith
-        short (suc (suc zero)) h = omega arith
-        short (suc (suc (suc zero))) h = omega arith
-        short (suc (suc (suc (suc i)))) h = absurd (cc)
 
     -- what holds of both new nodes
     for_init : (P : Init → Type 0) → ((k v : ℕ) → k < 2 ^ 32 → v < 2 ^ 32 → P (leaf_with k v)) → ((k : ℕ) (l r : Value) → k < 2 ^ 32 → IsSmall l → IsSmall r → P (inner_with k l r)) → (j r : ℕ) (init : Init) → HasStep j (Make init r) → P init
@@ -344,6 +364,102 @@ module _ (layout : Layout) (limits : IsWithinLimits layout) (s : Scene) (sound :
       make_small = λ j r i init v h. for_init (λ init. slice_get init.cells i ≡ Some v → IsSmall v) (λ k n a b. five_small (Const k) (Const 0) (Const n) a (omega arith) b i v) (λ k l r a b c. five_small (Const k) l r a b c i v) j r init h;
       make_unlocked = λ j r i t init v h. for_init (λ init. slice_get init.cells i ≡ Some v → is_lock_place (cell_of 0 t i) ≡ true → v ≡ Const 0) (λ k n a b. five_unlocked (Const k) (Const 0) (Const n) i t v) (λ k l r a b c. five_unlocked (Const k) l r i t v) j r init h;
       answers = λ j n h. let at = insert_answer thunk j n (step_at insert_body j (Answer n) h) in omega arith;
+    }
+
+  -- form 14
+  module _ (form : form_for op w.found ≡ 14) where
+    replaced : Replaces op w w.found
+    replaced = replaces op w w.found form
+
+    replaced_puts : PutsIn op replaced.key replaced.value
+    replaced_puts = put_puts op replaced.key replaced.value replaced.put
+
+    replace_lock : thunk.lock ≡ lock_of parent
+    replace_lock = lock_at (replace_outer op w.found form)
+
+    replace_place : operand thunk 0 ≡ step_place w.last
+    replace_place = number_at 0 replaced.numbers
+
+    leaf_key_low : operand thunk 3 < 2 ^ 32
+    leaf_key_low = new_key_low replaced.key replaced.value replaced_puts (number_at 3 replaced.numbers)
+
+    leaf_value_low : operand thunk 4 < 2 ^ 32
+    leaf_value_low = new_value_low replaced.key replaced.value replaced_puts (number_at 4 replaced.numbers)
+
+    replace_form : form_of thunk ≡ Replace
+    replace_form = is_replace thunk (fit.form ∙ form)
+        (both _ _ (small_is (thunk.lock + 4) (let at = replace_lock in
+        let low = cell_small parent 4 reads.last_from (omega arith) in omega (arith, at, low)))
+        (both _ _ (small_is (operand thunk 0) (subst (λ n. n < 2 ^ 32)
+        (sym (replace_place ∙ child_cell w.last.side parent)) (cell_small parent (side_cell w.last.side) reads.last_from
+        (let high = side_high w.last.side in omega (arith, high)))))
+        (both _ _ (small_is (operand thunk 3) leaf_key_low) (both _ _ (small_is (operand thunk 4) leaf_value_low)
+        (lt_test 0 (value_of (operand thunk 1)) (subst (λ n. 0 < value_of n) (sym (number_at 1 replaced.numbers))
+        (reads.some past)))))))
+
+    replace_body : tree_steps thunk ≡ replace_steps thunk
+    replace_body = ap (λ f. body_of f thunk) replace_form
+
+    abbrev IsLoad : ℕ → ℕ → ℕ → Type 0
+    IsLoad j p r = ((j ≡ 0) × (r ≡ 0) × (p ≡ operand thunk 0)) ⊎ ((j ≡ 3) × (r ≡ 1) × (p ≡ thunk.lock + 4))
+
+    load_at : (j p r : ℕ) → HasStep j (Load p r) → IsLoad j p r
+    load_at j p r h = replace_load thunk j p r (step_at replace_body j (Load p r) h)
+
+    replace_cell : (j p r : ℕ) → HasStep j (Load p r) → IsCell p
+    replace_cell j p r h = ⊎_elim
+        (λ link. child_is w.last.side parent p reads.last_from (link.2 ∙ replace_place))
+        (λ mark. mark_is parent p thunk.lock reads.last_from replace_lock mark.2) (load_at j p r h)
+
+    apart_places : {p : ℕ} → p ≡ operand thunk 0 → p ≡ thunk.lock + 4 → ⊥
+    apart_places e e' = let at = replace_lock in let place = replace_place ∙ child_cell w.last.side parent in
+        let high = side_high w.last.side in omega (arith, e, e', at, place, high)
+
+    replace_once : {i j p q r : ℕ} → IsLoad i p q → IsLoad j p r → i ≡ j
+    replace_once (inl a) (inl b) = a.0 ∙ sym b.0
+    replace_once (inl a) (inr b) = absurd (apart_places a.2 b.2)
+    replace_once (inr a) (inl b) = absurd (apart_places b.2 a.2)
+    replace_once (inr a) (inr b) = a.0 ∙ sym b.0
+
+    replace_no_take : (j l n : ℕ) → HasStep j (Take l n) → ⊥
+    replace_no_take j l n h = replace_take thunk j l n (step_at replace_body j (Take l n) h)
+
+    -- what holds of the new leaf
+    for_leaf : (P : Init → Type 0) → P (leaf_with (operand thunk 3) (operand thunk 4)) → (j r : ℕ) (init : Init)
+        → HasStep j (Make init r) → P init
+    for_leaf P leaf j r init h =
+        subst P (sym (replace_make thunk j r init (step_at replace_body j (Make init r) h)).2) leaf
+
+    replace_stores : (j r : ℕ) (v : Value) → HasStep j (Store r v) → (j ≡ 7) × (r ≡ 0) × (v ≡ Made 2)
+    replace_stores j r v h = replace_store thunk j r v (step_at replace_body j (Store r v) h)
+
+    replace_is_shaped : Shaped tree layout readings thunk
+    replace_is_shaped = record {
+      shape = subst IsShaped (sym replace_body) (replace_shaped thunk);
+      brief = shaped_cost (tree_steps thunk) (subst IsShaped (sym replace_body) (replace_shaped thunk));
+      outer_lock = ap is_lock_place replace_lock ∙ lock_locked parent;
+      outer_known = subst known (sym replace_lock) (cell_known parent 0 reads.last_from (omega arith));
+      take_lock = λ j l n h. absurd (replace_no_take j l n h);
+      take_known = λ j l n h. absurd (replace_no_take j l n h);
+      take_inner = λ j l n h. absurd (replace_no_take j l n h);
+      take_once = λ i j l v n h h'. absurd (replace_no_take i l v h);
+      take_read = λ j l n h. absurd (replace_no_take j l n h);
+      take_free = λ j l n h. absurd (replace_no_take j l n h);
+      take_unspent = λ j l n h. absurd (replace_no_take j l n h);
+      load_unlocked = λ j p r h. loaded_unlocked p (replace_cell j p r h);
+      load_known = λ j p r h. loaded_known p (replace_cell j p r h);
+      load_once = λ i j p q r h h'. replace_once (load_at i p q h) (load_at j p r h');
+      store_once = λ i j r v n h h'. (replace_stores i r v h).0 ∙ sym (replace_stores j r n h').0;
+      store_small = λ j r v h. subst IsSmall (sym (replace_stores j r v h).2) tt;
+      make_whole = λ j r init h. for_leaf (λ init. length init.cells ≡ 5) refl j r init h;
+      make_small = λ j r i init v h. for_leaf (λ init. slice_get init.cells i ≡ Some v → IsSmall v)
+          (five_small (Const (operand thunk 3)) (Const 0) (Const (operand thunk 4)) leaf_key_low (omega arith)
+          leaf_value_low i v) j r init h;
+      make_unlocked = λ j r i t init v h. for_leaf
+          (λ init. slice_get init.cells i ≡ Some v → is_lock_place (cell_of 0 t i) ≡ true → v ≡ Const 0)
+          (five_unlocked (Const (operand thunk 3)) (Const 0) (Const (operand thunk 4)) i t v) j r init h;
+      answers = λ j n h. let at = replace_answer thunk j n (step_at replace_body j (Answer n) h)
+          ∙ number_at 5 replaced.numbers in omega (arith, at);
     }
 
   -- form 13
@@ -486,4 +602,6 @@ module _ (layout : Layout) (limits : IsWithinLimits layout) (s : Scene) (sound :
     }
 
   pub tree_shaped : Shaped tree layout readings thunk
-  tree_shaped = ⊎_elim (λ look. look_is_shaped look.0 look.1) (⊎_elim (λ insert. insert_is_shaped insert.0 insert.1 insert.2 insert.3) (λ delete. delete_is_shaped delete.0 delete.1 delete.2)) (cases op w.found fit.served)
+  tree_shaped = ⊎_elim (λ look. look_is_shaped look (look_outer op w.found look)) (⊎_elim insert_is_shaped
+      (⊎_elim (λ delete. let is = deletes op w.found delete in delete_is_shaped is.0 is.1 is.2) replace_is_shaped))
+      (cases op w.found fit.one)

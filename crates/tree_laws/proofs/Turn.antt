@@ -8,7 +8,7 @@ use Rattle.map_history.specs.declared.op.Op.{Op}
 use Rattle.map_history.specs.declared.op.Op.TheVariants.{Get, Ins, Del, Put, Mov}
 use Rattle.map_history.specs.declared.reply.Reply.TheVariants.{New, Dup, Gone, Absent}
 use Rattle.map_history.specs.Keys.{key_of}
-use Rattle.map_history.specs.Replay.{Pairs, found, reply_of}
+use Rattle.map_history.specs.Replay.{Pairs, found, replaced, reply_of}
 use Rattle.map_history.specs.Words.{word_of}
 use Rattle.body_terms.specs.declared.step.Step.TheVariants.{Stamp, Answer}
 use Rattle.body_terms.specs.declared.thunk.Thunk.{Thunk}
@@ -19,11 +19,13 @@ use Rattle.structure_laws.specs.Sections.{IsStep}
 use Rattle.structure_laws.specs.InTurn.{StandsFor, AtStamp}
 use Rattle.structure_laws.proofs.Changes.{equal_of}
 use Rattle.bucket_laws.specs.Walk.{is_del}
-use Rattle.tree_bodies.specs.Tree.{Look, Insert, Delete, look_steps, insert_steps, delete_steps}
+use Rattle.bucket_laws.proofs.Fit.{PutsIn, keeps_gets}
+use Rattle.bucket_laws.proofs.Maps.{set_reply}
+use Rattle.tree_bodies.specs.Tree.{Look, Insert, Delete, Replace, look_steps, insert_steps, delete_steps, replace_steps}
 use Rattle.tree_laws.specs.Search.{Nodes, IsLeaf, Contents, ViewsAgree}
 use Rattle.tree_laws.specs.Walk.{Walk, node_of, form_for, reply_for}
 use Rattle.tree_laws.specs.Leaves.{nodes, bounds, walk_of, TreeKept, tree}
-use Rattle.tree_laws.proofs.Forms.{look_answer, insert_answer, delete_answer}
+use Rattle.tree_laws.proofs.Forms.{look_answer, insert_answer, delete_answer, replace_answer}
 use Rattle.tree_laws.proofs.Found.{walk_keyed, value_read}
 use Rattle.tree_laws.proofs.Views.{views_agree}
 use Rattle.tree_laws.proofs.WalkReads.{is_late}
@@ -35,6 +37,9 @@ look_stamp t j h = grind arith
 
 pub insert_stamp : (t : Thunk) (j : ℕ) → slice_get (insert_steps t) j ≡ Some Stamp → j ≡ 7
 insert_stamp t j h = grind arith
+
+pub replace_stamp : (t : Thunk) (j : ℕ) → slice_get (replace_steps t) j ≡ Some Stamp → j ≡ 6
+replace_stamp t j h = grind arith
 
 pub delete_stamp : (t : Thunk) (j : ℕ) → slice_get (delete_steps t) j ≡ Some Stamp → j ≡ 12
 delete_stamp t j h = grind arith
@@ -62,8 +67,18 @@ module _ (pairs : Pairs) where
   reply_is (Ins key value) w false form some none = absurd (omega (arith, form))
   reply_is (Del key) w true form some none = absurd (omega (arith, form))
   reply_is (Del key) w false form some none = ap (λ b. word_of (if b then Gone else Absent)) (sym (gone key (none refl)))
-  reply_is (Put key value) w there form some none = absurd (omega (arith, form))
+  reply_is (Put key value) w true form some none = absurd (omega (arith, form))
+  reply_is (Put key value) w false form some none = absurd (omega (arith, form))
   reply_is (Mov from to) w there form some none = absurd (omega (arith, form))
+
+  -- an operation that gives a value to an absent key is answered that the pair is new
+  pub new_reply : (op : Op) (key value : ℕ) → PutsIn op key value → get pairs (key_of op) ≡ None
+      → 1 * 2 ^ 32 ≡ word_of (reply_of pairs op)
+  new_reply (Get k) key value puts none = absurd (keeps_gets value puts.1)
+  new_reply (Ins k v) key value puts none = ap (λ b. word_of (if b then Dup else New)) (sym (gone k none))
+  new_reply (Del k) key value puts none = absurd (keeps_gets value puts.1)
+  new_reply (Put k v) key value puts none = ap (λ o. word_of (replaced o)) (sym none)
+  new_reply (Mov from to) key value puts none = absurd (keeps_gets value puts.1)
 
 module _ (layout : Layout) (limits : IsWithinLimits layout) (s : Scene) (pairs : Pairs) (d : ℕ) (x : Section)
     (before : StandsFor tree layout s pairs) (stamp : AtStamp tree s d x) where
@@ -144,7 +159,17 @@ module _ (layout : Layout) (limits : IsWithinLimits layout) (s : Scene) (pairs :
           let is = open_section.insert_is_inserting layout s before.sound kept d x stamp.here form in
           let none = missing_is landed.node.linked landed.node.lo landed.node.hi is.missing in
           insert_answer x.thunk j n (open_section.step_as layout s before.sound kept d x stamp.here Insert form j (Answer n) h)
-          ∙ (ap (λ b. word_of (if b then Dup else New)) (sym (gone pairs is.key (ap (get pairs) (sym (ap key_of is.op)) ∙ none))) ∙ ap (λ op. word_of (reply_of pairs op)) (sym is.op))
+          ∙ new_reply pairs x.op is.key is.value is.puts none
+      by (open_section.Replaces form) =
+          let at = replace_stamp x.thunk x.at
+          (open_section.step_as layout s before.sound kept d x stamp.here Replace form x.at Stamp stamp.stamp) in
+          let landed = open_section.replace_landed layout s before.sound kept d x stamp.here form (omega (arith, at))
+          (omega (arith, at)) in
+          let is = open_section.replace_is_replacing layout s before.sound kept d x stamp.here form in
+          replace_answer x.thunk j n
+          (open_section.step_as layout s before.sound kept d x stamp.here Replace form j (Answer n) h)
+          ∙ (is.reply ∙ set_reply pairs x.op is.key is.value w.value is.put
+          (found_is landed.node.linked is.found ∙ ap Some (value_is is.found (ap is_del is.put))))
       by (open_section.Deletes form) =
           let at = delete_stamp x.thunk x.at (open_section.step_as layout s before.sound kept d x stamp.here Delete form x.at Stamp stamp.stamp) in
           let stands = open_section.delete_found layout s before.sound kept d x stamp.here form (omega (arith, at)) (omega (arith, at)) in

@@ -22,9 +22,8 @@ use Rattle.structure_laws.specs.Sections.{IsStep}
 use Rattle.structure_laws.specs.InTurn.{StandsFor, AtStamp, AfterStores, InTurn}
 use Rattle.structure_laws.proofs.Changes.{upd_same, upd_other, equal_of, value-next_word, value_small}
 use Rattle.structure_laws.proofs.Limits.{links_small, value-small}
-use Rattle.bucket_laws.proofs.Fit.{puts_ins}
 use Rattle.bucket_laws.proofs.Maps.{get_removed, insert_map, remove_map}
-use Rattle.tree_bodies.specs.Tree.{key_cell, mark_of, child_of, Form, Look, Insert, Delete, form_of, body_of}
+use Rattle.tree_bodies.specs.Tree.{key_cell, mark_of, child_of, Form, Look, Insert, Delete, Replace, form_of, body_of}
 use Rattle.tree_laws.specs.Search.{Nodes, Covers, IsInner, IsLeaf, Contents, with_child, RemovalKeeps, InsertionKeeps, thrice, ViewsAgree}
 use Rattle.tree_laws.specs.Walk.{Walk, node_of, form_for}
 use Rattle.tree_laws.specs.Leaves.{nodes, walk_of, IsFollowed, TreeStands, IsNewLeaf, IsNewInner, TreeKept, tree}
@@ -39,6 +38,7 @@ use Rattle.tree_laws.proofs.Removing as removing
 use Rattle.tree_laws.proofs.Alike.{AreAlike, tree_alike, sentinels_alike, contents_alike, contents_same, inner_back}
 use Rattle.tree_laws.proofs.Turn.{look_stamp, insert_stamp, delete_stamp, contents, key_there, leaf_unfixed, there, found_is, missing_is, turn_answers}
 use Rattle.tree_laws.proofs.Gives.{first_load, fourth_load}
+use Rattle.tree_laws.proofs.ReplaceTurn as replace_turn
 use Rattle.tree_laws.proofs.Open as open_section
 
 unfixed : (n : ℕ) → (n ≡ 0 → ⊥) → (n ≡ 1 → ⊥) → (n ≡ 2 → ⊥) → 3 ≤ n
@@ -147,7 +147,8 @@ module _ (layout : Layout) (limits : IsWithinLimits layout) (s : Scene) (pairs :
           absent : (q key : ℕ) → get pairs key ≡ None → upd (get pairs) key None q ≡ get pairs q
           absent q key h = ⊎_elim (λ e. upd_same (get pairs) key q None e ∙ (sym h ∙ ap (get pairs) (sym e)))
               (λ ne. upd_other (get pairs) key q None ne) (cases_eq q key)
-      unchanged (Put key value) there form some none q = absurd (omega (arith, form))
+      unchanged (Put key value) true form some none q = absurd (omega (arith, form))
+      unchanged (Put key value) false form some none q = absurd (omega (arith, form))
       unchanged (Mov from to) there form some none q = absurd (omega (arith, form))
 
   -- an insertion
@@ -258,7 +259,7 @@ module _ (layout : Layout) (limits : IsWithinLimits layout) (s : Scene) (pairs :
           (contents_alike (with_child now side a (suc inner.slot)) (nodes after) then_covers then_alike _
           (keeps.contents (get pairs) leaf_low map))
           (λ q. (λ i. upd (get pairs) (new_named i) (Some (value_named i)) q)
-          ∙ insert_map pairs x.op is.key is.value (puts_ins x.op is.key is.value is.op) (ap (get pairs) (sym (ap key_of is.op)) ∙ none) q);
+          ∙ insert_map pairs x.op is.key is.value is.puts (ap (get pairs) (sym is.puts.0) ∙ none) q);
     }
       where
         none : get pairs (key_of x.op) ≡ None
@@ -390,6 +391,10 @@ module _ (layout : Layout) (limits : IsWithinLimits layout) (s : Scene) (pairs :
         was_inner t inner_then = ⊎_elim (λ e. subst (IsInner now) (sym e) stands.grand_inner)
             (λ ne. subst (λ k. 0 < k) (gone_child true t (λ e. ne)) inner_then) (cases_eq t g)
 
+  -- a leaf put in the place of another
+  replace_stands : form_of x.thunk ≡ Replace → Stands
+  replace_stands form = replace_turn.replace_stands layout limits s pairs d x before stamp after stores form
+
   pub turn_stores : Stands
   turn_stores = by (open_section.kind layout s before.sound kept d x stamp.here limits)
     where
@@ -397,6 +402,7 @@ module _ (layout : Layout) (limits : IsWithinLimits layout) (s : Scene) (pairs :
       by (open_section.Looks form) = look_stands form
       by (open_section.Inserts form) = insert_stands form
       by (open_section.Deletes form) = delete_stands form
+      by (open_section.Replaces form) = replace_stands form
 
 -- a change of cells of nodes that aren't linked, or of locks, leaves what the memory stands for
 module _ (layout : Layout) (s : Scene) (pairs : Pairs) (before : StandsFor tree layout s pairs) (after : Cells)

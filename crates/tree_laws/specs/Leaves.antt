@@ -13,7 +13,8 @@ use Rattle.structure_laws.specs.Scene.{Cells, Readings, Section, Free, Live, Ret
 use Rattle.structure_laws.specs.Meaning.{Meaning}
 use Rattle.structure_laws.specs.Cells.{IsSafe}
 use Rattle.bucket_laws.specs.Walk.{Bounds}
-use Rattle.tree_bodies.specs.Tree.{key_cell, left_of, right_of, mark_of, child_of, slot_in, Insert, Delete, form_of, parent_in, leaf_in, sibling_of, tree_steps}
+use Rattle.tree_bodies.specs.Tree.{key_cell, left_of, right_of, mark_of, child_of, slot_in, lock_of, Insert, Delete}
+use Rattle.tree_bodies.specs.Tree.{Replace, form_of, parent_in, leaf_in, sibling_of, old_leaf, tree_steps}
 use Rattle.tree_laws.specs.Search.{Nodes, Covers, IsInner, IsLeaf, SearchTree, HasSentinels, Contents}
 use Rattle.tree_laws.specs.Walk.{Stage, AtRoot, AtLeft, AtKey, AtRight, AtValue, AtGrandLock, AtGrandMark, AtLock, AtMark, AtEnd, Refused, Step, step_to, Walk, start, node_of, walk, fits_walk}
 
@@ -185,9 +186,18 @@ pub record IsTaken (s : Scene) (c : Covers) (once : ℕ → Bool) (x : Section) 
   pub leaf_live : s.status (leaf_in x.thunk) ≡ Live
   pub sibling : (t : ℕ) → value_of (s.cells (sibling_of x.thunk)) ≡ suc t → c.linked t ≡ true
 
+-- the leaf in whose place a section has put its new one: no longer linked, and live until its Retire. Its parent's
+-- lock is the section's
+pub record IsReplaced (s : Scene) (c : Covers) (once : ℕ → Bool) (x : Section) : Type 0 where
+  pub leaf_once : once (old_leaf x.thunk) ≡ true
+  pub leaf_out : c.linked (old_leaf x.thunk) ≡ false
+  pub leaf_up : x.thunk.lock ≡ lock_of (c.up (old_leaf x.thunk))
+  pub leaf_live : s.status (old_leaf x.thunk) ≡ Live
+
 -- how far a section has come: it has made its leaf, its inner node, and not stored; or has stored and not retired
 abbrev pub HasLeaf : Section → Type 0
-HasLeaf x = (form_of x.thunk ≡ Insert) × (6 ≤ x.at) × (x.at ≤ 8)
+HasLeaf x = ((form_of x.thunk ≡ Insert) × (6 ≤ x.at) × (x.at ≤ 8))
+    ⊎ ((form_of x.thunk ≡ Replace) × (6 ≤ x.at) × (x.at ≤ 7))
 
 abbrev pub HasInner : Section → Type 0
 HasInner x = (form_of x.thunk ≡ Insert) × (7 ≤ x.at) × (x.at ≤ 8)
@@ -195,12 +205,16 @@ HasInner x = (form_of x.thunk ≡ Insert) × (7 ≤ x.at) × (x.at ≤ 8)
 abbrev pub HasTaken : Section → Type 0
 HasTaken x = (form_of x.thunk ≡ Delete) × (15 ≤ x.at) × (x.at ≤ 16)
 
+abbrev pub HasOld : Section → Type 0
+HasOld x = (form_of x.thunk ≡ Replace) × (x.at ≡ 8)
+
 -- a live slot that isn't linked: new and not yet linked, or taken out and not yet retired
 pub data IsBetween (x : Section) (t : ℕ) : Type 0 where
   NewLeaf : HasLeaf x → x.reg 2 ≡ suc t → IsBetween x t
   NewInner : HasInner x → x.reg 3 ≡ suc t → IsBetween x t
   OldParent : HasTaken x → x.at ≡ 15 → parent_in x.thunk ≡ t → IsBetween x t
   OldLeaf : HasTaken x → leaf_in x.thunk ≡ t → IsBetween x t
+  ReplacedLeaf : HasOld x → old_leaf x.thunk ≡ t → IsBetween x t
 
 -- what holds of a link to the side b of a node that was linked once and is safe: it leads to a node that
 -- was linked once; an inner one covers what the link's side of the node covers, and its key lies on this
@@ -245,6 +259,7 @@ pub record TreeKept (layout : Layout) (s : Scene) : Type 0 where
   pub new_leaf : (d : ℕ) (x : Section) → s.section d ≡ Some x → HasLeaf x → IsNewLeaf s once x
   pub new_inner : (d : ℕ) (x : Section) → s.section d ≡ Some x → HasInner x → IsNewInner s once x
   pub taken : (d : ℕ) (x : Section) → s.section d ≡ Some x → HasTaken x → IsTaken s covers once x
+  pub replaced : (d : ℕ) (x : Section) → s.section d ≡ Some x → HasOld x → IsReplaced s covers once x
   -- what the readings of entered runners and of open sections say of the present cells, and their walks
   pub readers : (r : ℕ) (readings : Readings) → s.reader r ≡ Some readings → IsAsRead (nodes s.cells) readings
   pub published : (d : ℕ) (x : Section) → s.section d ≡ Some x → IsAsRead (nodes s.cells) x.readings

@@ -177,6 +177,35 @@ abbrev pub InsertionLaw : Type 0
 InsertionLaw = (n : Nodes) (c : Covers) (d h : Bool) (a l t f : ℕ) → SearchTree n c
     → IsInsertion n c d h a l t f → InsertionKeeps n c d h a l t f
 
+-- a replacement: below node a, on its side d, stands the leaf l; the leaf f, not linked yet, has its key
+pub record IsReplacement (n : Nodes) (c : Covers) (d : Bool) (a l f : ℕ) : Type 0 where
+  pub above : c.linked a ≡ true
+  pub above_inner : IsInner n a
+  pub old : n.child d a ≡ suc l
+  pub old_leaf : IsLeaf n l
+  pub leaf_out : c.linked f ≡ false
+  pub new_leaf : IsLeaf n f
+  pub same_key : n.key f ≡ n.key l
+
+-- the new leaf takes the place of l
+abbrev pub replaced : Covers → ℕ → ℕ → ℕ → Covers
+replaced c a l f = record {
+  linked = upd (upd c.linked l false) f true;
+  lo = upd c.lo f (c.lo l);
+  hi = upd c.hi f (c.hi l);
+  up = upd c.up f a;
+}
+
+-- after a replacement the memory is a search tree with the new leaf's value for its key
+pub record ReplacementKeeps (n : Nodes) (c : Covers) (d : Bool) (a l f : ℕ) : Type 0 where
+  pub tree : SearchTree (with_child n d a (suc f)) (replaced c a l f)
+  pub contents : (lookup : ℕ → Option ℕ) → 3 ≤ f → Contents n c lookup
+      → Contents (with_child n d a (suc f)) (replaced c a l f) (upd lookup (n.key f) (Some (n.child false f)))
+
+abbrev pub ReplacementLaw : Type 0
+ReplacementLaw = (n : Nodes) (c : Covers) (d : Bool) (a l f : ℕ) → SearchTree n c
+    → IsReplacement n c d a l f → ReplacementKeeps n c d a l f
+
 -- two views of one memory as a search tree agree on what is linked, and on what a linked node's place covers
 pub record ViewsAgree (c c' : Covers) : Type 0 where
   pub linked : (s : ℕ) → c.linked s ≡ c'.linked s

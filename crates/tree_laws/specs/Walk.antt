@@ -2,11 +2,11 @@
 use Rattle.std.specs.Prelude.{ℕ, suc, ◌+◌, ◌*◌, ◌^◌, Bool, true, false, cond, not, ◌&&◌, ◌==◌, nat_lt, nat_le, List, [], ◌∷◌, Option, None, Some}
 use Rattle.map_history.specs.declared.op.Op.{Op}
 use Rattle.map_history.specs.declared.op.Op.TheVariants.{Get, Ins, Del, Put, Mov}
-use Rattle.map_history.specs.Keys.{key_of, is_format_1}
+use Rattle.map_history.specs.Keys.{key_of}
 use Rattle.body_terms.specs.Word.{value_of, is_free, is_spent}
 use Rattle.body_terms.specs.declared.thunk.Thunk.{Thunk}
 use Rattle.structure_laws.specs.Scene.{Readings}
-use Rattle.bucket_laws.specs.Walk.{Bounds, is_del, is_wanted, same_numbers}
+use Rattle.bucket_laws.specs.Walk.{Bounds, is_del, is_wanted, same_numbers, has_one_key}
 use Rattle.tree_bodies.specs.Tree.{lock_of, key_cell, left_of, right_of, mark_of, child_of, slot_in}
 
 -- what the walk loads next; it is at its end, or was refused
@@ -171,24 +171,28 @@ form_for (Ins key value) true = 11
 form_for (Ins key value) false = 12
 form_for (Del key) true = 13
 form_for (Del key) false = 11
-form_for (Put key value) found = 0
+form_for (Put key value) true = 14
+form_for (Put key value) false = 12
 form_for (Mov from to) found = 0
 
--- the reply word of an operation that changes nothing
+-- the reply word of an operation that neither adds nor removes a pair
 abbrev pub reply_for : Op → Walk → Bool → ℕ
 reply_for (Get key) w true = 3 * 2 ^ 32 + w.value
 reply_for (Get key) w false = 5 * 2 ^ 32
 reply_for (Ins key value) w found = 2 * 2 ^ 32
 reply_for (Del key) w found = 5 * 2 ^ 32
-reply_for (Put key value) w found = 5 * 2 ^ 32
+reply_for (Put key value) w found = 6 * 2 ^ 32 + w.value
 reply_for (Mov from to) w found = 5 * 2 ^ 32
 
--- the operands of the three forms
+-- the operands of the four forms
 abbrev pub look_operands : Walk → ℕ → List ℕ
 look_operands w reply = step_place w.last ∷ w.last.word ∷ w.mark ∷ reply ∷ 0 ∷ 0 ∷ 0 ∷ 0 ∷ []
 
 abbrev pub insert_operands : Walk → ℕ → ℕ → List ℕ
 insert_operands w key value = step_place w.last ∷ w.last.word ∷ w.mark ∷ key ∷ value ∷ w.key ∷ 0 ∷ 0 ∷ []
+
+abbrev pub replace_operands : Walk → ℕ → ℕ → ℕ → List ℕ
+replace_operands w key value reply = step_place w.last ∷ w.last.word ∷ w.mark ∷ key ∷ value ∷ reply ∷ 0 ∷ 0 ∷ []
 
 abbrev pub delete_operands : Walk → List ℕ
 delete_operands w =
@@ -200,7 +204,8 @@ operands_for (Ins key value) w true = look_operands w (reply_for (Ins key value)
 operands_for (Ins key value) w false = insert_operands w key value
 operands_for (Del key) w true = delete_operands w
 operands_for (Del key) w false = look_operands w (reply_for (Del key) w false)
-operands_for (Put key value) w found = look_operands w (reply_for (Put key value) w found)
+operands_for (Put key value) w true = replace_operands w key value (reply_for (Put key value) w true)
+operands_for (Put key value) w false = insert_operands w key value
 operands_for (Mov from to) w found = look_operands w (reply_for (Mov from to) w found)
 
 -- the outer lock: of the parent of the last node, and for a removal of the parent's parent
@@ -210,8 +215,8 @@ lock_for op w found = cond (is_del op && found) (lock_of w.grand.from) (lock_of 
 abbrev pub word_for : Op → Walk → Bool → ℕ
 word_for op w found = cond (is_del op && found) w.grand_lock w.lock
 
--- the operation is served, the walk is whole and met no refusal, and the thunk is the one for it
+-- the operation has one key, the walk is whole and met no refusal, and the thunk is the one for it
 abbrev pub fits_walk : Op → Walk → Thunk → Bool
-fits_walk op w thunk = is_format_1 op && (is_end w.stage && ((thunk.form == form_for op w.found)
+fits_walk op w thunk = has_one_key op && (is_end w.stage && ((thunk.form == form_for op w.found)
     && ((thunk.lock == lock_for op w w.found) && ((thunk.word == word_for op w w.found)
     && same_numbers thunk.operands (operands_for op w w.found)))))

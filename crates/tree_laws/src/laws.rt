@@ -4,7 +4,7 @@ ghost use Rattle.structure_laws.specs.Planner.{PlannerLaws};
 ghost use Rattle.table_words.specs.declared.layout.Layout.{Layout};
 ghost use Rattle.tree_laws.specs.Landing.{LandingLaw};
 ghost use Rattle.tree_laws.specs.Leaves.{tree};
-ghost use Rattle.tree_laws.specs.Search.{InsertionLaw, RemovalLaw, ViewLaw};
+ghost use Rattle.tree_laws.specs.Search.{InsertionLaw, RemovalLaw, ReplacementLaw, ViewLaw};
 
 /// The search tree meets every law: its first memory, the shape of its bodies, one section after the other, every
 /// move, and what the core relies on.
@@ -16,7 +16,8 @@ pub fn tree_meets_the_laws()
 {}
 
 /// Sections can be planned on the tree: a word that a body wants was read, a body that makes nodes answers that it
-/// added a pair, and with nothing open each pair keeps two slots in use, at most: a leaf and an inner node.
+/// added a pair or put one in the place of another, and with nothing open each pair keeps two slots in use, at most: a
+/// leaf and an inner node.
 pub fn tree_meets_the_planners_laws()
     ensures { PlannerLaws tree 2 }
 {}
@@ -32,6 +33,12 @@ pub fn removals_keep_the_tree()
 /// sides both stand.
 pub fn insertions_keep_the_tree()
     ensures { InsertionLaw }
+{}
+
+/// In a search tree a leaf gives its place to a new one with the same key: the linked nodes are a search tree again,
+/// with the same pairs but for the value of this key, on whichever side of its parent it stands.
+pub fn replacements_keep_the_tree()
+    ensures { ReplacementLaw }
 {}
 
 /// One memory is a search tree in one way: two views of it agree on the linked nodes, their parents and the keys that

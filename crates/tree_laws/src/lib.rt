@@ -8,8 +8,9 @@ mod laws;
 mod steady;
 
 pub use laws::{
-    insertions_keep_the_tree, removals_keep_the_tree, tree_meets_the_laws,
-    tree_meets_the_planners_laws, views_of_a_tree_agree, walks_land_on_the_path,
+    insertions_keep_the_tree, removals_keep_the_tree, replacements_keep_the_tree,
+    tree_meets_the_laws, tree_meets_the_planners_laws, views_of_a_tree_agree,
+    walks_land_on_the_path,
 };
 pub use steady::tree_walks_are_short;
 

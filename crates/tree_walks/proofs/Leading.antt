@@ -8,7 +8,6 @@ use Rattle.small_lemmas.proofs.Bools.{from_false as false_true}
 use Rattle.small_lemmas.proofs.Lists.{same_number as some_eq}
 use Rattle.small_lemmas.proofs.Numbers.{self_tested as same_test}
 use Rattle.map_history.specs.declared.op.Op.{Op}
-use Rattle.map_history.specs.Keys.{is_format_1}
 use Rattle.map_history.specs.declared.op.Op.TheVariants.{Get, Ins, Del, Put, Mov}
 use Rattle.section_body.specs.Bucket.{is_small}
 use Rattle.body_terms.specs.Memory.{cell_of}
@@ -19,7 +18,7 @@ use Rattle.table_words.specs.Places.{slot_count}
 use Rattle.structure_laws.specs.Scene.{Readings}
 use Rattle.structure_laws.proofs.Changes.{both_true, equal_of}
 use Rattle.runner_parts.specs.Tests.{has_pair, is_readable}
-use Rattle.tree_laws.specs.bucket_laws.specs.Walk.{Bounds, is_del, same_numbers}
+use Rattle.tree_laws.specs.bucket_laws.specs.Walk.{Bounds, is_del, same_numbers, has_one_key}
 use Rattle.tree_laws.specs.tree_bodies.specs.Tree.{lock_of, key_cell, left_of, right_of, mark_of}
 use Rattle.tree_laws.specs.Walk.{Stage, AtRoot, AtLeft, AtKey, AtRight, AtValue, AtGrandLock, AtGrandMark, AtLock, AtMark, AtEnd, Refused, Walk, node_of, wanted_at, is_end, is_ready, fed, form_for, operands_for, word_for}
 use Rattle.tree_laws.specs.Leaves.{tree, bounds, walk_of, is_lock_place, shows_link, TreeWalked}
@@ -181,7 +180,8 @@ eight (Ins key value) w true = refl
 eight (Ins key value) w false = refl
 eight (Del key) w true = refl
 eight (Del key) w false = refl
-eight (Put key value) w found = refl
+eight (Put key value) w true = refl
+eight (Put key value) w false = refl
 eight (Mov from to) w found = refl
 
 free_of : (free spent : Bool) → (free && not spent) ≡ true → (free ≡ true) × (spent ≡ false)
@@ -211,7 +211,8 @@ module _ (layout : Layout) (op : Op) where
   abbrev walked : Readings → Walk
   walked readings = walk_of layout op readings
 
-  thunk_of : is_format_1 op ≡ true → (number : ℕ) (readings : Readings) → (walked readings).stage ≡ AtEnd → is_small (lock_by op (walked readings)) ≡ true
+  thunk_of : has_one_key op ≡ true → (number : ℕ) (readings : Readings) → (walked readings).stage ≡ AtEnd → is_small
+      (lock_by op (walked readings)) ≡ true
       → IsThunkOf layout op readings (thunk_by (record (first_walk layout op) { walk = walked readings }) number)
   thunk_of served number readings at small =
       let w = walked readings in
@@ -229,7 +230,7 @@ module _ (layout : Layout) (op : Op) where
         read = ap (λ p. has_pair readings p (word_for op w w.found)) lock ∙ read_pair readings (lock_by op w) (word_for op w w.found) out.0;
       }
 
-  pub walk_leads : is_format_1 op ≡ true → WalkLeads layout op
+  pub walk_leads : has_one_key op ≡ true → WalkLeads layout op
   walk_leads served = record {
     shorter = walk_nearer;
     few = omega arith;

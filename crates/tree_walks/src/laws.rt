@@ -1,17 +1,17 @@
 //! The walk leads a plan.
 ghost use Rattle.std.specs.Prelude.{◌≡◌, true};
 ghost use Rattle.map_history.specs.declared.op.Op.{Op};
-ghost use Rattle.map_history.specs.Keys.{is_format_1};
 ghost use Rattle.table_words.specs.declared.layout.Layout.{Layout};
 ghost use Rattle.table_words.specs.Limits.{IsWithinLimits};
 ghost use Rattle.structure_laws.specs.Sections.{IsAllowed};
+ghost use Rattle.tree_laws.specs.bucket_laws.specs.Walk.{has_one_key};
 ghost use Rattle.tree_walks.specs.Leading.{WalkLeads, FarLaw};
 
-/// The walk of get, ins and del on the search tree leads a plan, over every layout: it loads what a runner may load and
-/// makes at most 3N + 28 loads, N being the number of node slots; a lock refuses it where its word isn't free or is
-/// spent, and a mark of 1 always; and once it is whole, its thunk fits what was read.
+/// The walk of an operation with one key on the search tree leads a plan, over every layout: it loads what a runner may
+/// load and makes at most 3N + 28 loads, N being the number of node slots; a lock refuses it where its word isn't free
+/// or is spent, and a mark of 1 always; and once it is whole, its thunk fits what was read.
 pub fn tree_walks_lead()
-    ensures { (layout : Layout) (op : Op) → is_format_1 op ≡ true → WalkLeads layout op }
+    ensures { (layout : Layout) (op : Op) → has_one_key op ≡ true → WalkLeads layout op }
 {}
 
 /// A walk that is refused by no lock and by no mark of 1 has loaded as many links as there are node slots, and eight

@@ -1,8 +1,10 @@
 //! The thunk for a whole walk.
 ghost use Rattle.std.specs.Prelude.{◌≡◌, ◌&&◌};
+ghost use Rattle.map_history.specs.declared.reply.Reply.TheVariants.{Was};
 ghost use Rattle.map_history.specs.Words.{word_of as reply_word};
 ghost use Rattle.tree_laws.specs.bucket_laws.specs.Walk.{is_del, same_numbers};
-ghost use Rattle.tree_laws.specs.Walk.{form_for, word_for, operands_for, look_operands, insert_operands, delete_operands, fits_walk};
+ghost use Rattle.tree_laws.specs.Walk.{form_for, word_for, operands_for, fits_walk};
+ghost use Rattle.tree_laws.specs.Walk.{look_operands, insert_operands, replace_operands, delete_operands};
 ghost use Rattle.tree_walks.specs.Walking.{lock_by, thunk_by};
 
 use crate::stage::{Stage, cell};
@@ -43,11 +45,11 @@ impl TreeWalk {
         }
     }
 
-    /// Whether the operation is served, the walk is whole, and this is the thunk for it.
+    /// Whether the operation has one key, the walk is whole, and this is the thunk for it.
     pub fn fits(&self, thunk: &Thunk) -> bool
         ensures { result ≡ fits_walk self.now.op self.now.walk thunk.now }
     {
-        self.op.least_format() == 1
+        self.op.other_key().is_none()
             && self.stage == Stage::End
             && thunk.form == self.form()
             && u64::from(thunk.lock) == self.outer_lock()
@@ -68,15 +70,16 @@ impl TreeWalk {
         }
     }
 
-    /// The form of the section's body: one that reads alone, that puts a leaf in, or that takes one out. An operation
-    /// that isn't served has none.
+    /// The form of the section's body: one that reads alone, that puts a leaf in, that takes one out, or that puts one
+    /// in the place of another. An operation with a second key has none.
     fn form(&self) -> u64
         ensures { result ≡ form_for self.now.op self.now.walk.found }
     {
         match (self.op, self.found) {
-            (Op::Ins(_, _), false) => 12,
+            (Op::Ins(_, _) | Op::Put(_, _), false) => 12,
             (Op::Del(_), true) => 13,
-            (Op::Put(_, _) | Op::Mov(_, _), _) => 0,
+            (Op::Put(_, _), true) => 14,
+            (Op::Mov(_, _), _) => 0,
             _ => 11,
         }
     }
@@ -88,10 +91,11 @@ impl TreeWalk {
         match (self.op, self.found) {
             (Op::Get(_), true) => self.look(Reply::Val(self.value)),
             (Op::Ins(_, _), true) => self.look(Reply::Dup),
-            (Op::Ins(key, value), false) => self.insert(key, value),
+            (Op::Ins(key, value) | Op::Put(key, value), false) => self.insert(key, value),
+            (Op::Put(key, value), true) => self.replace(key, value),
             (Op::Del(_), true) => self.remove(),
             (Op::Get(_) | Op::Del(_), false) => self.look(Reply::Absent),
-            (Op::Put(_, _) | Op::Mov(_, _), _) => self.look(Reply::Absent),
+            (Op::Mov(_, _), _) => self.look(Reply::Absent),
         }
     }
 
@@ -122,6 +126,22 @@ impl TreeWalk {
             u64::from(key),
             u64::from(value),
             u64::from(self.key),
+            0,
+            0,
+        ]
+    }
+
+    /// The operands of a body that puts a leaf in the place of another.
+    fn replace(&self, key: u32, value: u32) -> [u64; 8]
+        ensures { result ≡ replace_operands self.now.walk key value (reply_word (Was self.now.walk.value)) }
+    {
+        [
+            self.last.place(),
+            self.last.word.bits(),
+            self.mark.bits(),
+            u64::from(key),
+            u64::from(value),
+            Reply::Was(self.value).word(),
             0,
             0,
         ]
