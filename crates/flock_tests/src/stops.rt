@@ -29,8 +29,8 @@ hash 50 79|flock 1/trace/ins 5 70/del 5/|trace 0/0 new/1 gone/final 0/
 tree 1 6|flock 1/trace/ins 5 70/del 5/|trace 0/- unserved/- unserved/final 0/
 tree 7 64|flock 1/trace/ins 5 70/del 5/|trace 0/0 new/- unserved/final 1/
 tree 65 108|flock 1/trace/ins 5 70/del 5/|trace 0/0 new/1 gone/final 0/
-hash 5 49|flock 2/trace/put 5 70/put 5 80/|trace 0/0 new/- unserved/final 1/
-hash 50 77|flock 2/trace/put 5 70/put 5 80/|trace 0/0 new/1 was 70/final 1/
+hash 5 48|flock 2/trace/put 5 70/put 5 80/|trace 0/0 new/- unserved/final 1/
+hash 49 76|flock 2/trace/put 5 70/put 5 80/|trace 0/0 new/1 was 70/final 1/
 tree 7 63|flock 2/trace/put 5 70/put 5 80/|trace 0/0 new/- unserved/final 1/
 tree 64 103|flock 2/trace/put 5 70/put 5 80/|trace 0/0 new/1 was 70/final 1/
 ";
