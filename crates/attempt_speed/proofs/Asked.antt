@@ -1,6 +1,6 @@
 -- What is asked of the table is in order, and each request stands at its number.
 use Rattle.std.proofs.Common.{◌≡◌, ℕ, ◌+◌, ◌*◌, ◌/◌, ◌%◌, ◌-◌, ◌<◌, ◌≤◌, Bool, true, false, cond, List, [], ◌∷◌, length, map, get_or, refl, sym, ap, ◌∙◌, subst, arith, Some}
-use Rattle.std.specs.Prelude.{◌==◌, nat_lt, slice_get}
+use Rattle.std.specs.Prelude.{◌==◌, All, is_none, nat_lt, slice_get}
 use Rattle.std.specs.List.{range_with_len}
 use Rattle.std.proofs.lemmas.List.FromFn.{get_or-map-range_with_len, length-map-range_with_len}
 use Rattle.std.proofs.lemmas.Nat.{mod_below}
@@ -8,9 +8,10 @@ use Rattle.std.proofs.lemmas.Option.{slice_get_within, get_or_from_slice_get}
 use Rattle.map_history.specs.declared.op.Op.TheVariants.{Ins, Del}
 use Rattle.map_history.specs.declared.op.Request.{Request}
 use Rattle.map_history.specs.declared.op.Op.{Op}
-use Rattle.map_history.specs.Keys.{key_of, DependsOn, is_format_1}
-use Rattle.map_history.specs.Requests.{AreInOrder, AreOfFormat1}
-use Rattle.map_history.proofs.Cells.{format_1_one_keyed, key_is}
+use Rattle.map_history.specs.Keys.{key_of, DependsOn, IsOneKeyed}
+use Rattle.map_history.specs.Requests.{AreInOrder}
+use Rattle.map_history.proofs.Cells.{key_is}
+use Rattle.hash_table.specs.bucket_laws.specs.Walk.{has_one_key}
 use Rattle.attempt_speed.specs.declared.kinds.Kind.{Kind}
 use Rattle.attempt_speed.specs.declared.kinds.Kind.TheVariants as kinds
 use Rattle.attempt_speed.specs.Asked.{key_at, asked_by, request_at, requests_of}
@@ -40,32 +41,33 @@ small kind number = by_test (nat_lt number 1000)
     by_test true = let low = small_key number in omega (arith, low)
     by_test false = asks_small kind (number - 1000)
 
-asks_format : (kind : Kind) (turn : ℕ) → is_format_1 (asked_by kind turn) ≡ true
-asks_format kinds.Found turn = refl
-asks_format kinds.Missed turn = refl
-asks_format kinds.Refused turn = refl
-asks_format kinds.Turns turn = by_test (turn % 2 == 0)
+asks_one : (kind : Kind) (turn : ℕ) → IsOneKeyed (asked_by kind turn)
+asks_one kinds.Found turn = refl
+asks_one kinds.Missed turn = refl
+asks_one kinds.Refused turn = refl
+asks_one kinds.Turns turn = by_test (turn % 2 == 0)
   where
-    by_test : (b : Bool) → is_format_1 (cond b (Ins (2 * key_at (turn / 2) + 1) 1) (Del (2 * key_at (turn / 2) + 1))) ≡ true
+    by_test : (b : Bool) → IsOneKeyed (cond b (Ins (2 * key_at (turn / 2) + 1) 1) (Del (2 * key_at (turn / 2) + 1)))
     by_test true = refl
     by_test false = refl
 
-format : (kind : Kind) (number : ℕ) → is_format_1 (request_at kind number).op ≡ true
-format kind number = by_test (nat_lt number 1000)
+one_keyed : (kind : Kind) (number : ℕ) → IsOneKeyed (request_at kind number).op
+one_keyed kind number = by_test (nat_lt number 1000)
   where
-    by_test : (b : Bool) → is_format_1 (cond b (Ins (2 * key_at number) (key_at number)) (asked_by kind (number - 1000))) ≡ true
+    by_test : (b : Bool) → IsOneKeyed (cond b (Ins (2 * key_at number) (key_at number)) (asked_by kind (number - 1000)))
     by_test true = refl
-    by_test false = asks_format kind (number - 1000)
+    by_test false = asks_one kind (number - 1000)
 
--- each asks for get, ins or del
-pub requests_format : (kind : Kind) (count : ℕ) → AreOfFormat1 (requests_of kind count)
-requests_format kind count =
+-- each asks for one key
+pub requests_one_key : (kind : Kind) (count : ℕ) → All (λ (q : Request). has_one_key q.op ≡ true) (requests_of kind count)
+requests_one_key kind count =
     let size : length (requests_of kind count) ≡ count = length-map-range_with_len (request_at kind) 0 count in
-    λ k d early. subst (λ (q : Request). is_format_1 q.op ≡ true)
-    (sym (get_or-map-range_with_len (request_at kind) 0 count k k d (omega (arith, early, size)) (omega arith))) (format kind k)
+    λ k d early. subst (λ (q : Request). has_one_key q.op ≡ true)
+    (sym (get_or-map-range_with_len (request_at kind) 0 count k k d (omega (arith, early, size)) (omega arith)))
+    (ap is_none (one_keyed kind k))
 
-keys_low : (op : Op) → is_format_1 op ≡ true → key_of op ≤ 4294967293 → (key : ℕ) → DependsOn op key → key ≤ 4294967293
-keys_low op first low key on = subst (λ n. n ≤ 4294967293) (key_is op key (format_1_one_keyed op first) on) low
+keys_low : (op : Op) → IsOneKeyed op → key_of op ≤ 4294967293 → (key : ℕ) → DependsOn op key → key ≤ 4294967293
+keys_low op one low key on = subst (λ n. n ≤ 4294967293) (key_is op key one on) low
 
 pub requests_in_order : (kind : Kind) (count : ℕ) → count ≤ 131072 → AreInOrder (requests_of kind count) 64
 requests_in_order kind count few =
@@ -77,7 +79,7 @@ requests_in_order kind count few =
       numbered = numbers kind (range_with_len 0 count) ∙ ap (range_with_len 0) (sym size);
       within = λ k d early. rw (at k d (omega (arith, size))) (omega arith);
       rising = λ i j d le early. rw (at i d (omega (arith, size)), at j d (omega (arith, size))) (omega arith);
-      keys = λ k d early. rw (at k d (omega (arith, size))) (keys_low (request_at kind k).op (format kind k) (small kind k));
+      keys = λ k d early. rw (at k d (omega (arith, size))) (keys_low (request_at kind k).op (one_keyed kind k) (small kind k));
     }
 
 -- a request stands at its number

@@ -1,10 +1,10 @@
 -- The direct table: a map of keys below a bound, where each key has a lock, a flag and a value of its own.
 use Rattle.std.specs.Prelude.{ℕ, ◌+◌, ◌*◌, ◌-◌, ◌%◌, ◌==◌, ◌&&◌, Bool, cond, nat_lt}
 use Rattle.map_history.specs.declared.op.Op.{Op}
-use Rattle.map_history.specs.Keys.{key_of, is_format_1}
+use Rattle.map_history.specs.Keys.{key_of}
 use Rattle.structure_laws.specs.Meaning.{Meaning}
 use Rattle.key_cells.specs.shared_laws.specs.Flagged.{held, flag_for, value_for}
-use Rattle.key_cells.specs.Keyed.{Keyed, keyed}
+use Rattle.key_cells.specs.Keyed.{Keyed, has_one_key, keyed}
 
 -- from its first place on, the lock of a key, and its cells: the flag is its cell 0, and the value its cell 1
 abbrev pub lock_of : ℕ → ℕ
@@ -30,6 +30,6 @@ direct_cells first bound = record {
 abbrev pub direct : ℕ → ℕ → Meaning
 direct base keys = keyed (direct_cells base keys)
 
--- the operation is get, ins or del, of a key below the bound
+-- the operation has one key, below the bound
 abbrev pub serves : ℕ → Op → Bool
-serves keys op = is_format_1 op && nat_lt (key_of op) keys
+serves keys op = has_one_key op && nat_lt (key_of op) keys

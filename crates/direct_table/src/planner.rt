@@ -72,7 +72,7 @@ impl Planner for DirectTable {
     ghost planning = { λ s. fixed_planning (key_course (direct_cells s.base s.keys)) };
 
     fn serves(&self, op: Op) -> bool {
-        op.least_format() == 1 && op.key() < self.keys
+        op.other_key().is_none() && op.key() < self.keys
     }
 
     fn walk(&self, layout: Layout, op: Op) -> FixedWalk<DirectTable> {

@@ -48,6 +48,25 @@ fn requests_of_each_kind_are_answered_in_turn(rt: HostRuntime) -> Result<(), All
     Ok(())
 }
 
+#[test]
+fn a_put_sets_its_key_whatever_stood_there(rt: HostRuntime) -> Result<(), AllocError> {
+    let text = "flock 2/trace/put 5 70/put 5 80/get 5/del 5/put 5 90/";
+    let mut gates = FreeGates::new();
+    let row = run_text(&rt, rt.alloc(), 0, text, &[None], &mut gates)?;
+    let replies = row.replies(rt.alloc())?;
+    let told = [
+        Some(Reply::New),
+        Some(Reply::Was(70)),
+        Some(Reply::Val(80)),
+        Some(Reply::Gone),
+        Some(Reply::New),
+    ];
+    assert!(&rt; replies.as_slice() == told.as_slice());
+    assert!(&rt; row.answers.as_slice() == [Served::All].as_slice());
+    assert!(&rt; row.pairs.as_slice() == [(5, 90)].as_slice());
+    Ok(())
+}
+
 /// The first worker adds a pair, and is stopped at its ask with this number. The second one enters once the first one
 /// has published its section: it asks for the pair, and adds another one.
 fn stop_at<R: Threads + Wait + Sync>(rt: &R, alloc: Global, ask: u64) -> Result<Row, AllocError> {

@@ -1,8 +1,8 @@
 //! A run of the requests of a text.
-ghost use Rattle.std.specs.Prelude.{◌≡◌, ◌+◌, ◌*◌, ◌≤◌, ◌&&◌, All, length, nat_lt, true};
+ghost use Rattle.std.specs.Prelude.{◌≡◌, ◌+◌, ◌*◌, ◌≤◌, ◌&&◌, All, length, is_none, nat_lt, true};
 ghost use Rattle.std.specs.List.{list_all};
 ghost use Rattle.map_history.specs.declared.op.Request.{Request as Asked};
-ghost use Rattle.map_history.specs.Keys.{key_of, is_format_1};
+ghost use Rattle.map_history.specs.Keys.{key_of, other_key_of};
 ghost use Rattle.direct_table.specs.direct_laws.specs.Direct.{serves};
 
 use crate::runs::{Ended, run_direct};
@@ -46,13 +46,13 @@ fn bytes_of(alloc: Global, text: &str) -> Result<Vec<u8>, AllocError> {
     Ok(bytes)
 }
 
-/// Whether each of these requests is get, ins or del, of a key below eight.
+/// Whether each of these requests has one key, and it is below eight.
 fn are_low(requests: &[Request]) -> bool
-    ensures { result ≡ list_all (λ (x : Asked). is_format_1 x.op && nat_lt (key_of x.op) 8) requests.now }
+    ensures { result ≡ list_all (λ (x : Asked). is_none (other_key_of x.op) && nat_lt (key_of x.op) 8) requests.now }
 {
     requests
         .iter()
-        .all(|x| x.op.least_format() == 1 && x.op.key() < 8)
+        .all(|x| x.op.other_key().is_none() && x.op.key() < 8)
 }
 
 /// Whether the table of eight keys serves each of them.

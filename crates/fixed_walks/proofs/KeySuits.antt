@@ -3,7 +3,7 @@ use Rattle.std.proofs.Common.{◌≡◌, ℕ, zero, suc, ◌<◌, ◌≤◌, Lis
 use Rattle.std.specs.Prelude.{◌==◌, ◌&&◌, nat_lt, slice_get, slice_index}
 use Rattle.small_lemmas.proofs.Numbers.{self_tested as self}
 use Rattle.map_history.specs.declared.op.Op.{Op}
-use Rattle.map_history.specs.Keys.{key_of, is_format_1}
+use Rattle.map_history.specs.Keys.{key_of}
 use Rattle.section_body.specs.Bucket.{operand}
 use Rattle.body_terms.specs.declared.thunk.Thunk.{Thunk}
 use Rattle.table_words.specs.declared.layout.Layout.{Layout}
@@ -13,7 +13,7 @@ use Rattle.structure_laws.proofs.Changes.{both_true}
 use Rattle.runner_parts.specs.Tests.{has_pair}
 use Rattle.map_history.specs.AtKey.{left_at}
 use Rattle.key_cells.specs.shared_laws.proofs.Numbers.{lt_of, eq_true, read_at}
-use Rattle.key_cells.specs.Keyed.{Keyed, IsKeyed, lock_place, cell_place, wanted, new_of, is_for, serves_key, key_fits, keyed}
+use Rattle.key_cells.specs.Keyed.{Keyed, IsKeyed, lock_place, cell_place, wanted, new_of, is_for, has_one_key, serves_key, key_fits, keyed}
 use Rattle.key_cells.proofs.Fitting.{each_all}
 use Rattle.key_cells.proofs.Places.{lock_there, cell_there}
 use Rattle.fixed_walks.specs.Fixed.{AreCells, thunk_for, Suits}
@@ -91,7 +91,7 @@ module _ (c : Keyed) (is : IsKeyed c) (layout : Layout) (op : Op) where
       && for_it words word number k))
 
   pub key_suits : serves_key c op ≡ true → Suits (keyed c) (key_course c) layout op
-  key_suits served = let low = lt_of key c.keys (both_true (is_format_1 op) (nat_lt key c.keys) served).1 in record {
+  key_suits served = let low = lt_of key c.keys (both_true (has_one_key op) (nat_lt key c.keys) served).1 in record {
     few = few_cells c.count is.few (cell_place c key);
     cells = are_cells (keyed c) c.count is.few (cell_place c key) (λ i few. let cell = cell_there c is key i low few in (cell.0, cell.1));
     lock = lock_there c is key low;

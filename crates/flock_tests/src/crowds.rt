@@ -100,25 +100,52 @@ const CROWDS: [(&str, &str); 3] = [
     ),
 ];
 
-// Each request is answered, and the report is legal.
+// Whether each request of this text is answered on both tables, and the reports are legal.
+fn are_served<T: Threads + Wait + Sync>(
+    rt: &T,
+    alloc: Global,
+    words: &str,
+    text: &[u8],
+) -> Result<bool, AllocError> {
+    for table in TABLES {
+        let line = format!(in alloc; "{words} --table {table}")?;
+        let ended = run(rt, alloc, &line, text.to_vec(alloc)?)?;
+        let is_whole = ended.status == 0 && !ended.report().contains("unserved");
+        let is_so = is_whole
+            && is_legal(alloc, text, ended.report())?
+            && is_found_legal(rt, alloc, text, ended.sink.bytes())?;
+        if !is_so {
+            return Ok(false);
+        }
+    }
+    Ok(true)
+}
+
+// The same requests in format 2, where every second insertion sets its key instead, to a value that
+// no other request gives.
+fn with_puts(alloc: Global, text: &str) -> Result<Vec<u8>, AllocError> {
+    let mut changed = b"flock 2\n".to_vec(alloc)?;
+    for (number, line) in text.lines().enumerate().skip(1) {
+        let key = line.strip_prefix("ins ").and_then(|pair| pair.split_once(' '));
+        let line = match key {
+            Some((key, _)) if number % 2 == 0 => format!(in alloc; "put {key} {number}\n")?,
+            _ => format!(in alloc; "{line}\n")?,
+        };
+        changed.extend_from_slice(line.as_bytes())?;
+    }
+    Ok(changed)
+}
+
+// Each request is answered, and the report is legal; the same where keys are set beside that.
 #[test]
 fn crowds_have_legal_reports(rt: HostRuntime) -> Result<(), Fail> {
     let alloc = rt.alloc();
     for (maker, words) in CROWDS {
         let printed = run(&rt, alloc, maker, Vec::new(alloc))?;
         assert!(rt; printed.status == 0, "{maker}");
-        let text = printed.sink.bytes();
-        for table in TABLES {
-            let line = format!(in alloc; "{words} --table {table}")?;
-            let ended = run(&rt, alloc, &line, text.to_vec(alloc)?)?;
-            assert!(rt; ended.status == 0, "{line}");
-            assert!(rt; !ended.report().contains("unserved"), "{line}");
-            assert!(rt; is_legal(alloc, text, ended.report())?, "{line}");
-            assert!(rt;
-                is_found_legal(&rt, alloc, text, ended.sink.bytes())?,
-                "{line}"
-            );
-        }
+        assert!(rt; are_served(&rt, alloc, words, printed.sink.bytes())?, "{maker}");
+        let puts = with_puts(alloc, printed.report())?;
+        assert!(rt; are_served(&rt, alloc, words, &puts)?, "{maker} with put");
     }
     Ok(())
 }

@@ -15,6 +15,8 @@ const ON_BOTH_TABLES: &str = "\
 0 run|flock 1/trace/ins 5 70/get 5/del 5/get 5/|trace 0/0 new/1 val 70/2 gone/3 none/final 0/|
 0 run --sections 1|flock 1/trace/ins 5 70/get 5/del 5/get 5/|trace 0/0 new/1 val 70/2 gone/3 none/final 0/|
 0 run|flock 1/trace/ins 5 70/ins 5 80/get 5/|trace 0/0 new/1 dup/2 val 70/final 1/|
+0 run|flock 2/trace/put 5 70/put 5 80/get 5/del 5/put 5 90/|trace 0/0 new/1 was 70/2 val 80/3 gone/4 new/final 1/|
+0 run --buckets 1|flock 2/trace/ins 1 1/ins 2 2/put 1 3/put 2 4/ins 2 5/get 1/get 2/|trace 0/0 new/1 new/2 was 1/3 was 2/4 dup/5 val 3/6 val 4/final 2/|
 0 run --runners 1|flock 1/trace/ins 1 10/trace/get 1/|trace 0/0 new/trace 1/1 val 10/final 1/|
 0 run --buckets 1|flock 1/trace/ins 1 1/ins 2 2/ins 3 3/del 2/get 1/get 3/|trace 0/0 new/1 new/2 new/3 gone/4 val 1/5 val 3/final 2/|
 0 run|flock 1/trace/ins 2 2/ins 1 1/ins 3 3/del 1/get 2/get 3/|trace 0/0 new/1 new/2 new/3 gone/4 val 2/5 val 3/final 2/|
@@ -73,23 +75,51 @@ fn in_and_out(alloc: Global, times: u32, rises: bool) -> Result<Vec<u8>, AllocEr
     Ok(text)
 }
 
+// Whether this text comes out as this report on both tables, by one runner with 18 node slots.
+fn is_served_by_few_slots<T: Threads + Wait + Sync>(
+    rt: &T,
+    alloc: Global,
+    text: &[u8],
+    report: &[u8],
+) -> Result<bool, AllocError> {
+    for table in TABLES {
+        let line = format!(in alloc; "run --nodes 18 --table {table}")?;
+        if !run(rt, alloc, &line, text.to_vec(alloc)?)?.is(0, report, b"") {
+            return Ok(false);
+        }
+    }
+    is_found_legal(rt, alloc, text, report)
+}
+
 // So few node slots suffice for two hundred changes of one pair, since they are used again.
 #[test]
 fn node_slots_are_used_again(rt: HostRuntime) -> Result<(), Fail> {
     let alloc = rt.alloc();
+    let text = in_and_out(alloc, 100, false)?;
     let mut report = b"trace 0\n".to_vec(alloc)?;
     for time in 0..100u32 {
         let lines = format!(in alloc; "{} new\n{} gone\n", 2 * time, 2 * time + 1)?;
         report.extend_from_slice(lines.as_bytes())?;
     }
     report.extend_from_slice(b"final 0\n")?;
-    for table in TABLES {
-        let line = format!(in alloc; "run --nodes 18 --table {table}")?;
-        let text = in_and_out(alloc, 100, false)?;
-        let ended = run(&rt, alloc, &line, text.clone()?)?;
-        assert!(rt; ended.is(0, &report, b""), "{table}");
-        assert!(rt; is_found_legal(&rt, alloc, &text, &report)?, "{table}");
+    assert!(rt; is_served_by_few_slots(&rt, alloc, &text, &report)?);
+    Ok(())
+}
+
+// The same where the pair's value is set again and again, for which the tree makes a leaf each time.
+#[test]
+fn a_key_is_set_again_and_again(rt: HostRuntime) -> Result<(), Fail> {
+    let alloc = rt.alloc();
+    let mut text = b"flock 2\ntrace\nput 1 0\n".to_vec(alloc)?;
+    let mut report = b"trace 0\n0 new\n".to_vec(alloc)?;
+    for time in 1..=200u32 {
+        let request = format!(in alloc; "put 1 {time}\n")?;
+        text.extend_from_slice(request.as_bytes())?;
+        let line = format!(in alloc; "{time} was {}\n", time - 1)?;
+        report.extend_from_slice(line.as_bytes())?;
     }
+    report.extend_from_slice(b"final 1\n")?;
+    assert!(rt; is_served_by_few_slots(&rt, alloc, &text, &report)?);
     Ok(())
 }
 

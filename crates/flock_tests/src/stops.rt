@@ -29,6 +29,10 @@ hash 50 79|flock 1/trace/ins 5 70/del 5/|trace 0/0 new/1 gone/final 0/
 tree 1 6|flock 1/trace/ins 5 70/del 5/|trace 0/- unserved/- unserved/final 0/
 tree 7 64|flock 1/trace/ins 5 70/del 5/|trace 0/0 new/- unserved/final 1/
 tree 65 108|flock 1/trace/ins 5 70/del 5/|trace 0/0 new/1 gone/final 0/
+hash 5 48|flock 2/trace/put 5 70/put 5 80/|trace 0/0 new/- unserved/final 1/
+hash 49 76|flock 2/trace/put 5 70/put 5 80/|trace 0/0 new/1 was 70/final 1/
+tree 7 63|flock 2/trace/put 5 70/put 5 80/|trace 0/0 new/- unserved/final 1/
+tree 64 103|flock 2/trace/put 5 70/put 5 80/|trace 0/0 new/1 was 70/final 1/
 ";
 
 // Runs a text with a stop of runner 0 at this ask.
@@ -78,10 +82,11 @@ fn one_runner_stops_at_each_ask(rt: HostRuntime) -> Result<(), Fail> {
     Ok(())
 }
 
-// Two runners on one key, and two that put their keys in and take them out, with the last ask at
-// which the first runner stops.
-const PAIRS: [(&str, u64); 2] = [
+// Two runners on one key, two that set it, and two that put their keys in and take them out, with the
+// last ask at which the first runner stops.
+const PAIRS: [(&str, u64); 3] = [
     ("flock 1/trace/ins 5 70/trace/ins 5 80/", 60),
+    ("flock 2/trace/put 5 70/put 5 71/trace/put 5 80/get 5/", 110),
     ("flock 1/trace/ins 2 2/del 2/trace/ins 1 1/del 1/", 140),
 ];
 

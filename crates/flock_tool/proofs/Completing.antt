@@ -161,7 +161,7 @@ load_keeps load result sink faults gates ends = if_some _ _ result.1 ends.ended
     (λ ran ended. keeps ran _ ended.0.run.served ended.0.run.lone result.0 (unserved_in ended.1.entries) ended.1.status)
 
 abbrev traces_by : LoadOptions → Traces
-traces_by load = record { count = load.plan.traces; requests = generated load.plan }
+traces_by load = record { format = 1; count = load.plan.traces; requests = generated load.plan }
 
 module _ (result : ℕ × Option Ran) (source sink faults : Stream) (gates : Gating) where
   gen_whole : (plan : Gen) → GenEnds plan result source sink faults gates → all_requests plan ≤ 131072 → NothingFails result.1 source sink gates → IsWhole result ⊎ (result.0 ≡ 7)
@@ -211,7 +211,7 @@ module _ (result : ℕ × Option Ran) (source sink faults : Stream) (gates : Gat
               × HasEnded ran count (waits_out options.halts (words_in ran).layout.runners) result.0 sink faults
           ended = of_back _ result.1 ran back ends.ended
 
-          read : AreTracesOf (record { count = ended.0; requests = (words_in ran).requests }) text
+          read : AreTracesOf (record { format = ended.1.format; count = ended.0; requests = (words_in ran).requests }) text
           read = at _ ended.1.text
 
           is_0 : result.0 ≡ 0

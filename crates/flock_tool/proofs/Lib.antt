@@ -16,4 +16,5 @@ pub mod Reporting
 pub mod Running
 pub mod Sizes
 pub mod Whole
+mod OneKeyed
 mod Traced

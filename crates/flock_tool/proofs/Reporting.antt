@@ -7,6 +7,7 @@ use Rattle.structure_laws.specs.Meaning.{Meaning}
 use Rattle.load_counts.specs.machine_invariant.specs.After.{AreAllowed}
 use Rattle.load_counts.specs.version_words.specs.TableState.{WordsState}
 use Rattle.command_line.specs.trace_reader.specs.Answer.{AreTracesOf}
+use Rattle.command_line.specs.trace_reader.specs.Formats.{AreOfFormat}
 use Rattle.load_counts.specs.run_reports.specs.Reports.{Prints}
 use Rattle.load_counts.specs.run_reports.specs.Stops.{StopsPrinting}
 use Rattle.load_counts.specs.run_reports.specs.declared.printing.PrintError.{PrintError}
@@ -49,8 +50,16 @@ pub run_is : (options : RunOptions) (left : Option (List ℕ)) (plan : Plan) (ra
 run_is options left plan ran gates p r =
     subst (λ (o : RunOptions). HasRun o left plan.traces.count ran gates) p.given
     (record {
-      text = IfSome-from (AreTracesOf plan.traces) (AreTracesOf (record { count = plan.traces.count; requests = (words_in ran).requests })) left p.text
-          (λ text are. record { accepted = are.accepted; count = are.count; requests = r.requests ∙ are.requests });
+      format = plan.traces.format;
+      text = IfSome-from (AreTracesOf plan.traces)
+          (AreTracesOf (record { format = plan.traces.format; count = plan.traces.count; requests = (words_in ran).requests })) left p.text
+          (λ text are. record {
+            accepted = are.accepted;
+            format = are.format;
+            count = are.count;
+            requests = r.requests ∙ are.requests;
+            formats = subst (AreOfFormat plan.traces.format) (sym r.requests) are.formats;
+          });
       run = run_of plan ran gates p.layout r;
       asked = r.asked;
       given = given_of plan ran gates r;

@@ -30,7 +30,7 @@ IsValidAlone (commands.Run options) left =
 IsValidAlone (commands.Gen plan) left = ⊥
 IsValidAlone (commands.Load load) left =
     (all_requests load.plan ≤ 131072)
-    × HasLoneRoom load.run (record { count = load.plan.traces; requests = generated load.plan })
+    × HasLoneRoom load.run (record { format = 1; count = load.plan.traces; requests = generated load.plan })
 IsValidAlone commands.Check left = ⊥
 
 -- no fault was counted, and no gate counted a halt

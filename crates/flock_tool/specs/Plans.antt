@@ -5,6 +5,7 @@ use Rattle.map_history.specs.Requests.{AreInOrder, AreOfFormat1}
 use Rattle.table_words.specs.declared.layout.Layout.{Layout}
 use Rattle.threaded_runs.specs.resource_bounds.specs.Makes.{inserts}
 use Rattle.command_line.specs.trace_reader.specs.Answer.{AreTracesOf, IsRefusal}
+use Rattle.command_line.specs.trace_reader.specs.Formats.{AreOfFormat, IsFormat}
 use Rattle.command_line.specs.trace_reader.specs.Generator.{generated}
 use Rattle.command_line.specs.trace_reader.specs.Text.{IsAccepted, IsFirstRefusal}
 use Rattle.command_line.specs.trace_reader.specs.declared.generator.Gen.{Gen}
@@ -38,7 +39,7 @@ pub record IsPlanned (options : RunOptions) (left : Option (List ℕ)) (plan : P
   pub ranges : AreInRange plan.options
   pub text : IfSome left (AreTracesOf plan.traces)
   pub ordered : AreInOrder plan.traces.requests plan.traces.count
-  pub format : AreOfFormat1 plan.traces.requests
+  pub format : IsFormat plan.traces.format × AreOfFormat plan.traces.format plan.traces.requests
   pub layout : plan.layout ≡ layout_by plan.options plan.traces.count plan.traces.requests
 
 -- the runners would have more node slots together than the limit

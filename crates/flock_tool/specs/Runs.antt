@@ -117,7 +117,13 @@ pub record HasRunPlan (plan : Plan) (ran : Ran) (gates : Gating) : Type 0 where
 -- a run that these options and the text ask for; its gates were given out and came back
 pub record HasRun (options : RunOptions) (left : Option (List ℕ)) (traces : ℕ) (ran : Ran) (gates : Gating)
     : Type 0 where
-  pub text : IfSome left (AreTracesOf (record { count = traces; requests = (words_in ran).requests }))
+  -- the text is of this format
+  pub format : ℕ
+  pub text : IfSome left (AreTracesOf (record {
+    format = format;
+    count = traces;
+    requests = (words_in ran).requests;
+  }))
   pub run : IsRunOf options traces ran
   pub asked : AreAsked (meaning_of ran) (words_in ran) (answers_in ran) gates.asks_before gates.asks_after
   pub given : AreGiven options.halts (words_in ran).layout.runners (answers_in ran) gates

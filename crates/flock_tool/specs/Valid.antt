@@ -31,7 +31,7 @@ IsValid (commands.Run options) left =
 IsValid (commands.Gen plan) left = all_requests plan ≤ 131072
 IsValid (commands.Load load) left =
     (all_requests load.plan ≤ 131072)
-    × HasRoom load.run (record { count = load.plan.traces; requests = generated load.plan })
+    × HasRoom load.run (record { format = 1; count = load.plan.traces; requests = generated load.plan })
 IsValid commands.Check left = (input : List ℕ) × (left ≡ Some input) × HasLegalReport input
 
 -- no fault was counted, no gate counted a halt, and two versions at least are left of each closed cell

@@ -3,10 +3,11 @@ ghost use Rattle.std.specs.Prelude.{◌≡◌, ◌≤◌, All, IfOk, IfErr, OnEr
 ghost use Rattle.std.specs.FinMap.{len};
 ghost use Rattle.map_history.specs.declared.op.Request.{Request};
 ghost use Rattle.map_history.specs.Replay.{Pairs};
-ghost use Rattle.map_history.specs.Requests.{AreInOrder, AreOfFormat1};
+ghost use Rattle.map_history.specs.Requests.{AreInOrder};
 ghost use Rattle.table_words.specs.Limits.{IsWithinLimits};
 ghost use Rattle.load_counts.specs.machine_invariant.specs.After.{AreAllowed};
 ghost use Rattle.load_counts.specs.closed_words.specs.Histories.{HoldsNoLock};
+ghost use Rattle.hash_table.specs.bucket_laws.specs.Walk.{has_one_key};
 ghost use Rattle.command_line.specs.Options.{AreInRange};
 ghost use Rattle.load_counts.specs.run_reports.specs.Reports.{HaveContents, Prints};
 ghost use Rattle.flock_tool.specs.Runs.{words_in, answers_in, meaning_of, HasRunOn, HasRunPlan, StopsReport};
@@ -41,7 +42,7 @@ pub fn run_plan<T: Threads + Wait + Sync, G: Gates>(
     requires ranges { AreInRange plan.now.options }
     requires limits { IsWithinLimits plan.now.layout }
     requires ordered { AreInOrder plan.now.traces.requests plan.now.traces.count }
-    requires format { AreOfFormat1 plan.now.traces.requests }
+    requires one_key { All (λ (request : Request). has_one_key request.op ≡ true) plan.now.traces.requests }
     ensures ran { IfOk result (λ ran. HasRunPlan plan.now ran
         (gating (G.halts gates.old) (G.halts gates.new) (G.asks gates.old) (G.asks gates.new)
         (G.plans gates.old) (G.plans gates.new) (G.planned gates.old) (G.planned gates.new)

@@ -1,11 +1,11 @@
 -- How the hash table plans.
 use Rattle.std.specs.Prelude.{ℕ, ◌^◌, ◌&&◌, false, nat_le}
 use Rattle.map_history.specs.declared.op.Op.{Op}
-use Rattle.map_history.specs.Keys.{key_of, is_format_1}
+use Rattle.map_history.specs.Keys.{key_of}
 use Rattle.section_body.specs.Bucket.{bucket_index}
 use Rattle.table_words.specs.declared.layout.Layout.{Layout}
 use Rattle.structure_laws.specs.Scene.{Readings}
-use Rattle.bucket_laws.specs.Walk.{Walk, wanted_at}
+use Rattle.bucket_laws.specs.Walk.{Walk, has_one_key, wanted_at}
 use Rattle.bucket_laws.specs.Buckets.{walk_of, bounds}
 use Rattle.lock_walks.specs.try_lock.specs.Planning.{Planning}
 use Rattle.lock_walks.specs.Way.{Way}
@@ -16,11 +16,11 @@ module _ (bits : ℕ) where
   abbrev pub walk_in : Layout → Op → Readings → Walk
   walk_in layout op readings = walk_of (2 ^ bits) (λ key. bucket_index key bits) layout op readings
 
-  -- a walk is too far where it was refused with as many links as it may load; it has no marks, and serves get, ins
-  -- and del
+  -- a walk is too far where it was refused with as many links as it may load; it has no marks, and serves
+  -- operations with one key
   abbrev pub bucket_planning : Planning
   bucket_planning = record {
-    serves = is_format_1;
+    serves = has_one_key;
     wants = λ layout op readings. wanted_at (2 ^ bits) (λ key. bucket_index key bits)
         (bucket_index (key_of op) bits) (walk_in layout op readings) (walk_in layout op readings).stage;
     is_far = λ layout op readings. is_refused_at (walk_in layout op readings).stage

@@ -25,7 +25,7 @@ impl Planner for HashTable {
     ghost planning = { λ s. bucket_planning s.bits };
 
     fn serves(&self, op: Op) -> bool {
-        op.least_format() == 1
+        op.other_key().is_none()
     }
 
     fn walk(&self, layout: Layout, op: Op) -> BucketWalk {

@@ -1,9 +1,8 @@
 -- What a thunk that fits is.
 use Rattle.std.proofs.Common.{◌≡◌, ℕ, zero, suc, ◌+◌, ◌<◌, ◌≤◌, Bool, true, false, cond, refl, ap, ◌∙◌, arith}
-use Rattle.std.specs.Prelude.{◌==◌, ◌&&◌, ◌||◌, nat_lt}
+use Rattle.std.specs.Prelude.{◌==◌, ◌&&◌, ◌||◌, nat_lt, is_none, Option, None, Some}
 use Rattle.map_history.specs.declared.op.Op.{Op}
-use Rattle.map_history.specs.Keys.{key_of, IsOneKeyed, is_format_1}
-use Rattle.map_history.proofs.Cells.{format_1_one_keyed}
+use Rattle.map_history.specs.Keys.{key_of, other_key_of, IsOneKeyed}
 use Rattle.map_history.specs.Words.{word_of}
 use Rattle.section_body.specs.Bucket.{operand}
 use Rattle.body_terms.specs.declared.thunk.Thunk.{Thunk}
@@ -12,7 +11,7 @@ use Rattle.structure_laws.proofs.Changes.{equal_of, both_true}
 use Rattle.runner_parts.specs.Tests.{has_pair}
 use Rattle.map_history.specs.AtKey.{reply_at, left_at, changes_at}
 use Rattle.shared_laws.proofs.Numbers.{lt_of, lt_true}
-use Rattle.key_cells.specs.Keyed.{Keyed, lock_place, cell_place, each_of, wanted, new_of, key_in, body_by, key_body, was_read, is_for, key_fits}
+use Rattle.key_cells.specs.Keyed.{Keyed, lock_place, cell_place, each_of, wanted, new_of, has_one_key, key_in, body_by, key_body, was_read, is_for, key_fits}
 
 -- the test of each of the numbers, and the other way
 pub each_at : (n : ℕ) (test : ℕ → Bool) → n ≤ 3 → each_of n test ≡ true → (i : ℕ) → i < n → test i ≡ true
@@ -31,6 +30,10 @@ each_all n test is = (λ k. one 0 k && (one 1 k && one 2 k))
         by true e = let here = is i (lt_of i n e) in grind (arith, here)
         by false e = grind (arith, e)
 
+no_other : (other : Option ℕ) → is_none other ≡ true → other ≡ None
+no_other None h = refl
+no_other (Some key) h = absurd (cc)
+
 module _ (c : Keyed) where
   pub record Fit (op : Op) (readings : Readings) (t : Thunk) : Type 0 where
     pub one : IsOneKeyed op
@@ -45,7 +48,7 @@ module _ (c : Keyed) where
   pub fit_of : (op : Op) (readings : Readings) (t : Thunk) → c.count ≤ 3 → key_fits c op readings t ≡ true → Fit op readings t
   fit_of op readings t few fits =
       let served = both_true _ _ fits in
-      let is = both_true (is_format_1 op) (nat_lt (key_of op) c.keys) served.0 in
+      let is = both_true (has_one_key op) (nat_lt (key_of op) c.keys) served.0 in
       let rest = both_true (was_read c (key_of op) readings t) (is_for c op (c.held (wanted t)) t) served.1 in
       let lock = both_true _ _ rest.0 in
       let key = both_true _ _ lock.1 in
@@ -53,7 +56,7 @@ module _ (c : Keyed) where
       let form = both_true _ _ rest.1 in
       let reply = both_true _ _ form.1 in
       record {
-        one = format_1_one_keyed op is.0;
+        one = no_other (other_key_of op) is.0;
         low = lt_of (key_of op) c.keys is.1;
         lock = equal_of t.lock (lock_place c (key_of op)) lock.0;
         key = equal_of (operand t 7) (key_of op) key.0;

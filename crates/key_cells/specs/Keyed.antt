@@ -1,8 +1,8 @@
 -- Structures that give each key below a bound some cells of its own, at most three, under one lock.
-use Rattle.std.specs.Prelude.{◌≡◌, ℕ, ◌+◌, ◌-◌, ◌<◌, ◌≤◌, ◌^◌, ◌==◌, ◌&&◌, ◌||◌, Bool, true, false, not, cond, nat_lt, List, Option, None, Some}
+use Rattle.std.specs.Prelude.{◌≡◌, ℕ, ◌+◌, ◌-◌, ◌<◌, ◌≤◌, ◌^◌, ◌==◌, ◌&&◌, ◌||◌, Bool, true, false, not, cond, nat_lt, is_none, List, Option, None, Some}
 use Rattle.std.specs.FinMap.{get}
 use Rattle.map_history.specs.declared.op.Op.{Op}
-use Rattle.map_history.specs.Keys.{key_of, is_format_1}
+use Rattle.map_history.specs.Keys.{key_of, other_key_of}
 use Rattle.map_history.specs.Words.{word_of}
 use Rattle.body_terms.specs.Word.{value_of, next_word}
 use Rattle.section_body.specs.Bucket.{operand}
@@ -67,6 +67,10 @@ wanted t i = operand t i
 abbrev pub new_of : Thunk → ℕ → ℕ
 new_of t i = operand t (3 + i)
 
+-- the operation depends on no second key
+abbrev pub has_one_key : Op → Bool
+has_one_key op = is_none (other_key_of op)
+
 module _ (c : Keyed) where
   -- in the memory: the lock of a key, its cells, whether a place is a lock, and the lock that guards a place
   abbrev pub lock_place : ℕ → ℕ
@@ -105,9 +109,9 @@ module _ (c : Keyed) where
       (each_of c.count (λ i. has_pair readings (cell_place key i) (wanted t i)) &&
       has_pair readings (lock_place key) t.word))
 
-  -- the operation is get, ins or del, of a key below the bound
+  -- the operation has one key, below the bound
   abbrev pub serves_key : Op → Bool
-  serves_key op = is_format_1 op && nat_lt (key_of op) c.keys
+  serves_key op = has_one_key op && nat_lt (key_of op) c.keys
 
   abbrev pub key_fits : Op → Readings → Thunk → Bool
   key_fits op readings t =

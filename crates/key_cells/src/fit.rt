@@ -14,7 +14,7 @@ use shared_laws::{changes_at, left_at, reply_at};
 pub fn key_fits<C: KeyCells>(cells: &C, op: Op, readings: &[(Place, Word)], thunk: &Thunk) -> bool
     ensures { result ≡ key_fits (C.keyed cells.now) op readings.now thunk.now }
 {
-    if op.least_format() != 1 || op.key() >= cells.keys() {
+    if op.other_key().is_some() || op.key() >= cells.keys() {
         return false;
     }
     was_read(cells, op.key(), readings, thunk)

@@ -3,18 +3,21 @@ use Rattle.std.proofs.Common.{◌≡◌, ◌≢◌, ℕ, zero, suc, ◌<◌, ◌
 use Rattle.std.specs.Prelude.{◌==◌, ◌&&◌, ◌%◌, slice_get, slice_index_or}
 use Rattle.map_history.specs.declared.op.Request.{Request}
 use Rattle.map_history.specs.declared.op.Op.{Op}
-use Rattle.map_history.specs.Keys.{key_of, DependsOn, is_format_1}
-use Rattle.map_history.proofs.Cells.{format_1_one_keyed, key_is}
+use Rattle.map_history.specs.Keys.{key_of, other_key_of, DependsOn}
+use Rattle.map_history.proofs.Cells.{key_is}
 use Rattle.map_history.specs.Requests.{AreInOrder}
 use Rattle.table_words.specs.declared.layout.Layout.{Layout}
 use Rattle.runner_parts.specs.Tests.{is_next}
+use Rattle.attempts.specs.lock_walks.proofs.Onward.{none_of}
 use Rattle.hash_table.specs.version_words.specs.RunnerState.{RunnerState}
+use Rattle.hash_table.specs.bucket_laws.specs.Walk.{has_one_key}
 use Rattle.lock_tests.specs.Workers.{IsReady}
 use Rattle.lock_tests.specs.Asked.{IsDue}
 use Rattle.lock_tests.specs.HashScene.{two_requests, asked}
 
 -- one request in each of two traces, with keys that the map has
-pub two_in_order : (a b : Op) → key_of a ≤ 4294967293 → key_of b ≤ 4294967293 → is_format_1 a ≡ true → is_format_1 b ≡ true → AreInOrder (two_requests a b) 64
+pub two_in_order : (a b : Op) → key_of a ≤ 4294967293 → key_of b ≤ 4294967293 → has_one_key a ≡ true
+    → has_one_key b ≡ true → AreInOrder (two_requests a b) 64
 two_in_order a b one two first second = record {
   few_traces = omega arith;
   few = omega arith;
@@ -37,8 +40,8 @@ two_in_order a b one two first second = record {
     rising (suc (suc i)) (suc zero) d le low = absurd (omega (arith, le))
     rising i (suc (suc j)) d le low = absurd (omega (arith, low))
 
-    own : (op : Op) → is_format_1 op ≡ true → key_of op ≤ 4294967293 → (key : ℕ) → DependsOn op key → key ≤ 4294967293
-    own op format small key on = subst (λ n. n ≤ 4294967293) (key_is op key (format_1_one_keyed op format) on) small
+    own : (op : Op) → has_one_key op ≡ true → key_of op ≤ 4294967293 → (key : ℕ) → DependsOn op key → key ≤ 4294967293
+    own op one small key on = subst (λ n. n ≤ 4294967293) (key_is op key (none_of (other_key_of op) one) on) small
 
     keys : (k : ℕ) (d : Request) → k < 2 → (key : ℕ) → DependsOn (slice_index_or (two_requests a b) k d).op key → key ≤ 4294967293
     keys zero d low = own a first one
@@ -77,7 +80,8 @@ is_due_of_two a b r two same few ready request is = record {
     next l (suc zero) two low = (λ i. 1 % two i == 1 && true)
     next l (suc (suc k)) two low = absurd (omega (arith, low))
 
--- where both are of format 1, so is each worker's
-pub asked_format : (a b : Op) (n : ℕ) → is_format_1 a ≡ true → is_format_1 b ≡ true → is_format_1 (asked a b n).op ≡ true
-asked_format a b zero first second = first
-asked_format a b (suc n) first second = second
+-- where both have one key, so has each worker's
+pub asked_one_key : (a b : Op) (n : ℕ) → has_one_key a ≡ true → has_one_key b ≡ true
+    → has_one_key (asked a b n).op ≡ true
+asked_one_key a b zero first second = first
+asked_one_key a b (suc n) first second = second

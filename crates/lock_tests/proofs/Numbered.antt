@@ -10,17 +10,21 @@ use Rattle.machine_states.proofs.Steps.{some_same}
 use Rattle.map_history.specs.declared.op.Op.{Op}
 use Rattle.map_history.specs.declared.op.Op.TheVariants.{Get}
 use Rattle.map_history.specs.declared.op.Request.{Request}
-use Rattle.map_history.specs.Keys.{key_of, is_format_1}
-use Rattle.map_history.specs.Requests.{AreInOrder, AreOfFormat1}
-use Rattle.map_history.proofs.Cells.{format_1_one_keyed, key_is}
+use Rattle.map_history.specs.Keys.{key_of, other_key_of}
+use Rattle.map_history.specs.Requests.{AreInOrder}
+use Rattle.map_history.proofs.Cells.{key_is}
+use Rattle.attempts.specs.lock_walks.proofs.Onward.{none_of}
+use Rattle.hash_table.specs.bucket_laws.specs.Walk.{has_one_key}
 use Rattle.lock_tests.specs.Asked.{request_at, trace_of}
 
 numbers : (ops : List Op) (ks : List ℕ) → map (λ request. request.number) (map (request_at ops) ks) ≡ ks
 numbers ops [] = refl
 numbers ops (k ∷ ks) = ap (λ rest. k ∷ rest) (numbers ops ks)
 
-pub trace_in_order : (ops : List Op) (count : ℕ) → 0 < length ops → count ≤ 131072 → All (λ op. key_of op ≤ 4294967293) ops → All (λ op. is_format_1 op ≡ true) ops → AreInOrder (trace_of ops count) 64
-trace_in_order ops count some few keys formats =
+pub trace_in_order : (ops : List Op) (count : ℕ) → 0 < length ops → count ≤ 131072
+    → All (λ op. key_of op ≤ 4294967293) ops → All (λ op. has_one_key op ≡ true) ops
+    → AreInOrder (trace_of ops count) 64
+trace_in_order ops count some few keys ones =
     let size : length (trace_of ops count) ≡ count = length-map-range_with_len (request_at ops) 0 count in
     let at : (k : ℕ) (d : Request) → k < count → get_or (trace_of ops count) k d ≡ request_at ops k = λ k d early. get_or-map-range_with_len (request_at ops) 0 count k k d early (omega arith) in
     record {
@@ -30,16 +34,17 @@ trace_in_order ops count some few keys formats =
       within = λ k d early. rw (at k d (omega (arith, size))) (omega arith);
       rising = λ i j d le early. rw (at i d (omega (arith, size)), at j d (omega (arith, size))) (omega arith);
       keys = λ k d early. rw (at k d (omega (arith, size))) (let op = get_or ops (k % length ops) (Get 0) in
-          λ key on. subst (λ n. n ≤ 4294967293) (key_is op key (format_1_one_keyed op (formats (k % length ops) (Get 0) (mod_below k (length ops) some))) on)
+          λ key on. subst (λ n. n ≤ 4294967293) (key_is op key (none_of (other_key_of op) (ones (k % length ops) (Get 0) (mod_below k (length ops) some))) on)
           (keys (k % length ops) (Get 0) (mod_below k (length ops) some)));
     }
 
-pub trace_format : (ops : List Op) (count : ℕ) → 0 < length ops → All (λ op. is_format_1 op ≡ true) ops → AreOfFormat1 (trace_of ops count)
-trace_format ops count some formats =
+pub trace_one_keyed : (ops : List Op) (count : ℕ) → 0 < length ops → All (λ op. has_one_key op ≡ true) ops
+    → All (λ (q : Request). has_one_key q.op ≡ true) (trace_of ops count)
+trace_one_keyed ops count some ones =
     let size : length (trace_of ops count) ≡ count = length-map-range_with_len (request_at ops) 0 count in
-    λ k d early. subst (λ (q : Request). is_format_1 q.op ≡ true)
+    λ k d early. subst (λ (q : Request). has_one_key q.op ≡ true)
     (sym (get_or-map-range_with_len (request_at ops) 0 count k k d (omega (arith, early, size)) (omega arith)))
-    (formats (k % length ops) (Get 0) (mod_below k (length ops) some))
+    (ones (k % length ops) (Get 0) (mod_below k (length ops) some))
 
 -- requests are numbered by their places
 pub numbered : (requests : List Request) → AreInOrder requests 64 → (n : ℕ) (q : Request) → slice_get requests n ≡ Some q → q.number ≡ n

@@ -1,6 +1,7 @@
 //! Tests.
 ghost use Rattle.std.specs.Prelude.{◌≡◌, ◌≤◌, true, IfOk};
-ghost use Rattle.map_history.specs.Keys.{key_of, is_format_1};
+ghost use Rattle.hash_table.specs.bucket_laws.specs.Walk.{has_one_key};
+ghost use Rattle.map_history.specs.Keys.{key_of};
 
 use crate::hash_scene::{new_table, pairs_of, plan_and_publish};
 use crate::scripts::scripted;
@@ -30,7 +31,7 @@ fn helped<R: Threads + Sync>(
     lines: &[(u32, StepKind, u32, StepKind)],
 ) -> Result<Row, AllocError>
     requires keys { key_of op ≤ 4294967293 }
-    requires format { is_format_1 op ≡ true }
+    requires one_key { has_one_key op ≡ true }
 {
     let ops = (op, Op::Get(1));
     let (table, keeper) = new_table(alloc, ops)?;
@@ -89,11 +90,23 @@ fn a_worker_that_waits_in_its_section_is_helped_to_the_end(
     Ok(())
 }
 
-#[test]
-fn the_contents_are_in_order_of_key(rt: HostRuntime) -> Result<(), AllocError> {
-    let ops = (Op::Ins(3, 30), Op::Ins(5, 50));
-    let (table, keeper) = new_table(rt.alloc(), ops)?;
-    let (keeper, first, second) = crew(&table, rt.alloc(), keeper)?;
+/// How both workers' sections went, how many loads the second one's plan made, their requests' entries, and the pairs.
+#[derive(Drop)]
+struct InTurn {
+    first: Turn,
+    second: Turn,
+    loads: u64,
+    entries: [Option<(u64, u64)>; 2],
+    pairs: Vec<(u32, u32)>,
+}
+
+/// The first worker's section is run, and then the second one's.
+fn in_turn(alloc: Global, ops: (Op, Op)) -> Result<InTurn, AllocError>
+    requires keys { (key_of ops.0 ≤ 4294967293) × (key_of ops.1 ≤ 4294967293) }
+    requires one_key { (has_one_key ops.0 ≡ true) × (has_one_key ops.1 ≡ true) }
+{
+    let (table, keeper) = new_table(alloc, ops)?;
+    let (keeper, first, second) = crew(&table, alloc, keeper)?;
     let (first, offered, _) = plan_and_publish(&table, first, ops);
     let Offer::Published(section) = offered else {
         return Err(AllocError);
@@ -105,11 +118,30 @@ fn the_contents_are_in_order_of_key(rt: HostRuntime) -> Result<(), AllocError> {
     };
     let (second, two) = run_own(&table, second, section, &mut Free::new());
     let words = gather(table, keeper, first, second);
-    let pairs = pairs_of(rt.alloc(), &words)?;
-    assert!(&rt; one.steps == 36 && two.steps == 36 && loads == 5);
-    assert!(&rt; pairs.as_slice() == [(3, 30), (5, 50)].as_slice());
-    assert!(&rt;
-        words.entry(0) == Some((2, 4294967296)) && words.entry(1) == Some((4, 4294967296))
-    );
+    let pairs = pairs_of(alloc, &words)?;
+    Ok(InTurn {
+        first: one,
+        second: two,
+        loads,
+        entries: [words.entry(0), words.entry(1)],
+        pairs,
+    })
+}
+
+#[test]
+fn the_contents_are_in_order_of_key(rt: HostRuntime) -> Result<(), AllocError> {
+    let row = in_turn(rt.alloc(), (Op::Ins(3, 30), Op::Ins(5, 50)))?;
+    assert!(&rt; row.first.steps == 36 && row.second.steps == 36 && row.loads == 5);
+    assert!(&rt; row.pairs.as_slice() == [(3, 30), (5, 50)].as_slice());
+    assert!(&rt; row.entries[0] == Some((2, 4294967296)) && row.entries[1] == Some((4, 4294967296)));
+    Ok(())
+}
+
+#[test]
+fn a_put_sets_the_value_of_a_key_that_is_there(rt: HostRuntime) -> Result<(), AllocError> {
+    let row = in_turn(rt.alloc(), (Op::Put(5, 70), Op::Put(5, 80)))?;
+    assert!(&rt; row.first.steps == 36 && row.second.steps == 25 && row.loads == 5);
+    assert!(&rt; row.pairs.as_slice() == [(5, 80)].as_slice());
+    assert!(&rt; row.entries[0] == Some((2, 4294967296)) && row.entries[1] == Some((4, 25769803846)));
     Ok(())
 }

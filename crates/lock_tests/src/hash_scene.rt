@@ -1,9 +1,10 @@
 //! Two workers on a hash table of one bucket, from a plan to the contents.
 ghost use Rattle.std.specs.Prelude.{◌≡◌, ◌<◌, ◌≤◌, true, IfOk};
 ghost use Rattle.std.specs.FinMap.{entries};
-ghost use Rattle.map_history.specs.Keys.{key_of, is_format_1};
+ghost use Rattle.map_history.specs.Keys.{key_of};
 ghost use Rattle.map_history.specs.Replay.{Pairs};
 ghost use Rattle.hash_table.specs.bucket_laws.specs.Buckets.{buckets_meaning};
+ghost use Rattle.hash_table.specs.bucket_laws.specs.Walk.{has_one_key};
 ghost use Rattle.hash_table.specs.version_words.specs.TableState.{IsOf};
 ghost use Rattle.hash_table.specs.version_words.specs.Stages.{IsKeeper, HasJoined};
 ghost use Rattle.hash_table.specs.try_lock.specs.declared.section.Section.{Section};
@@ -45,7 +46,7 @@ pub fn new_table(
     ops: (Op, Op),
 ) -> Result<(FlockTable<HashTable>, Runner<HashTable>), AllocError>
     requires keys { (key_of ops.0 ≤ 4294967293) × (key_of ops.1 ≤ 4294967293) }
-    requires format { (is_format_1 ops.0 ≡ true) × (is_format_1 ops.1 ≡ true) }
+    requires one_key { (has_one_key ops.0 ≡ true) × (has_one_key ops.1 ≡ true) }
     ensures own { IfOk result (λ x. IsOf x.0 x.1) }
     ensures keeper { IfOk result (λ x. IsKeeper x.1 0 × HasJoined x.1 0) }
     ensures scene { IfOk result (λ x. IsScene ops.0 ops.1 x.0) }
@@ -83,7 +84,7 @@ pub fn plan_and_publish(
     requires scene { IsScene ops.0 ops.1 table.now }
     requires ready { IsReady runner.number runner }
     requires worker { runner.number < 2 }
-    requires format { (is_format_1 ops.0 ≡ true) × (is_format_1 ops.1 ≡ true) }
+    requires one_key { (has_one_key ops.0 ≡ true) × (has_one_key ops.1 ≡ true) }
     ensures own { IsOf table.now result.0 }
     ensures number { result.0.number ≡ runner.number }
     ensures published { (section : Section) → result.1 ≡ Published section

@@ -26,6 +26,11 @@ fn val(value: u32) -> u64 {
     word(value, 3)
 }
 
+/// The reply word of a put that found this value.
+fn was(value: u32) -> u64 {
+    word(value, 6)
+}
+
 impl Row {
     /// What came of this request, where it was answered.
     fn course(&self, request: usize) -> Option<&Course> {
@@ -92,6 +97,18 @@ fn a_request_that_changes_nothing_makes_23_steps(rt: HostRuntime) -> Result<(), 
         ])
     );
     assert!(&rt; row.pairs.as_slice() == [(5, 70)].as_slice());
+    Ok(())
+}
+
+#[test]
+fn a_put_of_a_present_key_makes_a_leaf_and_retires_one(
+    rt: HostRuntime,
+) -> Result<(), AllocError> {
+    let ops = [Op::Put(5, 70), Op::Put(5, 80), Op::Get(5)];
+    let row = serve_trace(rt.alloc(), 10, &ops, 3)?;
+    assert!(&rt; row.came_to(&[(5, 46, NEW), (8, 37, was(70)), (8, 23, val(80))]));
+    assert!(&rt; row.free as u64 + row.limbo as u64 == 8);
+    assert!(&rt; row.pairs.as_slice() == [(5, 80)].as_slice());
     Ok(())
 }
 

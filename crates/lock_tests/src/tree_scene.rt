@@ -1,6 +1,7 @@
 //! One worker on a search tree, from its first plan to the contents.
 ghost use Rattle.std.specs.Prelude.{◌≡◌, ◌<◌, ◌≤◌, true, All, IfOk, length};
-ghost use Rattle.map_history.specs.Keys.{key_of, is_format_1};
+ghost use Rattle.map_history.specs.Keys.{key_of};
+ghost use Rattle.hash_table.specs.bucket_laws.specs.Walk.{has_one_key};
 ghost use Rattle.map_history.specs.Requests.{AreInOrder};
 ghost use Rattle.leaf_tree.specs.version_words.specs.TableState.{IsOf};
 ghost use Rattle.leaf_tree.specs.version_words.specs.Stages.{IsKeeper, HasJoined};
@@ -56,7 +57,7 @@ pub fn serve_trace(alloc: Global, nodes: u32, ops: &[Op], count: u32) -> Result<
     requires some { 0 < length ops.now }
     requires few { count ≤ 131072 }
     requires keys { All (λ op. key_of op ≤ 4294967293) ops.now }
-    requires format { All (λ op. is_format_1 op ≡ true) ops.now }
+    requires one_key { All (λ op. has_one_key op ≡ true) ops.now }
 {
     let requests = one_trace(alloc, ops, count)?;
     let (table, keeper) = new_table(alloc, nodes, requests.as_slice())?;

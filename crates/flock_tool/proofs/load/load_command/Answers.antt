@@ -5,6 +5,7 @@ use Rattle.command_line.specs.trace_reader.specs.declared.traces.TraceError.TheV
 use Rattle.flock_tool.proofs.Ends.{not_both}
 use Rattle.flock_tool.proofs.Giving.{not_ok}
 use Rattle.flock_tool.proofs.Loading.{load_loaded, load_refused}
+use Rattle.flock_tool.proofs.OneKeyed.{generated_have_one_key}
 use Rattle.flock_tool.proofs.load.load_command.Goals as goal
 
 pub returns-in-Err : goal.returns-in-Err
@@ -22,3 +23,6 @@ pub returns : goal.returns
 returns g c =
     load_loaded c.args.load _ _ _ _ c.in-Ok.plan c.in-Ok-run_plan.ran c.in-Ok.ensures.planned c.requires.apart c.in-Ok-run_plan.ensures.ran
     (λ much. not_both _ _ (c.in-Ok.ensures.must much)) c.report_load.ensures
+
+pub run_plan-requires-clause-one_key : goal.run_plan-requires-clause-one_key
+run_plan-requires-clause-one_key g c κs = generated_have_one_key c.in-Ok.plan.traces.requests c.in-Ok.ensures.planned.format

@@ -3,6 +3,7 @@ use Rattle.command_line.specs.declared.options.RunOptions.{RunOptions}
 use Rattle.flock_tool.proofs.Ends.{read_fault}
 use Rattle.flock_tool.proofs.Giving.{not_ok}
 use Rattle.flock_tool.proofs.Running.{run_lacks, run_refused, run_reported}
+use Rattle.flock_tool.proofs.OneKeyed.{have_one_key}
 use Rattle.flock_tool.proofs.report.run_command.Goals as goal
 
 pub returns-in-Err-clause-ends : goal.returns-in-Err-clause-ends
@@ -21,3 +22,6 @@ returns-in_default-clause-ends g c =
 pub returns-clause-ends : goal.returns-clause-ends
 returns-clause-ends g c =
     run_reported c.args.options _ _ _ _ _ c.in-Ok.plan c.in-Ok-run_plan.ran c.in-Ok.ensures.planned c.in-Ok-run_plan.ensures.ran c.in-Ok.ensures.must c.report.ensures.reported
+
+pub run_plan-requires-clause-one_key : goal.run_plan-requires-clause-one_key
+run_plan-requires-clause-one_key g c κs = have_one_key c.in-Ok.plan.traces c.in-Ok.ensures.planned.format

@@ -1,9 +1,9 @@
 use Rattle.std.proofs.Common.{◌≡◌, true, ap, sym, subst, ◌∙◌}
 use Rattle.map_history.specs.declared.op.Request.{Request}
-use Rattle.map_history.specs.Keys.{is_format_1}
+use Rattle.hash_table.specs.bucket_laws.specs.Walk.{has_one_key}
 use Rattle.table_words.specs.declared.layout.Layout.{Layout}
 use Rattle.lock_tests.specs.HashScene.{asked}
-use Rattle.lock_tests.proofs.HashRow.{is_due_of_two, asked_format}
+use Rattle.lock_tests.proofs.HashRow.{is_due_of_two, asked_one_key}
 use Rattle.lock_tests.proofs.hash_scene.plan_and_publish.Goals as goal
 
 pub plan_and_publish-requires-clause-due : goal.plan_and_publish-requires-clause-due
@@ -13,5 +13,5 @@ plan_and_publish-requires-clause-due c κs =
 
 pub plan_and_publish-requires-clause-served : goal.plan_and_publish-requires-clause-served
 plan_and_publish-requires-clause-served c κs =
-    subst (λ (q : Request). is_format_1 q.op ≡ true) (sym c.request_of-request.ensures)
-    (asked_format c.args.ops.0 c.args.ops.1 _ c.requires.format.0 c.requires.format.1)
+    subst (λ (q : Request). has_one_key q.op ≡ true) (sym c.request_of-request.ensures)
+    (asked_one_key c.args.ops.0 c.args.ops.1 _ c.requires.one_key.0 c.requires.one_key.1)

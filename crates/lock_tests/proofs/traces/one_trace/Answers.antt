@@ -1,9 +1,12 @@
 use Rattle.std.proofs.Common.{◌+◌, ◌++◌, ◌∷◌, [], ◌∙◌, ap, arith, map, subst, sym}
 use Rattle.std.specs.List.{range_with_len}
 use Rattle.std.proofs.lemmas.List.FromFn.{map-range_with_len_more}
-use Rattle.map_history.specs.Requests.{AreInOrder, AreOfFormat1}
+use Rattle.std.specs.Prelude.{All, true, ◌≡◌}
+use Rattle.map_history.specs.declared.op.Request.{Request}
+use Rattle.map_history.specs.Requests.{AreInOrder}
+use Rattle.hash_table.specs.bucket_laws.specs.Walk.{has_one_key}
 use Rattle.lock_tests.specs.Asked.{request_at}
-use Rattle.lock_tests.proofs.Numbered.{trace_in_order, trace_format}
+use Rattle.lock_tests.proofs.Numbered.{trace_in_order, trace_one_keyed}
 use Rattle.lock_tests.proofs.traces.one_trace.Goals as goal
 
 pub loop-number-preserved : goal.loop-number-preserved
@@ -19,10 +22,10 @@ pub returns-clause-ordered : goal.returns-clause-ordered
 returns-clause-ordered c =
     subst (λ requests. AreInOrder requests 64)
     (sym (c.loop-number.invariant ∙ ap (λ count. map (request_at c.args.ops.now) (range_with_len 0 count)) (let high = c.loop-number-test.false in let low = c.loop-number.auto.number-end in omega (arith, high, low))))
-    (trace_in_order c.args.ops.now c.args.count c.requires.some c.requires.few c.requires.keys c.requires.format)
+    (trace_in_order c.args.ops.now c.args.count c.requires.some c.requires.few c.requires.keys c.requires.one_key)
 
-pub returns-clause-format : goal.returns-clause-format
-returns-clause-format c =
-    subst AreOfFormat1
+pub returns-clause-one_key : goal.returns-clause-one_key
+returns-clause-one_key c =
+    subst (All (λ (q : Request). has_one_key q.op ≡ true))
     (sym (c.loop-number.invariant ∙ ap (λ count. map (request_at c.args.ops.now) (range_with_len 0 count)) (let high = c.loop-number-test.false in let low = c.loop-number.auto.number-end in omega (arith, high, low))))
-    (trace_format c.args.ops.now c.args.count c.requires.some c.requires.format)
+    (trace_one_keyed c.args.ops.now c.args.count c.requires.some c.requires.one_key)

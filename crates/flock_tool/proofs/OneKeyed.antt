@@ -1,0 +1,22 @@
+-- Each request that is run has one key.
+use Rattle.std.proofs.Common.{◌≡◌, ◌≤◌, ℕ, List, All, true, ap, arith}
+use Rattle.std.specs.Prelude.{is_none}
+use Rattle.map_history.specs.declared.op.Request.{Request}
+use Rattle.map_history.specs.Requests.{AreOfFormat1}
+use Rattle.map_history.proofs.Cells.{format_1_one_keyed}
+use Rattle.hash_table.specs.bucket_laws.specs.Walk.{has_one_key}
+use Rattle.command_line.specs.trace_reader.specs.Formats.{AreOfFormat, IsFormat}
+use Rattle.command_line.specs.trace_reader.specs.declared.traces.Traces.{Traces}
+use Rattle.command_line.specs.trace_reader.proofs.Formats.{one_keyed}
+
+abbrev HaveOneKey : List Request → Type 0
+HaveOneKey requests = All (λ (request : Request). has_one_key request.op ≡ true) requests
+
+-- those of a text
+pub have_one_key : (traces : Traces) → IsFormat traces.format × AreOfFormat traces.format traces.requests
+    → HaveOneKey traces.requests
+have_one_key traces (format, are) = λ k d early. ap is_none (one_keyed _ (omega (arith, are k d early, format.1)))
+
+-- and generated ones
+pub generated_have_one_key : (requests : List Request) → AreOfFormat1 requests → HaveOneKey requests
+generated_have_one_key requests are = λ k d early. ap is_none (format_1_one_keyed _ (are k d early))
