@@ -43,15 +43,18 @@ module _ (buckets : ℕ) (bucket : ℕ → ℕ) (layout : Layout) (s : Scene) (k
 
   -- a slot that a section holds has the operation's key
   making_kind : (x : Section) (h : Half) → HasHalf x h → IsMaking x h → h.kind ≡ Insert
-  making_kind x h has making = let early = making.0 in let late = making.1 in (half_is x.thunk h has).insert.1 (omega arith)
+  making_kind x h has making = let early = making.0 in let late = making.1 in (half_is x.thunk h has).insert.1
+      (omega arith)
 
   pub owned_key : (sound : Sound (table buckets bucket) layout s) (d : ℕ) (x : Section) (t : ℕ) → s.section d ≡ Some x → Owns x t → value_of (s.cells (cell_at buckets bucket t 1)) ≡ key_of x.op
   owned_key sound d x t here owns = ⊎_elim
       (λ new. let made = kept.made d x owns.0 here owns.1 new.0 in
       let number = number_is x.thunk owns.0 owns.1 Insert (making_kind x owns.0 owns.1 new.0) in
       let named = ((fit buckets bucket layout s sound kept d x here).insert number).1 in
-      ap (λ t. value_of (s.cells (cell_at buckets bucket t 1))) (suc_equal t made.0 (sym new.1 ∙ made.1)) ∙ made.2.key ∙ named.3 ∙ sym named.2.0)
-      (λ old. ap (λ t. value_of (s.cells (cell_at buckets bucket t 1))) (sym old.1) ∙ (kept.taken d x owns.0 here owns.1 old.0).key) owns.2
+      ap (λ t. value_of (s.cells (cell_at buckets bucket t 1))) (suc_equal t made.0 (sym new.1 ∙ made.1)) ∙ made.2.key
+      ∙ named.3 ∙ sym named.2.0)
+      (λ old. ap (λ t. value_of (s.cells (cell_at buckets bucket t 1))) (sym old.1)
+      ∙ (kept.taken d x owns.0 here owns.1 old.0).key) owns.2
 
   -- so no two sections hold one slot
   pub owned_once : (sound : Sound (table buckets bucket) layout s) (d e : ℕ) (x y : Section) (t : ℕ) → s.section d ≡ Some x → s.section e ≡ Some y → Owns x t → Owns y t → d ≡ e
@@ -69,8 +72,10 @@ module _ (buckets : ℕ) (bucket : ℕ → ℕ) (small : (key : ℕ) → bucket 
 
   step_kept : (status : ℕ → Status) (reg : ℕ → ℕ) → ((i : ℕ) → IsPending x i → IsPending (stepped x reg) i)
       → ((t : ℕ) → kept.on t ≡ true → status t ≡ Live)
-      → ((h : Half) → HasHalf x h → IsMaking (stepped x reg) h → (t : ℕ) × (reg h.node_reg ≡ suc t) × IsMade buckets bucket s.cells x.thunk t)
-      → ((h : Half) → HasHalf x h → IsTaking (stepped x reg) h → IsTaken buckets bucket s.cells kept.on (operand x.thunk 2) (key_of x.op))
+      → ((h : Half) → HasHalf x h → IsMaking (stepped x reg) h → (t : ℕ) × (reg h.node_reg ≡ suc t)
+      × IsMade buckets bucket s.cells x.thunk t)
+      → ((h : Half) → HasHalf x h → IsTaking (stepped x reg) h → IsTaken buckets bucket s.cells kept.on
+      (operand x.thunk 2) (key_of x.op))
       → ((t : ℕ) → Owns (stepped x reg) t → (status t ≡ Live) × (kept.on t ≡ false))
       → ((e : ℕ) (z : Section) (t : ℕ) → e ≢ d → s.section e ≡ Some z → Owns z t → status t ≡ Live)
       → ((t : ℕ) → status t ≡ Live → (s.status t ≡ Live) ⊎ Owns (stepped x reg) t)
@@ -86,17 +91,23 @@ module _ (buckets : ℕ) (bucket : ℕ → ℕ) (small : (key : ℕ) → bucket 
     sections = λ e z h. ⊎_elim (λ same. subst (λ z. IsWalked buckets bucket (next_scene status reg) kept.on kept.rank z.op (walk_of buckets bucket layout z.op z.readings)) same.1 (walked x.op (walk_of buckets bucket layout x.op x.readings) (kept.sections d x here)))
         (λ other. walked z.op (walk_of buckets bucket layout z.op z.readings) (kept.sections e z other.1)) (upd_some s.section d e (stepped x reg) z h);
     made = λ e z h at has making. ⊎_elim
-        (λ same. subst (λ z. (h : Half) → HasHalf z h → IsMaking z h → (t : ℕ) × (z.reg h.node_reg ≡ suc t) × IsMade buckets bucket s.cells z.thunk t) same.1 made h has making)
+        (λ same. subst (λ z. (h : Half) → HasHalf z h → IsMaking z h → (t : ℕ) × (z.reg h.node_reg ≡ suc t)
+        × IsMade buckets bucket s.cells z.thunk t) same.1 made h has making)
         (λ other. kept.made e z h other.1 has making) (upd_some s.section d e (stepped x reg) z at);
     target = λ e z h at has changes low. ⊎_elim
-        (λ same. subst (λ z. (h : Half) → HasHalf z h → h.change < h.edition → h.load ≤ z.at → IsTargetOf buckets bucket h.kind s.cells kept.on (bucket (key_of z.op)) h.target) same.1 target h has changes low)
+        (λ same. subst (λ z. (h : Half) → HasHalf z h → h.change < h.edition → h.load ≤ z.at
+        → IsTargetOf buckets bucket h.kind s.cells kept.on (bucket (key_of z.op)) h.target) same.1 target h has
+        changes low)
         (λ other. kept.target e z h other.1 has changes low) (upd_some s.section d e (stepped x reg) z at);
     taken = λ e z h at has taking. ⊎_elim
-        (λ same. subst (λ z. (h : Half) → HasHalf z h → IsTaking z h → IsTaken buckets bucket s.cells kept.on (operand z.thunk 2) (key_of z.op)) same.1 taken h has taking)
+        (λ same. subst (λ z. (h : Half) → HasHalf z h → IsTaking z h → IsTaken buckets bucket s.cells kept.on
+        (operand z.thunk 2) (key_of z.op)) same.1 taken h has taking)
         (λ other. kept.taken e z h other.1 has taking) (upd_some s.section d e (stepped x reg) z at);
     owned = λ e z t at owns. ⊎_elim (λ same. held t (subst (λ z. Owns z t) (sym same.1) owns))
-        (λ other. (others e z t other.0 other.1 owns, (kept.owned e z t other.1 owns).1)) (upd_some s.section d e (stepped x reg) z at);
-    live = λ t now. ⊎_elim (λ live. live_cases buckets bucket layout s kept t live inl (λ e z there owns. dite (ℕ_discrete e d)
+        (λ other. (others e z t other.0 other.1 owns, (kept.owned e z t other.1 owns).1))
+        (upd_some s.section d e (stepped x reg) z at);
+    live = λ t now. ⊎_elim (λ live. live_cases buckets bucket layout s kept t live inl
+        (λ e z there owns. dite (ℕ_discrete e d)
         (λ same. mine t (own t now (subst (λ z. Owns z t) (itself e z there same) owns)))
         (λ ne. inr (e, z, upd_other s.section d e (Some (stepped x reg)) ne ∙ there, owns)))) (mine t) (new t now);
     limbo = limbo;
@@ -112,87 +123,103 @@ module _ (buckets : ℕ) (bucket : ℕ → ℕ) (small : (key : ℕ) → bucket 
           (quiet (bucket (key_of op)) (subst (λ z. IsPending z (bucket (key_of op))) (itself e z there same) pending)))
           (λ ne. none e z (upd_other s.section d e (Some (stepped x reg)) ne ∙ there) pending))
 
-      target : (h : Half) → HasHalf x h → h.change < h.edition → h.load ≤ suc x.at → IsTargetOf buckets bucket h.kind s.cells kept.on (bucket (key_of x.op)) h.target
+      target : (h : Half) → HasHalf x h → h.change < h.edition → h.load ≤ suc x.at
+          → IsTargetOf buckets bucket h.kind s.cells kept.on (bucket (key_of x.op)) h.target
       target h has changes low =
           let half = half_is x.thunk h has in
           let known = half.order.0 in
           let loaded = half.order.1 in
           let making = half.order.2 in
-          ⊎_elim (λ now. target_now buckets bucket small layout s sound kept d x h here has changes (omega arith) (omega arith))
+          ⊎_elim (λ now. target_now buckets bucket small layout s sound kept d x h here has changes (omega arith)
+          (omega arith))
           (λ before. kept.target d x h here has changes (omega arith)) (below_or h.load (suc x.at) low)
 
   -- the step at this place, where it is known
-  step_at : (b : Step) (j : ℕ) (known : Step) → IsStep (table buckets bucket) x x.at b → IsStep (table buckets bucket) x j known → x.at ≡ j → b ≡ known
+  step_at : (b : Step) (j : ℕ) (known : Step) → IsStep (table buckets bucket) x x.at b
+      → IsStep (table buckets bucket) x j known → x.at ≡ j → b ≡ known
   step_at b j known h stands e = some_inj (sym h ∙ ap (slice_get (table_steps x.thunk)) e ∙ stands)
 
   -- a step that is no Store stands neither at a half's change nor at its edition
-  module _ (b : Step) (step : IsStep (table buckets bucket) x x.at b) (no_store : (r : ℕ) (v : Value) → b ≢ Store r v) where
-    no_change : (h : Half) → HasHalf x h → h.made < h.retire → x.at ≡ h.change → ⊥
-    no_change h has moves at = let half = half_is x.thunk h has in no_store h.target_reg (stored_for h.kind x.thunk)
-        (step_at b h.change (Store h.target_reg (stored_for h.kind x.thunk)) step (half.steps (half.changing moves)).2 at)
+  module _ (b : Step) (step : IsStep (table buckets bucket) x x.at b) (no_store : (r : ℕ) (v : Value) → b ≢ Store r v)
+    where
+      no_change : (h : Half) → HasHalf x h → h.made < h.retire → x.at ≡ h.change → ⊥
+      no_change h has moves at = let half = half_is x.thunk h has in no_store h.target_reg (stored_for h.kind x.thunk)
+          (step_at b h.change (Store h.target_reg (stored_for h.kind x.thunk)) step (half.steps (half.changing moves)).2
+          at)
 
-    -- so it leaves a change pending
-    still_pending : (reg : ℕ → ℕ) (i : ℕ) → IsPending x i → IsPending (stepped x reg) i
-    still_pending reg i pending =
-        let h = pending.0 in
-        let late : h.change < x.at = pending.3 in
-        let early : x.at ≤ h.edition = pending.4 in (
-          h,
-          pending.1,
-          pending.2,
-          omega arith,
-          ⊎_elim
-              (λ last. absurd (no_store h.edition_reg (Const 0) (step_at b h.edition (Store h.edition_reg (Const 0)) step
-              ((half_is x.thunk h pending.1).steps (omega arith)).3 last)))
-              (λ before. before) (below_or x.at h.edition early),
-        )
+      -- so it leaves a change pending
+      still_pending : (reg : ℕ → ℕ) (i : ℕ) → IsPending x i → IsPending (stepped x reg) i
+      still_pending reg i pending =
+          let h = pending.0 in
+          let late : h.change < x.at = pending.3 in
+          let early : x.at ≤ h.edition = pending.4 in (
+            h,
+            pending.1,
+            pending.2,
+            omega arith,
+            ⊎_elim
+                (λ last. absurd (no_store h.edition_reg (Const 0)
+                (step_at b h.edition (Store h.edition_reg (Const 0)) step
+                ((half_is x.thunk h pending.1).steps (omega arith)).3 last)))
+                (λ before. before) (below_or x.at h.edition early),
+          )
 
-    -- and what was taken out before it still is
-    still_taken : (h : Half) → HasHalf x h → IsTaking (stepped x x.reg) h → IsTaking x h
-    still_taken h has taking =
-        let late : h.change ≤ x.at = (let low = taking.0 in omega arith) in
-        let early : suc x.at ≤ h.retire = taking.1 in
-        let making = (half_is x.thunk h has).order.2 in
-        ⊎_elim (λ now. absurd (no_change h has (omega arith) (sym now))) (λ before. (before, omega arith)) (below_or h.change x.at late)
+      -- and what was taken out before it still is
+      still_taken : (h : Half) → HasHalf x h → IsTaking (stepped x x.reg) h → IsTaking x h
+      still_taken h has taking =
+          let late : h.change ≤ x.at = (let low = taking.0 in omega arith) in
+          let early : suc x.at ≤ h.retire = taking.1 in
+          let making = (half_is x.thunk h has).order.2 in
+          ⊎_elim (λ now. absurd (no_change h has (omega arith) (sym now))) (λ before. (before, omega arith))
+          (below_or h.change x.at late)
 
-    -- a step that makes and retires nothing either leaves a section what it holds
-    module _ (no_make : (init : Init) (r : ℕ) → b ≢ Make init r) (no_retire : (t : ℕ) → b ≢ Retire t) where
-      still_made : (h : Half) → HasHalf x h → IsMaking (stepped x x.reg) h → IsMaking x h
-      still_made h has making =
-          let late : h.made ≤ x.at = (let low = making.0 in omega arith) in
-          let early : suc x.at ≤ h.change = making.1 in
-          ⊎_elim (λ now. absurd (no_make (node_init x.thunk) h.node_reg (step_at b h.made (Make (node_init x.thunk) h.node_reg) step
-          ((half_is x.thunk h has).makes (omega arith)) (sym now))))
-          (λ before. (before, omega arith)) (below_or h.made x.at late)
+      -- a step that makes and retires nothing either leaves a section what it holds
+      module _ (no_make : (init : Init) (r : ℕ) → b ≢ Make init r) (no_retire : (t : ℕ) → b ≢ Retire t) where
+        still_made : (h : Half) → HasHalf x h → IsMaking (stepped x x.reg) h → IsMaking x h
+        still_made h has making =
+            let late : h.made ≤ x.at = (let low = making.0 in omega arith) in
+            let early : suc x.at ≤ h.change = making.1 in
+            ⊎_elim (λ now. absurd (no_make (node_init x.thunk) h.node_reg
+            (step_at b h.made (Make (node_init x.thunk) h.node_reg) step
+            ((half_is x.thunk h has).makes (omega arith)) (sym now))))
+            (λ before. (before, omega arith)) (below_or h.made x.at late)
 
-      carried : (t : ℕ) → Owns x t → Owns (stepped x x.reg) t
-      carried t owns = ⊎_elim (λ new. (h, owns.1, inl (on_making new.0, new.1))) (λ old. (h, owns.1, inr (on_taking old.0, old.1))) owns.2
-        where
-          h : Half
-          h = owns.0
+        carried : (t : ℕ) → Owns x t → Owns (stepped x x.reg) t
+        carried t owns = ⊎_elim (λ new. (h, owns.1, inl (on_making new.0, new.1)))
+            (λ old. (h, owns.1, inr (on_taking old.0, old.1))) owns.2
+          where
+            h : Half
+            h = owns.0
 
-          on_making : IsMaking x h → IsMaking (stepped x x.reg) h
-          on_making making =
-              let late : h.made < x.at = making.0 in
-              let early : x.at ≤ h.change = making.1 in
-              let taking = (half_is x.thunk h owns.1).order.4 in
-              ⊎_elim (λ now. absurd (no_change h owns.1 (omega arith) now)) (λ before. (omega arith, before)) (below_or x.at h.change early)
+            on_making : IsMaking x h → IsMaking (stepped x x.reg) h
+            on_making making =
+                let late : h.made < x.at = making.0 in
+                let early : x.at ≤ h.change = making.1 in
+                let taking = (half_is x.thunk h owns.1).order.4 in
+                ⊎_elim (λ now. absurd (no_change h owns.1 (omega arith) now)) (λ before. (omega arith, before))
+                (below_or x.at h.change early)
 
-          on_taking : IsTaking x h → IsTaking (stepped x x.reg) h
-          on_taking taking =
-              let late : h.change < x.at = taking.0 in
-              let early : x.at ≤ h.retire = taking.1 in
-              ⊎_elim (λ now. absurd (no_retire (operand x.thunk 2) (step_at b h.retire (Retire (operand x.thunk 2)) step
-              ((half_is x.thunk h owns.1).retires (omega arith)) now)))
-              (λ before. (omega arith, before)) (below_or x.at h.retire early)
+            on_taking : IsTaking x h → IsTaking (stepped x x.reg) h
+            on_taking taking =
+                let late : h.change < x.at = taking.0 in
+                let early : x.at ≤ h.retire = taking.1 in
+                ⊎_elim (λ now. absurd (no_retire (operand x.thunk 2) (step_at b h.retire (Retire (operand x.thunk 2)) step
+                ((half_is x.thunk h owns.1).retires (omega arith)) now)))
+                (λ before. (omega arith, before)) (below_or x.at h.retire early)
 
-      -- a Want, a Fresh, a Stamp or an Answer
-      pub quiet_kept : BucketsKept buckets bucket layout (passes s d x)
-      quiet_kept = step_kept s.status x.reg (still_pending x.reg) kept.on_live
-          (λ h has making. kept.made d x h here has (still_made h has making))
-          (λ h has taking. kept.taken d x h here has (still_taken h has taking))
-          (λ t owns. kept.owned d x t here (owns.0, owns.1, ⊎_elim (λ new. inl (still_made owns.0 owns.1 new.0, new.1)) (λ old. inr (still_taken owns.0 owns.1 old.0, old.1)) owns.2))
-          (λ e z t ne there owns. (kept.owned e z t there owns).0) (λ t live. inl live) (λ t live owns. carried t owns) kept.limbo
+        -- a Want, a Fresh, a Stamp or an Answer
+        pub quiet_kept : BucketsKept buckets bucket layout (passes s d x)
+        quiet_kept = step_kept s.status x.reg (still_pending x.reg) kept.on_live
+            (λ h has making. kept.made d x h here has (still_made h has making))
+            (λ h has taking. kept.taken d x h here has (still_taken h has taking))
+            (λ t owns. kept.owned d x t here (
+              owns.0,
+              owns.1,
+              ⊎_elim (λ new. inl (still_made owns.0 owns.1 new.0, new.1))
+                  (λ old. inr (still_taken owns.0 owns.1 old.0, old.1)) owns.2,
+            ))
+            (λ e z t ne there owns. (kept.owned e z t there owns).0) (λ t live. inl live) (λ t live owns. carried t owns)
+            kept.limbo
 
   -- a section before its Make holds no slot
   owns_none : ((h : Half) → HasHalf x h → x.at ≤ h.made) → (t : ℕ) → Owns x t → ⊥
@@ -207,9 +234,15 @@ module _ (buckets : ℕ) (bucket : ℕ → ℕ) (small : (key : ℕ) → bucket 
       step_kept s.status (upd x.reg r n) (still_pending (Load p r) step no_store (upd x.reg r n)) kept.on_live
       (λ h has making. absurd (let before = early h has in let late = making.0 in omega arith))
       (λ h has taking. kept.taken d x h here has (still_taken (Load p r) step no_store h has taking))
-      (λ t owns. kept.owned d x t here (owns.0, owns.1, ⊎_elim (λ new. absurd (let before = early owns.0 owns.1 in let late = new.0.0 in omega arith))
-      (λ old. inr (still_taken (Load p r) step no_store owns.0 owns.1 old.0, old.1)) owns.2))
-      (λ e z t ne there owns. (kept.owned e z t there owns).0) (λ t live. inl live) (λ t live owns. absurd (owns_none (λ h has. let before = early h has in omega arith) t owns)) kept.limbo
+      (λ t owns. kept.owned d x t here (
+        owns.0,
+        owns.1,
+        ⊎_elim (λ new. absurd (let before = early owns.0 owns.1 in let late = new.0.0 in
+            omega arith))
+            (λ old. inr (still_taken (Load p r) step no_store owns.0 owns.1 old.0, old.1)) owns.2,
+      ))
+      (λ e z t ne there owns. (kept.owned e z t there owns).0) (λ t live. inl live)
+      (λ t live owns. absurd (owns_none (λ h has. let before = early h has in omega arith) t owns)) kept.limbo
     where
       no_store : (q : ℕ) (v : Value) → Load p r ≢ Store q v
       no_store q v e = cc
@@ -217,7 +250,8 @@ module _ (buckets : ℕ) (bucket : ℕ → ℕ) (small : (key : ℕ) → bucket 
       early : (h : Half) → HasHalf x h → suc x.at ≤ h.made
       early h has =
           let order = (half_is x.thunk h has).order in
-          ⊎_elim (λ edition. let at = edition.0 in omega (arith, order)) (λ target. let at = target.1 in omega (arith, order))
+          ⊎_elim (λ edition. let at = edition.0 in omega (arith, order))
+          (λ target. let at = target.1 in omega (arith, order))
           (half_step x.thunk h has x.at (Load p r) step)
 
   -- a Make
@@ -230,21 +264,37 @@ module _ (buckets : ℕ) (bucket : ℕ → ℕ) (small : (key : ℕ) → bucket 
       let live_too : (u : ℕ) → s.status u ≡ Live → upd s.status t Live u ≡ Live = λ u live. dite (ℕ_discrete u t) (λ e. upd_same s.status t u Live e) (λ ne. upd_other s.status t u Live ne ∙ live) in
       let cell : (k : ℕ) (v : Value) → k < 5 → slice_get (node_init x.thunk).cells k ≡ Some v → value_of (s.cells (cell_at buckets bucket t k)) ≡ value_in x.reg v =
       λ k v low at. prepared.cells k v low (ap (λ init. slice_get init.cells k) make.2.3 ∙ at) in
-      step_kept (upd s.status t Live) (upd x.reg r (suc t)) (still_pending (Make init r) step no_store (upd x.reg r (suc t))) (λ u on. live_too u (kept.on_live u on))
-      (λ h has making. (t, upd_same x.reg r h.node_reg (suc t) (sym (made h has).2), record {
-        key = cell 1 (Const (operand x.thunk 1)) (omega arith) refl;
-        value = cell 2 (Const (operand x.thunk 2)) (omega arith) refl;
-        next = cell 3 (Const (operand x.thunk 3)) (omega arith) refl;
-      }))
+      step_kept (upd s.status t Live) (upd x.reg r (suc t))
+      (still_pending (Make init r) step no_store (upd x.reg r (suc t))) (λ u on. live_too u (kept.on_live u on))
+      (λ h has making. (
+        t,
+        upd_same x.reg r h.node_reg (suc t) (sym (made h has).2),
+        record {
+          key = cell 1 (Const (operand x.thunk 1)) (omega arith) refl;
+          value = cell 2 (Const (operand x.thunk 2)) (omega arith) refl;
+          next = cell 3 (Const (operand x.thunk 3)) (omega arith) refl;
+        },
+      ))
       (λ h has taking. absurd (taking_none h has taking))
-      (λ u owns. ⊎_elim (λ new. let same : u ≡ t = suc_equal u t (sym new.1 ∙ upd_same x.reg r owns.0.node_reg (suc t) (sym (made owns.0 owns.1).2)) in
-      (upd_same s.status t u Live same, off (kept.on u) (ap kept.on (sym same)))) (λ old. absurd (taking_none owns.0 owns.1 old.0)) owns.2)
+      (λ u owns. ⊎_elim (λ new. let same : u ≡ t = suc_equal u t
+      (sym new.1 ∙ upd_same x.reg r owns.0.node_reg (suc t) (sym (made owns.0 owns.1).2)) in
+      (upd_same s.status t u Live same, off (kept.on u) (ap kept.on (sym same))))
+      (λ old. absurd (taking_none owns.0 owns.1 old.0)) owns.2)
       (λ e z u ne there owns. live_too u (kept.owned e z u there owns).0)
       (λ u live. dite (ℕ_discrete u t)
-      (λ same. inr (make.0, make.1, inl ((omega arith, omega arith), upd_same x.reg r make.0.node_reg (suc t) (sym make.2.2) ∙ ap suc (sym same))))
+      (λ same. inr (
+        make.0,
+        make.1,
+        inl (
+          (omega arith, omega arith),
+          upd_same x.reg r make.0.node_reg (suc t)
+              (sym make.2.2) ∙ ap suc (sym same),
+        ),
+      ))
       (λ other. inl (sym (upd_other s.status t u Live other) ∙ live)))
       (λ u live owns. absurd (owns_none (λ h has. let at = (made h has).1 in omega arith) u owns))
-      (λ q y u retired recent leads. dite (ℕ_discrete q t) (λ same. absurd (live_retired _ y (upd_same s.status t q Live same) retired))
+      (λ q y u retired recent leads. dite (ℕ_discrete q t)
+      (λ same. absurd (live_retired _ y (upd_same s.status t q Live same) retired))
       (λ other. ⊎_elim (λ live. inl (live_too u live))
       (λ late. dite (ℕ_discrete u t) (λ same. inl (upd_same s.status t u Live same)) (λ ne. inr (late.0, upd_other s.status t u Live ne ∙ late.1, late.2)))
       (kept.limbo q y u (sym (upd_other s.status t q Live other) ∙ retired) recent leads)))
@@ -253,7 +303,8 @@ module _ (buckets : ℕ) (bucket : ℕ → ℕ) (small : (key : ℕ) → bucket 
       made h has = half_step x.thunk h has x.at (Make init r) step
 
       taking_none : (h : Half) → HasHalf x h → IsTaking (stepped x (upd x.reg r (suc t))) h → ⊥
-      taking_none h has taking = let lt = (made h has).0 in let at = (made h has).1 in let late = taking.0 in omega arith
+      taking_none h has taking = let lt = (made h has).0 in let at = (made h has).1 in let late = taking.0 in
+          omega arith
 
       off : (b : Bool) → kept.on t ≡ b → b ≡ false
       off true e = absurd (live_free (s.status t) (kept.on_live t e) prepared.in_hand)
@@ -271,10 +322,14 @@ module _ (buckets : ℕ) (bucket : ℕ → ℕ) (small : (key : ℕ) → bucket 
       let held = kept.owned d x t here owns in
       let other : (u : ℕ) → u ≢ t → upd s.status t (Retired y) u ≡ s.status u = λ u ne. upd_other s.status t u (Retired y) ne in
       let on_other : (u : ℕ) → kept.on u ≡ true → u ≢ t = λ u on e. both_ways _ (ap kept.on e ∙ held.1) on in
-      step_kept (upd s.status t (Retired y)) x.reg (still_pending (Retire t) h no_store x.reg) (λ u on. other u (on_other u on) ∙ kept.on_live u on)
+      step_kept (upd s.status t (Retired y)) x.reg (still_pending (Retire t) h no_store x.reg)
+      (λ u on. other u (on_other u on) ∙ kept.on_live u on)
       (λ g has making. absurd (making_none g has making)) (λ g has taking. absurd (taking_none g has taking))
-      (λ u owns'. absurd (⊎_elim (λ new. making_none owns'.0 owns'.1 new.0) (λ old. taking_none owns'.0 owns'.1 old.0) owns'.2))
-      (λ e z u ne there owns'. other u (λ same. ne (owned_once buckets bucket layout s kept sound e d z x t there here (subst (Owns z) same owns') owns)) ∙ (kept.owned e z u there owns').0)
+      (λ u owns'. absurd (⊎_elim (λ new. making_none owns'.0 owns'.1 new.0) (λ old. taking_none owns'.0 owns'.1 old.0)
+      owns'.2))
+      (λ e z u ne there owns'. other u
+      (λ same. ne (owned_once buckets bucket layout s kept sound e d z x t there here (subst (Owns z) same owns')
+      owns)) ∙ (kept.owned e z u there owns').0)
       (λ u live. inl (sym (other u (kept_apart u live)) ∙ live))
       (λ u live owns'. absurd (kept_apart u live (sole u owns')))
       (λ q z u retired recent leads. dite (ℕ_discrete q t)
@@ -293,7 +348,8 @@ module _ (buckets : ℕ) (bucket : ℕ → ℕ) (small : (key : ℕ) → bucket 
       retired g has = half_step x.thunk g has x.at (Retire t) h
 
       making_none : (g : Half) → HasHalf x g → IsMaking (stepped x x.reg) g → ⊥
-      making_none g has making = let lt = (retired g has).0 in let at = (retired g has).1 in let early = making.1 in omega arith
+      making_none g has making = let lt = (retired g has).0 in let at = (retired g has).1 in let early = making.1 in
+          omega arith
 
       taking_none : (g : Half) → HasHalf x g → IsTaking (stepped x x.reg) g → ⊥
       taking_none g has taking = let at = (retired g has).1 in let early = taking.1 in omega arith
@@ -302,4 +358,5 @@ module _ (buckets : ℕ) (bucket : ℕ → ℕ) (small : (key : ℕ) → bucket 
       sole : (u : ℕ) → Owns x u → u ≡ t
       sole u owns =
           let here = retired owns.0 owns.1 in
-          ⊎_elim (λ new. absurd (let lt = here.0 in let at = here.1 in let early = new.0.1 in omega arith)) (λ old. sym old.1 ∙ sym here.2) owns.2
+          ⊎_elim (λ new. absurd (let lt = here.0 in let at = here.1 in let early = new.0.1 in omega arith))
+          (λ old. sym old.1 ∙ sym here.2) owns.2
