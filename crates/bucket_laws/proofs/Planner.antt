@@ -17,11 +17,11 @@ use Rattle.body_terms.specs.declared.step.Step.TheVariants.{Load, Want, Make, An
 use Rattle.body_terms.specs.declared.thunk.Thunk.{Thunk}
 use Rattle.table_words.specs.declared.layout.Layout.{Layout}
 use Rattle.table_words.specs.Places.{slot_count}
-use Rattle.structure_laws.specs.Scene.{Readings, Section, Scene}
+use Rattle.structure_laws.specs.Scene.{Readings, Scene}
 use Rattle.structure_laws.specs.InTurn.{StandsFor}
 use Rattle.structure_laws.specs.Planner.{Adds, IsQuiet, AreInUse, PlannerLaws}
 use Rattle.structure_laws.proofs.Changes.{upd_other}
-use Rattle.bucket_laws.specs.Walk.{Walk, Stage, AtEdition, AtEnd, start, Bounds, is_wanted, wanted_at, fed, walk}
+use Rattle.bucket_laws.specs.Walk.{AtEdition, AtEnd}
 use Rattle.bucket_laws.specs.Halves.{Insert}
 use Rattle.bucket_laws.specs.Buckets.{nodes, bounds, walk_of, BucketsKept, BucketsStand, table, buckets_meaning}
 use Rattle.bucket_laws.proofs.Chain.{same_on}

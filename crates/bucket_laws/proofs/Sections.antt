@@ -13,7 +13,8 @@ use Rattle.structure_laws.specs.Sections.{Here}
 use Rattle.structure_laws.specs.Sound.{Sound}
 use Rattle.bucket_laws.specs.Halves.{Kind, Look, Insert, Remove, Set, Half, HasHalf, IsPending}
 use Rattle.bucket_laws.specs.Walk.{AtEnd, Walk, cell_at}
-use Rattle.bucket_laws.specs.Buckets.{IsNode, IsLinkOf, IsTargetOf, IsReached, IsMissing, Knows, walk_of, BucketsKept, table}
+use Rattle.bucket_laws.specs.Buckets.{IsNode, IsLinkOf, IsTargetOf, IsReached, IsMissing, Knows}
+use Rattle.bucket_laws.specs.Buckets.{walk_of, BucketsKept, table}
 use Rattle.bucket_laws.proofs.Fit.{IsFit, fit_of}
 use Rattle.bucket_laws.proofs.Halves.{half_is, one_half, store_late, number_is, place_is}
 

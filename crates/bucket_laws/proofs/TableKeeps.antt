@@ -1,5 +1,6 @@
 -- The hash table keeps what it keeps, by every move.
-use Rattle.std.proofs.Common.{◌≡◌, ◌≢◌, ℕ, suc, ◌+◌, ◌*◌, ◌<◌, ◌≤◌, true, refl, sym, ap, ◌∙◌, subst, inl, inr, ⊎_elim, arith}
+use Rattle.std.proofs.Common.{◌≡◌, ◌≢◌, ℕ, suc, ◌+◌, ◌*◌, ◌<◌, ◌≤◌, true, refl, sym, ap, ◌∙◌, subst, inl}
+use Rattle.std.proofs.Common.{inr, ⊎_elim, arith}
 use Rattle.std.specs.Prelude.{◌==◌, ◌&&◌, ◌%◌, ◌⊎◌, nat_lt, Option, Some, None, [], ◌∷◌, ◌++◌}
 use mathlib.Core.Logic.{dite}
 use native.Mathlib.Decide.{ℕ_discrete}
@@ -15,7 +16,7 @@ use Rattle.body_terms.specs.declared.step.Step.TheVariants.{Want, Fresh, Stamp, 
 use Rattle.body_terms.specs.declared.thunk.Thunk.{Thunk}
 use Rattle.table_words.specs.declared.layout.Layout.{Layout}
 use Rattle.table_words.specs.Limits.{IsWithinLimits}
-use Rattle.structure_laws.specs.Scene.{Readings, Section, Status, Free, Live, Retired, Scene, with_cell, with_reader, with_section, with_status, opened}
+use Rattle.structure_laws.specs.Scene.{Readings, Section, Free, Live, Retired, Scene, with_cell, with_reader, with_section, with_status, opened}
 use Rattle.structure_laws.specs.Sections.{Here, Settled, Ended}
 use Rattle.structure_laws.specs.Keeps.{Keeps}
 use Rattle.structure_laws.proofs.Changes.{upd_same, upd_other, upd_some, upd_none}

@@ -1,6 +1,7 @@
 -- The hash table meets the laws.
 use Rattle.std.proofs.Common.{◌≡◌, ◌≢◌, ℕ, zero, suc, ◌+◌, ◌*◌, ◌<◌, ◌≤◌, Bool, true, false, cond, refl, sym, ap, ◌∙◌, subst, inl, inr, ⊎_elim, arith}
-use Rattle.std.specs.Prelude.{◌==◌, ◌&&◌, ◌-◌, ◌/◌, ◌%◌, ◌^◌, ◌⊎◌, nat_lt, Option, Some, None, slice_get, slice_index, length, Contains}
+use Rattle.std.specs.Prelude.{◌==◌, ◌&&◌, ◌-◌, ◌/◌, ◌%◌, ◌^◌, ◌⊎◌, nat_lt, Option, Some, slice_get}
+use Rattle.std.specs.Prelude.{slice_index, length, Contains}
 use Rattle.std.specs.FinMap.{get, empty, get-empty}
 use Rattle.std.specs.Ordering.{nat_cmp}
 use Rattle.std.proofs.lemmas.Nat.{pow_pos, pow_below, shr_below}
@@ -22,7 +23,7 @@ use Rattle.body_terms.specs.declared.thunk.Thunk.{Thunk}
 use Rattle.table_words.specs.declared.layout.Layout.{Layout}
 use Rattle.table_words.specs.Limits.{IsWithinLimits}
 use Rattle.table_words.specs.Places.{slot_count}
-use Rattle.structure_laws.specs.Scene.{Readings, Section, Status, Free, Live, Retired, Scene}
+use Rattle.structure_laws.specs.Scene.{Readings, Free, Live, Retired, Scene}
 use Rattle.structure_laws.specs.Sections.{IsAllowed, IsSmall}
 use Rattle.structure_laws.specs.Cells.{IsKnown, IsSafe}
 use Rattle.structure_laws.specs.Sound.{Sound}
@@ -34,11 +35,13 @@ use Rattle.structure_laws.proofs.Costs.{shaped_cost}
 use Rattle.bucket_laws.specs.Chain.{Nodes, Chains, Contents}
 use Rattle.bucket_laws.specs.Walk.{AtEdition, AtEnd, Walk, cell_at, form_for, operands_for}
 use Rattle.bucket_laws.specs.Halves.{Kind, Look, Insert, Remove, Set, Half, halves}
-use Rattle.bucket_laws.specs.Buckets.{nodes, is_link_place, walk_of, bounds, BucketsKept, BucketsStand, table, buckets_meaning}
+use Rattle.bucket_laws.specs.Buckets.{nodes, is_link_place, walk_of, bounds, BucketsKept}
+use Rattle.bucket_laws.specs.Buckets.{BucketsStand, table, buckets_meaning}
 use Rattle.bucket_laws.proofs.Chain.{same_on, chains_agree}
-use Rattle.bucket_laws.proofs.Fit.{IsFit, fit_of, insert_operands, remove_operands, set_operands, puts_given}
+use Rattle.bucket_laws.proofs.Fit.{IsFit, fit_of, puts_given}
 use Rattle.bucket_laws.proofs.Fitting.{table_fitting}
-use Rattle.bucket_laws.proofs.Halves.{node_init, steps_for, number_of, fits_for, stored_for, answer_for, HasKind, kind_is}
+use Rattle.bucket_laws.proofs.Halves.{node_init, steps_for, number_of, stored_for}
+use Rattle.bucket_laws.proofs.Halves.{answer_for, HasKind, kind_is}
 use Rattle.bucket_laws.proofs.Halves.{half_is, number_is, place_is, step_of, no_take, half_step}
 use Rattle.bucket_laws.proofs.NodeChanges.{clip_same}
 use Rattle.bucket_laws.proofs.Places.{head_lock, one_slot}

@@ -18,7 +18,7 @@ use Rattle.body_terms.specs.declared.value.Init.{Init}
 use Rattle.body_terms.specs.declared.step.Step.{Step}
 use Rattle.body_terms.specs.declared.step.Step.TheVariants.{Load, Make, Store, Retire}
 use Rattle.table_words.specs.declared.layout.Layout.{Layout}
-use Rattle.structure_laws.specs.Scene.{Section, Status, Free, Live, Retired, Scene, with_status, passes, sets}
+use Rattle.structure_laws.specs.Scene.{Section, Status, Live, Retired, Scene, with_status, passes, sets}
 use Rattle.structure_laws.specs.Sections.{Here, IsStep, value_in}
 use Rattle.structure_laws.specs.Cells.{Links}
 use Rattle.structure_laws.specs.Sound.{Sound}

@@ -1,5 +1,5 @@
 -- The Stores of a hash table's section keep what the table keeps.
-use Rattle.std.proofs.Common.{◌≡◌, ◌≢◌, ℕ, zero, suc, ◌+◌, ◌*◌, ◌<◌, ◌≤◌, Bool, true, false, refl, sym, ap, ◌∙◌, subst, inl, inr, ⊎_elim, arith}
+use Rattle.std.proofs.Common.{◌≡◌, ◌≢◌, ℕ, suc, ◌+◌, ◌*◌, ◌<◌, ◌≤◌, Bool, true, false, refl, sym, ap, ◌∙◌, subst, inl, inr, ⊎_elim, arith}
 use Rattle.std.specs.Prelude.{◌^◌, ◌⊎◌, Some}
 use Rattle.std.proofs.lemmas.Bool.{both_ways}
 use mathlib.Core.Logic.{dite}
@@ -16,9 +16,8 @@ use Rattle.body_terms.specs.declared.value.Value.TheVariants.{Const, Made}
 use Rattle.body_terms.specs.declared.step.Step.TheVariants.{Load, Store}
 use Rattle.table_words.specs.declared.layout.Layout.{Layout}
 use Rattle.table_words.specs.Limits.{IsWithinLimits}
-use Rattle.table_words.specs.Places.{slot_count}
 use Rattle.bucket_bodies.specs.Table.{table_steps}
-use Rattle.structure_laws.specs.Scene.{Cells, Readings, Section, Status, Free, Live, Retired, Scene, with_cell, passes}
+use Rattle.structure_laws.specs.Scene.{Cells, Readings, Section, Live, Retired, Scene, with_cell, passes}
 use Rattle.structure_laws.specs.Sections.{Here, IsStep, value_in}
 use Rattle.structure_laws.specs.Sound.{IsRead, Sound}
 use Rattle.structure_laws.proofs.Changes.{upd_same, upd_other, upd_some, value-next_word, version-next_word, value_small}
@@ -26,11 +25,13 @@ use Rattle.structure_laws.proofs.Limits.{links_small, value-small}
 use Rattle.structure_laws.proofs.Progress.{stepped}
 use Rattle.bucket_laws.specs.Chain.{Nodes, Chains, with_head, with_next, with_value}
 use Rattle.bucket_laws.specs.Walk.{Walk, cell_at}
-use Rattle.bucket_laws.specs.Halves.{Kind, Look, Insert, Remove, Set, Half, HasHalf, IsMaking, IsTaking, IsPending, Owns, OwnsBy}
-use Rattle.bucket_laws.specs.Buckets.{nodes, IsNode, IsTargetOf, IsWalked, walk_of, bounds, Knows, IsMade, IsTaken, BucketsKept, table}
+use Rattle.bucket_laws.specs.Halves.{Kind, Look, Insert, Remove, Set, Half, HasHalf, IsMaking, IsTaking}
+use Rattle.bucket_laws.specs.Halves.{IsPending, Owns, OwnsBy}
+use Rattle.bucket_laws.specs.Buckets.{nodes, IsNode, IsTargetOf, IsWalked, walk_of, bounds, Knows, IsMade}
+use Rattle.bucket_laws.specs.Buckets.{IsTaken, BucketsKept, table}
 use Rattle.bucket_laws.proofs.Chain.{insert, top_of, remove_first, remove_next, chains_agree}
 use Rattle.bucket_laws.proofs.Elsewhere.{IsElsewhere, knows_on, edition_seen}
-use Rattle.bucket_laws.proofs.Halves.{IsHalf, half_is, one_half, number_is, place_is, stored_for, step_of, load_place}
+use Rattle.bucket_laws.proofs.Halves.{IsHalf, half_is, one_half, number_is, stored_for, step_of, load_place}
 use Rattle.bucket_laws.proofs.NodeChanges.{head_changed, next_changed, value_changed, none_changed}
 use Rattle.bucket_laws.proofs.Sections.{IsPlaceIn, target_place, target_stays, fit, one_bucket, half_lock, making_known}
 use Rattle.bucket_laws.proofs.Sections.{insert_head, insert_missing, remove_target, IsTarget}

@@ -1,5 +1,6 @@
 -- The hash table's sections, one after the other, do what the map does.
-use Rattle.std.proofs.Common.{◌≡◌, ◌≢◌, ℕ, zero, suc, ◌+◌, ◌*◌, ◌<◌, Bool, true, false, refl, sym, ap, ◌∙◌, subst, inl, ⊎_elim, arith}
+use Rattle.std.proofs.Common.{◌≡◌, ◌≢◌, ℕ, suc, ◌+◌, ◌*◌, ◌<◌, Bool, true, false, refl, sym, ap, ◌∙◌, subst}
+use Rattle.std.proofs.Common.{inl, ⊎_elim, arith}
 use Rattle.std.proofs.Math.Path.{fun_ext}
 use Rattle.std.specs.Prelude.{◌^◌, Option, Some, None, slice_index}
 use Rattle.std.specs.FinMap.{get}
@@ -20,7 +21,7 @@ use Rattle.body_terms.specs.declared.step.Step.TheVariants.{Load, Stamp, Store, 
 use Rattle.table_words.specs.declared.layout.Layout.{Layout}
 use Rattle.table_words.specs.Limits.{IsWithinLimits}
 use Rattle.table_words.specs.Places.{slot_count}
-use Rattle.structure_laws.specs.Scene.{Cells, Section, Status, Free, Live, Scene}
+use Rattle.structure_laws.specs.Scene.{Cells, Section, Scene}
 use Rattle.structure_laws.specs.Sections.{Here, IsStep, value_in}
 use Rattle.structure_laws.specs.InTurn.{StandsFor, AtStamp, AfterStores}
 use Rattle.structure_laws.proofs.Changes.{upd_same, upd_other, value-next_word, value_small}
@@ -29,7 +30,8 @@ use Rattle.bucket_laws.specs.Chain.{Nodes, with_head, with_next, with_value, Cha
 use Rattle.bucket_laws.specs.Walk.{Walk, cell_at}
 use Rattle.bucket_laws.specs.Halves.{Kind, Look, Insert, Remove, Set, Half, HasHalf}
 use Rattle.bucket_laws.specs.Buckets.{nodes, IsFound, IsMissing, BucketsKept, BucketsStand, table}
-use Rattle.bucket_laws.proofs.Chain.{insert, top_of, remove_first, remove_next, chains_agree, insert_contents, remove_contents, set_contents, same_on}
+use Rattle.bucket_laws.proofs.Chain.{insert, top_of, remove_first, remove_next, chains_agree, insert_contents}
+use Rattle.bucket_laws.proofs.Chain.{remove_contents, set_contents, same_on}
 use Rattle.bucket_laws.proofs.Fit.{IsFit}
 use Rattle.bucket_laws.proofs.Halves.{IsHalf, half_is, number_of, number_is, place_is, stored_for, answer_for}
 use Rattle.bucket_laws.proofs.Halves.{IsOf, step_of, half_step}
