@@ -1,6 +1,6 @@
 -- What a walk knows stands where nothing of its bucket changes.
-use Rattle.std.proofs.Common.{◌≡◌, ◌≢◌, ℕ, suc, ◌<◌, ◌≤◌, Bool, true, false, cond, refl, sym, ap, ◌∙◌, subst, inl, inr, ⊎_elim, arith}
-use Rattle.std.specs.Prelude.{◌⊎◌, Some, [], ◌∷◌, slice_get}
+use Rattle.std.proofs.Common.{◌≡◌, ◌≢◌, ℕ, suc, ◌<◌, ◌≤◌, Bool, true, cond, refl, sym, ap, ◌∙◌, subst, inl, inr, ⊎_elim, arith}
+use Rattle.std.specs.Prelude.{Some, [], ◌∷◌, slice_get}
 use Rattle.small_lemmas.proofs.Lists.{some_same}
 use Rattle.small_lemmas.proofs.Numbers.{suc_equal as suc_eq}
 use Rattle.map_history.specs.declared.op.Op.{Op}
@@ -99,7 +99,8 @@ module _ (buckets : ℕ) (bucket : ℕ → ℕ) where
     first_fed : (w : Walk) (p n i : ℕ) (stage : Stage) → stage ≡ AtEdition
         → wanted_at buckets bucket (bucket (key_of op)) w stage ≡ Some p → slice_get all i ≡ Some (p, n)
         → IsAmong op all (fed buckets bucket b op w stage n).edition
-    first_fed w p n i stage first want at = subst (λ stage. wanted_at buckets bucket (bucket (key_of op)) w stage ≡ Some p
+    first_fed w p n i stage first want at =
+        subst (λ stage. wanted_at buckets bucket (bucket (key_of op)) w stage ≡ Some p
         → IsAmong op all (fed buckets bucket b op w stage n).edition) (sym first)
         (λ is. (i, subst (λ p. slice_get all i ≡ Some (p, n)) (sym (some_same is)) at)) want
 

@@ -136,7 +136,10 @@ module _ (buckets : ℕ) (bucket : ℕ → ℕ) where
         lock = equal_of _ _ c.0;
         operands = operands;
         edition = ap (λ numbers. slice_index numbers 0) operands ∙ first_operand buckets op w w.found;
-        insert = λ e. let fit = insert_operands buckets op w w.found (sym form ∙ e) in (fit.0, subst (InsertFit op w) (sym operands) fit.1);
-        remove = λ e. let fit = remove_operands buckets op w w.found (sym form ∙ e) in (fit.0, subst (RemoveFit op w) (sym operands) fit.1);
-        sets = λ e. let fit = set_operands buckets op w w.found (sym form ∙ e) in (fit.0, subst (SetFit buckets op w) (sym operands) fit.1);
+        insert = λ e. let fit = insert_operands buckets op w w.found (sym form ∙ e) in
+            (fit.0, subst (InsertFit op w) (sym operands) fit.1);
+        remove = λ e. let fit = remove_operands buckets op w w.found (sym form ∙ e) in
+            (fit.0, subst (RemoveFit op w) (sym operands) fit.1);
+        sets = λ e. let fit = set_operands buckets op w w.found (sym form ∙ e) in
+            (fit.0, subst (SetFit buckets op w) (sym operands) fit.1);
       }

@@ -70,11 +70,14 @@ module _ (buckets : ℕ) (bucket : ℕ → ℕ) where
       where
         by : (h : Half) → Contains (halves thunk) h → (k : Kind) → h.kind ≡ k → Leaves op (answer_for k thunk)
         by h has k kind = ⊎_elim
-            (λ look. subst (λ k. Leaves op (answer_for k thunk)) (sym look) (subst (Leaves op) (sym (ap (λ numbers. slice_index numbers 1) fit.operands))
-            (read_leaves buckets op (walk_of buckets bucket layout op readings) (walk_of buckets bucket layout op readings).found
+            (λ look. subst (λ k. Leaves op (answer_for k thunk)) (sym look)
+            (subst (Leaves op) (sym (ap (λ numbers. slice_index numbers 1) fit.operands))
+            (read_leaves buckets op (walk_of buckets bucket layout op readings)
+            (walk_of buckets bucket layout op readings).found
             (sym fit.form ∙ number_is thunk h has Look (kind ∙ look)))))
             (λ other. let half = half_is thunk h has in
-            absurd (none h.change h.target_reg (stored_for h.kind thunk) (half.steps (half.look.1 (λ e. other (sym kind ∙ e)))).2)) (looks_or k)
+            absurd (none h.change h.target_reg (stored_for h.kind thunk)
+            (half.steps (half.look.1 (λ e. other (sym kind ∙ e)))).2)) (looks_or k)
 
   pub table_fitting : (layout : Layout) → Fitting (table buckets bucket) layout
   table_fitting layout = record {

@@ -57,7 +57,8 @@ pub record IsHalf (t : Thunk) (body : List Step) (h : Half) : Type 0 where
   pub lock : h.lock ≡ t.lock
   pub place : h.target ≡ (half_of h.kind t).target
   pub registers : (h.edition_reg ≢ h.target_reg) × (h.node_reg ≡ 2)
-  pub order : (h.wanted < h.load) × (h.load < h.made) × (h.made ≤ h.change) × (h.change ≤ h.edition) × (h.change ≤ h.retire)
+  pub order : (h.wanted < h.load) × (h.load < h.made) × (h.made ≤ h.change) × (h.change ≤ h.edition)
+      × (h.change ≤ h.retire)
   pub look : (h.kind ≡ Look → h.change ≡ h.edition) × ((h.kind ≡ Look → ⊥) → h.change < h.edition)
   pub insert : (h.kind ≡ Insert → h.made < h.change) × (h.made < h.change → h.kind ≡ Insert)
   pub remove : (h.kind ≡ Remove → h.change < h.retire) × (h.change < h.retire → h.kind ≡ Remove)
@@ -181,27 +182,58 @@ IsOf t h j (Answer n) = n ≡ answer_for h.kind t
 empty_step : (j : ℕ) (step : Step) → StepIs [] j step → ⊥
 empty_step j step h = grind arith
 
--- a fact of each step of a body and its place
-abbrev pub Each : (ℕ → Step → Type 0) → List Step → Type 0
-Each P [] = Unit {0}
-Each P (step ∷ steps) = P 0 step × Each (λ j. P (suc j)) steps
+-- the step that stands there is this one
+known : {a b : Step} (t : Thunk) (k : Kind) (j : ℕ) → Some a ≡ Some b → IsOf t (half_of k t) j a
+    → IsOf t (half_of k t) j b
+known t k j same of = subst (IsOf t (half_of k t) j) (some_inj same) of
 
-pub each_at : (P : ℕ → Step → Type 0) (steps : List Step) → Each P steps → (j : ℕ) (step : Step) → StepIs steps j step → P j step
-each_at P [] each j step h = absurd (empty_step j step h)
-each_at P (first ∷ steps) each zero step h = subst (P 0) (some_inj h) each.0
-each_at P (first ∷ steps) each (suc j) step h = each_at (λ j. P (suc j)) steps each.1 j step h
-
-pub steps_in : (k : Kind) (t : Thunk) → Each (IsOf t (half_of k t)) (steps_for k t)
-steps_in Look t = (inl (refl, refl, refl), ((refl, refl), ((omega arith, omega arith, λ lt. absurd (omega arith)), (refl, tt))))
-steps_in Insert t = (inl (refl, refl, refl), ((refl, refl), (tt, (inr (omega arith, refl, refl, refl), (tt,
-    ((omega arith, refl, refl, refl), ((omega arith, omega arith, λ lt. omega arith), ((omega arith, inl (refl, refl, refl)),
-    ((omega arith, inr (refl, refl, refl)), (refl, tt))))))))))
-steps_in Remove t = (inl (refl, refl, refl), ((refl, refl), (tt, (inr (omega arith, refl, refl, refl), (tt,
-    ((omega arith, omega arith, λ lt. absurd (omega arith)), ((omega arith, inl (refl, refl, refl)),
-    ((omega arith, inr (refl, refl, refl)), ((omega arith, refl, refl), (refl, tt))))))))))
-steps_in Set t = (inl (refl, refl, refl), ((refl, refl), (tt, (inr (omega arith, refl, refl, refl), (tt,
-    ((omega arith, omega arith, λ lt. absurd (omega arith)), ((omega arith, inl (refl, refl, refl)),
-    ((omega arith, inr (refl, refl, refl)), (refl, tt)))))))))
+pub step_in : (k : Kind) (t : Thunk) (j : ℕ) (step : Step) → StepIs (steps_for k t) j step → IsOf t (half_of k t) j step
+step_in Look t zero step h = known t Look 0 h (inl (refl, refl, refl))
+step_in Look t (suc zero) step h = known t Look 1 h (refl, refl)
+step_in Look t (suc (suc zero)) step h = known t Look 2 h (omega arith, omega arith, λ lt. absurd (omega arith))
+step_in Look t (suc (suc (suc zero))) step h = known t Look 3 h refl
+step_in Look t (suc (suc (suc (suc j)))) step h = absurd (cc)
+step_in Insert t zero step h = known t Insert 0 h (inl (refl, refl, refl))
+step_in Insert t (suc zero) step h = known t Insert 1 h (refl, refl)
+step_in Insert t (suc (suc zero)) step h = known t Insert 2 h tt
+step_in Insert t (suc (suc (suc zero))) step h = known t Insert 3 h (inr (omega arith, refl, refl, refl))
+step_in Insert t (suc (suc (suc (suc zero)))) step h = known t Insert 4 h tt
+step_in Insert t (suc (suc (suc (suc (suc zero))))) step h = known t Insert 5 h (omega arith, refl, refl, refl)
+step_in Insert t (suc (suc (suc (suc (suc (suc zero)))))) step h = known t Insert 6 h
+    (omega arith, omega arith, λ lt. omega arith)
+step_in Insert t (suc (suc (suc (suc (suc (suc (suc zero))))))) step h = known t Insert 7 h
+    (omega arith, inl (refl, refl, refl))
+step_in Insert t (suc (suc (suc (suc (suc (suc (suc (suc zero)))))))) step h = known t Insert 8 h
+    (omega arith, inr (refl, refl, refl))
+step_in Insert t (suc (suc (suc (suc (suc (suc (suc (suc (suc zero))))))))) step h = known t Insert 9 h refl
+step_in Insert t (suc (suc (suc (suc (suc (suc (suc (suc (suc (suc j)))))))))) step h = absurd (cc)
+step_in Remove t zero step h = known t Remove 0 h (inl (refl, refl, refl))
+step_in Remove t (suc zero) step h = known t Remove 1 h (refl, refl)
+step_in Remove t (suc (suc zero)) step h = known t Remove 2 h tt
+step_in Remove t (suc (suc (suc zero))) step h = known t Remove 3 h (inr (omega arith, refl, refl, refl))
+step_in Remove t (suc (suc (suc (suc zero)))) step h = known t Remove 4 h tt
+step_in Remove t (suc (suc (suc (suc (suc zero))))) step h = known t Remove 5 h
+    (omega arith, omega arith, λ lt. absurd (omega arith))
+step_in Remove t (suc (suc (suc (suc (suc (suc zero)))))) step h = known t Remove 6 h
+    (omega arith, inl (refl, refl, refl))
+step_in Remove t (suc (suc (suc (suc (suc (suc (suc zero))))))) step h = known t Remove 7 h
+    (omega arith, inr (refl, refl, refl))
+step_in Remove t (suc (suc (suc (suc (suc (suc (suc (suc zero)))))))) step h = known t Remove 8 h
+    (omega arith, refl, refl)
+step_in Remove t (suc (suc (suc (suc (suc (suc (suc (suc (suc zero))))))))) step h = known t Remove 9 h refl
+step_in Remove t (suc (suc (suc (suc (suc (suc (suc (suc (suc (suc j)))))))))) step h = absurd (cc)
+step_in Set t zero step h = known t Set 0 h (inl (refl, refl, refl))
+step_in Set t (suc zero) step h = known t Set 1 h (refl, refl)
+step_in Set t (suc (suc zero)) step h = known t Set 2 h tt
+step_in Set t (suc (suc (suc zero))) step h = known t Set 3 h (inr (omega arith, refl, refl, refl))
+step_in Set t (suc (suc (suc (suc zero)))) step h = known t Set 4 h tt
+step_in Set t (suc (suc (suc (suc (suc zero))))) step h = known t Set 5 h
+    (omega arith, omega arith, λ lt. absurd (omega arith))
+step_in Set t (suc (suc (suc (suc (suc (suc zero)))))) step h = known t Set 6 h (omega arith, inl (refl, refl, refl))
+step_in Set t (suc (suc (suc (suc (suc (suc (suc zero))))))) step h = known t Set 7 h
+    (omega arith, inr (refl, refl, refl))
+step_in Set t (suc (suc (suc (suc (suc (suc (suc (suc zero)))))))) step h = known t Set 8 h refl
+step_in Set t (suc (suc (suc (suc (suc (suc (suc (suc (suc j))))))))) step h = absurd (cc)
 
 -- of one half it is the only one
 only : (h h' : Half) → Contains (h ∷ []) h' → h ≡ h'
@@ -213,7 +245,8 @@ only h h' has = at has.0 has.1 has.2
 
 abbrev tests : {A : Type 0} → (d s a p b q c r : Bool) → (set look insert remove none : A) → A
 tests d s a p b q c r set look insert remove none =
-    cond d (cond s set none) (cond a (cond p look none) (cond b (cond q insert none) (cond c (cond r remove none) none)))
+    cond d (cond s set none) (cond a (cond p look none)
+    (cond b (cond q insert none) (cond c (cond r remove none) none)))
 
 -- whether each number of the form fits
 abbrev pub fits_for : Kind → Thunk → Bool
@@ -232,7 +265,8 @@ module _ (t : Thunk) where
   picked set look insert remove none = tests (t.form == 4) (fits_set t) (t.form == 1) (fits_read t) (t.form == 2)
       (fits_insert t) (t.form == 3) (fits_remove t) set look insert remove none
 
-  halves_are : halves t ≡ picked (half_of Set t ∷ []) (half_of Look t ∷ []) (half_of Insert t ∷ []) (half_of Remove t ∷ []) []
+  halves_are : halves t ≡ picked (half_of Set t ∷ []) (half_of Look t ∷ []) (half_of Insert t ∷ [])
+      (half_of Remove t ∷ []) []
   unfolding halves
   halves_are = refl
 
@@ -244,8 +278,12 @@ module _ (t : Thunk) where
   pick_for Set of_kind none e f = grind arith
 
   pub kind_is : (k : Kind) → t.form ≡ number_of k → fits_for k t ≡ true → HasKind k
-  kind_is k number fits =
-      (number, pick_for k (λ k. steps_for k t) [] number fits, halves_are ∙ pick_for k (λ k. half_of k t ∷ []) [] number fits)
+  kind_is k number fits = (
+    number,
+    pick_for k (λ k. steps_for k t) [] number fits,
+    halves_are
+        ∙ pick_for k (λ k. half_of k t ∷ []) [] number fits,
+  )
 
   abbrev one_of : Kind → List Half
   one_of k = half_of k t ∷ []
@@ -259,7 +297,8 @@ module _ (t : Thunk) where
   -- a body is empty and has no half, or is of a kind
   by_tests : (d s a p b q c r : Bool) → (d ≡ true → t.form ≡ 4) → (a ≡ true → t.form ≡ 1) → (b ≡ true → t.form ≡ 2)
       → (c ≡ true → t.form ≡ 3) → ((bodies d s a p b q c r ≡ []) × (ones d s a p b q c r ≡ []))
-      ⊎ ((k : Kind) × (t.form ≡ number_of k) × (bodies d s a p b q c r ≡ steps_for k t) × (ones d s a p b q c r ≡ one_of k))
+      ⊎ ((k : Kind) × (t.form ≡ number_of k) × (bodies d s a p b q c r ≡ steps_for k t)
+      × (ones d s a p b q c r ≡ one_of k))
   by_tests true true a p b q c r four one two three = inr (Set, four refl, refl, refl)
   by_tests true false a p b q c r four one two three = inl (refl, refl)
   by_tests false s true true b q c r four one two three = inr (Look, one refl, refl, refl)
@@ -302,7 +341,7 @@ module _ (t : Thunk) where
       (λ some. let k = some.0 in (
         half_of k t,
         subst (λ hs. Contains hs (half_of k t)) (sym some.1.2) (0, omega arith, refl),
-        each_at (IsOf t (half_of k t)) (steps_for k t) (steps_in k t) j step (subst (λ body. StepIs body j step) some.1.1 at),
+        step_in k t j step (subst (λ body. StepIs body j step) some.1.1 at),
       )) body_cases
 
   pub no_take : (j l w : ℕ) → StepIs (table_steps t) j (Take l w) → ⊥

@@ -17,11 +17,11 @@ use Rattle.body_terms.specs.declared.step.Step.TheVariants.{Load, Want, Make, An
 use Rattle.body_terms.specs.declared.thunk.Thunk.{Thunk}
 use Rattle.table_words.specs.declared.layout.Layout.{Layout}
 use Rattle.table_words.specs.Places.{slot_count}
-use Rattle.structure_laws.specs.Scene.{Readings, Section, Scene}
+use Rattle.structure_laws.specs.Scene.{Readings, Scene}
 use Rattle.structure_laws.specs.InTurn.{StandsFor}
 use Rattle.structure_laws.specs.Planner.{Adds, IsQuiet, AreInUse, PlannerLaws}
 use Rattle.structure_laws.proofs.Changes.{upd_other}
-use Rattle.bucket_laws.specs.Walk.{Walk, Stage, AtEdition, AtEnd, start, Bounds, is_wanted, wanted_at, fed, walk}
+use Rattle.bucket_laws.specs.Walk.{AtEdition, AtEnd}
 use Rattle.bucket_laws.specs.Halves.{Insert}
 use Rattle.bucket_laws.specs.Buckets.{nodes, bounds, walk_of, BucketsKept, BucketsStand, table, buckets_meaning}
 use Rattle.bucket_laws.proofs.Chain.{same_on}
@@ -45,8 +45,11 @@ few_slots key (t ∷ slots) pairs once there =
     let some : len pairs ≢ 0 = λ e. none-some first.0 (sym (ap (λ m. get m (key t)) (empty_of_len pairs e) ∙ get-empty nat_cmp (key t)) ∙ first.1) in
     let rest : length slots ≤ len (remove pairs (key t)) = few_slots key slots (remove pairs (key t))
     (λ i j u v at also same. suc_equal i j (once (suc i) (suc j) u v at also same))
-    (λ i u at. let found = there (suc i) u at in
-    (found.0, get_removed pairs (key t) (key u) ∙ upd_other (get pairs) (key t) (key u) None (λ same. zero_not_suc i (sym (once (suc i) 0 u t at refl same))) ∙ found.1)) in
+    (λ i u at. let found = there (suc i) u at in (
+      found.0,
+      get_removed pairs (key t) (key u) ∙ upd_other (get pairs) (key t) (key u) None
+          (λ same. zero_not_suc i (sym (once (suc i) 0 u t at refl same))) ∙ found.1,
+    )) in
     omega arith
 
 module _ (buckets : ℕ) (bucket : ℕ → ℕ) (small : (key : ℕ) → bucket key < buckets) (layout : Layout) where
@@ -55,13 +58,16 @@ module _ (buckets : ℕ) (bucket : ℕ → ℕ) (small : (key : ℕ) → bucket 
   want_read readings op thunk fits i j p r w load want =
       let fit = fit_of buckets bucket op (walk_of buckets bucket layout op readings) thunk fits in
       let wanted = step_of thunk j (Want r w) want in
-      let read = edition_seen buckets bucket small (bounds buckets bucket layout) op readings (λ e. end_edition (sym fit.stage ∙ e)) in
+      let read = edition_seen buckets bucket small (bounds buckets bucket layout) op readings
+      (λ e. end_edition (sym fit.stage ∙ e)) in
       let lock = fit.lock in
       let half = half_is thunk wanted.0 wanted.1 in
       let same = half.lock in
       let place : p ≡ bucket_edition (bucket (key_of op)) = ⊎_elim (λ edition. let at = edition.2 in omega arith)
-      (λ target. absurd (half.registers.0 (sym wanted.2.0 ∙ target.2))) (half_step thunk wanted.0 wanted.1 i (Load p r) load) in
-      subst (λ p. IsAmong readings p w) (sym place) (subst (λ w. IsAmong readings (bucket_edition (bucket (key_of op))) w) (sym (wanted.2.1 ∙ fit.edition)) read)
+      (λ target. absurd (half.registers.0 (sym wanted.2.0 ∙ target.2)))
+      (half_step thunk wanted.0 wanted.1 i (Load p r) load) in
+      subst (λ p. IsAmong readings p w) (sym place)
+      (subst (λ w. IsAmong readings (bucket_edition (bucket (key_of op))) w) (sym (wanted.2.1 ∙ fit.edition)) read)
     where
       end_edition : AtEnd ≡ AtEdition → ⊥
       end_edition e = cc
@@ -73,7 +79,8 @@ module _ (buckets : ℕ) (bucket : ℕ → ℕ) (small : (key : ℕ) → bucket 
       let made = step_of thunk i (Make init r) make in
       let kind = (half_is thunk made.0 made.1).insert.1 made.2.0 in
       let insert = (fit.insert (number_is thunk made.0 made.1 Insert kind)).1 in
-      let added : reply ≡ 1 * 2 ^ 32 = half_step thunk made.0 made.1 j (Answer reply) answer ∙ ap (λ k. answer_for k thunk) kind in
+      let added : reply ≡ 1 * 2 ^ 32 = half_step thunk made.0 made.1 j (Answer reply) answer
+      ∙ ap (λ k. answer_for k thunk) kind in
       adds_new op insert.0 insert.1 reply insert.2 added
     where
       adds_new : (op : Op) (key v reply : ℕ) → PutsIn op key v → reply ≡ 1 * 2 ^ 32 → Adds op reply
@@ -93,7 +100,8 @@ module _ (buckets : ℕ) (bucket : ℕ → ℕ) (small : (key : ℕ) → bucket 
     -- with nothing open, a live slot stands in a chain
     on : (i t : ℕ) → slice_get slots i ≡ Some t → stands.on t ≡ true
     on i t at = same_on bucket (nodes buckets bucket s.cells) kept.on stands.on kept.rank stands.rank kept.chains stands.chains t
-        (⊎_elim (λ there. there) (λ owned. absurd (none_not_some owned.1 (sym (quiet owned.0) ∙ owned.2))) (kept.live t (used.live i t at)))
+        (⊎_elim (λ there. there) (λ owned. absurd (none_not_some owned.1 (sym (quiet owned.0) ∙ owned.2)))
+        (kept.live t (used.live i t at)))
 
     sized : length slots ≤ 1 * len pairs
     sized =

@@ -13,7 +13,8 @@ use Rattle.structure_laws.specs.Sections.{Here}
 use Rattle.structure_laws.specs.Sound.{Sound}
 use Rattle.bucket_laws.specs.Halves.{Kind, Look, Insert, Remove, Set, Half, HasHalf, IsPending}
 use Rattle.bucket_laws.specs.Walk.{AtEnd, Walk, cell_at}
-use Rattle.bucket_laws.specs.Buckets.{IsNode, IsLinkOf, IsTargetOf, IsReached, IsMissing, Knows, walk_of, BucketsKept, table}
+use Rattle.bucket_laws.specs.Buckets.{IsNode, IsLinkOf, IsTargetOf, IsReached, IsMissing, Knows}
+use Rattle.bucket_laws.specs.Buckets.{walk_of, BucketsKept, table}
 use Rattle.bucket_laws.proofs.Fit.{IsFit, fit_of}
 use Rattle.bucket_laws.proofs.Halves.{half_is, one_half, store_late, number_is, place_is}
 
@@ -64,9 +65,11 @@ module _ (buckets : ℕ) (bucket : ℕ → ℕ) (layout : Layout) (s : Scene) (s
   half_lock d x h here has = (half_is x.thunk h has).lock ∙ (fit d x here).lock
 
   -- no change of the bucket is pending where the section's own isn't
-  none_pending : (d : ℕ) (x : Section) → Here s d x → (IsPending x (bucket_of x) → ⊥) → (e : ℕ) (y : Section) → s.section e ≡ Some y → IsPending y (bucket_of x) → ⊥
+  none_pending : (d : ℕ) (x : Section) → Here s d x → (IsPending x (bucket_of x) → ⊥) → (e : ℕ) (y : Section)
+      → s.section e ≡ Some y → IsPending y (bucket_of x) → ⊥
   none_pending d x here own e y there pending =
-      let lock : y.thunk.lock ≡ bucket_lock (bucket_of x) = sym (half_is y.thunk pending.0 pending.1).lock ∙ pending.2 in
+      let lock : y.thunk.lock ≡ bucket_lock (bucket_of x) = sym (half_is y.thunk pending.0 pending.1).lock
+      ∙ pending.2 in
       let same = one_lock d e x y here there ((fit d x here).lock ∙ sym lock) in
       own (subst (λ z. IsPending z (bucket_of x)) (some_inj (sym there ∙ ap s.section (sym same) ∙ here)) pending)
 
@@ -93,7 +96,8 @@ module _ (buckets : ℕ) (bucket : ℕ → ℕ) (layout : Layout) (s : Scene) (s
       omega arith
 
   -- what stands of a half: the section's walk knows what it read, from the Want of the edition to the half's change
-  module _ (d : ℕ) (x : Section) (h : Half) (here : Here s d x) (has : HasHalf x h) (past : h.wanted ≤ x.at) (early : x.at ≤ h.change) where
+  module _ (d : ℕ) (x : Section) (h : Half) (here : Here s d x) (has : HasHalf x h) (past : h.wanted ≤ x.at)
+      (early : x.at ≤ h.change) where
     -- the edition that the walk read stands until the section stores it
     edition_now : s.cells (bucket_edition (bucket_of x)) ≡ (walk_at x).edition
     edition_now =
@@ -110,7 +114,8 @@ module _ (buckets : ℕ) (bucket : ℕ → ℕ) (layout : Layout) (s : Scene) (s
 
     not_pending : IsPending x (bucket_of x) → ⊥
     not_pending pending =
-        let late : h.change < x.at = subst (λ h. h.change < x.at) (one_half x.thunk pending.0 h pending.1 has) pending.3 in
+        let late : h.change < x.at = subst (λ h. h.change < x.at) (one_half x.thunk pending.0 h pending.1 has)
+        pending.3 in
         omega arith
 
     pub knows : Knows buckets bucket s.cells kept.on kept.rank x.op (walk_at x) AtEnd

@@ -82,11 +82,13 @@ module _ (buckets : ℕ) (bucket : ℕ → ℕ) (small : (key : ℕ) → bucket 
   pub next_leads : (q t : ℕ) → s.status q ≡ Live → value_of (s.cells (cell_at buckets bucket q 3)) ≡ suc t → kept.on t ≡ true
   next_leads q t live leads = ⊎_elim (λ on. (kept.chains.next_on q t on leads).0)
       (λ owned. let half = owned.3 in ⊎_elim (λ made. new owned.0 owned.1 half.0 owned.2 half.1 made.0 made.1)
-      (λ taken. ((kept.taken owned.0 owned.1 half.0 owned.2 half.1 taken.0).next t (ap (λ q. value_of (s.cells (cell_at buckets bucket q 3))) taken.1 ∙ leads)).0)
+      (λ taken. ((kept.taken owned.0 owned.1 half.0 owned.2 half.1 taken.0).next t
+      (ap (λ q. value_of (s.cells (cell_at buckets bucket q 3))) taken.1 ∙ leads)).0)
       half.2)
       (kept.live q live)
     where
-      new : (d : ℕ) (x : Section) (h : Half) → s.section d ≡ Some x → HasHalf x h → IsMaking x h → x.reg h.node_reg ≡ suc q → kept.on t ≡ true
+      new : (d : ℕ) (x : Section) (h : Half) → s.section d ≡ Some x → HasHalf x h → IsMaking x h
+          → x.reg h.node_reg ≡ suc q → kept.on t ≡ true
       new d x h here has making reg =
           let made = kept.made d x h here has making in
           let same : made.0 ≡ q = suc_eq made.0 q (sym made.1 ∙ reg) in
@@ -109,16 +111,20 @@ module _ (buckets : ℕ) (bucket : ℕ → ℕ) (small : (key : ℕ) → bucket 
   lock_of d x here = (fit buckets bucket layout s sound kept d x here).lock
 
   -- a section that can't leave any more has loaded what it changes
-  pub half_settled : (x : Section) (h : Half) → HasHalf x h → h.change < h.edition → Settled (table buckets bucket) x → h.load < x.at
+  pub half_settled : (x : Section) (h : Half) → HasHalf x h → h.change < h.edition → Settled (table buckets bucket) x
+      → h.load < x.at
   half_settled x h has changes settled =
       let half = half_is x.thunk h has in
-      let passed : x.at ≤ suc h.load → ⊥ = λ low. not_both refl (settled (suc h.load) (Fresh h.target_reg) low (half.steps changes).1) in
+      let passed : x.at ≤ suc h.load → ⊥ = λ low. not_both refl
+      (settled (suc h.load) (Fresh h.target_reg) low (half.steps changes).1) in
       omega arith
 
   -- the node whose value is to be set stands in the chain
-  pub set_node : (d : ℕ) (x : Section) (h : Half) → Here s d x → HasHalf x h → h.wanted ≤ x.at → x.at ≤ h.change → h.kind ≡ Set
+  pub set_node : (d : ℕ) (x : Section) (h : Half) → Here s d x → HasHalf x h → h.wanted ≤ x.at → x.at ≤ h.change
+      → h.kind ≡ Set
       → IsNode buckets bucket s.cells kept.on (bucket (key_of x.op)) (walk_at buckets bucket layout s sound kept x).slot
-  set_node d x h here has past early kind = reached_on buckets bucket small s.cells kept.on kept.rank kept.chains (key_of x.op) (walk_at buckets bucket layout s sound kept x)
+  set_node d x h here has past early kind = reached_on buckets bucket small s.cells kept.on kept.rank kept.chains
+      (key_of x.op) (walk_at buckets bucket layout s sound kept x)
       (set_target buckets bucket layout s sound kept d x h here has past early kind).reached
 
   -- what a half changes, from the Want of the edition on
@@ -134,7 +140,8 @@ module _ (buckets : ℕ) (bucket : ℕ → ℕ) (small : (key : ℕ) → bucket 
           ((walk_at buckets bucket layout s sound kept x).slot, set_node d x h here has past early kind, target.place)
 
   -- the node behind the half's link stands in the chain
-  pub target_on : (d : ℕ) (x : Section) (h : Half) → Here s d x → HasHalf x h → h.wanted ≤ x.at → x.at ≤ h.change → h.kind ≡ Remove
+  pub target_on : (d : ℕ) (x : Section) (h : Half) → Here s d x → HasHalf x h → h.wanted ≤ x.at → x.at ≤ h.change
+      → h.kind ≡ Remove
       → kept.on (operand x.thunk 2) ≡ true
   target_on d x h here has past early kind =
       let target = remove_target buckets bucket layout s sound kept d x h here has past early kind in
@@ -142,14 +149,19 @@ module _ (buckets : ℕ) (bucket : ℕ → ℕ) (small : (key : ℕ) → bucket 
       (λ node. (kept.chains.next_on node.0 (operand x.thunk 2) node.1.0 (ap (λ p. value_of (s.cells p)) (sym node.2) ∙ target.leads)).0) target.link
 
   -- as long as it is to be retired it is live and has the operation's key
-  pub target_live : (d : ℕ) (x : Section) (h : Half) → Here s d x → HasHalf x h → h.wanted ≤ x.at → x.at ≤ h.retire → h.kind ≡ Remove
-      → (s.status (operand x.thunk 2) ≡ Live) × (value_of (s.cells (cell_at buckets bucket (operand x.thunk 2) 1)) ≡ key_of x.op)
+  pub target_live : (d : ℕ) (x : Section) (h : Half) → Here s d x → HasHalf x h → h.wanted ≤ x.at → x.at ≤ h.retire
+      → h.kind ≡ Remove
+      → (s.status (operand x.thunk 2) ≡ Live)
+      × (value_of (s.cells (cell_at buckets bucket (operand x.thunk 2) 1)) ≡ key_of x.op)
   target_live d x h here has past early kind = ⊎_elim
       (λ before. (
         kept.on_live (operand x.thunk 2) (target_on d x h here has past before kind),
         (remove_target buckets bucket layout s sound kept d x h here has past before kind).key,
       ))
-      (λ after. ((kept.owned d x (operand x.thunk 2) here (h, has, inr ((after, early), refl))).0, (kept.taken d x h here has (after, early)).key))
+      (λ after. (
+        (kept.owned d x (operand x.thunk 2) here (h, has, inr ((after, early), refl))).0,
+        (kept.taken d x h here has (after, early)).key,
+      ))
       (split x.at h.change)
     where
       split : (a b : ℕ) → (a ≤ b) ⊎ (b < a)
@@ -162,7 +174,8 @@ module _ (buckets : ℕ) (bucket : ℕ → ℕ) (small : (key : ℕ) → bucket 
   loaded_place d j p r x here load past =
       let step = step_of x.thunk j (Load p r) load in
       let h = step.0 in
-      ⊎_elim (λ edition. inl (edition.2 ∙ ap (λ n. n + 1) (half_lock buckets bucket layout s sound kept d x h here step.1)))
+      ⊎_elim (λ edition. inl (edition.2
+      ∙ ap (λ n. n + 1) (half_lock buckets bucket layout s sound kept d x h here step.1)))
       (λ target. inr (subst (IsPlaceIn buckets bucket s.cells kept.on (bucket (key_of x.op))) (sym target.3)
       (target_place buckets bucket h.kind s.cells kept.on (bucket (key_of x.op)) h.target
       (kept.target d x h here step.1 target.0 (past h step.1 target.0 target.1))))) step.2
@@ -177,7 +190,8 @@ module _ (buckets : ℕ) (bucket : ℕ → ℕ) (small : (key : ℕ) → bucket 
       λ rest third at. inl (ap ((table buckets bucket).guard s.cells) at ∙ guard_low buckets guard i rest (small (key_of x.op)) third ∙ sym lock) in
       ⊎_elim (λ edition. low 1 (omega arith) edition)
       (λ target. ⊎_elim (λ head. low 2 (omega arith) head)
-      (λ node. let high = node.4 in inl (ap ((table buckets bucket).guard s.cells) node.5 ∙ guard_node buckets guard node.0 node.1 (omega arith) ∙ ap bucket_lock node.2.1 ∙ sym lock)) target)
+      (λ node. let high = node.4 in inl (ap ((table buckets bucket).guard s.cells) node.5
+      ∙ guard_node buckets guard node.0 node.1 (omega arith) ∙ ap bucket_lock node.2.1 ∙ sym lock)) target)
       (loaded_place d j p r x here load (λ h has changes at. omega arith))
 
   -- what is still to be stored to is a fixed cell or a cell of a live slot
@@ -187,7 +201,8 @@ module _ (buckets : ℕ) (bucket : ℕ → ℕ) (small : (key : ℕ) → bucket 
       ⊎_elim (λ edition. inl (omega arith))
       (λ target. ⊎_elim (λ head. inl (omega arith))
       (λ node. let high = node.4 in inr (node.0, (node.1, omega arith, node.5), kept.on_live node.0 node.2.0)) target)
-      (loaded_place d j p r x here load (λ h has changes at. let past = half_settled x h has changes settled in omega arith))
+      (loaded_place d j p r x here load (λ h has changes at. let past = half_settled x h has changes settled in
+      omega arith))
 
   -- a Store is to an edition, a link or a value, so it leaves each key, and with it each guard
   steady_guard_store : (d j p q r : ℕ) (x : Section) (v : Value) → Here s d x → IsStep (table buckets bucket) x x.at (Store r v) → IsStep (table buckets bucket) x j (Load p r)
@@ -238,7 +253,8 @@ module _ (buckets : ℕ) (bucket : ℕ → ℕ) (small : (key : ℕ) → bucket 
         let step = step_of x.thunk x.at (Retire t) h in
         let lt = step.2.0 in
         let at = step.2.1 in
-        not_both (used_leads p t used links) (kept.owned d x t here (step.0, step.1, inr ((omega arith, omega arith), sym step.2.2))).1;
+        not_both (used_leads p t used links)
+        (kept.owned d x t here (step.0, step.1, inr ((omega arith, omega arith), sym step.2.2))).1;
     store_used = store_used;
     one_key = λ map d e x y here there ne settled settled' unstored unstored' key depends depends'.
         ne (one_bucket buckets bucket layout s sound kept d e x y here there (ap bucket (own_key d x key here depends ∙ sym (own_key e y key there depends'))));
@@ -248,7 +264,8 @@ module _ (buckets : ℕ) (bucket : ℕ → ℕ) (small : (key : ℕ) → bucket 
       used t safe = ⊎_elim (λ live. live_free (s.status t) live) (λ retired. retired_free (s.status t) retired.0 retired.1) safe
 
       -- a slot that is to be retired is live and has the operation's key
-      retiring : (d j t : ℕ) (x : Section) → Here s d x → Settled (table buckets bucket) x → x.at ≤ j → IsStep (table buckets bucket) x j (Retire t)
+      retiring : (d j t : ℕ) (x : Section) → Here s d x → Settled (table buckets bucket) x → x.at ≤ j
+          → IsStep (table buckets bucket) x j (Retire t)
           → (s.status t ≡ Live) × (value_of (s.cells (cell_at buckets bucket t 1)) ≡ key_of x.op)
       retiring d j t x here settled le h =
           let step = step_of x.thunk j (Retire t) h in
@@ -258,14 +275,17 @@ module _ (buckets : ℕ) (bucket : ℕ → ℕ) (small : (key : ℕ) → bucket 
           let known = half.order.0 in
           let making = half.order.2 in
           let past = half_settled x step.0 step.1 (half.changing (omega arith)) settled in
-          subst (λ t. (s.status t ≡ Live) × (value_of (s.cells (cell_at buckets bucket t 1)) ≡ key_of x.op)) (sym step.2.2)
+          subst (λ t. (s.status t ≡ Live) × (value_of (s.cells (cell_at buckets bucket t 1)) ≡ key_of x.op))
+          (sym step.2.2)
           (target_live d x step.0 here step.1 (omega arith) (omega arith) (half.remove.1 lt))
 
       -- one section retires at one place of its body
-      retired_at : (d e i j t : ℕ) (x y : Section) → Here s d x → Here s e y → d ≡ e → IsStep (table buckets bucket) x i (Retire t) → IsStep (table buckets bucket) y j (Retire t) → i ≡ j
+      retired_at : (d e i j t : ℕ) (x y : Section) → Here s d x → Here s e y → d ≡ e
+          → IsStep (table buckets bucket) x i (Retire t) → IsStep (table buckets bucket) y j (Retire t) → i ≡ j
       retired_at d e i j t x y here there same h h' =
           let step = step_of x.thunk i (Retire t) h in
-          let h'' = subst (λ z. IsStep (table buckets bucket) z j (Retire t)) (some_inj (sym there ∙ ap s.section (sym same) ∙ here)) h' in
+          let h'' = subst (λ z. IsStep (table buckets bucket) z j (Retire t))
+          (some_inj (sym there ∙ ap s.section (sym same) ∙ here)) h' in
           step.2.1 ∙ sym (half_step x.thunk step.0 step.1 j (Retire t) h'').1
 
       own_key : (d : ℕ) (x : Section) (key : ℕ) → Here s d x → DependsOn x.op key → key_of x.op ≡ key

@@ -1,5 +1,6 @@
 -- The hash table keeps what it keeps, by every move.
-use Rattle.std.proofs.Common.{◌≡◌, ◌≢◌, ℕ, suc, ◌+◌, ◌*◌, ◌<◌, ◌≤◌, true, refl, sym, ap, ◌∙◌, subst, inl, inr, ⊎_elim, arith}
+use Rattle.std.proofs.Common.{◌≡◌, ◌≢◌, ℕ, suc, ◌+◌, ◌*◌, ◌<◌, ◌≤◌, true, refl, sym, ap, ◌∙◌, subst, inl}
+use Rattle.std.proofs.Common.{inr, ⊎_elim, arith}
 use Rattle.std.specs.Prelude.{◌==◌, ◌&&◌, ◌%◌, ◌⊎◌, nat_lt, Option, Some, None, [], ◌∷◌, ◌++◌}
 use mathlib.Core.Logic.{dite}
 use native.Mathlib.Decide.{ℕ_discrete}
@@ -15,7 +16,7 @@ use Rattle.body_terms.specs.declared.step.Step.TheVariants.{Want, Fresh, Stamp, 
 use Rattle.body_terms.specs.declared.thunk.Thunk.{Thunk}
 use Rattle.table_words.specs.declared.layout.Layout.{Layout}
 use Rattle.table_words.specs.Limits.{IsWithinLimits}
-use Rattle.structure_laws.specs.Scene.{Readings, Section, Status, Free, Live, Retired, Scene, with_cell, with_reader, with_section, with_status, opened}
+use Rattle.structure_laws.specs.Scene.{Readings, Section, Free, Live, Retired, Scene, with_cell, with_reader, with_section, with_status, opened}
 use Rattle.structure_laws.specs.Sections.{Here, Settled, Ended}
 use Rattle.structure_laws.specs.Keeps.{Keeps}
 use Rattle.structure_laws.proofs.Changes.{upd_same, upd_other, upd_some, upd_none}
@@ -34,7 +35,8 @@ use Rattle.bucket_laws.proofs.TableStores.{table_store}
 use Rattle.bucket_laws.proofs.Walks.{knows_fed, walk_push, is_first, edition_kept}
 
 -- a section that has made a node, or changed its bucket, isn't done before its last step
-half_open : (buckets : ℕ) (bucket : ℕ → ℕ) (x : Section) (h : Half) → HasHalf x h → h.made < x.at → (x.at ≤ h.edition) ⊎ (x.at ≤ h.retire)
+half_open : (buckets : ℕ) (bucket : ℕ → ℕ) (x : Section) (h : Half) → HasHalf x h → h.made < x.at → (x.at ≤ h.edition)
+    ⊎ (x.at ≤ h.retire)
     → (Settled (table buckets bucket) x → Ended (table buckets bucket) x) → ⊥
 half_open buckets bucket x h has low high ended =
     let half = half_is x.thunk h has in
@@ -85,13 +87,19 @@ module _ (buckets : ℕ) (bucket : ℕ → ℕ) (small : (key : ℕ) → bucket 
     sections = λ e z h. ⊎_elim
         (λ same. subst (λ z. IsWalked buckets bucket (with_section s d (Some (opened op thunk readings))) kept.on kept.rank z.op (walk_of buckets bucket layout z.op z.readings)) same.1 (walked op (walk_of buckets bucket layout op readings) (kept.readers r readings op reader)))
         (λ other. walked z.op (walk_of buckets bucket layout z.op z.readings) (kept.sections e z other.1)) (put e z h);
-    made = λ e z h at has making. ⊎_elim (λ same. absurd (let low = making.0 in early z same.1 (omega arith))) (λ other. kept.made e z h other.1 has making) (put e z at);
-    target = λ e z h at has changes low. ⊎_elim (λ same. absurd (let known = (half_is z.thunk h has).order.0 in early z same.1 (omega arith)))
+    made = λ e z h at has making. ⊎_elim (λ same. absurd (let low = making.0 in early z same.1 (omega arith)))
+        (λ other. kept.made e z h other.1 has making) (put e z at);
+    target = λ e z h at has changes low.
+        ⊎_elim (λ same. absurd (let known = (half_is z.thunk h has).order.0 in early z same.1 (omega arith)))
         (λ other. kept.target e z h other.1 has changes low) (put e z at);
-    taken = λ e z h at has taking. ⊎_elim (λ same. absurd (let low = taking.0 in early z same.1 (omega arith))) (λ other. kept.taken e z h other.1 has taking) (put e z at);
-    owned = λ e z t at owns. ⊎_elim (λ same. absurd (⊎_elim (λ new. let low = new.0.0 in early z same.1 (omega arith)) (λ old. let low = old.0.0 in early z same.1 (omega arith)) owns.2))
+    taken = λ e z h at has taking. ⊎_elim (λ same. absurd (let low = taking.0 in early z same.1 (omega arith)))
+        (λ other. kept.taken e z h other.1 has taking) (put e z at);
+    owned = λ e z t at owns. ⊎_elim
+        (λ same. absurd (⊎_elim (λ new. let low = new.0.0 in early z same.1 (omega arith))
+        (λ old. let low = old.0.0 in early z same.1 (omega arith)) owns.2))
         (λ other. kept.owned e z t other.1 owns) (put e z at);
-    live = λ t live. ⊎_elim inl (λ owned. inr (owned.0, owned.1, stays owned.0 owned.1 owned.2 ∙ owned.2, owned.3)) (kept.live t live);
+    live = λ t live. ⊎_elim inl (λ owned. inr (owned.0, owned.1, stays owned.0 owned.1 owned.2 ∙ owned.2, owned.3))
+        (kept.live t live);
     limbo = kept.limbo;
   }
     where
@@ -102,7 +110,8 @@ module _ (buckets : ℕ) (bucket : ℕ → ℕ) (small : (key : ℕ) → bucket 
       early z same low = let at = ap (λ z. z.at) same in omega arith
 
       stays : (e : ℕ) (z : Section) → s.section e ≡ Some z → upd s.section d (Some (opened op thunk readings)) e ≡ s.section e
-      stays e z there = upd_other s.section d e (Some (opened op thunk readings)) (λ same. none_not_some z (sym none ∙ ap s.section (sym same) ∙ there))
+      stays e z there = upd_other s.section d e (Some (opened op thunk readings))
+          (λ same. none_not_some z (sym none ∙ ap s.section (sym same) ∙ there))
 
       walked : (op' : Op) (w : Walk) → IsWalked buckets bucket s kept.on kept.rank op' w → IsWalked buckets bucket (with_section s d (Some (opened op thunk readings))) kept.on kept.rank op' w
       walked op' w before edition free = before edition (λ e z there pending. free e z (stays e z there ∙ there) pending)
@@ -120,7 +129,13 @@ module _ (buckets : ℕ) (bucket : ℕ → ℕ) (small : (key : ℕ) → bucket 
     target = λ e z h at has changes low. kept.target e z h (left e z at).1 has changes low;
     taken = λ e z h at has taking. kept.taken e z h (left e z at).1 has taking;
     owned = λ e z t at owns. kept.owned e z t (left e z at).1 owns;
-    live = λ t live. ⊎_elim inl (λ owned. inr (owned.0, owned.1, stays owned.0 owned.1 owned.2 (λ same. owns_none t (subst (λ z. Owns z t) same owned.3)) ∙ owned.2, owned.3))
+    live = λ t live. ⊎_elim inl (λ owned. inr (
+      owned.0,
+      owned.1,
+      stays owned.0 owned.1 owned.2 (λ same. owns_none t (subst (λ z. Owns z t) same owned.3))
+          ∙ owned.2,
+      owned.3,
+    ))
         (kept.live t live);
     limbo = kept.limbo;
   }
@@ -135,8 +150,10 @@ module _ (buckets : ℕ) (bucket : ℕ → ℕ) (small : (key : ℕ) → bucket 
       owns_none t owns =
           let order = (half_is x.thunk owns.0 owns.1).order.4 in
           let making = (half_is x.thunk owns.0 owns.1).order.2 in
-          ⊎_elim (λ new. let low = new.0.0 in let high = new.0.1 in half_open buckets bucket x owns.0 owns.1 low (inr (omega arith)) ended)
-          (λ old. let low = old.0.0 in half_open buckets bucket x owns.0 owns.1 (omega arith) (inr old.0.1) ended) owns.2
+          ⊎_elim (λ new. let low = new.0.0 in let high = new.0.1 in half_open buckets bucket x owns.0 owns.1 low
+          (inr (omega arith)) ended)
+          (λ old. let low = old.0.0 in half_open buckets bucket x owns.0 owns.1 (omega arith) (inr old.0.1) ended)
+          owns.2
 
       not_pending : (i : ℕ) → IsPending x i → ⊥
       not_pending i pending =
@@ -144,9 +161,11 @@ module _ (buckets : ℕ) (bucket : ℕ → ℕ) (small : (key : ℕ) → bucket 
           let low = pending.3 in
           half_open buckets bucket x pending.0 pending.1 (omega arith) (inl pending.4) ended
 
-      walked : (op : Op) (w : Walk) → IsWalked buckets bucket s kept.on kept.rank op w → IsWalked buckets bucket (with_section s d None) kept.on kept.rank op w
+      walked : (op : Op) (w : Walk) → IsWalked buckets bucket s kept.on kept.rank op w
+          → IsWalked buckets bucket (with_section s d None) kept.on kept.rank op w
       walked op w before edition free = before edition (λ e z there pending. free e z
-          (stays e z there (λ same. not_pending (bucket (key_of op)) (subst (λ z. IsPending z (bucket (key_of op))) same pending)) ∙ there) pending)
+          (stays e z there (λ same. not_pending (bucket (key_of op))
+          (subst (λ z. IsPending z (bucket (key_of op))) same pending)) ∙ there) pending)
 
   -- a cell changes that is no edition, no head, and in no node but a free one
   cell_kept : (p w : ℕ) → ((i : ℕ) → i < buckets → (bucket_edition i ≢ p) × (bucket_head i ≢ p)) → ((u k : ℕ) → s.status u ≢ Free → k < 5 → cell_at buckets bucket u k ≢ p) → BucketsKept buckets bucket layout (with_cell s p w)
@@ -174,17 +193,26 @@ module _ (buckets : ℕ) (bucket : ℕ → ℕ) (small : (key : ℕ) → bucket 
         readers = λ r readings op h. walked op (walk_of buckets bucket layout op readings) (kept.readers r readings op h);
         sections = λ d x here. walked x.op (walk_of buckets bucket layout x.op x.readings) (kept.sections d x here);
         made = λ d x h here has making. let was = kept.made d x h here has making in
-            let used = live_free (s.status was.0) (kept.owned d x was.0 here (h, has, inl (making, was.1))).0 in (was.0, was.1, record {
-              key = ap value_of (same was.0 1 used (omega arith)) ∙ was.2.key;
-              value = ap value_of (same was.0 2 used (omega arith)) ∙ was.2.value;
-              next = ap value_of (same was.0 3 used (omega arith)) ∙ was.2.next;
-            });
-        target = λ d x h here has changes low. target_stays buckets bucket h.kind s.cells (upd s.cells p w) kept.on kept.on (bucket (key_of x.op)) h.target
-            (λ u node. (node.0, ap (λ word. bucket (value_of word)) (on_same u 1 node.0 (omega arith)) ∙ node.1)) (kept.target d x h here has changes low);
+            let used = live_free (s.status was.0) (kept.owned d x was.0 here (h, has, inl (making, was.1))).0 in (
+              was.0,
+              was.1,
+              record {
+                key = ap value_of (same was.0 1 used (omega arith)) ∙ was.2.key;
+                value = ap value_of (same was.0 2 used (omega arith)) ∙ was.2.value;
+                next = ap value_of (same was.0 3 used (omega arith)) ∙ was.2.next;
+              },
+            );
+        target = λ d x h here has changes low. target_stays buckets bucket h.kind s.cells (upd s.cells p w) kept.on
+            kept.on (bucket (key_of x.op)) h.target
+            (λ u node. (node.0, ap (λ word. bucket (value_of word)) (on_same u 1 node.0 (omega arith)) ∙ node.1))
+            (kept.target d x h here has changes low);
         taken = λ d x h here has taking. let was = kept.taken d x h here has taking in
-            let used = live_free (s.status (operand x.thunk 2)) (kept.owned d x (operand x.thunk 2) here (h, has, inr (taking, refl))).0 in record {
+            let used = live_free (s.status (operand x.thunk 2))
+            (kept.owned d x (operand x.thunk 2) here (h, has, inr (taking, refl))).0 in record {
               key = ap value_of (same (operand x.thunk 2) 1 used (omega arith)) ∙ was.key;
-              next = λ t leads. let node = was.next t (ap value_of (sym (same (operand x.thunk 2) 3 used (omega arith))) ∙ leads) in (node.0, ap (λ word. bucket (value_of word)) (on_same t 1 node.0 (omega arith)) ∙ node.1);
+              next = λ t leads. let node = was.next t
+                  (ap value_of (sym (same (operand x.thunk 2) 3 used (omega arith))) ∙ leads) in
+                  (node.0, ap (λ word. bucket (value_of word)) (on_same t 1 node.0 (omega arith)) ∙ node.1);
             };
         owned = kept.owned;
         live = kept.live;
@@ -207,8 +235,10 @@ module _ (buckets : ℕ) (bucket : ℕ → ℕ) (small : (key : ℕ) → bucket 
         made = kept.made;
         taken = kept.taken;
         owned = λ d x u here owns. let was = kept.owned d x u here owns in (still u was.0, was.1);
-        live = λ u live. dite (ℕ_discrete u t) (λ e. absurd (live_free _ live (upd_same s.status t u Free e))) (λ ne. kept.live u (sym (other u ne) ∙ live));
-        limbo = λ q z u late recent leads. dite (ℕ_discrete q t) (λ e. absurd (retired_free _ z late (upd_same s.status t q Free e)))
+        live = λ u live. dite (ℕ_discrete u t) (λ e. absurd (live_free _ live (upd_same s.status t u Free e)))
+            (λ ne. kept.live u (sym (other u ne) ∙ live));
+        limbo = λ q z u late recent leads. dite (ℕ_discrete q t)
+            (λ e. absurd (retired_free _ z late (upd_same s.status t q Free e)))
             (λ ne. ⊎_elim (λ live. inl (still u live))
             (λ later. inr (later.0, other u (λ e. let same = retired_in (sym later.1 ∙ ap s.status e ∙ retired) in let order = later.2 in omega arith) ∙ later.1, later.2))
             (kept.limbo q z u (sym (other q ne) ∙ late) recent leads));
@@ -242,7 +272,8 @@ table_keeps buckets bucket small layout limits = record {
   enters = λ s r sound kept sound'. readers_kept buckets bucket small layout s kept r (Some []) (λ readings op e. subst (λ readings. IsWalked buckets bucket s kept.on kept.rank op (walk_of buckets bucket layout op readings)) (some_inj e) (start_walked buckets bucket small layout s kept op));
   reads = λ s r p readings reader known sound kept sound'. readers_kept buckets bucket small layout s kept r (Some (readings ++ (p, s.cells p) ∷ []))
       (λ longer op e. subst (λ readings. IsWalked buckets bucket s kept.on kept.rank op (walk_of buckets bucket layout op readings)) (some_inj e) (read_walked buckets bucket small layout s kept op readings p (kept.readers r readings op reader)));
-  leaves = λ s r sound kept sound'. readers_kept buckets bucket small layout s kept r None (λ readings op e. absurd (none_not_some readings e));
+  leaves = λ s r sound kept sound'. readers_kept buckets bucket small layout s kept r None
+      (λ readings op e. absurd (none_not_some readings e));
   holds = λ s r d readings op thunk reader publishes none sound kept sound'. holds_kept buckets bucket small layout s kept r d readings op thunk reader none;
   load = λ s d p r x here h sound kept sound'. load_kept buckets bucket small layout s sound kept d x here p r (s.cells p) h;
   want = λ s d r w x here h equal sound kept sound'. quiet_kept buckets bucket small layout s sound kept d x here (Want r w) h (λ q v e. cc) (λ init q e. cc) (λ t e. cc);

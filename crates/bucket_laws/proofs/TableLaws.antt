@@ -1,6 +1,7 @@
 -- The hash table meets the laws.
 use Rattle.std.proofs.Common.{◌≡◌, ◌≢◌, ℕ, zero, suc, ◌+◌, ◌*◌, ◌<◌, ◌≤◌, Bool, true, false, cond, refl, sym, ap, ◌∙◌, subst, inl, inr, ⊎_elim, arith}
-use Rattle.std.specs.Prelude.{◌==◌, ◌&&◌, ◌-◌, ◌/◌, ◌%◌, ◌^◌, ◌⊎◌, nat_lt, Option, Some, None, slice_get, slice_index, length, Contains}
+use Rattle.std.specs.Prelude.{◌==◌, ◌&&◌, ◌-◌, ◌/◌, ◌%◌, ◌^◌, ◌⊎◌, nat_lt, Option, Some, slice_get}
+use Rattle.std.specs.Prelude.{slice_index, length, Contains}
 use Rattle.std.specs.FinMap.{get, empty, get-empty}
 use Rattle.std.specs.Ordering.{nat_cmp}
 use Rattle.std.proofs.lemmas.Nat.{pow_pos, pow_below, shr_below}
@@ -22,7 +23,7 @@ use Rattle.body_terms.specs.declared.thunk.Thunk.{Thunk}
 use Rattle.table_words.specs.declared.layout.Layout.{Layout}
 use Rattle.table_words.specs.Limits.{IsWithinLimits}
 use Rattle.table_words.specs.Places.{slot_count}
-use Rattle.structure_laws.specs.Scene.{Readings, Section, Status, Free, Live, Retired, Scene}
+use Rattle.structure_laws.specs.Scene.{Readings, Free, Live, Retired, Scene}
 use Rattle.structure_laws.specs.Sections.{IsAllowed, IsSmall}
 use Rattle.structure_laws.specs.Cells.{IsKnown, IsSafe}
 use Rattle.structure_laws.specs.Sound.{Sound}
@@ -34,11 +35,13 @@ use Rattle.structure_laws.proofs.Costs.{shaped_cost}
 use Rattle.bucket_laws.specs.Chain.{Nodes, Chains, Contents}
 use Rattle.bucket_laws.specs.Walk.{AtEdition, AtEnd, Walk, cell_at, form_for, operands_for}
 use Rattle.bucket_laws.specs.Halves.{Kind, Look, Insert, Remove, Set, Half, halves}
-use Rattle.bucket_laws.specs.Buckets.{nodes, is_link_place, walk_of, bounds, BucketsKept, BucketsStand, table, buckets_meaning}
+use Rattle.bucket_laws.specs.Buckets.{nodes, is_link_place, walk_of, bounds, BucketsKept}
+use Rattle.bucket_laws.specs.Buckets.{BucketsStand, table, buckets_meaning}
 use Rattle.bucket_laws.proofs.Chain.{same_on, chains_agree}
-use Rattle.bucket_laws.proofs.Fit.{IsFit, fit_of, insert_operands, remove_operands, set_operands, puts_given}
+use Rattle.bucket_laws.proofs.Fit.{IsFit, fit_of, puts_given}
 use Rattle.bucket_laws.proofs.Fitting.{table_fitting}
-use Rattle.bucket_laws.proofs.Halves.{node_init, steps_for, number_of, fits_for, stored_for, answer_for, HasKind, kind_is}
+use Rattle.bucket_laws.proofs.Halves.{node_init, steps_for, number_of, stored_for}
+use Rattle.bucket_laws.proofs.Halves.{answer_for, HasKind, kind_is}
 use Rattle.bucket_laws.proofs.Halves.{half_is, number_is, place_is, step_of, no_take, half_step}
 use Rattle.bucket_laws.proofs.NodeChanges.{clip_same}
 use Rattle.bucket_laws.proofs.Places.{head_lock, one_slot}
@@ -120,15 +123,19 @@ module _ (buckets : ℕ) (bucket : ℕ → ℕ) (small : (key : ℕ) → bucket 
 
   -- the slot of the node that the walk found was read in a link
   found_given : own_walk.found ≡ true → Gives buckets bucket small readings own_walk.slot
-  found_given found = (walk_facts buckets bucket small (bounds buckets bucket layout) op readings).slot (inr (inr (inr found)))
+  found_given found = (walk_facts buckets bucket small (bounds buckets bucket layout) op readings).slot
+      (inr (inr (inr found)))
 
   -- the cell of the value that is to be set
-  set_cell : thunk.form ≡ 4 → (t : ℕ) × Gives buckets bucket small readings t × (operand thunk 1 ≡ 3 * buckets + 5 * t + 2)
+  set_cell : thunk.form ≡ 4 → (t : ℕ) × Gives buckets bucket small readings t
+      × (operand thunk 1 ≡ 3 * buckets + 5 * t + 2)
   set_cell form = let sets = fit.sets form in (own_walk.slot, found_given sets.0, sets.1.3)
 
   -- what a removal's link is
-  remove_link : thunk.form ≡ 3 → (operand thunk 1 ≡ 3 * own + 2) ⊎ ((t : ℕ) × Gives buckets bucket small readings t × (operand thunk 1 ≡ 3 * buckets + 5 * t + 3))
-  remove_link form = let named = (fit.remove form).1 in ⊎_elim (λ head. inl (named.1 ∙ head)) (λ node. inr (node.0, node.1, named.1 ∙ node.2)) link_place
+  remove_link : thunk.form ≡ 3 → (operand thunk 1 ≡ 3 * own + 2)
+      ⊎ ((t : ℕ) × Gives buckets bucket small readings t × (operand thunk 1 ≡ 3 * buckets + 5 * t + 3))
+  remove_link form = let named = (fit.remove form).1 in ⊎_elim (λ head. inl (named.1 ∙ head))
+      (λ node. inr (node.0, node.1, named.1 ∙ node.2)) link_place
 
   -- the operands are small
   insert_small : thunk.form ≡ 2 → (operand thunk 1 < 2 ^ 32) × (operand thunk 2 < 2 ^ 32) × (operand thunk 3 < 2 ^ 32)
@@ -164,9 +171,11 @@ module _ (buckets : ℕ) (bucket : ℕ → ℕ) (small : (key : ℕ) → bucket 
   kind_of Look form = kind_is thunk Look form (small_is _ (let low = lock_small in omega arith))
   kind_of Insert form = let low = insert_small form in kind_is thunk Insert form (both_hold _ _ (small_is _ lock_small)
       (both_hold _ _ (small_is _ low.0) (both_hold _ _ (small_is _ low.1) (small_is _ low.2))))
-  kind_of Remove form = let low = remove_small form in kind_is thunk Remove form (both_hold _ _ (small_is _ (let low = lock_small in omega arith))
+  kind_of Remove form = let low = remove_small form in kind_is thunk Remove form
+      (both_hold _ _ (small_is _ (let low = lock_small in omega arith))
       (both_hold _ _ (small_is _ low.0) (both_hold _ _ (small_is _ low.1) (small_is _ low.2))))
-  kind_of Set form = let low = set_small form in kind_is thunk Set form (both_hold _ _ (small_is _ (let low = lock_small in omega arith))
+  kind_of Set form = let low = set_small form in kind_is thunk Set form
+      (both_hold _ _ (small_is _ (let low = lock_small in omega arith))
       (both_hold _ _ (small_is _ low.0) (small_is _ low.1)))
 
   shaped : IsShaped (table_steps thunk)
@@ -177,7 +186,8 @@ module _ (buckets : ℕ) (bucket : ℕ → ℕ) (small : (key : ℕ) → bucket 
       shape Insert form = insert_shaped thunk
       shape Remove form = remove_shaped thunk (λ e. let at = lock_is in let low = small (key_of op) in
           ⊎_elim (λ head. omega arith) (λ node. let place = node.2 in omega arith) (remove_link form))
-      shape Set form = set_shaped thunk (λ e. let at = lock_is in let low = small (key_of op) in let place = (set_cell form).2 in omega arith)
+      shape Set form = set_shaped thunk (λ e. let at = lock_is in let low = small (key_of op) in let place =
+          (set_cell form).2 in omega arith)
 
       by : (k : Kind) → form_for op own_walk.found ≡ number_of k → IsShaped (table_steps thunk)
       by k form = let kind = kind_of k (fit.form ∙ form) in subst IsShaped (sym kind.1) (shape k kind.0)
@@ -196,15 +206,20 @@ module _ (buckets : ℕ) (bucket : ℕ → ℕ) (small : (key : ℕ) → bucket 
 
   -- what a half changes
   place_of : (h : Half) → Contains (halves thunk) h → h.change < h.edition
-      → (h.target ≡ 3 * own + 2) ⊎ ((t k : ℕ) × Gives buckets bucket small readings t × (k < 5) × (h.target ≡ 3 * buckets + 5 * t + k))
+      → (h.target ≡ 3 * own + 2) ⊎ ((t k : ℕ) × Gives buckets bucket small readings t × (k < 5)
+      × (h.target ≡ 3 * buckets + 5 * t + k))
   place_of h has changes = by h.kind refl
     where
-      by : (k : Kind) → h.kind ≡ k → (h.target ≡ 3 * own + 2) ⊎ ((t k : ℕ) × Gives buckets bucket small readings t × (k < 5) × (h.target ≡ 3 * buckets + 5 * t + k))
+      by : (k : Kind) → h.kind ≡ k → (h.target ≡ 3 * own + 2)
+          ⊎ ((t k : ℕ) × Gives buckets bucket small readings t × (k < 5) × (h.target ≡ 3 * buckets + 5 * t + k))
       by Look kind = let none = (half_is thunk h has).look.0 kind in absurd (omega arith)
-      by Insert kind = let lock = lock_is in let place : h.target ≡ thunk.lock + 2 = place_is thunk h has Insert kind in inl (omega arith)
+      by Insert kind = let lock = lock_is in let place : h.target ≡ thunk.lock + 2 = place_is thunk h has Insert
+          kind in inl (omega arith)
       by Remove kind = let place = place_is thunk h has Remove kind in
-          ⊎_elim (λ head. inl (place ∙ head)) (λ node. inr (node.0, 3, node.1, omega arith, place ∙ node.2)) (remove_link (number_is thunk h has Remove kind))
-      by Set kind = let cell = set_cell (number_is thunk h has Set kind) in inr (cell.0, 2, cell.1, omega arith, place_is thunk h has Set kind ∙ cell.2)
+          ⊎_elim (λ head. inl (place ∙ head)) (λ node. inr (node.0, 3, node.1, omega arith, place ∙ node.2))
+          (remove_link (number_is thunk h has Remove kind))
+      by Set kind = let cell = set_cell (number_is thunk h has Set kind) in
+          inr (cell.0, 2, cell.1, omega arith, place_is thunk h has Set kind ∙ cell.2)
 
   load_place : (j p r : ℕ) → slice_get (table_steps thunk) j ≡ Some (Load p r) → PlaceIs p
   load_place j p r load =
@@ -212,13 +227,15 @@ module _ (buckets : ℕ) (bucket : ℕ → ℕ) (small : (key : ℕ) → bucket 
       let lock = lock_is in
       let same = (half_is thunk step.0 step.1).lock in
       ⊎_elim (λ edition. let at = edition.2 in inl (1, omega arith, omega arith, omega arith))
-      (λ target. ⊎_elim (λ head. inl (2, omega arith, omega arith, target.3 ∙ head)) (λ node. inr (node.0, node.1, node.2, node.3, target.3 ∙ node.4))
+      (λ target. ⊎_elim (λ head. inl (2, omega arith, omega arith, target.3 ∙ head))
+      (λ node. inr (node.0, node.1, node.2, node.3, target.3 ∙ node.4))
       (place_of step.0 step.1 target.0)) step.2
 
   store_small : (j r : ℕ) (v : Value) → slice_get (table_steps thunk) j ≡ Some (Store r v) → IsSmall v
   store_small j r v store =
       let step = step_of thunk j (Store r v) store in
-      ⊎_elim (λ change. subst IsSmall (sym change.2) (by step.0 step.1 step.0.kind refl)) (λ edition. subst IsSmall (sym edition.2) (omega arith)) step.2.1
+      ⊎_elim (λ change. subst IsSmall (sym change.2) (by step.0 step.1 step.0.kind refl))
+      (λ edition. subst IsSmall (sym edition.2) (omega arith)) step.2.1
     where
       by : (h : Half) → Contains (halves thunk) h → (k : Kind) → h.kind ≡ k → IsSmall (stored_for k thunk)
       by h has Look kind = omega arith
@@ -247,14 +264,17 @@ module _ (buckets : ℕ) (bucket : ℕ → ℕ) (small : (key : ℕ) → bucket 
     store_small = store_small;
     make_whole = λ j r init h. ap (λ init. length init.cells) (step_of thunk j (Make init r) h).2.3;
     make_small = λ j r i init v h at. let make = step_of thunk j (Make init r) h in
-        init_small i v (number_is thunk make.0 make.1 Insert ((half_is thunk make.0 make.1).insert.1 make.2.0)) (sym (ap (λ init. slice_get init.cells i) make.2.3) ∙ at);
+        init_small i v (number_is thunk make.0 make.1 Insert ((half_is thunk make.0 make.1).insert.1 make.2.0))
+        (sym (ap (λ init. slice_get init.cells i) make.2.3) ∙ at);
     make_unlocked = λ j r i t init v h at lock. absurd (let below = (lock_at buckets (3 * buckets + 5 * t + i) lock).0 in omega arith);
-    answers = λ j n h. let answer = step_of thunk j (Answer n) h in subst (λ n. 0 < n) (sym answer.2) (answers answer.0 answer.1 answer.0.kind refl);
+    answers = λ j n h. let answer = step_of thunk j (Answer n) h in subst (λ n. 0 < n) (sym answer.2)
+        (answers answer.0 answer.1 answer.0.kind refl);
   }
     where
       answers : (h : Half) → Contains (halves thunk) h → (k : Kind) → h.kind ≡ k → 0 < answer_for k thunk
       answers h has Look kind = let at = ap (λ numbers. slice_index numbers 1) fit.operands in
-          let some = reply_some buckets op own_walk own_walk.found (sym fit.form ∙ number_is thunk h has Look kind) in omega arith
+          let some = reply_some buckets op own_walk own_walk.found (sym fit.form ∙ number_is thunk h has Look kind) in
+          omega arith
       answers h has Insert kind = omega arith
       answers h has Remove kind = omega arith
       answers h has Set kind = let at = (fit.sets (number_is thunk h has Set kind)).1.5 in omega arith
@@ -267,23 +287,28 @@ module _ (buckets : ℕ) (bucket : ℕ → ℕ) (small : (key : ℕ) → bucket 
           let low = small (key_of op) in
           ⊎_elim (λ head. omega arith) (λ node. let at = node.4 in omega arith) (place_of h has changes)
 
-      loaded_once : (i j p q r : ℕ) → slice_get (table_steps thunk) i ≡ Some (Load p q) → slice_get (table_steps thunk) j ≡ Some (Load p r) → i ≡ j
+      loaded_once : (i j p q r : ℕ) → slice_get (table_steps thunk) i ≡ Some (Load p q)
+          → slice_get (table_steps thunk) j ≡ Some (Load p r) → i ≡ j
       loaded_once i j p q r one other =
           let step = step_of thunk i (Load p q) one in
           ⊎_elim
-          (λ x. ⊎_elim (λ y. let at = x.0 in let at' = y.0 in omega arith) (λ y. absurd (target_apart step.0 step.1 y.0 (sym y.3 ∙ x.2)))
+          (λ x. ⊎_elim (λ y. let at = x.0 in let at' = y.0 in omega arith)
+          (λ y. absurd (target_apart step.0 step.1 y.0 (sym y.3 ∙ x.2)))
           (half_step thunk step.0 step.1 j (Load p r) other))
           (λ x. ⊎_elim (λ y. absurd (target_apart step.0 step.1 x.0 (sym x.3 ∙ y.2))) (λ y. x.1 ∙ sym y.1)
           (half_step thunk step.0 step.1 j (Load p r) other)) step.2
 
       -- the place of a Store goes by the half and the register
-      stored_once : (i j r : ℕ) (v w : Value) → slice_get (table_steps thunk) i ≡ Some (Store r v) → slice_get (table_steps thunk) j ≡ Some (Store r w) → i ≡ j
+      stored_once : (i j r : ℕ) (v w : Value) → slice_get (table_steps thunk) i ≡ Some (Store r v)
+          → slice_get (table_steps thunk) j ≡ Some (Store r w) → i ≡ j
       stored_once i j r v w one other =
           let step = step_of thunk i (Store r v) one in
           let apart = (half_is thunk step.0 step.1).registers.0 in
           ⊎_elim
-          (λ x. ⊎_elim (λ y. x.0 ∙ sym y.0) (λ y. absurd (apart (sym y.1 ∙ x.1))) (half_step thunk step.0 step.1 j (Store r w) other).1)
-          (λ x. ⊎_elim (λ y. absurd (apart (sym x.1 ∙ y.1))) (λ y. x.0 ∙ sym y.0) (half_step thunk step.0 step.1 j (Store r w) other).1) step.2.1
+          (λ x. ⊎_elim (λ y. x.0 ∙ sym y.0) (λ y. absurd (apart (sym y.1 ∙ x.1)))
+          (half_step thunk step.0 step.1 j (Store r w) other).1)
+          (λ x. ⊎_elim (λ y. absurd (apart (sym x.1 ∙ y.1))) (λ y. x.0 ∙ sym y.0)
+          (half_step thunk step.0 step.1 j (Store r w) other).1) step.2.1
 
       init_small : (i : ℕ) (v : Value) → thunk.form ≡ 2 → slice_get (node_init thunk).cells i ≡ Some v → IsSmall v
       init_small i v form h = let low = insert_small form in cells i h low.0 low.1 low.2
@@ -328,6 +353,7 @@ module _ (buckets : ℕ) (bucket : ℕ → ℕ) (small : (key : ℕ) → bucket 
         (λ u k on first last e. live_free (s.status u) (before.kept.on_live u (same_on bucket (nodes buckets bucket s.cells) before.stands.on before.kept.on before.stands.rank before.kept.rank before.stands.chains before.kept.chains u on))
         (ap s.status (one_slot (3 * buckets) u t k i (omega arith) low e) ∙ free));
   }
+
   -- in the first memory no slot stands in a chain
   first_value : (s : Scene) → IsFirst (table buckets bucket) s → (p : ℕ) → value_of (s.cells p) ≡ 0
   first_value s first p = ap value_of (first.cells p) ∙ zero_word (nat_lt p (3 * buckets + 5 * 0))
@@ -383,8 +409,13 @@ module _ (buckets : ℕ) (bucket : ℕ → ℕ) (small : (key : ℕ) → bucket 
     rank = λ t. 0;
     within = λ t on. absurd (false_not_true on);
     chains = first_chains s first;
-    contents = record { pair = λ t on. absurd (false_not_true on); slot = λ key value h. absurd (none_not_some value (sym (get-empty nat_cmp key) ∙ h)) };
+    contents = record {
+      pair = λ t on. absurd (false_not_true on);
+      slot = λ key value h. absurd
+          (none_not_some value (sym (get-empty nat_cmp key) ∙ h));
+    };
   }
+
 -- the hash table over any number of buckets, and any function of keys to buckets
 pub table_laws : (buckets : ℕ) (bucket : ℕ → ℕ) → ((key : ℕ) → bucket key < buckets) → 3 * buckets ≤ 12288 → Laws (table buckets bucket)
 table_laws buckets bucket small few = record {

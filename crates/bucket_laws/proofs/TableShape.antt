@@ -1,24 +1,29 @@
 -- The hash table's bodies have the shape of a body.
-use Rattle.std.proofs.Common.{◌≡◌, ◌≢◌, ℕ, suc, ◌+◌, ◌<◌, ◌≤◌, cond, refl, sym, ap, ◌∙◌, ⊎_elim, arith}
+use Rattle.std.proofs.Common.{◌≡◌, ◌≢◌, ℕ, zero, suc, ◌+◌, ◌*◌, ◌<◌, ◌≤◌, cond, refl, sym, ap, ◌∙◌}
+use Rattle.std.proofs.Common.{subst, ⊎_elim, arith}
 use Rattle.std.proofs.lemmas.List.Elements.{All-nil, All-cons}
-use Rattle.std.specs.Prelude.{◌==◌, ◌⊎◌, Some, List, [], ◌∷◌, All, Contains, nat_lt}
+use Rattle.std.specs.Prelude.{◌==◌, ◌^◌, ◌⊎◌, Some, List, [], ◌∷◌, All, Contains, nat_lt}
+use Rattle.small_lemmas.proofs.Lists.{some_same as some_inj}
 use Rattle.section_body.specs.Bucket.{operand, read_steps, insert_steps, remove_steps}
 use Rattle.bucket_bodies.specs.Table.{set_steps}
 use Rattle.body_terms.specs.declared.value.Value.{Value}
 use Rattle.body_terms.specs.declared.value.Value.TheVariants.{Const, Of, Made}
 use Rattle.body_terms.specs.declared.step.Step.{Step}
-use Rattle.body_terms.specs.declared.step.Step.TheVariants.{Load, Fresh, Store}
+use Rattle.body_terms.specs.declared.step.Step.TheVariants.{Load, Want, Fresh, Make, Stamp, Store, Retire, Answer}
 use Rattle.body_terms.specs.declared.thunk.Thunk.{Thunk}
-use Rattle.body_terms.specs.Shape.{IsShaped, IsStep, SetBefore, FreshBefore, phase, used_values, set_registers, store_place}
+use Rattle.body_terms.specs.Shape.{IsShaped, IsStep, SetBefore, LoadedBefore, FreshBefore, phase, used_values, set_registers, store_place}
 use Rattle.bucket_laws.specs.Halves.{Kind, Look, Insert, Remove, Set, Half, half_of}
-use Rattle.bucket_laws.proofs.Halves.{steps_for, node_init, IsOf, Each, each_at, steps_in}
+use Rattle.bucket_laws.proofs.Halves.{steps_for, node_init, IsOf, step_in}
 
--- what each step uses was set before it
-abbrev IsUsed : List Step → ℕ → Step → Type 0
-IsUsed body i step = All (SetBefore body i) (used_values step)
+-- what a step uses, where it is known which step it is
+used_by : (body : List Step) (i : ℕ) (known step : Step) → Some known ≡ Some step → All (SetBefore body i) (used_values known) → All (SetBefore body i) (used_values step)
+used_by body i known step h set = subst (λ step. All (SetBefore body i) (used_values step)) (some_inj h) set
+
+nothing_used : (body : List Step) (i : ℕ) → All (SetBefore body i) []
+nothing_used body i = All-nil (SetBefore body i)
 
 one_used : (body : List Step) (i : ℕ) (a : Value) → SetBefore body i a → All (SetBefore body i) (a ∷ [])
-one_used body i a first = All-cons (SetBefore body i) a [] first (All-nil (SetBefore body i))
+one_used body i a first = All-cons (SetBefore body i) a [] first (nothing_used body i)
 
 two_used : (body : List Step) (i : ℕ) (a b : Value) → SetBefore body i a → SetBefore body i b → All (SetBefore body i) (a ∷ b ∷ [])
 two_used body i a b first second = All-cons (SetBefore body i) a (b ∷ []) first (one_used body i b second)
@@ -30,44 +35,84 @@ node_used body i t =
     (All-cons p (Const (operand t 1)) (Const (operand t 2) ∷ Const (operand t 3) ∷ Const 0 ∷ []) tt
     (All-cons p (Const (operand t 2)) (Const (operand t 3) ∷ Const 0 ∷ []) tt (two_used body i (Const (operand t 3)) (Const 0) tt tt)))
 
--- register 0 holds the edition's word, and register 1 that of the place that the half changes
-module _ (body : List Step) (p q : ℕ) where
-  unused : (i : ℕ) → All (SetBefore body i) []
-  unused i = All-nil (SetBefore body i)
+-- register 0 holds the edition's word
+read_edition : (t : Thunk) (i : ℕ) → 0 < i → LoadedBefore (read_steps t) i 0
+read_edition t i positive = record { by = 0; place = t.lock + 1; earlier = positive; loads = refl }
 
-  module _ (first : IsStep body 0 (Load p 0)) where
-    of_edition : (i : ℕ) → 0 < i → All (SetBefore body i) (Of 0 ∷ [])
-    of_edition i later = one_used body i (Of 0) (record { by = 0; place = p; earlier = later; loads = first })
+read_used : (t : Thunk) (i : ℕ) (step : Step) → IsStep (read_steps t) i step → All (SetBefore (read_steps t) i) (used_values step)
+read_used t zero step h = used_by (read_steps t) 0 (Load (t.lock + 1) 0) step h (nothing_used (read_steps t) 0)
+read_used t (suc zero) step h = used_by (read_steps t) 1 (Want 0 (operand t 0)) step h (one_used (read_steps t) 1 (Of 0) (read_edition t 1 (omega arith)))
+read_used t (suc (suc zero)) step h = used_by (read_steps t) 2 Stamp step h (nothing_used (read_steps t) 2)
+read_used t (suc (suc (suc zero))) step h = used_by (read_steps t) 3 (Answer (operand t 1)) step h (nothing_used (read_steps t) 3)
+read_used t (suc (suc (suc (suc i)))) step h = absurd (cc)
 
-    to_edition : (i : ℕ) → 0 < i → All (SetBefore body i) (Of 0 ∷ Const 0 ∷ [])
-    to_edition i later = two_used body i (Of 0) (Const 0) (record { by = 0; place = p; earlier = later; loads = first }) tt
+-- register 0 holds the edition's word, and register 1 that of the link
+insert_edition : (t : Thunk) (i : ℕ) → 0 < i → LoadedBefore (insert_steps t) i 0
+insert_edition t i positive = record { by = 0; place = t.lock + 1; earlier = positive; loads = refl }
 
-  module _ (second : IsStep body 3 (Load q 1)) where
-    of_target : (i : ℕ) → 3 < i → All (SetBefore body i) (Of 1 ∷ [])
-    of_target i later = one_used body i (Of 1) (record { by = 3; place = q; earlier = later; loads = second })
+insert_link : (t : Thunk) (i : ℕ) → 3 < i → LoadedBefore (insert_steps t) i 1
+insert_link t i later = record { by = 3; place = t.lock + 2; earlier = later; loads = refl }
 
-    to_target : (i : ℕ) → 3 < i → (v : Value) → SetBefore body i v → All (SetBefore body i) (Of 1 ∷ v ∷ [])
-    to_target i later v set = two_used body i (Of 1) v (record { by = 3; place = q; earlier = later; loads = second }) set
+insert_used : (t : Thunk) (i : ℕ) (step : Step) → IsStep (insert_steps t) i step → All (SetBefore (insert_steps t) i) (used_values step)
+insert_used t zero step h = used_by (insert_steps t) 0 (Load (t.lock + 1) 0) step h (nothing_used (insert_steps t) 0)
+insert_used t (suc zero) step h = used_by (insert_steps t) 1 (Want 0 (operand t 0)) step h (one_used (insert_steps t) 1 (Of 0) (insert_edition t 1 (omega arith)))
+insert_used t (suc (suc zero)) step h = used_by (insert_steps t) 2 (Fresh 0) step h (one_used (insert_steps t) 2 (Of 0) (insert_edition t 2 (omega arith)))
+insert_used t (suc (suc (suc zero))) step h = used_by (insert_steps t) 3 (Load (t.lock + 2) 1) step h (nothing_used (insert_steps t) 3)
+insert_used t (suc (suc (suc (suc zero)))) step h = used_by (insert_steps t) 4 (Fresh 1) step h (one_used (insert_steps t) 4 (Of 1) (insert_link t 4 (omega arith)))
+insert_used t (suc (suc (suc (suc (suc zero))))) step h = used_by (insert_steps t) 5 (Make (node_init t) 2) step h (node_used (insert_steps t) 5 t)
+insert_used t (suc (suc (suc (suc (suc (suc zero)))))) step h = used_by (insert_steps t) 6 Stamp step h (nothing_used (insert_steps t) 6)
+insert_used t (suc (suc (suc (suc (suc (suc (suc zero))))))) step h = used_by (insert_steps t) 7 (Store 1 (Made 2)) step h (two_used (insert_steps t) 7 (Of 1) (Made 2) (insert_link t 7 (omega arith)) (record { by = 5; init = node_init t; earlier = omega arith; makes = refl }))
+insert_used t (suc (suc (suc (suc (suc (suc (suc (suc zero)))))))) step h = used_by (insert_steps t) 8 (Store 0 (Const 0)) step h (two_used (insert_steps t) 8 (Of 0) (Const 0) (insert_edition t 8 (omega arith)) tt)
+insert_used t (suc (suc (suc (suc (suc (suc (suc (suc (suc zero))))))))) step h = used_by (insert_steps t) 9 (Answer (1 * 2 ^ 32)) step h (nothing_used (insert_steps t) 9)
+insert_used t (suc (suc (suc (suc (suc (suc (suc (suc (suc (suc i)))))))))) step h = absurd (cc)
 
-uses : (k : Kind) (t : Thunk) → Each (IsUsed (steps_for k t)) (steps_for k t)
-uses Look t = let body = read_steps t in let e = t.lock + 1 in
-    (unused body e e 0, (of_edition body e e refl 1 (omega arith), (unused body e e 2, (unused body e e 3, tt))))
-uses Insert t = let body = insert_steps t in let e = t.lock + 1 in let p = t.lock + 2 in
-    (unused body e p 0, (of_edition body e p refl 1 (omega arith), (of_edition body e p refl 2 (omega arith), (unused body e p 3,
-    (of_target body e p refl 4 (omega arith), (node_used body 5 t, (unused body e p 6, (to_target body e p refl 7 (omega arith) (Made 2)
-    (record { by = 5; init = node_init t; earlier = omega arith; makes = refl }), (to_edition body e p refl 8 (omega arith),
-    (unused body e p 9, tt))))))))))
-uses Remove t = let body = remove_steps t in let e = t.lock + 1 in let p = operand t 1 in
-    (unused body e p 0, (of_edition body e p refl 1 (omega arith), (of_edition body e p refl 2 (omega arith), (unused body e p 3,
-    (of_target body e p refl 4 (omega arith), (unused body e p 5, (to_target body e p refl 6 (omega arith) (Const (operand t 3)) tt,
-    (to_edition body e p refl 7 (omega arith), (unused body e p 8, (unused body e p 9, tt))))))))))
-uses Set t = let body = set_steps t in let e = t.lock + 1 in let p = operand t 1 in
-    (unused body e p 0, (of_edition body e p refl 1 (omega arith), (of_edition body e p refl 2 (omega arith), (unused body e p 3,
-    (of_target body e p refl 4 (omega arith), (unused body e p 5, (to_target body e p refl 6 (omega arith) (Const (operand t 2)) tt,
-    (to_edition body e p refl 7 (omega arith), (unused body e p 8, tt)))))))))
+-- register 0 holds the edition's word, and register 1 that of the link
+remove_edition : (t : Thunk) (i : ℕ) → 0 < i → LoadedBefore (remove_steps t) i 0
+remove_edition t i positive = record { by = 0; place = t.lock + 1; earlier = positive; loads = refl }
 
-used_in : (k : Kind) (t : Thunk) (i : ℕ) (step : Step) → IsStep (steps_for k t) i step → IsUsed (steps_for k t) i step
-used_in k t = each_at (IsUsed (steps_for k t)) (steps_for k t) (uses k t)
+remove_link : (t : Thunk) (i : ℕ) → 3 < i → LoadedBefore (remove_steps t) i 1
+remove_link t i later = record { by = 3; place = operand t 1; earlier = later; loads = refl }
+
+remove_used : (t : Thunk) (i : ℕ) (step : Step) → IsStep (remove_steps t) i step → All (SetBefore (remove_steps t) i) (used_values step)
+remove_used t zero step h = used_by (remove_steps t) 0 (Load (t.lock + 1) 0) step h (nothing_used (remove_steps t) 0)
+remove_used t (suc zero) step h = used_by (remove_steps t) 1 (Want 0 (operand t 0)) step h (one_used (remove_steps t) 1 (Of 0) (remove_edition t 1 (omega arith)))
+remove_used t (suc (suc zero)) step h = used_by (remove_steps t) 2 (Fresh 0) step h (one_used (remove_steps t) 2 (Of 0) (remove_edition t 2 (omega arith)))
+remove_used t (suc (suc (suc zero))) step h = used_by (remove_steps t) 3 (Load (operand t 1) 1) step h (nothing_used (remove_steps t) 3)
+remove_used t (suc (suc (suc (suc zero)))) step h = used_by (remove_steps t) 4 (Fresh 1) step h (one_used (remove_steps t) 4 (Of 1) (remove_link t 4 (omega arith)))
+remove_used t (suc (suc (suc (suc (suc zero))))) step h = used_by (remove_steps t) 5 Stamp step h (nothing_used (remove_steps t) 5)
+remove_used t (suc (suc (suc (suc (suc (suc zero)))))) step h = used_by (remove_steps t) 6 (Store 1 (Const (operand t 3))) step h (two_used (remove_steps t) 6 (Of 1) (Const (operand t 3)) (remove_link t 6 (omega arith)) tt)
+remove_used t (suc (suc (suc (suc (suc (suc (suc zero))))))) step h = used_by (remove_steps t) 7 (Store 0 (Const 0)) step h (two_used (remove_steps t) 7 (Of 0) (Const 0) (remove_edition t 7 (omega arith)) tt)
+remove_used t (suc (suc (suc (suc (suc (suc (suc (suc zero)))))))) step h = used_by (remove_steps t) 8 (Retire (operand t 2)) step h (nothing_used (remove_steps t) 8)
+remove_used t (suc (suc (suc (suc (suc (suc (suc (suc (suc zero))))))))) step h = used_by (remove_steps t) 9 (Answer (4 * 2 ^ 32)) step h (nothing_used (remove_steps t) 9)
+remove_used t (suc (suc (suc (suc (suc (suc (suc (suc (suc (suc i)))))))))) step h = absurd (cc)
+
+-- register 0 holds the edition's word, and register 1 that of the value
+set_edition : (t : Thunk) (i : ℕ) → 0 < i → LoadedBefore (set_steps t) i 0
+set_edition t i positive = record { by = 0; place = t.lock + 1; earlier = positive; loads = refl }
+
+set_value : (t : Thunk) (i : ℕ) → 3 < i → LoadedBefore (set_steps t) i 1
+set_value t i later = record { by = 3; place = operand t 1; earlier = later; loads = refl }
+
+set_used : (t : Thunk) (i : ℕ) (step : Step) → IsStep (set_steps t) i step → All (SetBefore (set_steps t) i)
+    (used_values step)
+set_used t zero step h = used_by (set_steps t) 0 (Load (t.lock + 1) 0) step h (nothing_used (set_steps t) 0)
+set_used t (suc zero) step h = used_by (set_steps t) 1 (Want 0 (operand t 0)) step h
+    (one_used (set_steps t) 1 (Of 0) (set_edition t 1 (omega arith)))
+set_used t (suc (suc zero)) step h = used_by (set_steps t) 2 (Fresh 0) step h
+    (one_used (set_steps t) 2 (Of 0) (set_edition t 2 (omega arith)))
+set_used t (suc (suc (suc zero))) step h = used_by (set_steps t) 3 (Load (operand t 1) 1) step h
+    (nothing_used (set_steps t) 3)
+set_used t (suc (suc (suc (suc zero)))) step h = used_by (set_steps t) 4 (Fresh 1) step h
+    (one_used (set_steps t) 4 (Of 1) (set_value t 4 (omega arith)))
+set_used t (suc (suc (suc (suc (suc zero))))) step h = used_by (set_steps t) 5 Stamp step h
+    (nothing_used (set_steps t) 5)
+set_used t (suc (suc (suc (suc (suc (suc zero)))))) step h = used_by (set_steps t) 6 (Store 1 (Const (operand t 2)))
+    step h (two_used (set_steps t) 6 (Of 1) (Const (operand t 2)) (set_value t 6 (omega arith)) tt)
+set_used t (suc (suc (suc (suc (suc (suc (suc zero))))))) step h = used_by (set_steps t) 7 (Store 0 (Const 0)) step h
+    (two_used (set_steps t) 7 (Of 0) (Const 0) (set_edition t 7 (omega arith)) tt)
+set_used t (suc (suc (suc (suc (suc (suc (suc (suc zero)))))))) step h = used_by (set_steps t) 8 (Answer (operand t 3))
+    step h (nothing_used (set_steps t) 8)
+set_used t (suc (suc (suc (suc (suc (suc (suc (suc (suc i))))))))) step h = absurd (cc)
 
 -- the phases of a body's steps
 abbrev phase_for : Kind → ℕ → ℕ
@@ -119,16 +164,27 @@ set_once k t i j reg earlier later lt a b c d =
 abbrev IsStore : Thunk → Half → ℕ → ℕ → Value → Type 0
 IsStore t h j r v = IsOf t h j (Store r v)
 
-store_in : (k : Kind) (t : Thunk) (j r : ℕ) (v : Value) → IsStep (steps_for k t) j (Store r v) → IsStore t (half_of k t) j r v
-store_in k t j r v = each_at (IsOf t (half_of k t)) (steps_for k t) (steps_in k t) j (Store r v)
+store_in : (k : Kind) (t : Thunk) (j r : ℕ) (v : Value) → IsStep (steps_for k t) j (Store r v)
+    → IsStore t (half_of k t) j r v
+store_in k t j r v h = step_in k t j (Store r v) h
 
 -- what a half stores to was tested before
 fresh_by : (t : Thunk) (body : List Step) (h : Half) → IsStep body (suc h.load) (Fresh h.target_reg)
     → IsStep body h.wanted (Fresh h.edition_reg) → suc h.load < h.change → h.wanted < h.edition
     → (i reg : ℕ) (v : Value) → IsStore t h i reg v → FreshBefore body i reg
 fresh_by t body h target edition late later i reg v stores = ⊎_elim
-    (λ a. record { by = suc h.load; earlier = (let at = a.0 in omega arith); tests = target ∙ ap (λ r. Some (Fresh r)) (sym a.1) })
-    (λ b. record { by = h.wanted; earlier = (let at = b.0 in omega arith); tests = edition ∙ ap (λ r. Some (Fresh r)) (sym b.1) })
+    (λ a. record {
+      by = suc h.load;
+      earlier = (let at = a.0 in omega arith);
+      tests = target
+          ∙ ap (λ r. Some (Fresh r)) (sym a.1);
+    })
+    (λ b. record {
+      by = h.wanted;
+      earlier = (let at = b.0 in omega arith);
+      tests = edition
+          ∙ ap (λ r. Some (Fresh r)) (sym b.1);
+    })
     stores.1
 
 -- of two Stores of a half one is to the place that it changes, and one to the edition
@@ -149,7 +205,7 @@ read_shaped t = record {
   makes = omega arith;
   stamps = refl;
   answers = refl;
-  used = used_in Look t;
+  used = read_used t;
   within = λ i step h. grind arith;
   set_once = set_once Look t;
   fresh = λ i reg value h. absurd (grind arith);
@@ -163,10 +219,11 @@ insert_shaped t = record {
   makes = omega arith;
   stamps = refl;
   answers = refl;
-  used = used_in Insert t;
+  used = insert_used t;
   within = λ i step h. grind arith;
   set_once = set_once Insert t;
-  fresh = λ i reg v h. fresh_by t (insert_steps t) (half_of Insert t) refl refl (omega arith) (omega arith) i reg v (store_in Insert t i reg v h);
+  fresh = λ i reg v h. fresh_by t (insert_steps t) (half_of Insert t) refl refl (omega arith) (omega arith) i reg v
+      (store_in Insert t i reg v h);
   stored_once = λ i j a b v w lt x y e. grind arith;
 }
 
@@ -177,10 +234,11 @@ remove_shaped t apart = record {
   makes = omega arith;
   stamps = refl;
   answers = refl;
-  used = used_in Remove t;
+  used = remove_used t;
   within = λ i step h. grind arith;
   set_once = set_once Remove t;
-  fresh = λ i reg v h. fresh_by t (remove_steps t) (half_of Remove t) refl refl (omega arith) (omega arith) i reg v (store_in Remove t i reg v h);
+  fresh = λ i reg v h. fresh_by t (remove_steps t) (half_of Remove t) refl refl (omega arith) (omega arith) i reg v
+      (store_in Remove t i reg v h);
   stored_once = λ i j a b v w lt x y e. apart (two_places t (remove_steps t) (half_of Remove t) i j a b v w lt
       (store_in Remove t i a v x) (store_in Remove t j b w y) e);
 }
@@ -192,10 +250,11 @@ set_shaped t apart = record {
   makes = omega arith;
   stamps = refl;
   answers = refl;
-  used = used_in Set t;
+  used = set_used t;
   within = λ i step h. grind arith;
   set_once = set_once Set t;
-  fresh = λ i reg v h. fresh_by t (set_steps t) (half_of Set t) refl refl (omega arith) (omega arith) i reg v (store_in Set t i reg v h);
+  fresh = λ i reg v h. fresh_by t (set_steps t) (half_of Set t) refl refl (omega arith) (omega arith) i reg v
+      (store_in Set t i reg v h);
   stored_once = λ i j a b v w lt x y e. apart (two_places t (set_steps t) (half_of Set t) i j a b v w lt
       (store_in Set t i a v x) (store_in Set t j b w y) e);
 }

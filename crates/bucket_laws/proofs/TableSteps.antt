@@ -18,7 +18,7 @@ use Rattle.body_terms.specs.declared.value.Init.{Init}
 use Rattle.body_terms.specs.declared.step.Step.{Step}
 use Rattle.body_terms.specs.declared.step.Step.TheVariants.{Load, Make, Store, Retire}
 use Rattle.table_words.specs.declared.layout.Layout.{Layout}
-use Rattle.structure_laws.specs.Scene.{Section, Status, Free, Live, Retired, Scene, with_status, passes, sets}
+use Rattle.structure_laws.specs.Scene.{Section, Status, Live, Retired, Scene, with_status, passes, sets}
 use Rattle.structure_laws.specs.Sections.{Here, IsStep, value_in}
 use Rattle.structure_laws.specs.Cells.{Links}
 use Rattle.structure_laws.specs.Sound.{Sound}
@@ -26,7 +26,7 @@ use Rattle.structure_laws.specs.Keeps.{IsPrepared}
 use Rattle.structure_laws.proofs.Changes.{upd_same, upd_other, upd_some}
 use Rattle.structure_laws.proofs.Progress.{stepped}
 use Rattle.bucket_laws.specs.Walk.{Walk, cell_at}
-use Rattle.bucket_laws.specs.Halves.{Half, HasHalf, IsMaking, IsTaking, IsPending, Owns, Insert}
+use Rattle.bucket_laws.specs.Halves.{Half, HasHalf, IsMaking, IsTaking, IsPending, Owns, OwnsBy, Insert}
 use Rattle.bucket_laws.specs.Buckets.{IsTargetOf, IsWalked, walk_of, IsMade, IsTaken, BucketsKept, table}
 use Rattle.bucket_laws.proofs.Halves.{IsOf, half_is, number_is, stored_for, node_init, step_of, half_step}
 use Rattle.bucket_laws.proofs.Places.{is_node_link}
@@ -43,15 +43,18 @@ module _ (buckets : ℕ) (bucket : ℕ → ℕ) (layout : Layout) (s : Scene) (k
 
   -- a slot that a section holds has the operation's key
   making_kind : (x : Section) (h : Half) → HasHalf x h → IsMaking x h → h.kind ≡ Insert
-  making_kind x h has making = let early = making.0 in let late = making.1 in (half_is x.thunk h has).insert.1 (omega arith)
+  making_kind x h has making = let early = making.0 in let late = making.1 in (half_is x.thunk h has).insert.1
+      (omega arith)
 
   pub owned_key : (sound : Sound (table buckets bucket) layout s) (d : ℕ) (x : Section) (t : ℕ) → s.section d ≡ Some x → Owns x t → value_of (s.cells (cell_at buckets bucket t 1)) ≡ key_of x.op
   owned_key sound d x t here owns = ⊎_elim
       (λ new. let made = kept.made d x owns.0 here owns.1 new.0 in
       let number = number_is x.thunk owns.0 owns.1 Insert (making_kind x owns.0 owns.1 new.0) in
       let named = ((fit buckets bucket layout s sound kept d x here).insert number).1 in
-      ap (λ t. value_of (s.cells (cell_at buckets bucket t 1))) (suc_equal t made.0 (sym new.1 ∙ made.1)) ∙ made.2.key ∙ named.3 ∙ sym named.2.0)
-      (λ old. ap (λ t. value_of (s.cells (cell_at buckets bucket t 1))) (sym old.1) ∙ (kept.taken d x owns.0 here owns.1 old.0).key) owns.2
+      ap (λ t. value_of (s.cells (cell_at buckets bucket t 1))) (suc_equal t made.0 (sym new.1 ∙ made.1)) ∙ made.2.key
+      ∙ named.3 ∙ sym named.2.0)
+      (λ old. ap (λ t. value_of (s.cells (cell_at buckets bucket t 1))) (sym old.1)
+      ∙ (kept.taken d x owns.0 here owns.1 old.0).key) owns.2
 
   -- so no two sections hold one slot
   pub owned_once : (sound : Sound (table buckets bucket) layout s) (d e : ℕ) (x y : Section) (t : ℕ) → s.section d ≡ Some x → s.section e ≡ Some y → Owns x t → Owns y t → d ≡ e
@@ -69,12 +72,14 @@ module _ (buckets : ℕ) (bucket : ℕ → ℕ) (small : (key : ℕ) → bucket 
 
   step_kept : (status : ℕ → Status) (reg : ℕ → ℕ) → ((i : ℕ) → IsPending x i → IsPending (stepped x reg) i)
       → ((t : ℕ) → kept.on t ≡ true → status t ≡ Live)
-      → ((h : Half) → HasHalf x h → IsMaking (stepped x reg) h → (t : ℕ) × (reg h.node_reg ≡ suc t) × IsMade buckets bucket s.cells x.thunk t)
-      → ((h : Half) → HasHalf x h → IsTaking (stepped x reg) h → IsTaken buckets bucket s.cells kept.on (operand x.thunk 2) (key_of x.op))
-      → ((t : ℕ) → Owns (stepped x reg) t → (status t ≡ Live) × (kept.on t ≡ false))
+      → ((h : Half) → HasHalf x h → IsMaking (stepped x reg) h → (t : ℕ) × (reg h.node_reg ≡ suc t)
+      × IsMade buckets bucket s.cells x.thunk t)
+      → ((h : Half) → HasHalf x h → IsTaking (stepped x reg) h → IsTaken buckets bucket s.cells kept.on
+      (operand x.thunk 2) (key_of x.op))
+      → ((h : Half) → HasHalf x h → (t : ℕ) → OwnsBy (stepped x reg) h t → (status t ≡ Live) × (kept.on t ≡ false))
       → ((e : ℕ) (z : Section) (t : ℕ) → e ≢ d → s.section e ≡ Some z → Owns z t → status t ≡ Live)
       → ((t : ℕ) → status t ≡ Live → (s.status t ≡ Live) ⊎ Owns (stepped x reg) t)
-      → ((t : ℕ) → status t ≡ Live → Owns x t → Owns (stepped x reg) t)
+      → ((h : Half) → HasHalf x h → (t : ℕ) → status t ≡ Live → OwnsBy x h t → OwnsBy (stepped x reg) h t)
       → ((q y t : ℕ) → status q ≡ Retired y → s.epoch ≤ y + 1 → value_of (s.cells (cell_at buckets bucket q 3)) ≡ suc t → (status t ≡ Live) ⊎ ((z : ℕ) × (status t ≡ Retired z) × (y ≤ z)))
       → BucketsKept buckets bucket layout (next_scene status reg)
   step_kept status reg quiet on_live made taken held others new own limbo = record {
@@ -86,18 +91,26 @@ module _ (buckets : ℕ) (bucket : ℕ → ℕ) (small : (key : ℕ) → bucket 
     sections = λ e z h. ⊎_elim (λ same. subst (λ z. IsWalked buckets bucket (next_scene status reg) kept.on kept.rank z.op (walk_of buckets bucket layout z.op z.readings)) same.1 (walked x.op (walk_of buckets bucket layout x.op x.readings) (kept.sections d x here)))
         (λ other. walked z.op (walk_of buckets bucket layout z.op z.readings) (kept.sections e z other.1)) (upd_some s.section d e (stepped x reg) z h);
     made = λ e z h at has making. ⊎_elim
-        (λ same. subst (λ z. (h : Half) → HasHalf z h → IsMaking z h → (t : ℕ) × (z.reg h.node_reg ≡ suc t) × IsMade buckets bucket s.cells z.thunk t) same.1 made h has making)
+        (λ same. subst (λ z. (h : Half) → HasHalf z h → IsMaking z h → (t : ℕ) × (z.reg h.node_reg ≡ suc t)
+        × IsMade buckets bucket s.cells z.thunk t) same.1 made h has making)
         (λ other. kept.made e z h other.1 has making) (upd_some s.section d e (stepped x reg) z at);
     target = λ e z h at has changes low. ⊎_elim
-        (λ same. subst (λ z. (h : Half) → HasHalf z h → h.change < h.edition → h.load ≤ z.at → IsTargetOf buckets bucket h.kind s.cells kept.on (bucket (key_of z.op)) h.target) same.1 target h has changes low)
+        (λ same. subst (λ z. (h : Half) → HasHalf z h → h.change < h.edition → h.load ≤ z.at
+        → IsTargetOf buckets bucket h.kind s.cells kept.on (bucket (key_of z.op)) h.target) same.1 target h has
+        changes low)
         (λ other. kept.target e z h other.1 has changes low) (upd_some s.section d e (stepped x reg) z at);
     taken = λ e z h at has taking. ⊎_elim
-        (λ same. subst (λ z. (h : Half) → HasHalf z h → IsTaking z h → IsTaken buckets bucket s.cells kept.on (operand z.thunk 2) (key_of z.op)) same.1 taken h has taking)
+        (λ same. subst (λ z. (h : Half) → HasHalf z h → IsTaking z h → IsTaken buckets bucket s.cells kept.on
+        (operand z.thunk 2) (key_of z.op)) same.1 taken h has taking)
         (λ other. kept.taken e z h other.1 has taking) (upd_some s.section d e (stepped x reg) z at);
-    owned = λ e z t at owns. ⊎_elim (λ same. held t (subst (λ z. Owns z t) (sym same.1) owns))
-        (λ other. (others e z t other.0 other.1 owns, (kept.owned e z t other.1 owns).1)) (upd_some s.section d e (stepped x reg) z at);
-    live = λ t now. ⊎_elim (λ live. live_cases buckets bucket layout s kept t live inl (λ e z there owns. dite (ℕ_discrete e d)
-        (λ same. mine t (own t now (subst (λ z. Owns z t) (itself e z there same) owns)))
+    owned = λ e z t at owns. ⊎_elim (λ same. let mine : Owns (stepped x reg) t = subst (λ z. Owns z t) (sym same.1) owns in
+        held mine.0 mine.1 t mine.2)
+        (λ other. (others e z t other.0 other.1 owns, (kept.owned e z t other.1 owns).1))
+        (upd_some s.section d e (stepped x reg) z at);
+    live = λ t now. ⊎_elim (λ live. live_cases buckets bucket layout s kept t live inl
+        (λ e z there owns. dite (ℕ_discrete e d)
+        (λ same. let own_now : Owns x t = subst (λ z. Owns z t) (itself e z there same) owns in
+        mine t (own_now.0, own_now.1, own own_now.0 own_now.1 t now own_now.2))
         (λ ne. inr (e, z, upd_other s.section d e (Some (stepped x reg)) ne ∙ there, owns)))) (mine t) (new t now);
     limbo = limbo;
   }
@@ -112,40 +125,45 @@ module _ (buckets : ℕ) (bucket : ℕ → ℕ) (small : (key : ℕ) → bucket 
           (quiet (bucket (key_of op)) (subst (λ z. IsPending z (bucket (key_of op))) (itself e z there same) pending)))
           (λ ne. none e z (upd_other s.section d e (Some (stepped x reg)) ne ∙ there) pending))
 
-      target : (h : Half) → HasHalf x h → h.change < h.edition → h.load ≤ suc x.at → IsTargetOf buckets bucket h.kind s.cells kept.on (bucket (key_of x.op)) h.target
+      target : (h : Half) → HasHalf x h → h.change < h.edition → h.load ≤ suc x.at
+          → IsTargetOf buckets bucket h.kind s.cells kept.on (bucket (key_of x.op)) h.target
       target h has changes low =
           let half = half_is x.thunk h has in
           let known = half.order.0 in
           let loaded = half.order.1 in
           let making = half.order.2 in
-          ⊎_elim (λ now. target_now buckets bucket small layout s sound kept d x h here has changes (omega arith) (omega arith))
+          ⊎_elim (λ now. target_now buckets bucket small layout s sound kept d x h here has changes (omega arith)
+          (omega arith))
           (λ before. kept.target d x h here has changes (omega arith)) (below_or h.load (suc x.at) low)
 
+  -- it comes to this step now
+  abbrev IsNow : Step → Type 0
+  IsNow b = IsStep (table buckets bucket) x x.at b
+
   -- the step at this place, where it is known
-  step_at : (b : Step) (j : ℕ) (known : Step) → IsStep (table buckets bucket) x x.at b → IsStep (table buckets bucket) x j known → x.at ≡ j → b ≡ known
+  step_at : (b : Step) (j : ℕ) (known : Step) → IsNow b → IsStep (table buckets bucket) x j known → x.at ≡ j → b ≡ known
   step_at b j known h stands e = some_inj (sym h ∙ ap (slice_get (table_steps x.thunk)) e ∙ stands)
 
   -- a step that is no Store stands neither at a half's change nor at its edition
-  module _ (b : Step) (step : IsStep (table buckets bucket) x x.at b) (no_store : (r : ℕ) (v : Value) → b ≢ Store r v) where
+  module _ (b : Step) (step : IsNow b) (no_store : (r : ℕ) (v : Value) → b ≢ Store r v) where
     no_change : (h : Half) → HasHalf x h → h.made < h.retire → x.at ≡ h.change → ⊥
-    no_change h has moves at = let half = half_is x.thunk h has in no_store h.target_reg (stored_for h.kind x.thunk)
-        (step_at b h.change (Store h.target_reg (stored_for h.kind x.thunk)) step (half.steps (half.changing moves)).2 at)
+    no_change h has moves at = let half = half_is x.thunk h has in let value = stored_for h.kind x.thunk in
+        no_store h.target_reg value
+        (step_at b h.change (Store h.target_reg value) step (half.steps (half.changing moves)).2 at)
+
+    no_edition : (h : Half) → HasHalf x h → h.change < h.edition → x.at ≡ h.edition → ⊥
+    no_edition h has changes at = no_store h.edition_reg (Const 0)
+        (step_at b h.edition (Store h.edition_reg (Const 0)) step ((half_is x.thunk h has).steps changes).3 at)
 
     -- so it leaves a change pending
+    before_edition : (h : Half) → HasHalf x h → h.change < x.at → x.at ≤ h.edition → suc x.at ≤ h.edition
+    before_edition h has late early = ⊎_elim (λ now. absurd (no_edition h has (omega arith) now)) (λ before. before)
+        (below_or x.at h.edition early)
+
     still_pending : (reg : ℕ → ℕ) (i : ℕ) → IsPending x i → IsPending (stepped x reg) i
-    still_pending reg i pending =
-        let h = pending.0 in
-        let late : h.change < x.at = pending.3 in
-        let early : x.at ≤ h.edition = pending.4 in (
-          h,
-          pending.1,
-          pending.2,
-          omega arith,
-          ⊎_elim
-              (λ last. absurd (no_store h.edition_reg (Const 0) (step_at b h.edition (Store h.edition_reg (Const 0)) step
-              ((half_is x.thunk h pending.1).steps (omega arith)).3 last)))
-              (λ before. before) (below_or x.at h.edition early),
-        )
+    still_pending reg i pending = let late : pending.0.change < x.at = pending.3 in
+        let early = before_edition pending.0 pending.1 late pending.4 in
+        (pending.0, pending.1, pending.2, omega arith, early)
 
     -- and what was taken out before it still is
     still_taken : (h : Half) → HasHalf x h → IsTaking (stepped x x.reg) h → IsTaking x h
@@ -153,7 +171,8 @@ module _ (buckets : ℕ) (bucket : ℕ → ℕ) (small : (key : ℕ) → bucket 
         let late : h.change ≤ x.at = (let low = taking.0 in omega arith) in
         let early : suc x.at ≤ h.retire = taking.1 in
         let making = (half_is x.thunk h has).order.2 in
-        ⊎_elim (λ now. absurd (no_change h has (omega arith) (sym now))) (λ before. (before, omega arith)) (below_or h.change x.at late)
+        ⊎_elim (λ now. absurd (no_change h has (omega arith) (sym now))) (λ before. (before, omega arith))
+        (below_or h.change x.at late)
 
     -- a step that makes and retires nothing either leaves a section what it holds
     module _ (no_make : (init : Init) (r : ℕ) → b ≢ Make init r) (no_retire : (t : ℕ) → b ≢ Retire t) where
@@ -161,122 +180,133 @@ module _ (buckets : ℕ) (bucket : ℕ → ℕ) (small : (key : ℕ) → bucket 
       still_made h has making =
           let late : h.made ≤ x.at = (let low = making.0 in omega arith) in
           let early : suc x.at ≤ h.change = making.1 in
-          ⊎_elim (λ now. absurd (no_make (node_init x.thunk) h.node_reg (step_at b h.made (Make (node_init x.thunk) h.node_reg) step
+          let init = node_init x.thunk in
+          ⊎_elim (λ now. absurd (no_make init h.node_reg (step_at b h.made (Make init h.node_reg) step
           ((half_is x.thunk h has).makes (omega arith)) (sym now))))
           (λ before. (before, omega arith)) (below_or h.made x.at late)
 
-      carried : (t : ℕ) → Owns x t → Owns (stepped x x.reg) t
-      carried t owns = ⊎_elim (λ new. (h, owns.1, inl (on_making new.0, new.1))) (λ old. (h, owns.1, inr (on_taking old.0, old.1))) owns.2
-        where
-          h : Half
-          h = owns.0
+      owned_before : (h : Half) → HasHalf x h → (t : ℕ) → OwnsBy (stepped x x.reg) h t → OwnsBy x h t
+      owned_before h has t (inl new) = inl (still_made h has new.0, new.1)
+      owned_before h has t (inr old) = inr (still_taken h has old.0, old.1)
 
-          on_making : IsMaking x h → IsMaking (stepped x x.reg) h
-          on_making making =
-              let late : h.made < x.at = making.0 in
-              let early : x.at ≤ h.change = making.1 in
-              let taking = (half_is x.thunk h owns.1).order.4 in
-              ⊎_elim (λ now. absurd (no_change h owns.1 (omega arith) now)) (λ before. (omega arith, before)) (below_or x.at h.change early)
-
-          on_taking : IsTaking x h → IsTaking (stepped x x.reg) h
-          on_taking taking =
-              let late : h.change < x.at = taking.0 in
-              let early : x.at ≤ h.retire = taking.1 in
-              ⊎_elim (λ now. absurd (no_retire (operand x.thunk 2) (step_at b h.retire (Retire (operand x.thunk 2)) step
-              ((half_is x.thunk h owns.1).retires (omega arith)) now)))
-              (λ before. (omega arith, before)) (below_or x.at h.retire early)
+      owned_after : (h : Half) → HasHalf x h → (t : ℕ) → OwnsBy x h t → OwnsBy (stepped x x.reg) h t
+      owned_after h has t (inl new) =
+          let late = new.0.0 in let early = new.0.1 in let taking = (half_is x.thunk h has).order.4 in
+          ⊎_elim (λ now. absurd (no_change h has (omega arith) now)) (λ before. inl ((omega arith, before), new.1))
+          (below_or x.at h.change early)
+      owned_after h has t (inr old) =
+          let late = old.0.0 in let early = old.0.1 in let gone = operand x.thunk 2 in
+          ⊎_elim (λ now. absurd (no_retire gone (step_at b h.retire (Retire gone) step
+          ((half_is x.thunk h has).retires (omega arith)) now)))
+          (λ before. inr ((omega arith, before), old.1)) (below_or x.at h.retire early)
 
       -- a Want, a Fresh, a Stamp or an Answer
       pub quiet_kept : BucketsKept buckets bucket layout (passes s d x)
       quiet_kept = step_kept s.status x.reg (still_pending x.reg) kept.on_live
           (λ h has making. kept.made d x h here has (still_made h has making))
           (λ h has taking. kept.taken d x h here has (still_taken h has taking))
-          (λ t owns. kept.owned d x t here (owns.0, owns.1, ⊎_elim (λ new. inl (still_made owns.0 owns.1 new.0, new.1)) (λ old. inr (still_taken owns.0 owns.1 old.0, old.1)) owns.2))
-          (λ e z t ne there owns. (kept.owned e z t there owns).0) (λ t live. inl live) (λ t live owns. carried t owns) kept.limbo
+          (λ h has t owns. kept.owned d x t here (h, has, owned_before h has t owns))
+          (λ e z t ne there owns. (kept.owned e z t there owns).0) (λ t live. inl live)
+          (λ h has t live owns. owned_after h has t owns) kept.limbo
 
-  -- a section before its Make holds no slot
-  owns_none : ((h : Half) → HasHalf x h → x.at ≤ h.made) → (t : ℕ) → Owns x t → ⊥
-  owns_none early t owns =
-      let before = early owns.0 owns.1 in
-      let making = (half_is x.thunk owns.0 owns.1).order.2 in
-      ⊎_elim (λ new. let low = new.0.0 in omega arith) (λ old. let low = old.0.0 in omega arith) owns.2
+  -- a half before its Make holds no slot
+  owns_none : (h : Half) → HasHalf x h → x.at ≤ h.made → (t : ℕ) → OwnsBy x h t → ⊥
+  owns_none h has before t owns = let making = (half_is x.thunk h has).order.2 in
+      ⊎_elim (λ new. let low = new.0.0 in omega arith) (λ old. let low = old.0.0 in omega arith) owns
 
   -- a Load
-  pub load_kept : (p r n : ℕ) → IsStep (table buckets bucket) x x.at (Load p r) → BucketsKept buckets bucket layout (sets s d x r n)
+  pub load_kept : (p r n : ℕ) → IsNow (Load p r) → BucketsKept buckets bucket layout (sets s d x r n)
   load_kept p r n step =
       step_kept s.status (upd x.reg r n) (still_pending (Load p r) step no_store (upd x.reg r n)) kept.on_live
       (λ h has making. absurd (let before = early h has in let late = making.0 in omega arith))
       (λ h has taking. kept.taken d x h here has (still_taken (Load p r) step no_store h has taking))
-      (λ t owns. kept.owned d x t here (owns.0, owns.1, ⊎_elim (λ new. absurd (let before = early owns.0 owns.1 in let late = new.0.0 in omega arith))
-      (λ old. inr (still_taken (Load p r) step no_store owns.0 owns.1 old.0, old.1)) owns.2))
-      (λ e z t ne there owns. (kept.owned e z t there owns).0) (λ t live. inl live) (λ t live owns. absurd (owns_none (λ h has. let before = early h has in omega arith) t owns)) kept.limbo
+      (λ h has t owns. kept.owned d x t here (h, has, owned_before h has t owns))
+      (λ e z t ne there owns. (kept.owned e z t there owns).0) (λ t live. inl live)
+      (λ h has t live owns. absurd (owns_none h has (let before = early h has in omega arith) t owns)) kept.limbo
     where
       no_store : (q : ℕ) (v : Value) → Load p r ≢ Store q v
       no_store q v e = cc
 
       early : (h : Half) → HasHalf x h → suc x.at ≤ h.made
-      early h has =
-          let order = (half_is x.thunk h has).order in
-          ⊎_elim (λ edition. let at = edition.0 in omega (arith, order)) (λ target. let at = target.1 in omega (arith, order))
-          (half_step x.thunk h has x.at (Load p r) step)
+      early h has = let order = (half_is x.thunk h has).order in
+          ⊎_elim (λ edition. let at = edition.0 in omega (arith, order))
+          (λ target. let at = target.1 in omega (arith, order)) (half_step x.thunk h has x.at (Load p r) step)
+
+      owned_before : (h : Half) → HasHalf x h → (t : ℕ) → OwnsBy (stepped x (upd x.reg r n)) h t → OwnsBy x h t
+      owned_before h has t (inl new) = absurd (let before = early h has in let late = new.0.0 in omega arith)
+      owned_before h has t (inr old) = inr (still_taken (Load p r) step no_store h has old.0, old.1)
 
   -- a Make
-  pub make_kept : (t r : ℕ) (init : Init) → IsStep (table buckets bucket) x x.at (Make init r) → IsPrepared (table buckets bucket) layout s x t init → BucketsKept buckets bucket layout (with_status (sets s d x r (suc t)) t Live)
+  pub make_kept : (t r : ℕ) (init : Init) → IsNow (Make init r) → IsPrepared (table buckets bucket) layout s x t init
+      → BucketsKept buckets bucket layout (with_status (sets s d x r (suc t)) t Live)
   make_kept t r init step prepared =
-      let make = step_of x.thunk x.at (Make init r) step in
-      let lt = make.2.0 in
-      let at = make.2.1 in
-      let no_store : (q : ℕ) (v : Value) → Make init r ≢ Store q v = λ q v e. cc in
-      let live_too : (u : ℕ) → s.status u ≡ Live → upd s.status t Live u ≡ Live = λ u live. dite (ℕ_discrete u t) (λ e. upd_same s.status t u Live e) (λ ne. upd_other s.status t u Live ne ∙ live) in
-      let cell : (k : ℕ) (v : Value) → k < 5 → slice_get (node_init x.thunk).cells k ≡ Some v → value_of (s.cells (cell_at buckets bucket t k)) ≡ value_in x.reg v =
-      λ k v low at. prepared.cells k v low (ap (λ init. slice_get init.cells k) make.2.3 ∙ at) in
-      step_kept (upd s.status t Live) (upd x.reg r (suc t)) (still_pending (Make init r) step no_store (upd x.reg r (suc t))) (λ u on. live_too u (kept.on_live u on))
-      (λ h has making. (t, upd_same x.reg r h.node_reg (suc t) (sym (made h has).2), record {
-        key = cell 1 (Const (operand x.thunk 1)) (omega arith) refl;
-        value = cell 2 (Const (operand x.thunk 2)) (omega arith) refl;
-        next = cell 3 (Const (operand x.thunk 3)) (omega arith) refl;
-      }))
-      (λ h has taking. absurd (taking_none h has taking))
-      (λ u owns. ⊎_elim (λ new. let same : u ≡ t = suc_equal u t (sym new.1 ∙ upd_same x.reg r owns.0.node_reg (suc t) (sym (made owns.0 owns.1).2)) in
-      (upd_same s.status t u Live same, off (kept.on u) (ap kept.on (sym same)))) (λ old. absurd (taking_none owns.0 owns.1 old.0)) owns.2)
+      step_kept (upd s.status t Live) (upd x.reg r (suc t)) (still_pending (Make init r) step no_store (upd x.reg r (suc t)))
+      (λ u on. live_too u (kept.on_live u on))
+      (λ h has making. (t, linked h has, filled)) (λ h has taking. absurd (taking_none h has taking)) held
       (λ e z u ne there owns. live_too u (kept.owned e z u there owns).0)
       (λ u live. dite (ℕ_discrete u t)
-      (λ same. inr (make.0, make.1, inl ((omega arith, omega arith), upd_same x.reg r make.0.node_reg (suc t) (sym make.2.2) ∙ ap suc (sym same))))
+      (λ same. let make = step_of x.thunk x.at (Make init r) step in let lt = make.2.0 in let at = make.2.1 in
+      let link = linked make.0 make.1 ∙ ap suc (sym same) in inr (make.0, make.1, inl ((omega arith, omega arith), link)))
       (λ other. inl (sym (upd_other s.status t u Live other) ∙ live)))
-      (λ u live owns. absurd (owns_none (λ h has. let at = (made h has).1 in omega arith) u owns))
-      (λ q y u retired recent leads. dite (ℕ_discrete q t) (λ same. absurd (live_retired _ y (upd_same s.status t q Live same) retired))
+      (λ h has u live owns. absurd (owns_none h has (let at = (made h has).1 in omega arith) u owns))
+      (λ q y u retired recent leads. dite (ℕ_discrete q t)
+      (λ same. absurd (live_retired _ y (upd_same s.status t q Live same) retired))
       (λ other. ⊎_elim (λ live. inl (live_too u live))
       (λ late. dite (ℕ_discrete u t) (λ same. inl (upd_same s.status t u Live same)) (λ ne. inr (late.0, upd_other s.status t u Live ne ∙ late.1, late.2)))
       (kept.limbo q y u (sym (upd_other s.status t q Live other) ∙ retired) recent leads)))
     where
+      no_store : (q : ℕ) (v : Value) → Make init r ≢ Store q v
+      no_store q v e = cc
+
       made : (h : Half) → HasHalf x h → IsOf x.thunk h x.at (Make init r)
       made h has = half_step x.thunk h has x.at (Make init r) step
 
+      linked : (h : Half) → HasHalf x h → upd x.reg r (suc t) h.node_reg ≡ suc t
+      linked h has = upd_same x.reg r h.node_reg (suc t) (sym (made h has).2)
+
+      cell : (k : ℕ) (v : Value) → k < 5 → slice_get (node_init x.thunk).cells k ≡ Some v
+          → value_of (s.cells (cell_at buckets bucket t k)) ≡ value_in x.reg v
+      cell k v low at = prepared.cells k v low
+          (ap (λ init. slice_get init.cells k) (step_of x.thunk x.at (Make init r) step).2.3 ∙ at)
+
+      filled : IsMade buckets bucket s.cells x.thunk t
+      filled = record {
+        key = cell 1 (Const (operand x.thunk 1)) (omega arith) refl;
+        value = cell 2 (Const (operand x.thunk 2)) (omega arith) refl;
+        next = cell 3 (Const (operand x.thunk 3)) (omega arith) refl;
+      }
+
+      live_too : (u : ℕ) → s.status u ≡ Live → upd s.status t Live u ≡ Live
+      live_too u live = dite (ℕ_discrete u t) (λ e. upd_same s.status t u Live e)
+          (λ ne. upd_other s.status t u Live ne ∙ live)
+
       taking_none : (h : Half) → HasHalf x h → IsTaking (stepped x (upd x.reg r (suc t))) h → ⊥
-      taking_none h has taking = let lt = (made h has).0 in let at = (made h has).1 in let late = taking.0 in omega arith
+      taking_none h has taking =
+          let lt = (made h has).0 in let at = (made h has).1 in let late = taking.0 in omega arith
 
       off : (b : Bool) → kept.on t ≡ b → b ≡ false
       off true e = absurd (live_free (s.status t) (kept.on_live t e) prepared.in_hand)
       off false e = refl
 
+      held : (h : Half) → HasHalf x h → (u : ℕ) → OwnsBy (stepped x (upd x.reg r (suc t))) h u
+          → (upd s.status t Live u ≡ Live) × (kept.on u ≡ false)
+      held h has u (inl new) = let same : u ≡ t = suc_equal u t (sym new.1 ∙ linked h has) in
+          (upd_same s.status t u Live same, off (kept.on u) (ap kept.on (sym same)))
+      held h has u (inr old) = absurd (taking_none h has old.0)
+
   -- a Retire
-  pub retire_kept : (t y : ℕ) → IsStep (table buckets bucket) x x.at (Retire t) → ((q z i : ℕ) → i < 5 → s.status q ≡ Retired z → Links (table buckets bucket) s (cell_at buckets bucket q i) t → z ≤ y)
+  pub retire_kept : (t y : ℕ) → IsNow (Retire t)
+      → ((q z i : ℕ) → i < 5 → s.status q ≡ Retired z → Links (table buckets bucket) s (cell_at buckets bucket q i) t → z ≤ y)
       → BucketsKept buckets bucket layout (with_status (passes s d x) t (Retired y))
   retire_kept t y h links =
-      let step = step_of x.thunk x.at (Retire t) h in
-      let lt = step.2.0 in
-      let at = step.2.1 in
-      let no_store : (q : ℕ) (v : Value) → Retire t ≢ Store q v = λ q v e. cc in
-      let owns : Owns x t = (step.0, step.1, inr ((omega arith, omega arith), sym step.2.2)) in
-      let held = kept.owned d x t here owns in
-      let other : (u : ℕ) → u ≢ t → upd s.status t (Retired y) u ≡ s.status u = λ u ne. upd_other s.status t u (Retired y) ne in
-      let on_other : (u : ℕ) → kept.on u ≡ true → u ≢ t = λ u on e. both_ways _ (ap kept.on e ∙ held.1) on in
-      step_kept (upd s.status t (Retired y)) x.reg (still_pending (Retire t) h no_store x.reg) (λ u on. other u (on_other u on) ∙ kept.on_live u on)
+      step_kept (upd s.status t (Retired y)) x.reg (still_pending (Retire t) h no_store x.reg)
+      (λ u on. other u (on_other u on) ∙ kept.on_live u on)
       (λ g has making. absurd (making_none g has making)) (λ g has taking. absurd (taking_none g has taking))
-      (λ u owns'. absurd (⊎_elim (λ new. making_none owns'.0 owns'.1 new.0) (λ old. taking_none owns'.0 owns'.1 old.0) owns'.2))
-      (λ e z u ne there owns'. other u (λ same. ne (owned_once buckets bucket layout s kept sound e d z x t there here (subst (Owns z) same owns') owns)) ∙ (kept.owned e z u there owns').0)
+      (λ g has u owns'. absurd (⊎_elim (λ new. making_none g has new.0) (λ old. taking_none g has old.0) owns'))
+      (λ e z u ne there owns'. other u (λ same. ne (owned_once buckets bucket layout s kept sound e d z x t there here
+      (subst (Owns z) same owns') owns)) ∙ (kept.owned e z u there owns').0)
       (λ u live. inl (sym (other u (kept_apart u live)) ∙ live))
-      (λ u live owns'. absurd (kept_apart u live (sole u owns')))
+      (λ g has u live owns'. absurd (kept_apart u live (sole g has u owns')))
       (λ q z u retired recent leads. dite (ℕ_discrete q t)
       (λ same. let on = next_leads buckets bucket small layout s sound kept q u (ap s.status same ∙ held.0) leads in
       inl (other u (on_other u on) ∙ kept.on_live u on))
@@ -286,6 +316,22 @@ module _ (buckets : ℕ) (bucket : ℕ → ℕ) (small : (key : ℕ) → bucket 
       (λ ne'. inr (late.0, other u ne' ∙ late.1, late.2)))
       (kept.limbo q z u before recent leads)))
     where
+      no_store : (q : ℕ) (v : Value) → Retire t ≢ Store q v
+      no_store q v e = cc
+
+      owns : Owns x t
+      owns = let step = step_of x.thunk x.at (Retire t) h in let lt = step.2.0 in let at = step.2.1 in
+          (step.0, step.1, inr ((omega arith, omega arith), sym step.2.2))
+
+      held : (s.status t ≡ Live) × (kept.on t ≡ false)
+      held = kept.owned d x t here owns
+
+      other : (u : ℕ) → u ≢ t → upd s.status t (Retired y) u ≡ s.status u
+      other u ne = upd_other s.status t u (Retired y) ne
+
+      on_other : (u : ℕ) → kept.on u ≡ true → u ≢ t
+      on_other u on e = both_ways _ (ap kept.on e ∙ held.1) on
+
       kept_apart : (u : ℕ) → upd s.status t (Retired y) u ≡ Live → u ≢ t
       kept_apart u live same = live_retired _ y live (upd_same s.status t u (Retired y) same)
 
@@ -293,13 +339,14 @@ module _ (buckets : ℕ) (bucket : ℕ → ℕ) (small : (key : ℕ) → bucket 
       retired g has = half_step x.thunk g has x.at (Retire t) h
 
       making_none : (g : Half) → HasHalf x g → IsMaking (stepped x x.reg) g → ⊥
-      making_none g has making = let lt = (retired g has).0 in let at = (retired g has).1 in let early = making.1 in omega arith
+      making_none g has making =
+          let lt = (retired g has).0 in let at = (retired g has).1 in let early = making.1 in omega arith
 
       taking_none : (g : Half) → HasHalf x g → IsTaking (stepped x x.reg) g → ⊥
       taking_none g has taking = let at = (retired g has).1 in let early = taking.1 in omega arith
 
       -- no other slot is the section's
-      sole : (u : ℕ) → Owns x u → u ≡ t
-      sole u owns =
-          let here = retired owns.0 owns.1 in
-          ⊎_elim (λ new. absurd (let lt = here.0 in let at = here.1 in let early = new.0.1 in omega arith)) (λ old. sym old.1 ∙ sym here.2) owns.2
+      sole : (g : Half) → HasHalf x g → (u : ℕ) → OwnsBy x g u → u ≡ t
+      sole g has u (inl new) = absurd (let lt = (retired g has).0 in let at = (retired g has).1 in let early = new.0.1 in
+          omega arith)
+      sole g has u (inr old) = sym old.1 ∙ sym (retired g has).2

@@ -1,5 +1,5 @@
 -- The Stores of a hash table's section keep what the table keeps.
-use Rattle.std.proofs.Common.{◌≡◌, ◌≢◌, ℕ, zero, suc, ◌+◌, ◌*◌, ◌<◌, ◌≤◌, Bool, true, false, refl, sym, ap, ◌∙◌, subst, inl, inr, ⊎_elim, arith}
+use Rattle.std.proofs.Common.{◌≡◌, ◌≢◌, ℕ, suc, ◌+◌, ◌*◌, ◌<◌, ◌≤◌, Bool, true, false, refl, sym, ap, ◌∙◌, subst, inl, inr, ⊎_elim, arith}
 use Rattle.std.specs.Prelude.{◌^◌, ◌⊎◌, Some}
 use Rattle.std.proofs.lemmas.Bool.{both_ways}
 use mathlib.Core.Logic.{dite}
@@ -16,9 +16,8 @@ use Rattle.body_terms.specs.declared.value.Value.TheVariants.{Const, Made}
 use Rattle.body_terms.specs.declared.step.Step.TheVariants.{Load, Store}
 use Rattle.table_words.specs.declared.layout.Layout.{Layout}
 use Rattle.table_words.specs.Limits.{IsWithinLimits}
-use Rattle.table_words.specs.Places.{slot_count}
 use Rattle.bucket_bodies.specs.Table.{table_steps}
-use Rattle.structure_laws.specs.Scene.{Cells, Readings, Section, Status, Free, Live, Retired, Scene, with_cell, passes}
+use Rattle.structure_laws.specs.Scene.{Cells, Readings, Section, Live, Retired, Scene, with_cell, passes}
 use Rattle.structure_laws.specs.Sections.{Here, IsStep, value_in}
 use Rattle.structure_laws.specs.Sound.{IsRead, Sound}
 use Rattle.structure_laws.proofs.Changes.{upd_same, upd_other, upd_some, value-next_word, version-next_word, value_small}
@@ -26,11 +25,13 @@ use Rattle.structure_laws.proofs.Limits.{links_small, value-small}
 use Rattle.structure_laws.proofs.Progress.{stepped}
 use Rattle.bucket_laws.specs.Chain.{Nodes, Chains, with_head, with_next, with_value}
 use Rattle.bucket_laws.specs.Walk.{Walk, cell_at}
-use Rattle.bucket_laws.specs.Halves.{Kind, Look, Insert, Remove, Set, Half, HasHalf, IsMaking, IsTaking, IsPending, Owns, OwnsBy}
-use Rattle.bucket_laws.specs.Buckets.{nodes, IsNode, IsTargetOf, IsWalked, walk_of, bounds, Knows, IsMade, IsTaken, BucketsKept, table}
+use Rattle.bucket_laws.specs.Halves.{Kind, Look, Insert, Remove, Set, Half, HasHalf, IsMaking, IsTaking}
+use Rattle.bucket_laws.specs.Halves.{IsPending, Owns, OwnsBy}
+use Rattle.bucket_laws.specs.Buckets.{nodes, IsNode, IsTargetOf, IsWalked, walk_of, bounds, Knows, IsMade}
+use Rattle.bucket_laws.specs.Buckets.{IsTaken, BucketsKept, table}
 use Rattle.bucket_laws.proofs.Chain.{insert, top_of, remove_first, remove_next, chains_agree}
 use Rattle.bucket_laws.proofs.Elsewhere.{IsElsewhere, knows_on, edition_seen}
-use Rattle.bucket_laws.proofs.Halves.{IsHalf, half_is, one_half, number_is, place_is, stored_for, step_of, load_place}
+use Rattle.bucket_laws.proofs.Halves.{IsHalf, half_is, one_half, number_is, stored_for, step_of, load_place}
 use Rattle.bucket_laws.proofs.NodeChanges.{head_changed, next_changed, value_changed, none_changed}
 use Rattle.bucket_laws.proofs.Sections.{IsPlaceIn, target_place, target_stays, fit, one_bucket, half_lock, making_known}
 use Rattle.bucket_laws.proofs.Sections.{insert_head, insert_missing, remove_target, IsTarget}
@@ -192,11 +193,15 @@ module _ (buckets : ℕ) (bucket : ℕ → ℕ) (small : (key : ℕ) → bucket 
         let out = (kept.owned e z was.0 there (g, has', inl (making, was.1))).1 in
         let same : (k : ℕ) → 1 ≤ k → k ≤ 3 → value_of (cells (cell_at buckets bucket was.0 k))
         ≡ value_of (s.cells (cell_at buckets bucket was.0 k)) =
-        λ k low high. ap value_of (cell_stays p word change.place was.0 k (inl out) low high) in (was.0, was.1, record {
-          key = same 1 (omega arith) (omega arith) ∙ was.2.key;
-          value = same 2 (omega arith) (omega arith) ∙ was.2.value;
-          next = same 3 (omega arith) (omega arith) ∙ was.2.next;
-        })
+        λ k low high. ap value_of (cell_stays p word change.place was.0 k (inl out) low high) in (
+          was.0,
+          was.1,
+          record {
+            key = same 1 (omega arith) (omega arith) ∙ was.2.key;
+            value = same 2 (omega arith) (omega arith) ∙ was.2.value;
+            next = same 3 (omega arith) (omega arith) ∙ was.2.next;
+          },
+        )
 
     taken_on : (e : ℕ) (z : Section) (g : Half) → e ≢ d → s.section e ≡ Some z → HasHalf z g → IsTaking z g
         → IsTaken buckets bucket cells on (operand z.thunk 2) (key_of z.op)
@@ -217,7 +222,8 @@ module _ (buckets : ℕ) (bucket : ℕ → ℕ) (small : (key : ℕ) → bucket 
       on_live = change.on_live;
       readers = λ r readings op at. walked op readings (sound.readers r readings at) (kept.readers r readings op at);
       sections = λ e z at. ⊎_elim
-          (λ same. subst (λ z. IsWalked buckets bucket (stored_scene cells) on rank z.op (walk_in z.op z.readings)) same.1
+          (λ same. subst (λ z. IsWalked buckets bucket (stored_scene cells) on rank z.op (walk_in z.op z.readings))
+          same.1
           (walked x.op x.readings (sound.published d x here) (kept.sections d x here)))
           (λ other. walked z.op z.readings (sound.published e z other.1) (kept.sections e z other.1)) (changed e z at);
       made = λ e z g at has' making. ⊎_elim
@@ -236,8 +242,12 @@ module _ (buckets : ℕ) (bucket : ℕ → ℕ) (small : (key : ℕ) → bucket 
           (λ g has' taking. (change.taken (still_held g has' taking)).2) g has' taking)
           (λ other. taken_on e z g other.0 other.1 has' taking) (changed e z at);
       owned = λ e z t at owns. ⊎_elim (λ same. held t (subst (λ z. Owns z t) (sym same.1) owns))
-          (λ other. let was = kept.owned e z t other.1 owns in (was.0, change.out t was.1
-          (λ mine. other.0 (owned_once buckets bucket layout s kept sound e d z x t other.1 here owns mine)))) (changed e z at);
+          (λ other. let was = kept.owned e z t other.1 owns in (
+            was.0,
+            change.out t was.1
+                (λ mine. other.0 (owned_once buckets bucket layout s kept sound e d z x t other.1 here owns mine)),
+          ))
+          (changed e z at);
       live = λ t live. live_cases buckets bucket layout s kept t live (λ on_t. mine t (change.live t on_t))
           (λ e z there owns. dite (ℕ_discrete e d)
           (λ same. mine t (change.owned t (its_own t (subst (λ z. Owns z t) (itself e z there same) owns))))
@@ -261,36 +271,44 @@ module _ (buckets : ℕ) (bucket : ℕ → ℕ) (small : (key : ℕ) → bucket 
     edition_change word at rises = record {
       place = inl refl;
       chains = let low = small (key_of x.op) in subst (λ n. Chains bucket n kept.on kept.rank)
-          (none_changed buckets bucket s.cells (bucket_edition own) word (λ j lower e. omega arith) (λ u k low high e. omega arith))
+          (none_changed buckets bucket s.cells (bucket_edition own) word (λ j lower e. omega arith)
+          (λ u k low high e. omega arith))
           kept.chains;
       on_live = kept.on_live;
       others = λ u away. (refl, λ on. refl);
       walks = λ op readings read mine edition none. ⊎_elim
-          (λ first. subst (Knows buckets bucket (upd s.cells (bucket_edition own) word) kept.on kept.rank op (walk_in op readings))
+          (λ first. subst (Knows buckets bucket (upd s.cells (bucket_edition own) word) kept.on kept.rank op
+          (walk_in op readings))
           (sym first) tt)
           (λ later.
           let seen = edition_seen buckets bucket small (bounds buckets bucket layout) op readings later in
           let stood = read.seen seen.0 (bucket_edition (bucket (key_of op))) (walk_in op readings).edition seen.1 in
           let at = ap bucket_edition mine in
-          absurd (older (version_of (walk_in op readings).edition) (version_of (s.cells (bucket_edition own))) (version_of word)
+          absurd (older (version_of (walk_in op readings).edition) (version_of (s.cells (bucket_edition own)))
+          (version_of word)
           (⊎_elim (λ less. inl (let same = ap (λ p. version_of (s.cells p)) at in omega arith))
           (λ equal. inr (ap version_of equal ∙ ap (λ p. version_of (s.cells p)) at)) stood) rises
-          (ap version_of (sym (upd_same s.cells (bucket_edition own) (bucket_edition (bucket (key_of op))) word at) ∙ edition))))
+          (ap version_of (sym (upd_same s.cells (bucket_edition own) (bucket_edition (bucket (key_of op))) word at)
+          ∙ edition))))
           (is_first buckets bucket small (walk_in op readings).stage);
       out = λ u out free. out;
-      target = target_stays buckets bucket h.kind s.cells (upd s.cells (bucket_edition own) word) kept.on kept.on own h.target
+      target = target_stays buckets bucket h.kind s.cells (upd s.cells (bucket_edition own) word) kept.on kept.on own
+          h.target
           (λ u node. node_stays (bucket_edition own) word (inl refl) kept.on own u node.0 node.1)
           (kept.target d x h here has changes (omega (arith, half.order)));
       taken = λ low.
           let was = kept.taken d x h here has (omega arith, omega arith) in
           let gone = operand x.thunk 2 in
           let held = kept.owned d x gone here (h, has, inr ((omega arith, omega arith), refl)) in
-          let same = cell_stays (bucket_edition own) word (inl refl) gone 3 (inl held.1) (omega arith) (omega arith) in
-          (held.0, held.1, record {
-            key = ap value_of (key_stays (bucket_edition own) word (inl refl) gone) ∙ was.key;
-            next = λ t leads. let node = was.next t (ap value_of (sym same) ∙ leads) in
-                node_stays (bucket_edition own) word (inl refl) kept.on own t node.0 node.1;
-          });
+          let same = cell_stays (bucket_edition own) word (inl refl) gone 3 (inl held.1) (omega arith) (omega arith) in (
+            held.0,
+            held.1,
+            record {
+              key = ap value_of (key_stays (bucket_edition own) word (inl refl) gone) ∙ was.key;
+              next = λ t leads. let node = was.next t (ap value_of (sym same) ∙ leads) in
+                  node_stays (bucket_edition own) word (inl refl) kept.on own t node.0 node.1;
+            },
+          );
       live = λ t on. inl on;
       owned = λ t owns. ⊎_elim (λ new. absurd (let late = new.0.1 in omega arith))
           (λ old. let late = old.0.0 in let low = old.0.1 in let last = half.last (omega arith) in
@@ -323,13 +341,18 @@ module _ (buckets : ℕ) (bucket : ℕ → ℕ) (small : (key : ℕ) → bucket 
           → IsRead (table buckets bucket) s readings → bucket (key_of op) ≡ own
           → IsWalked buckets bucket (stored_scene after) on rank op (walk_in op readings)
       pending_walks on rank op readings read same edition none =
-          absurd (none d (stepped x x.reg) (upd_same s.section d d (Some (stepped x x.reg)) refl)
-          (h, has, half_lock buckets bucket layout s sound kept d x h here has ∙ ap bucket_lock (sym same),
-          omega arith, omega arith))
+          absurd (none d (stepped x x.reg) (upd_same s.section d d (Some (stepped x x.reg)) refl) (
+            h,
+            has,
+            half_lock buckets bucket layout s sound kept d x h here has ∙ ap bucket_lock (sym same),
+            omega arith,
+            omega arith,
+          ))
 
       -- one that makes no node holds no slot yet
       not_owned : (k : Kind) → h.kind ≡ k → (k ≡ Insert → ⊥) → (u : ℕ) → OwnsBy x h u → ⊥
-      not_owned k kind other u owns = ⊎_elim (λ new. let low = new.0.0 in other (sym kind ∙ half.insert.1 (omega arith)))
+      not_owned k kind other u owns =
+          ⊎_elim (λ new. let low = new.0.0 in other (sym kind ∙ half.insert.1 (omega arith)))
           (λ old. let low = old.0.0 in omega arith) owns
 
       -- and one that takes none out retires none
@@ -355,7 +378,8 @@ module _ (buckets : ℕ) (bucket : ℕ → ℕ) (small : (key : ℕ) → bucket 
           let held = kept.owned d x t here (h, has, inl (making, made.1)) in
           let low = small (key_of x.op) in
           let head : h.target ≡ bucket_head own = target_at Insert kind in
-          let named = ((fit buckets bucket layout s sound kept d x here).insert (number_is x.thunk h has Insert kind)).1 in
+          let named = ((fit buckets bucket layout s sound kept d x here).insert
+          (number_is x.thunk h has Insert kind)).1 in
           let narrow = links_small layout 0 t limits (omega arith) (sound.within t (live_free (s.status t) held.0)) in
           let value : value_of word ≡ suc t = stored ∙ ap value_of made.1 ∙ value-small (suc t) narrow in
           let key : now.key t ≡ key_of x.op = made.2.key ∙ named.3 ∙ sym named.2.0 in
@@ -370,16 +394,20 @@ module _ (buckets : ℕ) (bucket : ℕ → ℕ) (small : (key : ℕ) → bucket 
             upd kept.rank t top.0,
             record {
               place = place;
-              chains = chains_at (bucket_head own) (upd kept.on t true) (upd kept.rank t top.0) (with_head now own (suc t)) head
+              chains = chains_at (bucket_head own) (upd kept.on t true) (upd kept.rank t top.0)
+                  (with_head now own (suc t)) head
                   (ap (with_head now own) (sym value) ∙ head_changed buckets bucket s.cells own word low)
                   (insert bucket now kept.on kept.rank kept.chains own t top.0 held.1 (ap bucket key) first top.1
                   (λ u on e. missing u on (e ∙ key)));
               on_live = λ u on. dite (ℕ_discrete u t) (λ e. ap s.status e ∙ held.0)
                   (λ ne. kept.on_live u (sym (upd_other kept.on t u true ne) ∙ on));
-              others = λ u away. (upd_other kept.on t u true (other u away),
-              λ on. upd_other kept.rank t u top.0 (other u away));
+              others = λ u away. (
+                upd_other kept.on t u true (other u away),
+                λ on. upd_other kept.rank t u top.0 (other u away),
+              );
               walks = pending_walks (upd kept.on t true) (upd kept.rank t top.0);
-              out = λ u out free. upd_other kept.on t u true (λ e. free (h, has, inl (making, made.1 ∙ ap suc (sym e)))) ∙ out;
+              out = λ u out free. upd_other kept.on t u true
+                  (λ e. free (h, has, inl (making, made.1 ∙ ap suc (sym e)))) ∙ out;
               target = subst (λ k. IsTargetOf buckets bucket k after (upd kept.on t true) own h.target) (sym kind) head;
               taken = λ low. absurd (none_taken Insert kind (λ e. cc) low);
               live = λ u on. inl (dite (ℕ_discrete u t) (λ e. upd_same kept.on t u true e)
@@ -398,25 +426,41 @@ module _ (buckets : ℕ) (bucket : ℕ → ℕ) (small : (key : ℕ) → bucket 
             (λ head. chains_at (bucket_head own) off kept.rank (with_head now own (now.next gone)) head
             (ap (with_head now own) (target.next ∙ sym stored) ∙ head_changed buckets bucket s.cells own word low)
             (remove_first bucket now kept.on kept.rank kept.chains own gone
-            (head_is buckets bucket small s.cells (key_of x.op) ∙ ap (λ p. value_of (s.cells p)) (sym head) ∙ target.leads)))
-            (λ node. chains_at (cell_at buckets bucket node.0 3) off kept.rank (with_next now node.0 (now.next gone)) node.2
+            (head_is buckets bucket small s.cells (key_of x.op) ∙ ap (λ p. value_of (s.cells p)) (sym head)
+            ∙ target.leads)))
+            (λ node. chains_at (cell_at buckets bucket node.0 3) off kept.rank (with_next now node.0 (now.next gone))
+            node.2
             (ap (with_next now node.0) (target.next ∙ sym stored) ∙ next_changed buckets bucket s.cells node.0 word)
-            (remove_next bucket now kept.on kept.rank kept.chains node.0 gone node.1.0 (leads node.0 node.2))) target.link;
+            (remove_next bucket now kept.on kept.rank kept.chains node.0 gone node.1.0 (leads node.0 node.2)))
+            target.link;
         on_live = λ u on. kept.on_live u (still u on);
-        others = λ u away. (upd_other kept.on gone u false
-        (λ e. away (ap (λ u. bucket (now.key u)) e ∙ ap bucket target.key)), λ on. refl);
+        others = λ u away. (
+          upd_other kept.on gone u false
+              (λ e. away (ap (λ u. bucket (now.key u)) e ∙ ap bucket target.key)),
+          λ on. refl,
+        );
         walks = pending_walks off kept.rank;
         out = λ u out free. dite (ℕ_discrete u gone) (λ e. upd_same kept.on gone u false e)
             (λ ne. upd_other kept.on gone u false ne ∙ out);
         target = subst (λ k. IsTargetOf buckets bucket k after off own h.target) (sym kind) (⊎_elim inl
-            (λ node. inr (node.0, node_stays h.target word place off own node.0
-            (upd_other kept.on gone node.0 false (before node.0 node.1.0 node.2) ∙ node.1.0) node.1.1, node.2)) target.link);
-        taken = λ low. (kept.on_live gone gone_on, upd_same kept.on gone gone false refl, record {
-          key = ap value_of (key_stays h.target word place gone) ∙ target.key;
-          next = λ t leads. let there = kept.chains.next_on gone t gone_on (ap value_of (sym link_stays) ∙ leads) in
-              node_stays h.target word place off own t (upd_other kept.on gone t false
-              (λ e. let falls = there.2 in let same = ap kept.rank e in omega arith) ∙ there.0) (there.1 ∙ ap bucket target.key);
-        });
+            (λ node. inr (
+              node.0,
+              node_stays h.target word place off own node.0
+                  (upd_other kept.on gone node.0 false (before node.0 node.1.0 node.2) ∙ node.1.0) node.1.1,
+              node.2,
+            ))
+            target.link);
+        taken = λ low. (
+          kept.on_live gone gone_on,
+          upd_same kept.on gone gone false refl,
+          record {
+            key = ap value_of (key_stays h.target word place gone) ∙ target.key;
+            next = λ t leads. let there = kept.chains.next_on gone t gone_on (ap value_of (sym link_stays) ∙ leads) in
+                node_stays h.target word place off own t (upd_other kept.on gone t false
+                (λ e. let falls = there.2 in let same = ap kept.rank e in omega arith) ∙ there.0)
+                (there.1 ∙ ap bucket target.key);
+          },
+        );
         live = λ u on. dite (ℕ_discrete u gone)
             (λ e. let late = half.remove.0 kind in inr (inr ((omega arith, omega arith), sym e)))
             (λ ne. inl (upd_other kept.on gone u false ne ∙ on));
@@ -447,7 +491,8 @@ module _ (buckets : ℕ) (bucket : ℕ → ℕ) (small : (key : ℕ) → bucket 
               let same = ap kept.rank e in omega arith
 
           link_stays : after (cell_at buckets bucket gone 3) ≡ s.cells (cell_at buckets bucket gone 3)
-          link_stays = upd_other s.cells h.target (cell_at buckets bucket gone 3) word (λ e. let low = small (key_of x.op) in
+          link_stays = upd_other s.cells h.target (cell_at buckets bucket gone 3) word
+              (λ e. let low = small (key_of x.op) in
               ⊎_elim (λ head. omega arith)
               (λ node. let at = node.2 in before node.0 node.1.0 node.2 (omega arith)) target.link)
 
@@ -455,7 +500,8 @@ module _ (buckets : ℕ) (bucket : ℕ → ℕ) (small : (key : ℕ) → bucket 
       set_change : h.kind ≡ Set → IsOwnChange h h.target word kept.on kept.rank
       set_change kind = let node = target_at Set kind in record {
         place = place;
-        chains = chains_at (cell_at buckets bucket node.0 2) kept.on kept.rank (with_value now node.0 (value_of word)) node.2
+        chains = chains_at (cell_at buckets bucket node.0 2) kept.on kept.rank (with_value now node.0 (value_of word))
+            node.2
             (value_changed buckets bucket s.cells node.0 word)
             (chains_agree bucket now (with_value now node.0 (value_of word)) kept.on kept.rank kept.chains
             (λ i. refl) (λ u on. refl) (λ u on. refl));
@@ -484,7 +530,8 @@ module _ (buckets : ℕ) (bucket : ℕ → ℕ) (small : (key : ℕ) → bucket 
         ∙ value-next_word (x.reg r) (value_of (x.reg 2)) (value_small (x.reg 2))
         ∙ ap (λ r. value_of (x.reg r)) (sym (half_is x.thunk h has).registers.1)
 
-    removed_value : h.kind ≡ Remove → x.at ≡ h.change → v ≡ Const (operand x.thunk 3) → value_of word ≡ operand x.thunk 3
+    removed_value : h.kind ≡ Remove → x.at ≡ h.change → v ≡ Const (operand x.thunk 3)
+        → value_of word ≡ operand x.thunk 3
     removed_value kind at number =
         let leaves = remove_target buckets bucket layout s sound kept d x h here has (past h has changes at word)
         (early h has changes at word) kind in

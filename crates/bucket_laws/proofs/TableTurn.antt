@@ -1,5 +1,6 @@
 -- The hash table's sections, one after the other, do what the map does.
-use Rattle.std.proofs.Common.{◌≡◌, ◌≢◌, ℕ, zero, suc, ◌+◌, ◌*◌, ◌<◌, Bool, true, false, refl, sym, ap, ◌∙◌, subst, inl, ⊎_elim, arith}
+use Rattle.std.proofs.Common.{◌≡◌, ◌≢◌, ℕ, suc, ◌+◌, ◌*◌, ◌<◌, Bool, true, false, refl, sym, ap, ◌∙◌, subst}
+use Rattle.std.proofs.Common.{inl, ⊎_elim, arith}
 use Rattle.std.proofs.Math.Path.{fun_ext}
 use Rattle.std.specs.Prelude.{◌^◌, Option, Some, None, slice_index}
 use Rattle.std.specs.FinMap.{get}
@@ -20,7 +21,7 @@ use Rattle.body_terms.specs.declared.step.Step.TheVariants.{Load, Stamp, Store, 
 use Rattle.table_words.specs.declared.layout.Layout.{Layout}
 use Rattle.table_words.specs.Limits.{IsWithinLimits}
 use Rattle.table_words.specs.Places.{slot_count}
-use Rattle.structure_laws.specs.Scene.{Cells, Section, Status, Free, Live, Scene}
+use Rattle.structure_laws.specs.Scene.{Cells, Section, Scene}
 use Rattle.structure_laws.specs.Sections.{Here, IsStep, value_in}
 use Rattle.structure_laws.specs.InTurn.{StandsFor, AtStamp, AfterStores}
 use Rattle.structure_laws.proofs.Changes.{upd_same, upd_other, value-next_word, value_small}
@@ -29,7 +30,8 @@ use Rattle.bucket_laws.specs.Chain.{Nodes, with_head, with_next, with_value, Cha
 use Rattle.bucket_laws.specs.Walk.{Walk, cell_at}
 use Rattle.bucket_laws.specs.Halves.{Kind, Look, Insert, Remove, Set, Half, HasHalf}
 use Rattle.bucket_laws.specs.Buckets.{nodes, IsFound, IsMissing, BucketsKept, BucketsStand, table}
-use Rattle.bucket_laws.proofs.Chain.{insert, top_of, remove_first, remove_next, chains_agree, insert_contents, remove_contents, set_contents, same_on}
+use Rattle.bucket_laws.proofs.Chain.{insert, top_of, remove_first, remove_next, chains_agree, insert_contents}
+use Rattle.bucket_laws.proofs.Chain.{remove_contents, set_contents, same_on}
 use Rattle.bucket_laws.proofs.Fit.{IsFit}
 use Rattle.bucket_laws.proofs.Halves.{IsHalf, half_is, number_of, number_is, place_is, stored_for, answer_for}
 use Rattle.bucket_laws.proofs.Halves.{IsOf, step_of, half_step}
@@ -106,7 +108,8 @@ module _ (buckets : ℕ) (bucket : ℕ → ℕ) (small : (key : ℕ) → bucket 
   changing k kind other = half.look.1 (λ e. other (sym kind ∙ e))
 
   -- what its walk found or missed is in the map or isn't
-  looks : (own_walk.found ≡ true → get pairs (key_of x.op) ≡ Some own_walk.value) × (own_walk.found ≡ false → get pairs (key_of x.op) ≡ None)
+  looks : (own_walk.found ≡ true → get pairs (key_of x.op) ≡ Some own_walk.value)
+      × (own_walk.found ≡ false → get pairs (key_of x.op) ≡ None)
   looks =
       let known = knows buckets bucket layout s before.sound kept d x h here has step.2.0 step.2.1 in
       (λ found. found_is (known.1 found), λ missing. missing_is (known.2 missing))
@@ -121,8 +124,10 @@ module _ (buckets : ℕ) (bucket : ℕ → ℕ) (small : (key : ℕ) → bucket 
       by : (k : Kind) → h.kind ≡ k → answer_for k x.thunk ≡ word_of (reply_of pairs x.op)
       by Look kind = ap (λ numbers. slice_index numbers 1) fits.operands
           ∙ read_reply buckets pairs x.op own_walk own_walk.found (sym fits.form ∙ number Look kind) looks.0 looks.1
-      by Insert kind = insert_reply pairs x.op own_walk.found (sym fits.form ∙ number Insert kind) (looks.1 (fits.insert (number Insert kind)).0)
-      by Remove kind = let found = fits.remove (number Remove kind) in remove_reply pairs x.op own_walk.value found.1.0 (looks.0 found.0)
+      by Insert kind = insert_reply pairs x.op own_walk.found (sym fits.form ∙ number Insert kind)
+          (looks.1 (fits.insert (number Insert kind)).0)
+      by Remove kind = let found = fits.remove (number Remove kind) in remove_reply pairs x.op own_walk.value found.1.0
+          (looks.0 found.0)
       by Set kind = let found = fits.sets (number Set kind) in let named = found.1 in
           named.5 ∙ set_reply pairs x.op named.0 named.1 own_walk.value named.2 (looks.0 found.0)
 
@@ -137,22 +142,26 @@ module _ (buckets : ℕ) (bucket : ℕ → ℕ) (small : (key : ℕ) → bucket 
     unstored : (p : ℕ) → (h.change < h.edition → (p ≢ 3 * own + 1) × (p ≢ h.target)) → after p ≡ s.cells p
     unstored p other = stores.same p (λ i j r v store load.
         let changes = (half_step x.thunk h has i (Store r v) store).0 in
-        ⊎_elim (λ edition. (other changes).0 (edition.2 ∙ ap (λ n. n + 1) (half_lock buckets bucket layout s before.sound kept d x h here has)))
+        ⊎_elim (λ edition. (other changes).0
+        (edition.2 ∙ ap (λ n. n + 1) (half_lock buckets bucket layout s before.sound kept d x h here has)))
         (λ target. (other changes).1 target.3) (half_step x.thunk h has j (Load p r) load))
 
     same_cell : (p : ℕ) → p ≢ 3 * own + 1 → p ≢ h.target → after p ≡ s.cells p
     same_cell p first second = unstored p (λ changes. (first, second))
 
     -- and the one that its half changes
-    changed : (k : Kind) → h.kind ≡ k → (k ≡ Look → ⊥) → after h.target ≡ next_word (x.reg h.target_reg) (value_in x.reg (stored_for k x.thunk))
+    changed : (k : Kind) → h.kind ≡ k → (k ≡ Look → ⊥) → after h.target ≡ next_word (x.reg h.target_reg)
+        (value_in x.reg (stored_for k x.thunk))
     changed k kind other = let changes = changing k kind other in
-        stores.changed h.change h.load h.target h.target_reg (stored_for h.kind x.thunk) (half.steps changes).2 (half.steps changes).0
+        stores.changed h.change h.load h.target h.target_reg (stored_for h.kind x.thunk) (half.steps changes).2
+        (half.steps changes).0
         ∙ ap (λ k. next_word (x.reg h.target_reg) (value_in x.reg (stored_for k x.thunk))) kind
 
     -- a section that reads alone
     read_stands : h.kind ≡ Look → BucketsStand buckets bucket (slot_count layout 0) after (map_after pairs x.op)
     read_stands kind =
-        let same : s.cells ≡ after = fun_ext (λ p. sym (unstored p (λ lt. let none = half.look.0 kind in absurd (omega arith)))) in
+        let same : s.cells ≡ after = fun_ext
+        (λ p. sym (unstored p (λ lt. let none = half.look.0 kind in absurd (omega arith)))) in
         subst (λ cells. BucketsStand buckets bucket (slot_count layout 0) cells (map_after pairs x.op)) same
         (record {
           on = stands.on;
@@ -166,14 +175,18 @@ module _ (buckets : ℕ) (bucket : ℕ → ℕ) (small : (key : ℕ) → bucket 
     -- the cells are those after this change and that of the edition, and the nodes those after this change
     after_is : upd (upd s.cells h.target (after h.target)) (bucket_edition own) (after (bucket_edition own)) ≡ after
     after_is = fun_ext (λ p. dite (ℕ_discrete p (bucket_edition own))
-        (λ e. upd_same (upd s.cells h.target (after h.target)) (bucket_edition own) p (after (bucket_edition own)) e ∙ ap after (sym e))
-        (λ first. upd_other (upd s.cells h.target (after h.target)) (bucket_edition own) p (after (bucket_edition own)) first
+        (λ e. upd_same (upd s.cells h.target (after h.target)) (bucket_edition own) p (after (bucket_edition own)) e
+        ∙ ap after (sym e))
+        (λ first. upd_other (upd s.cells h.target (after h.target)) (bucket_edition own) p (after (bucket_edition own))
+        first
         ∙ dite (ℕ_discrete p h.target) (λ e. upd_same s.cells h.target p (after h.target) e ∙ ap after (sym e))
         (λ second. upd_other s.cells h.target p (after h.target) second ∙ sym (same_cell p first second))))
 
     nodes_after : (p : ℕ) → h.target ≡ p → nodes buckets bucket (upd s.cells p (after h.target)) ≡ then_nodes
-    nodes_after p place = let low = small (key_of x.op) in ap (λ p. nodes buckets bucket (upd s.cells p (after h.target))) (sym place)
-        ∙ none_changed buckets bucket (upd s.cells h.target (after h.target)) (bucket_edition own) (after (bucket_edition own))
+    nodes_after p place = let low = small (key_of x.op) in
+        ap (λ p. nodes buckets bucket (upd s.cells p (after h.target))) (sym place)
+        ∙ none_changed buckets bucket (upd s.cells h.target (after h.target)) (bucket_edition own)
+        (after (bucket_edition own))
         (λ j lower e. omega arith) (λ u k first last e. omega arith) ∙ ap (nodes buckets bucket) after_is
 
     -- a new node at the head
@@ -193,14 +206,16 @@ module _ (buckets : ℕ) (bucket : ℕ → ℕ) (small : (key : ℕ) → bucket 
         let named = fit.1 in
         let key : now.key t ≡ key_of x.op = made.2.key ∙ named.3 ∙ sym named.2.0 in
         let none = looks.1 fit.0 in
-        let out : stands.on t ≡ false = bool_cases (stands.on t) (λ on. absurd (both_ways _ held.1 (kept_on t on))) (λ off. off) in
+        let out : stands.on t ≡ false = bool_cases (stands.on t) (λ on. absurd (both_ways _ held.1 (kept_on t on)))
+        (λ off. off) in
         let stored : value_of (after h.target) ≡ suc t = ap value_of (changed Insert kind (λ e. cc))
         ∙ value-next_word (x.reg h.target_reg) (value_in x.reg (Made 2)) (value_small (x.reg 2))
         ∙ ap value_of (ap x.reg (sym half.registers.1) ∙ made.1) ∙ value-small (suc t) narrow in
         let same : with_head now own (suc t) ≡ then_nodes = ap (with_head now own) (sym stored)
         ∙ head_changed buckets bucket s.cells own (after h.target) low ∙ nodes_after (bucket_head own) place in
         let top = top_of bucket now stands.on stands.rank stands.chains own in
-        let first : now.next t ≡ now.head own = made.2.next ∙ insert_head buckets bucket layout s before.sound kept d x h here has step.2.0 step.2.1 kind ∙ sym (head_is buckets bucket small s.cells (key_of x.op)) in
+        let first : now.next t ≡ now.head own = made.2.next ∙ insert_head buckets bucket layout s before.sound kept d x
+        h here has step.2.0 step.2.1 kind ∙ sym (head_is buckets bucket small s.cells (key_of x.op)) in
         let new : (u : ℕ) → stands.on u ≡ true → now.key u ≢ now.key t = λ u on e. none-some _ (sym (ap (get pairs) (e ∙ key) ∙ none) ∙ stands.contents.pair u on) in
         record {
           on = upd stands.on t true;
@@ -211,7 +226,8 @@ module _ (buckets : ℕ) (bucket : ℕ → ℕ) (small : (key : ℕ) → bucket 
           contents = contents_same then_nodes (upd stands.on t true) (upd (get pairs) (now.key t) (Some (now.value t))) (get (map_after pairs x.op))
               (subst (λ n. Contents n (upd stands.on t true) (upd (get pairs) (now.key t) (Some (now.value t)))) same
               (insert_contents now stands.on (get pairs) stands.contents own t out (ap (get pairs) key ∙ none)))
-              (λ q. ap (λ k. upd (get pairs) k (Some (now.value t)) q) (key ∙ named.2.0) ∙ ap (λ v. upd (get pairs) named.0 (Some v) q) (made.2.value ∙ named.4)
+              (λ q. ap (λ k. upd (get pairs) k (Some (now.value t)) q) (key ∙ named.2.0)
+              ∙ ap (λ v. upd (get pairs) named.0 (Some v) q) (made.2.value ∙ named.4)
               ∙ insert_map pairs x.op named.0 named.1 named.2 (ap (get pairs) (sym named.2.0) ∙ none) q);
         }
 
@@ -220,7 +236,9 @@ module _ (buckets : ℕ) (bucket : ℕ → ℕ) (small : (key : ℕ) → bucket 
     remove_stands kind =
         let target = remove_target buckets bucket layout s before.sound kept d x h here has step.2.0 step.2.1 kind in
         let t = operand x.thunk 2 in
-        let on_t : stands.on t ≡ true = stands_on t (target_on buckets bucket small layout s before.sound kept d x h here has step.2.0 step.2.1 kind) in
+        let on_t : stands.on t ≡ true =
+        stands_on t (target_on buckets bucket small layout s before.sound kept d x h here has step.2.0 step.2.1
+        kind) in
         let narrow : operand x.thunk 3 < 2 ^ 32 = subst (λ z. z < 2 ^ 32) target.next (value_small (s.cells (cell_at buckets bucket t 3))) in
         let low = small (key_of x.op) in
         let stored : value_of (after h.target) ≡ operand x.thunk 3 =
@@ -234,13 +252,15 @@ module _ (buckets : ℕ) (bucket : ℕ → ℕ) (small : (key : ℕ) → bucket 
         (subst (λ link. Chains bucket (with_head now own link) (upd stands.on t false) stands.rank) target.next (remove_first bucket now stands.on stands.rank stands.chains own t link)))
         (λ node.
         let same : with_next now node.0 (operand x.thunk 3) ≡ then_nodes = ap (with_next now node.0) (sym stored)
-        ∙ next_changed buckets bucket s.cells node.0 (after h.target) ∙ nodes_after (cell_at buckets bucket node.0 3) node.2 in
+        ∙ next_changed buckets bucket s.cells node.0 (after h.target) ∙ nodes_after (cell_at buckets bucket node.0 3)
+        node.2 in
         let link : now.next node.0 ≡ suc t = ap (λ p. value_of (s.cells p)) (sym node.2) ∙ target.leads in
         finish kind target.key on_t (with_next now node.0 (operand x.thunk 3)) same refl refl
         (subst (λ link. Chains bucket (with_next now node.0 link) (upd stands.on t false) stands.rank) target.next (remove_next bucket now stands.on stands.rank stands.chains node.0 t (stands_on node.0 node.1.0) link)))
         target.link
       where
-        finish : h.kind ≡ Remove → now.key (operand x.thunk 2) ≡ key_of x.op → stands.on (operand x.thunk 2) ≡ true → (n : Nodes) → n ≡ then_nodes → n.key ≡ now.key → n.value ≡ now.value
+        finish : h.kind ≡ Remove → now.key (operand x.thunk 2) ≡ key_of x.op → stands.on (operand x.thunk 2) ≡ true
+            → (n : Nodes) → n ≡ then_nodes → n.key ≡ now.key → n.value ≡ now.value
             → Chains bucket n (upd stands.on (operand x.thunk 2) false) stands.rank → BucketsStand buckets bucket (slot_count layout 0) after (map_after pairs x.op)
         finish kind key on n same keys values chains = record {
           on = upd stands.on (operand x.thunk 2) false;
@@ -250,7 +270,8 @@ module _ (buckets : ℕ) (bucket : ℕ → ℕ) (small : (key : ℕ) → bucket 
           contents = contents_same then_nodes (upd stands.on (operand x.thunk 2) false) (upd (get pairs) (now.key (operand x.thunk 2)) None) (get (map_after pairs x.op))
               (subst (λ n. Contents n (upd stands.on (operand x.thunk 2) false) (upd (get pairs) (now.key (operand x.thunk 2)) None)) same
               (remove_contents now n stands.on (get pairs) stands.contents (operand x.thunk 2) keys values on (λ u on_u e. stands.chains.key_once u (operand x.thunk 2) on_u on e)))
-              (λ q. ap (λ k. upd (get pairs) k None q) key ∙ remove_map pairs x.op (fits.remove (number Remove kind)).1.0 q);
+              (λ q. ap (λ k. upd (get pairs) k None q) key
+              ∙ remove_map pairs x.op (fits.remove (number Remove kind)).1.0 q);
         }
 
     -- a node with a new value
@@ -259,12 +280,15 @@ module _ (buckets : ℕ) (bucket : ℕ → ℕ) (small : (key : ℕ) → bucket 
         let target = set_target buckets bucket layout s before.sound kept d x h here has step.2.0 step.2.1 kind in
         let named = (fits.sets (number Set kind)).1 in
         let t = own_walk.slot in
-        let on_t : stands.on t ≡ true = stands_on t (set_node buckets bucket small layout s before.sound kept d x h here has step.2.0 step.2.1 kind).0 in
+        let on_t : stands.on t ≡ true =
+        stands_on t (set_node buckets bucket small layout s before.sound kept d x h here has step.2.0 step.2.1
+        kind).0 in
         let narrow : operand x.thunk 2 < 2 ^ 32 = (let low = (before.sound.allowed d x here).value named.1 (ap value_given named.2) in let at = named.4 in omega arith) in
         let stored : value_of (after h.target) ≡ operand x.thunk 2 =
         ap value_of (changed Set kind (λ e. cc)) ∙ value-next_word (x.reg h.target_reg) (operand x.thunk 2) narrow in
         let same : with_value now t (operand x.thunk 2) ≡ then_nodes = ap (with_value now t) (sym stored)
-        ∙ value_changed buckets bucket s.cells t (after h.target) ∙ nodes_after (cell_at buckets bucket t 2) target.place in
+        ∙ value_changed buckets bucket s.cells t (after h.target) ∙ nodes_after (cell_at buckets bucket t 2)
+        target.place in
         record {
           on = stands.on;
           rank = stands.rank;

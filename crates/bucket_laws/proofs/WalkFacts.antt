@@ -13,7 +13,8 @@ use Rattle.body_terms.specs.Word.{value_of, is_free, is_spent}
 use Rattle.section_body.specs.Bucket.{bucket_head}
 use Rattle.structure_laws.specs.Scene.{Readings}
 use Rattle.structure_laws.proofs.Changes.{value_small}
-use Rattle.bucket_laws.specs.Walk.{Stage, AtEdition, AtLink, AtKey, AtValue, AtNext, AtLock, AtEnd, Refused, Walk, start, is_wanted, Bounds, cell_at, wanted_at, fed, walk}
+use Rattle.bucket_laws.specs.Walk.{Stage, AtEdition, AtLink, AtKey, AtValue, AtNext, AtLock, AtEnd, Refused, Walk}
+use Rattle.bucket_laws.specs.Walk.{start, is_wanted, Bounds, cell_at, wanted_at, fed, walk}
 use Rattle.bucket_laws.specs.Buckets.{is_link_place}
 use Rattle.bucket_laws.proofs.Places.{is_head_link, is_node_link}
 use Rattle.bucket_laws.proofs.Walks.{wanted_eq}

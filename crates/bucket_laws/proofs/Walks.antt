@@ -4,7 +4,8 @@ use Rattle.std.specs.Prelude.{◌==◌, ◌&&◌, not, ◌-◌, ◌⊎◌, nat_l
 use Rattle.std.proofs.lemmas.Option.{none-some}
 use Rattle.std.proofs.lemmas.Bool.{both_ways}
 use Rattle.small_lemmas.proofs.Lists.{same_number as some_eq}
-use Rattle.small_lemmas.proofs.Numbers.{suc_equal, tested_equal as is_eq, tested_other as is_not, zero_not_suc as zero_suc}
+use Rattle.small_lemmas.proofs.Numbers.{suc_equal}
+use Rattle.small_lemmas.proofs.Numbers.{tested_equal as is_eq, tested_other as is_not, zero_not_suc as zero_suc}
 use Rattle.map_history.specs.declared.op.Op.{Op}
 use Rattle.map_history.specs.Keys.{key_of}
 use Rattle.body_terms.specs.Word.{value_of, is_free, is_spent}
