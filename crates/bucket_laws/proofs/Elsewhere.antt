@@ -1,5 +1,6 @@
 -- What a walk knows stands where nothing of its bucket changes.
-use Rattle.std.proofs.Common.{◌≡◌, ◌≢◌, ℕ, suc, ◌<◌, ◌≤◌, Bool, true, cond, refl, sym, ap, ◌∙◌, subst, inl, inr, ⊎_elim, arith}
+use Rattle.std.proofs.Common.{◌≡◌, ◌≢◌, ℕ, suc, ◌<◌, ◌≤◌, Bool, true, cond, refl, sym, ap, ◌∙◌}
+use Rattle.std.proofs.Common.{subst, inl, inr, ⊎_elim, arith}
 use Rattle.std.specs.Prelude.{Some, [], ◌∷◌, slice_get}
 use Rattle.small_lemmas.proofs.Lists.{some_same}
 use Rattle.small_lemmas.proofs.Numbers.{suc_equal as suc_eq}

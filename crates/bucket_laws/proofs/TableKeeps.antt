@@ -16,7 +16,8 @@ use Rattle.body_terms.specs.declared.step.Step.TheVariants.{Want, Fresh, Stamp, 
 use Rattle.body_terms.specs.declared.thunk.Thunk.{Thunk}
 use Rattle.table_words.specs.declared.layout.Layout.{Layout}
 use Rattle.table_words.specs.Limits.{IsWithinLimits}
-use Rattle.structure_laws.specs.Scene.{Readings, Section, Free, Live, Retired, Scene, with_cell, with_reader, with_section, with_status, opened}
+use Rattle.structure_laws.specs.Scene.{Readings, Section, Free, Live, Retired, Scene}
+use Rattle.structure_laws.specs.Scene.{with_cell, with_reader, with_section, with_status, opened}
 use Rattle.structure_laws.specs.Sections.{Here, Settled, Ended}
 use Rattle.structure_laws.specs.Keeps.{Keeps}
 use Rattle.structure_laws.proofs.Changes.{upd_same, upd_other, upd_some, upd_none}

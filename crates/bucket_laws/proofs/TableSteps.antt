@@ -103,7 +103,8 @@ module _ (buckets : ℕ) (bucket : ℕ → ℕ) (small : (key : ℕ) → bucket 
         (λ same. subst (λ z. (h : Half) → HasHalf z h → IsTaking z h → IsTaken buckets bucket s.cells kept.on
         (operand z.thunk 2) (key_of z.op)) same.1 taken h has taking)
         (λ other. kept.taken e z h other.1 has taking) (upd_some s.section d e (stepped x reg) z at);
-    owned = λ e z t at owns. ⊎_elim (λ same. let mine : Owns (stepped x reg) t = subst (λ z. Owns z t) (sym same.1) owns in
+    owned = λ e z t at owns. ⊎_elim
+        (λ same. let mine : Owns (stepped x reg) t = subst (λ z. Owns z t) (sym same.1) owns in
         held mine.0 mine.1 t mine.2)
         (λ other. (others e z t other.0 other.1 owns, (kept.owned e z t other.1 owns).1))
         (upd_some s.section d e (stepped x reg) z at);
@@ -240,13 +241,15 @@ module _ (buckets : ℕ) (bucket : ℕ → ℕ) (small : (key : ℕ) → bucket 
   pub make_kept : (t r : ℕ) (init : Init) → IsNow (Make init r) → IsPrepared (table buckets bucket) layout s x t init
       → BucketsKept buckets bucket layout (with_status (sets s d x r (suc t)) t Live)
   make_kept t r init step prepared =
-      step_kept (upd s.status t Live) (upd x.reg r (suc t)) (still_pending (Make init r) step no_store (upd x.reg r (suc t)))
+      step_kept (upd s.status t Live) (upd x.reg r (suc t))
+      (still_pending (Make init r) step no_store (upd x.reg r (suc t)))
       (λ u on. live_too u (kept.on_live u on))
       (λ h has making. (t, linked h has, filled)) (λ h has taking. absurd (taking_none h has taking)) held
       (λ e z u ne there owns. live_too u (kept.owned e z u there owns).0)
       (λ u live. dite (ℕ_discrete u t)
       (λ same. let make = step_of x.thunk x.at (Make init r) step in let lt = make.2.0 in let at = make.2.1 in
-      let link = linked make.0 make.1 ∙ ap suc (sym same) in inr (make.0, make.1, inl ((omega arith, omega arith), link)))
+      let link = linked make.0 make.1 ∙ ap suc (sym same) in
+      inr (make.0, make.1, inl ((omega arith, omega arith), link)))
       (λ other. inl (sym (upd_other s.status t u Live other) ∙ live)))
       (λ h has u live owns. absurd (owns_none h has (let at = (made h has).1 in omega arith) u owns))
       (λ q y u retired recent leads. dite (ℕ_discrete q t)
@@ -296,7 +299,8 @@ module _ (buckets : ℕ) (bucket : ℕ → ℕ) (small : (key : ℕ) → bucket 
 
   -- a Retire
   pub retire_kept : (t y : ℕ) → IsNow (Retire t)
-      → ((q z i : ℕ) → i < 5 → s.status q ≡ Retired z → Links (table buckets bucket) s (cell_at buckets bucket q i) t → z ≤ y)
+      → ((q z i : ℕ) → i < 5 → s.status q ≡ Retired z
+      → Links (table buckets bucket) s (cell_at buckets bucket q i) t → z ≤ y)
       → BucketsKept buckets bucket layout (with_status (passes s d x) t (Retired y))
   retire_kept t y h links =
       step_kept (upd s.status t (Retired y)) x.reg (still_pending (Retire t) h no_store x.reg)
@@ -347,6 +351,7 @@ module _ (buckets : ℕ) (bucket : ℕ → ℕ) (small : (key : ℕ) → bucket 
 
       -- no other slot is the section's
       sole : (g : Half) → HasHalf x g → (u : ℕ) → OwnsBy x g u → u ≡ t
-      sole g has u (inl new) = absurd (let lt = (retired g has).0 in let at = (retired g has).1 in let early = new.0.1 in
+      sole g has u (inl new) = absurd (let lt = (retired g has).0 in let at = (retired g has).1 in
+          let early = new.0.1 in
           omega arith)
       sole g has u (inr old) = sym old.1 ∙ sym (retired g has).2

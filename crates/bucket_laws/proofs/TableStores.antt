@@ -1,5 +1,6 @@
 -- The Stores of a hash table's section keep what the table keeps.
-use Rattle.std.proofs.Common.{◌≡◌, ◌≢◌, ℕ, suc, ◌+◌, ◌*◌, ◌<◌, ◌≤◌, Bool, true, false, refl, sym, ap, ◌∙◌, subst, inl, inr, ⊎_elim, arith}
+use Rattle.std.proofs.Common.{◌≡◌, ◌≢◌, ℕ, suc, ◌+◌, ◌*◌, ◌<◌, ◌≤◌, Bool, true, false}
+use Rattle.std.proofs.Common.{refl, sym, ap, ◌∙◌, subst, inl, inr, ⊎_elim, arith}
 use Rattle.std.specs.Prelude.{◌^◌, ◌⊎◌, Some}
 use Rattle.std.proofs.lemmas.Bool.{both_ways}
 use mathlib.Core.Logic.{dite}
@@ -300,7 +301,8 @@ module _ (buckets : ℕ) (bucket : ℕ → ℕ) (small : (key : ℕ) → bucket 
           let was = kept.taken d x h here has (omega arith, omega arith) in
           let gone = operand x.thunk 2 in
           let held = kept.owned d x gone here (h, has, inr ((omega arith, omega arith), refl)) in
-          let same = cell_stays (bucket_edition own) word (inl refl) gone 3 (inl held.1) (omega arith) (omega arith) in (
+          let same = cell_stays (bucket_edition own) word (inl refl) gone 3 (inl held.1) (omega arith)
+          (omega arith) in (
             held.0,
             held.1,
             record {
