@@ -25,4 +25,4 @@ returns g c =
     (λ much. not_both _ _ (c.in-Ok.ensures.must much)) c.report_load.ensures
 
 pub run_plan-requires-clause-one_key : goal.run_plan-requires-clause-one_key
-run_plan-requires-clause-one_key g c κs = generated_have_one_key c.in-Ok.plan.traces.requests c.in-Ok.ensures.planned.format
+run_plan-requires-clause-one_key g c κs within = generated_have_one_key c.in-Ok.plan.traces.requests c.in-Ok.ensures.planned.format

@@ -24,4 +24,4 @@ returns-clause-ends g c =
     run_reported c.args.options _ _ _ _ _ c.in-Ok.plan c.in-Ok-run_plan.ran c.in-Ok.ensures.planned c.in-Ok-run_plan.ensures.ran c.in-Ok.ensures.must c.report.ensures.reported
 
 pub run_plan-requires-clause-one_key : goal.run_plan-requires-clause-one_key
-run_plan-requires-clause-one_key g c κs = have_one_key c.in-Ok.plan.traces c.in-Ok.ensures.planned.format
+run_plan-requires-clause-one_key g c κs within = have_one_key c.in-Ok.plan.traces c.in-Ok.ensures.planned.format
