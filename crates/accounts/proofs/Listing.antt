@@ -7,7 +7,7 @@ use mathlib.Core.Logic.{dite}
 use native.Mathlib.Decide.{ℕ_discrete}
 use Rattle.structure_laws.specs.Meaning.{Meaning}
 use Rattle.account_laws.specs.Money.{total}
-use Rattle.closed_words.specs.version_words.specs.TableState.{WordsState}
+use Rattle.version_words.specs.TableState.{WordsState}
 use Rattle.accounts.specs.Balances.{balance_in, AreBalances}
 
 index_first : (xs : List ℕ) (x i : ℕ) → i < length xs → slice_index (xs ++ x ∷ []) i ≡ slice_index xs i

@@ -22,8 +22,8 @@ use Rattle.one_worker.specs.resource_bounds.specs.Versions.{open_count}
 use Rattle.one_worker.specs.Alone.{AloneStands}
 use Rattle.one_worker.proofs.Reached.{reached_alone}
 use Rattle.one_worker.specs.resource_bounds.proofs.Quiet.{scene, cells_are, stands_for, quiet}
-use Rattle.attempts.specs.version_words.specs.RunnerState.{RunnerState}
-use Rattle.attempts.specs.version_words.specs.Stages.{IsAt}
+use Rattle.version_words.specs.RunnerState.{RunnerState}
+use Rattle.version_words.specs.Stages.{IsAt}
 use Rattle.attempts.specs.try_lock.specs.Planning.{Planning}
 use Rattle.attempts.specs.try_lock.specs.Plans.{IsWalk}
 use Rattle.attempts.specs.lock_walks.specs.Steady.{IsSteadyWalk}

@@ -10,8 +10,8 @@ use Rattle.runner_parts.specs.declared.event.EventKind.TheVariants as kinds
 use Rattle.runner_parts.specs.State.{RunState, PartState}
 use Rattle.runner_steps.specs.After.{own_epoch}
 use Rattle.one_worker.proofs.Onward.{is_advance, was_uncrossed, same_own}
-use Rattle.attempts.specs.version_words.specs.RunnerState.{RunnerState}
-use Rattle.attempts.specs.version_words.specs.Events.{Makes, IsMade}
+use Rattle.version_words.specs.RunnerState.{RunnerState}
+use Rattle.version_words.specs.Events.{Makes, IsMade}
 use Rattle.one_worker.specs.next_steps.specs.Steps.{kind_at}
 use Rattle.attempts.specs.epoch_slots.specs.Entries.{Enters, Exits}
 use Rattle.attempts.specs.epoch_slots.specs.Collects.{Scans, Looks, AreTested}

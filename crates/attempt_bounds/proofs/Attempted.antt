@@ -10,13 +10,13 @@ use Rattle.epoch_core.specs.declared.stage.Stage.TheVariants as stages
 use Rattle.runner_parts.specs.State.{FinishedState}
 use Rattle.runner_parts.specs.Tests.{thunk_words}
 use Rattle.runner_steps.specs.After.{own_epoch}
-use Rattle.attempts.specs.version_words.specs.RunnerState.{RunnerState}
+use Rattle.version_words.specs.RunnerState.{RunnerState}
 use Rattle.attempts.specs.epoch_slots.specs.declared.reserves.Kind.{Kind}
 use Rattle.attempts.specs.epoch_slots.specs.declared.reserves.Kind.TheVariants as slots
 use Rattle.attempts.specs.epoch_slots.specs.declared.reserves.Short.{Short}
 use Rattle.attempts.specs.epoch_slots.specs.Reserves.{counts_of}
-use Rattle.attempts.specs.version_words.specs.Stages.{IsAt}
-use Rattle.attempts.specs.version_words.proofs.Stages.{then_knows}
+use Rattle.version_words.specs.Stages.{IsAt}
+use Rattle.version_words.proofs.Stages.{then_knows}
 use Rattle.attempts.proofs.Learning.{load_finished}
 use Rattle.attempts.specs.try_lock.specs.Planning.{Planning}
 use Rattle.attempts.specs.Course.{LeavesAndLoads}

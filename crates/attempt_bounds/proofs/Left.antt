@@ -22,7 +22,7 @@ use Rattle.machine_states.proofs.Steps.{some_same, none_some}
 use Rattle.one_worker.specs.Lone.{IsAnswerOrSpent, IsFirstPublished}
 use Rattle.one_worker.proofs.SectionsReached.{reached_through}
 use Rattle.one_worker.specs.machine_invariant.specs.After.{AreAllowed}
-use Rattle.attempts.specs.version_words.specs.RunnerState.{RunnerState}
+use Rattle.version_words.specs.RunnerState.{RunnerState}
 use Rattle.attempts.specs.commit_log.specs.Runs.{Stepped, Ran}
 use Rattle.attempts.specs.try_lock.specs.Planning.{Planning}
 use Rattle.attempts.specs.try_lock.specs.declared.planned.Planned.TheVariants as plans

@@ -30,9 +30,9 @@ use Rattle.machine_epochs.specs.Descriptors.{DescriptorsAreSound}
 use Rattle.machine_epochs.proofs.OutsideAsked as asked
 use Rattle.machine_epochs.proofs.Reached.{descriptors_after}
 use Rattle.one_worker.proofs.Onward.{own_is, found_own, read_idle}
-use Rattle.attempts.specs.version_words.specs.RunnerState.{RunnerState}
-use Rattle.attempts.specs.version_words.specs.Events.{Makes}
-use Rattle.attempts.specs.version_words.specs.ReachedWith.{is_told}
+use Rattle.version_words.specs.RunnerState.{RunnerState}
+use Rattle.version_words.specs.Events.{Makes}
+use Rattle.version_words.specs.ReachedWith.{is_told}
 use Rattle.attempts.specs.epoch_slots.specs.Collects.{Scans, Advances, Collects}
 use Rattle.attempt_bounds.proofs.Recent.{recent, none_kept, kept_recent}
 use Rattle.attempt_bounds.proofs.Along.{Onward, made_on, made_was, scans_on, tested_on}

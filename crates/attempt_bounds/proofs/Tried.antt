@@ -26,9 +26,9 @@ use Rattle.runner_steps.specs.Sections.{is_open_run}
 use Rattle.machine_states.proofs.Sights.{unless_gone, cond_none}
 use Rattle.machine_epochs.proofs.OutsideAsked.{hold_asked}
 use Rattle.one_worker.specs.machine_invariant.specs.After.{AreAllowed}
-use Rattle.attempts.specs.version_words.specs.RunnerState.{RunnerState}
-use Rattle.attempts.specs.version_words.specs.Events.{Makes}
-use Rattle.attempts.specs.version_words.specs.Stages.{IsAt}
+use Rattle.version_words.specs.RunnerState.{RunnerState}
+use Rattle.version_words.specs.Events.{Makes}
+use Rattle.version_words.specs.Stages.{IsAt}
 use Rattle.attempts.specs.try_lock.specs.Planning.{Planning}
 use Rattle.attempts.specs.try_lock.specs.declared.planned.Planned.TheVariants as plans
 use Rattle.attempts.specs.try_lock.specs.Publishes.{IsRefused}

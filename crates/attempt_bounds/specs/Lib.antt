@@ -3,7 +3,6 @@ pub mod Spared
 -- Passed on to the layers above, so that they needn't name these libraries themselves.
 pub use Rattle.one_worker.specs.machine_invariant
 pub use Rattle.one_worker.specs.machine_facts
-pub use Rattle.attempts.specs.version_words
 pub use Rattle.attempts.specs.epoch_slots
 pub use Rattle.attempts.specs.commit_log
 pub use Rattle.attempts.specs.lock_words

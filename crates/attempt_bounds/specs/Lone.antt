@@ -4,7 +4,7 @@ use Rattle.map_history.specs.declared.op.Request.{Request}
 use Rattle.table_words.specs.Limits.{IsWithinLimits}
 use Rattle.structure_laws.specs.Meaning.{Meaning}
 use Rattle.one_worker.specs.machine_invariant.specs.After.{AreAllowed}
-use Rattle.attempts.specs.version_words.specs.RunnerState.{RunnerState}
+use Rattle.version_words.specs.RunnerState.{RunnerState}
 use Rattle.attempts.specs.try_lock.specs.Planning.{Planning}
 use Rattle.attempts.specs.Course.{IsRefused}
 use Rattle.attempts.specs.Attempts.{Answers}

@@ -5,7 +5,7 @@ use Rattle.map_history.specs.declared.reply.Reply.{Reply}
 use Rattle.structure_laws.specs.Meaning.{Meaning}
 use Rattle.runner_parts.specs.State.{PartState}
 use Rattle.runner_steps.specs.After.{own_epoch}
-use Rattle.attempts.specs.version_words.specs.RunnerState.{RunnerState}
+use Rattle.version_words.specs.RunnerState.{RunnerState}
 use Rattle.attempts.specs.epoch_slots.specs.declared.reserves.Short.{Short}
 use Rattle.attempts.specs.try_lock.specs.Planning.{Planning}
 use Rattle.attempts.specs.Attempts.{IsShort, IsServed}

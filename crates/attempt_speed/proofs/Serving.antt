@@ -6,8 +6,8 @@ use Rattle.std.proofs.Math.Nat.{mod-one}
 use Rattle.map_history.specs.declared.op.Request.{Request}
 use Rattle.table_words.specs.declared.layout.Layout.{Layout}
 use Rattle.runner_parts.specs.Tests.{is_answered}
-use Rattle.hash_table.specs.version_words.specs.RunnerState.{RunnerState}
-use Rattle.hash_table.specs.version_words.specs.TableState.{TableState, IsOf}
+use Rattle.version_words.specs.RunnerState.{RunnerState}
+use Rattle.version_words.specs.TableState.{TableState, IsOf}
 use Rattle.hash_table.specs.try_lock.specs.Planning.{Planning}
 use Rattle.serving.specs.Serving.{MayServe}
 use Rattle.attempt_speed.specs.declared.kinds.Kind.{Kind}

@@ -1,6 +1,6 @@
 -- The worker of a table before it has done anything.
 use Rattle.std.specs.Prelude.{◌≡◌, []}
-use Rattle.hash_table.specs.version_words.specs.RunnerState.{RunnerState}
+use Rattle.version_words.specs.RunnerState.{RunnerState}
 use Rattle.hash_table.specs.epoch_slots.specs.Collects.{IsTidy}
 
 -- it is the first one, idle with an empty hand, and knows nothing of any request

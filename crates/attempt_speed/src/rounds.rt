@@ -1,6 +1,6 @@
 //! The serving of a table's first requests, and what was answered.
 ghost use Rattle.std.specs.Prelude.{◌≡◌, ◌≤◌, All, IfOk, length, take, true};
-ghost use Rattle.hash_table.specs.version_words.specs.TableState.{IsOf};
+ghost use Rattle.version_words.specs.TableState.{IsOf};
 ghost use Rattle.serving.specs.Serving.{MayServe};
 ghost use Rattle.attempt_speed.specs.Asked.{requests_of};
 ghost use Rattle.attempt_speed.specs.Rounds.{IsRound};
@@ -12,7 +12,6 @@ use crate::tables::TableKind;
 use body_terms::Steps;
 use hash_table::HashTable;
 use hash_table::lock_walks::Planner;
-use hash_table::version_words::{FlockTable, Runner, Words};
 use leaf_tree::LeafTree;
 use map_history::Request;
 use runner_gate::Free;
@@ -20,6 +19,7 @@ use serving::serve;
 use std::alloc::{AllocError, Global};
 use std::sync::Wait;
 use std::thread::Threads;
+use version_words::{FlockTable, Runner, Words};
 
 /// The hash table has 1,024 buckets.
 const BUCKET_BITS: u32 = 10;

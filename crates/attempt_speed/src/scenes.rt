@@ -2,15 +2,15 @@
 ghost use Rattle.std.specs.Prelude.{◌≡◌, ◌≤◌, IfOk, length};
 ghost use Rattle.map_history.specs.Requests.{AreInOrder};
 ghost use Rattle.table_words.specs.Limits.{IsWithinLimits};
-ghost use Rattle.hash_table.specs.version_words.specs.TableState.{IsOf};
-ghost use Rattle.hash_table.specs.version_words.specs.Stages.{IsKeeper, HasJoined};
+ghost use Rattle.version_words.specs.TableState.{IsOf};
+ghost use Rattle.version_words.specs.Stages.{IsKeeper, HasJoined};
 ghost use Rattle.attempt_speed.specs.Scenes.{IsFresh};
 
 use hash_table::lock_walks::Planner;
-use hash_table::version_words::{FlockTable, Runner, Words};
 use map_history::Request;
 use std::alloc::{AllocError, Global};
 use table_words::Layout;
+use version_words::{FlockTable, Runner, Words};
 
 /// How many of the requests may add a pair.
 fn insertions(requests: &[Request]) -> u32

@@ -25,8 +25,8 @@ use Rattle.machine_states.specs.World.{seat_of}
 use Rattle.machine_states.specs.Reached.{Reached}
 use Rattle.machine_states.proofs.Steps.{some_same, none_some}
 use Rattle.lock_words.specs.next_steps.specs.Steps.{kind_at}
-use Rattle.lock_walks.specs.version_words.specs.RunnerState.{RunnerState}
-use Rattle.lock_walks.specs.version_words.specs.TableState.{TableState, IsOf}
+use Rattle.version_words.specs.RunnerState.{RunnerState}
+use Rattle.version_words.specs.TableState.{TableState, IsOf}
 use Rattle.lock_walks.specs.commit_log.specs.Runs.{IsRunning, Stepped, Ran}
 use Rattle.lock_walks.specs.commit_log.proofs.Next.{next_here}
 use Rattle.lock_walks.specs.section_runs.specs.Reached.{IsReached, run_or}

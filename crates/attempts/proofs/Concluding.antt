@@ -27,8 +27,8 @@ use Rattle.machine_states.specs.Sight.{sight, part_or_first}
 use Rattle.lock_words.specs.machine_invariant.specs.After.{AreAllowed}
 use Rattle.lock_words.specs.runner_facts.proofs.Names.{pair_last}
 use Rattle.lock_words.specs.Stale.{StaleStand}
-use Rattle.lock_walks.specs.version_words.specs.RunnerState.{RunnerState}
-use Rattle.lock_walks.specs.version_words.specs.TableState.{TableState, IsOf}
+use Rattle.version_words.specs.RunnerState.{RunnerState}
+use Rattle.version_words.specs.TableState.{TableState, IsOf}
 use Rattle.lock_walks.specs.epoch_slots.specs.Entries.{HasLeave}
 use Rattle.lock_walks.specs.epoch_slots.proofs.Outside.{reads_made}
 use Rattle.lock_walks.specs.commit_log.proofs.Asked.{asked_none}

@@ -13,8 +13,8 @@ use Rattle.runner_steps.specs.Sections.{thunk_of}
 use Rattle.machine_states.specs.Sight.{part_or_first}
 use Rattle.lock_words.specs.machine_invariant.specs.After.{AreAllowed}
 use Rattle.lock_words.specs.next_steps.proofs.Enabled.{reached_enabled}
-use Rattle.lock_walks.specs.version_words.specs.RunnerState.{RunnerState}
-use Rattle.lock_walks.specs.version_words.specs.TableState.{TableState, IsOf}
+use Rattle.version_words.specs.RunnerState.{RunnerState}
+use Rattle.version_words.specs.TableState.{TableState, IsOf}
 use Rattle.lock_walks.specs.section_runs.specs.Reached.{run_of, run_or}
 use Rattle.lock_walks.specs.section_runs.specs.Opened.{opening, IsOpening, HasOpened}
 use Rattle.lock_walks.specs.section_runs.proofs.Going.{shaped}

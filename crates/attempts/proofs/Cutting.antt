@@ -19,8 +19,8 @@ use Rattle.lock_words.specs.machine_agreement.proofs.RunPlaces.{opened_thunk}
 use Rattle.lock_words.specs.machine_invariant.specs.After.{AreAllowed}
 use Rattle.lock_words.specs.machine_facts.specs.After.{AreFactsAfter}
 use Rattle.lock_words.specs.machine_facts.proofs.Following.{facts_after}
-use Rattle.lock_walks.specs.version_words.specs.RunnerState.{RunnerState}
-use Rattle.lock_walks.specs.version_words.specs.TableState.{TableState, IsOf}
+use Rattle.version_words.specs.RunnerState.{RunnerState}
+use Rattle.version_words.specs.TableState.{TableState, IsOf}
 use Rattle.lock_walks.specs.commit_log.specs.Asked.{IsAsked}
 use Rattle.lock_walks.specs.try_lock.specs.declared.section.Section.{Section}
 use Rattle.lock_walks.specs.try_lock.specs.Planning.{Planning}

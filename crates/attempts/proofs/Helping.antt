@@ -14,7 +14,7 @@ use Rattle.machine_states.specs.Sight.{sight, part_or_first}
 use Rattle.lock_words.specs.machine_invariant.specs.After.{AreAllowed}
 use Rattle.request_facts.specs.reached_histories.specs.Requests.{or_none, requests_of}
 use Rattle.request_facts.specs.reached_histories.specs.Kept.{link_of}
-use Rattle.lock_walks.specs.version_words.specs.RunnerState.{RunnerState}
+use Rattle.version_words.specs.RunnerState.{RunnerState}
 use Rattle.attempts.specs.Learned.{StoodAtStamp, HasLearned}
 use Rattle.request_facts.specs.Laws.{CallersStand}
 use Rattle.request_facts.proofs.Standing.{callers_stand}

@@ -9,7 +9,7 @@ use Rattle.map_history.specs.declared.op.Request.{Request}
 use Rattle.runner_parts.specs.declared.entries.Known.{Known}
 use Rattle.runner_parts.specs.Tests.{knows, is_answered}
 use Rattle.machine_states.proofs.Steps.{none_some}
-use Rattle.lock_walks.specs.version_words.specs.RunnerState.{RunnerState}
+use Rattle.version_words.specs.RunnerState.{RunnerState}
 use Rattle.lock_walks.specs.section_runs.specs.Opened.{Learns}
 use Rattle.attempts.specs.Knowing.{IsFront, KnowsMore, IsOwn, LearnsNoOther}
 

@@ -19,8 +19,8 @@ use Rattle.runner_parts.specs.State.{RunState, FinishedState}
 use Rattle.runner_steps.specs.AfterInRun.{ended_more}
 use Rattle.runner_steps.specs.Sections.{thunk_of, line_of, setting_of, outcome_of, outcome_or}
 use Rattle.lock_words.specs.machine_invariant.specs.After.{AreAllowed}
-use Rattle.lock_walks.specs.version_words.specs.RunnerState.{RunnerState}
-use Rattle.lock_walks.specs.version_words.specs.TableState.{TableState, IsOf}
+use Rattle.version_words.specs.RunnerState.{RunnerState}
+use Rattle.version_words.specs.TableState.{TableState, IsOf}
 use Rattle.lock_walks.specs.commit_log.specs.Runs.{Stepped}
 use Rattle.lock_walks.specs.section_runs.proofs.Going.{shaped}
 use Rattle.lock_walks.specs.section_runs.proofs.Told.{leaves_left}

@@ -24,11 +24,11 @@ use Rattle.runner_steps.specs.Asks.{ask_by, fitting, sizes_for}
 use Rattle.machine_states.specs.Sight.{sight, part_or_first}
 use Rattle.machine_states.proofs.Steps.{some_same, none_some}
 use Rattle.lock_words.specs.machine_invariant.specs.After.{AreAllowed}
-use Rattle.lock_walks.specs.version_words.specs.RunnerState.{RunnerState}
-use Rattle.lock_walks.specs.version_words.specs.Events.{Makes}
-use Rattle.lock_walks.specs.version_words.specs.ReachedWith.{is_told}
-use Rattle.lock_walks.specs.version_words.specs.Stages.{IsAt}
-use Rattle.lock_walks.specs.version_words.proofs.Stages.{then_knows}
+use Rattle.version_words.specs.RunnerState.{RunnerState}
+use Rattle.version_words.specs.Events.{Makes}
+use Rattle.version_words.specs.ReachedWith.{is_told}
+use Rattle.version_words.specs.Stages.{IsAt}
+use Rattle.version_words.proofs.Stages.{then_knows}
 use Rattle.lock_walks.specs.epoch_slots.specs.Collects.{IsTidy}
 use Rattle.lock_walks.specs.epoch_slots.specs.Entries.{Exits}
 use Rattle.lock_walks.specs.epoch_slots.proofs.Outside.{nodes_made, known_made, finished_made}

@@ -22,8 +22,8 @@ use Rattle.machine_states.specs.Sight.{Sight, sight, part_or_first}
 use Rattle.lock_words.specs.machine_invariant.specs.After.{AreAllowed}
 use Rattle.lock_words.specs.runner_facts.specs.Names.{NamesStand}
 use Rattle.lock_words.specs.Taken.{HasLeftBy, TakenStand}
-use Rattle.lock_walks.specs.version_words.specs.RunnerState.{RunnerState}
-use Rattle.lock_walks.specs.version_words.specs.Stages.{IsAt}
+use Rattle.version_words.specs.RunnerState.{RunnerState}
+use Rattle.version_words.specs.Stages.{IsAt}
 use Rattle.lock_walks.specs.epoch_slots.specs.Collects.{IsTidy}
 use Rattle.lock_walks.specs.epoch_slots.specs.Entries.{HasLeave, Exits}
 use Rattle.lock_walks.specs.commit_log.specs.Asked.{IsAsked}

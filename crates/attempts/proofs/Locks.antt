@@ -15,7 +15,7 @@ use Rattle.runner_parts.specs.State.{PartState, ReadsState}
 use Rattle.machine_states.specs.Sight.{Sight, sight, part_or_first}
 use Rattle.lock_words.specs.machine_invariant.specs.After.{AreAllowed}
 use Rattle.lock_words.specs.runner_facts.proofs.Walks.{reached_shaped}
-use Rattle.lock_walks.specs.version_words.specs.RunnerState.{RunnerState}
+use Rattle.version_words.specs.RunnerState.{RunnerState}
 use Rattle.lock_walks.specs.try_lock.specs.declared.planned.Planned.TheVariants as plans
 use Rattle.lock_walks.specs.try_lock.specs.Planning.{Planning}
 use Rattle.attempts.specs.Course.{HasPlanned}

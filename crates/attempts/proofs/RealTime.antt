@@ -14,7 +14,7 @@ use Rattle.lock_words.specs.machine_facts.specs.Known.{KnownStand}
 use Rattle.lock_words.specs.machine_facts.proofs.Following.{facts_after}
 use Rattle.request_facts.specs.reached_histories.specs.Requests.{or_none}
 use Rattle.request_facts.specs.reached_histories.specs.Kept.{link_of}
-use Rattle.lock_walks.specs.version_words.specs.RunnerState.{RunnerState}
+use Rattle.version_words.specs.RunnerState.{RunnerState}
 use Rattle.lock_walks.specs.try_lock.specs.Planning.{Planning}
 use Rattle.lock_walks.specs.try_lock.specs.Reached.{IsReached}
 use Rattle.request_facts.specs.Laws.{HasEntry, IsToAsk}

@@ -3,7 +3,7 @@ use Rattle.std.specs.Prelude.{◌==◌, ◌||◌, nat_lt, Bool, true, false}
 use Rattle.std.proofs.Common.{◌≡◌, ℕ, ◌<◌, length, refl, sym, ap, ◌∙◌, subst, arith, true≢false}
 use Rattle.std.proofs.lemmas.Bool.Decides.{nat_tests}
 use Rattle.structure_laws.specs.Meaning.{Meaning}
-use Rattle.lock_walks.specs.version_words.specs.RunnerState.{RunnerState}
+use Rattle.version_words.specs.RunnerState.{RunnerState}
 use Rattle.lock_walks.specs.epoch_slots.specs.Collects.{IsTidy, Collects}
 use Rattle.lock_walks.specs.epoch_slots.specs.declared.reserves.Kind.{Kind}
 use Rattle.lock_walks.specs.epoch_slots.specs.declared.reserves.Kind.TheVariants as kinds

@@ -28,8 +28,8 @@ use Rattle.request_facts.specs.reached_histories.proofs.First.{entry_of}
 use Rattle.request_facts.specs.reached_histories.specs.History.{IsPlaced}
 use Rattle.request_facts.specs.reached_histories.specs.Laws.{HasHistory}
 use Rattle.request_facts.specs.reached_histories.proofs.Histories.{reached_have}
-use Rattle.lock_walks.specs.version_words.specs.RunnerState.{RunnerState}
-use Rattle.lock_walks.specs.version_words.specs.TableState.{TableState, IsOf}
+use Rattle.version_words.specs.RunnerState.{RunnerState}
+use Rattle.version_words.specs.TableState.{TableState, IsOf}
 use Rattle.lock_walks.specs.try_lock.specs.declared.section.Section.{Section}
 use Rattle.lock_walks.specs.try_lock.specs.Planning.{Planning}
 use Rattle.lock_walks.specs.try_lock.specs.Reached.{IsReached}

@@ -17,8 +17,8 @@ use Rattle.machine_states.specs.Sight.{sight}
 use Rattle.machine_states.proofs.Steps.{none_some}
 use Rattle.lock_words.specs.machine_invariant.specs.After.{AreAllowed}
 use Rattle.lock_words.specs.machine_invariant.specs.Sections.{IsAnswered, IsLeft}
-use Rattle.lock_walks.specs.version_words.specs.RunnerState.{RunnerState}
-use Rattle.lock_walks.specs.version_words.specs.TableState.{TableState, IsOf}
+use Rattle.version_words.specs.RunnerState.{RunnerState}
+use Rattle.version_words.specs.TableState.{TableState, IsOf}
 use Rattle.lock_walks.specs.commit_log.specs.Runs.{Ran, Stepped}
 use Rattle.lock_walks.specs.section_runs.specs.Opened.{IsOpening}
 use Rattle.lock_walks.specs.section_runs.proofs.Staying.{step_stays}

@@ -20,9 +20,9 @@ use Rattle.runner_parts.specs.Tests.{has, has_pair, is_answered}
 use Rattle.runner_parts.specs.State.{NodesState, DescriptorsState, ReadsState}
 use Rattle.machine_states.proofs.Steps.{none_some}
 use Rattle.lock_words.specs.machine_invariant.specs.After.{AreAllowed}
-use Rattle.lock_walks.specs.version_words.specs.RunnerState.{RunnerState}
-use Rattle.lock_walks.specs.version_words.specs.TableState.{TableState, IsOf}
-use Rattle.lock_walks.specs.version_words.specs.Stages.{IsAt}
+use Rattle.version_words.specs.RunnerState.{RunnerState}
+use Rattle.version_words.specs.TableState.{TableState, IsOf}
+use Rattle.version_words.specs.Stages.{IsAt}
 use Rattle.attempts.specs.Reclaims.{Reclaims}
 use Rattle.lock_walks.specs.epoch_slots.specs.Entries.{Enters}
 use Rattle.lock_walks.specs.epoch_slots.specs.Reserves.{counts_of}

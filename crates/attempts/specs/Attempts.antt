@@ -16,7 +16,7 @@ use Rattle.runner_parts.specs.declared.entries.Known.{Known}
 use Rattle.runner_parts.specs.declared.entries.Published.{Published}
 use Rattle.runner_parts.specs.Tests.{is_answered}
 use Rattle.machine_states.specs.Sight.{sight}
-use Rattle.lock_walks.specs.version_words.specs.RunnerState.{RunnerState}
+use Rattle.version_words.specs.RunnerState.{RunnerState}
 use Rattle.lock_walks.specs.epoch_slots.specs.Collects.{IsTidy}
 use Rattle.lock_walks.specs.epoch_slots.specs.Entries.{Exits}
 use Rattle.lock_walks.specs.epoch_slots.specs.Reserves.{counts_of}

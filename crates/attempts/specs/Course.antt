@@ -16,8 +16,8 @@ use Rattle.lock_words.specs.machine_invariant.specs.Sections.{IsLeft}
 use Rattle.runner_parts.specs.declared.event.EventKind.TheVariants as kinds
 use Rattle.runner_parts.specs.Tests.{is_next, is_answered}
 use Rattle.lock_words.specs.runner_facts.specs.Names.{HasLock}
-use Rattle.lock_walks.specs.version_words.specs.RunnerState.{RunnerState}
-use Rattle.lock_walks.specs.version_words.specs.Events.{Makes}
+use Rattle.version_words.specs.RunnerState.{RunnerState}
+use Rattle.version_words.specs.Events.{Makes}
 use Rattle.lock_walks.specs.epoch_slots.specs.Collects.{IsTidy}
 use Rattle.lock_walks.specs.epoch_slots.specs.Entries.{Enters, Exits}
 use Rattle.lock_walks.specs.try_lock.specs.declared.section.Section.{Section}

@@ -2,7 +2,7 @@
 use Rattle.std.specs.Prelude.{◌≡◌, ◌≢◌, ℕ, ◌%◌, ◌++◌, List, Some, slice_get}
 use Rattle.map_history.specs.declared.op.Request.{Request}
 use Rattle.runner_parts.specs.Tests.{is_answered}
-use Rattle.lock_walks.specs.version_words.specs.RunnerState.{RunnerState}
+use Rattle.version_words.specs.RunnerState.{RunnerState}
 
 -- the one list is the other's front
 pub record IsFront {A : Type 0} (front whole : List A) : Type 0 where

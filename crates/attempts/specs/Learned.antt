@@ -8,7 +8,7 @@ use Rattle.runner_steps.specs.AfterInRun.{over_if}
 use Rattle.runner_steps.specs.Sections.{thunk_of, next_of}
 use Rattle.machine_states.specs.World.{World, seat_of}
 use Rattle.machine_states.specs.Reached.{Reached}
-use Rattle.lock_walks.specs.version_words.specs.RunnerState.{RunnerState}
+use Rattle.version_words.specs.RunnerState.{RunnerState}
 use Rattle.lock_walks.specs.section_runs.specs.Opened.{Learns}
 use Rattle.lock_walks.specs.try_lock.specs.Reached.{IsReached}
 

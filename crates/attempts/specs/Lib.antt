@@ -7,7 +7,6 @@ pub mod Learned
 pub mod RealTime
 pub mod Rests
 -- Passed on to the layers above, so that they needn't name these libraries themselves.
-pub use Rattle.lock_walks.specs.version_words
 pub use Rattle.lock_walks.specs.epoch_slots
 pub use Rattle.lock_words.specs.runner_facts
 pub use Rattle.lock_walks.specs.commit_log

@@ -4,7 +4,7 @@ use Rattle.table_words.specs.declared.spot.Spot.TheVariants.{Stamp, Reply}
 use Rattle.structure_laws.specs.Meaning.{Meaning}
 use Rattle.machine_states.specs.Sight.{sight}
 use Rattle.request_facts.specs.reached_histories.specs.RealTime.{LeadsTo}
-use Rattle.lock_walks.specs.version_words.specs.RunnerState.{RunnerState}
+use Rattle.version_words.specs.RunnerState.{RunnerState}
 use Rattle.lock_walks.specs.try_lock.specs.Reached.{IsReached}
 
 module _ {T : Type 0} (m : Meaning) where

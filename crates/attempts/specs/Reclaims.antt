@@ -1,7 +1,7 @@
 -- How a runner comes by free slots before it enters.
 use Rattle.std.specs.Prelude.{◌≡◌, ◌*◌, ◌&&◌, ◌||◌, ◌==◌, Bool, true, false, nat_lt, nat_le, length}
 use Rattle.structure_laws.specs.Meaning.{Meaning}
-use Rattle.lock_walks.specs.version_words.specs.RunnerState.{RunnerState}
+use Rattle.version_words.specs.RunnerState.{RunnerState}
 use Rattle.lock_walks.specs.epoch_slots.specs.Collects.{IsTidy, Collects}
 
 module _ {T : Type 0} where

@@ -1,8 +1,8 @@
 //! One attempt of a request.
 ghost use Rattle.std.specs.Prelude.{◌≡◌, false};
 ghost use Rattle.structure_laws.specs.Cells.{slots};
-ghost use Rattle.lock_walks.specs.version_words.specs.RunnerState.{RunnerState};
-ghost use Rattle.lock_walks.specs.version_words.specs.TableState.{IsOf};
+ghost use Rattle.version_words.specs.RunnerState.{RunnerState};
+ghost use Rattle.version_words.specs.TableState.{IsOf};
 ghost use Rattle.attempts.specs.Counted.{IsSeen};
 ghost use Rattle.attempts.specs.Course.{MayAttempt, HasEntered};
 ghost use Rattle.attempts.specs.Attempts.{most_of_attempt, Attempts};
@@ -19,9 +19,9 @@ use body_terms::{StepKind, Steps};
 use lock_walks::Planner;
 use lock_walks::epoch_slots::enter;
 use lock_walks::try_lock::Planned;
-use lock_walks::version_words::{FlockTable, Runner};
 use map_history::Request;
 use runner_gate::Gate;
+use version_words::{FlockTable, Runner};
 
 /// Plans the request, behind the entry, and tries the section that was planned; or leaves where the plan was refused.
 pub fn plan_and_try<S: Planner, G: Gate, L>(

@@ -5,8 +5,8 @@ ghost use Rattle.attempts.specs.Course.{HasReserve};
 ghost use Rattle.attempts.specs.Attempts.{IsFew};
 
 use lock_walks::epoch_slots::{Kind, Short, reserve};
-use lock_walks::version_words::Runner;
 use structure_laws::Structure;
+use version_words::Runner;
 
 /// The runner, if two node slots and one descriptor are free; else the runner and the counts of the kind that
 /// lacks. Node

@@ -2,8 +2,8 @@
 ghost use Rattle.std.specs.Prelude.{◌≡◌, ◌+◌, length, true, false, Ok};
 ghost use Rattle.body_terms.specs.Trail.{Agreed};
 ghost use Rattle.body_terms.specs.declared.thunk.Thunk.{Thunk};
-ghost use Rattle.lock_walks.specs.version_words.specs.RunnerState.{RunnerState};
-ghost use Rattle.lock_walks.specs.version_words.specs.TableState.{IsOf};
+ghost use Rattle.version_words.specs.RunnerState.{RunnerState};
+ghost use Rattle.version_words.specs.TableState.{IsOf};
 ghost use Rattle.attempts.specs.Counted.{IsSeen};
 ghost use Rattle.attempts.specs.Course.{HasTried, HasEnded};
 ghost use Rattle.attempts.specs.Attempts.{most_of_run};
@@ -17,10 +17,10 @@ use crate::turns::turn_away;
 use body_terms::{Outcome, StepKind, Steps};
 use lock_walks::Planner;
 use lock_walks::try_lock::{RunEnd, Section, retire_section, run_section};
-use lock_walks::version_words::{FlockTable, Runner};
 use lock_words::stale_words_differ;
 use map_history::Request;
 use runner_gate::Gate;
+use version_words::{FlockTable, Runner};
 
 /// Retires the own section, which was run to its end with this outcome, and leaves: where it answered, with the words
 /// of the request, else with the refusal by which it left.

@@ -1,8 +1,8 @@
 //! The publication of an attempt.
 ghost use Rattle.std.specs.Prelude.{◌≡◌, length, false};
 ghost use Rattle.structure_laws.specs.Scene.{Readings};
-ghost use Rattle.lock_walks.specs.version_words.specs.RunnerState.{RunnerState};
-ghost use Rattle.lock_walks.specs.version_words.specs.TableState.{IsOf};
+ghost use Rattle.version_words.specs.RunnerState.{RunnerState};
+ghost use Rattle.version_words.specs.TableState.{IsOf};
 ghost use Rattle.lock_walks.specs.try_lock.specs.declared.planned.Planned.TheVariants as plans;
 ghost use Rattle.attempts.specs.Counted.{IsSeen};
 ghost use Rattle.attempts.specs.Course.{HasPlanned};
@@ -16,9 +16,9 @@ use crate::turns::turn_away;
 use body_terms::{Steps, Thunk};
 use lock_walks::Planner;
 use lock_walks::try_lock::publish;
-use lock_walks::version_words::{FlockTable, Runner};
 use map_history::Request;
 use runner_gate::Gate;
+use version_words::{FlockTable, Runner};
 
 /// Publishes the section of this thunk, which was just planned for the request, and runs it; or leaves where the lock
 /// refused it.

@@ -1,6 +1,6 @@
 //! How a runner leaves whose request was refused.
 ghost use Rattle.std.specs.Prelude.{◌≡◌, true};
-ghost use Rattle.lock_walks.specs.version_words.specs.TableState.{IsOf};
+ghost use Rattle.version_words.specs.TableState.{IsOf};
 ghost use Rattle.attempts.specs.Attempts.{is_refusal};
 ghost use Rattle.attempts.specs.Rests.{MayLeave, HasTurned};
 
@@ -8,11 +8,11 @@ use crate::answers::Attempt;
 use body_terms::Steps;
 use lock_walks::epoch_slots::exit;
 use lock_walks::try_lock::{RunEnd, help};
-use lock_walks::version_words::{FlockTable, Runner};
 use lock_words::runner_facts::names_stand;
 use lock_words::taken_names_stand;
 use runner_gate::Gate;
 use structure_laws::Structure;
+use version_words::{FlockTable, Runner};
 
 /// Leaves with this refusal, and answers it; where a lock was held, the section that its word names is run to its end
 /// first.

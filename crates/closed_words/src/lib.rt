@@ -10,5 +10,4 @@ pub use laws::closed_words_have_a_history;
 
 // Passed on to the layers above, so that they needn't name these libraries themselves.
 pub use reached_histories;
-pub use version_words;
 pub use version_words::machine_invariant;

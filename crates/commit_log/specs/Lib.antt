@@ -6,4 +6,3 @@ pub mod Halted
 pub use Rattle.next_steps.specs.machine_agreement
 pub use Rattle.next_steps.specs.machine_invariant
 pub use Rattle.next_steps
-pub use Rattle.version_words

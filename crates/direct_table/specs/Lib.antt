@@ -1,4 +1,3 @@
 -- Passed on to the layers above, so that they needn't name these libraries themselves.
 pub use Rattle.direct_laws
-pub use Rattle.fixed_walks.specs.version_words
 pub use Rattle.fixed_walks.specs.try_lock

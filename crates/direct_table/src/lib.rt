@@ -11,4 +11,4 @@ mod table;
 pub use table::DirectTable;
 
 // Passed on to the layers above, so that they needn't name these libraries themselves.
-pub use fixed_walks::{lock_walks, version_words};
+pub use fixed_walks::lock_walks;

@@ -13,12 +13,12 @@ use crate::table::DirectTable;
 use body_terms::{Body, Place, Thunk, Word};
 use direct_laws::key_cells::{fill_body, key_fits};
 use fixed_walks::lock_walks::Planner;
-use fixed_walks::version_words::Words;
 use fixed_walks::{FixedWalk, key_pairs, key_walk};
 use map_history::Op;
 use std::alloc::{AllocError, Global};
 use structure_laws::Structure;
 use table_words::Layout;
+use version_words::Words;
 
 impl Structure for DirectTable {
     ghost meaning = { λ s. direct s.base s.keys };

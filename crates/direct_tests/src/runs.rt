@@ -10,7 +10,6 @@ ghost use Rattle.threaded_runs.specs.closed_words.specs.Histories.{HoldsNoLock};
 
 use direct_table::DirectTable;
 use direct_table::lock_walks::Planner;
-use direct_table::version_words::Words;
 use map_history::{Reply, Request};
 use std::alloc::{AllocError, Global};
 use std::sync::Wait;
@@ -20,6 +19,7 @@ use threaded_runs::closed_words::closed_words_have_a_history;
 use threaded_runs::run_table;
 use threaded_runs::runner_gate::Gates;
 use threaded_runs::serving::Served;
+use version_words::Words;
 
 /// What is left of a run: what each worker answered, in order of number, the closed table's words, and its pairs.
 #[derive(Drop)]

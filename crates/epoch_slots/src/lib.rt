@@ -14,6 +14,3 @@ mod reserves;
 pub use collects::collect;
 pub use entry::{enter, exit};
 pub use reserves::{Kind, Short, reserve};
-
-// Passed on to the layers above, so that they needn't name these libraries themselves.
-pub use version_words;

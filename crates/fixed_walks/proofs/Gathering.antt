@@ -10,7 +10,7 @@ use Rattle.key_cells.specs.shared_laws.proofs.Listing.{are_entries}
 use Rattle.key_cells.specs.shared_laws.proofs.Numbers.{lt_of, lt_true}
 use Rattle.key_cells.specs.Keyed.{Keyed, IsKeyed, cell_place}
 use Rattle.key_cells.proofs.Places.{cell_there}
-use Rattle.lock_walks.specs.version_words.specs.TableState.{WordsState, HasWord, word_of}
+use Rattle.version_words.specs.TableState.{WordsState, HasWord, word_of}
 use Rattle.lock_walks.specs.try_lock.specs.Contents.{StandFor}
 use Rattle.fixed_walks.specs.Keys.{Means, word_at, held_by}
 

@@ -12,7 +12,7 @@ use Rattle.structure_laws.specs.Scene.{Cells}
 use Rattle.map_history.specs.AtKey.{reply_at, left_at, changes_at}
 use Rattle.key_cells.specs.Keyed.{Keyed, lock_place, cell_place, serves_key, held_in}
 use Rattle.key_cells.specs.Steps.{part}
-use Rattle.lock_walks.specs.version_words.specs.TableState.{WordsState, word_of}
+use Rattle.version_words.specs.TableState.{WordsState, word_of}
 use Rattle.fixed_walks.specs.Fixed.{Course}
 
 -- n cells in order, at most three

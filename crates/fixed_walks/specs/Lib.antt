@@ -2,5 +2,4 @@ pub mod Fixed
 pub mod Keys
 pub mod Walk
 -- Passed on to the layers above, so that they needn't name these libraries themselves.
-pub use Rattle.lock_walks.specs.version_words
 pub use Rattle.lock_walks.specs.try_lock

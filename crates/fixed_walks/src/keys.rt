@@ -16,11 +16,11 @@ use arrayvec::ArrayVec;
 use body_terms::Place;
 use key_cells::shared_laws::{changes_at, left_at, pairs_by_key, reply_at};
 use key_cells::{KeyCells, word_at};
-use lock_walks::version_words::Words;
 use map_history::Op;
 use std::alloc::{AllocError, Global};
 use structure_laws::Structure;
 use table_words::Layout;
+use version_words::Words;
 
 impl<C: KeyCells> FixedPlaces for C {
     ghost course = { λ c. key_course (C.keyed c) };

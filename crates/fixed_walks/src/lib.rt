@@ -15,4 +15,3 @@ pub use walk::FixedWalk;
 
 // Passed on to the layers above, so that they needn't name these libraries themselves.
 pub use lock_walks;
-pub use lock_walks::version_words;

@@ -10,7 +10,7 @@ use Rattle.table_words.specs.declared.layout.Layout.{Layout}
 use Rattle.table_words.specs.declared.spot.Spot.TheVariants.{Stamp}
 use Rattle.structure_laws.specs.Meaning.{Meaning}
 use Rattle.threaded_runs.specs.resource_bounds.specs.Makes.{inserts}
-use Rattle.load_counts.specs.version_words.specs.TableState.{WordsState, word_of}
+use Rattle.version_words.specs.TableState.{WordsState, word_of}
 use Rattle.command_line.specs.trace_reader.specs.Answer.{AreTracesOf}
 use Rattle.command_line.specs.trace_reader.specs.Generator.{generated}
 use Rattle.command_line.specs.trace_reader.specs.declared.generator.Gen.{Gen}

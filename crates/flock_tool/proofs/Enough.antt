@@ -8,7 +8,7 @@ use Rattle.table_words.specs.declared.layout.Layout.{Layout}
 use Rattle.table_words.specs.declared.spot.Spot.{Spot}
 use Rattle.table_words.specs.declared.spot.Spot.TheVariants.{Cell}
 use Rattle.structure_laws.specs.Meaning.{Meaning}
-use Rattle.load_counts.specs.version_words.specs.TableState.{WordsState, word_of}
+use Rattle.version_words.specs.TableState.{WordsState, word_of}
 use Rattle.hash_table.specs.epoch_slots.specs.declared.reserves.Kind.{Kind}
 use Rattle.hash_table.specs.epoch_slots.specs.declared.reserves.Kind.TheVariants as slots
 use Rattle.hash_table.specs.epoch_slots.specs.declared.reserves.Short.{Short}

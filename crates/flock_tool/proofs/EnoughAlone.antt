@@ -7,7 +7,7 @@ use Rattle.machine_states.proofs.Steps.{some_same}
 use Rattle.threaded_runs.specs.map_sizes.specs.Sizes.{peak}
 use Rattle.body_terms.specs.Memory.{cell_of}
 use Rattle.structure_laws.specs.Meaning.{Meaning}
-use Rattle.load_counts.specs.version_words.specs.TableState.{WordsState, word_of}
+use Rattle.version_words.specs.TableState.{WordsState, word_of}
 use Rattle.hash_table.specs.epoch_slots.specs.declared.reserves.Kind.{Kind}
 use Rattle.hash_table.specs.epoch_slots.specs.declared.reserves.Kind.TheVariants as slots
 use Rattle.hash_table.specs.epoch_slots.specs.declared.reserves.Short.{Short}

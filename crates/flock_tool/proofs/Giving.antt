@@ -11,7 +11,7 @@ use Rattle.threaded_runs.specs.Counts.{halts_counted, plans_from, plans_given, r
 use Rattle.threaded_runs.specs.Asks.{AreAsked}
 use Rattle.threaded_runs.specs.Lone.{ServesAlone}
 use Rattle.threaded_runs.specs.Runs.{AreServed, IsMadeWith}
-use Rattle.load_counts.specs.version_words.specs.TableState.{WordsState}
+use Rattle.version_words.specs.TableState.{WordsState}
 use Rattle.threaded_runs.specs.serving.specs.declared.answers.Served.{Served}
 use Rattle.command_line.specs.Halts.{ask_of, names_below}
 use Rattle.command_line.specs.declared.halts.Halt.{Halt}

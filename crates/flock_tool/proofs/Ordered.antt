@@ -17,7 +17,7 @@ use Rattle.table_words.specs.declared.spot.Spot.TheVariants.{Stamp}
 use Rattle.structure_laws.specs.Meaning.{Meaning}
 use Rattle.printed_traces.specs.report_text.specs.Ranks.{rank_among, ranks_of, turn_of, turns_of}
 use Rattle.load_counts.specs.run_reports.specs.Reports.{HaveEntries}
-use Rattle.load_counts.specs.version_words.specs.TableState.{WordsState, word_of}
+use Rattle.version_words.specs.TableState.{WordsState, word_of}
 use Rattle.threaded_runs.specs.serving.specs.declared.answers.Served.{Served}
 use Rattle.threaded_runs.specs.serving.specs.declared.answers.Served.TheVariants as answers
 use Rattle.threaded_runs.specs.Own.{own_requests}

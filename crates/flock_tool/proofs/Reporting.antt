@@ -5,7 +5,7 @@ use Rattle.table_words.specs.Limits.{IsWithinLimits}
 use Rattle.table_words.specs.declared.layout.Layout.{Layout}
 use Rattle.structure_laws.specs.Meaning.{Meaning}
 use Rattle.load_counts.specs.machine_invariant.specs.After.{AreAllowed}
-use Rattle.load_counts.specs.version_words.specs.TableState.{WordsState}
+use Rattle.version_words.specs.TableState.{WordsState}
 use Rattle.command_line.specs.trace_reader.specs.Answer.{AreTracesOf}
 use Rattle.command_line.specs.trace_reader.specs.Formats.{AreOfFormat}
 use Rattle.load_counts.specs.run_reports.specs.Reports.{Prints}

@@ -8,7 +8,7 @@ use Rattle.map_history.specs.Replay.{Pairs}
 use Rattle.body_terms.specs.Word.{value_of, is_free}
 use Rattle.table_words.specs.declared.spot.Spot.TheVariants.{Cell}
 use Rattle.structure_laws.specs.Meaning.{Meaning}
-use Rattle.load_counts.specs.version_words.specs.TableState.{WordsState, word_of}
+use Rattle.version_words.specs.TableState.{WordsState, word_of}
 use Rattle.load_counts.specs.closed_words.specs.Histories.{HoldsNoLock}
 use Rattle.hash_table.specs.try_lock.specs.Contents.{StandFor, NamesNone}
 use Rattle.load_counts.specs.run_reports.specs.Reports.{HaveContents}

@@ -15,7 +15,7 @@ use Rattle.structure_laws.specs.Meaning.{Meaning}
 use Rattle.map_history.specs.Requests.{AreInOrder}
 use Rattle.machine_states.proofs.Steps.{some_same}
 use Rattle.load_counts.specs.machine_invariant.specs.After.{AreAllowed}
-use Rattle.load_counts.specs.version_words.specs.TableState.{WordsState, word_of}
+use Rattle.version_words.specs.TableState.{WordsState, word_of}
 use Rattle.load_counts.specs.run_reports.specs.Reports.{HaveEntries, unserved_in}
 use Rattle.threaded_runs.specs.serving.specs.declared.answers.Served.{Served}
 use Rattle.threaded_runs.specs.serving.specs.declared.answers.Served.TheVariants as answers

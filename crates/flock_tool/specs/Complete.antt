@@ -4,7 +4,7 @@ use Rattle.body_terms.specs.Word.{version_of}
 use Rattle.table_words.specs.declared.spot.Spot.TheVariants.{Cell, Stamp}
 use Rattle.structure_laws.specs.Meaning.{Meaning}
 use Rattle.threaded_runs.specs.resource_bounds.specs.Makes.{inserts}
-use Rattle.load_counts.specs.version_words.specs.TableState.{WordsState, word_of}
+use Rattle.version_words.specs.TableState.{WordsState, word_of}
 
 module _ {T : Type 0} (m : Meaning) (w : WordsState T) where
   -- each worker has two node slots for each request that inserts, and two more

@@ -8,7 +8,7 @@ use Rattle.structure_laws.specs.Meaning.{Meaning}
 use Rattle.command_line.specs.trace_reader.specs.Generator.{generated}
 use Rattle.command_line.specs.trace_reader.specs.declared.generator.Gen.{Gen}
 use Rattle.printed_traces.specs.report_text.specs.Sink.{Extends, ExtendsInPart}
-use Rattle.load_counts.specs.version_words.specs.TableState.{WordsState}
+use Rattle.version_words.specs.TableState.{WordsState}
 use Rattle.threaded_runs.specs.Asks.{AreAsked}
 use Rattle.load_counts.specs.run_reports.specs.Reports.{HaveContents, HaveEntries, unserved_in}
 use Rattle.load_counts.specs.Apart.{load_text}

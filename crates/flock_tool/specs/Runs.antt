@@ -8,7 +8,7 @@ use Rattle.printed_traces.specs.report_text.specs.Sink.{Extends, ExtendsInPart}
 use Rattle.hash_table.specs.declared.table.HashTable.{HashTable}
 use Rattle.leaf_tree.specs.declared.tree.LeafTree.{LeafTree}
 use Rattle.leaf_tree.specs.tree_laws.specs.Leaves.{tree}
-use Rattle.load_counts.specs.version_words.specs.TableState.{WordsState}
+use Rattle.version_words.specs.TableState.{WordsState}
 use Rattle.printed_traces.specs.report_text.specs.Ranks.{ranks_of}
 use Rattle.load_counts.specs.run_reports.specs.Reports.{IsReport, PrintsInPart}
 use Rattle.threaded_runs.specs.serving.specs.declared.answers.Served.{Served}

@@ -20,13 +20,13 @@ use crate::status::{Stop, status_of, tell};
 use command_line::LoadOptions;
 use command_line::trace_reader::TraceError;
 use hash_table::lock_walks::Planner;
-use load_counts::version_words::Words;
 use load_counts::{Tally, print_counts, tally_words};
 use printed_traces::report_text::Sink;
 use std::alloc::{AllocError, Global};
 use std::sync::Wait;
 use std::thread::Threads;
 use threaded_runs::runner_gate::Gates;
+use version_words::Words;
 
 /// What the closed words of a run come to.
 #[derive(Clone, Copy, Debug, PartialEq, Eq)]

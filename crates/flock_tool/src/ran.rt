@@ -2,8 +2,8 @@
 
 use hash_table::HashTable;
 use leaf_tree::LeafTree;
-use load_counts::version_words::Words;
 use threaded_runs::serving::Served;
+use version_words::Words;
 
 /// The closed words of a run, and what each runner answered, in the order of their numbers. Its words come from the
 /// closing of a table alone.

@@ -21,7 +21,6 @@ use hash_table::HashTable;
 use hash_table::lock_walks::Planner;
 use leaf_tree::LeafTree;
 use load_counts::run_reports::{contents_stand, print_words};
-use load_counts::version_words::{Words, words_are_reached};
 use printed_traces::report_text::Sink;
 use std::alloc::{AllocError, Global};
 use std::sync::Wait;
@@ -29,6 +28,7 @@ use std::thread::Threads;
 use threaded_runs::run_table;
 use threaded_runs::runner_gate::Gates;
 use threaded_runs::serving::Served;
+use version_words::{Words, words_are_reached};
 
 /// Runs the requests of a plan on one table of the structure that its options name. A runner that lacks slots tries
 /// again while some of its own are in limbo, unless the words name a halt for a runner that is there: a halted runner

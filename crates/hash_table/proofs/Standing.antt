@@ -10,7 +10,7 @@ use Rattle.table_words.specs.Places.{slot_count}
 use Rattle.table_words.specs.declared.spot.Spot.TheVariants.{Cell}
 use Rattle.bucket_laws.specs.Buckets.{buckets_meaning, nodes}
 use Rattle.bucket_laws.proofs.Places.{lt_true}
-use Rattle.lock_walks.specs.version_words.specs.TableState.{WordsState, word_of}
+use Rattle.version_words.specs.TableState.{WordsState, word_of}
 use Rattle.lock_walks.specs.try_lock.specs.Contents.{StandFor}
 use Rattle.hash_table.specs.Stands.{HasGathered, Gathers}
 use Rattle.hash_table.proofs.Gathering.{gathering_begins, gathering_more, gathered_more, chain_ends}

@@ -14,10 +14,10 @@ ghost use Rattle.bucket_laws.proofs.Retiring.{few_retires};
 use crate::table::HashTable;
 use crate::walk::BucketWalk;
 use lock_walks::Planner;
-use lock_walks::version_words::Words;
 use map_history::Op;
 use std::alloc::{AllocError, Global};
 use table_words::Layout;
+use version_words::Words;
 
 impl Planner for HashTable {
     type Walk = BucketWalk;

@@ -27,9 +27,9 @@ use Rattle.commit_log.specs.machine_agreement.proofs.LineAsked.{fill_store_asked
 use Rattle.commit_log.specs.machine_invariant.specs.After.{AreAllowed}
 use Rattle.commit_log.specs.next_steps.specs.Steps.{slot_in, kind_at, ask_at, has_slot}
 use Rattle.commit_log.specs.next_steps.specs.Stages.{filling_slot, nodes_taking}
-use Rattle.commit_log.specs.version_words.specs.RunnerState.{RunnerState}
-use Rattle.commit_log.specs.version_words.specs.TableState.{TableState, IsOf}
-use Rattle.commit_log.specs.version_words.specs.Events.{met_by, IsEnabled, Makes}
+use Rattle.version_words.specs.RunnerState.{RunnerState}
+use Rattle.version_words.specs.TableState.{TableState, IsOf}
+use Rattle.version_words.specs.Events.{met_by, IsEnabled, Makes}
 use Rattle.commit_log.specs.Runs.{IsRunning, Stepped, Ran}
 use Rattle.commit_log.proofs.Running.{may_make, asked_there, then_made, ran_one, ran_more}
 use Rattle.commit_log.proofs.Next.{next_here, settled_at, settled_next}

@@ -5,5 +5,4 @@ pub mod Retired
 pub use Rattle.commit_log.specs.machine_agreement
 pub use Rattle.commit_log.specs.machine_invariant
 pub use Rattle.commit_log.specs.next_steps
-pub use Rattle.commit_log.specs.version_words
 pub use Rattle.commit_log

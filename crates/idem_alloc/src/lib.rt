@@ -13,4 +13,3 @@ pub use retires::{retire, retire_gated};
 
 // Passed on to the layers above, so that they needn't name these libraries themselves.
 pub use commit_log;
-pub use commit_log::version_words;

@@ -13,10 +13,10 @@ use Rattle.runner_steps.specs.Sections.{thunk_of, line_of}
 use Rattle.runner_steps.specs.AfterInRun.{goes_on, agrees}
 use Rattle.machine_epochs.proofs.RunPlaces.{next_in_line}
 use Rattle.commit_log.specs.machine_invariant.specs.After.{AreAllowed}
-use Rattle.commit_log.specs.version_words.specs.RunnerState.{RunnerState}
-use Rattle.commit_log.specs.version_words.specs.TableState.{TableState, IsOf}
-use Rattle.commit_log.specs.version_words.specs.Events.{met_by, Makes}
-use Rattle.commit_log.specs.version_words.specs.Naming.{load_of}
+use Rattle.version_words.specs.RunnerState.{RunnerState}
+use Rattle.version_words.specs.TableState.{TableState, IsOf}
+use Rattle.version_words.specs.Events.{met_by, Makes}
+use Rattle.version_words.specs.Naming.{load_of}
 use Rattle.commit_log.specs.Runs.{IsRunning, Stepped}
 use Rattle.commit_log.specs.Committed.{MayCommit, HasCommitted}
 use Rattle.commit_log.proofs.Running.{may_make, then_made}

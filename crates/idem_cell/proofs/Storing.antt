@@ -20,9 +20,9 @@ use Rattle.runner_steps.specs.Asks.{sizes_for}
 use Rattle.machine_states.proofs.Sights.{if_some}
 use Rattle.machine_states.proofs.Steps.{some_same}
 use Rattle.commit_log.specs.machine_invariant.specs.After.{AreAllowed}
-use Rattle.commit_log.specs.version_words.specs.RunnerState.{RunnerState}
-use Rattle.commit_log.specs.version_words.specs.TableState.{TableState, IsOf}
-use Rattle.commit_log.specs.version_words.specs.Events.{met_by, Makes}
+use Rattle.version_words.specs.RunnerState.{RunnerState}
+use Rattle.version_words.specs.TableState.{TableState, IsOf}
+use Rattle.version_words.specs.Events.{met_by, Makes}
 use Rattle.commit_log.proofs.Running.{may_make, asked_there, then_made}
 use Rattle.idem_cell.specs.Stored.{MayStore, HasStored}
 

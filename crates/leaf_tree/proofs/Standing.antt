@@ -8,7 +8,7 @@ use Rattle.table_words.specs.Places.{slot_count}
 use Rattle.table_words.specs.declared.spot.Spot.TheVariants.{Cell}
 use Rattle.tree_walks.specs.tree_laws.specs.Search.{IsInner, IsLeaf}
 use Rattle.tree_walks.specs.tree_laws.specs.Leaves.{tree, nodes}
-use Rattle.lock_walks.specs.version_words.specs.TableState.{WordsState, word_of}
+use Rattle.version_words.specs.TableState.{WordsState, word_of}
 use Rattle.lock_walks.specs.try_lock.specs.Contents.{StandFor}
 use Rattle.leaf_tree.specs.Stands.{Gathers, Waits}
 use Rattle.leaf_tree.proofs.Gathering.{is_linked, gathers_leaf, gathers_none, gathers_inner}

@@ -3,4 +3,3 @@ pub mod Gathered
 pub mod Stands
 -- Passed on to the layers above, so that they needn't name these libraries themselves.
 pub use Rattle.tree_walks.specs.tree_laws
-pub use Rattle.lock_walks.specs.version_words

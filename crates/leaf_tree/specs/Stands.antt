@@ -3,7 +3,7 @@ use Rattle.std.specs.Prelude.{ℕ, List, [], ◌∷◌, ◌++◌}
 use Rattle.map_history.specs.Replay.{Pairs}
 use Rattle.table_words.specs.Places.{slot_count}
 use Rattle.tree_walks.specs.tree_laws.specs.Leaves.{tree}
-use Rattle.lock_walks.specs.version_words.specs.TableState.{WordsState}
+use Rattle.version_words.specs.TableState.{WordsState}
 use Rattle.lock_walks.specs.try_lock.specs.Contents.{StandFor}
 use Rattle.leaf_tree.specs.Gathered.{IsGathering}
 

@@ -2,9 +2,8 @@
 ghost use Rattle.std.specs.Prelude.{◌≡◌, IfOk};
 ghost use Rattle.std.specs.FinMap.{entries};
 ghost use Rattle.map_history.specs.Replay.{Pairs};
-ghost use Rattle.tree_walks.specs.tree_laws.specs.Leaves.{tree};
+ghost use Rattle.tree_walks.specs.tree_laws.specs.Leaves.{tree, walk_of};
 ghost use Rattle.tree_walks.specs.tree_laws.proofs.TreeLaws.{tree_plans};
-ghost use Rattle.tree_walks.specs.tree_laws.specs.Leaves.{walk_of};
 ghost use Rattle.tree_walks.specs.Walking.{is_refused_in};
 ghost use Rattle.tree_walks.specs.tree_laws.proofs.Near.{not_far, no_mark};
 ghost use Rattle.lock_walks.specs.try_lock.specs.Contents.{StandFor, NamesNone};
@@ -14,11 +13,11 @@ ghost use Rattle.tree_walks.specs.tree_laws.proofs.Retiring.{few_retires};
 use crate::tree::LeafTree;
 use crate::walker::LeafWalk;
 use lock_walks::Planner;
-use lock_walks::version_words::Words;
 use map_history::Op;
 use std::alloc::{AllocError, Global};
 use table_words::Layout;
 use tree_walks::far_walks_are_long;
+use version_words::Words;
 
 impl Planner for LeafTree {
     type Walk = LeafWalk;

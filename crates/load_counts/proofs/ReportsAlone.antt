@@ -9,7 +9,7 @@ use Rattle.map_history.specs.Requests.{AreInOrder}
 use Rattle.structure_laws.specs.Meaning.{Meaning}
 use Rattle.run_reports.specs.closed_words.specs.Histories.{HaveHistory, HoldsNoLock}
 use Rattle.run_reports.specs.machine_invariant.specs.After.{AreAllowed}
-use Rattle.run_reports.specs.version_words.specs.TableState.{WordsState}
+use Rattle.version_words.specs.TableState.{WordsState}
 use Rattle.run_reports.specs.report_text.specs.Entries.{AreLegal}
 use Rattle.trace_reader.specs.Generator.{generated}
 use Rattle.trace_reader.specs.declared.generator.Gen.{Gen}

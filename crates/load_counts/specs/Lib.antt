@@ -3,6 +3,5 @@ pub mod Counts
 pub mod Tallies
 -- Passed on to the layers above, so that they needn't name these libraries themselves.
 pub use Rattle.run_reports.specs.machine_invariant
-pub use Rattle.run_reports.specs.version_words
 pub use Rattle.run_reports.specs.closed_words
 pub use Rattle.run_reports

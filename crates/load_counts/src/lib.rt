@@ -16,4 +16,3 @@ pub use tally::{Tally, tally_words};
 
 // Passed on to the layers above, so that they needn't name these libraries themselves.
 pub use run_reports;
-pub use run_reports::version_words;

@@ -9,9 +9,9 @@ use crate::{
 };
 use run_reports::closed_words::closed_words_have_a_history;
 use run_reports::entries_of;
-use run_reports::version_words::{Words, words_are_reached};
 use std::alloc::{AllocError, Global};
 use structure_laws::Structure;
+use version_words::{Words, words_are_reached};
 
 /// What the entries of a closed table's requests come to.
 #[derive(Clone, Copy, Debug, PartialEq, Eq)]

@@ -13,8 +13,8 @@ use Rattle.structure_laws.specs.Meaning.{Meaning}
 use Rattle.structure_laws.specs.Cells.{slots}
 use Rattle.structure_laws.specs.Laws.{Laws}
 use Rattle.lock_words.specs.machine_invariant.specs.After.{AreAllowed}
-use Rattle.lock_walks.specs.version_words.specs.RunnerState.{RunnerState}
-use Rattle.lock_walks.specs.version_words.specs.TableState.{TableState, IsOf}
+use Rattle.version_words.specs.RunnerState.{RunnerState}
+use Rattle.version_words.specs.TableState.{TableState, IsOf}
 use Rattle.lock_walks.specs.epoch_slots.specs.Entries.{Enters}
 use Rattle.lock_walks.specs.commit_log.specs.Asked.{IsAsked}
 use Rattle.lock_walks.specs.commit_log.proofs.Asked.{asked_none}

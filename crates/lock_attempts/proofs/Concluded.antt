@@ -15,8 +15,8 @@ use Rattle.runner_parts.specs.Tests.{is_answered}
 use Rattle.machine_states.specs.Sight.{Sight, sight}
 use Rattle.lock_words.specs.machine_invariant.specs.After.{AreAllowed}
 use Rattle.lock_words.specs.machine_invariant.specs.Sections.{IsAnswered, IsLeft}
-use Rattle.lock_walks.specs.version_words.specs.RunnerState.{RunnerState}
-use Rattle.lock_walks.specs.version_words.specs.TableState.{TableState, IsOf}
+use Rattle.version_words.specs.RunnerState.{RunnerState}
+use Rattle.version_words.specs.TableState.{TableState, IsOf}
 use Rattle.lock_walks.specs.epoch_slots.specs.Entries.{HasLeave, Exits}
 use Rattle.lock_walks.specs.commit_log.proofs.Asked.{asked_none}
 use Rattle.lock_walks.specs.try_lock.specs.declared.section.Section.{Section}

@@ -13,8 +13,8 @@ use Rattle.structure_laws.specs.Meaning.{Meaning}
 use Rattle.runner_parts.specs.declared.entries.Known.{Known}
 use Rattle.runner_parts.specs.Tests.{is_answered, are_answered}
 use Rattle.table_words.specs.declared.layout.Layout.{Layout}
-use Rattle.lock_walks.specs.version_words.specs.RunnerState.{RunnerState}
-use Rattle.lock_walks.specs.version_words.specs.TableState.{TableState, IsOf}
+use Rattle.version_words.specs.RunnerState.{RunnerState}
+use Rattle.version_words.specs.TableState.{TableState, IsOf}
 use Rattle.lock_walks.specs.epoch_slots.specs.Collects.{IsTidy}
 use Rattle.lock_walks.specs.try_lock.specs.Planning.{Planning}
 use Rattle.attempts.specs.Knowing.{IsFront, KnowsMore, IsOwn, LearnsNoOther}

@@ -3,7 +3,7 @@ use Rattle.std.specs.Prelude.{◌≡◌, ℕ, zero, suc, ◌≤◌, Bool, true, 
 use Rattle.map_history.specs.declared.op.Request.{Request}
 use Rattle.runner_gate.specs.Asks.{Asks}
 use Rattle.structure_laws.specs.Meaning.{Meaning}
-use Rattle.lock_walks.specs.version_words.specs.RunnerState.{RunnerState}
+use Rattle.version_words.specs.RunnerState.{RunnerState}
 use Rattle.lock_walks.specs.try_lock.specs.Planning.{Planning}
 use Rattle.attempts.specs.Knowing.{KnowsMore, LearnsNoOther}
 use Rattle.attempts.specs.Course.{MayAttempt}

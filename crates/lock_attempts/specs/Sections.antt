@@ -16,7 +16,7 @@ use Rattle.machine_states.specs.Sight.{Sight, sight}
 use Rattle.lock_words.specs.machine_invariant.specs.Along.{Components}
 use Rattle.lock_words.specs.machine_invariant.specs.Trails.{thunk_at, step_at, log_of}
 use Rattle.lock_words.specs.machine_invariant.specs.Sections.{IsAnswered}
-use Rattle.lock_walks.specs.version_words.specs.RunnerState.{RunnerState}
+use Rattle.version_words.specs.RunnerState.{RunnerState}
 use Rattle.lock_walks.specs.epoch_slots.specs.Collects.{IsTidy}
 use Rattle.lock_walks.specs.epoch_slots.specs.Entries.{Exits}
 use Rattle.lock_walks.specs.try_lock.specs.Planning.{Planning}

@@ -1,8 +1,8 @@
 //! One attempt of a ticket's section.
 ghost use Rattle.std.specs.Prelude.{◌≡◌, false};
 ghost use Rattle.structure_laws.specs.Cells.{slots};
-ghost use Rattle.lock_walks.specs.version_words.specs.RunnerState.{RunnerState};
-ghost use Rattle.lock_walks.specs.version_words.specs.TableState.{IsOf};
+ghost use Rattle.version_words.specs.RunnerState.{RunnerState};
+ghost use Rattle.version_words.specs.TableState.{IsOf};
 ghost use Rattle.lock_walks.specs.Way.{Leads};
 ghost use Rattle.attempts.specs.Counted.{IsSeen};
 ghost use Rattle.attempts.specs.Course.{MayAttempt, HasEntered};
@@ -15,12 +15,12 @@ use crate::tries::try_section;
 use attempts::epoch_slots::enter;
 use attempts::lock_walks::{Walker, plan_by};
 use attempts::try_lock::Planned;
-use attempts::version_words::{FlockTable, Runner};
 use attempts::{Attempt, goes_on, plan_refused, reclaim, reserve_slots, turn_away};
 use body_terms::{StepKind, Steps};
 use map_history::Request;
 use runner_gate::Gate;
 use structure_laws::Structure;
+use version_words::{FlockTable, Runner};
 
 /// Plans the section by this walk, behind the entry, and tries it; or leaves where the plan was refused.
 fn plan_and_try<S: Structure, W: Walker, G: Gate, L>(

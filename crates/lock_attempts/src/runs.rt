@@ -3,8 +3,8 @@ ghost use Rattle.std.specs.Prelude.{◌+◌, length, true, false, Ok};
 ghost use Rattle.map_history.specs.declared.op.Request.{Request};
 ghost use Rattle.body_terms.specs.Trail.{Agreed};
 ghost use Rattle.body_terms.specs.declared.thunk.Thunk.{Thunk};
-ghost use Rattle.lock_walks.specs.version_words.specs.RunnerState.{RunnerState};
-ghost use Rattle.lock_walks.specs.version_words.specs.TableState.{IsOf};
+ghost use Rattle.version_words.specs.RunnerState.{RunnerState};
+ghost use Rattle.version_words.specs.TableState.{IsOf};
 ghost use Rattle.lock_walks.specs.try_lock.specs.Planning.{Planning};
 ghost use Rattle.attempts.specs.Counted.{IsSeen};
 ghost use Rattle.attempts.specs.Course.{HasTried, HasEnded};
@@ -14,12 +14,12 @@ ghost use Rattle.lock_attempts.specs.Parts.{SectionRests};
 
 use attempts::epoch_slots::exit;
 use attempts::try_lock::{RunEnd, Section, retire_section, run_section};
-use attempts::version_words::{FlockTable, Runner};
 use attempts::{Attempt, goes_on, section_left, turn_away};
 use body_terms::{Outcome, StepKind, Steps};
 use lock_words::stale_words_differ;
 use runner_gate::Gate;
 use structure_laws::Structure;
+use version_words::{FlockTable, Runner};
 
 /// Retires the own section, which was run to its end with this outcome, and leaves: where it answered, with that
 /// number, else with the refusal by which it left.

@@ -1,7 +1,7 @@
 //! The section of a ticket, again where it was refused.
 ghost use Rattle.std.specs.Prelude.{◌≡◌, ◌≢◌, ◌+◌, ◌<◌, IfOk, IfErr, Err, true};
 ghost use Rattle.map_history.specs.declared.op.Op.TheVariants.{Get};
-ghost use Rattle.lock_walks.specs.version_words.specs.TableState.{IsOf};
+ghost use Rattle.version_words.specs.TableState.{IsOf};
 ghost use Rattle.lock_walks.specs.Way.{Leads};
 ghost use Rattle.lock_walks.specs.Wants.{WantsWereRead};
 ghost use Rattle.attempts.specs.Counted.{IsSeen};
@@ -14,11 +14,11 @@ use crate::attempting::attempt_section;
 use crate::tickets::Tickets;
 use attempts::Attempt;
 use attempts::lock_walks::Walker;
-use attempts::version_words::{FlockTable, Runner};
 use body_terms::Steps;
 use map_history::{Op, Request};
 use runner_gate::Gate;
 use structure_laws::Structure;
+use version_words::{FlockTable, Runner};
 
 /// Whether a section is attempted again after this answer: another one came between, or slots are in limbo.
 fn is_again(answer: &Result<u64, Attempt>) -> bool

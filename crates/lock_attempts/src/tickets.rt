@@ -1,14 +1,14 @@
 //! Tickets: requests of one section each.
 ghost use Rattle.std.specs.Prelude.{◌≡◌, ◌+◌, ◌-◌, ◌*◌, ◌<◌, ◌≤◌, IfOk, []};
 ghost use Rattle.map_history.specs.Requests.{AreInOrder};
-ghost use Rattle.lock_walks.specs.version_words.specs.TableState.{IsOf};
+ghost use Rattle.version_words.specs.TableState.{IsOf};
 ghost use Rattle.lock_walks.specs.epoch_slots.specs.Collects.{IsTidy};
 ghost use Rattle.lock_attempts.specs.Tickets.{tickets_for, HasTickets};
 
-use attempts::version_words::{FlockTable, Runner};
 use map_history::{Op, Request};
 use std::alloc::{AllocError, Global};
 use structure_laws::Structure;
+use version_words::{FlockTable, Runner};
 
 /// The tickets of a worker that aren't used yet: those of one trace, from one number up to another.
 #[derive(Clone, Copy, Debug, PartialEq, Eq)]

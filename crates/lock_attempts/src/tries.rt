@@ -2,8 +2,8 @@
 ghost use Rattle.std.specs.Prelude.{length, false};
 ghost use Rattle.map_history.specs.declared.op.Request.{Request};
 ghost use Rattle.structure_laws.specs.Scene.{Readings};
-ghost use Rattle.lock_walks.specs.version_words.specs.RunnerState.{RunnerState};
-ghost use Rattle.lock_walks.specs.version_words.specs.TableState.{IsOf};
+ghost use Rattle.version_words.specs.RunnerState.{RunnerState};
+ghost use Rattle.version_words.specs.TableState.{IsOf};
 ghost use Rattle.lock_walks.specs.try_lock.specs.Planning.{Planning};
 ghost use Rattle.lock_walks.specs.try_lock.specs.declared.planned.Planned.TheVariants as plans;
 ghost use Rattle.attempts.specs.Counted.{IsSeen};
@@ -14,11 +14,11 @@ ghost use Rattle.lock_attempts.specs.Parts.{SectionRests};
 
 use crate::runs::run_own;
 use attempts::try_lock::publish;
-use attempts::version_words::{FlockTable, Runner};
 use attempts::{Attempt, lock_refused, turn_away};
 use body_terms::{Steps, Thunk};
 use runner_gate::Gate;
 use structure_laws::Structure;
+use version_words::{FlockTable, Runner};
 
 /// Publishes the section of this thunk, which was just planned, and runs it; or leaves where the lock refused it.
 pub fn try_section<S: Structure, G: Gate, L>(

@@ -4,8 +4,8 @@ use Rattle.std.proofs.Common.{◌≡◌, ℕ, ◌*◌, ◌<◌, ◌≤◌, List,
 use Rattle.map_history.specs.declared.op.Request.{Request}
 use Rattle.table_words.specs.declared.layout.Layout.{Layout}
 use Rattle.accounts.specs.declared.table.Accounts.{Accounts}
-use Rattle.lock_walks.specs.version_words.specs.RunnerState.{RunnerState}
-use Rattle.lock_walks.specs.version_words.specs.TableState.{TableState, IsNew}
+use Rattle.version_words.specs.RunnerState.{RunnerState}
+use Rattle.version_words.specs.TableState.{TableState, IsNew}
 use Rattle.lock_attempts.specs.Tickets.{tickets_for}
 use Rattle.settled_tables.specs.Seats.{IsNewWorker, AreNewWorkers}
 use Rattle.lock_tests.specs.Bank.{IsBank, MayMove}

@@ -11,8 +11,8 @@ use Rattle.structure_laws.specs.Meaning.{Meaning}
 use Rattle.runner_parts.specs.declared.entries.Known.{Known}
 use Rattle.runner_parts.specs.Tests.{knows, is_answered, are_answered}
 use Rattle.machine_states.proofs.Steps.{some_same, none_some}
-use Rattle.hash_table.specs.version_words.specs.RunnerState.{RunnerState}
-use Rattle.hash_table.specs.version_words.specs.TableState.{TableState, IsOf}
+use Rattle.version_words.specs.RunnerState.{RunnerState}
+use Rattle.version_words.specs.TableState.{TableState, IsOf}
 use Rattle.hash_table.specs.epoch_slots.specs.Collects.{IsTidy}
 use Rattle.hash_table.specs.try_lock.specs.Planning.{Planning}
 use Rattle.attempts.specs.Attempts.{Answers, Attempts}

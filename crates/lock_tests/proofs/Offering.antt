@@ -12,8 +12,8 @@ use Rattle.runner_parts.specs.declared.entries.Known.{Known}
 use Rattle.runner_parts.specs.State.{NodesState}
 use Rattle.runner_parts.specs.Tests.{has_pair, is_open, is_next, serves}
 use Rattle.runner_steps.specs.Outside.{is_due}
-use Rattle.closed_words.specs.version_words.specs.RunnerState.{RunnerState}
-use Rattle.closed_words.specs.version_words.specs.TableState.{TableState, IsOf}
+use Rattle.version_words.specs.RunnerState.{RunnerState}
+use Rattle.version_words.specs.TableState.{TableState, IsOf}
 use Rattle.attempts.specs.try_lock.specs.declared.section.Section.{Section}
 use Rattle.attempts.specs.try_lock.specs.Publishes.{MayPublish, Publishes}
 use Rattle.lock_tests.specs.declared.turns.Offer.{Offer}

@@ -8,7 +8,7 @@ use Rattle.runner_gate.specs.Asks.{Asks}
 use Rattle.structure_laws.specs.Meaning.{Meaning}
 use Rattle.runner_parts.specs.State.{DescriptorsState, NodesState, ReadsState}
 use Rattle.runner_parts.specs.Tests.{has_pair, is_next, serves}
-use Rattle.closed_words.specs.version_words.specs.RunnerState.{RunnerState}
+use Rattle.version_words.specs.RunnerState.{RunnerState}
 use Rattle.attempts.specs.epoch_slots.specs.Entries.{Enters}
 use Rattle.attempts.specs.try_lock.specs.declared.planned.Planned.{Planned}
 use Rattle.attempts.specs.try_lock.specs.declared.planned.Planned.TheVariants as answers

@@ -9,10 +9,10 @@ use Rattle.runner_parts.specs.declared.event.EventKind.TheVariants as kinds
 use Rattle.runner_parts.specs.State.{DescriptorsState, NodesState, ReadsState}
 use Rattle.runner_parts.specs.Lists.{named_by}
 use Rattle.runner_parts.specs.Tests.{has, has_pair}
-use Rattle.closed_words.specs.version_words.specs.RunnerState.{RunnerState}
-use Rattle.closed_words.specs.version_words.specs.Events.{Makes}
-use Rattle.closed_words.specs.version_words.specs.Naming.{load_of}
-use Rattle.closed_words.specs.version_words.proofs.Stages.{then_loaded_cell}
+use Rattle.version_words.specs.RunnerState.{RunnerState}
+use Rattle.version_words.specs.Events.{Makes}
+use Rattle.version_words.specs.Naming.{load_of}
+use Rattle.version_words.proofs.Stages.{then_loaded_cell}
 use Rattle.attempts.specs.epoch_slots.specs.Entries.{Enters}
 use Rattle.attempts.specs.epoch_slots.proofs.Outside.{nodes_made, descriptors_made, reads_made, known_made}
 use Rattle.attempts.specs.runner_facts.proofs.Names.{pair_last}

@@ -12,9 +12,9 @@ use Rattle.runner_parts.specs.Lists.{learned}
 use Rattle.runner_parts.specs.State.{NodesState}
 use Rattle.runner_parts.specs.Tests.{knows, is_answered, are_answered}
 use Rattle.machine_states.proofs.Steps.{some_same, none_some}
-use Rattle.closed_words.specs.version_words.specs.RunnerState.{RunnerState}
-use Rattle.closed_words.specs.version_words.specs.Events.{Makes}
-use Rattle.closed_words.specs.version_words.proofs.Stages.{then_knows}
+use Rattle.version_words.specs.RunnerState.{RunnerState}
+use Rattle.version_words.specs.Events.{Makes}
+use Rattle.version_words.proofs.Stages.{then_knows}
 use Rattle.attempts.specs.epoch_slots.specs.Collects.{IsTidy}
 use Rattle.attempts.specs.epoch_slots.proofs.Outside.{nodes_made, known_made}
 use Rattle.attempts.specs.section_runs.specs.Opened.{Learns}

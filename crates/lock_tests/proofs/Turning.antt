@@ -9,7 +9,7 @@ use Rattle.body_terms.specs.declared.thunk.Thunk.{Thunk}
 use Rattle.structure_laws.specs.Meaning.{Meaning}
 use Rattle.runner_parts.specs.declared.entries.Published.{Published}
 use Rattle.runner_steps.specs.AfterInRun.{over_if}
-use Rattle.closed_words.specs.version_words.specs.RunnerState.{RunnerState}
+use Rattle.version_words.specs.RunnerState.{RunnerState}
 use Rattle.attempts.specs.commit_log.specs.Runs.{Ran}
 use Rattle.attempts.specs.section_runs.specs.declared.runs.RunEnd.{RunEnd}
 use Rattle.attempts.specs.section_runs.specs.declared.runs.RunEnd.TheVariants.{Done, Halted}

@@ -8,7 +8,7 @@ use Rattle.table_words.specs.declared.spot.Spot.TheVariants.{Cell}
 use Rattle.table_words.specs.Seen.{blank}
 use Rattle.structure_laws.specs.Meaning.{Meaning}
 use Rattle.runner_steps.specs.Asks.{sizes_for}
-use Rattle.closed_words.specs.version_words.specs.TableState.{WordsState, word_of}
+use Rattle.version_words.specs.TableState.{WordsState, word_of}
 use Rattle.closed_words.specs.Histories.{HoldsNoLock}
 use Rattle.lock_tests.specs.Closing.{cells_of, AreFreeBelow}
 

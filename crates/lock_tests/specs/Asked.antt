@@ -6,7 +6,7 @@ use Rattle.map_history.specs.declared.op.Op.TheVariants.{Get}
 use Rattle.map_history.specs.declared.op.Request.{Request}
 use Rattle.runner_parts.specs.declared.entries.Known.{Known}
 use Rattle.runner_parts.specs.Tests.{is_answered, is_next}
-use Rattle.closed_words.specs.version_words.specs.RunnerState.{RunnerState}
+use Rattle.version_words.specs.RunnerState.{RunnerState}
 use Rattle.attempts.specs.epoch_slots.specs.Collects.{IsTidy}
 use Rattle.lock_tests.specs.Workers.{HasReserve}
 

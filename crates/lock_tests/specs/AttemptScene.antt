@@ -2,8 +2,8 @@
 use Rattle.std.specs.Prelude.{◌≡◌, ℕ, true, List, [], ◌∷◌}
 use Rattle.map_history.specs.declared.op.Op.TheVariants.{Get, Ins, Del}
 use Rattle.map_history.specs.declared.op.Request.{Request}
-use Rattle.hash_table.specs.version_words.specs.RunnerState.{RunnerState}
-use Rattle.hash_table.specs.version_words.specs.TableState.{TableState}
+use Rattle.version_words.specs.RunnerState.{RunnerState}
+use Rattle.version_words.specs.TableState.{TableState}
 use Rattle.hash_table.specs.epoch_slots.specs.Collects.{IsTidy}
 use Rattle.hash_table.specs.try_lock.specs.Planning.{Planning}
 

@@ -4,7 +4,7 @@ use Rattle.body_terms.specs.Word.{value_of}
 use Rattle.table_words.specs.Places.{slot_count}
 use Rattle.table_words.specs.declared.spot.Spot.TheVariants.{Cell}
 use Rattle.structure_laws.specs.Meaning.{Meaning}
-use Rattle.closed_words.specs.version_words.specs.TableState.{WordsState, word_of}
+use Rattle.version_words.specs.TableState.{WordsState, word_of}
 
 module _ {T : Type 0} (m : Meaning) (words : WordsState T) where
   -- how many there are

@@ -2,7 +2,7 @@
 use Rattle.std.specs.Prelude.{◌≡◌, ℕ, zero, suc, List, [], ◌∷◌}
 use Rattle.map_history.specs.declared.op.Op.{Op}
 use Rattle.map_history.specs.declared.op.Request.{Request}
-use Rattle.hash_table.specs.version_words.specs.TableState.{TableState}
+use Rattle.version_words.specs.TableState.{TableState}
 use Rattle.hash_table.specs.declared.table.HashTable.{HashTable}
 
 -- one request in each of two traces

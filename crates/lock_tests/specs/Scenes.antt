@@ -2,7 +2,7 @@
 use Rattle.std.specs.Prelude.{◌≡◌, List, [], ◌∷◌}
 use Rattle.map_history.specs.declared.op.Op.TheVariants.{Get}
 use Rattle.map_history.specs.declared.op.Request.{Request}
-use Rattle.closed_words.specs.version_words.specs.TableState.{TableState}
+use Rattle.version_words.specs.TableState.{TableState}
 
 -- one request for each of two workers
 abbrev pub two_requests : List Request

@@ -1,18 +1,18 @@
 //! Two workers, and their requests.
 ghost use Rattle.std.specs.Prelude.{◌≡◌, ◌+◌, ◌<◌, IfOk};
 ghost use Rattle.map_history.specs.declared.op.Op.TheVariants.{Get, Ins, Del};
-ghost use Rattle.hash_table.specs.version_words.specs.TableState.{IsOf};
-ghost use Rattle.hash_table.specs.version_words.specs.Stages.{IsKeeper};
+ghost use Rattle.version_words.specs.TableState.{IsOf};
+ghost use Rattle.version_words.specs.Stages.{IsKeeper};
 ghost use Rattle.lock_tests.specs.AttemptScene.{IsScene, IsFresh, ServesThem};
 
 use attempts::{Attempt, attempt};
 use body_terms::Steps;
 use hash_table::lock_walks::Planner;
-use hash_table::version_words::{FlockTable, Runner};
 use map_history::{Op, Request};
 use runner_gate::{Free, Gate};
 use std::alloc::{AllocError, Global};
 use table_words::Layout;
+use version_words::{FlockTable, Runner};
 
 /// The first worker's first request: it adds a pair.
 pub fn added() -> Request

@@ -4,7 +4,7 @@ ghost use Rattle.std.specs.FinMap.{entries};
 ghost use Rattle.map_history.specs.Replay.{Pairs};
 ghost use Rattle.body_terms.specs.Word.{value_of};
 ghost use Rattle.table_words.specs.declared.spot.Spot.TheVariants.{Cell};
-ghost use Rattle.closed_words.specs.version_words.specs.TableState.{word_of};
+ghost use Rattle.version_words.specs.TableState.{word_of};
 ghost use Rattle.attempts.specs.try_lock.specs.Contents.{StandFor};
 ghost use Rattle.closed_words.specs.Histories.{HoldsNoLock};
 ghost use Rattle.lock_tests.specs.Closing.{cells_of};
@@ -12,9 +12,9 @@ ghost use Rattle.lock_tests.specs.Closing.{cells_of};
 use attempts::lock_walks::Planner;
 use body_terms::Place;
 use closed_words::closed_words_have_a_history;
-use closed_words::version_words::Words;
 use std::alloc::{AllocError, Global};
 use structure_laws::Structure;
+use version_words::Words;
 
 /// Whether this cell is a lock that names a descriptor.
 fn is_held<S: Structure>(words: &Words<S>, place: Place) -> bool

@@ -2,7 +2,7 @@
 ghost use Rattle.std.specs.Prelude.{◌≡◌, ◌+◌, ◌<◌, length, true, All, Some, IfOk, IfSome, slice_get};
 ghost use Rattle.map_history.specs.declared.op.Request.{Request};
 ghost use Rattle.runner_parts.specs.Tests.{is_answered};
-ghost use Rattle.closed_words.specs.version_words.specs.TableState.{IsOf};
+ghost use Rattle.version_words.specs.TableState.{IsOf};
 ghost use Rattle.attempts.specs.epoch_slots.specs.Collects.{IsTidy};
 ghost use Rattle.attempts.specs.try_lock.specs.declared.section.Section.{Section};
 ghost use Rattle.lock_tests.specs.Workers.{MayRun, MayRunFor};
@@ -18,11 +18,11 @@ use attempts::reserve_slots;
 use attempts::section_runs::RunEnd;
 use attempts::try_lock::{Planned, publish};
 use body_terms::Steps;
-use closed_words::version_words::{FlockTable, Runner};
 use map_history::Request;
 use runner_gate::Free;
 use std::alloc::{AllocError, Global};
 use structure_laws::Structure;
+use version_words::{FlockTable, Runner};
 
 /// What came of a request.
 #[derive(Drop)]

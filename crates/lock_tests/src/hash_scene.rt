@@ -5,8 +5,8 @@ ghost use Rattle.map_history.specs.Keys.{key_of};
 ghost use Rattle.map_history.specs.Replay.{Pairs};
 ghost use Rattle.hash_table.specs.bucket_laws.specs.Buckets.{buckets_meaning};
 ghost use Rattle.hash_table.specs.bucket_laws.specs.Walk.{has_one_key};
-ghost use Rattle.hash_table.specs.version_words.specs.TableState.{IsOf};
-ghost use Rattle.hash_table.specs.version_words.specs.Stages.{IsKeeper, HasJoined};
+ghost use Rattle.version_words.specs.TableState.{IsOf};
+ghost use Rattle.version_words.specs.Stages.{IsKeeper, HasJoined};
 ghost use Rattle.hash_table.specs.try_lock.specs.declared.section.Section.{Section};
 ghost use Rattle.hash_table.specs.try_lock.specs.Contents.{StandFor};
 ghost use Rattle.lock_tests.specs.Workers.{IsReady, MayRun};
@@ -16,10 +16,10 @@ ghost use Rattle.lock_tests.specs.HashScene.{IsScene, asked};
 use crate::turns::Offer;
 use crate::{closing, courses};
 use hash_table::HashTable;
-use hash_table::version_words::{FlockTable, Runner, Words};
 use map_history::{Op, Request};
 use std::alloc::{AllocError, Global};
 use table_words::Layout;
+use version_words::{FlockTable, Runner, Words};
 
 /// The request of the worker with this number, where these are the operations of both.
 fn request_of(number: u32, ops: (Op, Op)) -> Request

@@ -4,8 +4,8 @@ ghost use Rattle.body_terms.specs.Trail.{Agreed};
 ghost use Rattle.body_terms.specs.declared.outcome.Outcome.{Outcome};
 ghost use Rattle.attempts.specs.section_runs.specs.declared.runs.RunEnd.TheVariants.{Done};
 ghost use Rattle.attempts.specs.epoch_slots.specs.Collects.{IsTidy};
-ghost use Rattle.closed_words.specs.version_words.specs.TableState.{IsOf};
-ghost use Rattle.closed_words.specs.version_words.specs.Stages.{IsKeeper, HasJoined};
+ghost use Rattle.version_words.specs.TableState.{IsOf};
+ghost use Rattle.version_words.specs.Stages.{IsKeeper, HasJoined};
 ghost use Rattle.lock_tests.specs.Scenes.{two_requests};
 
 use crate::scenes::{new_table, offer, visit};
@@ -16,11 +16,11 @@ use attempts::epoch_slots::{Kind, Short, collect, enter, exit, reserve};
 use attempts::section_runs::RunEnd;
 use attempts::try_lock::Section;
 use body_terms::{Outcome, Refused, StepKind, Word};
-use closed_words::version_words::{FlockTable, Runner, Words};
 use interleave_core::Tray;
 use runner_gate::{Free, Gate, HaltAt};
 use std::alloc::{AllocError, Global};
 use std::thread::Threads;
+use version_words::{FlockTable, Runner, Words};
 
 /// The first word of a cell: value 0, version 1.
 const FIRST: u64 = 4294967296;

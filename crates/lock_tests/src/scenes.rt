@@ -2,8 +2,8 @@
 ghost use Rattle.std.specs.Prelude.{◌≡◌, ◌<◌, IfOk};
 ghost use Rattle.structure_laws.specs.Tray.{tray};
 ghost use Rattle.attempts.specs.epoch_slots.specs.Collects.{IsTidy};
-ghost use Rattle.closed_words.specs.version_words.specs.TableState.{IsOf};
-ghost use Rattle.closed_words.specs.version_words.specs.Stages.{IsKeeper, HasJoined};
+ghost use Rattle.version_words.specs.TableState.{IsOf};
+ghost use Rattle.version_words.specs.Stages.{IsKeeper, HasJoined};
 ghost use Rattle.lock_tests.specs.Scenes.{IsScene};
 ghost use Rattle.lock_tests.specs.Workers.{HasRead, MayRun};
 ghost use Rattle.lock_tests.specs.declared.turns.Offer.TheVariants.{Published};
@@ -13,11 +13,11 @@ use crate::turns::Offer;
 use attempts::epoch_slots::{enter, exit};
 use attempts::try_lock::publish;
 use body_terms::{Thunk, Word};
-use closed_words::version_words::{FlockTable, Runner};
 use interleave_core::Tray;
 use map_history::{Op, Request};
 use std::alloc::{AllocError, Global};
 use table_words::Layout;
+use version_words::{FlockTable, Runner};
 
 /// A table with two node slots and one descriptor for each of two workers, and one request for each.
 pub fn new_table(

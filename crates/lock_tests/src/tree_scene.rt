@@ -3,8 +3,8 @@ ghost use Rattle.std.specs.Prelude.{◌≡◌, ◌<◌, ◌≤◌, true, All, If
 ghost use Rattle.map_history.specs.Keys.{key_of};
 ghost use Rattle.hash_table.specs.bucket_laws.specs.Walk.{has_one_key};
 ghost use Rattle.map_history.specs.Requests.{AreInOrder};
-ghost use Rattle.leaf_tree.specs.version_words.specs.TableState.{IsOf};
-ghost use Rattle.leaf_tree.specs.version_words.specs.Stages.{IsKeeper, HasJoined};
+ghost use Rattle.version_words.specs.TableState.{IsOf};
+ghost use Rattle.version_words.specs.Stages.{IsKeeper, HasJoined};
 ghost use Rattle.lock_tests.specs.TreeScene.{IsScene};
 
 use crate::closing::pairs_of;
@@ -12,10 +12,10 @@ use crate::courses::{Served, serve_in_turn};
 use crate::traces::one_trace;
 use crate::workers::{gather_one, split};
 use leaf_tree::LeafTree;
-use leaf_tree::version_words::{FlockTable, Runner, Words};
 use map_history::{Op, Request};
 use std::alloc::{AllocError, Global};
 use table_words::Layout;
+use version_words::{FlockTable, Runner, Words};
 
 /// What is left of a row: what came of each request, how many of the worker's node slots are free and how many in
 /// limbo, the words of the closed table, and its pairs.

@@ -4,7 +4,7 @@ ghost use Rattle.body_terms.specs.Trail.{Agreed};
 ghost use Rattle.body_terms.specs.declared.outcome.Outcome.{Outcome as Ending};
 ghost use Rattle.attempts.specs.section_runs.specs.declared.runs.RunEnd.TheVariants.{Done};
 ghost use Rattle.attempts.specs.epoch_slots.specs.Collects.{IsTidy};
-ghost use Rattle.closed_words.specs.version_words.specs.TableState.{IsOf};
+ghost use Rattle.version_words.specs.TableState.{IsOf};
 ghost use Rattle.lock_tests.specs.Workers.{IsReady, HasRead, MayRun, MayRunFor};
 ghost use Rattle.lock_tests.specs.Asked.{KnowsOthers};
 
@@ -12,11 +12,11 @@ use attempts::epoch_slots::{enter, exit};
 use attempts::section_runs::RunEnd;
 use attempts::try_lock::{Section, help, retire_section, run_section};
 use body_terms::{Outcome, Place, Refused, Steps, Word};
-use closed_words::version_words::{FlockTable, Runner};
 use runner_gate::Gate;
 use std::thread;
 use std::thread::Threads;
 use structure_laws::Structure;
+use version_words::{FlockTable, Runner};
 
 /// What came of a worker's offer.
 #[derive(Clone, Copy, Debug, PartialEq, Eq)]

@@ -1,14 +1,14 @@
 //! A table's keeper and its two workers, before and after their work.
 ghost use Rattle.std.specs.Prelude.{◌≡◌, ◌+◌, ◌<◌, IfOk};
 ghost use Rattle.attempts.specs.epoch_slots.specs.Collects.{IsTidy};
-ghost use Rattle.closed_words.specs.version_words.specs.TableState.{IsOf};
-ghost use Rattle.closed_words.specs.version_words.specs.Stages.{IsKeeper, HasJoined};
+ghost use Rattle.version_words.specs.TableState.{IsOf};
+ghost use Rattle.version_words.specs.Stages.{IsKeeper, HasJoined};
 ghost use Rattle.lock_tests.specs.Workers.{IsNewWorker, IsReady, HasReserve};
 
 use attempts::reserve_slots;
-use closed_words::version_words::{FlockTable, Runner, Words};
 use std::alloc::{AllocError, Global};
 use structure_laws::Structure;
+use version_words::{FlockTable, Runner, Words};
 
 /// The worker, where two node slots and one descriptor are free.
 fn with_reserve<S: Structure>(worker: Runner<S>) -> Result<Runner<S>, AllocError>

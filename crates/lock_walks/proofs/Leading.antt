@@ -24,11 +24,11 @@ use Rattle.machine_states.specs.Reached.{Reached}
 use Rattle.machine_states.specs.Sight.{sight, part_or_first}
 use Rattle.runner_facts.specs.machine_invariant.specs.After.{AreAllowed}
 use Rattle.runner_facts.specs.Facts.{WalksStand}
-use Rattle.try_lock.specs.version_words.specs.RunnerState.{RunnerState}
-use Rattle.try_lock.specs.version_words.specs.TableState.{TableState, IsOf}
-use Rattle.try_lock.specs.version_words.specs.Events.{met_by, Makes}
-use Rattle.try_lock.specs.version_words.specs.Naming.{load_of}
-use Rattle.try_lock.specs.version_words.specs.Stages.{IsAt}
+use Rattle.version_words.specs.RunnerState.{RunnerState}
+use Rattle.version_words.specs.TableState.{TableState, IsOf}
+use Rattle.version_words.specs.Events.{met_by, Makes}
+use Rattle.version_words.specs.Naming.{load_of}
+use Rattle.version_words.specs.Stages.{IsAt}
 use Rattle.try_lock.specs.commit_log.specs.Asked.{IsAsked}
 use Rattle.try_lock.specs.commit_log.proofs.Asked.{asked_none, asked_more}
 use Rattle.try_lock.specs.Reached.{IsReached}

@@ -11,10 +11,10 @@ use Rattle.structure_laws.specs.Meaning.{Meaning}
 use Rattle.structure_laws.specs.Laws.{Laws}
 use Rattle.structure_laws.specs.Sections.{IsAllowed}
 use Rattle.runner_facts.specs.machine_invariant.specs.After.{AreAllowed}
-use Rattle.try_lock.specs.version_words.specs.RunnerState.{RunnerState}
-use Rattle.try_lock.specs.version_words.specs.TableState.{TableState, IsOf}
-use Rattle.try_lock.specs.version_words.specs.Events.{met_by, Makes}
-use Rattle.try_lock.specs.version_words.specs.Naming.{load_of}
+use Rattle.version_words.specs.RunnerState.{RunnerState}
+use Rattle.version_words.specs.TableState.{TableState, IsOf}
+use Rattle.version_words.specs.Events.{met_by, Makes}
+use Rattle.version_words.specs.Naming.{load_of}
 use Rattle.try_lock.specs.commit_log.specs.Asked.{IsAsked}
 use Rattle.try_lock.specs.Plans.{MayPlan}
 use Rattle.lock_walks.specs.Way.{Way, Leads}

@@ -16,11 +16,11 @@ use Rattle.runner_parts.specs.State.{RunState, ReadsState}
 use Rattle.runner_parts.specs.Tests.{is_walking, is_readable}
 use Rattle.runner_steps.specs.Outside.{when}
 use Rattle.runner_steps.specs.Asks.{ask_by, fitting, sizes_for}
-use Rattle.try_lock.specs.version_words.specs.RunnerState.{RunnerState}
-use Rattle.try_lock.specs.version_words.specs.Events.{met_by, Makes}
-use Rattle.try_lock.specs.version_words.specs.Naming.{load_of}
-use Rattle.try_lock.specs.version_words.specs.Stages.{IsAt}
-use Rattle.try_lock.specs.version_words.proofs.Stages.{then_loaded_cell}
+use Rattle.version_words.specs.RunnerState.{RunnerState}
+use Rattle.version_words.specs.Events.{met_by, Makes}
+use Rattle.version_words.specs.Naming.{load_of}
+use Rattle.version_words.specs.Stages.{IsAt}
+use Rattle.version_words.proofs.Stages.{then_loaded_cell}
 use Rattle.try_lock.specs.epoch_slots.proofs.Outside.{reads_made, own_kept, own_kept_on}
 use Rattle.try_lock.specs.Plans as plans
 use Rattle.try_lock.specs.Plans.{names_read, reads_walked, HasWalked}

@@ -5,7 +5,6 @@ pub mod Steady
 pub mod Retires
 pub mod Wants
 -- Passed on to the layers above, so that they needn't name these libraries themselves.
-pub use Rattle.try_lock.specs.version_words
 pub use Rattle.try_lock.specs.epoch_slots
 pub use Rattle.try_lock.specs.commit_log
 pub use Rattle.try_lock.specs.section_runs

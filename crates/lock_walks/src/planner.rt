@@ -5,7 +5,7 @@ ghost use Rattle.map_history.specs.Replay.{Pairs};
 ghost use Rattle.table_words.specs.Limits.{IsWithinLimits};
 ghost use Rattle.structure_laws.specs.Planner.{PlannerLaws};
 ghost use Rattle.structure_laws.specs.Sections.{IsAllowed};
-ghost use Rattle.try_lock.specs.version_words.specs.TableState.{IsOf};
+ghost use Rattle.version_words.specs.TableState.{IsOf};
 ghost use Rattle.try_lock.specs.Planning.{Planning};
 ghost use Rattle.try_lock.specs.Plans.{MayPlan, HasPlanned};
 ghost use Rattle.try_lock.specs.Contents.{StandFor, NamesNone};
@@ -22,7 +22,7 @@ use std::alloc::{AllocError, Global};
 use structure_laws::Structure;
 use table_words::Layout;
 use try_lock::Planned;
-use try_lock::version_words::{FlockTable, Runner, Words};
+use version_words::{FlockTable, Runner, Words};
 
 /// A map over cells and node slots, on which requests are planned.
 ///

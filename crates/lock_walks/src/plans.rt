@@ -5,7 +5,7 @@ ghost use Rattle.table_words.specs.Limits.{IsWithinLimits};
 ghost use Rattle.structure_laws.specs.Scene.{Readings};
 ghost use Rattle.structure_laws.specs.Cells.{slots};
 ghost use Rattle.structure_laws.specs.Sections.{IsAllowed};
-ghost use Rattle.try_lock.specs.version_words.specs.TableState.{IsOf};
+ghost use Rattle.version_words.specs.TableState.{IsOf};
 ghost use Rattle.try_lock.specs.Plans.{MayPlan, HasPlanned, refused_at};
 ghost use Rattle.lock_walks.specs.Way.{Leads};
 ghost use Rattle.lock_walks.specs.Led.{HasLed, Start, IsOnWay, GoesOn, GoesThrough};
@@ -19,7 +19,7 @@ use structure_laws::Structure;
 use table_words::Layout;
 use try_lock::Planned;
 use try_lock::commit_log::{Unasked, passes, tell};
-use try_lock::version_words::{FlockTable, Runner};
+use version_words::{FlockTable, Runner};
 
 /// Makes the load that the walker wants, if it wants one, and goes on by the word; the gate is asked behind it. Gives
 /// the last place with its word, and whether the gate let the runner go on.

@@ -20,11 +20,11 @@ use Rattle.runner_steps.specs.Asks.{sizes_for}
 use Rattle.machine_states.proofs.Sights.{if_some}
 use Rattle.machine_states.proofs.Steps.{some_same}
 use Rattle.machine_facts.specs.machine_invariant.specs.After.{AreAllowed}
-use Rattle.commit_log.specs.version_words.specs.RunnerState.{RunnerState}
-use Rattle.commit_log.specs.version_words.specs.TableState.{TableState, IsOf}
-use Rattle.commit_log.specs.version_words.specs.Events.{met_by, IsMade}
-use Rattle.commit_log.specs.version_words.specs.Place.{held_by_run}
-use Rattle.commit_log.specs.version_words.proofs.Inside.{few_descriptors}
+use Rattle.version_words.specs.RunnerState.{RunnerState}
+use Rattle.version_words.specs.TableState.{TableState, IsOf}
+use Rattle.version_words.specs.Events.{met_by, IsMade}
+use Rattle.version_words.specs.Place.{held_by_run}
+use Rattle.version_words.proofs.Inside.{few_descriptors}
 use Rattle.commit_log.proofs.Running.{may_make, asked_there, then_made}
 use Rattle.nested_lock.specs.Dropped.{MayDrop, HasDropped}
 

@@ -4,7 +4,7 @@ use Rattle.std.specs.Prelude.{Result, Ok, Err, IfSome, IfNone, is_err}
 use Rattle.body_terms.specs.declared.outcome.Refused.{Refused}
 use Rattle.structure_laws.specs.Meaning.{Meaning}
 use Rattle.runner_parts.specs.State.{RunState}
-use Rattle.commit_log.specs.version_words.specs.RunnerState.{RunnerState}
+use Rattle.version_words.specs.RunnerState.{RunnerState}
 use Rattle.commit_log.specs.Runs.{Ran}
 use Rattle.commit_log.proofs.Running.{ran_one, ran_more}
 use Rattle.nested_lock.specs.Answers.{outcome_at}

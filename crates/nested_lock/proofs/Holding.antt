@@ -27,11 +27,11 @@ use Rattle.machine_states.proofs.Steps.{some_same}
 use Rattle.machine_facts.specs.machine_invariant.specs.After.{AreAllowed}
 use Rattle.machine_facts.specs.Got.{HasGot}
 use Rattle.machine_facts.proofs.Got.{reached_got_held}
-use Rattle.commit_log.specs.version_words.specs.RunnerState.{RunnerState}
-use Rattle.commit_log.specs.version_words.specs.TableState.{TableState, IsOf}
-use Rattle.commit_log.specs.version_words.specs.Events.{met_by, Makes, Leaves}
-use Rattle.commit_log.specs.version_words.specs.Place.{next_log, held_by_run}
-use Rattle.commit_log.specs.version_words.proofs.Inside.{few_descriptors}
+use Rattle.version_words.specs.RunnerState.{RunnerState}
+use Rattle.version_words.specs.TableState.{TableState, IsOf}
+use Rattle.version_words.specs.Events.{met_by, Makes, Leaves}
+use Rattle.version_words.specs.Place.{next_log, held_by_run}
+use Rattle.version_words.proofs.Inside.{few_descriptors}
 use Rattle.commit_log.specs.Runs.{IsRunning, Stepped}
 use Rattle.commit_log.proofs.Running.{may_make, asked_there, goes_behind, then_made}
 use Rattle.commit_log.proofs.Next.{next_here, settled_at, settled_next}

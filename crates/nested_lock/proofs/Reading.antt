@@ -17,9 +17,9 @@ use Rattle.runner_parts.specs.State.{RunState}
 use Rattle.runner_steps.specs.Sections.{thunk_of, line_of, next_of, setting_of}
 use Rattle.runner_steps.specs.AfterInRun.{goes_on, agrees}
 use Rattle.machine_facts.specs.machine_invariant.specs.After.{AreAllowed}
-use Rattle.commit_log.specs.version_words.specs.RunnerState.{RunnerState}
-use Rattle.commit_log.specs.version_words.specs.TableState.{TableState, IsOf}
-use Rattle.commit_log.specs.version_words.specs.Events.{met_by, Makes}
+use Rattle.version_words.specs.RunnerState.{RunnerState}
+use Rattle.version_words.specs.TableState.{TableState, IsOf}
+use Rattle.version_words.specs.Events.{met_by, Makes}
 use Rattle.commit_log.specs.Runs.{IsRunning, Stepped}
 use Rattle.commit_log.specs.Committed.{MayCommit, HasCommitted}
 use Rattle.commit_log.proofs.Running.{may_make, goes_behind, then_made}

@@ -7,8 +7,8 @@ use Rattle.table_words.specs.declared.spot.Spot.TheVariants.{Cell}
 use Rattle.structure_laws.specs.Meaning.{Meaning}
 use Rattle.runner_parts.specs.State.{RunState}
 use Rattle.runner_steps.specs.Sections.{next_of}
-use Rattle.commit_log.specs.version_words.specs.RunnerState.{RunnerState}
-use Rattle.commit_log.specs.version_words.specs.ReachedWith.{ReachedWith}
+use Rattle.version_words.specs.RunnerState.{RunnerState}
+use Rattle.version_words.specs.ReachedWith.{ReachedWith}
 use Rattle.commit_log.specs.Runs.{IsRunning, Stepped}
 
 module _ {T : Type 0} (m : Meaning) where

@@ -6,7 +6,7 @@ use Rattle.structure_laws.specs.Meaning.{Meaning}
 use Rattle.machine_states.specs.World.{World, seat_of}
 use Rattle.machine_states.specs.Reached.{Reached}
 use Rattle.machine_states.specs.Sight.{sight}
-use Rattle.commit_log.specs.version_words.specs.RunnerState.{RunnerState}
+use Rattle.version_words.specs.RunnerState.{RunnerState}
 
 -- in each state that the machine reaches, in which the runner has this part, the lock has the word by which it names
 -- the section, or the section is done

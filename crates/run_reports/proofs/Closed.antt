@@ -19,7 +19,7 @@ use Rattle.closed_words.specs.machine_invariant.specs.After.{AreAllowed}
 use Rattle.closed_words.specs.reached_histories.specs.Requests.{or_none, request_at}
 use Rattle.history_orders.proofs.Replies.{replies_small}
 use Rattle.report_text.specs.Entries.{AreLegal}
-use Rattle.closed_words.specs.version_words.specs.TableState.{WordsState, word_of}
+use Rattle.version_words.specs.TableState.{WordsState, word_of}
 use Rattle.closed_words.specs.Histories.{HaveHistory, HoldsNoLock, AreSettled}
 use Rattle.run_reports.specs.Reports.{HaveEntries, HaveContents}
 use Rattle.run_reports.proofs.Few.{few_pairs}

@@ -10,7 +10,7 @@ use Rattle.report_text.specs.Entries.{AreLegal}
 use Rattle.report_text.specs.Legal.{IsLegal}
 use Rattle.report_text.specs.Ranks.{ranks_of}
 use Rattle.report_text.specs.Report.{Row, rows_of, report_text}
-use Rattle.closed_words.specs.version_words.specs.TableState.{WordsState}
+use Rattle.version_words.specs.TableState.{WordsState}
 use Rattle.closed_words.specs.Histories.{HaveHistory, HoldsNoLock}
 use Rattle.run_reports.specs.Reports.{HaveEntries, HaveContents, IsReport, unserved_in}
 use Rattle.run_reports.proofs.Closed.{closed_legal, closed_contents}

@@ -9,7 +9,7 @@ use Rattle.report_text.specs.Legal.{IsLegal}
 use Rattle.report_text.specs.Ranks.{ranks_of}
 use Rattle.report_text.specs.Report.{Row, rows_of, report_text}
 use Rattle.report_text.specs.Sink.{Extends, ExtendsInPart}
-use Rattle.closed_words.specs.version_words.specs.TableState.{WordsState, word_of}
+use Rattle.version_words.specs.TableState.{WordsState, word_of}
 use Rattle.run_reports.specs.Shown.{IsShown, AreShown}
 
 -- how many requests have no entry

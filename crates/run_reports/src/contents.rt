@@ -6,8 +6,8 @@ ghost use Rattle.closed_words.specs.Histories.{HoldsNoLock};
 ghost use Rattle.run_reports.specs.Reports.{HaveContents};
 
 use closed_words::closed_words_have_a_history;
-use closed_words::version_words::{Words, words_are_reached};
 use structure_laws::Structure;
+use version_words::{Words, words_are_reached};
 
 /// Where a structure serves a map, and no lock in its words names a descriptor, its cells hold a map, which has no
 /// more pairs than a text may have requests.

@@ -14,5 +14,4 @@ pub use printing::{PrintError, print_words};
 
 // Passed on to the layers above, so that they needn't name these libraries themselves.
 pub use closed_words;
-pub use closed_words::version_words;
 pub use report_text;

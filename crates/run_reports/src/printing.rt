@@ -9,11 +9,11 @@ ghost use Rattle.run_reports.specs.Stops.{StopsPrinting};
 
 use crate::entries::entries_of;
 use closed_words::closed_words_have_a_history;
-use closed_words::version_words::{Words, words_are_reached};
 use map_history::{Entry, Request};
 use report_text::{Sink, ranks, write_report};
 use std::alloc::{AllocError, Global};
 use structure_laws::Structure;
+use version_words::{Words, words_are_reached};
 
 /// Why a report wasn't printed whole.
 #[derive(Clone, Copy, Debug, PartialEq, Eq)]

@@ -27,7 +27,7 @@ use Rattle.idem_alloc.specs.machine_invariant.specs.After.{AreAllowed}
 use Rattle.idem_alloc.specs.machine_invariant.specs.Slots.{times_among}
 use Rattle.idem_alloc.specs.machine_invariant.proofs.After.{whole_after}
 use Rattle.idem_alloc.specs.next_steps.specs.Stages.{unfilled, nodes_behind}
-use Rattle.idem_alloc.specs.version_words.specs.RunnerState.{RunnerState}
+use Rattle.version_words.specs.RunnerState.{RunnerState}
 use Rattle.idem_alloc.specs.commit_log.specs.Runs.{IsRunning, Ran}
 use Rattle.idem_alloc.specs.commit_log.specs.Committed.{commits_loaded, HasCommitted}
 use Rattle.idem_alloc.specs.commit_log.proofs.Next.{settled_at}

@@ -19,8 +19,8 @@ use Rattle.runner_parts.specs.Tests.{has, is_answered}
 use Rattle.runner_steps.specs.AfterInRun.{ended_more, over_if, finished_of}
 use Rattle.runner_steps.specs.Sections.{thunk_of, outcome_of, outcome_or, setting_of, settles, is_late}
 use Rattle.idem_alloc.specs.machine_invariant.specs.After.{AreAllowed}
-use Rattle.idem_alloc.specs.version_words.specs.RunnerState.{RunnerState}
-use Rattle.idem_alloc.specs.version_words.specs.TableState.{TableState, IsOf}
+use Rattle.version_words.specs.RunnerState.{RunnerState}
+use Rattle.version_words.specs.TableState.{TableState, IsOf}
 use Rattle.idem_alloc.specs.commit_log.specs.Runs.{Ran}
 use Rattle.idem_alloc.specs.commit_log.proofs.Running.{ran_one, ran_more}
 use Rattle.section_runs.specs.Reached.{run_or, run_of, events_after}

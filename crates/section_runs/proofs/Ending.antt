@@ -23,10 +23,10 @@ use Rattle.runner_steps.specs.AfterInRun.{ended_more}
 use Rattle.runner_steps.specs.Sections.{thunk_of, line_of, next_of}
 use Rattle.machine_states.proofs.Steps.{some_same}
 use Rattle.idem_alloc.specs.machine_invariant.specs.After.{AreAllowed}
-use Rattle.idem_alloc.specs.version_words.specs.RunnerState.{RunnerState}
-use Rattle.idem_alloc.specs.version_words.specs.TableState.{TableState, IsOf}
-use Rattle.idem_alloc.specs.version_words.specs.Events.{met_by, Makes}
-use Rattle.idem_alloc.specs.version_words.specs.Place.{own_done, held_by_run}
+use Rattle.version_words.specs.RunnerState.{RunnerState}
+use Rattle.version_words.specs.TableState.{TableState, IsOf}
+use Rattle.version_words.specs.Events.{met_by, Makes}
+use Rattle.version_words.specs.Place.{own_done, held_by_run}
 use Rattle.idem_alloc.specs.commit_log.specs.Runs.{IsRunning, Stepped}
 use Rattle.idem_alloc.specs.commit_log.proofs.Running.{may_make, then_made}
 use Rattle.section_runs.specs.Reached.{run_of}

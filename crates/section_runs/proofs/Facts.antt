@@ -32,7 +32,7 @@ use Rattle.idem_alloc.specs.machine_invariant.specs.Trails.{IsEndOf}
 use Rattle.nested_lock.specs.machine_facts.specs.After.{AreFactsOfStep}
 use Rattle.nested_lock.specs.machine_facts.specs.States.{FactsStand}
 use Rattle.nested_lock.specs.machine_facts.proofs.Following.{step_facts_after}
-use Rattle.idem_alloc.specs.version_words.specs.RunnerState.{RunnerState}
+use Rattle.version_words.specs.RunnerState.{RunnerState}
 use Rattle.idem_alloc.specs.commit_log.specs.Runs.{Stepped}
 use Rattle.section_runs.specs.Reached.{IsReached}
 use Rattle.section_runs.specs.Ended.{IsDone}

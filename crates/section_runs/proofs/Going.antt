@@ -19,8 +19,8 @@ use Rattle.runner_parts.specs.State.{RunState, NodesState}
 use Rattle.runner_steps.specs.Sections.{thunk_of, line_of, next_of, setting_of, settles}
 use Rattle.idem_alloc.specs.machine_invariant.specs.After.{AreAllowed}
 use Rattle.idem_alloc.specs.next_steps.proofs.Stages.{in_table}
-use Rattle.idem_alloc.specs.version_words.specs.RunnerState.{RunnerState}
-use Rattle.idem_alloc.specs.version_words.specs.TableState.{TableState, IsOf}
+use Rattle.version_words.specs.RunnerState.{RunnerState}
+use Rattle.version_words.specs.TableState.{TableState, IsOf}
 use Rattle.idem_alloc.specs.commit_log.specs.Runs.{IsRunning}
 use Rattle.idem_alloc.specs.commit_log.proofs.Next.{next_here}
 use Rattle.section_runs.specs.Reached.{run_or, run_of}

@@ -14,7 +14,7 @@ use Rattle.section_lines.proofs.Resting.{rests_at}
 use Rattle.structure_laws.specs.Meaning.{Meaning}
 use Rattle.runner_parts.specs.State.{RunState}
 use Rattle.runner_steps.specs.Sections.{thunk_of, setting_of}
-use Rattle.idem_alloc.specs.version_words.specs.RunnerState.{RunnerState}
+use Rattle.version_words.specs.RunnerState.{RunnerState}
 use Rattle.section_runs.specs.Reached.{run_or, run_of, MayBegin}
 use Rattle.section_runs.specs.Opened.{HasOpened, StandsOpened, opening}
 use Rattle.section_runs.specs.Bodies.{body_of, IsBefore}

@@ -27,11 +27,11 @@ use Rattle.idem_alloc.specs.next_steps.specs.Stages.{IsInRun}
 use Rattle.idem_alloc.specs.next_steps.specs.Steps.{opening_kind, opened_next}
 use Rattle.idem_alloc.specs.next_steps.proofs.Stages.{may_open}
 use Rattle.idem_alloc.specs.next_steps.proofs.Numbers.{reached_numbers}
-use Rattle.idem_alloc.specs.version_words.specs.RunnerState.{RunnerState}
-use Rattle.idem_alloc.specs.version_words.specs.TableState.{TableState, IsOf}
-use Rattle.idem_alloc.specs.version_words.specs.Events.{met_by, Makes}
-use Rattle.idem_alloc.specs.version_words.specs.Naming.{open_of}
-use Rattle.idem_alloc.specs.version_words.specs.Place.{opened_of, own_done}
+use Rattle.version_words.specs.RunnerState.{RunnerState}
+use Rattle.version_words.specs.TableState.{TableState, IsOf}
+use Rattle.version_words.specs.Events.{met_by, Makes}
+use Rattle.version_words.specs.Naming.{open_of}
+use Rattle.version_words.specs.Place.{opened_of, own_done}
 use Rattle.idem_alloc.specs.commit_log.specs.Runs.{IsRunning}
 use Rattle.section_runs.specs.Reached.{MayBegin, run_or, events_after}
 use Rattle.section_runs.specs.Opened.{opening, opening_of, is_opening, Opens, IsOpening, HasOpened}

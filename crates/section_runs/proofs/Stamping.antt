@@ -23,10 +23,10 @@ use Rattle.runner_steps.specs.AfterInRun.{goes_on}
 use Rattle.machine_states.proofs.Sights.{if_some}
 use Rattle.machine_states.proofs.Steps.{some_same}
 use Rattle.idem_alloc.specs.machine_invariant.specs.After.{AreAllowed}
-use Rattle.idem_alloc.specs.version_words.specs.RunnerState.{RunnerState}
-use Rattle.idem_alloc.specs.version_words.specs.TableState.{TableState, IsOf}
-use Rattle.idem_alloc.specs.version_words.specs.Events.{met_by, Makes, Leaves}
-use Rattle.idem_alloc.specs.version_words.specs.Place.{own_stamp, own_reply}
+use Rattle.version_words.specs.RunnerState.{RunnerState}
+use Rattle.version_words.specs.TableState.{TableState, IsOf}
+use Rattle.version_words.specs.Events.{met_by, Makes, Leaves}
+use Rattle.version_words.specs.Place.{own_stamp, own_reply}
 use Rattle.idem_alloc.specs.commit_log.specs.Runs.{IsRunning, Stepped, Ran}
 use Rattle.idem_alloc.specs.commit_log.proofs.Next.{settled_at, settled_next}
 use Rattle.idem_alloc.specs.commit_log.proofs.Running.{may_make, asked_there, then_made, ran_one, ran_more}

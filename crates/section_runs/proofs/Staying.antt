@@ -24,8 +24,8 @@ use Rattle.idem_alloc.specs.machine_invariant.specs.After.{AreAllowed}
 use Rattle.idem_alloc.specs.next_steps.specs.Steps.{kind_at}
 use Rattle.idem_alloc.specs.next_steps.specs.Stages.{run_behind, reads_behind, published_behind, finished_behind}
 use Rattle.idem_alloc.specs.next_steps.proofs.Stages.{in_table}
-use Rattle.idem_alloc.specs.version_words.specs.RunnerState.{RunnerState}
-use Rattle.idem_alloc.specs.version_words.specs.TableState.{TableState, IsOf}
+use Rattle.version_words.specs.RunnerState.{RunnerState}
+use Rattle.version_words.specs.TableState.{TableState, IsOf}
 use Rattle.idem_alloc.specs.commit_log.specs.Runs.{IsRunning, Stepped, Ran}
 use Rattle.idem_alloc.specs.commit_log.proofs.Running.{opened_stays, one_run}
 use Rattle.section_runs.specs.Reached.{events_after}

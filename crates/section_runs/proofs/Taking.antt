@@ -23,7 +23,7 @@ use Rattle.runner_steps.specs.AfterInRun.{goes_on, agrees}
 use Rattle.machine_epochs.proofs.Places.{has_append}
 use Rattle.machine_states.proofs.Steps.{some_same}
 use Rattle.idem_alloc.specs.next_steps.specs.Stages.{reads_behind}
-use Rattle.idem_alloc.specs.version_words.specs.RunnerState.{RunnerState}
+use Rattle.version_words.specs.RunnerState.{RunnerState}
 use Rattle.idem_alloc.specs.commit_log.specs.Runs.{IsRunning}
 use Rattle.idem_alloc.specs.commit_log.proofs.Next.{settled_at, settled_next}
 use Rattle.nested_lock.specs.Answers.{left_by, first_outcome, second_outcome, outcome_at}

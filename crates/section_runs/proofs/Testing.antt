@@ -15,7 +15,7 @@ use Rattle.section_lines.proofs.Resting.{run_rests}
 use Rattle.structure_laws.specs.Meaning.{Meaning}
 use Rattle.runner_parts.specs.State.{RunState}
 use Rattle.runner_steps.specs.Sections.{line_of, setting_of, outcome_or, reply_in}
-use Rattle.idem_alloc.specs.version_words.specs.RunnerState.{RunnerState}
+use Rattle.version_words.specs.RunnerState.{RunnerState}
 use Rattle.idem_alloc.specs.commit_log.specs.Halted.{IsThrough}
 use Rattle.idem_alloc.specs.commit_log.proofs.Asked.{asked_none}
 use Rattle.section_runs.specs.Reached.{run_of}

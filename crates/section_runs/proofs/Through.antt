@@ -4,7 +4,7 @@ use Rattle.std.specs.Prelude.{IfSome, IfNone}
 use Rattle.runner_gate.specs.Asks.{Asks}
 use Rattle.structure_laws.specs.Meaning.{Meaning}
 use Rattle.runner_parts.specs.State.{RunState}
-use Rattle.idem_alloc.specs.version_words.specs.RunnerState.{RunnerState}
+use Rattle.version_words.specs.RunnerState.{RunnerState}
 use Rattle.idem_alloc.specs.commit_log.specs.Asked.{IsAsked}
 use Rattle.idem_alloc.specs.commit_log.specs.Halted.{IsThrough, IsHalted}
 use Rattle.idem_alloc.specs.commit_log.specs.Runs.{Ran}

@@ -32,8 +32,8 @@ use Rattle.idem_alloc.specs.machine_agreement.proofs.Passes.{resting}
 use Rattle.idem_alloc.specs.machine_invariant.specs.After.{AreAllowed}
 use Rattle.nested_lock.specs.machine_facts.specs.Told.{IsTold}
 use Rattle.nested_lock.specs.machine_facts.proofs.ToldReached.{reached_told}
-use Rattle.idem_alloc.specs.version_words.specs.RunnerState.{RunnerState}
-use Rattle.idem_alloc.specs.version_words.specs.TableState.{TableState, IsOf}
+use Rattle.version_words.specs.RunnerState.{RunnerState}
+use Rattle.version_words.specs.TableState.{TableState, IsOf}
 use Rattle.idem_alloc.specs.commit_log.specs.Runs.{Stepped}
 use Rattle.section_runs.proofs.Going.{shaped}
 use Rattle.section_runs.proofs.Replies.{last_answer}

@@ -22,7 +22,7 @@ use Rattle.runner_parts.specs.State.{NodesState}
 use Rattle.runner_parts.specs.Tests.{has}
 use Rattle.runner_steps.specs.Sections.{thunk_of, setting_of, outcome_or, reply_in}
 use Rattle.body_terms.specs.Run.{leaves}
-use Rattle.idem_alloc.specs.version_words.specs.RunnerState.{RunnerState}
+use Rattle.version_words.specs.RunnerState.{RunnerState}
 use Rattle.section_runs.specs.Reached.{run_of}
 use Rattle.section_runs.specs.Bodies.{NodesStepped, NodesGone, body_of, IsBefore, IsSameRun, IsOver, HasWalked}
 use Rattle.section_runs.specs.declared.passed.Walked.{Walked}

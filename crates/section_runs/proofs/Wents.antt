@@ -15,7 +15,7 @@ use Rattle.structure_laws.specs.Meaning.{Meaning}
 use Rattle.section_lines.specs.Rests.{is_test}
 use Rattle.machine_states.proofs.Steps.{some_same}
 use Rattle.runner_steps.specs.Sections.{setting_of}
-use Rattle.idem_alloc.specs.version_words.specs.RunnerState.{RunnerState}
+use Rattle.version_words.specs.RunnerState.{RunnerState}
 use Rattle.idem_alloc.specs.commit_log.specs.Halted.{IsThrough, IsHalted}
 use Rattle.section_runs.specs.Reached.{run_of}
 use Rattle.section_runs.specs.Bodies.{body_of, IsSameRun, GoesOn, Leaves}

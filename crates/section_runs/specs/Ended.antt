@@ -24,7 +24,7 @@ use Rattle.machine_epochs.specs.Slots.{thunk_in}
 use Rattle.idem_alloc.specs.machine_invariant.specs.Along.{Components}
 use Rattle.idem_alloc.specs.machine_invariant.specs.Trails.{IsEndOf}
 use Rattle.nested_lock.specs.machine_facts.specs.States.{FactsStand}
-use Rattle.idem_alloc.specs.version_words.specs.RunnerState.{RunnerState}
+use Rattle.version_words.specs.RunnerState.{RunnerState}
 use Rattle.idem_alloc.specs.commit_log.specs.Runs.{Ran}
 use Rattle.idem_alloc.specs.commit_log.specs.Asked.{IsAsked}
 use Rattle.idem_alloc.specs.commit_log.specs.Halted.{IsHalted}

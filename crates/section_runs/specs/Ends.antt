@@ -9,7 +9,7 @@ use Rattle.structure_laws.specs.Meaning.{Meaning}
 use Rattle.runner_parts.specs.State.{RunState}
 use Rattle.runner_steps.specs.AfterInRun.{ended_more}
 use Rattle.runner_steps.specs.Sections.{thunk_of, line_of, next_of}
-use Rattle.idem_alloc.specs.version_words.specs.RunnerState.{RunnerState}
+use Rattle.version_words.specs.RunnerState.{RunnerState}
 use Rattle.idem_alloc.specs.commit_log.specs.Asked.{IsAsked}
 use Rattle.idem_alloc.specs.commit_log.specs.Runs.{IsRunning, Stepped, Ran}
 use Rattle.section_runs.specs.Reached.{run_of, IsInside}

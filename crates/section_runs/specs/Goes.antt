@@ -11,7 +11,7 @@ use Rattle.body_terms.specs.declared.step.Step.{Step}
 use Rattle.runner_gate.specs.Asks.{Asks}
 use Rattle.structure_laws.specs.Meaning.{Meaning}
 use Rattle.runner_parts.specs.Tests.{has}
-use Rattle.idem_alloc.specs.version_words.specs.RunnerState.{RunnerState}
+use Rattle.version_words.specs.RunnerState.{RunnerState}
 use Rattle.idem_alloc.specs.commit_log.specs.Halted.{IsThrough, IsHalted}
 use Rattle.section_runs.specs.Reached.{run_of}
 use Rattle.section_runs.specs.Registers.{AreKept}

@@ -10,8 +10,8 @@ use Rattle.epoch_core.specs.declared.stage.Stage.TheVariants as stages
 use Rattle.runner_parts.specs.State.{RunState}
 use Rattle.runner_parts.specs.Tests.{has}
 use Rattle.runner_steps.specs.Sections.{thunk_of, is_late}
-use Rattle.idem_alloc.specs.version_words.specs.RunnerState.{RunnerState}
-use Rattle.idem_alloc.specs.version_words.specs.Events.{Makes}
+use Rattle.version_words.specs.RunnerState.{RunnerState}
+use Rattle.version_words.specs.Events.{Makes}
 use Rattle.idem_alloc.specs.commit_log.specs.Asked.{IsAsked}
 use Rattle.section_runs.specs.Reached.{IsReached, no_run, IsInside, events_after}
 

@@ -8,8 +8,8 @@ use Rattle.runner_parts.specs.Tests.{has}
 use Rattle.runner_steps.specs.After.{counted}
 use Rattle.machine_states.specs.World.{World, seat_of}
 use Rattle.machine_states.specs.Reached.{Reached}
-use Rattle.idem_alloc.specs.version_words.specs.RunnerState.{RunnerState}
-use Rattle.idem_alloc.specs.version_words.specs.Stages.{IsAt}
+use Rattle.version_words.specs.RunnerState.{RunnerState}
+use Rattle.version_words.specs.Stages.{IsAt}
 use Rattle.idem_alloc.specs.commit_log.specs.Runs.{IsRunning}
 
 -- in no run

@@ -4,7 +4,7 @@ ghost use Rattle.body_terms.specs.Cost.{step_cost};
 ghost use Rattle.body_terms.specs.Shape.{IsShaped, is_make, is_take};
 ghost use Rattle.body_terms.specs.declared.outcome.Outcome.{Outcome as Ending};
 ghost use Rattle.runner_steps.specs.Sections.{reply_in};
-ghost use Rattle.idem_alloc.specs.version_words.specs.TableState.{IsOf};
+ghost use Rattle.version_words.specs.TableState.{IsOf};
 ghost use Rattle.idem_alloc.specs.commit_log.specs.Halted.{IsThrough, IsHalted};
 ghost use Rattle.section_runs.specs.Reached.{run_of};
 ghost use Rattle.section_runs.specs.Bodies.{body_of, IsBefore, HasWalked};
@@ -15,9 +15,9 @@ use crate::registers::Places;
 use crate::steps::step_gated;
 use crate::sums::add_up;
 use body_terms::{Outcome, Step, Steps, Trail};
-use idem_alloc::version_words::{FlockTable, Runner};
 use runner_gate::Gate;
 use structure_laws::Structure;
+use version_words::{FlockTable, Runner};
 
 /// The reply of a body's Answer, which is its last step.
 fn reply_of(body: &[Step]) -> u64

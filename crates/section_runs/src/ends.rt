@@ -3,7 +3,7 @@ ghost use Rattle.std.specs.Prelude.{◌≡◌, ℕ, ◌+◌, ◌≤◌, ◌<◌,
 ghost use Rattle.body_terms.specs.Shape.{IsStep, is_take};
 ghost use Rattle.body_terms.specs.declared.outcome.Outcome.{Outcome};
 ghost use Rattle.runner_steps.specs.Sections.{thunk_of};
-ghost use Rattle.idem_alloc.specs.version_words.specs.TableState.{IsOf};
+ghost use Rattle.version_words.specs.TableState.{IsOf};
 ghost use Rattle.idem_alloc.specs.commit_log.specs.Asked.{IsAsked};
 ghost use Rattle.idem_alloc.specs.commit_log.specs.Halted.{IsThrough, IsHalted};
 ghost use Rattle.section_runs.specs.Reached.{run_of};
@@ -12,9 +12,9 @@ ghost use Rattle.section_runs.specs.Ends.{IsEnding, EndsOn, HasReleased, EndsAsk
 
 use body_terms::{Place, Step, StepKind, Steps, Word};
 use idem_alloc::commit_log::passes;
-use idem_alloc::version_words::{FlockTable, Runner};
 use runner_gate::Gate;
 use structure_laws::Structure;
+use version_words::{FlockTable, Runner};
 
 /// Sets the done word.
 fn finish<S: Structure, G: Gate, L>(

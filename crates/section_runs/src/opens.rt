@@ -1,7 +1,7 @@
 //! The opening of a run.
 ghost use Rattle.std.specs.Prelude.{◌≡◌, ◌≤◌, take, cond, length, IfSome, IfNone, true, false};
 ghost use Rattle.runner_steps.specs.Sections.{thunk_of};
-ghost use Rattle.idem_alloc.specs.version_words.specs.TableState.{IsOf};
+ghost use Rattle.version_words.specs.TableState.{IsOf};
 ghost use Rattle.idem_alloc.specs.commit_log.specs.Asked.{IsAsked};
 ghost use Rattle.section_runs.specs.Reached.{MayBegin};
 ghost use Rattle.section_runs.specs.Opened.{IsOpening, HasOpened, HasHalted};
@@ -9,9 +9,9 @@ ghost use Rattle.section_runs.specs.Opened.{IsOpening, HasOpened, HasHalted};
 use crate::sums::add_up;
 use body_terms::{StepKind, Steps, Thunk, Word};
 use idem_alloc::commit_log::passes;
-use idem_alloc::version_words::{FlockTable, Runner};
 use runner_gate::Gate;
 use structure_laws::Structure;
+use version_words::{FlockTable, Runner};
 
 /// The thunk that these words hold.
 fn thunk_from(words: &[u64]) -> Thunk

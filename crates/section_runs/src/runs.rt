@@ -3,7 +3,7 @@ ghost use Rattle.std.specs.Prelude.{◌≡◌, ℕ, ◌≤◌, [], true, false, 
 ghost use Rattle.body_terms.specs.Trail.{Agreed};
 ghost use Rattle.body_terms.specs.declared.outcome.Outcome.{Outcome as Ending};
 ghost use Rattle.body_terms.specs.declared.thunk.Thunk.{Thunk as Words};
-ghost use Rattle.idem_alloc.specs.version_words.specs.TableState.{IsOf};
+ghost use Rattle.version_words.specs.TableState.{IsOf};
 ghost use Rattle.idem_alloc.specs.commit_log.specs.Asked.{IsAsked};
 ghost use Rattle.section_runs.specs.Reached.{MayBegin};
 ghost use Rattle.section_runs.specs.Opened.{StandsOpened};
@@ -16,9 +16,9 @@ use crate::opens::open;
 use crate::passed::Walked;
 use body_terms::{Outcome, Step, Steps, Thunk, Trail};
 use idem_alloc::commit_log::{Unasked, tell};
-use idem_alloc::version_words::{FlockTable, RunRoom, Runner};
 use runner_gate::Gate;
 use structure_laws::Structure;
+use version_words::{FlockTable, RunRoom, Runner};
 
 /// How a run of a section ended.
 #[derive(Debug, Drop)]

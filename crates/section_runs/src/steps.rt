@@ -4,7 +4,7 @@ ghost use Rattle.body_terms.specs.Line.{Registers, registers_after};
 ghost use Rattle.body_terms.specs.Shape.{is_make};
 ghost use Rattle.body_terms.specs.declared.outcome.Outcome.{Outcome};
 ghost use Rattle.body_terms.specs.declared.step.Step.TheVariants as kinds;
-ghost use Rattle.idem_alloc.specs.version_words.specs.TableState.{IsOf};
+ghost use Rattle.version_words.specs.TableState.{IsOf};
 ghost use Rattle.idem_alloc.specs.commit_log.specs.Halted.{IsThrough, IsHalted};
 ghost use Rattle.section_runs.specs.Reached.{run_of};
 ghost use Rattle.section_runs.specs.Bodies.{MayGo, GoesOn, Leaves};
@@ -17,12 +17,12 @@ use crate::registers::Places;
 use crate::values::{agree_on, taken, tested, value_in, wanted};
 use body_terms::{Init, Place, Step, StepKind, Steps, Trail, Value, Word};
 use idem_alloc::commit_log::passes;
-use idem_alloc::version_words::{FlockTable, Runner};
 use idem_alloc::{make_gated, retire_gated};
 use idem_cell::{load_gated, store};
 use nested_lock::take_gated;
 use runner_gate::Gate;
 use structure_laws::Structure;
+use version_words::{FlockTable, Runner};
 
 /// Loads a cell and agrees on its word.
 fn load_step<S: Structure, G: Gate, L>(

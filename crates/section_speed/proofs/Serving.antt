@@ -17,11 +17,11 @@ use Rattle.runner_parts.specs.State.{DescriptorsState, NodesState, ReadsState}
 use Rattle.runner_parts.specs.Tests.{has_pair, is_open, is_next, is_answered, knows, serves}
 use Rattle.runner_steps.specs.AfterInRun.{over_if}
 use Rattle.runner_steps.specs.Outside.{is_due}
-use Rattle.try_lock.specs.version_words.specs.RunnerState.{RunnerState}
-use Rattle.try_lock.specs.version_words.specs.TableState.{TableState, IsOf}
-use Rattle.try_lock.specs.version_words.specs.Events.{Makes}
-use Rattle.try_lock.specs.version_words.specs.Naming.{load_of}
-use Rattle.try_lock.specs.version_words.proofs.Stages.{then_loaded_cell}
+use Rattle.version_words.specs.RunnerState.{RunnerState}
+use Rattle.version_words.specs.TableState.{TableState, IsOf}
+use Rattle.version_words.specs.Events.{Makes}
+use Rattle.version_words.specs.Naming.{load_of}
+use Rattle.version_words.proofs.Stages.{then_loaded_cell}
 use Rattle.try_lock.specs.epoch_slots.specs.Entries.{Enters, Exits}
 use Rattle.try_lock.specs.epoch_slots.proofs.Outside.{nodes_made, descriptors_made, reads_made, known_made}
 use Rattle.try_lock.specs.commit_log.specs.Runs.{Ran}

@@ -2,7 +2,7 @@
 use Rattle.std.specs.Prelude.{◌≡◌, ℕ, List, [], ◌∷◌}
 use Rattle.map_history.specs.declared.op.Op.TheVariants.{Get}
 use Rattle.map_history.specs.declared.op.Request.{Request}
-use Rattle.try_lock.specs.version_words.specs.TableState.{TableState}
+use Rattle.version_words.specs.TableState.{TableState}
 
 -- the first request of a trace of its own
 abbrev pub request_of : ℕ → Request

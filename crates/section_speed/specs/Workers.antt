@@ -5,8 +5,8 @@ use Rattle.structure_laws.specs.Tray.{tray}
 use Rattle.runner_parts.specs.declared.entries.Known.{Known}
 use Rattle.epoch_core.specs.declared.stage.Stage.TheVariants as stages
 use Rattle.runner_parts.specs.Tests.{has_pair}
-use Rattle.try_lock.specs.version_words.specs.RunnerState.{RunnerState}
-use Rattle.try_lock.specs.version_words.specs.Stages.{IsAt}
+use Rattle.version_words.specs.RunnerState.{RunnerState}
+use Rattle.version_words.specs.Stages.{IsAt}
 use Rattle.try_lock.specs.epoch_slots.specs.Collects.{IsTidy}
 use Rattle.try_lock.specs.Reached.{IsReached, MayRunSection}
 use Rattle.try_lock.specs.declared.section.Section.{Section}

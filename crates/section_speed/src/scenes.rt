@@ -1,7 +1,7 @@
 //! A table of the test structure with one worker, who has eight requests.
 ghost use Rattle.std.specs.Prelude.{◌≡◌, IfOk};
-ghost use Rattle.try_lock.specs.version_words.specs.TableState.{IsOf};
-ghost use Rattle.try_lock.specs.version_words.specs.Stages.{IsKeeper, HasJoined};
+ghost use Rattle.version_words.specs.TableState.{IsOf};
+ghost use Rattle.version_words.specs.Stages.{IsKeeper, HasJoined};
 ghost use Rattle.section_speed.specs.Scenes.{IsScene, request_of};
 ghost use Rattle.section_speed.specs.Workers.{IsBefore};
 
@@ -9,7 +9,7 @@ use interleave_core::Tray;
 use map_history::{Op, Request};
 use std::alloc::{AllocError, Global};
 use table_words::Layout;
-use try_lock::version_words::{FlockTable, Runner, Words};
+use version_words::{FlockTable, Runner, Words};
 
 /// The first request of a trace of its own.
 fn first_of(number: u32) -> Request

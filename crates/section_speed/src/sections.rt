@@ -1,6 +1,6 @@
 //! A request's section, from the entry of its worker to the end.
 ghost use Rattle.std.specs.Prelude.{◌≡◌, ◌+◌, ◌<◌, ◌≤◌, length, IfSome, IfOk, IfErr};
-ghost use Rattle.try_lock.specs.version_words.specs.TableState.{IsOf};
+ghost use Rattle.version_words.specs.TableState.{IsOf};
 ghost use Rattle.section_speed.specs.Scenes.{IsScene};
 ghost use Rattle.section_speed.specs.Workers.{IsBefore, HasRead, MayRun};
 
@@ -9,8 +9,8 @@ use interleave_core::Tray;
 use runner_gate::Free;
 use try_lock::epoch_slots::{Kind, enter, exit, reserve};
 use try_lock::section_runs::RunEnd;
-use try_lock::version_words::{FlockTable, Runner};
 use try_lock::{Section, publish, retire_section, run_section};
+use version_words::{FlockTable, Runner};
 
 /// The worker, where two node slots and a descriptor are free; else the worker too.
 fn with_reserve(worker: Runner<Tray>) -> Result<Runner<Tray>, Runner<Tray>>

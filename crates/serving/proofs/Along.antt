@@ -15,8 +15,8 @@ use Rattle.runner_parts.specs.Tests.{is_answered, are_answered}
 use Rattle.machine_states.proofs.Steps.{some_same, none_some}
 use Rattle.attempt_bounds.specs.machine_invariant.specs.After.{AreAllowed}
 use Rattle.attempt_bounds.specs.commit_log.proofs.Asked.{asked_on_more}
-use Rattle.attempt_bounds.specs.version_words.specs.RunnerState.{RunnerState}
-use Rattle.attempt_bounds.specs.version_words.specs.TableState.{TableState, IsOf}
+use Rattle.version_words.specs.RunnerState.{RunnerState}
+use Rattle.version_words.specs.TableState.{TableState, IsOf}
 use Rattle.attempt_bounds.specs.epoch_slots.specs.Collects.{IsTidy}
 use Rattle.attempt_bounds.specs.epoch_slots.specs.declared.reserves.Short.{Short}
 use Rattle.attempt_bounds.specs.try_lock.specs.Planning.{Planning}

@@ -21,7 +21,7 @@ use Rattle.runner_parts.specs.State.{FinishedState, ReadsState}
 use Rattle.runner_parts.specs.Tests.{has_pair}
 use Rattle.machine_states.proofs.Steps.{some_same, none_some}
 use Rattle.attempt_bounds.specs.lock_words.specs.Spent.{IsLate}
-use Rattle.attempt_bounds.specs.version_words.specs.RunnerState.{RunnerState}
+use Rattle.version_words.specs.RunnerState.{RunnerState}
 use Rattle.attempt_bounds.specs.epoch_slots.specs.Entries.{Exits}
 use Rattle.attempt_bounds.specs.epoch_slots.proofs.Outside.{reads_made}
 use Rattle.attempt_bounds.specs.try_lock.specs.declared.planned.Planned.{Planned}

@@ -14,7 +14,7 @@ use Rattle.attempt_bounds.specs.machine_invariant.specs.After.{AreAllowed}
 use Rattle.attempt_bounds.specs.machine_facts.specs.Known.{KnownStand}
 use Rattle.attempt_bounds.specs.machine_facts.proofs.Following.{facts_after}
 use Rattle.attempt_bounds.specs.reached_histories.proofs.First.{entry_of}
-use Rattle.attempt_bounds.specs.version_words.specs.RunnerState.{RunnerState}
+use Rattle.version_words.specs.RunnerState.{RunnerState}
 use Rattle.attempt_bounds.specs.try_lock.specs.Reached.{IsReached}
 use Rattle.attempt_bounds.specs.request_facts.specs.Laws.{HasEntry}
 use Rattle.attempt_bounds.specs.attempts.specs.Knowing.{IsFront}

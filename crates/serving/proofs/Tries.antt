@@ -8,7 +8,7 @@ use Rattle.runner_gate.specs.Asks.{Asks, asked_on}
 use Rattle.structure_laws.specs.Meaning.{Meaning}
 use Rattle.machine_states.proofs.Steps.{some_same, none_some}
 use Rattle.attempt_bounds.specs.commit_log.proofs.Asked.{counted_more, asked_on_more}
-use Rattle.attempt_bounds.specs.version_words.specs.RunnerState.{RunnerState}
+use Rattle.version_words.specs.RunnerState.{RunnerState}
 use Rattle.attempt_bounds.specs.try_lock.specs.Planning.{Planning}
 use Rattle.attempt_bounds.specs.attempts.specs.Course.{IsRefused}
 use Rattle.attempt_bounds.specs.attempts.specs.Attempts.{asks_more, has_met_held, is_stop_helping, IsAttempt, Answers, Stops, AtEntry, InPlan, BehindHold, InOwnRun, InHelpedRun}

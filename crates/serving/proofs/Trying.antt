@@ -7,8 +7,8 @@ use Rattle.runner_gate.specs.Asks.{Asks, asked_on}
 use Rattle.structure_laws.specs.Meaning.{Meaning}
 use Rattle.runner_parts.specs.Tests.{is_answered, are_answered}
 use Rattle.attempt_bounds.specs.commit_log.proofs.Asked.{asked_on_more}
-use Rattle.attempt_bounds.specs.version_words.specs.RunnerState.{RunnerState}
-use Rattle.attempt_bounds.specs.version_words.specs.TableState.{TableState, IsOf}
+use Rattle.version_words.specs.RunnerState.{RunnerState}
+use Rattle.version_words.specs.TableState.{TableState, IsOf}
 use Rattle.attempt_bounds.specs.epoch_slots.specs.Collects.{IsTidy}
 use Rattle.attempt_bounds.specs.try_lock.specs.Planning.{Planning}
 use Rattle.attempt_bounds.specs.attempts.specs.Knowing.{IsFront, KnowsMore, LearnsNoOther}

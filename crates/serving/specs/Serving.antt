@@ -8,7 +8,7 @@ use Rattle.structure_laws.specs.Cells.{slots}
 use Rattle.runner_parts.specs.declared.entries.Known.{Known}
 use Rattle.runner_parts.specs.declared.entries.Published.{Published}
 use Rattle.runner_parts.specs.Tests.{is_answered}
-use Rattle.attempt_bounds.specs.version_words.specs.RunnerState.{RunnerState}
+use Rattle.version_words.specs.RunnerState.{RunnerState}
 use Rattle.attempt_bounds.specs.epoch_slots.specs.Collects.{IsTidy}
 use Rattle.attempt_bounds.specs.epoch_slots.specs.declared.reserves.Short.{Short}
 use Rattle.attempt_bounds.specs.try_lock.specs.Planning.{Planning}

@@ -15,9 +15,9 @@ use Rattle.machine_states.specs.Reached.{Reached}
 use Rattle.machine_states.specs.Sight.{sight}
 use Rattle.machine_facts.proofs.Following.{facts_after}
 use Rattle.machine_invariant.specs.After.{AreAllowed}
-use Rattle.closed_words.specs.version_words.specs.RunnerState.{RunnerState}
-use Rattle.closed_words.specs.version_words.specs.Shown.{left_part}
-use Rattle.closed_words.specs.version_words.specs.TableState.{TableState, WordsState, IsOf, IsClosing, HasJoinedAll, word_of}
+use Rattle.version_words.specs.RunnerState.{RunnerState}
+use Rattle.version_words.specs.Shown.{left_part}
+use Rattle.version_words.specs.TableState.{TableState, WordsState, IsOf, IsClosing, HasJoinedAll, word_of}
 use Rattle.closed_words.specs.Histories.{HoldsNoLock}
 use Rattle.settling.specs.Settled.{Settles, IsSettled}
 use Rattle.settled_tables.specs.Once.{SectionsCameOnce}

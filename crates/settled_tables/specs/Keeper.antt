@@ -4,8 +4,8 @@ use Rattle.structure_laws.specs.Meaning.{Meaning}
 use Rattle.epoch_core.specs.declared.stage.Stage.TheVariants as stages
 use Rattle.runner_parts.specs.Tests.{has}
 use Rattle.machine_states.specs.First.{keeper_part}
-use Rattle.closed_words.specs.version_words.specs.RunnerState.{RunnerState}
-use Rattle.closed_words.specs.version_words.specs.Stages.{IsAt, IsKeeper, HasJoined}
+use Rattle.version_words.specs.RunnerState.{RunnerState}
+use Rattle.version_words.specs.Stages.{IsAt, IsKeeper, HasJoined}
 
 -- an idle keeper that has split off so many workers and joined the first ones, so many; it has all its own node slots
 -- still

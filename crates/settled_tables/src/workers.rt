@@ -2,15 +2,15 @@
 ghost use Rattle.std.specs.Prelude.{◌≡◌, ◌+◌, ◌<◌, IfOk, vec_len};
 ghost use Rattle.map_history.specs.Requests.{AreInOrder};
 ghost use Rattle.table_words.specs.Limits.{IsWithinLimits};
-ghost use Rattle.closed_words.specs.version_words.specs.TableState.{IsOf, IsNew};
+ghost use Rattle.version_words.specs.TableState.{IsOf, IsNew};
 ghost use Rattle.settled_tables.specs.Keeper.{IsIdleKeeper};
 ghost use Rattle.settled_tables.specs.Seats.{IsNewWorker, AreNewWorkers, AreBack, AreReports};
 
-use closed_words::version_words::{FlockTable, Runner};
 use map_history::Request;
 use std::alloc::{AllocError, Global};
 use structure_laws::Structure;
 use table_words::Layout;
+use version_words::{FlockTable, Runner};
 
 /// The keeper, and the next worker. The Err is want of memory.
 fn seat_worker<S: Structure>(

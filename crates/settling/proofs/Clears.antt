@@ -36,12 +36,12 @@ use Rattle.keeper_facts.specs.runner_facts.specs.Keeper.{AllJoined}
 use Rattle.keeper_facts.specs.Freed.{HasLeft, IsCleared, IsFreed, IsAlone, StandsSeen, LocksTell}
 use Rattle.keeper_facts.proofs.Lists.{left_on}
 use Rattle.keeper_facts.proofs.Keeping.{after_keeps, noted_left}
-use Rattle.try_lock.specs.version_words.specs.RunnerState.{RunnerState}
-use Rattle.try_lock.specs.version_words.specs.TableState.{TableState, IsOf}
-use Rattle.try_lock.specs.version_words.specs.Events.{met_by, Makes}
-use Rattle.try_lock.specs.version_words.specs.Naming.{load_of}
-use Rattle.try_lock.specs.version_words.specs.Stages.{IsAt}
-use Rattle.try_lock.specs.version_words.proofs.Stages.{then_loaded_cell}
+use Rattle.version_words.specs.RunnerState.{RunnerState}
+use Rattle.version_words.specs.TableState.{TableState, IsOf}
+use Rattle.version_words.specs.Events.{met_by, Makes}
+use Rattle.version_words.specs.Naming.{load_of}
+use Rattle.version_words.specs.Stages.{IsAt}
+use Rattle.version_words.proofs.Stages.{then_loaded_cell}
 use Rattle.try_lock.specs.epoch_slots.specs.Entries.{KeepsOwn}
 use Rattle.try_lock.specs.epoch_slots.proofs.Outside.{reads_made, own_kept}
 use Rattle.try_lock.specs.section_runs.specs.Reached.{IsReached, run_of}

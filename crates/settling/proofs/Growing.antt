@@ -21,9 +21,9 @@ use Rattle.runner_parts.specs.Lists.{holds_named, lock_agreed}
 use Rattle.runner_parts.specs.Tests.{has}
 use Rattle.keeper_facts.proofs.Keeping.{after_keeps, noted_joined}
 use Rattle.machine_states.proofs.Marks.{stays}
-use Rattle.try_lock.specs.version_words.specs.RunnerState.{RunnerState}
-use Rattle.try_lock.specs.version_words.specs.TableState.{TableState, IsOf}
-use Rattle.try_lock.specs.version_words.specs.Events.{Makes}
+use Rattle.version_words.specs.RunnerState.{RunnerState}
+use Rattle.version_words.specs.TableState.{TableState, IsOf}
+use Rattle.version_words.specs.Events.{Makes}
 use Rattle.try_lock.specs.commit_log.specs.Runs.{Ran}
 use Rattle.try_lock.specs.section_runs.specs.Opened.{is_opening, Opens}
 use Rattle.settling.specs.Settled.{IsFront}

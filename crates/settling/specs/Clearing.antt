@@ -8,8 +8,8 @@ use Rattle.table_words.specs.declared.layout.Layout.{Layout}
 use Rattle.structure_laws.specs.Meaning.{Meaning}
 use Rattle.epoch_core.specs.declared.stage.Stage.TheVariants as stages
 use Rattle.runner_parts.specs.Tests.{has}
-use Rattle.try_lock.specs.version_words.specs.RunnerState.{RunnerState}
-use Rattle.try_lock.specs.version_words.specs.Stages.{IsAt}
+use Rattle.version_words.specs.RunnerState.{RunnerState}
+use Rattle.version_words.specs.Stages.{IsAt}
 use Rattle.try_lock.specs.section_runs.specs.Reached.{IsReached}
 use Rattle.try_lock.specs.section_runs.specs.Ended.{EndsSo}
 use Rattle.keeper_facts.specs.Freed.{IsCleared, IsFreed, AreApart}

@@ -9,8 +9,8 @@ use Rattle.machine_states.specs.World.{World, seat_of}
 use Rattle.machine_states.specs.Reached.{Reached}
 use Rattle.machine_states.specs.Sight.{Sight, sight}
 use Rattle.keeper_facts.specs.Freed.{IsFreed}
-use Rattle.try_lock.specs.version_words.specs.RunnerState.{RunnerState}
-use Rattle.try_lock.specs.version_words.specs.TableState.{TableState, HasJoinedAll}
+use Rattle.version_words.specs.RunnerState.{RunnerState}
+use Rattle.version_words.specs.TableState.{TableState, HasJoinedAll}
 use Rattle.try_lock.specs.epoch_slots.specs.Collects.{IsTidy}
 use Rattle.try_lock.specs.section_runs.specs.Reached.{IsReached}
 

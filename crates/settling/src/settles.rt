@@ -2,7 +2,7 @@
 ghost use Rattle.std.specs.Prelude.{◌≡◌, ℕ, ◌+◌, ◌-◌, ◌<◌, true, length};
 ghost use Rattle.table_words.specs.Limits.{IsWithinLimits};
 ghost use Rattle.body_terms.specs.Word.{value_of};
-ghost use Rattle.try_lock.specs.version_words.specs.TableState.{IsOf};
+ghost use Rattle.version_words.specs.TableState.{IsOf};
 ghost use Rattle.try_lock.specs.Reached.{MayHelp};
 ghost use Rattle.settling.specs.Settled.{MaySettle, Settles};
 ghost use Rattle.settling.specs.Clearing.{cell_count, KeepsJoins, IsClearing, HasRun};
@@ -13,7 +13,7 @@ use runner_gate::Free;
 use structure_laws::Structure;
 use try_lock::epoch_slots::{enter, exit};
 use try_lock::help;
-use try_lock::version_words::{FlockTable, Runner};
+use version_words::{FlockTable, Runner};
 
 /// How many cells the table has.
 fn cells<S: Structure>(table: &FlockTable<S>) -> u32

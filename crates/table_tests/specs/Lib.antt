@@ -1,3 +1,1 @@
 pub mod Slots
--- Passed on to the layers above, so that they needn't name these libraries themselves.
-pub use Rattle.version_words

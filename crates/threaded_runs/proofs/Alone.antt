@@ -30,8 +30,8 @@ use Rattle.machine_states.proofs.Steps.{none_some}
 use Rattle.runner_parts.specs.Lists.{entry_count}
 use Rattle.closed_words.specs.reached_histories.specs.Requests.{or_none, requests_of}
 use Rattle.closed_words.specs.reached_histories.specs.Laws.{HasHistory}
-use Rattle.closed_words.specs.version_words.specs.RunnerState.{RunnerState}
-use Rattle.closed_words.specs.version_words.specs.TableState.{TableState, WordsState, IsClosing, word_of}
+use Rattle.version_words.specs.RunnerState.{RunnerState}
+use Rattle.version_words.specs.TableState.{TableState, WordsState, IsClosing, word_of}
 use Rattle.serving.specs.resource_bounds.specs.Versions.{VersionsAreCounted, run_count, open_count, runs_of, runs_below}
 use Rattle.serving.specs.resource_bounds.specs.InUse.{FewAreInUse, NoneIsHeld, entries_below}
 use Rattle.settling.specs.keeper_facts.specs.Freed.{IsFreed, IsPublished, LocksTell}

@@ -31,9 +31,9 @@ use Rattle.serving.specs.lock_words.specs.Spent.{IsLate, IsPast, IsSpentAt, Spen
 use Rattle.closed_words.specs.reached_histories.specs.Sections.{Knows, HasOpen, HasPublished}
 use Rattle.closed_words.specs.reached_histories.specs.Laws.{HasHistory}
 use Rattle.serving.specs.request_facts.specs.Laws.{CallersStand, HasEntry, IsKnown}
-use Rattle.closed_words.specs.version_words.specs.RunnerState.{RunnerState}
-use Rattle.closed_words.specs.version_words.specs.Shown.{left_part}
-use Rattle.closed_words.specs.version_words.specs.TableState.{TableState, WordsState, IsOf, IsClosing, word_of}
+use Rattle.version_words.specs.RunnerState.{RunnerState}
+use Rattle.version_words.specs.Shown.{left_part}
+use Rattle.version_words.specs.TableState.{TableState, WordsState, IsOf, IsClosing, word_of}
 use Rattle.settling.specs.epoch_slots.specs.Collects.{IsTidy}
 use Rattle.settling.specs.epoch_slots.specs.Reserves.{counts_of}
 use Rattle.settling.specs.epoch_slots.specs.declared.reserves.Kind.{Kind}

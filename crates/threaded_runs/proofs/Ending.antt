@@ -18,9 +18,9 @@ use Rattle.machine_states.specs.Sight.{sight}
 use Rattle.settling.specs.runner_gate.specs.Asks.{Asks}
 use Rattle.serving.specs.resource_bounds.specs.Makes as makes
 use Rattle.reached_facts.specs.Facts.{HasFacts, KeepsFacts}
-use Rattle.closed_words.specs.version_words.specs.RunnerState.{RunnerState}
-use Rattle.closed_words.specs.version_words.specs.Shown.{left_part}
-use Rattle.closed_words.specs.version_words.specs.TableState.{TableState, WordsState, IsOf, IsClosing, word_of}
+use Rattle.version_words.specs.RunnerState.{RunnerState}
+use Rattle.version_words.specs.Shown.{left_part}
+use Rattle.version_words.specs.TableState.{TableState, WordsState, IsOf, IsClosing, word_of}
 use Rattle.closed_words.specs.Histories.{HaveHistory, HoldsNoLock}
 use Rattle.settling.specs.try_lock.specs.Planning.{Planning}
 use Rattle.settling.specs.Settled.{Settles, IsSettled}

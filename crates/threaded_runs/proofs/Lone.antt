@@ -22,9 +22,9 @@ use Rattle.closed_words.specs.machine_invariant.specs.After.{AreAllowed}
 use Rattle.runner_parts.specs.Lists.{entry_count}
 use Rattle.closed_words.specs.reached_histories.specs.Laws.{HasHistory}
 use Rattle.reached_facts.specs.Facts.{HasFacts}
-use Rattle.closed_words.specs.version_words.specs.RunnerState.{RunnerState}
-use Rattle.closed_words.specs.version_words.specs.Shown.{left_part}
-use Rattle.closed_words.specs.version_words.specs.TableState.{TableState, WordsState, IsOf, IsClosing, word_of}
+use Rattle.version_words.specs.RunnerState.{RunnerState}
+use Rattle.version_words.specs.Shown.{left_part}
+use Rattle.version_words.specs.TableState.{TableState, WordsState, IsOf, IsClosing, word_of}
 use Rattle.settling.specs.runner_gate.specs.Asks.{Asks}
 use Rattle.settling.specs.epoch_slots.specs.Collects.{IsTidy}
 use Rattle.settling.specs.epoch_slots.specs.Reserves.{counts_of}

@@ -12,11 +12,11 @@ use Rattle.structure_laws.specs.Meaning.{Meaning}
 use Rattle.epoch_core.specs.declared.stage.Stage.TheVariants as stages
 use Rattle.runner_parts.specs.Tests.{is_answered}
 use Rattle.machine_states.proofs.Steps.{some_same}
-use Rattle.closed_words.specs.version_words.specs.RunnerState.{RunnerState}
-use Rattle.closed_words.specs.version_words.specs.Stages.{IsAt, IsKeeper}
-use Rattle.closed_words.specs.version_words.specs.TableState.{TableState, IsOf}
-use Rattle.closed_words.specs.version_words.specs.Events.{next_worker}
-use Rattle.closed_words.specs.version_words.proofs.Stages.{next_is_idle}
+use Rattle.version_words.specs.RunnerState.{RunnerState}
+use Rattle.version_words.specs.Stages.{IsAt, IsKeeper}
+use Rattle.version_words.specs.TableState.{TableState, IsOf}
+use Rattle.version_words.specs.Events.{next_worker}
+use Rattle.version_words.proofs.Stages.{next_is_idle}
 use Rattle.settling.specs.epoch_slots.specs.Collects.{IsTidy}
 use Rattle.settling.specs.try_lock.specs.Planning.{Planning}
 use Rattle.serving.specs.attempts.specs.Knowing.{IsOwn}

@@ -7,10 +7,10 @@ use mathlib.Core.Logic.{dite}
 use native.Mathlib.Decide.{ℕ_discrete}
 use Rattle.structure_laws.specs.Meaning.{Meaning}
 use Rattle.runner_steps.specs.After.{leaves}
-use Rattle.closed_words.specs.version_words.specs.RunnerState.{RunnerState}
-use Rattle.closed_words.specs.version_words.specs.Shown.{left_part}
-use Rattle.closed_words.specs.version_words.specs.TableState.{TableState}
-use Rattle.closed_words.specs.version_words.specs.Events.{joined_by}
+use Rattle.version_words.specs.RunnerState.{RunnerState}
+use Rattle.version_words.specs.Shown.{left_part}
+use Rattle.version_words.specs.TableState.{TableState}
+use Rattle.version_words.specs.Events.{joined_by}
 use Rattle.settling.specs.try_lock.specs.Planning.{Planning}
 use Rattle.settling.specs.runner_gate.specs.Asks.{Asks, unasked_of}
 use Rattle.serving.specs.declared.answers.Served.{Served}

@@ -7,7 +7,7 @@ use Rattle.body_terms.specs.declared.outcome.Outcome.TheVariants as outcomes
 use Rattle.structure_laws.specs.Meaning.{Meaning}
 use Rattle.runner_parts.specs.State.{FinishedState}
 use Rattle.runner_parts.specs.Tests.{has_pair}
-use Rattle.closed_words.specs.version_words.specs.RunnerState.{RunnerState}
+use Rattle.version_words.specs.RunnerState.{RunnerState}
 use Rattle.settling.specs.try_lock.specs.Planning.{Planning}
 use Rattle.serving.specs.attempts.specs.Course.{IsRefused}
 use Rattle.serving.specs.attempts.specs.Attempts.{IsTurnedAway}

@@ -3,7 +3,7 @@ use Rattle.std.specs.Prelude.{◌≡◌, ℕ, ◌+◌, ◌-◌, ◌*◌, ◌≤�
 use Rattle.structure_laws.specs.Cells as cells
 use Rattle.structure_laws.specs.Meaning.{Meaning}
 use Rattle.settling.specs.runner_gate.specs.Counts.{plus}
-use Rattle.closed_words.specs.version_words.specs.TableState.{WordsState}
+use Rattle.version_words.specs.TableState.{WordsState}
 use Rattle.serving.specs.Serving.{least_asks, most_asks}
 use Rattle.serving.specs.declared.answers.Served.{Served}
 use Rattle.threaded_runs.specs.Counts.{halted}

@@ -4,7 +4,7 @@ use Rattle.map_history.specs.declared.op.Request.{Request}
 use Rattle.structure_laws.specs.Meaning.{Meaning}
 use Rattle.settling.specs.runner_gate.specs.Asks.{Asks}
 use Rattle.settling.specs.runner_gate.specs.Counts.{plus}
-use Rattle.closed_words.specs.version_words.specs.TableState.{WordsState}
+use Rattle.version_words.specs.TableState.{WordsState}
 use Rattle.serving.specs.Serving.{least_asks}
 use Rattle.serving.specs.declared.answers.Served.{Served}
 use Rattle.serving.specs.declared.answers.Served.TheVariants as answers

@@ -4,7 +4,7 @@ use Rattle.map_sizes.specs.Sizes.{peak}
 use Rattle.body_terms.specs.Word.{version_of}
 use Rattle.table_words.specs.declared.spot.Spot.TheVariants.{Cell}
 use Rattle.structure_laws.specs.Meaning.{Meaning}
-use Rattle.closed_words.specs.version_words.specs.TableState.{WordsState, word_of}
+use Rattle.version_words.specs.TableState.{WordsState, word_of}
 use Rattle.settling.specs.epoch_slots.specs.declared.reserves.Kind.TheVariants as kinds
 use Rattle.settling.specs.epoch_slots.specs.declared.reserves.Short.{Short}
 use Rattle.serving.specs.declared.answers.Served.{Served}

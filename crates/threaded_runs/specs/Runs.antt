@@ -5,7 +5,7 @@ use Rattle.table_words.specs.declared.layout.Layout.{Layout}
 use Rattle.table_words.specs.declared.spot.Spot.TheVariants.{Stamp, Reply, DoneWord}
 use Rattle.structure_laws.specs.Cells as cells
 use Rattle.structure_laws.specs.Meaning.{Meaning}
-use Rattle.closed_words.specs.version_words.specs.TableState.{WordsState, word_of}
+use Rattle.version_words.specs.TableState.{WordsState, word_of}
 use Rattle.closed_words.specs.Histories.{HoldsNoLock}
 use Rattle.settling.specs.runner_facts.specs.Facts.{HasWornCell}
 use Rattle.serving.specs.lock_words.specs.Spent.{IsPast, IsSpentAt}

@@ -1,9 +1,9 @@
 //! What goes into a worker's thread, and what comes out of it.
 
-use closed_words::version_words::Runner;
 use map_history::Request;
 use serving::Served;
 use structure_laws::Structure;
+use version_words::Runner;
 
 /// A worker with its gate and its requests.
 #[derive(Drop)]

@@ -4,7 +4,6 @@ ghost use Rattle.threaded_runs.specs.Jobs.{MayRun, HasRun, AllRun};
 
 use crate::job::{Finished, Job};
 use body_terms::Steps;
-use closed_words::version_words::FlockTable;
 use serving::lock_walks::Planner;
 use serving::serve;
 use settling::runner_gate::Gate;
@@ -12,6 +11,7 @@ use std::alloc::AllocError;
 use std::sync::Wait;
 use std::thread;
 use std::thread::Threads;
+use version_words::FlockTable;
 
 /// Serves a worker's requests.
 fn run_job<R: Threads + Wait + Sync, S: Planner, G: Gate>(

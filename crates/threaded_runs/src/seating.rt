@@ -1,19 +1,19 @@
 //! The workers and their gates, given out before the run and taken back behind it.
 ghost use Rattle.std.specs.Prelude.{◌≡◌, ◌+◌, ◌<◌, ◌≤◌, IfOk, OnErr, All, List, [], true, length, vec_len};
 ghost use Rattle.map_history.specs.Requests.{AreInOrder};
-ghost use Rattle.closed_words.specs.version_words.specs.TableState.{IsOf};
+ghost use Rattle.version_words.specs.TableState.{IsOf};
 ghost use Rattle.settled_tables.specs.Keeper.{IsIdleKeeper};
 ghost use Rattle.threaded_runs.specs.Counts.{halts_counted, plans_given, plans_from, returns_counted, GivesFront};
 ghost use Rattle.threaded_runs.specs.Jobs.{IsSeated, AllSeated, AllUnhalted, AllGiven, AreBack, AllKept, asks_counted};
 
 use crate::job::{Finished, Job};
 use crate::owned::requests_of;
-use closed_words::version_words::{FlockTable, Runner};
 use map_history::Request;
 use serving::Served;
 use serving::lock_walks::Planner;
 use settling::runner_gate::{Gate, Gates};
 use std::alloc::{AllocError, Global};
+use version_words::{FlockTable, Runner};
 
 /// The keeper, and the next worker with this gate and with its requests.
 ///

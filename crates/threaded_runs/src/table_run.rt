@@ -11,7 +11,6 @@ ghost use Rattle.threaded_runs.specs.Runs.{IsMadeWith, AreServed};
 use crate::running::run_jobs;
 use crate::seating::{gather, make_jobs};
 use closed_words::closed_words_have_a_history;
-use closed_words::version_words::{FlockTable, Words};
 use map_history::Request;
 use reached_facts::table_keeps_its_facts;
 use serving::Served;
@@ -23,6 +22,7 @@ use std::alloc::{AllocError, Global};
 use std::sync::Wait;
 use std::thread::Threads;
 use table_words::Layout;
+use version_words::{FlockTable, Words};
 
 /// Runs all requests on one new table, with a thread for each worker where one can be made, and gives the words at the
 /// end with what the serving of each worker's requests answered, in order of number.

@@ -6,10 +6,10 @@ ghost use Rattle.transfers.specs.Scene.{MayWork};
 use accounts::{Accounts, Transfer};
 use body_terms::Steps;
 use lock_attempts::attempts::Attempt;
-use lock_attempts::attempts::version_words::{FlockTable, Runner};
 use lock_attempts::{spend_ticket, tickets_of};
 use map_history::Op;
 use runner_gate::Gate;
+use version_words::{FlockTable, Runner};
 
 /// How many workers there are, and how many transfers each is to make.
 pub const WORKERS: u32 = 4;

@@ -11,7 +11,7 @@ use Rattle.runner_parts.specs.State.{PartState}
 use Rattle.runner_steps.specs.AfterInRun.{over_if}
 use Rattle.machine_epochs.specs.Slots.{thunk_in}
 use Rattle.machine_states.specs.Sight.{Sight, sight, part_or_first}
-use Rattle.epoch_slots.specs.version_words.specs.RunnerState.{RunnerState}
+use Rattle.version_words.specs.RunnerState.{RunnerState}
 use Rattle.section_runs.specs.Reached.{MayBegin}
 use Rattle.section_runs.specs.Ended.{EndsSo}
 use Rattle.try_lock.specs.Reached.{IsSectionOf, MayRunSection, MayHelp}

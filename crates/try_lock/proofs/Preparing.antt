@@ -16,10 +16,10 @@ use Rattle.runner_parts.specs.State.{PartState, DescriptorsState}
 use Rattle.runner_parts.specs.Tests.{has, is_some_of, last_stored, are_stored, is_prepared, thunk_words}
 use Rattle.runner_parts.specs.Lists.{descriptor_stored, nodes_looked}
 use Rattle.runner_steps.specs.After.{outside_after}
-use Rattle.epoch_slots.specs.version_words.specs.RunnerState.{RunnerState}
-use Rattle.epoch_slots.specs.version_words.specs.Events.{IsEnabled, Makes}
-use Rattle.epoch_slots.specs.version_words.specs.Stages.{IsAt}
-use Rattle.epoch_slots.specs.version_words.proofs.Stages.{may_load_word, may_store_word, then_loaded_word, then_stored_word}
+use Rattle.version_words.specs.RunnerState.{RunnerState}
+use Rattle.version_words.specs.Events.{IsEnabled, Makes}
+use Rattle.version_words.specs.Stages.{IsAt}
+use Rattle.version_words.proofs.Stages.{may_load_word, may_store_word, then_loaded_word, then_stored_word}
 use Rattle.epoch_slots.proofs.Outside.{nodes_made, descriptors_made, reads_made, known_made, finished_made}
 use Rattle.try_lock.specs.Prepares.{MaySet, KeepsElse, Stores, SetsWord, SetsWords, HasSet, IsReady}
 

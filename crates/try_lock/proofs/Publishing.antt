@@ -38,11 +38,11 @@ use Rattle.section_runs.specs.machine_facts.specs.After.{AreFactsOfStep}
 use Rattle.section_runs.specs.machine_facts.proofs.Following.{step_facts_after}
 use Rattle.section_runs.specs.next_steps.specs.Numbers.{PartFits}
 use Rattle.section_runs.specs.next_steps.proofs.Numbers.{reached_numbers}
-use Rattle.epoch_slots.specs.version_words.specs.RunnerState.{RunnerState}
-use Rattle.epoch_slots.specs.version_words.specs.Events.{IsEnabled, Makes}
-use Rattle.epoch_slots.specs.version_words.specs.Stages.{IsAt}
-use Rattle.epoch_slots.specs.version_words.proofs.Holds.{holds_so}
-use Rattle.epoch_slots.specs.version_words.proofs.Stages.{enabled, made_at}
+use Rattle.version_words.specs.RunnerState.{RunnerState}
+use Rattle.version_words.specs.Events.{IsEnabled, Makes}
+use Rattle.version_words.specs.Stages.{IsAt}
+use Rattle.version_words.proofs.Holds.{holds_so}
+use Rattle.version_words.proofs.Stages.{enabled, made_at}
 use Rattle.epoch_slots.proofs.Outside.{nodes_made, descriptors_made, reads_made, known_made, finished_made}
 use Rattle.try_lock.specs.declared.section.Section.{Section}
 use Rattle.try_lock.specs.Reached.{IsReached, IsSectionOf}

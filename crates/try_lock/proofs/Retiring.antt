@@ -12,9 +12,9 @@ use Rattle.runner_parts.specs.Lists.{descriptor_retired}
 use Rattle.runner_steps.specs.Outside.{when, is_over}
 use Rattle.runner_steps.specs.AfterOutside.{retire_after}
 use Rattle.runner_steps.specs.After.{after_by}
-use Rattle.epoch_slots.specs.version_words.specs.RunnerState.{RunnerState}
-use Rattle.epoch_slots.specs.version_words.specs.Events.{IsEnabled, Makes}
-use Rattle.epoch_slots.specs.version_words.proofs.Stages.{enabled}
+use Rattle.version_words.specs.RunnerState.{RunnerState}
+use Rattle.version_words.specs.Events.{IsEnabled, Makes}
+use Rattle.version_words.proofs.Stages.{enabled}
 use Rattle.epoch_slots.proofs.Outside.{nodes_made, descriptors_made, known_made, finished_made}
 use Rattle.try_lock.specs.Retires.{IsOver, HasRetired}
 

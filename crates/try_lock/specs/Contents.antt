@@ -5,7 +5,7 @@ use Rattle.body_terms.specs.Word.{is_free}
 use Rattle.table_words.specs.declared.spot.Spot.TheVariants.{Cell}
 use Rattle.structure_laws.specs.Scene.{Cells}
 use Rattle.structure_laws.specs.Meaning.{Meaning}
-use Rattle.epoch_slots.specs.version_words.specs.TableState.{WordsState, HasWord, word_of}
+use Rattle.version_words.specs.TableState.{WordsState, HasWord, word_of}
 
 module _ {T : Type 0} (m : Meaning) where
   -- the cells are well formed, and their contents are the map; of places beyond the table nothing is said

@@ -16,9 +16,9 @@ use Rattle.epoch_core.specs.declared.stage.Stage.TheVariants as stages
 use Rattle.runner_parts.specs.State.{ReadsState}
 use Rattle.runner_parts.specs.Lists.{named_by}
 use Rattle.runner_parts.specs.Tests.{has_pair}
-use Rattle.epoch_slots.specs.version_words.specs.RunnerState.{RunnerState}
-use Rattle.epoch_slots.specs.version_words.specs.Events.{Makes}
-use Rattle.epoch_slots.specs.version_words.specs.Stages.{IsAt}
+use Rattle.version_words.specs.RunnerState.{RunnerState}
+use Rattle.version_words.specs.Events.{Makes}
+use Rattle.version_words.specs.Stages.{IsAt}
 use Rattle.epoch_slots.specs.Entries.{KeepsOwn}
 use Rattle.section_runs.specs.commit_log.specs.Asked.{IsAsked}
 use Rattle.try_lock.specs.declared.planned.Planned.{Planned}

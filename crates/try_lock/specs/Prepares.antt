@@ -6,9 +6,9 @@ use Rattle.structure_laws.specs.Meaning.{Meaning}
 use Rattle.runner_parts.specs.declared.event.EventKind.TheVariants as kinds
 use Rattle.epoch_core.specs.declared.stage.Stage.TheVariants as stages
 use Rattle.runner_parts.specs.Tests.{last_stored, thunk_words, is_prepared}
-use Rattle.epoch_slots.specs.version_words.specs.RunnerState.{RunnerState}
-use Rattle.epoch_slots.specs.version_words.specs.Events.{Makes, IsMade}
-use Rattle.epoch_slots.specs.version_words.specs.Stages.{IsAt, HasFree}
+use Rattle.version_words.specs.RunnerState.{RunnerState}
+use Rattle.version_words.specs.Events.{Makes, IsMade}
+use Rattle.version_words.specs.Stages.{IsAt, HasFree}
 
 module _ {T : Type 0} where
   -- the runner is entered and in no run, has no section left to retire, and this descriptor is free

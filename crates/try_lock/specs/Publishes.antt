@@ -15,9 +15,9 @@ use Rattle.runner_steps.specs.AfterOutside.{published_by}
 use Rattle.machine_states.specs.Sight.{Sight, sight}
 use Rattle.machine_epochs.specs.Slots.{thunk_in}
 pub use Rattle.section_runs.specs.nested_lock.specs.Answers.{refused_by}
-use Rattle.epoch_slots.specs.version_words.specs.RunnerState.{RunnerState}
-use Rattle.epoch_slots.specs.version_words.specs.Events.{Makes}
-use Rattle.epoch_slots.specs.version_words.specs.Stages.{IsAt}
+use Rattle.version_words.specs.RunnerState.{RunnerState}
+use Rattle.version_words.specs.Events.{Makes}
+use Rattle.version_words.specs.Stages.{IsAt}
 use Rattle.try_lock.specs.declared.section.Section.{Section}
 use Rattle.try_lock.specs.Reached.{IsReached, IsSectionOf}
 use Rattle.try_lock.specs.Prepares.{SetsWords}

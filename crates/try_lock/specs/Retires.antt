@@ -5,9 +5,9 @@ use Rattle.runner_parts.specs.declared.event.EventKind.TheVariants as kinds
 use Rattle.runner_parts.specs.declared.entries.Published.{Published}
 use Rattle.epoch_core.specs.declared.stage.Stage.TheVariants as stages
 use Rattle.runner_parts.specs.Lists.{descriptor_retired}
-use Rattle.epoch_slots.specs.version_words.specs.RunnerState.{RunnerState}
-use Rattle.epoch_slots.specs.version_words.specs.Events.{Makes}
-use Rattle.epoch_slots.specs.version_words.specs.Stages.{IsAt}
+use Rattle.version_words.specs.RunnerState.{RunnerState}
+use Rattle.version_words.specs.Events.{Makes}
+use Rattle.version_words.specs.Stages.{IsAt}
 
 module _ {T : Type 0} where
   -- the runner is entered and in no run, and has run the section that it published with this descriptor to its end

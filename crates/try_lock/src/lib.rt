@@ -20,6 +20,5 @@ pub use section_runs::RunEnd;
 
 // Passed on to the layers above, so that they needn't name these libraries themselves.
 pub use epoch_slots;
-pub use epoch_slots::version_words;
 pub use section_runs;
 pub use section_runs::commit_log;

@@ -1,10 +1,10 @@
 //! The retirement of a section.
-ghost use Rattle.epoch_slots.specs.version_words.specs.TableState.{IsOf};
+ghost use Rattle.version_words.specs.TableState.{IsOf};
 ghost use Rattle.try_lock.specs.Retires.{IsOver, HasRetired};
 
 use crate::section::Section;
-use epoch_slots::version_words::{FlockTable, Runner};
 use structure_laws::Structure;
+use version_words::{FlockTable, Runner};
 
 /// Retires the section: loads the epoch, and puts the section's descriptor in the own limbo list with it, in one atomic
 /// step.

@@ -4,7 +4,7 @@ ghost use Rattle.body_terms.specs.Trail.{Agreed};
 ghost use Rattle.body_terms.specs.Word.{value_of};
 ghost use Rattle.body_terms.specs.declared.outcome.Outcome.{Outcome};
 ghost use Rattle.body_terms.specs.declared.thunk.Thunk.{Thunk};
-ghost use Rattle.epoch_slots.specs.version_words.specs.TableState.{IsOf};
+ghost use Rattle.version_words.specs.TableState.{IsOf};
 ghost use Rattle.section_runs.specs.commit_log.specs.Asked.{IsAsked};
 ghost use Rattle.section_runs.specs.declared.runs.RunEnd.TheVariants.{Done, Halted};
 ghost use Rattle.try_lock.specs.Reached.{MayRunSection, MayHelp};
@@ -12,10 +12,10 @@ ghost use Rattle.try_lock.specs.Ends.{EndsSo, IsCutShort};
 
 use crate::section::Section;
 use body_terms::{Steps, Word};
-use epoch_slots::version_words::{FlockTable, Runner};
 use runner_gate::Gate;
 use section_runs::{RunEnd, run};
 use structure_laws::Structure;
+use version_words::{FlockTable, Runner};
 
 /// Runs the section that this runner published in this entry, whatever others do. Answers the outcome and the agreed
 /// words of its log, which are the same for each run of the section; the trail is late where the section was done as

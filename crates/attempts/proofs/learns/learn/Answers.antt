@@ -3,7 +3,7 @@ use Rattle.std.proofs.lemmas.Option.{slice_get_within}
 use Rattle.table_words.specs.Limits.{IsWithinLimits}
 use Rattle.machine_states.proofs.Steps.{some_same, none_some}
 use Rattle.lock_words.specs.machine_invariant.specs.After.{AreAllowed}
-use Rattle.lock_walks.specs.version_words.proofs.Stages.{may_load_entry, then_knows}
+use Rattle.version_words.proofs.Stages.{may_load_entry, then_knows}
 use Rattle.epoch_core.specs.declared.stage.Stage.TheVariants as stages
 use Rattle.attempts.specs.declared.answers.Attempt.TheVariants as answers
 use Rattle.attempts.proofs.Learning.{is_known, same_word, has_learnt}

@@ -6,7 +6,7 @@ use Rattle.body_terms.specs.Word.{value_of, is_free}
 use Rattle.table_words.specs.declared.spot.Spot.TheVariants.{Cell}
 use Rattle.direct_table.specs.direct_laws.specs.Direct.{direct}
 use Rattle.direct_table.specs.declared.table.DirectTable.{DirectTable}
-use Rattle.direct_table.specs.version_words.specs.TableState.{word_of}
+use Rattle.version_words.specs.TableState.{word_of}
 use Rattle.direct_table.specs.try_lock.specs.Contents.{StandFor, NamesNone}
 use Rattle.direct_tests.proofs.runs.pairs_of.Goals as goal
 

@@ -1,4 +1,4 @@
-use Rattle.lock_walks.specs.version_words.specs.TableState.{IsOf}
+use Rattle.version_words.specs.TableState.{IsOf}
 use Rattle.attempts.specs.Counted.{IsSeen}
 use Rattle.lock_attempts.proofs.Repeated.{IsTrying}
 use Rattle.lock_attempts.proofs.serving.persist.Given as goal

@@ -1,6 +1,6 @@
 use Rattle.std.proofs.Common.{ap, arith}
 use Rattle.table_words.specs.declared.layout.Layout.{Layout}
-use Rattle.hash_table.specs.version_words.proofs.Stages.{may_split}
+use Rattle.version_words.proofs.Stages.{may_split}
 use Rattle.lock_tests.proofs.attempt_scene.split.Goals as goal
 
 pub runner-requires-clause-next : goal.runner-requires-clause-next

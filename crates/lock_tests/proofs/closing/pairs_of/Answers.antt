@@ -1,7 +1,7 @@
 use Rattle.std.proofs.Common.{refl, sym, subst}
 use Rattle.map_history.specs.Replay.{Pairs}
 use Rattle.table_words.specs.declared.spot.Spot.TheVariants.{Cell}
-use Rattle.closed_words.specs.version_words.specs.TableState.{word_of}
+use Rattle.version_words.specs.TableState.{word_of}
 use Rattle.attempts.specs.try_lock.specs.Contents.{StandFor}
 use Rattle.closed_words.specs.Histories.{HoldsNoLock}
 use Rattle.lock_tests.proofs.closing.pairs_of.Goals as goal

@@ -1,6 +1,6 @@
 use Rattle.std.proofs.Common.{◌≡◌, ℕ, ◌+◌, ◌<◌, vec_len, vec_items, get_or, take}
 use Rattle.std.specs.Vec.Iter.{into_iter_items, into_iter_len}
-use Rattle.closed_words.specs.version_words.specs.TableState.{IsOf}
+use Rattle.version_words.specs.TableState.{IsOf}
 use Rattle.settled_tables.specs.Keeper.{IsIdleKeeper}
 use Rattle.threaded_runs.specs.Counts.{halts_counted, returns_counted}
 use Rattle.threaded_runs.specs.Jobs.{AllKept, asks_counted}

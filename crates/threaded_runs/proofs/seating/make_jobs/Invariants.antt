@@ -1,5 +1,5 @@
 use Rattle.std.proofs.Common.{◌≡◌, ℕ, [], vec_len, vec_items, take}
-use Rattle.closed_words.specs.version_words.specs.TableState.{IsOf}
+use Rattle.version_words.specs.TableState.{IsOf}
 use Rattle.settled_tables.specs.Keeper.{IsIdleKeeper}
 use Rattle.threaded_runs.specs.Counts.{plans_from, plans_given}
 use Rattle.threaded_runs.specs.Jobs.{AllSeated, AllUnhalted, AllGiven}

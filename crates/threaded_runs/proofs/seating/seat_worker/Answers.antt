@@ -2,7 +2,7 @@ use Rattle.std.specs.Prelude.{All}
 use Rattle.std.proofs.Common.{◌≡◌, ◌<◌, ◌∙◌, ap, sym, subst, arith, true, List, refl}
 use Rattle.map_history.specs.declared.op.Request.{Request}
 use Rattle.table_words.specs.declared.layout.Layout.{Layout}
-use Rattle.closed_words.specs.version_words.proofs.Stages.{may_split}
+use Rattle.version_words.proofs.Stages.{may_split}
 use Rattle.serving.specs.Serving.{MayServe}
 use Rattle.threaded_runs.specs.Own.{own_requests}
 use Rattle.settled_tables.proofs.Keeping.{then_idle}

@@ -1,7 +1,7 @@
 use Rattle.std.proofs.Common.{rules, ◌≡◌, ℕ, ◌<◌, length, subst, sym, ap, ◌∙◌, arith, vec_len}
 use Rattle.machine_states.specs.First.{keeper_part}
 use Rattle.closed_words.specs.Histories.{HaveHistory}
-use Rattle.closed_words.specs.version_words.specs.TableState.{first_keeper}
+use Rattle.version_words.specs.TableState.{first_keeper}
 use Rattle.serving.specs.attempt_bounds.specs.Lone.{LoneAttemptsAreServed}
 use Rattle.threaded_runs.specs.Counts.{returns_counted}
 use Rattle.threaded_runs.specs.Jobs.{asks_counted}

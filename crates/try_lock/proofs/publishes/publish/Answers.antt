@@ -4,7 +4,7 @@ use Rattle.std.proofs.lemmas.Bool.Decides.{nat_tests}
 use Rattle.table_words.specs.declared.layout.Layout.{Layout}
 use Rattle.table_words.specs.Limits.{IsWithinLimits}
 use Rattle.epoch_slots.specs.machine_invariant.specs.After.{AreAllowed}
-use Rattle.epoch_slots.specs.version_words.proofs.Holds.{can_publish}
+use Rattle.version_words.proofs.Holds.{can_publish}
 use Rattle.try_lock.specs.Publishes.{refused_by}
 use Rattle.try_lock.proofs.Publishing.{last_is_free, may_prepare, may_hold, publishes_won, publishes_lost}
 use Rattle.try_lock.proofs.publishes.publish.Goals as goal
