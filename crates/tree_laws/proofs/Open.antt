@@ -1,9 +1,9 @@
 -- What holds of an open section on the tree: its numbers, and the nodes that its walk has found.
-use Rattle.std.specs.Prelude.{◌||◌, ◌&&◌, not, ◌^◌, nat_lt, cond, Bool, true, false, Some, List, slice_get, slice_index}
+use Rattle.std.specs.Prelude.{◌||◌, ◌&&◌, not, ◌^◌, cond, Bool, true, false, Some, List, slice_get, slice_index}
 use Rattle.std.proofs.Common.{◌≡◌, ◌≢◌, ℕ, suc, ◌+◌, ◌*◌, ◌<◌, ◌≤◌, refl, sym, ap, ◌∙◌, subst, inl, ⊎_elim, arith}
 use Rattle.small_lemmas.proofs.Numbers.{other_tested as eq_false, equal_tested as eq_true, less_tested as lt_test}
 use Rattle.map_history.specs.declared.op.Op.TheVariants.{Del, Put}
-use Rattle.map_history.specs.Keys.{key_of, value_given}
+use Rattle.map_history.specs.Keys.{key_of}
 use Rattle.body_terms.specs.Word.{value_of}
 use Rattle.section_body.specs.Bucket.{operand, is_small}
 use Rattle.body_terms.specs.declared.value.Value.{Value}

@@ -28,7 +28,6 @@ use Rattle.tree_laws.proofs.Replacement as replacement
 use Rattle.tree_laws.proofs.Replacing as replacing
 use Rattle.tree_laws.proofs.Removing as removing
 use Rattle.tree_laws.proofs.StoreChange.{marked_elsewhere, leaf_out, inner_out, after_scene, IsChange, store_kept}
-use Rattle.tree_laws.proofs.Open as open_section
 
 no_insert : (f : Form) → f ≡ Replace → f ≡ Insert → ⊥
 no_insert f e e' = cc

@@ -1,7 +1,7 @@
 -- A section at its stamp that puts a new leaf in the place of another: its Store leads to a memory that stands for the
 -- map after its operation.
 use Rattle.std.specs.Prelude.{◌⊎◌, ◌^◌, Bool, true, false, Some, slice_get}
-use Rattle.std.proofs.Common.{◌≡◌, ◌≢◌, ℕ, suc, ◌<◌, ◌≤◌, refl, sym, ap, ◌∙◌, subst, inr, ⊎_elim, arith}
+use Rattle.std.proofs.Common.{◌≡◌, ◌≢◌, ℕ, suc, ◌<◌, ◌≤◌, refl, sym, ap, ◌∙◌, subst, ⊎_elim, arith}
 use Rattle.std.proofs.lemmas.Bool.{cases_eq, both_ways}
 use Rattle.std.specs.FinMap.{get}
 use Rattle.map_history.specs.Keys.{key_of}
