@@ -126,7 +126,9 @@ fn are_served<T: Threads + Wait + Sync>(
 fn with_puts(alloc: Global, text: &str) -> Result<Vec<u8>, AllocError> {
     let mut changed = b"flock 2\n".to_vec(alloc)?;
     for (number, line) in text.lines().enumerate().skip(1) {
-        let key = line.strip_prefix("ins ").and_then(|pair| pair.split_once(' '));
+        let key = line
+            .strip_prefix("ins ")
+            .and_then(|pair| pair.split_once(' '));
         let line = match key {
             Some((key, _)) if number % 2 == 0 => format!(in alloc; "put {key} {number}\n")?,
             _ => format!(in alloc; "{line}\n")?,
@@ -143,7 +145,10 @@ fn crowds_have_legal_reports(rt: HostRuntime) -> Result<(), Fail> {
     for (maker, words) in CROWDS {
         let printed = run(&rt, alloc, maker, Vec::new(alloc))?;
         assert!(rt; printed.status == 0, "{maker}");
-        assert!(rt; are_served(&rt, alloc, words, printed.sink.bytes())?, "{maker}");
+        assert!(rt;
+            are_served(&rt, alloc, words, printed.sink.bytes())?,
+            "{maker}"
+        );
         let puts = with_puts(alloc, printed.report())?;
         assert!(rt; are_served(&rt, alloc, words, &puts)?, "{maker} with put");
     }

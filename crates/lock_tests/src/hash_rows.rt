@@ -133,7 +133,9 @@ fn the_contents_are_in_order_of_key(rt: HostRuntime) -> Result<(), AllocError> {
     let row = in_turn(rt.alloc(), (Op::Ins(3, 30), Op::Ins(5, 50)))?;
     assert!(&rt; row.first.steps == 36 && row.second.steps == 36 && row.loads == 5);
     assert!(&rt; row.pairs.as_slice() == [(3, 30), (5, 50)].as_slice());
-    assert!(&rt; row.entries[0] == Some((2, 4294967296)) && row.entries[1] == Some((4, 4294967296)));
+    assert!(&rt;
+        row.entries[0] == Some((2, 4294967296)) && row.entries[1] == Some((4, 4294967296))
+    );
     Ok(())
 }
 
@@ -142,6 +144,8 @@ fn a_put_sets_the_value_of_a_key_that_is_there(rt: HostRuntime) -> Result<(), Al
     let row = in_turn(rt.alloc(), (Op::Put(5, 70), Op::Put(5, 80)))?;
     assert!(&rt; row.first.steps == 36 && row.second.steps == 25 && row.loads == 5);
     assert!(&rt; row.pairs.as_slice() == [(5, 80)].as_slice());
-    assert!(&rt; row.entries[0] == Some((2, 4294967296)) && row.entries[1] == Some((4, 25769803846)));
+    assert!(&rt;
+        row.entries[0] == Some((2, 4294967296)) && row.entries[1] == Some((4, 25769803846))
+    );
     Ok(())
 }

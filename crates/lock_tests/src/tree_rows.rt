@@ -101,9 +101,7 @@ fn a_request_that_changes_nothing_makes_23_steps(rt: HostRuntime) -> Result<(), 
 }
 
 #[test]
-fn a_put_of_a_present_key_makes_a_leaf_and_retires_one(
-    rt: HostRuntime,
-) -> Result<(), AllocError> {
+fn a_put_of_a_present_key_makes_a_leaf_and_retires_one(rt: HostRuntime) -> Result<(), AllocError> {
     let ops = [Op::Put(5, 70), Op::Put(5, 80), Op::Get(5)];
     let row = serve_trace(rt.alloc(), 10, &ops, 3)?;
     assert!(&rt; row.came_to(&[(5, 46, NEW), (8, 37, was(70)), (8, 23, val(80))]));
