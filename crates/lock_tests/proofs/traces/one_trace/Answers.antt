@@ -1,7 +1,7 @@
 use Rattle.std.proofs.Common.{◌+◌, ◌++◌, ◌∷◌, [], ◌∙◌, ap, arith, map, subst, sym}
 use Rattle.std.specs.List.{range_with_len}
 use Rattle.std.proofs.lemmas.List.FromFn.{map-range_with_len_more}
-use Rattle.std.specs.Prelude.{All, true, ◌≡◌}
+use Rattle.std.specs.Prelude.{All, List, true, ◌≡◌}
 use Rattle.map_history.specs.declared.op.Request.{Request}
 use Rattle.map_history.specs.Requests.{AreInOrder}
 use Rattle.hash_table.specs.bucket_laws.specs.Walk.{has_one_key}
@@ -26,6 +26,6 @@ returns-clause-ordered c =
 
 pub returns-clause-one_key : goal.returns-clause-one_key
 returns-clause-one_key c =
-    subst (All (λ (q : Request). has_one_key q.op ≡ true))
+    subst (λ (requests : List Request). All (λ (q : Request). has_one_key q.op ≡ true) requests)
     (sym (c.loop-number.invariant ∙ ap (λ count. map (request_at c.args.ops.now) (range_with_len 0 count)) (let high = c.loop-number-test.false in let low = c.loop-number.auto.number-end in omega (arith, high, low))))
     (trace_one_keyed c.args.ops.now c.args.count c.requires.some c.requires.one_key)
