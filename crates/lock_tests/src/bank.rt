@@ -38,7 +38,8 @@ pub fn open_bank(
     requires few { workers * each ≤ 131072 }
     ensures bank { IfOk result (λ x. IsBank accounts workers each x.0) }
     ensures own { IfOk result (λ x. IsOf x.0 x.1) }
-    ensures keeper { IfOk result (λ x. IsIdleKeeper (accounts_of x.0.structure.accounts x.0.structure.opening) workers 0 x.1) }
+    ensures keeper { IfOk result (λ x.
+        IsIdleKeeper (accounts_of x.0.structure.accounts x.0.structure.opening) workers 0 x.1) }
     ensures len { IfOk result (λ x. vec_len x.2 ≡ workers) }
     ensures workers { IfOk result (λ x. All (MayMove accounts workers each x.0) x.2.items) }
     ensures new { IfOk result (λ x. AreNewWorkers x.0 x.2.items) }
