@@ -8,7 +8,7 @@ use Rattle.map_history.proofs.Cells.{key_is}
 use Rattle.map_history.specs.Requests.{AreInOrder}
 use Rattle.table_words.specs.declared.layout.Layout.{Layout}
 use Rattle.runner_parts.specs.Tests.{is_next}
-use Rattle.attempts.specs.lock_walks.proofs.Onward.{none_of}
+use Rattle.lock_tests.proofs.Numbered.{none_of}
 use Rattle.version_words.specs.RunnerState.{RunnerState}
 use Rattle.hash_table.specs.bucket_laws.specs.Walk.{has_one_key}
 use Rattle.lock_tests.specs.Workers.{IsReady}

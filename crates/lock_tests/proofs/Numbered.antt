@@ -1,6 +1,6 @@
 -- The requests of one trace are in order, and are numbered by their places.
-use Rattle.std.proofs.Common.{◌≡◌, ℕ, ◌+◌, ◌%◌, ◌<◌, ◌≤◌, List, [], ◌∷◌, length, map, get_or, refl, sym, ap, subst, ◌∙◌, arith, Some, option_map}
-use Rattle.std.specs.Prelude.{All, true, slice_get}
+use Rattle.std.proofs.Common.{◌≡◌, ℕ, ◌+◌, ◌%◌, ◌<◌, ◌≤◌, List, [], ◌∷◌, length, map, get_or, refl, sym, ap, subst, ◌∙◌, arith, Option, None, Some, option_map}
+use Rattle.std.specs.Prelude.{All, true, is_none, slice_get}
 use Rattle.std.specs.List.{range_with_len}
 use Rattle.std.proofs.lemmas.List.FromFn.{get_or-map-range_with_len, length-map-range_with_len, get_or-range_with_len, length-range_with_len}
 use Rattle.std.proofs.lemmas.Nat.{mod_below}
@@ -13,9 +13,12 @@ use Rattle.map_history.specs.declared.op.Request.{Request}
 use Rattle.map_history.specs.Keys.{key_of, other_key_of}
 use Rattle.map_history.specs.Requests.{AreInOrder}
 use Rattle.map_history.proofs.Cells.{key_is}
-use Rattle.attempts.specs.lock_walks.proofs.Onward.{none_of}
 use Rattle.hash_table.specs.bucket_laws.specs.Walk.{has_one_key}
 use Rattle.lock_tests.specs.Asked.{request_at, trace_of}
+
+pub none_of : {A : Type 0} (o : Option A) → is_none o ≡ true → o ≡ None
+none_of None e = refl
+none_of (Some x) e = absurd (cc)
 
 numbers : (ops : List Op) (ks : List ℕ) → map (λ request. request.number) (map (request_at ops) ks) ≡ ks
 numbers ops [] = refl

@@ -40,7 +40,7 @@ loop-turn-init g c = (
 
 pub spend_ticket-next-requires-clause-wants : goal.spend_ticket-next-requires-clause-wants
 spend_ticket-next-requires-clause-wants g c κs within =
-    subst (λ (s : Accounts). WantsWereRead (accounts_of s.accounts s.opening)) c.structure.ensures c.walk-walk.ensures.wants
+    subst (λ (s : Accounts). WantsWereRead (accounts_of s.accounts s.opening)) c.structure-in-loop-turn.ensures c.walk-walk.ensures.wants
 
 pub spend_ticket-next-requires-clause-serves : goal.spend_ticket-next-requires-clause-serves
 spend_ticket-next-requires-clause-serves g c κs within = ap (λ p. p.serves (Get 0)) c.walk-walk.ensures.planning
@@ -57,11 +57,11 @@ loop-turn-preserved g c =
       ap (λ (x : Tickets). x.end) used ∙ was.4,
     )
 
-pub returns-in-Err-clause-back : goal.returns-in-Err-clause-back
-returns-in-Err-clause-back g c = record {
+pub returns-in-Err : goal.returns-in-Err
+returns-in-Err g c = record {
   own = c.spend_ticket-next.ensures.own;
   number = c.spend_ticket-next.ensures.number ∙ c.loop-turn.invariant.1;
 }
 
-pub returns-clause-back : goal.returns-clause-back
-returns-clause-back g c = record { own = c.loop-turn.invariant.0; number = c.loop-turn.invariant.1 }
+pub returns : goal.returns
+returns g c = record { own = c.loop-turn.invariant.0; number = c.loop-turn.invariant.1 }

@@ -5,8 +5,8 @@ use Rattle.settled_tables.proofs.Working.{all_back}
 use Rattle.lock_tests.proofs.Banks.{by_table}
 use Rattle.lock_tests.proofs.bank.stop_first.Goals as goal
 
-pub stop_mover-requires-clause-may : goal.stop_mover-requires-clause-may
-stop_mover-requires-clause-may c κs =
+pub stop_mover-requires : goal.stop_mover-requires
+stop_mover-requires c κs =
     by_table 2 2 1 c.in_ok-table.table c.in_ok-table.ensures.bank c.in_ok-table.runners.items c.in_ok-table.ensures.workers
 
 pub close_table-requires-clause-keeper : goal.close_table-requires-clause-keeper

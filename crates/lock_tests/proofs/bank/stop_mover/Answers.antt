@@ -7,8 +7,8 @@ use Rattle.settled_tables.proofs.Working.{one_more, rest_behind}
 use Rattle.lock_tests.specs.Bank.{MayMove}
 use Rattle.lock_tests.proofs.bank.stop_mover.Goals as goal
 
-pub move_money-requires-clause-may : goal.move_money-requires-clause-may
-move_money-requires-clause-may c κs within =
+pub move_money-requires : goal.move_money-requires
+move_money-requires c κs within =
     let was = c.loop-runner.invariant in let past = vec_len c.loop-runner.backs in let step = c.in-Some.ensures.steps in
     let here : (d : RunnerState Accounts) → get_or (vec_items c.args.runners) past d ≡ c.in-Some.runner = λ d. let h = was.1 0 d in grind rules in
     let low : past < length (vec_items c.args.runners) = (let sum = was.0 in grind rules) in
@@ -26,7 +26,9 @@ loop-runner-preserved c =
       search rules,
       rest_behind (vec_items c.args.runners) (into_iter_items c.loop-runner.runner-iterator) (into_iter_items c.next.new.self) f past (vec_len c.push.new.self) (into_iter_len c.loop-runner.runner-iterator)
           (into_iter_len c.next.new.self) step.0 step.1 was.1 longer,
-      one_more (λ (i : ℕ) (b : RunnerState Accounts × ℕ). (d : RunnerState Accounts) → CameBack c.args.table.now (get_or (vec_items c.args.runners) i d) b) (vec_items c.loop-runner.backs) (vec_items c.push.new.self) back pushed was.2
+      one_more (λ (i : ℕ) (b : RunnerState Accounts × ℕ). (d : RunnerState Accounts) → CameBack c.args.table.now (get_or (vec_items c.args.runners) i d) b) (vec_items c.loop-runner.backs) (vec_items c.push.new.self) back pushed
+          (subst (λ (n : ℕ). (i : ℕ) (e : RunnerState Accounts × ℕ) → i < n → (d : RunnerState Accounts)
+          → CameBack c.args.table.now (get_or (vec_items c.args.runners) i d) (get_or (vec_items c.loop-runner.backs) i e)) (sym long) was.2)
           (λ d. subst (λ (r : RunnerState Accounts). CameBack c.args.table.now r back) (sym (subst (λ (n : ℕ). get_or (vec_items c.args.runners) n d ≡ f) (sym long) (here d))) c.move_money.ensures.back),
     )
 
