@@ -5,8 +5,8 @@ use Rattle.settled_tables.proofs.Working.{all_back}
 use Rattle.lock_tests.proofs.Banks.{by_table}
 use Rattle.lock_tests.proofs.bank.move_all.Goals as goal
 
-pub run_movers-requires : goal.run_movers-requires
-run_movers-requires g c κs within =
+pub run_movers-requires-clause-may : goal.run_movers-requires-clause-may
+run_movers-requires-clause-may g c κs within =
     by_table c.args.accounts c.args.workers c.args.each c.in_ok-table.table c.in_ok-table.ensures.bank c.in_ok-table.runners.items c.in_ok-table.ensures.workers
 
 pub close_table-requires-clause-keeper : goal.close_table-requires-clause-keeper
