@@ -7,4 +7,3 @@ mod Numbered
 mod Unlocked
 mod HashRow
 mod Next
-mod Banks

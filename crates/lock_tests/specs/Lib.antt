@@ -5,4 +5,3 @@ pub mod Closing
 pub mod HashScene
 pub mod TreeScene
 pub mod AttemptScene
-pub mod Bank
