@@ -33,8 +33,7 @@ fn conclude<S: Structure, G: Gate, L>(
 ) -> (Runner<S>, Result<u64, Attempt>)
     requires own { IsOf table.now runner }
     requires wants { WantsWereRead (S.meaning table.now.structure) }
-    requires ended { (planning : Planning) × (request : Request) × (old : RunnerState S) × (thunk : Thunk)
-        × (trail : Agreed)
+    requires ended { (planning : Planning) × (request : Request) × (old : RunnerState S) × (thunk : Thunk) × (trail : Agreed)
         × HasEnded (S.meaning table.now.structure) planning request section thunk outcome trail old runner }
     ensures own { IsOf table.now result.0 }
     ensures rests { (planning : Planning) (request : Request) (old : RunnerState S) (thunk : Thunk) (trail : Agreed)
