@@ -56,7 +56,7 @@ use Rattle.attempts.proofs.Locks.{allowed_at, planned_shaped}
 use Rattle.attempts.proofs.Refusing.{left_busy, refusal_of_outcome, busy_outcome}
 use Rattle.attempts.proofs.Along.{ran_back}
 use Rattle.attempts.proofs.Telling.{ended_cells, left_known, left_is}
-use Rattle.attempts.proofs.Stamps.{stamp_above}
+use Rattle.attempts.proofs.Stamps.{stamp_above, stamp_even}
 use Rattle.attempts.proofs.RealTime.{above_answered}
 
 module _ {T : Type 0} (m : Meaning) (laws : Laws m) (t : TableState T) (limits : IsWithinLimits t.layout) (allowed : AreAllowed t.requests)
@@ -138,7 +138,9 @@ module _ {T : Type 0} (m : Meaning) (laws : Laws m) (t : TableState T) (limits :
           above = λ x entry stamped knows. stamp_above m laws t limits allowed planning request section thunk outcome trail old ran new own_ran own_new is whole learnt.reached
               answer answered x entry stamped knows stamp learnt.knows_stamp;
           in_time = above_answered m laws planning request old new (subst IsWithinLimits (sym layout_old) limits) (subst AreAllowed (sym requests_old) allowed)
-              is.tries.plans.enters.may (own_new.layout ∙ sym layout_old) (own_new.requests ∙ sym requests_old) stamp learnt.knows_stamp;
+              is.tries.plans.enters.may (own_new.layout ∙ sym layout_old) (own_new.requests ∙ sym requests_old) stamp learnt.knows_stamp
+              (stamp_even m laws t limits allowed planning request section thunk outcome trail old ran new own_ran own_new is whole learnt.reached
+              answer answered stamp learnt.knows_stamp);
           tidy = learnt.tidy;
           reached = learnt.reached;
           served = learnt.served;

@@ -14,7 +14,7 @@ use Rattle.structure_laws.specs.Laws.{Laws}
 use Rattle.runner_parts.specs.declared.entries.Published.{Published}
 use Rattle.epoch_core.specs.declared.stage.Stage.TheVariants as stages
 use Rattle.runner_parts.specs.State.{PartState}
-use Rattle.runner_parts.specs.Tests.{has_pair, is_answered}
+use Rattle.runner_parts.specs.Tests.{has_pair, is_answered, is_between}
 use Rattle.runner_steps.specs.AfterInRun.{over_if}
 use Rattle.machine_states.specs.World.{World}
 use Rattle.machine_states.specs.Reached.{Reached}
@@ -133,6 +133,7 @@ module _ {T : Type 0} (m : Meaning) (d : ℕ) (t : Thunk) (outcome : Outcome) (t
     resting = ends.resting;
     at = ends.stage ∙ at.at;
     published = ends.published ∙ ap (λ o. over_if o d) at.published;
+    settled = ap is_between ends.look ∙ at.settled;
     seated = subst (λ n. n ≤ new.layout.runners) (sym ends.number) (subst (λ (l : Layout). old.number ≤ l.runners) (sym ends.layout) at.seated);
   }
 

@@ -1,7 +1,9 @@
 -- The stamp of an attempt is above those of all requests that were answered as it began.
 use Rattle.std.specs.Prelude.{false, slice_get}
-use Rattle.std.proofs.Common.{◌≡◌, ◌≢◌, ℕ, ◌%◌, ◌<◌, sym, ap, ◌∙◌, subst}
+use Rattle.std.proofs.Common.{◌≡◌, ◌≢◌, ℕ, ◌%◌, ◌<◌, sym, ap, ◌∙◌, subst, ⊎_elim, arith}
+use Rattle.small_lemmas.proofs.Numbers.{zero_or_some}
 use Rattle.map_history.specs.declared.op.Request.{Request}
+use Rattle.history_orders.specs.Turns.{Follows}
 use Rattle.table_words.specs.Limits.{IsWithinLimits}
 use Rattle.table_words.specs.declared.spot.Spot.TheVariants.{Stamp}
 use Rattle.structure_laws.specs.Meaning.{Meaning}
@@ -18,7 +20,8 @@ use Rattle.version_words.specs.RunnerState.{RunnerState}
 use Rattle.lock_walks.specs.try_lock.specs.Planning.{Planning}
 use Rattle.lock_walks.specs.try_lock.specs.Reached.{IsReached}
 use Rattle.request_facts.specs.Laws.{HasEntry, IsToAsk}
-use Rattle.request_facts.proofs.Standing.{answered_come_first}
+use Rattle.request_facts.specs.reached_histories.specs.RealTime.{IsSought}
+use Rattle.request_facts.proofs.Standing.{answered_come_first, idle_seeks_none}
 use Rattle.attempts.specs.Course.{MayAttempt}
 use Rattle.attempts.specs.RealTime.{IsAboveAnswered}
 use Rattle.attempts.proofs.Turning.{may_own, may_unknown}
@@ -34,6 +37,8 @@ module _ {T : Type 0} (m : Meaning) (laws : Laws m) (planning : Planning) (reque
         own = ap (λ o. (or_none o).trace % old.layout.runners) own.there ∙ own.own;
         idle = ap (λ (p : PartState). link_of p.published) here ∙ ap link_of may.tidy.at.published;
         unknown = ap (λ (p : PartState). is_answered p.records.known request.number) here ∙ may_unknown planning request old may;
+        unsought = λ x looked sought same. idle_seeks_none old.part may.tidy.at.at may.tidy.at.settled x
+            (sym (ap (λ (p : PartState). p.reads.look) here) ∙ looked) (subst (λ (p : PartState). IsSought p x) here sought);
       }
 
   module _ (stamp : ℕ) (knows : HasEntry new.part.records.known (record { request = request.number; reply = false; number = stamp })) (to : IsReached m new) where
@@ -52,10 +57,19 @@ module _ {T : Type 0} (m : Meaning) (laws : Laws m) (planning : Planning) (reque
     stamp_is = (λ i. (sight m (sym layout i) (sym requests i) to.world).word (Stamp request.number))
         ∙ known.stands new.number knows.0 _ (entry ∙ knows.1)
 
+  -- what an even stamp follows is less
+  below : (a stamp : ℕ) → stamp % 2 ≡ 0 → Follows a stamp → a < stamp
+  below a stamp even follows =
+      ⊎_elim (λ lower. lower) (λ same. absurd (let is = same.0 in let odd = same.1 in omega (arith, even))) follows
+
   pub above_answered : (stamp : ℕ) → HasEntry new.part.records.known (record { request = request.number; reply = false; number = stamp })
-      → IsAboveAnswered m stamp old new
-  above_answered stamp knows from to leads k replied =
+      → stamp % 2 ≡ 0 → IsAboveAnswered m stamp old new
+  above_answered stamp knows even from to leads k replied =
       let is = stamp_is stamp knows to in
-      subst (λ n. (sight m old.layout old.requests to.world).word (Stamp k) < n) is
-      (answered_come_first m laws old.layout old.requests limits allowed from.world to.world from.reached leads old.number request.number k
-      (to_ask from) replied (λ none. some stamp knows to (sym is ∙ none))).1
+      let his = (sight m old.layout old.requests to.world).word (Stamp k) in
+      let comes = answered_come_first m laws old.layout old.requests limits allowed from.world to.world from.reached leads old.number request.number k
+      (to_ask from) replied (λ none. some stamp knows to (sym is ∙ none)) in
+      ⊎_elim
+      (λ none. let other = some stamp knows to in omega arith)
+      (λ stamped. below his stamp even (subst (Follows his) is (comes.1 stamped)))
+      (zero_or_some his)

@@ -1,6 +1,6 @@
 -- The stamp of an own section that was run to its end is above those that were known before.
 use Rattle.std.specs.Prelude.{true, false, ◌||◌, ◌==◌, Bool, take, slice_get}
-use Rattle.std.proofs.Common.{◌≡◌, ◌≢◌, ℕ, ◌<◌, ◌++◌, length, refl, sym, ap, ◌∙◌, subst, inl, Some}
+use Rattle.std.proofs.Common.{◌≡◌, ◌≢◌, ℕ, ◌<◌, ◌%◌, ◌++◌, length, refl, sym, ap, ◌∙◌, subst, inl, Some}
 use Rattle.std.proofs.Math.Seq.{take-append_seam}
 use Rattle.std.proofs.lemmas.Bool.{and_parts}
 use Rattle.map_history.specs.declared.op.Request.{Request}
@@ -109,10 +109,21 @@ module _ {T : Type 0} (m : Meaning) (laws : Laws m) (t : TableState T) (limits :
     asked : thunk.request ≡ request.number
     asked = ended.tries.plans.answers.request
 
+    -- it is the stamp that is known later
+    same : (stamp : ℕ) → HasEntry new.part.records.known (record { request = request.number; reply = false; number = stamp })
+        → s.word (spots.Stamp thunk.request) ≡ stamp
+    same stamp here = told_stands ∙ (sym later_stands ∙ (ap (λ n. later.word (spots.Stamp n)) asked
+        ∙ entry_stands later new.part new.number later_seen later_known _ request.number false here refl refl))
+
+    -- a section's stamp is even
+    pub stamp_even : (stamp : ℕ) → HasEntry new.part.records.known (record { request = request.number; reply = false; number = stamp })
+        → stamp % 2 ≡ 0
+    stamp_even stamp here = subst (λ k. k % 2 ≡ 0) (same stamp here) (history.asked.even ran.number y published placed.some)
+
     pub stamp_above : (z : Known) → HasEntry old.part.records.known z → z.reply ≡ false → is_answered old.part.records.known z.request ≡ true
         → (stamp : ℕ) → HasEntry new.part.records.known (record { request = request.number; reply = false; number = stamp })
         → z.number < stamp
-    stamp_above z entry stamped known stamp here = subst (λ k. k < stamp) z_stands (subst (λ k. s.word (spots.Stamp z.request) < k) same above.1)
+    stamp_above z entry stamped known stamp here = subst (λ k. k < stamp) z_stands (subst (λ k. s.word (spots.Stamp z.request) < k) (same stamp here) above.1)
       where
         front : IsFront old.part.records.known ran.part.records.known
         front = record { back = ended.ends.learns.more; parts = ended.ends.learns.adds ∙ ap (λ ks. ks ++ ended.ends.learns.more) ended.tries.still.known }
@@ -124,7 +135,3 @@ module _ {T : Type 0} (m : Meaning) (laws : Laws m) (t : TableState T) (limits :
         above : (s.word (spots.Stamp z.request) ≢ 0) × (s.word (spots.Stamp z.request) < s.word (spots.Stamp thunk.request))
         above = history.asked.before ran.number z.request y published placed.some
             (inl (ap (λ ks. is_answered ks z.request) known_then ∙ known))
-
-        same : s.word (spots.Stamp thunk.request) ≡ stamp
-        same = told_stands ∙ (sym later_stands ∙ (ap (λ n. later.word (spots.Stamp n)) asked
-            ∙ entry_stands later new.part new.number later_seen later_known _ request.number false here refl refl))

@@ -11,7 +11,7 @@ use Rattle.structure_laws.specs.Meaning.{Meaning}
 use Rattle.structure_laws.specs.Laws.{Laws}
 use Rattle.runner_parts.specs.declared.entries.Published.{Published}
 use Rattle.runner_parts.specs.State.{PartState}
-use Rattle.runner_parts.specs.Tests.{is_answered, are_answered}
+use Rattle.runner_parts.specs.Tests.{is_between, is_answered, are_answered}
 use Rattle.machine_states.specs.Sight.{sight, part_or_first}
 use Rattle.lock_words.specs.machine_invariant.specs.After.{AreAllowed}
 use Rattle.request_facts.specs.reached_histories.specs.Requests.{or_none}
@@ -67,13 +67,15 @@ module _ {T : Type 0} (planning : Planning) (request : Request) (old : RunnerSta
 
 -- a runner that has nothing to retire, and doesn't know its own request: nobody has served it
 pub untouched : {T : Type 0} (m : Meaning) (laws : Laws m) (r : RunnerState T) (request : Request) → IsWithinLimits r.layout → AreAllowed r.requests
-    → IsReached m r → r.part.published ≡ None → IsOwn r request → is_answered r.part.records.known request.number ≡ false → IsUntouched m request.number r
-untouched m laws r request limits allowed reached none own unknown = record {
+    → IsReached m r → r.part.published ≡ None → is_between r.part.reads.look ≡ false → IsOwn r request
+    → is_answered r.part.records.known request.number ≡ false → IsUntouched m request.number r
+untouched m laws r request limits allowed reached none settled own unknown = record {
   unknown = unknown;
   reached = reached;
   unserved = (callers_stand m laws r.layout r.requests limits allowed reached.world reached.reached).unserved r.number request.number
       (ap (λ o. (or_none o).trace % r.layout.runners) own.there ∙ own.own)
       (ap (λ (p : PartState). link_of p.published) here ∙ ap link_of none)
+      (ap (λ (p : PartState). is_between p.reads.look) here ∙ settled)
       (ap (λ (p : PartState). is_answered p.records.known request.number) here ∙ unknown);
 }
   where
@@ -106,7 +108,7 @@ module _ {T : Type 0} (m : Meaning) (laws : Laws m) (planning : Planning) (reque
     cause = cause;
     leaves = turned.leaves going;
     tidy = turned.tidy going;
-    untouched = untouched m laws new request limits allowed turned.reached (turned.tidy going).at.published
+    untouched = untouched m laws new request limits allowed turned.reached (turned.tidy going).at.published (turned.tidy going).at.settled
         (own_on here new requests layout turned.knows.number request own) unknown_still;
   }
 

@@ -326,7 +326,7 @@ module _ {T : Type 0} (m : Meaning) (laws : Laws m) (t : TableState T) (limits :
       few = few;
       counts = counts;
       untouched = untouched m laws ready request (subst IsWithinLimits (sym own_ready.layout) limits) (subst AreAllowed (sym own_ready.requests) allowed)
-          (short_reached m old ready short.kind few reclaims) reclaims.rested.tidy.at.published
+          (short_reached m old ready short.kind few reclaims) reclaims.rested.tidy.at.published reclaims.rested.tidy.at.settled
           (own_here planning request old may ready still_ready) (unknown_here planning request old may ready still_ready);
     }
 

@@ -4,6 +4,7 @@ use Rattle.std.specs.FinMap.{empty}
 use Rattle.map_history.specs.History.{IsLegalFrom}
 use Rattle.map_history.specs.Replay.{Pairs, map_after_all}
 use Rattle.map_history.specs.Words as replies
+use Rattle.history_orders.specs.Turns.{Follows}
 use Rattle.history_orders.specs.Stamped.{Stamped, oldest_first, ops_of, IsReplayed, IsHistoryOf}
 use Rattle.body_terms.specs.Word.{value_of}
 use Rattle.table_words.specs.declared.spot.Spot.TheVariants.{Cell, Stamp, Reply}
@@ -40,9 +41,10 @@ module _ {T : Type 0} (m : Meaning) (w : WordsState T) where
     pub map : m.is_map ≡ true → pairs ≡ map_after_all empty (ops_of history)
     pub replies : m.is_map ≡ true → (e : Stamped) → Contains history e → word_of m w (Reply e.number) ≢ 0
         → word_of m w (Reply e.number) ≡ replies.word_of e.reply
-    -- stamps rise along a trace, and no request has an entry before the earlier ones of its trace
+    -- stamps never fall along a trace, and two equal ones are odd; no request has an entry before the earlier ones of its
+    -- trace
     pub rising : (k n : ℕ) → k < n → asked.trace k ≡ asked.trace n → word_of m w (Stamp n) ≢ 0
-        → (word_of m w (Stamp k) ≢ 0) × (word_of m w (Stamp k) < word_of m w (Stamp n))
+        → (word_of m w (Stamp k) ≢ 0) × Follows (word_of m w (Stamp k)) (word_of m w (Stamp n))
     -- it is the only such list
     pub only : m.is_map ≡ true → (other : List Stamped) → IsHistoryOf asked.op (λ n. word_of m w (Stamp n)) other
         → IsReplayed other → other ≡ history

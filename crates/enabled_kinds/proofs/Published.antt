@@ -1,5 +1,5 @@
 -- What the test tells of a publication.
-use Rattle.std.specs.Prelude.{Bool, true, false, ◌&&◌, nat_lt, ◌%◌, ◌^◌, slice_get, slice_index, replicate, is_none}
+use Rattle.std.specs.Prelude.{Bool, true, false, ◌&&◌, not, nat_lt, ◌%◌, ◌^◌, slice_get, slice_index, replicate, is_none}
 use Rattle.std.specs.List.{list_any}
 use Rattle.std.proofs.Common.{◌≡◌, ◌+◌, ◌<◌, ◌≤◌, ℕ, List, [], ◌∷◌, length, refl, ap, ◌∙◌, Option, Some, None, arith}
 use Rattle.std.proofs.lemmas.Option.{slice_get_within}
@@ -18,7 +18,7 @@ use Rattle.runner_parts.specs.declared.event.EventKind.TheVariants as kinds
 use Rattle.runner_parts.specs.declared.entries.Stored.{Stored}
 use Rattle.runner_parts.specs.declared.entries.Known.{Known}
 use Rattle.runner_parts.specs.State.{PartState}
-use Rattle.runner_parts.specs.Tests.{has, is_walking, is_next, is_open, last_stored, is_some_of, are_stored, thunk_words, is_prepared, serves}
+use Rattle.runner_parts.specs.Tests.{has, is_walking, is_next, is_open, last_stored, is_some_of, are_stored, thunk_words, is_prepared, serves, is_between}
 use Rattle.runner_steps.specs.Outside.{is_due, is_publishable, is_ready}
 use Rattle.runner_steps.specs.Asks.{sizes_for}
 use Rattle.enabled_kinds.specs.Kinds.{IsGiven}
@@ -95,7 +95,8 @@ module _ (m : Meaning) (l : Layout) (rs : List Request) (r : ℕ) (p : PartState
         let prepared = both _ (is_prepared p.descriptors.stored d t) ready.1 in
         let walking = both (is_walking p.stage p.run) _ test.1 in
         let unpublished = both (is_none p.published) _ walking.1 in
-        let due = (both (is_open l p.reads.cells t) (is_due m l rs r p.records.known p.reads.walk t) unpublished.1).1 in
+        let settled = both (not (is_between p.reads.look)) _ unpublished.1 in
+        let due = (both (is_open l p.reads.cells t) (is_due m l rs r p.records.known p.reads.walk t) settled.1).1 in
         let request = due_within p.records.known p.reads.walk t (slice_get rs t.request) due in
         let inside = slice_get_within rs t.request request.0 request.1 in
         let lock = below t.lock (sizes_for m l rs).cells (ap (λ (x : Spot × Access). fits (sizes_for m l rs) x.0) is.1 ∙ a.fitting) in

@@ -1,23 +1,24 @@
 -- What the tests tell of the kinds whose events carry arguments.
-use Rattle.std.specs.Prelude.{Bool, true, false, ◌==◌, ◌||◌, nat_lt, nat_le}
+use Rattle.std.specs.Prelude.{Bool, true, false, ◌==◌, ◌&&◌, ◌||◌, nat_lt, nat_le, is_none}
 use Rattle.std.specs.List.{list_any}
 use Rattle.std.proofs.Common.{◌≡◌, ◌<◌, ℕ, List, length, ⊎_elim, sym, refl, ap, ◌∙◌, Option, Some, None, arith}
 use Rattle.map_history.specs.declared.op.Request.{Request}
 use Rattle.body_terms.specs.declared.thunk.Thunk.{Thunk}
 use Rattle.table_words.specs.declared.layout.Layout.{Layout}
 use Rattle.table_words.specs.declared.spot.Spot.{Spot}
+use Rattle.table_words.specs.declared.spot.Spot.TheVariants.{Announcement}
 use Rattle.table_words.specs.declared.access.Access.{Access}
-use Rattle.table_words.specs.declared.access.Access.TheVariants.{Loads}
+use Rattle.table_words.specs.declared.access.Access.TheVariants.{Loads, Exchanges}
 use Rattle.table_words.specs.Places.{fits}
 use Rattle.structure_laws.specs.Meaning.{Meaning}
 use Rattle.runner_parts.specs.declared.event.EventKind.{EventKind}
 use Rattle.runner_parts.specs.declared.event.EventKind.TheVariants as kinds
 use Rattle.epoch_core.specs.declared.stage.Stage.{Stage}
 use Rattle.epoch_core.specs.declared.stage.Stage.TheVariants as stages
-use Rattle.runner_parts.specs.State.{PartState}
+use Rattle.runner_parts.specs.State.{RunState, PartState}
 use Rattle.runner_parts.specs.Tests.{has, is_walking, is_outside}
 use Rattle.runner_steps.specs.Outside.{scan_one_ask, entry_spot}
-use Rattle.runner_steps.specs.Asks.{sizes_for}
+use Rattle.runner_steps.specs.Asks.{sizes_for, ask_by}
 use Rattle.enabled_kinds.specs.Kinds.{kind_number, plain_kind, IsGiven}
 use Rattle.enabled_kinds.specs.May.{is_enabled, is_enabled_if, May, Tells}
 use Rattle.enabled_kinds.specs.Tried.{no_thunk}
@@ -116,10 +117,33 @@ module _ (m : Meaning) (l : Layout) (rs : List Request) (r : ℕ) (p : PartState
         only_clock (λ k. IsGiven k → can k ≡ false) (λ given. no.0) (λ given. no.1);
   }
 
-  -- reads without a lock aren't enabled yet
+  -- a test that goes by the thunk's operands alone, of which there are eight
+  whichever : (walks only no_look eight : Bool) → (walks && (only && (no_look && eight))) ≡ true → (walks && (only && (no_look && true))) ≡ true
+  whichever true true true eight e = refl
+  whichever true true false eight e = absurd (not_both false e refl)
+  whichever true false no_look eight e = absurd (not_both false e refl)
+  whichever false only no_look eight e = absurd (not_both false e refl)
+
+  outside_run : (o : Option RunState) (st : Stage) → is_walking st o ≡ true → o ≡ None
+  outside_run None st e = refl
+  outside_run (Some q) stages.Idle e = absurd (not_both false e refl)
+  outside_run (Some q) (stages.Entered g) e = absurd (not_both false e refl)
+  outside_run (Some q) (stages.Loaded x) e = absurd (not_both false e refl)
+  outside_run (Some q) stages.Announced e = absurd (not_both false e refl)
+  outside_run (Some q) (stages.Scanning x next clear) e = absurd (not_both false e refl)
+
+  plan_first : (thunk : Thunk) → can (kinds.ReadPlan thunk) ≡ true → can (kinds.ReadPlan no_thunk) ≡ true
+  plan_first thunk e =
+      let a = asked m l rs r p (kinds.ReadPlan thunk) e in
+      let is = when_asks _ _ _ a.ask (asked_outside m l rs r p (kinds.ReadPlan thunk) a refl) in
+      let fit = ap (λ (x : Spot × Access). fits (sizes_for m l rs) x.0) is.1 ∙ a.fitting in
+      let passes = whichever (is_walking p.stage p.run) p.records.only_loads (is_none p.reads.look) _ is.0 in
+      let out = outside_run p.run p.stage (both (is_walking p.stage p.run) _ is.0).0 in
+      enabled m l rs r p (kinds.ReadPlan no_thunk) (Announcement r, Exchanges 0 0) a.stays
+      (ap (ask_by m l rs r (kinds.ReadPlan no_thunk) p) out ∙ asks_when _ (Announcement r) (Exchanges 0 0) passes) fit
+
   plan_any : (thunk : Thunk) → can (kinds.ReadPlan no_thunk) ≡ false → can (kinds.ReadPlan thunk) ≡ false
-  plan_any thunk none = not_true (can (kinds.ReadPlan thunk)) (λ e.
-      let a = asked m l rs r p (kinds.ReadPlan thunk) e in absent a.ask (asked_outside m l rs r p (kinds.ReadPlan thunk) a refl))
+  plan_any thunk none = not_true (can (kinds.ReadPlan thunk)) (λ e. not_both _ (plan_first thunk e) none)
 
   pub plan_tells : Tells m l rs r p 39 (can (kinds.ReadPlan no_thunk))
   plan_tells = record {

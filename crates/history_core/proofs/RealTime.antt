@@ -194,7 +194,7 @@ module _ (c : Requests) where
       (event_passes c w e (may_pass w e s ok.0)) (passes_all (after c w e) es (event_keeps c w e ok.0 s) ok.1)
 
   -- a request that isn't asked comes since the present clock
-  unasked_since : (w : HistoryState) (n : ℕ) → IsSound c w → IsUnasked w n → IsSince n w.clock w
+  pub unasked_since : (w : HistoryState) (n : ℕ) → IsSound c w → IsUnasked w n → IsSince n w.clock w
   unasked_since w n s unasked = record {
     low = omega arith;
     loaded = λ r ready own. absurd (open_run r ready own (w.done (w.run r)) refl);
@@ -211,7 +211,7 @@ module _ (c : Requests) where
           (s.sections.ended (w.run r) run.0 done)
 
   -- what is stamped by half at most of the clock comes before what is stamped by more
-  follows_low : (a b clock : ℕ) → a / 2 ≤ clock → 2 * clock < b → Follows a b
+  pub follows_low : (a b clock : ℕ) → a / 2 ≤ clock → 2 * clock < b → Follows a b
   follows_low a b clock low high = ⊎_elim inl (λ late. let not = late in inr (omega arith, omega arith)) (cases_lt a b)
 
   -- what passes keeps the order of a stamped request and one that isn't asked
@@ -223,15 +223,15 @@ module _ (c : Requests) where
       (still, subst (λ a. Follows a (v.stamp n)) (sym still) (follows_low (w.stamp k) (v.stamp n) w.clock (s.clock.replied k replied) high))
 
   -- a read of this request has written its reply and not its stamp; it has loaded at most this clock
-  record IsToCome (k clock : ℕ) (w : HistoryState) : Type 0 where
-    seen : Seen
-    looked : w.look (c.worker k) ≡ Some seen
-    replied : seen.replied ≡ true
-    number : seen.number ≡ k
-    low : seen.clock ≤ clock
+  pub record IsToCome (k clock : ℕ) (w : HistoryState) : Type 0 where
+    pub seen : Seen
+    pub looked : w.look (c.worker k) ≡ Some seen
+    pub replied : seen.replied ≡ true
+    pub number : seen.number ≡ k
+    pub low : seen.clock ≤ clock
 
   -- or its stamp is there, and half of it at most this clock
-  abbrev IsLow : ℕ → ℕ → HistoryState → Type 0
+  abbrev pub IsLow : ℕ → ℕ → HistoryState → Type 0
   IsLow k clock w = ((w.stamp k ≢ 0) × (w.stamp k / 2 ≤ clock)) ⊎ IsToCome k clock w
 
   module _ (w : HistoryState) (s : IsSound c w) (k clock : ℕ) (is : IsToCome k clock w) where
@@ -298,13 +298,20 @@ module _ (c : Requests) where
       low)
 
   -- what is replied to is low by the clock
-  replied_low : (w : HistoryState) → IsSound c w → (k : ℕ) → w.reply k ≢ 0 → IsLow k w.clock w
+  pub replied_low : (w : HistoryState) → IsSound c w → (k : ℕ) → w.reply k ≢ 0 → IsLow k w.clock w
   replied_low w s k replied = by (has_replied (w.look (c.worker k)) k) refl
     where
       by : (b : Bool) → has_replied (w.look (c.worker k)) k ≡ b → IsLow k w.clock w
       by false not = inl (s.stamps.replied k replied not, s.clock.replied k replied)
       by true is = let p = replied_parts (w.look (c.worker k)) k is in
           inr (record { seen = p.0; looked = p.1; replied = p.2; number = p.3; low = (s.reads.looks (c.worker k) p.0 p.1).clock })
+
+  -- a stamp that is there then is no later
+  pub half_of : (v : HistoryState) → IsSound c v → (k clock : ℕ) → v.stamp k ≢ 0 → IsLow k clock v → v.stamp k / 2 ≤ clock
+  half_of v sound k clock now low = ⊎_elim (λ had. had.1)
+      (λ coming. absurd (now (ap v.stamp (sym coming.number)
+      ∙ ((sound.reads.looks (c.worker k) coming.seen coming.looked).between coming.replied).unstamped)))
+      low
 
   pub events_keep : EventsKeepRealTime c
   events_keep w es s ok k n replied unasked some =
@@ -313,12 +320,6 @@ module _ (c : Requests) where
       let high = (passes.since n w.clock (unasked_since w n s unasked)).stamped some in
       let low = low_after w es s ok k w.clock (replied_low w s k replied) in
       (passes.stamps k, λ now. follows_low (v.stamp k) (v.stamp n) w.clock (half_of v (schedule_keeps c w es ok s) k w.clock now low) high)
-    where
-      half_of : (v : HistoryState) → IsSound c v → (k clock : ℕ) → v.stamp k ≢ 0 → IsLow k clock v → v.stamp k / 2 ≤ clock
-      half_of v sound k clock now low = ⊎_elim (λ had. had.1)
-          (λ coming. absurd (now (ap v.stamp (sym coming.number)
-          ∙ ((sound.reads.looks (c.worker k) coming.seen coming.looked).between coming.replied).unstamped)))
-          low
 
   pub publications_ask : PublicationsAsk c
   publications_ask w r d n answer s may unseen = record {

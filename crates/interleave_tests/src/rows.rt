@@ -558,3 +558,42 @@ fn the_epoch_waits_for_an_old_announcement(rt: HostRuntime) -> Result<(), AllocE
     assert_eq!(rt; machine.announcement(0), 3);
     Ok(())
 }
+
+/// The number of the word that this runner came to know last; 0 where it knows none.
+fn learned(part: &Part) -> u64 {
+    part.records.known.last().map(|x| x.number).unwrap_or(0)
+}
+
+#[test]
+fn a_read_writes_its_reply_and_its_stamp(rt: HostRuntime) -> Result<(), AllocError> {
+    let requests = requests();
+    let mut machine = Machine::new(rt.alloc(), Tray, layout(2), &requests)?;
+    let read = thunk(7, 0, 0);
+    assert!(rt; looks(&mut machine, 0) && goes(&mut machine, 0, EventKind::ReadPlan(read)));
+    assert!(rt; !goes(&mut machine, 0, EventKind::ReadReply));
+    assert!(rt; goes(&mut machine, 0, EventKind::ReadClock));
+    assert!(rt; !goes(&mut machine, 0, EventKind::ReadReply));
+    assert!(rt; goes(&mut machine, 0, EventKind::LoadCell(Some(0))));
+    assert!(rt; !goes(&mut machine, 0, EventKind::ReadStamp));
+    assert!(rt; goes(&mut machine, 0, EventKind::ReadReply));
+    assert_eq!(rt; learned(machine.part(0)), 4294967296);
+    assert!(rt; !goes(&mut machine, 0, EventKind::Idle));
+    assert!(rt; goes(&mut machine, 0, EventKind::ReadStamp));
+    assert_eq!(rt; learned(machine.part(0)), 1);
+    assert!(rt; goes(&mut machine, 0, EventKind::Idle));
+    Ok(())
+}
+
+#[test]
+fn no_read_behind_a_lock_that_was_taken_in_between(rt: HostRuntime) -> Result<(), AllocError> {
+    let requests = requests();
+    let mut machine = Machine::new(rt.alloc(), Tray, layout(2), &requests)?;
+    let read = thunk(7, 0, 0);
+    assert!(rt; looks(&mut machine, 0) && goes(&mut machine, 0, EventKind::ReadPlan(read)));
+    assert!(rt; goes(&mut machine, 0, EventKind::ReadClock));
+    assert!(rt; publishes(&mut machine, 1, 2, thunk(101, 2, 7)));
+    assert!(rt; goes(&mut machine, 0, EventKind::LoadCell(Some(0))));
+    assert!(rt; !goes(&mut machine, 0, EventKind::ReadReply));
+    assert!(rt; goes(&mut machine, 0, EventKind::Idle));
+    Ok(())
+}

@@ -188,6 +188,8 @@ module _ (m : Meaning) (l : Layout) (w : AgreementState) (r : ℕ) where
   outside_un (kinds.Hold t d) is p found heads chunk = absurd (let z = is in cc)
   outside_un kinds.EpochForRetire is p found heads chunk = subst Un (sym chunk.2) (refl, tt)
   outside_un (kinds.LoadThunk (Some d)) is p found heads chunk = subst Un (sym chunk) (refl, tt)
+  outside_un kinds.ReadReply is p found heads chunk = subst Un (sym chunk.2) (refl, tt)
+  outside_un kinds.ReadStamp is p found heads chunk = subst Un (sym chunk.2) (refl, tt)
   outside_un _ is p found heads chunk = subst Un (sym chunk) tt
 
 module _ (m : Meaning) (l : Layout) (rs : List Request) (k : Components) (s s' : Sight) (joined : IsJoinedToAgreement m l k.agreement s)

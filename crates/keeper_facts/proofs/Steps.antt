@@ -1,5 +1,5 @@
 -- A step of the keeper, once it has joined all workers.
-use Rattle.std.specs.Prelude.{◌==◌, ◌%◌, cond, is_none, slice_get, Bool, true, false}
+use Rattle.std.specs.Prelude.{◌==◌, ◌%◌, cond, is_none, not, slice_get, Bool, true, false}
 use Rattle.std.proofs.Common.{◌≡◌, ◌≢◌, ℕ, suc, ◌≤◌, List, [], ◌∷◌, ◌++◌, length, le_of_eq, ⊎_elim, inl, inr, sym, refl, ap, ◌∙◌, subst, arith, Option, Some, None}
 use Rattle.std.specs.Prelude.{◌⊎◌}
 use Rattle.std.proofs.lemmas.Bool.Decides.{nat_tests}
@@ -23,7 +23,7 @@ use Rattle.runner_parts.specs.declared.event.Event.{Event}
 use Rattle.runner_parts.specs.declared.event.EventKind.{EventKind}
 use Rattle.runner_parts.specs.declared.event.EventKind.TheVariants as kinds
 use Rattle.runner_parts.specs.State.{RunState, FinishedState, PartState}
-use Rattle.runner_parts.specs.Tests.{has, is_next, is_open, is_walking}
+use Rattle.runner_parts.specs.Tests.{has, is_next, is_open, is_walking, is_between}
 use Rattle.runner_steps.specs.Asks.{ask_by, sizes_for}
 use Rattle.runner_steps.specs.Outside.{hold_ask, is_ready, is_publishable}
 use Rattle.runner_steps.specs.Sections.{thunk_of, is_open_run}
@@ -74,7 +74,8 @@ no_hold m l some rs t d p x e =
     let ready = and_parts (is_ready l p d t) (is_publishable m l rs l.runners t p) (if_some _ _ x e).0 in
     let walks = and_parts (is_walking p.stage p.run) _ ready.1 in
     let none = and_parts (is_none p.published) _ walks.1 in
-    let lock = and_parts (is_open l p.reads.cells t) _ none.1 in
+    let settled = and_parts (not (is_between p.reads.look)) _ none.1 in
+    let lock = and_parts (is_open l p.reads.cells t) _ settled.1 in
     let due = and_parts (is_next l l.runners rs p.records.known (slice_get rs t.request)) _ lock.1 in
     not_next l some rs p.records.known (slice_get rs t.request) due.0
 

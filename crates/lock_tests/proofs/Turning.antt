@@ -20,6 +20,7 @@ use Rattle.attempts.specs.try_lock.specs.Reached.{MayRunSection, MayHelp}
 use Rattle.attempts.specs.try_lock.specs.Ends.{EndsSo, IsCutShort}
 use Rattle.attempts.specs.try_lock.specs.Retires.{IsOver, HasRetired}
 use Rattle.lock_tests.specs.Workers.{HasRead, IsEmptyHanded}
+use Rattle.runner_parts.specs.Tests.{is_between}
 
 same_over : (d e : ℕ) (over : Bool) → d ≡ e → (over || d == e) ≡ true
 same_over d e true same = refl
@@ -60,6 +61,7 @@ module _ {T : Type 0} (m : Meaning) where
           resting = ends.resting;
           at = ends.stage ∙ may.at.at;
           published = ends.published ∙ ap (λ (p : Option Published). over_if p section.descriptor) may.section.own;
+          settled = ap is_between ends.look ∙ may.at.settled;
           seated = subst2 ends.number ends.layout may.at.seated;
         };
         own = may.section.descriptor;

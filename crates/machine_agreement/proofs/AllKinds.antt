@@ -141,6 +141,10 @@ module _ (m : Meaning) (l : Layout) (rs : List Request) (w : AgreementState) (s 
         outside.hold_kind m l rs w s old r none thunk d x e u.unused (λ same. u.publishes thunk d refl none (ap (λ (y : Spot × Access). s.word y.0) (sym h.is) ∙ same))
     outside_goes (kinds.LoadThunk (Some d)) x j u e = outside.load_thunk m l rs w s old r none d x e (u.used d refl)
     outside_goes kinds.EpochForRetire x j u e = outside.retire_descriptor m l rs w s old r none x e u.live
+    outside_goes (kinds.ReadPlan thunk) x j u e = outside.read_plan m l rs w s old r none thunk x e
+    outside_goes kinds.ReadClock x j u e = outside.read_clock m l rs w s old r none x e
+    outside_goes kinds.ReadReply x j u e = outside.read_reply m l rs w s old r none x e
+    outside_goes kinds.ReadStamp x j u e = outside.read_stamp m l rs w s old r none x e
     outside_goes _ x j u e = some_none x e
 
     -- a join: the keeper takes over what the worker knew, and the worker makes no further step

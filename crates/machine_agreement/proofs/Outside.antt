@@ -1,6 +1,7 @@
 -- The steps outside a run's line, joined.
-use Rattle.std.specs.Prelude.{Bool, true, slice_get}
-use Rattle.std.proofs.Common.{◌≡◌, ℕ, [], ◌∷◌, ◌++◌, length, sym, refl, ap, ◌∙◌, subst, Some, None}
+use Rattle.std.specs.Prelude.{◌==◌, cond, Bool, true, slice_get}
+use Rattle.std.proofs.Common.{◌≡◌, ◌≢◌, ℕ, [], ◌∷◌, ◌++◌, length, sym, refl, ap, ◌∙◌, subst, Some, None}
+use Rattle.body_terms.specs.Run.{written_once}
 use Rattle.table_words.specs.declared.layout.Layout.{Layout}
 use Rattle.table_words.specs.declared.spot.Spot.{Spot}
 use Rattle.table_words.specs.declared.spot.Spot.TheVariants as spots
@@ -95,6 +96,47 @@ module _ (m : Meaning) (l : Layout) where
 
     pub quiet_goes : (word' : Spot → ℕ) (p' : PartState) → SameWords s.word word' → IsSamePart (s.part r) p' → Goes m l r [] w (record { word = word'; part = table.upd s.part r p' })
     quiet_goes word' p' words same = record { next = w; leads = leads_alone m l r [] w w (lead_none w); joined = quiet_joined word' p' words same }
+
+    -- a read without a lock writes a request's reply word, or its stamp word
+    pub reply_goes : (n reply : ℕ) → reply ≢ 0 → (p' : PartState) → IsSamePart (s.part r) p'
+        → Goes m l r (events.ReadReply n reply ∷ []) w (record { word = put s.word (spots.Reply n) (written_once (s.word (spots.Reply n)) reply); part = table.upd s.part r p' })
+    reply_goes n reply some p' same =
+        let word' = put s.word (spots.Reply n) (written_once (s.word (spots.Reply n)) reply) in
+        let w1 = events.after w (events.ReadReply n reply) in
+        let x = old.words in
+        plain_goes m l (events.ReadReply n reply ∷ []) w w1 s r word' p' old (record { enabled = (some, tt); there = refl })
+        (record { others = λ i ne. refl; finishes = λ i ne. refl; finished = λ i k ne. refl; over = λ d e. e; seen = λ a b e. e })
+        (record {
+          cells = x.cells;
+          clock = x.clock;
+          stamp = x.stamp;
+          reply = λ i. ap (λ k. cond (i == n) (written_once k reply) (w.shared.reply i)) (x.reply n)
+              ∙ ap (cond (i == n) (written_once (s.word (spots.Reply n)) reply)) (x.reply i);
+        })
+        (λ d. record { log = (old.sections d).log; done = (old.sections d).done })
+        (thunks_kept m l w w1 s word' old refl (λ d. record { lock = refl; word = refl; request = refl; code = refl; slot = refl }) (λ d j. refl)) (λ d j. refl)
+        (tied_word w1 s.word word' r p' (λ d j. refl) (tied_same w w1 s.word r (s.part r) p' refl refl refl refl same.run same.published same.finished
+        (λ a b has. (old.tied r).read a b (same.read a b has)) (old.tied r)))
+
+    pub stamp_goes : (n stamp : ℕ) → stamp ≢ 0 → (p' : PartState) → IsSamePart (s.part r) p'
+        → Goes m l r (events.ReadStamp n stamp ∷ []) w (record { word = put s.word (spots.Stamp n) (written_once (s.word (spots.Stamp n)) stamp); part = table.upd s.part r p' })
+    stamp_goes n stamp some p' same =
+        let word' = put s.word (spots.Stamp n) (written_once (s.word (spots.Stamp n)) stamp) in
+        let w1 = events.after w (events.ReadStamp n stamp) in
+        let x = old.words in
+        plain_goes m l (events.ReadStamp n stamp ∷ []) w w1 s r word' p' old (record { enabled = (some, tt); there = refl })
+        (record { others = λ i ne. refl; finishes = λ i ne. refl; finished = λ i k ne. refl; over = λ d e. e; seen = λ a b e. e })
+        (record {
+          cells = x.cells;
+          clock = x.clock;
+          reply = x.reply;
+          stamp = λ i. ap (λ k. cond (i == n) (written_once k stamp) (w.shared.stamp i)) (x.stamp n)
+              ∙ ap (cond (i == n) (written_once (s.word (spots.Stamp n)) stamp)) (x.stamp i);
+        })
+        (λ d. record { log = (old.sections d).log; done = (old.sections d).done })
+        (thunks_kept m l w w1 s word' old refl (λ d. record { lock = refl; word = refl; request = refl; code = refl; slot = refl }) (λ d j. refl)) (λ d j. refl)
+        (tied_word w1 s.word word' r p' (λ d j. refl) (tied_same w w1 s.word r (s.part r) p' refl refl refl refl same.run same.published same.finished
+        (λ a b has. (old.tied r).read a b (same.read a b has)) (old.tied r)))
 
     -- a cell is read
     pub read_goes : (place : ℕ) (p' : PartState) → p'.run ≡ (s.part r).run → ((x : Published) → p'.published ≡ Some x → (s.part r).published ≡ Some x) → p'.records.finished ≡ (s.part r).records.finished

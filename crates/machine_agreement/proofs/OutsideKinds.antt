@@ -21,11 +21,15 @@ use Rattle.runner_parts.specs.declared.event.EventKind.{EventKind}
 use Rattle.runner_parts.specs.declared.event.EventKind.TheVariants as kinds
 use Rattle.epoch_core.specs.declared.stage.Stage.{Stage}
 use Rattle.epoch_core.specs.declared.stage.Stage.TheVariants as stages
+use Rattle.runner_parts.specs.declared.entries.Look.{Look}
+use Rattle.runner_parts.specs.declared.entries.LookStage.TheVariants.{Replied, Stamped}
 use Rattle.runner_parts.specs.declared.entries.Published.{Published}
 use Rattle.runner_parts.specs.State.{RecordsState, NodesState, DescriptorsState, PartState}
 use Rattle.runner_parts.specs.Tests.{has}
 use Rattle.runner_steps.specs.Outside.{descriptor_spot, retire_ask, is_over}
 use Rattle.epoch_core.specs.State.{last_epoch}
+use Rattle.runner_steps.specs.Sections.{reply_in}
+use Rattle.runner_steps.specs.Reads.{read_stamp_after, plan_by, looked_by, come_to, reply_known, stamp_known}
 use Rattle.runner_steps.specs.Asks.{outside_ask}
 use Rattle.runner_parts.specs.Lists as lists
 use Rattle.runner_steps.specs.AfterOutside as outside
@@ -35,13 +39,14 @@ use Rattle.agreement_core.specs.Events as events
 use Rattle.machine_states.specs.Sight.{Sight}
 use Rattle.machine_states.proofs.Sights.{if_some}
 use Rattle.machine_epochs.proofs.OutsideAsked as asked
+use Rattle.machine_epochs.proofs.ReadsAsked as reads_asked
 use Rattle.machine_agreement.specs.Joined.{IsJoinedToAgreement}
 use Rattle.machine_agreement.specs.Supplied.{IsIdle, MayPublish, collects, scan_collects, advance_collects}
 use Rattle.machine_agreement.specs.Chunks.{publication, stored, collected, IsOutsideChunk}
 use Rattle.machine_agreement.specs.Goes.{Goes}
 use Rattle.machine_agreement.proofs.Assembly.{leads_alone}
 use Rattle.machine_agreement.proofs.LineKinds.{noting, noted_finished}
-use Rattle.machine_agreement.proofs.Outside.{IsSamePart, SameWords, load_same, quiet_joined, quiet_goes, read_goes}
+use Rattle.machine_agreement.proofs.Outside.{IsSamePart, SameWords, load_same, quiet_joined, quiet_goes, reply_goes, stamp_goes, read_goes}
 use Rattle.machine_agreement.proofs.Descriptors as descriptors
 use Rattle.machine_agreement.proofs.Freeing.{freed}
 use Rattle.runner_steps.specs.AfterOutside.{published_by}
@@ -127,7 +132,7 @@ module _ (m : Meaning) (l : Layout) (rs : List Request) (w : AgreementState) (s 
       elsewhere e = record { cells = λ i. refl; clock = refl; stamp = λ i. refl; reply = λ i. refl; thunks = λ d j. refl; done = λ d. refl; log = λ d k. refl }
 
   pub enter_again : (x : Spot × Access) → outside_ask m l rs r kinds.EnterAgain p ≡ Some x → To kinds.EnterAgain x
-  enter_again x e = let h = asked.enter_again_asked p.stage x e in quiet kinds.EnterAgain x refl (loads spots.Epoch x h.1)
+  enter_again x e = let h = asked.enter_again_asked p x e in quiet kinds.EnterAgain x refl (loads spots.Epoch x h.1)
       (record { run = refl; published = λ y e. e; finished = noted_finished l r kinds.EnterAgain x.0 x.1 (s.word x.0) p.records; read = λ a b e. absurd (let no = e in cc) })
 
   pub exit : (x : Spot × Access) → outside_ask m l rs r kinds.Idle p ≡ Some x → To kinds.Idle x
@@ -144,6 +149,50 @@ module _ (m : Meaning) (l : Layout) (rs : List Request) (w : AgreementState) (s 
   pub load_entry : (request : ℕ) (reply : Bool) (x : Spot × Access) → outside_ask m l rs r (kinds.LoadEntry request reply) p ≡ Some x → To (kinds.LoadEntry request reply) x
   load_entry request reply x e = quiet (kinds.LoadEntry request reply) x refl (loads _ x (asked.entry_asked request reply p x e))
       (noted_part (kinds.LoadEntry request reply) x p.stage p.nodes (lists.learned p.records request reply (s.word x.0)) (learned_finished p.records request reply (s.word x.0)))
+
+  -- a read without a lock
+  look_part : (kind : EventKind) (x : Spot × Access) (look : Option Look) (records : RecordsState) → records.finished ≡ p.records.finished
+      → IsSamePart m l p (noting l r kind x.0 x.1 (s.word x.0) (record p { reads = record (p.reads) { look = look }; records = records }))
+  look_part kind x look records e =
+      record { run = refl; published = λ y h. h; finished = ends l r kind x.0 x.1 (s.word x.0) records p.records e; read = λ a b h. h }
+
+  pub read_plan : (thunk : Thunk) (x : Spot × Access) → outside_ask m l rs r (kinds.ReadPlan thunk) p ≡ Some x → To (kinds.ReadPlan thunk) x
+  read_plan thunk x e = quiet (kinds.ReadPlan thunk) x refl
+      (subst (λ (y : Spot × Access). SameWords m l s.word (word_of y)) (reads_asked.read_plan_asked r thunk p x e).is elsewhere)
+      (look_part (kinds.ReadPlan thunk) x (Some (plan_by thunk)) p.records refl)
+    where
+      elsewhere : SameWords m l s.word (word_of (spots.Announcement r, Exchanges 0 0))
+      elsewhere = record { cells = λ i. refl; clock = refl; stamp = λ i. refl; reply = λ i. refl; thunks = λ d j. refl; done = λ d. refl; log = λ d k. refl }
+
+  pub read_clock : (x : Spot × Access) → outside_ask m l rs r kinds.ReadClock p ≡ Some x → To kinds.ReadClock x
+  read_clock x e = quiet kinds.ReadClock x refl (loads spots.Clock x (reads_asked.read_clock_asked p x e).is)
+      (look_part kinds.ReadClock x (looked_by p (s.word x.0) p.reads.look) p.records refl)
+
+  pub read_reply : (x : Spot × Access) → outside_ask m l rs r kinds.ReadReply p ≡ Some x → To kinds.ReadReply x
+  read_reply x e =
+      let h = reads_asked.read_reply_asked m l rs r p x e in
+      let n = h.look.thunk.request in
+      let reply = reply_in (m.body h.look.thunk) in
+      subst (To kinds.ReadReply) h.is (
+        events.ReadReply n reply ∷ [],
+        (h.look, h.at, refl),
+        reply_goes m l w s old r n reply (reads_asked.fit_answers m l rs r h.look p.records.known p.reads.walk h.fit) _
+            (look_part kinds.ReadReply (spots.Reply n, Exchanges 0 reply) (come_to Replied p.reads.look)
+            (record (p.records) { known = reply_known m p.reads.look (s.word (spots.Reply n)) p.records }) refl),
+      )
+
+  pub read_stamp : (x : Spot × Access) → outside_ask m l rs r kinds.ReadStamp p ≡ Some x → To kinds.ReadStamp x
+  read_stamp x e =
+      let h = reads_asked.read_stamp_asked p x e in
+      let n = h.look.thunk.request in
+      let stamp = read_stamp_after h.look.clock in
+      subst (To kinds.ReadStamp) h.is (
+        events.ReadStamp n stamp ∷ [],
+        (h.look, h.at, refl),
+        stamp_goes m l w s old r n stamp (reads_asked.stamp_some h.look.clock) _
+            (look_part kinds.ReadStamp (spots.Stamp n, Exchanges 0 stamp) (come_to Stamped p.reads.look)
+            (record (p.records) { known = stamp_known p.reads.look (s.word (spots.Stamp n)) p.records }) refl),
+      )
 
   pub private_load : (slot word : ℕ) (x : Spot × Access) → outside_ask m l rs r (kinds.PrivateLoad slot word) p ≡ Some x → To (kinds.PrivateLoad slot word) x
   private_load slot word x e = let h = asked.private_load_asked m l slot word p x e in

@@ -11,10 +11,12 @@ use Rattle.table_words.specs.Places.{slot_count}
 use Rattle.structure_laws.specs.Meaning.{Meaning}
 use Rattle.runner_parts.specs.declared.event.EventKind.{EventKind}
 use Rattle.runner_parts.specs.declared.event.EventKind.TheVariants as kinds
+use Rattle.runner_parts.specs.declared.entries.Look.{Look}
 use Rattle.runner_parts.specs.declared.entries.Published.{Published}
 use Rattle.runner_parts.specs.State.{RunState, PartState}
 use Rattle.runner_parts.specs.Lists.{is_old, slots_of}
-use Rattle.runner_steps.specs.Sections.{is_open_run, next_of}
+use Rattle.runner_steps.specs.Sections.{is_open_run, next_of, reply_in}
+use Rattle.runner_steps.specs.Reads.{read_stamp_after}
 use Rattle.runner_steps.specs.AfterInRun.{ended_more}
 use Rattle.agreement_core.specs.State.{AgreementState}
 use Rattle.agreement_core.specs.Events.{Event}
@@ -55,6 +57,11 @@ module _ (m : Meaning) (l : Layout) (w : AgreementState) (r : ℕ) where
   IsOutsideChunk (kinds.PrivateStore slot word number) p found heads =
       (w.used (slot - slot_count l m.fixed_slots) ≡ false)
       × (heads ≡ stored (slot - slot_count l m.fixed_slots) word number)
+  -- the words that a read without a lock writes
+  IsOutsideChunk kinds.ReadReply p found heads = (x : Look) × (p.reads.look ≡ Some x)
+      × (heads ≡ events.ReadReply x.thunk.request (reply_in (m.body x.thunk)) ∷ [])
+  IsOutsideChunk kinds.ReadStamp p found heads = (x : Look) × (p.reads.look ≡ Some x)
+      × (heads ≡ events.ReadStamp x.thunk.request (read_stamp_after x.clock) ∷ [])
   IsOutsideChunk _ p found heads = heads ≡ []
 
   -- the events of a step of a run's line, which found this word: by the step of the line before which the

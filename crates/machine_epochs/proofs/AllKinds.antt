@@ -126,6 +126,10 @@ module _ (m : Meaning) (l : Layout) (rs : List Request) (w : EpochState) (s : Si
     outside_goes (kinds.Hold thunk d) j u e = sections.hold m l w s old r none _ x rs thunk d (λ t. may_by (kinds.Hold thunk d) u None none t) e
     outside_goes (kinds.LoadThunk (Some d)) j u e = outside.load_thunk m l w s old r none _ d x e
     outside_goes kinds.EpochForRetire j u e = sections.retire_descriptor m l w s old r none _ x e
+    outside_goes (kinds.ReadPlan thunk) j u e = outside.read_plan m l w s old r none _ thunk x e
+    outside_goes kinds.ReadClock j u e = outside.read_clock m l w s old r none _ x e
+    outside_goes kinds.ReadReply j u e = outside.read_reply m l w s old r none rs _ x e
+    outside_goes kinds.ReadStamp j u e = outside.read_stamp m l w s old r none _ x e
     outside_goes _ j u e = some_none x e
 
 -- a join changes the keeper's records, and the worker makes no further step

@@ -8,16 +8,18 @@ use Rattle.table_words.specs.declared.layout.Layout.{Layout}
 use Rattle.table_words.specs.declared.spot.Spot.{Spot}
 use Rattle.table_words.specs.declared.spot.Spot.TheVariants.{Seat, Epoch, Clock, Announcement, Stamp, Reply, Cell, ThunkWord, DoneWord, LogWord}
 use Rattle.table_words.specs.declared.access.Access.{Access}
-use Rattle.table_words.specs.declared.access.Access.TheVariants.{Loads}
+use Rattle.table_words.specs.declared.access.Access.TheVariants.{Loads, Exchanges}
 use Rattle.table_words.specs.Access.{written}
 use Rattle.table_words.specs.Seen.{put}
 use Rattle.structure_laws.specs.Meaning.{Meaning}
 use Rattle.runner_parts.specs.declared.event.EventKind.{EventKind}
 use Rattle.runner_parts.specs.declared.event.EventKind.TheVariants as kinds
+use Rattle.runner_parts.specs.declared.entries.Look.{Look}
 use Rattle.runner_parts.specs.declared.entries.Published.{Published}
 use Rattle.runner_parts.specs.State.{RunState, PartState}
 use Rattle.runner_steps.specs.Sections.{is_open_run, next_of}
 use Rattle.runner_steps.specs.Outside.{when}
+use Rattle.runner_steps.specs.Reads.{read_clock_ask, read_reply_ask, read_stamp_ask}
 use Rattle.runner_steps.specs.InRun.{commit_ask, load_cell_ask, exchange_cell_ask, fill_load_ask, fill_store_ask, make_commit_ask, make_commit_to, retire_commit_ask, epoch_for_retire_ask, clock_load_ask, stamp_exchange_ask, clock_raise_ask, reply_exchange_ask, nested_load_ask, nested_hold_ask, outcome_load_ask, outcome_commit_ask, set_done_ask, release_ask}
 use Rattle.runner_steps.specs.Asks.{outside_ask, line_ask, opening_ask, ask_by}
 use Rattle.runner_steps.specs.AfterOutside.{retire_after}
@@ -25,7 +27,7 @@ use Rattle.runner_steps.specs.AfterInRun.{fill_loaded, make_committed}
 use Rattle.runner_steps.specs.After.{outside_after, line_after, inside_after, after_by}
 use Rattle.machine_states.proofs.Sights.{if_some, some_none}
 use Rattle.machine_states.proofs.Steps.{some_same}
-use Rattle.machine_states.proofs.Updates.{put_same}
+use Rattle.machine_states.proofs.Updates.{put_same, put_kept}
 
 -- whether this kind changes the epoch, an announcement or a stage
 abbrev pub is_entry : EventKind → Bool
@@ -63,6 +65,9 @@ quiet_word (LogWord d k) access e = λ f. (refl, λ r. refl)
 quiet_load : (a : Spot) → Quiet (a, Loads)
 quiet_load a f = (ap (λ (g : Spot → ℕ). g Epoch) (put_same f a), λ r. ap (λ (g : Spot → ℕ). g (Announcement r)) (put_same f a))
 
+quiet_kept : (a : Spot) → Quiet (a, Exchanges 0 0)
+quiet_kept a f = (ap (λ (g : Spot → ℕ). g Epoch) (put_kept f a), λ r. ap (λ (g : Spot → ℕ). g (Announcement r)) (put_kept f a))
+
 of_word : (a : Spot) (access : Access) (x : Spot × Access) → is_entry_word a ≡ false → Some (a, access) ≡ Some x → Quiet x
 of_word a access x q e = subst Quiet (some_same _ _ e) (quiet_word a access q)
 
@@ -71,6 +76,9 @@ when_word b a access x q e = subst Quiet (if_some b _ _ e).1 (quiet_word a acces
 
 when_load : (b : Bool) (a : Spot) (x : Spot × Access) → when b a Loads ≡ Some x → Quiet x
 when_load b a x e = subst Quiet (if_some b _ _ e).1 (quiet_load a)
+
+when_kept : (b : Bool) (a : Spot) (x : Spot × Access) → when b a (Exchanges 0 0) ≡ Some x → Quiet x
+when_kept b a x e = subst Quiet (if_some b _ _ e).1 (quiet_kept a)
 
 either_load : (c b b' : Bool) (a a' : Spot) (x : Spot × Access) → cond c (when b a Loads) (when b' a' Loads) ≡ Some x → Quiet x
 either_load true b b' a a' x e = when_load b a x e
@@ -82,6 +90,18 @@ in_descriptor false true d word = refl
 in_descriptor false false d word = refl
 
 module _ (m : Meaning) (l : Layout) (rs : List Request) where
+  quiet_clock : (p : PartState) (o : Option Look) (x : Spot × Access) → read_clock_ask p o ≡ Some x → Quiet x
+  quiet_clock p None x e = some_none x e
+  quiet_clock p (Some look) x e = when_load _ _ x e
+
+  quiet_reply : (r : ℕ) (p : PartState) (o : Option Look) (x : Spot × Access) → read_reply_ask m l rs r p o ≡ Some x → Quiet x
+  quiet_reply r p None x e = some_none x e
+  quiet_reply r p (Some look) x e = when_word _ _ _ x refl e
+
+  quiet_stamp : (p : PartState) (o : Option Look) (x : Spot × Access) → read_stamp_ask p o ≡ Some x → Quiet x
+  quiet_stamp p None x e = some_none x e
+  quiet_stamp p (Some look) x e = when_word _ _ _ x refl e
+
   quiet_outside : (r : ℕ) (kind : EventKind) (p : PartState) (x : Spot × Access) → is_entry kind ≡ false → outside_ask m l rs r kind p ≡ Some x → Quiet x
   quiet_outside r kinds.EnterLoad p x k e = absurd (let y = k in cc)
   quiet_outside r kinds.Announce p x k e = absurd (let y = k in cc)
@@ -99,6 +119,10 @@ module _ (m : Meaning) (l : Layout) (rs : List Request) where
   quiet_outside r (kinds.Hold thunk d) p x k e = when_word _ _ _ x refl e
   quiet_outside r (kinds.LoadThunk (Some d)) p x k e = when_load _ _ x e
   quiet_outside r kinds.EpochForRetire p x k e = when_load _ _ x e
+  quiet_outside r (kinds.ReadPlan thunk) p x k e = when_kept _ _ x e
+  quiet_outside r kinds.ReadClock p x k e = quiet_clock p p.reads.look x e
+  quiet_outside r kinds.ReadReply p x k e = quiet_reply r p p.reads.look x e
+  quiet_outside r kinds.ReadStamp p x k e = quiet_stamp p p.reads.look x e
   quiet_outside r _ p x k e = some_none x e
 
 module _ (l : Layout) (q : RunState) (x : Spot × Access) where

@@ -121,8 +121,8 @@ module _ (m : Meaning) (l : Layout) (found : Found) (s : Sight) (old : Entries m
   announce x some e = let h = asked.announce_asked r p.stage x e in
       subst (Leads kinds.Announce found) h.2 (λ records. enters (events.Announce r h.0) _ _ found (entrances.announce m l w s old.shows r _ h.0 some h.1 refl) (λ i. refl) (λ r' x n b is. unscanning refl is) (λ i r' ne h. h) (λ x n is. unscanning refl is) (λ i r' ne. refl))
 
-  enter_again : (x : Spot × Access) → enter_again_ask p.stage ≡ Some x → Leads kinds.EnterAgain found x
-  enter_again x e = let h = asked.enter_again_asked p.stage x e in
+  enter_again : (x : Spot × Access) → enter_again_ask p ≡ Some x → Leads kinds.EnterAgain found x
+  enter_again x e = let h = asked.enter_again_asked p x e in
       subst (Leads kinds.EnterAgain found) h.1 (λ records. enters (events.EnterAgain r) _ _ found (entrances.enter_again m l w s old.shows r _ h.0 refl) (λ i. refl) (λ r' x n b is. unscanning refl is) (λ i r' ne h. h) (λ x n is. unscanning refl is) (λ i r' ne. refl))
 
   exit : (x : Spot × Access) → idle_ask r p ≡ Some x → Leads kinds.Idle found x

@@ -224,9 +224,9 @@ module _ (m : Meaning) (l : Layout) (w : EpochState) (s : Sight) (old : IsJoined
           }),
         )
 
-    pub enter_again : (x : Spot × Access) → ((t : ℕ) → m.reaches [] t ≡ false) → enter_again_ask p.stage ≡ Some x → Leads kinds.EnterAgain records x
+    pub enter_again : (x : Spot × Access) → ((t : ℕ) → m.reaches [] t ≡ false) → enter_again_ask p ≡ Some x → Leads kinds.EnterAgain records x
     enter_again x unread e =
-        let h = asked.enter_again_asked p.stage x e in
+        let h = asked.enter_again_asked p x e in
         let p' : PartState = record p { stage = Entered (s.word Epoch); reads = lists.no_reads; records = records } in
         subst (Leads kinds.EnterAgain records) h.1 (
           _,

@@ -1,12 +1,15 @@
 -- What every kind of step has in common: what is new for the stepping runner, and why the facts on the others stay.
 use Rattle.std.specs.Prelude.{◌==◌, cond, Bool, true, false, nat_lt}
-use Rattle.std.proofs.Common.{◌≡◌, ◌≢◌, ℕ, ◌-◌, ◌≤◌, List, [], refl, sym, ap, ◌∙◌, subst, Some}
+use Rattle.std.proofs.Common.{◌≡◌, ◌≢◌, ℕ, ◌-◌, ◌≤◌, List, [], refl, sym, ap, ◌∙◌, subst, Some, Option}
 use Rattle.table_words.specs.declared.layout.Layout.{Layout}
 use Rattle.table_words.specs.declared.spot.Spot.{Spot}
 use Rattle.table_words.specs.declared.spot.Spot.TheVariants.{Epoch, Clock, Announcement, Stamp, Reply, Cell, ThunkWord, DoneWord, LogWord}
+use Rattle.table_words.specs.declared.access.Access.TheVariants.{Exchanges}
+use Rattle.table_words.specs.Access.{written}
 use Rattle.table_words.specs.Seen.{upd, put}
 use Rattle.body_terms.specs.declared.thunk.Thunk.{Thunk}
 use Rattle.structure_laws.specs.Meaning.{Meaning}
+use Rattle.runner_parts.specs.declared.entries.Look.{Look}
 use Rattle.runner_parts.specs.declared.entries.Published.{Published}
 use Rattle.runner_parts.specs.State.{PartState, NodesState, RecordsState}
 use Rattle.runner_parts.specs.Tests.{has}
@@ -21,7 +24,7 @@ use Rattle.epoch_core.specs.History.{is_out}
 use Rattle.epoch_core.proofs.Keeping.{keeps_all}
 use Rattle.epoch_core.proofs.Listing.{lists_follow_all}
 use Rattle.machine_states.specs.Sight.{Sight}
-use Rattle.machine_states.proofs.Updates.{upd_split, map_same, put_same}
+use Rattle.machine_states.proofs.Updates.{upd_split, map_same, put_same, put_kept}
 use Rattle.machine_epochs.specs.Entries.{counts_of}
 use Rattle.machine_epochs.specs.Roles.{role_at}
 use Rattle.machine_epochs.specs.Slots.{lists_of, thunk_in, ShowsEntries}
@@ -64,6 +67,16 @@ module _ (f : Spot → ℕ) where
     log = λ d k. ap (λ (g : Spot → ℕ). g (LogWord d k)) (put_same f a);
   }
 
+  -- an exchange from 0 to 0
+  pub but_kept : (a : Spot) → IsSameBut (put f a (written (Exchanges 0 0) (f a))) f
+  but_kept a = record {
+    epoch = ap (λ (g : Spot → ℕ). g Epoch) (put_kept f a);
+    announced = λ r. ap (λ (g : Spot → ℕ). g (Announcement r)) (put_kept f a);
+    thunk = λ d j. ap (λ (g : Spot → ℕ). g (ThunkWord d j)) (put_kept f a);
+    done = λ d. ap (λ (g : Spot → ℕ). g (DoneWord d)) (put_kept f a);
+    log = λ d k. ap (λ (g : Spot → ℕ). g (LogWord d k)) (put_kept f a);
+  }
+
 pub but_entries : (f g : Spot → ℕ) → IsSameBut f g → IsSameSections f g
 but_entries f g same = record { thunk = same.thunk; done = same.done; log = same.log }
 
@@ -87,6 +100,22 @@ thunk_same f g d same = rw (same 0, same 1, same 2, same 3, same 4, same 5, same
 pub copied : (m : Meaning) (l : Layout) (w : EpochState) (g : Spot → ℕ) (i : ℕ) (q : PartState) (nodes : NodesState) (records : RecordsState) (gone : Bool)
     → IsTied m l w g i q → IsTied m l w g i (record q { nodes = nodes; records = records; gone = gone })
 copied m l w g i q nodes records gone t = record {
+  run_held = t.run_held;
+  run_opened = t.run_opened;
+  run_begins = t.run_begins;
+  run_made = t.run_made;
+  retire = t.retire;
+  published = t.published;
+  named = t.named;
+  reached = t.reached;
+  stored_free = t.stored_free;
+  stored = t.stored;
+}
+
+-- nor on the runner's read without a lock
+pub looking : (m : Meaning) (l : Layout) (w : EpochState) (g : Spot → ℕ) (i : ℕ) (q : PartState) (look : Option Look) (records : RecordsState)
+    → IsTied m l w g i q → IsTied m l w g i (record q { reads = record (q.reads) { look = look }; records = records })
+looking m l w g i q look records t = record {
   run_held = t.run_held;
   run_opened = t.run_opened;
   run_begins = t.run_begins;

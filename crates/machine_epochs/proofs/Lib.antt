@@ -1,4 +1,5 @@
 pub mod OutsideAsked
+pub mod ReadsAsked
 pub mod InsideAsked
 pub mod Elsewhere
 pub mod Entrances

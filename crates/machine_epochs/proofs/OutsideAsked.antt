@@ -1,5 +1,5 @@
 -- What it says of a runner in no run that an event of its is enabled.
-use Rattle.std.specs.Prelude.{◌==◌, ◌&&◌, ◌⊎◌, cond, Bool, true, false, nat_lt, nat_le, is_none, not, slice_get}
+use Rattle.std.specs.Prelude.{◌==◌, ◌&&◌, ◌⊎◌, cond, Bool, true, false, nat_lt, nat_le, is_none, slice_get}
 use Rattle.std.proofs.Common.{◌≡◌, ℕ, ◌+◌, ◌-◌, ◌<◌, ◌≤◌, List, length, sym, refl, ap, subst, inl, inr, arith, Option, Some, None}
 use Rattle.std.proofs.lemmas.Bool.Decides.{nat_tests}
 use Rattle.std.proofs.lemmas.Bool.{and_parts}
@@ -19,9 +19,9 @@ use Rattle.runner_parts.specs.declared.entries.Published.{Published}
 use Rattle.epoch_core.specs.declared.stage.Stage.{Stage}
 use Rattle.epoch_core.specs.declared.stage.Stage.TheVariants.{Idle, Loaded, Announced, Entered, Scanning}
 use Rattle.runner_parts.specs.State.{RunState, PartState}
-use Rattle.runner_parts.specs.Tests.{has, is_walking, is_prepared}
+use Rattle.runner_parts.specs.Tests.{has, is_walking, is_prepared, is_between}
 use Rattle.runner_parts.specs.Tests as tests
-use Rattle.runner_steps.specs.Outside.{when, enter_load_ask, announce_ask, enter_again_ask, idle_ask, scan_one_ask, advance_ask, split_ask, entry_spot, entry_ask, read_ask, private_load_ask, descriptor_spot, private_store_ask, hold_ask, open_ask, is_over, retire_ask}
+use Rattle.runner_steps.specs.Outside.{when, enter_load_ask, announce_ask, enter_again_by, enter_again_ask, idle_ask, scan_one_ask, advance_ask, split_ask, entry_spot, entry_ask, read_ask, private_load_ask, descriptor_spot, private_store_ask, hold_ask, open_ask, is_over, retire_ask}
 use Rattle.epoch_core.specs.State.{last_epoch}
 use Rattle.machine_states.proofs.Steps.{some_same}
 use Rattle.machine_states.proofs.Sights.{if_some, some_none}
@@ -38,9 +38,16 @@ pub announce_asked : (r : ℕ) (stage : Stage) (x : Spot × Access) → announce
 announce_asked r (Loaded n) x e = (n, refl, some_same _ _ e)
 announce_asked r _ x e = some_none x e
 
-pub enter_again_asked : (stage : Stage) (x : Spot × Access) → enter_again_ask stage ≡ Some x → (stage ≡ Announced) × ((Epoch, Loads) ≡ x)
-enter_again_asked Announced x e = (refl, some_same _ _ e)
-enter_again_asked _ x e = some_none x e
+-- no reply of a read is without its stamp
+enter_again_by_asked : (between : Bool) (stage : Stage) (x : Spot × Access) → enter_again_by between stage ≡ Some x
+    → (stage ≡ Announced) × ((Epoch, Loads) ≡ x) × (between ≡ false)
+enter_again_by_asked true stage x e = some_none x e
+enter_again_by_asked false Announced x e = (refl, some_same _ _ e, refl)
+enter_again_by_asked false _ x e = some_none x e
+
+pub enter_again_asked : (p : PartState) (x : Spot × Access) → enter_again_ask p ≡ Some x
+    → (p.stage ≡ Announced) × ((Epoch, Loads) ≡ x) × (is_between p.reads.look ≡ false)
+enter_again_asked p x e = enter_again_by_asked (is_between p.reads.look) p.stage x e
 
 pub idle_asked : (r : ℕ) (p : PartState) (x : Spot × Access) → idle_ask r p ≡ Some x → (g : ℕ) × (p.stage ≡ Entered g) × (p.run ≡ None) × ((Announcement r, Stores 0) ≡ x)
 idle_asked r p x e =
@@ -115,6 +122,8 @@ pub record HoldAsked (m : Meaning) (l : Layout) (rs : List Request) (t : Thunk) 
   pub entry : ℕ
   pub entered : p.stage ≡ Entered entry
   pub unpublished : p.published ≡ None
+  -- no reply of a read is without its stamp
+  pub settled : is_between p.reads.look ≡ false
   pub unheld : is_free t.word ≡ true
   pub unspent : is_spent l.version_max t.word ≡ false
   pub request : Request
@@ -122,7 +131,7 @@ pub record HoldAsked (m : Meaning) (l : Layout) (rs : List Request) (t : Thunk) 
   pub serves : m.fits l request.op p.reads.walk t ≡ true
   pub is : (Cell t.lock, Exchanges t.word (held_word d t.word)) ≡ x
 
-no_option : {A : Type 0} → (o : Option A) → is_none o ≡ true → o ≡ None
+pub no_option : {A : Type 0} → (o : Option A) → is_none o ≡ true → o ≡ None
 no_option None e = refl
 no_option (Some y) e = absurd (let x = e in cc)
 
@@ -142,7 +151,8 @@ hold_asked m l rs r t d p x e =
     let may = and_parts _ _ b.1 in
     let w = walking p.stage p.run may.0 in
     let rest = and_parts _ _ may.1 in
-    let due = and_parts _ _ rest.1 in
+    let settled = and_parts _ _ rest.1 in
+    let due = and_parts _ _ settled.1 in
     let lock = and_parts _ _ due.0 in
     let request = serves_some m l p.reads.walk t (slice_get rs t.request) (and_parts _ _ due.1).1 in
     record {
@@ -153,6 +163,7 @@ hold_asked m l rs r t d p x e =
       entry = w.0;
       entered = w.1;
       unpublished = no_option p.published rest.0;
+      settled = not_so _ settled.0;
       unheld = lock.0;
       unspent = not_so _ (and_parts _ _ lock.1).0;
       request = request.0;

@@ -1,11 +1,12 @@
 -- The kinds of step outside a run that change no stage.
 use Rattle.std.specs.Prelude.{◌==◌, ◌&&◌, ◌||◌, cond, if◌then◌else◌, Bool, true, false, nat_lt, slice_index}
-use Rattle.std.proofs.Common.{◌≡◌, ℕ, zero, suc, ◌+◌, ◌-◌, ◌<◌, ◌≤◌, List, [], ◌∷◌, ◌++◌, length, refl, sym, ap, ◌∙◌, subst, arith, Some, None}
+use Rattle.std.proofs.Common.{◌≡◌, ℕ, zero, suc, ◌+◌, ◌-◌, ◌<◌, ◌≤◌, List, [], ◌∷◌, ◌++◌, length, refl, sym, ap, ◌∙◌, subst, arith, Option, Some, None}
 use Rattle.std.proofs.lemmas.Bool.Decides.{nat_tests}
+use Rattle.map_history.specs.declared.op.Request.{Request}
 use Rattle.body_terms.specs.declared.thunk.Thunk.{Thunk}
 use Rattle.table_words.specs.declared.layout.Layout.{Layout}
 use Rattle.table_words.specs.declared.spot.Spot.{Spot}
-use Rattle.table_words.specs.declared.spot.Spot.TheVariants.{Seat, Cell, ThunkWord}
+use Rattle.table_words.specs.declared.spot.Spot.TheVariants.{Seat, Clock, Announcement, Cell, ThunkWord}
 use Rattle.table_words.specs.declared.access.Access.{Access}
 use Rattle.table_words.specs.declared.access.Access.TheVariants.{Loads}
 use Rattle.table_words.specs.Places.{slot_count}
@@ -15,10 +16,13 @@ use Rattle.structure_laws.specs.Meaning.{Meaning}
 use Rattle.runner_parts.specs.declared.event.EventKind.{EventKind}
 use Rattle.runner_parts.specs.declared.event.EventKind.TheVariants as kinds
 use Rattle.epoch_core.specs.declared.stage.Stage.TheVariants.{Entered}
+use Rattle.runner_parts.specs.declared.entries.Look.{Look}
+use Rattle.runner_parts.specs.declared.entries.LookStage.TheVariants.{Replied, Stamped}
 use Rattle.runner_parts.specs.declared.entries.Tested.{Tested}
 use Rattle.runner_parts.specs.State.{RunState, PartState, NodesState, ReadsState, RecordsState}
 use Rattle.runner_parts.specs.Tests.{has}
 use Rattle.runner_steps.specs.Outside.{split_ask, entry_ask, read_ask, open_ask}
+use Rattle.runner_steps.specs.Reads.{read_plan_ask, read_clock_ask, read_reply_ask, read_stamp_ask, plan_by, looked_by, come_to}
 use Rattle.runner_parts.specs.Lists as lists
 use Rattle.runner_steps.specs.AfterOutside as outside
 use Rattle.runner_steps.specs.After.{outside_after}
@@ -40,9 +44,10 @@ use Rattle.machine_epochs.specs.Joined.{IsTied, IsJoinedToEpochs}
 use Rattle.machine_epochs.specs.Chunks.{is_last_look, looked as looked_events, IsOutsideChunk}
 use Rattle.machine_epochs.specs.Supplied.{reaches_node, names_slot, comes_outside}
 use Rattle.machine_epochs.proofs.OutsideAsked as asked
+use Rattle.machine_epochs.proofs.ReadsAsked as reads_asked
 use Rattle.machine_epochs.proofs.RunPlaces.{begins_unretired}
 use Rattle.machine_epochs.proofs.Places.{has_append, names_it, has_times, hand_node}
-use Rattle.machine_epochs.proofs.Joining.{copied, IsSameBut, but_load, descriptor_same, thunk_same, still_tied, Goes, GoesBy, StaysAt, next, as_published, once, stages_stay, stays, goes_with}
+use Rattle.machine_epochs.proofs.Joining.{copied, looking, IsSameBut, but_load, but_kept, but_stamp, but_reply, descriptor_same, thunk_same, still_tied, Goes, GoesBy, StaysAt, next, as_published, once, stages_stay, stays, goes_with}
 use Rattle.machine_epochs.proofs.CommitKinds.{row_else, row_named}
 use Rattle.machine_epochs.proofs.Reaching.{may_hold}
 use Rattle.machine_epochs.proofs.SlotKinds.{kept_place, other_place, hand_hand, back_lists}
@@ -71,9 +76,9 @@ module _ (m : Meaning) (l : Layout) (w : EpochState) (s : Sight) (old : IsJoined
   abbrev pub Leads : EventKind → RecordsState → Spot × Access → Type 0
   Leads kind records x = GoesBy m l (IsOutsideChunk m l r kind p (s.word x.0)) w (next m l w s old r (put s.word x.0 (written x.1 (s.word x.0))) (record (outside_after m l kind p (s.word x.0)) { records = records }))
 
-  -- what is tied to a part in which tests and records alone have changed
-  same_tied : (f : Spot → ℕ) → IsSameBut f s.word → (tests : List Tested) (records : RecordsState) → IsTied m l w f r (record p { nodes = record (p.nodes) { tests = tests }; records = records })
-  same_tied f same tests records = copied m l w f r p (record (p.nodes) { tests = tests }) records p.gone (still_tied m l w w s.word f r p (record {
+  -- what was tied to the part is so by words that are the same for it
+  tied_by : (f : Spot → ℕ) → IsSameBut f s.word → IsTied m l w f r p
+  tied_by f same = still_tied m l w w s.word f r p (record {
     holds = λ t h. h;
     words = λ d j h. same.thunk d j;
     hand = λ t h. h;
@@ -81,7 +86,11 @@ module _ (m : Meaning) (l : Layout) (w : EpochState) (s : Sight) (old : IsJoined
     live = λ x e h. h;
     entered = λ h. h;
     stored = λ d j h. descriptor_same f s.word same d j;
-  }) (old.tied r))
+  }) (old.tied r)
+
+  -- what is tied to a part in which tests and records alone have changed
+  same_tied : (f : Spot → ℕ) → IsSameBut f s.word → (tests : List Tested) (records : RecordsState) → IsTied m l w f r (record p { nodes = record (p.nodes) { tests = tests }; records = records })
+  same_tied f same tests records = copied m l w f r p (record (p.nodes) { tests = tests }) records p.gone (tied_by f same)
 
   -- a load after which tests and records alone have changed
   notes : (a : Spot) (tests : List Tested) (records : RecordsState) → StaysAt m l w (next m l w s old r (put s.word a (s.word a)) (record p { nodes = record (p.nodes) { tests = tests }; records = records }))
@@ -95,6 +104,34 @@ module _ (m : Meaning) (l : Layout) (w : EpochState) (s : Sight) (old : IsJoined
 
   unretired : w.retire r ≡ no_retire
   unretired = (old.tied r).retire ∙ ap (retiring_of m) none
+
+  -- a step after which the look and the records alone have changed
+  sees : (f : Spot → ℕ) → IsSameBut f s.word → (look : Option Look) (records : RecordsState)
+      → StaysAt m l w (next m l w s old r f (record p { reads = record (p.reads) { look = look }; records = records }))
+  sees f same look records =
+      stays m l w s old r f p' same refl refl (as_published m l w s old r p' refl) (looking m l w f r p look records (tied_by f same))
+    where
+      p' : PartState
+      p' = record p { reads = record (p.reads) { look = look }; records = records }
+
+  pub read_plan : (records : RecordsState) (thunk : Thunk) (x : Spot × Access) → read_plan_ask r thunk p ≡ Some x
+      → Leads (kinds.ReadPlan thunk) records x
+  read_plan records thunk x e = subst (Leads (kinds.ReadPlan thunk) records) (reads_asked.read_plan_asked r thunk p x e).is
+      (sees _ (but_kept s.word (Announcement r)) (Some (plan_by thunk)) records)
+
+  pub read_clock : (records : RecordsState) (x : Spot × Access) → read_clock_ask p p.reads.look ≡ Some x
+      → Leads kinds.ReadClock records x
+  read_clock records x e = subst (Leads kinds.ReadClock records) (reads_asked.read_clock_asked p x e).is
+      (sees _ (but_load s.word Clock) (looked_by p (s.word Clock) p.reads.look) records)
+
+  pub read_reply : (rs : List Request) (records : RecordsState) (x : Spot × Access) → read_reply_ask m l rs r p p.reads.look ≡ Some x
+      → Leads kinds.ReadReply records x
+  read_reply rs records x e = subst (Leads kinds.ReadReply records) (reads_asked.read_reply_asked m l rs r p x e).is
+      (sees _ (but_reply s.word _ _) (come_to Replied p.reads.look) records)
+
+  pub read_stamp : (records : RecordsState) (x : Spot × Access) → read_stamp_ask p p.reads.look ≡ Some x → Leads kinds.ReadStamp records x
+  read_stamp records x e = subst (Leads kinds.ReadStamp records) (reads_asked.read_stamp_asked p x e).is
+      (sees _ (but_stamp s.word _ _) (come_to Stamped p.reads.look) records)
 
   pub load_entry : (records : RecordsState) (request : ℕ) (reply : Bool) (x : Spot × Access) → entry_ask request reply p ≡ Some x → Leads (kinds.LoadEntry request reply) records x
   load_entry records request reply x e = subst (Leads (kinds.LoadEntry request reply) records) (asked.entry_asked request reply p x e) (notes _ p.nodes.tests records)

@@ -172,6 +172,10 @@ module _ (m : Meaning) (l : Layout) (rs : List Request) (epoch r : ℕ) (p : Par
     outside_own (kinds.Hold thunk d) e = holds thunk d (asked.hold_asked m l rs r thunk d p x e) _
     outside_own (kinds.LoadThunk (Some d)) e = opens d
     outside_own kinds.EpochForRetire e = retires_own e
+    outside_own (kinds.ReadPlan thunk) e = unmoved p.nodes refl _ refl
+    outside_own kinds.ReadClock e = unmoved p.nodes refl _ refl
+    outside_own kinds.ReadReply e = unmoved p.nodes refl _ refl
+    outside_own kinds.ReadStamp e = unmoved p.nodes refl _ refl
     outside_own _ e = some_none x e
 
   module _ (q : RunState) (at : p.run ≡ Some q) where

@@ -72,7 +72,7 @@ module _ (m : Meaning) (l : Layout) (rs : List Request) (s : Sight) (r : ℕ) (x
   rises_outside : (kind : EventKind) → is_entry kind ≡ true → outside_ask m l rs r kind p ≡ Some x → Rises x
   rises_outside kinds.EnterLoad k e = subst Rises (asked.enter_load_asked p.stage x e).1 (omega arith)
   rises_outside kinds.Announce k e = subst Rises (asked.announce_asked r p.stage x e).2 (omega arith)
-  rises_outside kinds.EnterAgain k e = subst Rises (asked.enter_again_asked p.stage x e).1 (omega arith)
+  rises_outside kinds.EnterAgain k e = subst Rises (asked.enter_again_asked p x e).1 (omega arith)
   rises_outside kinds.Idle k e = subst Rises (asked.idle_asked r p x e).3 (omega arith)
   rises_outside kinds.ScanEpoch k e = subst Rises (asked.enter_load_asked p.stage x e).1 (omega arith)
   rises_outside (kinds.ScanOne n) k e = subst Rises (asked.scan_one_asked l n p.stage x e).4 (omega arith)

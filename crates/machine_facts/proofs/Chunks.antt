@@ -200,6 +200,10 @@ module _ (m : Meaning) (l : Layout) (w : AgreementState) (r : ℕ) where
       chunk
   outside_sort kinds.EpochForRetire p found heads vs chunk slots =
       quiet heads vs (subst Last (sym chunk.2) (refl, tt)) (subst AreCalm (sym slots.2) (one_calm _ refl))
+  outside_sort kinds.ReadReply p found heads vs chunk slots =
+      quiet heads vs (subst Last (sym chunk.2) (refl, tt)) (subst AreCalm (sym slots) none_calm)
+  outside_sort kinds.ReadStamp p found heads vs chunk slots =
+      quiet heads vs (subst Last (sym chunk.2) (refl, tt)) (subst AreCalm (sym slots) none_calm)
   outside_sort (kinds.LoadThunk (Some d)) p found heads vs chunk slots =
       quiet heads vs (subst Last (sym chunk) (refl, tt)) (subst AreCalm (sym slots) none_calm)
   outside_sort _ p found heads vs chunk slots = quiet heads vs (subst Last (sym chunk) tt) (subst AreCalm (sym slots) none_calm)

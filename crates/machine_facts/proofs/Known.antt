@@ -19,6 +19,7 @@ use Rattle.table_words.specs.Seen.{upd, put}
 use Rattle.structure_laws.specs.Meaning.{Meaning}
 use Rattle.epoch_core.specs.Moves.{is_clear}
 use Rattle.runner_parts.specs.declared.entries.Known.{Known}
+use Rattle.runner_parts.specs.declared.entries.Look.{Look}
 use Rattle.runner_parts.specs.declared.entries.Published.{Published}
 use Rattle.runner_parts.specs.declared.event.EventKind.{EventKind}
 use Rattle.runner_parts.specs.declared.event.EventKind.TheVariants as kinds
@@ -26,7 +27,8 @@ use Rattle.epoch_core.specs.declared.stage.Stage.{Stage}
 use Rattle.epoch_core.specs.declared.stage.Stage.TheVariants as stages
 use Rattle.runner_parts.specs.State.{RunState, RecordsState, PartState}
 use Rattle.runner_parts.specs.Lists.{learned, cell_read}
-use Rattle.runner_steps.specs.Sections.{thunk_of, is_open_run, next_of}
+use Rattle.runner_steps.specs.Sections.{thunk_of, is_open_run, next_of, reply_in}
+use Rattle.runner_steps.specs.Reads.{read_reply_ask, read_stamp_ask, read_stamp_after, read_reply_after, read_stamped_after, reply_known, stamp_known}
 use Rattle.runner_steps.specs.InRun.{last_clock, stamp_after, stamp_exchange_ask, reply_exchange_ask}
 use Rattle.runner_steps.specs.Outside.{entry_spot}
 use Rattle.epoch_core.specs.State.{last_epoch}
@@ -39,6 +41,7 @@ use Rattle.machine_states.proofs.Sights.{if_some, some_none}
 use Rattle.machine_states.proofs.Steps.{some_same}
 use Rattle.machine_states.proofs.Updates.{put_same, upd_here, upd_else}
 use Rattle.machine_epochs.proofs.OutsideAsked.{entry_asked}
+use Rattle.machine_epochs.proofs.ReadsAsked.{read_reply_asked, read_stamp_asked}
 use Rattle.machine_invariant.proofs.Asked.{asked_by}
 use Rattle.machine_facts.specs.Steps.{WordsStand}
 use Rattle.machine_facts.specs.Known.{KnownStand}
@@ -62,15 +65,15 @@ same_if false word p x y one two = two
 
 -- a word is learned that stands
 learns : (word : Spot → ℕ) (p p' : PartState) (request : ℕ) (reply : Bool) (number : ℕ) → word (entry_spot request reply) ≡ number
-    → p'.records ≡ learned p.records request reply number → Knows word p p'
+    → p'.records.known ≡ (learned p.records request reply number).known → Knows word p p'
 learns word p p' request reply number stands is = ⊎_elim
-    (λ zero. inl (ap (λ (s : RecordsState). s.known) is ∙ none p.records zero))
+    (λ zero. inl (is ∙ none p.records zero))
     (λ some. inr (record {
       request = request;
       reply = reply;
       number = number;
       some = some;
-      more = ap (λ (s : RecordsState). s.known) is ∙ one p.records some;
+      more = is ∙ one p.records some;
       stands = stands;
     }))
     (cases_eq number 0)
@@ -124,6 +127,26 @@ module _ (m : Meaning) (l : Layout) (rs : List Request) (r : ℕ) (f : Spot → 
       (subst (λ (y : Spot × Access). put f y.0 (written y.1 (f y.0)) (entry_spot request reply) ≡ f y.0) is
       (ap (λ (g : Spot → ℕ). g (entry_spot request reply)) (put_same f (entry_spot request reply)))) refl
 
+  -- the words of a read stand as they were found, or as it wrote them
+  read_reply_knows : (p : PartState) → read_reply_ask m l rs r p p.reads.look ≡ Some x → K p (read_reply_after m p found)
+  read_reply_knows p asked =
+      let h = read_reply_asked m l rs r p x asked in
+      let n = h.look.thunk.request in
+      let reply = reply_in (m.body h.look.thunk) in
+      learns word' p (read_reply_after m p found) n true (written_once found reply)
+      (subst (λ (y : Spot × Access). put f y.0 (written y.1 (f y.0)) (spots.Reply n) ≡ written_once (f y.0) reply) h.is (reply_put f n _))
+      (ap (λ (o : Option Look). reply_known m o found p.records) h.at)
+
+  read_stamp_knows : (p : PartState) → read_stamp_ask p p.reads.look ≡ Some x → K p (read_stamped_after p found)
+  read_stamp_knows p asked =
+      let h = read_stamp_asked p x asked in
+      let n = h.look.thunk.request in
+      let stamp = read_stamp_after h.look.clock in
+      learns word' p (read_stamped_after p found) n false (written_once found stamp)
+      (subst (λ (y : Spot × Access). put f y.0 (written y.1 (f y.0)) (spots.Stamp n) ≡ written_once (f y.0) stamp) h.is (stamp_put f n _))
+      (ap (λ (o : Option Look). stamp_known o found p.records) h.at
+      ∙ ap (λ (b : Bool). if b then (learned p.records n false (written_once found stamp)).known else p.records.known) h.clock)
+
   outside_knows : (kind : EventKind) (p : PartState) → outside_ask m l rs r kind p ≡ Some x → K p (outside_after m l kind p found)
   outside_knows (kinds.ScanOne n) p asked = scan_knows p p.stage
   outside_knows kinds.Advance p asked = advance_knows p p.stage
@@ -134,8 +157,8 @@ module _ (m : Meaning) (l : Layout) (rs : List Request) (r : ℕ) (f : Spot → 
   outside_knows kinds.EpochForRetire p asked = retire_knows p p.published
   outside_knows (kinds.LoadCell (Some place)) p asked = inl refl
   outside_knows (kinds.LoadThunk (Some d)) p asked = inl refl
-  outside_knows kinds.ReadReply p asked = some_none _ asked
-  outside_knows kinds.ReadStamp p asked = some_none _ asked
+  outside_knows kinds.ReadReply p asked = read_reply_knows p asked
+  outside_knows kinds.ReadStamp p asked = read_stamp_knows p asked
   outside_knows _ p asked = inl refl
 
   module _ (p : PartState) (q : RunState) where

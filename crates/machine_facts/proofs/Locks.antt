@@ -104,6 +104,8 @@ module _ (m : Meaning) (l : Layout) (w : AgreementState) (r : ℕ) where
       ⊎_elim (λ won. subst Un (sym won.1) (refl, (refl, tt))) (λ lost. subst Un (sym lost.1) (refl, tt)) chunk
   outside_un kinds.EpochForRetire p found heads chunk = subst Un (sym chunk.2) (refl, tt)
   outside_un (kinds.LoadThunk (Some d)) p found heads chunk = subst Un (sym chunk) (refl, tt)
+  outside_un kinds.ReadReply p found heads chunk = subst Un (sym chunk.2) (refl, tt)
+  outside_un kinds.ReadStamp p found heads chunk = subst Un (sym chunk.2) (refl, tt)
   outside_un _ p found heads chunk = subst Un (sym chunk) tt
 
 -- a release of a lock by this runner, and what may follow it

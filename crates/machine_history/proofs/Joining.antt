@@ -1,7 +1,11 @@
 -- Each step keeps the joint states and the history joined.
 use Rattle.std.proofs.Common.{◌≡◌, ◌≢◌, ℕ, suc, ◌<◌, ◌≤◌, Bool, true, false, List, [], ◌∷◌, refl, sym, ap, ◌∙◌, subst, arith}
-use Rattle.std.specs.Prelude.{◌&&◌, not}
+use Rattle.std.specs.Prelude.{◌&&◌, ◌==◌, ◌+◌, ◌*◌, cond, not, Some}
+use Rattle.std.proofs.lemmas.Bool.Decides.{nat_tests}
 use Rattle.map_history.specs.declared.op.Op.{Op}
+use Rattle.map_history.specs.Keys.{HaveNoCommonKey}
+use Rattle.map_history.specs.Replay.{reply_of, map_after}
+use Rattle.map_history.specs.Words.{word_of}
 use Rattle.body_terms.specs.Update.{upd}
 use Rattle.body_terms.specs.Run.{written_once}
 use Rattle.body_terms.specs.Line.{is_check}
@@ -13,21 +17,22 @@ use Rattle.table_words.specs.Limits.{IsWithinLimits}
 use Rattle.structure_laws.specs.Meaning.{Meaning}
 use Rattle.structure_laws.specs.Cells.{slots}
 use Rattle.structure_laws.specs.Laws.{Laws}
-use Rattle.agreement_core.specs.State.{CellRules, Section, AgreementState, section_of}
+use Rattle.agreement_core.specs.State.{CellRules, Section, Shared, AgreementState, section_of, IsOpen}
 use Rattle.agreement_core.specs.Checks.{is_stamp_exchange, is_stop}
 use Rattle.agreement_core.specs.Events as agreement
 use Rattle.agreement_core.specs.Events.{Event, IsBefore, step_of}
 use Rattle.agreement_core.specs.Events.{Publish, RetireDescriptor, Free, StoreLog, StoreDone, Read, Open, Pass, SetDone, Release, Finish, LoadCell, Commit, NestedLoad, NestedCommit, NestedHold, OutcomeLoad, OutcomeCommit, PrivateLoad, PrivateStore, MakeCommit, ClockLoad, StampExchange, ClockRaise, ExchangeCell, EpochForRetire, RetireCommit, ReplyExchange, ReadReply, ReadStamp}
 use Rattle.agreement_core.proofs.LineSteps.{pass_checks}
 use Rattle.epoch_core.specs.State.{Counts}
-use Rattle.history_core.specs.State.{Requests, HistoryState, is_replied}
+use Rattle.history_core.specs.State.{Requests, HistoryState}
 use Rattle.history_core.specs.Events as history
+use Rattle.history_core.specs.Events.{read_stamp_by}
 use Rattle.history_core.specs.Schedules.{AllEnabled, after_all}
 use Rattle.history_core.specs.Legal.{AreAllDone}
-use Rattle.history_core.proofs.Consequences.{legal, clock_stands, knowledge_stands}
+use Rattle.history_core.proofs.Consequences.{legal, clock_stands, knowledge_stands, reads_stand}
 use Rattle.history_core.proofs.Consequences.{closed as all_closed}
 use Rattle.history_core.proofs.Keeping.{event_keeps, schedule_keeps, first_sound}
-use Rattle.history_core.proofs.WithoutReads.{MakeNoReads, first_reads, none_after, none_after_all, rises}
+use Rattle.history_core.proofs.WithoutReads.{rises}
 use Rattle.machine_scenes.specs.Shown.{States, rules_of}
 use Rattle.machine_scenes.specs.Steps as scenes
 use Rattle.machine_scenes.proofs.Kept.{step_kept}
@@ -36,7 +41,7 @@ use Rattle.machine_scenes.proofs.Events.{stops_of}
 use Rattle.machine_history.specs.Memory.{pairs_after, MemoryStands}
 use Rattle.machine_history.proofs.Steps.{step_memory, first_stands, closed_stands}
 use Rattle.machine_history.specs.Tied.{rank, AreTied}
-use Rattle.machine_history.specs.Steps.{HistoryStates, Step, Joint, Over, Learn, events_of, is_apart, MayFree, MayPublish, Enabled, after}
+use Rattle.machine_history.specs.Steps.{HistoryStates, Step, Joint, Over, Learn, events_of, is_apart, MayFree, MayPublish, MayLook, MayReply, MayStamp, Enabled, after}
 use Rattle.machine_history.specs.Steps as steps
 use Rattle.machine_history.specs.Laws.{AreAllClosed, IsJoined, FirstIsJoined, StepsKeepJoined, SchedulesKeepJoined, JoinedStands}
 use Rattle.machine_history.specs.Laws as laws_of
@@ -44,7 +49,8 @@ use Rattle.machine_history.proofs.Tying.{GoesOn}
 use Rattle.machine_scenes.proofs.Links.{true_false}
 use Rattle.machine_history.proofs.Quiet.{goes_by, quiet, not_loaded}
 use Rattle.machine_history.proofs.Ranked.{may_load, load_tied, may_stamp, stamp_tied, stamp_pairs, may_raise, raise_tied, may_write, reply_tied}
-use Rattle.machine_history.proofs.Supplying.{done_true, stop_stage}
+use Rattle.machine_history.proofs.Supplying.{done_true, stop_stage, stamp_edge, undone_of}
+use Rattle.machine_history.proofs.Looks.{looks_answer_map, looks_leave, looks_apart}
 use Rattle.machine_history.proofs.Others.{open_tied, finish_tied, release_tied, same_tied, unused_tied, free_tied, done_tied, publish_tied}
 
 check_rank : (x : Micro) → is_check x ≡ true → rank x ≡ 0
@@ -52,16 +58,6 @@ check_rank x check = grind arith
 
 stop_rank : (c : CellRules) (d : ℕ) (log : ℕ → ℕ) (x : Micro) → is_stop c d log x ≡ true → rank x ≡ 0
 stop_rank c d log x stop = grind arith
-
--- no joint step makes a read without a lock
-make_no_reads : (j : States) (step : scenes.Step) → MakeNoReads (events_of j step)
-make_no_reads j (scenes.Agreement (ClockLoad r)) = (refl, tt)
-make_no_reads j (scenes.Agreement (StampExchange r)) = (refl, tt)
-make_no_reads j (scenes.Agreement (ClockRaise r)) = (refl, tt)
-make_no_reads j (scenes.Agreement (ReplyExchange r reply)) = (refl, tt)
-make_no_reads j (scenes.Agreement (SetDone r)) = (refl, tt)
-make_no_reads j (scenes.Agreement (Free d)) = (refl, tt)
-make_no_reads j step = tt
 
 module _ (m : Meaning) (laws : Laws m) (layout : Layout) (limits : IsWithinLimits layout) (c : Counts) (nodes : c.nodes ≡ slots m layout) (requests : Requests)
     (same_map : requests.is_map ≡ m.is_map) (h : HistoryStates) (joined : IsJoined m layout c requests h) where
@@ -146,7 +142,7 @@ module _ (m : Meaning) (laws : Laws m) (layout : Layout) (limits : IsWithinLimit
         unknown = ok.unknown;
         earlier = ok.earlier;
         positive = some answer (λ none. line.stamped.replies (one line.stamped.reply answer (sym line.stamped.answers ∙ (ap code (sym place) ∙ ok.answers.1)) ∙ none));
-        settled = ap is_replied (joined.reads.looks r);
+        settled = ok.settled;
       }
     where
       one : (n k : ℕ) → micros.ReplyExchange n ≡ micros.ReplyExchange k → n ≡ k
@@ -154,6 +150,105 @@ module _ (m : Meaning) (laws : Laws m) (layout : Layout) (limits : IsWithinLimit
 
       some : (n : ℕ) → n ≢ 0 → 0 < n
       some n other = omega arith
+
+  -- the words change, and nothing else that is tied
+  read_tied : (shared : Shared) (w' : HistoryState) → w'.clock ≡ shared.clock → ((n : ℕ) → w'.stamp n ≡ shared.stamp n)
+      → ((n : ℕ) → w'.reply n ≡ shared.reply n) → w'.used ≡ w.used → w'.done ≡ w.done → w'.request ≡ w.request → w'.answer ≡ w.answer
+      → w'.stage ≡ w.stage → w'.loaded ≡ w.loaded → w'.run ≡ w.run → w'.hand ≡ w.hand
+      → AreTied requests (record j { agreement = record a { shared = shared } }) w'
+  read_tied shared w' clock stamp reply used done request answer stage loaded run hand = record {
+    clock = clock;
+    stamp = stamp;
+    reply = reply;
+    used = λ e. ap (λ f. f e) used ∙ joined.tied.used e;
+    sections = λ e is. let t = joined.tied.sections e is in record {
+      done = ap (λ f. f e) done ∙ t.done;
+      request = ap (λ f. f e) request ∙ t.request;
+      op = ap (λ f. requests.op (f e)) request ∙ t.op;
+      answer = λ i n at. ap (λ f. f e) answer ∙ t.answer i n at;
+      passed = λ i some lt. subst (λ f. rank ((a.section e).code i) ≤ f e) (sym stage) (t.passed i some lt);
+      unpassed = λ i some le. subst (λ f. f e < rank ((a.section e).code i)) (sym stage) (t.unpassed i some le);
+    };
+    loaded = λ i. ap (λ f. f i) loaded ∙ joined.tied.loaded i;
+    runs = λ i is. let t = joined.tied.runs i is in record { run = ap (λ f. f i) run ∙ t.run; hand = ap (λ f. f i) hand ∙ t.hand };
+  }
+
+  -- a look: no section between its clock and its raise has a key in common, its answer is the map's, and the map stays
+  may_look : (r : ℕ) (op : Op) (thunk : Thunk) (answer : ℕ) → MayLook m layout c requests h r op thunk answer
+      → history.MayLook requests w r thunk.request answer
+  may_look r op thunk answer ok = record {
+    own = ok.own;
+    unknown = ok.unknown;
+    earlier = ok.earlier;
+    positive = ok.positive;
+    settled = ok.settled;
+    alone = λ map d used low high.
+        let there = sym (joined.tied.used d) ∙ used in
+        let open_section : IsOpen a d = record {
+          used = there;
+          undone = undone_of m laws layout limits c nodes requests j joined.kept w joined.sound joined.tied d there
+              (λ none. absurd (omega (arith, low, none))) (λ four. absurd (omega (arith, high, four)));
+        } in
+        let apart = looks_apart m laws layout limits c nodes j r d op thunk joined.kept (sym same_map ∙ map) ok.looked open_section
+        (stamp_edge m laws layout limits c nodes requests j joined.kept w joined.sound joined.tied d there low high) in
+        subst (λ x. HaveNoCommonKey x (requests.op (w.request d))) (sym ok.operation)
+        (subst (HaveNoCommonKey op) (sym (joined.tied.sections d there).op) apart);
+    answers = λ map. looks_answer_map m laws layout limits c nodes j r w.pairs op thunk joined.kept joined.memory (sym same_map ∙ map) ok.looked
+        ok.answers.0 answer ok.answers.1 ∙ ap (λ x. word_of (reply_of w.pairs x)) (sym ok.operation);
+    still = λ map. ap (map_after w.pairs) ok.operation
+        ∙ looks_leave m laws layout limits c nodes j r w.pairs op thunk joined.kept joined.memory (sym same_map ∙ map) ok.looked;
+  }
+
+  -- what a worker has seen answers something
+  some_reply : (r request reply : ℕ) → MayReply m layout c requests h r request reply → reply ≢ 0
+  some_reply r request reply ok none =
+      let positive = (joined.sound.reads.looks r ok.seen ok.looked).positive in
+      let same = ok.answer ∙ none in absurd (omega (arith, positive, same))
+
+  may_reply : (r request reply : ℕ) → MayReply m layout c requests h r request reply → history.MayReply requests w r
+  may_reply r request reply ok = record {
+    seen = ok.seen;
+    looked = ok.looked;
+    unreplied = ok.unreplied;
+    idle = ok.idle;
+    unknown = ap (w.known r) ok.number ∙ ok.unknown;
+  }
+
+  -- the history's state behind a read's reply
+  abbrev replied_state : (r request reply : ℕ) → MayReply m layout c requests h r request reply → HistoryState
+  replied_state r request reply ok = record w {
+    reply = upd w.reply request (written_once (w.reply request) reply);
+    look = upd w.look r (Some (record (ok.seen) { replied = true }));
+  }
+
+  replied_is : (r request reply : ℕ) (ok : MayReply m layout c requests h r request reply)
+      → history.after requests w (history.ReadReply r) ≡ replied_state r request reply ok
+  replied_is r request reply ok = ap (history.replied_by requests w r) ok.looked
+      ∙ (ap (λ n. record w { reply = upd w.reply n (written_once (w.reply n) ok.seen.answer); look = upd w.look r (Some (record (ok.seen) { replied = true })) }) ok.number
+      ∙ ap (λ n. record w { reply = upd w.reply request (written_once (w.reply request) n); look = upd w.look r (Some (record (ok.seen) { replied = true })) }) ok.answer)
+
+  some_stamp : (r request stamp : ℕ) → MayStamp m layout c requests h r request stamp → stamp ≢ 0
+  some_stamp r request stamp ok none = let odd : 2 * ok.seen.clock + 1 ≡ 0 = ok.stamps ∙ none in absurd (omega (arith, odd))
+
+  -- the request has no stamp before its worker gives it one
+  unstamped : (r request stamp : ℕ) (ok : MayStamp m layout c requests h r request stamp) → w.stamp ok.seen.number ≡ 0
+  unstamped r request stamp ok = ((joined.sound.reads.looks r ok.seen ok.looked).between ok.replied).unstamped
+
+  read_is : (r request stamp : ℕ) (ok : MayStamp m layout c requests h r request stamp)
+      → history.after requests w (history.ReadStamp r) ≡ history.read requests w r ok.seen
+  read_is r request stamp ok = ap (history.read_by requests w r) ok.looked
+      ∙ ap (λ b. cond b (history.read requests w r ok.seen) w) (is_zero (w.stamp ok.seen.number) (unstamped r request stamp ok))
+    where
+      is_zero : (n : ℕ) → n ≡ 0 → (n == 0) ≡ true
+      is_zero n e = grind (arith, nat_tests)
+
+  stamps_read : (r request stamp : ℕ) (ok : MayStamp m layout c requests h r request stamp) (n : ℕ)
+      → (history.read requests w r ok.seen).stamp n ≡ upd a.shared.stamp request (written_once (a.shared.stamp request) stamp) n
+  stamps_read r request stamp ok n =
+      let none : a.shared.stamp request ≡ 0 = sym (joined.tied.stamp request) ∙ (ap w.stamp (sym ok.number) ∙ unstamped r request stamp ok) in
+      ap (λ k. upd w.stamp k (read_stamp_by ok.seen.clock) n) ok.number
+      ∙ (ap (λ k. upd w.stamp request k n) (ok.stamps ∙ sym (ap (λ k. written_once k stamp) none))
+      ∙ ap (cond (n == request) (written_once (a.shared.stamp request) stamp)) (joined.tied.stamp n))
 
   -- a section that isn't live any more is done
   free_done : (d : ℕ) → a.used d ≡ true → a.live d ≡ false → w.done d ≡ true
@@ -272,7 +367,6 @@ module _ (m : Meaning) (laws : Laws m) (layout : Layout) (limits : IsWithinLimit
         sound = schedule_keeps requests w (events_of j step) f.events joined.sound;
         tied = f.tied;
         memory = subst (MemoryStands m layout c (scenes.after m layout c j step)) f.pairs (step_memory m laws layout limits c j joined.kept w.pairs joined.memory step ok.1);
-        reads = none_after_all requests w joined.reads (events_of j step) (make_no_reads j step);
       }
   step_joined (steps.Publish r d lock word request code slot op thunk answer) ok = record {
     kept = step_kept m laws layout limits c nodes j (scenes.Publish r d lock word request code slot op thunk) ok.enabled joined.kept;
@@ -281,21 +375,54 @@ module _ (m : Meaning) (laws : Laws m) (layout : Layout) (limits : IsWithinLimit
     memory =
         let memory = step_memory m laws layout limits c j joined.kept w.pairs joined.memory (scenes.Publish r d lock word request code slot op thunk) ok.enabled in
         record { cells = memory.cells; completed = memory.completed; stands = memory.stands };
-    reads = none_after requests w joined.reads (history.Publish r d request answer) refl;
   }
   step_joined (Over r) ok = record {
     kept = joined.kept;
     sound = event_keeps requests w (history.Over r) ok joined.sound;
     tied = words_elsewhere (history.after requests w (history.Over r)) refl refl refl refl refl refl refl refl refl refl refl;
     memory = record { cells = joined.memory.cells; completed = joined.memory.completed; stands = joined.memory.stands };
-    reads = none_after requests w joined.reads (history.Over r) refl;
   }
   step_joined (Learn r n) ok = record {
     kept = joined.kept;
     sound = event_keeps requests w (history.Learn r n) ok joined.sound;
     tied = words_elsewhere (history.after requests w (history.Learn r n)) refl refl refl refl refl refl refl refl refl refl refl;
     memory = record { cells = joined.memory.cells; completed = joined.memory.completed; stands = joined.memory.stands };
-    reads = none_after requests w joined.reads (history.Learn r n) refl;
+  }
+  step_joined (steps.Look r op thunk answer) ok = record {
+    kept = joined.kept;
+    sound = event_keeps requests w (history.Look r thunk.request answer) (may_look r op thunk answer ok) joined.sound;
+    tied = words_elsewhere (history.after requests w (history.Look r thunk.request answer)) refl refl refl refl refl refl refl refl refl refl refl;
+    memory = record { cells = joined.memory.cells; completed = joined.memory.completed; stands = joined.memory.stands };
+  }
+  step_joined (steps.Forget r) ok = record {
+    kept = joined.kept;
+    sound = event_keeps requests w (history.Forget r) ok joined.sound;
+    tied = words_elsewhere (history.after requests w (history.Forget r)) refl refl refl refl refl refl refl refl refl refl refl;
+    memory = record { cells = joined.memory.cells; completed = joined.memory.completed; stands = joined.memory.stands };
+  }
+  step_joined (steps.ReadReply r request reply) ok = record {
+    kept = step_kept m laws layout limits c nodes j (scenes.Agreement (agreement.ReadReply request reply)) (refl, some_reply r request reply ok) joined.kept;
+    sound = event_keeps requests w (history.ReadReply r) (may_reply r request reply ok) joined.sound;
+    tied = subst (AreTied requests (next (agreement.ReadReply request reply))) (sym (replied_is r request reply ok)) (read_tied
+        (record (a.shared) { reply = upd a.shared.reply request (written_once (a.shared.reply request) reply) }) (replied_state r request reply ok)
+        joined.tied.clock joined.tied.stamp
+        (λ n. ap (λ k. upd w.reply request (written_once k reply) n) (joined.tied.reply request)
+        ∙ ap (cond (n == request) (written_once (a.shared.reply request) reply)) (joined.tied.reply n))
+        refl refl refl refl refl refl refl refl);
+    memory = subst (λ (v : HistoryState). MemoryStands m layout c (next (agreement.ReadReply request reply)) v.pairs) (sym (replied_is r request reply ok))
+        (step_memory m laws layout limits c j joined.kept w.pairs joined.memory (scenes.Agreement (agreement.ReadReply request reply))
+        (refl, some_reply r request reply ok));
+  }
+  step_joined (steps.ReadStamp r request stamp) ok = record {
+    kept = step_kept m laws layout limits c nodes j (scenes.Agreement (agreement.ReadStamp request stamp)) (refl, some_stamp r request stamp ok) joined.kept;
+    sound = event_keeps requests w (history.ReadStamp r) (record { seen = ok.seen; looked = ok.looked; replied = ok.replied }) joined.sound;
+    tied = subst (AreTied requests (next (agreement.ReadStamp request stamp))) (sym (read_is r request stamp ok)) (read_tied
+        (record (a.shared) { stamp = upd a.shared.stamp request (written_once (a.shared.stamp request) stamp) }) (history.read requests w r ok.seen)
+        joined.tied.clock (stamps_read r request stamp ok) joined.tied.reply
+        refl refl refl refl refl refl refl refl);
+    memory = subst (λ (v : HistoryState). MemoryStands m layout c (next (agreement.ReadStamp request stamp)) v.pairs) (sym (read_is r request stamp ok))
+        (step_memory m laws layout limits c j joined.kept w.pairs joined.memory (scenes.Agreement (agreement.ReadStamp request stamp))
+        (refl, some_stamp r request stamp ok));
   }
 
 module _ (m : Meaning) (laws : Laws m) (layout : Layout) (limits : IsWithinLimits layout) where
@@ -318,7 +445,6 @@ module _ (m : Meaning) (laws : Laws m) (layout : Layout) (limits : IsWithinLimit
     memory =
         let memory = first_stands m laws layout limits c nodes location first p in
         record { cells = memory.cells; completed = memory.completed; stands = memory.stands };
-    reads = first_reads;
   }
 
   schedule_from : (c : Counts) (nodes : c.nodes ≡ slots m layout) (requests : Requests) → requests.is_map ≡ m.is_map → (h : HistoryStates) (steps : List Step)
@@ -333,7 +459,8 @@ module _ (m : Meaning) (laws : Laws m) (layout : Layout) (limits : IsWithinLimit
   pub joined_stands : JoinedStands m layout
   joined_stands c nodes requests h joined = record {
     legal = legal requests h.history joined.sound;
-    rises = rises requests h.history joined.reads joined.sound;
+    reads = reads_stand requests h.history joined.sound;
+    rises = λ none. rises requests h.history none joined.sound;
     clock = clock_stands requests h.history joined.sound;
     known = knowledge_stands requests h.history joined.sound;
     memory = joined.memory;

@@ -8,7 +8,7 @@ use Rattle.epoch_core.specs.declared.location.Location.{Location}
 use Rattle.epoch_core.specs.State.{Counts}
 use Rattle.history_core.specs.State.{Requests}
 use Rattle.history_core.specs.Sound.{IsSound}
-use Rattle.history_core.specs.Legal.{HistoryIsLegal, ClockStands, KnowledgeStands, StampsRise, IsClosed, HasNoReads}
+use Rattle.history_core.specs.Legal.{HistoryIsLegal, ClockStands, KnowledgeStands, ReadsStand, StampsRise, IsClosed, HasNoReads}
 use Rattle.history_core.specs.Schedules as schedules
 use Rattle.machine_scenes.specs.Shown.{Publications}
 use Rattle.machine_scenes.specs.Kept.{IsKept}
@@ -22,21 +22,21 @@ abbrev pub AreAllClosed : HistoryStates → Type 0
 AreAllClosed h = (d : ℕ) → IsOpen h.joint.agreement d → ⊥
 
 module _ (m : Meaning) (layout : Layout) (c : Counts) (requests : Requests) where
-  -- the joint states are kept, the history is sound, the two are tied, the completed memory stands for the
-  -- history's map, and no read without a lock is made
+  -- the joint states are kept, the history is sound, the two are tied, and the completed memory stands for the
+  -- history's map
   pub record IsJoined (h : HistoryStates) : Type 0 where
     pub kept : IsKept m layout c h.joint
     pub sound : IsSound requests h.history
     pub tied : AreTied requests h.joint h.history
     pub memory : MemoryStands m layout c h.joint h.history.pairs
-    pub reads : HasNoReads h.history
 
-  -- what they say: the history is legal, stamps rise strictly along a trace, the completed memory stands for its
-  -- final map, what is known stands, and where no section is open each stamped request has its reply and the cells
-  -- themselves stand for that map
+  -- what they say: the history is legal, reads without a lock stand, stamps rise strictly along a trace where there is
+  -- no read, the completed memory stands for its final map, what is known stands, and where no section is open each
+  -- stamped request has its reply and the cells themselves stand for that map
   pub record HistoryStands (h : HistoryStates) : Type 0 where
     pub legal : HistoryIsLegal requests h.history
-    pub rises : StampsRise requests h.history
+    pub reads : ReadsStand requests h.history
+    pub rises : HasNoReads h.history → StampsRise requests h.history
     pub clock : ClockStands requests h.history
     pub known : KnowledgeStands requests h.history
     pub memory : MemoryStands m layout c h.joint h.history.pairs

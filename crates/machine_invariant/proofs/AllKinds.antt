@@ -27,7 +27,7 @@ use Rattle.machine_invariant.proofs.Meeting.{having_met, has_met}
 use Rattle.machine_invariant.proofs.Chunked.{is_plain_line}
 use Rattle.machine_invariant.proofs.Pieces.{Pieces, KeepsWhole, pieces}
 use Rattle.machine_invariant.proofs.Plain.{plain_whole, outside_whole, join_whole}
-use Rattle.machine_invariant.proofs.Taking.{has_named, is_taking, taking_hold, taking_lock, taking_whole}
+use Rattle.machine_invariant.proofs.Taking.{has_named, is_taking, taking_hold, taking_reading, taking_lock, taking_whole}
 use Rattle.machine_invariant.proofs.Makes.{private_load_whole, private_store_whole, make_commit_whole}
 use Rattle.machine_invariant.proofs.Retires.{retire_commit_whole, epoch_for_retire_whole}
 use Rattle.machine_invariant.proofs.Entering.{enter_again_whole, idle_whole}
@@ -35,6 +35,7 @@ use Rattle.machine_invariant.proofs.Walking.{load_cell_whole}
 use Rattle.machine_invariant.proofs.Publishing.{hold_whole}
 use Rattle.machine_invariant.proofs.Freeing.{scan_one_whole, advance_whole}
 use Rattle.machine_invariant.proofs.SectionsRetired.{section_retired_whole}
+use Rattle.machine_invariant.proofs.Reading.{read_reply_whole, read_stamp_whole}
 use Rattle.machine_invariant.proofs.Following.{StepsWhole, assembled, goes_reached}
 
 -- a load of a cell outside a run
@@ -94,7 +95,7 @@ module _ (m : Meaning) (laws : Laws m) (l : Layout) (limits : IsWithinLimits l) 
           (line_heads m l r kind p q is opened (s.word x.0) g.agreement parts.heads parts.in_sections)
           (line_events m l r kind p q is opened (s.word x.0) parts.events parts.in_slots) in
           assembled m l rs g s (here kind) r kind had.reaches had.enabled (step_of kind asked) parts kept
-          (goes_reached m l rs g s r kind (s.word x.0) _ had.reaches had.enabled (taking_hold kind taking) kept.goes)
+          (goes_reached m l rs g s r kind (s.word x.0) _ had.reaches had.enabled (taking_hold kind taking) (taking_reading kind taking) kept.goes)
 
       line : (kind : EventKind) → asks m l rs r kind p ≡ Some x → To kind
       line (kinds.PrivateLoad slot cell) asked = direct (kinds.PrivateLoad slot cell) asked refl
@@ -143,7 +144,7 @@ module _ (m : Meaning) (laws : Laws m) (l : Layout) (limits : IsWithinLimits l) 
         let reaches = (r, slots_met m (counts_of m l) g.agreement.shared.cells place) ∷ [] in
         let kept = load_cell_whole m laws l limits rs few allowed (having_met m l g r kind) s had.whole r x place asked none had.holds parts in
         assembled m l rs g s (here kind) r kind reaches had.enabled (step_of kind asked) parts kept
-        (goes_reached m l rs g s r kind (s.word x.0) _ reaches had.enabled refl kept.goes)
+        (goes_reached m l rs g s r kind (s.word x.0) _ reaches had.enabled refl refl kept.goes)
 
     outside : (kind : EventKind) → asks m l rs r kind p ≡ Some x → To kind
     outside kinds.EnterAgain asked =
@@ -158,6 +159,8 @@ module _ (m : Meaning) (laws : Laws m) (l : Layout) (limits : IsWithinLimits l) 
     outside kinds.EpochForRetire asked =
         direct kinds.EpochForRetire asked refl (section_retired_whole m laws l limits rs few allowed g s whole r x asked none)
     outside (kinds.Join worker) asked = direct (kinds.Join worker) asked refl (join_whole m laws l limits rs g s whole r x worker asked)
+    outside kinds.ReadReply asked = direct kinds.ReadReply asked refl (read_reply_whole m laws l limits rs g s whole r x asked none)
+    outside kinds.ReadStamp asked = direct kinds.ReadStamp asked refl (read_stamp_whole m laws l limits rs g s whole r x asked none)
     outside kind asked = direct kind asked refl (outside_whole m laws l limits rs g s whole r x kind asked none refl)
 
   at_once : (kind : EventKind) → asks m l rs r kind p ≡ Some x → To kind

@@ -128,7 +128,8 @@ module _ (m : Meaning) (l : Layout) (w : AgreementState) (r : ℕ) where
   inside_steady kind p q found vs true plain chunk = line_steady kind p q (next_of m q) found vs plain chunk
   inside_steady kind p q found vs false plain chunk = subst AreSteady (sym chunk) none_steady
 
--- the steps outside runs by which nobody enters, leaves, reads a cell, publishes, retires or may end a scan, but for joins
+-- the steps outside runs by which nobody enters, leaves, reads a cell, publishes, retires, may end a scan or writes a word
+-- of a read, but for joins
 abbrev pub is_plain_outside : EventKind → Bool
 is_plain_outside kinds.EnterAgain = false
 is_plain_outside kinds.Idle = false
@@ -138,6 +139,8 @@ is_plain_outside (kinds.LoadCell (Some place)) = false
 is_plain_outside (kinds.Hold thunk d) = false
 is_plain_outside kinds.EpochForRetire = false
 is_plain_outside (kinds.Join worker) = false
+is_plain_outside kinds.ReadReply = false
+is_plain_outside kinds.ReadStamp = false
 is_plain_outside _ = true
 
 module _ (m : Meaning) (l : Layout) (w : AgreementState) (r : ℕ) where
@@ -160,6 +163,8 @@ module _ (m : Meaning) (l : Layout) (w : AgreementState) (r : ℕ) where
   outside_calm (kinds.Hold thunk d) p found heads plain chunk = absurd (cc)
   outside_calm kinds.EpochForRetire p found heads plain chunk = absurd (cc)
   outside_calm (kinds.Join worker) p found heads plain chunk = absurd (cc)
+  outside_calm kinds.ReadReply p found heads plain chunk = absurd (cc)
+  outside_calm kinds.ReadStamp p found heads plain chunk = absurd (cc)
   outside_calm (kinds.LoadThunk (Some d)) p found heads plain chunk = subst AreCalm (sym chunk) (one_calm _ refl refl)
   outside_calm (kinds.PrivateStore slot word number) p found heads plain chunk =
       subst AreCalm (sym chunk.1) (stored_calm (slot - slot_count l m.fixed_slots) word number)

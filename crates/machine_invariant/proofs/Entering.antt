@@ -75,7 +75,7 @@ module _ (m : Meaning) (l : Layout) (e : EpochState) (part : ℕ → PartState) 
 
 -- who leaves has nothing to retire
 idle_unpublished : (r : ℕ) (p : PartState) (x : Spot × Access) → idle_ask r p ≡ Some x → p.published ≡ None
-idle_unpublished r p x e = no_option p.published (both _ _ (if_some _ _ x e).0).1
+idle_unpublished r p x e = no_option p.published (both _ _ (both _ _ (if_some _ _ x e).0).1).0
   where
     no_option : (o : Option Published) → is_none o ≡ true → o ≡ None
     no_option None e = refl
@@ -128,7 +128,7 @@ module _ (m : Meaning) (laws : Laws m) (l : Layout) (limits : IsWithinLimits l) 
     enter_again_whole pieces = keeps_by m l g s entered_sight r kinds.EnterAgain x pieces [] (epochs.EnterAgain r ∷ [])
         (outside_heads m l rs g s entered_sight r kinds.EnterAgain x none pieces)
         (outside_events m l rs g s entered_sight r kinds.EnterAgain x none pieces)
-        g.publications refl (no_hold m l kinds.EnterAgain (s.word x.0) refl) enter_again
+        g.publications refl (no_hold m l kinds.EnterAgain (s.word x.0) refl) refl enter_again
 
   -- a runner that leaves has no section that isn't retired
   module _ (asked : asks m l rs r kinds.Idle p ≡ Some x) (none : p.run ≡ None) where
@@ -167,4 +167,4 @@ module _ (m : Meaning) (laws : Laws m) (l : Layout) (limits : IsWithinLimits l) 
     pub idle_whole : (pieces : Pieces m l g s left_sight r kinds.Idle x) → KeepsWhole m l g s left_sight r kinds.Idle x pieces
     idle_whole pieces = keeps_by m l g s left_sight r kinds.Idle x pieces [] (epochs.Exit r ∷ [])
         (outside_heads m l rs g s left_sight r kinds.Idle x none pieces) (outside_events m l rs g s left_sight r kinds.Idle x none pieces)
-        g.publications refl (no_hold m l kinds.Idle (s.word x.0) refl) leave
+        g.publications refl (no_hold m l kinds.Idle (s.word x.0) refl) refl leave

@@ -1,5 +1,5 @@
 -- The components go along with every list of the machine's events, and the whole invariant with them.
-use Rattle.std.specs.Prelude.{◌++◌, replicate, Bool, false, Option, Some, None}
+use Rattle.std.specs.Prelude.{◌++◌, replicate, Bool, true, false, Option, Some, None}
 use Rattle.std.proofs.Common.{◌≡◌, ℕ, List, [], ◌∷◌, inl, ⊎_elim, sym, refl, subst, ◌∙◌}
 use Rattle.map_history.specs.declared.op.Request.{Request}
 use Rattle.table_words.specs.declared.layout.Layout.{Layout}
@@ -26,7 +26,7 @@ use Rattle.machine_scenes.specs.Shown.{States, Publications, rules_of}
 use Rattle.machine_invariant.specs.Along.{Components, reaches_of, components_after, AreEventsOf, GoAlong}
 use Rattle.machine_invariant.specs.Whole.{Beside, states_of, IsWhole}
 use Rattle.machine_invariant.proofs.States.{with_histories}
-use Rattle.machine_invariant.proofs.Jointly.{JointSteps, alone_before, Goes, is_hold, no_hold}
+use Rattle.machine_invariant.proofs.Jointly.{JointSteps, alone_before, Goes, is_hold, is_reading, no_hold}
 use Rattle.machine_invariant.proofs.Pieces.{Pieces, KeepsWhole, led}
 
 module _ (c : Counts) where
@@ -77,12 +77,14 @@ module _ (m : Meaning) (l : Layout) (rs : List Request) where
 
   -- nobody comes to hold slots where a section is published
   pub goes_reached : (g : Beside) (s : Sight) (r : ℕ) (kind : EventKind) (found : ℕ) (to : States) (reaches : List (ℕ × (ℕ → Bool)))
-      → epoch_schedules.AllEnabled c g.epochs (reaches_of reaches) → is_hold kind ≡ false
+      → epoch_schedules.AllEnabled c g.epochs (reaches_of reaches) → is_hold kind ≡ false → is_reading kind ≡ false
       → Goes m l (record g { epochs = epoch_schedules.after_all c g.epochs (reaches_of reaches) }) s r kind found to
       → Goes m l g s r kind found to
-  goes_reached g s r kind found to reaches ok other = ⊎_elim
-      (λ quiet. inl (record { passed = reaches_before reaches (states_of g s) to ok quiet.passed; nothing = quiet.nothing }))
+  goes_reached g s r kind found to reaches ok other apart = ⊎_elim
+      (λ quiet. inl (record { passed = reaches_before reaches (states_of g s) to ok quiet.passed; nothing = quiet.nothing; apart = quiet.apart }))
+      (λ more. ⊎_elim
       (λ publishing. absurd (no_hold m l kind publishing.thunk.word other publishing.thunk publishing.descriptor publishing.kind_is refl))
+      (λ reading. absurd (let clash : true ≡ false = sym reading.reading ∙ apart in cc)) more)
 
   -- where runners come to hold slots first
   pub assembled : (g : Beside) (s s' : Sight) (r : ℕ) (kind : EventKind) (reaches : List (ℕ × (ℕ → Bool)))

@@ -298,11 +298,11 @@ module _ (m : Meaning) (laws : Laws m) (l : Layout) (limits : IsWithinLimits l) 
         let heads = outside_heads m l rs g s scan_sight r scan x none pieces in
         let events = outside_events m l rs g s scan_sight r scan x none pieces in ⊎_elim
         (λ goes. keeps_by m l g s scan_sight r scan x pieces [] (epochs.ScanOne r events.0 n events.1 ∷ [])
-        (heads ∙ ap (λ o. chunks.collected o p) goes.0) goes.1 g.publications refl (no_hold m l scan (s.word x.0) refl) (scan_on _ refl refl))
+        (heads ∙ ap (λ o. chunks.collected o p) goes.0) goes.1 g.publications refl (no_hold m l scan (s.word x.0) refl) refl (scan_on _ refl refl))
         (λ ends. keeps_by m l g s scan_sight r scan x pieces (chunks.collected (Some events.0) p)
         (epochs.ScanLast r events.0 n events.1 ∷ [])
         (heads ∙ ap (λ o. chunks.collected o p) ends.0) ends.1 g.publications refl
-        (no_hold m l scan (s.word x.0) refl)
+        (no_hold m l scan (s.word x.0) refl) refl
         (collect_whole scan_sight (outside_quiet m l s r scan x none refl refl) scan_thunks events.0
         (epochs.ScanLast r events.0 n events.1) refl (λ i. refl)))
         events.3
@@ -320,7 +320,7 @@ module _ (m : Meaning) (laws : Laws m) (l : Layout) (limits : IsWithinLimits l) 
         keeps_by m l g s advance_sight r kinds.Advance x pieces (chunks.collected (Some (events.0 + 1)) p)
         (epochs.Advance r events.0 events.1 ∷ [])
         (heads ∙ ap (λ o. chunks.collected o p) events.3) events.4 g.publications refl
-        (no_hold m l kinds.Advance (s.word x.0) refl)
+        (no_hold m l kinds.Advance (s.word x.0) refl) refl
         (collect_whole advance_sight (outside_quiet m l s r kinds.Advance x none refl refl)
         (thunks_after m l s r kinds.Advance x (outside_leaves m l rs r p x kinds.Advance refl
         (outside_asked m l rs g s advance_sight r kinds.Advance x none asked)))

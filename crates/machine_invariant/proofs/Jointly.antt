@@ -1,6 +1,6 @@
 -- A step of the machine as a list of steps of the joint states.
 use Rattle.std.specs.Prelude.{◌⊎◌, Bool, true, false, slice_get}
-use Rattle.std.proofs.Common.{◌≡◌, ◌≢◌, ℕ, List, [], ◌∷◌, ◌++◌, refl, sym, ap, ◌∙◌, subst, Some}
+use Rattle.std.proofs.Common.{◌≡◌, ◌≢◌, ℕ, List, [], ◌∷◌, ◌++◌, refl, sym, ap, ◌∙◌, subst, Some, None}
 use Rattle.map_history.specs.declared.op.Request.{Request}
 use Rattle.body_terms.specs.Line.{line, micro_at, committed}
 use Rattle.body_terms.specs.declared.thunk.Thunk.{Thunk}
@@ -17,7 +17,7 @@ use Rattle.machine_scenes.specs.Shown.{States, rules_of}
 use Rattle.machine_scenes.specs.Steps as steps
 use Rattle.machine_scenes.specs.Steps.{Step, Enabled, after}
 use Rattle.machine_scenes.specs.Schedules.{AllEnabled, after_all}
-use Rattle.machine_agreement.specs.Chunks.{publication}
+use Rattle.machine_agreement.specs.Chunks.{publication, IsOutsideChunk}
 use Rattle.machine_invariant.specs.Whole.{Beside, states_of, IsWhole}
 
 -- a step that publishes no section, and writes no word of a read; where it frees a descriptor, the section there
@@ -28,6 +28,12 @@ IsQuietStep from (steps.Agreement (agreement.ReadReply request reply)) = ⊥
 IsQuietStep from (steps.Agreement (agreement.ReadStamp request stamp)) = ⊥
 IsQuietStep from (steps.Publish r d lock word request code slot op thunk) = ⊥
 IsQuietStep from _ = Unit {0}
+
+-- a read without a lock writes one of its two words
+abbrev pub is_reading : EventKind → Bool
+is_reading kinds.ReadReply = true
+is_reading kinds.ReadStamp = true
+is_reading _ = false
 
 abbrev pub AreQuietSteps : States → List Step → Type 0
 AreQuietSteps from [] = Unit {0}
@@ -103,10 +109,11 @@ module _ (m : Meaning) (l : Layout) where
   abbrev pub HoldsNothing : EventKind → ℕ → Type 0
   HoldsNothing kind found = (t : Thunk) (d : ℕ) → kind ≡ kinds.Hold t d → found ≢ t.word
 
-  -- a step of the machine that publishes nothing is these steps of the joint states
+  -- a step of the machine that publishes nothing, and writes no word of a read, is these steps of the joint states
   pub record GoesQuietly (g : Beside) (s : Sight) (kind : EventKind) (found : ℕ) (to : States) : Type 0 where
     pub passed : JointSteps (states_of g s) to
     pub nothing : HoldsNothing kind found
+    pub apart : is_reading kind ≡ false
 
   -- the states behind the reading of a lock
   abbrev pub behind_lock : States → ℕ → States
@@ -125,9 +132,18 @@ module _ (m : Meaning) (l : Layout) where
         (steps.Publish r descriptor thunk.lock thunk.word thunk.request (micro_at (line (m.body thunk))) (committed (line (m.body thunk)))
         request.op thunk)) to
 
+  -- one that writes a word of a read without a lock is that event of agreement, and more steps
+  pub record GoesByReading (g : Beside) (s : Sight) (r : ℕ) (kind : EventKind) (found : ℕ) (to : States) : Type 0 where
+    pub reading : is_reading kind ≡ true
+    pub none : (s.part r).run ≡ None
+    pub event : agreement.Event
+    pub chunk : IsOutsideChunk m l g.agreement r kind (s.part r) found (event ∷ [])
+    pub enabled : agreement.Enabled (rules_of m l) g.agreement event
+    pub passed : JointSteps (after m l (counts_of m l) (states_of g s) (steps.Agreement event)) to
+
   -- a step of the machine as steps of the joint states
   abbrev pub Goes : Beside → Sight → ℕ → EventKind → ℕ → States → Type 0
-  Goes g s r kind found to = GoesQuietly g s kind found to ⊎ GoesByPublishing g s r kind found to
+  Goes g s r kind found to = GoesQuietly g s kind found to ⊎ (GoesByPublishing g s r kind found to ⊎ GoesByReading g s r kind found to)
 
 -- a try to publish
 abbrev pub is_hold : EventKind → Bool

@@ -34,6 +34,7 @@ mod Taking
 mod Entering
 mod Walking
 mod Publishing
+mod Reading
 mod SectionsRetired
 mod Freeing
 pub mod First

@@ -150,12 +150,12 @@ module _ (m : Meaning) (laws : Laws m) (l : Layout) (limits : IsWithinLimits l) 
         let thunks = thunks_stay m l s r load x refl q is opened rs asked in
         ⊎_elim
         (λ first. keeps_by m l g s loaded r load x pieces (loads heads.0 ∷ []) (epochs.TakeSlot r slot ∷ []) heads.2 first.1 g.publications refl
-        (no_hold m l load (s.word x.0) refl)
+        (no_hold m l load (s.word x.0) refl) refl
         (λ go. line_whole m laws l limits g s loaded whole stay thunks r (loads heads.0) (epochs.TakeSlot r slot ∷ []) go
         refl (record { used = refl; live = refl }) (refl, tt) refl refl
         (load_stands heads.0 (epochs.TakeSlot r slot ∷ []) go (inl first.0) (refl, tt))))
         (λ again. keeps_by m l g s loaded r load x pieces (loads heads.0 ∷ []) [] heads.2 again.1 g.publications refl
-        (no_hold m l load (s.word x.0) refl)
+        (no_hold m l load (s.word x.0) refl) refl
         (λ go. line_whole m laws l limits g s loaded whole stay thunks r (loads heads.0) [] go
         refl (record { used = refl; live = refl }) tt refl refl
         (load_stands heads.0 [] go (inr again.0) tt)))
@@ -214,7 +214,7 @@ module _ (m : Meaning) (laws : Laws m) (l : Layout) (limits : IsWithinLimits l) 
         let thunks = thunks_stay m l s r store x refl q is opened rs asked in
         keeps_by m l g s stored r store x pieces (stores heads.0 heads.1 ∷ []) [] heads.4
         (line_events m l r store (s.part r) q is opened (s.word x.0) pieces.events pieces.in_slots) g.publications refl
-        (no_hold m l store (s.word x.0) refl)
+        (no_hold m l store (s.word x.0) refl) refl
         (λ go. line_whole m laws l limits g s stored whole stay thunks r (stores heads.0 heads.1) [] go
         refl (record { used = refl; live = refl }) tt refl refl
         (store_stands heads.0 heads.1 heads.2 heads.3 go))
@@ -271,7 +271,7 @@ module _ (m : Meaning) (laws : Laws m) (l : Layout) (limits : IsWithinLimits l) 
         ∙ (ap (λ t. epochs.MakeCommit r q.descriptor log t q.worn ∷ []) (some_same events.1 slot (sym events.3 ∙ heads.3))
         ∙ ap (λ d. epochs.MakeCommit r d log slot q.worn ∷ []) (sym (run_here m l g.agreement s whole.sections r q is).descriptor))) in
         keeps_by m l g s committed r kinds.MakeCommit x pieces (commits log slot ∷ []) (takes log slot ∷ []) heads.4 taken g.publications refl
-        (no_hold m l kinds.MakeCommit (s.word x.0) refl)
+        (no_hold m l kinds.MakeCommit (s.word x.0) refl) refl
         (λ go. line_whole m laws l limits g s committed whole stay thunks r (commits log slot) (takes log slot ∷ []) go
         refl (record { used = refl; live = refl }) (refl, tt) refl refl
         (commit_stands log slot heads.3 go))

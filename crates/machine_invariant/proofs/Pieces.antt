@@ -1,6 +1,6 @@
 -- The components' events of one step of the machine, and what they lead to.
 use Rattle.std.specs.Prelude.{replicate, All}
-use Rattle.std.proofs.Common.{◌≡◌, ℕ, ◌≤◌, List, ◌++◌, length, inl, inr, refl, sym, subst}
+use Rattle.std.proofs.Common.{◌≡◌, ℕ, ◌≤◌, List, ◌++◌, length, inl, inr, refl, sym, subst, false}
 use Rattle.map_history.specs.declared.op.Request.{Request}
 use Rattle.table_words.specs.declared.layout.Layout.{Layout}
 use Rattle.table_words.specs.declared.spot.Spot.{Spot}
@@ -25,7 +25,7 @@ use Rattle.machine_agreement.specs.Joined as sections
 use Rattle.machine_agreement.specs.Chunks as chunks
 use Rattle.machine_agreement.proofs.AllKinds as sections_kinds
 use Rattle.machine_invariant.specs.Whole.{Beside, states_of, IsWhole}
-use Rattle.machine_invariant.proofs.Jointly.{IsWholeAfter, HoldsNothing, Goes, GoesByPublishing}
+use Rattle.machine_invariant.proofs.Jointly.{IsWholeAfter, is_reading, HoldsNothing, Goes, GoesByPublishing, GoesByReading}
 use Rattle.machine_invariant.proofs.SuppliesSections.{sections_supplied}
 use Rattle.machine_invariant.proofs.SuppliesSlots.{HoldsMet, slots_supplied}
 
@@ -63,14 +63,14 @@ module _ (m : Meaning) (l : Layout) where
 
   -- where they meet it with the same publications, and nothing is published
   pub keeps_quietly : (g : Beside) (s s' : Sight) (r : ℕ) (kind : EventKind) (x : Spot × Access) (pieces : Pieces g s s' r kind x)
-      → HoldsNothing m l kind (s.word x.0)
+      → HoldsNothing m l kind (s.word x.0) → is_reading kind ≡ false
       → IsWholeAfter m l (states_of g s) (led g r pieces.heads pieces.passes pieces.events g.publications) s'
       → KeepsWhole g s s' r kind x pieces
-  keeps_quietly g s s' r kind x pieces nothing there = record {
+  keeps_quietly g s s' r kind x pieces nothing apart there = record {
     publications = g.publications;
     requests = refl;
     whole = there.whole;
-    goes = inl (record { passed = there.passed; nothing = nothing });
+    goes = inl (record { passed = there.passed; nothing = nothing; apart = apart });
   }
 
   -- these events of the components may come, and lead to states that belong to this sight, with checks that pass behind those of agreement
@@ -97,17 +97,17 @@ module _ (m : Meaning) (l : Layout) where
     }
 
     -- the step keeps the whole invariant, where the states to which these events lead meet it
-    pub keeps_by : (p : Publications) → p.requests ≡ g.publications.requests → HoldsNothing m l kind (s.word x.0)
+    pub keeps_by : (p : Publications) → p.requests ≡ g.publications.requests → HoldsNothing m l kind (s.word x.0) → is_reading kind ≡ false
         → ((go : Leads g s' r heads events) → IsWholeAfter m l (states_of g s) (led g r heads go.passes events p) s')
         → KeepsWhole g s s' r kind x pieces
     unfolding leads_of
-    keeps_by p same_requests nothing whole =
+    keeps_by p same_requests nothing apart whole =
         let there = subst (λ es. IsWholeAfter m l (states_of g s) (led g r es pieces.passes pieces.events p) s') (sym same)
         (subst (λ vs. IsWholeAfter m l (states_of g s) (led g r heads pieces.passes vs p) s') (sym same') (whole leads_of)) in record {
           publications = p;
           requests = same_requests;
           whole = there.whole;
-          goes = inl (record { passed = there.passed; nothing = nothing });
+          goes = inl (record { passed = there.passed; nothing = nothing; apart = apart });
         }
 
     -- the same where it publishes a section
@@ -125,7 +125,24 @@ module _ (m : Meaning) (l : Layout) where
           publications = p;
           requests = same_requests;
           whole = there.0;
-          goes = inr there.1;
+          goes = inr (inl there.1);
+        }
+
+    -- the same where a read without a lock writes a word
+    pub keeps_reading : ((go : Leads g s' r heads events) → IsWhole m l (led g r heads go.passes events g.publications) s'
+        × GoesByReading m l g s r kind (s.word x.0) (states_of (led g r heads go.passes events g.publications) s'))
+        → KeepsWhole g s s' r kind x pieces
+    unfolding leads_of
+    keeps_reading whole =
+        let there = subst (λ es. IsWhole m l (led g r es pieces.passes pieces.events g.publications) s'
+        × GoesByReading m l g s r kind (s.word x.0) (states_of (led g r es pieces.passes pieces.events g.publications) s')) (sym same)
+        (subst (λ vs. IsWhole m l (led g r heads pieces.passes vs g.publications) s'
+        × GoesByReading m l g s r kind (s.word x.0) (states_of (led g r heads pieces.passes vs g.publications) s')) (sym same') (whole leads_of)) in
+        record {
+          publications = g.publications;
+          requests = refl;
+          whole = there.0;
+          goes = inr (inr there.1);
         }
 
 module _ (m : Meaning) (laws : Laws m) (l : Layout) (limits : IsWithinLimits l) (rs : List Request) (few : length rs ≤ 131072)

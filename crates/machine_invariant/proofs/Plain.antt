@@ -17,7 +17,7 @@ use Rattle.runner_parts.specs.declared.event.EventKind.TheVariants as kinds
 use Rattle.runner_parts.specs.State.{RunState, PartState}
 use Rattle.runner_steps.specs.Sections.{is_open_run, next_of}
 use Rattle.runner_steps.specs.Outside.{private_store_ask}
-use Rattle.runner_steps.specs.Asks.{outside_ask, line_ask, opening_ask, asks}
+use Rattle.runner_steps.specs.Asks.{outside_ask, inside_ask, line_ask, opening_ask, asks}
 use Rattle.agreement_core.specs.Events as agreement
 use Rattle.agreement_core.specs.Schedules as agreement_schedules
 use Rattle.machine_states.specs.World.{is_join}
@@ -42,7 +42,7 @@ use Rattle.machine_invariant.proofs.Sights.{inside_quiet, outside_quiet, join_qu
 use Rattle.machine_invariant.proofs.Chunked.{is_unlocked, all_unlocked, AreCalm, AreSteady, is_plain_line, inside_calm, inside_steady}
 use Rattle.machine_invariant.proofs.Chunked.{is_plain_outside, outside_calm, outside_steady, join_calm, join_steady}
 use Rattle.machine_invariant.proofs.Outside.{outside_asked, outside_heads, outside_events}
-use Rattle.machine_invariant.proofs.Jointly.{is_hold, no_hold}
+use Rattle.machine_invariant.proofs.Jointly.{is_hold, is_reading, no_hold}
 use Rattle.machine_invariant.proofs.Pieces.{Pieces, KeepsWhole, keeps_quietly}
 
 plain_making : (kind : EventKind) → is_plain_line kind ≡ true → is_making kind ≡ false
@@ -57,6 +57,11 @@ plain_hold _ plain = refl
 outside_hold : (kind : EventKind) → is_plain_outside kind ≡ true → is_hold kind ≡ false
 outside_hold (kinds.Hold thunk d) plain = absurd (cc)
 outside_hold _ plain = refl
+
+outside_apart : (kind : EventKind) → is_plain_outside kind ≡ true → is_reading kind ≡ false
+outside_apart kinds.ReadReply plain = absurd (cc)
+outside_apart kinds.ReadStamp plain = absurd (cc)
+outside_apart _ plain = refl
 
 plain_join : (kind : EventKind) → is_plain_outside kind ≡ true → is_join kind ≡ false
 plain_join (kinds.Join worker) plain = absurd (cc)
@@ -89,10 +94,10 @@ module _ (m : Meaning) (laws : Laws m) (l : Layout) (limits : IsWithinLimits l) 
       (all_unlocked es calm.unlocked)
 
   calm_whole : AreCalm pieces.heads → AreSteady pieces.events → IsQuiet m l s s'
-      → ((d : ℕ) → g.agreement.used d ≡ true → thunk_in s'.word d ≡ thunk_in s.word d) → is_hold kind ≡ false
+      → ((d : ℕ) → g.agreement.used d ≡ true → thunk_in s'.word d ≡ thunk_in s.word d) → is_hold kind ≡ false → is_reading kind ≡ false
       → KeepsWhole m l g s s' r kind x pieces
-  calm_whole calm steady quiet thunks other =
-      keeps_quietly m l g s s' r kind x pieces (no_hold m l kind (s.word x.0) other)
+  calm_whole calm steady quiet thunks other apart =
+      keeps_quietly m l g s s' r kind x pieces (no_hold m l kind (s.word x.0) other) apart
       (quiet_whole m laws l limits g s s' whole quiet thunks es (calm_heads calm).still pieces.enabled pieces.joined
       (named_calm (calm_heads calm))
       pieces.events steady.alone steady.leaves pieces.enabled_slots pieces.joined_slots)
@@ -101,6 +106,20 @@ module _ (m : Meaning) (laws : Laws m) (l : Layout) (limits : IsWithinLimits l) 
     (whole : IsWhole m l g s) (r : ℕ) (x : Spot × Access) where
   abbrev p : PartState
   p = s.part r
+
+  -- in a run nobody writes a word of a read
+  inside_apart : (kind : EventKind) (q : RunState) → inside_ask m l kind p.nodes.free q ≡ Some x → is_reading kind ≡ false
+  inside_apart kinds.ReadReply q e = by (is_open_run q) e
+    where
+      by : (b : Bool) → (if b then line_ask m l kinds.ReadReply p.nodes.free q (next_of m q) else opening_ask kinds.ReadReply q) ≡ Some x → true ≡ false
+      by true e = some_none x e
+      by false e = some_none x e
+  inside_apart kinds.ReadStamp q e = by (is_open_run q) e
+    where
+      by : (b : Bool) → (if b then line_ask m l kinds.ReadStamp p.nodes.free q (next_of m q) else opening_ask kinds.ReadStamp q) ≡ Some x → true ≡ false
+      by true e = some_none x e
+      by false e = some_none x e
+  inside_apart _ q e = refl
 
   -- a step of a run that takes and commits no slot and no Retire, and loads no lock's word
   pub plain_whole : (kind : EventKind) → asks m l rs r kind p ≡ Some x → (q : RunState) → p.run ≡ Some q → is_join kind ≡ false
@@ -113,7 +132,7 @@ module _ (m : Meaning) (laws : Laws m) (l : Layout) (limits : IsWithinLimits l) 
       (subst (λ o. slots.IsChunk m l r kind p o (s.word x.0) pieces.events) is pieces.in_slots))
       (inside_quiet m l s r kind x q is j (plain_making kind plain))
       (λ d used. thunks_after m l s r kind x (inside_leaves m l q x kind p.nodes.free (inside_asked m l rs r kind p q x asked is)) d)
-      (plain_hold kind plain)
+      (plain_hold kind plain) (inside_apart kind q (inside_asked m l rs r kind p q x asked is))
 
   unused_apart : (d d0 : ℕ) → g.agreement.used d ≡ true → g.agreement.used d0 ≡ false → d ≢ d0
   unused_apart d d0 used unused same = let clash = sym used ∙ (ap g.agreement.used same ∙ unused) in cc
@@ -147,7 +166,7 @@ module _ (m : Meaning) (laws : Laws m) (l : Layout) (limits : IsWithinLimits l) 
       (outside_events m l rs g s (sight_after m l s r kind x) r kind x none pieces))
       (outside_quiet m l s r kind x none (plain_join kind plain) (plain_other kind plain))
       (outside_thunks kind (outside_asked m l rs g s (sight_after m l s r kind x) r kind x none asked) pieces.heads chunk)
-      (outside_hold kind plain)
+      (outside_hold kind plain) (outside_apart kind plain)
 
   -- a join, by which the worker makes no further step and the keeper learns what it knew
   pub join_whole : (worker : ℕ) → asks m l rs r (kinds.Join worker) p ≡ Some x
@@ -163,7 +182,7 @@ module _ (m : Meaning) (laws : Laws m) (l : Layout) (limits : IsWithinLimits l) 
           (λ d used. thunks_after m l s r (kinds.Join worker) x
           (outside_leaves m l rs r p x (kinds.Join worker) refl
           (outside_asked m l rs g s (sight_after m l s r (kinds.Join worker) x) r (kinds.Join worker) x none asked)) d)
-          refl
+          refl refl
       by (Some q) is = no_join (is_open_run q) (asked_by m l r (kinds.Join worker) p rs x (Some q) is asked)
         where
           no_join : (b : Bool)

@@ -371,6 +371,6 @@ module _ (m : Meaning) (laws : Laws m) (l : Layout) (limits : IsWithinLimits l) 
         (λ in_heads. ⊎_elim
         (λ in_events. absurd (in_heads.0 in_events.0))
         (λ in_events. keeps_by m l g s hold_sight r kind x pieces (agreement.Read t.lock ∷ []) reach in_heads.1 in_events.1 g.publications refl
-        (still_other in_heads.0) (lost in_heads.0))
+        (still_other in_heads.0) refl (lost in_heads.0))
         (outside_events m l rs g s hold_sight r kind x none pieces))
         (outside_heads m l rs g s hold_sight r kind x none pieces)

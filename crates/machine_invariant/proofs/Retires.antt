@@ -87,7 +87,7 @@ module _ (m : Meaning) (laws : Laws m) (l : Layout) (limits : IsWithinLimits l) 
         let stay = stays_read m l s r kinds.RetireCommit x refl q is opened in
         let thunks = thunks_stay m l s r kinds.RetireCommit x refl q is opened rs asked in
         keeps_by m l g s retired r kinds.RetireCommit x pieces (v ∷ []) (epochs.RetireCommit r ∷ []) heads.3 events.3 g.publications refl
-        (no_hold m l kinds.RetireCommit (s.word x.0) refl)
+        (no_hold m l kinds.RetireCommit (s.word x.0) refl) refl
         (λ go. line_whole m laws l limits g s retired whole stay thunks r v (epochs.RetireCommit r ∷ []) go
         refl (record { used = refl; live = refl }) (refl, tt) refl refl
         (retire_stands heads.0 heads.1 heads.2 go))
@@ -157,7 +157,7 @@ module _ (m : Meaning) (laws : Laws m) (l : Layout) (limits : IsWithinLimits l) 
         let stay = stays_read m l s r kinds.EpochForRetire x refl q is opened in
         let thunks = thunks_stay m l s r kinds.EpochForRetire x refl q is opened rs asked in
         keeps_by m l g s known r kinds.EpochForRetire x pieces (loads slot log ∷ []) (retires slot log ∷ []) heads.3 retired g.publications refl
-        (no_hold m l kinds.EpochForRetire (s.word x.0) refl)
+        (no_hold m l kinds.EpochForRetire (s.word x.0) refl) refl
         (λ go. line_whole m laws l limits g s known whole stay thunks r (loads slot log) (retires slot log ∷ []) go
         refl (record { used = refl; live = refl }) (refl, tt) refl refl
         (epoch_stands slot log heads.2 go))

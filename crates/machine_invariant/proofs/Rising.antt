@@ -147,6 +147,8 @@ module _ (m : Meaning) (l : Layout) (w : AgreementState) (r : ℕ) where
       → sections.IsOutsideChunk m l w r kind p found heads → ChangeOnce heads
   outside_once (kinds.Hold thunk d) p found heads chunk = ⊎_elim (λ h. read_once heads h.1) (λ h. one_once heads h.1) chunk
   outside_once kinds.EpochForRetire p found heads chunk = one_once heads chunk.2
+  outside_once kinds.ReadReply p found heads chunk = one_once heads chunk.2
+  outside_once kinds.ReadStamp p found heads chunk = one_once heads chunk.2
   outside_once (kinds.ScanOne n) p found heads chunk =
       subst ChangeOnce (sym chunk) (collected_once (collects l (kinds.ScanOne n) p.stage found) p)
   outside_once kinds.Advance p found heads chunk = subst ChangeOnce (sym chunk) (collected_once (collects l kinds.Advance p.stage found) p)
@@ -187,7 +189,7 @@ module _ (m : Meaning) (l : Layout) (requests : List Request) where
       (once_rises (rules_of m l) k.agreement es (subst ChangeOnce (sym of_step.all_heads) all) of_step.enabled sound)
 
   -- a step that keeps the whole invariant raises each version by one at most
-  step_rises : (g : Beside) (s s' : Sight) (r : ℕ) (kind : EventKind) → IsWhole m l g s → StepsWhole m l requests g s s' r kind
+  pub step_rises : (g : Beside) (s s' : Sight) (r : ℕ) (kind : EventKind) → IsWhole m l g s → StepsWhole m l requests g s s' r kind
       → CellsRise s.word s'.word
   step_rises g s s' r kind whole step =
       chunk_rises (with_histories g agreement_history.no_history epoch_history.no_history) s s' r kind step.es step.vs whole.sections.sound

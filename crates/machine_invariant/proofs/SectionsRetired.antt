@@ -169,4 +169,4 @@ module _ (m : Meaning) (laws : Laws m) (l : Layout) (limits : IsWithinLimits l) 
         keeps_by m l g s retired_sight r kinds.EpochForRetire x pieces (agreement.RetireDescriptor heads.0.descriptor ∷ [])
         (epochs.RetireDescriptor r heads.0.descriptor ∷ []) heads.2
         (events.2 ∙ ap (λ (z : Published). epochs.RetireDescriptor r z.descriptor ∷ []) same)
-        g.publications refl (no_hold m l kinds.EpochForRetire (s.word x.0) refl) (retire heads.0 heads.1)
+        g.publications refl (no_hold m l kinds.EpochForRetire (s.word x.0) refl) refl (retire heads.0 heads.1)

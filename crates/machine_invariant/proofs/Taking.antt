@@ -59,7 +59,7 @@ use Rattle.machine_invariant.proofs.Sights.{inside_quiet, thunks_after}
 use Rattle.machine_invariant.proofs.Chunked.{is_unlocked, all_unlocked}
 use Rattle.machine_invariant.proofs.Reaching.{now_held, whole_reached}
 use Rattle.machine_invariant.proofs.SuppliesSlots.{named_may}
-use Rattle.machine_invariant.proofs.Jointly.{is_hold, no_hold}
+use Rattle.machine_invariant.proofs.Jointly.{is_hold, is_reading, no_hold}
 use Rattle.machine_invariant.proofs.Pieces.{Pieces, KeepsWhole, keeps_quietly}
 
 inner : (micro : Micro) → is_lock_load micro ≡ true → is_of_end micro ≡ false
@@ -85,6 +85,11 @@ taking_join _ e = refl
 pub taking_hold : (kind : EventKind) → is_taking kind ≡ true → is_hold kind ≡ false
 taking_hold (kinds.Hold thunk d) e = absurd (cc)
 taking_hold _ e = refl
+
+pub taking_reading : (kind : EventKind) → is_taking kind ≡ true → is_reading kind ≡ false
+taking_reading kinds.ReadReply e = absurd (cc)
+taking_reading kinds.ReadStamp e = absurd (cc)
+taking_reading _ e = refl
 
 taking_making : (kind : EventKind) → is_taking kind ≡ true → is_making kind ≡ false
 taking_making (kinds.PrivateLoad slot word) e = absurd (cc)
@@ -254,6 +259,7 @@ module _ (m : Meaning) (laws : Laws m) (l : Layout) (limits : IsWithinLimits l) 
           let passes = replicate pieces.passes (agreement.Pass r) in
           let enabled = subst (λ hs. agreement_schedules.AllEnabled (rules_of m l) a (hs ++ passes)) heads pieces.enabled in
           keeps_quietly m l g s (sight_after m l s r kind x) r kind x pieces (no_hold m l kind (s.word x.0) (taking_hold kind taking))
+          (taking_reading kind taking)
           (quiet_whole m laws l limits g s (sight_after m l s r kind x) whole
           (inside_quiet m l s r kind x q is (taking_join kind taking) (taking_making kind taking))
           (λ d used. thunks_after m l s r kind x (inside_leaves m l q x kind p.nodes.free

@@ -22,6 +22,7 @@ use Rattle.machine_states.proofs.Sights.{if_some, some_none}
 use Rattle.machine_states.proofs.Updates.{put_same}
 use Rattle.machine_epochs.proofs.InsideAsked as inside
 use Rattle.machine_epochs.proofs.OutsideAsked as outside
+use Rattle.machine_epochs.proofs.ReadsAsked as reads
 
 -- the step leaves every thunk word
 pub record LeavesThunks (x : Spot × Access) : Type 0 where
@@ -93,7 +94,7 @@ module _ (m : Meaning) (l : Layout) where
     pub outside_leaves : (kind : EventKind) → is_private_store kind ≡ false → outside_ask m l rs r kind p ≡ Some x → LeavesThunks x
     outside_leaves kinds.EnterLoad is e = subst LeavesThunks (outside.enter_load_asked p.stage x e).1 (load_leaves _)
     outside_leaves kinds.Announce is e = subst LeavesThunks (outside.announce_asked r p.stage x e).2 (announce_leaves _ _)
-    outside_leaves kinds.EnterAgain is e = subst LeavesThunks (outside.enter_again_asked p.stage x e).1 (load_leaves _)
+    outside_leaves kinds.EnterAgain is e = subst LeavesThunks (outside.enter_again_asked p x e).1 (load_leaves _)
     outside_leaves kinds.Idle is e = subst LeavesThunks (outside.idle_asked r p x e).3 (announce_leaves _ _)
     outside_leaves kinds.ScanEpoch is e = subst LeavesThunks (outside.enter_load_asked p.stage x e).1 (load_leaves _)
     outside_leaves (kinds.ScanOne n) is e = subst LeavesThunks (outside.scan_one_asked l n p.stage x e).4 (load_leaves _)
@@ -108,6 +109,10 @@ module _ (m : Meaning) (l : Layout) where
     outside_leaves (kinds.Hold thunk d) is e = subst LeavesThunks (outside.hold_asked m l rs r thunk d p x e).is (cell_leaves _ _)
     outside_leaves (kinds.LoadThunk (Some d)) is e = subst LeavesThunks (outside.open_asked d p x e).3 (load_leaves _)
     outside_leaves kinds.EpochForRetire is e = subst LeavesThunks (outside.retire_asked p x e).4 (load_leaves _)
+    outside_leaves (kinds.ReadPlan thunk) is e = subst LeavesThunks (reads.read_plan_asked r thunk p x e).is (announce_leaves _ _)
+    outside_leaves kinds.ReadClock is e = subst LeavesThunks (reads.read_clock_asked p x e).is (load_leaves _)
+    outside_leaves kinds.ReadReply is e = subst LeavesThunks (reads.read_reply_asked m l rs r p x e).is (record { same = λ word d j. refl })
+    outside_leaves kinds.ReadStamp is e = subst LeavesThunks (reads.read_stamp_asked p x e).is (record { same = λ word d j. refl })
     outside_leaves _ is e = some_none x e
 
 -- a store into a word of another descriptor

@@ -122,4 +122,4 @@ module _ (m : Meaning) (laws : Laws m) (l : Layout) (limits : IsWithinLimits l) 
     pub load_cell_whole : (pieces : Pieces m l g s read_sight r kind x) → KeepsWhole m l g s read_sight r kind x pieces
     load_cell_whole pieces = keeps_by m l g s read_sight r kind x pieces (agreement.Read place ∷ []) reach
         (outside_heads m l rs g s read_sight r kind x none pieces) (outside_events m l rs g s read_sight r kind x none pieces)
-        g.publications refl (no_hold m l kind (s.word x.0) refl) load_cell
+        g.publications refl (no_hold m l kind (s.word x.0) refl) refl load_cell

@@ -1,12 +1,14 @@
 -- Functions changed at one number, and words changed at one spot.
 use Rattle.std.specs.Prelude.{◌==◌, cond, Bool, true, false}
-use Rattle.std.proofs.Common.{◌≡◌, ◌≢◌, ℕ, sym, refl, ◌∙◌, subst, arith, ⊎_elim}
+use Rattle.std.proofs.Common.{◌≡◌, ◌≢◌, ℕ, sym, refl, ap, ◌∙◌, subst, arith, ⊎_elim}
 use Rattle.std.proofs.lemmas.Bool.Decides.{nat_tests}
 use Rattle.std.proofs.lemmas.Bool.{cases_eq}
 use mathlib.Core.Path.{fun_ext}
 use Rattle.table_words.specs.declared.spot.Spot.{Spot}
 use Rattle.table_words.specs.declared.spot.Spot.TheVariants.{Seat, Epoch, Clock, Announcement, Stamp, Reply, Cell, ThunkWord, DoneWord, LogWord}
 use Rattle.table_words.specs.Seen.{upd, put}
+use Rattle.table_words.specs.Access.{written}
+use Rattle.table_words.specs.declared.access.Access.TheVariants.{Exchanges}
 
 module _ {A : Type 0} (f : ℕ → A) (k : ℕ) (v : A) where
   pub upd_here : upd f k v k ≡ v
@@ -70,3 +72,10 @@ put_same_at f (LogWord i j) b = refl
 -- a load changes no word
 pub put_same : (f : Spot → ℕ) (a : Spot) → put f a (f a) ≡ f
 put_same f a = fun_ext (put_same_at f a)
+
+stays_so : (n : ℕ) → written (Exchanges 0 0) n ≡ n
+stays_so n = grind (arith, nat_tests)
+
+-- an exchange from 0 to 0 leaves its word as it is
+pub put_kept : (f : Spot → ℕ) (a : Spot) → put f a (written (Exchanges 0 0) (f a)) ≡ f
+put_kept f a = ap (put f a) (stays_so (f a)) ∙ put_same f a

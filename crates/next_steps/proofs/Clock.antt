@@ -16,6 +16,7 @@ use Rattle.structure_laws.specs.Meaning.{Meaning}
 use Rattle.runner_parts.specs.declared.event.EventKind.{EventKind}
 use Rattle.runner_parts.specs.declared.event.EventKind.TheVariants as kinds
 use Rattle.runner_steps.specs.InRun.{stamp_after}
+use Rattle.runner_steps.specs.Reads.{read_stamp_after}
 use Rattle.structure_laws.specs.Laws.{Laws}
 use Rattle.table_words.specs.Limits.{IsWithinLimits}
 use Rattle.table_words.specs.Places.{Fits}
@@ -36,7 +37,10 @@ use Rattle.machine_invariant.proofs.First.{first_whole}
 use Rattle.next_steps.specs.Rooms.{stamped, ClockIsSmall}
 use Rattle.next_steps.proofs.Touched.{raises_clock, stamps, asked_may, clock_same, stamp_same}
 use Rattle.machine_invariant.proofs.Keeping.{IsStep, reached_keeps}
-use Rattle.next_steps.proofs.Runs.{in_line, section, run, here, run_sound, code}
+use Rattle.machine_epochs.proofs.ReadsAsked.{read_stamp_asked, stamp_some}
+use Rattle.next_steps.specs.Looks.{LooksAreSmall, LooksHaveStamps}
+use Rattle.next_steps.proofs.Looks.{looks_small, first_looks}
+use Rattle.next_steps.proofs.Runs.{in_line, out_of_run, section, run, here, run_sound, code}
 use Rattle.std.proofs.lemmas.Grind.{common_steps}
 
 -- stamps that stand are counted alike
@@ -61,8 +65,11 @@ stamped_more f g (suc n) q low was is same = ⊎_elim
         let rest = stamped_below f g n q (omega arith) same in
         let here = same n (λ e. let z = e in omega arith) in grind (arith, nat_tests)
 
-half : (c : ℕ) → stamp_after c / 2 ≡ c + 1
+half : (c : ℕ) → stamp_after c / 2 ≤ c + 1
 half c = grind (arith, common_steps)
+
+read_half : (c : ℕ) → read_stamp_after c / 2 ≤ c + 1
+read_half c = grind (arith, common_steps)
 
 -- a stamp word after an exchange from 0
 at_found : (found new : ℕ) → found ≡ 0 → exchanged found 0 new ≡ new
@@ -72,9 +79,9 @@ at_stamp : (found new : ℕ) → found ≢ 0 → exchanged found 0 new ≡ found
 at_stamp found new ne = grind (arith, nat_tests)
 
 module _ (f : Spot → ℕ) (n req c : ℕ) (low : req < n) (clock : f Clock ≤ stamped f n) (stamps : (q : ℕ) → f (Stamp q) / 2 ≤ stamped f n)
-    (read : c ≤ f Clock) where
+    (read : c ≤ f Clock) (new : ℕ) (some : new ≢ 0) (low_half : new / 2 ≤ c + 1) where
   abbrev v : ℕ
-  v = exchanged (f (Stamp req)) 0 (stamp_after c)
+  v = exchanged (f (Stamp req)) 0 new
 
   abbrev word' : Spot → ℕ
   word' = put f (Stamp req) v
@@ -87,11 +94,11 @@ module _ (f : Spot → ℕ) (n req c : ℕ) (low : req < n) (clock : f Clock ≤
 
   new_stamp : f (Stamp req) ≡ 0 → (word' Clock ≤ stamped word' n) × ((q : ℕ) → word' (Stamp q) / 2 ≤ stamped word' n)
   new_stamp e =
-      let is : v ≡ stamp_after c = at_found (f (Stamp req)) (stamp_after c) e in
-      let count = stamped_more f word' n req low e (λ z. let y : stamp_after c ≡ 0 = sym is ∙ (sym (mine req refl) ∙ z) in omega arith) other in (
+      let is : v ≡ new = at_found (f (Stamp req)) new e in
+      let count = stamped_more f word' n req low e (λ z. some (sym is ∙ (sym (mine req refl) ∙ z))) other in (
         (let a = clock in omega arith),
         (λ q. ⊎_elim
-            (λ same. subst (λ a. a / 2 ≤ stamped word' n) (sym (mine q same ∙ is)) (let h = half c in omega arith))
+            (λ same. subst (λ a. a / 2 ≤ stamped word' n) (sym (mine q same ∙ is)) (omega arith))
             (λ ne. subst (λ a. a / 2 ≤ stamped word' n) (sym (other q ne)) (let h = stamps q in omega arith))
             (cases_eq q req)),
       )
@@ -99,7 +106,7 @@ module _ (f : Spot → ℕ) (n req c : ℕ) (low : req < n) (clock : f Clock ≤
   old_stamp : f (Stamp req) ≢ 0 → (word' Clock ≤ stamped word' n) × ((q : ℕ) → word' (Stamp q) / 2 ≤ stamped word' n)
   old_stamp ne =
       let same : (q : ℕ) → word' (Stamp q) ≡ f (Stamp q) = λ q. ⊎_elim
-      (λ e. mine q e ∙ (at_stamp (f (Stamp req)) (stamp_after c) ne ∙ ap (λ i. f (Stamp i)) (sym e))) (other q) (cases_eq q req) in
+      (λ e. mine q e ∙ (at_stamp (f (Stamp req)) new ne ∙ ap (λ i. f (Stamp i)) (sym e))) (other q) (cases_eq q req) in
       let count = stamped_same f word' n same in (
         subst (λ b. f Clock ≤ b) (sym count) clock,
         (λ q. subst (λ a. a / 2 ≤ stamped word' n) (sym (same q)) (subst (λ b. f (Stamp q) / 2 ≤ b) (sym count) (stamps q))),
@@ -176,15 +183,31 @@ module _ (m : Meaning) (l : Layout) (rs : List Request) (s s' : Sight) (r : ℕ)
       let req = (thunk_of at.run.opened).request in
       let low : req < n = subst (λ (y : Spot × Access). Fits (sizes_for m l rs) y.0) (sym asked.2) st.step.has_word in
       let read = clock_word m l st.beside s st.whole r at.run at.runs at.opened asked.0 in
-      let next = exchange_small s.word n req at.run.word low old.clock old.stamps read in
+      let next = exchange_small s.word n req at.run.word low old.clock old.stamps read (stamp_after at.run.word) (λ e. absurd (omega (arith, e)))
+      (half at.run.word) in
       subst (ClockIsSmall rs) (sym st.step.next)
       (subst (λ (y : Spot × Access). ClockIsSmall rs (sight_after m l s r kinds.StampExchange y)) asked.2
       (record { clock = next.0; stamps = next.1 }))
 
-  pub clock_small : (kind : EventKind) → IsStep m l rs s s' r kind → ClockIsSmall rs s → ClockIsSmall rs s'
-  clock_small kinds.ClockRaise st old = raises st old
-  clock_small kinds.StampExchange st old = stamping st old
-  clock_small kind st old = quiet kind st refl refl old
+  -- the same by a read without a lock
+  read_stamping : (st : IsStep m l rs s s' r kinds.ReadStamp) → LooksAreSmall s → ClockIsSmall rs s → ClockIsSmall rs s'
+  read_stamping st looks old =
+      let x = st.step.ask in
+      let out = out_of_run m l rs r kinds.ReadStamp (s.part r) x (λ q. refl) (λ q. refl) st.step.asked in
+      let asked = read_stamp_asked (s.part r) x out.asked in
+      let req = asked.look.thunk.request in
+      let low : req < n = subst (λ (y : Spot × Access). Fits (sizes_for m l rs) y.0) (sym asked.is) st.step.has_word in
+      let next = exchange_small s.word n req asked.look.clock low old.clock old.stamps (looks r asked.look asked.at)
+      (read_stamp_after asked.look.clock) (stamp_some asked.look.clock) (read_half asked.look.clock) in
+      subst (ClockIsSmall rs) (sym st.step.next)
+      (subst (λ (y : Spot × Access). ClockIsSmall rs (sight_after m l s r kinds.ReadStamp y)) asked.is
+      (record { clock = next.0; stamps = next.1 }))
+
+  pub clock_small : (kind : EventKind) → IsStep m l rs s s' r kind → LooksAreSmall s → ClockIsSmall rs s → ClockIsSmall rs s'
+  clock_small kinds.ClockRaise st looks old = raises st old
+  clock_small kinds.StampExchange st looks old = stamping st old
+  clock_small kinds.ReadStamp st looks old = read_stamping st looks old
+  clock_small kind st looks old = quiet kind st refl refl old
 
 -- at first no request has a stamp
 pub first_small : (m : Meaning) (laws : Laws m) (l : Layout) (limits : IsWithinLimits l) (rs : List Request) (w : World)
@@ -196,12 +219,22 @@ first_small m laws l limits rs w start =
       stamps = λ q. subst (λ a. a / 2 ≤ stamped (sight m l rs w).word (length rs)) (words.stamp q) (omega arith);
     }
 
+both_small : (m : Meaning) → Laws m → (l : Layout) → IsWithinLimits l → (rs : List Request) → AreAllowed rs → (w : World)
+    → Reached m l rs w → ClockIsSmall rs (sight m l rs w) × LooksAreSmall (sight m l rs w)
+both_small m laws l limits rs allowed w reached =
+    reached_keeps m laws l limits rs allowed (λ s. ClockIsSmall rs s × LooksAreSmall s)
+    (λ v start. (first_small m laws l limits rs v start, first_looks m l rs v start))
+    (λ s s' r kind st old. (clock_small m l rs s s' r kind st old.1 old.0, looks_small m l rs s s' r kind st old.1)) w reached
+
 -- so in every reached state
 pub reached_small : (m : Meaning) → Laws m → (l : Layout) → IsWithinLimits l → (rs : List Request) → AreAllowed rs → (w : World)
     → Reached m l rs w → ClockIsSmall rs (sight m l rs w)
-reached_small m laws l limits rs allowed w reached =
-    reached_keeps m laws l limits rs allowed (ClockIsSmall rs) (first_small m laws l limits rs)
-    (λ s s' r kind st old. clock_small m l rs s s' r kind st old) w reached
+reached_small m laws l limits rs allowed w reached = (both_small m laws l limits rs allowed w reached).0
+
+-- and what was loaded of the clock for reads without a lock is no more than the clock
+pub reached_looks : (m : Meaning) → Laws m → (l : Layout) → IsWithinLimits l → (rs : List Request) → AreAllowed rs → (w : World)
+    → Reached m l rs w → LooksAreSmall (sight m l rs w)
+reached_looks m laws l limits rs allowed w reached = (both_small m laws l limits rs allowed w reached).1
 
 -- and what a run has loaded of the clock, or agreed on for a stamp, has room
 pub stamped_few : (f : Spot → ℕ) (n : ℕ) → stamped f n ≤ n
@@ -211,3 +244,13 @@ stamped_few f (suc n) = let rest = stamped_few f n in let one = one_or_none (f (
     one_or_none : (b : Bool) → cond b 0 1 ≤ 1
     one_or_none true = omega arith
     one_or_none false = omega arith
+
+-- which the number of requests bounds
+pub reached_stamps : (m : Meaning) → Laws m → (l : Layout) → IsWithinLimits l → (rs : List Request) → AreAllowed rs → (w : World)
+    → Reached m l rs w → LooksHaveStamps (sight m l rs w)
+reached_stamps m laws l limits rs allowed w reached r x at =
+    let both = both_small m laws l limits rs allowed w reached in
+    let low = both.1 r x at in
+    let clock = both.0.clock in
+    let most = stamped_few (sight m l rs w).word (length rs) in
+    let few = allowed.in_order.few in omega arith

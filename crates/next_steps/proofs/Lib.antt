@@ -1,4 +1,5 @@
 mod Touched
+mod Looks
 pub mod Parts
 pub mod Runs
 mod Clock

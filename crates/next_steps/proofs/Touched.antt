@@ -26,6 +26,7 @@ use Rattle.machine_states.proofs.Steps.{some_same}
 use Rattle.machine_states.proofs.Updates.{put_same}
 use Rattle.machine_epochs.proofs.InsideAsked as inside
 use Rattle.machine_epochs.proofs.OutsideAsked as outside
+use Rattle.machine_epochs.proofs.ReadsAsked as reads
 use Rattle.machine_invariant.proofs.Basics.{not_both}
 
 -- what a step on a word may change
@@ -48,13 +49,14 @@ touched a (Stores number) = changed a
 touched a (Exchanges old new) = changed a
 touched a (Raises number) = changed a
 
--- the one kind that changes the clock, the one that changes stamps, and those that change cells
+-- the one kind that changes the clock, those that change stamps, and those that change cells
 abbrev pub raises_clock : EventKind → Bool
 raises_clock kinds.ClockRaise = true
 raises_clock _ = false
 
 abbrev pub stamps : EventKind → Bool
 stamps kinds.StampExchange = true
+stamps kinds.ReadStamp = true
 stamps _ = false
 
 abbrev pub changes_cells : EventKind → Bool
@@ -151,7 +153,7 @@ module _ (m : Meaning) (l : Layout) where
     outside_may : (kind : EventKind) → outside_ask m l rs r kind p ≡ Some x → May kind x
     outside_may kinds.EnterLoad e = subst (May kinds.EnterLoad) (outside.enter_load_asked p.stage x e).1 refl
     outside_may kinds.Announce e = subst (May kinds.Announce) (outside.announce_asked r p.stage x e).2 refl
-    outside_may kinds.EnterAgain e = subst (May kinds.EnterAgain) (outside.enter_again_asked p.stage x e).1 refl
+    outside_may kinds.EnterAgain e = subst (May kinds.EnterAgain) (outside.enter_again_asked p x e).1 refl
     outside_may kinds.Idle e = subst (May kinds.Idle) (outside.idle_asked r p x e).3 refl
     outside_may kinds.ScanEpoch e = subst (May kinds.ScanEpoch) (outside.enter_load_asked p.stage x e).1 refl
     outside_may (kinds.ScanOne n) e = subst (May (kinds.ScanOne n)) (outside.scan_one_asked l n p.stage x e).4 refl
@@ -169,6 +171,10 @@ module _ (m : Meaning) (l : Layout) where
         (at_spot (kinds.Hold thunk d) (spots.Cell thunk.lock) (Exchanges thunk.word (held_word d thunk.word)) refl)
     outside_may (kinds.LoadThunk (Some d)) e = subst (May (kinds.LoadThunk (Some d))) (outside.open_asked d p x e).3 refl
     outside_may kinds.EpochForRetire e = subst (May kinds.EpochForRetire) (outside.retire_asked p x e).4 refl
+    outside_may (kinds.ReadPlan thunk) e = subst (May (kinds.ReadPlan thunk)) (reads.read_plan_asked r thunk p x e).is refl
+    outside_may kinds.ReadClock e = subst (May kinds.ReadClock) (reads.read_clock_asked p x e).is refl
+    outside_may kinds.ReadReply e = subst (May kinds.ReadReply) (reads.read_reply_asked m l rs r p x e).is refl
+    outside_may kinds.ReadStamp e = subst (May kinds.ReadStamp) (reads.read_stamp_asked p x e).is refl
     outside_may _ e = some_none x e
 
     by_run : (kind : EventKind) (o : Option RunState) → ask_by m l rs r kind p o ≡ Some x → May kind x

@@ -1,6 +1,7 @@
 pub mod Steps
 pub mod Rooms
 pub mod Numbers
+pub mod Looks
 pub mod Enabled
 pub mod Stages
 -- Passed on to the layers above, so that they needn't name these libraries themselves.

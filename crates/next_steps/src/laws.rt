@@ -9,6 +9,7 @@ ghost use Rattle.machine_states.specs.Sight.{sight};
 ghost use Rattle.machine_invariant.specs.After.{AreAllowed};
 ghost use Rattle.next_steps.specs.Rooms.{ClockIsSmall, RoomsStand, ThunksFit};
 ghost use Rattle.next_steps.specs.Numbers.{NumbersFit};
+ghost use Rattle.next_steps.specs.Looks.{LooksAreSmall, LooksHaveStamps};
 ghost use Rattle.next_steps.specs.Enabled.{NextIsEnabled, RunsGoOn};
 ghost use Rattle.next_steps.specs.Stages.{RunsAreInTable, MayOpen, ThenOpened, MayStep, CommitsBehind, ThenStepped};
 
@@ -37,6 +38,19 @@ pub fn clocks_are_small<S: Structure>(structure: &S)
     ensures { (layout : Layout) (requests : List Request) (w : World) → IsWithinLimits layout → AreAllowed requests
         → Reached (S.meaning structure.now) layout requests w
         → ClockIsSmall requests (sight (S.meaning structure.now) layout requests w) }
+{
+    let _ = structure;
+}
+
+/// In every state that the machine reaches, the clock that a runner has loaded for a read without a lock is no more
+/// than the clock, and a stamp can be made from it.
+pub fn looks_are_small<S: Structure>(structure: &S)
+    ensures small { (layout : Layout) (requests : List Request) (w : World) → IsWithinLimits layout
+        → AreAllowed requests → Reached (S.meaning structure.now) layout requests w
+        → LooksAreSmall (sight (S.meaning structure.now) layout requests w) }
+    ensures stamps { (layout : Layout) (requests : List Request) (w : World) → IsWithinLimits layout
+        → AreAllowed requests → Reached (S.meaning structure.now) layout requests w
+        → LooksHaveStamps (sight (S.meaning structure.now) layout requests w) }
 {
     let _ = structure;
 }

@@ -9,6 +9,6 @@
 mod laws;
 
 pub use laws::{
-    clocks_are_small, next_steps_are_enabled, numbers_are_the_tables, published_thunks_fit,
-    runs_may_be_followed, slots_have_room,
+    clocks_are_small, looks_are_small, next_steps_are_enabled, numbers_are_the_tables,
+    published_thunks_fit, runs_may_be_followed, slots_have_room,
 };

@@ -110,7 +110,7 @@ module _ (m : Meaning) (l : Layout) (rs : List Request) (r : ℕ) (p : PartState
   entry_on_epoch : (kind : EventKind) (o : Option RunState) → is_entry kind ≡ true → ask_by m l rs r kind p o ≡ Some x → p.stage ≡ Idle → x.0 ≡ Epoch
   entry_on_epoch kinds.EnterLoad None is e idle = ap (λ (y : Spot × Access). y.0) (sym (asked.enter_load_asked p.stage x e).1)
   entry_on_epoch kinds.Announce None is e idle = absurd (let z = sym idle ∙ (asked.announce_asked r p.stage x e).1 in cc)
-  entry_on_epoch kinds.EnterAgain None is e idle = absurd (let z = sym idle ∙ (asked.enter_again_asked p.stage x e).0 in cc)
+  entry_on_epoch kinds.EnterAgain None is e idle = absurd (let z = sym idle ∙ (asked.enter_again_asked p x e).0 in cc)
   entry_on_epoch kinds.Idle None is e idle = absurd (let z = sym idle ∙ (asked.idle_asked r p x e).1 in cc)
   entry_on_epoch kinds.ScanEpoch None is e idle = ap (λ (y : Spot × Access). y.0) (sym (asked.enter_load_asked p.stage x e).1)
   entry_on_epoch (kinds.ScanOne n) None is e idle = absurd (let z = sym idle ∙ (asked.scan_one_asked l n p.stage x e).2 in cc)
@@ -135,7 +135,7 @@ module _ (m : Meaning) (l : Layout) (rs : List Request) (r : ℕ) (p : PartState
     silent_by : (kind : EventKind) (o : Option RunState) → ask_by m l rs r kind p o ≡ Some x → Silent x
     silent_by kinds.EnterLoad None e = subst Silent (asked.enter_load_asked p.stage x e).1 (loads Epoch)
     silent_by kinds.Announce None e = let h = asked.announce_asked r p.stage x e in subst Silent h.2 (one_else i r h.0 (f (Announcement i)) ne)
-    silent_by kinds.EnterAgain None e = subst Silent (asked.enter_again_asked p.stage x e).1 (loads Epoch)
+    silent_by kinds.EnterAgain None e = subst Silent (asked.enter_again_asked p x e).1 (loads Epoch)
     silent_by kinds.Idle None e = let h = asked.idle_asked r p x e in subst Silent h.3 (one_else i r 0 (f (Announcement i)) ne)
     silent_by kinds.ScanEpoch None e = subst Silent (asked.enter_load_asked p.stage x e).1 (loads Epoch)
     silent_by (kinds.ScanOne n) None e = subst Silent (asked.scan_one_asked l n p.stage x e).4 (loads (Announcement n))

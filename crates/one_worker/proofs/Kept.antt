@@ -108,7 +108,7 @@ module _ (m : Meaning) (l : Layout) (rs : List Request) (s s' : Sight) (r : ℕ)
       absurd (both_ways _ out entered)
     where
       announced_there : (o : Option RunState) → ask_by m l rs r kinds.EnterAgain y o ≡ Some x → y.stage ≡ stages.Announced
-      announced_there None e = (enter_again_asked y.stage x e).0
+      announced_there None e = (enter_again_asked y x e).0
       announced_there (Some q) e = cond_none (is_open_run q) x e
 
   noted' : (z : Published) → (s'.part 0).published ≡ Some z → (s'.part 0).reads.published ≡ [] → ⊥

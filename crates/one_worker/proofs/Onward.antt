@@ -59,7 +59,7 @@ module _ (m : Meaning) (l : Layout) (rs : List Request) (r : ℕ) (p : PartState
     unwritten_by kinds.Advance o plain e = absurd (let z = plain in cc)
     unwritten_by kinds.EnterLoad None plain e = subst Unwritten (asked.enter_load_asked p.stage x e).1 (λ on. refl)
     unwritten_by kinds.Announce None plain e = let h = asked.announce_asked r p.stage x e in subst Unwritten h.2 (λ on. absurd (let z = on in cc))
-    unwritten_by kinds.EnterAgain None plain e = subst Unwritten (asked.enter_again_asked p.stage x e).1 (λ on. refl)
+    unwritten_by kinds.EnterAgain None plain e = subst Unwritten (asked.enter_again_asked p x e).1 (λ on. refl)
     unwritten_by kinds.Idle None plain e = let h = asked.idle_asked r p x e in subst Unwritten h.3 (λ on. absurd (let z = on in cc))
     unwritten_by kinds.ScanEpoch None plain e = subst Unwritten (asked.enter_load_asked p.stage x e).1 (λ on. refl)
     unwritten_by (kinds.ScanOne n) None plain e = subst Unwritten (asked.scan_one_asked l n p.stage x e).4 (λ on. refl)

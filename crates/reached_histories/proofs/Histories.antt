@@ -15,11 +15,11 @@ pub reached_have : (m : Meaning) → Laws m → (l : Layout) (rs : List Request)
 reached_have m laws l rs limits allowed w reached =
     let s = sight m l rs w in
     let at = reached_stands m laws l limits rs allowed w reached in record {
-      beside = at.beside;
-      state = at.history;
-      whole = at.whole;
-      joined = at.joined;
-      kept = at.kept;
+      beside = at.core.beside;
+      state = at.core.history;
+      whole = at.core.whole;
+      joined = at.core.joined;
+      kept = at.core.kept;
       legal = legal_history m laws l limits rs allowed s at;
       clock = clock_stands m laws l limits rs allowed s at;
       asked = requests_stand m laws l limits rs allowed s at;

@@ -98,16 +98,16 @@ answered_grows known known' grows n = by (knows known n false) (knows known n tr
 
 -- what a runner learns
 module _ (c : Requests) (r : ℕ) where
-  learned_published : (ns : List ℕ) (w : HistoryState) (i : ℕ) → (after_all c w (learns r ns)).published i ≡ w.published i
+  pub learned_published : (ns : List ℕ) (w : HistoryState) (i : ℕ) → (after_all c w (learns r ns)).published i ≡ w.published i
   learned_published [] w i = refl
   learned_published (k ∷ ns) w i = learned_published ns (history.after c w (history.Learn r k)) i
 
-  learned_else : (ns : List ℕ) (w : HistoryState) (i n : ℕ) → i ≢ r → (after_all c w (learns r ns)).known i n ≡ w.known i n
+  pub learned_else : (ns : List ℕ) (w : HistoryState) (i n : ℕ) → i ≢ r → (after_all c w (learns r ns)).known i n ≡ w.known i n
   learned_else [] w i n ne = refl
   learned_else (k ∷ ns) w i n ne = learned_else ns (history.after c w (history.Learn r k)) i n ne
       ∙ ap (λ (f : ℕ → Bool). f n) (upd_other w.known r i (updates.upd (w.known r) k true) ne)
 
-  learned_here : (ns : List ℕ) (w : HistoryState) (n : ℕ) → (after_all c w (learns r ns)).known r n ≡ (w.known r n || has ns n)
+  pub learned_here : (ns : List ℕ) (w : HistoryState) (n : ℕ) → (after_all c w (learns r ns)).known r n ≡ (w.known r n || has ns n)
   learned_here [] w n = none (w.known r n)
     where
       none : (b : Bool) → b ≡ (b || false)

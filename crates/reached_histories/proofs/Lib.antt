@@ -2,6 +2,12 @@ pub mod Quietly
 mod Learning
 pub mod Publications
 pub mod Steps
+mod Fit
+mod LookParts
+mod LooksKept
+mod Looking
+mod ReadParts
+pub mod Onward
 pub mod Reached
 mod Words
 pub mod RealTime

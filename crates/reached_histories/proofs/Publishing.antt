@@ -1,5 +1,5 @@
 -- A publication of the machine as a step of the joint states with the history.
-use Rattle.std.proofs.Common.{◌≡◌, ℕ, List, refl, ap, subst, Option, Some}
+use Rattle.std.proofs.Common.{◌≡◌, ℕ, false, List, refl, ap, subst, Option, Some}
 use Rattle.std.proofs.lemmas.Option.{slice_get_within, get_or_from_slice_get}
 use Rattle.std.proofs.lemmas.List.Elements.{All-get_or}
 use Rattle.map_history.specs.declared.op.Request.{Request}
@@ -14,7 +14,7 @@ use Rattle.structure_laws.specs.Sections.{IsAllowed}
 use Rattle.runner_parts.specs.declared.event.EventKind.TheVariants.{Hold}
 use Rattle.runner_steps.specs.Asks.{asks}
 use Rattle.agreement_core.specs.Events as agreement
-use Rattle.machine_history.specs.history_core.specs.State.{HistoryState}
+use Rattle.machine_history.specs.history_core.specs.State.{HistoryState, is_replied}
 use Rattle.machine_states.specs.Sight.{Sight}
 use Rattle.machine_states.proofs.Sights.{unless_gone}
 use Rattle.machine_epochs.proofs.OutsideAsked as outside
@@ -31,6 +31,7 @@ use Rattle.reached_histories.proofs.Supplying.{hold_outside, holds_due}
 
 module _ (m : Meaning) (l : Layout) (rs : List Request) (allowed : AreAllowed rs) (g : Beside) (s : Sight) (w : HistoryState) (whole : IsWhole m l g s)
     (kept : AreKept s w) (r d : ℕ) (t : Thunk) (x : Spot × Access) (asked : asks m l rs r (Hold t d) (s.part r) ≡ Some x)
+    (settled : is_replied (w.look r) ≡ false)
     (may : agreement.Enabled (rules_of m l) (agreement.after g.agreement (agreement.Read t.lock)) (publication m d t)) where
   asks_hold : outside.HoldAsked m l rs t d (s.part r) x
   asks_hold = outside.hold_asked m l rs r t d (s.part r) x (hold_outside m l rs r d t (s.part r) (s.part r).run x (unless_gone _ (s.part r).gone _ x asked).1)
@@ -64,8 +65,10 @@ module _ (m : Meaning) (l : Layout) (rs : List Request) (allowed : AreAllowed rs
       earlier = due.earlier;
       operation = ap (λ (o : Option Request). (or_none o).op) asks_hold.of_request;
       answers = (stamped.answer, stamped.answers);
+      settled = settled;
     };
   }
 
 pub publications_may_come : (m : Meaning) (l : Layout) (rs : List Request) → PublicationsMayCome m l rs
-publications_may_come m l rs allowed g s w whole kept r d t x asked may = is_publication m l rs allowed g s w whole kept r d t x asked may
+publications_may_come m l rs allowed g s w whole kept r d t x asked settled may =
+    is_publication m l rs allowed g s w whole kept r d t x asked settled may

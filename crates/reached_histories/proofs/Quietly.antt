@@ -28,6 +28,8 @@ use Rattle.machine_history.specs.Tied.{is_loading}
 use Rattle.machine_history.specs.Steps.{HistoryStates, Joint, events_of, is_apart, MayFree}
 use Rattle.machine_history.specs.Laws.{IsJoined}
 use Rattle.machine_history.proofs.Joining.{steps_keep}
+use Rattle.still_reads.specs.Standing.{WalksStand}
+use Rattle.still_reads.proofs.Steps.{walks_after}
 use Rattle.machine_facts.specs.machine_invariant.proofs.Jointly.{IsQuietStep, AreQuietSteps, JointSteps}
 use Rattle.reached_histories.specs.Requests.{requests_of}
 
@@ -51,6 +53,7 @@ pub record GoesOn (c : Requests) (w v : HistoryState) : Type 0 where
   pub knew : v.knew ≡ w.knew
   pub stage : (d : ℕ) → w.stage d ≤ v.stage d
   pub stamped : (n : ℕ) → w.stamp n ≡ 0 → v.stamp n ≢ 0 → IsStampedBy c w v n
+  pub look : v.look ≡ w.look
   pub passes : Passes w v
 
 pub goes_alike : (c : Requests) (w v : HistoryState) → GoesOn c w v → KnowsAlike w v
@@ -64,6 +67,7 @@ goes_nowhere c w = record {
   knew = refl;
   stage = λ d. omega arith;
   stamped = λ n none some. absurd (some none);
+  look = refl;
   passes = passes_nowhere w;
 }
 
@@ -95,6 +99,7 @@ goes_more c u w v one two = record {
         far = up_to _ _ _ (two.stage by.descriptor) by.far;
       })
       (zero_or_some (w.stamp n));
+  look = two.look ∙ one.look;
   passes = passes_more u w v one.passes two.passes;
 }
 
@@ -111,27 +116,29 @@ comes_no_lower c w d stage e = ⊎_elim
 
 -- a section gets further, and no stamp is written
 further : (c : Requests) (w v : HistoryState) (d stage : ℕ) → v.known ≡ w.known → v.published ≡ w.published → v.request ≡ w.request
-    → v.knew ≡ w.knew → v.stage ≡ history.comes c w d stage → v.stamp ≡ w.stamp → Passes w v → GoesOn c w v
-further c w v d stage known published request knew comes stamp passes = record {
+    → v.knew ≡ w.knew → v.stage ≡ history.comes c w d stage → v.stamp ≡ w.stamp → v.look ≡ w.look → Passes w v → GoesOn c w v
+further c w v d stage known published request knew comes stamp look passes = record {
   known = known;
   published = published;
   request = request;
   knew = knew;
   stage = λ e. subst (λ n. w.stage e ≤ n) (sym (ap (λ (f : ℕ → ℕ). f e) comes)) (comes_no_lower c w d stage e);
   stamped = λ n none some. absurd (some (ap (λ (f : ℕ → ℕ). f n) stamp ∙ none));
+  look = look;
   passes = passes;
 }
 
 -- where nothing of this changes
 still : (c : Requests) (w v : HistoryState) → v.known ≡ w.known → v.published ≡ w.published → v.request ≡ w.request
-    → v.knew ≡ w.knew → v.stage ≡ w.stage → v.stamp ≡ w.stamp → Passes w v → GoesOn c w v
-still c w v known published request knew stage stamp passes = record {
+    → v.knew ≡ w.knew → v.stage ≡ w.stage → v.stamp ≡ w.stamp → v.look ≡ w.look → Passes w v → GoesOn c w v
+still c w v known published request knew stage stamp look passes = record {
   known = known;
   published = published;
   request = request;
   knew = knew;
   stage = λ d. subst (λ n. w.stage d ≤ n) (sym (ap (λ (f : ℕ → ℕ). f d) stage)) (omega arith);
   stamped = λ n none some. absurd (some (ap (λ (f : ℕ → ℕ). f n) stamp ∙ none));
+  look = look;
   passes = passes;
 }
 
@@ -168,6 +175,7 @@ module _ (c : Requests) (w : HistoryState) (sound : IsSound c w) (r : ℕ) (load
         })
         (λ ne. absurd (some (upd_other w.stamp (w.request d) n (history.stamp_by (w.hand r)) ne ∙ unstamped)))
         (cases_eq n (w.request d));
+    look = refl;
     passes = passes;
   }
     where
@@ -184,7 +192,7 @@ goes_by_step : (c : Requests) (j : States) (w : HistoryState) → IsSound c w
     → ((r : ℕ) → step ≡ scenes.Agreement (agreement.StampExchange r) → agreement.IsBefore j.agreement r micros.StampExchange)
     → GoesOn c w (schedules.after_all c w (events_of j step))
 goes_by_step c j w sound loads (scenes.Agreement (agreement.ClockLoad r)) before =
-    further c w _ (scenes.descriptor_of j r) 1 refl refl refl refl refl refl (event_passes c w (history.LoadClock r (scenes.descriptor_of j r)) tt)
+    further c w _ (scenes.descriptor_of j r) 1 refl refl refl refl refl refl refl (event_passes c w (history.LoadClock r (scenes.descriptor_of j r)) tt)
 goes_by_step c j w sound loads (scenes.Agreement (agreement.StampExchange r)) before =
     by (w.stamp (w.request (w.run r)) == 0) refl
   where
@@ -205,16 +213,16 @@ goes_by_step c j w sound loads (scenes.Agreement (agreement.StampExchange r)) be
     by : (b : Bool) → (w.stamp (w.request (w.run r)) == 0) ≡ b
         → GoesOn c w (cond b (history.stamped c w r) (record w { loaded = upd w.loaded r false }))
     by true none = stamps_on c w sound r loaded (is_zero _ none) (passed_by true none)
-    by false some = still c w (record w { loaded = upd w.loaded r false }) refl refl refl refl refl refl (passed_by false some)
+    by false some = still c w (record w { loaded = upd w.loaded r false }) refl refl refl refl refl refl refl (passed_by false some)
 goes_by_step c j w sound loads (scenes.Agreement (agreement.ClockRaise r)) before =
-    further c w _ (scenes.descriptor_of j r) 3 refl refl refl refl refl refl (event_passes c w (history.RaiseClock (scenes.descriptor_of j r)) tt)
+    further c w _ (scenes.descriptor_of j r) 3 refl refl refl refl refl refl refl (event_passes c w (history.RaiseClock (scenes.descriptor_of j r)) tt)
 goes_by_step c j w sound loads (scenes.Agreement (agreement.ReplyExchange r reply)) before =
-    further c w _ (scenes.descriptor_of j r) 4 refl refl refl refl refl refl (event_passes c w (history.WriteReply (scenes.descriptor_of j r)) tt)
+    further c w _ (scenes.descriptor_of j r) 4 refl refl refl refl refl refl refl (event_passes c w (history.WriteReply (scenes.descriptor_of j r)) tt)
 goes_by_step c j w sound loads (scenes.Agreement (agreement.SetDone r)) before =
-    still c w (schedules.after_all c w (events_of j (scenes.Agreement (agreement.SetDone r)))) refl refl refl refl refl refl
+    still c w (schedules.after_all c w (events_of j (scenes.Agreement (agreement.SetDone r)))) refl refl refl refl refl refl refl
     (event_passes c w (history.SetDone (scenes.descriptor_of j r)) tt)
 goes_by_step c j w sound loads (scenes.Agreement (agreement.Free d)) before =
-    still c w (schedules.after_all c w (events_of j (scenes.Agreement (agreement.Free d)))) refl refl refl refl refl refl
+    still c w (schedules.after_all c w (events_of j (scenes.Agreement (agreement.Free d)))) refl refl refl refl refl refl refl
     (event_passes c w (history.Free d) tt)
 goes_by_step c j w sound loads step before = goes_nowhere c w
 
@@ -235,11 +243,13 @@ module _ (m : Meaning) (laws : Laws m) (l : Layout) (limits : IsWithinLimits l) 
   abbrev pub with_history : States → HistoryState → HistoryStates
   with_history j w = record { joint = j; history = w }
 
-  -- these states are joined with a state of the history in which the same is known and published as in this one
+  -- these states are joined with a state of the history in which the same is known and published as in this one, and
+  -- what was read behind free locks stands in them
   pub record JoinedAlike (w : HistoryState) (j : States) : Type 0 where
     pub history : HistoryState
     pub joined : IsJoined m l c asked (with_history j history)
     pub on : GoesOn asked w history
+    pub walks : WalksStand m j
 
   -- which is so, where each section that a worker has published and not run to its end is live in these states
   module _ (from : States) (w : HistoryState) (live : (r d : ℕ) → w.published r ≡ suc d → from.agreement.live d ≡ true) where
@@ -254,6 +264,7 @@ module _ (m : Meaning) (laws : Laws m) (l : Layout) (limits : IsWithinLimits l) 
       joined = steps_keep m laws l limits c refl asked refl (with_history j old.history) (Joint step) (quiet, ok, free) old.joined;
       on = goes_more asked w old.history _ old.on (goes_by_step asked j old.history old.joined.sound old.joined.tied.loaded step
           (λ r is. stamp_enabled j step ok r is));
+      walks = walks_after m laws l limits c j old.joined.kept old.walks step ok;
     }
 
     free_step : (j : States) (d : ℕ) → scenes.Enabled m l c j (scenes.Agreement (agreement.Free d)) → from.agreement.live d ≡ false

@@ -21,7 +21,7 @@ use Rattle.runner_parts.specs.declared.entries.Retired.{Retired}
 use Rattle.runner_parts.specs.declared.event.EventKind.TheVariants.{Hold}
 use Rattle.runner_parts.specs.State.{RunState, PartState}
 use Rattle.runner_parts.specs.Lists.{slots_of}
-use Rattle.runner_parts.specs.Tests.{has, is_answered, are_answered, is_next}
+use Rattle.runner_parts.specs.Tests.{has, is_answered, are_answered, is_next, is_between}
 use Rattle.runner_steps.specs.Sections.{is_open_run, next_of}
 use Rattle.runner_steps.specs.Outside.{hold_ask}
 use Rattle.runner_steps.specs.Asks.{ask_by, line_ask, opening_ask}
@@ -53,7 +53,7 @@ numbered requests order n q at = some_same q.number n (sym by_map ∙ (ap (λ xs
         ∙ ap (λ (k : ℕ). Some k) (get_or-range_with_len 0 (length requests) n 0 low ∙ from_none n)
 
 -- an element of a list all of which pass
-passes : {A : Type 0} (test : A → Bool) (xs : List A) (i : ℕ) (x : A) → list_all test xs ≡ true → slice_get xs i ≡ Some x → test x ≡ true
+pub passes : {A : Type 0} (test : A → Bool) (xs : List A) (i : ℕ) (x : A) → list_all test xs ≡ true → slice_get xs i ≡ Some x → test x ≡ true
 passes test [] i x all at = some_none x at
 passes test (y ∷ xs) zero x all at = subst (λ z. test z ≡ true) (some_same y x at) (and_parts (test y) (list_all test xs) all).0
 passes test (y ∷ xs) (suc i) x all at = passes test xs i x (and_parts (test y) (list_all test xs) all).1 at
@@ -101,12 +101,17 @@ of_link true n d e = absurd (let z = e in cc)
 of_link false n d e = let z = e in omega arith
 
 module _ (m : Meaning) (l : Layout) (rs : List Request) where
+  -- the thunk's request is there, and is the worker's next one by these known words
+  pub record IsNextRequest (r : ℕ) (t : Thunk) (known : List Known) : Type 0 where
+    pub request : Request
+    pub of_request : slice_get rs t.request ≡ Some request
+    pub next : is_next l r rs known (Some request) ≡ true
+
   -- what a try to publish asks of the requests
   record NextAsked (r : ℕ) (t : Thunk) (p : PartState) : Type 0 where
     pub unpublished : p.published ≡ None
-    pub request : Request
-    pub of_request : slice_get rs t.request ≡ Some request
-    pub next : is_next l r rs p.records.known (Some request) ≡ true
+    pub settled : is_between p.reads.look ≡ false
+    pub due : IsNextRequest r t p.records.known
 
   none_of : {A : Type 0} → (o : Option A) → is_none o ≡ true → o ≡ None
   none_of None e = refl
@@ -116,14 +121,17 @@ module _ (m : Meaning) (l : Layout) (rs : List Request) where
   next_some r known None e = absurd (let x = e in cc)
   next_some r known (Some q) e = (q, refl, e)
 
+  pub next_request : (r : ℕ) (t : Thunk) (known : List Known) → is_next l r rs known (slice_get rs t.request) ≡ true → IsNextRequest r t known
+  next_request r t known e = let h = next_some r known (slice_get rs t.request) e in record { request = h.0; of_request = h.1; next = h.2 }
+
   hold_next : (r d : ℕ) (t : Thunk) (p : PartState) (x : Spot × Access) → hold_ask m l rs r t d p ≡ Some x → NextAsked r t p
   hold_next r d t p x e =
       let h = if_some _ _ x e in
       let may = and_parts _ _ (and_parts _ _ h.0).1 in
       let rest = and_parts _ _ may.1 in
-      let due = and_parts _ _ (and_parts _ _ rest.1).1 in
-      let request = next_some r p.records.known (slice_get rs t.request) due.0 in
-      record { unpublished = none_of p.published rest.0; request = request.0; of_request = request.1; next = request.2 }
+      let settled = and_parts _ _ rest.1 in
+      let due = and_parts _ _ (and_parts _ _ settled.1).1 in
+      record { unpublished = none_of p.published rest.0; settled = not_so _ settled.0; due = next_request r t p.records.known due.0 }
 
   -- in a run nobody publishes
   pub hold_outside : (r d : ℕ) (t : Thunk) (p : PartState) (run : Option RunState) (x : Spot × Access) → ask_by m l rs r (Hold t d) p run ≡ Some x → hold_ask m l rs r t d p ≡ Some x
@@ -134,12 +142,12 @@ module _ (m : Meaning) (l : Layout) (rs : List Request) where
       by true e = some_none x e
       by false e = some_none x e
 
-  -- what the request of a try to publish is, and what its worker knows
-  module _ (order : AreInOrder rs 64) (r : ℕ) (t : Thunk) (p : PartState) (asked : NextAsked r t p) where
+  -- what the request is, and what its worker knows
+  module _ (order : AreInOrder rs 64) (r : ℕ) (t : Thunk) (known : List Known) (asked : IsNextRequest r t known) where
     abbrev q : Request
     q = asked.request
 
-    test : ((q.trace % l.runners == r) ≡ true) × ((not (is_answered p.records.known q.number) && are_answered p.records.known q.trace q.number rs) ≡ true)
+    test : ((q.trace % l.runners == r) ≡ true) × ((not (is_answered known q.number) && are_answered known q.trace q.number rs) ≡ true)
     test = and_parts _ _ asked.next
 
     here : request_at rs t.request ≡ q
@@ -148,21 +156,21 @@ module _ (m : Meaning) (l : Layout) (rs : List Request) where
     number : q.number ≡ t.request
     number = numbered rs order t.request q asked.of_request
 
-    own_request : (request_at rs t.request).trace % l.runners ≡ r
+    pub own_request : (request_at rs t.request).trace % l.runners ≡ r
     own_request = ap (λ (z : Request). z.trace % l.runners) here ∙ same_test _ _ test.0
 
-    unanswered : is_answered p.records.known t.request ≡ false
-    unanswered = ap (is_answered p.records.known) (sym number) ∙ not_so _ (and_parts _ _ test.1).0
+    pub unanswered : is_answered known t.request ≡ false
+    unanswered = ap (is_answered known) (sym number) ∙ not_so _ (and_parts _ _ test.1).0
 
-    earlier_answered : (k : ℕ) → k < t.request → (request_at rs k).trace ≡ (request_at rs t.request).trace → is_answered p.records.known k ≡ true
+    pub earlier_answered : (k : ℕ) → k < t.request → (request_at rs k).trace ≡ (request_at rs t.request).trace → is_answered known k ≡ true
     earlier_answered k low same = found (slice_get rs k) refl
       where
-        found : (o : Option Request) → slice_get rs k ≡ o → is_answered p.records.known k ≡ true
+        found : (o : Option Request) → slice_get rs k ≡ o → is_answered known k ≡ true
         found None at = absurd (let all = slice_get_within rs t.request q asked.of_request in
             some_none _ (sym at ∙ slice_get-get_or rs k q (omega arith)))
-        found (Some y) at = subst (λ n. is_answered p.records.known n ≡ true) (numbered rs order k y at)
-            (earlier_passes q.trace y.trace q.number y.number (is_answered p.records.known y.number)
-            (passes (λ (z : Request). not (z.trace == q.trace && nat_lt z.number q.number) || is_answered p.records.known z.number) rs k y (and_parts _ _ test.1).1 at)
+        found (Some y) at = subst (λ n. is_answered known n ≡ true) (numbered rs order k y at)
+            (earlier_passes q.trace y.trace q.number y.number (is_answered known y.number)
+            (passes (λ (z : Request). not (z.trace == q.trace && nat_lt z.number q.number) || is_answered known z.number) rs k y (and_parts _ _ test.1).1 at)
             (sym (ap (λ (o : Option Request). (or_none o).trace) at) ∙ (same ∙ ap (λ (z : Request). z.trace) here))
             (let a = numbered rs order k y at in let b = number in omega arith))
 
@@ -172,9 +180,9 @@ module _ (m : Meaning) (l : Layout) (rs : List Request) where
       let next = hold_next r d t p x (hold_outside r d t p p.run x (unless_gone _ p.gone _ x asked).1) in
       record {
         idle = kept.published r ∙ ap link_of next.unpublished;
-        own = own_request order r t p next;
-        unknown = kept.known r t.request ∙ unanswered order r t p next;
-        earlier = λ k low same. kept.known r k ∙ earlier_answered order r t p next k low same;
+        own = own_request order r t p.records.known next.due;
+        unknown = kept.known r t.request ∙ unanswered order r t p.records.known next.due;
+        earlier = λ k low same. kept.known r k ∙ earlier_answered order r t p.records.known next.due k low same;
       }
 
   pub operations_asked : OperationsAreAsked m l rs

@@ -1,9 +1,10 @@
 -- What the joined states say, in the words of the machine.
-use Rattle.std.specs.Prelude.{◌/◌, cond, Bool, true, false}
+use Rattle.std.specs.Prelude.{◌/◌, ◌%◌, cond, Bool, true, false}
 use Rattle.std.proofs.Common.{◌≡◌, ◌≢◌, ℕ, suc, ◌<◌, ◌≤◌, List, length, inl, inr, refl, sym, ap, ◌∙◌, subst, ⊎_elim, arith, Option, Some, None}
 use Rattle.std.proofs.lemmas.Bool.{cases_lt}
 use Rattle.map_history.specs.declared.op.Request.{Request}
 use Rattle.history_orders.specs.Stamped.{IsHistoryOf}
+use Rattle.history_orders.specs.Turns.{Follows}
 use Rattle.body_terms.specs.Line.{is_end, line, micro_at}
 use Rattle.body_terms.specs.Word.{value_of, held_word}
 use Rattle.body_terms.specs.declared.thunk.Thunk.{Thunk}
@@ -17,13 +18,17 @@ use Rattle.table_words.specs.Limits.{IsWithinLimits}
 use Rattle.structure_laws.specs.Scene.{Cells}
 use Rattle.structure_laws.specs.Meaning.{Meaning}
 use Rattle.structure_laws.specs.Laws.{Laws}
+use Rattle.runner_parts.specs.declared.entries.Look.{Look}
 use Rattle.runner_parts.specs.declared.entries.Published.{Published}
+use Rattle.runner_parts.specs.Tests.{is_replied, is_between}
 use Rattle.runner_parts.specs.State.{RunState}
 use Rattle.runner_steps.specs.Sections.{is_open_run, next_of}
 use Rattle.agreement_core.specs.State.{AgreementState}
 use Rattle.agreement_core.proofs.Words.{value_held}
 use Rattle.epoch_core.specs.History.{is_out}
-use Rattle.machine_history.specs.history_core.specs.State.{Requests, HistoryState}
+use Rattle.machine_history.specs.history_core.specs.State.{Requests, Seen, HistoryState, has_replied}
+use Rattle.machine_history.specs.history_core.specs.State as history_states
+use Rattle.machine_history.specs.history_core.proofs.Looks.{replied_parts}
 use Rattle.machine_states.specs.Sight.{Sight}
 use Rattle.machine_epochs.specs.Entries.{counts_of}
 use Rattle.machine_epochs.proofs.RunPlaces.{open_run}
@@ -37,17 +42,21 @@ use Rattle.machine_facts.specs.machine_invariant.specs.Trails.{step_at}
 use Rattle.machine_facts.specs.machine_invariant.specs.Whole.{Beside, states_of}
 use Rattle.reached_histories.specs.Requests.{requests_of}
 use Rattle.reached_histories.specs.Kept.{link_of}
-use Rattle.reached_histories.specs.Sections.{HasPublished, HasOpen}
+use Rattle.reached_histories.specs.Sections.{HasPublished, HasOpen, IsToStamp}
 use Rattle.reached_histories.specs.History.{request_in, IsLegalHistory, CameBefore, ClockStands, RequestsStand, NoLockNames, IsClosed}
 use Rattle.reached_histories.proofs.Quietly.{with_history, loading}
 use Rattle.reached_histories.proofs.Steps.{Stands}
+use Rattle.reached_histories.proofs.Onward.{StandsSeen}
 
 ends : (x : Micro) → is_end x ≡ true → x ≡ micros.End
 ends micros.End e = refl
 ends _ e = absurd (let z = e in cc)
 
 module _ (m : Meaning) (laws : Laws m) (l : Layout) (limits : IsWithinLimits l) (rs : List Request) (allowed : AreAllowed rs) (s : Sight)
-    (at : Stands m laws l limits rs allowed s) where
+    (all : StandsSeen m laws l limits rs allowed s) where
+  abbrev at : Stands m laws l limits rs allowed s
+  at = all.core
+
   abbrev requests : Requests
   requests = requests_of m l rs
 
@@ -114,6 +123,23 @@ module _ (m : Meaning) (laws : Laws m) (l : Layout) (limits : IsWithinLimits l) 
   half_by d used h = subst (λ n. n / 2 ≤ s.word Clock) (stamp_is (w.request d) ∙ ap (λ n. s.word (Stamp n)) (request_at d used))
       (subst (λ n. w.stamp (w.request d) / 2 ≤ n) clock_is h)
 
+  follows : (k n : ℕ) → Follows (w.stamp k) (w.stamp n) → Follows (s.word (Stamp k)) (s.word (Stamp n))
+  follows k n h = subst (λ a. Follows a (s.word (Stamp n))) (stamp_is k) (subst (λ b. Follows (w.stamp k) b) (stamp_is n) h)
+
+  -- the worker is between the two words of a read
+  to_stamp : (n : ℕ) → has_replied (w.look (requests.worker n)) n ≡ true → IsToStamp s (requests.worker n) n
+  to_stamp n is =
+      let p = replied_parts (w.look (requests.worker n)) n is in
+      let h = all.looks.only (requests.worker n) p.0 p.1 in
+      record { look = h.look; looked = h.looked; replied = by h.look h.looked p.0 p.1 p.2 (is_replied h.look.stage) refl; request = h.request ∙ p.3 }
+    where
+      by : (x : Look) → (s.part (requests.worker n)).reads.look ≡ Some x → (seen : Seen) → w.look (requests.worker n) ≡ Some seen → seen.replied ≡ true
+          → (b : Bool) → is_replied x.stage ≡ b → is_replied x.stage ≡ true
+      by x looked seen there replied true is = is
+      by x looked seen there replied false is = absurd (
+          let settled = all.looks.settled (requests.worker n) (ap is_between looked ∙ is) in
+          let clash : true ≡ false = sym (ap history_states.is_replied there ∙ replied) ∙ settled in cc)
+
   pub legal_history : IsLegalHistory m l rs g s w.history w.pairs
   legal_history = record {
     entries = subst (λ (f : ℕ → ℕ). IsHistoryOf requests.op f w.history) stamps_are stands.legal.history;
@@ -126,8 +152,9 @@ module _ (m : Meaning) (laws : Laws m) (l : Layout) (limits : IsWithinLimits l) 
         (far_by d has.place 2 micros.StampExchange has.used (code_at d has.used has.place ∙ has.stamps) refl (omega arith) has.passed)
         there (number ∙ sym (request_at d has.used));
     replies = λ map e there some. sym (reply_is e.number) ∙ stands.legal.replies map e there (some_reply e.number some);
-    stamped = λ n some. word_stamp n (stands.rises.stamped n (some_reply n some));
-    rising = λ k n lt same some. let h = stands.rises.rising k n lt same (some_stamp n some) in (word_stamp k h.0, below k n h.1);
+    stamped = λ n some. ⊎_elim (λ there. inl (word_stamp n there)) (λ between. inr (to_stamp n between))
+        (stands.legal.stamped n (some_reply n some));
+    rising = λ k n lt same some. let h = stands.legal.rising k n lt same (some_stamp n some) in (word_stamp k h.0, follows k n h.1);
     only = λ map other is replayed. stands.legal.only map other
         (subst (λ (f : ℕ → ℕ). IsHistoryOf requests.op f other) (sym stamps_are) is) replayed;
   }
@@ -232,6 +259,10 @@ module _ (m : Meaning) (laws : Laws m) (l : Layout) (limits : IsWithinLimits l) 
           word_stamp n h.0,
           below n x.thunk.request (subst (λ q. w.stamp n < w.stamp q) own.request h.1),
         );
+    even = λ r x is some.
+        let own = at.publications r x is in
+        subst (λ n. n % 2 ≡ 0) (ap w.stamp own.request ∙ stamp_is x.thunk.request)
+        (stands.reads.even x.descriptor (published_used r x is) (own.stamped (some_stamp x.thunk.request some)));
     known = λ r n is. let h = stands.known.known r n (at.kept.known r n ∙ is) in record {
       place = h.2.place;
       entry = h.2.entry;

@@ -1,10 +1,11 @@
 -- The history of the stamped requests in a state of the machine.
-use Rattle.std.specs.Prelude.{◌≡◌, ◌≢◌, ◌⊎◌, ℕ, ◌<◌, ◌/◌, ◌≤◌, true, Some, List, slice_get, Contains}
+use Rattle.std.specs.Prelude.{◌≡◌, ◌≢◌, ◌⊎◌, ℕ, ◌<◌, ◌/◌, ◌%◌, ◌≤◌, true, Some, List, slice_get, Contains}
 use Rattle.std.specs.FinMap.{empty}
 use Rattle.map_history.specs.declared.op.Request.{Request}
 use Rattle.map_history.specs.History.{IsLegalFrom}
 use Rattle.map_history.specs.Replay.{Pairs, map_after_all}
 use Rattle.map_history.specs.Words.{word_of}
+use Rattle.history_orders.specs.Turns.{Follows}
 use Rattle.history_orders.specs.Stamped.{Stamped, oldest_first, ops_of, IsReplayed, IsHistoryOf}
 use Rattle.body_terms.specs.Word.{value_of}
 use Rattle.body_terms.specs.declared.micro.Source.{Source}
@@ -23,7 +24,7 @@ use Rattle.machine_facts.specs.machine_invariant.specs.Sections.{IsAnswered}
 use Rattle.machine_facts.specs.machine_invariant.specs.Trails.{thunk_at, step_at}
 use Rattle.machine_facts.specs.machine_invariant.specs.Whole.{Beside, states_of}
 use Rattle.reached_histories.specs.Requests.{requests_of}
-use Rattle.reached_histories.specs.Sections.{IsStamped, Knows, HasPublished, KnewThen, HasOpen}
+use Rattle.reached_histories.specs.Sections.{IsStamped, Knows, HasPublished, KnewThen, HasOpen, IsToStamp}
 
 module _ (m : Meaning) (l : Layout) (requests : List Request) (g : Beside) (s : Sight) where
   -- the requests, with the worker of each: the number of its trace modulo the number of workers
@@ -48,10 +49,12 @@ module _ (m : Meaning) (l : Layout) (requests : List Request) (g : Beside) (s : 
         → Contains history e → e.number ≡ request_in d → answer ≡ word_of e.reply
     pub replies : m.is_map ≡ true → (e : Stamped) → Contains history e → s.word (Reply e.number) ≢ 0
         → s.word (Reply e.number) ≡ word_of e.reply
-    pub stamped : (n : ℕ) → s.word (Reply n) ≢ 0 → s.word (Stamp n) ≢ 0
-    -- stamps rise along a trace, and no request is stamped before the earlier ones of its trace
+    -- a request with a reply has a stamp, or its worker is between the two words of a read
+    pub stamped : (n : ℕ) → s.word (Reply n) ≢ 0 → (s.word (Stamp n) ≢ 0) ⊎ IsToStamp s (asked.worker n) n
+    -- stamps never fall along a trace, and two equal ones are odd; no request is stamped before the earlier ones of its
+    -- trace
     pub rising : (k n : ℕ) → k < n → asked.trace k ≡ asked.trace n → s.word (Stamp n) ≢ 0
-        → (s.word (Stamp k) ≢ 0) × (s.word (Stamp k) < s.word (Stamp n))
+        → (s.word (Stamp k) ≢ 0) × Follows (s.word (Stamp k)) (s.word (Stamp n))
     -- it is the only such list
     pub only : m.is_map ≡ true → (other : List Stamped) → IsHistoryOf asked.op (λ n. s.word (Stamp n)) other
         → IsReplayed other → other ≡ history
@@ -98,6 +101,9 @@ module _ (m : Meaning) (l : Layout) (requests : List Request) (g : Beside) (s : 
     -- the stamp of a worker's published section is above that of each request that came before it for the worker
     pub before : (r n : ℕ) (x : Published) → HasPublished s r x → s.word (Stamp x.thunk.request) ≢ 0 → CameBefore r x n
         → (s.word (Stamp n) ≢ 0) × (s.word (Stamp n) < s.word (Stamp x.thunk.request))
+    -- that stamp is even
+    pub even : (r : ℕ) (x : Published) → HasPublished s r x → s.word (Stamp x.thunk.request) ≢ 0
+        → s.word (Stamp x.thunk.request) % 2 ≡ 0
     -- who knows both words of a request knows its place in the history
     pub known : (r n : ℕ) → Knows s r n → IsPlaced history n
 

@@ -4,6 +4,7 @@ pub mod RealTime
 pub mod Laws
 pub mod Requests
 pub mod Kept
+pub mod Looks
 pub mod Supplies
 pub mod Keeping
 pub mod Publishing

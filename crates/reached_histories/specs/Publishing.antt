@@ -1,5 +1,5 @@
 -- A publication of the machine as a step of the joint states with the history.
-use Rattle.std.specs.Prelude.{ℕ, ◌≡◌, List, Some, slice_get}
+use Rattle.std.specs.Prelude.{ℕ, ◌≡◌, false, List, Some, slice_get}
 use Rattle.map_history.specs.declared.op.Request.{Request}
 use Rattle.body_terms.specs.declared.thunk.Thunk.{Thunk}
 use Rattle.body_terms.specs.Line.{line, micro_at, committed}
@@ -10,7 +10,7 @@ use Rattle.structure_laws.specs.Meaning.{Meaning}
 use Rattle.runner_parts.specs.declared.event.EventKind.TheVariants.{Hold}
 use Rattle.runner_steps.specs.Asks.{asks}
 use Rattle.agreement_core.specs.Events as agreement
-use Rattle.machine_history.specs.history_core.specs.State.{HistoryState}
+use Rattle.machine_history.specs.history_core.specs.State.{HistoryState, is_replied}
 use Rattle.machine_states.specs.Sight.{Sight}
 use Rattle.machine_epochs.specs.Entries.{counts_of}
 use Rattle.machine_scenes.specs.Shown.{rules_of}
@@ -40,12 +40,12 @@ module _ (m : Meaning) (l : Layout) (requests : List Request) where
     pub may : MayPublish m l (counts_of m l) (requests_of m l requests) h r d t.lock t.word t.request
         (micro_at (line (m.body t))) (committed (line (m.body t))) request.op t reply
 
-  -- where a runner may try to publish a section, and agreement's publication may come behind the
-  -- reading of the lock, the publication may come in the joint states with the history
+  -- where a runner may try to publish a section and has written no read's reply without its stamp, and agreement's
+  -- publication may come behind the reading of the lock, the publication may come in the joint states with the history
   abbrev pub PublicationsMayCome : Type 0
   PublicationsMayCome = AreAllowed requests → (g : Beside) (s : Sight) (w : HistoryState)
       → IsWhole m l g s → AreKept s w → (r d : ℕ) (t : Thunk) (x : Spot × Access)
-      → asks m l requests r (Hold t d) (s.part r) ≡ Some x
+      → asks m l requests r (Hold t d) (s.part r) ≡ Some x → is_replied (w.look r) ≡ false
       → agreement.Enabled (rules_of m l) (agreement.after g.agreement (agreement.Read t.lock))
       (publication m d t)
       → IsPublication (behind_read g s w t.lock) r d t

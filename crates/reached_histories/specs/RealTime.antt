@@ -1,11 +1,16 @@
 -- The order in time: a request that was answered before another was asked comes before it in the history.
-use Rattle.std.specs.Prelude.{◌≡◌, ◌≢◌, ℕ, ◌<◌, List, Some, take}
+use Rattle.std.specs.Prelude.{◌≡◌, ◌≢◌, ◌⊎◌, ℕ, true, List, Some, take}
 use Rattle.map_history.specs.declared.op.Request.{Request}
 use Rattle.table_words.specs.Limits.{IsWithinLimits}
 use Rattle.table_words.specs.declared.layout.Layout.{Layout}
 use Rattle.table_words.specs.declared.spot.Spot.TheVariants.{Stamp, Reply}
 use Rattle.structure_laws.specs.Meaning.{Meaning}
+use Rattle.history_orders.specs.Turns.{Follows}
+use Rattle.runner_parts.specs.declared.entries.Look.{Look}
 use Rattle.runner_parts.specs.declared.event.Event.{Event}
+use Rattle.epoch_core.specs.declared.stage.Stage.TheVariants.{Entered}
+use Rattle.runner_parts.specs.State.{PartState}
+use Rattle.runner_parts.specs.Tests.{is_looked, is_replied}
 use Rattle.machine_states.specs.World.{World, run}
 use Rattle.machine_states.specs.Reached.{Reached}
 use Rattle.machine_states.specs.Schedules.{IsAfter}
@@ -15,17 +20,27 @@ use Rattle.reached_histories.specs.Requests.{requests_of}
 use Rattle.reached_histories.specs.Sections.{HasOpen}
 
 -- real-time order from one state to a later one, of a request that is answered in the first and of one that isn't asked
--- there: the answered one keeps its stamp, and the other one's is greater once it has one
+-- there: the answered one keeps its stamp, and the other one's is greater once both have theirs, or equal where both are
+-- odd. Then both are of reads, at one place of the history, and their order plays no part. A reply without a stamp is
+-- that of a read whose worker hasn't written the stamp yet
 abbrev pub ComesBefore : Sight → Sight → ℕ → ℕ → Type 0
 ComesBefore s s' k n = s.word (Reply k) ≢ 0 → s'.word (Stamp n) ≢ 0
-    → (s'.word (Stamp k) ≡ s.word (Stamp k)) × (s'.word (Stamp k) < s'.word (Stamp n))
+    → (s.word (Stamp k) ≢ 0 → s'.word (Stamp k) ≡ s.word (Stamp k))
+    × (s'.word (Stamp k) ≢ 0 → Follows (s'.word (Stamp k)) (s'.word (Stamp n)))
+
+-- a read seeks its request: its reply is written and not its stamp, or the clock was loaded for it and its runner hasn't
+-- left since
+abbrev pub IsSought : PartState → Look → Type 0
+IsSought p x = (is_replied x.stage ≡ true) ⊎ ((is_looked x.stage ≡ true) × (g : ℕ) × (p.stage ≡ Entered g))
 
 module _ (m : Meaning) (l : Layout) (requests : List Request) where
-  -- the request isn't asked yet: it has no stamp, and its worker has published no section for it, or has run that to
-  -- its end
+  -- the request isn't asked yet: it has no stamp, its worker has published no section for it, or has run that to its
+  -- end, and no read of its worker seeks it
   pub record IsUnasked (s : Sight) (n : ℕ) : Type 0 where
     pub unstamped : s.word (Stamp n) ≡ 0
     pub unpublished : HasOpen s ((requests_of m l requests).worker n) n → ⊥
+    pub unlooked : (x : Look) → (s.part ((requests_of m l requests).worker n)).reads.look ≡ Some x
+        → IsSought (s.part ((requests_of m l requests).worker n)) x → x.thunk.request ≢ n
 
   -- what is answered comes before what isn't asked yet
   abbrev pub AreInRealTime : Sight → Sight → Type 0

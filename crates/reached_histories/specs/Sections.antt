@@ -2,8 +2,9 @@
 use Rattle.std.specs.Prelude.{◌≡◌, ℕ, ◌<◌, true, false, Some, take}
 use Rattle.body_terms.specs.declared.micro.Micro.TheVariants.{StampExchange}
 use Rattle.structure_laws.specs.Meaning.{Meaning}
+use Rattle.runner_parts.specs.declared.entries.Look.{Look}
 use Rattle.runner_parts.specs.declared.entries.Published.{Published}
-use Rattle.runner_parts.specs.Tests.{is_answered}
+use Rattle.runner_parts.specs.Tests.{is_answered, is_replied}
 use Rattle.agreement_core.specs.State.{AgreementState}
 use Rattle.machine_states.specs.Sight.{Sight}
 use Rattle.machine_facts.specs.machine_invariant.specs.Trails.{step_at}
@@ -27,6 +28,13 @@ module _ (s : Sight) where
   -- it knew both words of this request when it published this section
   abbrev pub KnewThen : ℕ → Published → ℕ → Type 0
   KnewThen r x n = is_answered (take x.known (s.part r).records.known) n ≡ true
+
+  -- this runner has written the reply of a read of this request, and not yet its stamp
+  pub record IsToStamp (r n : ℕ) : Type 0 where
+    pub look : Look
+    pub looked : (s.part r).reads.look ≡ Some look
+    pub replied : is_replied look.stage ≡ true
+    pub request : look.thunk.request ≡ n
 
   -- this runner has published a section for this request, and not run it to its end
   pub record HasOpen (r n : ℕ) : Type 0 where

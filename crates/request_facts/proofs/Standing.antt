@@ -17,9 +17,11 @@ use Rattle.structure_laws.specs.Meaning.{Meaning}
 use Rattle.structure_laws.specs.Laws.{Laws}
 use Rattle.structure_laws.specs.Sections.{IsAllowed}
 use Rattle.runner_parts.specs.declared.entries.Known.{Known}
+use Rattle.runner_parts.specs.declared.entries.Look.{Look}
 use Rattle.runner_parts.specs.declared.entries.Published.{Published}
-use Rattle.runner_parts.specs.State.{RunState}
-use Rattle.runner_parts.specs.Tests.{knows, is_answered}
+use Rattle.epoch_core.specs.declared.stage.Stage.TheVariants.{Idle}
+use Rattle.runner_parts.specs.State.{RunState, PartState}
+use Rattle.runner_parts.specs.Tests.{knows, is_answered, is_between}
 use Rattle.agreement_core.specs.State.{AgreementState, section_of}
 use Rattle.agreement_core.specs.Checks.{is_stamp_exchange}
 use Rattle.reached_histories.specs.history_core.specs.State.{Requests, HistoryState}
@@ -36,12 +38,20 @@ use Rattle.reached_histories.specs.Kept.{link_of}
 use Rattle.reached_histories.proofs.First.{entry_of}
 use Rattle.reached_histories.specs.History.{IsPlaced}
 use Rattle.reached_histories.specs.Laws.{HasHistory}
-use Rattle.reached_histories.specs.RealTime.{IsUnasked}
+use Rattle.reached_histories.specs.RealTime.{IsSought, IsUnasked}
 use Rattle.reached_histories.proofs.Histories.{reached_have}
 use Rattle.reached_histories.proofs.RealTime.{reached_linearizable}
 use Rattle.request_facts.specs.Placed.{IsUnserved}
 use Rattle.request_facts.specs.Laws.{HasEntry, IsKnown, IsStamping, CallersStand, ReachedCallersStand, IsToAsk, AnsweredComeFirst}
 use Rattle.history_orders.proofs.Replies.{replies_small}
+
+-- an idle worker that has no read's reply without its stamp seeks nothing
+pub idle_seeks_none : (p : PartState) → p.stage ≡ Idle → is_between p.reads.look ≡ false → (x : Look) → p.reads.look ≡ Some x
+    → IsSought p x → ⊥
+idle_seeks_none p idle settled x looked sought = ⊎_elim
+    (λ replied. let clash : true ≡ false = sym (ap is_between looked ∙ replied) ∙ settled in cc)
+    (λ entered. let z = sym idle ∙ entered.2 in cc)
+    sought
 
 each : (xs : List Request) (i : ℕ) (x : Request) → slice_get xs i ≡ Some x → All (λ (y : Request). IsAllowed y.op) xs → IsAllowed x.op
 each xs i x at all = subst (λ (y : Request). IsAllowed y.op) (get_or_from_slice_get xs i x x at)
@@ -122,25 +132,35 @@ module _ (m : Meaning) (l : Layout) (rs : List Request) (allowed : AreAllowed rs
       let clash : 0 ≡ suc x.descriptor = sym none ∙ (ap link_of is ∙ ap (λ b. cond b 0 (suc x.descriptor)) going) in cc
 
   -- a request of its own that it doesn't know, while it has no section on the way
-  is_unserved : (r n : ℕ) → c.worker n ≡ r → link_of (s.part r).published ≡ 0 → is_answered (s.part r).records.known n ≡ false → IsUnserved m l rs s n
-  is_unserved r n own idle unknown = record { stamp = no_stamp; reply = no_reply }
-    where
-      no_stamp : s.word (spots.Stamp n) ≡ 0
-      no_stamp = ⊎_elim (λ none. none)
-          (λ some. ⊎_elim
-          (λ told. absurd (let clash : true ≡ false = sym told ∙ (ap (λ i. is_answered (s.part i).records.known n) own ∙ unknown) in cc))
-          (λ mine. absurd (closed (s.part r).published mine.section (ap (λ i. (s.part i).published) (sym own) ∙ mine.published) idle mine.going))
-          (stands.asked.answered n some))
-          (zero_or (s.word (spots.Stamp n)))
+  module _ (r n : ℕ) (own : c.worker n ≡ r) (idle : link_of (s.part r).published ≡ 0) (unknown : is_answered (s.part r).records.known n ≡ false) where
+    no_stamp : s.word (spots.Stamp n) ≡ 0
+    no_stamp = ⊎_elim (λ none. none)
+        (λ some. ⊎_elim
+        (λ told. absurd (let clash : true ≡ false = sym told ∙ (ap (λ i. is_answered (s.part i).records.known n) own ∙ unknown) in cc))
+        (λ mine. absurd (closed (s.part r).published mine.section (ap (λ i. (s.part i).published) (sym own) ∙ mine.published) idle mine.going))
+        (stands.asked.answered n some))
+        (zero_or (s.word (spots.Stamp n)))
 
-      no_reply : s.word (spots.Reply n) ≡ 0
-      no_reply = ⊎_elim (λ none. none) (λ some. absurd (stands.legal.stamped n some no_stamp)) (zero_or (s.word (spots.Reply n)))
+    -- a reply without its stamp would be one of its reads
+    no_reply : is_between (s.part r).reads.look ≡ false → s.word (spots.Reply n) ≡ 0
+    no_reply settled = ⊎_elim (λ none. none)
+        (λ some. ⊎_elim
+        (λ stamped. absurd (stamped no_stamp))
+        (λ reads. absurd (let clash : true ≡ false = sym (ap is_between (ap (λ i. (s.part i).reads.look) (sym own) ∙ reads.looked) ∙ reads.replied) ∙ settled in cc))
+        (stands.legal.stamped n some))
+        (zero_or (s.word (spots.Reply n)))
+
+  is_unserved : (r n : ℕ) → c.worker n ≡ r → link_of (s.part r).published ≡ 0 → is_between (s.part r).reads.look ≡ false
+      → is_answered (s.part r).records.known n ≡ false → IsUnserved m l rs s n
+  is_unserved r n own idle settled unknown = record { stamp = no_stamp r n own idle unknown; reply = no_reply r n own idle unknown settled }
 
   -- so it hasn't asked it
   pub unasked : (r n : ℕ) → IsToAsk m l rs s r n → IsUnasked m l rs s n
   unasked r n is = record {
-    unstamped = (is_unserved r n is.own is.idle is.unknown).stamp;
+    unstamped = no_stamp r n is.own is.idle is.unknown;
     unpublished = λ asked. closed (s.part r).published asked.section (ap (λ i. (s.part i).published) (sym is.own) ∙ asked.published) is.idle asked.going;
+    unlooked = λ x looked sought. is.unsought x (ap (λ i. (s.part i).reads.look) (sym is.own) ∙ looked)
+        (subst (λ i. IsSought (s.part i) x) is.own sought);
   }
 
   -- a run before the exchange of its stamp, of a request of the runner's own that isn't its own section's

@@ -8,8 +8,9 @@ use Rattle.table_words.specs.declared.layout.Layout.{Layout}
 use Rattle.table_words.specs.Limits.{IsWithinLimits}
 use Rattle.structure_laws.specs.Meaning.{Meaning}
 use Rattle.runner_parts.specs.declared.entries.Known.{Known}
+use Rattle.runner_parts.specs.declared.entries.Look.{Look}
 use Rattle.runner_parts.specs.State.{RunState}
-use Rattle.runner_parts.specs.Tests.{is_answered}
+use Rattle.runner_parts.specs.Tests.{is_answered, is_between}
 use Rattle.runner_steps.specs.Sections.{thunk_of, next_of}
 use Rattle.machine_states.specs.World.{World}
 use Rattle.machine_states.specs.Reached.{Reached}
@@ -17,7 +18,7 @@ use Rattle.machine_states.specs.Sight.{Sight, sight}
 use Rattle.reached_histories.specs.machine_invariant.specs.After.{AreAllowed}
 use Rattle.reached_histories.specs.Requests.{requests_of}
 use Rattle.reached_histories.specs.Kept.{link_of}
-use Rattle.reached_histories.specs.RealTime.{LeadsTo, ComesBefore}
+use Rattle.reached_histories.specs.RealTime.{LeadsTo, ComesBefore, IsSought}
 use Rattle.request_facts.specs.Placed.{IsServedAs, IsUnserved}
 
 -- the list has this entry
@@ -46,9 +47,11 @@ module _ (m : Meaning) (l : Layout) (requests : List Request) where
     -- who knows both words of a request knows its place in the history
     pub known : m.is_map ≡ true → (r n : ℕ) → is_answered (s.part r).records.known n ≡ true
         → IsKnown s (s.part r).records.known n
-    -- a worker that has no section on the way knows each request of its own that was served
+    -- a worker that has no section on the way, and no read's reply without its stamp, knows each request of its own that
+    -- was served
     pub unserved : (r n : ℕ) → (requests_of m l requests).worker n ≡ r → link_of (s.part r).published ≡ 0
-        → is_answered (s.part r).records.known n ≡ false → IsUnserved m l requests s n
+        → is_between (s.part r).reads.look ≡ false → is_answered (s.part r).records.known n ≡ false
+        → IsUnserved m l requests s n
     -- and before it would learn of a request of its own in somebody else's section, it knows it
     pub own : (r n : ℕ) (q : RunState) → (requests_of m l requests).worker n ≡ r → IsStamping s r n q
         → is_answered (s.part r).records.known n ≡ true
@@ -57,14 +60,16 @@ module _ (m : Meaning) (l : Layout) (requests : List Request) where
   ReachedCallersStand = IsWithinLimits l → AreAllowed requests → (w : World) → Reached m l requests w
       → CallersStand (sight m l requests w)
 
-  -- a worker that has no section on the way hasn't asked a request of its own that it doesn't know
+  -- a worker that has no section on the way hasn't asked a request of its own that it doesn't know, where no read of its
+  -- seeks it
   pub record IsToAsk (s : Sight) (r number : ℕ) : Type 0 where
     pub own : (requests_of m l requests).worker number ≡ r
     pub idle : link_of (s.part r).published ≡ 0
     pub unknown : is_answered (s.part r).records.known number ≡ false
+    pub unsought : (x : Look) → (s.part r).reads.look ≡ Some x → IsSought (s.part r) x → x.thunk.request ≢ number
 
   -- real-time order, for whoever asks: in each later state the request's stamp is above that of each request that was
-  -- answered before it was asked, by whomever
+  -- answered before it was asked, by whomever, or equal to it where both are odd, so of reads
   abbrev pub AnsweredComeFirst : Type 0
   AnsweredComeFirst = IsWithinLimits l → AreAllowed requests → (w v : World) → Reached m l requests w
       → LeadsTo m l requests w v

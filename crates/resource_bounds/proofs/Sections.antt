@@ -25,9 +25,9 @@ use Rattle.structure_laws.specs.Shape.{HasStep}
 use Rattle.runner_parts.specs.declared.entries.Published.{Published}
 use Rattle.agreement_core.specs.State.{CellRules, Section, AgreementState}
 use Rattle.agreement_core.specs.Checks.{is_stop}
-use Rattle.reached_histories.specs.history_core.specs.State.{Requests, HistoryState}
+use Rattle.reached_histories.specs.history_core.specs.State.{Requests, HistoryState, has_replied}
 use Rattle.reached_histories.specs.history_core.specs.Sound.{IsSound}
-use Rattle.reached_histories.specs.history_core.proofs.WithoutReads.{rises}
+use Rattle.reached_histories.specs.history_core.proofs.Looks.{replied_parts}
 use Rattle.machine_states.specs.Sight.{Sight}
 use Rattle.machine_epochs.specs.Slots.{thunk_in}
 use Rattle.machine_scenes.specs.Shown.{rules_of, section_with, IsOfThunk}
@@ -222,9 +222,20 @@ module _ (m : Meaning) (l : Layout) (rs : List Request) (s : Sight) (stands : Ha
           unstamped : h.stamp t.request ≡ 0
           unstamped = ap h.stamp (sym request_is) ∙ sound.stamps.fresh d used_there going early
 
+          -- no read has written it: its worker has a section on the way
+          unread : (b : Bool) → has_replied (h.look (c.worker t.request)) t.request ≡ b → has_replied (h.look (c.worker t.request)) t.request ≡ false
+          unread false is = is
+          unread true is =
+              let p = replied_parts (h.look (c.worker t.request)) t.request is in
+              let idle = ((sound.reads.looks (c.worker t.request) p.0 p.1).between p.2).idle in
+              let held : h.published (c.worker t.request) ≡ suc d =
+              ap (λ n. h.published (c.worker n)) (sym request_is) ∙ sound.sections.published d used_there going in
+              absurd (omega (arith, idle, held))
+
           none : (n : ℕ) → h.reply t.request ≡ n → n ≡ 0
           none zero e = refl
-          none (suc n) e = absurd ((rises c h stands.joined.reads sound).stamped t.request (λ z. let b = e in omega (arith, b, z)) unstamped)
+          none (suc n) e = absurd (sound.stamps.replied t.request (λ z. let b = e in omega (arith, b, z))
+              (unread (has_replied (h.look (c.worker t.request)) t.request) refl) unstamped)
 
       -- it is for an operation that adds a pair, and answers so
       module _ (per_pair : ℕ) (over : PlannerLawsOver m l per_pair) where

@@ -25,6 +25,7 @@ use Rattle.machine_states.proofs.Steps.{some_same}
 use Rattle.machine_states.proofs.Updates.{put_same}
 use Rattle.machine_epochs.proofs.InsideAsked as inside
 use Rattle.machine_epochs.proofs.OutsideAsked as outside
+use Rattle.machine_epochs.proofs.ReadsAsked as reads
 
 -- the kinds that may change a cell: in a run, and outside one
 abbrev pub changes_inside : EventKind → Bool
@@ -102,7 +103,7 @@ module _ (f : Spot → ℕ) (p : ℕ) where
     pub outside_stays : (kind : EventKind) → changes_outside kind ≡ false → outside_ask m l rs r kind y ≡ Some x → Stays x
     outside_stays kinds.EnterLoad no_change e = loaded _ x (outside.enter_load_asked y.stage x e).1
     outside_stays kinds.Announce no_change e = subst Stays (outside.announce_asked r y.stage x e).2 refl
-    outside_stays kinds.EnterAgain no_change e = loaded _ x (outside.enter_again_asked y.stage x e).1
+    outside_stays kinds.EnterAgain no_change e = loaded _ x (outside.enter_again_asked y x e).1
     outside_stays kinds.Idle no_change e = subst Stays (outside.idle_asked r y x e).3 refl
     outside_stays kinds.ScanEpoch no_change e = loaded _ x (outside.enter_load_asked y.stage x e).1
     outside_stays (kinds.ScanOne n) no_change e = loaded _ x (outside.scan_one_asked l n y.stage x e).4
@@ -117,4 +118,8 @@ module _ (f : Spot → ℕ) (p : ℕ) where
     outside_stays (kinds.Hold thunk d) no_change e = absurd (true≢false no_change)
     outside_stays (kinds.LoadThunk (Some d)) no_change e = loaded _ x (outside.open_asked d y x e).3
     outside_stays kinds.EpochForRetire no_change e = loaded _ x (outside.retire_asked y x e).4
+    outside_stays (kinds.ReadPlan thunk) no_change e = subst Stays (reads.read_plan_asked r thunk y x e).is refl
+    outside_stays kinds.ReadClock no_change e = loaded _ x (reads.read_clock_asked y x e).is
+    outside_stays kinds.ReadReply no_change e = subst Stays (reads.read_reply_asked m l rs r y x e).is refl
+    outside_stays kinds.ReadStamp no_change e = subst Stays (reads.read_stamp_asked y x e).is refl
     outside_stays _ no_change e = some_none x e

@@ -1,5 +1,5 @@
 -- Entries that the words of requests show make a legal report.
-use Rattle.std.proofs.Common.{◌≡◌, ◌≢◌, ℕ, ◌<◌, ◌≤◌, ◌==◌, Bool, true, true≢false, List, Option, None, Some, IsSome, IsTrue, length, map, get_or, sym, ap, ◌∙◌, subst, arith, rules}
+use Rattle.std.proofs.Common.{◌≡◌, ◌≢◌, ℕ, ◌<◌, ◌≤◌, ◌==◌, Bool, true, true≢false, List, Option, None, Some, IsSome, IsTrue, length, map, get_or, sym, ap, ◌∙◌, subst, ⊎_elim, arith, rules}
 use Rattle.std.specs.Prelude.{AllPairs, Contains, IsPermutation, reverse, slice_get}
 use Rattle.std.specs.List.{IsDistinct, zip}
 use Rattle.std.specs.FinMap.{empty, len}
@@ -17,7 +17,7 @@ use Rattle.map_history.specs.History.{Answered, IsLegalFrom}
 use Rattle.map_history.specs.Replay.{map_after_all}
 use Rattle.map_history.specs.Words.{word_of, IsReply}
 use Rattle.map_history.proofs.Words.{same_reply}
-use Rattle.history_orders.specs.Turns.{comes_before}
+use Rattle.history_orders.specs.Turns.{comes_before, Follows}
 use Rattle.history_orders.specs.Stamped.{Stamped, turn_of, is_earlier, answered_of, oldest_first, ops_of, IsHistoryOf}
 use Rattle.history_orders.proofs.Turns.{before_itself}
 use Rattle.report_text.specs.Entries.{Entered, entered_in, turn_of_entered, answered_by, op_of_entered, AreLegal}
@@ -33,7 +33,7 @@ pub record AreHistory (request : ℕ → Request) (stamp reply : ℕ → ℕ) (r
   pub legal : IsLegalFrom empty (oldest_first history)
   pub replies : (e : Stamped) → Contains history e → reply e.number ≡ word_of e.reply
   pub fit : (e : Stamped) → Contains history e → IsReply e.reply
-  pub rising : (k n : ℕ) → k < n → (request k).trace ≡ (request n).trace → stamp n ≢ 0 → (stamp k ≢ 0) × (stamp k < stamp n)
+  pub rising : (k n : ℕ) → k < n → (request k).trace ≡ (request n).trace → stamp n ≢ 0 → (stamp k ≢ 0) × Follows (stamp k) (stamp n)
 
 -- an entry of the history as a served request
 abbrev entered_by : (ℕ → Request) → Stamped → Entered
@@ -183,7 +183,7 @@ module _ (request : ℕ → Request) (stamp reply : ℕ → ℕ) (requests : Lis
       let words_x = shown_at of_x.place x.entry of_x.entry in
       let words_y = shown_at of_y.place y.entry of_y.entry in
       let stamps = (are.rising of_x.place of_y.place (omega (arith, rise, of_x.number, of_y.number)) traces words_y.0).1 in
-      omega (arith, stamps, words_x.1, words_y.1)
+      ⊎_elim (λ lower. omega (arith, lower, words_x.1, words_y.1)) (λ same. let is = same.0 in omega (arith, is, words_x.1, words_y.1)) stamps
 
   -- in a trace no served request follows an unserved one
   served_first : (i j : ℕ) (q r : Request) (first second : Option Entry) → i < j → slice_get requests i ≡ Some q → slice_get requests j ≡ Some r

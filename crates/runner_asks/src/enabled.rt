@@ -15,6 +15,7 @@ use crate::outside::{
     join_ask, open_ask, private_load_ask, private_store_ask, read_ask, retire_ask, scan_one_ask,
     split_ask,
 };
+use crate::reads::{read_clock_ask, read_plan_ask, read_reply_ask, read_stamp_ask};
 use body_terms::Micro;
 use map_history::Request;
 use runner_parts::{EventKind, Part, Run};
@@ -123,7 +124,7 @@ fn outside_ask<S: Structure>(
     match kind {
         EventKind::EnterLoad | EventKind::ScanEpoch => enter_load_ask(part.stage),
         EventKind::Announce => announce_ask(runner, part.stage),
-        EventKind::EnterAgain => enter_again_ask(part.stage),
+        EventKind::EnterAgain => enter_again_ask(part),
         EventKind::Idle => idle_ask(part, runner),
         EventKind::ScanOne(number) => scan_one_ask(layout, *number, part.stage),
         EventKind::Advance => advance_ask(layout, part.stage),
@@ -150,6 +151,10 @@ fn outside_ask<S: Structure>(
         }
         EventKind::LoadThunk(Some(descriptor)) => open_ask(part, *descriptor),
         EventKind::EpochForRetire => retire_ask(part),
+        EventKind::ReadPlan(thunk) => read_plan_ask(part, runner, thunk),
+        EventKind::ReadClock => read_clock_ask(part),
+        EventKind::ReadReply => read_reply_ask(part, structure, layout, requests, runner),
+        EventKind::ReadStamp => read_stamp_ask(part),
         _ => None,
     }
 }

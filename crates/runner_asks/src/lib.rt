@@ -15,7 +15,5 @@ mod stores;
 
 pub use enabled::asks;
 pub use inside::{LAST_CLOCK, is_open_run, last_of, next_of};
-pub use knowledge::is_between;
-pub use reads::{read_clock_ask, read_plan_ask, read_reply_ask, read_stamp_ask};
 pub use section::{is_end, leaves, reply_in, settled, source_value, thunk_of};
 pub use stores::last_stored;

@@ -7,7 +7,9 @@ ghost use Rattle.body_terms.specs.Memory.{cell_of};
 ghost use Rattle.runner_parts.specs.Tests.{is_open, serves};
 ghost use Rattle.runner_steps.specs.Outside.{enter_load_ask, announce_ask, enter_again_ask, idle_ask, scan_one_ask, advance_ask, split_ask, join_ask, read_ask, entry_ask, descriptor_spot, private_load_ask, private_store_ask, is_due, is_publishable, is_ready, hold_ask, open_ask, is_over, retire_ask};
 
-use crate::knowledge::{is_next, is_open, is_outside, is_readable, is_resting, is_walking};
+use crate::knowledge::{
+    is_between, is_next, is_open, is_outside, is_readable, is_resting, is_walking,
+};
 use crate::stores::is_prepared;
 use body_terms::{Place, Thunk, Word};
 use epoch_core::{LAST_EPOCH, Stage};
@@ -35,11 +37,11 @@ pub fn announce_ask(runner: u32, stage: Stage) -> Option<(Spot, Access)>
     }
 }
 
-pub fn enter_again_ask(stage: Stage) -> Option<(Spot, Access)>
-    ensures { result ≡ enter_again_ask stage }
+pub fn enter_again_ask(part: &Part) -> Option<(Spot, Access)>
+    ensures { result ≡ enter_again_ask part.now }
 {
-    match stage {
-        Stage::Announced => Some((Spot::Epoch, Access::Loads)),
+    match (is_between(&part.reads.look), part.stage) {
+        (false, Stage::Announced) => Some((Spot::Epoch, Access::Loads)),
         _ => None,
     }
 }
@@ -84,7 +86,8 @@ fn is_over(published: Option<Published>) -> bool
 pub fn idle_ask(part: &Part, runner: u32) -> Option<(Spot, Access)>
     ensures { result ≡ idle_ask runner part.now }
 {
-    if is_walking(part.stage, &part.run) && part.published.is_none() {
+    let over = part.published.is_none() && !is_between(&part.reads.look);
+    if is_walking(part.stage, &part.run) && over {
         Some((Spot::Announcement(runner), Access::Stores(0)))
     } else {
         None
@@ -200,8 +203,8 @@ pub fn retire_ask(part: &Part) -> Option<(Spot, Access)>
     }
 }
 
-/// Whether the thunk may be published: it serves the worker's next request, its lock's word was read free, and no
-/// section is left to retire.
+/// Whether the thunk may be published: it serves the worker's next request, its lock's word was read free, no
+/// section is left to retire, and no reply of a read is without its stamp.
 pub fn is_publishable<S: Structure>(
     part: &Part,
     structure: &S,
@@ -213,8 +216,10 @@ pub fn is_publishable<S: Structure>(
     requires { 1 ≤ layout.runners }
     ensures { result ≡ is_publishable (S.meaning structure.now) layout requests.now runner thunk.now part.now }
 {
+    let between = is_between(&part.reads.look);
     is_walking(part.stage, &part.run)
         && part.published.is_none()
+        && !between
         && is_read_open(layout, &part.reads, thunk)
         && is_due(
             structure,

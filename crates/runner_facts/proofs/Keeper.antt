@@ -29,7 +29,7 @@ use Rattle.epoch_core.specs.declared.stage.Stage.TheVariants as stages
 use Rattle.runner_parts.specs.declared.event.EventKind.{EventKind}
 use Rattle.runner_parts.specs.declared.event.EventKind.TheVariants as kinds
 use Rattle.runner_parts.specs.State.{RunState, RecordsState, PartState}
-use Rattle.runner_parts.specs.Tests.{has, is_next, is_open, is_walking, are_answered, is_answered}
+use Rattle.runner_parts.specs.Tests.{has, is_next, is_open, is_walking, is_between, are_answered, is_answered}
 use Rattle.runner_steps.specs.Asks.{ask_by, outside_ask, sizes_for}
 use Rattle.runner_steps.specs.Sections.{is_open_run, next_of}
 use Rattle.runner_steps.specs.Outside.{hold_ask, is_ready, is_publishable}
@@ -208,7 +208,8 @@ no_hold m l some rs t d p x e =
     let ready = and_parts (is_ready l p d t) (is_publishable m l rs l.runners t p) (if_some _ _ x e).0 in
     let walks = and_parts (is_walking p.stage p.run) _ ready.1 in
     let none = and_parts (is_none p.published) _ walks.1 in
-    let lock = and_parts (is_open l p.reads.cells t) _ none.1 in
+    let settled = and_parts (not (is_between p.reads.look)) _ none.1 in
+    let lock = and_parts (is_open l p.reads.cells t) _ settled.1 in
     let due = and_parts (is_next l l.runners rs p.records.known (slice_get rs t.request)) _ lock.1 in
     not_next l some rs p.records.known (slice_get rs t.request) due.0
 

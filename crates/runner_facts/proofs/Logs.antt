@@ -30,6 +30,7 @@ use Rattle.machine_states.proofs.Steps.{some_same}
 use Rattle.machine_states.proofs.Updates.{put_same}
 use Rattle.machine_epochs.proofs.InsideAsked as inside
 use Rattle.machine_epochs.proofs.OutsideAsked as outside
+use Rattle.machine_epochs.proofs.ReadsAsked as reads
 
 -- the place in the log to which a step commits
 abbrev pub log_of : Micro → ℕ
@@ -169,7 +170,7 @@ module _ (f : Spot → ℕ) (d k : ℕ) where
     pub outside_log : (kind : EventKind) → outside_ask m l rs r kind y ≡ Some x → LogStays x
     outside_log kinds.EnterLoad e = loads _ x (outside.enter_load_asked y.stage x e).1
     outside_log kinds.Announce e = subst LogStays (outside.announce_asked r y.stage x e).2 refl
-    outside_log kinds.EnterAgain e = loads _ x (outside.enter_again_asked y.stage x e).1
+    outside_log kinds.EnterAgain e = loads _ x (outside.enter_again_asked y x e).1
     outside_log kinds.Idle e = subst LogStays (outside.idle_asked r y x e).3 refl
     outside_log kinds.ScanEpoch e = loads _ x (outside.enter_load_asked y.stage x e).1
     outside_log (kinds.ScanOne n) e = loads _ x (outside.scan_one_asked l n y.stage x e).4
@@ -186,4 +187,8 @@ module _ (f : Spot → ℕ) (d k : ℕ) where
     outside_log (kinds.Hold thunk d') e = subst LogStays (outside.hold_asked m l rs r thunk d' y x e).is refl
     outside_log (kinds.LoadThunk (Some d')) e = loads _ x (outside.open_asked d' y x e).3
     outside_log kinds.EpochForRetire e = loads _ x (outside.retire_asked y x e).4
+    outside_log (kinds.ReadPlan thunk) e = subst LogStays (reads.read_plan_asked r thunk y x e).is refl
+    outside_log kinds.ReadClock e = loads _ x (reads.read_clock_asked y x e).is
+    outside_log kinds.ReadReply e = subst LogStays (reads.read_reply_asked m l rs r y x e).is refl
+    outside_log kinds.ReadStamp e = subst LogStays (reads.read_stamp_asked y x e).is refl
     outside_log _ e = some_none x e

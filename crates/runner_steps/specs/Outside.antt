@@ -17,7 +17,7 @@ use Rattle.epoch_core.specs.declared.stage.Stage.TheVariants as stages
 use Rattle.runner_parts.specs.declared.entries.Published.{Published}
 use Rattle.runner_parts.specs.declared.entries.Known.{Known}
 use Rattle.runner_parts.specs.State.{PartState}
-use Rattle.runner_parts.specs.Tests.{has, is_walking, is_resting, is_outside, is_next, is_prepared, is_open, serves, is_readable}
+use Rattle.runner_parts.specs.Tests.{has, is_walking, is_resting, is_outside, is_next, is_prepared, is_open, serves, is_readable, is_between}
 
 -- a word and what the step does with it; None where the event isn't enabled
 abbrev pub Ask : Type 0
@@ -35,13 +35,20 @@ abbrev pub announce_ask : ℕ → Stage → Ask
 announce_ask r (stages.Loaded e) = Some (spots.Announcement r, Stores e)
 announce_ask r _ = None
 
-abbrev pub enter_again_ask : Stage → Ask
-enter_again_ask stages.Announced = Some (spots.Epoch, Loads)
-enter_again_ask _ = None
+-- where its announcement was stored, and the reply of a read of its isn't without its stamp
+abbrev pub enter_again_by : Bool → Stage → Ask
+enter_again_by true _ = None
+enter_again_by false stages.Announced = Some (spots.Epoch, Loads)
+enter_again_by false _ = None
 
--- not while it has a published section that it hasn't retired
+abbrev pub enter_again_ask : PartState → Ask
+enter_again_ask p = enter_again_by (is_between p.reads.look) p.stage
+
+-- not while it has a published section that it hasn't retired, or the reply of a read of its is without its stamp
 abbrev pub idle_ask : ℕ → PartState → Ask
-idle_ask r p = when (is_walking p.stage p.run && is_none p.published) (spots.Announcement r) (Stores 0)
+idle_ask r p =
+    when (is_walking p.stage p.run && (is_none p.published && not (is_between p.reads.look))) (spots.Announcement r)
+    (Stores 0)
 
 -- the next announcement, the keeper's last
 abbrev pub scan_one_ask : Layout → ℕ → Stage → Ask
@@ -101,11 +108,12 @@ abbrev pub is_due : Meaning → Layout → List Request → ℕ → List Known �
 is_due m l requests r known walk t =
     let request = slice_get requests t.request in is_next l r requests known request && serves m l walk t request
 
--- the thunk may be published: its lock's word was read free, and no section is left to retire
+-- the thunk may be published: its lock's word was read free, no section is left to retire, and no reply of a read
+-- is without its stamp
 abbrev pub is_publishable : Meaning → Layout → List Request → ℕ → Thunk → PartState → Bool
 is_publishable m l requests r t p =
-    is_walking p.stage p.run && (is_none p.published
-    && (is_open l p.reads.cells t && is_due m l requests r p.records.known p.reads.walk t))
+    is_walking p.stage p.run && (is_none p.published && (not (is_between p.reads.look)
+    && (is_open l p.reads.cells t && is_due m l requests r p.records.known p.reads.walk t)))
 
 -- the own free descriptor's words were stored with this thunk, which has eight operands
 abbrev pub is_ready : Layout → PartState → ℕ → Thunk → Bool

@@ -159,6 +159,7 @@ module _ {T : Type 0} (m : Meaning) (laws : Laws m) (t : TableState T) (limits :
         left_nodes = λ other. behind.nodes ∙ (ended.on.nodes ∙ (walked.left other ∙ hop.nodes));
         held = λ i h. held i (hop.stays.held i h);
         entry = ap (λ (s : ReadsState). s.published) behind.reads ∙ (passed.stays.entry ∙ hop.stays.entry);
+        look = ap (λ (s : ReadsState). s.look) behind.reads ∙ (passed.stays.look ∙ hop.stays.look);
         learns = subst (λ ks. Learns thunk.request ks new.part.records.known) hop.known (learns_more thunk.request r1.part.records.known last.part.records.known new.part.records.known passed.learns
             (subst (λ (x : Thunk). Learns x.request last.part.records.known new.part.records.known) q_thunk
             (step_learns m laws t limits allowed last new last_own q _ ended.released.found ended.released.step)));

@@ -147,6 +147,7 @@ module _ {T : Type 0} (m : Meaning) (laws : Laws m) (t : TableState T) (limits :
               finished = ap (λ (p : PartState). p.records.finished) part ∙ noted_finished r.layout r.number kind made.met.0 made.met.1 found r.part.records;
               held = λ i h. ap (λ (p : PartState). has p.reads.held i) part ∙ h;
               entry = ap (λ (p : PartState). p.reads.published) part;
+              look = ap (λ (p : PartState). p.reads.look) part;
             });
             nodes = ap (λ (p : PartState). p.nodes) part ∙ is.nodes;
             reads = ap (λ (p : PartState). p.reads) part ∙ is.reads;

@@ -50,6 +50,13 @@ agreed_published s descriptor word = by (has s.published descriptor)
     by true = refl
     by false = refl
 
+agreed_look : (s : ReadsState) (descriptor word : ℕ) → (lock_agreed s descriptor word).look ≡ s.look
+agreed_look s descriptor word = by (has s.published descriptor)
+  where
+    by : (b : Bool) → (if b then holds_named s word else s).look ≡ s.look
+    by true = refl
+    by false = refl
+
 module _ (m : Meaning) (l : Layout) (p : PartState) (q : RunState) (found : ℕ) where
   held_stays : (micro : Micro) (d : ℕ) → has p.reads.held d ≡ true → has (reads_behind p q micro found).held d ≡ true
   held_stays (micros.NestedCommit place log) d e = agreed_held p.reads q.descriptor (written_once found q.word) d e
@@ -60,6 +67,11 @@ module _ (m : Meaning) (l : Layout) (p : PartState) (q : RunState) (found : ℕ)
   entry_stays (micros.NestedCommit place log) = agreed_published p.reads q.descriptor (written_once found q.word)
   entry_stays (micros.OutcomeCommit place log) = agreed_published p.reads q.descriptor (written_once found q.word)
   entry_stays _ = refl
+
+  look_stays : (micro : Micro) → (reads_behind p q micro found).look ≡ p.reads.look
+  look_stays (micros.NestedCommit place log) = agreed_look p.reads q.descriptor (written_once found q.word)
+  look_stays (micros.OutcomeCommit place log) = agreed_look p.reads q.descriptor (written_once found q.word)
+  look_stays _ = refl
 
   published_stays : (micro : Micro) (after : RunState) → run_behind m l p q micro found ≡ Some after → published_behind m p q micro ≡ p.published
   published_stays (micros.Release place word) after e = by (is_end (next_of m (ended_more q))) e
@@ -92,6 +104,7 @@ module _ {T : Type 0} where
     finished = refl;
     held = λ d e. e;
     entry = refl;
+    look = refl;
   }
 
   pub stays_more : (a b c : RunnerState T) → Stays a b → Stays b c → Stays a c
@@ -106,6 +119,7 @@ module _ {T : Type 0} where
     finished = two.finished ∙ one.finished;
     held = λ d e. two.held d (one.held d e);
     entry = two.entry ∙ one.entry;
+    look = two.look ∙ one.look;
   }
 
 each_more : (request : ℕ) (xs ys : List Known) → ((i : ℕ) (x : Known) → slice_get xs i ≡ Some x → x.request ≡ request)
@@ -180,6 +194,7 @@ module _ {T : Type 0} (m : Meaning) (laws : Laws m) (t : TableState T) (limits :
           finished = step.behind.finished ∙ finished_stays m a.layout a.part q found micro behind e;
           held = λ d h. ap (λ (s : ReadsState). has s.held d) step.behind.reads ∙ held_stays m a.layout a.part q found micro d h;
           entry = ap (λ (s : ReadsState). s.published) step.behind.reads ∙ entry_stays m a.layout a.part q found micro;
+          look = ap (λ (s : ReadsState). s.look) step.behind.reads ∙ look_stays m a.layout a.part q found micro;
         }
 
   -- a runner that made more steps was in a run

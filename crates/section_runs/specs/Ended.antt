@@ -93,6 +93,8 @@ module _ {T : Type 0} (m : Meaning) where
     -- what was held is held on, and what was learned is of the section's request
     pub held : (i : ℕ) → has old.part.reads.held i ≡ true → has new.part.reads.held i ≡ true
     pub entry : new.part.reads.published ≡ old.part.reads.published
+    -- and what it has read without a lock
+    pub look : new.part.reads.look ≡ old.part.reads.look
     pub learns : Learns t.request old.part.records.known new.part.records.known
     -- where the section answered, its runner knows both words of its request
     pub told : (answer : ℕ) → outcome ≡ Answered answer → is_answered new.part.records.known t.request ≡ true

@@ -35,6 +35,7 @@ module _ {T : Type 0} where
     -- what was held is held on
     pub held : (d : ℕ) → has old.part.reads.held d ≡ true → has new.part.reads.held d ≡ true
     pub entry : new.part.reads.published ≡ old.part.reads.published
+    pub look : new.part.reads.look ≡ old.part.reads.look
 
 -- a run that has loaded these words of this descriptor, and nothing else
 abbrev pub opening : ℕ → List ℕ → RunState

@@ -14,7 +14,7 @@ use Rattle.runner_parts.specs.declared.entries.Known.{Known}
 use Rattle.runner_parts.specs.declared.entries.Published.{Published}
 use Rattle.runner_parts.specs.declared.event.EventKind.TheVariants as kinds
 use Rattle.runner_parts.specs.State.{DescriptorsState, NodesState, ReadsState}
-use Rattle.runner_parts.specs.Tests.{has_pair, is_open, is_next, is_answered, knows, serves}
+use Rattle.runner_parts.specs.Tests.{has_pair, is_open, is_next, is_answered, knows, serves, is_between}
 use Rattle.runner_steps.specs.AfterInRun.{over_if}
 use Rattle.runner_steps.specs.Outside.{is_due}
 use Rattle.version_words.specs.RunnerState.{RunnerState}
@@ -176,6 +176,7 @@ module _ {T : Type 0} where
             resting = ends.resting;
             at = ends.stage ∙ run.at.at;
             published = ends.published ∙ ap (λ (p : Option Published). over_if p section.descriptor) run.section.own;
+            settled = ap is_between ends.look ∙ run.at.settled;
             seated = within ends.number ends.layout run.at.seated;
           };
           own = run.section.descriptor;

@@ -1,5 +1,5 @@
 -- The keeper once it has split off one more worker, or joined one.
-use Rattle.std.specs.Prelude.{◌==◌, ◌&&◌, ◌||◌, nat_lt, not, Bool, true, false, if◌then◌else◌}
+use Rattle.std.specs.Prelude.{◌==◌, ◌||◌, nat_lt, not, Bool, true, false, if◌then◌else◌}
 use Rattle.std.proofs.Common.{◌≡◌, ℕ, zero, suc, ◌+◌, ◌*◌, ◌<◌, ◌≤◌, List, [], ◌∷◌, ◌++◌, length, refl, sym, ap, ◌∙◌, subst, arith, Option, Some, None, eq-eqb, ne_eqb, ◌≢◌}
 use mathlib.Core.Logic.{dite}
 use native.Mathlib.Decide.{ℕ_discrete}
@@ -9,8 +9,7 @@ use Rattle.table_words.specs.declared.access.Access.TheVariants.{Loads}
 use Rattle.structure_laws.specs.Meaning.{Meaning}
 use Rattle.runner_parts.specs.declared.event.EventKind.TheVariants as kinds
 use Rattle.runner_parts.specs.State.{RunState, PartState, RecordsState, NodesState}
-use Rattle.runner_parts.specs.Tests.{has}
-use Rattle.runner_steps.specs.AfterOutside.{split_after}
+use Rattle.runner_parts.specs.Tests.{has, is_between}
 use Rattle.runner_steps.specs.After.{after, after_by, stepped, leaves, joins}
 use Rattle.machine_states.specs.First.{keeper_part, falling}
 use Rattle.version_words.specs.RunnerState.{RunnerState}
@@ -80,7 +79,7 @@ has_still (z ∷ xs) x y some = or_still (z == y) (has xs y) (has (xs ++ x ∷ [
 pub first_is_idle : {T : Type 0} (m : Meaning) (t : TableState T) (r : RunnerState T) → r ≡ first_keeper m t → IsIdleKeeper m 0 0 r
 first_is_idle {T} m t r is = subst (λ (y : RunnerState T). IsIdleKeeper m 0 0 y) (sym is) (record {
   keeper = record { present = refl; resting = refl; number = refl; as_many = refl };
-  at = record { present = refl; resting = refl; at = refl; published = refl; seated = omega arith };
+  at = record { present = refl; resting = refl; at = refl; published = refl; settled = refl; seated = omega arith };
   joined = record { fresh = λ worker past. refl; parts = λ worker few. absurd (omega (arith, few)) };
   told = λ worker few. absurd (omega (arith, few));
   nodes = refl;
@@ -98,6 +97,7 @@ module _ {T : Type 0} (m : Meaning) (r r' : RunnerState T) (splits : ℕ) where
       resting = of (λ (q : PartState). q.run) (λ q s. refl) ∙ is.at.resting;
       at = of (λ (q : PartState). q.stage) (λ q s. refl) ∙ is.at.at;
       published = of (λ (q : PartState). q.published) (λ q s. refl) ∙ is.at.published;
+      settled = of (λ (q : PartState). is_between q.reads.look) (λ q s. refl) ∙ is.at.settled;
       seated = subst (λ (y : RunnerState T). y.number ≤ y.layout.runners) (sym split.made) is.at.seated;
     };
     joined = split_joined m r r' splits 0 split is.keeper is.joined;
@@ -123,6 +123,7 @@ module _ {T : Type 0} (m : Meaning) (keeper worker r' : RunnerState T) (splits c
       resting = of (λ (q : PartState). q.run) (λ q s. refl) ∙ is.at.resting;
       at = of (λ (q : PartState). q.stage) (λ q s. refl) ∙ is.at.at;
       published = of (λ (q : PartState). q.published) (λ q s. refl) ∙ is.at.published;
+      settled = of (λ (q : PartState). is_between q.reads.look) (λ q s. refl) ∙ is.at.settled;
       seated = subst (λ (y : RunnerState T). y.number ≤ y.layout.runners) (sym joins) is.at.seated;
     };
     joined = then_joined m keeper worker r' splits count joins is.keeper is.joined next;

@@ -19,7 +19,7 @@ use Rattle.runner_parts.specs.declared.event.EventKind.TheVariants as kinds
 use Rattle.epoch_core.specs.declared.stage.Stage.TheVariants as stages
 use Rattle.runner_parts.specs.Lists.{named_by}
 use Rattle.runner_parts.specs.State.{RunState, NodesState, ReadsState, PartState}
-use Rattle.runner_parts.specs.Tests.{has, is_walking, is_readable}
+use Rattle.runner_parts.specs.Tests.{has, is_walking, is_readable, is_between}
 use Rattle.runner_steps.specs.Outside.{when}
 use Rattle.runner_steps.specs.Asks.{ask_by, fitting, sizes_for}
 use Rattle.runner_steps.specs.AfterInRun.{over_if}
@@ -424,6 +424,7 @@ module _ {T : Type 0} (m : Meaning) (laws : Laws m) (t : TableState T) (limits :
               resting = ends.resting;
               at = ends.stage ∙ at1.at;
               published = ends.published ∙ ap (λ (o : Option Published). over_if o d) at1.published;
+              settled = ap is_between ends.look ∙ at1.settled;
               seated = (let k = keeper2 in omega (arith, k));
             };
             keeper = keeper2;

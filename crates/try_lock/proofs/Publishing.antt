@@ -1,6 +1,6 @@
 -- The exchange that publishes a section, and what stands before and behind it.
 use Rattle.std.proofs.Common.{◌≡◌, ℕ, zero, suc, ◌+◌, ◌-◌, ◌*◌, ◌<◌, ◌≤◌, List, [], ◌∷◌, ◌++◌, length, Bool, true, false, refl, sym, ap, subst, ◌∙◌, eq-eqb, le_of_eq, arith, Some, None, Ok, Err, replicate}
-use Rattle.std.specs.Prelude.{◌==◌, ◌&&◌, ◌||◌, nat_lt, slice_index, is_none, if◌then◌else◌}
+use Rattle.std.specs.Prelude.{◌==◌, ◌&&◌, ◌||◌, nat_lt, slice_index, is_none, if◌then◌else◌, not}
 use Rattle.std.proofs.lemmas.List.{length-replicate}
 use Rattle.small_lemmas.proofs.Bools.{second_of as and_right}
 use Rattle.small_lemmas.proofs.Numbers.{less_tested as tests_below}
@@ -22,7 +22,7 @@ use Rattle.structure_laws.specs.Laws.{Laws}
 use Rattle.runner_parts.specs.declared.event.EventKind.TheVariants as kinds
 use Rattle.epoch_core.specs.declared.stage.Stage.TheVariants as stages
 use Rattle.runner_parts.specs.State.{PartState}
-use Rattle.runner_parts.specs.Tests.{has, is_walking, is_open, last_stored, is_prepared}
+use Rattle.runner_parts.specs.Tests.{has, is_walking, is_open, last_stored, is_prepared, is_between}
 use Rattle.runner_parts.specs.Lists.{without, cell_read, holds_named, section_published, descriptor_taken}
 use Rattle.runner_steps.specs.Outside.{when, is_ready, is_publishable, is_due, descriptor_spot}
 use Rattle.runner_steps.specs.AfterOutside.{hold_after, published_by}
@@ -99,7 +99,7 @@ module _ {T : Type 0} (m : Meaning) where
         let due : is_due m b.layout b.requests b.number b.part.records.known b.part.reads.walk t ≡ true =
         (λ i. is_due m (keeps.layout i) (keeps.requests i) (keeps.number i) (keeps.known i) ((keeps.reads i).walk) t) ∙ may.due in
         let publishable : is_publishable m b.layout b.requests b.number t b.part ≡ true =
-        (λ i. is_walking (at_ready.at i) (at_ready.resting i) && (is_none (at_ready.published i) && (unlocked i && due i))) in
+        (λ i. is_walking (at_ready.at i) (at_ready.resting i) && (is_none (at_ready.published i) && (not (at_ready.settled i) && (unlocked i && due i)))) in
         let place : t.lock < m.fixed_cells + 5 * slot_count b.layout m.fixed_slots = subst (λ l. t.lock < m.fixed_cells + 5 * slot_count l m.fixed_slots) (sym keeps.layout)
         (part.read t.lock t.word (and_right _ _ (and_right _ _ may.unlocked))) in
         enabled m b (kinds.Hold t d) (spots.Cell t.lock, Exchanges t.word (held_word d t.word)) at_ready.present at_ready.resting
@@ -162,7 +162,7 @@ module _ {T : Type 0} (m : Meaning) (t : Thunk) (d found : ℕ) (r b r' : Runner
     pub at_won : (epoch : ℕ) → IsAt r (stages.Entered epoch) None → IsAt r' (stages.Entered epoch) (Some (published_by t d r.part))
     at_won epoch entered = let is = stays epoch entered in
         made_at m (kinds.Hold t d) found b r' made is.resting (stages.Entered epoch) (Some (published_by t d r.part)) is.seated
-        (ap (λ p. p.gone) part_is ∙ is.present) (ap (λ p. p.run) part_is ∙ is.resting) (ap (λ p. p.stage) part_is ∙ is.at) (ap (λ p. p.published) part_is ∙ ap Some same_publication)
+        (ap (λ p. p.gone) part_is ∙ is.present) (ap (λ p. p.run) part_is ∙ is.resting) (ap (λ p. p.stage) part_is ∙ is.at) (ap (λ p. p.published) part_is ∙ ap Some same_publication) (ap (λ p. is_between p.reads.look) part_is ∙ is.settled)
 
     pub free_won : r'.part.descriptors.free ≡ without r.part.descriptors.free d
     free_won = ap (λ x. x.free) (descriptors_made m (kinds.Hold t d) found b r' made at.resting) ∙ (ap (λ p. p.descriptors.free) part_is ∙ ap (λ xs. without xs d) keeps.free)
@@ -201,7 +201,7 @@ module _ {T : Type 0} (m : Meaning) (t : Thunk) (d found : ℕ) (r b r' : Runner
     pub at_lost : (epoch : ℕ) → IsAt r (stages.Entered epoch) None → IsAt r' (stages.Entered epoch) None
     at_lost epoch entered = let is = stays epoch entered in
         made_at m (kinds.Hold t d) found b r' made is.resting (stages.Entered epoch) None is.seated
-        (ap (λ p. p.gone) part_still ∙ is.present) (ap (λ p. p.run) part_still ∙ is.resting) (ap (λ p. p.stage) part_still ∙ is.at) (ap (λ p. p.published) part_still ∙ is.published)
+        (ap (λ p. p.gone) part_still ∙ is.present) (ap (λ p. p.run) part_still ∙ is.resting) (ap (λ p. p.stage) part_still ∙ is.at) (ap (λ p. p.published) part_still ∙ is.published) (ap (λ p. is_between p.reads.look) part_still ∙ is.settled)
 
     pub free_lost : r'.part.descriptors.free ≡ r.part.descriptors.free
     free_lost = ap (λ x. x.free) (descriptors_made m (kinds.Hold t d) found b r' made at.resting) ∙ (ap (λ p. p.descriptors.free) part_still ∙ keeps.free)

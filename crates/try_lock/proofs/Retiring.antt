@@ -7,7 +7,7 @@ use Rattle.structure_laws.specs.Meaning.{Meaning}
 use Rattle.runner_parts.specs.declared.event.EventKind.TheVariants as kinds
 use Rattle.runner_parts.specs.declared.entries.Published.{Published}
 use Rattle.runner_parts.specs.State.{RunState, PartState}
-use Rattle.runner_parts.specs.Tests.{is_walking}
+use Rattle.runner_parts.specs.Tests.{is_walking, is_between}
 use Rattle.runner_parts.specs.Lists.{descriptor_retired}
 use Rattle.runner_steps.specs.Outside.{when, is_over}
 use Rattle.runner_steps.specs.AfterOutside.{retire_after}
@@ -41,6 +41,7 @@ module _ {T : Type 0} (m : Meaning) (r : RunnerState T) (descriptor : ℕ) (is :
         resting = ap (λ (y : RunnerState T). y.part.run) made.made ∙ (inside (λ p. p.run) ∙ is.at.resting);
         at = ap (λ (y : RunnerState T). y.part.stage) made.made ∙ (inside (λ p. p.stage) ∙ is.at.at);
         published = ap (λ (y : RunnerState T). y.part.published) made.made ∙ inside (λ p. p.published);
+        settled = ap (λ (y : RunnerState T). is_between y.part.reads.look) made.made ∙ (inside (λ p. is_between p.reads.look) ∙ is.at.settled);
         seated = subst (λ (y : RunnerState T). y.number ≤ y.layout.runners) (sym made.made) is.at.seated;
       };
       descriptors = descriptors_made m kinds.EpochForRetire found r r' made is.at.resting

@@ -17,7 +17,7 @@ use Rattle.epoch_core.specs.declared.stage.Stage.{Stage}
 use Rattle.epoch_core.specs.declared.stage.Stage.TheVariants as stages
 use Rattle.runner_parts.specs.State.{RunState, PartState}
 use Rattle.runner_steps.specs.Sections.{is_open_run, next_of}
-use Rattle.runner_steps.specs.Outside.{Ask, when, enter_load_ask, announce_ask, enter_again_ask, scan_one_ask}
+use Rattle.runner_steps.specs.Outside.{Ask, when, enter_load_ask, announce_ask, enter_again_by, scan_one_ask}
 use Rattle.runner_steps.specs.Asks.{fitting, sizes_for, asks, ask_by, outside_ask, line_ask, opening_ask}
 use Rattle.std.proofs.lemmas.Bool.Decides.{nat_tests}
 use Rattle.std.proofs.lemmas.Option.{none-some}
@@ -26,6 +26,7 @@ use Rattle.runner_block.specs.Scans.{scan_of}
 use Rattle.version_words.specs.RunnerState.{RunnerState}
 use Rattle.version_words.specs.Events.{met_by, IsEnabled}
 use Rattle.machine_states.proofs.Steps.{some_same}
+use Rattle.runner_parts.specs.Tests.{is_between}
 
 -- the kinds of step that are made in no run alone
 abbrev pub is_outer : EventKind → Bool
@@ -40,6 +41,10 @@ is_outer kinds.Split = true
 is_outer (kinds.Join worker) = true
 is_outer (kinds.LoadEntry request reply) = true
 is_outer (kinds.Hold thunk d) = true
+is_outer (kinds.ReadPlan thunk) = true
+is_outer kinds.ReadClock = true
+is_outer kinds.ReadReply = true
+is_outer kinds.ReadStamp = true
 is_outer _ = false
 
 met : (s : Sizes) (y x : Spot × Access) (b : Bool) → (if b then Some y else None) ≡ Some x → Some y ≡ Some x
@@ -71,6 +76,10 @@ module _ (m : Meaning) (l : Layout) where
   no_line (kinds.Join worker) free q micro e = refl
   no_line (kinds.LoadEntry request reply) free q micro e = refl
   no_line (kinds.Hold thunk d) free q micro e = refl
+  no_line (kinds.ReadPlan thunk) free q micro e = refl
+  no_line kinds.ReadClock free q micro e = refl
+  no_line kinds.ReadReply free q micro e = refl
+  no_line kinds.ReadStamp free q micro e = refl
   no_line _ free q micro e = absurd (false≢true e)
 
   no_opening : (k : EventKind) (q : RunState) → is_outer k ≡ true → opening_ask k q ≡ None
@@ -102,9 +111,10 @@ announces r stages.Announced x h = absurd (none-some x h)
 announces r (stages.Entered g) x h = absurd (none-some x h)
 announces r (stages.Scanning y next clear) x h = absurd (none-some x h)
 
-pub enters_again : (stage : Stage) (x : Spot × Access) → enter_again_ask stage ≡ Some x → (spots.Epoch, Loads) ≡ x
-enters_again stages.Announced x e = some_same (spots.Epoch, Loads) x e
-enters_again _ x e = absurd (none-some x e)
+pub enters_again : (between : Bool) (stage : Stage) (x : Spot × Access) → enter_again_by between stage ≡ Some x → (spots.Epoch, Loads) ≡ x
+enters_again true stage x e = absurd (none-some x e)
+enters_again false stages.Announced x e = some_same (spots.Epoch, Loads) x e
+enters_again false _ x e = absurd (none-some x e)
 
 same_number : (n next : ℕ) (b : Bool) → n == next && b ≡ true → next ≡ n
 same_number n next b h = grind (arith, nat_tests)
@@ -135,4 +145,4 @@ module _ {T : Type 0} (m : Meaning) (r : RunnerState T) where
   asks_announce x h = let a = announces r.number r.part.stage x (enabled_outside kinds.Announce x refl h).1 in (a.0, a.1, sym a.2)
 
   pub asks_enter_again : (x : Spot × Access) → met_by m r kinds.EnterAgain ≡ Some x → x ≡ (spots.Epoch, Loads)
-  asks_enter_again x h = sym (enters_again r.part.stage x (enabled_outside kinds.EnterAgain x refl h).1)
+  asks_enter_again x h = sym (enters_again (is_between r.part.reads.look) r.part.stage x (enabled_outside kinds.EnterAgain x refl h).1)

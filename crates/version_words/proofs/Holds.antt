@@ -18,7 +18,7 @@ use Rattle.structure_laws.specs.Meaning.{Meaning}
 use Rattle.runner_parts.specs.declared.event.EventKind.{EventKind}
 use Rattle.runner_parts.specs.declared.event.EventKind.TheVariants as kinds
 use Rattle.runner_parts.specs.State.{PartState}
-use Rattle.runner_parts.specs.Tests.{has, is_walking, is_open, is_prepared, has_pair}
+use Rattle.runner_parts.specs.Tests.{has, is_walking, is_open, is_prepared, has_pair, is_between}
 use Rattle.epoch_core.specs.Lists.{times}
 use Rattle.runner_parts.specs.Lists.{descriptor_taken, section_published, cell_read, holds_named}
 use Rattle.runner_steps.specs.Outside.{hold_ask, is_ready, is_publishable, is_due}
@@ -55,9 +55,10 @@ hold_asked m l rs r t d p x e =
     let both = both_true (is_ready l p d t) (is_publishable m l rs r t p) c.0 in
     let ready = both_true (nat_lt d (descriptor_count l)) (has p.descriptors.free d && (length t.operands == 8 && is_prepared p.descriptors.stored d t)) both.0 in
     let free = both_true (has p.descriptors.free d) (length t.operands == 8 && is_prepared p.descriptors.stored d t) ready.1 in
-    let walking = both_true (is_walking p.stage p.run) (is_none p.published && (is_open l p.reads.cells t && is_due m l rs r p.records.known p.reads.walk t)) both.1 in
-    let none = both_true (is_none p.published) (is_open l p.reads.cells t && is_due m l rs r p.records.known p.reads.walk t) walking.1 in
-    let unheld = both_true (is_open l p.reads.cells t) (is_due m l rs r p.records.known p.reads.walk t) none.1 in
+    let walking = both_true (is_walking p.stage p.run) (is_none p.published && (not (is_between p.reads.look) && (is_open l p.reads.cells t && is_due m l rs r p.records.known p.reads.walk t))) both.1 in
+    let none = both_true (is_none p.published) (not (is_between p.reads.look) && (is_open l p.reads.cells t && is_due m l rs r p.records.known p.reads.walk t)) walking.1 in
+    let settled = both_true (not (is_between p.reads.look)) (is_open l p.reads.cells t && is_due m l rs r p.records.known p.reads.walk t) none.1 in
+    let unheld = both_true (is_open l p.reads.cells t) (is_due m l rs r p.records.known p.reads.walk t) settled.1 in
     let unlocked = both_true (is_free t.word) (not (is_spent l.version_max t.word) && has_pair p.reads.cells t.lock t.word) unheld.0 in
     let unworn = both_true (not (is_spent l.version_max t.word)) (has_pair p.reads.cells t.lock t.word) unlocked.1 in
     let below = ready.0 in

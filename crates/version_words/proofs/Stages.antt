@@ -22,9 +22,9 @@ use Rattle.runner_parts.specs.declared.event.EventKind.TheVariants as kinds
 use Rattle.epoch_core.specs.declared.stage.Stage.{Stage}
 use Rattle.epoch_core.specs.declared.stage.Stage.TheVariants as stages
 use Rattle.runner_parts.specs.declared.entries.Published.{Published}
-use Rattle.runner_parts.specs.Tests.{has, is_walking, is_resting, is_outside}
+use Rattle.runner_parts.specs.Tests.{has, is_walking, is_resting, is_outside, is_between}
 use Rattle.runner_parts.specs.State.{RunState, PartState}
-use Rattle.runner_steps.specs.Outside.{Ask, when, enter_load_ask, announce_ask, enter_again_ask, scan_one_ask, advance_ask, descriptor_spot}
+use Rattle.runner_steps.specs.Outside.{Ask, when, enter_load_ask, announce_ask, enter_again_by, scan_one_ask, advance_ask, descriptor_spot}
 use Rattle.epoch_core.specs.State.{last_epoch}
 use Rattle.runner_steps.specs.Asks.{ask_by, outside_ask, fitting, sizes_for}
 use Rattle.runner_steps.specs.AfterOutside.{with_stage, collected, scanned, scan_one_after, advance_after}
@@ -68,7 +68,7 @@ module _ {T : Type 0} (m : Meaning) (r : RunnerState T) where
     may_announce epoch is = at_stage (stages.Loaded epoch) kinds.Announce (spots.Announcement r.number, Stores epoch) is (ap (announce_ask r.number) is.at) is.seated
 
     pub may_enter_again : IsAt r stages.Announced section → IsEnabled m kinds.EnterAgain r
-    may_enter_again is = at_stage stages.Announced kinds.EnterAgain (spots.Epoch, Loads) is (ap enter_again_ask is.at) tt
+    may_enter_again is = at_stage stages.Announced kinds.EnterAgain (spots.Epoch, Loads) is (λ i. enter_again_by (is.settled i) (is.at i)) tt
 
     pub may_scan_epoch : IsAt r stages.Idle section → IsEnabled m kinds.ScanEpoch r
     may_scan_epoch is = at_stage stages.Idle kinds.ScanEpoch (spots.Epoch, Loads) is (ap enter_load_ask is.at) tt
@@ -87,7 +87,7 @@ module _ {T : Type 0} (m : Meaning) (r : RunnerState T) where
 
   pub may_idle : (epoch : ℕ) → IsAt r (stages.Entered epoch) None → IsEnabled m kinds.Idle r
   may_idle epoch is = at_stage None (stages.Entered epoch) kinds.Idle (spots.Announcement r.number, Stores 0) is
-      (ap (λ (b : Bool). when b (spots.Announcement r.number) (Stores 0)) (λ i. is_walking (is.at i) (is.resting i) && is_none (is.published i))) is.seated
+      (ap (λ (b : Bool). when b (spots.Announcement r.number) (Stores 0)) (λ i. is_walking (is.at i) (is.resting i) && (is_none (is.published i) && not (is.settled i)))) is.seated
 
   pub may_split : (splits : ℕ) → IsKeeper r splits → splits < r.layout.runners → IsEnabled m kinds.Split r
   may_split splits is few = enabled kinds.Split (spots.Seat, Loads) is.present is.resting
@@ -104,41 +104,43 @@ module _ {T : Type 0} (m : Meaning) (k : EventKind) (found : ℕ) (r r' : Runner
   abbrev next : PartState
   next = outside_after m r.layout k r.part found
 
-  moved_at : (stage : Stage) (section : Option Published) → r.number ≤ r.layout.runners → next.gone ≡ false → next.run ≡ None → next.stage ≡ stage → next.published ≡ section → IsAt r' stage section
-  moved_at stage section seated present none at published =
+  moved_at : (stage : Stage) (section : Option Published) → r.number ≤ r.layout.runners → next.gone ≡ false → next.run ≡ None → next.stage ≡ stage → next.published ≡ section → is_between next.reads.look ≡ false
+      → IsAt r' stage section
+  moved_at stage section seated present none at published settled =
       let run = λ (o : Option RunState). after_by m r.layout k r.part o found in
       record {
         present = ap (λ (y : RunnerState T). y.part.gone) is ∙ (ap (λ (o : Option RunState). (after_by m r.layout k r.part o found).gone) resting ∙ present);
         resting = ap (λ (y : RunnerState T). y.part.run) is ∙ (ap (λ (o : Option RunState). (after_by m r.layout k r.part o found).run) resting ∙ none);
         at = ap (λ (y : RunnerState T). y.part.stage) is ∙ (ap (λ (o : Option RunState). (after_by m r.layout k r.part o found).stage) resting ∙ at);
         published = ap (λ (y : RunnerState T). y.part.published) is ∙ (ap (λ (o : Option RunState). (after_by m r.layout k r.part o found).published) resting ∙ published);
+        settled = ap (λ (y : RunnerState T). is_between y.part.reads.look) is ∙ (ap (λ (o : Option RunState). is_between (after_by m r.layout k r.part o found).reads.look) resting ∙ settled);
         seated = subst (λ (y : RunnerState T). y.number ≤ y.layout.runners) (sym is) seated;
       }
 
 -- and so by a step
 pub made_at : {T : Type 0} (m : Meaning) (k : EventKind) (found : ℕ) (r r' : RunnerState T) (made : Makes m k found r r') → r.part.run ≡ None → (stage : Stage) (section : Option Published) → r.number ≤ r.layout.runners
     → (outside_after m r.layout k r.part found).gone ≡ false → (outside_after m r.layout k r.part found).run ≡ None → (outside_after m r.layout k r.part found).stage ≡ stage
-    → (outside_after m r.layout k r.part found).published ≡ section → IsAt r' stage section
+    → (outside_after m r.layout k r.part found).published ≡ section → is_between (outside_after m r.layout k r.part found).reads.look ≡ false → IsAt r' stage section
 made_at m k found r r' made resting = moved_at m k found r r' made.met made.made resting
 
 module _ {T : Type 0} (m : Meaning) (found : ℕ) (r r' : RunnerState T) (section : Option Published) where
   pub then_loaded : Makes m kinds.EnterLoad found r r' → IsAt r stages.Idle section → IsAt r' (stages.Loaded found) section
-  then_loaded made is = made_at m kinds.EnterLoad found r r' made is.resting (stages.Loaded found) section is.seated is.present is.resting refl is.published
+  then_loaded made is = made_at m kinds.EnterLoad found r r' made is.resting (stages.Loaded found) section is.seated is.present is.resting refl is.published is.settled
 
   pub then_announced : (epoch : ℕ) → Makes m kinds.Announce found r r' → IsAt r (stages.Loaded epoch) section → IsAt r' stages.Announced section
-  then_announced epoch made is = made_at m kinds.Announce found r r' made is.resting stages.Announced section is.seated is.present is.resting refl is.published
+  then_announced epoch made is = made_at m kinds.Announce found r r' made is.resting stages.Announced section is.seated is.present is.resting refl is.published is.settled
 
   pub then_entered : Makes m kinds.EnterAgain found r r' → IsAt r stages.Announced section → IsAt r' (stages.Entered found) section
-  then_entered made is = made_at m kinds.EnterAgain found r r' made is.resting (stages.Entered found) section is.seated is.present is.resting refl is.published
+  then_entered made is = made_at m kinds.EnterAgain found r r' made is.resting (stages.Entered found) section is.seated is.present is.resting refl is.published refl
 
   pub then_idle : (epoch : ℕ) → Makes m kinds.Idle found r r' → IsAt r (stages.Entered epoch) section → IsAt r' stages.Idle section
-  then_idle epoch made is = made_at m kinds.Idle found r r' made is.resting stages.Idle section is.seated is.present is.resting refl is.published
+  then_idle epoch made is = made_at m kinds.Idle found r r' made is.resting stages.Idle section is.seated is.present is.resting refl is.published is.settled
 
   pub then_scanning : Makes m kinds.ScanEpoch found r r' → IsAt r stages.Idle section → IsAt r' (stages.Scanning found 0 true) section
-  then_scanning made is = made_at m kinds.ScanEpoch found r r' made is.resting (stages.Scanning found 0 true) section is.seated is.present is.resting refl is.published
+  then_scanning made is = made_at m kinds.ScanEpoch found r r' made is.resting (stages.Scanning found 0 true) section is.seated is.present is.resting refl is.published is.settled
 
   pub then_knows : (stage : Stage) (request : ℕ) (reply : Bool) → Makes m (kinds.LoadEntry request reply) found r r' → IsAt r stage section → IsAt r' stage section
-  then_knows stage request reply made is = made_at m (kinds.LoadEntry request reply) found r r' made is.resting stage section is.seated is.present is.resting is.at is.published
+  then_knows stage request reply made is = made_at m (kinds.LoadEntry request reply) found r r' made is.resting stage section is.seated is.present is.resting is.at is.published is.settled
 
 -- a choice between two parts
 chosen : {A : Type 0} (f : PartState → A) (b : Bool) (p q : PartState) → f (if b then p else q) ≡ (if b then f p else f q)
@@ -172,6 +174,7 @@ module _ {T : Type 0} (m : Meaning) (found : ℕ) (r r' : RunnerState T) (sectio
       (ap (λ (y : Stage). (scan_one_after r.layout r.part y found).run) is.at ∙ (scan_keeps (λ (q : PartState). q.run) r.layout r.part epoch next clear found few (λ y. refl) (λ e. refl) ∙ is.resting))
       (ap (λ (y : Stage). (scan_one_after r.layout r.part y found).stage) is.at ∙ scan_stage r.layout r.part epoch next clear found few)
       (ap (λ (y : Stage). (scan_one_after r.layout r.part y found).published) is.at ∙ (scan_keeps (λ (q : PartState). q.published) r.layout r.part epoch next clear found few (λ y. refl) (λ e. refl) ∙ is.published))
+      (ap (λ (y : Stage). is_between (scan_one_after r.layout r.part y found).reads.look) is.at ∙ (scan_keeps (λ (q : PartState). is_between q.reads.look) r.layout r.part epoch next clear found few (λ y. refl) (λ e. refl) ∙ is.settled))
 
   pub then_advanced : Makes m kinds.Advance found r r' → IsAt r (stages.Scanning epoch next true) section → epoch < 2 ^ 62 → IsAt r' stages.Idle section
   then_advanced made is few =
@@ -179,20 +182,18 @@ module _ {T : Type 0} (m : Meaning) (found : ℕ) (r r' : RunnerState T) (sectio
       let part : advance_after r.part r.part.stage ≡ collected r.part (epoch + 1) = ap (advance_after r.part) is.at ∙ ap (λ (b : Bool). if b then collected r.part (epoch + 1) else r.part) on in
       made_at m kinds.Advance found r r' made is.resting stages.Idle section is.seated
       (ap (λ (q : PartState). q.gone) part ∙ is.present) (ap (λ (q : PartState). q.run) part ∙ is.resting) (ap (λ (q : PartState). q.stage) part) (ap (λ (q : PartState). q.published) part ∙ is.published)
+      (ap (λ (q : PartState). is_between q.reads.look) part ∙ is.settled)
 
 -- a keeper that splits off a worker
 module _ {T : Type 0} (m : Meaning) (r r' : RunnerState T) (splits : ℕ) where
   pub then_split : HasSplit m r r' → IsKeeper r splits → splits < r.layout.runners → IsKeeper r' (splits + 1)
   then_split split is few =
       let on : nat_lt r.part.records.splits r.layout.runners ≡ true = ap (λ n. nat_lt n r.layout.runners) is.as_many ∙ (let e : nat_lt splits r.layout.runners ≡ true = grind (arith, nat_tests, few) in e) in
-      let at = moved_at m kinds.Split 0 r r' (spots.Seat, Loads) split.made is.resting r.part.stage r.part.published (omega (arith, is.number))
-      (same (λ (q : PartState). q.gone) (nat_lt r.part.records.splits r.layout.runners) _ _ false is.present is.present)
-      (same (λ (q : PartState). q.run) (nat_lt r.part.records.splits r.layout.runners) _ _ None is.resting is.resting)
-      (same (λ (q : PartState). q.stage) (nat_lt r.part.records.splits r.layout.runners) _ _ r.part.stage refl refl)
-      (same (λ (q : PartState). q.published) (nat_lt r.part.records.splits r.layout.runners) _ _ r.part.published refl refl) in
       record {
-        present = at.present;
-        resting = at.resting;
+        present = ap (λ (y : RunnerState T). y.part.gone) split.made ∙ (ap (λ (o : Option RunState). (after_by m r.layout kinds.Split r.part o 0).gone) is.resting
+            ∙ same (λ (q : PartState). q.gone) (nat_lt r.part.records.splits r.layout.runners) _ _ false is.present is.present);
+        resting = ap (λ (y : RunnerState T). y.part.run) split.made ∙ (ap (λ (o : Option RunState). (after_by m r.layout kinds.Split r.part o 0).run) is.resting
+            ∙ same (λ (q : PartState). q.run) (nat_lt r.part.records.splits r.layout.runners) _ _ None is.resting is.resting);
         number = ap (λ (y : RunnerState T). y.number) split.made ∙ (is.number ∙ sym (ap (λ (y : RunnerState T). y.layout.runners) split.made));
         as_many = ap (λ (y : RunnerState T). y.part.records.splits) split.made ∙ (one_split m r.layout r.number spots.Seat Loads 0 r.part is.resting (omega (arith, few, is.as_many)) ∙ ap (λ n. n + 1) is.as_many);
       }
@@ -202,7 +203,7 @@ first_is_keeper {T} m t r is = subst (λ (y : RunnerState T). IsKeeper y 0) (sym
 
 pub next_is_idle : {T : Type 0} (m : Meaning) (keeper r : RunnerState T) (splits : ℕ) → r ≡ next_worker m keeper → IsKeeper keeper splits → splits < keeper.layout.runners → IsAt r stages.Idle None
 next_is_idle {T} m keeper r splits is k few = subst (λ (y : RunnerState T). IsAt y stages.Idle None) (sym is)
-    (record { present = refl; resting = refl; at = refl; published = refl; seated = (let a = k.as_many in omega (arith, a, few)) })
+    (record { present = refl; resting = refl; at = refl; published = refl; settled = refl; seated = (let a = k.as_many in omega (arith, a, few)) })
 
 has_more : (xs : List ℕ) (x y : ℕ) → has xs y ≡ false → x ≢ y → has (xs ++ x ∷ []) y ≡ false
 has_more [] x y none ne = ap (λ (b : Bool). b || false) (ne_eqb x y ne)
@@ -270,7 +271,7 @@ first_joined_none {T} m t r is = subst (λ (y : RunnerState T). HasJoined y 0) (
 pub then_loaded_cell : {T : Type 0} (m : Meaning) (found epoch place : ℕ) (r r' : RunnerState T) (section : Option Published) → Makes m (load_of r.part.run place) found r r' → IsAt r (stages.Entered epoch) section → IsAt r' (stages.Entered epoch) section
 then_loaded_cell {T} m found epoch place r r' section made is =
     let read : Makes m (kinds.LoadCell (Some place)) found r r' = subst (λ (o : Option RunState). Makes m (load_of o place) found r r') is.resting made in
-    made_at m (kinds.LoadCell (Some place)) found r r' read is.resting (stages.Entered epoch) section is.seated is.present is.resting is.at is.published
+    made_at m (kinds.LoadCell (Some place)) found r r' read is.resting (stages.Entered epoch) section is.seated is.present is.resting is.at is.published is.settled
 
 fits_by : (s : Sizes) (d word : ℕ) (b b' : Bool) → nat_lt word 12 ≡ b → word == 12 ≡ b' → d < s.descriptors → word < 77 → Fits s (if b then spots.ThunkWord d word else (if b' then spots.DoneWord d else spots.LogWord d (word - 13)))
 fits_by s d word true b' e e' few low = (few, grind (arith, nat_tests, e))
@@ -314,7 +315,7 @@ module _ {T : Type 0} (m : Meaning) (found : ℕ) (r r' : RunnerState T) (stage 
   }
 
   pub then_stored_word : (number : ℕ) → Makes m (kinds.PrivateStore slot word number) found r r' → IsAt r' stage section
-  then_stored_word number made = made_at m (kinds.PrivateStore slot word number) found r r' made is.resting stage section is.seated is.present is.resting is.at is.published
+  then_stored_word number made = made_at m (kinds.PrivateStore slot word number) found r r' made is.resting stage section is.seated is.present is.resting is.at is.published is.settled
 
   pub still_free_stored : (number d : ℕ) → Makes m (kinds.PrivateStore slot word number) found r r' → HasFree r d → HasFree r' d
   still_free_stored number d made free = still_free (kinds.PrivateStore slot word number) d made refl free
@@ -324,6 +325,7 @@ module _ {T : Type 0} (m : Meaning) (found : ℕ) (r r' : RunnerState T) (stage 
       made_at m (kinds.PrivateLoad slot word) found r r' made is.resting stage section is.seated
       (same (λ (q : PartState). q.gone) node _ _ false is.present is.present) (same (λ (q : PartState). q.run) node _ _ None is.resting is.resting)
       (same (λ (q : PartState). q.stage) node _ _ stage is.at is.at) (same (λ (q : PartState). q.published) node _ _ section is.published is.published)
+      (same (λ (q : PartState). is_between q.reads.look) node _ _ false is.settled is.settled)
 
   pub still_free_loaded : (d : ℕ) → Makes m (kinds.PrivateLoad slot word) found r r' → HasFree r d → HasFree r' d
   still_free_loaded d made free = still_free (kinds.PrivateLoad slot word) d made

@@ -44,3 +44,8 @@ open_of (Some q) descriptor = kinds.LoadThunk None
 abbrev pub hold_of : Option_of Thunk → ℕ → EventKind
 hold_of none descriptor = kinds.EnterLoad
 hold_of (some thunk) descriptor = kinds.Hold thunk descriptor
+
+-- a read without a lock is announced with the thunk that its step announces
+abbrev pub plan_of : Option_of Thunk → EventKind
+plan_of none = kinds.EnterLoad
+plan_of (some thunk) = kinds.ReadPlan thunk

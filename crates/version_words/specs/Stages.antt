@@ -6,7 +6,7 @@ use Rattle.table_words.specs.Places.{descriptor_count}
 use Rattle.epoch_core.specs.declared.stage.Stage.{Stage}
 use Rattle.epoch_core.specs.declared.stage.Stage.TheVariants as stages
 use Rattle.runner_parts.specs.declared.entries.Published.{Published}
-use Rattle.runner_parts.specs.Tests.{has}
+use Rattle.runner_parts.specs.Tests.{has, is_between}
 use Rattle.epoch_core.specs.State.{last_epoch}
 use Rattle.epoch_core.specs.Moves.{is_clear}
 use Rattle.version_words.specs.Shown.{left_part}
@@ -18,6 +18,8 @@ pub record IsAt {T : Type 0} (r : RunnerState T) (stage : Stage) (section : Opti
   pub resting : r.part.run ≡ None
   pub at : r.part.stage ≡ stage
   pub published : r.part.published ≡ section
+  -- no reply of a read is without its stamp
+  pub settled : is_between r.part.reads.look ≡ false
   pub seated : r.number ≤ r.layout.runners
 
 -- a keeper in no run that has split off so many workers

@@ -14,6 +14,7 @@ mod makes;
 mod opening;
 mod plays;
 mod private;
+mod reads;
 mod rule;
 mod run_ends;
 mod runner;

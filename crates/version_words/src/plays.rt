@@ -286,6 +286,39 @@ impl Named for LoadEntry {
         entry_of (step.word - entries_at (sizes_for m layout requests)) };
 }
 
+/// A read without a lock is announced: the thunk is the one that the step announces.
+pub struct ReadPlan;
+
+impl Named for ReadPlan {
+    ghost use Rattle.version_words.specs.Naming.{plan_of};
+
+    ghost naming = { λ m layout requests part step. plan_of step.said };
+}
+
+pub struct ReadClock;
+
+impl Named for ReadClock {
+    ghost use Rattle.runner_parts.specs.declared.event.EventKind.TheVariants as kinds;
+
+    ghost naming = { λ m layout requests part step. kinds.ReadClock };
+}
+
+pub struct ReadReply;
+
+impl Named for ReadReply {
+    ghost use Rattle.runner_parts.specs.declared.event.EventKind.TheVariants as kinds;
+
+    ghost naming = { λ m layout requests part step. kinds.ReadReply };
+}
+
+pub struct ReadStamp;
+
+impl Named for ReadStamp {
+    ghost use Rattle.runner_parts.specs.declared.event.EventKind.TheVariants as kinds;
+
+    ghost naming = { λ m layout requests part step. kinds.ReadStamp };
+}
+
 /// The keeper splits off the next worker.
 pub struct SplitsOff<S> {
     marker: PhantomData<S>,

@@ -1,0 +1,10 @@
+use Rattle.std.proofs.Common.{refl, ap, ◌∙◌}
+use Rattle.runner_parts.specs.declared.event.EventKind.TheVariants.{ReadReply}
+use Rattle.version_words.proofs.Keeps.{idle_kept}
+use Rattle.version_words.proofs.table.FlockTable.read_reply.Goals as goal
+
+pub invariant_of-runner : goal.invariant_of-runner
+invariant_of-runner g c =
+    let seat = c.runner.inside.seat in let new = c.exchange-found.new.seat in let kept = c.runner.inside.kept.value in
+    idle_kept g.S.Structure.meaning c.args.self.now.structure ReadReply c.exchange-found.result c.runner.inside.number kept seat.table_id new.table_id seat.me new.me
+    (ap (λ r. r.structure) c.runner.view_is ∙ c.requires.own.structure) c.exchange-found.ensures.event c.exchange-found.ensures.slots c.runner.invariant refl refl
