@@ -35,6 +35,12 @@ def remove(path: pathlib.Path) -> None:
         path.unlink(missing_ok=True)
 
 
+def stamp(built: pathlib.Path) -> str:
+    """Which text this library was built of; nothing where it isn't whole."""
+    file = built / "stamp"
+    return file.read_text() if file.is_file() else ""
+
+
 def link(old: pathlib.Path, new: pathlib.Path) -> None:
     """Puts this folder's files in another place, whole or not at all; `rt` makes such files anew and changes none."""
     part = new.with_name(new.name + ".part")
@@ -76,9 +82,9 @@ class Copies:
 
     def share(self, name: str, place: pathlib.Path) -> None:
         built = place / "crates" / name / BUILT
-        for other in self.places if built.is_dir() else []:
-            if other != place:
-                link(built, other / "crates" / name / BUILT)
+        for other in (it / "crates" / name / BUILT for it in self.places if stamp(built)):
+            if stamp(other) != stamp(built):
+                link(built, other)
 
     def move_kept(self, name: str, place: pathlib.Path) -> None:
         new = place / "crates" / name / KEPT
