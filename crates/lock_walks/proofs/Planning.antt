@@ -121,12 +121,12 @@ module _ {W T : Type 0} (m : Meaning) (way : Way W) (t : TableState T) (walk : W
     refused_owns readings = no_thunk answer kind
       where
         no_thunk : (a : Planned) → IsRefusal a → IsOwn way walk request.number readings a
-        no_thunk (answers.Thunk thunk) no = absurd no
-        no_thunk (answers.Busy place word) no = tt
-        no_thunk (answers.Spent place word) no = tt
-        no_thunk (answers.Stale place expected read) no = tt
-        no_thunk (answers.Far loads) no = tt
-        no_thunk answers.Halted no = tt
+        no_thunk (answers.Thunk thunk) is_one = absurd is_one
+        no_thunk (answers.Busy place word) is_one = tt
+        no_thunk (answers.Spent place word) is_one = tt
+        no_thunk (answers.Stale place expected read) is_one = tt
+        no_thunk (answers.Far loads) is_one = tt
+        no_thunk answers.Halted is_one = tt
 
   -- the walk is whole
   pub whole : going ≡ true → way.refused walk' ≡ false → (thunk : Thunk) → thunk ≡ way.thunk walk' request.number

@@ -11,7 +11,8 @@ pub returns-then-is_refused-clause-plans : goal.returns-then-is_refused-clause-p
 returns-then-is_refused-clause-plans g c =
     refused (g.S.Structure.meaning c.args.table.now.structure) g.W.Walker.way c.args.table.now c.args.walker c.requires.leads c.args.runner c.requires.own c.args.request.now c.requires.op _ _ _ _ _ _ _ _ _ _ _
     c.lead-runner.ensures.led c.if-not-going.false (sym c.is_refused.ensures ∙ c.if-is_refused.true) c.refusal-refused.result
-    (tells_here g.S.Structure.meaning (g.W.Walker.way.planning c.lead-runner.new.walker) (g.W.Walker.way.op c.args.walker) _ _ _ _ _ c.structure.ensures _ _ c.layout.ensures
+    (tells_here g.S.Structure.meaning (g.W.Walker.way.planning c.lead-runner.new.walker) (g.W.Walker.way.op c.args.walker) c.lead-runner.result.1 c.lead-runner.result.2 c.refusal-refused.result
+    c.structure.result.now c.args.table.now.structure c.structure.ensures c.layout.result c.args.table.now.layout c.layout.ensures
     (c.refusal-refused.ensures (g.W.Walker.way.op c.args.walker)))
 
 pub returns-clause-plans : goal.returns-clause-plans
@@ -23,9 +24,10 @@ pub returns-then-is_refused-clause-own_thunk : goal.returns-then-is_refused-clau
 returns-then-is_refused-clause-own_thunk g c =
     refused_owns (g.S.Structure.meaning c.args.table.now.structure) g.W.Walker.way c.args.table.now c.args.walker c.requires.leads c.args.runner c.requires.own c.args.request.now c.requires.op _ _ _ _ _ _ _ _ _ _ _
     c.lead-runner.ensures.led c.if-not-going.false (sym c.is_refused.ensures ∙ c.if-is_refused.true) c.refusal-refused.result
-    (tells_here g.S.Structure.meaning (g.W.Walker.way.planning c.lead-runner.new.walker) (g.W.Walker.way.op c.args.walker) _ _ _ _ _ c.structure.ensures _ _ c.layout.ensures
+    (tells_here g.S.Structure.meaning (g.W.Walker.way.planning c.lead-runner.new.walker) (g.W.Walker.way.op c.args.walker) c.lead-runner.result.1 c.lead-runner.result.2 c.refusal-refused.result
+    c.structure.result.now c.args.table.now.structure c.structure.ensures c.layout.result c.args.table.now.layout c.layout.ensures
     (c.refusal-refused.ensures (g.W.Walker.way.op c.args.walker)))
-    _
+    c.lead-runner.result.0.part.reads.walk
 
 pub returns-clause-own_thunk : goal.returns-clause-own_thunk
 returns-clause-own_thunk g c =
