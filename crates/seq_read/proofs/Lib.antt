@@ -4,3 +4,7 @@ pub mod Events
 pub mod Courses
 pub mod Serving
 pub mod Writing
+pub mod Resting
+pub mod Ending
+pub mod Locking
+pub mod Loading

@@ -153,7 +153,7 @@ module _ {T : Type 0} (m : Meaning) (laws : Laws m) (r : RunnerState T) (limits 
   -- where it knows both words, the request stands with them in the history
   module _ (map : m.is_map ≡ true) (n stamp word : ℕ) (stamped : HasEntry r.part.records.known (record { request = n; reply = false; number = stamp }))
       (replied : HasEntry r.part.records.known (record { request = n; reply = true; number = word })) where
-    answered : is_answered r.part.records.known n ≡ true
+    pub answered : is_answered r.part.records.known n ≡ true
     answered = ap (λ b. b && knows r.part.records.known n true) (known_by r.part.records.known stamped.0 _ n false stamped.1 refl refl)
         ∙ known_by r.part.records.known replied.0 _ n true replied.1 refl refl
 

@@ -14,7 +14,7 @@ use Rattle.lock_walks.specs.try_lock.specs.declared.planned.Planned.TheVariants 
 use Rattle.lock_walks.specs.try_lock.specs.Planning.{Planning}
 use Rattle.lock_walks.specs.try_lock.specs.Reached.{IsReached}
 use Rattle.lock_walks.specs.try_lock.specs.Plans.{HasWalked}
-use Rattle.seq_read.specs.Wants.{AreFirst, readings_of, loads_in}
+use Rattle.seq_read.specs.Wants.{AreFirst, readings_of, cells_of, loads_in}
 use Rattle.seq_read.specs.Course.{HasPlanned}
 use Rattle.seq_read.specs.Reads.{is_halted, Answers, steps_of, asks_before}
 use Rattle.seq_read.specs.declared.answers.Read.{Read}
@@ -31,8 +31,7 @@ module _ {T : Type 0} (m : Meaning) (planning : Planning) (request : Request) wh
   -- it loaded the cells of the first steps, so many
   pub record HasCells (steps : List Step) (count : ℕ) (xs : List Loaded) (r r' : RunnerState T)
       (halts halts' : ℕ) (asks asks' : Asks) (made made' : ℕ) : Type 0 where
-    pub cells : AreFirst (take count steps) xs
-    pub all : length xs ≡ length (loads_in (take count steps))
+    pub cells : cells_of xs ≡ loads_in (take count steps)
     pub loads : HasWalked m (readings_of xs) r r'
     pub reached : IsReached m r'
     pub asked : IsAsked (length xs) true halts halts' asks asks' made made'

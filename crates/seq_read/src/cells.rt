@@ -48,7 +48,8 @@ pub fn load_cells<S: Structure, G: Gate, L>(
 {
     let mut runner = runner;
     for n in 0..body.len() {
-        if let Step::Load { place, into } = body[n] {
+        let step = &body[n];
+        if let Step::Load { place, into } = *step {
             let (at, found) = table.load_cell(runner, place);
             runner = at;
             loaded.push(Loaded {
