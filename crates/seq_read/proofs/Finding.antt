@@ -1,5 +1,5 @@
 -- The cells that a body loads, and what its Wants ask for.
-use Rattle.std.specs.Prelude.{◌==◌, ◌&&◌, ◌||◌, cond, not, nat_lt, Bool, true, false, slice_get, map, take, position}
+use Rattle.std.specs.Prelude.{◌==◌, ◌&&◌, ◌||◌, cond, not, nat_lt, Bool, true, false, slice_get, map, take, position, IfSome}
 use Rattle.std.proofs.Common.{◌≡◌, ◌≢◌, ℕ, zero, suc, ◌+◌, ◌<◌, List, [], ◌∷◌, ◌++◌, length, get_or, refl, sym, ap, ◌∙◌, subst, arith, Option, Some, None}
 use Rattle.std.specs.List.{list_all, list_any, prefix_len}
 use Rattle.std.proofs.lemmas.Bool.{and_parts}
@@ -19,18 +19,18 @@ use Rattle.seq_read.specs.declared.cells.Loaded.{Loaded}
 -- where no entry fails, all pass
 all_pass : {A : Type 0} (q : A → Bool) (xs : List A) → nat_lt (prefix_len q xs) (length xs) ≡ false → list_all q xs ≡ true
 all_pass q [] e = refl
-all_pass q (x ∷ xs) e = by (q x) refl
+all_pass q (x ∷ xs) e = by (q x) refl (λ low. all_pass q xs low)
   where
-    by : (b : Bool) → q x ≡ b → (q x && list_all q xs) ≡ true
-    by true is = ap (λ c. c && list_all q xs) is ∙ all_pass q xs (deeper (prefix_len q xs) (length xs)
+    deeper : (a b : ℕ) → nat_lt (1 + a) (suc b) ≡ false → nat_lt a b ≡ false
+    deeper a b e = grind (arith, nat_tests)
+
+    none : (b : ℕ) → nat_lt 0 (suc b) ≡ false → ⊥
+    none b e = let z : nat_lt 0 (suc b) ≡ true = grind (arith, nat_tests) in (let clash : true ≡ false = sym z ∙ e in cc)
+
+    by : (b : Bool) → q x ≡ b → (nat_lt (prefix_len q xs) (length xs) ≡ false → list_all q xs ≡ true) → (q x && list_all q xs) ≡ true
+    by true is rest = ap (λ c. c && list_all q xs) is ∙ rest (deeper (prefix_len q xs) (length xs)
         (subst (λ c. nat_lt (cond c (1 + prefix_len q xs) 0) (suc (length xs)) ≡ false) is e))
-      where
-        deeper : (a b : ℕ) → nat_lt (1 + a) (suc b) ≡ false → nat_lt a b ≡ false
-        deeper a b e = grind (arith, nat_tests)
-    by false is = absurd (none (length xs) (subst (λ c. nat_lt (cond c (1 + prefix_len q xs) 0) (suc (length xs)) ≡ false) is e))
-      where
-        none : (b : ℕ) → nat_lt 0 (suc b) ≡ false → ⊥
-        none b e = let z : nat_lt 0 (suc b) ≡ true = grind (arith, nat_tests) in (let clash : true ≡ false = sym z ∙ e in cc)
+    by false is rest = absurd (none (length xs) (subst (λ c. nat_lt (cond c (1 + prefix_len q xs) 0) (suc (length xs)) ≡ false) is e))
 
 found_none : {A : Type 0} (p : A → Bool) (xs : List A) → position p xs ≡ None → list_all (λ x. not (p x)) xs ≡ true
 found_none p xs e = all_pass (λ x. not (p x)) xs (by (nat_lt (prefix_len (λ x. not (p x)) xs) (length xs)) e)
@@ -38,6 +38,22 @@ found_none p xs e = all_pass (λ x. not (p x)) xs (by (nat_lt (prefix_len (λ x.
     by : (b : Bool) → cond b (Some (prefix_len (λ x. not (p x)) xs)) None ≡ None → b ≡ false
     by false e = refl
     by true e = absurd (let z = e in cc)
+
+-- so none is found
+pub none_any : {A : Type 0} (p : A → Bool) (xs : List A) → position p xs ≡ None → list_any p xs ≡ false
+none_any {A} p xs e = by xs (found_none p xs e)
+  where
+    one : (b c : Bool) → not b ≡ true → c ≡ false → (b || c) ≡ false
+    one false c e rest = rest
+    one true c e rest = absurd (let z = e in cc)
+
+    by : (ys : List A) → list_all (λ x. not (p x)) ys ≡ true → list_any p ys ≡ false
+    by [] e = refl
+    by (y ∷ ys) e = let h = and_parts (not (p y)) _ e in one (p y) (list_any p ys) h.0 (by ys h.1)
+
+pub if_some_on : {A : Type 0} (P Q : A → Type 0) (o : Option A) → ((x : A) → P x → Q x) → IfSome o P → IfSome o Q
+if_some_on P Q None f is = is
+if_some_on P Q (Some x) f is = f x is
 
 -- no step changes anything
 pub looks_all : (steps : List Step) → position (λ step. not (is_look step)) steps ≡ None → list_all is_look steps ≡ true
@@ -138,6 +154,14 @@ pair_in (y ∷ ys) (suc i) x e = later _ (pair_in ys i x e)
     later true e = refl
     later false e = e
 
+abbrev head_of : List (ℕ × ℕ) → ℕ × ℕ
+head_of [] = (0, 0)
+head_of (x ∷ xs) = x
+
+abbrev tail_of : List (ℕ × ℕ) → List (ℕ × ℕ)
+tail_of [] = []
+tail_of (x ∷ xs) = xs
+
 module _ (whole : Readings) (reg word : ℕ) where
   -- the words that were loaded into this register are this one
   met_here : (steps : List Step) (xs : List Loaded) → cells_of xs ≡ loads_in steps → list_any (is_other reg word) xs ≡ false
@@ -154,11 +178,10 @@ module _ (whole : Readings) (reg word : ℕ) where
   met_here (Answer reply ∷ steps) xs cells none each = met_here steps xs cells none each
   met_here (Load place into ∷ steps) [] cells none each = absurd (let z = cells in cc)
   met_here (Load place into ∷ steps) (x ∷ xs) cells none each =
-      let same : (x.place, x.into) ≡ (place, into) = (let z = cells in cc) in
-      let rest : cells_of xs ≡ loads_in steps = (let z = cells in cc) in
+      let at : x.place ≡ place = ap (λ ys. (head_of ys).0) cells in
+      let reg_is : x.into ≡ into = ap (λ ys. (head_of ys).1) cells in
+      let rest : cells_of xs ≡ loads_in steps = ap tail_of cells in
       let h = neither (is_other reg word x) (list_any (is_other reg word) xs) none in
-      let at : x.place ≡ place = ap (λ (c : ℕ × ℕ). c.0) same in
-      let reg_is : x.into ≡ into = ap (λ (c : ℕ × ℕ). c.1) same in
       both (into == reg) (has_pair whole place word)
       (λ of_reg. subst (λ p. has_pair whole p word ≡ true) at
       (subst (λ w. has_pair whole x.place w ≡ true) (is_this x.into x.word (ap (λ k. k == reg) reg_is ∙ of_reg) h.0) (each 0 x refl)))
@@ -209,10 +232,19 @@ found_all steps xs first all none =
     each (x ∷ rest) e = let h = neither (is_missed xs x) _ e in
         ap (λ b. b && list_all (is_met steps (readings_of xs)) rest) (one x h.0) ∙ each rest h.1
 
+first_of : (a b : ℕ × ℕ) → Some a ≡ Some b → a ≡ b
+first_of a b e = ap (λ o. inner o) e
+  where
+    inner : Option (ℕ × ℕ) → ℕ × ℕ
+    inner None = a
+    inner (Some x) = x
+
 -- a cell among those that steps load has its Load
 load_at : (steps : List Step) (k place reg : ℕ) → slice_get (loads_in steps) k ≡ Some (place, reg) → (j : ℕ) × IsStep steps j (Load place reg)
 load_at [] k place reg e = absurd (let z = e in cc)
-load_at (Load p r ∷ steps) zero place reg e = let same : (p, r) ≡ (place, reg) = (let z = e in cc) in (0, λ i. Some (Load ((same i).0) ((same i).1)))
+load_at (Load p r ∷ steps) zero place reg e =
+    let same = first_of (p, r) (place, reg) e in
+    (0, λ i. Some (Load ((same i).0) ((same i).1)))
 load_at (Load p r ∷ steps) (suc k) place reg e = let h = load_at steps k place reg e in (suc h.0, h.1)
 load_at (Want r w ∷ steps) k place reg e = let h = load_at steps k place reg e in (suc h.0, h.1)
 load_at (Fresh r ∷ steps) k place reg e = let h = load_at steps k place reg e in (suc h.0, h.1)
@@ -244,3 +276,36 @@ unmet_is steps xs first all step among place expected read miss =
       seen = (miss.load, get_map (λ (x : Loaded). (x.place, x.word)) xs miss.load miss.loaded miss.loads ∙ (λ i. Some (miss.from i, miss.found i)));
       other = miss.other;
     }
+
+-- a Want of a register into which another word was loaded
+abbrev pub no_cell : Loaded
+no_cell = record { place = 0; into = 0; word = 0 }
+
+module _ (xs : List Loaded) (reg word at : ℕ) (e : position (is_other reg word) xs ≡ Some at) where
+  other_there : (at < length xs) × (is_other reg word (get_or xs at no_cell) ≡ true) × ((k : ℕ) → k < at → is_other reg word (get_or xs k no_cell) ≡ false)
+  other_there = position-Some (is_other reg word) xs at no_cell e
+
+  differs : (n : ℕ) → not (n == word) ≡ true → n ≡ word → ⊥
+  differs n h same =
+      let z : (n == word) ≡ true = grind (arith, nat_tests, same) in
+      let y : not true ≡ true = subst (λ b. not b ≡ true) z h in
+      let clash : false ≡ true = y in cc
+
+  pub miss_is : (step : Step) → step ≡ Want reg word → IsMiss xs step (get_or xs at no_cell).place word (get_or xs at no_cell).word
+  miss_is step is =
+      let tests = and_parts ((get_or xs at no_cell).into == reg) (not ((get_or xs at no_cell).word == word)) other_there.1 in record {
+        reg = reg;
+        wants = is;
+        load = at;
+        loaded = get_or xs at no_cell;
+        loads = slice_get-get_or xs at no_cell other_there.0;
+        into = same_of (get_or xs at no_cell).into reg tests.0;
+        from = refl;
+        found = refl;
+        other = λ same. differs (get_or xs at no_cell).word tests.1 (sym same);
+      }
+
+-- the first step that misses its word
+pub missed_there : (steps : List Step) (xs : List Loaded) (at : ℕ) (d : Step) → position (is_missed xs) steps ≡ Some at
+    → is_missed xs (get_or steps at d) ≡ true
+missed_there steps xs at d e = (position-Some (is_missed xs) steps at d e).1

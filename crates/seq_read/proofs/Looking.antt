@@ -38,10 +38,10 @@ take_all [] = refl
 take_all (x ∷ xs) = ap (λ s. x ∷ s) (take_all xs)
 
 three : (a b c : Bool) → a ≡ true → b ≡ true → c ≡ true → (a && (b && c)) ≡ true
-three a b c one two three = ap (λ x. x && (b && c)) one ∙ (ap (λ x. x && c) two ∙ three)
+three a b c first second third = ap (λ x. x && (b && c)) first ∙ (ap (λ x. x && c) second ∙ third)
 
 two : (a b : Bool) → a ≡ true → b ≡ true → (a && b) ≡ true
-two a b one other = ap (λ x. x && b) one ∙ other
+two a b first second = ap (λ x. x && b) first ∙ second
 
 module _ (m : Meaning) (l : Layout) (requests : List Request) (r : ℕ) (request : Request) (thunk : Thunk) (readings found : Readings) (known : List Known)
     (clock : ℕ) where
@@ -85,7 +85,7 @@ module _ (m : Meaning) (l : Layout) (requests : List Request) (r : ℕ) (request
         where
           not_zero : (n : ℕ) → n ≢ 0 → not (n == 0) ≡ true
           not_zero zero some = absurd (some refl)
-          not_zero (suc n) some = refl
+          not_zero (suc n) some = let z : not (suc n == 0) ≡ true = grind (arith, nat_tests) in z
 
           opened : is_open l (planned_of m look walk) thunk ≡ true
           opened = three (is_free thunk.word) (not (is_spent l.version_max thunk.word)) (has_pair (planned_of m look walk) thunk.lock thunk.word)

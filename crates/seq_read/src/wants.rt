@@ -24,14 +24,21 @@ fn find_other(loaded: &[Loaded], reg: u8, word: Word) -> Option<usize>
         .position(|x| x.into == reg && x.word != word.bits())
 }
 
+/// Whether another word than this one was loaded into this register.
+fn has_other(loaded: &[Loaded], reg: u8, word: Word) -> bool
+    ensures { result ≡ list_any (is_other reg word) loaded.now }
+{
+    loaded
+        .iter()
+        .any(|x| x.into == reg && x.word != word.bits())
+}
+
 /// Whether this step is a Want of a register into which another word was loaded.
 fn is_missed(loaded: &[Loaded], step: &Step) -> bool
     ensures { result ≡ is_missed loaded.now step.now }
 {
     match *step {
-        Step::Want { reg, word } => loaded
-            .iter()
-            .any(|x| x.into == reg && x.word != word.bits()),
+        Step::Want { reg, word } => has_other(loaded, reg, word),
         _ => false,
     }
 }
@@ -44,12 +51,21 @@ fn missed_by(loaded: &[Loaded], step: &Step) -> Option<Missed>
     let Step::Want { reg, word } = *step else {
         return None;
     };
-    let at = find_other(loaded, reg, word)?;
-    Some(Missed {
-        place: loaded[at].place,
-        expected: word,
-        read: Word::from_bits(loaded[at].word),
-    })
+    match find_other(loaded, reg, word) {
+        Some(at) => Some(Missed {
+            place: loaded[at].place,
+            expected: word,
+            read: Word::from_bits(loaded[at].word),
+        }),
+        None => None,
+    }
+}
+
+/// Where the first of these steps stands that wanted another word than was found, if one did.
+fn find_missed(steps: &[Step], loaded: &[Loaded]) -> Option<usize>
+    ensures { result ≡ position (is_missed loaded.now) steps.now }
+{
+    steps.iter().position(|step| is_missed(loaded, step))
 }
 
 /// What the first of these steps wanted for which another word was found, if there is one.
@@ -58,6 +74,8 @@ pub fn first_missed(steps: &[Step], loaded: &[Loaded]) -> Option<Missed>
         × IsMiss loaded.now step x.place x.expected x.read) }
     ensures none { result ≡ None → list_any (is_missed loaded.now) steps.now ≡ false }
 {
-    let at = steps.iter().position(|step| is_missed(loaded, step))?;
-    missed_by(loaded, &steps[at])
+    match find_missed(steps, loaded) {
+        Some(at) => missed_by(loaded, &steps[at]),
+        None => None,
+    }
 }
