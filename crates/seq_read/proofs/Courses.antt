@@ -84,14 +84,14 @@ module _ {T : Type 0} (m : Meaning) (planning : Planning) (request : Request) (o
       at = is.enters.at.at;
       unpublished = is.enters.at.published;
       looked = ap (λ (s : ReadsState). s.look) is.enters.reads;
-      walk = ap (λ (s : ReadsState). s.walk) is.enters.reads;
-      only = ap (λ (y : RunnerState T). y.part.records.only_loads) is.enters.again.made
+      has_read = ap (λ (s : ReadsState). s.walk) is.enters.reads;
+      loads_only = ap (λ (y : RunnerState T). y.part.records.only_loads) is.enters.again.made
           ∙ ap (λ (o : Option RunState). only_loads_after kinds.EnterAgain (after_by m is.enters.waiting.layout kinds.EnterAgain is.enters.waiting.part o is.enters.epoch).records.only_loads) waiting_none;
       seated = is.enters.at.seated;
     }
 
   -- it plans
-  pub planned_of : (r : RunnerState T) (enters : HasEntered m planning request old r) (answer : Planned) (new : RunnerState T)
+  abbrev pub planned_of : (r : RunnerState T) (enters : HasEntered m planning request old r) (answer : Planned) (new : RunnerState T)
       (halts halts' : ℕ) (asks asks' : Asks) (steps steps' : ℕ)
       → (is : plan.HasPlanned m planning request answer r new halts halts' asks asks' steps steps')
       → HasPlanned m planning request is.readings answer old new
@@ -129,7 +129,7 @@ module _ {T : Type 0} (m : Meaning) (planning : Planning) (request : Request) (o
       loads_on m is.enters.enters.epoch None true readings [] is.entered r (entered_here is.entered is.enters) is.walked.loads
 
   -- it loads cells of the body
-  pub loaded_of : (readings : Readings) (thunk : Thunk) (found : Readings) (planned r : RunnerState T)
+  abbrev pub loaded_of : (readings : Readings) (thunk : Thunk) (found : Readings) (planned r : RunnerState T)
       → HasPlanned m planning request readings (plans.Thunk thunk) old planned → list_all is_look (m.body thunk) ≡ true
       → are_of (take (length found) (loaded_places (m.body thunk))) found ≡ true
       → plan.HasWalked m found planned r → IsReached m r → HasLoaded m planning request thunk found old r
@@ -171,7 +171,7 @@ module _ {T : Type 0} (m : Meaning) (planning : Planning) (request : Request) (o
       announcing_here : IsHere r' (epoch_of r is.loads) (Some (plan_by thunk)) (is.loads.readings ++ found) true
       announcing_here = plan_on m (epoch_of r is.loads) (is.loads.readings ++ found) r r' thunk none (loaded_here r is.loads) made
 
-      pub announced_of : HasAnnounced m planning request thunk found old r'
+      abbrev pub announced_of : HasAnnounced m planning request thunk found old r'
       announced_of = record {
         loaded = r;
         finds = is;
@@ -200,7 +200,7 @@ module _ {T : Type 0} (m : Meaning) (planning : Planning) (request : Request) (o
       clocking_here = clock_on m (epoch_announced r is) (walk_announced r is) r r' thunk clock (length old.part.records.known)
           (ap length is.reading.still.known) (announced_here r is) made
 
-      pub clock_of : HasClock m planning request thunk found clock old r'
+      abbrev pub clock_of : HasClock m planning request thunk found clock old r'
       clock_of = record {
         announced = r;
         announces = is;
@@ -222,7 +222,7 @@ module _ {T : Type 0} (m : Meaning) (planning : Planning) (request : Request) (o
         locking_here = load_on m (epoch_announced is.announced is.announces) (walk_announced is.announced is.announces) r r'
             (Some (look_at (walk_announced is.announced is.announces) clock)) true thunk.lock word (clock_here r is) made
 
-        pub lock_of : HasLock m planning request thunk found clock word old r'
+        abbrev pub lock_of : HasLock m planning request thunk found clock word old r'
         lock_of = record {
           clocked = r;
           clocks = is;
@@ -258,3 +258,10 @@ module _ {T : Type 0} (m : Meaning) (planning : Planning) (request : Request) (o
       stamped_here r is = stamp_on m (epoch_locked thunk.word is.replies.again is.replies.unmoved)
           (walk_locked thunk.word is.replies.again is.replies.unmoved ++ (thunk.lock, thunk.word) ∷ []) is.replied r
           (record (look_at (walk_locked thunk.word is.replies.again is.replies.unmoved) clock) { stage = Replied }) 0 (replied_here is.replied is.replies) is.writes
+
+      -- the table and the requests are the same
+      pub replied_layout : (r : RunnerState T) (is : HasReplied m planning request thunk found clock old r) → r.layout ≡ old.layout
+      replied_layout r is = ap (λ (y : RunnerState T). y.layout) is.writes.made ∙ is.unmoved.reading.still.layout
+
+      pub replied_requests : (r : RunnerState T) (is : HasReplied m planning request thunk found clock old r) → r.requests ≡ old.requests
+      replied_requests r is = ap (λ (y : RunnerState T). y.requests) is.writes.made ∙ is.unmoved.reading.still.requests

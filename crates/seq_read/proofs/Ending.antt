@@ -10,7 +10,7 @@ use Rattle.body_terms.specs.declared.thunk.Thunk.{Thunk}
 use Rattle.table_words.specs.Limits.{IsWithinLimits}
 use Rattle.table_words.specs.declared.spot.Spot.TheVariants as spots
 use Rattle.table_words.specs.declared.access.Access.TheVariants.{Loads}
-use Rattle.runner_gate.specs.Asks.{Asks}
+use Rattle.runner_gate.specs.Asks.{Asks, asked_on}
 use Rattle.structure_laws.specs.Scene.{Readings}
 use Rattle.structure_laws.specs.Meaning.{Meaning}
 use Rattle.structure_laws.specs.Laws.{Laws}
@@ -34,13 +34,14 @@ use Rattle.caller_facts.proofs.Knowing.{get_on}
 use Rattle.caller_facts.proofs.Standing.{made_reached}
 use Rattle.seq_read.specs.RealTime.{FollowsAnswered}
 use Rattle.seq_read.specs.Course.{HasReplied, HasStamped}
-use Rattle.seq_read.specs.Reads.{IsInHistory, HasRead, IsServed, IsHalted, BehindReply, BehindStamp, read_steps}
+use Rattle.seq_read.specs.Reads.{IsInHistory, HasRead, IsServed, IsHalted, BehindReply, BehindStamp, replied_steps}
 use Rattle.seq_read.specs.Parts.{Rests}
 use Rattle.seq_read.specs.declared.answers.Read.TheVariants as answers
 use Rattle.seq_read.proofs.Events.{IsHere, may_load_clock}
 use Rattle.seq_read.proofs.Courses.{announced_here, epoch_announced, walk_announced, replied_here, stamped_here}
 use Rattle.seq_read.proofs.Serving.{was_reached, was_found, reply_known, same_word, known_reply, in_history, answered, knew_before, follows_answered}
 use Rattle.seq_read.proofs.Writing.{unknown_replied}
+use Rattle.seq_read.proofs.Resting.{halted_rests}
 
 module _ {T : Type 0} (m : Meaning) (laws : Laws m) (map : m.is_map ≡ true) (planning : Planning) (request : Request) (old : RunnerState T)
     (limits : IsWithinLimits old.layout) (allowed : AreAllowed old.requests) (thunk : Thunk) (found : Readings) (clock : ℕ) where
@@ -131,6 +132,13 @@ module _ {T : Type 0} (m : Meaning) (laws : Laws m) (map : m.is_map ≡ true) (p
       reached = reached_stamped;
     }
 
+    pub stamped_halted_rests : (before made more : ℕ) → before + made ≡ replied_steps m planning request thunk found clock old is.replied is.replies + 1
+        → 1 + before + more ≡ replied_steps m planning request thunk found clock old is.replied is.replies + 1
+        → (Seen : ℕ → Asks → Type 0) (halts halts' : ℕ) (asks asks' : Asks) (steps steps' : ℕ) → IsAsked made false halts halts' asks asks' steps steps'
+        → Seen halts (asked_on asks more) → Rests m planning request before answers.Halted old r Seen halts halts' asks asks' steps steps'
+    stamped_halted_rests before made more made_is more_is Seen halts halts' asks asks' steps steps' asked seen =
+        halted_rests m laws planning request old limits allowed may_of r stamped_halted before made more made_is more_is Seen halts halts' asks asks' steps steps' asked seen
+
     -- or it leaves
     module _ (new : RunnerState T) (exits : Exits m r new) (reply : Reply)
         (whole : (other : Reply) → IsReply other → word_of other ≡ reply_in (m.body thunk) → reply ≡ other) where
@@ -191,7 +199,7 @@ module _ {T : Type 0} (m : Meaning) (laws : Laws m) (map : m.is_map ≡ true) (p
       }
 
       -- so the read is done
-      pub served_rests : (before made : ℕ) → before + made ≡ read_steps m planning request reply stamp old r read_so
+      pub served_rests : (before made : ℕ) → before + made ≡ replied_steps m planning request thunk found clock old is.replied is.replies + 1
           → (Seen : ℕ → Asks → Type 0) (halts halts' : ℕ) (asks asks' : Asks) (steps steps' : ℕ) → IsAsked made true halts halts' asks asks' steps steps'
           → Rests m planning request before (answers.Done reply stamp) old new Seen halts halts' asks asks' steps steps'
       served_rests before made made_is Seen halts halts' asks asks' steps steps' asked = record {
@@ -211,3 +219,11 @@ module _ {T : Type 0} (m : Meaning) (laws : Laws m) (map : m.is_map ≡ true) (p
     answered = unknown_replied m laws planning request old limits allowed thunk found clock r is;
     reached = made_reached m kinds.ReadReply 0 is.again r is.writes;
   }
+
+  pub replied_halted_rests : (r : RunnerState T) (is : HasReplied m planning request thunk found clock old r) (before made more : ℕ)
+      → before + made ≡ replied_steps m planning request thunk found clock old r is → 1 + before + more ≡ replied_steps m planning request thunk found clock old r is
+      → (Seen : ℕ → Asks → Type 0) (halts halts' : ℕ) (asks asks' : Asks) (steps steps' : ℕ) → IsAsked made false halts halts' asks asks' steps steps'
+      → Seen halts (asked_on asks more) → Rests m planning request before answers.Halted old r Seen halts halts' asks asks' steps steps'
+  replied_halted_rests r is before made more made_is more_is Seen halts halts' asks asks' steps steps' asked seen =
+      halted_rests m laws planning request old limits allowed is.unmoved.clocks.announces.finds.loads.plans.enters.may r (replied_halted r is)
+      before made more made_is more_is Seen halts halts' asks asks' steps steps' asked seen

@@ -41,8 +41,8 @@ pub record IsHere {T : Type 0} (r : RunnerState T) (epoch : ℕ) (look : Option 
   pub at : r.part.stage ≡ stages.Entered epoch
   pub unpublished : r.part.published ≡ None
   pub looked : r.part.reads.look ≡ look
-  pub walk : r.part.reads.walk ≡ walk
-  pub only : r.part.records.only_loads ≡ only
+  pub has_read : r.part.reads.walk ≡ walk
+  pub loads_only : r.part.records.only_loads ≡ only
   pub seated : r.number ≤ r.layout.runners
 
 module _ {T : Type 0} where
@@ -76,8 +76,8 @@ module _ {T : Type 0} (m : Meaning) (k : EventKind) (found : ℕ) (r r' : Runner
     unpublished = ap (λ (y : RunnerState T). y.part.published) made.made
         ∙ (ap (λ (o : Option RunState). (after_by m r.layout k r.part o found).published) resting ∙ published);
     looked = ap (λ s. s.look) (reads_made m k found r r' made resting) ∙ looked;
-    walk = ap (λ s. s.walk) (reads_made m k found r r' made resting) ∙ walks;
-    only = only_made ∙ onlys;
+    has_read = ap (λ s. s.walk) (reads_made m k found r r' made resting) ∙ walks;
+    loads_only = only_made ∙ onlys;
     seated = subst (λ (y : RunnerState T). y.number ≤ y.layout.runners) (sym made.made) seated;
   }
 
@@ -86,12 +86,12 @@ module _ {T : Type 0} (m : Meaning) (epoch : ℕ) (walk : Readings) (r r' : Runn
   pub load_on : (look : Option Look) (only : Bool) (place word : ℕ) → IsHere r epoch look walk only → Makes m (kinds.LoadCell (Some place)) word r r'
       → IsHere r' epoch look (walk ++ (place, word) ∷ []) only
   load_on look only place word here made = here_made m (kinds.LoadCell (Some place)) word r r' made here.resting epoch look (walk ++ (place, word) ∷ []) only
-      here.seated here.present here.resting here.at here.unpublished here.looked (ap (λ xs. xs ++ (place, word) ∷ []) here.walk) here.only
+      here.seated here.present here.resting here.at here.unpublished here.looked (ap (λ xs. xs ++ (place, word) ∷ []) here.has_read) here.loads_only
 
   pub plan_on : (thunk : Thunk) (found : ℕ) → IsHere r epoch None walk true → Makes m (kinds.ReadPlan thunk) found r r'
       → IsHere r' epoch (Some (plan_by thunk)) walk true
   plan_on thunk found here made = here_made m (kinds.ReadPlan thunk) found r r' made here.resting epoch (Some (plan_by thunk)) walk true
-      here.seated here.present here.resting here.at here.unpublished refl here.walk here.only
+      here.seated here.present here.resting here.at here.unpublished refl here.has_read here.loads_only
 
   pub clock_on : (thunk : Thunk) (clock known : ℕ) → length r.part.records.known ≡ known → IsHere r epoch (Some (plan_by thunk)) walk true
       → Makes m kinds.ReadClock clock r r'
@@ -100,18 +100,18 @@ module _ {T : Type 0} (m : Meaning) (epoch : ℕ) (walk : Readings) (r r' : Runn
       here_made m kinds.ReadClock clock r r' made here.resting epoch (Some (record { thunk = thunk; clock = clock; walked = length walk; known = known; stage = Looked })) walk true
       here.seated here.present here.resting here.at here.unpublished
       (ap (looked_by r.part clock) here.looked
-      ∙ (λ i. Some (record { thunk = thunk; clock = clock; walked = length (here.walk i); known = many i; stage = Looked })))
-      here.walk here.only
+      ∙ (λ i. Some (record { thunk = thunk; clock = clock; walked = length (here.has_read i); known = many i; stage = Looked })))
+      here.has_read here.loads_only
 
   pub reply_on : (x : Look) (found : ℕ) → IsHere r epoch (Some x) walk true → Makes m kinds.ReadReply found r r'
       → IsHere r' epoch (Some (record x { stage = Replied })) walk false
   reply_on x found here made = here_made m kinds.ReadReply found r r' made here.resting epoch (Some (record x { stage = Replied })) walk false
-      here.seated here.present here.resting here.at here.unpublished (ap (come_to Replied) here.looked) here.walk refl
+      here.seated here.present here.resting here.at here.unpublished (ap (come_to Replied) here.looked) here.has_read refl
 
   pub stamp_on : (x : Look) (found : ℕ) → IsHere r epoch (Some x) walk false → Makes m kinds.ReadStamp found r r'
       → IsHere r' epoch (Some (record x { stage = Stamped })) walk false
   stamp_on x found here made = here_made m kinds.ReadStamp found r r' made here.resting epoch (Some (record x { stage = Stamped })) walk false
-      here.seated here.present here.resting here.at here.unpublished (ap (come_to Stamped) here.looked) here.walk refl
+      here.seated here.present here.resting here.at here.unpublished (ap (come_to Stamped) here.looked) here.has_read refl
 
 -- loads of cells, one after the other
 pub loads_on : {T : Type 0} (m : Meaning) (epoch : ℕ) (look : Option Look) (only : Bool) (readings walk : Readings) (r r' : RunnerState T)
@@ -137,14 +137,14 @@ module _ {T : Type 0} (m : Meaning) (epoch : ℕ) (walk : Readings) (r : RunnerS
   pub may_plan : (thunk : Thunk) → IsHere r epoch None walk true → length thunk.operands ≡ 8
       → met_by m r (kinds.ReadPlan thunk) ≡ Some (spots.Announcement r.number, Exchanges 0 0)
   may_plan thunk here eight = asked_is None true here (kinds.ReadPlan thunk) (spots.Announcement r.number, Exchanges 0 0)
-      ((λ i. when (is_walking (here.at i) (here.resting i) && (here.only i && (is_none (here.looked i) && length thunk.operands == 8)))
+      ((λ i. when (is_walking (here.at i) (here.resting i) && (here.loads_only i && (is_none (here.looked i) && length thunk.operands == 8)))
       (spots.Announcement r.number) (Exchanges 0 0))
       ∙ ap (λ (n : ℕ). when (n == 8) (spots.Announcement r.number) (Exchanges 0 0)) eight)
       here.seated
 
   pub may_load_clock : (thunk : Thunk) → IsHere r epoch (Some (plan_by thunk)) walk true → met_by m r kinds.ReadClock ≡ Some (spots.Clock, Loads)
   may_load_clock thunk here = asked_is (Some (plan_by thunk)) true here kinds.ReadClock (spots.Clock, Loads)
-      (ap (read_clock_ask r.part) here.looked ∙ (λ i. when (is_walking (here.at i) (here.resting i) && (here.only i && true)) spots.Clock Loads)) tt
+      (ap (read_clock_ask r.part) here.looked ∙ (λ i. when (is_walking (here.at i) (here.resting i) && (here.loads_only i && true)) spots.Clock Loads)) tt
 
   pub may_write_reply : (x : Look) → IsHere r epoch (Some x) walk true → may_reply m r.layout r.requests r.number r.part x ≡ true
       → x.thunk.request < length r.requests

@@ -4,7 +4,9 @@ pub mod Events
 pub mod Courses
 pub mod Serving
 pub mod Writing
-pub mod Resting
-pub mod Ending
 pub mod Locking
 pub mod Loading
+pub mod Resting
+pub mod Ending
+pub mod Keeping
+pub mod Reading

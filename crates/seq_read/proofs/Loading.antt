@@ -150,7 +150,7 @@ module _ {T : Type 0} (m : Meaning) (laws : Laws m) (planning : Planning) (reque
 
     walk_is : r.part.reads.walk ≡ readings ++ readings_of xs
     walk_is = ap (λ (s : ReadsState). s.walk) is.loads.reads
-        ∙ ap (λ ws. ws ++ readings_of xs) (planned_here m planning request old readings (plans.Thunk thunk) start may.plans).walk
+        ∙ ap (λ ws. ws ++ readings_of xs) (planned_here m planning request old readings (plans.Thunk thunk) start may.plans).has_read
 
     fits : m.fits r.layout request.op r.part.reads.walk thunk ≡ true
     fits = (λ i. m.fits (layout_here i) request.op (walk_is i) thunk)

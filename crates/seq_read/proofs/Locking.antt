@@ -58,7 +58,7 @@ module _ {T : Type 0} (m : Meaning) (laws : Laws m) (planning : Planning) (reque
   reached = made_reached m kinds.ReadClock clock is.announced r is.loads
 
   lock_read : has_pair r.part.reads.walk thunk.lock thunk.word ≡ true
-  lock_read = ap (λ xs. has_pair xs thunk.lock thunk.word) here.walk
+  lock_read = ap (λ xs. has_pair xs thunk.lock thunk.word) here.has_read
       ∙ (list_any-append (λ x. x.0 == thunk.lock && x.1 == thunk.word) is.announces.finds.loads.readings found
       ∙ ap (λ b. b || has_pair found thunk.lock thunk.word) is.announces.finds.loads.plans.answers.read)
 

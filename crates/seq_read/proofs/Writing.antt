@@ -58,6 +58,9 @@ learned_so : (s : RecordsState) (n : ℕ) (reply : Bool) (number : ℕ) → numb
 learned_so s n reply zero some = absurd (some refl)
 learned_so s n reply (suc number) some = refl
 
+odd_some : (n : ℕ) → read_stamp_after n ≢ 0
+odd_some n e = absurd (omega (arith, e))
+
 -- what an exchange from 0 leaves where it finds 0
 left_is : (spot : Spot) (number found left : ℕ) (met : Spot × Access) → met ≡ (spot, Exchanges 0 number) → left ≡ written met.1 found → found ≡ 0 → left ≡ number
 left_is spot number found left met is told none = told ∙ (λ i. written ((is i).1) (none i))
@@ -79,9 +82,9 @@ module _ {T : Type 0} (m : Meaning) (laws : Laws m) (planning : Planning) (reque
     pub planned_shaped : Shaped m r.layout readings thunk
     planned_shaped =
         let here = planned_here m planning request old readings (plans.Thunk thunk) r is in
-        subst (λ xs. Shaped m r.layout xs thunk) here.walk
+        subst (λ xs. Shaped m r.layout xs thunk) here.has_read
         (fitting_shaped m laws request thunk r (limits_of r is.reading.still.layout) (allowed_of r is.reading.still.requests) is.reached is.enters.enters.epoch here.at request_there
-        ((λ i. m.fits (is.reading.still.layout i) request.op (here.walk i) thunk) ∙ is.answers.fits))
+        ((λ i. m.fits (is.reading.still.layout i) request.op (here.has_read i) thunk) ∙ is.answers.fits))
 
     pub answers_some : reply_in (m.body thunk) ≢ 0
     answers_some none = let last = last_answer (m.body thunk) planned_shaped.shape in
@@ -141,13 +144,13 @@ module _ {T : Type 0} (m : Meaning) (laws : Laws m) (planning : Planning) (reque
 
     may : may_reply m r.layout r.requests r.number r.part x ≡ true
     may = both (only_reads r.part) (has_come r.part x && is_fit m r.layout r.requests r.number x r.part.records.known r.part.reads.walk)
-        (λ i. is_walking (here.at i) (here.resting i) && (here.only i && is_none (here.unpublished i)))
+        (λ i. is_walking (here.at i) (here.resting i) && (here.loads_only i && is_none (here.unpublished i)))
         (both (has_come r.part x) _
         (both (nat_lt clock last_clock) _ (clock_small thunk found clock thunk.word r is)
         (both (length r.part.records.known == length old.part.records.known) _
         (ap (λ ks. length ks == length old.part.records.known) is.reading.still.known ∙ same_test (length old.part.records.known))
-        (ap (is_again x) here.walk ∙ is_again_so m r.layout r.requests r.number request thunk readings found old.part.records.known clock is.clocks.announces.finds.finds)))
-        ((λ i. is_fit m r.layout r.requests r.number x (is.reading.still.known i) (here.walk i)) ∙ fits_here))
+        (ap (is_again x) here.has_read ∙ is_again_so m r.layout r.requests r.number request thunk readings found old.part.records.known clock is.clocks.announces.finds.finds)))
+        ((λ i. is_fit m r.layout r.requests r.number x (is.reading.still.known i) (here.has_read i)) ∙ fits_here))
       where
         both : (a b : Bool) → a ≡ true → b ≡ true → (a && b) ≡ true
         both a b one two = ap (λ c. c && b) one ∙ two
@@ -176,7 +179,7 @@ module _ {T : Type 0} (m : Meaning) (laws : Laws m) (planning : Planning) (reque
           ∙ (ap (λ n. (sight m r.layout r.requests made.shown.before).word (spots.Reply n)) fit.request
           ∙ (still_unserved (was_reached m kinds.ReadReply none r r' made)).reply)
 
-      pub replied_of : HasReplied m planning request thunk found clock old r'
+      abbrev pub replied_of : HasReplied m planning request thunk found clock old r'
       replied_of = record {
         again = r;
         unmoved = is;
@@ -241,7 +244,7 @@ module _ {T : Type 0} (m : Meaning) (laws : Laws m) (planning : Planning) (reque
           ∙ (ap (λ n. (sight m r.layout r.requests made.shown.before).word (spots.Stamp n)) same_request
           ∙ unstamped m laws r (limits_of r (same_layout ∙ is.unmoved.reading.still.layout)) (allowed_of r (same_requests ∙ is.unmoved.reading.still.requests)) (was_reached m kinds.ReadStamp none r r' made) request own_replied there.unpublished unknown_replied)
 
-      pub stamped_of : HasStamped m planning request thunk found clock old r'
+      abbrev pub stamped_of : HasStamped m planning request thunk found clock old r'
       stamped_of = record {
         replied = r;
         replies = is;
@@ -255,11 +258,8 @@ module _ {T : Type 0} (m : Meaning) (laws : Laws m) (planning : Planning) (reque
             ∙ (ap (λ (b : Bool). if b then (learned r.part.records thunk.request false (written_once none (read_stamp_after clock))).known else r.part.records.known)
             (clock_small thunk found clock thunk.word is.again is.unmoved)
             ∙ ((λ i. (learned r.part.records (same_request i) false (written_once (stamp_zero i) (read_stamp_after clock))).known)
-            ∙ learned_so r.part.records request.number false (read_stamp_after clock) (odd clock))));
+            ∙ learned_so r.part.records request.number false (read_stamp_after clock) (odd_some clock))));
       }
-        where
-          odd : (n : ℕ) → read_stamp_after n ≢ 0
-          odd n e = absurd (omega (arith, e))
 
       pub stamp_left : (left : ℕ) → left ≡ written made.met.1 none → left ≡ read_stamp_after clock
       stamp_left left told = left_is (spots.Stamp thunk.request) (read_stamp_after clock) none left made.met

@@ -1,14 +1,16 @@
 //! What confirms that the cells held at one time what was loaded, and the two words that the read writes then.
-ghost use Rattle.std.specs.Prelude.{◌≡◌, ℕ};
+ghost use Rattle.std.specs.Prelude.{◌≡◌, ℕ, Some};
 ghost use Rattle.map_history.specs.declared.op.Request.{Request};
 ghost use Rattle.structure_laws.specs.Scene.{Readings};
+ghost use Rattle.runner_parts.specs.declared.event.EventKind.TheVariants as kinds;
 ghost use Rattle.runner_steps.specs.Reads.{read_stamp_after};
 ghost use Rattle.runner_steps.specs.Sections.{reply_in};
 ghost use Rattle.version_words.specs.RunnerState.{RunnerState};
 ghost use Rattle.version_words.specs.TableState.{IsOf};
+ghost use Rattle.version_words.specs.Events.{Makes, IsMade};
 ghost use Rattle.lock_walks.specs.commit_log.specs.Asked.{IsAsked};
 ghost use Rattle.lock_walks.specs.try_lock.specs.Planning.{Planning};
-ghost use Rattle.seq_read.specs.Course.{HasFound, HasAnnounced, HasClock, HasLock, HasReplied, HasStamped};
+ghost use Rattle.seq_read.specs.Course.{HasFound, HasAnnounced, HasClock, HasLock, HasReplied};
 
 use body_terms::{StepKind, Steps, Thunk, Word};
 use lock_walks::try_lock::commit_log::passes;
@@ -28,9 +30,7 @@ pub fn announce<S: Structure, G: Gate, L>(
     requires found { (planning : Planning) × (request : Request) × (found : Readings) × (old : RunnerState S)
         × HasFound (S.meaning table.now.structure) planning request thunk.now found old runner }
     ensures own { IsOf table.now result.0 }
-    ensures announced { (planning : Planning) (request : Request) (found : Readings) (old : RunnerState S)
-        → HasFound (S.meaning table.now.structure) planning request thunk.now found old runner
-        → HasAnnounced (S.meaning table.now.structure) planning request thunk.now found old result.0 }
+    ensures event { IsMade (S.meaning table.now.structure) (kinds.ReadPlan thunk.now) runner result.0 }
     ensures asked { IsAsked 1 result.1
         (G.halts gate.old) (G.halts gate.new) (G.asks gate.old) (G.asks gate.new) steps.old.count steps.new.count }
 {
@@ -51,9 +51,7 @@ pub fn load_clock<S: Structure, G: Gate, L>(
     requires announced { (planning : Planning) × (request : Request) × (found : Readings) × (old : RunnerState S)
         × HasAnnounced (S.meaning table.now.structure) planning request thunk.now found old runner }
     ensures own { IsOf table.now result.0 }
-    ensures clock { (planning : Planning) (request : Request) (found : Readings) (old : RunnerState S)
-        → HasAnnounced (S.meaning table.now.structure) planning request thunk.now found old runner
-        → HasClock (S.meaning table.now.structure) planning request thunk.now found result.1 old result.0 }
+    ensures event { Makes (S.meaning table.now.structure) kinds.ReadClock result.1 runner result.0 }
     ensures asked { IsAsked 1 result.2
         (G.halts gate.old) (G.halts gate.new) (G.asks gate.old) (G.asks gate.new) steps.old.count steps.new.count }
 {
@@ -76,9 +74,8 @@ pub fn load_lock<S: Structure, G: Gate, L>(
         × (old : RunnerState S)
         × HasClock (S.meaning table.now.structure) planning request thunk.now found clock old runner }
     ensures own { IsOf table.now result.0 }
-    ensures lock { (planning : Planning) (request : Request) (found : Readings) (clock : ℕ) (old : RunnerState S)
-        → HasClock (S.meaning table.now.structure) planning request thunk.now found clock old runner
-        → HasLock (S.meaning table.now.structure) planning request thunk.now found clock result.1 old result.0 }
+    ensures event { Makes (S.meaning table.now.structure) (kinds.LoadCell (Some thunk.now.lock)) result.1 runner
+        result.0 }
     ensures asked { IsAsked 1 result.2
         (G.halts gate.old) (G.halts gate.new) (G.asks gate.old) (G.asks gate.new) steps.old.count steps.new.count }
 {
@@ -103,9 +100,7 @@ pub fn write_reply<S: Structure, G: Gate, L>(
     requires reply { reply ≡ reply_in ((S.meaning table.now.structure).body thunk.now) }
     ensures own { IsOf table.now result.0 }
     ensures word { result.1 ≡ reply }
-    ensures replied { (planning : Planning) (request : Request) (found : Readings) (clock : ℕ) (old : RunnerState S)
-        → HasLock (S.meaning table.now.structure) planning request thunk.now found clock thunk.now.word old runner
-        → HasReplied (S.meaning table.now.structure) planning request thunk.now found clock old result.0 }
+    ensures event { Makes (S.meaning table.now.structure) kinds.ReadReply 0 runner result.0 }
     ensures asked { IsAsked 1 result.2
         (G.halts gate.old) (G.halts gate.new) (G.asks gate.old) (G.asks gate.new) steps.old.count steps.new.count }
 {
@@ -129,9 +124,7 @@ pub fn write_stamp<S: Structure, G: Gate, L>(
         × HasReplied (S.meaning table.now.structure) planning request thunk.now found clock old runner }
     ensures own { IsOf table.now result.0 }
     ensures stamp { result.1 ≡ read_stamp_after clock }
-    ensures stamped { (planning : Planning) (request : Request) (found : Readings) (old : RunnerState S)
-        → HasReplied (S.meaning table.now.structure) planning request thunk.now found clock old runner
-        → HasStamped (S.meaning table.now.structure) planning request thunk.now found clock old result.0 }
+    ensures event { Makes (S.meaning table.now.structure) kinds.ReadStamp 0 runner result.0 }
     ensures asked { IsAsked 1 result.2
         (G.halts gate.old) (G.halts gate.new) (G.asks gate.old) (G.asks gate.new) steps.old.count steps.new.count }
 {

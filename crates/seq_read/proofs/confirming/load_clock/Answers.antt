@@ -1,5 +1,5 @@
 use Rattle.seq_read.proofs.Events.{may_load_clock}
-use Rattle.seq_read.proofs.Courses.{announced_here, clock_of}
+use Rattle.seq_read.proofs.Courses.{announced_here}
 use Rattle.seq_read.proofs.confirming.load_clock.Goals as goal
 
 pub read_clock-runner-requires-clause-next : goal.read_clock-runner-requires-clause-next
@@ -7,8 +7,3 @@ read_clock-runner-requires-clause-next g c κs within =
     let e = c.requires.announced in
     let m = g.S.Structure.meaning c.args.table.now.structure in
     may_load_clock m _ _ c.args.runner c.args.thunk.now (announced_here m e.0 e.1 e.3 c.args.thunk.now e.2 c.args.runner e.4)
-
-pub returns-clause-clock : goal.returns-clause-clock
-returns-clause-clock g c = λ planning request found old is.
-    clock_of (g.S.Structure.meaning c.args.table.now.structure) planning request old c.args.thunk.now found c.args.runner c.read_clock-runner.result.0 c.read_clock-runner.result.1 is
-    c.read_clock-runner.ensures.event

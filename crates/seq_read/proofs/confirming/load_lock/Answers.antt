@@ -3,7 +3,7 @@ use Rattle.table_words.specs.Limits.{IsWithinLimits}
 use Rattle.request_facts.specs.reached_histories.specs.machine_invariant.specs.After.{AreAllowed}
 use Rattle.version_words.specs.Events.{Makes}
 use Rattle.version_words.specs.Naming.{load_of}
-use Rattle.seq_read.proofs.Courses.{clock_here, lock_of}
+use Rattle.seq_read.proofs.Courses.{clock_here}
 use Rattle.seq_read.proofs.Locking.{lock_asked}
 use Rattle.seq_read.proofs.confirming.load_lock.Goals as goal
 
@@ -16,9 +16,9 @@ load_cell-runner-requires-clause-next g c κs within =
     (subst AreAllowed (sym c.requires.own.requests ∙ e.5.reading.still.requests) (c.requires.own.allowed _ refl))
     c.args.thunk.now e.2 e.3 c.args.runner e.5
 
-pub returns-clause-lock : goal.returns-clause-lock
-returns-clause-lock g c = λ planning request found clock old is.
+pub returns-clause-event : goal.returns-clause-event
+returns-clause-event g c =
     let m = g.S.Structure.meaning c.args.table.now.structure in
-    lock_of m planning request old c.args.thunk.now found clock c.args.runner c.load_cell-runner.result.0 c.load_cell-runner.result.1 is
-    (subst (λ o. Makes m (load_of o c.args.thunk.now.lock) c.load_cell-runner.result.1 c.args.runner c.load_cell-runner.result.0)
-    (clock_here m planning request old c.args.thunk.now found clock c.args.runner is).resting c.load_cell-runner.ensures.event)
+    let e = c.requires.clock in
+    subst (λ o. Makes m (load_of o c.args.thunk.now.lock) c.load_cell-runner.result.1 c.args.runner c.load_cell-runner.result.0)
+    (clock_here m e.0 e.1 e.4 c.args.thunk.now e.2 e.3 c.args.runner e.5).resting c.load_cell-runner.ensures.event
