@@ -10,3 +10,4 @@ pub mod Resting
 pub mod Ending
 pub mod Keeping
 pub mod Reading
+pub mod Confirming
