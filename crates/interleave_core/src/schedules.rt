@@ -41,7 +41,7 @@ pub enum ScheduleError {
 /// the clock bounds their stamps, what a worker has seen comes before what it asks next, and where no lock
 /// names a section each stamped request has its reply and the cells stand for the history's final map. The
 /// history is linearizable: what was answered after any number of the events has a smaller stamp than what
-/// wasn't asked by then.
+/// wasn't asked by then, or the same where both are reads without a lock.
 /// Whoever is in a run and wasn't joined has an enabled event, the next one of its opening, line or end,
 /// but where a Make finds no free slot. `NotEnabled` comes exactly where an event isn't enabled, and names
 /// the first.

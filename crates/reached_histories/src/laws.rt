@@ -24,8 +24,9 @@ pub fn reached_states_have_histories<S: Structure>(structure: &S)
 }
 
 /// Over every structure the history is linearizable. Take a state that the machine reaches, a request that is
-/// answered in it, and one that isn't asked in it: it has no stamp, and its worker has no section on the way for
-/// it. Whatever events come next, the first keeps its stamp, and the second one's is greater once it has one.
+/// answered in it, and one that isn't asked in it: it has no stamp, its worker has no section on the way for it, and
+/// no read of the worker seeks it. Whatever events come next, the first keeps its stamp, if it has it; and once both
+/// have theirs the second one's is greater, or equal where both are odd, so of reads.
 ///
 /// The layout and the requests are within their limits. (After Herlihy and Wing, Linearizability: a correctness
 /// condition for concurrent objects, 1990.)
