@@ -74,7 +74,7 @@ module _ {T : Type 0} (m : Meaning) (planning : Planning) (request : Request) (o
   }
 
   module _ (r : RunnerState T) (is : HasEntered m planning request old r) where
-    waiting_none : is.enters.waiting.part.run ≡ None
+    pub waiting_none : is.enters.waiting.part.run ≡ None
     waiting_none = in_no_run m is.enters.waiting kinds.EnterAgain refl (record { met = is.enters.again.met; asked = is.enters.again.asked })
 
     pub entered_here : IsHere r is.enters.epoch None [] true
@@ -98,10 +98,10 @@ module _ {T : Type 0} (m : Meaning) (planning : Planning) (request : Request) (o
   planned_of r enters answer new halts halts' asks asks' steps steps' is = record {
     entered = r;
     enters = enters;
-    walk = subst (λ l. plan.IsWalk m planning l request.op is.readings) layout is.walk;
+    walk = subst (λ l. plan.IsWalk m planning l request.op is.readings) enters.reading.still.layout is.walk;
     walked = is.walked;
-    answers = subst (λ l. plan.Answers m planning l request.op request.number is.readings answer) layout is.answers;
-    few = subst (λ (l : Layout). length is.readings ≤ 6 * slots m l + 44) layout is.few;
+    answers = subst (λ l. plan.Answers m planning l request.op request.number is.readings answer) enters.reading.still.layout is.answers;
+    few = subst (λ (l : Layout). length is.readings ≤ 6 * slots m l + 44) enters.reading.still.layout is.few;
     reading = record {
       epoch = enters.enters.epoch;
       at = is.walked.at enters.enters.epoch None enters.enters.at;
@@ -110,7 +110,7 @@ module _ {T : Type 0} (m : Meaning) (planning : Planning) (request : Request) (o
         descriptors = is.walked.keeps.descriptors ∙ enters.reading.slots.descriptors;
       };
       still = record {
-        layout = ap (λ (y : RunnerState T). y.layout) is.walked.same ∙ layout;
+        layout = ap (λ (y : RunnerState T). y.layout) is.walked.same ∙ enters.reading.still.layout;
         requests = ap (λ (y : RunnerState T). y.requests) is.walked.same ∙ enters.reading.still.requests;
         number = is.walked.keeps.number ∙ enters.reading.still.number;
         known = is.walked.keeps.known ∙ enters.reading.still.known;
@@ -119,9 +119,6 @@ module _ {T : Type 0} (m : Meaning) (planning : Planning) (request : Request) (o
     };
     reached = is.reached;
   }
-    where
-      layout : r.layout ≡ old.layout
-      layout = enters.reading.still.layout
 
   pub planned_here : (readings : Readings) (answer : Planned) (r : RunnerState T) (is : HasPlanned m planning request readings answer old r)
       → IsHere r is.enters.enters.epoch None readings true
@@ -168,7 +165,7 @@ module _ {T : Type 0} (m : Meaning) (planning : Planning) (request : Request) (o
 
     -- it announces the read
     module _ (r r' : RunnerState T) (is : HasFound m planning request thunk found old r) (none : ℕ) (made : Makes m (kinds.ReadPlan thunk) none r r') where
-      announcing_here : IsHere r' (epoch_of r is.loads) (Some (plan_by thunk)) (is.loads.readings ++ found) true
+      pub announcing_here : IsHere r' (epoch_of r is.loads) (Some (plan_by thunk)) (is.loads.readings ++ found) true
       announcing_here = plan_on m (epoch_of r is.loads) (is.loads.readings ++ found) r r' thunk none (loaded_here r is.loads) made
 
       abbrev pub announced_of : HasAnnounced m planning request thunk found old r'
@@ -196,7 +193,7 @@ module _ {T : Type 0} (m : Meaning) (planning : Planning) (request : Request) (o
     look_at walk clock = record { thunk = thunk; clock = clock; walked = length walk; known = length old.part.records.known; stage = Looked }
 
     module _ (r r' : RunnerState T) (clock : ℕ) (is : HasAnnounced m planning request thunk found old r) (made : Makes m kinds.ReadClock clock r r') where
-      clocking_here : IsHere r' (epoch_announced r is) (Some (look_at (walk_announced r is) clock)) (walk_announced r is) true
+      pub clocking_here : IsHere r' (epoch_announced r is) (Some (look_at (walk_announced r is) clock)) (walk_announced r is) true
       clocking_here = clock_on m (epoch_announced r is) (walk_announced r is) r r' thunk clock (length old.part.records.known)
           (ap length is.reading.still.known) (announced_here r is) made
 
@@ -217,7 +214,7 @@ module _ {T : Type 0} (m : Meaning) (planning : Planning) (request : Request) (o
 
       -- it loads the lock once more
       module _ (r r' : RunnerState T) (word : ℕ) (is : HasClock m planning request thunk found clock old r) (made : Makes m (kinds.LoadCell (Some thunk.lock)) word r r') where
-        locking_here : IsHere r' (epoch_announced is.announced is.announces) (Some (look_at (walk_announced is.announced is.announces) clock))
+        pub locking_here : IsHere r' (epoch_announced is.announced is.announces) (Some (look_at (walk_announced is.announced is.announces) clock))
             (walk_announced is.announced is.announces ++ (thunk.lock, word) ∷ []) true
         locking_here = load_on m (epoch_announced is.announced is.announces) (walk_announced is.announced is.announces) r r'
             (Some (look_at (walk_announced is.announced is.announces) clock)) true thunk.lock word (clock_here r is) made

@@ -40,49 +40,49 @@ use Rattle.seq_read.specs.declared.answers.Read.TheVariants as answers
 use Rattle.seq_read.proofs.Events.{IsHere, may_load_clock}
 use Rattle.seq_read.proofs.Courses.{announced_here, epoch_announced, walk_announced, replied_here, stamped_here}
 use Rattle.seq_read.proofs.Serving.{was_reached, was_found, reply_known, same_word, known_reply, in_history, answered, knew_before, follows_answered}
-use Rattle.seq_read.proofs.Writing.{unknown_replied}
+use Rattle.seq_read.proofs.Writing.{LooksStand, unknown_replied}
 use Rattle.seq_read.proofs.Resting.{halted_rests}
 
 module _ {T : Type 0} (m : Meaning) (laws : Laws m) (map : m.is_map ≡ true) (planning : Planning) (request : Request) (old : RunnerState T)
-    (limits : IsWithinLimits old.layout) (allowed : AreAllowed old.requests) (thunk : Thunk) (found : Readings) (clock : ℕ) where
-  abbrev n : ℕ
+    (limits : IsWithinLimits old.layout) (allowed : AreAllowed old.requests) (looks : LooksStand m) (thunk : Thunk) (found : Readings) (clock : ℕ) where
+  abbrev pub n : ℕ
   n = request.number
 
-  abbrev stamp : ℕ
+  abbrev pub stamp : ℕ
   stamp = 2 * clock + 1
 
   module _ (r : RunnerState T) (is : HasStamped m planning request thunk found clock old r) where
-    layout_stamped : r.layout ≡ old.layout
+    pub layout_stamped : r.layout ≡ old.layout
     layout_stamped = ap (λ (y : RunnerState T). y.layout) is.writes.made
         ∙ (ap (λ (y : RunnerState T). y.layout) is.replies.writes.made ∙ is.replies.unmoved.reading.still.layout)
 
-    requests_stamped : r.requests ≡ old.requests
+    pub requests_stamped : r.requests ≡ old.requests
     requests_stamped = ap (λ (y : RunnerState T). y.requests) is.writes.made
         ∙ (ap (λ (y : RunnerState T). y.requests) is.replies.writes.made ∙ is.replies.unmoved.reading.still.requests)
 
-    may_of : MayAttempt planning request old
+    pub may_of : MayAttempt planning request old
     may_of = is.replies.unmoved.clocks.announces.finds.loads.plans.enters.may
 
-    reached_stamped : IsReached m r
+    pub reached_stamped : IsReached m r
     reached_stamped = made_reached m kinds.ReadStamp 0 is.replied r is.writes
 
-    stamp_entry : HasEntry r.part.records.known (record { request = n; reply = false; number = stamp })
+    pub stamp_entry : HasEntry r.part.records.known (record { request = n; reply = false; number = stamp })
     stamp_entry = (length is.replied.part.records.known,
         ap (λ ks. slice_get ks (length is.replied.part.records.known)) is.known ∙ get_last is.replied.part.records.known _)
 
-    reply_entry : HasEntry r.part.records.known (record { request = n; reply = true; number = reply_in (m.body thunk) })
+    pub reply_entry : HasEntry r.part.records.known (record { request = n; reply = true; number = reply_in (m.body thunk) })
     reply_entry = (length old.part.records.known,
         ap (λ ks. slice_get ks (length old.part.records.known)) is.known
         ∙ get_on is.replied.part.records.known _ (length old.part.records.known) _
         (ap (λ ks. slice_get ks (length old.part.records.known)) is.replies.known ∙ get_last old.part.records.known _))
 
-    limits_stamped : IsWithinLimits r.layout
+    pub limits_stamped : IsWithinLimits r.layout
     limits_stamped = subst IsWithinLimits (sym layout_stamped) limits
 
-    allowed_stamped : AreAllowed r.requests
+    pub allowed_stamped : AreAllowed r.requests
     allowed_stamped = subst AreAllowed (sym requests_stamped) allowed
 
-    pub reply_read : Reply
+    abbrev pub reply_read : Reply
     reply_read = reply_known m laws r limits_stamped allowed_stamped reached_stamped map n stamp (reply_in (m.body thunk)) stamp_entry reply_entry
 
     pub word_read : word_of reply_read ≡ reply_in (m.body thunk)
@@ -92,22 +92,22 @@ module _ {T : Type 0} (m : Meaning) (laws : Laws m) (map : m.is_map ≡ true) (p
     is_reply_read = known_reply m laws r limits_stamped allowed_stamped reached_stamped map n stamp (reply_in (m.body thunk)) stamp_entry reply_entry
 
     -- the runner as it was about to load the clock
-    abbrev announced : RunnerState T
+    abbrev pub announced : RunnerState T
     announced = is.replies.unmoved.clocks.announced
 
-    above : (x : Known) → HasEntry old.part.records.known x → x.reply ≡ false → is_answered old.part.records.known x.request ≡ true → Follows x.number stamp
+    pub above : (x : Known) → HasEntry old.part.records.known x → x.reply ≡ false → is_answered old.part.records.known x.request ≡ true → Follows x.number stamp
     above x entry stamped known =
         let clocks = is.replies.unmoved.clocks in
         let here = announced_here m planning request old thunk found announced clocks.announces in
         knew_before m laws announced
         (subst IsWithinLimits (sym clocks.announces.reading.still.layout) limits) (subst AreAllowed (sym clocks.announces.reading.still.requests) allowed)
-        (was_reached m kinds.ReadClock clock announced clocks.clocked clocks.loads) clock
-        (was_found m kinds.ReadClock clock announced clocks.clocked clocks.loads spots.Clock Loads
+        (was_reached m kinds.ReadClock clock announced is.replies.unmoved.clocked clocks.loads) clock
+        (was_found m kinds.ReadClock clock announced is.replies.unmoved.clocked clocks.loads spots.Clock Loads
         (may_load_clock m (epoch_announced m planning request old thunk found announced clocks.announces) (walk_announced m planning request old thunk found announced clocks.announces) announced thunk here) refl)
         x (entry.0, ap (λ ks. slice_get ks entry.0) clocks.announces.reading.still.known ∙ entry.1) stamped
         (ap (λ ks. is_answered ks x.request) clocks.announces.reading.still.known ∙ known)
 
-    pub has_read : HasRead m planning request reply_read stamp old r
+    abbrev pub has_read : HasRead m planning request reply_read stamp old r
     has_read = record {
       thunk = thunk;
       found = found;
@@ -123,7 +123,7 @@ module _ {T : Type 0} (m : Meaning) (laws : Laws m) (map : m.is_map ≡ true) (p
     in_time_read = follows_answered m laws planning request old r limits allowed may_of layout_stamped requests_stamped stamp stamp_entry
 
     -- a gate halts it there
-    pub stamped_halted : IsHalted m planning request old r
+    abbrev pub stamped_halted : IsHalted m planning request old r
     stamped_halted = record {
       at = BehindStamp reply_read stamp has_read in_time_read;
       unpublished = (stamped_here m planning request old thunk found clock r is).unpublished;
@@ -142,37 +142,37 @@ module _ {T : Type 0} (m : Meaning) (laws : Laws m) (map : m.is_map ≡ true) (p
     -- or it leaves
     module _ (new : RunnerState T) (exits : Exits m r new) (reply : Reply)
         (whole : (other : Reply) → IsReply other → word_of other ≡ reply_in (m.body thunk) → reply ≡ other) where
-      layout_new : new.layout ≡ old.layout
+      pub layout_new : new.layout ≡ old.layout
       layout_new = ap (λ (y : RunnerState T). y.layout) exits.announce.event.made ∙ layout_stamped
 
-      requests_new : new.requests ≡ old.requests
+      pub requests_new : new.requests ≡ old.requests
       requests_new = ap (λ (y : RunnerState T). y.requests) exits.announce.event.made ∙ requests_stamped
 
-      limits_new : IsWithinLimits new.layout
+      pub limits_new : IsWithinLimits new.layout
       limits_new = subst IsWithinLimits (sym layout_new) limits
 
-      allowed_new : AreAllowed new.requests
+      pub allowed_new : AreAllowed new.requests
       allowed_new = subst AreAllowed (sym requests_new) allowed
 
-      reached_new : IsReached m new
+      pub reached_new : IsReached m new
       reached_new = made_reached m kinds.Idle exits.announce.found r new exits.announce.event
 
-      stamp_new : HasEntry new.part.records.known (record { request = n; reply = false; number = stamp })
+      pub stamp_new : HasEntry new.part.records.known (record { request = n; reply = false; number = stamp })
       stamp_new = (stamp_entry.0, ap (λ ks. slice_get ks stamp_entry.0) exits.keeps.known ∙ stamp_entry.1)
 
-      reply_new : HasEntry new.part.records.known (record { request = n; reply = true; number = reply_in (m.body thunk) })
+      pub reply_new : HasEntry new.part.records.known (record { request = n; reply = true; number = reply_in (m.body thunk) })
       reply_new = (reply_entry.0, ap (λ ks. slice_get ks reply_entry.0) exits.keeps.known ∙ reply_entry.1)
 
-      placed_new : IsInHistory m n stamp reply new
+      pub placed_new : IsInHistory m n stamp reply new
       placed_new = subst (λ x. IsInHistory m n stamp x new)
           (sym (whole _ (known_reply m laws new limits_new allowed_new reached_new map n stamp (reply_in (m.body thunk)) stamp_new reply_new)
           (same_word m laws new limits_new allowed_new reached_new map n stamp (reply_in (m.body thunk)) stamp_new reply_new)))
           (in_history m laws new limits_new allowed_new reached_new map n stamp (reply_in (m.body thunk)) stamp_new reply_new)
 
-      same_reply : reply ≡ reply_read
+      pub same_reply : reply ≡ reply_read
       same_reply = whole reply_read is_reply_read word_read
 
-      read_so : HasRead m planning request reply stamp old r
+      abbrev pub read_so : HasRead m planning request reply stamp old r
       read_so = record {
         thunk = thunk;
         found = found;
@@ -184,7 +184,7 @@ module _ {T : Type 0} (m : Meaning) (laws : Laws m) (map : m.is_map ≡ true) (p
         above = above;
       }
 
-      pub is_served : IsServed m planning request reply stamp old new
+      abbrev pub is_served : IsServed m planning request reply stamp old new
       is_served = record {
         stamped = r;
         read = read_so;
@@ -211,12 +211,12 @@ module _ {T : Type 0} (m : Meaning) (laws : Laws m) (map : m.is_map ≡ true) (p
       }
 
   -- a gate halts it behind the reply
-  pub replied_halted : (r : RunnerState T) (is : HasReplied m planning request thunk found clock old r) → IsHalted m planning request old r
+  abbrev pub replied_halted : (r : RunnerState T) (is : HasReplied m planning request thunk found clock old r) → IsHalted m planning request old r
   replied_halted r is = record {
     at = BehindReply thunk found clock is;
     unpublished = (replied_here m planning request old thunk found clock r is).unpublished;
     untouched = λ e. absurd (true≢false e);
-    answered = unknown_replied m laws planning request old limits allowed thunk found clock r is;
+    answered = unknown_replied m laws planning request old limits allowed looks thunk found clock r is;
     reached = made_reached m kinds.ReadReply 0 is.again r is.writes;
   }
 

@@ -100,6 +100,14 @@ places_of_cells (Store reg value ∷ steps) = places_of_cells steps
 places_of_cells (Retire slot ∷ steps) = places_of_cells steps
 places_of_cells (Answer reply ∷ steps) = places_of_cells steps
 
+-- there are as many
+pub cells_counted : (steps : List Step) → length (loads_in steps) ≡ length (loaded_places steps)
+cells_counted steps = sym (long (loads_in steps)) ∙ ap length (places_of_cells steps)
+  where
+    long : (xs : List (ℕ × ℕ)) → length (map (λ (x : ℕ × ℕ). x.0) xs) ≡ length xs
+    long [] = refl
+    long (x ∷ xs) = ap suc (long xs)
+
 map_take : {A B : Type 0} (f : A → B) (n : ℕ) (xs : List A) → map f (take n xs) ≡ take n (map f xs)
 map_take f zero xs = refl
 map_take f (suc n) [] = refl

@@ -1,5 +1,6 @@
 -- What a read leaves of its runner, by how far it came, and how many steps it counts at most.
-use Rattle.std.specs.Prelude.{Bool, true, false, take, slice_get, count_by}
+use Rattle.std.specs.Prelude.{Bool, true, false, cond, take, slice_get, count_by}
+use Rattle.std.proofs.lemmas.List.Sums.{sum_by-cons}
 use Rattle.std.proofs.Common.{◌≡◌, ◌≢◌, ℕ, zero, suc, ◌+◌, ◌*◌, ◌-◌, ◌≤◌, ◌<◌, List, [], ◌∷◌, ◌++◌, length, refl, sym, ap, ◌∙◌, subst, arith, Some, None}
 use Rattle.map_history.specs.declared.op.Request.{Request}
 use Rattle.map_history.specs.declared.reply.Reply.{Reply}
@@ -66,11 +67,11 @@ module _ {T : Type 0} where
   told_kept : (number : ℕ) (old r r' : RunnerState T) (reply : Bool) (word : ℕ) → IsKept number old r → r'.layout ≡ r.layout → r'.requests ≡ r.requests
       → r'.number ≡ r.number → KeepsSlots old r' → r'.part.records.finished ≡ r.part.records.finished
       → r'.part.records.known ≡ r.part.records.known ++ record { request = number; reply = reply; number = word } ∷ [] → IsKept number old r'
-  told_kept number old r r' reply word is layout requests same slots finished known = record {
+  told_kept number old r r' reply word is layout requests same its finished known = record {
     layout = layout ∙ is.layout;
     requests = requests ∙ is.requests;
     same_number = same ∙ is.same_number;
-    slots = slots;
+    slots = its;
     finished = finished ∙ is.finished;
     known = front_on old.part.records.known r.part.records.known r'.part.records.known is.known
         (record { back = record { request = number; reply = reply; number = word } ∷ []; parts = known });
@@ -81,7 +82,7 @@ module _ {T : Type 0} where
     where
       only : (i : ℕ) (x : Known) → slice_get (record { request = number; reply = reply; number = word } ∷ []) i ≡ Some x → x.request ≡ number
       only zero x e = ap (λ (y : Known). y.request) (sym (some_same _ x e))
-      only (suc i) x e = absurd (none_some x e)
+      only (suc i) x e = absurd (none_some x (sym e))
 
 module _ {T : Type 0} (m : Meaning) where
   exits_kept : (number : ℕ) (old r new : RunnerState T) → IsKept number old r → Exits m r new → IsKept number old new
@@ -147,15 +148,51 @@ module _ {T : Type 0} (m : Meaning) where
 -- a body that runs loads at most thirty cells
 counts_within : (body : List Step) → length (loaded_places body) + (count_by is_stamp body + count_by is_answer body) ≤ length body
 counts_within [] = omega arith
-counts_within (Load place into ∷ steps) = let h = counts_within steps in omega (arith, h)
-counts_within (Want reg word ∷ steps) = let h = counts_within steps in omega (arith, h)
-counts_within (Fresh reg ∷ steps) = let h = counts_within steps in omega (arith, h)
-counts_within (Take place word ∷ steps) = let h = counts_within steps in omega (arith, h)
-counts_within (Make init into ∷ steps) = let h = counts_within steps in omega (arith, h)
-counts_within (Stamp ∷ steps) = let h = counts_within steps in omega (arith, h)
-counts_within (Store reg value ∷ steps) = let h = counts_within steps in omega (arith, h)
-counts_within (Retire slot ∷ steps) = let h = counts_within steps in omega (arith, h)
-counts_within (Answer reply ∷ steps) = let h = counts_within steps in omega (arith, h)
+counts_within (Load place into ∷ steps) =
+    let h = counts_within steps in
+    let a : count_by is_stamp (Load place into ∷ steps) ≡ 0 + count_by is_stamp steps = sum_by-cons (λ s. cond (is_stamp s) 1 0) (Load place into) steps in
+    let b : count_by is_answer (Load place into ∷ steps) ≡ 0 + count_by is_answer steps = sum_by-cons (λ s. cond (is_answer s) 1 0) (Load place into) steps in
+    omega (arith, h, a, b)
+counts_within (Want reg word ∷ steps) =
+    let h = counts_within steps in
+    let a : count_by is_stamp (Want reg word ∷ steps) ≡ 0 + count_by is_stamp steps = sum_by-cons (λ s. cond (is_stamp s) 1 0) (Want reg word) steps in
+    let b : count_by is_answer (Want reg word ∷ steps) ≡ 0 + count_by is_answer steps = sum_by-cons (λ s. cond (is_answer s) 1 0) (Want reg word) steps in
+    omega (arith, h, a, b)
+counts_within (Fresh reg ∷ steps) =
+    let h = counts_within steps in
+    let a : count_by is_stamp (Fresh reg ∷ steps) ≡ 0 + count_by is_stamp steps = sum_by-cons (λ s. cond (is_stamp s) 1 0) (Fresh reg) steps in
+    let b : count_by is_answer (Fresh reg ∷ steps) ≡ 0 + count_by is_answer steps = sum_by-cons (λ s. cond (is_answer s) 1 0) (Fresh reg) steps in
+    omega (arith, h, a, b)
+counts_within (Take place word ∷ steps) =
+    let h = counts_within steps in
+    let a : count_by is_stamp (Take place word ∷ steps) ≡ 0 + count_by is_stamp steps = sum_by-cons (λ s. cond (is_stamp s) 1 0) (Take place word) steps in
+    let b : count_by is_answer (Take place word ∷ steps) ≡ 0 + count_by is_answer steps = sum_by-cons (λ s. cond (is_answer s) 1 0) (Take place word) steps in
+    omega (arith, h, a, b)
+counts_within (Make init into ∷ steps) =
+    let h = counts_within steps in
+    let a : count_by is_stamp (Make init into ∷ steps) ≡ 0 + count_by is_stamp steps = sum_by-cons (λ s. cond (is_stamp s) 1 0) (Make init into) steps in
+    let b : count_by is_answer (Make init into ∷ steps) ≡ 0 + count_by is_answer steps = sum_by-cons (λ s. cond (is_answer s) 1 0) (Make init into) steps in
+    omega (arith, h, a, b)
+counts_within (Stamp ∷ steps) =
+    let h = counts_within steps in
+    let a : count_by is_stamp (Stamp ∷ steps) ≡ 1 + count_by is_stamp steps = sum_by-cons (λ s. cond (is_stamp s) 1 0) Stamp steps in
+    let b : count_by is_answer (Stamp ∷ steps) ≡ 0 + count_by is_answer steps = sum_by-cons (λ s. cond (is_answer s) 1 0) Stamp steps in
+    omega (arith, h, a, b)
+counts_within (Store reg value ∷ steps) =
+    let h = counts_within steps in
+    let a : count_by is_stamp (Store reg value ∷ steps) ≡ 0 + count_by is_stamp steps = sum_by-cons (λ s. cond (is_stamp s) 1 0) (Store reg value) steps in
+    let b : count_by is_answer (Store reg value ∷ steps) ≡ 0 + count_by is_answer steps = sum_by-cons (λ s. cond (is_answer s) 1 0) (Store reg value) steps in
+    omega (arith, h, a, b)
+counts_within (Retire slot ∷ steps) =
+    let h = counts_within steps in
+    let a : count_by is_stamp (Retire slot ∷ steps) ≡ 0 + count_by is_stamp steps = sum_by-cons (λ s. cond (is_stamp s) 1 0) (Retire slot) steps in
+    let b : count_by is_answer (Retire slot ∷ steps) ≡ 0 + count_by is_answer steps = sum_by-cons (λ s. cond (is_answer s) 1 0) (Retire slot) steps in
+    omega (arith, h, a, b)
+counts_within (Answer reply ∷ steps) =
+    let h = counts_within steps in
+    let a : count_by is_stamp (Answer reply ∷ steps) ≡ 0 + count_by is_stamp steps = sum_by-cons (λ s. cond (is_stamp s) 1 0) (Answer reply) steps in
+    let b : count_by is_answer (Answer reply ∷ steps) ≡ 1 + count_by is_answer steps = sum_by-cons (λ s. cond (is_answer s) 1 0) (Answer reply) steps in
+    omega (arith, h, a, b)
 
 few_places : (body : List Step) → IsShaped body → length (loaded_places body) ≤ 30
 few_places body shaped =

@@ -9,5 +9,6 @@ pub mod Loading
 pub mod Resting
 pub mod Ending
 pub mod Keeping
-pub mod Reading
-pub mod Confirming
+pub mod Entering
+pub mod Along
+pub mod Looked

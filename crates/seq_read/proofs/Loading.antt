@@ -1,7 +1,7 @@
 -- The loads of the cells that a planned body loads.
 use Rattle.std.specs.Prelude.{◌==◌, ◌&&◌, ◌||◌, nat_lt, Bool, true, false, not, slice_get, take, map}
 use Rattle.std.specs.List.{list_all}
-use Rattle.std.proofs.Common.{◌≡◌, ℕ, zero, suc, ◌+◌, ◌*◌, ◌-◌, ◌/◌, ◌<◌, ◌≤◌, List, [], ◌∷◌, ◌++◌, append-nil, length, length-append, refl, sym, ap, ◌∙◌, subst, arith, ⊎_elim, Some, None}
+use Rattle.std.proofs.Common.{◌≡◌, ◌≢◌, ℕ, zero, suc, ◌+◌, ◌*◌, ◌-◌, ◌/◌, ◌<◌, ◌≤◌, List, [], ◌∷◌, ◌++◌, append-nil, length, length-append, refl, sym, ap, ◌∙◌, subst, arith, ⊎_elim, Some, None}
 use Rattle.std.proofs.lemmas.List.{append_assoc}
 use Rattle.std.proofs.lemmas.Bool.{true≢false}
 use Rattle.small_lemmas.proofs.Numbers.{less_tested}
@@ -27,6 +27,7 @@ use Rattle.runner_parts.specs.Tests.{is_readable}
 use Rattle.machine_states.specs.Sight.{sight, part_or_first}
 use Rattle.request_facts.specs.reached_histories.specs.machine_invariant.specs.After.{AreAllowed}
 use Rattle.lock_walks.specs.commit_log.specs.Asked.{IsAsked}
+use Rattle.lock_walks.specs.commit_log.proofs.Asked.{asked_more}
 use Rattle.lock_walks.specs.commit_log.specs.next_steps.proofs.Numbers.{reached_numbers}
 use Rattle.lock_walks.proofs.Walking.{may_load, walked_none, walked_more}
 use Rattle.lock_walks.specs.try_lock.specs.declared.planned.Planned.TheVariants as plans
@@ -40,10 +41,13 @@ use Rattle.version_words.specs.Stages.{IsAt}
 use Rattle.caller_facts.proofs.Standing.{made_reached}
 use Rattle.caller_facts.proofs.Shapes.{fitting_shaped}
 use Rattle.seq_read.specs.Wants.{loads_in, readings_of, cells_of, AreFirst}
-use Rattle.seq_read.specs.Parts.{MayLoad, HasCells}
+use Rattle.seq_read.specs.Parts.{MayLoad, HasCells, HasLoadedCells}
 use Rattle.seq_read.specs.declared.cells.Loaded.{Loaded}
 use Rattle.seq_read.proofs.Courses.{planned_here}
 use Rattle.seq_read.proofs.Writing.{limits_of, allowed_of, request_there}
+
+after : (n : ℕ) → suc n ≡ n + 1
+after n = omega arith
 
 -- the steps up to the next one
 pub take_one : (steps : List Step) (n : ℕ) (step : Step) → IsStep steps n step → take (suc n) steps ≡ take n steps ++ step ∷ []
@@ -185,7 +189,7 @@ module _ {T : Type 0} (m : Meaning) (laws : Laws m) (planning : Planning) (reque
 
     -- with what was found there
     module _ (r' : RunnerState T) (word : ℕ) (loaded : Makes m (load_of r.part.run place) word r r') where
-      abbrev x : Loaded
+      abbrev pub x : Loaded
       x = record { place = place; into = into; word = word }
 
       pub cells_more : cells_of (xs ++ x ∷ []) ≡ loads_in (take (suc n) steps)
@@ -197,3 +201,73 @@ module _ {T : Type 0} (m : Meaning) (laws : Laws m) (planning : Planning) (reque
 
       pub reached_more : IsReached m r'
       reached_more = made_reached m (load_of r.part.run place) word r r' loaded
+
+      -- and so more cells are loaded, or a gate halts it behind this one
+      module _ (xs' : List Loaded) (same : xs' ≡ xs ++ x ∷ []) (halts1 : ℕ) (asks1 : Asks) (made1 : ℕ) where
+        one_longer : length xs' ≡ length xs + 1
+        one_longer = ap length same ∙ length-append xs (x ∷ [])
+
+        pub next_cells : IsAsked 1 true halts' halts1 asks' asks1 made' made1 → HasCells m steps (n + 1) xs' start r' halts halts1 asks asks1 made made1
+        next_cells asked = subst (λ k. HasCells m steps k xs' start r' halts halts1 asks asks1 made made1) (after n) (record {
+          cells = ap cells_of same ∙ cells_more;
+          loads = subst (λ ys. HasWalked m (readings_of ys) start r') (sym same) loads_more;
+          reached = reached_more;
+          asked = subst (λ k. IsAsked k true halts halts1 asks asks1 made made1) (sym one_longer)
+              (asked_more (length xs) 1 true halts halts' halts1 asks asks' asks1 made made' made1 is.asked asked);
+        })
+
+        pub cut_cells : (Seen : ℕ → Asks → Type 0) → Seen halts' asks' → IsAsked 1 false halts' halts1 asks' asks1 made' made1
+            → HasLoadedCells m steps xs' false start r' Seen halts halts1 asks asks1 made made1
+        cut_cells Seen seen asked = record {
+          cells = are_first (suc n) steps xs' (ap cells_of same ∙ cells_more);
+          all = λ e. absurd (true≢false (sym e));
+          loads = subst (λ ys. HasWalked m (readings_of ys) start r') (sym same) loads_more;
+          reached = reached_more;
+          asked = subst (λ k. IsAsked k false halts halts1 asks asks1 made made1) (sym one_longer)
+              (asked_more (length xs) 1 false halts halts' halts1 asks asks' asks1 made made' made1 is.asked asked);
+          some = λ e. (let long = one_longer in omega (arith, long));
+          let_go = λ e.
+              let less : length xs' - 1 ≡ length xs = (let long = one_longer in omega (arith, long)) in
+              subst (λ k. Seen halts (asked_on asks k)) (sym less)
+              (subst (λ h. Seen h (asked_on asks (length xs))) (is.asked.went refl) (subst (Seen halts') is.asked.asked seen));
+        }
+
+-- a step that is no Load loads nothing
+no_load : (step : Step) → ((place into : ℕ) → step ≢ Load place into) → loads_in (step ∷ []) ≡ []
+no_load (Load place into) other = absurd (other place into refl)
+no_load (Want reg word) other = refl
+no_load (Fresh reg) other = refl
+no_load (Take place word) other = refl
+no_load (Make init into) other = refl
+no_load Stamp other = refl
+no_load (Store reg value) other = refl
+no_load (Retire slot) other = refl
+no_load (Answer reply) other = refl
+
+take_past : (n : ℕ) (steps : List Step) → length steps ≤ n → take n steps ≡ steps
+take_past zero [] low = refl
+take_past zero (x ∷ steps) low = absurd (omega (arith, low))
+take_past (suc n) [] low = refl
+take_past (suc n) (x ∷ steps) low = ap (λ xs. x ∷ xs) (take_past n steps (omega (arith, low)))
+
+module _ {T : Type 0} (m : Meaning) (steps : List Step) (n : ℕ) (xs : List Loaded) (start r : RunnerState T) (halts halts' : ℕ) (asks asks' : Asks) (made made' : ℕ)
+    (is : HasCells m steps n xs start r halts halts' asks asks' made made') where
+  pub same_cells : (step : Step) → IsStep steps n step → ((place into : ℕ) → step ≢ Load place into)
+      → HasCells m steps (n + 1) xs start r halts halts' asks asks' made made'
+  same_cells step here other = subst (λ k. HasCells m steps k xs start r halts halts' asks asks' made made') (after n) (record {
+    cells = is.cells ∙ sym (loads_next steps n step here ∙ (ap (λ ys. loads_in (take n steps) ++ ys) (no_load step other) ∙ append-nil (loads_in (take n steps))));
+    loads = is.loads;
+    reached = is.reached;
+    asked = is.asked;
+  })
+
+  pub all_cells : length steps ≤ n → (Seen : ℕ → Asks → Type 0) → HasLoadedCells m steps xs true start r Seen halts halts' asks asks' made made'
+  all_cells past Seen = record {
+    cells = are_first n steps xs is.cells;
+    all = λ e. as_many_cells n steps xs is.cells (take_past n steps past);
+    loads = is.loads;
+    reached = is.reached;
+    asked = is.asked;
+    some = λ e. absurd (true≢false e);
+    let_go = λ e. absurd (true≢false e);
+  }

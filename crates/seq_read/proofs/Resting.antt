@@ -126,7 +126,7 @@ module _ {T : Type 0} (m : Meaning) (laws : Laws m) (planning : Planning) (reque
   }
 
   -- as it reads
-  pub reading_halted : (new : RunnerState T) (at : Stops m planning request old new) → has_replied m planning request old new at ≡ false
+  abbrev pub reading_halted : (new : RunnerState T) (at : Stops m planning request old new) → has_replied m planning request old new at ≡ false
       → has_answered m planning request old new at ≡ false → IsReading old new → IsReached m new → IsHalted m planning request old new
   reading_halted new at unreplied unanswered reading reached = record {
     at = at;

@@ -1,6 +1,6 @@
 -- What a runner that wrote both words of its request knows of the history.
 use Rattle.std.specs.Prelude.{◌==◌, ◌&&◌, ◌||◌, ◌/◌, ◌%◌, cond, not, Bool, true, false, slice_get}
-use Rattle.std.proofs.Common.{◌≡◌, ◌≢◌, ℕ, zero, suc, ◌+◌, ◌*◌, ◌<◌, ◌≤◌, List, [], ◌∷◌, ◌++◌, inl, inr, refl, sym, ap, ◌∙◌, subst, ⊎_elim, arith, Some, None}
+use Rattle.std.proofs.Common.{◌≡◌, ◌≢◌, ◌⊎◌, ℕ, zero, suc, ◌+◌, ◌*◌, ◌<◌, ◌≤◌, List, [], ◌∷◌, ◌++◌, inl, inr, refl, sym, ap, ◌∙◌, subst, ⊎_elim, arith, Some, None}
 use Rattle.std.proofs.lemmas.Bool.{and_parts}
 use Rattle.std.proofs.lemmas.Bool.Decides.{nat_tests}
 use Rattle.std.proofs.lemmas.List.Folds.{list_any-append}
@@ -58,7 +58,7 @@ or_more : (a b : Bool) → b ≡ true → (a || b) ≡ true
 or_more true b e = refl
 or_more false b e = e
 
-known_by : (known : List Known) (i : ℕ) (x : Known) (n : ℕ) (reply : Bool) → slice_get known i ≡ Some x → x.request ≡ n → x.reply ≡ reply
+pub known_by : (known : List Known) (i : ℕ) (x : Known) (n : ℕ) (reply : Bool) → slice_get known i ≡ Some x → x.request ≡ n → x.reply ≡ reply
     → knows known n reply ≡ true
 known_by [] i x n reply e request is = absurd (let z = e in cc)
 known_by (y ∷ ys) zero x n reply e request is =
@@ -80,7 +80,7 @@ stamp_untold known n w none =
 
 -- before a step the machine had reached a state in which the runner had its part
 module _ {T : Type 0} (m : Meaning) (k : EventKind) (found : ℕ) (r r' : RunnerState T) (made : Makes m k found r r') where
-  pub was_reached : IsReached m r
+  abbrev pub was_reached : IsReached m r
   was_reached = record {
     world = made.shown.before;
     reached = subst (λ (y : RunnerState T). Reached m y.layout y.requests made.shown.before) made.made made.shown.was_reached;
@@ -99,13 +99,13 @@ module _ {T : Type 0} (m : Meaning) (k : EventKind) (found : ℕ) (r r' : Runner
 -- a state that the machine reaches, in which the runner has this part
 module _ {T : Type 0} (m : Meaning) (laws : Laws m) (r : RunnerState T) (limits : IsWithinLimits r.layout) (allowed : AreAllowed r.requests)
     (is : IsReached m r) where
-  abbrev s : Sight
+  abbrev pub s : Sight
   s = sight m r.layout r.requests is.world
 
-  here : s.part r.number ≡ r.part
+  pub here : s.part r.number ≡ r.part
   here = ap part_or_first is.own
 
-  history : HasHistory m r.layout r.requests s
+  pub history : HasHistory m r.layout r.requests s
   history = reached_have m laws r.layout r.requests limits allowed is.world is.reached
 
   pub known_stand : KnownStand s
@@ -119,7 +119,7 @@ module _ {T : Type 0} (m : Meaning) (laws : Laws m) (r : RunnerState T) (limits 
   pub entry_some : (n : ℕ) (reply : Bool) (number : ℕ) → HasEntry r.part.records.known (record { request = n; reply = reply; number = number }) → number ≢ 0
   entry_some n reply number entry = known_stand.some r.number entry.0 _ (ap (λ (p : PartState). slice_get p.records.known entry.0) here ∙ entry.1)
 
-  worker : (request : Request) → IsOwn r request → (requests_of m r.layout r.requests).worker request.number ≡ r.number
+  pub worker : (request : Request) → IsOwn r request → (requests_of m r.layout r.requests).worker request.number ≡ r.number
   worker request own = ap (λ o. (or_none o).trace % r.layout.runners) own.there ∙ own.own
 
   -- nobody has served its own request that it doesn't know
@@ -157,15 +157,15 @@ module _ {T : Type 0} (m : Meaning) (laws : Laws m) (r : RunnerState T) (limits 
     answered = ap (λ b. b && knows r.part.records.known n true) (known_by r.part.records.known stamped.0 _ n false stamped.1 refl refl)
         ∙ known_by r.part.records.known replied.0 _ n true replied.1 refl refl
 
-    is_known : IsKnown m r.layout r.requests s r.part.records.known n
+    abbrev pub is_known : IsKnown m r.layout r.requests s r.part.records.known n
     is_known = subst (λ (p : PartState). IsKnown m r.layout r.requests s p.records.known n) here
         ((callers_stand m laws r.layout r.requests limits allowed is.world is.reached).known map r.number n
         (ap (λ (p : PartState). is_answered p.records.known n) here ∙ answered))
 
-    same_stamp : is_known.stamp ≡ stamp
+    pub same_stamp : is_known.stamp ≡ stamp
     same_stamp = sym is_known.served.stamp_word ∙ entry_stands n false stamp stamped
 
-    pub reply_known : Reply
+    abbrev pub reply_known : Reply
     reply_known = is_known.reply
 
     pub same_word : word_of reply_known ≡ word

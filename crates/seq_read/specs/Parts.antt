@@ -20,14 +20,7 @@ use Rattle.seq_read.specs.Reads.{is_halted, Answers, steps_of, asks_before}
 use Rattle.seq_read.specs.declared.answers.Read.{Read}
 use Rattle.seq_read.specs.declared.cells.Loaded.{Loaded}
 
-module _ {T : Type 0} (m : Meaning) (planning : Planning) (request : Request) where
-  -- the runner has planned this thunk, whose body has these steps, and may load their cells: they change nothing
-  pub record MayLoad (steps : List Step) (thunk : Thunk) (readings : Readings) (old r : RunnerState T) : Type 0 where
-    pub plans : HasPlanned m planning request readings (plans.Thunk thunk) old r
-    pub body : steps ≡ m.body thunk
-    pub shaped : IsShaped steps
-    pub looks : list_all is_look steps ≡ true
-
+module _ {T : Type 0} (m : Meaning) where
   -- it loaded the cells of the first steps, so many
   pub record HasCells (steps : List Step) (count : ℕ) (xs : List Loaded) (r r' : RunnerState T)
       (halts halts' : ℕ) (asks asks' : Asks) (made made' : ℕ) : Type 0 where
@@ -46,6 +39,14 @@ module _ {T : Type 0} (m : Meaning) (planning : Planning) (request : Request) wh
     pub asked : IsAsked (length xs) going halts halts' asks asks' made made'
     pub some : going ≡ false → 1 ≤ length xs
     pub let_go : going ≡ false → Seen halts (asked_on asks (length xs - 1))
+
+module _ {T : Type 0} (m : Meaning) (planning : Planning) (request : Request) where
+  -- the runner has planned this thunk, whose body has these steps, and may load their cells: they change nothing
+  pub record MayLoad (steps : List Step) (thunk : Thunk) (readings : Readings) (old r : RunnerState T) : Type 0 where
+    pub plans : HasPlanned m planning request readings (plans.Thunk thunk) old r
+    pub body : steps ≡ m.body thunk
+    pub shaped : IsShaped steps
+    pub looks : list_all is_look steps ≡ true
 
   -- the rest of a read that began with `old`, from here on; `before` is how many steps were counted before. The gate was
   -- asked behind each of these, and behind the entry

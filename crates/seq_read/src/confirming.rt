@@ -14,6 +14,7 @@ ghost use Rattle.seq_read.specs.Course.{HasFound, HasAnnounced, HasClock, HasLoc
 
 use body_terms::{StepKind, Steps, Thunk, Word};
 use lock_walks::try_lock::commit_log::passes;
+use next_steps::looks_are_small;
 use runner_gate::Gate;
 use structure_laws::Structure;
 use version_words::{FlockTable, Runner};
@@ -104,6 +105,7 @@ pub fn write_reply<S: Structure, G: Gate, L>(
     ensures asked { IsAsked 1 result.2
         (G.halts gate.old) (G.halts gate.new) (G.asks gate.old) (G.asks gate.new) steps.old.count steps.new.count }
 {
+    looks_are_small(table.structure());
     let (runner, word) = table.read_reply(runner, thunk.request, reply);
     let going = passes(gate, steps, StepKind::ReplyExchange);
     (runner, word, going)
@@ -128,6 +130,7 @@ pub fn write_stamp<S: Structure, G: Gate, L>(
     ensures asked { IsAsked 1 result.2
         (G.halts gate.old) (G.halts gate.new) (G.asks gate.old) (G.asks gate.new) steps.old.count steps.new.count }
 {
+    looks_are_small(table.structure());
     let (runner, stamp) = table.read_stamp(runner, thunk.request, 2 * clock + 1);
     let going = passes(gate, steps, StepKind::StampExchange);
     (runner, stamp, going)

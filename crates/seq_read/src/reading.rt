@@ -24,6 +24,7 @@ use lock_walks::Planner;
 use lock_walks::epoch_slots::{enter, exit};
 use lock_walks::try_lock::Planned;
 use map_history::{Reply, Request};
+use next_steps::looks_are_small;
 use runner_gate::Gate;
 use version_words::{FlockTable, Runner};
 
@@ -54,6 +55,7 @@ fn answer<S: Planner, G: Gate, L>(
         (G.halts gate.old) (G.halts gate.new) (G.asks gate.old) (G.asks gate.new) steps.old.count steps.new.count }
 {
     let _ = request;
+    looks_are_small(table.structure());
     let (runner, word, going) = write_reply(table, runner, thunk, reply, gate, steps);
     if !going {
         return (runner, Read::Halted);

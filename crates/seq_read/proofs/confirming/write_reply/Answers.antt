@@ -5,7 +5,7 @@ use Rattle.table_words.specs.declared.access.Access.TheVariants.{Exchanges}
 use Rattle.request_facts.specs.reached_histories.specs.machine_invariant.specs.After.{AreAllowed}
 use Rattle.runner_parts.specs.declared.event.EventKind.TheVariants as kinds
 use Rattle.version_words.specs.Events.{Makes}
-use Rattle.seq_read.proofs.Writing.{reply_asked, reply_left, reply_zero}
+use Rattle.seq_read.proofs.Writing.{LooksStand, reply_asked, reply_left, reply_zero}
 use Rattle.seq_read.proofs.confirming.write_reply.Goals as goal
 
 pub read_reply-runner-requires-clause-next : goal.read_reply-runner-requires-clause-next
@@ -15,6 +15,7 @@ read_reply-runner-requires-clause-next g c κs within =
     reply_asked (g.S.Structure.meaning c.args.table.now.structure) (met.laws c.args.table.now.structure) e.0 e.1 e.4
     (subst IsWithinLimits (sym c.requires.own.layout ∙ e.5.reading.still.layout) (c.requires.own.limits _ refl))
     (subst AreAllowed (sym c.requires.own.requests ∙ e.5.reading.still.requests) (c.requires.own.allowed _ refl))
+    (subst (λ s. LooksStand (g.S.Structure.meaning s)) c.structure.ensures c.looks_are_small.ensures.stamps)
     c.args.thunk.now e.2 e.3 c.args.runner e.5
     ∙ ap (λ n. Some (Reply c.args.thunk.now.request, Exchanges 0 n)) (sym c.requires.reply)
 
@@ -26,6 +27,7 @@ returns-clause-word g c =
     reply_left (g.S.Structure.meaning c.args.table.now.structure) (met.laws c.args.table.now.structure) e.0 e.1 e.4
     (subst IsWithinLimits (sym c.requires.own.layout ∙ e.5.reading.still.layout) (c.requires.own.limits _ refl))
     (subst AreAllowed (sym c.requires.own.requests ∙ e.5.reading.still.requests) (c.requires.own.allowed _ refl))
+    (subst (λ s. LooksStand (g.S.Structure.meaning s)) c.structure.ensures c.looks_are_small.ensures.stamps)
     c.args.thunk.now e.2 e.3 c.args.runner e.5 c.read_reply-runner.result.0 made.found made.event c.read_reply-runner.result.1 made.told
     ∙ sym c.requires.reply
 
@@ -39,4 +41,5 @@ returns-clause-event g c =
     (reply_zero m (met.laws c.args.table.now.structure) e.0 e.1 e.4
     (subst IsWithinLimits (sym c.requires.own.layout ∙ e.5.reading.still.layout) (c.requires.own.limits _ refl))
     (subst AreAllowed (sym c.requires.own.requests ∙ e.5.reading.still.requests) (c.requires.own.allowed _ refl))
+    (subst (λ s. LooksStand (g.S.Structure.meaning s)) c.structure.ensures c.looks_are_small.ensures.stamps)
     c.args.thunk.now e.2 e.3 c.args.runner e.5 c.read_reply-runner.result.0 made.found made.event) made.event

@@ -14,7 +14,7 @@ use Rattle.seq_read.proofs.Events.{at_here}
 use Rattle.seq_read.proofs.Courses.{stamped_here}
 use Rattle.seq_read.proofs.Writing.{replied_of, stamped_of}
 use Rattle.seq_read.proofs.Ending.{reply_read, word_read, is_reply_read}
-use Rattle.seq_read.proofs.Confirming.{reply_cut, stamp_cut, read_done}
+use Rattle.seq_read.proofs.Along.{reply_cut, stamp_cut, read_done}
 use Rattle.seq_read.proofs.reading.answer.Goals as goal
 
 pub write_reply-runner-requires-clause-unmoved : goal.write_reply-runner-requires-clause-unmoved

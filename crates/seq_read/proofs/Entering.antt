@@ -57,11 +57,10 @@ module _ {T : Type 0} (m : Meaning) (laws : Laws m) (planning : Planning) (reque
     pub entry_halted : (Seen : ℕ → Asks → Type 0) (halts' : ℕ) (asks' : Asks) (steps : ℕ) → Seen halts asks
         → IsCounted 0 1 false halts halts' asks asks' steps steps
         → Reads m planning request answers.Halted old here Seen halts halts' asks asks' steps steps
-    entry_halted Seen halts' asks' steps seen asked = reads_by answers.Halted here halted 0 refl Seen halts halts' asks asks' steps steps asked (λ e. seen)
-      where
-        halted : IsHalted m planning request old here
-        halted = reading_halted m laws planning request old limits allowed enters.may here (AtEntry enters) refl refl enters.reading
-            (made_reached m kinds.EnterAgain enters.enters.epoch enters.enters.waiting here enters.enters.again)
+    entry_halted Seen halts' asks' steps seen asked = reads_by answers.Halted here
+        (reading_halted m laws planning request old limits allowed enters.may here (AtEntry enters) refl refl enters.reading
+        (made_reached m kinds.EnterAgain enters.enters.epoch enters.enters.waiting here enters.enters.again))
+        0 refl Seen halts halts' asks asks' steps steps asked (λ e. seen)
 
     module _ (halts1 : ℕ) (asks1 : Asks) (steps : ℕ) (ask : IsCounted 0 1 true halts halts1 asks asks1 steps steps) where
       -- or in its plan
@@ -69,13 +68,11 @@ module _ {T : Type 0} (m : Meaning) (laws : Laws m) (planning : Planning) (reque
           → (Seen : ℕ → Asks → Type 0) (halts' : ℕ) (asks' : Asks) (steps' : ℕ) → Seen halts1 asks1
           → IsAsked (length readings) false halts1 halts' asks1 asks' steps steps'
           → Reads m planning request answers.Halted old new Seen halts halts' asks asks' steps steps'
-      plan_halted readings new is Seen halts' asks' steps' seen asked = reads_by answers.Halted new halted (length readings) refl Seen halts halts' asks asks' steps steps'
+      plan_halted readings new is Seen halts' asks' steps' seen asked = reads_by answers.Halted new
+          (reading_halted m laws planning request old limits allowed enters.may new (InPlan readings is) refl refl is.reading is.reached) (length readings) refl Seen halts halts' asks asks' steps steps'
           (asked_then 1 (length readings) 0 false halts halts1 halts' asks asks1 asks' steps steps' ask
           (counted_steps (length readings) false halts1 halts' asks1 asks' steps steps' asked))
           (λ e. seen_then Seen halts halts1 asks asks1 1 0 (ask.went refl) ask.asked seen)
-        where
-          halted : IsHalted m planning request old new
-          halted = reading_halted m laws planning request old limits allowed enters.may new (InPlan readings is) refl refl is.reading is.reached
 
       -- or the rest follows, behind so many steps
       pub reads_so : (before : ℕ) (answer : Read) (new : RunnerState T) (Seen : ℕ → Asks → Type 0) (halts2 halts' : ℕ) (asks2 asks' : Asks) (steps2 steps' : ℕ)

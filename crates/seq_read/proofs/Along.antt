@@ -28,7 +28,7 @@ use Rattle.seq_read.specs.Parts.{Rests}
 use Rattle.seq_read.specs.declared.answers.Read.{Read}
 use Rattle.seq_read.specs.declared.answers.Read.TheVariants as answers
 use Rattle.seq_read.proofs.Courses.{announced_of, clock_of, lock_of}
-use Rattle.seq_read.proofs.Writing.{replied_of, stamped_of}
+use Rattle.seq_read.proofs.Writing.{LooksStand, replied_of, stamped_of}
 use Rattle.seq_read.proofs.Resting.{is_refusal, refused_rests, halted_rests, reading_halted}
 use Rattle.seq_read.proofs.Ending.{replied_halted_rests, stamped_halted_rests, served_rests}
 
@@ -57,29 +57,29 @@ lock_refuses thunk word = by (is_free word)
     by false = refl
 
 module _ {T : Type 0} (m : Meaning) (laws : Laws m) (map : m.is_map ≡ true) (planning : Planning) (request : Request) (old : RunnerState T)
-    (limits : IsWithinLimits old.layout) (allowed : AreAllowed old.requests) (thunk : Thunk) (found : Readings) (Seen : ℕ → Asks → Type 0) where
+    (limits : IsWithinLimits old.layout) (allowed : AreAllowed old.requests) (looks : LooksStand m) (thunk : Thunk) (found : Readings) (Seen : ℕ → Asks → Type 0) where
   -- the lock has its word again: the two words are written
   module _ (clock : ℕ) (r r1 : RunnerState T) (is : HasLock m planning request thunk found clock thunk.word old r) (one : Makes m kinds.ReadReply 0 r r1)
       (halts halts1 : ℕ) (asks asks1 : Asks) (steps steps1 : ℕ) where
-    abbrev before : ℕ
+    abbrev pub before : ℕ
     before = locked_steps m planning request thunk found clock thunk.word old r is
 
-    abbrev replied : HasReplied m planning request thunk found clock old r1
-    replied = replied_of m laws planning request old limits allowed thunk found clock r is r1 0 one
+    abbrev pub replied : HasReplied m planning request thunk found clock old r1
+    replied = replied_of m laws planning request old limits allowed looks thunk found clock r is r1 0 one
 
     pub reply_cut : Seen halts asks → IsAsked 1 false halts halts1 asks asks1 steps steps1
         → Rests m planning request before answers.Halted old r1 Seen halts halts1 asks asks1 steps steps1
-    reply_cut seen asked = replied_halted_rests m laws map planning request old limits allowed thunk found clock r1 replied before 1 0 refl (omega arith) Seen
+    reply_cut seen asked = replied_halted_rests m laws map planning request old limits allowed looks thunk found clock r1 replied before 1 0 refl (omega arith) Seen
         halts halts1 asks asks1 steps steps1 asked seen
 
     module _ (asked : IsAsked 1 true halts halts1 asks asks1 steps steps1) (r2 : RunnerState T) (two : Makes m kinds.ReadStamp 0 r1 r2)
         (halts2 : ℕ) (asks2 : Asks) (steps2 : ℕ) where
-      abbrev stamped : HasStamped m planning request thunk found clock old r2
-      stamped = stamped_of m laws planning request old limits allowed thunk found clock r1 replied r2 0 two
+      abbrev pub stamped : HasStamped m planning request thunk found clock old r2
+      stamped = stamped_of m laws planning request old limits allowed looks thunk found clock r1 replied r2 0 two
 
       pub stamp_cut : Seen halts1 asks1 → IsAsked 1 false halts1 halts2 asks1 asks2 steps1 steps2
           → Rests m planning request before answers.Halted old r2 Seen halts halts2 asks asks2 steps steps2
-      stamp_cut seen last = stamped_halted_rests m laws map planning request old limits allowed thunk found clock r2 stamped before 2 1 (omega arith) (omega arith) Seen
+      stamp_cut seen last = stamped_halted_rests m laws map planning request old limits allowed looks thunk found clock r2 stamped before 2 1 (omega arith) (omega arith) Seen
           halts halts2 asks asks2 steps steps2
           (asked_more 1 1 false halts halts1 halts2 asks asks1 asks2 steps steps1 steps2 asked last)
           (seen_then Seen halts halts1 asks asks1 1 0 (asked.went refl) asked.asked seen)
@@ -87,17 +87,17 @@ module _ {T : Type 0} (m : Meaning) (laws : Laws m) (map : m.is_map ≡ true) (p
       pub read_done : IsAsked 1 true halts1 halts2 asks1 asks2 steps1 steps2 → (new : RunnerState T) → Exits m r2 new → (reply : Reply)
           → ((other : Reply) → IsReply other → word_of other ≡ reply_in (m.body thunk) → reply ≡ other)
           → Rests m planning request before (answers.Done reply (2 * clock + 1)) old new Seen halts halts2 asks asks2 steps steps2
-      read_done last new exits reply whole = served_rests m laws map planning request old limits allowed thunk found clock r2 stamped new exits reply whole
+      read_done last new exits reply whole = served_rests m laws map planning request old limits allowed looks thunk found clock r2 stamped new exits reply whole
           before 2 (omega arith) Seen halts halts2 asks asks2 steps steps2
           (asked_more 1 1 true halts halts1 halts2 asks asks1 asks2 steps steps1 steps2 asked last)
 
   -- the cells hold what the body wants: the read is announced
   module _ (r r1 : RunnerState T) (is : HasFound m planning request thunk found old r) (plan : IsMade m (kinds.ReadPlan thunk) r r1)
       (halts halts1 : ℕ) (asks asks1 : Asks) (steps steps1 : ℕ) where
-    abbrev behind : ℕ
+    abbrev pub behind : ℕ
     behind = loaded_steps m planning request thunk found old r is.loads
 
-    abbrev announced : HasAnnounced m planning request thunk found old r1
+    abbrev pub announced : HasAnnounced m planning request thunk found old r1
     announced = announced_of m planning request old thunk found r r1 is plan.found plan.event
 
     pub plan_cut : Seen halts asks → IsAsked 1 false halts halts1 asks asks1 steps steps1
@@ -109,7 +109,7 @@ module _ {T : Type 0} (m : Meaning) (laws : Laws m) (map : m.is_map ≡ true) (p
     -- the clock is loaded
     module _ (asked : IsAsked 1 true halts halts1 asks asks1 steps steps1) (clock : ℕ) (r2 : RunnerState T) (load : Makes m kinds.ReadClock clock r1 r2)
         (halts2 : ℕ) (asks2 : Asks) (steps2 : ℕ) where
-      abbrev clocked : HasClock m planning request thunk found clock old r2
+      abbrev pub clocked : HasClock m planning request thunk found clock old r2
       clocked = clock_of m planning request old thunk found r1 r2 clock announced load
 
       pub clock_cut : Seen halts1 asks1 → IsAsked 1 false halts1 halts2 asks1 asks2 steps1 steps2
@@ -126,7 +126,7 @@ module _ {T : Type 0} (m : Meaning) (laws : Laws m) (map : m.is_map ≡ true) (p
         abbrev pub locked : HasLock m planning request thunk found clock word old r3
         locked = lock_of m planning request old thunk found clock r2 r3 word clocked again
 
-        two_asked : IsAsked 2 true halts halts2 asks asks2 steps steps2
+        pub two_asked : IsAsked 2 true halts halts2 asks asks2 steps steps2
         two_asked = asked_more 1 1 true halts halts1 halts2 asks asks1 asks2 steps steps1 steps2 asked went
 
         pub lock_cut : Seen halts2 asks2 → IsAsked 1 false halts2 halts3 asks2 asks3 steps2 steps3
@@ -138,7 +138,7 @@ module _ {T : Type 0} (m : Meaning) (laws : Laws m) (map : m.is_map ≡ true) (p
             (seen_then Seen halts halts2 asks asks2 2 0 (two_asked.went refl) two_asked.asked seen)
 
         module _ (last : IsAsked 1 true halts2 halts3 asks2 asks3 steps2 steps3) where
-          three_asked : IsAsked 3 true halts halts3 asks asks3 steps steps3
+          pub three_asked : IsAsked 3 true halts halts3 asks asks3 steps steps3
           three_asked = asked_more 2 1 true halts halts2 halts3 asks asks2 asks3 steps steps2 steps3 two_asked last
 
           -- it has another word
@@ -155,3 +155,11 @@ module _ {T : Type 0} (m : Meaning) (laws : Laws m) (map : m.is_map ≡ true) (p
               → Rests m planning request behind answer old new Seen halts halts' asks asks' steps steps'
           confirmed_rests answer new halts' asks' steps' rests = rests_more m planning request 3 behind (locked_steps m planning request thunk found clock word old r3 locked)
               answer old new Seen halts halts3 halts' asks asks3 asks' steps steps3 steps' refl three_asked rests
+
+          pub same_rests : word ≡ thunk.word → (answer : Read) (new : RunnerState T) (halts' : ℕ) (asks' : Asks) (steps' : ℕ)
+              → ((locks : HasLock m planning request thunk found clock thunk.word old r3)
+              → Rests m planning request (locked_steps m planning request thunk found clock thunk.word old r3 locks) answer old new Seen halts3 halts' asks3 asks' steps3 steps')
+              → Rests m planning request behind answer old new Seen halts halts' asks asks' steps steps'
+          same_rests e answer new halts' asks' steps' rest = confirmed_rests answer new halts' asks' steps'
+              (subst (λ w. (locks : HasLock m planning request thunk found clock w old r3)
+              → Rests m planning request (locked_steps m planning request thunk found clock w old r3 locks) answer old new Seen halts3 halts' asks3 asks' steps3 steps') (sym e) rest locked)
