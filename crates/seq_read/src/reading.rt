@@ -97,6 +97,7 @@ fn confirm<S: Planner, G: Gate, L>(
         result.1 old result.0 (IsSeen G.halts G.asks)
         (G.halts gate.old) (G.halts gate.new) (G.asks gate.old) (G.asks gate.new) steps.old.count steps.new.count }
 {
+    looks_are_small(table.structure());
     let (runner, going) = announce(table, runner, thunk, gate, steps);
     if !going {
         return (runner, Read::Halted);

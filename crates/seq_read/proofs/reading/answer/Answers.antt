@@ -12,7 +12,7 @@ use Rattle.seq_read.specs.Parts.{Rests}
 use Rattle.seq_read.specs.declared.answers.Read.TheVariants as answers
 use Rattle.seq_read.proofs.Events.{at_here}
 use Rattle.seq_read.proofs.Courses.{stamped_here}
-use Rattle.seq_read.proofs.Writing.{replied_of, stamped_of}
+use Rattle.seq_read.proofs.Writing.{LooksStand, replied_of, stamped_of}
 use Rattle.seq_read.proofs.Ending.{reply_read, word_read, is_reply_read}
 use Rattle.seq_read.proofs.Along.{reply_cut, stamp_cut, read_done}
 use Rattle.seq_read.proofs.reading.answer.Goals as goal
@@ -27,7 +27,7 @@ returns-then-not-going-clause-rests g c =
     let plans = g.met.S.Planner g.world.𝓛 g.world.𝓜 g.world.𝓡 ((λ s allowed. allowed), (λ patient. patient), (λ alone. alone), (λ cuts. cuts)) in
     let m = g.S.Structure.meaning c.args.table.now.structure in
     λ found old locks.
-    reply_cut m (met.laws c.args.table.now.structure) (plans.plans_lawfully c.args.table.now.structure).serves (g.S.Planner.planning c.args.table.now.structure) c.args.request.now old (subst IsWithinLimits (sym c.requires.own.layout ∙ locks.reading.still.layout) (c.requires.own.limits _ refl)) (subst AreAllowed (sym c.requires.own.requests ∙ locks.reading.still.requests) (c.requires.own.allowed _ refl)) c.args.thunk.now found (IsSeen g.G.Gate.halts g.G.Gate.asks) c.args.clock c.args.runner c.write_reply-runner.result.0 locks c.write_reply-runner.ensures.event
+    reply_cut m (met.laws c.args.table.now.structure) (plans.plans_lawfully c.args.table.now.structure).serves (g.S.Planner.planning c.args.table.now.structure) c.args.request.now old (subst IsWithinLimits (sym c.requires.own.layout ∙ locks.reading.still.layout) (c.requires.own.limits _ refl)) (subst AreAllowed (sym c.requires.own.requests ∙ locks.reading.still.requests) (c.requires.own.allowed _ refl)) (subst (λ s. LooksStand (g.S.Structure.meaning s)) c.structure.ensures c.looks_are_small.ensures.stamps) c.args.thunk.now found (IsSeen g.G.Gate.halts g.G.Gate.asks) c.args.clock c.args.runner c.write_reply-runner.result.0 locks c.write_reply-runner.ensures.event
     (g.G.Gate.halts c.args.gate.now) (g.G.Gate.halts c.write_reply-runner.new.gate) (g.G.Gate.asks c.args.gate.now) (g.G.Gate.asks c.write_reply-runner.new.gate) c.args.steps.now.count c.write_reply-runner.new.steps.count
     (c.args.gate.now, refl, refl)
     (subst (λ b. IsAsked 1 b (g.G.Gate.halts c.args.gate.now) (g.G.Gate.halts c.write_reply-runner.new.gate) (g.G.Gate.asks c.args.gate.now) (g.G.Gate.asks c.write_reply-runner.new.gate) c.args.steps.now.count c.write_reply-runner.new.steps.count) c.if-not-going.true c.write_reply-runner.ensures.asked)
@@ -38,7 +38,7 @@ write_stamp-runner-requires-clause-replied g c κs within =
     let m = g.S.Structure.meaning c.args.table.now.structure in
     let e = c.requires.unmoved in
     (g.S.Planner.planning c.args.table.now.structure, c.args.request.now, e.0, e.1,
-    replied_of m (met.laws c.args.table.now.structure) (g.S.Planner.planning c.args.table.now.structure) c.args.request.now e.1 (subst IsWithinLimits (sym c.requires.own.layout ∙ e.2.reading.still.layout) (c.requires.own.limits _ refl)) (subst AreAllowed (sym c.requires.own.requests ∙ e.2.reading.still.requests) (c.requires.own.allowed _ refl)) c.args.thunk.now e.0 c.args.clock c.args.runner e.2 c.write_reply-runner.result.0 0 c.write_reply-runner.ensures.event)
+    replied_of m (met.laws c.args.table.now.structure) (g.S.Planner.planning c.args.table.now.structure) c.args.request.now e.1 (subst IsWithinLimits (sym c.requires.own.layout ∙ e.2.reading.still.layout) (c.requires.own.limits _ refl)) (subst AreAllowed (sym c.requires.own.requests ∙ e.2.reading.still.requests) (c.requires.own.allowed _ refl)) (subst (λ s. LooksStand (g.S.Structure.meaning s)) c.structure.ensures c.looks_are_small.ensures.stamps) c.args.thunk.now e.0 c.args.clock c.args.runner e.2 c.write_reply-runner.result.0 0 c.write_reply-runner.ensures.event)
 
 pub returns-then-not-going-2-clause-rests : goal.returns-then-not-going-2-clause-rests
 returns-then-not-going-2-clause-rests g c =
@@ -46,7 +46,7 @@ returns-then-not-going-2-clause-rests g c =
     let plans = g.met.S.Planner g.world.𝓛 g.world.𝓜 g.world.𝓡 ((λ s allowed. allowed), (λ patient. patient), (λ alone. alone), (λ cuts. cuts)) in
     let m = g.S.Structure.meaning c.args.table.now.structure in
     λ found old locks.
-    stamp_cut m (met.laws c.args.table.now.structure) (plans.plans_lawfully c.args.table.now.structure).serves (g.S.Planner.planning c.args.table.now.structure) c.args.request.now old (subst IsWithinLimits (sym c.requires.own.layout ∙ locks.reading.still.layout) (c.requires.own.limits _ refl)) (subst AreAllowed (sym c.requires.own.requests ∙ locks.reading.still.requests) (c.requires.own.allowed _ refl)) c.args.thunk.now found (IsSeen g.G.Gate.halts g.G.Gate.asks) c.args.clock c.args.runner c.write_reply-runner.result.0 locks c.write_reply-runner.ensures.event
+    stamp_cut m (met.laws c.args.table.now.structure) (plans.plans_lawfully c.args.table.now.structure).serves (g.S.Planner.planning c.args.table.now.structure) c.args.request.now old (subst IsWithinLimits (sym c.requires.own.layout ∙ locks.reading.still.layout) (c.requires.own.limits _ refl)) (subst AreAllowed (sym c.requires.own.requests ∙ locks.reading.still.requests) (c.requires.own.allowed _ refl)) (subst (λ s. LooksStand (g.S.Structure.meaning s)) c.structure.ensures c.looks_are_small.ensures.stamps) c.args.thunk.now found (IsSeen g.G.Gate.halts g.G.Gate.asks) c.args.clock c.args.runner c.write_reply-runner.result.0 locks c.write_reply-runner.ensures.event
     (g.G.Gate.halts c.args.gate.now) (g.G.Gate.halts c.write_reply-runner.new.gate) (g.G.Gate.asks c.args.gate.now) (g.G.Gate.asks c.write_reply-runner.new.gate) c.args.steps.now.count c.write_reply-runner.new.steps.count
     (subst (λ b. IsAsked 1 b (g.G.Gate.halts c.args.gate.now) (g.G.Gate.halts c.write_reply-runner.new.gate) (g.G.Gate.asks c.args.gate.now) (g.G.Gate.asks c.write_reply-runner.new.gate) c.args.steps.now.count c.write_reply-runner.new.steps.count) c.if-not-going.false c.write_reply-runner.ensures.asked) c.write_stamp-runner.result.0 c.write_stamp-runner.ensures.event (g.G.Gate.halts c.write_stamp-runner.new.gate) (g.G.Gate.asks c.write_stamp-runner.new.gate) c.write_stamp-runner.new.steps.count
     (c.write_reply-runner.new.gate, refl, refl)
@@ -57,8 +57,8 @@ exit-runner-requires-clause-entered g c κs within =
     let met = g.met.S.Structure g.world.𝓛 g.world.𝓜 g.world.𝓡 ((λ s allowed. allowed), (λ patient. patient), (λ alone. alone), (λ cuts. cuts)) in
     let m = g.S.Structure.meaning c.args.table.now.structure in
     let e = c.requires.unmoved in
-    let replied = replied_of m (met.laws c.args.table.now.structure) (g.S.Planner.planning c.args.table.now.structure) c.args.request.now e.1 (subst IsWithinLimits (sym c.requires.own.layout ∙ e.2.reading.still.layout) (c.requires.own.limits _ refl)) (subst AreAllowed (sym c.requires.own.requests ∙ e.2.reading.still.requests) (c.requires.own.allowed _ refl)) c.args.thunk.now e.0 c.args.clock c.args.runner e.2 c.write_reply-runner.result.0 0 c.write_reply-runner.ensures.event in
-    let stamped = stamped_of m (met.laws c.args.table.now.structure) (g.S.Planner.planning c.args.table.now.structure) c.args.request.now e.1 (subst IsWithinLimits (sym c.requires.own.layout ∙ e.2.reading.still.layout) (c.requires.own.limits _ refl)) (subst AreAllowed (sym c.requires.own.requests ∙ e.2.reading.still.requests) (c.requires.own.allowed _ refl)) c.args.thunk.now e.0 c.args.clock c.write_reply-runner.result.0 replied c.write_stamp-runner.result.0 0 c.write_stamp-runner.ensures.event in
+    let replied = replied_of m (met.laws c.args.table.now.structure) (g.S.Planner.planning c.args.table.now.structure) c.args.request.now e.1 (subst IsWithinLimits (sym c.requires.own.layout ∙ e.2.reading.still.layout) (c.requires.own.limits _ refl)) (subst AreAllowed (sym c.requires.own.requests ∙ e.2.reading.still.requests) (c.requires.own.allowed _ refl)) (subst (λ s. LooksStand (g.S.Structure.meaning s)) c.structure.ensures c.looks_are_small.ensures.stamps) c.args.thunk.now e.0 c.args.clock c.args.runner e.2 c.write_reply-runner.result.0 0 c.write_reply-runner.ensures.event in
+    let stamped = stamped_of m (met.laws c.args.table.now.structure) (g.S.Planner.planning c.args.table.now.structure) c.args.request.now e.1 (subst IsWithinLimits (sym c.requires.own.layout ∙ e.2.reading.still.layout) (c.requires.own.limits _ refl)) (subst AreAllowed (sym c.requires.own.requests ∙ e.2.reading.still.requests) (c.requires.own.allowed _ refl)) (subst (λ s. LooksStand (g.S.Structure.meaning s)) c.structure.ensures c.looks_are_small.ensures.stamps) c.args.thunk.now e.0 c.args.clock c.write_reply-runner.result.0 replied c.write_stamp-runner.result.0 0 c.write_stamp-runner.ensures.event in
     record { epoch = _; at = at_here c.write_stamp-runner.result.0 _ _ _ _ (stamped_here m (g.S.Planner.planning c.args.table.now.structure) c.args.request.now e.1 c.args.thunk.now e.0 c.args.clock c.write_stamp-runner.result.0 stamped) refl }
 
 pub unreachable-requires : goal.unreachable-requires
@@ -67,11 +67,11 @@ unreachable-requires g c =
     let plans = g.met.S.Planner g.world.𝓛 g.world.𝓜 g.world.𝓡 ((λ s allowed. allowed), (λ patient. patient), (λ alone. alone), (λ cuts. cuts)) in
     let m = g.S.Structure.meaning c.args.table.now.structure in
     let e = c.requires.unmoved in
-    let replied = replied_of m (met.laws c.args.table.now.structure) (g.S.Planner.planning c.args.table.now.structure) c.args.request.now e.1 (subst IsWithinLimits (sym c.requires.own.layout ∙ e.2.reading.still.layout) (c.requires.own.limits _ refl)) (subst AreAllowed (sym c.requires.own.requests ∙ e.2.reading.still.requests) (c.requires.own.allowed _ refl)) c.args.thunk.now e.0 c.args.clock c.args.runner e.2 c.write_reply-runner.result.0 0 c.write_reply-runner.ensures.event in
-    let stamped = stamped_of m (met.laws c.args.table.now.structure) (g.S.Planner.planning c.args.table.now.structure) c.args.request.now e.1 (subst IsWithinLimits (sym c.requires.own.layout ∙ e.2.reading.still.layout) (c.requires.own.limits _ refl)) (subst AreAllowed (sym c.requires.own.requests ∙ e.2.reading.still.requests) (c.requires.own.allowed _ refl)) c.args.thunk.now e.0 c.args.clock c.write_reply-runner.result.0 replied c.write_stamp-runner.result.0 0 c.write_stamp-runner.ensures.event in
-    let reply = reply_read m (met.laws c.args.table.now.structure) (plans.plans_lawfully c.args.table.now.structure).serves (g.S.Planner.planning c.args.table.now.structure) c.args.request.now e.1 (subst IsWithinLimits (sym c.requires.own.layout ∙ e.2.reading.still.layout) (c.requires.own.limits _ refl)) (subst AreAllowed (sym c.requires.own.requests ∙ e.2.reading.still.requests) (c.requires.own.allowed _ refl)) c.args.thunk.now e.0 c.args.clock c.write_stamp-runner.result.0 stamped in
-    let word = word_read m (met.laws c.args.table.now.structure) (plans.plans_lawfully c.args.table.now.structure).serves (g.S.Planner.planning c.args.table.now.structure) c.args.request.now e.1 (subst IsWithinLimits (sym c.requires.own.layout ∙ e.2.reading.still.layout) (c.requires.own.limits _ refl)) (subst AreAllowed (sym c.requires.own.requests ∙ e.2.reading.still.requests) (c.requires.own.allowed _ refl)) c.args.thunk.now e.0 c.args.clock c.write_stamp-runner.result.0 stamped in
-    let is = is_reply_read m (met.laws c.args.table.now.structure) (plans.plans_lawfully c.args.table.now.structure).serves (g.S.Planner.planning c.args.table.now.structure) c.args.request.now e.1 (subst IsWithinLimits (sym c.requires.own.layout ∙ e.2.reading.still.layout) (c.requires.own.limits _ refl)) (subst AreAllowed (sym c.requires.own.requests ∙ e.2.reading.still.requests) (c.requires.own.allowed _ refl)) c.args.thunk.now e.0 c.args.clock c.write_stamp-runner.result.0 stamped in
+    let replied = replied_of m (met.laws c.args.table.now.structure) (g.S.Planner.planning c.args.table.now.structure) c.args.request.now e.1 (subst IsWithinLimits (sym c.requires.own.layout ∙ e.2.reading.still.layout) (c.requires.own.limits _ refl)) (subst AreAllowed (sym c.requires.own.requests ∙ e.2.reading.still.requests) (c.requires.own.allowed _ refl)) (subst (λ s. LooksStand (g.S.Structure.meaning s)) c.structure.ensures c.looks_are_small.ensures.stamps) c.args.thunk.now e.0 c.args.clock c.args.runner e.2 c.write_reply-runner.result.0 0 c.write_reply-runner.ensures.event in
+    let stamped = stamped_of m (met.laws c.args.table.now.structure) (g.S.Planner.planning c.args.table.now.structure) c.args.request.now e.1 (subst IsWithinLimits (sym c.requires.own.layout ∙ e.2.reading.still.layout) (c.requires.own.limits _ refl)) (subst AreAllowed (sym c.requires.own.requests ∙ e.2.reading.still.requests) (c.requires.own.allowed _ refl)) (subst (λ s. LooksStand (g.S.Structure.meaning s)) c.structure.ensures c.looks_are_small.ensures.stamps) c.args.thunk.now e.0 c.args.clock c.write_reply-runner.result.0 replied c.write_stamp-runner.result.0 0 c.write_stamp-runner.ensures.event in
+    let reply = reply_read m (met.laws c.args.table.now.structure) (plans.plans_lawfully c.args.table.now.structure).serves (g.S.Planner.planning c.args.table.now.structure) c.args.request.now e.1 (subst IsWithinLimits (sym c.requires.own.layout ∙ e.2.reading.still.layout) (c.requires.own.limits _ refl)) (subst AreAllowed (sym c.requires.own.requests ∙ e.2.reading.still.requests) (c.requires.own.allowed _ refl)) (subst (λ s. LooksStand (g.S.Structure.meaning s)) c.structure.ensures c.looks_are_small.ensures.stamps) c.args.thunk.now e.0 c.args.clock c.write_stamp-runner.result.0 stamped in
+    let word = word_read m (met.laws c.args.table.now.structure) (plans.plans_lawfully c.args.table.now.structure).serves (g.S.Planner.planning c.args.table.now.structure) c.args.request.now e.1 (subst IsWithinLimits (sym c.requires.own.layout ∙ e.2.reading.still.layout) (c.requires.own.limits _ refl)) (subst AreAllowed (sym c.requires.own.requests ∙ e.2.reading.still.requests) (c.requires.own.allowed _ refl)) (subst (λ s. LooksStand (g.S.Structure.meaning s)) c.structure.ensures c.looks_are_small.ensures.stamps) c.args.thunk.now e.0 c.args.clock c.write_stamp-runner.result.0 stamped in
+    let is = is_reply_read m (met.laws c.args.table.now.structure) (plans.plans_lawfully c.args.table.now.structure).serves (g.S.Planner.planning c.args.table.now.structure) c.args.request.now e.1 (subst IsWithinLimits (sym c.requires.own.layout ∙ e.2.reading.still.layout) (c.requires.own.limits _ refl)) (subst AreAllowed (sym c.requires.own.requests ∙ e.2.reading.still.requests) (c.requires.own.allowed _ refl)) (subst (λ s. LooksStand (g.S.Structure.meaning s)) c.structure.ensures c.looks_are_small.ensures.stamps) c.args.thunk.now e.0 c.args.clock c.write_stamp-runner.result.0 stamped in
     none_some reply (sym (c.from_word.ensures.whole reply is (word ∙ (sym c.requires.reply ∙ sym c.write_reply-runner.ensures.word))) ∙ c.in-None.is)
 
 pub returns-in-Some-clause-rests : goal.returns-in-Some-clause-rests
@@ -83,7 +83,7 @@ returns-in-Some-clause-rests g c =
     subst (λ s. Rests m (g.S.Planner.planning c.args.table.now.structure) c.args.request.now (locked_steps m (g.S.Planner.planning c.args.table.now.structure) c.args.request.now c.args.thunk.now found c.args.clock c.args.thunk.now.word old c.args.runner locks)
     (answers.Done c.in-Some.reply s) old c.exit-runner.result (IsSeen g.G.Gate.halts g.G.Gate.asks) (g.G.Gate.halts c.args.gate.now) (g.G.Gate.halts c.write_stamp-runner.new.gate) (g.G.Gate.asks c.args.gate.now) (g.G.Gate.asks c.write_stamp-runner.new.gate) c.args.steps.now.count c.write_stamp-runner.new.steps.count)
     (sym c.write_stamp-runner.ensures.stamp)
-    (read_done m (met.laws c.args.table.now.structure) (plans.plans_lawfully c.args.table.now.structure).serves (g.S.Planner.planning c.args.table.now.structure) c.args.request.now old (subst IsWithinLimits (sym c.requires.own.layout ∙ locks.reading.still.layout) (c.requires.own.limits _ refl)) (subst AreAllowed (sym c.requires.own.requests ∙ locks.reading.still.requests) (c.requires.own.allowed _ refl)) c.args.thunk.now found (IsSeen g.G.Gate.halts g.G.Gate.asks) c.args.clock c.args.runner c.write_reply-runner.result.0 locks c.write_reply-runner.ensures.event
+    (read_done m (met.laws c.args.table.now.structure) (plans.plans_lawfully c.args.table.now.structure).serves (g.S.Planner.planning c.args.table.now.structure) c.args.request.now old (subst IsWithinLimits (sym c.requires.own.layout ∙ locks.reading.still.layout) (c.requires.own.limits _ refl)) (subst AreAllowed (sym c.requires.own.requests ∙ locks.reading.still.requests) (c.requires.own.allowed _ refl)) (subst (λ s. LooksStand (g.S.Structure.meaning s)) c.structure.ensures c.looks_are_small.ensures.stamps) c.args.thunk.now found (IsSeen g.G.Gate.halts g.G.Gate.asks) c.args.clock c.args.runner c.write_reply-runner.result.0 locks c.write_reply-runner.ensures.event
     (g.G.Gate.halts c.args.gate.now) (g.G.Gate.halts c.write_reply-runner.new.gate) (g.G.Gate.asks c.args.gate.now) (g.G.Gate.asks c.write_reply-runner.new.gate) c.args.steps.now.count c.write_reply-runner.new.steps.count
     (subst (λ b. IsAsked 1 b (g.G.Gate.halts c.args.gate.now) (g.G.Gate.halts c.write_reply-runner.new.gate) (g.G.Gate.asks c.args.gate.now) (g.G.Gate.asks c.write_reply-runner.new.gate) c.args.steps.now.count c.write_reply-runner.new.steps.count) c.if-not-going.false c.write_reply-runner.ensures.asked) c.write_stamp-runner.result.0 c.write_stamp-runner.ensures.event (g.G.Gate.halts c.write_stamp-runner.new.gate) (g.G.Gate.asks c.write_stamp-runner.new.gate) c.write_stamp-runner.new.steps.count
     (subst (λ b. IsAsked 1 b (g.G.Gate.halts c.write_reply-runner.new.gate) (g.G.Gate.halts c.write_stamp-runner.new.gate) (g.G.Gate.asks c.write_reply-runner.new.gate) (g.G.Gate.asks c.write_stamp-runner.new.gate) c.write_reply-runner.new.steps.count c.write_stamp-runner.new.steps.count) c.if-not-going-2.false c.write_stamp-runner.ensures.asked) c.exit-runner.result c.exit-runner.ensures.exits c.in-Some.reply

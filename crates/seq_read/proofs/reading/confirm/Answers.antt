@@ -6,6 +6,7 @@ use Rattle.caller_facts.specs.Counted.{IsSeen}
 use Rattle.seq_read.specs.Course.{HasLock, loaded_steps}
 use Rattle.seq_read.specs.Parts.{Rests}
 use Rattle.seq_read.proofs.Courses.{announced_of, clock_of, lock_of}
+use Rattle.seq_read.proofs.Writing.{LooksStand}
 use Rattle.seq_read.proofs.Along.{plan_cut, clock_cut, lock_cut, moved_rests, same_rests}
 use Rattle.seq_read.proofs.reading.confirm.Goals as goal
 
@@ -19,7 +20,7 @@ returns-then-not-going-clause-rests g c =
     let plans = g.met.S.Planner g.world.𝓛 g.world.𝓜 g.world.𝓡 ((λ s allowed. allowed), (λ patient. patient), (λ alone. alone), (λ cuts. cuts)) in
     let m = g.S.Structure.meaning c.args.table.now.structure in
     λ found old finds.
-    plan_cut m (met.laws c.args.table.now.structure) (plans.plans_lawfully c.args.table.now.structure).serves (g.S.Planner.planning c.args.table.now.structure) c.args.request.now old (subst IsWithinLimits (sym c.requires.own.layout ∙ finds.loads.reading.still.layout) (c.requires.own.limits _ refl)) (subst AreAllowed (sym c.requires.own.requests ∙ finds.loads.reading.still.requests) (c.requires.own.allowed _ refl)) c.args.thunk.now found (IsSeen g.G.Gate.halts g.G.Gate.asks) c.args.runner c.announce-runner.result.0 finds c.announce-runner.ensures.event
+    plan_cut m (met.laws c.args.table.now.structure) (plans.plans_lawfully c.args.table.now.structure).serves (g.S.Planner.planning c.args.table.now.structure) c.args.request.now old (subst IsWithinLimits (sym c.requires.own.layout ∙ finds.loads.reading.still.layout) (c.requires.own.limits _ refl)) (subst AreAllowed (sym c.requires.own.requests ∙ finds.loads.reading.still.requests) (c.requires.own.allowed _ refl)) (subst (λ s. LooksStand (g.S.Structure.meaning s)) c.structure.ensures c.looks_are_small.ensures.stamps) c.args.thunk.now found (IsSeen g.G.Gate.halts g.G.Gate.asks) c.args.runner c.announce-runner.result.0 finds c.announce-runner.ensures.event
     (g.G.Gate.halts c.args.gate.now) (g.G.Gate.halts c.announce-runner.new.gate) (g.G.Gate.asks c.args.gate.now) (g.G.Gate.asks c.announce-runner.new.gate) c.args.steps.now.count c.announce-runner.new.steps.count
     (c.args.gate.now, refl, refl)
     (subst (λ b. IsAsked 1 b (g.G.Gate.halts c.args.gate.now) (g.G.Gate.halts c.announce-runner.new.gate) (g.G.Gate.asks c.args.gate.now) (g.G.Gate.asks c.announce-runner.new.gate) c.args.steps.now.count c.announce-runner.new.steps.count) c.if-not-going.true c.announce-runner.ensures.asked)
@@ -36,7 +37,7 @@ returns-then-not-going-2-clause-rests g c =
     let plans = g.met.S.Planner g.world.𝓛 g.world.𝓜 g.world.𝓡 ((λ s allowed. allowed), (λ patient. patient), (λ alone. alone), (λ cuts. cuts)) in
     let m = g.S.Structure.meaning c.args.table.now.structure in
     λ found old finds.
-    clock_cut m (met.laws c.args.table.now.structure) (plans.plans_lawfully c.args.table.now.structure).serves (g.S.Planner.planning c.args.table.now.structure) c.args.request.now old (subst IsWithinLimits (sym c.requires.own.layout ∙ finds.loads.reading.still.layout) (c.requires.own.limits _ refl)) (subst AreAllowed (sym c.requires.own.requests ∙ finds.loads.reading.still.requests) (c.requires.own.allowed _ refl)) c.args.thunk.now found (IsSeen g.G.Gate.halts g.G.Gate.asks) c.args.runner c.announce-runner.result.0 finds c.announce-runner.ensures.event
+    clock_cut m (met.laws c.args.table.now.structure) (plans.plans_lawfully c.args.table.now.structure).serves (g.S.Planner.planning c.args.table.now.structure) c.args.request.now old (subst IsWithinLimits (sym c.requires.own.layout ∙ finds.loads.reading.still.layout) (c.requires.own.limits _ refl)) (subst AreAllowed (sym c.requires.own.requests ∙ finds.loads.reading.still.requests) (c.requires.own.allowed _ refl)) (subst (λ s. LooksStand (g.S.Structure.meaning s)) c.structure.ensures c.looks_are_small.ensures.stamps) c.args.thunk.now found (IsSeen g.G.Gate.halts g.G.Gate.asks) c.args.runner c.announce-runner.result.0 finds c.announce-runner.ensures.event
     (g.G.Gate.halts c.args.gate.now) (g.G.Gate.halts c.announce-runner.new.gate) (g.G.Gate.asks c.args.gate.now) (g.G.Gate.asks c.announce-runner.new.gate) c.args.steps.now.count c.announce-runner.new.steps.count
     (subst (λ b. IsAsked 1 b (g.G.Gate.halts c.args.gate.now) (g.G.Gate.halts c.announce-runner.new.gate) (g.G.Gate.asks c.args.gate.now) (g.G.Gate.asks c.announce-runner.new.gate) c.args.steps.now.count c.announce-runner.new.steps.count) c.if-not-going.false c.announce-runner.ensures.asked) c.load_clock-runner.result.1 c.load_clock-runner.result.0 c.load_clock-runner.ensures.event (g.G.Gate.halts c.load_clock-runner.new.gate) (g.G.Gate.asks c.load_clock-runner.new.gate) c.load_clock-runner.new.steps.count
     (c.announce-runner.new.gate, refl, refl)
@@ -54,7 +55,7 @@ returns-then-not-going-3-clause-rests g c =
     let plans = g.met.S.Planner g.world.𝓛 g.world.𝓜 g.world.𝓡 ((λ s allowed. allowed), (λ patient. patient), (λ alone. alone), (λ cuts. cuts)) in
     let m = g.S.Structure.meaning c.args.table.now.structure in
     λ found old finds.
-    lock_cut m (met.laws c.args.table.now.structure) (plans.plans_lawfully c.args.table.now.structure).serves (g.S.Planner.planning c.args.table.now.structure) c.args.request.now old (subst IsWithinLimits (sym c.requires.own.layout ∙ finds.loads.reading.still.layout) (c.requires.own.limits _ refl)) (subst AreAllowed (sym c.requires.own.requests ∙ finds.loads.reading.still.requests) (c.requires.own.allowed _ refl)) c.args.thunk.now found (IsSeen g.G.Gate.halts g.G.Gate.asks) c.args.runner c.announce-runner.result.0 finds c.announce-runner.ensures.event
+    lock_cut m (met.laws c.args.table.now.structure) (plans.plans_lawfully c.args.table.now.structure).serves (g.S.Planner.planning c.args.table.now.structure) c.args.request.now old (subst IsWithinLimits (sym c.requires.own.layout ∙ finds.loads.reading.still.layout) (c.requires.own.limits _ refl)) (subst AreAllowed (sym c.requires.own.requests ∙ finds.loads.reading.still.requests) (c.requires.own.allowed _ refl)) (subst (λ s. LooksStand (g.S.Structure.meaning s)) c.structure.ensures c.looks_are_small.ensures.stamps) c.args.thunk.now found (IsSeen g.G.Gate.halts g.G.Gate.asks) c.args.runner c.announce-runner.result.0 finds c.announce-runner.ensures.event
     (g.G.Gate.halts c.args.gate.now) (g.G.Gate.halts c.announce-runner.new.gate) (g.G.Gate.asks c.args.gate.now) (g.G.Gate.asks c.announce-runner.new.gate) c.args.steps.now.count c.announce-runner.new.steps.count
     (subst (λ b. IsAsked 1 b (g.G.Gate.halts c.args.gate.now) (g.G.Gate.halts c.announce-runner.new.gate) (g.G.Gate.asks c.args.gate.now) (g.G.Gate.asks c.announce-runner.new.gate) c.args.steps.now.count c.announce-runner.new.steps.count) c.if-not-going.false c.announce-runner.ensures.asked) c.load_clock-runner.result.1 c.load_clock-runner.result.0 c.load_clock-runner.ensures.event (g.G.Gate.halts c.load_clock-runner.new.gate) (g.G.Gate.asks c.load_clock-runner.new.gate) c.load_clock-runner.new.steps.count
     (subst (λ b. IsAsked 1 b (g.G.Gate.halts c.announce-runner.new.gate) (g.G.Gate.halts c.load_clock-runner.new.gate) (g.G.Gate.asks c.announce-runner.new.gate) (g.G.Gate.asks c.load_clock-runner.new.gate) c.announce-runner.new.steps.count c.load_clock-runner.new.steps.count) c.if-not-going-2.false c.load_clock-runner.ensures.asked) c.load_lock-runner.result.1 c.load_lock-runner.result.0 c.load_lock-runner.ensures.event (g.G.Gate.halts c.load_lock-runner.new.gate) (g.G.Gate.asks c.load_lock-runner.new.gate) c.load_lock-runner.new.steps.count
@@ -77,7 +78,7 @@ returns-then-ne-clause-rests g c =
     subst (λ a. Rests m (g.S.Planner.planning c.args.table.now.structure) c.args.request.now (loaded_steps m (g.S.Planner.planning c.args.table.now.structure) c.args.request.now c.args.thunk.now found old c.args.runner finds.loads)
     a old c.exit.result (IsSeen g.G.Gate.halts g.G.Gate.asks) (g.G.Gate.halts c.args.gate.now) (g.G.Gate.halts c.load_lock-runner.new.gate) (g.G.Gate.asks c.args.gate.now) (g.G.Gate.asks c.load_lock-runner.new.gate) c.args.steps.now.count c.load_lock-runner.new.steps.count)
     (sym c.lock_moved.ensures)
-    (moved_rests m (met.laws c.args.table.now.structure) (plans.plans_lawfully c.args.table.now.structure).serves (g.S.Planner.planning c.args.table.now.structure) c.args.request.now old (subst IsWithinLimits (sym c.requires.own.layout ∙ finds.loads.reading.still.layout) (c.requires.own.limits _ refl)) (subst AreAllowed (sym c.requires.own.requests ∙ finds.loads.reading.still.requests) (c.requires.own.allowed _ refl)) c.args.thunk.now found (IsSeen g.G.Gate.halts g.G.Gate.asks) c.args.runner c.announce-runner.result.0 finds c.announce-runner.ensures.event
+    (moved_rests m (met.laws c.args.table.now.structure) (plans.plans_lawfully c.args.table.now.structure).serves (g.S.Planner.planning c.args.table.now.structure) c.args.request.now old (subst IsWithinLimits (sym c.requires.own.layout ∙ finds.loads.reading.still.layout) (c.requires.own.limits _ refl)) (subst AreAllowed (sym c.requires.own.requests ∙ finds.loads.reading.still.requests) (c.requires.own.allowed _ refl)) (subst (λ s. LooksStand (g.S.Structure.meaning s)) c.structure.ensures c.looks_are_small.ensures.stamps) c.args.thunk.now found (IsSeen g.G.Gate.halts g.G.Gate.asks) c.args.runner c.announce-runner.result.0 finds c.announce-runner.ensures.event
     (g.G.Gate.halts c.args.gate.now) (g.G.Gate.halts c.announce-runner.new.gate) (g.G.Gate.asks c.args.gate.now) (g.G.Gate.asks c.announce-runner.new.gate) c.args.steps.now.count c.announce-runner.new.steps.count
     (subst (λ b. IsAsked 1 b (g.G.Gate.halts c.args.gate.now) (g.G.Gate.halts c.announce-runner.new.gate) (g.G.Gate.asks c.args.gate.now) (g.G.Gate.asks c.announce-runner.new.gate) c.args.steps.now.count c.announce-runner.new.steps.count) c.if-not-going.false c.announce-runner.ensures.asked) c.load_clock-runner.result.1 c.load_clock-runner.result.0 c.load_clock-runner.ensures.event (g.G.Gate.halts c.load_clock-runner.new.gate) (g.G.Gate.asks c.load_clock-runner.new.gate) c.load_clock-runner.new.steps.count
     (subst (λ b. IsAsked 1 b (g.G.Gate.halts c.announce-runner.new.gate) (g.G.Gate.halts c.load_clock-runner.new.gate) (g.G.Gate.asks c.announce-runner.new.gate) (g.G.Gate.asks c.load_clock-runner.new.gate) c.announce-runner.new.steps.count c.load_clock-runner.new.steps.count) c.if-not-going-2.false c.load_clock-runner.ensures.asked) c.load_lock-runner.result.1 c.load_lock-runner.result.0 c.load_lock-runner.ensures.event (g.G.Gate.halts c.load_lock-runner.new.gate) (g.G.Gate.asks c.load_lock-runner.new.gate) c.load_lock-runner.new.steps.count
@@ -95,7 +96,7 @@ returns-clause-rests g c =
     let plans = g.met.S.Planner g.world.𝓛 g.world.𝓜 g.world.𝓡 ((λ s allowed. allowed), (λ patient. patient), (λ alone. alone), (λ cuts. cuts)) in
     let m = g.S.Structure.meaning c.args.table.now.structure in
     λ found old finds.
-    same_rests m (met.laws c.args.table.now.structure) (plans.plans_lawfully c.args.table.now.structure).serves (g.S.Planner.planning c.args.table.now.structure) c.args.request.now old (subst IsWithinLimits (sym c.requires.own.layout ∙ finds.loads.reading.still.layout) (c.requires.own.limits _ refl)) (subst AreAllowed (sym c.requires.own.requests ∙ finds.loads.reading.still.requests) (c.requires.own.allowed _ refl)) c.args.thunk.now found (IsSeen g.G.Gate.halts g.G.Gate.asks) c.args.runner c.announce-runner.result.0 finds c.announce-runner.ensures.event
+    same_rests m (met.laws c.args.table.now.structure) (plans.plans_lawfully c.args.table.now.structure).serves (g.S.Planner.planning c.args.table.now.structure) c.args.request.now old (subst IsWithinLimits (sym c.requires.own.layout ∙ finds.loads.reading.still.layout) (c.requires.own.limits _ refl)) (subst AreAllowed (sym c.requires.own.requests ∙ finds.loads.reading.still.requests) (c.requires.own.allowed _ refl)) (subst (λ s. LooksStand (g.S.Structure.meaning s)) c.structure.ensures c.looks_are_small.ensures.stamps) c.args.thunk.now found (IsSeen g.G.Gate.halts g.G.Gate.asks) c.args.runner c.announce-runner.result.0 finds c.announce-runner.ensures.event
     (g.G.Gate.halts c.args.gate.now) (g.G.Gate.halts c.announce-runner.new.gate) (g.G.Gate.asks c.args.gate.now) (g.G.Gate.asks c.announce-runner.new.gate) c.args.steps.now.count c.announce-runner.new.steps.count
     (subst (λ b. IsAsked 1 b (g.G.Gate.halts c.args.gate.now) (g.G.Gate.halts c.announce-runner.new.gate) (g.G.Gate.asks c.args.gate.now) (g.G.Gate.asks c.announce-runner.new.gate) c.args.steps.now.count c.announce-runner.new.steps.count) c.if-not-going.false c.announce-runner.ensures.asked) c.load_clock-runner.result.1 c.load_clock-runner.result.0 c.load_clock-runner.ensures.event (g.G.Gate.halts c.load_clock-runner.new.gate) (g.G.Gate.asks c.load_clock-runner.new.gate) c.load_clock-runner.new.steps.count
     (subst (λ b. IsAsked 1 b (g.G.Gate.halts c.announce-runner.new.gate) (g.G.Gate.halts c.load_clock-runner.new.gate) (g.G.Gate.asks c.announce-runner.new.gate) (g.G.Gate.asks c.load_clock-runner.new.gate) c.announce-runner.new.steps.count c.load_clock-runner.new.steps.count) c.if-not-going-2.false c.load_clock-runner.ensures.asked) c.load_lock-runner.result.1 c.load_lock-runner.result.0 c.load_lock-runner.ensures.event (g.G.Gate.halts c.load_lock-runner.new.gate) (g.G.Gate.asks c.load_lock-runner.new.gate) c.load_lock-runner.new.steps.count
