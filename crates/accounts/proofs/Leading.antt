@@ -22,7 +22,7 @@ use Rattle.lock_walks.specs.try_lock.specs.declared.planned.Planned.TheVariants 
 use Rattle.lock_walks.specs.try_lock.specs.Plans.{refused_by_lock, refused_at}
 use Rattle.lock_walks.specs.Way.{fed_all, IsLedBy, IsThunkFor, Leads}
 use Rattle.accounts.specs.Moves.{lower_of, upper_of}
-use Rattle.accounts.specs.Walk.{is_open, next_place, found_after, found_in, loads_left, is_refused, thunk_by, thunk_of, transfer_planning, transfer_way}
+use Rattle.accounts.specs.Walk.{is_open, next_place, found_after, found_in, loads_left, is_refused, begun, thunk_by, thunk_of, transfer_planning, transfer_way}
 use Rattle.accounts.specs.declared.transfer.Transfer.{Transfer}
 use Rattle.accounts.specs.declared.walk.Found.{Found}
 use Rattle.accounts.specs.declared.walk.Found.TheVariants.{Nothing, Lower, Balances, Locked, All}
@@ -44,11 +44,11 @@ unlocked true o e = absurd (cc)
 unlocked false o e = refl
 
 -- a lock that the walk passes was open
-opened : (free : Bool) (place wanted : ℕ) → cond free (Some wanted) None ≡ Some place → (free ≡ true) × (wanted ≡ place)
+pub opened : (free : Bool) (place wanted : ℕ) → cond free (Some wanted) None ≡ Some place → (free ≡ true) × (wanted ≡ place)
 opened true place wanted e = (refl, some_eq wanted place e)
 opened false place wanted e = absurd (none-some place e)
 
-stopped : (free : Bool) (wanted : ℕ) → cond free (Some wanted) None ≡ None → not free ≡ false → ⊥
+pub stopped : (free : Bool) (wanted : ℕ) → cond free (Some wanted) None ≡ None → not free ≡ false → ⊥
 stopped true wanted e goes = none-some wanted (sym e)
 stopped false wanted e goes = cc
 
@@ -77,7 +77,7 @@ module _ (accounts opening : ℕ) (layout : Layout) (op : Op) (t : Transfer) whe
 
   -- the walk at its beginning
   abbrev starts : TransferWalk
-  starts = record { transfer = t; lock = lock_of lower; version_max = layout.version_max; op = op; found = Nothing }
+  starts = begun t layout.version_max op
 
   abbrev next : Found → Option ℕ
   next = next_place layout.version_max lower upper
@@ -102,7 +102,7 @@ module _ (accounts opening : ℕ) (layout : Layout) (op : Op) (t : Transfer) whe
         (ap (λ b. b || (m.is_lock place || (nat_lt ((place - m.fixed_cells) / 5) m.fixed_slots || m.reaches readings ((place - m.fixed_cells) / 5)))) (lt_true place m.fixed_cells below), omega (arith, below))
 
     -- a reading refuses the walk where it refuses the plan
-    refuses : (found : Found) (readings : Readings) (place word : ℕ) → next found ≡ Some place
+    pub refuses : (found : Found) (readings : Readings) (place word : ℕ) → next found ≡ Some place
         → is_refused layout.version_max (found_after found word) ≡ is_some (refused_at m (transfer_planning t) layout op readings place word)
     refuses Nothing readings place word e = unlocked (m.is_lock place) (refused_by_lock layout.version_max place word)
         (subst (λ p. m.is_lock p ≡ false) (some_eq _ place e) (balance_there accounts lower lower_low).1)

@@ -1,5 +1,6 @@
 -- The walk of a transfer: which words it loads, how it goes on by them, and the thunk at its end.
 use Rattle.std.specs.Prelude.{ℕ, ◌&&◌, Bool, true, false, not, cond, [], ◌∷◌, Option, None, Some}
+use Rattle.map_history.specs.declared.op.Op.{Op}
 use Rattle.body_terms.specs.Word.{value_of, is_free, is_spent}
 use Rattle.body_terms.specs.declared.thunk.Thunk.{Thunk}
 use Rattle.structure_laws.specs.Scene.{Readings}
@@ -75,6 +76,11 @@ transfer_planning t = record {
   is_mark = λ place. false;
   per_pair = 0;
 }
+
+-- the walk of a transfer that has loaded nothing
+abbrev pub begun : Transfer → (version_max : ℕ) → Op → TransferWalk
+begun t version_max op =
+    record { transfer = t; lock = lock_of (lower_of t); version_max = version_max; op = op; found = Nothing }
 
 -- the walk, as functions on its record
 abbrev pub transfer_way : Way TransferWalk

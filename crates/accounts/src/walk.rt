@@ -3,7 +3,8 @@ ghost use Rattle.std.specs.Prelude.{◌≡◌, ◌≢◌, ◌<◌};
 ghost use Rattle.account_laws.specs.Accounts.{accounts_of};
 ghost use Rattle.lock_walks.specs.Way.{Leads};
 ghost use Rattle.lock_walks.specs.Wants.{WantsWereRead};
-ghost use Rattle.accounts.specs.Walk.{is_open, found_after, thunk_by, transfer_planning, transfer_way};
+ghost use Rattle.accounts.specs.Walk.{is_open, found_after, thunk_by, begun, transfer_planning, transfer_way};
+ghost use Rattle.accounts.specs.Made.{Makes};
 
 use crate::body::lock_of;
 use crate::table::Accounts;
@@ -87,15 +88,18 @@ fn thunk_by(
 
 impl Accounts {
     /// The walk that plans this transfer between two of the accounts, which has loaded nothing. It is for a request
-    /// with any operation, since accounts serve no map. What the sections of accounts want of a balance was read there.
+    /// with any operation, since accounts serve no map. What the sections of accounts want of a balance was read there;
+    /// where a section happened with this walk's own thunk, the transfer was made, of so much as could be moved.
     pub fn walk(&self, layout: Layout, op: Op, transfer: Transfer) -> TransferWalk
         requires from { transfer.from < self.now.accounts }
         requires to { transfer.to < self.now.accounts }
         requires apart { transfer.from ≢ transfer.to }
+        ensures begun { result ≡ begun transfer layout.version_max op }
         ensures op { result.op ≡ op }
         ensures planning { transfer_way.planning result ≡ transfer_planning transfer }
         ensures leads { Leads transfer_way (accounts_of self.now.accounts self.now.opening) layout result }
         ensures wants { WantsWereRead (accounts_of self.now.accounts self.now.opening) }
+        ensures makes { Makes (accounts_of self.now.accounts self.now.opening) transfer result }
     {
         let _few = self.count();
         let lower = transfer.lower();

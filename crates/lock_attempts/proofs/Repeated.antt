@@ -3,7 +3,9 @@ use Rattle.std.specs.Prelude.{◌==◌, ◌&&◌, ◌||◌, not, nat_lt, ◌%◌
 use Rattle.std.specs.List.{list_all}
 use Rattle.std.proofs.Common.{◌≡◌, ℕ, zero, suc, ◌+◌, ◌≤◌, List, [], ◌∷◌, refl, sym, ap, ◌∙◌, subst, arith}
 use Rattle.map_history.specs.declared.op.Request.{Request}
+use Rattle.body_terms.specs.declared.thunk.Thunk.{Thunk}
 use Rattle.runner_gate.specs.Asks.{Asks}
+use Rattle.structure_laws.specs.Scene.{Readings}
 use Rattle.structure_laws.specs.Meaning.{Meaning}
 use Rattle.runner_parts.specs.declared.entries.Known.{Known}
 use Rattle.runner_parts.specs.Tests.{is_answered, are_answered}
@@ -103,24 +105,24 @@ again_going (answers.Done reply stamp) e = refl
 again_going (answers.Short short) e = refl
 again_going answers.Halted e = absurd (let z = e in cc)
 
-module _ {T : Type 0} (m : Meaning) (planning : Planning) (request : Request) (t : TableState T) (old : RunnerState T) (Seen : ℕ → Asks → Type 0) where
+module _ {T : Type 0} (m : Meaning) (planning : Planning) (request : Request) (own : Readings → Thunk) (t : TableState T) (old : RunnerState T) (Seen : ℕ → Asks → Type 0) where
   -- so many attempts so far, after each of which the section was attempted again
   pub record IsTrying (n : ℕ) (r : RunnerState T) (halts halts' : ℕ) (asks asks' : Asks) (steps steps' : ℕ) : Type 0 where
-    pub own : IsOf t r
-    pub tries : AreRefused m planning request n old r Seen halts halts' asks asks' steps steps'
+    pub of_table : IsOf t r
+    pub tries : AreRefused m planning request own n old r Seen halts halts' asks asks' steps steps'
     pub went : halts' ≡ halts
     pub may : MayAttempt planning request r
     pub knows : KnowsMore old r
     pub no_other : LearnsNoOther request.number old r
 
-module _ {T : Type 0} (m : Meaning) (planning : Planning) (request : Request) (t : TableState T) (old : RunnerState T) (own_old : IsOf t old)
+module _ {T : Type 0} (m : Meaning) (planning : Planning) (request : Request) (own : Readings → Thunk) (t : TableState T) (old : RunnerState T) (own_old : IsOf t old)
     (Seen : ℕ → Asks → Type 0) where
   abbrev pub Tries : (n : ℕ) (r : RunnerState T) (halts halts' : ℕ) (asks asks' : Asks) (steps steps' : ℕ) → Type 0
-  Tries n r halts halts' asks asks' steps steps' = IsTrying m planning request t old Seen n r halts halts' asks asks' steps steps'
+  Tries n r halts halts' asks asks' steps steps' = IsTrying m planning request own t old Seen n r halts halts' asks asks' steps steps'
 
   pub trying_begins : MayAttempt planning request old → (halts : ℕ) (asks : Asks) (steps : ℕ) → Tries 0 old halts halts asks asks steps steps
   trying_begins may halts asks steps = record {
-    own = own_old;
+    of_table = own_old;
     tries = (refl, refl, refl, refl);
     went = refl;
     may = may;
@@ -131,51 +133,51 @@ module _ {T : Type 0} (m : Meaning) (planning : Planning) (request : Request) (t
   module _ (n : ℕ) (r : RunnerState T) (halts halts' : ℕ) (asks asks' : Asks) (steps steps' : ℕ) (is : Tries n r halts halts' asks asks' steps steps')
       (new : RunnerState T) (own_new : IsOf t new) (halts'' : ℕ) (asks'' : Asks) (steps'' : ℕ) where
     no_others : (b : RunnerState T) → LearnsNoOther request.number r b → LearnsNoOther request.number old b
-    no_others b more = no_other_on request.number old r b (is.own.requests ∙ sym own_old.requests) (is.own.layout ∙ sym own_old.layout) is.knows.number is.no_other more
+    no_others b more = no_other_on request.number old r b (is.of_table.requests ∙ sym own_old.requests) (is.of_table.layout ∙ sym own_old.layout) is.knows.number is.no_other more
 
     -- one more
-    trying_on : (answer : Result ℕ Attempt) → is_tried_again answer ≡ true → SectionAttempts m planning request answer r new Seen halts' halts'' asks' asks'' steps' steps''
+    trying_on : (answer : Result ℕ Attempt) → is_tried_again answer ≡ true → SectionAttempts m planning request own answer r new Seen halts' halts'' asks' asks'' steps' steps''
         → Tries (suc n) new halts halts'' asks asks'' steps steps''
     trying_on (Ok reply) e a = absurd (let z = e in cc)
     trying_on (Err answer) e a =
         let going = again_going answer e in
         let left = open_after m planning request r new answer a.0 going a.1.is.answers in
         record {
-          own = own_new;
+          of_table = own_new;
           tries = (r, halts', asks', steps', answer, is.tries, e, a);
           went = a.1.asked.went (ap not going) ∙ is.went;
-          may = may_again planning request t r new is.own own_new is.may a.1.is.knows left.0 left.1;
+          may = may_again planning request t r new is.of_table own_new is.may a.1.is.knows left.0 left.1;
           knows = knows_on old r new is.knows a.1.is.knows;
           no_other = no_others new a.1.is.no_other;
         }
 
-    pub trying_next : (answer : Result ℕ Attempt) → is_tried_again answer ≡ true → SectionAttempts m planning request answer r new Seen halts' halts'' asks' asks'' steps' steps''
+    pub trying_next : (answer : Result ℕ Attempt) → is_tried_again answer ≡ true → SectionAttempts m planning request own answer r new Seen halts' halts'' asks' asks'' steps' steps''
         → Tries (n + 1) new halts halts'' asks asks'' steps steps''
     trying_next answer e a =
         let same : suc n ≡ n + 1 = omega arith in
         subst (λ k. Tries k new halts halts'' asks asks'' steps steps'') same (trying_on answer e a)
 
-    knows_all : (answer : Result ℕ Attempt) → SectionAttempts m planning request answer r new Seen halts' halts'' asks' asks'' steps' steps'' → KnowsMore r new
+    knows_all : (answer : Result ℕ Attempt) → SectionAttempts m planning request own answer r new Seen halts' halts'' asks' asks'' steps' steps'' → KnowsMore r new
     knows_all (Ok reply) a = a.knows
     knows_all (Err answer) a = a.1.is.knows
 
-    knows_no_other : (answer : Result ℕ Attempt) → SectionAttempts m planning request answer r new Seen halts' halts'' asks' asks'' steps' steps''
+    knows_no_other : (answer : Result ℕ Attempt) → SectionAttempts m planning request own answer r new Seen halts' halts'' asks' asks'' steps' steps''
         → LearnsNoOther request.number r new
     knows_no_other (Ok reply) a = a.no_other
     knows_no_other (Err answer) a = a.1.is.no_other
 
     -- the last one
-    pub trying_ends : (more : ℕ) → n ≤ more → (answer : Result ℕ Attempt) → SectionAttempts m planning request answer r new Seen halts' halts'' asks' asks'' steps' steps''
-        → Persists m planning request more answer old new Seen halts halts'' asks asks'' steps steps''
+    pub trying_ends : (more : ℕ) → n ≤ more → (answer : Result ℕ Attempt) → SectionAttempts m planning request own answer r new Seen halts' halts'' asks' asks'' steps' steps''
+        → Persists m planning request own more answer old new Seen halts halts'' asks asks'' steps steps''
     trying_ends more few answer a = record {
       before = r;
       asks1 = asks';
       steps1 = steps';
       refused = n;
       few = few;
-      tries = subst (λ h. AreRefused m planning request n old r Seen halts h asks asks' steps steps') is.went is.tries;
+      tries = subst (λ h. AreRefused m planning request own n old r Seen halts h asks asks' steps steps') is.went is.tries;
       may = is.may;
-      last = subst (λ h. SectionAttempts m planning request answer r new Seen h halts'' asks' asks'' steps' steps'') is.went a;
+      last = subst (λ h. SectionAttempts m planning request own answer r new Seen h halts'' asks' asks'' steps' steps'') is.went a;
       knows = knows_on old r new is.knows (knows_all answer a);
       no_other = no_others new (knows_no_other answer a);
     }

@@ -8,7 +8,9 @@ use native.Mathlib.Decide.{ℕ_discrete}
 use Rattle.small_lemmas.proofs.Numbers.{tested_equal}
 use Rattle.map_history.specs.declared.op.Request.{Request}
 use Rattle.map_history.specs.declared.op.Op.TheVariants.{Get}
+use Rattle.body_terms.specs.declared.thunk.Thunk.{Thunk}
 use Rattle.runner_gate.specs.Asks.{Asks}
+use Rattle.structure_laws.specs.Scene.{Readings}
 use Rattle.structure_laws.specs.Meaning.{Meaning}
 use Rattle.runner_parts.specs.declared.entries.Known.{Known}
 use Rattle.runner_parts.specs.Tests.{is_answered, are_answered}
@@ -104,14 +106,14 @@ module _ {T : Type 0} (t : TableState T) (tickets : Tickets) (old : RunnerState 
     }
 
 -- behind the last attempt
-module _ {T : Type 0} (m : Meaning) (planning : Planning) (t : TableState T) (tickets : Tickets) (old : RunnerState T) (own_old : IsOf t old) (has : HasTickets tickets old)
+module _ {T : Type 0} (m : Meaning) (planning : Planning) (own : Readings → Thunk) (t : TableState T) (tickets : Tickets) (old : RunnerState T) (own_old : IsOf t old) (has : HasTickets tickets old)
     (more : ℕ) (new : RunnerState T) (own_new : IsOf t new) (Seen : ℕ → Asks → Type 0) (halts halts' : ℕ) (asks asks' : Asks) (steps steps' : ℕ) where
-  pub used_after : (reply : ℕ) → Persists m planning (ticket tickets.trace tickets.next) more (Ok reply) old new Seen halts halts' asks asks' steps steps'
+  pub used_after : (reply : ℕ) → Persists m planning (ticket tickets.trace tickets.next) own more (Ok reply) old new Seen halts halts' asks asks' steps steps'
       → HasTickets (record tickets { next = tickets.next + 1 }) new
   used_after reply is = one_used t tickets old own_old has new own_new is.knows is.no_other is.last.answers.tidy is.last.answers.knows
 
   pub unused_after : (answer : Attempt) → is_halted answer ≡ false
-      → Persists m planning (ticket tickets.trace tickets.next) more (Err answer) old new Seen halts halts' asks asks' steps steps'
+      → Persists m planning (ticket tickets.trace tickets.next) own more (Err answer) old new Seen halts halts' asks asks' steps steps'
       → HasTickets tickets new
   unused_after answer going is =
       let left = open_after m planning (ticket tickets.trace tickets.next) is.before new answer is.last.0 going is.last.1.is.answers in

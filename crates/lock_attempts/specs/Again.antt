@@ -1,7 +1,9 @@
 -- A section that is attempted again where it was refused.
 use Rattle.std.specs.Prelude.{◌≡◌, ℕ, zero, suc, ◌≤◌, Bool, true, false, Result, Ok, Err}
 use Rattle.map_history.specs.declared.op.Request.{Request}
+use Rattle.body_terms.specs.declared.thunk.Thunk.{Thunk}
 use Rattle.runner_gate.specs.Asks.{Asks}
+use Rattle.structure_laws.specs.Scene.{Readings}
 use Rattle.structure_laws.specs.Meaning.{Meaning}
 use Rattle.version_words.specs.RunnerState.{RunnerState}
 use Rattle.lock_walks.specs.try_lock.specs.Planning.{Planning}
@@ -19,7 +21,7 @@ is_tried_again (Err (answers.Far loads)) = true
 is_tried_again (Err (answers.Short short)) = true
 is_tried_again _ = false
 
-module _ {T : Type 0} (m : Meaning) (planning : Planning) (request : Request) where
+module _ {T : Type 0} (m : Meaning) (planning : Planning) (request : Request) (own : Readings → Thunk) where
   -- so many attempts were made, one behind the other, and each was refused. The gate's halts, its asks and the counted
   -- steps are those before and after
   abbrev pub AreRefused : ℕ → (old new : RunnerState T) (Seen : ℕ → Asks → Type 0)
@@ -30,7 +32,7 @@ module _ {T : Type 0} (m : Meaning) (planning : Planning) (request : Request) wh
       (mid : RunnerState T) × (halts1 : ℕ) × (asks1 : Asks) × (steps1 : ℕ) × (answer : Attempt)
       × AreRefused n old mid Seen halts halts1 asks asks1 steps steps1
       × (is_tried_again (Err answer) ≡ true)
-      × SectionAttempts m planning request (Err answer) mid new Seen halts1 halts' asks1 asks' steps1 steps'
+      × SectionAttempts m planning request own (Err answer) mid new Seen halts1 halts' asks1 asks' steps1 steps'
 
   -- the request's section was attempted until this answer: at most so many attempts were refused, and the last one
   -- answered so. Before it the runner was as `before` says, and might attempt it
@@ -43,6 +45,6 @@ module _ {T : Type 0} (m : Meaning) (planning : Planning) (request : Request) wh
     pub few : refused ≤ more
     pub tries : AreRefused refused old before Seen halts halts asks asks1 steps steps1
     pub may : MayAttempt planning request before
-    pub last : SectionAttempts m planning request answer before new Seen halts halts' asks1 asks' steps1 steps'
+    pub last : SectionAttempts m planning request own answer before new Seen halts halts' asks1 asks' steps1 steps'
     pub knows : KnowsMore old new
     pub no_other : LearnsNoOther request.number old new

@@ -4,6 +4,7 @@ ghost use Rattle.structure_laws.specs.Cells.{slots};
 ghost use Rattle.version_words.specs.RunnerState.{RunnerState};
 ghost use Rattle.version_words.specs.TableState.{IsOf};
 ghost use Rattle.lock_walks.specs.Way.{Leads};
+ghost use Rattle.lock_walks.specs.Own.{own_thunk};
 ghost use Rattle.attempts.specs.Counted.{IsSeen};
 ghost use Rattle.attempts.specs.Course.{MayAttempt, HasEntered};
 ghost use Rattle.attempts.specs.Attempts.{most_of_attempt};
@@ -40,7 +41,8 @@ fn plan_and_try<S: Structure, W: Walker, G: Gate, L>(
     ensures own { IsOf table.now result.0 }
     ensures rests { (old : RunnerState S)
         → HasEntered (S.meaning table.now.structure) (W.way.planning walk) request.now old runner
-        → SectionRests (S.meaning table.now.structure) (W.way.planning walk) request.now false 0
+        → SectionRests (S.meaning table.now.structure) (W.way.planning walk) request.now
+        (own_thunk W.way walk request.now.number) false 0
         (most_of_attempt (slots (S.meaning table.now.structure) table.now.layout)) result.1 old runner result.0
         (IsSeen G.halts G.asks)
         (G.halts gate.old) (G.halts gate.new) (G.asks gate.old) (G.asks gate.new) steps.old.count steps.new.count }
@@ -63,8 +65,9 @@ fn plan_and_try<S: Structure, W: Walker, G: Gate, L>(
 /// the next one of its trace; the worker is idle, with an empty hand. The walk has loaded nothing, and leads a plan on
 /// this structure, whose sections want what was read.
 ///
-/// - `Ok`: the section that was planned happened once, and answered with this number: each of its Stores moved its cell
-///   in one event, from the word that was read, whoever ran it. The ticket is used from then on.
+/// - `Ok`: the section that was planned happened once, and answered with this number: its thunk is the walk's own, by
+///   the words that the walk read; each word that it wants was the agreed one, and each of its Stores moved its cell in
+///   one event, from the agreed word to the one that its body says, whoever ran it. The ticket is used from then on.
 /// - `Busy`: a lock was held. The section that its word names is done at return; the worker ran it to its end.
 /// - `Stale`: a word was read, and then another one at the same place.
 /// - `Far`: the walk is too long, by its own plan.
@@ -94,7 +97,7 @@ pub fn attempt_section<S: Structure, W: Walker, G: Gate, L>(
     requires next { MayAttempt (W.way.planning walk) request.now runner }
     ensures own { IsOf table.now result.0 }
     ensures attempts { SectionAttempts (S.meaning table.now.structure) (W.way.planning walk) request.now
-        result.1 runner result.0 (IsSeen G.halts G.asks)
+        (own_thunk W.way walk request.now.number) result.1 runner result.0 (IsSeen G.halts G.asks)
         (G.halts gate.old) (G.halts gate.new) (G.asks gate.old) (G.asks gate.new) steps.old.count steps.new.count }
 {
     let runner = reclaim(table, runner);

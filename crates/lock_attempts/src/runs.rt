@@ -1,8 +1,9 @@
 //! The run of an own section, and what is answered by it.
-ghost use Rattle.std.specs.Prelude.{◌+◌, length, true, false, Ok};
+ghost use Rattle.std.specs.Prelude.{◌≡◌, ◌+◌, length, true, false, Ok};
 ghost use Rattle.map_history.specs.declared.op.Request.{Request};
 ghost use Rattle.body_terms.specs.Trail.{Agreed};
 ghost use Rattle.body_terms.specs.declared.thunk.Thunk.{Thunk};
+ghost use Rattle.structure_laws.specs.Scene.{Readings};
 ghost use Rattle.version_words.specs.RunnerState.{RunnerState};
 ghost use Rattle.version_words.specs.TableState.{IsOf};
 ghost use Rattle.lock_walks.specs.try_lock.specs.Planning.{Planning};
@@ -33,12 +34,14 @@ fn conclude<S: Structure, G: Gate, L>(
 ) -> (Runner<S>, Result<u64, Attempt>)
     requires own { IsOf table.now runner }
     requires wants { WantsWereRead (S.meaning table.now.structure) }
-    requires ended { (planning : Planning) × (request : Request) × (old : RunnerState S) × (thunk : Thunk) × (trail : Agreed)
-        × HasEnded (S.meaning table.now.structure) planning request section thunk outcome trail old runner }
+    requires ended { (planning : Planning) × (request : Request) × (old : RunnerState S) × (thunk : Thunk)
+        × (trail : Agreed) × HasEnded (S.meaning table.now.structure) planning request section thunk outcome trail old runner }
     ensures own { IsOf table.now result.0 }
-    ensures rests { (planning : Planning) (request : Request) (old : RunnerState S) (thunk : Thunk) (trail : Agreed)
+    ensures rests { (planning : Planning) (request : Request) (own : Readings → Thunk) (old : RunnerState S)
+        (thunk : Thunk) (trail : Agreed)
         → (ended : HasEnded (S.meaning table.now.structure) planning request section thunk outcome trail old runner)
-        → SectionRests (S.meaning table.now.structure) planning request true
+        → thunk ≡ own ended.tries.readings
+        → SectionRests (S.meaning table.now.structure) planning request own true
         (length ended.tries.readings + ended.made) 0 result.1 old runner result.0 (IsSeen G.halts G.asks)
         (G.halts gate.old) (G.halts gate.new) (G.asks gate.old) (G.asks gate.new) steps.old.count steps.new.count }
 {
@@ -65,9 +68,11 @@ pub fn run_own<S: Structure, G: Gate, L>(
     requires tried { (planning : Planning) × (request : Request) × (old : RunnerState S) × (thunk : Thunk)
         × HasTried (S.meaning table.now.structure) planning request thunk (Ok section) old runner }
     ensures own { IsOf table.now result.0 }
-    ensures rests { (planning : Planning) (request : Request) (old : RunnerState S) (thunk : Thunk)
+    ensures rests { (planning : Planning) (request : Request) (own : Readings → Thunk) (old : RunnerState S)
+        (thunk : Thunk)
         → (tried : HasTried (S.meaning table.now.structure) planning request thunk (Ok section) old runner)
-        → SectionRests (S.meaning table.now.structure) planning request false (length tried.readings) most_of_run
+        → thunk ≡ own tried.readings
+        → SectionRests (S.meaning table.now.structure) planning request own false (length tried.readings) most_of_run
         result.1 old runner result.0 (IsSeen G.halts G.asks)
         (G.halts gate.old) (G.halts gate.new) (G.asks gate.old) (G.asks gate.new) steps.old.count steps.new.count }
 {

@@ -3,6 +3,7 @@ ghost use Rattle.std.specs.Prelude.{◌≡◌, ◌≢◌, ◌+◌, ◌<◌, IfOk
 ghost use Rattle.map_history.specs.declared.op.Op.TheVariants.{Get};
 ghost use Rattle.version_words.specs.TableState.{IsOf};
 ghost use Rattle.lock_walks.specs.Way.{Leads};
+ghost use Rattle.lock_walks.specs.Own.{own_thunk};
 ghost use Rattle.lock_walks.specs.Wants.{WantsWereRead};
 ghost use Rattle.attempts.specs.Counted.{IsSeen};
 ghost use Rattle.attempts.specs.Course.{MayAttempt};
@@ -55,8 +56,8 @@ fn persist<S: Structure, W: Walker + Copy, G: Gate, L>(
     requires leads { Leads W.way (S.meaning table.now.structure) table.now.layout walk }
     requires next { MayAttempt (W.way.planning walk) request.now runner }
     ensures own { IsOf table.now result.0 }
-    ensures persists { Persists (S.meaning table.now.structure) (W.way.planning walk) request.now more
-        result.1 runner result.0 (IsSeen G.halts G.asks)
+    ensures persists { Persists (S.meaning table.now.structure) (W.way.planning walk) request.now
+        (own_thunk W.way walk request.now.number) more result.1 runner result.0 (IsSeen G.halts G.asks)
         (G.halts gate.old) (G.halts gate.new) (G.asks gate.old) (G.asks gate.new) steps.old.count steps.new.count }
 {
     let mut runner = runner;
@@ -74,9 +75,9 @@ fn persist<S: Structure, W: Walker + Copy, G: Gate, L>(
 /// refused, so many times more at most.
 ///
 /// What is said of the answer is what `attempt_section` says of the last attempt; those before it were refused, and
-/// nothing of their sections happened. At `Ok` the ticket is used, and the section happened once. At every other answer
-/// but `Halted` nothing happened, and the ticket is as it was. So unless it was halted the worker may go on with the
-/// tickets that are left.
+/// nothing of their sections happened. At `Ok` the ticket is used, and the section happened once, with the walk's own
+/// thunk by the words that the last attempt read. At every other answer but `Halted` nothing happened, and the ticket
+/// is as it was. So unless it was halted the worker may go on with the tickets that are left.
 ///
 /// That an attempt is ever answered isn't promised: locks may be held again and again. No memory is taken, and nothing
 /// waits.
@@ -99,7 +100,7 @@ pub fn spend_ticket<S: Structure, W: Walker + Copy, G: Gate, L>(
     ensures own { IsOf table.now result.0 }
     ensures number { result.0.number ≡ runner.number }
     ensures persists { Persists (S.meaning table.now.structure) (W.way.planning walk)
-        (ticket tickets.old.trace tickets.old.next) more
+        (ticket tickets.old.trace tickets.old.next) (own_thunk W.way walk tickets.old.next) more
         result.1 runner result.0 (IsSeen G.halts G.asks)
         (G.halts gate.old) (G.halts gate.new) (G.asks gate.old) (G.asks gate.new) steps.old.count steps.new.count }
     ensures used { IfOk result.1 (λ _. tickets.new ≡ record tickets.old { next = tickets.old.next + 1 }) }

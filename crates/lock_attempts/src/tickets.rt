@@ -58,6 +58,7 @@ pub fn tickets_of<S: Structure>(table: &FlockTable<S>, worker: &Runner<S>, each:
     requires few { table.now.layout.runners * each ≤ 131072 }
     requires tickets { table.now.requests ≡ tickets_for table.now.layout.runners each }
     ensures tickets { HasTickets result worker.now }
+    ensures trace { result.trace ≡ worker.now.number }
     ensures next { result.next ≡ worker.now.number * each }
     ensures end { result.end ≡ worker.now.number * each + each }
 {

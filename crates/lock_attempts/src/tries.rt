@@ -1,6 +1,7 @@
 //! The publication of a planned section.
-ghost use Rattle.std.specs.Prelude.{length, false};
+ghost use Rattle.std.specs.Prelude.{◌≡◌, length, false};
 ghost use Rattle.map_history.specs.declared.op.Request.{Request};
+ghost use Rattle.body_terms.specs.declared.thunk.Thunk.{Thunk};
 ghost use Rattle.structure_laws.specs.Scene.{Readings};
 ghost use Rattle.version_words.specs.RunnerState.{RunnerState};
 ghost use Rattle.version_words.specs.TableState.{IsOf};
@@ -33,9 +34,11 @@ pub fn try_section<S: Structure, G: Gate, L>(
     requires planned { (planning : Planning) × (request : Request) × (old : RunnerState S) × (readings : Readings)
         × HasPlanned (S.meaning table.now.structure) planning request readings (plans.Thunk thunk.now) old runner }
     ensures own { IsOf table.now result.0 }
-    ensures rests { (planning : Planning) (request : Request) (old : RunnerState S) (readings : Readings)
+    ensures rests { (planning : Planning) (request : Request) (own : Readings → Thunk) (old : RunnerState S)
+        (readings : Readings)
         → HasPlanned (S.meaning table.now.structure) planning request readings (plans.Thunk thunk.now) old runner
-        → SectionRests (S.meaning table.now.structure) planning request false (length readings) most_of_run
+        → thunk.now ≡ own readings
+        → SectionRests (S.meaning table.now.structure) planning request own false (length readings) most_of_run
         result.1 old runner result.0 (IsSeen G.halts G.asks)
         (G.halts gate.old) (G.halts gate.new) (G.asks gate.old) (G.asks gate.new) steps.old.count steps.new.count }
 {

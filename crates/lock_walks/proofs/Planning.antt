@@ -10,14 +10,16 @@ use Rattle.runner_gate.specs.Asks.{Asks}
 use Rattle.structure_laws.specs.Scene.{Readings}
 use Rattle.structure_laws.specs.Meaning.{Meaning}
 use Rattle.structure_laws.specs.Cells.{slots}
+use Rattle.runner_parts.specs.State.{ReadsState}
 use Rattle.version_words.specs.RunnerState.{RunnerState}
 use Rattle.version_words.specs.TableState.{TableState, IsOf}
 use Rattle.try_lock.specs.commit_log.specs.Asked.{IsAsked}
 use Rattle.try_lock.specs.declared.planned.Planned.{Planned}
 use Rattle.try_lock.specs.declared.planned.Planned.TheVariants as answers
 use Rattle.try_lock.specs.Planning as planning
-use Rattle.try_lock.specs.Plans.{is_halted, refused_at, IsWalk, IsRefused, IsFit, Answers, HasPlanned}
+use Rattle.try_lock.specs.Plans.{is_halted, refused_at, IsWalk, IsRefused, IsFit, Answers, MayPlan, HasPlanned}
 use Rattle.lock_walks.specs.Way.{Way, fed_all, Leads}
+use Rattle.lock_walks.specs.Own.{own_thunk, IsOwn}
 use Rattle.lock_walks.specs.Led.{HasLed}
 use Rattle.lock_walks.proofs.Leading.{fed_more, none_more}
 
@@ -65,6 +67,16 @@ module _ (m : Meaning) (plans : planning.Planning) (layout : Layout) (op : Op) w
   answers_so number readings (answers.Far loads) is so = so
   answers_so number readings answers.Halted is so = absurd is
 
+-- what is told of an answer by a table's own structure and layout
+pub tells_here : {T : Type 0} (meaning : T → Meaning) (plans : planning.Planning) (op : Op) (place word : ℕ) (answer : Planned)
+    (structure own : T) → structure ≡ own → (layout own_layout : Layout) → layout ≡ own_layout
+    → ((before : Readings) → is_some (refused_at (meaning structure) plans layout op before place word) ≡ true → refused_at (meaning structure) plans layout op before place word ≡ Some answer)
+    → (before : Readings) → is_some (refused_at (meaning own) plans own_layout op before place word) ≡ true → refused_at (meaning own) plans own_layout op before place word ≡ Some answer
+tells_here meaning plans op place word answer structure own same layout own_layout same_layout tells before =
+    subst (λ s. is_some (refused_at (meaning s) plans own_layout op before place word) ≡ true → refused_at (meaning s) plans own_layout op before place word ≡ Some answer) same
+    (subst (λ l. is_some (refused_at (meaning structure) plans l op before place word) ≡ true → refused_at (meaning structure) plans l op before place word ≡ Some answer) same_layout
+    (tells before))
+
 module _ {W T : Type 0} (m : Meaning) (way : Way W) (t : TableState T) (walk : W) (leads : Leads way m t.layout walk) (old : RunnerState T) (own : IsOf t old) (request : Request)
     (same_op : way.op walk ≡ request.op) (walk' : W) (place word : ℕ) (going : Bool) (new : RunnerState T) (halts halts' : ℕ) (asks asks' : Asks) (steps steps' : ℕ)
     (so : HasLed m t.layout way walk walk' place word going old new halts halts' asks asks' steps steps') where
@@ -84,20 +96,37 @@ module _ {W T : Type 0} (m : Meaning) (way : Way W) (t : TableState T) (walk : W
   pub cut : going ≡ false → HasPlanned m (way.planning walk) request answers.Halted old new halts halts' asks asks' steps steps'
   cut halted = planned answers.Halted (record { before = so.last.before; place = place; word = word; last = so.last.last; first = so.last.none }) halted
 
-  -- the last reading refuses, as its answer says
-  pub refused : going ≡ true → way.refused walk' ≡ true → (answer : Planned)
-      → ((before : Readings) → is_some (refused_at m (way.planning walk') t.layout (way.op walk) before place word) ≡ true
-      → refused_at m (way.planning walk') t.layout (way.op walk) before place word ≡ Some answer)
-      → HasPlanned m (way.planning walk) request answer old new halts halts' asks asks' steps steps'
-  refused went is answer tells =
-      let same : way.planning walk' ≡ way.planning walk = ap way.planning so.behind ∙ leads.steady so.readings in
-      let some : is_some (refused_at m (way.planning walk) t.layout (way.op walk) so.last.before place word) ≡ true = sym (leads.refuses so.last.before place word so.last.led so.last.wanted (subst (m.walked t.layout (way.op walk)) so.last.last so.last.stands))
-      ∙ (ap way.refused (sym (fed_more m way walk so.last.before place word) ∙ (ap (fed_all way walk) (sym so.last.last) ∙ sym so.behind)) ∙ is) in
-      let cause = subst (λ p. is_some (refused_at m p t.layout (way.op walk) so.last.before place word) ≡ true → refused_at m p t.layout (way.op walk) so.last.before place word ≡ Some answer)
-      same (tells so.last.before) some in
-      let kind = refuses m (way.planning walk) t.layout (way.op walk) so.last.before place word answer cause in
-      planned answer (answers_so m (way.planning walk) t.layout (way.op walk) request.number so.readings answer kind
-      (record { before = so.last.before; place = place; word = word; last = so.last.last; first = so.last.none; cause = cause })) (went ∙ sym (not_halted answer kind))
+  -- how the last reading refuses, by what is told of the answer
+  module _ (went : going ≡ true) (is : way.refused walk' ≡ true) (answer : Planned)
+      (tells : (before : Readings) → is_some (refused_at m (way.planning walk') t.layout (way.op walk) before place word) ≡ true
+      → refused_at m (way.planning walk') t.layout (way.op walk) before place word ≡ Some answer) where
+    cause : refused_at m (way.planning walk) t.layout (way.op walk) so.last.before place word ≡ Some answer
+    cause =
+        let same : way.planning walk' ≡ way.planning walk = ap way.planning so.behind ∙ leads.steady so.readings in
+        let some : is_some (refused_at m (way.planning walk) t.layout (way.op walk) so.last.before place word) ≡ true = sym (leads.refuses so.last.before place word so.last.led so.last.wanted (subst (m.walked t.layout (way.op walk)) so.last.last so.last.stands))
+        ∙ (ap way.refused (sym (fed_more m way walk so.last.before place word) ∙ (ap (fed_all way walk) (sym so.last.last) ∙ sym so.behind)) ∙ is) in
+        subst (λ p. is_some (refused_at m p t.layout (way.op walk) so.last.before place word) ≡ true → refused_at m p t.layout (way.op walk) so.last.before place word ≡ Some answer)
+        same (tells so.last.before) some
+
+    kind : IsRefusal answer
+    kind = refuses m (way.planning walk) t.layout (way.op walk) so.last.before place word answer cause
+
+    -- it does so as its answer says
+    pub refused : HasPlanned m (way.planning walk) request answer old new halts halts' asks asks' steps steps'
+    refused = planned answer (answers_so m (way.planning walk) t.layout (way.op walk) request.number so.readings answer kind
+        (record { before = so.last.before; place = place; word = word; last = so.last.last; first = so.last.none; cause = cause })) (went ∙ sym (not_halted answer kind))
+
+    -- and answers no thunk
+    pub refused_owns : (readings : Readings) → IsOwn way walk request.number readings answer
+    refused_owns readings = no_thunk answer kind
+      where
+        no_thunk : (a : Planned) → IsRefusal a → IsOwn way walk request.number readings a
+        no_thunk (answers.Thunk thunk) is_one = absurd is_one
+        no_thunk (answers.Busy place word) is_one = tt
+        no_thunk (answers.Spent place word) is_one = tt
+        no_thunk (answers.Stale place expected read) is_one = tt
+        no_thunk (answers.Far loads) is_one = tt
+        no_thunk answers.Halted is_one = tt
 
   -- the walk is whole
   pub whole : going ≡ true → way.refused walk' ≡ false → (thunk : Thunk) → thunk ≡ way.thunk walk' request.number
@@ -117,3 +146,10 @@ module _ {W T : Type 0} (m : Meaning) (way : Way W) (t : TableState T) (walk : W
         unspent = fit.unspent;
         read = fit.read;
       })) went
+
+  -- its thunk is the walk's own: the runner had read nothing before
+  pub whole_owns : MayPlan old → (thunk : Thunk) → thunk ≡ way.thunk walk' request.number
+      → IsOwn way walk request.number new.part.reads.walk (answers.Thunk thunk)
+  whole_owns may thunk is =
+      let read : new.part.reads.walk ≡ so.readings = ap (λ (s : ReadsState). s.walk) so.walked.reads ∙ ap (λ rs. rs ++ so.readings) may.fresh in
+      is ∙ (ap (λ w. way.thunk w request.number) so.behind ∙ ap (own_thunk way walk request.number) (sym read))

@@ -1,4 +1,5 @@
 pub mod Way
+pub mod Own
 pub mod Followed
 pub mod Led
 pub mod Steady

@@ -8,6 +8,7 @@ ghost use Rattle.structure_laws.specs.Sections.{IsAllowed};
 ghost use Rattle.version_words.specs.TableState.{IsOf};
 ghost use Rattle.try_lock.specs.Plans.{MayPlan, HasPlanned, refused_at};
 ghost use Rattle.lock_walks.specs.Way.{Leads};
+ghost use Rattle.lock_walks.specs.Own.{IsOwn};
 ghost use Rattle.lock_walks.specs.Led.{HasLed, Start, IsOnWay, GoesOn, GoesThrough};
 
 use crate::walker::Walker;
@@ -276,8 +277,8 @@ fn refusal<S: Structure, W: Walker>(
 }
 
 /// Plans a request by this walker: makes the loads that it wants, and answers the first refusal in the order of
-/// reading, or the thunk of the whole walk. The gate is asked after each load; Halted comes exactly where it halted. No
-/// memory is taken.
+/// reading, or the thunk of the whole walk: the walker's own one, by what the runner has read since it entered. The
+/// gate is asked after each load; Halted comes exactly where it halted. No memory is taken.
 ///
 /// The structure is the table's, and the walker walks as the structure plans, for the request's operation. The runner
 /// is entered, in no run, and has loaded no cell since it entered (Ben-David, Blelloch, Wei, *Lock-free locks
@@ -299,6 +300,7 @@ pub fn plan_by<S: Structure, W: Walker, G: Gate, L>(
     ensures plans { HasPlanned (S.meaning table.now.structure) (W.way.planning walker) request.now
         result.1 runner result.0
         (G.halts gate.old) (G.halts gate.new) (G.asks gate.old) (G.asks gate.new) steps.old.count steps.new.count }
+    ensures own_thunk { IsOwn W.way walker request.now.number result.0.part.reads.walk result.1 }
 {
     let mut walker = walker;
     let (runner, place, word, going) = lead(table, runner, &mut walker, gate, steps);

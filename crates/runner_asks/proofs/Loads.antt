@@ -17,3 +17,11 @@ pub both_hold : (a b c : Bool) → a ≡ true → b ≡ true → (a && (b && c))
 both_hold true true c one two = refl
 both_hold true false c one two = absurd (let z = two in cc)
 both_hold false b c one two = absurd (let z = one in cc)
+
+-- three tests in one, a further one, and what is tested behind them
+pub three_hold : (a b c d e : Bool) → (a && (b && c)) ≡ true → d ≡ true → (a && (b && (c && (d && e)))) ≡ e
+three_hold true true true true e one two = refl
+three_hold true true true false e one two = absurd (let z = two in cc)
+three_hold true true false d e one two = absurd (let z = one in cc)
+three_hold true false c d e one two = absurd (let z = one in cc)
+three_hold false b c d e one two = absurd (let z = one in cc)

@@ -1,10 +1,10 @@
 //! Which word an event outside a run meets, and how.
-ghost use Rattle.std.specs.Prelude.{◌≡◌, ◌≤◌, ◌<◌, ◌-◌, ◌^◌};
+ghost use Rattle.std.specs.Prelude.{◌≡◌, ◌≤◌, ◌<◌, ◌-◌, ◌^◌, ◌&&◌, not, is_none};
 ghost use Rattle.table_words.specs.Limits.{IsWithinLimits};
 ghost use Rattle.table_words.specs.Places.{slot_count, descriptor_count};
 ghost use Rattle.body_terms.specs.Word.{held_word, version_of};
 ghost use Rattle.body_terms.specs.Memory.{cell_of};
-ghost use Rattle.runner_parts.specs.Tests.{is_open, serves};
+ghost use Rattle.runner_parts.specs.Tests.{is_walking, is_between, is_open, serves};
 ghost use Rattle.runner_steps.specs.Outside.{enter_load_ask, announce_ask, enter_again_ask, idle_ask, scan_one_ask, advance_ask, split_ask, join_ask, read_ask, entry_ask, descriptor_spot, private_load_ask, private_store_ask, is_due, is_publishable, is_ready, hold_ask, open_ask, is_over, retire_ask};
 
 use crate::knowledge::{
@@ -203,6 +203,15 @@ pub fn retire_ask(part: &Part) -> Option<(Spot, Access)>
     }
 }
 
+/// Whether the runner is entered, in no run, has no section left to retire, and no reply of a read without its stamp.
+fn may_begin(part: &Part) -> bool
+    ensures { result ≡ (is_walking part.now.stage part.now.run && (is_none part.now.published
+        && not (is_between part.now.reads.look))) }
+{
+    let over = part.published.is_none() && !is_between(&part.reads.look);
+    is_walking(part.stage, &part.run) && over
+}
+
 /// Whether the thunk may be published: it serves the worker's next request, its lock's word was read free, no
 /// section is left to retire, and no reply of a read is without its stamp.
 pub fn is_publishable<S: Structure>(
@@ -216,20 +225,21 @@ pub fn is_publishable<S: Structure>(
     requires { 1 ≤ layout.runners }
     ensures { result ≡ is_publishable (S.meaning structure.now) layout requests.now runner thunk.now part.now }
 {
-    let between = is_between(&part.reads.look);
-    is_walking(part.stage, &part.run)
-        && part.published.is_none()
-        && !between
-        && is_read_open(layout, &part.reads, thunk)
-        && is_due(
-            structure,
-            layout,
-            requests,
-            runner,
-            &part.records,
-            &part.reads,
-            thunk,
-        )
+    if !may_begin(part) {
+        return false;
+    }
+    if !is_read_open(layout, &part.reads, thunk) {
+        return false;
+    }
+    is_due(
+        structure,
+        layout,
+        requests,
+        runner,
+        &part.records,
+        &part.reads,
+        thunk,
+    )
 }
 
 /// Whether the own free descriptor's words were stored with this thunk.

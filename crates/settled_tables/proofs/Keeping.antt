@@ -14,10 +14,9 @@ use Rattle.runner_steps.specs.After.{after, after_by, stepped, leaves, joins}
 use Rattle.machine_states.specs.First.{keeper_part, falling}
 use Rattle.version_words.specs.RunnerState.{RunnerState}
 use Rattle.version_words.specs.Shown.{left_part}
-use Rattle.version_words.specs.Stages.{IsAt, IsKeeper, HasJoined}
 use Rattle.version_words.specs.TableState.{TableState, IsOf, first_keeper, HasJoinedAll}
 use Rattle.version_words.specs.Events.{HasSplit, joined_by}
-use Rattle.version_words.proofs.Stages.{first_is_keeper, then_split, then_keeper, then_joined, split_joined}
+use Rattle.version_words.proofs.Stages.{then_split, then_keeper, then_joined, split_joined}
 use Rattle.std.specs.Option.{IsSome}
 use Rattle.settling.specs.Settled.{MaySettle, Settles}
 use Rattle.machine_states.proofs.Marks.{Stays, stays}

@@ -1,7 +1,7 @@
 //! The whole run.
 ghost use Rattle.std.specs.Prelude.{◌≡◌, IfOk, All, sum, vec_len};
-ghost use Rattle.settled_tables.specs.Seats.{CameBack, AllCameBack};
 ghost use Rattle.transfers.specs.Scene.{MayWork};
+ghost use Rattle.transfers.specs.Made.{HasWorked, AllWorked, AreTrue};
 
 use crate::stops::StopInside;
 use crate::works::{ACCOUNTS, EACH, OPENING, Report, WORKERS, work};
@@ -32,11 +32,11 @@ fn run_workers<R: Threads + Sync>(
 ) -> Result<Vec<(Runner<Accounts>, Report)>, AllocError>
     requires may { All (MayWork table.now) workers.items }
     ensures len { IfOk result (λ backs. vec_len backs ≡ vec_len workers) }
-    ensures each { IfOk result (λ backs. AllCameBack table.now workers.items backs.items) }
+    ensures each { IfOk result (λ backs. AllWorked table.now workers.items backs.items) }
 {
     let run = |runner: Runner<Accounts>| -> (Runner<Accounts>, Report)
         requires { MayWork table.now runner }
-        ensures { CameBack table.entry.now runner result }
+        ensures { HasWorked table.entry.now runner result }
     {
         let stop = if runner.number() == 0 {
             Some(BEFORE)
@@ -49,11 +49,13 @@ fn run_workers<R: Threads + Sync>(
     thread::map_vec(rt, workers, &run)
 }
 
-/// A new table of accounts, its workers' transfers on threads, and what is left once it is settled and closed.
+/// A new table of accounts, its workers' transfers on threads, and what is left once it is settled and closed. Each
+/// worker made as many transfers as its report tells, each once, and the balances have the sum that they had at first.
 ///
 /// The Err is want of memory.
 pub fn run<R: Threads + Sync>(rt: &R, alloc: Global) -> Result<Summary, AllocError>
     ensures sum { IfOk result (λ summary. sum summary.balances.items ≡ 80000) }
+    ensures reports { IfOk result (λ summary. AreTrue summary.reports.items) }
 {
     let layout = Layout {
         runners: WORKERS,

@@ -25,8 +25,8 @@ impl StopInside {
         }
     }
 
-    /// Whether it halts behind a step of this kind. An own section runs from its publication to its done word; its first
-    /// store is the first one of these.
+    /// Whether it halts behind a step of this kind. An own section runs from its publication to its done word; its
+    /// first store is the first one of these.
     fn is_last(&mut self, kind: StepKind) -> bool
         ensures asks { self.new.asks ≡ self.old.asks }
         ensures halts { self.new.halts ≡ self.old.halts }

@@ -1,12 +1,17 @@
 //! What a worker does.
-ghost use Rattle.std.specs.Prelude.{◌≢◌, ◌<◌, ◌≤◌};
+ghost use Rattle.std.specs.Prelude.{◌≡◌, ◌≢◌, ◌+◌, ◌<◌, ◌≤◌, IfOk, IfErr, Err};
+ghost use Rattle.version_words.specs.TableState.{IsOf};
+ghost use Rattle.attempts.specs.Knowing.{KnowsMore};
+ghost use Rattle.attempts.specs.declared.answers.Attempt.TheVariants as answers;
+ghost use Rattle.lock_attempts.specs.Tickets.{ticket, HasTickets};
 ghost use Rattle.settled_tables.specs.Seats.{CameBack};
 ghost use Rattle.transfers.specs.Scene.{MayWork};
+ghost use Rattle.transfers.specs.Made.{HasMade, Reports};
 
 use accounts::{Accounts, Transfer};
 use body_terms::Steps;
 use lock_attempts::attempts::Attempt;
-use lock_attempts::{spend_ticket, tickets_of};
+use lock_attempts::{Tickets, spend_ticket, tickets_of};
 use map_history::Op;
 use runner_gate::Gate;
 use version_words::{FlockTable, Runner};
@@ -49,7 +54,39 @@ fn next_amount(answered: u64) -> u32 {
     (answered % 7 * 3 % 7) as u32 + 1
 }
 
-/// Makes the worker's transfers, each of an amount that is chosen by what the one before it moved.
+/// Makes this transfer with the worker's next ticket, and attempts it again where it was refused.
+///
+/// At `Ok` it was made, once: of so much as the one account had of the amount and the other had room for; the answer is
+/// one more than that. At every other answer but `Halted` the ticket is unused, and the worker may go on with it.
+fn make_transfer<G: Gate>(
+    table: &FlockTable<Accounts>,
+    runner: Runner<Accounts>,
+    tickets: &mut Tickets,
+    transfer: Transfer,
+    gate: &mut G,
+    steps: &mut Steps<()>,
+) -> (Runner<Accounts>, Result<u64, Attempt>)
+    requires own { IsOf table.now runner }
+    requires from { transfer.from < table.now.structure.accounts }
+    requires to { transfer.to < table.now.structure.accounts }
+    requires apart { transfer.from ≢ transfer.to }
+    requires tickets { HasTickets tickets.old runner }
+    requires some { tickets.old.next < tickets.old.end }
+    ensures own { IsOf table.now result.0 }
+    ensures number { result.0.number ≡ runner.number }
+    ensures knows { KnowsMore runner result.0 }
+    ensures made { IfOk result.1 (λ answered. HasMade table.now transfer (ticket tickets.old.trace tickets.old.next)
+        answered runner result.0) }
+    ensures used { IfOk result.1 (λ _. tickets.new ≡ record tickets.old { next = tickets.old.next + 1 }) }
+    ensures unused { IfErr result.1 (λ _. tickets.new ≡ tickets.old) }
+    ensures tickets { result.1 ≢ Err answers.Halted → HasTickets tickets.new result.0 }
+{
+    let walk = table.structure().walk(table.layout(), Op::Get(0), transfer);
+    spend_ticket(table, runner, tickets, walk, TRIES, gate, steps)
+}
+
+/// Makes the worker's transfers, each of an amount that is chosen by what the one before it moved. So many as it
+/// reports were made, one behind the other, each once.
 pub fn work<G: Gate>(
     table: &FlockTable<Accounts>,
     mut runner: Runner<Accounts>,
@@ -58,6 +95,7 @@ pub fn work<G: Gate>(
     requires may { MayWork table.now runner }
     ensures back { CameBack table.now runner result }
     ensures made { result.1.made ≤ 100 }
+    ensures each { Reports table.now result.1.made runner result.0 }
 {
     let worker = runner.number();
     let mut tickets = tickets_of(table, &runner, EACH);
@@ -65,16 +103,7 @@ pub fn work<G: Gate>(
     let mut amount = 1;
     for turn in 0..EACH {
         let transfer = choose(worker, turn, amount);
-        let walk = table.structure().walk(table.layout(), Op::Get(0), transfer);
-        let (next, answer) = spend_ticket(
-            table,
-            runner,
-            &mut tickets,
-            walk,
-            TRIES,
-            gate,
-            &mut steps,
-        );
+        let (next, answer) = make_transfer(table, runner, &mut tickets, transfer, gate, &mut steps);
         runner = next;
         match answer {
             Ok(answered) => amount = next_amount(answered),

@@ -1,6 +1,7 @@
 use Rattle.std.proofs.Common.{refl, sym, ap, ◌∙◌, subst}
 use Rattle.std.specs.Prelude.{slice_get}
 use Rattle.lock_walks.specs.try_lock.specs.Plans.{is_halted}
+use Rattle.lock_walks.specs.Own.{own_thunk}
 use Rattle.attempts.specs.Attempts.{is_refusal}
 use Rattle.attempts.specs.Counted.{IsSeen}
 use Rattle.attempts.specs.Course.{HasPlanned}
@@ -9,7 +10,7 @@ use Rattle.attempts.proofs.Locks.{allowed_at}
 use Rattle.attempts.proofs.Refusing.{refuses_by, refusal_of_plan}
 use Rattle.attempts.proofs.Wholly.{course, plan_halted, plan_may_leave, refused_rests}
 use Rattle.lock_attempts.proofs.Concluded.{undone}
-use Rattle.lock_attempts.proofs.Along.{section_planned}
+use Rattle.lock_attempts.proofs.Along.{asked_for, section_planned}
 use Rattle.lock_attempts.proofs.attempting.plan_and_try.Goals as goal
 
 pub plan_by-runner-requires-clause-allowed : goal.plan_by-runner-requires-clause-allowed
@@ -46,8 +47,11 @@ returns-in-Thunk-clause-rests g c =
     let met = g.met.S.Structure g.world.𝓛 g.world.𝓜 g.world.𝓡 ((λ s allowed. allowed), (λ patient. patient), (λ alone. alone), (λ cuts. cuts)) in
     λ old enters.
     let is = c.plan_by-runner.ensures.plans in
-    section_planned (g.S.Structure.meaning c.args.table.now.structure) (met.laws c.args.table.now.structure) c.args.table.now (c.requires.own.limits _ refl) (c.requires.own.allowed _ refl) (g.W.Walker.way.planning c.args.walk) c.args.request.now c.plan_by-runner.result.1 old c.args.runner c.plan_by-runner.result.0 c.requires.own c.plan_by-runner.ensures.own enters _ _ _ _ _ _ c.plan_by-runner.ensures.plans c.try_section.result.1 c.try_section.result.0 (IsSeen g.G.Gate.halts g.G.Gate.asks) _ _ _ (ap (λ a. is_halted a) c.in-Thunk.is)
-    (c.try_section.ensures.rests (g.W.Walker.way.planning c.args.walk) c.args.request.now old is.readings (subst (λ a. HasPlanned (g.S.Structure.meaning c.args.table.now.structure) (g.W.Walker.way.planning c.args.walk) c.args.request.now is.readings a old c.plan_by-runner.result.0) c.in-Thunk.is (course (g.S.Structure.meaning c.args.table.now.structure) (met.laws c.args.table.now.structure) c.args.table.now (c.requires.own.limits _ refl) (c.requires.own.allowed _ refl) (g.W.Walker.way.planning c.args.walk) c.args.request.now c.plan_by-runner.result.1 old c.args.runner c.plan_by-runner.result.0 c.requires.own c.plan_by-runner.ensures.own enters _ _ _ _ _ _ c.plan_by-runner.ensures.plans)))
+    let planned = course (g.S.Structure.meaning c.args.table.now.structure) (met.laws c.args.table.now.structure) c.args.table.now (c.requires.own.limits _ refl) (c.requires.own.allowed _ refl) (g.W.Walker.way.planning c.args.walk) c.args.request.now c.plan_by-runner.result.1 old c.args.runner c.plan_by-runner.result.0 c.requires.own c.plan_by-runner.ensures.own enters _ _ _ _ _ _ c.plan_by-runner.ensures.plans in
+    section_planned (g.S.Structure.meaning c.args.table.now.structure) (met.laws c.args.table.now.structure) c.args.table.now (c.requires.own.limits _ refl) (c.requires.own.allowed _ refl) (g.W.Walker.way.planning c.args.walk) c.args.request.now (own_thunk g.W.Walker.way c.args.walk c.args.request.now.number) c.plan_by-runner.result.1 old c.args.runner c.plan_by-runner.result.0 c.requires.own c.plan_by-runner.ensures.own enters _ _ _ _ _ _ c.plan_by-runner.ensures.plans c.try_section.result.1 c.try_section.result.0 (IsSeen g.G.Gate.halts g.G.Gate.asks) _ _ _ (ap (λ a. is_halted a) c.in-Thunk.is)
+    (c.try_section.ensures.rests (g.W.Walker.way.planning c.args.walk) c.args.request.now (own_thunk g.W.Walker.way c.args.walk c.args.request.now.number) old is.readings
+    (subst (λ a. HasPlanned (g.S.Structure.meaning c.args.table.now.structure) (g.W.Walker.way.planning c.args.walk) c.args.request.now is.readings a old c.plan_by-runner.result.0) c.in-Thunk.is planned)
+    (asked_for (g.S.Structure.meaning c.args.table.now.structure) g.W.Walker.way c.args.walk c.args.request.now old c.plan_by-runner.result.0 is.readings c.plan_by-runner.result.1 planned c.plan_by-runner.ensures.own_thunk c.in-Thunk.thunk c.in-Thunk.is))
 
 pub returns-in-Halted-clause-rests : goal.returns-in-Halted-clause-rests
 returns-in-Halted-clause-rests g c =

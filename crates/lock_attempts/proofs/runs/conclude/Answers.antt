@@ -37,8 +37,8 @@ turn_away-runner-requires-clause-next g c κs within =
 pub returns-in-Answered-clause-rests : goal.returns-in-Answered-clause-rests
 returns-in-Answered-clause-rests g c =
     let met = g.met.S.Structure g.world.𝓛 g.world.𝓜 g.world.𝓡 ((λ s allowed. allowed), (λ patient. patient), (λ alone. alone), (λ cuts. cuts)) in
-    λ planning request old thunk trail is.
-    answered_last (g.S.Structure.meaning c.args.table.now.structure) (met.laws c.args.table.now.structure) c.args.table.now (c.requires.own.limits _ refl) (c.requires.own.allowed _ refl) planning request c.args.section thunk c.args.outcome trail old c.args.runner c.requires.own is c.retire_section-runner.result c.retire_section-runner.ensures.own c.retire_section-runner.ensures.retired c.in-Answered.reply c.in-Answered.is c.exit.result c.exit.ensures.exits _ _ _
+    λ planning request own old thunk trail is is_own.
+    answered_last (g.S.Structure.meaning c.args.table.now.structure) (met.laws c.args.table.now.structure) c.args.table.now (c.requires.own.limits _ refl) (c.requires.own.allowed _ refl) planning request c.args.section thunk c.args.outcome trail old c.args.runner c.requires.own is c.retire_section-runner.result c.retire_section-runner.ensures.own c.retire_section-runner.ensures.retired c.in-Answered.reply c.in-Answered.is own is_own c.exit.result c.exit.ensures.exits _ _ _
 
 pub returns-in_default-clause-rests : goal.returns-in_default-clause-rests
 returns-in_default-clause-rests g c =
@@ -47,7 +47,7 @@ returns-in_default-clause-rests g c =
     let differ = subst (λ s. (w : World) → Reached (g.S.Structure.meaning s) t.layout t.requests w → StaleStand (sight (g.S.Structure.meaning s) t.layout t.requests w)) c.structure.ensures
     (λ w reached. c.stale_words_differ.ensures t.layout t.requests w (c.requires.own.limits _ refl) (c.requires.own.allowed _ refl) reached) in
     let turned = (subst (λ a. HasTurned (g.S.Structure.meaning c.args.table.now.structure) a c.turn_away-runner.result.1 c.retire_section-runner.result c.turn_away-runner.result.0 (g.G.Gate.halts c.args.gate.now) (g.G.Gate.halts c.turn_away-runner.new.gate) (g.G.Gate.asks c.args.gate.now) (g.G.Gate.asks c.turn_away-runner.new.gate) c.args.steps.now.count c.turn_away-runner.new.steps.count) c.section_left.ensures c.turn_away-runner.ensures.turned) in
-    λ planning request old thunk trail is. (
+    λ planning request own old thunk trail is is_own. (
       undone c.turn_away-runner.result.1 _ turned.same (refusal_of_outcome c.args.outcome c.in_default.not-Answered),
       left_concluded (g.S.Structure.meaning c.args.table.now.structure) (met.laws c.args.table.now.structure) c.args.table.now (c.requires.own.limits _ refl) (c.requires.own.allowed _ refl) planning request c.args.section thunk c.args.outcome trail old c.args.runner c.requires.own is c.retire_section-runner.result c.retire_section-runner.ensures.own c.retire_section-runner.ensures.retired c.in_default.not-Answered c.requires.wants differ c.turn_away-runner.result.1 c.turn_away-runner.result.0 c.turn_away-runner.ensures.own (IsSeen g.G.Gate.halts g.G.Gate.asks) _ _ _ _ _ _ (c.args.gate.now, refl, refl) turned,
     )

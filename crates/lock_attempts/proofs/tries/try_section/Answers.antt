@@ -39,15 +39,15 @@ turn_away-runner-requires-clause-next g c κs within =
 
 pub returns-in-Ok-clause-rests : goal.returns-in-Ok-clause-rests
 returns-in-Ok-clause-rests g c =
-    λ planning request old readings planned.
-    section_tried (g.S.Structure.meaning c.args.table.now.structure) planning request c.args.thunk.now c.in-Ok.section (length readings) old c.args.runner c.publish-runner.result.0 c.run_own.result.0 c.run_own.result.1 (subst (λ a. Publishes (g.S.Structure.meaning c.args.table.now.structure) c.args.thunk.now a c.args.runner c.publish-runner.result.0) c.in-Ok.is c.publish-runner.ensures.publishes) (c.publish-runner.ensures.own.layout ∙ sym c.requires.own.layout) (c.publish-runner.ensures.own.requests ∙ sym c.requires.own.requests) (IsSeen g.G.Gate.halts g.G.Gate.asks) _ _ _ _ _ _
-    (c.run_own.ensures.rests planning request old c.args.thunk.now (tried_of (g.S.Structure.meaning c.args.table.now.structure) planning request old readings c.args.thunk.now c.args.runner planned (Ok c.in-Ok.section) c.publish-runner.result.0 (subst (λ a. Publishes (g.S.Structure.meaning c.args.table.now.structure) c.args.thunk.now a c.args.runner c.publish-runner.result.0) c.in-Ok.is c.publish-runner.ensures.publishes) (c.publish-runner.ensures.own.layout ∙ sym c.requires.own.layout) (c.publish-runner.ensures.own.requests ∙ sym c.requires.own.requests)))
+    λ planning request own old readings planned is_own.
+    section_tried (g.S.Structure.meaning c.args.table.now.structure) planning request own c.args.thunk.now c.in-Ok.section (length readings) old c.args.runner c.publish-runner.result.0 c.run_own.result.0 c.run_own.result.1 (subst (λ a. Publishes (g.S.Structure.meaning c.args.table.now.structure) c.args.thunk.now a c.args.runner c.publish-runner.result.0) c.in-Ok.is c.publish-runner.ensures.publishes) (c.publish-runner.ensures.own.layout ∙ sym c.requires.own.layout) (c.publish-runner.ensures.own.requests ∙ sym c.requires.own.requests) (IsSeen g.G.Gate.halts g.G.Gate.asks) _ _ _ _ _ _
+    (c.run_own.ensures.rests planning request own old c.args.thunk.now (tried_of (g.S.Structure.meaning c.args.table.now.structure) planning request old readings c.args.thunk.now c.args.runner planned (Ok c.in-Ok.section) c.publish-runner.result.0 (subst (λ a. Publishes (g.S.Structure.meaning c.args.table.now.structure) c.args.thunk.now a c.args.runner c.publish-runner.result.0) c.in-Ok.is c.publish-runner.ensures.publishes) (c.publish-runner.ensures.own.layout ∙ sym c.requires.own.layout) (c.publish-runner.ensures.own.requests ∙ sym c.requires.own.requests)) is_own)
 
 pub returns-in-Err-clause-rests : goal.returns-in-Err-clause-rests
 returns-in-Err-clause-rests g c =
     let met = g.met.S.Structure g.world.𝓛 g.world.𝓜 g.world.𝓡 ((λ s allowed. allowed), (λ patient. patient), (λ alone. alone), (λ cuts. cuts)) in
     let turned = (subst (λ a. HasTurned (g.S.Structure.meaning c.args.table.now.structure) a c.turn_away-runner.result.1 c.publish-runner.result.0 c.turn_away-runner.result.0 (g.G.Gate.halts c.args.gate.now) (g.G.Gate.halts c.turn_away-runner.new.gate) (g.G.Gate.asks c.args.gate.now) (g.G.Gate.asks c.turn_away-runner.new.gate) c.args.steps.now.count c.turn_away-runner.new.steps.count) c.lock_refused.ensures c.turn_away-runner.ensures.turned) in
-    λ planning request old readings planned. (
+    λ planning request own old readings planned is_own. (
       undone c.turn_away-runner.result.1 _ turned.same (refusal_of_lock c.args.thunk.now.lock c.in-Err.refused),
       lost_rests (g.S.Structure.meaning c.args.table.now.structure) (met.laws c.args.table.now.structure) c.args.table.now (c.requires.own.limits _ refl) (c.requires.own.allowed _ refl) planning request c.args.thunk.now c.in-Err.refused old c.args.runner c.publish-runner.result.0 c.publish-runner.ensures.own readings planned (subst (λ a. Publishes (g.S.Structure.meaning c.args.table.now.structure) c.args.thunk.now a c.args.runner c.publish-runner.result.0) c.in-Err.is c.publish-runner.ensures.publishes) (c.publish-runner.ensures.own.layout ∙ sym c.requires.own.layout) (c.publish-runner.ensures.own.requests ∙ sym c.requires.own.requests)
           c.turn_away-runner.result.1 c.turn_away-runner.result.0 c.turn_away-runner.ensures.own (IsSeen g.G.Gate.halts g.G.Gate.asks) _ _ _ _ _ _ (c.args.gate.now, refl, refl) turned,

@@ -4,7 +4,7 @@ use Rattle.account_laws.specs.Accounts.{accounts_of}
 use Rattle.lock_attempts.specs.Tickets.{tickets_for}
 use Rattle.settled_tables.specs.Keeper.{IsIdleKeeper}
 use Rattle.settled_tables.proofs.Working.{all_back}
-use Rattle.transfers.proofs.Scenes.{all_may_work}
+use Rattle.transfers.proofs.Scenes.{all_may_work, scene, all_came, all_true}
 use Rattle.transfers.proofs.runs.run.Goals as goal
 
 pub run_workers-requires-clause-may : goal.run_workers-requires-clause-may
@@ -23,7 +23,8 @@ close_table-requires-clause-keeper g c κs =
 pub close_table-requires-clause-back : goal.close_table-requires-clause-back
 close_table-requires-clause-back g c κs =
     let same : length c.in_ok-backs.backs.items ≡ length c.in_ok-table.workers.items = (let len = c.in_ok-backs.ensures.len in grind rules) in
-    all_back c.in_ok-table.table c.in_ok-table.workers.items c.in_ok-backs.backs.items same c.in_ok-table.ensures.workers c.in_ok-backs.ensures.each
+    all_back c.in_ok-table.table c.in_ok-table.workers.items c.in_ok-backs.backs.items same c.in_ok-table.ensures.workers
+    (all_came c.in_ok-table.table c.in_ok-table.workers.items c.in_ok-backs.backs.items c.in_ok-backs.ensures.each)
 
 pub close_table-requires-clause-each : goal.close_table-requires-clause-each
 close_table-requires-clause-each g c κs =

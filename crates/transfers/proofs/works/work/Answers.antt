@@ -1,12 +1,11 @@
 use Rattle.std.specs.Prelude.{Result, IfOk}
 use Rattle.std.proofs.Common.{◌≡◌, ℕ, ◌+◌, refl, sym, ap, ◌∙◌, subst, arith}
-use Rattle.map_history.specs.declared.op.Op.TheVariants.{Get}
 use Rattle.attempts.specs.declared.answers.Attempt.{Attempt}
-use Rattle.lock_walks.specs.Wants.{WantsWereRead}
-use Rattle.account_laws.specs.Accounts.{accounts_of}
-use Rattle.accounts.specs.declared.table.Accounts.{Accounts}
-use Rattle.lock_attempts.specs.Tickets.{tickets_for}
+use Rattle.attempts.proofs.Knowing.{knows_same}
+use Rattle.lock_attempts.specs.Tickets.{ticket, tickets_for}
 use Rattle.lock_attempts.specs.declared.tickets.Tickets.{Tickets}
+use Rattle.transfers.specs.Made.{HasMade, HaveMade}
+use Rattle.transfers.proofs.Making.{one_more}
 use Rattle.transfers.proofs.works.work.Goals as goal
 
 pub tickets_of-tickets-requires-clause-own : goal.tickets_of-tickets-requires-clause-own
@@ -35,32 +34,40 @@ loop-turn-init g c = (
   c.tickets_of-tickets.ensures.tickets,
   (let next = c.tickets_of-tickets.ensures.next in omega (arith, next)),
   c.tickets_of-tickets.ensures.end,
+  c.tickets_of-tickets.ensures.trace,
+  refl,
 )
-
-pub spend_ticket-next-requires-clause-wants : goal.spend_ticket-next-requires-clause-wants
-spend_ticket-next-requires-clause-wants g c κs within =
-    subst (λ (s : Accounts). WantsWereRead (accounts_of s.accounts s.opening)) c.structure.ensures c.walk-walk.ensures.wants
-
-pub spend_ticket-next-requires-clause-serves : goal.spend_ticket-next-requires-clause-serves
-spend_ticket-next-requires-clause-serves g c κs within = ap (λ p. p.serves (Get 0)) c.walk-walk.ensures.planning
 
 pub loop-turn-preserved : goal.loop-turn-preserved
 loop-turn-preserved g c =
     let was = c.loop-turn.invariant in
-    let used : c.spend_ticket-next.new.tickets ≡ record (c.loop-turn.tickets) { next = c.loop-turn.tickets.next + 1 } =
-    subst (λ (a : Result ℕ Attempt). IfOk a (λ x. c.spend_ticket-next.new.tickets ≡ record (c.loop-turn.tickets) { next = c.loop-turn.tickets.next + 1 })) c.in-Ok.is c.spend_ticket-next.ensures.used in (
-      c.spend_ticket-next.ensures.own,
-      c.spend_ticket-next.ensures.number ∙ was.1,
-      c.spend_ticket-next.ensures.tickets (λ e. absurd (let z = sym c.in-Ok.is ∙ e in cc)),
+    let used : c.make_transfer-next.new.tickets ≡ record (c.loop-turn.tickets) { next = c.loop-turn.tickets.next + 1 } =
+    subst (λ (a : Result ℕ Attempt). IfOk a (λ x. c.make_transfer-next.new.tickets ≡ record (c.loop-turn.tickets) { next = c.loop-turn.tickets.next + 1 })) c.in-Ok.is c.make_transfer-next.ensures.used in (
+      c.make_transfer-next.ensures.own,
+      c.make_transfer-next.ensures.number ∙ was.1,
+      c.make_transfer-next.ensures.tickets (λ e. absurd (let z = sym c.in-Ok.is ∙ e in cc)),
       (let next = ap (λ (x : Tickets). x.next) used in let before = was.3 in omega (arith, next, before)),
       ap (λ (x : Tickets). x.end) used ∙ was.4,
+      ap (λ (x : Tickets). x.trace) used ∙ was.5,
+      one_more c.args.table.now c.loop-turn.turn c.args.runner.number c.loop-turn.tickets c.args.runner c.loop-turn.runner c.make_transfer-next.result.0 was.6 was.5 was.3 c.choose-transfer.result c.in-Ok.answered
+          (subst (λ (a : Result ℕ Attempt). IfOk a (λ answered. HasMade c.args.table.now c.choose-transfer.result (ticket c.loop-turn.tickets.trace c.loop-turn.tickets.next) answered c.loop-turn.runner c.make_transfer-next.result.0)) c.in-Ok.is c.make_transfer-next.ensures.made),
     )
 
 pub returns-in-Err-clause-back : goal.returns-in-Err-clause-back
 returns-in-Err-clause-back g c = record {
-  own = c.spend_ticket-next.ensures.own;
-  number = c.spend_ticket-next.ensures.number ∙ c.loop-turn.invariant.1;
+  own = c.make_transfer-next.ensures.own;
+  number = c.make_transfer-next.ensures.number ∙ c.loop-turn.invariant.1;
 }
 
 pub returns-clause-back : goal.returns-clause-back
 returns-clause-back g c = record { own = c.loop-turn.invariant.0; number = c.loop-turn.invariant.1 }
+
+pub returns-in-Err-clause-each : goal.returns-in-Err-clause-each
+returns-in-Err-clause-each g c = (c.loop-turn.runner, c.loop-turn.invariant.6, c.make_transfer-next.ensures.knows)
+
+pub returns-clause-each : goal.returns-clause-each
+returns-clause-each g c = (
+  c.loop-turn.runner,
+  subst (λ (n : ℕ). HaveMade c.args.table.now n c.args.runner.number c.args.runner c.loop-turn.runner) (let past = c.loop-turn-test.false in let low = c.loop-turn.auto.turn-end in omega (arith, past, low)) c.loop-turn.invariant.6,
+  knows_same c.loop-turn.runner c.loop-turn.runner refl refl refl,
+)
