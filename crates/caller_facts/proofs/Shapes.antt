@@ -13,7 +13,7 @@ use Rattle.structure_laws.specs.Shape.{Shaped}
 use Rattle.epoch_core.specs.declared.stage.Stage.TheVariants.{Entered}
 use Rattle.runner_parts.specs.State.{PartState}
 use Rattle.machine_states.specs.Sight.{Sight, sight, part_or_first}
-use Rattle.lock_walks.specs.runner_facts.proofs.Walks.{reached_shaped}
+use Rattle.runner_facts.proofs.Walks.{reached_shaped}
 use Rattle.request_facts.specs.reached_histories.specs.machine_invariant.specs.After.{AreAllowed}
 use Rattle.version_words.specs.RunnerState.{RunnerState}
 use Rattle.lock_walks.specs.try_lock.specs.Reached.{IsReached}
