@@ -12,3 +12,4 @@ pub mod Keeping
 pub mod Entering
 pub mod Along
 pub mod Looked
+pub mod Walking

@@ -29,7 +29,7 @@ use Rattle.request_facts.specs.reached_histories.specs.machine_invariant.specs.A
 use Rattle.lock_walks.specs.commit_log.specs.Asked.{IsAsked}
 use Rattle.lock_walks.specs.commit_log.proofs.Asked.{asked_more}
 use Rattle.lock_walks.specs.commit_log.specs.next_steps.proofs.Numbers.{reached_numbers}
-use Rattle.lock_walks.proofs.Walking.{may_load, walked_none, walked_more}
+use Rattle.seq_read.proofs.Walking.{may_load, walked_none, walked_more}
 use Rattle.lock_walks.specs.try_lock.specs.declared.planned.Planned.TheVariants as plans
 use Rattle.lock_walks.specs.try_lock.specs.Planning.{Planning}
 use Rattle.lock_walks.specs.try_lock.specs.Plans.{HasWalked}

@@ -23,7 +23,7 @@ use Rattle.machine_states.specs.Sight.{sight, part_or_first}
 use Rattle.request_facts.specs.reached_histories.specs.machine_invariant.specs.After.{AreAllowed}
 use Rattle.lock_walks.specs.commit_log.specs.next_steps.specs.Numbers.{NumbersFit}
 use Rattle.lock_walks.specs.commit_log.specs.next_steps.proofs.Numbers.{reached_numbers}
-use Rattle.lock_walks.proofs.Walking.{may_load}
+use Rattle.seq_read.proofs.Walking.{may_load}
 use Rattle.lock_walks.specs.try_lock.specs.Planning.{Planning}
 use Rattle.lock_walks.specs.try_lock.specs.Reached.{IsReached}
 use Rattle.version_words.specs.RunnerState.{RunnerState}
