@@ -25,7 +25,7 @@ use Rattle.accounts.specs.Walk.{is_open, begun, transfer_planning, transfer_way}
 use Rattle.accounts.specs.Made.{SetsBalance, IsMade, HasHappened, Makes}
 use Rattle.accounts.specs.declared.transfer.Transfer.{Transfer}
 use Rattle.accounts.specs.declared.walk.Found.TheVariants.{Balances}
-use Rattle.accounts.proofs.Leading.{opened, stopped, refuses}
+use Rattle.accounts.proofs.Leading.{stopped, refuses}
 
 -- the balances afterwards have 32 bits
 small_by : (b : Bool) (amount x y : ℕ) → x < 2 ^ 32 → y < 2 ^ 32

@@ -1,14 +1,14 @@
 -- What a transfer wants of the two balances was read there.
-use Rattle.std.proofs.Common.{◌≡◌, ℕ, true, refl, sym, ap, ◌∙◌, subst, inl, inr, ⊎_elim, arith}
+use Rattle.std.proofs.Common.{◌≡◌, ℕ, true, sym, ◌∙◌, inl, inr, ⊎_elim, arith}
 use Rattle.std.specs.Prelude.{◌⊎◌, Some, slice_get}
 use mathlib.Core.Logic.{dite}
 use native.Mathlib.Decide.{ℕ_discrete}
-use Rattle.body_terms.specs.declared.step.Step.TheVariants.{Load, Want}
+use Rattle.body_terms.specs.declared.step.Step.TheVariants.{Want}
 use Rattle.body_terms.specs.declared.thunk.Thunk.{Thunk}
 use Rattle.structure_laws.specs.Scene.{Readings}
 use Rattle.structure_laws.proofs.Pairs.{pair_read}
 use Rattle.runner_parts.specs.Tests.{has_pair}
-use Rattle.account_laws.specs.Accounts.{balance_of, wanted_lower, wanted_upper, lower_in, upper_in, accounts_of}
+use Rattle.account_laws.specs.Accounts.{wanted_lower, wanted_upper, lower_in, upper_in, accounts_of}
 use Rattle.account_laws.proofs.Fitting.{Fit, fit_of}
 use Rattle.account_laws.proofs.TransferSteps.{TransferIs, load_at}
 use Rattle.lock_walks.specs.Wants.{WantsWereRead}
