@@ -74,7 +74,7 @@ unreachable-requires g c =
     let is = is_reply_read m (met.laws c.args.table.now.structure) (plans.plans_lawfully c.args.table.now.structure).serves (g.S.Planner.planning c.args.table.now.structure) c.args.request.now e.1 (subst IsWithinLimits (sym c.requires.own.layout ∙ e.2.reading.still.layout) (c.requires.own.limits _ refl)) (subst AreAllowed (sym c.requires.own.requests ∙ e.2.reading.still.requests) (c.requires.own.allowed _ refl)) (subst (λ s. LooksStand (g.S.Structure.meaning s)) c.structure.ensures c.looks_are_small.ensures.stamps) c.args.thunk.now e.0 c.args.clock c.write_stamp-runner.result.0 stamped in
     none_some reply (sym (c.from_word.ensures.whole reply is (word ∙ (sym c.requires.reply ∙ sym c.write_reply-runner.ensures.word))) ∙ c.in-None.is)
 
-pub returns-clause-rests : goal.returns-in-Some-clause-rests
+pub returns-clause-rests : goal.returns-clause-rests
 returns-clause-rests g c =
     let met = g.met.S.Structure g.world.𝓛 g.world.𝓜 g.world.𝓡 ((λ s allowed. allowed), (λ patient. patient), (λ alone. alone), (λ cuts. cuts)) in
     let plans = g.met.S.Planner g.world.𝓛 g.world.𝓜 g.world.𝓡 ((λ s allowed. allowed), (λ patient. patient), (λ alone. alone), (λ cuts. cuts)) in
