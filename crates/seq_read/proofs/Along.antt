@@ -1,6 +1,8 @@
 -- The rest of a read from its parts on.
-use Rattle.std.specs.Prelude.{not, Bool, true, false, if◌then◌else◌}
+use Rattle.std.specs.Prelude.{◌==◌, not, Bool, true, false, if◌then◌else◌}
 use Rattle.std.proofs.Common.{◌≡◌, ◌≢◌, ℕ, ◌+◌, ◌*◌, ◌-◌, ◌≤◌, length, refl, sym, ap, ◌∙◌, subst, arith, Some, None}
+use Rattle.small_lemmas.proofs.Numbers.{tested_equal, tested_other}
+use Rattle.small_lemmas.proofs.Bools.{negated}
 use Rattle.map_history.specs.declared.op.Request.{Request}
 use Rattle.map_history.specs.declared.reply.Reply.{Reply}
 use Rattle.map_history.specs.Words.{word_of, IsReply}
@@ -48,6 +50,17 @@ rests_more m planning request n before before' answer old new Seen halts halts1 
     seen_then Seen halts halts1 asks asks1 n last.0 (asked.went refl) asked.asked last.2,
   );
 }
+
+-- two words that were compared
+pub words_differ : (a b : ℕ) → not (a == b) ≡ true → a ≢ b
+words_differ a b e = tested_other a b (negated (a == b) e)
+
+pub words_agree : (a b : ℕ) → not (a == b) ≡ false → a ≡ b
+words_agree a b e = tested_equal a b (granted (a == b) e)
+  where
+    granted : (c : Bool) → not c ≡ false → c ≡ true
+    granted true e = refl
+    granted false e = absurd (let z = e in cc)
 
 lock_refuses : (thunk : Thunk) (word : ℕ) → is_refusal (of_lock thunk word) ≡ true
 lock_refuses thunk word = by (is_free word)

@@ -13,18 +13,22 @@ use Rattle.runner_parts.specs.declared.event.EventKind.TheVariants as kinds
 use Rattle.request_facts.specs.reached_histories.specs.machine_invariant.specs.After.{AreAllowed}
 use Rattle.version_words.specs.RunnerState.{RunnerState}
 use Rattle.lock_walks.specs.commit_log.specs.Asked.{IsAsked}
+use Rattle.lock_walks.specs.commit_log.proofs.Asked.{asked_none}
+use Rattle.lock_walks.specs.epoch_slots.specs.Entries.{Exits}
+use Rattle.lock_walks.specs.try_lock.specs.declared.planned.Planned.{Planned}
 use Rattle.lock_walks.specs.try_lock.specs.declared.planned.Planned.TheVariants as plans
 use Rattle.lock_walks.specs.try_lock.specs.Planning.{Planning}
 use Rattle.caller_facts.specs.Counted.{IsCounted}
 use Rattle.caller_facts.proofs.Counting.{counted_steps, asked_then, steps_then, seen_then}
 use Rattle.caller_facts.proofs.Standing.{made_reached}
-use Rattle.seq_read.specs.Course.{HasEntered, HasPlanned}
+use Rattle.seq_read.specs.Course.{of_plan, HasEntered, HasPlanned, ByPlan}
 use Rattle.seq_read.specs.Reads.{is_halted, Stops, AtEntry, InPlan, IsHalted, Answers, steps_of, asks_before, Reads}
 use Rattle.seq_read.specs.Parts.{Rests}
 use Rattle.seq_read.specs.declared.answers.Read.{Read}
 use Rattle.seq_read.specs.declared.answers.Read.TheVariants as answers
 use Rattle.seq_read.proofs.Keeping.{kept_knows, answers_kept, few_steps}
-use Rattle.seq_read.proofs.Resting.{reading_halted}
+use Rattle.seq_read.proofs.Resting.{refused_rests, reading_halted}
+use Rattle.seq_read.proofs.Refusing.{refuses, refusal_of_plan, plan_stale}
 
 module _ {T : Type 0} (m : Meaning) (laws : Laws m) (planning : Planning) (request : Request) (old : RunnerState T)
     (limits : IsWithinLimits old.layout) (allowed : AreAllowed old.requests) where
@@ -91,3 +95,19 @@ module _ {T : Type 0} (m : Meaning) (laws : Laws m) (planning : Planning) (reque
         where
           sums : (a b : ℕ) → 1 + (a + b) ≡ 1 + a + b
           sums a b = omega arith
+
+      -- or a reading refused the plan, and it leaves
+      pub plan_refused_reads : (readings : Readings) (refusal : Planned) (cut new : RunnerState T) (is : HasPlanned m planning request readings refusal old cut)
+          → refuses refusal ≡ true → Exits m cut new
+          → (Seen : ℕ → Asks → Type 0) (halts' : ℕ) (asks' : Asks) (steps' : ℕ) → IsAsked (length readings) true halts1 halts' asks1 asks' steps steps'
+          → Reads m planning request (of_plan refusal) old new Seen halts halts' asks asks' steps steps'
+      plan_refused_reads readings refusal cut new is refused exits Seen halts' asks' steps' asked =
+          reads_so (length readings) (of_plan refusal) new Seen halts' halts' asks' asks' steps' steps' asked
+          (refused_rests m laws planning request old limits allowed is.enters.may cut new is.reading exits (of_plan refusal) (refusal_of_plan refusal refused)
+          (ByPlan (record {
+            readings = readings;
+            refusal = refusal;
+            plans = is;
+            same = refl;
+            stale = λ place expected read e. plan_stale m planning old.layout request.op place expected read request.number readings refusal is.answers e;
+          })) (length readings) 0 (omega arith) Seen halts' halts' asks' asks' steps' steps' (asked_none halts' asks' steps'))

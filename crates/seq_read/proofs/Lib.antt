@@ -7,6 +7,7 @@ pub mod Writing
 pub mod Locking
 pub mod Loading
 pub mod Resting
+pub mod Refusing
 pub mod Ending
 pub mod Keeping
 pub mod Entering

@@ -7,7 +7,7 @@ use Rattle.seq_read.specs.Course.{HasLock, loaded_steps}
 use Rattle.seq_read.specs.Parts.{Rests}
 use Rattle.seq_read.proofs.Courses.{announced_of, clock_of, lock_of}
 use Rattle.seq_read.proofs.Writing.{LooksStand}
-use Rattle.seq_read.proofs.Along.{plan_cut, clock_cut, lock_cut, moved_rests, same_rests}
+use Rattle.seq_read.proofs.Along.{words_differ, words_agree, plan_cut, clock_cut, lock_cut, moved_rests, same_rests}
 use Rattle.seq_read.proofs.reading.confirm.Goals as goal
 
 pub announce-runner-requires-clause-found : goal.announce-runner-requires-clause-found
@@ -82,13 +82,13 @@ returns-then-ne-clause-rests g c =
     (g.G.Gate.halts c.args.gate.now) (g.G.Gate.halts c.announce-runner.new.gate) (g.G.Gate.asks c.args.gate.now) (g.G.Gate.asks c.announce-runner.new.gate) c.args.steps.now.count c.announce-runner.new.steps.count
     (subst (λ b. IsAsked 1 b (g.G.Gate.halts c.args.gate.now) (g.G.Gate.halts c.announce-runner.new.gate) (g.G.Gate.asks c.args.gate.now) (g.G.Gate.asks c.announce-runner.new.gate) c.args.steps.now.count c.announce-runner.new.steps.count) c.if-not-going.false c.announce-runner.ensures.asked) c.load_clock-runner.result.1 c.load_clock-runner.result.0 c.load_clock-runner.ensures.event (g.G.Gate.halts c.load_clock-runner.new.gate) (g.G.Gate.asks c.load_clock-runner.new.gate) c.load_clock-runner.new.steps.count
     (subst (λ b. IsAsked 1 b (g.G.Gate.halts c.announce-runner.new.gate) (g.G.Gate.halts c.load_clock-runner.new.gate) (g.G.Gate.asks c.announce-runner.new.gate) (g.G.Gate.asks c.load_clock-runner.new.gate) c.announce-runner.new.steps.count c.load_clock-runner.new.steps.count) c.if-not-going-2.false c.load_clock-runner.ensures.asked) c.load_lock-runner.result.1 c.load_lock-runner.result.0 c.load_lock-runner.ensures.event (g.G.Gate.halts c.load_lock-runner.new.gate) (g.G.Gate.asks c.load_lock-runner.new.gate) c.load_lock-runner.new.steps.count
-    (subst (λ b. IsAsked 1 b (g.G.Gate.halts c.load_clock-runner.new.gate) (g.G.Gate.halts c.load_lock-runner.new.gate) (g.G.Gate.asks c.load_clock-runner.new.gate) (g.G.Gate.asks c.load_lock-runner.new.gate) c.load_clock-runner.new.steps.count c.load_lock-runner.new.steps.count) c.if-not-going-3.false c.load_lock-runner.ensures.asked) c.if-ne.true c.exit.result c.exit.ensures.exits)
+    (subst (λ b. IsAsked 1 b (g.G.Gate.halts c.load_clock-runner.new.gate) (g.G.Gate.halts c.load_lock-runner.new.gate) (g.G.Gate.asks c.load_clock-runner.new.gate) (g.G.Gate.asks c.load_lock-runner.new.gate) c.load_clock-runner.new.steps.count c.load_lock-runner.new.steps.count) c.if-not-going-3.false c.load_lock-runner.ensures.asked) (words_differ c.load_lock-runner.result.1 c.args.thunk.now.word (sym c.ne.ensures ∙ c.if-ne.true)) c.exit.result c.exit.ensures.exits)
 
 pub answer-requires-clause-unmoved : goal.answer-requires-clause-unmoved
 answer-requires-clause-unmoved g c κs within =
     let m = g.S.Structure.meaning c.args.table.now.structure in
     let e = c.requires.found in
-    (e.0, e.1, subst (λ w. HasLock m (g.S.Planner.planning c.args.table.now.structure) c.args.request.now c.args.thunk.now e.0 c.load_clock-runner.result.1 w e.1 c.load_lock-runner.result.0) c.if-ne.false (lock_of m (g.S.Planner.planning c.args.table.now.structure) c.args.request.now e.1 c.args.thunk.now e.0 c.load_clock-runner.result.1 c.load_clock-runner.result.0 c.load_lock-runner.result.0 c.load_lock-runner.result.1 (clock_of m (g.S.Planner.planning c.args.table.now.structure) c.args.request.now e.1 c.args.thunk.now e.0 c.announce-runner.result.0 c.load_clock-runner.result.0 c.load_clock-runner.result.1 (announced_of m (g.S.Planner.planning c.args.table.now.structure) c.args.request.now e.1 c.args.thunk.now e.0 c.args.runner c.announce-runner.result.0 e.2 c.announce-runner.ensures.event.found c.announce-runner.ensures.event.event) c.load_clock-runner.ensures.event) c.load_lock-runner.ensures.event))
+    (e.0, e.1, subst (λ w. HasLock m (g.S.Planner.planning c.args.table.now.structure) c.args.request.now c.args.thunk.now e.0 c.load_clock-runner.result.1 w e.1 c.load_lock-runner.result.0) (words_agree c.load_lock-runner.result.1 c.args.thunk.now.word (sym c.ne.ensures ∙ c.if-ne.false)) (lock_of m (g.S.Planner.planning c.args.table.now.structure) c.args.request.now e.1 c.args.thunk.now e.0 c.load_clock-runner.result.1 c.load_clock-runner.result.0 c.load_lock-runner.result.0 c.load_lock-runner.result.1 (clock_of m (g.S.Planner.planning c.args.table.now.structure) c.args.request.now e.1 c.args.thunk.now e.0 c.announce-runner.result.0 c.load_clock-runner.result.0 c.load_clock-runner.result.1 (announced_of m (g.S.Planner.planning c.args.table.now.structure) c.args.request.now e.1 c.args.thunk.now e.0 c.args.runner c.announce-runner.result.0 e.2 c.announce-runner.ensures.event.found c.announce-runner.ensures.event.event) c.load_clock-runner.ensures.event) c.load_lock-runner.ensures.event))
 
 pub returns-clause-rests : goal.returns-clause-rests
 returns-clause-rests g c =
@@ -100,4 +100,4 @@ returns-clause-rests g c =
     (g.G.Gate.halts c.args.gate.now) (g.G.Gate.halts c.announce-runner.new.gate) (g.G.Gate.asks c.args.gate.now) (g.G.Gate.asks c.announce-runner.new.gate) c.args.steps.now.count c.announce-runner.new.steps.count
     (subst (λ b. IsAsked 1 b (g.G.Gate.halts c.args.gate.now) (g.G.Gate.halts c.announce-runner.new.gate) (g.G.Gate.asks c.args.gate.now) (g.G.Gate.asks c.announce-runner.new.gate) c.args.steps.now.count c.announce-runner.new.steps.count) c.if-not-going.false c.announce-runner.ensures.asked) c.load_clock-runner.result.1 c.load_clock-runner.result.0 c.load_clock-runner.ensures.event (g.G.Gate.halts c.load_clock-runner.new.gate) (g.G.Gate.asks c.load_clock-runner.new.gate) c.load_clock-runner.new.steps.count
     (subst (λ b. IsAsked 1 b (g.G.Gate.halts c.announce-runner.new.gate) (g.G.Gate.halts c.load_clock-runner.new.gate) (g.G.Gate.asks c.announce-runner.new.gate) (g.G.Gate.asks c.load_clock-runner.new.gate) c.announce-runner.new.steps.count c.load_clock-runner.new.steps.count) c.if-not-going-2.false c.load_clock-runner.ensures.asked) c.load_lock-runner.result.1 c.load_lock-runner.result.0 c.load_lock-runner.ensures.event (g.G.Gate.halts c.load_lock-runner.new.gate) (g.G.Gate.asks c.load_lock-runner.new.gate) c.load_lock-runner.new.steps.count
-    (subst (λ b. IsAsked 1 b (g.G.Gate.halts c.load_clock-runner.new.gate) (g.G.Gate.halts c.load_lock-runner.new.gate) (g.G.Gate.asks c.load_clock-runner.new.gate) (g.G.Gate.asks c.load_lock-runner.new.gate) c.load_clock-runner.new.steps.count c.load_lock-runner.new.steps.count) c.if-not-going-3.false c.load_lock-runner.ensures.asked) c.if-ne.false c.answer.result.1 c.answer.result.0 _ _ _ (c.answer.ensures.rests found old)
+    (subst (λ b. IsAsked 1 b (g.G.Gate.halts c.load_clock-runner.new.gate) (g.G.Gate.halts c.load_lock-runner.new.gate) (g.G.Gate.asks c.load_clock-runner.new.gate) (g.G.Gate.asks c.load_lock-runner.new.gate) c.load_clock-runner.new.steps.count c.load_lock-runner.new.steps.count) c.if-not-going-3.false c.load_lock-runner.ensures.asked) (words_agree c.load_lock-runner.result.1 c.args.thunk.now.word (sym c.ne.ensures ∙ c.if-ne.false)) c.answer.result.1 c.answer.result.0 _ _ _ (c.answer.ensures.rests found old)
