@@ -67,14 +67,18 @@ module _ {T : Type 0} (m : Meaning) (laws : Laws m) (map : m.is_map ≡ true) (p
     reached_stamped = made_reached m kinds.ReadStamp 0 is.replied r is.writes
 
     pub stamp_entry : HasEntry r.part.records.known (record { request = n; reply = false; number = stamp })
-    stamp_entry = (length is.replied.part.records.known,
-        ap (λ ks. slice_get ks (length is.replied.part.records.known)) is.known ∙ get_last is.replied.part.records.known _)
+    stamp_entry = (
+      length is.replied.part.records.known,
+      ap (λ ks. slice_get ks (length is.replied.part.records.known)) is.known ∙ get_last is.replied.part.records.known _,
+    )
 
     pub reply_entry : HasEntry r.part.records.known (record { request = n; reply = true; number = reply_in (m.body thunk) })
-    reply_entry = (length old.part.records.known,
-        ap (λ ks. slice_get ks (length old.part.records.known)) is.known
-        ∙ get_on is.replied.part.records.known _ (length old.part.records.known) _
-        (ap (λ ks. slice_get ks (length old.part.records.known)) is.replies.known ∙ get_last old.part.records.known _))
+    reply_entry = (
+      length old.part.records.known,
+      ap (λ ks. slice_get ks (length old.part.records.known)) is.known
+          ∙ get_on is.replied.part.records.known _ (length old.part.records.known) _
+          (ap (λ ks. slice_get ks (length old.part.records.known)) is.replies.known ∙ get_last old.part.records.known _),
+    )
 
     pub limits_stamped : IsWithinLimits r.layout
     limits_stamped = subst IsWithinLimits (sym layout_stamped) limits

@@ -274,7 +274,7 @@ pub unmet_is : (steps : List Step) (xs : List Loaded) → AreFirst steps xs → 
     → IsUnmet steps (readings_of xs) place expected read
 unmet_is steps xs first all step among place expected read miss =
     let at : slice_get (cells_of xs) miss.load ≡ Some (place, miss.reg) =
-        get_map (λ (x : Loaded). (x.place, x.into)) xs miss.load miss.loaded miss.loads ∙ (λ i. Some (miss.from i, miss.into i)) in
+    get_map (λ (x : Loaded). (x.place, x.into)) xs miss.load miss.loaded miss.loads ∙ (λ i. Some (miss.from i, miss.into i)) in
     let load = load_at steps miss.load place miss.reg (sym (ap (λ ys. slice_get ys miss.load) (whole_cells steps xs first all)) ∙ at) in record {
       reg = miss.reg;
       load = load.0;

@@ -233,8 +233,8 @@ module _ {T : Type 0} (m : Meaning) (laws : Laws m) (planning : Planning) (reque
       let allowed' = subst AreAllowed (sym requests) allowed in
       let some = entry_some m laws new limits' allowed' to request.number false stamp knows in
       let is : (sight m old.layout old.requests to.world).word (spots.Stamp request.number) ≡ stamp =
-          (λ i. (sight m (sym layout i) (sym requests i) to.world).word (spots.Stamp request.number))
-          ∙ entry_stands m laws new limits' allowed' to request.number false stamp knows in
+      (λ i. (sight m (sym layout i) (sym requests i) to.world).word (spots.Stamp request.number))
+      ∙ entry_stands m laws new limits' allowed' to request.number false stamp knows in
       let his = (sight m old.layout old.requests to.world).word (spots.Stamp k) in
       let comes = answered_come_first m laws old.layout old.requests limits allowed from.world to.world from.reached leads old.number request.number k
       (to_ask from) replied (λ none. some (sym is ∙ none)) in

@@ -38,18 +38,18 @@ loop-n-preserved g c =
     let allowed = subst AreAllowed (sym c.requires.own.requests ∙ e.5.plans.reading.still.requests) (c.requires.own.allowed _ refl) in
     elim c.match-step.branch [
       | in-Load+else-not-passes w ↦ rw w.loaded-is (rw w.gate-is (rw w.steps-is (rw w.runner-is (record {
-          own = w.load_cell-at.ensures.own;
-          cells = next_cells m (met.laws c.args.table.now.structure) e.0 e.1 e.4 limits allowed c.args.body.now e.2 e.3 c.args.runner e.5 c.loop-n.n c.loop-n.loaded.items c.loop-n.runner _ _ _ _ _ _ c.loop-n.invariant.cells w.in-Load.place w.in-Load.into (read_step c.args.body.now c.loop-n.n c.index-body-n.result c.loop-n-test.true c.index-body-n.is ∙ ap Some w.in-Load.is)
-              w.load_cell-at.result.0 w.load_cell-at.result.1 w.load_cell-at.ensures.event w.push.new.self.items (w.push.ensures.items ∙ ap (λ k. c.loop-n.loaded.items ++ record { place = w.in-Load.place; into = w.in-Load.into; word = k } ∷ []) w.bits.ensures.number) _ _ _
-              (subst (λ b. IsAsked 1 b (g.G.Gate.halts c.loop-n.gate) (g.G.Gate.halts w.passes.new.gate) (g.G.Gate.asks c.loop-n.gate) (g.G.Gate.asks w.passes.new.gate) c.loop-n.steps.count w.passes.new.steps.count) w.if-not-passes.false w.passes.ensures);
-          few = let few = c.loop-n.invariant.few in let len = w.push.ensures.len in omega (arith, few, len);
-        }))))
+        own = w.load_cell-at.ensures.own;
+        cells = next_cells m (met.laws c.args.table.now.structure) e.0 e.1 e.4 limits allowed c.args.body.now e.2 e.3 c.args.runner e.5 c.loop-n.n c.loop-n.loaded.items c.loop-n.runner _ _ _ _ _ _ c.loop-n.invariant.cells w.in-Load.place w.in-Load.into (read_step c.args.body.now c.loop-n.n c.index-body-n.result c.loop-n-test.true c.index-body-n.is ∙ ap Some w.in-Load.is)
+            w.load_cell-at.result.0 w.load_cell-at.result.1 w.load_cell-at.ensures.event w.push.new.self.items (w.push.ensures.items ∙ ap (λ k. c.loop-n.loaded.items ++ record { place = w.in-Load.place; into = w.in-Load.into; word = k } ∷ []) w.bits.ensures.number) _ _ _
+            (subst (λ b. IsAsked 1 b (g.G.Gate.halts c.loop-n.gate) (g.G.Gate.halts w.passes.new.gate) (g.G.Gate.asks c.loop-n.gate) (g.G.Gate.asks w.passes.new.gate) c.loop-n.steps.count w.passes.new.steps.count) w.if-not-passes.false w.passes.ensures);
+        few = let few = c.loop-n.invariant.few in let len = w.push.ensures.len in omega (arith, few, len);
+      }))))
       | in_default w ↦ rw w.loaded-is (rw w.gate-is (rw w.steps-is (rw w.runner-is (record {
-          own = c.loop-n.invariant.own;
-          cells = same_cells m c.args.body.now c.loop-n.n c.loop-n.loaded.items c.args.runner c.loop-n.runner _ _ _ _ _ _ c.loop-n.invariant.cells c.index-body-n.result
-              (read_step c.args.body.now c.loop-n.n c.index-body-n.result c.loop-n-test.true c.index-body-n.is) w.in_default.not-Load;
-          few = let few = c.loop-n.invariant.few in omega (arith, few);
-        }))))
+        own = c.loop-n.invariant.own;
+        cells = same_cells m c.args.body.now c.loop-n.n c.loop-n.loaded.items c.args.runner c.loop-n.runner _ _ _ _ _ _ c.loop-n.invariant.cells c.index-body-n.result
+            (read_step c.args.body.now c.loop-n.n c.index-body-n.result c.loop-n-test.true c.index-body-n.is) w.in_default.not-Load;
+        few = let few = c.loop-n.invariant.few in omega (arith, few);
+      }))))
     ]
 
 pub returns-clause-loaded : goal.returns-clause-loaded

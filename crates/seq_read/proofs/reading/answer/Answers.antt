@@ -36,9 +36,13 @@ pub write_stamp-runner-requires-clause-replied : goal.write_stamp-runner-require
 write_stamp-runner-requires-clause-replied g c κs within =
     let met = g.met.S.Structure g.world.𝓛 g.world.𝓜 g.world.𝓡 ((λ s allowed. allowed), (λ patient. patient), (λ alone. alone), (λ cuts. cuts)) in
     let m = g.S.Structure.meaning c.args.table.now.structure in
-    let e = c.requires.unmoved in
-    (g.S.Planner.planning c.args.table.now.structure, c.args.request.now, e.0, e.1,
-    replied_of m (met.laws c.args.table.now.structure) (g.S.Planner.planning c.args.table.now.structure) c.args.request.now e.1 (subst IsWithinLimits (sym c.requires.own.layout ∙ e.2.reading.still.layout) (c.requires.own.limits _ refl)) (subst AreAllowed (sym c.requires.own.requests ∙ e.2.reading.still.requests) (c.requires.own.allowed _ refl)) (subst (λ s. LooksStand (g.S.Structure.meaning s)) c.structure.ensures c.looks_are_small.ensures.stamps) c.args.thunk.now e.0 c.args.clock c.args.runner e.2 c.write_reply-runner.result.0 0 c.write_reply-runner.ensures.event)
+    let e = c.requires.unmoved in (
+      g.S.Planner.planning c.args.table.now.structure,
+      c.args.request.now,
+      e.0,
+      e.1,
+      replied_of m (met.laws c.args.table.now.structure) (g.S.Planner.planning c.args.table.now.structure) c.args.request.now e.1 (subst IsWithinLimits (sym c.requires.own.layout ∙ e.2.reading.still.layout) (c.requires.own.limits _ refl)) (subst AreAllowed (sym c.requires.own.requests ∙ e.2.reading.still.requests) (c.requires.own.allowed _ refl)) (subst (λ s. LooksStand (g.S.Structure.meaning s)) c.structure.ensures c.looks_are_small.ensures.stamps) c.args.thunk.now e.0 c.args.clock c.args.runner e.2 c.write_reply-runner.result.0 0 c.write_reply-runner.ensures.event,
+    )
 
 pub returns-then-not-going-2-clause-rests : goal.returns-then-not-going-2-clause-rests
 returns-then-not-going-2-clause-rests g c =

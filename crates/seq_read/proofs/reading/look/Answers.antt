@@ -27,9 +27,15 @@ pub load_cells-runner-requires-clause-may : goal.load_cells-runner-requires-clau
 load_cells-runner-requires-clause-may g c κs within =
     let met = g.met.S.Structure g.world.𝓛 g.world.𝓜 g.world.𝓡 ((λ s allowed. allowed), (λ patient. patient), (λ alone. alone), (λ cuts. cuts)) in
     let m = g.S.Structure.meaning c.args.table.now.structure in
-    let e = c.requires.planned in
-    ((g.S.Planner.planning c.args.table.now.structure), c.args.request.now, c.args.thunk.now, e.0, e.1, subst (λ b. MayLoad m (g.S.Planner.planning c.args.table.now.structure) c.args.request.now b c.args.thunk.now e.0 e.1 c.args.runner) (sym (c.as_slice-body.ensures.value ∙ (c.body.view_is ∙ (c.body_in.ensures ∙ ap (λ s. (g.S.Structure.meaning s).body c.args.thunk.now) c.structure.ensures))))
-    (may_load_so m (met.laws c.args.table.now.structure) (g.S.Planner.planning c.args.table.now.structure) c.args.request.now e.1 (subst IsWithinLimits (sym c.requires.own.layout ∙ e.2.reading.still.layout) (c.requires.own.limits _ refl)) (subst AreAllowed (sym c.requires.own.requests ∙ e.2.reading.still.requests) (c.requires.own.allowed _ refl)) c.args.thunk.now e.0 c.args.runner e.2 (IsSeen g.G.Gate.halts g.G.Gate.asks) (ap (position (λ step. not (is_look step))) (sym (c.as_slice-body.ensures.value ∙ (c.body.view_is ∙ (c.body_in.ensures ∙ ap (λ s. (g.S.Structure.meaning s).body c.args.thunk.now) c.structure.ensures)))) ∙ (sym c.first_change.ensures ∙ c.in_default.is))))
+    let e = c.requires.planned in (
+      (g.S.Planner.planning c.args.table.now.structure),
+      c.args.request.now,
+      c.args.thunk.now,
+      e.0,
+      e.1,
+      subst (λ b. MayLoad m (g.S.Planner.planning c.args.table.now.structure) c.args.request.now b c.args.thunk.now e.0 e.1 c.args.runner) (sym (c.as_slice-body.ensures.value ∙ (c.body.view_is ∙ (c.body_in.ensures ∙ ap (λ s. (g.S.Structure.meaning s).body c.args.thunk.now) c.structure.ensures))))
+          (may_load_so m (met.laws c.args.table.now.structure) (g.S.Planner.planning c.args.table.now.structure) c.args.request.now e.1 (subst IsWithinLimits (sym c.requires.own.layout ∙ e.2.reading.still.layout) (c.requires.own.limits _ refl)) (subst AreAllowed (sym c.requires.own.requests ∙ e.2.reading.still.requests) (c.requires.own.allowed _ refl)) c.args.thunk.now e.0 c.args.runner e.2 (IsSeen g.G.Gate.halts g.G.Gate.asks) (ap (position (λ step. not (is_look step))) (sym (c.as_slice-body.ensures.value ∙ (c.body.view_is ∙ (c.body_in.ensures ∙ ap (λ s. (g.S.Structure.meaning s).body c.args.thunk.now) c.structure.ensures)))) ∙ (sym c.first_change.ensures ∙ c.in_default.is))),
+    )
 
 pub returns-then-not-going-clause-rests : goal.returns-then-not-going-clause-rests
 returns-then-not-going-clause-rests g c =
@@ -69,9 +75,12 @@ pub confirm-requires-clause-found : goal.confirm-requires-clause-found
 confirm-requires-clause-found g c κs within =
     let met = g.met.S.Structure g.world.𝓛 g.world.𝓜 g.world.𝓡 ((λ s allowed. allowed), (λ patient. patient), (λ alone. alone), (λ cuts. cuts)) in
     let m = g.S.Structure.meaning c.args.table.now.structure in
-    let e = c.requires.planned in
-    (readings_of c.load_cells-runner.new.loaded.items, e.1, found_so m (met.laws c.args.table.now.structure) (g.S.Planner.planning c.args.table.now.structure) c.args.request.now e.1 (subst IsWithinLimits (sym c.requires.own.layout ∙ e.2.reading.still.layout) (c.requires.own.limits _ refl)) (subst AreAllowed (sym c.requires.own.requests ∙ e.2.reading.still.requests) (c.requires.own.allowed _ refl)) c.args.thunk.now e.0 c.args.runner e.2 (IsSeen g.G.Gate.halts g.G.Gate.asks) (ap (position (λ step. not (is_look step))) (sym (c.as_slice-body.ensures.value ∙ (c.body.view_is ∙ (c.body_in.ensures ∙ ap (λ s. (g.S.Structure.meaning s).body c.args.thunk.now) c.structure.ensures)))) ∙ (sym c.first_change.ensures ∙ c.in_default.is)) c.load_cells-runner.new.loaded.items c.load_cells-runner.result.1 c.load_cells-runner.result.0 (g.G.Gate.halts c.args.gate.now) (g.G.Gate.halts c.load_cells-runner.new.gate) (g.G.Gate.asks c.args.gate.now) (g.G.Gate.asks c.load_cells-runner.new.gate) c.args.steps.now.count c.load_cells-runner.new.steps.count (subst (λ b. HasLoadedCells m b c.load_cells-runner.new.loaded.items c.load_cells-runner.result.1 c.args.runner c.load_cells-runner.result.0 (IsSeen g.G.Gate.halts g.G.Gate.asks) (g.G.Gate.halts c.args.gate.now) (g.G.Gate.halts c.load_cells-runner.new.gate) (g.G.Gate.asks c.args.gate.now) (g.G.Gate.asks c.load_cells-runner.new.gate) c.args.steps.now.count c.load_cells-runner.new.steps.count) (c.as_slice-body.ensures.value ∙ (c.body.view_is ∙ (c.body_in.ensures ∙ ap (λ s. (g.S.Structure.meaning s).body c.args.thunk.now) c.structure.ensures))) c.load_cells-runner.ensures.loaded) c.if-not-going.false
-    (ap (list_any (is_missed c.load_cells-runner.new.loaded.items)) (sym (c.as_slice-body.ensures.value ∙ (c.body.view_is ∙ (c.body_in.ensures ∙ ap (λ s. (g.S.Structure.meaning s).body c.args.thunk.now) c.structure.ensures)))) ∙ (ap (λ xs. list_any (is_missed xs) c.as_slice-body.result.now) (sym c.as_slice.ensures.value) ∙ c.first_missed.ensures.none c.in_default-first_missed.is)))
+    let e = c.requires.planned in (
+      readings_of c.load_cells-runner.new.loaded.items,
+      e.1,
+      found_so m (met.laws c.args.table.now.structure) (g.S.Planner.planning c.args.table.now.structure) c.args.request.now e.1 (subst IsWithinLimits (sym c.requires.own.layout ∙ e.2.reading.still.layout) (c.requires.own.limits _ refl)) (subst AreAllowed (sym c.requires.own.requests ∙ e.2.reading.still.requests) (c.requires.own.allowed _ refl)) c.args.thunk.now e.0 c.args.runner e.2 (IsSeen g.G.Gate.halts g.G.Gate.asks) (ap (position (λ step. not (is_look step))) (sym (c.as_slice-body.ensures.value ∙ (c.body.view_is ∙ (c.body_in.ensures ∙ ap (λ s. (g.S.Structure.meaning s).body c.args.thunk.now) c.structure.ensures)))) ∙ (sym c.first_change.ensures ∙ c.in_default.is)) c.load_cells-runner.new.loaded.items c.load_cells-runner.result.1 c.load_cells-runner.result.0 (g.G.Gate.halts c.args.gate.now) (g.G.Gate.halts c.load_cells-runner.new.gate) (g.G.Gate.asks c.args.gate.now) (g.G.Gate.asks c.load_cells-runner.new.gate) c.args.steps.now.count c.load_cells-runner.new.steps.count (subst (λ b. HasLoadedCells m b c.load_cells-runner.new.loaded.items c.load_cells-runner.result.1 c.args.runner c.load_cells-runner.result.0 (IsSeen g.G.Gate.halts g.G.Gate.asks) (g.G.Gate.halts c.args.gate.now) (g.G.Gate.halts c.load_cells-runner.new.gate) (g.G.Gate.asks c.args.gate.now) (g.G.Gate.asks c.load_cells-runner.new.gate) c.args.steps.now.count c.load_cells-runner.new.steps.count) (c.as_slice-body.ensures.value ∙ (c.body.view_is ∙ (c.body_in.ensures ∙ ap (λ s. (g.S.Structure.meaning s).body c.args.thunk.now) c.structure.ensures))) c.load_cells-runner.ensures.loaded) c.if-not-going.false
+          (ap (list_any (is_missed c.load_cells-runner.new.loaded.items)) (sym (c.as_slice-body.ensures.value ∙ (c.body.view_is ∙ (c.body_in.ensures ∙ ap (λ s. (g.S.Structure.meaning s).body c.args.thunk.now) c.structure.ensures)))) ∙ (ap (λ xs. list_any (is_missed xs) c.as_slice-body.result.now) (sym c.as_slice.ensures.value) ∙ c.first_missed.ensures.none c.in_default-first_missed.is)),
+    )
 
 pub confirm-requires-clause-reply : goal.confirm-requires-clause-reply
 confirm-requires-clause-reply g c κs within =

@@ -94,9 +94,9 @@ returns-in_default g c =
       own = c.exit.ensures.own;
       reads = subst (λ a. Reads m (g.S.Planner.planning c.args.table.now.structure) c.args.request.now a c.args.runner c.exit.result (IsSeen g.G.Gate.halts g.G.Gate.asks) (g.G.Gate.halts c.args.gate.now) (g.G.Gate.halts c.plan-runner.new.gate) (g.G.Gate.asks c.args.gate.now) (g.G.Gate.asks c.plan-runner.new.gate) c.args.steps.now.count c.plan-runner.new.steps.count) (sym c.plan_refused.ensures)
           (plan_refused_reads m (met.laws c.args.table.now.structure) (g.S.Planner.planning c.args.table.now.structure) c.args.request.now c.args.runner
-    (subst IsWithinLimits (sym c.requires.own.layout) (c.requires.own.limits _ refl)) (subst AreAllowed (sym c.requires.own.requests) (c.requires.own.allowed _ refl))
-    c.enter-runner.result enters (g.G.Gate.halts c.args.gate.now) (g.G.Gate.asks c.args.gate.now) (g.G.Gate.halts c.goes_on.new.gate) (g.G.Gate.asks c.goes_on.new.gate) c.args.steps.now.count
-    (subst (λ b. IsCounted 0 1 b (g.G.Gate.halts c.args.gate.now) (g.G.Gate.halts c.goes_on.new.gate) (g.G.Gate.asks c.args.gate.now) (g.G.Gate.asks c.goes_on.new.gate) c.args.steps.now.count c.args.steps.now.count) c.if-not-goes_on.false (c.goes_on.ensures c.args.steps.now.count))
+          (subst IsWithinLimits (sym c.requires.own.layout) (c.requires.own.limits _ refl)) (subst AreAllowed (sym c.requires.own.requests) (c.requires.own.allowed _ refl))
+          c.enter-runner.result enters (g.G.Gate.halts c.args.gate.now) (g.G.Gate.asks c.args.gate.now) (g.G.Gate.halts c.goes_on.new.gate) (g.G.Gate.asks c.goes_on.new.gate) c.args.steps.now.count
+          (subst (λ b. IsCounted 0 1 b (g.G.Gate.halts c.args.gate.now) (g.G.Gate.halts c.goes_on.new.gate) (g.G.Gate.asks c.args.gate.now) (g.G.Gate.asks c.goes_on.new.gate) c.args.steps.now.count c.args.steps.now.count) c.if-not-goes_on.false (c.goes_on.ensures c.args.steps.now.count))
           is.readings c.plan-runner.result.1 c.plan-runner.result.0 c.exit.result planned refused c.exit.ensures.exits (IsSeen g.G.Gate.halts g.G.Gate.asks) _ _ _
           (subst (λ b. IsAsked (length is.readings) b (g.G.Gate.halts c.goes_on.new.gate) (g.G.Gate.halts c.plan-runner.new.gate) (g.G.Gate.asks c.goes_on.new.gate) (g.G.Gate.asks c.plan-runner.new.gate) c.args.steps.now.count c.plan-runner.new.steps.count) (ap not (refusal_goes_on c.plan-runner.result.1 refused)) is.asked));
     }
