@@ -1,0 +1,4 @@
+pub mod Knowing
+pub mod Counting
+pub mod Standing
+pub mod Shapes

@@ -1,0 +1,16 @@
+pub mod Looking
+pub mod Finding
+pub mod Events
+pub mod Courses
+pub mod Serving
+pub mod Writing
+pub mod Locking
+pub mod Loading
+pub mod Resting
+pub mod Refusing
+pub mod Ending
+pub mod Keeping
+pub mod Entering
+pub mod Along
+pub mod Looked
+pub mod Walking

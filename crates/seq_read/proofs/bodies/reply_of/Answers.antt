@@ -1,0 +1,9 @@
+use Rattle.runner_steps.specs.Sections.{reply_in}
+use Rattle.lock_walks.specs.section_runs.proofs.Replies.{reply_there, reply_found}
+use Rattle.seq_read.proofs.bodies.reply_of.Goals as goal
+
+pub unreachable-requires : goal.unreachable-requires
+unreachable-requires c = c.in_default.not-Answer (reply_in c.args.steps.now) (reply_there c.args.steps.now c.requires _)
+
+pub returns : goal.returns
+returns c = reply_found c.args.steps.now c.requires _ c.in-Answer.reply c.in-Answer.is

@@ -1,0 +1,9 @@
+pub mod RealTime
+pub mod Wants
+pub mod Course
+pub mod Reads
+pub mod Parts
+-- Passed on to the layers above, so that they needn't name these libraries themselves.
+pub use Rattle.caller_facts
+pub use Rattle.lock_walks
+pub use Rattle.request_facts

@@ -1,0 +1,34 @@
+//! What a read asks of a body.
+ghost use Rattle.std.specs.Prelude.{◌≡◌, position, not};
+ghost use Rattle.body_terms.specs.Shape.{is_look, IsShaped};
+ghost use Rattle.runner_steps.specs.Sections.{reply_in};
+
+use body_terms::Step;
+
+/// Whether this step changes nothing: it loads a cell, tests what was loaded, or is the stamp or the answer.
+fn looks(step: &Step) -> bool
+    ensures { result ≡ is_look step.now }
+{
+    matches!(
+        step,
+        Step::Load { .. } | Step::Want { .. } | Step::Stamp | Step::Answer { .. }
+    )
+}
+
+/// The place of the first of these steps that changes something, if one does.
+pub fn first_change(steps: &[Step]) -> Option<usize>
+    ensures { result ≡ position (λ step. not (is_look step)) steps.now }
+{
+    steps.iter().position(|step| !looks(step))
+}
+
+/// The reply of a body's Answer, which is its last step.
+pub fn reply_of(steps: &[Step]) -> u64
+    requires { IsShaped steps.now }
+    ensures { result ≡ reply_in steps.now }
+{
+    match steps[steps.len() - 1] {
+        Step::Answer { reply } => reply,
+        _ => unreachable!(),
+    }
+}

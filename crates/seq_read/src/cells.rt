@@ -1,0 +1,66 @@
+//! The loads of the cells that a body loads.
+ghost use Rattle.std.specs.Prelude.{◌≡◌, [], length};
+ghost use Rattle.map_history.specs.declared.op.Request.{Request};
+ghost use Rattle.body_terms.specs.declared.thunk.Thunk.{Thunk};
+ghost use Rattle.structure_laws.specs.Scene.{Readings};
+ghost use Rattle.version_words.specs.RunnerState.{RunnerState};
+ghost use Rattle.version_words.specs.TableState.{IsOf};
+ghost use Rattle.lock_walks.specs.try_lock.specs.Planning.{Planning};
+ghost use Rattle.caller_facts.specs.Counted.{IsSeen};
+ghost use Rattle.seq_read.specs.Parts.{MayLoad, HasLoadedCells};
+
+use arrayvec::ArrayVec;
+use body_terms::{Place, Step, StepKind, Steps};
+use lock_walks::try_lock::commit_log::passes;
+use runner_gate::Gate;
+use structure_laws::Structure;
+use version_words::{FlockTable, Runner};
+
+/// A cell that was loaded: its place, the register into which the body loads it, and the word that was found.
+#[derive(Clone, Copy, Debug, Default, PartialEq, Eq)]
+pub struct Loaded {
+    pub place: Place,
+    pub into: u8,
+    pub word: u64,
+}
+
+/// Loads the cells that these steps load, in their order; the gate is asked behind each load. Answers whether it let
+/// the runner go on.
+///
+/// The steps are those of the body of a thunk that was planned since the runner entered. No memory is taken.
+pub fn load_cells<S: Structure, G: Gate, L>(
+    table: &FlockTable<S>,
+    runner: Runner<S>,
+    body: &[Step],
+    loaded: &mut ArrayVec<Loaded, 40>,
+    gate: &mut G,
+    steps: &mut Steps<L>,
+) -> (Runner<S>, bool)
+    requires own { IsOf table.now runner }
+    requires may { (planning : Planning) × (request : Request) × (thunk : Thunk) × (readings : Readings)
+        × (old : RunnerState S)
+        × MayLoad (S.meaning table.now.structure) planning request body.now thunk readings old runner }
+    requires none { loaded.old.items ≡ [] }
+    ensures own { IsOf table.now result.0 }
+    ensures loaded { HasLoadedCells (S.meaning table.now.structure) body.now loaded.new.items result.1 runner result.0
+        (IsSeen G.halts G.asks)
+        (G.halts gate.old) (G.halts gate.new) (G.asks gate.old) (G.asks gate.new) steps.old.count steps.new.count }
+{
+    let mut runner = runner;
+    for n in 0..body.len() {
+        let step = &body[n];
+        if let Step::Load { place, into } = *step {
+            let (at, found) = table.load_cell(runner, place);
+            runner = at;
+            loaded.push(Loaded {
+                place,
+                into,
+                word: found.bits(),
+            });
+            if !passes(gate, steps, StepKind::Walk) {
+                return (runner, false);
+            }
+        }
+    }
+    (runner, true)
+}

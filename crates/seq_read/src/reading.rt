@@ -1,0 +1,213 @@
+//! One read of a request without a lock.
+ghost use Rattle.std.specs.Prelude.{◌≡◌, ℕ, ◌+◌, length};
+ghost use Rattle.structure_laws.specs.Scene.{Readings};
+ghost use Rattle.runner_steps.specs.Sections.{reply_in};
+ghost use Rattle.version_words.specs.RunnerState.{RunnerState};
+ghost use Rattle.version_words.specs.TableState.{IsOf};
+ghost use Rattle.lock_walks.specs.try_lock.specs.declared.planned.Planned.TheVariants as plans;
+ghost use Rattle.caller_facts.specs.Counted.{IsSeen};
+ghost use Rattle.caller_facts.specs.Asking.{MayAttempt};
+ghost use Rattle.seq_read.specs.Course.{HasPlanned, HasFound, HasLock, loaded_steps, locked_steps};
+ghost use Rattle.seq_read.specs.Reads.{Reads};
+ghost use Rattle.seq_read.specs.Parts.{Rests};
+
+use crate::answers::Read;
+use crate::bodies::{first_change, reply_of};
+use crate::cells::load_cells;
+use crate::confirming::{announce, load_clock, load_lock, write_reply, write_stamp};
+use crate::refusals::{lock_moved, plan_refused};
+use crate::wants::first_missed;
+use arrayvec::ArrayVec;
+use body_terms::{Body, StepKind, Steps, Thunk};
+use caller_facts::goes_on;
+use lock_walks::Planner;
+use lock_walks::epoch_slots::{enter, exit};
+use lock_walks::try_lock::Planned;
+use map_history::{Reply, Request};
+use next_steps::looks_are_small;
+use runner_gate::Gate;
+use version_words::{FlockTable, Runner};
+
+/// Writes both words of the request, whose lock had its word again behind the load of the clock, and leaves.
+fn answer<S: Planner, G: Gate, L>(
+    table: &FlockTable<S>,
+    runner: Runner<S>,
+    request: &Request,
+    thunk: &Thunk,
+    clock: u64,
+    reply: u64,
+    gate: &mut G,
+    steps: &mut Steps<L>,
+) -> (Runner<S>, Read)
+    requires own { IsOf table.now runner }
+    requires unmoved { (found : Readings) × (old : RunnerState S)
+        × HasLock (S.meaning table.now.structure) (S.planning table.now.structure) request.now thunk.now found clock
+        thunk.now.word old runner }
+    requires reply { reply ≡ reply_in ((S.meaning table.now.structure).body thunk.now) }
+    ensures own { IsOf table.now result.0 }
+    ensures rests { (found : Readings) (old : RunnerState S)
+        → (locks : HasLock (S.meaning table.now.structure) (S.planning table.now.structure) request.now thunk.now found
+        clock thunk.now.word old runner)
+        → Rests (S.meaning table.now.structure) (S.planning table.now.structure) request.now
+        (locked_steps (S.meaning table.now.structure) (S.planning table.now.structure) request.now thunk.now found clock
+        thunk.now.word old runner locks)
+        result.1 old result.0 (IsSeen G.halts G.asks)
+        (G.halts gate.old) (G.halts gate.new) (G.asks gate.old) (G.asks gate.new) steps.old.count steps.new.count }
+{
+    let _ = request;
+    looks_are_small(table.structure());
+    let (runner, word, going) = write_reply(table, runner, thunk, reply, gate, steps);
+    if !going {
+        return (runner, Read::Halted);
+    }
+    let (runner, stamp, going) = write_stamp(table, runner, thunk, clock, gate, steps);
+    if !going {
+        return (runner, Read::Halted);
+    }
+    let runner = exit(table, runner);
+    match Reply::from_word(word) {
+        Some(reply) => (runner, Read::Done { reply, stamp }),
+        None => unreachable!(),
+    }
+}
+
+/// Loads the clock, and the lock once more; where this has the plan's word still, the read is made, with this reply.
+/// Else it leaves.
+fn confirm<S: Planner, G: Gate, L>(
+    table: &FlockTable<S>,
+    runner: Runner<S>,
+    request: &Request,
+    thunk: &Thunk,
+    reply: u64,
+    gate: &mut G,
+    steps: &mut Steps<L>,
+) -> (Runner<S>, Read)
+    requires own { IsOf table.now runner }
+    requires found { (found : Readings) × (old : RunnerState S)
+        × HasFound (S.meaning table.now.structure) (S.planning table.now.structure) request.now thunk.now found old
+        runner }
+    requires reply { reply ≡ reply_in ((S.meaning table.now.structure).body thunk.now) }
+    ensures own { IsOf table.now result.0 }
+    ensures rests { (found : Readings) (old : RunnerState S)
+        → (finds : HasFound (S.meaning table.now.structure) (S.planning table.now.structure) request.now thunk.now found
+        old runner)
+        → Rests (S.meaning table.now.structure) (S.planning table.now.structure) request.now
+        (loaded_steps (S.meaning table.now.structure) (S.planning table.now.structure) request.now thunk.now found
+        old runner finds.loads)
+        result.1 old result.0 (IsSeen G.halts G.asks)
+        (G.halts gate.old) (G.halts gate.new) (G.asks gate.old) (G.asks gate.new) steps.old.count steps.new.count }
+{
+    looks_are_small(table.structure());
+    let (runner, going) = announce(table, runner, thunk, gate, steps);
+    if !going {
+        return (runner, Read::Halted);
+    }
+    let (runner, clock, going) = load_clock(table, runner, thunk, gate, steps);
+    if !going {
+        return (runner, Read::Halted);
+    }
+    let (runner, word, going) = load_lock(table, runner, thunk, gate, steps);
+    if !going {
+        return (runner, Read::Halted);
+    }
+    if word != thunk.word {
+        return (exit(table, runner), lock_moved(thunk, word));
+    }
+    answer(table, runner, request, thunk, clock, reply, gate, steps)
+}
+
+/// Looks at the body of the thunk that was planned: where it changes nothing, its cells are loaded and tested, and the
+/// read is confirmed. Else the runner leaves.
+fn look<S: Planner, G: Gate, L>(
+    table: &FlockTable<S>,
+    runner: Runner<S>,
+    request: &Request,
+    thunk: &Thunk,
+    gate: &mut G,
+    steps: &mut Steps<L>,
+) -> (Runner<S>, Read)
+    requires own { IsOf table.now runner }
+    requires planned { (readings : Readings) × (old : RunnerState S)
+        × HasPlanned (S.meaning table.now.structure) (S.planning table.now.structure) request.now readings
+        (plans.Thunk thunk.now) old runner }
+    ensures own { IsOf table.now result.0 }
+    ensures rests { (readings : Readings) (old : RunnerState S)
+        → HasPlanned (S.meaning table.now.structure) (S.planning table.now.structure) request.now readings
+        (plans.Thunk thunk.now) old runner
+        → Rests (S.meaning table.now.structure) (S.planning table.now.structure) request.now (length readings)
+        result.1 old result.0 (IsSeen G.halts G.asks)
+        (G.halts gate.old) (G.halts gate.new) (G.asks gate.old) (G.asks gate.new) steps.old.count steps.new.count }
+{
+    let mut body = Body::empty();
+    table.structure().body_in(thunk, &mut body);
+    let body = body.steps.as_slice();
+    if let Some(at) = first_change(body) {
+        return (exit(table, runner), Read::Locked { at: at as u32 });
+    }
+    let mut loaded = ArrayVec::new();
+    let (runner, going) = load_cells(table, runner, body, &mut loaded, gate, steps);
+    if !going {
+        return (runner, Read::Halted);
+    }
+    if let Some(missed) = first_missed(body, loaded.as_slice()) {
+        let stale = Read::Stale {
+            place: missed.place,
+            expected: missed.expected,
+            read: missed.read,
+        };
+        return (exit(table, runner), stale);
+    }
+    confirm(table, runner, request, thunk, reply_of(body), gate, steps)
+}
+
+/// Reads a request once, without its lock.
+///
+/// The runner enters, plans the request's section, and looks at its body. Where this changes nothing, it loads the cells
+/// that the body loads and tests what the body wants of them, announces the read, loads the clock, loads the lock once
+/// more, writes the reply and then the stamp, and leaves. The request is one of the table's, of a trace that this runner
+/// serves; the runner knows the answers of the trace's earlier requests and not yet this one's; it is idle, with an empty
+/// hand.
+///
+/// - `Done`: between its two equal readings of the lock the cells held what the body wants. The request stands once in
+///   the one history, with this stamp, twice the loaded clock and one, and with this reply; its stamp word and its reply
+///   word hold them. The stamp is above those of all requests that were answered as the read began, by whomever, or it
+///   is the same odd one, so that both are of reads.
+/// - `Locked`: the body changes something; this is its first such step.
+/// - `Busy`: a lock was held, as the plan read it, or behind the load of the clock. Nobody is helped.
+/// - `Stale`: a word was read, and then another one at the same place; or a node that was reached has been taken out.
+/// - `Far`: the walk loaded as many links as there are node slots, and eight more, and came to no end.
+/// - `Spent`: a lock has too few versions left.
+/// - `Halted`: the gate halted the runner. Exactly then its count of halts rose.
+///
+/// After every answer but `Halted` the runner is idle, and may read or attempt again. After every answer but `Done` and
+/// `Halted` nobody has served the request, which has neither word. After `Halted` the runner stays entered, and can only
+/// be joined; the request is served exactly where the gate halted it behind the exchange of the stamp.
+///
+/// The gate is asked once behind the entry, and after each counted step. The runner takes no lock and no slot, runs no
+/// section, takes no memory, and waits for nothing (after Hemminger's seqlocks, and Boehm, *Can seqlocks get along with
+/// programming language memory models?*, 2012).
+pub fn read<S: Planner, G: Gate, L>(
+    table: &FlockTable<S>,
+    runner: Runner<S>,
+    request: &Request,
+    gate: &mut G,
+    steps: &mut Steps<L>,
+) -> (Runner<S>, Read)
+    requires own { IsOf table.now runner }
+    requires next { MayAttempt (S.planning table.now.structure) request.now runner }
+    ensures own { IsOf table.now result.0 }
+    ensures reads { Reads (S.meaning table.now.structure) (S.planning table.now.structure)
+        request.now result.1 runner result.0 (IsSeen G.halts G.asks)
+        (G.halts gate.old) (G.halts gate.new) (G.asks gate.old) (G.asks gate.new) steps.old.count steps.new.count }
+{
+    let runner = enter(table, runner);
+    if !goes_on(gate, StepKind::Entered) {
+        return (runner, Read::Halted);
+    }
+    let (runner, planned) = table.structure().plan(table, runner, request, gate, steps);
+    match planned {
+        Planned::Thunk(thunk) => look(table, runner, request, &thunk, gate, steps),
+        Planned::Halted => (runner, Read::Halted),
+        refused => (exit(table, runner), plan_refused(refused)),
+    }
+}
