@@ -7,3 +7,4 @@ mod Numbered
 mod Unlocked
 mod HashRow
 mod Next
+mod Banks

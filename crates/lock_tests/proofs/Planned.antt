@@ -1,5 +1,5 @@
 -- What a plan of the worker's next request gives to the publication of its section, and this to its run.
-use Rattle.std.proofs.Common.{◌≡◌, ℕ, ◌≤◌, ◌++◌, length, true, refl, sym, ap, subst, ◌∙◌, Some, None}
+use Rattle.std.proofs.Common.{◌≡◌, ℕ, ◌≤◌, ◌++◌, length, true, sym, ap, subst, ◌∙◌, Some, None}
 use Rattle.std.specs.Prelude.{◌&&◌, not, slice_get}
 use Rattle.map_history.specs.declared.op.Request.{Request}
 use Rattle.body_terms.specs.Word.{is_spent}

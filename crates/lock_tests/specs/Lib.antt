@@ -5,3 +5,4 @@ pub mod Closing
 pub mod HashScene
 pub mod TreeScene
 pub mod AttemptScene
+pub mod Bank

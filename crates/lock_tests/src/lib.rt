@@ -3,13 +3,17 @@
 //! `workers` has a table's keeper with two workers, before and after their work; `turns` the runs of one section by its
 //! publisher and by another worker; `courses` a worker's requests from plan to answer; `scripts` the gates that bring
 //! both into an order. `scenes` has the table of the test structure and offers of its sections, `hash_scene` a hash
-//! table of one bucket, `tree_scene` a search tree with one worker, and `attempt_scene` two workers that attempt their
-//! requests on any structure. The tests stand in `rows`, `hash_rows`, `tree_rows` and `attempt_rows`.
+//! table of one bucket, `tree_scene` a search tree with one worker, `attempt_scene` two workers that attempt their
+//! requests on any structure, and `bank` workers that move money between accounts. The tests stand in `rows`,
+//! `hash_rows`, `tree_rows`, `attempt_rows` and `bank_rows`.
 #![tactic(auto)]
 
 #[cfg(test)]
 mod attempt_rows;
 pub mod attempt_scene;
+pub mod bank;
+#[cfg(test)]
+mod bank_rows;
 mod closing;
 mod courses;
 #[cfg(test)]
