@@ -110,7 +110,7 @@ toolchain() {
   local rt kit
   rt=$(command -v rt) || return 0
   kit=$(dirname "$(dirname "$(readlink -f "$rt")")")
-  cat "$kit/KIT-ID" 2> /dev/null || rt version
+  cat "$kit/KIT-ID" 2> /dev/null || rt version < /dev/null
 }
 
 # The program that was built so (proved, or checked), if it was built of these very files, by the toolchain that is

@@ -1,12 +1,14 @@
 -- A transfer that answered was made.
 use Rattle.std.specs.Prelude.{Result, Ok, Err, IfOk}
-use Rattle.std.proofs.Common.{◌≡◌, ℕ, suc, ◌+◌, ◌*◌, sym, ap, ◌∙◌, subst, arith}
+use Rattle.std.proofs.Common.{◌≡◌, ℕ, List, suc, ◌+◌, ◌*◌, sym, ap, ◌∙◌, subst, arith}
 use Rattle.map_history.specs.declared.op.Op.TheVariants.{Get}
 use Rattle.map_history.specs.declared.op.Request.{Request}
+use Rattle.body_terms.specs.declared.step.Step.{Step}
 use Rattle.body_terms.specs.declared.thunk.Thunk.{Thunk}
 use Rattle.runner_gate.specs.Asks.{Asks}
 use Rattle.structure_laws.specs.Scene.{Readings}
 use Rattle.structure_laws.specs.Meaning.{Meaning}
+use Rattle.agreement_core.specs.History.{Change}
 use Rattle.runner_steps.specs.Sections.{reply_in}
 use Rattle.version_words.specs.RunnerState.{RunnerState}
 use Rattle.version_words.specs.TableState.{TableState}
@@ -22,6 +24,10 @@ use Rattle.lock_attempts.specs.Again.{Persists}
 use Rattle.lock_attempts.specs.Tickets.{ticket}
 use Rattle.lock_attempts.specs.declared.tickets.Tickets.{Tickets}
 use Rattle.transfers.specs.Made.{meaning, HasMade, HaveMade}
+
+-- a section that has happened, with its body by another name
+of_body : (changed : ℕ → List Change) (log : ℕ → ℕ) (body body' : List Step) → body ≡ body' → HasHappened changed body log → HasHappened changed body' log
+of_body changed log body body' same did = subst (λ b. HasHappened changed b log) same did
 
 module _ {T : Type 0} (m : Meaning) (transfer : Transfer) (walk : TransferWalk) (makes : Makes m transfer walk) (request : Request) (answered : ℕ) (old new : RunnerState T) where
   abbrev own : Readings → Thunk
@@ -39,18 +45,17 @@ module _ {T : Type 0} (m : Meaning) (transfer : Transfer) (walk : TransferWalk) 
         (sym (is.answer ∙ ap (λ t. reply_in (m.body t)) is.is_own))
         (makes old.layout request.op request.number readings _ (changed_by m (transfer_planning transfer) request own answered old new is)
         plans.walk plans.answers.whole plans.answers.none
-        (subst (λ body. HasHappened (changed_by m (transfer_planning transfer) request own answered old new is) body _) same
-        (record { wanted = is.once.wanted; changes = is.once.changed })))
+        (of_body _ _ _ _ same (record { wanted = is.once.wanted; changes = is.once.changed })))
 
 -- the last attempt made it, if any
 pub made_if : (t : TableState Accounts) (transfer : Transfer) (walk : TransferWalk) → walk ≡ begun transfer t.layout.version_max (Get 0) → Makes (meaning t) transfer walk
     → (request : Request) (more : ℕ) (answer : Result ℕ Attempt) (old new : RunnerState Accounts) (Seen : ℕ → Asks → Type 0) (halts halts' : ℕ) (asks asks' : Asks) (steps steps' : ℕ)
-    → Persists (meaning t) (transfer_planning transfer) request (own_thunk transfer_way walk request.number) more answer old new Seen halts halts' asks asks' steps steps'
+    → Persists (meaning t) (transfer_way.planning walk) request (own_thunk transfer_way walk request.number) more answer old new Seen halts halts' asks asks' steps steps'
     → IfOk answer (λ answered. HasMade t transfer request answered old new)
 made_if t transfer walk same makes request more (Err refused) old new Seen halts halts' asks asks' steps steps' is = tt
 made_if t transfer walk same makes request more (Ok answered) old new Seen halts halts' asks asks' steps steps' is =
     let begun_so : HasAnswered (meaning t) (transfer_planning transfer) request (own_thunk transfer_way (begun transfer t.layout.version_max (Get 0)) request.number) answered is.before new =
-    subst (λ w. HasAnswered (meaning t) (transfer_planning transfer) request (own_thunk transfer_way w request.number) answered is.before new) same is.last.answers in
+    subst (λ w. HasAnswered (meaning t) (transfer_way.planning w) request (own_thunk transfer_way w request.number) answered is.before new) same is.last.answers in
     record {
       before = is.before;
       answers = begun_so;

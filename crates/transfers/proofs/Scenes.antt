@@ -48,4 +48,4 @@ all_true t scene workers backs reports len len' new worked are = (
 )
 
 pub all_came : (t : TableState Accounts) (workers : List (RunnerState Accounts)) (backs : List (RunnerState Accounts × Report)) → AllWorked t workers backs → AllCameBack t workers backs
-all_came t workers backs worked i d e low = (worked i d e low).back
+all_came t workers backs worked i d e low = (worked i d e low).came

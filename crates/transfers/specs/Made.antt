@@ -50,7 +50,7 @@ module _ (t : TableState Accounts) where
 
   -- a worker came back, having made as many transfers as it reports
   pub record HasWorked (worker : RunnerState Accounts) (back : RunnerState Accounts × Report) : Type 0 where
-    pub back : CameBack t worker back
+    pub came : CameBack t worker back
     pub reports : Reports back.1.made worker back.0
 
   abbrev pub AllWorked : List (RunnerState Accounts) → List (RunnerState Accounts × Report) → Type 0

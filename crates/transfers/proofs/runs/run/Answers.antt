@@ -29,3 +29,12 @@ close_table-requires-clause-back g c κs =
 pub close_table-requires-clause-each : goal.close_table-requires-clause-each
 close_table-requires-clause-each g c κs =
     c.in_ok-backs.ensures.len ∙ (c.in_ok-table.ensures.len ∙ sym (ap (λ (l : Layout). l.runners) c.in_ok-table.ensures.table.layout))
+
+pub returns-clause-reports : goal.returns-clause-reports
+returns-clause-reports g c =
+    let t = c.in_ok-table.table in
+    let given : c.as_slice.result.now ≡ tickets_for 4 100 = search rules in
+    let same : length c.in_ok-backs.backs.items ≡ length c.in_ok-table.workers.items = (let len = c.in_ok-backs.ensures.len in grind rules) in
+    let as_many : length c.in_ok-words.reports.items ≡ length c.in_ok-backs.backs.items = (let len = c.in_ok-words.ensures.len in grind rules) in
+    all_true t (scene t _ _ _ c.in_ok-table.ensures.table c.new-bank.ensures.accounts refl given)
+    c.in_ok-table.workers.items c.in_ok-backs.backs.items c.in_ok-words.reports.items as_many same c.in_ok-table.ensures.workers c.in_ok-backs.ensures.each c.in_ok-words.ensures.reports

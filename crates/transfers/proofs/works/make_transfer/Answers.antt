@@ -1,16 +1,13 @@
-use Rattle.std.specs.Prelude.{Result}
-use Rattle.std.proofs.Common.{ap, subst}
+use Rattle.std.proofs.Common.{ap, ◌∙◌, subst}
 use Rattle.map_history.specs.declared.op.Op.TheVariants.{Get}
-use Rattle.lock_walks.specs.Own.{own_thunk}
+use Rattle.table_words.specs.declared.layout.Layout.{Layout}
 use Rattle.lock_walks.specs.Wants.{WantsWereRead}
 use Rattle.account_laws.specs.Accounts.{accounts_of}
-use Rattle.accounts.specs.Walk.{transfer_way}
+use Rattle.accounts.specs.Walk.{begun}
 use Rattle.accounts.specs.Made.{Makes}
 use Rattle.accounts.specs.declared.table.Accounts.{Accounts}
 use Rattle.attempts.specs.Counted.{IsSeen}
 use Rattle.lock_attempts.specs.Tickets.{ticket}
-use Rattle.lock_attempts.specs.Again.{Persists}
-use Rattle.transfers.specs.Made.{meaning}
 use Rattle.transfers.proofs.Making.{made_if}
 use Rattle.transfers.proofs.works.make_transfer.Goals as goal
 
@@ -27,8 +24,7 @@ returns-clause-knows g c = c.spend_ticket.ensures.persists.knows
 pub returns-clause-made : goal.returns-clause-made
 returns-clause-made g c =
     let t = c.args.table.now in
-    made_if t c.args.transfer c.walk-walk.result c.walk-walk.ensures.begun
+    made_if t c.args.transfer c.walk-walk.result (c.walk-walk.ensures.begun ∙ ap (λ (l : Layout). begun c.args.transfer l.version_max (Get 0)) c.layout.ensures)
     (subst (λ (s : Accounts). Makes (accounts_of s.accounts s.opening) c.args.transfer c.walk-walk.result) c.structure.ensures c.walk-walk.ensures.makes)
     (ticket c.args.tickets.now.trace c.args.tickets.now.next) _ c.spend_ticket.result.1 c.args.runner c.spend_ticket.result.0 (IsSeen g.G.Gate.halts g.G.Gate.asks) _ _ _ _ _ _
-    (subst (λ p. Persists (meaning t) p (ticket c.args.tickets.now.trace c.args.tickets.now.next) (own_thunk transfer_way c.walk-walk.result c.args.tickets.now.next) _ c.spend_ticket.result.1
-    c.args.runner c.spend_ticket.result.0 (IsSeen g.G.Gate.halts g.G.Gate.asks) _ _ _ _ _ _) c.walk-walk.ensures.planning c.spend_ticket.ensures.persists)
+    c.spend_ticket.ensures.persists

@@ -66,8 +66,9 @@ pub returns-in-Err-clause-each : goal.returns-in-Err-clause-each
 returns-in-Err-clause-each g c = (c.loop-turn.runner, c.loop-turn.invariant.6, c.make_transfer-next.ensures.knows)
 
 pub returns-clause-each : goal.returns-clause-each
-returns-clause-each g c = (
-  c.loop-turn.runner,
-  subst (λ (n : ℕ). HaveMade c.args.table.now n c.args.runner.number c.args.runner c.loop-turn.runner) (let past = c.loop-turn-test.false in let low = c.loop-turn.auto.turn-end in omega (arith, past, low)) c.loop-turn.invariant.6,
-  knows_same c.loop-turn.runner c.loop-turn.runner refl refl refl,
-)
+returns-clause-each g c =
+    let all : c.loop-turn.turn ≡ 100 = (let past = c.loop-turn-test.false in let low = c.loop-turn.auto.turn-end in omega (arith, past, low)) in (
+      c.loop-turn.runner,
+      subst (λ (n : ℕ). HaveMade c.args.table.now n c.args.runner.number c.args.runner c.loop-turn.runner) all c.loop-turn.invariant.6,
+      knows_same c.loop-turn.runner c.loop-turn.runner refl refl refl,
+    )
