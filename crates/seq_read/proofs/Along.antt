@@ -1,6 +1,6 @@
 -- The rest of a read from its parts on.
 use Rattle.std.specs.Prelude.{◌==◌, not, Bool, true, false, if◌then◌else◌}
-use Rattle.std.proofs.Common.{◌≡◌, ◌≢◌, ℕ, ◌+◌, ◌*◌, ◌-◌, ◌≤◌, length, refl, sym, ap, ◌∙◌, subst, arith, Some, None}
+use Rattle.std.proofs.Common.{◌≡◌, ◌≢◌, ℕ, ◌+◌, ◌*◌, refl, sym, ◌∙◌, subst, arith, Some}
 use Rattle.small_lemmas.proofs.Numbers.{tested_equal, tested_other}
 use Rattle.small_lemmas.proofs.Bools.{negated}
 use Rattle.map_history.specs.declared.op.Request.{Request}
@@ -9,7 +9,7 @@ use Rattle.map_history.specs.Words.{word_of, IsReply}
 use Rattle.body_terms.specs.Word.{is_free}
 use Rattle.body_terms.specs.declared.thunk.Thunk.{Thunk}
 use Rattle.table_words.specs.Limits.{IsWithinLimits}
-use Rattle.runner_gate.specs.Asks.{Asks, asked_on}
+use Rattle.runner_gate.specs.Asks.{Asks}
 use Rattle.structure_laws.specs.Scene.{Readings}
 use Rattle.structure_laws.specs.Meaning.{Meaning}
 use Rattle.structure_laws.specs.Laws.{Laws}

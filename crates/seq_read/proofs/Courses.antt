@@ -1,6 +1,6 @@
 -- How far a read came, and what its runner is at there.
-use Rattle.std.specs.Prelude.{◌==◌, ◌&&◌, Bool, true, false, not, slice_get, take}
-use Rattle.std.proofs.Common.{◌≡◌, ◌≢◌, ℕ, ◌+◌, ◌*◌, ◌≤◌, List, [], ◌∷◌, ◌++◌, length, refl, sym, ap, ◌∙◌, subst, Option, Some, None}
+use Rattle.std.specs.Prelude.{true, false, take}
+use Rattle.std.proofs.Common.{◌≡◌, ℕ, ◌+◌, ◌*◌, ◌≤◌, [], ◌∷◌, ◌++◌, length, refl, sym, ap, ◌∙◌, subst, Option, Some, None}
 use Rattle.std.specs.List.{list_all}
 use Rattle.map_history.specs.declared.op.Request.{Request}
 use Rattle.body_terms.specs.Shape.{is_look, loaded_places}
@@ -31,7 +31,6 @@ use Rattle.lock_walks.specs.try_lock.specs.declared.planned.Planned.TheVariants 
 use Rattle.lock_walks.specs.try_lock.specs.Planning.{Planning}
 use Rattle.lock_walks.specs.try_lock.specs.Plans as plan
 use Rattle.lock_walks.specs.try_lock.specs.Reached.{IsReached}
-use Rattle.caller_facts.specs.Knowing.{IsStill}
 use Rattle.caller_facts.specs.Asking.{MayAttempt}
 use Rattle.seq_read.specs.Course.{IsReading, HasEntered, HasPlanned, HasLoaded, HasFound, HasAnnounced, HasClock, HasLock, HasReplied, HasStamped}
 use Rattle.seq_read.proofs.Events.{IsHere, at_here, loads_on, plan_on, clock_on, load_on, reply_on, stamp_on}

@@ -1,6 +1,6 @@
 -- A read that wrote both words, and the runner's leaving behind it.
-use Rattle.std.specs.Prelude.{◌==◌, not, Bool, true, false, slice_get}
-use Rattle.std.proofs.Common.{◌≡◌, ◌≢◌, ℕ, ◌+◌, ◌*◌, ◌≤◌, ◌<◌, List, [], ◌∷◌, ◌++◌, length, refl, sym, ap, ◌∙◌, subst, arith, Some, None}
+use Rattle.std.specs.Prelude.{true, false, slice_get}
+use Rattle.std.proofs.Common.{◌≡◌, ℕ, ◌+◌, ◌*◌, length, refl, sym, ap, ◌∙◌, subst}
 use Rattle.std.proofs.lemmas.Bool.{true≢false}
 use Rattle.map_history.specs.declared.op.Request.{Request}
 use Rattle.map_history.specs.declared.reply.Reply.{Reply}
@@ -19,12 +19,10 @@ use Rattle.runner_parts.specs.declared.event.EventKind.TheVariants as kinds
 use Rattle.runner_parts.specs.State.{NodesState}
 use Rattle.runner_parts.specs.Tests.{is_answered}
 use Rattle.runner_steps.specs.Sections.{reply_in}
-use Rattle.machine_states.proofs.Steps.{some_same}
 use Rattle.request_facts.specs.reached_histories.specs.machine_invariant.specs.After.{AreAllowed}
 use Rattle.request_facts.specs.Laws.{HasEntry}
 use Rattle.version_words.specs.RunnerState.{RunnerState}
 use Rattle.lock_walks.specs.commit_log.specs.Asked.{IsAsked}
-use Rattle.lock_walks.specs.epoch_slots.specs.Collects.{IsTidy}
 use Rattle.lock_walks.specs.epoch_slots.specs.Entries.{Exits}
 use Rattle.lock_walks.proofs.Each.{get_last}
 use Rattle.lock_walks.specs.try_lock.specs.Planning.{Planning}
@@ -37,7 +35,7 @@ use Rattle.seq_read.specs.Course.{HasReplied, HasStamped}
 use Rattle.seq_read.specs.Reads.{IsInHistory, HasRead, IsServed, IsHalted, BehindReply, BehindStamp, replied_steps}
 use Rattle.seq_read.specs.Parts.{Rests}
 use Rattle.seq_read.specs.declared.answers.Read.TheVariants as answers
-use Rattle.seq_read.proofs.Events.{IsHere, may_load_clock}
+use Rattle.seq_read.proofs.Events.{may_load_clock}
 use Rattle.seq_read.proofs.Courses.{announced_here, epoch_announced, walk_announced, replied_here, stamped_here}
 use Rattle.seq_read.proofs.Serving.{was_reached, was_found, reply_known, same_word, known_reply, in_history, answered, knew_before, follows_answered}
 use Rattle.seq_read.proofs.Writing.{LooksStand, unknown_replied}

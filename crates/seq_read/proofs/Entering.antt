@@ -1,7 +1,6 @@
 -- A read from its entry on.
-use Rattle.std.specs.Prelude.{not, Bool, true, false}
-use Rattle.std.proofs.Common.{◌≡◌, ℕ, ◌+◌, ◌*◌, ◌≤◌, length, refl, sym, ap, ◌∙◌, subst, arith}
-use Rattle.std.proofs.lemmas.Bool.{true≢false}
+use Rattle.std.specs.Prelude.{not, true, false}
+use Rattle.std.proofs.Common.{◌≡◌, ℕ, ◌+◌, ◌*◌, ◌≤◌, length, refl, sym, ◌∙◌, subst, arith}
 use Rattle.map_history.specs.declared.op.Request.{Request}
 use Rattle.table_words.specs.Limits.{IsWithinLimits}
 use Rattle.runner_gate.specs.Asks.{Asks, asked_on}
@@ -22,7 +21,7 @@ use Rattle.caller_facts.specs.Counted.{IsCounted}
 use Rattle.caller_facts.proofs.Counting.{counted_steps, asked_then, steps_then, seen_then}
 use Rattle.caller_facts.proofs.Standing.{made_reached}
 use Rattle.seq_read.specs.Course.{of_plan, HasEntered, HasPlanned, ByPlan}
-use Rattle.seq_read.specs.Reads.{is_halted, Stops, AtEntry, InPlan, IsHalted, Answers, steps_of, asks_before, Reads}
+use Rattle.seq_read.specs.Reads.{is_halted, AtEntry, InPlan, Answers, steps_of, asks_before, Reads}
 use Rattle.seq_read.specs.Parts.{Rests}
 use Rattle.seq_read.specs.declared.answers.Read.{Read}
 use Rattle.seq_read.specs.declared.answers.Read.TheVariants as answers

@@ -1,8 +1,7 @@
 -- A reading runner's part, step by step, and which step it may make.
-use Rattle.std.specs.Prelude.{◌==◌, ◌&&◌, ◌||◌, Bool, true, false, not, is_none, nat_lt, if◌then◌else◌}
-use Rattle.std.proofs.Common.{◌≡◌, ◌≢◌, ℕ, ◌+◌, ◌*◌, ◌≤◌, ◌<◌, List, [], ◌∷◌, ◌++◌, append-nil, length, refl, sym, ap, ◌∙◌, subst, Option, Some, None}
+use Rattle.std.specs.Prelude.{◌==◌, ◌&&◌, Bool, true, false, is_none, nat_lt, if◌then◌else◌}
+use Rattle.std.proofs.Common.{◌≡◌, ℕ, ◌≤◌, ◌<◌, [], ◌∷◌, ◌++◌, append-nil, length, refl, sym, ap, ◌∙◌, subst, Option, Some, None}
 use Rattle.std.proofs.lemmas.List.{append_assoc}
-use Rattle.map_history.specs.declared.op.Request.{Request}
 use Rattle.body_terms.specs.declared.thunk.Thunk.{Thunk}
 use Rattle.table_words.specs.declared.sizes.Sizes.{Sizes}
 use Rattle.table_words.specs.declared.spot.Spot.{Spot}
@@ -15,14 +14,13 @@ use Rattle.structure_laws.specs.Scene.{Readings}
 use Rattle.structure_laws.specs.Meaning.{Meaning}
 use Rattle.epoch_core.specs.declared.stage.Stage.TheVariants as stages
 use Rattle.runner_parts.specs.declared.entries.Look.{Look}
-use Rattle.runner_parts.specs.declared.entries.LookStage.{LookStage}
-use Rattle.runner_parts.specs.declared.entries.LookStage.TheVariants.{Planned, Looked, Replied, Stamped}
+use Rattle.runner_parts.specs.declared.entries.LookStage.TheVariants.{Looked, Replied, Stamped}
 use Rattle.runner_parts.specs.declared.event.EventKind.{EventKind}
 use Rattle.runner_parts.specs.declared.event.EventKind.TheVariants as kinds
 use Rattle.runner_parts.specs.State.{RunState, PartState}
-use Rattle.runner_parts.specs.Tests.{is_walking, is_between, is_replied, is_planned_stage}
+use Rattle.runner_parts.specs.Tests.{is_walking, is_between, is_replied}
 use Rattle.runner_steps.specs.InRun.{last_clock}
-use Rattle.runner_steps.specs.Outside.{Ask, when}
+use Rattle.runner_steps.specs.Outside.{when}
 use Rattle.runner_steps.specs.Sections.{reply_in}
 use Rattle.runner_steps.specs.Reads.{plan_by, looked_by, come_to, only_loads_after, read_clock_ask, read_reply_ask, read_stamp_ask, may_reply, read_stamp_after}
 use Rattle.runner_steps.specs.Asks.{ask_by, outside_ask, fitting, sizes_for}

@@ -1,7 +1,7 @@
 -- What a read leaves of its runner, by how far it came, and how many steps it counts at most.
 use Rattle.std.specs.Prelude.{Bool, true, false, cond, take, slice_get, count_by}
 use Rattle.std.proofs.lemmas.List.Sums.{sum_by-cons}
-use Rattle.std.proofs.Common.{◌≡◌, ◌≢◌, ℕ, zero, suc, ◌+◌, ◌*◌, ◌-◌, ◌≤◌, ◌<◌, List, [], ◌∷◌, ◌++◌, length, refl, sym, ap, ◌∙◌, subst, arith, Some, None}
+use Rattle.std.proofs.Common.{◌≡◌, ℕ, zero, suc, ◌+◌, ◌*◌, ◌≤◌, List, [], ◌∷◌, ◌++◌, length, sym, ap, ◌∙◌, arith, Some}
 use Rattle.map_history.specs.declared.op.Request.{Request}
 use Rattle.map_history.specs.declared.reply.Reply.{Reply}
 use Rattle.body_terms.specs.Shape.{IsShaped, is_stamp, is_answer, loaded_places}
@@ -21,10 +21,10 @@ use Rattle.version_words.specs.RunnerState.{RunnerState}
 use Rattle.lock_walks.specs.epoch_slots.specs.Entries.{Exits}
 use Rattle.lock_walks.specs.epoch_slots.proofs.Outside.{finished_made}
 use Rattle.lock_walks.specs.try_lock.specs.Planning.{Planning}
-use Rattle.runner_steps.specs.Reads.{are_of, read_stamp_after}
+use Rattle.runner_steps.specs.Reads.{read_stamp_after}
 use Rattle.runner_steps.specs.Sections.{reply_in}
 use Rattle.machine_states.proofs.Steps.{some_same, none_some}
-use Rattle.caller_facts.specs.Knowing.{IsFront, KnowsMore, IsOwn, LearnsNoOther}
+use Rattle.caller_facts.specs.Knowing.{IsFront, KnowsMore, LearnsNoOther}
 use Rattle.caller_facts.proofs.Knowing.{front_same, front_on, no_other_same, no_other_on, answered_of_other}
 use Rattle.seq_read.specs.Course.{KeepsSlots, IsReading, HasLoaded, HasReplied, HasStamped, IsRefused, ByPlan, ByBody, ByCell, ByLock, refused_steps, loaded_steps}
 use Rattle.seq_read.specs.Reads.{most_of_read, IsTurnedAway, HasRead, Stops, AtEntry, InPlan, BehindCell, BehindPlan, BehindClock, BehindLock, BehindReply, BehindStamp, stop_steps, Answers, steps_of, read_steps}

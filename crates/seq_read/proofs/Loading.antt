@@ -1,8 +1,6 @@
 -- The loads of the cells that a planned body loads.
-use Rattle.std.specs.Prelude.{◌==◌, ◌&&◌, ◌||◌, nat_lt, Bool, true, false, not, slice_get, take, map}
-use Rattle.std.specs.List.{list_all}
+use Rattle.std.specs.Prelude.{◌||◌, nat_lt, Bool, true, false, slice_get, take}
 use Rattle.std.proofs.Common.{◌≡◌, ◌≢◌, ℕ, zero, suc, ◌+◌, ◌*◌, ◌-◌, ◌/◌, ◌<◌, ◌≤◌, List, [], ◌∷◌, ◌++◌, append-nil, length, length-append, refl, sym, ap, ◌∙◌, subst, arith, ⊎_elim, Some, None}
-use Rattle.std.proofs.lemmas.List.{append_assoc}
 use Rattle.std.proofs.lemmas.Bool.{true≢false}
 use Rattle.small_lemmas.proofs.Numbers.{less_tested}
 use Rattle.map_history.specs.declared.op.Request.{Request}
@@ -18,18 +16,17 @@ use Rattle.runner_gate.specs.Asks.{Asks, asked_on}
 use Rattle.structure_laws.specs.Scene.{Readings}
 use Rattle.structure_laws.specs.Meaning.{Meaning}
 use Rattle.structure_laws.specs.Laws.{Laws}
-use Rattle.structure_laws.specs.Cells.{IsKnown, IsCellOf}
+use Rattle.structure_laws.specs.Cells.{IsKnown}
 use Rattle.structure_laws.specs.Shape.{Shaped}
 use Rattle.epoch_core.specs.declared.stage.Stage.TheVariants as stages
-use Rattle.runner_parts.specs.declared.event.EventKind.TheVariants as kinds
 use Rattle.runner_parts.specs.State.{PartState, ReadsState}
 use Rattle.runner_parts.specs.Tests.{is_readable}
-use Rattle.machine_states.specs.Sight.{sight, part_or_first}
+use Rattle.machine_states.specs.Sight.{part_or_first}
 use Rattle.request_facts.specs.reached_histories.specs.machine_invariant.specs.After.{AreAllowed}
 use Rattle.lock_walks.specs.commit_log.specs.Asked.{IsAsked}
 use Rattle.lock_walks.specs.commit_log.proofs.Asked.{asked_more}
 use Rattle.lock_walks.specs.commit_log.specs.next_steps.proofs.Numbers.{reached_numbers}
-use Rattle.seq_read.proofs.Walking.{may_load, walked_none, walked_more}
+use Rattle.seq_read.proofs.Walking.{may_load, walked_more}
 use Rattle.lock_walks.specs.try_lock.specs.declared.planned.Planned.TheVariants as plans
 use Rattle.lock_walks.specs.try_lock.specs.Planning.{Planning}
 use Rattle.lock_walks.specs.try_lock.specs.Plans.{HasWalked}
@@ -44,7 +41,7 @@ use Rattle.seq_read.specs.Wants.{loads_in, readings_of, cells_of, AreFirst}
 use Rattle.seq_read.specs.Parts.{MayLoad, HasCells, HasLoadedCells}
 use Rattle.seq_read.specs.declared.cells.Loaded.{Loaded}
 use Rattle.seq_read.proofs.Courses.{planned_here}
-use Rattle.seq_read.proofs.Writing.{limits_of, allowed_of, request_there}
+use Rattle.seq_read.proofs.Writing.{limits_of, allowed_of}
 
 after : (n : ℕ) → suc n ≡ n + 1
 after n = omega arith

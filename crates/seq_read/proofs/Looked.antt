@@ -1,13 +1,13 @@
 -- The rest of a read from its plan on.
 use Rattle.std.specs.Prelude.{not, Bool, true, false, position}
 use Rattle.std.specs.List.{list_all, list_any}
-use Rattle.std.proofs.Common.{◌≡◌, ◌≢◌, ℕ, ◌+◌, ◌-◌, ◌≤◌, List, length, refl, sym, ap, ◌∙◌, subst, arith, Some, None}
+use Rattle.std.proofs.Common.{◌≡◌, ℕ, ◌-◌, ◌≤◌, List, length, refl, sym, ◌∙◌, subst, arith, Some, None}
 use Rattle.map_history.specs.declared.op.Request.{Request}
-use Rattle.body_terms.specs.Shape.{IsShaped, is_look, loaded_places}
+use Rattle.body_terms.specs.Shape.{is_look}
 use Rattle.body_terms.specs.declared.step.Step.{Step}
 use Rattle.body_terms.specs.declared.thunk.Thunk.{Thunk}
 use Rattle.table_words.specs.Limits.{IsWithinLimits}
-use Rattle.runner_gate.specs.Asks.{Asks, asked_on}
+use Rattle.runner_gate.specs.Asks.{Asks}
 use Rattle.structure_laws.specs.Scene.{Readings}
 use Rattle.structure_laws.specs.Meaning.{Meaning}
 use Rattle.structure_laws.specs.Laws.{Laws}
@@ -18,7 +18,7 @@ use Rattle.lock_walks.specs.commit_log.proofs.Asked.{asked_none}
 use Rattle.lock_walks.specs.epoch_slots.specs.Entries.{Exits}
 use Rattle.lock_walks.specs.try_lock.specs.declared.planned.Planned.TheVariants as plans
 use Rattle.lock_walks.specs.try_lock.specs.Planning.{Planning}
-use Rattle.seq_read.specs.Wants.{readings_of, loads_in, is_missed, IsMiss, IsAmong}
+use Rattle.seq_read.specs.Wants.{readings_of, is_missed, IsMiss, IsAmong}
 use Rattle.seq_read.specs.Course.{HasPlanned, HasLoaded, HasFound, ByBody, ByCell, loaded_steps}
 use Rattle.seq_read.specs.Reads.{BehindCell}
 use Rattle.seq_read.specs.Parts.{MayLoad, HasLoadedCells, Rests}

@@ -1,6 +1,6 @@
 -- What refused a plan, as an answer of a read.
 use Rattle.std.specs.Prelude.{◌==◌, ◌&&◌, ◌-◌, Bool, true, false, slice_get, if◌then◌else◌}
-use Rattle.std.proofs.Common.{◌≡◌, ◌≢◌, ℕ, ◌+◌, List, [], ◌∷◌, ◌++◌, length, refl, sym, ap, ◌∙◌, subst, Some, None}
+use Rattle.std.proofs.Common.{◌≡◌, ◌≢◌, ℕ, ◌+◌, [], ◌∷◌, ◌++◌, length, refl, sym, ap, ◌∙◌, subst, Some, None}
 use Rattle.small_lemmas.proofs.Bools.{both_of}
 use Rattle.small_lemmas.proofs.Numbers.{tested_equal}
 use Rattle.map_history.specs.declared.op.Op.{Op}

@@ -1,36 +1,27 @@
 -- How a read ends, as the rest of it from any of its parts.
-use Rattle.std.specs.Prelude.{◌==◌, not, Bool, true, false, slice_get}
-use Rattle.std.proofs.Common.{◌≡◌, ◌≢◌, ℕ, zero, suc, ◌+◌, ◌*◌, ◌-◌, ◌≤◌, ◌<◌, List, [], ◌∷◌, ◌++◌, length, length-append, refl, sym, ap, ◌∙◌, subst, arith, Some, None}
+use Rattle.std.specs.Prelude.{not, Bool, true, false}
+use Rattle.std.proofs.Common.{◌≡◌, ℕ, ◌+◌, refl, sym, ap, ◌∙◌, subst}
 use Rattle.std.proofs.lemmas.Bool.{true≢false}
 use Rattle.map_history.specs.declared.op.Request.{Request}
-use Rattle.map_history.specs.declared.reply.Reply.{Reply}
-use Rattle.map_history.specs.Words.{word_of}
-use Rattle.body_terms.specs.declared.thunk.Thunk.{Thunk}
 use Rattle.table_words.specs.Limits.{IsWithinLimits}
 use Rattle.runner_gate.specs.Asks.{Asks, asked_on}
-use Rattle.structure_laws.specs.Scene.{Readings}
 use Rattle.structure_laws.specs.Meaning.{Meaning}
 use Rattle.structure_laws.specs.Laws.{Laws}
-use Rattle.runner_parts.specs.declared.entries.Known.{Known}
 use Rattle.runner_parts.specs.declared.event.EventKind.TheVariants as kinds
 use Rattle.runner_parts.specs.State.{NodesState}
 use Rattle.runner_parts.specs.Tests.{is_answered}
-use Rattle.runner_steps.specs.Sections.{reply_in}
-use Rattle.runner_steps.specs.Reads.{read_stamp_after}
 use Rattle.request_facts.specs.reached_histories.specs.machine_invariant.specs.After.{AreAllowed}
-use Rattle.request_facts.specs.Laws.{HasEntry}
 use Rattle.version_words.specs.RunnerState.{RunnerState}
 use Rattle.lock_walks.specs.commit_log.specs.Asked.{IsAsked}
 use Rattle.lock_walks.specs.epoch_slots.specs.Collects.{IsTidy}
 use Rattle.lock_walks.specs.epoch_slots.specs.Entries.{Exits}
 use Rattle.lock_walks.specs.try_lock.specs.Planning.{Planning}
 use Rattle.lock_walks.specs.try_lock.specs.Reached.{IsReached}
-use Rattle.caller_facts.specs.Knowing.{IsFront, IsOwn}
 use Rattle.caller_facts.specs.Asking.{MayAttempt, IsUntouched}
-use Rattle.caller_facts.proofs.Knowing.{own_on, front_entry, get_on}
+use Rattle.caller_facts.proofs.Knowing.{own_on}
 use Rattle.caller_facts.proofs.Standing.{may_own, may_unknown, untouched, made_reached}
-use Rattle.seq_read.specs.Course.{IsReading, HasStamped, IsRefused, ByPlan, ByBody, ByCell, ByLock, refused_steps}
-use Rattle.seq_read.specs.Reads.{is_halted, IsInHistory, IsTurnedAway, HasRead, IsServed, Stops, stop_steps, stop_asks, has_replied, has_answered, IsHalted, Answers, steps_of, read_steps}
+use Rattle.seq_read.specs.Course.{IsReading, IsRefused, refused_steps}
+use Rattle.seq_read.specs.Reads.{is_halted, IsTurnedAway, Stops, stop_steps, stop_asks, has_replied, has_answered, IsHalted, Answers, steps_of}
 use Rattle.seq_read.specs.Parts.{Rests}
 use Rattle.seq_read.specs.declared.answers.Read.{Read}
 use Rattle.seq_read.specs.declared.answers.Read.TheVariants as answers

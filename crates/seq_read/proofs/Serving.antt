@@ -21,7 +21,7 @@ use Rattle.runner_parts.specs.State.{PartState}
 use Rattle.runner_parts.specs.Tests.{knows, is_answered, is_between}
 use Rattle.runner_steps.specs.Outside.{entry_spot}
 use Rattle.machine_states.specs.Sight.{Sight, sight, part_or_first}
-use Rattle.machine_states.specs.World.{World, seat_of}
+use Rattle.machine_states.specs.World.{seat_of}
 use Rattle.machine_states.specs.Reached.{Reached}
 use Rattle.machine_states.proofs.Steps.{some_same}
 use Rattle.request_facts.specs.reached_histories.specs.machine_invariant.specs.After.{AreAllowed}

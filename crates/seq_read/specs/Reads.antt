@@ -25,7 +25,7 @@ use Rattle.caller_facts.specs.Knowing.{KnowsMore, LearnsNoOther}
 use Rattle.caller_facts.specs.Counted.{IsCounted}
 use Rattle.caller_facts.specs.Asking.{IsUntouched}
 use Rattle.seq_read.specs.RealTime.{FollowsAnswered}
-use Rattle.seq_read.specs.Course.{KeepsSlots, HasEntered, HasPlanned, HasLoaded, HasFound, HasAnnounced, HasClock, HasLock, HasReplied, HasStamped, IsRefused, refused_steps, loaded_steps, locked_steps}
+use Rattle.seq_read.specs.Course.{KeepsSlots, HasEntered, HasPlanned, HasLoaded, HasAnnounced, HasClock, HasLock, HasReplied, HasStamped, IsRefused, refused_steps, loaded_steps, locked_steps}
 use Rattle.seq_read.specs.declared.answers.Read.{Read}
 use Rattle.seq_read.specs.declared.answers.Read.TheVariants as answers
 

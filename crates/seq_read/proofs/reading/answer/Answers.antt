@@ -1,10 +1,7 @@
-use Rattle.std.proofs.Common.{◌≡◌, ◌∙◌, sym, ap, subst, refl, Some}
-use Rattle.map_history.specs.declared.reply.Reply.{Reply}
-use Rattle.map_history.specs.Words.{word_of, IsReply}
+use Rattle.std.proofs.Common.{◌∙◌, sym, subst, refl}
 use Rattle.table_words.specs.Limits.{IsWithinLimits}
 use Rattle.machine_states.proofs.Steps.{some_same, none_some}
 use Rattle.request_facts.specs.reached_histories.specs.machine_invariant.specs.After.{AreAllowed}
-use Rattle.runner_steps.specs.Sections.{reply_in}
 use Rattle.lock_walks.specs.commit_log.specs.Asked.{IsAsked}
 use Rattle.caller_facts.specs.Counted.{IsSeen}
 use Rattle.seq_read.specs.Course.{locked_steps}

@@ -1,6 +1,6 @@
 use Rattle.std.specs.Prelude.{not, position}
 use Rattle.std.specs.List.{list_any}
-use Rattle.std.proofs.Common.{◌≡◌, ◌∙◌, sym, ap, subst, refl, None, Some}
+use Rattle.std.proofs.Common.{◌∙◌, sym, ap, subst, refl}
 use Rattle.body_terms.specs.Shape.{IsShaped, is_look}
 use Rattle.table_words.specs.Limits.{IsWithinLimits}
 use Rattle.runner_steps.specs.Sections.{reply_in}

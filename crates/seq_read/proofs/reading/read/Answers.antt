@@ -1,5 +1,5 @@
 use Rattle.std.specs.Prelude.{not, slice_get}
-use Rattle.std.proofs.Common.{◌≡◌, ◌∙◌, length, sym, ap, subst, refl, None}
+use Rattle.std.proofs.Common.{◌∙◌, length, sym, ap, subst, refl, None}
 use Rattle.table_words.specs.Limits.{IsWithinLimits}
 use Rattle.request_facts.specs.reached_histories.specs.machine_invariant.specs.After.{AreAllowed}
 use Rattle.runner_parts.specs.State.{ReadsState}
