@@ -1,5 +1,5 @@
 // The start of the program: the words of the command line, and the status of `flock`.
-ghost use Rattle.std.specs.Prelude.{◌≡◌, ◌≢◌, ◌⊎◌, ◌≤◌, None};
+ghost use Rattle.std.specs.Prelude.{◌≡◌, ◌≢◌, ◌⊎◌, ◌≤◌, None, IfOk, map, drop, string_bytes};
 ghost use Rattle.std.specs.Process.{exit_status};
 ghost use Rattle.flock_tool.specs.command_line.specs.Commands.{AreAccepted, IsCommand, texts};
 ghost use Rattle.flock_tool.specs.command_line.specs.declared.command.Command.{Command};
@@ -77,7 +77,17 @@ pub fn arguments(rt: &HostRuntime) -> Result<Vec<String>, AllocError> {
     }
 }
 
-/// The arguments behind the program's name.
-pub fn words_of(alloc: Global, args: &[String]) -> Result<Vec<&str>, AllocError> {
-    args.iter().skip(1).map(|arg| arg.as_str()).collect(alloc)
+/// The arguments behind the program's name; none, where there isn't even that.
+fn behind_name(args: &[String]) -> &[String]
+    ensures { result.now ≡ drop 1 args.now }
+{
+    if args.is_empty() { args } else { &args[1..] }
+}
+
+/// The texts of the arguments behind the program's name. The Err is want of memory.
+pub fn words_of(alloc: Global, args: &[String]) -> Result<Vec<&str>, AllocError>
+    ensures { IfOk result (λ words. texts words.items ≡ map string_bytes (drop 1 args.now)) }
+{
+    let words = behind_name(args);
+    words.iter().map(|arg| arg.as_str()).collect(alloc)
 }
