@@ -1,19 +1,22 @@
 #!/usr/bin/env python3
 """Figures of the built program, side by side with a plain Rust program in one run.
 
-Usage: bench/run.py [PROGRAM]     (default: crates/flock/out/flock, which ./prove makes)
+Usage: bench/run.py [--reads lock|free] [PROGRAM]     (default: crates/flock/out/flock, which ./prove makes)
 
-It wants rustc. Each text is run several times by both; the least wall time and the greatest peak memory are told.
+With `--reads` the program is given that option wherever it runs requests. It wants rustc. Each text is run several times by both; the least wall time and the greatest peak memory are told.
 
 Reading, serving and printing are told apart, in nanoseconds a request, and reading in nanoseconds a byte of a comment and of blanks, from two
 sizes of one text, so that what a process needs to begin and to end isn't counted. The program only reads a text whose last line is bad; it
 reads and serves where the first page of the report can't be written. The plain program is told by a word how far to go.
+
+Then come requests of which most are `get`, on both tables, by one runner and by four, with `--reads lock` and `--reads free` in turn.
 
 Then comes the check of a report on 131,072 requests, which both find legal, with the program's peak memory.
 
 Last come a generated text of 131,072 requests, which both print alike, and what a process needs to begin and to end, in milliseconds: at refused
 words, and at the empty text, beside a plain program that ends at once.
 """
+import argparse
 import os
 import pathlib
 import random
@@ -37,6 +40,20 @@ def requests(count: int, keys: int) -> bytes:
     return ("\n".join(lines) + "\n").encode()
 
 
+def look_ups(count: int, keys: int, traces: int) -> bytes:
+    """So many requests in traces of one length: each key is put in by one of them, and of those behind that most are `get`."""
+    dice = random.Random(1)
+    lines = ["flock 1"]
+    for trace in range(traces):
+        lines.append("trace")
+        filled = [f"ins {key} {10 * key}" for key in range(trace, keys, traces)]
+        lines += filled
+        for _ in range(count // traces - len(filled)):
+            key = dice.randrange(keys)
+            lines.append(dice.choices([f"get {key}", f"ins {key} {key}", f"del {key}"], [24, 1, 1])[0])
+    return ("\n".join(lines) + "\n").encode()
+
+
 def texts() -> Iterator[tuple[str, bytes]]:
     size = 4_194_304
     head = b"flock 1\ntrace\n"
@@ -47,10 +64,10 @@ def texts() -> Iterator[tuple[str, bytes]]:
     yield "4 MiB of empty lines", head + b"\n" * (size - len(head))
 
 
-def measure(program: list[str], text: pathlib.Path, status: int = 0, out: str = "/dev/null") -> tuple[float, int]:
+def measure(program: list[str], text: pathlib.Path, status: int = 0, out: str = "/dev/null", runs: int = RUNS) -> tuple[float, int]:
     """The least wall time in seconds, and the greatest peak memory in KiB: at least this script's own, from which it forks."""
     best, peak = float("inf"), 0
-    for _ in range(RUNS):
+    for _ in range(runs):
         with text.open("rb") as source, open(out, "wb") as sink:
             start = time.perf_counter()
             child = subprocess.Popen(program, stdin=source, stdout=sink, stderr=subprocess.DEVNULL)
@@ -67,22 +84,36 @@ def per_unit(seconds: list[float], sizes: list[int]) -> float:
     return 1e9 * (seconds[1] - seconds[0]) / (sizes[1] - sizes[0])
 
 
-def stages(program: str, plain: str, text: pathlib.Path) -> None:
+def stages(run: list[str], plain: str, text: pathlib.Path) -> None:
     """How long a request takes to be read, to be served, and to be printed."""
     sizes = [32_768, 131_072]
     ours, theirs = ([], [], []), ([], [], [])
     for size in sizes:
         content = requests(size, 1_000)
         text.write_bytes(content + b"x\n")
-        ours[0].append(measure([program, "run"], text, status=3)[0])
+        ours[0].append(measure(run, text, status=3)[0])
         text.write_bytes(content)
-        ours[1].append(measure([program, "run"], text, status=9, out="/dev/full")[0])
-        ours[2].append(measure([program, "run"], text)[0])
+        ours[1].append(measure(run, text, status=9, out="/dev/full")[0])
+        ours[2].append(measure(run, text)[0])
         for stage, word in enumerate(["read", "serve", "print"]):
             theirs[stage].append(measure([plain, word], text)[0])
     for name, stage in (("reading", 0), ("serving", 1), ("printing", 2)):
         spent = [per_unit(each[stage], sizes) - (per_unit(each[stage - 1], sizes) if stage else 0) for each in (ours, theirs)]
         print(f"{name}: {spent[0]:.1f} ns a request, plain {spent[1]:.1f} ns")
+
+
+def read_both_ways(program: str, text: pathlib.Path) -> None:
+    """Requests of which most are `get`, served with and without locks for reads, in turn."""
+    text.write_bytes(look_ups(131_072, 16_384, 4))
+    for table in ("hash", "tree"):
+        for runners in (1, 4):
+            best = {"lock": float("inf"), "free": float("inf")}
+            for _ in range(RUNS):
+                for reads in best:
+                    words = [program, "run", "--table", table, "--buckets", "4096", "--runners", str(runners), "--reads", reads]
+                    best[reads] = min(best[reads], measure(words, text, runs=1)[0])
+            spent = ", ".join(f"--reads {reads} {1000 * seconds:.1f} ms" for reads, seconds in best.items())
+            print(f"look-ups, {table}, runners {runners}: {spent}, ratio {best['free'] / best['lock']:.2f}")
 
 
 def bytes_read(program: str, plain: str, text: pathlib.Path) -> None:
@@ -139,7 +170,12 @@ def beginnings(program: str, plain: str, text: pathlib.Path) -> None:
 
 
 def main() -> None:
-    program = sys.argv[1] if len(sys.argv) > 1 else str(TOP / "crates/flock/out/flock")
+    words = argparse.ArgumentParser()
+    words.add_argument("--reads", choices=["lock", "free"])
+    words.add_argument("program", nargs="?", default=str(TOP / "crates/flock/out/flock"))
+    given = words.parse_args()
+    program = given.program
+    run = [program, "run", *(["--reads", given.reads] if given.reads else [])]
     with tempfile.TemporaryDirectory() as folder:
         plain = pathlib.Path(folder) / "plain"
         text = pathlib.Path(folder) / "text"
@@ -147,10 +183,11 @@ def main() -> None:
         for name, content in texts():
             text.write_bytes(content)
             del content
-            ours, peak = measure([program, "run"], text)
+            ours, peak = measure(run, text)
             theirs, _ = measure([str(plain), "print"], text)
             print(f"{name}: {1000 * ours:.1f} ms, plain {1000 * theirs:.1f} ms, ratio {ours / theirs:.2f}, peak {peak} KiB")
-        stages(program, str(plain), text)
+        stages(run, str(plain), text)
+        read_both_ways(program, text)
         bytes_read(program, str(plain), text)
         checked(program, str(plain), text)
         generated(program, str(plain), text)

@@ -4,7 +4,7 @@ mod Tried
 mod Left
 pub mod Served
 mod Recent
-mod Along
+pub mod Along
 mod Scanned
 mod Reclaimed
 mod Attempted

@@ -40,13 +40,14 @@ same_value found a b e f = some_same a b (sym e ∙ f)
 
 one_meaning : (said : Text → Option Text) (a b : RunOptions) → Mean said a → Mean said b → a ≡ b
 one_meaning said a b one other =
-    ap (λ x. record { table = x; runners = a.runners; bucket_bits = a.bucket_bits; nodes = a.nodes; sections = a.sections; version_max = a.version_max; halts = a.halts }) (same_value _ _ _ one.table other.table)
-    ∙ ap (λ x. record { table = b.table; runners = x; bucket_bits = a.bucket_bits; nodes = a.nodes; sections = a.sections; version_max = a.version_max; halts = a.halts }) (same_value _ _ _ one.runners other.runners)
-    ∙ ap (λ x. record { table = b.table; runners = b.runners; bucket_bits = x; nodes = a.nodes; sections = a.sections; version_max = a.version_max; halts = a.halts }) (same_value _ _ _ one.bucket_bits other.bucket_bits)
-    ∙ ap (λ x. record { table = b.table; runners = b.runners; bucket_bits = b.bucket_bits; nodes = x; sections = a.sections; version_max = a.version_max; halts = a.halts }) (same_value _ _ _ one.nodes other.nodes)
-    ∙ ap (λ x. record { table = b.table; runners = b.runners; bucket_bits = b.bucket_bits; nodes = b.nodes; sections = x; version_max = a.version_max; halts = a.halts }) (same_value _ _ _ one.sections other.sections)
-    ∙ ap (λ x. record { table = b.table; runners = b.runners; bucket_bits = b.bucket_bits; nodes = b.nodes; sections = b.sections; version_max = x; halts = a.halts }) (same_value _ _ _ one.version_max other.version_max)
-    ∙ ap (λ x. record { table = b.table; runners = b.runners; bucket_bits = b.bucket_bits; nodes = b.nodes; sections = b.sections; version_max = b.version_max; halts = x }) (same_value _ _ _ one.halts other.halts)
+    ap (λ x. record { table = x; runners = a.runners; bucket_bits = a.bucket_bits; nodes = a.nodes; sections = a.sections; version_max = a.version_max; reads = a.reads; halts = a.halts }) (same_value _ _ _ one.table other.table)
+    ∙ ap (λ x. record { table = b.table; runners = x; bucket_bits = a.bucket_bits; nodes = a.nodes; sections = a.sections; version_max = a.version_max; reads = a.reads; halts = a.halts }) (same_value _ _ _ one.runners other.runners)
+    ∙ ap (λ x. record { table = b.table; runners = b.runners; bucket_bits = x; nodes = a.nodes; sections = a.sections; version_max = a.version_max; reads = a.reads; halts = a.halts }) (same_value _ _ _ one.bucket_bits other.bucket_bits)
+    ∙ ap (λ x. record { table = b.table; runners = b.runners; bucket_bits = b.bucket_bits; nodes = x; sections = a.sections; version_max = a.version_max; reads = a.reads; halts = a.halts }) (same_value _ _ _ one.nodes other.nodes)
+    ∙ ap (λ x. record { table = b.table; runners = b.runners; bucket_bits = b.bucket_bits; nodes = b.nodes; sections = x; version_max = a.version_max; reads = a.reads; halts = a.halts }) (same_value _ _ _ one.sections other.sections)
+    ∙ ap (λ x. record { table = b.table; runners = b.runners; bucket_bits = b.bucket_bits; nodes = b.nodes; sections = b.sections; version_max = x; reads = a.reads; halts = a.halts }) (same_value _ _ _ one.version_max other.version_max)
+    ∙ ap (λ x. record { table = b.table; runners = b.runners; bucket_bits = b.bucket_bits; nodes = b.nodes; sections = b.sections; version_max = b.version_max; reads = x; halts = a.halts }) (same_value _ _ _ one.reads other.reads)
+    ∙ ap (λ x. record { table = b.table; runners = b.runners; bucket_bits = b.bucket_bits; nodes = b.nodes; sections = b.sections; version_max = b.version_max; reads = b.reads; halts = x }) (same_value _ _ _ one.halts other.halts)
 
 one_plan : (said : Text → Option Text) (own_keys : Bool) (a b : Gen) → MeanPlan said own_keys a → MeanPlan said own_keys b → a ≡ b
 one_plan said own_keys a b one other =

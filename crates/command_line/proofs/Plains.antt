@@ -10,12 +10,13 @@ use Rattle.small_lemmas.proofs.Lists.{none_not_some as no_some}
 use Rattle.trace_reader.specs.Fields.{value_of}
 use Rattle.trace_reader.specs.declared.generator.Gen.{Gen}
 use Rattle.command_line.specs.declared.generated.LoadOptions.{LoadOptions}
+use Rattle.command_line.specs.declared.options.Reads.TheVariants.{Lock}
 use Rattle.command_line.specs.declared.options.RunOptions.{RunOptions}
 use Rattle.command_line.specs.declared.options.TableKind.TheVariants.{Hash}
 use Rattle.command_line.specs.Generated.{MeanLoad, MeanPlan, gen_names, load_names}
 use Rattle.command_line.specs.Halts.{all_there, halt_in, halt_of, halts_in, if_runners_differ, is_colon, is_comma, together}
 use Rattle.command_line.specs.Numbers.{exponent_in, number_in, powers}
-use Rattle.command_line.specs.Options.{Mean, meant, meant_or, run_names, table_in}
+use Rattle.command_line.specs.Options.{Mean, meant, meant_or, reads_in, run_names, table_in}
 use Rattle.command_line.specs.Written.{AreOptionsOf, Text, Written, each_once, given, is_among}
 use Rattle.command_line.proofs.Bools.{both_true, one_true}
 use Rattle.command_line.proofs.Passes.{are_plain, differs, is_plain, names_of, or_later}
@@ -51,6 +52,9 @@ dash_exponent bytes = ap (option_and_then (λ number. position (λ power. power 
 
 dash_table : (bytes : Text) → table_in (45 ∷ bytes) ≡ None
 dash_table bytes = refl
+
+dash_reads : (bytes : Text) → reads_in (45 ∷ bytes) ≡ None
+dash_reads bytes = refl
 
 dash_halt : (bytes : Text) → halt_in (45 ∷ bytes) ≡ None
 dash_halt bytes =
@@ -112,8 +116,11 @@ run_plain said run mean = of_name (λ name. IsPlainIfGiven (said name)) run_name
           (
             default_plain 4294967295 (number_in 3 4294967295) (dash_number 3 4294967295) (said (codes "version-max")) run.version_max mean.version_max,
             (
-              default_plain [] halts_in dash_halts (said (codes "halt")) run.halts mean.halts,
-              tt,
+              default_plain Lock reads_in dash_reads (said (codes "reads")) run.reads mean.reads,
+              (
+                default_plain [] halts_in dash_halts (said (codes "halt")) run.halts mean.halts,
+                tt,
+              ),
             ),
           ),
         ),
@@ -170,7 +177,10 @@ load_plain said load mean = of_name (λ name. IsPlainIfGiven (said name)) load_n
                   run_plain said load.run mean.run (codes "sections") refl,
                   (
                     run_plain said load.run mean.run (codes "version-max") refl,
-                    tt,
+                    (
+                      run_plain said load.run mean.run (codes "reads") refl,
+                      tt,
+                    ),
                   ),
                 ),
               ),

@@ -15,7 +15,7 @@ abbrev pub load_names : List Text
 load_names =
     codes "seed" ∷ codes "traces" ∷ codes "length" ∷ codes "keys" ∷ codes "table" ∷ codes "runners" ∷ codes "buckets" ∷
     codes "nodes"
-    ∷ codes "sections" ∷ codes "version-max" ∷ []
+    ∷ codes "sections" ∷ codes "version-max" ∷ codes "reads" ∷ []
 
 -- what options say is to be generated, of which this says what each was given: each of the four numbers is there
 pub record MeanPlan (said : Text → Option Text) (own_keys : Bool) (plan : Gen) : Type 0 where

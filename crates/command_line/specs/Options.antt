@@ -1,7 +1,9 @@
 -- The options of `run`, by their words.
-use Rattle.std.specs.Prelude.{◌≡◌, ◌≤◌, ℕ, ◌*◌, ◌+◌, ◌/◌, List, [], ◌∷◌, All, IfSome, Option, None, Some, codes, if◌then◌else◌, max, min, nat_le, option_map, unwrap_or}
+use Rattle.std.specs.Prelude.{◌≡◌, ◌≤◌, ℕ, ◌*◌, ◌+◌, ◌/◌, Bool, true, false, List, [], ◌∷◌, All, IfSome, Option, None, Some, codes, if◌then◌else◌, max, min, nat_le, option_map, unwrap_or}
 use Rattle.std.specs.Str.{bytes_eq}
 use Rattle.command_line.specs.declared.halts.Halt.{Halt}
+use Rattle.command_line.specs.declared.options.Reads.{Reads}
+use Rattle.command_line.specs.declared.options.Reads.TheVariants.{Free, Lock}
 use Rattle.command_line.specs.declared.options.RunOptions.{RunOptions}
 use Rattle.command_line.specs.declared.options.TableKind.{TableKind}
 use Rattle.command_line.specs.declared.options.TableKind.TheVariants.{Hash, Tree}
@@ -12,6 +14,15 @@ use Rattle.command_line.specs.Written.{AreOptionsOf, Text, Written, all_words_of
 abbrev pub table_in : Text → Option TableKind
 table_in text = if bytes_eq text (codes "hash") then Some Hash else if bytes_eq text (codes "tree") then Some Tree else
     None
+
+abbrev pub reads_in : Text → Option Reads
+reads_in text = if bytes_eq text (codes "lock") then Some Lock else if bytes_eq text (codes "free") then Some Free else
+    None
+
+-- reads are served without a lock
+abbrev pub are_free : Reads → Bool
+are_free Lock = false
+are_free Free = true
 
 -- what an option means: its default where it isn't given, else what its text says, if that is anything
 abbrev pub meant_or : {X : Type 0} → X → (Text → Option X) → Option Text → Option X
@@ -27,7 +38,7 @@ meant read (Some text) = option_map Some (read text)
 abbrev pub run_names : List Text
 run_names =
     codes "table" ∷ codes "runners" ∷ codes "buckets" ∷ codes "nodes" ∷ codes "sections" ∷ codes "version-max" ∷ codes
-    "halt" ∷ []
+    "reads" ∷ codes "halt" ∷ []
 
 -- what options mean of which this says what each was given
 pub record Mean (said : Text → Option Text) (run : RunOptions) : Type 0 where
@@ -37,6 +48,7 @@ pub record Mean (said : Text → Option Text) (run : RunOptions) : Type 0 where
   pub nodes : meant (number_in 0 262144) (said (codes "nodes")) ≡ Some run.nodes
   pub sections : meant_or 64 (number_in 1 1024) (said (codes "sections")) ≡ Some run.sections
   pub version_max : meant_or 4294967295 (number_in 3 4294967295) (said (codes "version-max")) ≡ Some run.version_max
+  pub reads : meant_or Lock reads_in (said (codes "reads")) ≡ Some run.reads
   pub halts : meant_or [] halts_in (said (codes "halt")) ≡ Some run.halts
 
 -- the words behind `run` are those of its options, each at most once, which mean this

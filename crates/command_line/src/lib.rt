@@ -14,7 +14,7 @@ mod parser;
 pub use command::{Command, read_words, words_mean_one_command};
 pub use generated::LoadOptions;
 pub use halts::{Halt, Halts};
-pub use options::{RunOptions, TableKind};
+pub use options::{Reads, RunOptions, TableKind};
 
 // Passed on to the layers above, so that they needn't name these libraries themselves.
 pub use trace_reader;

@@ -1,9 +1,10 @@
 // What `run` is given.
 ghost use Rattle.std.specs.Prelude.{◌≡◌, ◌<◌, ◌≤◌, [], IfOk, IfNone, IfSome, Some, codes, option_map};
+ghost use Rattle.command_line.specs.declared.options.Reads.TheVariants.{Lock};
 ghost use Rattle.command_line.specs.declared.options.TableKind.TheVariants.{Hash};
 ghost use Rattle.command_line.specs.Halts.{halts_in};
 ghost use Rattle.command_line.specs.Numbers.{exponent_in, number_in};
-ghost use Rattle.command_line.specs.Options.{Mean, bits_by, bits_for, meant, meant_or, nodes_by, runners_by, table_in};
+ghost use Rattle.command_line.specs.Options.{Mean, are_free, bits_by, bits_for, meant, meant_or, nodes_by, reads_in, runners_by, table_in};
 ghost use Rattle.command_line.specs.Parser.{said_by};
 
 use crate::halts::{Halts, read_halts};
@@ -21,6 +22,24 @@ pub enum TableKind {
     Tree,
 }
 
+/// How the requests that only read are served.
+#[derive(Clone, Copy, Debug, PartialEq, Eq)]
+pub enum Reads {
+    /// Under their locks, like every other request.
+    Lock,
+    /// Without a lock, by loads between two equal readings of it; under it where that fails.
+    Free,
+}
+
+impl Reads {
+    /// Whether reads are served without a lock.
+    pub fn are_free(self) -> bool
+        ensures { result ≡ are_free self }
+    {
+        self == Reads::Free
+    }
+}
+
 /// The options of `run`. Where a default depends on the text that is run, an option that isn't given is None.
 #[derive(Debug, Drop)]
 pub struct RunOptions {
@@ -36,6 +55,8 @@ pub struct RunOptions {
     pub sections: u32,
     /// `--version-max`: the greatest version, at least 3.
     pub version_max: u32,
+    /// `--reads`: how the requests that only read are served.
+    pub reads: Reads,
     /// `--halt`: which runners are to halt, and when.
     pub halts: Halts,
 }
@@ -115,6 +136,7 @@ fn options_with(given: &ArgMatches<'_>, halts: Halts) -> Option<RunOptions>
     let nodes = number_if_given(value_of(given, "nodes"), 0, 262_144)?;
     let sections = number_or(value_of(given, "sections"), 64, 1, 1024)?;
     let version_max = number_or(value_of(given, "version-max"), u32::MAX, 3, u32::MAX)?;
+    let reads = reads_or_lock(value_of(given, "reads"))?;
     Some(RunOptions {
         table,
         runners,
@@ -122,6 +144,7 @@ fn options_with(given: &ArgMatches<'_>, halts: Halts) -> Option<RunOptions>
         nodes,
         sections,
         version_max,
+        reads,
         halts,
     })
 }
@@ -134,6 +157,17 @@ fn table_or_hash(text: Option<&str>) -> Option<TableKind>
         Some("tree") => Some(TableKind::Tree),
         Some(_) => None,
         None => Some(TableKind::Hash),
+    }
+}
+
+fn reads_or_lock(text: Option<&str>) -> Option<Reads>
+    ensures { result ≡ meant_or Lock reads_in (option_map (λ text. text.now) text.entry) }
+{
+    match text {
+        Some("lock") => Some(Reads::Lock),
+        Some("free") => Some(Reads::Free),
+        Some(_) => None,
+        None => Some(Reads::Lock),
     }
 }
 

@@ -11,13 +11,14 @@ use clap::{Arg, ArgAction, ArgMatches, Command};
 use std::alloc::{AllocError, Global};
 
 // The names of the options of `run`.
-static RUN_NAMES: [&str; 7] = [
+static RUN_NAMES: [&str; 8] = [
     "table",
     "runners",
     "buckets",
     "nodes",
     "sections",
     "version-max",
+    "reads",
     "halt",
 ];
 
@@ -25,7 +26,7 @@ static RUN_NAMES: [&str; 7] = [
 static GEN_NAMES: [&str; 4] = ["seed", "traces", "length", "keys"];
 
 // Those of `load`: these, and those of `run` but for the halts.
-static LOAD_NAMES: [&str; 10] = [
+static LOAD_NAMES: [&str; 11] = [
     "seed",
     "traces",
     "length",
@@ -36,6 +37,7 @@ static LOAD_NAMES: [&str; 10] = [
     "nodes",
     "sections",
     "version-max",
+    "reads",
 ];
 
 // `check` has none.

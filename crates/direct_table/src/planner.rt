@@ -3,10 +3,11 @@ ghost use Rattle.std.specs.Prelude.{◌≡◌, true, refl, IfOk};
 ghost use Rattle.std.specs.FinMap.{entries};
 ghost use Rattle.map_history.specs.Replay.{Pairs};
 ghost use Rattle.direct_laws.specs.Direct.{direct_cells, direct};
-ghost use Rattle.direct_laws.proofs.DirectCells.{direct_laws, direct_plans, direct_retires};
+ghost use Rattle.direct_laws.proofs.DirectCells.{is_keyed, direct_laws, direct_plans, direct_retires};
 ghost use Rattle.fixed_walks.specs.try_lock.specs.Contents.{StandFor, NamesNone};
 ghost use Rattle.fixed_walks.specs.Fixed.{fixed_planning};
 ghost use Rattle.fixed_walks.specs.Keys.{key_course};
+ghost use Rattle.fixed_walks.proofs.Gets.{key_gets};
 ghost use Rattle.fixed_walks.proofs.Steady.{fixed_steady};
 
 use crate::table::DirectTable;
@@ -98,4 +99,6 @@ impl Planner for DirectTable {
     ghost walks_steadily = { λ s. fixed_steady (direct s.base s.keys) (key_course (direct_cells s.base s.keys)) };
 
     ghost retires_few = { λ s. direct_retires s.base s.keys s.few };
+
+    ghost gets_are_light = { λ s. key_gets (direct_cells s.base s.keys) (is_keyed s.base s.keys s.few) };
 }

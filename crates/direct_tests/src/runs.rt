@@ -67,7 +67,7 @@ pub fn run_direct<R: Threads + Wait + Sync, G: Gates>(
     requires served { All (λ (request : Request). serves 8 request.op ≡ true) requests.now }
     requires workers { (1 ≤ length halts.now) × (length halts.now ≤ 16) }
     ensures requests { IfOk result (λ end. end.words.requests ≡ requests.now) }
-    ensures served { IfOk result (λ end. AreServed (direct base 8) end.words false end.answers.items) }
+    ensures served { IfOk result (λ end. AreServed (direct base 8) end.words false false end.answers.items) }
     ensures contents { IfOk result (λ end. (pairs : Pairs) → StandFor (direct base 8) end.words pairs
         → end.pairs.items ≡ entries pairs) }
 {
@@ -78,7 +78,9 @@ pub fn run_direct<R: Threads + Wait + Sync, G: Gates>(
         version_max: 4294967295,
     };
     let table = DirectTable::new(base, 8);
-    let (words, answers) = run_table(rt, alloc, table, layout, requests, halts, false, gates)?;
+    let (words, answers) = run_table(
+        rt, alloc, table, layout, requests, halts, false, false, gates,
+    )?;
     let pairs = pairs_of(alloc, &words)?;
     Ok(Ended {
         answers,

@@ -1,4 +1,5 @@
 pub mod Gathering
+pub mod Gets
 pub mod KeySuits
 pub mod Leading
 pub mod Steady

@@ -84,6 +84,69 @@ fn helpers_are_helped(rt: HostRuntime) -> Result<(), Fail> {
     Ok(())
 }
 
+// A reader that meets a lock held serves its request under it, and helps the section in it: it never reads what stands
+// there meanwhile.
+#[test]
+fn a_reader_helps_whoever_holds_the_lock(rt: HostRuntime) -> Result<(), Fail> {
+    let alloc = rt.alloc();
+    let pauses = [
+        pause(1, StepKind::Entered, 0, StepKind::Hold),
+        pause(0, StepKind::Hold, 1, StepKind::Served),
+    ];
+    let text = "flock 1/trace/ins 5 70/get 5/trace/get 5/";
+    let report = "trace 0/0 new/2 val 70/trace 1/1 val 70/final 1/";
+    for table in TABLES {
+        let line = format!(in alloc; "run --runners 2 --reads free --table {table}")?;
+        assert!(rt;
+            script_gives(&rt, alloc, &line, text, &pauses, report)?,
+            "{table}"
+        );
+    }
+    Ok(())
+}
+
+// Two readers, of which each goes on while the other one is inside its read. Both stamps are the same, so their order
+// is that of the text, whoever came first.
+#[test]
+fn readers_go_on_beside_one_another(rt: HostRuntime) -> Result<(), Fail> {
+    let alloc = rt.alloc();
+    let pauses = [
+        pause(1, StepKind::Entered, 0, StepKind::ClockLoad),
+        pause(0, StepKind::ClockLoad, 1, StepKind::Served),
+    ];
+    let text = "flock 1/trace/get 5/trace/get 5/get 6/";
+    let report = "trace 0/0 none/trace 1/1 none/2 none/final 0/";
+    for table in TABLES {
+        let line = format!(in alloc; "run --runners 2 --reads free --table {table}")?;
+        assert!(rt;
+            script_gives(&rt, alloc, &line, text, &pauses, report)?,
+            "{table}"
+        );
+    }
+    Ok(())
+}
+
+// A reader has loaded its cells and announced its read when another runner puts the key in: its second reading of the
+// lock isn't the first one, so it serves the request under the lock.
+#[test]
+fn a_read_that_was_overtaken_is_made_again(rt: HostRuntime) -> Result<(), Fail> {
+    let alloc = rt.alloc();
+    let pauses = [
+        pause(0, StepKind::Entered, 1, StepKind::ClockLoad),
+        pause(1, StepKind::ClockLoad, 0, StepKind::Served),
+    ];
+    let text = "flock 1/trace/ins 5 70/trace/get 5/";
+    let report = "trace 0/0 new/trace 1/1 val 70/final 1/";
+    for table in TABLES {
+        let line = format!(in alloc; "run --runners 2 --reads free --table {table}")?;
+        assert!(rt;
+            script_gives(&rt, alloc, &line, text, &pauses, report)?,
+            "{table}"
+        );
+    }
+    Ok(())
+}
+
 // What `gen` makes, and how many runners serve it: few keys under one lock, and many.
 const CROWDS: [(&str, &str); 3] = [
     (
@@ -97,6 +160,18 @@ const CROWDS: [(&str, &str); 3] = [
     (
         "gen --seed=7 --traces 64 --length 16 --keys 4",
         "run --runners 16 --buckets 1",
+    ),
+];
+
+// The same where requests that only read are served without a lock.
+const READERS: [(&str, &str); 2] = [
+    (
+        "gen --seed=7 --traces 4 --length 1000 --keys 200",
+        "run --runners 4 --reads free",
+    ),
+    (
+        "gen --seed=7 --traces 64 --length 16 --keys 4",
+        "run --runners 16 --buckets 1 --reads free",
     ),
 ];
 
@@ -138,19 +213,35 @@ fn with_puts(alloc: Global, text: &str) -> Result<Vec<u8>, AllocError> {
     Ok(changed)
 }
 
-// Each request is answered, and the report is legal; the same where keys are set beside that.
+// Whether each request of what `gen` makes is answered, and the reports are legal; the same where keys are set beside
+// that.
+fn crowd_is_served<T: Threads + Wait + Sync>(
+    rt: &T,
+    alloc: Global,
+    maker: &str,
+    words: &str,
+) -> Result<bool, AllocError> {
+    let printed = run(rt, alloc, maker, Vec::new(alloc))?;
+    let puts = with_puts(alloc, printed.report())?;
+    Ok(
+        printed.status == 0
+            && are_served(rt, alloc, words, printed.sink.bytes())?
+            && are_served(rt, alloc, words, &puts)?,
+    )
+}
+
 #[test]
 fn crowds_have_legal_reports(rt: HostRuntime) -> Result<(), Fail> {
-    let alloc = rt.alloc();
     for (maker, words) in CROWDS {
-        let printed = run(&rt, alloc, maker, Vec::new(alloc))?;
-        assert!(rt; printed.status == 0, "{maker}");
-        assert!(rt;
-            are_served(&rt, alloc, words, printed.sink.bytes())?,
-            "{maker}"
-        );
-        let puts = with_puts(alloc, printed.report())?;
-        assert!(rt; are_served(&rt, alloc, words, &puts)?, "{maker} with put");
+        assert!(rt; crowd_is_served(&rt, rt.alloc(), maker, words)?, "{maker}");
+    }
+    Ok(())
+}
+
+#[test]
+fn crowds_that_read_without_locks_have_legal_reports(rt: HostRuntime) -> Result<(), Fail> {
+    for (maker, words) in READERS {
+        assert!(rt; crowd_is_served(&rt, rt.alloc(), maker, words)?, "{maker}");
     }
     Ok(())
 }

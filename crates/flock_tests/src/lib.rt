@@ -3,9 +3,10 @@
 //!
 //! `program` runs the program on a text, and `legal` is a check of reports of its own. `texts` has texts with their
 //! reports and with their first faults, `options` commands with options at each status, `limits` the limits on texts,
-//! `counts` the printed counts of replies. `reports` has the rows whose text one runner determines, `stops` those in
-//! which a runner is stopped at an ask, `crowds` those of several runners, `checks` those of the program's own check of
-//! a report, and `streams` those of texts that are cut off, and of reads and writes that fail.
+//! `counts` the printed counts of replies. `reports` has the rows whose text one runner determines, `stamps` those of
+//! one runner's stamps, `stops` those in which a runner is stopped at an ask, `crowds` those of several runners,
+//! `checks` those of the program's own check of a report, and `streams` those of texts that are cut off, and of reads
+//! and writes that fail.
 #![tactic(auto)]
 
 #[cfg(test)]
@@ -23,6 +24,7 @@ mod options;
 pub mod program;
 #[cfg(test)]
 mod reports;
+pub mod stamps;
 #[cfg(test)]
 mod stops;
 #[cfg(test)]

@@ -9,12 +9,14 @@ const RUNS: &str = "\
 0 run --runners 1 --halt 1:1|flock 1/trace/get 1/|trace 0/0 none/final 0/|
 5 run --nodes 4|flock 1/trace/ins 1 1/ins 2 2/ins 3 3/ins 4 4/|trace 0/0 new/1 new/2 new/- unserved/final 3/|flock: slots: runner 0 node free 1 limbo 0 worn 0/
 2 run --nodes 1 --nodes 1|flock 1/||flock: words refused/
+2 run --reads none|flock 1/||flock: words refused/
 2 walk|flock 1/||flock: words refused/
 2 load --seed=1 --traces 1 --length 3 --keys 100 --halt 0:1|||flock: words refused/
 0 gen --seed=1 --traces 1 --length 3 --keys 100||flock 1/trace/del 58/ins 15 150/get 27/|
 0 gen --seed=1 --traces=0 --length=3 --keys=1||flock 1/|
 4 gen --seed=1 --traces 2 --length 65537 --keys 1|||flock: limit: requests 131074/
 0 load --seed=1 --traces 1 --length 3 --keys 100||requests 3/new 1/dup 0/val 0/gone 0/none 2/final 1/|
+0 load --seed=1 --traces 1 --length 3 --keys 100 --reads free||requests 3/new 1/dup 0/val 0/gone 0/none 2/final 1/|
 0 load --seed=1 --traces 0 --length 3 --keys 1||requests 0/new 0/dup 0/val 0/gone 0/none 0/final 0/|
 4 load --seed=1 --traces 2 --length 65537 --keys 1 --nodes 131073|||flock: limit: requests 131074/
 4 load --seed=1 --traces 2 --length 1 --keys 1 --nodes 131073|||flock: limit: nodes 262146/
@@ -53,16 +55,17 @@ fn runs_end_as_their_options_say(rt: HostRuntime) -> Result<(), Fail> {
     Ok(())
 }
 
-// The counts are the same whoever serves the requests.
+// The counts are the same whoever serves the requests, and however reads are served.
 #[test]
 fn loads_give_the_same_counts(rt: HostRuntime) -> Result<(), Fail> {
     let alloc = rt.alloc();
     let plan = "load --seed=1 --traces 8 --length 400 --keys 100";
     let crowd = format!(in alloc; "{plan} --runners 4")?;
     let alone = format!(in alloc; "{plan} --runners 1 --buckets 1024")?;
+    let free = format!(in alloc; "{plan} --runners 4 --reads free")?;
     let first = run(&rt, alloc, &crowd, Vec::new(alloc))?;
     assert!(rt; first.status == 0 && first.sink.bytes().starts_with(b"requests 3200\n"));
-    for line in [&crowd, &alone] {
+    for line in [&crowd, &alone, &free] {
         let again = run(&rt, alloc, line, Vec::new(alloc))?;
         assert!(rt; again.is(0, first.sink.bytes(), b""));
     }

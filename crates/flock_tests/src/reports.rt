@@ -24,6 +24,13 @@ const ON_BOTH_TABLES: &str = "\
 4 run --runners 2 --nodes 131073|flock 1/trace/ins 1 10/trace/get 1/||flock: limit: nodes 262146/
 5 run --nodes 0|flock 1/trace/get 1/|trace 0/- unserved/final 0/|flock: slots: runner 0 node free 0 limbo 0 worn 0/
 6 run --buckets 1 --version-max 5|flock 1/trace/get 1/get 1/get 1/|trace 0/0 none/1 none/- unserved/final 0/|flock: versions: place 0 value 0 version 5/
+6 run --reads lock --buckets 1 --version-max 5|flock 1/trace/get 1/get 1/get 1/|trace 0/0 none/1 none/- unserved/final 0/|flock: versions: place 0 value 0 version 5/
+0 run --reads free --buckets 1 --version-max 5|flock 1/trace/get 1/get 1/get 1/|trace 0/0 none/1 none/2 none/final 0/|
+0 run --reads free --nodes 0|flock 1/trace/get 1/|trace 0/0 none/final 0/|
+0 run --reads free|flock 1/trace/get 1/ins 1 5/get 1/get 1/|trace 0/0 none/1 new/2 val 5/3 val 5/final 1/|
+0 run --reads free --runners 1|flock 2/trace/ins 1 10/get 2/trace/get 1/get 1/put 1 20/get 1/del 1/get 1/|trace 0/0 new/1 none/trace 1/2 val 10/3 val 10/4 was 10/5 val 20/6 gone/7 none/final 0/|
+1 run --reads free --runners 2 --halt 1:1|flock 1/trace/ins 1 1/get 1/trace/get 1/|trace 0/0 new/1 val 1/trace 1/- unserved/final 1/|flock: halted, 1 unserved/
+5 run --reads free --nodes 0|flock 1/trace/get 1/ins 1 1/get 1/|trace 0/0 none/- unserved/- unserved/final 0/|flock: slots: runner 0 node free 0 limbo 0 worn 0/
 ";
 
 // On the tree each pair takes two node slots, on the hash table one.

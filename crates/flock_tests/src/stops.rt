@@ -35,16 +35,24 @@ tree 7 63|flock 2/trace/put 5 70/put 5 80/|trace 0/0 new/- unserved/final 1/
 tree 64 103|flock 2/trace/put 5 70/put 5 80/|trace 0/0 new/1 was 70/final 1/
 ";
 
-// Runs a text with a stop of runner 0 at this ask.
+// The same where the requests that only read are served without a lock: such a request is answered from the ask on that
+// comes behind the exchange of its stamp.
+const READ_STOPS: &str = "\
+hash 1 9|flock 1/trace/get 1/|trace 0/- unserved/final 0/
+hash 10 11|flock 1/trace/get 1/|trace 0/0 none/final 0/
+tree 1 12|flock 1/trace/get 1/|trace 0/- unserved/final 0/
+tree 13 14|flock 1/trace/get 1/|trace 0/0 none/final 0/
+";
+
+// Runs a text with these words, and a stop of runner 0 at this ask.
 fn run_stopped<T: Threads + Wait + Sync>(
     rt: &T,
     alloc: Global,
-    table: &str,
-    runners: u32,
+    words: &str,
     ask: u64,
     text: &[u8],
 ) -> Result<Ended, AllocError> {
-    let line = format!(in alloc; "run --table {table} --runners {runners} --halt 0:{ask}")?;
+    let line = format!(in alloc; "run {words} --halt 0:{ask}")?;
     run(rt, alloc, &line, text.to_vec(alloc)?)
 }
 
@@ -63,31 +71,64 @@ fn cut(row: &str, mark: char) -> (&str, &str) {
     row.split_once(mark).unwrap_or((row, ""))
 }
 
+// Whether a row comes out as it says at each of its asks, with these words for how reads are served.
+fn row_stops<T: Abort + Threads + Wait + Sync>(
+    rt: &T,
+    alloc: Global,
+    row: &str,
+    reads: &str,
+) -> Result<(), Fail> {
+    let (stops, texts) = cut(row, '|');
+    let (table, asks) = cut(stops, ' ');
+    let (first, last) = cut(asks, ' ');
+    let (text, report) = cut(texts, '|');
+    let (text, report) = (bytes_of(alloc, text)?, bytes_of(alloc, report)?);
+    let words = format!(in alloc; "--table {table} --runners 1 --reads {reads}")?;
+    for ask in first.parse::<u64>()?..=last.parse::<u64>()? {
+        let ended = run_stopped(rt, alloc, &words, ask, &text)?;
+        assert!(rt; ended.sink.bytes() == report.as_slice(), "{row} at {ask}");
+        assert!(rt; tells_unserved(alloc, &ended)?, "{row} at {ask}");
+    }
+    assert!(rt; is_found_legal(rt, alloc, &text, &report)?, "{row}");
+    Ok(())
+}
+
 #[test]
 fn one_runner_stops_at_each_ask(rt: HostRuntime) -> Result<(), Fail> {
-    let alloc = rt.alloc();
     for row in STOPS.lines() {
-        let (stops, texts) = cut(row, '|');
-        let (table, asks) = cut(stops, ' ');
-        let (first, last) = cut(asks, ' ');
-        let (text, report) = cut(texts, '|');
-        let (text, report) = (bytes_of(alloc, text)?, bytes_of(alloc, report)?);
-        for ask in first.parse::<u64>()?..=last.parse::<u64>()? {
-            let ended = run_stopped(&rt, alloc, table, 1, ask, &text)?;
-            assert!(rt; ended.sink.bytes() == report.as_slice(), "{row} at {ask}");
-            assert!(rt; tells_unserved(alloc, &ended)?, "{row} at {ask}");
-        }
-        assert!(rt; is_found_legal(&rt, alloc, &text, &report)?, "{row}");
+        row_stops(&rt, rt.alloc(), row, "lock")?;
+    }
+    for row in READ_STOPS.lines() {
+        row_stops(&rt, rt.alloc(), row, "free")?;
     }
     Ok(())
 }
 
-// Two runners on one key, two that set it, and two that put their keys in and take them out, with the
-// last ask at which the first runner stops.
-const PAIRS: [(&str, u64); 3] = [
-    ("flock 1/trace/ins 5 70/trace/ins 5 80/", 60),
-    ("flock 2/trace/put 5 70/put 5 71/trace/put 5 80/get 5/", 110),
-    ("flock 1/trace/ins 2 2/del 2/trace/ins 1 1/del 1/", 140),
+// Two runners on one key, two that set it, two that put their keys in and take them out, one that reads a key which the
+// first one puts in, and one that puts a key in which the first one reads; how reads are served, and the last ask at
+// which the first runner stops.
+const PAIRS: [(&str, &str, u64); 5] = [
+    ("flock 1/trace/ins 5 70/trace/ins 5 80/", "lock", 60),
+    (
+        "flock 2/trace/put 5 70/put 5 71/trace/put 5 80/get 5/",
+        "lock",
+        110,
+    ),
+    (
+        "flock 1/trace/ins 2 2/del 2/trace/ins 1 1/del 1/",
+        "lock",
+        140,
+    ),
+    (
+        "flock 1/trace/ins 5 70/del 5/trace/get 5/get 5/",
+        "free",
+        110,
+    ),
+    (
+        "flock 1/trace/get 5/get 5/trace/ins 5 80/get 5/",
+        "free",
+        25,
+    ),
 ];
 
 // Whether each request of the second trace was served.
@@ -102,11 +143,12 @@ fn second_is_served(report: &str) -> bool {
 #[test]
 fn whoever_does_not_stop_is_served(rt: HostRuntime) -> Result<(), Fail> {
     let alloc = rt.alloc();
-    for (row, last) in PAIRS {
+    for (row, reads, last) in PAIRS {
         let text = bytes_of(alloc, row)?;
         for table in TABLES {
+            let words = format!(in alloc; "--table {table} --runners 2 --reads {reads}")?;
             for ask in 1..=last {
-                let ended = run_stopped(&rt, alloc, table, 2, ask, &text)?;
+                let ended = run_stopped(&rt, alloc, &words, ask, &text)?;
                 assert!(rt;
                     second_is_served(ended.report()),
                     "{row} on {table} at {ask}"

@@ -134,7 +134,7 @@ module _ (options : RunOptions) (traces : Traces) (count : ℕ) (count_is : coun
           (subst (λ rs. 8 * length rs + 8 ≤ (layout_by options traces.count traces.requests).version_max) (sym requests) room.versions)
 
 -- what the closed words keep of versions, by the status of a run
-keeps : (ran : Ran) (waits : Bool) → AreServed (meaning_of ran) (words_in ran) waits (answers_in ran)
+keeps : {reads : Bool} (ran : Ran) (waits : Bool) → AreServed (meaning_of ran) (words_in ran) waits reads (answers_in ran)
     → ServesAlone (meaning_of ran) (per_pair_in ran) (words_in ran) (answers_in ran) → (number unserved : ℕ)
     → (number ≢ 9 → number ≡ finish_status (finish_by (answers_in ran) unserved)) → (words_in ran).layout.runners ≡ 1
     → 8 * length (words_in ran).requests + 8 ≤ (words_in ran).layout.version_max → number ≢ 6

@@ -32,10 +32,10 @@ other_is (Slots runner short) is zero = absurd (omega (arith, zero))
 other_is (WornSlots runner short) is zero = absurd (omega (arith, zero))
 other_is (Versions place word) is zero = absurd (omega (arith, zero))
 
-module _ (ran : Ran) (requests : ℕ) (count : Counted) (finish : Finish) (finish_is : finish ≡ finish_by (answers_in ran) count.tally.unserved)
+module _ {reads : Bool} (ran : Ran) (requests : ℕ) (count : Counted) (finish : Finish) (finish_is : finish ≡ finish_by (answers_in ran) count.tally.unserved)
     (counted : IsCounted (meaning_of ran) (words_in ran) count) (long : requests ≡ length (words_in ran).requests)
     (limits : IsWithinLimits (words_in ran).layout) (allowed : AreAllowed (words_in ran).requests)
-    (waits : Bool) (served : AreServed (meaning_of ran) (words_in ran) waits (answers_in ran)) where
+    (waits : Bool) (served : AreServed (meaning_of ran) (words_in ran) waits reads (answers_in ran)) where
   abbrev text : List ℕ
   text = counts_text requests count.tally.counts count.size
 

@@ -109,7 +109,7 @@ pub first_of : (xs : List ℕ) → 1 ≤ length xs → (x : ℕ) × (slice_get x
 first_of [] some = absurd (omega (arith, some))
 first_of (x ∷ xs) some = (x, refl)
 
-module _ {T : Type 0} (m : Meaning) (w : WordsState T) (waits : Bool) (list : List Served) (served : AreServed m w waits list) (unserved : ℕ) where
+module _ {T : Type 0} {reads : Bool} (m : Meaning) (w : WordsState T) (waits : Bool) (list : List Served) (served : AreServed m w waits reads list) (unserved : ℕ) where
   -- a want that is waited out comes only where none of the worker's slots is in limbo; then two are free
   not_short : waits ≢ false → 1 ≤ w.layout.sections → HasEnoughSlots m w → (short : Short) → IsShortOf m w waits short → short.worn ≡ 0 → ⊥
   not_short waited some enough short is unworn = by short.kind refl

@@ -1,6 +1,6 @@
 -- With one runner: slots and versions enough.
-use Rattle.std.specs.Prelude.{◌*◌, Bool, false, slice_get}
-use Rattle.std.proofs.Common.{◌≡◌, ◌≢◌, ℕ, suc, ◌+◌, ◌<◌, ◌≤◌, List, length, Some, refl, sym, ◌∙◌, subst, ⊎_elim, arith}
+use Rattle.std.specs.Prelude.{◌*◌, Bool, slice_get}
+use Rattle.std.proofs.Common.{◌≡◌, ◌≢◌, ℕ, ◌+◌, ◌≤◌, List, length, Some, refl, sym, ◌∙◌, subst, arith}
 use Rattle.std.proofs.lemmas.Nat.{mul-le}
 use Rattle.std.proofs.lemmas.Option.{slice_get_within}
 use Rattle.machine_states.proofs.Steps.{some_same}
@@ -22,7 +22,7 @@ use Rattle.flock_tool.proofs.Enough.LacksVersions.{Met, Wears}
 twice : (per_pair size : ℕ) → per_pair ≤ 2 → per_pair * size ≤ 2 * size
 twice per_pair size few = mul-le per_pair size 2 size few (omega arith)
 
-module _ {T : Type 0} (m : Meaning) (per_pair : ℕ) (w : WordsState T) (waits : Bool) (list : List Served) (served : AreServed m w waits list) (unserved : ℕ)
+module _ {T : Type 0} {reads : Bool} (m : Meaning) (per_pair : ℕ) (w : WordsState T) (waits : Bool) (list : List Served) (served : AreServed m w waits reads list) (unserved : ℕ)
     (lone : ServesAlone m per_pair w list) (one : w.layout.runners ≡ 1) where
   -- the runner's answer is the only one
   only : (i : ℕ) (answer : Served) → slice_get list i ≡ Some answer → slice_get list 0 ≡ Some answer

@@ -6,14 +6,14 @@ use Rattle.std.proofs.lemmas.Option.{slice_get_within}
 use Rattle.map_history.specs.declared.op.Request.{Request}
 use Rattle.structure_laws.specs.Meaning.{Meaning}
 use Rattle.machine_states.proofs.Steps.{some_same}
-use Rattle.threaded_runs.specs.runner_gate.specs.declared.counts.GatePlan.{GatePlan}
 use Rattle.threaded_runs.specs.Counts.{halts_counted, plans_from, plans_given, returns_counted, GivesFront}
 use Rattle.threaded_runs.specs.Asks.{AreAsked}
-use Rattle.threaded_runs.specs.Lone.{ServesAlone}
+use Rattle.threaded_runs.specs.Lone.{ReadsAlone, ServesAlone}
 use Rattle.threaded_runs.specs.Runs.{AreServed, IsMadeWith}
 use Rattle.version_words.specs.TableState.{WordsState}
 use Rattle.threaded_runs.specs.serving.specs.declared.answers.Served.{Served}
 use Rattle.command_line.specs.Halts.{ask_of, names_below}
+use Rattle.command_line.specs.Options.{are_free}
 use Rattle.command_line.specs.declared.halts.Halt.{Halt}
 use Rattle.flock_tool.specs.Runs.{AreGiven, AreHaltsOf, HasRunOn}
 use Rattle.flock_tool.specs.Streams.{Gating}
@@ -108,19 +108,21 @@ if_ok P Q R S V W U (Err error) p q r s v w step = tt
 
 -- a run on one table, from what the call of it says
 pub has_run_on : {T : Type 0} (meaning : T → Meaning) (per_pair : ℕ) (structure : T) (plan : Plan) (words : WordsState T) (answers : List Served) (gates : Gating)
-    (requests : List Request) (items asks : List (Option ℕ)) (named : Bool) → requests ≡ plan.traces.requests → asks ≡ items
-    → named ≡ names_below plan.options.halts plan.layout.runners → length items ≡ plan.layout.runners
+    (requests : List Request) (items asks : List (Option ℕ)) (named reads : Bool) → requests ≡ plan.traces.requests → asks ≡ items
+    → named ≡ names_below plan.options.halts plan.layout.runners → reads ≡ are_free plan.options.reads → length items ≡ plan.layout.runners
     → ((runner : ℕ) → runner < plan.layout.runners → slice_get items runner ≡ Some (ask_of plan.options.halts runner))
-    → IsMadeWith structure plan.layout requests words → AreServed (meaning structure) words (not named) answers × ServesAlone (meaning structure) per_pair words answers
-    × AreAsked (meaning structure) words answers gates.asks_before gates.asks_after
+    → IsMadeWith structure plan.layout requests words → AreServed (meaning structure) words (not named) reads answers × ServesAlone (meaning structure) per_pair words answers
+    × AreAsked (meaning structure) words reads answers gates.asks_before gates.asks_after × ReadsAlone (meaning structure) words reads
     → gates.halts_after ≡ halts_counted gates.halts_before answers → gates.plans_after ≡ plans_given gates.plans_before asks
     → (gates.planned_before ≡ [] → gates.planned_after ≡ plans_from 0 asks) → gates.returned_after ≡ returns_counted gates.returned_before plan.layout.runners → HasRunOn meaning per_pair structure plan words answers gates
-has_run_on meaning per_pair structure plan words answers gates requests items asks named requests_are asks_are named_is each are made served halted plans planned returned = record {
+has_run_on meaning per_pair structure plan words answers gates requests items asks named reads requests_are asks_are named_is reads_are each are made served halted plans planned returned = record {
   made = subst (λ rs. IsMadeWith structure plan.layout rs words) requests_are made;
-  served = subst (λ s. AreServed (meaning s) words (not (names_below plan.options.halts plan.layout.runners)) answers) (sym made.structure)
-      (subst (λ b. AreServed (meaning structure) words (not b) answers) named_is served.0);
+  served = subst (λ s. AreServed (meaning s) words (not (names_below plan.options.halts plan.layout.runners)) (are_free plan.options.reads) answers) (sym made.structure)
+      (subst (λ b. AreServed (meaning structure) words (not b) (are_free plan.options.reads) answers) named_is (subst (λ b. AreServed (meaning structure) words (not named) b answers) reads_are served.0));
   lone = subst (λ s. ServesAlone (meaning s) per_pair words answers) (sym made.structure) served.1;
-  asked = subst (λ s. AreAsked (meaning s) words answers gates.asks_before gates.asks_after) (sym made.structure) served.2;
+  read = subst (λ s. ReadsAlone (meaning s) words (are_free plan.options.reads)) (sym made.structure) (subst (λ b. ReadsAlone (meaning structure) words b) reads_are served.3);
+  asked = subst (λ s. AreAsked (meaning s) words (are_free plan.options.reads) answers gates.asks_before gates.asks_after) (sym made.structure)
+      (subst (λ b. AreAsked (meaning structure) words b answers gates.asks_before gates.asks_after) reads_are served.2);
   given = given_out plan.options.halts plan.layout.runners answers items gates each are halted (plans ∙ ap (plans_given gates.plans_before) asks_are)
       (λ none. planned none ∙ ap (plans_from 0) asks_are) returned;
 }

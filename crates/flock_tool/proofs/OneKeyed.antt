@@ -1,5 +1,5 @@
 -- Each request that is run has one key.
-use Rattle.std.proofs.Common.{◌≡◌, ◌≤◌, ℕ, List, All, true, ap, arith}
+use Rattle.std.proofs.Common.{◌≡◌, List, All, true, ap, arith}
 use Rattle.std.specs.Prelude.{is_none}
 use Rattle.map_history.specs.declared.op.Request.{Request}
 use Rattle.map_history.specs.Requests.{AreOfFormat1}

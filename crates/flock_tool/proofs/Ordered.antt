@@ -1,5 +1,5 @@
 -- With one runner the first requests are served, in their order.
-use Rattle.std.specs.Prelude.{◌%◌, filter, map, slice_get}
+use Rattle.std.specs.Prelude.{◌%◌, slice_get}
 use Rattle.std.specs.List.{enumerate_from, filter_map}
 use Rattle.std.specs.Option.{option_map}
 use Rattle.std.proofs.Common.{◌≡◌, ◌≢◌, ℕ, zero, suc, ◌+◌, ◌<◌, ◌≤◌, ◌==◌, Bool, true, false, cond, List, [], ◌∷◌, Option, None, Some, length, get_or, refl, sym, ap, ◌∙◌, ⊎_elim, subst, arith}
@@ -12,7 +12,6 @@ use Rattle.map_history.specs.declared.op.Op.TheVariants.{Get}
 use Rattle.map_history.specs.declared.op.Request.{Request}
 use Rattle.map_history.specs.Requests.{AreInOrder}
 use Rattle.history_orders.specs.Turns.{Turn, comes_before}
-use Rattle.table_words.specs.declared.layout.Layout.{Layout}
 use Rattle.table_words.specs.declared.spot.Spot.TheVariants.{Stamp}
 use Rattle.structure_laws.specs.Meaning.{Meaning}
 use Rattle.printed_traces.specs.report_text.specs.Ranks.{rank_among, ranks_of, turn_of, turns_of}
@@ -20,6 +19,7 @@ use Rattle.load_counts.specs.run_reports.specs.Reports.{HaveEntries}
 use Rattle.version_words.specs.TableState.{WordsState, word_of}
 use Rattle.threaded_runs.specs.serving.specs.declared.answers.Served.{Served}
 use Rattle.threaded_runs.specs.serving.specs.declared.answers.Served.TheVariants as answers
+use Rattle.threaded_runs.specs.free_serving.specs.Left.{Rises}
 use Rattle.threaded_runs.specs.Own.{own_requests}
 use Rattle.threaded_runs.specs.Runs.{AreEntered, AreServed, HasServed}
 use Rattle.flock_tool.specs.Runs.{AreServedInOrder}
@@ -29,11 +29,12 @@ use Rattle.flock_tool.proofs.Whole.{numbered}
 abbrev turns_from : ℕ → List (Option Entry) → List Turn
 turns_from k entries = filter_map turn_of (enumerate_from k entries)
 
-earlier : (a b : Turn) → a.0 < b.0 → comes_before a b ≡ true
-earlier a b less = grind (arith, nat_tests)
+-- of two turns whose stamps don't fall the one with the lower number comes before the other one
+earlier : (a b : Turn) → a.0 ≤ b.0 → a.1 < b.1 → comes_before a b ≡ true
+earlier a b stamps numbers = grind (arith, nat_tests)
 
-later : (a b : Turn) → b.0 < a.0 → comes_before a b ≡ false
-later a b less = grind (arith, nat_tests)
+later : (a b : Turn) → b.0 ≤ a.0 → b.1 < a.1 → comes_before a b ≡ false
+later a b stamps numbers = grind (arith, nat_tests)
 
 itself : (a b : Turn) → a.0 ≡ b.0 → a.1 ≡ b.1 → comes_before a b ≡ false
 itself a b same same' = grind (arith, nat_tests)
@@ -43,20 +44,20 @@ one_more : (turn first : Turn) (turns : List Turn) (b : Bool) → comes_before f
 one_more turn first turns b is =
     sum_by-cons (λ (other : Turn). cond (comes_before other turn) 1 0) first turns ∙ ap (λ (c : Bool). cond c 1 0 + rank_among turns turn) is
 
--- none comes before a turn whose stamp is below all of theirs
-none_before : (entries : List (Option Entry)) (k : ℕ) (turn : Turn) → ((j : ℕ) (e : Entry) → slice_get entries j ≡ Some (Some e) → turn.0 < e.stamp)
+-- none comes before a turn whose number is below all of theirs, and whose stamp is above none of them
+none_before : (entries : List (Option Entry)) (k : ℕ) (turn : Turn) → turn.1 < k → ((j : ℕ) (e : Entry) → slice_get entries j ≡ Some (Some e) → turn.0 ≤ e.stamp)
     → rank_among (turns_from k entries) turn ≡ 0
-none_before [] k turn low = refl
-none_before (None ∷ entries) k turn low = none_before entries (k + 1) turn (λ j e at. low (suc j) e at)
-none_before (Some e ∷ entries) k turn low =
-    let front = one_more turn (e.stamp, k) (turns_from (k + 1) entries) false (later (e.stamp, k) turn (low 0 e refl)) in
-    let rest = none_before entries (k + 1) turn (λ j x at. low (suc j) x at) in
+none_before [] k turn first low = refl
+none_before (None ∷ entries) k turn first low = none_before entries (k + 1) turn (omega (arith, first)) (λ j e at. low (suc j) e at)
+none_before (Some e ∷ entries) k turn first low =
+    let front = one_more turn (e.stamp, k) (turns_from (k + 1) entries) false (later (e.stamp, k) turn (low 0 e refl) first) in
+    let rest = none_before entries (k + 1) turn (omega (arith, first)) (λ j x at. low (suc j) x at) in
     omega (arith, front, rest)
 
--- where the stamps rise and those in front of a place are all there, so many come before its turn
+-- where the stamps never fall and those in front of a place are all there, so many come before its turn
 place_rank : (entries : List (Option Entry)) (k n : ℕ) (e : Entry) → slice_get entries n ≡ Some (Some e)
     → ((j : ℕ) → j < n → (x : Entry) × (slice_get entries j ≡ Some (Some x)))
-    → ((i j : ℕ) (a b : Entry) → i < j → slice_get entries i ≡ Some (Some a) → slice_get entries j ≡ Some (Some b) → a.stamp < b.stamp)
+    → ((i j : ℕ) (a b : Entry) → i < j → slice_get entries i ≡ Some (Some a) → slice_get entries j ≡ Some (Some b) → a.stamp ≤ b.stamp)
     → rank_among (turns_from k entries) (e.stamp, k + n) ≡ n
 place_rank [] k n e at there rising = absurd (cc)
 place_rank (None ∷ entries) k zero e at there rising = absurd (cc)
@@ -65,14 +66,14 @@ place_rank (Some first ∷ entries) k zero e at there rising =
     let same : first ≡ e = cc in
     let front = one_more (e.stamp, k + 0) (first.stamp, k) (turns_from (k + 1) entries) false
     (itself (first.stamp, k) (e.stamp, k + 0) (ap (λ (x : Entry). x.stamp) same) (omega arith)) in
-    let rest = none_before entries (k + 1) (e.stamp, k + 0) (λ j x is. rising 0 (suc j) e x (omega arith) (ap (λ (y : Entry). Some (Some y)) same) is) in
+    let rest = none_before entries (k + 1) (e.stamp, k + 0) (omega arith) (λ j x is. rising 0 (suc j) e x (omega arith) (ap (λ (y : Entry). Some (Some y)) same) is) in
     omega (arith, front, rest)
 place_rank (Some first ∷ entries) k (suc n) e at there rising =
     let rest : rank_among (turns_from (k + 1) entries) (e.stamp, k + suc n) ≡ n =
     subst (λ (i : ℕ). rank_among (turns_from (k + 1) entries) (e.stamp, i) ≡ n) (omega arith)
     (place_rank entries (k + 1) n e at (λ j low. there (suc j) (omega (arith, low))) (λ i j a b less is is'. rising (suc i) (suc j) a b (omega (arith, less)) is is')) in
     let front = one_more (e.stamp, k + suc n) (first.stamp, k) (turns_from (k + 1) entries) true
-    (earlier (first.stamp, k) (e.stamp, k + suc n) (rising 0 (suc n) first e (omega arith) refl at)) in
+    (earlier (first.stamp, k) (e.stamp, k + suc n) (rising 0 (suc n) first e (omega arith) refl at) (omega arith)) in
     omega (arith, front, rest)
 
 -- a place of a numbered list
@@ -88,6 +89,11 @@ rank_in entries numbered = option_map (rank_among (turns_of entries)) (turn_of n
 rank_at : (entries : List (Option Entry)) (n : ℕ) (entry : Option Entry) → slice_get entries n ≡ Some entry → slice_get (ranks_of entries) n ≡ Some (rank_in entries (0 + n, entry))
 rank_at entries n entry at = slice_get-map (rank_in entries) (enumerate_from 0 entries) n ∙ ap (option_map (rank_in entries)) (numbered_at entries 0 n entry at)
 
+-- stamps along a list never fall
+never_fall : (reads : Bool) (one other : ℕ) → Rises reads one other → one ≤ other
+never_fall false one other less = omega (arith, less)
+never_fall true one other follows = ⊎_elim (λ less. omega (arith, less)) (λ same. let is = same.0 in omega (arith, is)) follows
+
 -- one worker's requests are all of them
 all_own : (requests : List Request) → own_requests 1 0 requests ≡ requests
 all_own [] = refl
@@ -97,17 +103,17 @@ all_own (q ∷ requests) = by (all_own requests) (q.trace % 1 == 0) (grind (arit
     by rest true is = ap (λ (rs : List Request). q ∷ rs) rest
     by rest false is = absurd (cc)
 
-module _ {T : Type 0} (m : Meaning) (w : WordsState T) (waits : Bool) (list : List Served) (served : AreServed m w waits list) (one : w.layout.runners ≡ 1)
+module _ {T : Type 0} {reads : Bool} (m : Meaning) (w : WordsState T) (waits : Bool) (list : List Served) (served : AreServed m w waits reads list) (one : w.layout.runners ≡ 1)
     (traces : ℕ) (ordered : AreInOrder w.requests traces) (entries : List (Option Entry)) (shown : HaveEntries m w entries) where
-  own : HasServed m w waits w.requests (get_or list 0 answers.All)
-  own = subst (λ (rs : List Request). HasServed m w waits rs (get_or list 0 answers.All))
+  own : HasServed m w waits reads w.requests (get_or list 0 answers.All)
+  own = subst (λ (rs : List Request). HasServed m w waits reads rs (get_or list 0 answers.All))
       (ap (λ (n : ℕ). own_requests n 0 w.requests) one ∙ all_own w.requests)
       (served.served 0 (get_or list 0 answers.All) (slice_get-get_or list 0 answers.All (omega (arith, served.each, one))))
 
   abbrev count : ℕ
   count = own.count
 
-  entered : AreEntered m w w.requests count
+  entered : AreEntered m w reads w.requests count
   entered = own.entered
 
   abbrev stamp : ℕ → ℕ
@@ -140,12 +146,12 @@ module _ {T : Type 0} (m : Meaning) (w : WordsState T) (waits : Bool) (list : Li
   within n e at = ⊎_elim (λ low. low)
       (λ past. absurd ((shown.each n (Some e) at).0 (unstamped n past (slice_get_within entries n (Some e) at)))) (cases_lt n count)
 
-  rising : (i j : ℕ) (a b : Entry) → i < j → slice_get entries i ≡ Some (Some a) → slice_get entries j ≡ Some (Some b) → a.stamp < b.stamp
+  rising : (i j : ℕ) (a b : Entry) → i < j → slice_get entries i ≡ Some (Some a) → slice_get entries j ≡ Some (Some b) → a.stamp ≤ b.stamp
   rising i j a b less at at' =
       let q = request_at i (slice_get_within entries i (Some a) at) in
       let q' = request_at j (slice_get_within entries j (Some b) at') in
-      let stamps = entered.rising i j q.0 q'.0 less (within j b at') q.1 q'.1 in
-      let low : stamp i < stamp j = subst (λ (k : ℕ). stamp k < stamp j) q.2 (subst (λ (k : ℕ). stamp q.0.number < stamp k) q'.2 stamps) in
+      let stamps = never_fall reads (stamp q.0.number) (stamp q'.0.number) (entered.rising i j q.0 q'.0 less (within j b at') q.1 q'.1) in
+      let low : stamp i ≤ stamp j = subst (λ (k : ℕ). stamp k ≤ stamp j) q.2 (subst (λ (k : ℕ). stamp q.0.number ≤ stamp k) q'.2 stamps) in
       omega (arith, low, (shown.each i (Some a) at).1, (shown.each j (Some b) at').1)
 
   rank : (n : ℕ) → n < count → slice_get (ranks_of entries) n ≡ Some (Some n)

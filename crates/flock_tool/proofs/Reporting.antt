@@ -12,10 +12,12 @@ use Rattle.load_counts.specs.run_reports.specs.Reports.{Prints}
 use Rattle.load_counts.specs.run_reports.specs.Stops.{StopsPrinting}
 use Rattle.load_counts.specs.run_reports.specs.declared.printing.PrintError.{PrintError}
 use Rattle.load_counts.specs.run_reports.specs.declared.printing.PrintError.TheVariants as printing
+use Rattle.threaded_runs.specs.Asks.{AreAsked}
 use Rattle.threaded_runs.specs.Runs.{AreServed}
 use Rattle.command_line.specs.declared.generated.LoadOptions.{LoadOptions}
 use Rattle.command_line.specs.declared.options.RunOptions.{RunOptions}
 use Rattle.command_line.specs.Halts.{names_below}
+use Rattle.command_line.specs.Options.{are_free}
 use Rattle.flock_tool.specs.End.{stop_of}
 use Rattle.flock_tool.specs.Finish.{finish_by, finish_status, TellsFinish}
 use Rattle.flock_tool.specs.Loads.{HasLoadRun}
@@ -36,8 +38,9 @@ pub run_of : (plan : Plan) (ran : Ran) (gates : Gating) → plan.layout ≡ layo
 run_of plan ran gates layout r = record {
   table = r.table;
   layout = r.layout ∙ layout ∙ ap (layout_by plan.options plan.traces.count) (sym r.requests);
-  served = subst (λ n. AreServed (meaning_of ran) (words_in ran) (not (names_below plan.options.halts n)) (answers_in ran)) (ap (λ (l : Layout). l.runners) (sym r.layout)) r.served;
+  served = subst (λ n. AreServed (meaning_of ran) (words_in ran) (not (names_below plan.options.halts n)) (are_free plan.options.reads) (answers_in ran)) (ap (λ (l : Layout). l.runners) (sym r.layout)) r.served;
   lone = r.lone;
+  read = r.read;
 }
 
 pub given_of : (plan : Plan) (ran : Ran) (gates : Gating) → HasRunPlan plan ran gates
@@ -71,13 +74,13 @@ pub load_run_is : (load : LoadOptions) (plan : Plan) (ran : Ran) (gates : Gating
 load_run_is load plan ran gates p r = record {
   requests = r.requests ∙ p.requests;
   run = subst (λ (o : RunOptions). IsRunOf o load.plan.traces ran) p.given (subst (λ n. IsRunOf plan.options n ran) p.count (run_of plan ran gates p.layout r));
-  asked = r.asked;
+  asked = subst (λ (o : RunOptions). AreAsked (meaning_of ran) (words_in ran) (are_free o.reads) (answers_in ran) gates.asks_before gates.asks_after) p.given r.asked;
   given = subst (λ (o : RunOptions). AreGiven o.halts (words_in ran).layout.runners (answers_in ran) gates) p.given (given_of plan ran gates r);
 }
 
 -- its report was printed whole
-pub ended_whole : (ran : Ran) (traces : ℕ) (waits : Bool) (unserved status : ℕ) (sink faults : Stream)
-    → IsWithinLimits (words_in ran).layout → AreAllowed (words_in ran).requests → AreServed (meaning_of ran) (words_in ran) waits (answers_in ran)
+pub ended_whole : {reads : Bool} (ran : Ran) (traces : ℕ) (waits : Bool) (unserved status : ℕ) (sink faults : Stream)
+    → IsWithinLimits (words_in ran).layout → AreAllowed (words_in ran).requests → AreServed (meaning_of ran) (words_in ran) waits reads (answers_in ran)
     → status ≡ finish_status (finish_by (answers_in ran) unserved) → Prints (meaning_of ran) (words_in ran) traces unserved sink.before sink.after
     → TellsFinish (finish_by (answers_in ran) unserved) faults → sink.faults_after ≡ sink.faults_before → EndsRun ran traces waits (status, Some ran) sink faults
 ended_whole ran traces waits unserved status sink faults limits allowed served is prints told_is steady =

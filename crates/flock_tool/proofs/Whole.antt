@@ -65,8 +65,8 @@ numbered requests traces order n q at = some_same q.number n (sym by_map ∙ (ap
     by_range = slice_get-get_or (range_with_len 0 (length requests)) n 0 (omega (arith, low, length-range_with_len 0 (length requests)))
         ∙ ap (λ (k : ℕ). Some k) (get_or-range_with_len 0 (length requests) n 0 low ∙ zero-add n)
 
-module _ {T : Type 0} (m : Meaning) (w : WordsState T) (allowed : AreAllowed w.requests) (retry_short : Bool) (list : List Served)
-    (served : AreServed m w retry_short list) (some : 0 < w.layout.runners)
+module _ {T : Type 0} {reads : Bool} (m : Meaning) (w : WordsState T) (allowed : AreAllowed w.requests) (retry_short : Bool) (list : List Served)
+    (served : AreServed m w retry_short reads list) (some : 0 < w.layout.runners)
     (all : (i : ℕ) (answer : Served) → slice_get list i ≡ Some answer → answer ≡ answers.All) where
   -- each request has a stamp
   stamped : (n : ℕ) (q : Request) → slice_get w.requests n ≡ Some q → word_of m w (Stamp n) ≢ 0
@@ -81,7 +81,7 @@ module _ {T : Type 0} (m : Meaning) (w : WordsState T) (allowed : AreAllowed w.r
       there : slice_get list worker ≡ Some answers.All
       there = let is = slice_get-get_or list worker answers.All inside in is ∙ ap Some (all worker _ is)
 
-      own : HasServed m w retry_short (own_requests w.layout.runners worker w.requests) answers.All
+      own : HasServed m w retry_short reads (own_requests w.layout.runners worker w.requests) answers.All
       own = served.served worker answers.All there
 
       place : (i : ℕ) × (slice_get (own_requests w.layout.runners worker w.requests) i ≡ Some q)

@@ -4,7 +4,6 @@ use Rattle.threaded_runs.specs.map_sizes.specs.Sizes.{peak}
 use Rattle.command_line.specs.trace_reader.specs.Answer.{AreTracesOf}
 use Rattle.command_line.specs.trace_reader.specs.Generator.{generated}
 use Rattle.command_line.specs.trace_reader.specs.declared.traces.Traces.{Traces}
-use Rattle.version_words.specs.TableState.{WordsState}
 use Rattle.command_line.specs.declared.command.Command.{Command}
 use Rattle.command_line.specs.declared.command.Command.TheVariants as commands
 use Rattle.command_line.specs.declared.options.RunOptions.{RunOptions}

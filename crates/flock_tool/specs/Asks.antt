@@ -1,5 +1,5 @@
 -- How often the gates of a run are asked.
-use Rattle.std.specs.Prelude.{◌≡◌, ◌≤◌, ◌+◌, ◌-◌, ◌*◌, ◌^◌, ℕ, min, Option, IfSome}
+use Rattle.std.specs.Prelude.{◌≡◌, ◌≤◌, ◌+◌, ◌-◌, ◌*◌, ◌^◌, ℕ, min, Bool, false, true, Option, IfSome}
 use Rattle.structure_laws.specs.Cells.{slots}
 use Rattle.threaded_runs.specs.Asks.{halted_in}
 use Rattle.threaded_runs.specs.Runs.{served_in}
@@ -25,9 +25,14 @@ AsksFew result gates = IfSome result.1 (λ ran. (words_in ran).layout.runners �
 abbrev pub halted_of : Ran → ℕ
 halted_of ran = halted_in (answers_in ran)
 
+-- so many asks for a served request, at least: fewer where reads take no lock
+abbrev pub asks_each : Bool → ℕ
+asks_each false = 16
+asks_each true = 8
+
 -- where a run came back, at whatever status and however many its runners, the asks of the gates rose by at least so
 -- many for each served request, but for one at most of each runner that was halted. The count stands still at the last
 -- number of 64 bits
-abbrev pub AsksOften : ℕ × Option Ran → Gating → Type 0
-AsksOften result gates = IfSome result.1 (λ ran.
-    min (gates.asks_before + 16 * (served_of ran - halted_of ran)) (2 ^ 64 - 1) ≤ gates.asks_after)
+abbrev pub AsksOften : Bool → ℕ × Option Ran → Gating → Type 0
+AsksOften reads_free result gates = IfSome result.1 (λ ran.
+    min (gates.asks_before + asks_each reads_free * (served_of ran - halted_of ran)) (2 ^ 64 - 1) ≤ gates.asks_after)

@@ -10,5 +10,6 @@ pub mod Streams
 pub mod Valid
 pub mod Alone
 pub mod Asks
+pub mod Reads
 -- Passed on to the layers above, so that they needn't name these libraries themselves.
 pub use Rattle.command_line

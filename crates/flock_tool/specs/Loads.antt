@@ -13,6 +13,7 @@ use Rattle.threaded_runs.specs.Asks.{AreAsked}
 use Rattle.load_counts.specs.run_reports.specs.Reports.{HaveContents, HaveEntries, unserved_in}
 use Rattle.load_counts.specs.Apart.{load_text}
 use Rattle.load_counts.specs.Tallies.{IsAlone, IsTally}
+use Rattle.command_line.specs.Options.{are_free}
 use Rattle.command_line.specs.declared.generated.LoadOptions.{LoadOptions}
 use Rattle.flock_tool.specs.declared.load.Counted.{Counted}
 use Rattle.flock_tool.specs.declared.ran.Ran.{Ran}
@@ -65,5 +66,6 @@ HasLoaded ran waits result sink faults = EndsLoad ran waits result sink faults â
 pub record HasLoadRun (load : LoadOptions) (ran : Ran) (gates : Gating) : Type 0 where
   pub requests : (words_in ran).requests â‰¡ generated load.plan
   pub run : IsRunOf load.run load.plan.traces ran
-  pub asked : AreAsked (meaning_of ran) (words_in ran) (answers_in ran) gates.asks_before gates.asks_after
+  pub asked : AreAsked (meaning_of ran) (words_in ran) (are_free load.run.reads) (answers_in ran) gates.asks_before
+      gates.asks_after
   pub given : AreGiven load.run.halts (words_in ran).layout.runners (answers_in ran) gates

@@ -15,11 +15,11 @@ use Rattle.threaded_runs.specs.serving.specs.declared.answers.Served.{Served}
 use Rattle.threaded_runs.specs.runner_gate.specs.declared.counts.GatePlan.{GatePlan}
 use Rattle.threaded_runs.specs.Counts.{halts_counted, returns_counted}
 use Rattle.threaded_runs.specs.Asks.{AreAsked}
-use Rattle.threaded_runs.specs.Lone.{ServesAlone}
+use Rattle.threaded_runs.specs.Lone.{ReadsAlone, ServesAlone}
 use Rattle.threaded_runs.specs.Runs.{AreServed, IsMadeWith}
 use Rattle.command_line.specs.Halts.{ask_of, names_below}
 use Rattle.command_line.specs.declared.halts.Halt.{Halt}
-use Rattle.command_line.specs.Options.{bits_by}
+use Rattle.command_line.specs.Options.{are_free, bits_by}
 use Rattle.command_line.specs.declared.options.RunOptions.{RunOptions}
 use Rattle.threaded_runs.specs.resource_bounds.specs.Makes.{inserts}
 use Rattle.command_line.specs.declared.options.TableKind.TheVariants as kinds
@@ -89,18 +89,21 @@ pub record IsRunOf (options : RunOptions) (traces : ℕ) (ran : Ran) : Type 0 wh
   pub layout : (words_in ran).layout ≡ layout_by options traces (words_in ran).requests
   -- every runner has served its own traces, and has the cause of its answer
   pub served : AreServed (meaning_of ran) (words_in ran)
-      (waits_out options.halts (words_in ran).layout.runners) (answers_in ran)
+      (waits_out options.halts (words_in ran).layout.runners) (are_free options.reads) (answers_in ran)
   pub lone : ServesAlone (meaning_of ran) (per_pair_in ran) (words_in ran) (answers_in ran)
+  pub read : ReadsAlone (meaning_of ran) (words_in ran) (are_free options.reads)
 
 -- a run of this plan on a table of this structure left these words and answers; its gates were given out and came back
 module _ {T : Type 0} (meaning : T → Meaning) (per_pair : ℕ) where
   pub record HasRunOn (structure : T) (plan : Plan) (words : WordsState T) (answers : List Served) (gates : Gating)
       : Type 0 where
     pub made : IsMadeWith structure plan.layout plan.traces.requests words
-    pub served :
-        AreServed (meaning words.structure) words (waits_out plan.options.halts plan.layout.runners) answers
+    pub served : AreServed (meaning words.structure) words (waits_out plan.options.halts plan.layout.runners)
+        (are_free plan.options.reads) answers
     pub lone : ServesAlone (meaning words.structure) per_pair words answers
-    pub asked : AreAsked (meaning words.structure) words answers gates.asks_before gates.asks_after
+    pub read : ReadsAlone (meaning words.structure) words (are_free plan.options.reads)
+    pub asked : AreAsked (meaning words.structure) words (are_free plan.options.reads) answers gates.asks_before
+        gates.asks_after
     pub given : AreGiven plan.options.halts plan.layout.runners answers gates
 
 -- the run was of this plan; its gates were given out and came back
@@ -109,9 +112,11 @@ pub record HasRunPlan (plan : Plan) (ran : Ran) (gates : Gating) : Type 0 where
   pub layout : (words_in ran).layout ≡ plan.layout
   pub requests : (words_in ran).requests ≡ plan.traces.requests
   pub served : AreServed (meaning_of ran) (words_in ran)
-      (waits_out plan.options.halts plan.layout.runners) (answers_in ran)
+      (waits_out plan.options.halts plan.layout.runners) (are_free plan.options.reads) (answers_in ran)
   pub lone : ServesAlone (meaning_of ran) (per_pair_in ran) (words_in ran) (answers_in ran)
-  pub asked : AreAsked (meaning_of ran) (words_in ran) (answers_in ran) gates.asks_before gates.asks_after
+  pub read : ReadsAlone (meaning_of ran) (words_in ran) (are_free plan.options.reads)
+  pub asked : AreAsked (meaning_of ran) (words_in ran) (are_free plan.options.reads) (answers_in ran)
+      gates.asks_before gates.asks_after
   pub given : AreGiven plan.options.halts plan.layout.runners (answers_in ran) gates
 
 -- a run that these options and the text ask for; its gates were given out and came back
@@ -125,7 +130,8 @@ pub record HasRun (options : RunOptions) (left : Option (List ℕ)) (traces : �
     requests = (words_in ran).requests;
   }))
   pub run : IsRunOf options traces ran
-  pub asked : AreAsked (meaning_of ran) (words_in ran) (answers_in ran) gates.asks_before gates.asks_after
+  pub asked : AreAsked (meaning_of ran) (words_in ran) (are_free options.reads) (answers_in ran) gates.asks_before
+      gates.asks_after
   pub given : AreGiven options.halts (words_in ran).layout.runners (answers_in ran) gates
 
 -- the statuses behind a run whose printing was begun

@@ -6,6 +6,7 @@ ghost use Rattle.load_counts.specs.closed_words.specs.Histories.{HoldsNoLock};
 ghost use Rattle.load_counts.specs.machine_invariant.specs.After.{AreAllowed};
 ghost use Rattle.threaded_runs.specs.Runs.{AreServed};
 ghost use Rattle.command_line.specs.Generated.{AreLoadRanges};
+ghost use Rattle.command_line.specs.Options.{are_free};
 ghost use Rattle.flock_tool.specs.Commands.{LoadRuns};
 ghost use Rattle.flock_tool.specs.Loads.{EndsLoad, HasLoaded, IsCounted};
 ghost use Rattle.flock_tool.specs.Runs.{words_in, answers_in, meaning_of, waits_out};
@@ -103,7 +104,8 @@ fn report_load<K: Sink, F: Sink>(
     requires requests { (words_in ran).requests ≡ plan.now.traces.requests }
     requires ordered { AreInOrder plan.now.traces.requests plan.now.traces.count }
     requires served { AreServed (meaning_of ran) (words_in ran)
-        (waits_out plan.now.options.halts plan.now.layout.runners) (answers_in ran) }
+        (waits_out plan.now.options.halts plan.now.layout.runners) (are_free plan.now.options.reads)
+        (answers_in ran) }
     ensures { HasLoaded ran (waits_out plan.now.options.halts plan.now.layout.runners) result
         (stream (K.held sink.old) (K.held sink.new) (K.faults sink.old) (K.faults sink.new))
         (stream (F.held faults.old) (F.held faults.new) (F.faults faults.old) (F.faults faults.new)) }
@@ -128,7 +130,8 @@ fn print_load<K: Sink, F: Sink>(
     requires limits { IsWithinLimits (words_in ran).layout }
     requires allowed { AreAllowed (words_in ran).requests }
     requires served { AreServed (meaning_of ran) (words_in ran)
-        (waits_out plan.now.options.halts plan.now.layout.runners) (answers_in ran) }
+        (waits_out plan.now.options.halts plan.now.layout.runners) (are_free plan.now.options.reads)
+        (answers_in ran) }
     ensures { EndsLoad ran (waits_out plan.now.options.halts plan.now.layout.runners) result
         (stream (K.held sink.old) (K.held sink.new) (K.faults sink.old) (K.faults sink.new))
         (stream (F.held faults.old) (F.held faults.new) (F.faults faults.old) (F.faults faults.new)) }

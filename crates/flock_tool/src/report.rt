@@ -2,7 +2,7 @@
 ghost use Rattle.std.specs.Prelude.{◌≡◌, ◌≢◌, ◌≤◌, None, length};
 ghost use Rattle.map_history.specs.Requests.{AreInOrder};
 ghost use Rattle.threaded_runs.specs.Runs.{AreServed};
-ghost use Rattle.command_line.specs.Options.{AreInRange};
+ghost use Rattle.command_line.specs.Options.{AreInRange, are_free};
 ghost use Rattle.flock_tool.specs.Commands.{RunEnds};
 ghost use Rattle.flock_tool.specs.End.{Tells, stop_line, stop_status};
 ghost use Rattle.flock_tool.specs.Finish.{finish_by, finish_status, TellsFinish};
@@ -98,7 +98,8 @@ fn report<K: Sink, F: Sink>(
     requires requests { (words_in ran).requests ≡ plan.now.traces.requests }
     requires ordered { AreInOrder plan.now.traces.requests plan.now.traces.count }
     requires served { AreServed (meaning_of ran) (words_in ran)
-        (waits_out plan.now.options.halts plan.now.layout.runners) (answers_in ran) }
+        (waits_out plan.now.options.halts plan.now.layout.runners) (are_free plan.now.options.reads)
+        (answers_in ran) }
     ensures reported { HasReported ran plan.now.traces.count
         (waits_out plan.now.options.halts plan.now.layout.runners) result
         (stream (K.held sink.old) (K.held sink.new) (K.faults sink.old) (K.faults sink.new))

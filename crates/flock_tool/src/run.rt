@@ -32,7 +32,7 @@ use version_words::{Words, words_are_reached};
 
 /// Runs the requests of a plan on one table of the structure that its options name. A runner that lacks slots tries
 /// again while some of its own are in limbo, unless the words name a halt for a runner that is there: a halted runner
-/// would keep them there. The Err is want of memory.
+/// would keep them there. Each `get` is read without a lock where the options say so. The Err is want of memory.
 pub fn run_plan<T: Threads + Wait + Sync, G: Gates>(
     rt: &T,
     alloc: Global,
@@ -99,6 +99,7 @@ where
         requests,
         asks,
         !plan.options.halts.name_below(runners),
+        plan.options.reads.are_free(),
         gates,
     )
 }

@@ -5,6 +5,7 @@ ghost use Rattle.command_line.specs.declared.command.Command.{Command};
 ghost use Rattle.flock_tool.specs.Alone.{IsValidAlone, KeepsVersions, NothingStops};
 ghost use Rattle.flock_tool.specs.Asks.{AsksFew, AsksOften};
 ghost use Rattle.flock_tool.specs.Commands.{Ends, IsNoCommand, RefusedEnds};
+ghost use Rattle.flock_tool.specs.Reads.{ReadsFirst, reads_freely};
 ghost use Rattle.flock_tool.specs.Runs.{IsRunStatus};
 ghost use Rattle.flock_tool.specs.Streams.{gating, stream};
 ghost use Rattle.flock_tool.specs.Valid.{IsValid, IsWhole, NothingFails};
@@ -84,10 +85,13 @@ pub fn flock<'a, T: Threads + Wait + Sync, R: Source, K: Sink, F: Sink, G: Gates
         (G.plans gates.old) (G.plans gates.new) (G.planned gates.old) (G.planned gates.new)
         (G.returned gates.old) (G.returned gates.new)) }
     // However many runners there are, their gates are asked for each request that is served.
-    ensures often { AsksOften result
+    ensures often { (command : Command) → IsCommand (texts words.now) command → AsksOften (reads_freely command) result
         (gating (G.halts gates.old) (G.halts gates.new) (G.asks gates.old) (G.asks gates.new)
         (G.plans gates.old) (G.plans gates.new) (G.planned gates.old) (G.planned gates.new)
         (G.returned gates.old) (G.returned gates.new)) }
+    // Where reads take no lock, each `get` that one runner has served has a read's stamp.
+    ensures odd { (command : Command) → IsCommand (texts words.now) command
+        → ReadsFirst (reads_freely command) result }
     // All words but those of a command are refused, and these never are.
     ensures accepted { AreAccepted (texts words.now) → result.0 ≢ 2 }
     ensures words { (AreAccepted (texts words.now) → ⊥) → RefusedEnds result

@@ -20,6 +20,7 @@ use Rattle.bucket_laws.proofs.Places.{third, slot_at, lt_true, lt_false, eq_true
 use Rattle.bucket_laws.proofs.TableLaws.{bucket_small}
 use Rattle.bucket_laws.proofs.TableGives.{reached}
 use Rattle.bucket_laws.proofs.WalkFacts.{Gives}
+use Rattle.bucket_walks.proofs.Steps.{nearer}
 use Rattle.lock_walks.specs.try_lock.specs.declared.planned.Planned.{Planned}
 use Rattle.lock_walks.specs.try_lock.specs.declared.planned.Planned.TheVariants as answers
 use Rattle.lock_walks.specs.try_lock.specs.Plans.{refused_by_lock}
@@ -30,7 +31,6 @@ use Rattle.hash_table.specs.Walking.{Walking, begun, is_refused_at, is_refused_o
 use Rattle.hash_table.specs.Planned.{bucket_planning, bucket_way, walk_in}
 use Rattle.hash_table.proofs.Following.{in_readings}
 use Rattle.hash_table.proofs.Knowing.{Knows, knows}
-use Rattle.hash_table.proofs.Steps.{walk_nearer}
 
 -- where a place stands
 module _ (buckets : ℕ) (bucket : ℕ → ℕ) where
@@ -237,7 +237,7 @@ module _ (bits : ℕ) (few : bits ≤ 12) (layout : Layout) (op : Op) where
   pub leads : has_one_key op ≡ true → Leads bucket_way (buckets_meaning bits) layout first
   leads served = record {
     begins = (bucket_edition (hash (key_of op)), refl);
-    shorter = walk_nearer;
+    shorter = λ w place word wants. nearer (2 ^ w.bits) (λ key. bucket_index key w.bits) w.bounds w.op w.walk place word wants;
     steady = λ readings. steady first readings;
     wanted = λ readings led. sym (ap wanted_by (here readings led));
     readable = λ readings place led wants known. readable_at readings (walk_in bits layout op readings) (walk_in bits layout op readings).stage place (within readings known)

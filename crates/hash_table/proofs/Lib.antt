@@ -1,6 +1,5 @@
 mod Places
 mod Knowing
-mod Steps
 pub mod Following
 mod Leads
 mod Gathering

@@ -1,12 +1,12 @@
 -- How the hash table plans.
 use Rattle.std.specs.Prelude.{ℕ, ◌^◌, ◌&&◌, false, nat_le}
 use Rattle.map_history.specs.declared.op.Op.{Op}
-use Rattle.map_history.specs.Keys.{key_of}
 use Rattle.section_body.specs.Bucket.{bucket_index}
 use Rattle.table_words.specs.declared.layout.Layout.{Layout}
 use Rattle.structure_laws.specs.Scene.{Readings}
-use Rattle.bucket_laws.specs.Walk.{Walk, has_one_key, wanted_at}
+use Rattle.bucket_laws.specs.Walk.{Walk, has_one_key}
 use Rattle.bucket_laws.specs.Buckets.{walk_of, bounds}
+use Rattle.bucket_walks.specs.Few.{wanted_in}
 use Rattle.lock_walks.specs.try_lock.specs.Planning.{Planning}
 use Rattle.lock_walks.specs.Way.{Way}
 use Rattle.hash_table.specs.Walking.{Walking, is_refused_at, is_refused_of, wanted_by, fed_by, left_of, thunk_by}
@@ -21,8 +21,7 @@ module _ (bits : ℕ) where
   abbrev pub bucket_planning : Planning
   bucket_planning = record {
     serves = has_one_key;
-    wants = λ layout op readings. wanted_at (2 ^ bits) (λ key. bucket_index key bits)
-        (bucket_index (key_of op) bits) (walk_in layout op readings) (walk_in layout op readings).stage;
+    wants = wanted_in bits;
     is_far = λ layout op readings. is_refused_at (walk_in layout op readings).stage
         && nat_le (bounds (2 ^ bits) (λ key. bucket_index key bits) layout).links
         (walk_in layout op readings).links;

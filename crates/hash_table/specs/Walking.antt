@@ -1,11 +1,12 @@
 -- A walk as its code has it, and what it does.
-use Rattle.std.specs.Prelude.{ℕ, ◌+◌, ◌*◌, ◌-◌, ◌^◌, ◌<◌, Bool, true, false, Option}
+use Rattle.std.specs.Prelude.{ℕ, ◌^◌, ◌<◌, Bool, true, false, Option}
 use Rattle.map_history.specs.declared.op.Op.{Op}
 use Rattle.map_history.specs.Keys.{key_of}
 use Rattle.section_body.specs.Bucket.{bucket_index, bucket_lock}
 use Rattle.body_terms.specs.declared.thunk.Thunk.{Thunk}
 use Rattle.bucket_laws.specs.Walk.{Walk, Bounds, start, is_end, form_for, operands_for, wanted_at, fed}
 use Rattle.bucket_laws.specs.Walk as walks
+use Rattle.bucket_walks.specs.Left.{left_in}
 use Rattle.hash_table.specs.declared.walk.Stage.{Stage}
 use Rattle.hash_table.specs.declared.walk.Stage.TheVariants as codes
 
@@ -63,19 +64,9 @@ is_refused_of w = is_refused_at w.walk.stage
 abbrev pub is_end_of : Walking → Bool
 is_end_of w = is_end w.walk.stage
 
--- how many loads are left at most: two for each link, and those at the end
-abbrev pub left_at : walks.Stage → ℕ → ℕ
-left_at walks.AtEdition links = 2 * links + 4
-left_at walks.AtLink links = 2 * links + 3
-left_at walks.AtKey links = 2 * links + 4
-left_at walks.AtValue links = 3
-left_at walks.AtNext links = 2
-left_at walks.AtLock links = 1
-left_at walks.AtEnd links = 0
-left_at walks.Refused links = 0
-
+-- how many loads are left at most
 abbrev pub left_of : Walking → ℕ
-left_of w = left_at w.walk.stage (w.bounds.links - w.walk.links)
+left_of w = left_in w.bounds w.walk
 
 -- the thunk for a whole walk, for the request with this number
 abbrev pub thunk_by : Walking → ℕ → Thunk

@@ -2,6 +2,7 @@
 ghost use Rattle.std.specs.Prelude.{◌≡◌, IfOk};
 ghost use Rattle.std.specs.FinMap.{entries};
 ghost use Rattle.map_history.specs.Replay.{Pairs};
+ghost use Rattle.map_history.specs.declared.op.Op.TheVariants.{Get};
 ghost use Rattle.bucket_laws.specs.Buckets.{buckets_meaning};
 ghost use Rattle.lock_walks.specs.try_lock.specs.Contents.{StandFor, NamesNone};
 ghost use Rattle.hash_table.specs.Planned.{bucket_planning, walk_in};
@@ -10,6 +11,7 @@ ghost use Rattle.bucket_laws.proofs.Planner.{buckets_plan};
 ghost use Rattle.small_lemmas.proofs.Bools.{from_false};
 ghost use Rattle.bucket_laws.proofs.Near.{not_far};
 ghost use Rattle.bucket_laws.proofs.Retiring.{few_retires};
+ghost use Rattle.bucket_walks.proofs.Gets.{get_few, only_look};
 
 use crate::table::HashTable;
 use crate::walk::BucketWalk;
@@ -51,4 +53,9 @@ impl Planner for HashTable {
     } };
 
     ghost retires_few = { λ s. few_retires };
+
+    ghost gets_are_light = { λ s. record {
+      looks = λ is_map. only_look s.bits;
+      few = λ layout key readings limits allowed served. get_few s.bits layout (Get key) readings;
+    } };
 }

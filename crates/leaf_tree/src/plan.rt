@@ -2,6 +2,7 @@
 ghost use Rattle.std.specs.Prelude.{◌≡◌, IfOk};
 ghost use Rattle.std.specs.FinMap.{entries};
 ghost use Rattle.map_history.specs.Replay.{Pairs};
+ghost use Rattle.map_history.specs.declared.op.Op.TheVariants.{Get};
 ghost use Rattle.tree_walks.specs.tree_laws.specs.Leaves.{tree, walk_of};
 ghost use Rattle.tree_walks.specs.tree_laws.proofs.TreeLaws.{tree_plans};
 ghost use Rattle.tree_walks.specs.Walking.{is_refused_in};
@@ -9,6 +10,7 @@ ghost use Rattle.tree_walks.specs.tree_laws.proofs.Near.{not_far, no_mark};
 ghost use Rattle.lock_walks.specs.try_lock.specs.Contents.{StandFor, NamesNone};
 ghost use Rattle.leaf_tree.specs.Planned.{tree_planning};
 ghost use Rattle.tree_walks.specs.tree_laws.proofs.Retiring.{few_retires};
+ghost use Rattle.tree_walks.proofs.Gets.{make_few_loads, only_look};
 
 use crate::tree::LeafTree;
 use crate::walker::LeafWalk;
@@ -55,4 +57,9 @@ impl Planner for LeafTree {
     } };
 
     ghost retires_few = { λ s. few_retires };
+
+    ghost gets_are_light = { λ s. record {
+      looks = λ is_map. only_look;
+      few = λ layout key readings limits allowed served. make_few_loads layout (Get key) readings;
+    } };
 }

@@ -4,6 +4,7 @@ pub mod Followed
 pub mod Led
 pub mod Steady
 pub mod Retires
+pub mod Gets
 pub mod Wants
 -- Passed on to the layers above, so that they needn't name these libraries themselves.
 pub use Rattle.try_lock.specs.epoch_slots

@@ -12,6 +12,7 @@ ghost use Rattle.try_lock.specs.Contents.{StandFor, NamesNone};
 ghost use Rattle.lock_walks.specs.Way.{Leads};
 ghost use Rattle.lock_walks.specs.Steady.{IsSteady};
 ghost use Rattle.lock_walks.specs.Retires.{RetiresFew};
+ghost use Rattle.lock_walks.specs.Gets.{GetsAreLight};
 
 use crate::plans::plan_by;
 use crate::walker::Walker;
@@ -101,4 +102,7 @@ pub trait Planner: Structure + Sized + Send + Sync {
 
     /// A section retires two slots at most.
     ghost retires_few: { (s : Self) → RetiresFew (Self.meaning s) };
+
+    /// The body of a `get` changes nothing, and its walk is short.
+    ghost gets_are_light: { (s : Self) → GetsAreLight (Self.meaning s) (planning s) };
 }

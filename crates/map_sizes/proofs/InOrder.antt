@@ -9,9 +9,10 @@ use Rattle.map_history.specs.declared.op.Op.{Op}
 use Rattle.map_history.specs.declared.op.Op.TheVariants.{Get}
 use Rattle.map_history.specs.declared.op.Request.{Request}
 use Rattle.map_history.specs.Replay.{Pairs, map_after}
+use Rattle.history_orders.specs.Turns.{Follows}
 use Rattle.history_orders.specs.Stamped.{Stamped, turn_of, is_earlier, IsInOrder, map_of, IsHistoryOf}
 use Rattle.history_orders.proofs.Entries.{contains_cases, contains_front, contains_behind, contains_none, order_head, order_tail}
-use Rattle.history_orders.proofs.Turns.{before_itself, before_turns, before_by_stamp}
+use Rattle.history_orders.proofs.Turns.{before_itself, before_turns, before_following}
 use Rattle.map_sizes.specs.Sizes.{map_from, map_behind, HaveOps, HaveFirstStamps}
 
 -- the map that the operations with the first numbers, so many, leave
@@ -45,7 +46,7 @@ record AreFirst (op : ℕ → Op) (stamp : ℕ → ℕ) (count : ℕ) (history :
   ops : (e : Stamped) → Contains history e → e.op ≡ op e.number
   all : (n : ℕ) → n < count → (e : Stamped) × Contains history e × (e.number ≡ n)
 
-module _ (op : ℕ → Op) (stamp : ℕ → ℕ) (n : ℕ) (rising : (i k : ℕ) → i < k → k < suc n → stamp i < stamp k) (e : Stamped) (history : List Stamped)
+module _ (op : ℕ → Op) (stamp : ℕ → ℕ) (n : ℕ) (rising : (i k : ℕ) → i < k → k < suc n → Follows (stamp i) (stamp k)) (e : Stamped) (history : List Stamped)
     (are : AreFirst op stamp (suc n) (e ∷ history)) where
   -- whatever stands behind the first entry comes before it
   earlier : (x : Stamped) → Contains history x → is_earlier x e ≡ true
@@ -61,9 +62,10 @@ module _ (op : ℕ → Op) (stamp : ℕ → ℕ) (n : ℕ) (rising : (i k : ℕ)
       later : e.number ≢ n → Contains history of_last.0 → ⊥
       later other behind =
           let low : e.number < n = let w = are.within e (contains_front e e history refl) in omega (arith, w, other) in
-          let less : e.stamp < of_last.0.stamp = subst (λ k. k < of_last.0.stamp) (sym (are.stamps e (contains_front e e history refl)))
-          (subst (λ k. stamp e.number < k) (sym (are.stamps of_last.0 of_last.1 ∙ ap stamp of_last.2)) (rising e.number n low (omega arith))) in
-          true≢false (sym (before_by_stamp (turn_of e) (turn_of of_last.0) less) ∙ before_turns (turn_of of_last.0) (turn_of e) (earlier of_last.0 behind))
+          let less : Follows e.stamp of_last.0.stamp = subst (λ k. Follows k of_last.0.stamp) (sym (are.stamps e (contains_front e e history refl)))
+          (subst (λ k. Follows (stamp e.number) k) (sym (are.stamps of_last.0 of_last.1 ∙ ap stamp of_last.2)) (rising e.number n low (omega arith))) in
+          let numbers : e.number < of_last.0.number = omega (arith, low, of_last.2) in
+          true≢false (sym (before_following (turn_of e) (turn_of of_last.0) less numbers) ∙ before_turns (turn_of of_last.0) (turn_of e) (earlier of_last.0 behind))
 
   -- those behind it have other numbers
   other : (x : Stamped) → Contains history x → x.number ≢ n
@@ -85,7 +87,7 @@ module _ (op : ℕ → Op) (stamp : ℕ → ℕ) (n : ℕ) (rising : (i k : ℕ)
         (found.0, ⊎_elim (λ same. absurd (let z = ap (λ (x : Stamped). x.number) same in omega (arith, z, found.2, last, low))) (λ there. there) (contains_cases e found.0 history found.1), found.2);
   }
 
-first_map : (op : ℕ → Op) (stamp : ℕ → ℕ) (count : ℕ) → ((i k : ℕ) → i < k → k < count → stamp i < stamp k) → (history : List Stamped)
+first_map : (op : ℕ → Op) (stamp : ℕ → ℕ) (count : ℕ) → ((i k : ℕ) → i < k → k < count → Follows (stamp i) (stamp k)) → (history : List Stamped)
     → AreFirst op stamp count history → map_of history ≡ map_to op count
 first_map op stamp zero rising [] are = refl
 first_map op stamp zero rising (e ∷ history) are = absurd (omega (arith, are.within e (contains_front e e history refl)))

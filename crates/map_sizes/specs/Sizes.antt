@@ -4,6 +4,7 @@ use Rattle.std.specs.FinMap.{empty, len}
 use Rattle.map_history.specs.declared.op.Op.{Op}
 use Rattle.map_history.specs.declared.op.Request.{Request}
 use Rattle.map_history.specs.Replay.{Pairs, map_after}
+use Rattle.history_orders.specs.Turns.{Follows}
 
 -- the map that the first requests, so many, leave of this one
 abbrev pub map_from : Pairs → List Request → ℕ → Pairs
@@ -30,9 +31,10 @@ peak requests = peak_from empty requests
 abbrev pub HaveOps : (ℕ → Op) → List Request → Type 0
 HaveOps op requests = (n : ℕ) (request : Request) → slice_get requests n ≡ Some request → op n ≡ request.op
 
--- of these requests the first ones, so many, have stamps, which rise along them, and no other request has one
+-- of these requests the first ones, so many, have stamps, which rise along them, where two that follow one another may
+-- be the same odd one; and no other request has one
 pub record HaveFirstStamps (stamp : ℕ → ℕ) (requests : List Request) (count : ℕ) : Type 0 where
   pub few : count ≤ length requests
   pub some : (n : ℕ) → n < count → stamp n ≢ 0
-  pub rising : (n k : ℕ) → n < k → k < count → stamp n < stamp k
+  pub rising : (n k : ℕ) → n < k → k < count → Follows (stamp n) (stamp k)
   pub none : (n : ℕ) → count ≤ n → stamp n ≡ 0

@@ -11,8 +11,8 @@ pub fn sizes_are_below_the_peak()
     ensures { (requests : List Request) (count : ℕ) → size_behind requests count ≤ peak requests }
 {}
 
-/// Where the first requests of a list, so many, have stamps that rise along it, and no other has one, their history
-/// leaves the map that these requests leave in their order.
+/// Where the first requests of a list, so many, have stamps that rise along it, or stay at an odd one, and no other has
+/// one, their history leaves the map that these requests leave in their order.
 pub fn histories_in_order_are_replays()
     ensures { (op : ℕ → Op) (stamp : ℕ → ℕ) (requests : List Request) (count : ℕ) (history : List Stamped)
         → HaveOps op requests

@@ -24,13 +24,13 @@ use Rattle.version_words.specs.TableState.{TableState, IsOf}
 use Rattle.version_words.specs.Events.{Makes}
 use Rattle.version_words.specs.Stages.{IsAt}
 use Rattle.version_words.proofs.Asked.{in_no_run}
-use Rattle.lock_walks.specs.epoch_slots.specs.Entries.{Enters, KeepsOwn}
-use Rattle.lock_walks.specs.epoch_slots.proofs.Outside.{own_kept}
-use Rattle.lock_walks.specs.try_lock.specs.declared.planned.Planned.{Planned}
-use Rattle.lock_walks.specs.try_lock.specs.declared.planned.Planned.TheVariants as plans
-use Rattle.lock_walks.specs.try_lock.specs.Planning.{Planning}
-use Rattle.lock_walks.specs.try_lock.specs.Plans as plan
-use Rattle.lock_walks.specs.try_lock.specs.Reached.{IsReached}
+use Rattle.caller_facts.specs.epoch_slots.specs.Entries.{Enters, KeepsOwn}
+use Rattle.caller_facts.specs.epoch_slots.proofs.Outside.{own_kept}
+use Rattle.caller_facts.specs.try_lock.specs.declared.planned.Planned.{Planned}
+use Rattle.caller_facts.specs.try_lock.specs.declared.planned.Planned.TheVariants as plans
+use Rattle.caller_facts.specs.try_lock.specs.Planning.{Planning}
+use Rattle.caller_facts.specs.try_lock.specs.Plans as plan
+use Rattle.caller_facts.specs.try_lock.specs.Reached.{IsReached}
 use Rattle.caller_facts.specs.Asking.{MayAttempt}
 use Rattle.seq_read.specs.Course.{IsReading, HasEntered, HasPlanned, HasLoaded, HasFound, HasAnnounced, HasClock, HasLock, HasReplied, HasStamped}
 use Rattle.seq_read.proofs.Events.{IsHere, at_here, loads_on, plan_on, clock_on, load_on, reply_on, stamp_on}

@@ -9,27 +9,29 @@ use Rattle.structure_laws.specs.Meaning.{Meaning}
 use Rattle.structure_laws.specs.Laws.{Laws}
 use Rattle.structure_laws.specs.Cells.{slots}
 use Rattle.runner_parts.specs.declared.event.EventKind.TheVariants as kinds
-use Rattle.request_facts.specs.reached_histories.specs.machine_invariant.specs.After.{AreAllowed}
+use Rattle.caller_facts.specs.request_facts.specs.reached_histories.specs.machine_invariant.specs.After.{AreAllowed}
 use Rattle.version_words.specs.RunnerState.{RunnerState}
-use Rattle.lock_walks.specs.commit_log.specs.Asked.{IsAsked}
-use Rattle.lock_walks.specs.commit_log.proofs.Asked.{asked_none}
-use Rattle.lock_walks.specs.epoch_slots.specs.Entries.{Exits}
-use Rattle.lock_walks.specs.try_lock.specs.declared.planned.Planned.{Planned}
-use Rattle.lock_walks.specs.try_lock.specs.declared.planned.Planned.TheVariants as plans
-use Rattle.lock_walks.specs.try_lock.specs.Planning.{Planning}
+use Rattle.caller_facts.specs.commit_log.specs.Asked.{IsAsked}
+use Rattle.caller_facts.specs.commit_log.proofs.Asked.{asked_none}
+use Rattle.caller_facts.specs.epoch_slots.specs.Entries.{Exits}
+use Rattle.caller_facts.specs.try_lock.specs.declared.planned.Planned.{Planned}
+use Rattle.caller_facts.specs.try_lock.specs.declared.planned.Planned.TheVariants as plans
+use Rattle.caller_facts.specs.try_lock.specs.Planning.{Planning}
+use Rattle.caller_facts.specs.lock_walks.specs.Gets.{GetsAreLight}
 use Rattle.caller_facts.specs.Counted.{IsCounted}
 use Rattle.caller_facts.proofs.Counting.{counted_steps, asked_then, steps_then, seen_then}
 use Rattle.caller_facts.proofs.Standing.{made_reached}
 use Rattle.seq_read.specs.Course.{of_plan, HasEntered, HasPlanned, ByPlan}
-use Rattle.seq_read.specs.Reads.{is_halted, AtEntry, InPlan, Answers, steps_of, asks_before, Reads}
+use Rattle.seq_read.specs.Reads.{most_of_get, is_halted, AtEntry, InPlan, Answers, steps_of, asks_before, Reads}
 use Rattle.seq_read.specs.Parts.{Rests}
 use Rattle.seq_read.specs.declared.answers.Read.{Read}
 use Rattle.seq_read.specs.declared.answers.Read.TheVariants as answers
 use Rattle.seq_read.proofs.Keeping.{kept_knows, answers_kept, few_steps}
 use Rattle.seq_read.proofs.Resting.{refused_rests, reading_halted}
+use Rattle.seq_read.proofs.Light.{get_few, get_looks}
 use Rattle.seq_read.proofs.Refusing.{refuses, refusal_of_plan, plan_stale}
 
-module _ {T : Type 0} (m : Meaning) (laws : Laws m) (planning : Planning) (request : Request) (old : RunnerState T)
+module _ {T : Type 0} (m : Meaning) (laws : Laws m) (planning : Planning) (light : GetsAreLight m planning) (request : Request) (old : RunnerState T)
     (limits : IsWithinLimits old.layout) (allowed : AreAllowed old.requests) where
   -- an answer with its steps and asks
   reads_by : (answer : Read) (new : RunnerState T) (is : Answers m planning request answer old new) (made : ℕ)
@@ -43,7 +45,10 @@ module _ {T : Type 0} (m : Meaning) (laws : Laws m) (planning : Planning) (reque
         answers = is;
         made = made;
         made_is = made_is;
-        few = subst (λ k. k ≤ most) (sym made_is) (few_steps m laws planning request old limits allowed answer new is);
+        few = subst (λ k. k ≤ most + 35) (sym made_is) (few_steps m laws planning request old limits allowed most (λ readings refusal r plans. plans.few) answer new is);
+        brief = λ key get. subst (λ k. k ≤ most_of_get (slots m old.layout)) (sym made_is)
+            (few_steps m laws planning request old limits allowed (3 * slots m old.layout + 28) (get_few m planning light request key get old limits allowed) answer new is);
+        looks = λ map key at get same. let turned = subst (λ a. Answers m planning request a old new) same is in get_looks m planning light request key get old map at turned.cut turned.cause;
         owns = kept.slots;
         finished = kept.finished;
         knows = kept_knows request.number old new kept;
@@ -53,7 +58,7 @@ module _ {T : Type 0} (m : Meaning) (laws : Laws m) (planning : Planning) (reque
       }
     where
       most : ℕ
-      most = 6 * slots m old.layout + 44 + 35
+      most = 6 * slots m old.layout + 44
 
   -- a gate halts it behind the entry
   module _ (here : RunnerState T) (enters : HasEntered m planning request old here) (halts : ℕ) (asks : Asks) where

@@ -28,8 +28,8 @@ use Rattle.runner_steps.specs.After.{outside_after, after_by}
 use Rattle.version_words.specs.RunnerState.{RunnerState}
 use Rattle.version_words.specs.Events.{met_by, Makes}
 use Rattle.version_words.specs.Stages.{IsAt}
-use Rattle.lock_walks.specs.try_lock.specs.Plans as plans
-use Rattle.lock_walks.specs.epoch_slots.proofs.Outside.{reads_made}
+use Rattle.caller_facts.specs.try_lock.specs.Plans as plans
+use Rattle.caller_facts.specs.epoch_slots.proofs.Outside.{reads_made}
 
 -- the runner is entered, in no run, with nothing to retire; its look, what it has read, and whether it has only loaded
 -- cells since it entered, but for the first steps of a read

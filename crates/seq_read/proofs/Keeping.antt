@@ -1,7 +1,7 @@
 -- What a read leaves of its runner, by how far it came, and how many steps it counts at most.
 use Rattle.std.specs.Prelude.{Bool, true, false, cond, take, slice_get, count_by}
 use Rattle.std.proofs.lemmas.List.Sums.{sum_by-cons}
-use Rattle.std.proofs.Common.{◌≡◌, ℕ, zero, suc, ◌+◌, ◌*◌, ◌≤◌, List, [], ◌∷◌, ◌++◌, length, sym, ap, ◌∙◌, arith, Some}
+use Rattle.std.proofs.Common.{◌≡◌, ℕ, zero, suc, ◌+◌, ◌≤◌, List, [], ◌∷◌, ◌++◌, length, sym, ap, ◌∙◌, arith, Some}
 use Rattle.map_history.specs.declared.op.Request.{Request}
 use Rattle.map_history.specs.declared.reply.Reply.{Reply}
 use Rattle.body_terms.specs.Shape.{IsShaped, is_stamp, is_answer, loaded_places}
@@ -12,22 +12,23 @@ use Rattle.table_words.specs.Limits.{IsWithinLimits}
 use Rattle.structure_laws.specs.Scene.{Readings}
 use Rattle.structure_laws.specs.Meaning.{Meaning}
 use Rattle.structure_laws.specs.Laws.{Laws}
-use Rattle.structure_laws.specs.Cells.{slots}
 use Rattle.runner_parts.specs.declared.entries.Known.{Known}
 use Rattle.runner_parts.specs.declared.event.EventKind.TheVariants as kinds
 use Rattle.runner_parts.specs.Tests.{is_answered}
-use Rattle.request_facts.specs.reached_histories.specs.machine_invariant.specs.After.{AreAllowed}
+use Rattle.caller_facts.specs.request_facts.specs.reached_histories.specs.machine_invariant.specs.After.{AreAllowed}
 use Rattle.version_words.specs.RunnerState.{RunnerState}
-use Rattle.lock_walks.specs.epoch_slots.specs.Entries.{Exits}
-use Rattle.lock_walks.specs.epoch_slots.proofs.Outside.{finished_made}
-use Rattle.lock_walks.specs.try_lock.specs.Planning.{Planning}
+use Rattle.caller_facts.specs.epoch_slots.specs.Entries.{Exits}
+use Rattle.caller_facts.specs.epoch_slots.proofs.Outside.{finished_made}
+use Rattle.caller_facts.specs.try_lock.specs.declared.planned.Planned.{Planned}
+use Rattle.caller_facts.specs.try_lock.specs.declared.planned.Planned.TheVariants as plans
+use Rattle.caller_facts.specs.try_lock.specs.Planning.{Planning}
 use Rattle.runner_steps.specs.Reads.{read_stamp_after}
 use Rattle.runner_steps.specs.Sections.{reply_in}
 use Rattle.machine_states.proofs.Steps.{some_same, none_some}
 use Rattle.caller_facts.specs.Knowing.{IsFront, KnowsMore, LearnsNoOther}
 use Rattle.caller_facts.proofs.Knowing.{front_same, front_on, no_other_same, no_other_on, answered_of_other}
-use Rattle.seq_read.specs.Course.{KeepsSlots, IsReading, HasLoaded, HasReplied, HasStamped, IsRefused, ByPlan, ByBody, ByCell, ByLock, refused_steps, loaded_steps}
-use Rattle.seq_read.specs.Reads.{most_of_read, IsTurnedAway, HasRead, Stops, AtEntry, InPlan, BehindCell, BehindPlan, BehindClock, BehindLock, BehindReply, BehindStamp, stop_steps, Answers, steps_of, read_steps}
+use Rattle.seq_read.specs.Course.{KeepsSlots, IsReading, HasPlanned, HasLoaded, HasReplied, HasStamped, IsRefused, ByPlan, ByBody, ByCell, ByLock, refused_steps, loaded_steps}
+use Rattle.seq_read.specs.Reads.{IsTurnedAway, HasRead, Stops, AtEntry, InPlan, BehindCell, BehindPlan, BehindClock, BehindLock, BehindReply, BehindStamp, stop_steps, Answers, steps_of, read_steps}
 use Rattle.seq_read.specs.declared.answers.Read.{Read}
 use Rattle.seq_read.specs.declared.answers.Read.TheVariants as answers
 use Rattle.seq_read.proofs.Looking.{as_many}
@@ -212,41 +213,43 @@ module _ {T : Type 0} (m : Meaning) (laws : Laws m) (planning : Planning) (reque
       let thirty = few_places (m.body thunk) (planned_shaped m laws planning request old limits allowed thunk is.readings is.planned is.plans).shape in
       omega (arith, many, few, thirty)
 
-  few_loaded : (thunk : Thunk) (found : Readings) (r : RunnerState T) (is : HasLoaded m planning request thunk found old r)
-      → loaded_steps m planning request thunk found old r is ≤ 6 * slots m old.layout + 44 + 30
-  few_loaded thunk found r is = let plan = is.plans.few in let cells = few_found thunk found r is in omega (arith, plan, cells)
+  -- where the plans of such reads load so many cells at most
+  module _ (most : ℕ) (few : (readings : Readings) (answer : Planned) (r : RunnerState T) → HasPlanned m planning request readings answer old r → length readings ≤ most) where
+    few_loaded : (thunk : Thunk) (found : Readings) (r : RunnerState T) (is : HasLoaded m planning request thunk found old r)
+        → loaded_steps m planning request thunk found old r is ≤ most + 30
+    few_loaded thunk found r is = let plan = few is.readings (plans.Thunk thunk) is.planned is.plans in let cells = few_found thunk found r is in omega (arith, plan, cells)
 
-  few_read : (reply : Reply) (stamp : ℕ) (r : RunnerState T) (is : HasRead m planning request reply stamp old r)
-      → read_steps m planning request reply stamp old r is ≤ most_of_read (slots m old.layout)
-  few_read reply stamp r is =
-      let h = few_loaded is.thunk is.found is.stamps.replies.unmoved.clocks.announces.loaded is.stamps.replies.unmoved.clocks.announces.finds.loads in omega (arith, h)
+    few_read : (reply : Reply) (stamp : ℕ) (r : RunnerState T) (is : HasRead m planning request reply stamp old r)
+        → read_steps m planning request reply stamp old r is ≤ most + 35
+    few_read reply stamp r is =
+        let h = few_loaded is.thunk is.found is.stamps.replies.unmoved.clocks.announces.loaded is.stamps.replies.unmoved.clocks.announces.finds.loads in omega (arith, h)
 
-  few_stop : (new : RunnerState T) (at : Stops m planning request old new) → stop_steps m planning request old new at ≤ most_of_read (slots m old.layout)
-  few_stop new (AtEntry enters) = omega arith
-  few_stop new (InPlan readings plans) = let h = plans.few in omega (arith, h)
-  few_stop new (BehindCell thunk found some loads) = let h = few_loaded thunk found new loads in omega (arith, h)
-  few_stop new (BehindPlan thunk found is) = let h = few_loaded thunk found is.loaded is.finds.loads in omega (arith, h)
-  few_stop new (BehindClock thunk found clock is) = let h = few_loaded thunk found is.announces.loaded is.announces.finds.loads in omega (arith, h)
-  few_stop new (BehindLock thunk found clock word is) =
-      let h = few_loaded thunk found is.clocks.announces.loaded is.clocks.announces.finds.loads in omega (arith, h)
-  few_stop new (BehindReply thunk found clock is) =
-      let h = few_loaded thunk found is.unmoved.clocks.announces.loaded is.unmoved.clocks.announces.finds.loads in omega (arith, h)
-  few_stop new (BehindStamp reply stamp is in_time) = few_read reply stamp new is
+    few_stop : (new : RunnerState T) (at : Stops m planning request old new) → stop_steps m planning request old new at ≤ most + 35
+    few_stop new (AtEntry enters) = omega arith
+    few_stop new (InPlan readings plan) = let h = few readings plans.Halted new plan in omega (arith, h)
+    few_stop new (BehindCell thunk found some loads) = let h = few_loaded thunk found new loads in omega (arith, h)
+    few_stop new (BehindPlan thunk found is) = let h = few_loaded thunk found is.loaded is.finds.loads in omega (arith, h)
+    few_stop new (BehindClock thunk found clock is) = let h = few_loaded thunk found is.announces.loaded is.announces.finds.loads in omega (arith, h)
+    few_stop new (BehindLock thunk found clock word is) =
+        let h = few_loaded thunk found is.clocks.announces.loaded is.clocks.announces.finds.loads in omega (arith, h)
+    few_stop new (BehindReply thunk found clock is) =
+        let h = few_loaded thunk found is.unmoved.clocks.announces.loaded is.unmoved.clocks.announces.finds.loads in omega (arith, h)
+    few_stop new (BehindStamp reply stamp is in_time) = few_read reply stamp new is
 
-  few_cause : (answer : Read) (cut : RunnerState T) (cause : IsRefused m planning request answer old cut)
-      → refused_steps m planning request answer old cut cause ≤ most_of_read (slots m old.layout)
-  few_cause answer cut (ByPlan is) = let h = is.plans.few in omega (arith, h)
-  few_cause answer cut (ByBody at same is) = let h = is.plans.few in omega (arith, h)
-  few_cause answer cut (ByCell place expected read same is) = let h = few_loaded is.thunk is.found cut is.loads in omega (arith, h)
-  few_cause answer cut (ByLock is) =
-      let h = few_loaded is.thunk is.found is.locks.clocks.announces.loaded is.locks.clocks.announces.finds.loads in omega (arith, h)
+    few_cause : (answer : Read) (cut : RunnerState T) (cause : IsRefused m planning request answer old cut)
+        → refused_steps m planning request answer old cut cause ≤ most + 35
+    few_cause answer cut (ByPlan is) = let h = few is.readings is.refusal cut is.plans in omega (arith, h)
+    few_cause answer cut (ByBody at same is) = let h = few is.readings (plans.Thunk is.thunk) cut is.plans in omega (arith, h)
+    few_cause answer cut (ByCell place expected read same is) = let h = few_loaded is.thunk is.found cut is.loads in omega (arith, h)
+    few_cause answer cut (ByLock is) =
+        let h = few_loaded is.thunk is.found is.locks.clocks.announces.loaded is.locks.clocks.announces.finds.loads in omega (arith, h)
 
-  pub few_steps : (answer : Read) (new : RunnerState T) (is : Answers m planning request answer old new)
-      → steps_of m planning request answer old new is ≤ most_of_read (slots m old.layout)
-  few_steps (answers.Done reply stamp) new is = few_read reply stamp is.stamped is.read
-  few_steps answers.Halted new is = few_stop new is.at
-  few_steps (answers.Busy place word) new is = few_cause (answers.Busy place word) is.cut is.cause
-  few_steps (answers.Stale place expected read) new is = few_cause (answers.Stale place expected read) is.cut is.cause
-  few_steps (answers.Locked at) new is = few_cause (answers.Locked at) is.cut is.cause
-  few_steps (answers.Far loads) new is = few_cause (answers.Far loads) is.cut is.cause
-  few_steps (answers.Spent place word) new is = few_cause (answers.Spent place word) is.cut is.cause
+    pub few_steps : (answer : Read) (new : RunnerState T) (is : Answers m planning request answer old new)
+        → steps_of m planning request answer old new is ≤ most + 35
+    few_steps (answers.Done reply stamp) new is = few_read reply stamp is.stamped is.read
+    few_steps answers.Halted new is = few_stop new is.at
+    few_steps (answers.Busy place word) new is = few_cause (answers.Busy place word) is.cut is.cause
+    few_steps (answers.Stale place expected read) new is = few_cause (answers.Stale place expected read) is.cut is.cause
+    few_steps (answers.Locked at) new is = few_cause (answers.Locked at) is.cut is.cause
+    few_steps (answers.Far loads) new is = few_cause (answers.Far loads) is.cut is.cause
+    few_steps (answers.Spent place word) new is = few_cause (answers.Spent place word) is.cut is.cause

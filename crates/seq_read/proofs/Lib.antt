@@ -10,6 +10,7 @@ pub mod Resting
 pub mod Refusing
 pub mod Ending
 pub mod Keeping
+pub mod Light
 pub mod Entering
 pub mod Along
 pub mod Looked

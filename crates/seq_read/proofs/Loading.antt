@@ -22,15 +22,15 @@ use Rattle.epoch_core.specs.declared.stage.Stage.TheVariants as stages
 use Rattle.runner_parts.specs.State.{PartState, ReadsState}
 use Rattle.runner_parts.specs.Tests.{is_readable}
 use Rattle.machine_states.specs.Sight.{part_or_first}
-use Rattle.request_facts.specs.reached_histories.specs.machine_invariant.specs.After.{AreAllowed}
-use Rattle.lock_walks.specs.commit_log.specs.Asked.{IsAsked}
-use Rattle.lock_walks.specs.commit_log.proofs.Asked.{asked_more}
-use Rattle.lock_walks.specs.commit_log.specs.next_steps.proofs.Numbers.{reached_numbers}
+use Rattle.caller_facts.specs.request_facts.specs.reached_histories.specs.machine_invariant.specs.After.{AreAllowed}
+use Rattle.caller_facts.specs.commit_log.specs.Asked.{IsAsked}
+use Rattle.caller_facts.specs.commit_log.proofs.Asked.{asked_more}
+use Rattle.caller_facts.specs.commit_log.specs.next_steps.proofs.Numbers.{reached_numbers}
 use Rattle.seq_read.proofs.Walking.{may_load, walked_more}
-use Rattle.lock_walks.specs.try_lock.specs.declared.planned.Planned.TheVariants as plans
-use Rattle.lock_walks.specs.try_lock.specs.Planning.{Planning}
-use Rattle.lock_walks.specs.try_lock.specs.Plans.{HasWalked}
-use Rattle.lock_walks.specs.try_lock.specs.Reached.{IsReached}
+use Rattle.caller_facts.specs.try_lock.specs.declared.planned.Planned.TheVariants as plans
+use Rattle.caller_facts.specs.try_lock.specs.Planning.{Planning}
+use Rattle.caller_facts.specs.try_lock.specs.Plans.{HasWalked}
+use Rattle.caller_facts.specs.try_lock.specs.Reached.{IsReached}
 use Rattle.version_words.specs.RunnerState.{RunnerState}
 use Rattle.version_words.specs.Events.{met_by, Makes}
 use Rattle.version_words.specs.Naming.{load_of}

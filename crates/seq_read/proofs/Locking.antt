@@ -15,11 +15,11 @@ use Rattle.runner_parts.specs.declared.event.EventKind.TheVariants as kinds
 use Rattle.runner_parts.specs.State.{PartState}
 use Rattle.runner_parts.specs.Tests.{has_pair, is_readable}
 use Rattle.machine_states.specs.Sight.{part_or_first}
-use Rattle.request_facts.specs.reached_histories.specs.machine_invariant.specs.After.{AreAllowed}
-use Rattle.lock_walks.specs.commit_log.specs.next_steps.proofs.Numbers.{reached_numbers}
+use Rattle.caller_facts.specs.request_facts.specs.reached_histories.specs.machine_invariant.specs.After.{AreAllowed}
+use Rattle.caller_facts.specs.commit_log.specs.next_steps.proofs.Numbers.{reached_numbers}
 use Rattle.seq_read.proofs.Walking.{may_load}
-use Rattle.lock_walks.specs.try_lock.specs.Planning.{Planning}
-use Rattle.lock_walks.specs.try_lock.specs.Reached.{IsReached}
+use Rattle.caller_facts.specs.try_lock.specs.Planning.{Planning}
+use Rattle.caller_facts.specs.try_lock.specs.Reached.{IsReached}
 use Rattle.version_words.specs.RunnerState.{RunnerState}
 use Rattle.version_words.specs.Events.{met_by}
 use Rattle.version_words.specs.Naming.{load_of}

@@ -11,13 +11,13 @@ use Rattle.runner_gate.specs.Asks.{Asks}
 use Rattle.structure_laws.specs.Scene.{Readings}
 use Rattle.structure_laws.specs.Meaning.{Meaning}
 use Rattle.structure_laws.specs.Laws.{Laws}
-use Rattle.request_facts.specs.reached_histories.specs.machine_invariant.specs.After.{AreAllowed}
+use Rattle.caller_facts.specs.request_facts.specs.reached_histories.specs.machine_invariant.specs.After.{AreAllowed}
 use Rattle.version_words.specs.RunnerState.{RunnerState}
-use Rattle.lock_walks.specs.commit_log.specs.Asked.{IsAsked}
-use Rattle.lock_walks.specs.commit_log.proofs.Asked.{asked_none}
-use Rattle.lock_walks.specs.epoch_slots.specs.Entries.{Exits}
-use Rattle.lock_walks.specs.try_lock.specs.declared.planned.Planned.TheVariants as plans
-use Rattle.lock_walks.specs.try_lock.specs.Planning.{Planning}
+use Rattle.caller_facts.specs.commit_log.specs.Asked.{IsAsked}
+use Rattle.caller_facts.specs.commit_log.proofs.Asked.{asked_none}
+use Rattle.caller_facts.specs.epoch_slots.specs.Entries.{Exits}
+use Rattle.caller_facts.specs.try_lock.specs.declared.planned.Planned.TheVariants as plans
+use Rattle.caller_facts.specs.try_lock.specs.Planning.{Planning}
 use Rattle.seq_read.specs.Wants.{readings_of, is_missed, IsMiss, IsAmong}
 use Rattle.seq_read.specs.Course.{HasPlanned, HasLoaded, HasFound, ByBody, ByCell, loaded_steps}
 use Rattle.seq_read.specs.Reads.{BehindCell}

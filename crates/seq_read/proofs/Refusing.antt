@@ -10,11 +10,11 @@ use Rattle.structure_laws.specs.Scene.{Readings}
 use Rattle.structure_laws.specs.Meaning.{Meaning}
 use Rattle.structure_laws.specs.Cells.{slots}
 use Rattle.machine_states.proofs.Steps.{some_same, none_some}
-use Rattle.lock_walks.specs.try_lock.specs.declared.planned.Planned.{Planned}
-use Rattle.lock_walks.specs.try_lock.specs.declared.planned.Planned.TheVariants as plans
-use Rattle.lock_walks.specs.try_lock.specs.Planning.{Planning}
-use Rattle.lock_walks.specs.try_lock.specs.Plans as plan
-use Rattle.lock_walks.proofs.Each.{get_last}
+use Rattle.caller_facts.specs.try_lock.specs.declared.planned.Planned.{Planned}
+use Rattle.caller_facts.specs.try_lock.specs.declared.planned.Planned.TheVariants as plans
+use Rattle.caller_facts.specs.try_lock.specs.Planning.{Planning}
+use Rattle.caller_facts.specs.try_lock.specs.Plans as plan
+use Rattle.caller_facts.specs.lock_walks.proofs.Each.{get_last}
 use Rattle.caller_facts.specs.Asking.{IsMarked}
 use Rattle.seq_read.specs.Course.{of_plan}
 use Rattle.seq_read.specs.declared.answers.Read.TheVariants as answers

@@ -10,13 +10,13 @@ use Rattle.structure_laws.specs.Laws.{Laws}
 use Rattle.runner_parts.specs.declared.event.EventKind.TheVariants as kinds
 use Rattle.runner_parts.specs.State.{NodesState}
 use Rattle.runner_parts.specs.Tests.{is_answered}
-use Rattle.request_facts.specs.reached_histories.specs.machine_invariant.specs.After.{AreAllowed}
+use Rattle.caller_facts.specs.request_facts.specs.reached_histories.specs.machine_invariant.specs.After.{AreAllowed}
 use Rattle.version_words.specs.RunnerState.{RunnerState}
-use Rattle.lock_walks.specs.commit_log.specs.Asked.{IsAsked}
-use Rattle.lock_walks.specs.epoch_slots.specs.Collects.{IsTidy}
-use Rattle.lock_walks.specs.epoch_slots.specs.Entries.{Exits}
-use Rattle.lock_walks.specs.try_lock.specs.Planning.{Planning}
-use Rattle.lock_walks.specs.try_lock.specs.Reached.{IsReached}
+use Rattle.caller_facts.specs.commit_log.specs.Asked.{IsAsked}
+use Rattle.caller_facts.specs.epoch_slots.specs.Collects.{IsTidy}
+use Rattle.caller_facts.specs.epoch_slots.specs.Entries.{Exits}
+use Rattle.caller_facts.specs.try_lock.specs.Planning.{Planning}
+use Rattle.caller_facts.specs.try_lock.specs.Reached.{IsReached}
 use Rattle.caller_facts.specs.Asking.{MayAttempt, IsUntouched}
 use Rattle.caller_facts.proofs.Knowing.{own_on}
 use Rattle.caller_facts.proofs.Standing.{may_own, may_unknown, untouched, made_reached}

@@ -24,23 +24,23 @@ use Rattle.machine_states.specs.Sight.{Sight, sight, part_or_first}
 use Rattle.machine_states.specs.World.{seat_of}
 use Rattle.machine_states.specs.Reached.{Reached}
 use Rattle.machine_states.proofs.Steps.{some_same}
-use Rattle.request_facts.specs.reached_histories.specs.machine_invariant.specs.After.{AreAllowed}
-use Rattle.request_facts.specs.reached_histories.specs.machine_facts.specs.Known.{KnownStand}
-use Rattle.request_facts.specs.reached_histories.specs.machine_facts.proofs.Following.{facts_after}
-use Rattle.request_facts.specs.reached_histories.specs.Requests.{or_none, requests_of}
-use Rattle.request_facts.specs.reached_histories.specs.Kept.{link_of}
-use Rattle.request_facts.specs.reached_histories.specs.Laws.{HasHistory}
-use Rattle.request_facts.specs.reached_histories.specs.RealTime.{IsSought}
-use Rattle.request_facts.specs.reached_histories.proofs.First.{word_of_known}
-use Rattle.request_facts.specs.reached_histories.proofs.Histories.{reached_have}
-use Rattle.request_facts.specs.Laws.{HasEntry, IsKnown, IsToAsk}
-use Rattle.request_facts.specs.Placed.{IsServedAs, IsUnserved}
-use Rattle.request_facts.proofs.Standing.{callers_stand, answered_come_first, idle_seeks_none}
+use Rattle.caller_facts.specs.request_facts.specs.reached_histories.specs.machine_invariant.specs.After.{AreAllowed}
+use Rattle.caller_facts.specs.request_facts.specs.reached_histories.specs.machine_facts.specs.Known.{KnownStand}
+use Rattle.caller_facts.specs.request_facts.specs.reached_histories.specs.machine_facts.proofs.Following.{facts_after}
+use Rattle.caller_facts.specs.request_facts.specs.reached_histories.specs.Requests.{or_none, requests_of}
+use Rattle.caller_facts.specs.request_facts.specs.reached_histories.specs.Kept.{link_of}
+use Rattle.caller_facts.specs.request_facts.specs.reached_histories.specs.Laws.{HasHistory}
+use Rattle.caller_facts.specs.request_facts.specs.reached_histories.specs.RealTime.{IsSought}
+use Rattle.caller_facts.specs.request_facts.specs.reached_histories.proofs.First.{word_of_known}
+use Rattle.caller_facts.specs.request_facts.specs.reached_histories.proofs.Histories.{reached_have}
+use Rattle.caller_facts.specs.request_facts.specs.Laws.{HasEntry, IsKnown, IsToAsk}
+use Rattle.caller_facts.specs.request_facts.specs.Placed.{IsServedAs, IsUnserved}
+use Rattle.caller_facts.specs.request_facts.proofs.Standing.{callers_stand, answered_come_first, idle_seeks_none}
 use Rattle.version_words.specs.RunnerState.{RunnerState}
 use Rattle.version_words.specs.Events.{met_by, Makes}
 use Rattle.version_words.specs.ReachedWith.{is_told}
-use Rattle.lock_walks.specs.try_lock.specs.Planning.{Planning}
-use Rattle.lock_walks.specs.try_lock.specs.Reached.{IsReached}
+use Rattle.caller_facts.specs.try_lock.specs.Planning.{Planning}
+use Rattle.caller_facts.specs.try_lock.specs.Reached.{IsReached}
 use Rattle.caller_facts.specs.Knowing.{IsOwn}
 use Rattle.caller_facts.specs.Asking.{MayAttempt}
 use Rattle.caller_facts.proofs.Standing.{may_own, may_unknown}

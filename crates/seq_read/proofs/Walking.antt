@@ -21,9 +21,9 @@ use Rattle.version_words.specs.Events.{met_by, Makes}
 use Rattle.version_words.specs.Naming.{load_of}
 use Rattle.version_words.specs.Stages.{IsAt}
 use Rattle.version_words.proofs.Stages.{then_loaded_cell}
-use Rattle.lock_walks.specs.epoch_slots.proofs.Outside.{reads_made, own_kept, own_kept_on}
-use Rattle.lock_walks.specs.try_lock.specs.Plans as plans
-use Rattle.lock_walks.specs.try_lock.specs.Plans.{names_read, reads_walked, HasWalked}
+use Rattle.caller_facts.specs.epoch_slots.proofs.Outside.{reads_made, own_kept, own_kept_on}
+use Rattle.caller_facts.specs.try_lock.specs.Plans as plans
+use Rattle.caller_facts.specs.try_lock.specs.Plans.{names_read, reads_walked, HasWalked}
 
 module _ {T : Type 0} (m : Meaning) where
   -- an entered runner may load a place that its readings give

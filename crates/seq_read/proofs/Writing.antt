@@ -31,15 +31,15 @@ use Rattle.machine_states.specs.World.{World}
 use Rattle.machine_states.specs.Reached.{Reached}
 use Rattle.machine_states.specs.Sight.{sight, part_or_first}
 use Rattle.machine_states.proofs.Steps.{some_same}
-use Rattle.request_facts.specs.reached_histories.specs.machine_invariant.specs.After.{AreAllowed}
-use Rattle.lock_walks.specs.commit_log.specs.next_steps.specs.Looks.{LooksHaveStamps}
-use Rattle.lock_walks.specs.section_runs.proofs.Replies.{last_answer}
-use Rattle.lock_walks.specs.epoch_slots.proofs.Outside.{nodes_made, descriptors_made, known_made}
-use Rattle.lock_walks.specs.try_lock.specs.declared.planned.Planned.TheVariants as plans
-use Rattle.lock_walks.specs.try_lock.specs.Planning.{Planning}
-use Rattle.lock_walks.specs.try_lock.specs.Reached.{IsReached}
-use Rattle.lock_walks.specs.try_lock.specs.Plans.{IsFit}
-use Rattle.request_facts.specs.Placed.{IsUnserved}
+use Rattle.caller_facts.specs.request_facts.specs.reached_histories.specs.machine_invariant.specs.After.{AreAllowed}
+use Rattle.caller_facts.specs.commit_log.specs.next_steps.specs.Looks.{LooksHaveStamps}
+use Rattle.caller_facts.specs.section_runs.proofs.Replies.{last_answer}
+use Rattle.caller_facts.specs.epoch_slots.proofs.Outside.{nodes_made, descriptors_made, known_made}
+use Rattle.caller_facts.specs.try_lock.specs.declared.planned.Planned.TheVariants as plans
+use Rattle.caller_facts.specs.try_lock.specs.Planning.{Planning}
+use Rattle.caller_facts.specs.try_lock.specs.Reached.{IsReached}
+use Rattle.caller_facts.specs.try_lock.specs.Plans.{IsFit}
+use Rattle.caller_facts.specs.request_facts.specs.Placed.{IsUnserved}
 use Rattle.version_words.specs.RunnerState.{RunnerState}
 use Rattle.version_words.specs.Events.{met_by, Makes}
 use Rattle.caller_facts.specs.Knowing.{IsOwn}

@@ -15,12 +15,12 @@ use Rattle.runner_steps.specs.Sections.{reply_in}
 use Rattle.version_words.specs.RunnerState.{RunnerState}
 use Rattle.version_words.specs.Events.{Makes, IsMade}
 use Rattle.version_words.specs.Stages.{IsAt}
-use Rattle.lock_walks.specs.epoch_slots.specs.Entries.{Enters}
-use Rattle.lock_walks.specs.try_lock.specs.declared.planned.Planned.{Planned}
-use Rattle.lock_walks.specs.try_lock.specs.declared.planned.Planned.TheVariants as plans
-use Rattle.lock_walks.specs.try_lock.specs.Planning.{Planning}
-use Rattle.lock_walks.specs.try_lock.specs.Reached.{IsReached}
-use Rattle.lock_walks.specs.try_lock.specs.Plans.{Answers, IsWalk, HasWalked}
+use Rattle.caller_facts.specs.epoch_slots.specs.Entries.{Enters}
+use Rattle.caller_facts.specs.try_lock.specs.declared.planned.Planned.{Planned}
+use Rattle.caller_facts.specs.try_lock.specs.declared.planned.Planned.TheVariants as plans
+use Rattle.caller_facts.specs.try_lock.specs.Planning.{Planning}
+use Rattle.caller_facts.specs.try_lock.specs.Reached.{IsReached}
+use Rattle.caller_facts.specs.try_lock.specs.Plans.{Answers, IsWalk, HasWalked}
 use Rattle.caller_facts.specs.Knowing.{IsStill}
 use Rattle.caller_facts.specs.Asking.{MayAttempt, IsMarked}
 use Rattle.seq_read.specs.Wants.{IsFirstChange, IsUnmet}

@@ -1,5 +1,6 @@
 -- Reads of requests without a lock: what each answer says.
-use Rattle.std.specs.Prelude.{◌≡◌, ℕ, ◌+◌, ◌*◌, ◌≤◌, Bool, true, false, not, None, length}
+use Rattle.std.specs.Prelude.{◌≡◌, ◌≢◌, ℕ, ◌+◌, ◌*◌, ◌≤◌, Bool, true, false, not, None, length}
+use Rattle.map_history.specs.declared.op.Op.TheVariants.{Get}
 use Rattle.map_history.specs.declared.op.Request.{Request}
 use Rattle.map_history.specs.declared.reply.Reply.{Reply}
 use Rattle.map_history.specs.Words.{word_of}
@@ -14,13 +15,13 @@ use Rattle.runner_parts.specs.Tests.{is_answered}
 use Rattle.runner_steps.specs.Sections.{reply_in}
 use Rattle.machine_states.specs.Sight.{sight}
 use Rattle.version_words.specs.RunnerState.{RunnerState}
-use Rattle.request_facts.specs.Laws.{HasEntry}
-use Rattle.request_facts.specs.Placed.{IsServedAs}
-use Rattle.lock_walks.specs.epoch_slots.specs.Collects.{IsTidy}
-use Rattle.lock_walks.specs.epoch_slots.specs.Entries.{Exits}
-use Rattle.lock_walks.specs.try_lock.specs.declared.planned.Planned.TheVariants as plans
-use Rattle.lock_walks.specs.try_lock.specs.Planning.{Planning}
-use Rattle.lock_walks.specs.try_lock.specs.Reached.{IsReached}
+use Rattle.caller_facts.specs.request_facts.specs.Laws.{HasEntry}
+use Rattle.caller_facts.specs.request_facts.specs.Placed.{IsServedAs}
+use Rattle.caller_facts.specs.epoch_slots.specs.Collects.{IsTidy}
+use Rattle.caller_facts.specs.epoch_slots.specs.Entries.{Exits}
+use Rattle.caller_facts.specs.try_lock.specs.declared.planned.Planned.TheVariants as plans
+use Rattle.caller_facts.specs.try_lock.specs.Planning.{Planning}
+use Rattle.caller_facts.specs.try_lock.specs.Reached.{IsReached}
 use Rattle.caller_facts.specs.Knowing.{KnowsMore, LearnsNoOther}
 use Rattle.caller_facts.specs.Counted.{IsCounted}
 use Rattle.caller_facts.specs.Asking.{IsUntouched}
@@ -33,10 +34,18 @@ abbrev pub is_halted : Read → Bool
 is_halted answers.Halted = true
 is_halted _ = false
 
+-- the answer where the body changes something, first at this step
+abbrev pub locked_at : ℕ → Read
+locked_at at = answers.Locked at
+
 -- a read counts at most so many steps, where there are so many node slots: the loads of a plan, those of a body's cells,
 -- and five more
 abbrev pub most_of_read : ℕ → ℕ
 most_of_read count = 6 * count + 44 + 35
+
+-- and one of a `get` at most so many: its walk makes half as many loads
+abbrev pub most_of_get : ℕ → ℕ
+most_of_get count = 3 * count + 28 + 35
 
 module _ {T : Type 0} (m : Meaning) where
   -- the request stands once in the one history of a state that the machine reaches, with this stamp and this reply, and
@@ -180,6 +189,9 @@ module _ {T : Type 0} (m : Meaning) where
       pub made : ℕ
       pub made_is : made ≡ steps_of answer old new answers
       pub few : made ≤ most_of_read (slots m old.layout)
+      pub brief : (key : ℕ) → request.op ≡ Get key → made ≤ most_of_get (slots m old.layout)
+      -- a `get` is never refused by its body, where the structure serves the map
+      pub looks : m.is_map ≡ true → (key at : ℕ) → request.op ≡ Get key → answer ≢ locked_at at
       -- it takes none of its slots and retires none, runs no section, knows on what it knew, and comes to know no other
       -- request of its own
       pub owns : KeepsSlots old new

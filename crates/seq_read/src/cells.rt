@@ -5,13 +5,13 @@ ghost use Rattle.body_terms.specs.declared.thunk.Thunk.{Thunk};
 ghost use Rattle.structure_laws.specs.Scene.{Readings};
 ghost use Rattle.version_words.specs.RunnerState.{RunnerState};
 ghost use Rattle.version_words.specs.TableState.{IsOf};
-ghost use Rattle.lock_walks.specs.try_lock.specs.Planning.{Planning};
+ghost use Rattle.caller_facts.specs.try_lock.specs.Planning.{Planning};
 ghost use Rattle.caller_facts.specs.Counted.{IsSeen};
 ghost use Rattle.seq_read.specs.Parts.{MayLoad, HasLoadedCells};
 
 use arrayvec::ArrayVec;
 use body_terms::{Place, Step, StepKind, Steps};
-use lock_walks::try_lock::commit_log::passes;
+use caller_facts::lock_walks::try_lock::commit_log::passes;
 use runner_gate::Gate;
 use structure_laws::Structure;
 use version_words::{FlockTable, Runner};

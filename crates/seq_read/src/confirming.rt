@@ -8,12 +8,12 @@ ghost use Rattle.runner_steps.specs.Sections.{reply_in};
 ghost use Rattle.version_words.specs.RunnerState.{RunnerState};
 ghost use Rattle.version_words.specs.TableState.{IsOf};
 ghost use Rattle.version_words.specs.Events.{Makes, IsMade};
-ghost use Rattle.lock_walks.specs.commit_log.specs.Asked.{IsAsked};
-ghost use Rattle.lock_walks.specs.try_lock.specs.Planning.{Planning};
+ghost use Rattle.caller_facts.specs.commit_log.specs.Asked.{IsAsked};
+ghost use Rattle.caller_facts.specs.try_lock.specs.Planning.{Planning};
 ghost use Rattle.seq_read.specs.Course.{HasFound, HasAnnounced, HasClock, HasLock, HasReplied};
 
 use body_terms::{StepKind, Steps, Thunk, Word};
-use lock_walks::try_lock::commit_log::passes;
+use caller_facts::lock_walks::try_lock::commit_log::passes;
 use next_steps::looks_are_small;
 use runner_gate::Gate;
 use structure_laws::Structure;

@@ -19,6 +19,5 @@ pub use reading::read;
 
 // Passed on to the layers above, so that they needn't name these libraries themselves.
 pub use caller_facts;
-pub use lock_walks;
-pub use lock_walks::{epoch_slots, try_lock};
-pub use request_facts;
+pub use caller_facts::lock_walks::{epoch_slots, try_lock};
+pub use caller_facts::{lock_walks, request_facts};

@@ -1,10 +1,10 @@
 //! One read of a request without a lock.
-ghost use Rattle.std.specs.Prelude.{◌≡◌, ℕ, ◌+◌, length};
+ghost use Rattle.std.specs.Prelude.{◌≡◌, ℕ, ◌+◌, ◌≤◌, length};
 ghost use Rattle.structure_laws.specs.Scene.{Readings};
 ghost use Rattle.runner_steps.specs.Sections.{reply_in};
 ghost use Rattle.version_words.specs.RunnerState.{RunnerState};
 ghost use Rattle.version_words.specs.TableState.{IsOf};
-ghost use Rattle.lock_walks.specs.try_lock.specs.declared.planned.Planned.TheVariants as plans;
+ghost use Rattle.caller_facts.specs.try_lock.specs.declared.planned.Planned.TheVariants as plans;
 ghost use Rattle.caller_facts.specs.Counted.{IsSeen};
 ghost use Rattle.caller_facts.specs.Asking.{MayAttempt};
 ghost use Rattle.seq_read.specs.Course.{HasPlanned, HasFound, HasLock, loaded_steps, locked_steps};
@@ -18,15 +18,15 @@ use crate::confirming::{announce, load_clock, load_lock, write_reply, write_stam
 use crate::refusals::{lock_moved, plan_refused};
 use crate::wants::first_missed;
 use arrayvec::ArrayVec;
-use body_terms::{Body, StepKind, Steps, Thunk};
+use body_terms::{Body, Step, StepKind, Steps, Thunk};
 use caller_facts::goes_on;
-use lock_walks::Planner;
-use lock_walks::epoch_slots::{enter, exit};
-use lock_walks::try_lock::Planned;
+use caller_facts::lock_walks::Planner;
+use caller_facts::lock_walks::epoch_slots::{enter, exit};
+use caller_facts::lock_walks::try_lock::Planned;
 use map_history::{Reply, Request};
 use next_steps::looks_are_small;
 use runner_gate::Gate;
-use version_words::{FlockTable, Runner};
+use version_words::{FlockTable, RunRoom, Runner};
 
 /// Writes both words of the request, whose lock had its word again behind the load of the clock, and leaves.
 fn answer<S: Planner, G: Gate, L>(
@@ -116,9 +116,54 @@ fn confirm<S: Planner, G: Gate, L>(
     answer(table, runner, request, thunk, clock, reply, gate, steps)
 }
 
-/// Looks at the body of the thunk that was planned: where it changes nothing, its cells are loaded and tested, and the
-/// read is confirmed. Else the runner leaves.
-fn look<S: Planner, G: Gate, L>(
+/// Looks at the body of the thunk that was planned, which is handed in: where it changes nothing, its cells are loaded
+/// and tested, and the read is confirmed. Else the runner leaves.
+fn look_at<S: Planner, G: Gate, L>(
+    table: &FlockTable<S>,
+    runner: Runner<S>,
+    request: &Request,
+    thunk: &Thunk,
+    body: &[Step],
+    gate: &mut G,
+    steps: &mut Steps<L>,
+) -> (Runner<S>, Read)
+    requires own { IsOf table.now runner }
+    requires planned { (readings : Readings) × (old : RunnerState S)
+        × HasPlanned (S.meaning table.now.structure) (S.planning table.now.structure) request.now readings
+        (plans.Thunk thunk.now) old runner }
+    requires body { body.now ≡ (S.meaning table.now.structure).body thunk.now }
+    requires few { length body.now ≤ 40 }
+    ensures own { IsOf table.now result.0 }
+    ensures rests { (readings : Readings) (old : RunnerState S)
+        → HasPlanned (S.meaning table.now.structure) (S.planning table.now.structure) request.now readings
+        (plans.Thunk thunk.now) old runner
+        → Rests (S.meaning table.now.structure) (S.planning table.now.structure) request.now (length readings)
+        result.1 old result.0 (IsSeen G.halts G.asks)
+        (G.halts gate.old) (G.halts gate.new) (G.asks gate.old) (G.asks gate.new) steps.old.count steps.new.count }
+{
+    if let Some(at) = first_change(body) {
+        return (exit(table, runner), Read::Locked { at: at as u32 });
+    }
+    let mut loaded = ArrayVec::new();
+    let (runner, going) = load_cells(table, runner, body, &mut loaded, gate, steps);
+    if !going {
+        return (runner, Read::Halted);
+    }
+    if let Some(missed) = first_missed(body, loaded.as_slice()) {
+        let stale = Read::Stale {
+            place: missed.place,
+            expected: missed.expected,
+            read: missed.read,
+        };
+        return (exit(table, runner), stale);
+    }
+    confirm(table, runner, request, thunk, reply_of(body), gate, steps)
+}
+
+/// As `look`, where the room that the runner keeps is out: the read makes a body. It is a call of its own, since a caller
+/// would clear the body's place before each read, though it seldom needs it.
+#[inline(never)]
+fn look_anew<S: Planner, G: Gate, L>(
     table: &FlockTable<S>,
     runner: Runner<S>,
     request: &Request,
@@ -140,24 +185,49 @@ fn look<S: Planner, G: Gate, L>(
 {
     let mut body = Body::empty();
     table.structure().body_in(thunk, &mut body);
-    let body = body.steps.as_slice();
-    if let Some(at) = first_change(body) {
-        return (exit(table, runner), Read::Locked { at: at as u32 });
-    }
-    let mut loaded = ArrayVec::new();
-    let (runner, going) = load_cells(table, runner, body, &mut loaded, gate, steps);
-    if !going {
-        return (runner, Read::Halted);
-    }
-    if let Some(missed) = first_missed(body, loaded.as_slice()) {
-        let stale = Read::Stale {
-            place: missed.place,
-            expected: missed.expected,
-            read: missed.read,
-        };
-        return (exit(table, runner), stale);
-    }
-    confirm(table, runner, request, thunk, reply_of(body), gate, steps)
+    look_at(
+        table,
+        runner,
+        request,
+        thunk,
+        body.steps.as_slice(),
+        gate,
+        steps,
+    )
+}
+
+/// Looks at the body of the thunk that was planned. A body that the runner keeps for its runs is refilled with its steps,
+/// which is cheaper than to make one.
+fn look<S: Planner, G: Gate, L>(
+    table: &FlockTable<S>,
+    mut runner: Runner<S>,
+    request: &Request,
+    thunk: &Thunk,
+    gate: &mut G,
+    steps: &mut Steps<L>,
+) -> (Runner<S>, Read)
+    requires own { IsOf table.now runner }
+    requires planned { (readings : Readings) × (old : RunnerState S)
+        × HasPlanned (S.meaning table.now.structure) (S.planning table.now.structure) request.now readings
+        (plans.Thunk thunk.now) old runner }
+    ensures own { IsOf table.now result.0 }
+    ensures rests { (readings : Readings) (old : RunnerState S)
+        → HasPlanned (S.meaning table.now.structure) (S.planning table.now.structure) request.now readings
+        (plans.Thunk thunk.now) old runner
+        → Rests (S.meaning table.now.structure) (S.planning table.now.structure) request.now (length readings)
+        result.1 old result.0 (IsSeen G.halts G.asks)
+        (G.halts gate.old) (G.halts gate.new) (G.asks gate.old) (G.asks gate.new) steps.old.count steps.new.count }
+{
+    let Some(mut room) = runner.take_room() else {
+        return look_anew(table, runner, request, thunk, gate, steps);
+    };
+    let RunRoom { bodies, trail: _ } = &mut *room;
+    let body = &mut bodies[(thunk.form % 4) as usize];
+    table.structure().body_in(thunk, body);
+    let line = body.steps.as_slice();
+    let (mut runner, answer) = look_at(table, runner, request, thunk, line, gate, steps);
+    runner.keep_room(room);
+    (runner, answer)
 }
 
 /// Reads a request once, without its lock.

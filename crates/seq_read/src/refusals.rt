@@ -4,7 +4,7 @@ ghost use Rattle.seq_read.specs.Course.{of_plan, of_lock};
 
 use crate::answers::Read;
 use body_terms::{Thunk, Word};
-use lock_walks::try_lock::Planned;
+use caller_facts::lock_walks::try_lock::Planned;
 
 /// A refused plan as a read's answer.
 pub fn plan_refused(planned: Planned) -> Read

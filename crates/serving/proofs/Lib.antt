@@ -1,7 +1,7 @@
-mod Lists
-mod Standing
-mod Tries
-mod Briefly
-mod Trying
-mod Along
+pub mod Lists
+pub mod Standing
+pub mod Tries
+pub mod Briefly
+pub mod Trying
+pub mod Along
 pub mod Spent

@@ -2,7 +2,7 @@
 use Rattle.std.specs.Prelude.{◌*◌, ◌%◌, ◌==◌, cond, nat_lt, slice_get, Bool, true, false}
 use Rattle.std.specs.List.{filter}
 use Rattle.std.specs.FinMap.{len}
-use Rattle.std.proofs.Common.{◌≡◌, ◌≢◌, ℕ, suc, ◌+◌, ◌<◌, ◌≤◌, List, [], ◌∷◌, length, refl, sym, ap, ◌∙◌, subst, arith, ⊎_elim, Option, Some, None, get_or, eq-eqb, if◌then◌else◌}
+use Rattle.std.proofs.Common.{◌≡◌, ◌≢◌, ℕ, suc, ◌+◌, ◌<◌, ◌≤◌, List, [], ◌∷◌, length, refl, sym, ap, ◌∙◌, subst, arith, ⊎_elim, inl, Option, Some, None, get_or, eq-eqb, if◌then◌else◌}
 use Rattle.std.proofs.lemmas.Bool.{cases_lt}
 use Rattle.std.proofs.lemmas.Bool.Decides.{nat_tests}
 use Rattle.std.proofs.lemmas.Nat.{mul-le}
@@ -13,6 +13,7 @@ use Rattle.map_history.specs.declared.op.Request.{Request}
 use Rattle.map_history.specs.Replay.{Pairs}
 use Rattle.map_history.specs.Requests.{AreInOrder}
 use Rattle.history_orders.proofs.Replays.{map-oldest_first}
+use Rattle.history_orders.specs.Turns.{Follows}
 use Rattle.map_sizes.specs.Sizes.{HaveFirstStamps, map_behind, peak, size_behind}
 use Rattle.map_sizes.proofs.InOrder.{replayed}
 use Rattle.map_sizes.proofs.Peaks.{below_peak}
@@ -36,11 +37,17 @@ use Rattle.serving.specs.resource_bounds.specs.Versions.{VersionsAreCounted, run
 use Rattle.serving.specs.resource_bounds.specs.InUse.{FewAreInUse, NoneIsHeld, entries_below}
 use Rattle.settling.specs.keeper_facts.specs.Freed.{IsFreed, IsPublished, LocksTell}
 use Rattle.settling.specs.runner_facts.specs.Keeper.{AllJoined}
+use Rattle.free_serving.specs.Left.{Rises}
 use Rattle.threaded_runs.specs.Own.{own_requests}
 use Rattle.threaded_runs.specs.Runs.{AreEntered, stamp_of}
 use Rattle.settled_tables.proofs.Keeping.{length-falling}
 use Rattle.threaded_runs.proofs.Owning.{numbered}
 use Rattle.threaded_runs.proofs.Closing.{end, word_is}
+
+-- what rises follows
+follows_by : (reads_free : Bool) (s t : ℕ) → Rises reads_free s t → Follows s t
+follows_by true s t rises = rises
+follows_by false s t rises = inl rises
 
 -- all requests are the one worker's
 pub all_own : (requests : List Request) → own_requests 1 0 requests ≡ requests
@@ -117,7 +124,7 @@ module _ {T : Type 0} (m : Meaning) (t : TableState T) (keeper : RunnerState T) 
 
   module _ (per_pair : ℕ) (in_use : FewAreInUse per_pair m t.layout t.requests last) (free : NoneIsHeld m last)
       (history : HasHistory m t.layout t.requests last) (is_map : m.is_map ≡ true) (order : AreInOrder t.requests 64)
-      (nodes : keeper.part.nodes ≡ (keeper_part m t.layout).nodes) (count : ℕ) (entered : AreEntered m w t.requests count) where
+      (nodes : keeper.part.nodes ≡ (keeper_part m t.layout).nodes) (count : ℕ) (reads_free : Bool) (entered : AreEntered m w reads_free t.requests count) where
     abbrev nobody : Request
     nobody = record { trace = 0; number = 0; op = Get 0 }
 
@@ -139,7 +146,8 @@ module _ {T : Type 0} (m : Meaning) (t : TableState T) (keeper : RunnerState T) 
           let below : n < count = omega (arith, less, low) in
           let a = stamp_is n (inside n below) in let b = stamp_is k (inside k low) in
           let c = entered.rising n k (get_or t.requests n nobody) (get_or t.requests k nobody) less low (at n (inside n below)) (at k (inside k low)) in
-          omega (arith, a, b, c);
+          subst (λ (s : ℕ). Follows s (last.word (Stamp k))) (sym a)
+          (subst (λ (s : ℕ). Follows (stamp_of m w (get_or t.requests n nobody)) s) (sym b) (follows_by reads_free _ _ c));
       none = λ n high. ⊎_elim
           (λ low. stamp_is n low ∙ entered.none n (get_or t.requests n nobody) high (at n low))
           (λ beyond. unseen _ _ (past n (length t.requests) beyond))

@@ -12,6 +12,7 @@ use Rattle.settling.specs.runner_gate.specs.Asks.{Asks}
 use Rattle.settling.specs.runner_gate.specs.Counts.{plus}
 use Rattle.serving.specs.declared.answers.Served.{Served}
 use Rattle.serving.specs.declared.answers.Served.TheVariants as stops
+use Rattle.free_serving.specs.Left.{least_asks}
 use Rattle.threaded_runs.specs.declared.job.Finished.{Finished}
 use Rattle.threaded_runs.specs.Asks.{halted_in}
 use Rattle.threaded_runs.specs.Counts.{halted}
@@ -78,24 +79,37 @@ counted_least start (suc n) (suc least) few =
     one_on a c low = omega (arith, low)
 
 -- one more gate, by which so many were served
-one_gate : (before served halts asked n of_gate own halt : ℕ) → min (before + 16 * (served - halts)) (2 ^ 64 - 1) ≤ asked
-    → min (16 * n) (2 ^ 64 - 1) ≤ of_gate → own ≤ n + halt
-    → min (before + 16 * ((served + own) - (halts + halt))) (2 ^ 64 - 1) ≤ min (asked + of_gate) (2 ^ 64 - 1)
-one_gate before served halts asked n of_gate own halt first second few =
+one_gate : (reads_free : Bool) (before served halts asked n of_gate own halt : ℕ) → min (before + least_asks reads_free * (served - halts)) (2 ^ 64 - 1) ≤ asked
+    → min (least_asks reads_free * n) (2 ^ 64 - 1) ≤ of_gate → own ≤ n + halt
+    → min (before + least_asks reads_free * ((served + own) - (halts + halt))) (2 ^ 64 - 1) ≤ min (asked + of_gate) (2 ^ 64 - 1)
+one_gate reads_free before served halts asked n of_gate own halt first second few =
     let less : (served + own) - (halts + halt) ≤ (served - halts) + n = omega (arith, few) in
-    sums before (served - halts) n ((served + own) - (halts + halt)) less first second
+    sums reads_free before (served - halts) n ((served + own) - (halts + halt)) less first second
   where
-    sums : (before s n k : ℕ) → k ≤ s + n → min (before + 16 * s) (2 ^ 64 - 1) ≤ asked → min (16 * n) (2 ^ 64 - 1) ≤ of_gate
-        → min (before + 16 * k) (2 ^ 64 - 1) ≤ min (asked + of_gate) (2 ^ 64 - 1)
-    sums before s n k less one two = omega (arith, less, one, two)
+    sums : (b : Bool) (before s n k : ℕ) → k ≤ s + n → min (before + least_asks b * s) (2 ^ 64 - 1) ≤ asked → min (least_asks b * n) (2 ^ 64 - 1) ≤ of_gate
+        → min (before + least_asks b * k) (2 ^ 64 - 1) ≤ min (asked + of_gate) (2 ^ 64 - 1)
+    sums true before s n k less one two =
+        let first : min (before + 8 * s) (2 ^ 64 - 1) ≤ asked = one in
+        let second : min (8 * n) (2 ^ 64 - 1) ≤ of_gate = two in
+        let all : min (before + 8 * k) (2 ^ 64 - 1) ≤ min (asked + of_gate) (2 ^ 64 - 1) = omega (arith, less, first, second) in all
+    sums false before s n k less one two =
+        let first : min (before + 16 * s) (2 ^ 64 - 1) ≤ asked = one in
+        let second : min (16 * n) (2 ^ 64 - 1) ≤ of_gate = two in
+        let all : min (before + 16 * k) (2 ^ 64 - 1) ≤ min (asked + of_gate) (2 ^ 64 - 1) = omega (arith, less, first, second) in all
 
-none_yet : (before : ℕ) → min (before + 16 * (0 - 0)) (2 ^ 64 - 1) ≤ before
-none_yet before = let low : min (before + 0) (2 ^ 64 - 1) ≤ before + 0 = min-le_left (before + 0) (2 ^ 64 - 1) in omega (arith, low)
+none_yet : (reads_free : Bool) (before : ℕ) → min (before + least_asks reads_free * (0 - 0)) (2 ^ 64 - 1) ≤ before
+none_yet true before = let low : min (before + 0) (2 ^ 64 - 1) ≤ before + 0 = min-le_left (before + 0) (2 ^ 64 - 1) in omega (arith, low)
+none_yet false before = let low : min (before + 0) (2 ^ 64 - 1) ≤ before + 0 = min-le_left (before + 0) (2 ^ 64 - 1) in omega (arith, low)
 
 -- fewer that are served
-fewer : (before served most halts asked : ℕ) → served ≤ most → min (before + 16 * (most - halts)) (2 ^ 64 - 1) ≤ asked
-    → min (before + 16 * (served - halts)) (2 ^ 64 - 1) ≤ asked
-fewer before served most halts asked few low = omega (arith, few, low)
+fewer : (reads_free : Bool) (before served most halts asked : ℕ) → served ≤ most → min (before + least_asks reads_free * (most - halts)) (2 ^ 64 - 1) ≤ asked
+    → min (before + least_asks reads_free * (served - halts)) (2 ^ 64 - 1) ≤ asked
+fewer true before served most halts asked few low =
+    let first : min (before + 8 * (most - halts)) (2 ^ 64 - 1) ≤ asked = low in
+    let all : min (before + 8 * (served - halts)) (2 ^ 64 - 1) ≤ asked = omega (arith, few, first) in all
+fewer false before served most halts asked few low =
+    let first : min (before + 16 * (most - halts)) (2 ^ 64 - 1) ≤ asked = low in
+    let all : min (before + 16 * (served - halts)) (2 ^ 64 - 1) ≤ asked = omega (arith, few, first) in all
 
 halted_more : (given : List Served) (answer : Served) → halted_in (given ++ answer ∷ []) ≡ halted_in given + halted answer
 halted_more [] answer = omega arith
@@ -106,19 +120,19 @@ same_at [] i d e low = absurd (omega (arith, low))
 same_at (x ∷ xs) zero d e low = refl
 same_at (x ∷ xs) (suc i) d e low = same_at xs i d e (omega (arith, low))
 
-module _ {T H : Type 0} (asks : H → Asks) (before : ℕ) (finished : List (Finished T H)) (answers : List Served) (own : ℕ → ℕ) (each : length answers ≡ length finished)
+module _ {T H : Type 0} (reads_free : Bool) (asks : H → Asks) (before : ℕ) (finished : List (Finished T H)) (answers : List Served) (own : ℕ → ℕ) (each : length answers ≡ length finished)
     (gate : (i : ℕ) → i < length finished → (d : Finished T H) (a : Served)
-    → (n : ℕ) × (min (16 * n) (2 ^ 64 - 1) ≤ (asks (get_or finished i d).gate).count) × (own i ≤ n + halted (get_or answers i a))) where
+    → (n : ℕ) × (min (least_asks reads_free * n) (2 ^ 64 - 1) ≤ (asks (get_or finished i d).gate).count) × (own i ≤ n + halted (get_or answers i a))) where
   first_gates : (k : ℕ) → k ≤ length finished
-      → min (before + 16 * (sum_below own k - halted_in (take k answers))) (2 ^ 64 - 1) ≤ asks_counted asks before (take k finished)
-  first_gates zero few = none_yet before
+      → min (before + least_asks reads_free * (sum_below own k - halted_in (take k answers))) (2 ^ 64 - 1) ≤ asks_counted asks before (take k finished)
+  first_gates zero few = none_yet reads_free before
   first_gates (suc k) few =
       let longer : suc k ≡ k + 1 = omega arith in
-      subst (λ (h : ℕ). min (before + 16 * (sum_below own (suc k) - h)) (2 ^ 64 - 1) ≤ asks_counted asks before (take (suc k) finished))
+      subst (λ (h : ℕ). min (before + least_asks reads_free * (sum_below own (suc k) - h)) (2 ^ 64 - 1) ≤ asks_counted asks before (take (suc k) finished))
       (sym (ap (λ (n : ℕ). halted_in (take n answers)) longer ∙ (ap halted_in (take_more answers k stops.All here) ∙ halted_more (take k answers) (get_or answers k stops.All))))
-      (subst (λ (x : ℕ). min (before + 16 * (sum_below own (suc k) - (halted_in (take k answers) + halted (get_or answers k stops.All)))) (2 ^ 64 - 1) ≤ x)
+      (subst (λ (x : ℕ). min (before + least_asks reads_free * (sum_below own (suc k) - (halted_in (take k answers) + halted (get_or answers k stops.All)))) (2 ^ 64 - 1) ≤ x)
       (sym (ap (λ (n : ℕ). asks_counted asks before (take n finished)) longer ∙ asks_next asks before finished k (get_or finished k d) low (λ e. same_at finished k e d low)))
-      (one_gate before (sum_below own k) (halted_in (take k answers)) (asks_counted asks before (take k finished)) this.0 (asks (get_or finished k d).gate).count (own k)
+      (one_gate reads_free before (sum_below own k) (halted_in (take k answers)) (asks_counted asks before (take k finished)) this.0 (asks (get_or finished k d).gate).count (own k)
       (halted (get_or answers k stops.All)) (first_gates k (omega (arith, few))) this.1 this.2))
     where
       low : k < length finished
@@ -130,14 +144,14 @@ module _ {T H : Type 0} (asks : H → Asks) (before : ℕ) (finished : List (Fin
       d : Finished T H
       d = some_of finished k low
 
-      this : (n : ℕ) × (min (16 * n) (2 ^ 64 - 1) ≤ (asks (get_or finished k d).gate).count) × (own k ≤ n + halted (get_or answers k stops.All))
+      this : (n : ℕ) × (min (least_asks reads_free * n) (2 ^ 64 - 1) ≤ (asks (get_or finished k d).gate).count) × (own k ≤ n + halted (get_or answers k stops.All))
       this = gate k low d stops.All
 
   pub often_asked : (served : ℕ) → served ≤ sum_below own (length finished)
-      → min (before + 16 * (served - halted_in answers)) (2 ^ 64 - 1) ≤ asks_counted asks before finished
-  often_asked served few = fewer before served (sum_below own (length finished)) (halted_in answers) (asks_counted asks before finished) few
-      (subst (λ (given : List Served). min (before + 16 * (sum_below own (length finished) - halted_in given)) (2 ^ 64 - 1) ≤ asks_counted asks before finished)
+      → min (before + least_asks reads_free * (served - halted_in answers)) (2 ^ 64 - 1) ≤ asks_counted asks before finished
+  often_asked served few = fewer reads_free before served (sum_below own (length finished)) (halted_in answers) (asks_counted asks before finished) few
+      (subst (λ (given : List Served). min (before + least_asks reads_free * (sum_below own (length finished) - halted_in given)) (2 ^ 64 - 1) ≤ asks_counted asks before finished)
       (take_all (length finished) answers (omega (arith, each)))
-      (subst (λ (fs : List (Finished T H)). min (before + 16 * (sum_below own (length finished) - halted_in (take (length finished) answers))) (2 ^ 64 - 1) ≤ asks_counted asks before fs)
+      (subst (λ (fs : List (Finished T H)). min (before + least_asks reads_free * (sum_below own (length finished) - halted_in (take (length finished) answers))) (2 ^ 64 - 1) ≤ asks_counted asks before fs)
       (take_all (length finished) finished (omega arith))
       (first_gates (length finished) (omega arith))))

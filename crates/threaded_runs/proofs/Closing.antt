@@ -1,8 +1,9 @@
 -- What the words of a closed table hold of a worker's requests, by how the worker served them.
 use Rattle.std.specs.Prelude.{◌%◌, ◌*◌, ◌==◌, ◌||◌, ◌⊎◌, not, Bool, true, false, count_by, slice_get}
-use Rattle.std.proofs.Common.{◌≡◌, ◌≢◌, ℕ, zero, suc, ◌+◌, ◌<◌, ◌≤◌, List, [], ◌∷◌, length, refl, sym, ap, ◌∙◌, subst, arith, Option, Some, None, inl, inr, eq-eqb, ne_eqb, if◌then◌else◌}
+use Rattle.std.proofs.Common.{◌≡◌, ◌≢◌, ℕ, zero, suc, ◌+◌, ◌<◌, ◌≤◌, List, [], ◌∷◌, length, refl, sym, ap, ◌∙◌, subst, arith, Option, Some, None, inl, inr, ⊎_elim, eq-eqb, ne_eqb, if◌then◌else◌}
 use mathlib.Core.Logic.{dite}
 use native.Mathlib.Decide.{ℕ_discrete}
+use Rattle.std.proofs.lemmas.Bool.{cases_lt}
 use Rattle.std.proofs.lemmas.Option.{slice_get_within}
 use Rattle.small_lemmas.proofs.Bools.{from_both as true_false}
 use Rattle.map_history.specs.declared.op.Request.{Request}
@@ -41,7 +42,9 @@ use Rattle.settling.specs.epoch_slots.specs.declared.reserves.Kind.TheVariants a
 use Rattle.settling.specs.epoch_slots.specs.declared.reserves.Short.{Short}
 use Rattle.settling.specs.try_lock.specs.Planning.{Planning}
 use Rattle.serving.specs.attempts.specs.Attempts.{IsFew, IsShort}
-use Rattle.serving.specs.Serving.{Serves, AreServed as AreAnswered, WasHalted, HasStopped, StopsShort, Ends, IsBefore}
+use Rattle.serving.specs.Serving.{WasHalted, StopsShort}
+use Rattle.free_serving.specs.Services.{is_get}
+use Rattle.free_serving.specs.Left.{Rises, IsBefore, IsOdd, AreAskedWholly, WasReadInVain, Leaves, Ends}
 use Rattle.serving.specs.declared.answers.Served.{Served}
 use Rattle.serving.specs.declared.answers.Served.TheVariants as answers
 use Rattle.serving.specs.resource_bounds.specs.Makes.{added}
@@ -53,6 +56,11 @@ use mathlib.Core.Path.{fun_ext}
 use Rattle.body_terms.specs.Memory.{cell_of}
 use Rattle.body_terms.specs.Word.{version_of}
 use Rattle.machine_states.proofs.Sights.{some_none}
+
+-- what is above another one comes behind it
+rises_by : (reads_free : Bool) (s t : ℕ) → s < t → Rises reads_free s t
+rises_by true s t less = inl less
+rises_by false s t less = less
 
 -- what stands in a list is in it
 has_of : (xs : List ℕ) (i x : ℕ) → slice_get xs i ≡ Some x → has xs x ≡ true
@@ -90,14 +98,14 @@ module _ {T : Type 0} (m : Meaning) (t : TableState T) (keeper : RunnerState T) 
       ∙ ap part_or_first (closing.worker_parts worker few ∙ kept)
 
   module _ (is_map : m.is_map ≡ true) (history : HasHistory m t.layout t.requests end) (callers : CallersStand m t.layout t.requests end)
-      (worker : ℕ) (own : List Request) (retry_short : Bool) (planning : Planning) (answer : Served) (old new : RunnerState T)
-      (part : end.part worker ≡ leaves new.part) (Seen : ℕ → Asks → Type 0) (halts : ℕ) (asks asks' : Asks) (steps steps' : ℕ)
-      (serves : Serves m planning retry_short own answer old new Seen halts asks asks' steps steps')
+      (worker : ℕ) (own : List Request) (retry_short reads_free : Bool) (planning : Planning) (answer : Served) (old new : RunnerState T)
+      (part : end.part worker ≡ leaves new.part) (asks asks' : Asks)
+      (left : Leaves m planning retry_short reads_free own answer old new asks asks')
       (there : (i : ℕ) (q : Request) → slice_get own i ≡ Some q → slice_get t.requests q.number ≡ Some q)
       (trace : (i : ℕ) (q : Request) → slice_get own i ≡ Some q → q.trace % t.layout.runners ≡ worker)
       (once : (i j : ℕ) (q q' : Request) → slice_get own i ≡ Some q → slice_get own j ≡ Some q' → q.number ≡ q'.number → i ≡ j) where
     abbrev count : ℕ
-    count = serves.count
+    count = left.count
 
     abbrev known : List Known
     known = (end.part worker).records.known
@@ -123,14 +131,14 @@ module _ {T : Type 0} (m : Meaning) (t : TableState T) (keeper : RunnerState T) 
 
     -- the stamps of answered requests are those that the worker knows
     before : (q q' : Request) → is_answered new.part.records.known q.number ≡ true → is_answered new.part.records.known q'.number ≡ true
-        → IsBefore new.part.records.known q q' → stamp_of m w q < stamp_of m w q'
+        → IsBefore reads_free new.part.records.known q q' → Rises reads_free (stamp_of m w q) (stamp_of m w q')
     before q q' known_so known_also less =
         let k = callers.known is_map worker q.number (answered_is q.number true known_so) in
         let k' = callers.known is_map worker q'.number (answered_is q'.number true known_also) in
-        let less' : IsBefore known q q' = subst (λ (ks : List Known). IsBefore ks q q') (sym known_is) less in
-        let low : k.stamp < k'.stamp = less' _ _ k.knows_stamp k'.knows_stamp refl refl refl refl in
-        subst (λ (n : ℕ). n < stamp_of m w q') (sym (word_is (Stamp q.number) ∙ k.served.stamp_word))
-        (subst (λ (n : ℕ). k.stamp < n) (sym (word_is (Stamp q'.number) ∙ k'.served.stamp_word)) low)
+        let less' : IsBefore reads_free known q q' = subst (λ (ks : List Known). IsBefore reads_free ks q q') (sym known_is) less in
+        let low : Rises reads_free k.stamp k'.stamp = less' _ _ k.knows_stamp k'.knows_stamp refl refl refl refl in
+        subst (λ (n : ℕ). Rises reads_free n (stamp_of m w q')) (sym (word_is (Stamp q.number) ∙ k.served.stamp_word))
+        (subst (λ (n : ℕ). Rises reads_free k.stamp n) (sym (word_is (Stamp q'.number) ∙ k'.served.stamp_word)) low)
 
     -- a request of the worker's that isn't answered has an entry only where it is that of the worker's open section
     unserved : (i : ℕ) (q : Request) → slice_get own i ≡ Some q → is_answered new.part.records.known q.number ≡ false
@@ -149,38 +157,41 @@ module _ {T : Type 0} (m : Meaning) (t : TableState T) (keeper : RunnerState T) 
           far (once i count q o.0 e o.1 (sym held.request ∙ o.2))
 
       behind : (i : ℕ) (q : Request) → count < i → slice_get own i ≡ Some q → stamp_of m w q ≡ 0
-      behind i q far e = unserved i q e (serves.served.behind i q far e) (elsewhere i q e (λ is. omega (arith, far, is)))
+      behind i q far e = unserved i q e (left.served.behind i q far e) (elsewhere i q e (λ is. omega (arith, far, is)))
 
       -- where the request behind the answered ones has unknown_so entry, these are all that have one
-      pub entered_so : ((q : Request) → slice_get own count ≡ Some q → stamp_of m w q ≡ 0) → AreEntered m w own count
+      pub entered_so : ((q : Request) → slice_get own count ≡ Some q → stamp_of m w q ≡ 0) → AreEntered m w reads_free own count
       entered_so next = record {
-        few = serves.served.few;
-        entries = λ i q low e. entry i q e (serves.served.answered i q low e);
-        rising = λ i j q q' less low e e'. before q q' (serves.served.answered i q (omega (arith, less, low)) e) (serves.served.answered j q' low e') (serves.served.rising i j q q' less low e e');
+        few = left.served.few;
+        entries = λ i q low e. entry i q e (left.served.answered i q low e);
+        rising = λ i j q q' less low e e'. before q q' (left.served.answered i q (omega (arith, less, low)) e) (left.served.answered j q' low e') (left.served.rising i j q q' less low e e');
         none = λ i q past e. dite (ℕ_discrete i count) (λ is. next q (subst (λ (k : ℕ). slice_get own k ≡ Some q) is e)) (λ far. behind i q (omega (arith, past, far)) e);
       }
 
       -- where it has one, its section was published, and others have run it
       module _ (x : Published) (own_section : new.part.published ≡ Some x) (q : Request) (at : slice_get own count ≡ Some q) (request : x.thunk.request ≡ q.number) (some : stamp_of m w q ≢ 0) where
-        above : (i : ℕ) (q' : Request) → i < count → slice_get own i ≡ Some q' → stamp_of m w q' < stamp_of m w q
-        above i q' low e =
+        below : (i : ℕ) (q' : Request) → i < count → slice_get own i ≡ Some q' → stamp_of m w q' < stamp_of m w q
+        below i q' low e =
             let apart : q'.number ≢ x.thunk.request = λ same. omega (arith, low, once i count q' q e at (same ∙ request)) in
             let mine : end.word (Stamp x.thunk.request) ≢ 0 = λ z. some (word_is (Stamp q.number) ∙ (ap (λ (n : ℕ). end.word (Stamp n)) (sym request) ∙ z)) in
-            let less = (history.asked.before worker q'.number x (published_is ∙ own_section) mine (inr (of_worker i q' e, stamped q'.number (answered_is q'.number true (serves.served.answered i q' low e)), apart))).1 in
+            let less = (history.asked.before worker q'.number x (published_is ∙ own_section) mine (inr (of_worker i q' e, stamped q'.number (answered_is q'.number true (left.served.answered i q' low e)), apart))).1 in
             subst (λ (n : ℕ). n < stamp_of m w q) (sym (word_is (Stamp q'.number)))
             (subst (λ (n : ℕ). end.word (Stamp q'.number) < n) (ap (λ (n : ℕ). end.word (Stamp n)) request ∙ sym (word_is (Stamp q.number))) less)
+
+        above : (i : ℕ) (q' : Request) → i < count → slice_get own i ≡ Some q' → Rises reads_free (stamp_of m w q') (stamp_of m w q)
+        above i q' low e = rises_by reads_free (stamp_of m w q') (stamp_of m w q) (below i q' low e)
 
         entries_more : (i : ℕ) (q' : Request) → i < count + 1 → slice_get own i ≡ Some q' → stamp_of m w q' ≢ 0
         entries_more i q' low e = dite (ℕ_discrete i count)
             (λ is. subst (λ (y : Request). stamp_of m w y ≢ 0) (some_same q q' (sym at ∙ subst (λ (k : ℕ). slice_get own k ≡ Some q') is e)) some)
-            (λ far. entry i q' e (serves.served.answered i q' (omega (arith, low, far)) e))
+            (λ far. entry i q' e (left.served.answered i q' (omega (arith, low, far)) e))
 
-        rising_more : (i j : ℕ) (a b : Request) → i < j → j < count + 1 → slice_get own i ≡ Some a → slice_get own j ≡ Some b → stamp_of m w a < stamp_of m w b
+        rising_more : (i j : ℕ) (a b : Request) → i < j → j < count + 1 → slice_get own i ≡ Some a → slice_get own j ≡ Some b → Rises reads_free (stamp_of m w a) (stamp_of m w b)
         rising_more i j a b less low e e' = dite (ℕ_discrete j count)
-            (λ is. subst (λ (y : Request). stamp_of m w a < stamp_of m w y) (some_same q b (sym at ∙ subst (λ (k : ℕ). slice_get own k ≡ Some b) is e')) (above i a (omega (arith, less, is)) e))
-            (λ far. let under : j < count = omega (arith, low, far) in before a b (serves.served.answered i a (omega (arith, less, under)) e) (serves.served.answered j b under e') (serves.served.rising i j a b less under e e'))
+            (λ is. subst (λ (y : Request). Rises reads_free (stamp_of m w a) (stamp_of m w y)) (some_same q b (sym at ∙ subst (λ (k : ℕ). slice_get own k ≡ Some b) is e')) (above i a (omega (arith, less, is)) e))
+            (λ far. let under : j < count = omega (arith, low, far) in before a b (left.served.answered i a (omega (arith, less, under)) e) (left.served.answered j b under e') (left.served.rising i j a b less under e e'))
 
-        pub entered_more : AreEntered m w own (count + 1)
+        pub entered_more : AreEntered m w reads_free own (count + 1)
         entered_more = record {
           few = let low = slice_get_within own count q at in omega (arith, low);
           entries = entries_more;
@@ -196,7 +207,7 @@ module _ {T : Type 0} (m : Meaning) (t : TableState T) (keeper : RunnerState T) 
     opened_none nothing x e = absurd (none_some x (sym e ∙ nothing))
 
     -- where the worker stopped at a request with nothing published, that one has unknown_so entry
-    entered_stopped : new.part.published ≡ None → ((q : Request) → slice_get own count ≡ Some q → is_answered new.part.records.known q.number ≡ false) → AreEntered m w own count
+    entered_stopped : new.part.published ≡ None → ((q : Request) → slice_get own count ≡ Some q → is_answered new.part.records.known q.number ≡ false) → AreEntered m w reads_free own count
     entered_stopped nothing unknown = entered_so (opened_none nothing) (λ q e. unserved count q e (unknown q e) (nothing_open nothing q.number))
 
     same_request : (q q' : Request) → slice_get own count ≡ Some q → slice_get own count ≡ Some q' → is_answered new.part.records.known q.number ≡ false → is_answered new.part.records.known q'.number ≡ false
@@ -313,7 +324,7 @@ module _ {T : Type 0} (m : Meaning) (t : TableState T) (keeper : RunnerState T) 
       pub descriptors_done : OwnStand t.layout end → LimboIsDone end → (short : Short) → answer ≡ answers.Short short → short.kind ≡ slots.Descriptor
           → (d : ℕ) → w.layout.sections * worker ≤ d → d < w.layout.sections * worker + w.layout.sections → word_of m w (DoneWord d) ≡ 1
       descriptors_done stands limbo_done short is kind =
-          let ends : Ends m planning retry_short own (answers.Short short) count serves.tries old new = subst (λ (a : Served). Ends m planning retry_short own a count serves.tries old new) is serves.ends in
+          let ends : Ends m planning retry_short own (answers.Short short) count old new = subst (λ (a : Served). Ends m planning retry_short own a count old new) is left.ends in
           own_done stands limbo_done short ends.2.stops.cause.few ends.2.tidy kind
 
       is_short : (short : Short) (q : Request) (from : RunnerState T) → StopsShort m planning retry_short short q from new → IsTidy new → IsShortOf m w retry_short short
@@ -325,20 +336,33 @@ module _ {T : Type 0} (m : Meaning) (t : TableState T) (keeper : RunnerState T) 
         descriptors = short_descriptors short stops.cause.few stops.cause.counts tidy.at.published;
       }
 
+      -- as many have an entry as it knows of, or one more, whose section it published
+      abbrev IsCounted : ℕ → Type 0
+      IsCounted n = (n ≡ count) ⊎ ((n ≡ count + 1) × (x : Published) × (new.part.published ≡ Some x))
+
       -- what is left of it, and how many of its requests have an entry: one more at most than were served, where it
       -- was halted
       abbrev pub LeavesServed : Served → Type 0
-      LeavesServed a = (served : HasServed m w retry_short own a) × (served.count ≤ count + halted a)
+      LeavesServed a = (served : HasServed m w retry_short reads_free own a) × (served.count ≤ left.full + halted a) × IsCounted served.count
 
-      no_more : (n : ℕ) → n ≤ n + 0
-      no_more n = omega arith
+      -- so many are asked about to the end: all, or all but one of a halted worker
+      no_more : (a : Served) → AreAskedWholly a count left.full new → count ≤ left.full + halted a
+      no_more a (inl same) = omega (arith, same)
+      no_more a (inr cut) =
+          let one : halted a ≡ 1 = ap halted cut.0 in
+          let more = cut.2 in omega (arith, one, more)
 
-      halted_at : WasHalted own count new → (o : Option Published) → new.part.published ≡ o → LeavesServed answers.Halted
-      halted_at was None nothing = (
+      one_more : AreAskedWholly answers.Halted count left.full new → (x : Published) → new.part.published ≡ Some x → count + 1 ≤ left.full + 1
+      one_more (inl same) x some = omega (arith, same)
+      one_more (inr cut) x some = absurd (none_some x (sym some ∙ cut.1))
+
+      halted_at : AreAskedWholly answers.Halted count left.full new → WasHalted own count new → (o : Option Published) → new.part.published ≡ o → LeavesServed answers.Halted
+      halted_at whole was None nothing = (
         record { count = count; entered = entered_stopped nothing (λ q e. was.unanswered nothing q e); cause = tt; shown = tt },
-        (let few : count ≤ count + 1 = omega arith in few),
+        no_more answers.Halted whole,
+        inl refl,
       )
-      halted_at was (Some x) is = let o = was.published x is in dite (ℕ_discrete (stamp_of m w o.0) 0)
+      halted_at whole was (Some x) is = let o = was.published x is in dite (ℕ_discrete (stamp_of m w o.0) 0)
           (λ z. (
             record {
               count = count;
@@ -346,49 +370,79 @@ module _ {T : Type 0} (m : Meaning) (t : TableState T) (keeper : RunnerState T) 
               cause = tt;
               shown = tt;
             },
-            (let few : count ≤ count + 1 = omega arith in few),
+            no_more answers.Halted whole,
+            inl refl,
           ))
           (λ some. (
             record { count = count + 1; entered = entered_more was.published x is o.0 o.1 o.2 some; cause = tt; shown = tt },
-            (let few : count + 1 ≤ count + 1 = omega arith in few),
+            one_more whole x is,
+            inr (refl, x, is),
           ))
 
-      leaves_served : (a : Served) → Ends m planning retry_short own a count serves.tries old new → LeavesServed a
-      leaves_served answers.All ends = (
+      leaves_served : (a : Served) → AreAskedWholly a count left.full new → Ends m planning retry_short own a count old new → LeavesServed a
+      leaves_served answers.All whole ends = (
         record {
           count = count;
           entered = entered_stopped ends.1.at.published (λ q e. let few = slice_get_within own count q e in let all = ends.0 in absurd (omega (arith, few, all)));
           cause = ends.0;
           shown = tt;
         },
-        no_more count,
+        no_more answers.All whole,
+        inl refl,
       )
-      leaves_served (answers.Short short) ends = let stopped = ends.2 in (
+      leaves_served (answers.Short short) whole ends = let stopped = ends.2 in (
         record {
           count = count;
           entered = entered_stopped stopped.tidy.at.published (λ q e. same_request ends.0 q ends.1 e stopped.unanswered);
           cause = (slice_get_within own count ends.0 ends.1, is_short short ends.0 stopped.before stopped.stops stopped.tidy);
           shown = worn_slots short short.kind stopped.stops.cause.counts;
         },
-        no_more count,
+        no_more (answers.Short short) whole,
+        inl refl,
       )
-      leaves_served (answers.Spent place word) ends = let stopped = ends.2 in (
+      leaves_served (answers.Spent place word) whole ends = let stopped = ends.2 in (
         record {
           count = count;
           entered = entered_stopped stopped.tidy.at.published (λ q e. same_request ends.0 q ends.1 e stopped.unanswered);
           cause = slice_get_within own count ends.0 ends.1;
           shown = spent_at place word (kept_spent m planning ends.0 place word stopped.before new stopped.stops);
         },
-        no_more count,
+        no_more (answers.Spent place word) whole,
+        inl refl,
       )
-      leaves_served answers.Halted ends = halted_at ends new.part.published refl
+      leaves_served answers.Halted whole ends = halted_at whole ends new.part.published refl
 
-      pub has_served : HasServed m w retry_short own answer
-      has_served = (leaves_served answer serves.ends).0
+      pub has_served : HasServed m w retry_short reads_free own answer
+      has_served = (leaves_served answer left.whole left.ends).0
 
-      pub few_entered : count_by (λ (q : Request). not (stamp_of m w q == 0)) own ≤ count + halted answer
+      pub few_entered : count_by (λ (q : Request). not (stamp_of m w q == 0)) own ≤ left.full + halted answer
       few_entered =
-          let left = leaves_served answer serves.ends in
-          let few = front_only (λ (q : Request). not (stamp_of m w q == 0)) own left.0.count
-          (λ i q past e. ap not (eq-eqb (stamp_of m w q) 0 (left.0.entered.none i q past e))) in
-          omega (arith, few, left.1)
+          let served = leaves_served answer left.whole left.ends in
+          let few = front_only (λ (q : Request). not (stamp_of m w q == 0)) own served.0.count
+          (λ i q past e. ap not (eq-eqb (stamp_of m w q) 0 (served.0.entered.none i q past e))) in
+          omega (arith, few, served.1)
+
+      -- the stamps of requests that were read
+      odd_known : (i : ℕ) (q : Request) → i < count → slice_get own i ≡ Some q → IsOdd new.part.records.known q → stamp_of m w q % 2 ≡ 1
+      odd_known i q low e odd =
+          let k = callers.known is_map worker q.number (answered_is q.number true (left.served.answered i q low e)) in
+          ap (λ (n : ℕ). n % 2) (word_is (Stamp q.number) ∙ k.served.stamp_word)
+          ∙ subst (λ (ks : List Known). IsOdd ks q) (sym known_is) odd _ k.knows_stamp refl refl
+
+      pub read_odd : reads_free ≡ true → (i : ℕ) (q : Request) → slice_get own i ≡ Some q → is_get q.op ≡ true → stamp_of m w q ≢ 0
+          → (stamp_of m w q % 2 ≡ 1) ⊎ WasReadInVain m planning q old
+      read_odd free i q e get some = ⊎_elim here (λ high. absurd (some (served.0.entered.none i q high e))) (cases_lt i served.0.count)
+        where
+          served : LeavesServed answer
+          served = leaves_served answer left.whole left.ends
+
+          known_odd : i < count → (stamp_of m w q % 2 ≡ 1) ⊎ WasReadInVain m planning q old
+          known_odd low = ⊎_elim (λ odd. inl (odd_known i q low e odd)) inr ((left.read free).odd i q low e get)
+
+          here : i < served.0.count → (stamp_of m w q % 2 ≡ 1) ⊎ WasReadInVain m planning q old
+          here low = ⊎_elim
+              (λ same. known_odd (omega (arith, low, same)))
+              (λ more. ⊎_elim known_odd
+              (λ high. inr ((left.read free).next q more.1 (subst (λ (n : ℕ). slice_get own n ≡ Some q) (let is = more.0 in let last : i ≡ count = omega (arith, low, is, high) in last) e) get more.2))
+              (cases_lt i count))
+              served.2

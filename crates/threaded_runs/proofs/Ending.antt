@@ -1,6 +1,6 @@
 -- The end of a run: what the words of the closed table hold, by what the workers and the keeper did.
-use Rattle.std.specs.Prelude.{◌%◌, ◌*◌, ◌-◌, ◌^◌, ◌==◌, min, not, count_by, slice_get, slice_index_or, Bool}
-use Rattle.std.proofs.Common.{◌≡◌, ◌≢◌, ℕ, suc, ◌+◌, ◌<◌, ◌≤◌, List, length, refl, sym, ap, ◌∙◌, subst, arith, true, Option, None, Some, get_or, eq-eqb, if◌then◌else◌}
+use Rattle.std.specs.Prelude.{◌%◌, ◌*◌, ◌-◌, ◌^◌, ◌==◌, ◌⊎◌, min, not, count_by, slice_get, slice_index_or, Bool, false}
+use Rattle.std.proofs.Common.{◌≡◌, ◌≢◌, ℕ, suc, ◌+◌, ◌<◌, ◌≤◌, List, length, refl, sym, ap, ◌∙◌, subst, arith, true, Option, None, Some, get_or, eq-eqb, if◌then◌else◌, ⊎_elim, inl, inr}
 use Rattle.std.proofs.lemmas.Option.{slice_get_within, get_or_from_slice_get}
 use Rattle.std.proofs.Math.Nat.{mod-lt}
 use Rattle.map_history.specs.declared.op.Request.{Request}
@@ -26,7 +26,8 @@ use Rattle.settling.specs.try_lock.specs.Planning.{Planning}
 use Rattle.settling.specs.Settled.{Settles, IsSettled}
 use Rattle.settling.specs.epoch_slots.specs.declared.reserves.Kind.TheVariants as slots
 use Rattle.settling.specs.epoch_slots.specs.declared.reserves.Short.{Short}
-use Rattle.serving.specs.Serving.{asks_in}
+use Rattle.free_serving.specs.Services.{is_get}
+use Rattle.free_serving.specs.Left.{least_asks, WasReadInVain}
 use Rattle.serving.specs.declared.answers.Served.{Served}
 use Rattle.serving.specs.declared.answers.Served.TheVariants as stops
 use Rattle.threaded_runs.specs.declared.job.Job.{Job}
@@ -40,15 +41,19 @@ use Rattle.threaded_runs.proofs.Gates.{length-gates_of, gate_at, often_so}
 use Rattle.threaded_runs.specs.Runs.{HasServed, AreServed, served_in, stamp_of}
 use Rattle.threaded_runs.proofs.Seats.{some_of}
 use Rattle.threaded_runs.proofs.Owning.{own_there, own_trace, own_once}
-use Rattle.threaded_runs.proofs.Closing.{end, word_is, added_is, part_is, descriptors_done, has_served, few_entered}
+use Rattle.threaded_runs.proofs.Closing.{end, word_is, added_is, part_is, descriptors_done, has_served, few_entered, read_odd}
 use Rattle.threaded_runs.proofs.Asked.{all_placed, counted_least, often_asked, same_at, sum_below}
+
+least_turned : (reads_free : Bool) (n made : ℕ) → n * least_asks reads_free ≤ made → least_asks reads_free * n ≤ made
+least_turned true n made least = let few : n * 8 ≤ made = least in let turned : 8 * n ≤ made = omega (arith, few) in turned
+least_turned false n made least = let few : n * 16 ≤ made = least in let turned : 16 * n ≤ made = omega (arith, few) in turned
 
 -- what is known of a table that a planner runs on: each state that the machine reaches over it has its facts
 pub record IsLawful {T : Type 0} (m : Meaning) (planning : Planning) (t : TableState T) : Type 0 where
   pub facts : KeepsFacts m t.layout t.requests
   pub planner : PlannerLaws m planning.per_pair
 
-module _ {T : Type 0} (m : Meaning) (planning : Planning) (retry_short : Bool) (t : TableState T) (lawful : IsLawful m planning t) (gathered keeper : RunnerState T) (w : WordsState T)
+module _ {T : Type 0} (m : Meaning) (planning : Planning) (retry_short reads_free : Bool) (t : TableState T) (lawful : IsLawful m planning t) (gathered keeper : RunnerState T) (w : WordsState T)
     (own : IsOf t keeper) (number : keeper.number ≡ t.layout.runners) (settles : Settles m gathered keeper) (closing : IsClosing m t keeper w) where
   -- those of the state in which it was closed
   pub facts : HasFacts m t.layout t.requests (end m t keeper w closing)
@@ -69,7 +74,7 @@ module _ {T : Type 0} (m : Meaning) (planning : Planning) (retry_short : Bool) (
   holds_none p lock = ap value_of (word_is m t keeper w closing (Cell p)) ∙ settled.free p lock
 
   module _ {H : Type 0} (halts : H → ℕ) (asks : H → Asks) (jobs : List (Job T H)) (finished : List (Finished T H)) (answers : List Served) (each : length answers ≡ t.layout.runners) (as_many : length jobs ≡ t.layout.runners)
-      (back : length finished ≡ length jobs) (seated : AllSeated planning t jobs) (run : AllRun m planning retry_short halts asks t jobs finished) (kept : AllKept gathered answers finished) (history : HaveHistory m w) where
+      (back : length finished ≡ length jobs) (seated : AllSeated planning t jobs) (run : AllRun m planning retry_short reads_free halts asks t jobs finished) (kept : AllKept gathered answers finished) (history : HaveHistory m w) where
     -- one worker
     module _ (worker : ℕ) (low : worker < t.layout.runners) where
       answers_too : worker < length answers
@@ -90,7 +95,7 @@ module _ {T : Type 0} (m : Meaning) (planning : Planning) (retry_short : Bool) (
       is_seated : IsSeated planning t worker j
       is_seated = seated worker (some_of jobs worker seat) seat
 
-      has_run : HasRun m planning retry_short halts asks t j f
+      has_run : HasRun m planning retry_short reads_free halts asks t j f
       has_run = run worker (some_of jobs worker seat) (some_of finished worker comes) seat
 
       is_kept : (a : Served) → IsKept gathered worker (get_or answers worker a) f
@@ -117,31 +122,40 @@ module _ {T : Type 0} (m : Meaning) (planning : Planning) (retry_short : Bool) (
       made : t.layout.nodes ≤ entry_count ((end m t keeper w closing).part worker).nodes + 2 * makes.added (end m t keeper w closing).word (length t.requests)
       made = facts.makes planning.per_pair lawful.planner settled.free worker low
 
-      served_so : HasServed m w retry_short (own_requests t.layout.runners worker t.requests) f.answer
-      served_so = subst (λ (rs : List Request). HasServed m w retry_short rs f.answer) is_seated.requests
+      served_so : HasServed m w retry_short reads_free (own_requests t.layout.runners worker t.requests) f.answer
+      served_so = subst (λ (rs : List Request). HasServed m w retry_short reads_free rs f.answer) is_seated.requests
           (has_served m t keeper w closing lawful.planner.serves facts.history facts.callers
-          worker j.requests.items retry_short planning f.answer j.runner f.runner part _ _ _ _ _ _ has_run.serves there trace once
+          worker j.requests.items retry_short reads_free planning f.answer j.runner f.runner part _ _ has_run.left there trace once
           low has_run.own facts.descriptors facts.spent facts.worn (facts.worn_once worker) made facts.lists)
 
       -- so many of its requests have an entry, and one more at most where it was halted
-      few_own : count_by (λ (q : Request). not (stamp_of m w q == 0)) (own_requests t.layout.runners worker t.requests) ≤ has_run.serves.count + halted f.answer
-      few_own = subst (λ (rs : List Request). count_by (λ (q : Request). not (stamp_of m w q == 0)) rs ≤ has_run.serves.count + halted f.answer) is_seated.requests
+      few_own : count_by (λ (q : Request). not (stamp_of m w q == 0)) (own_requests t.layout.runners worker t.requests) ≤ has_run.left.full + halted f.answer
+      few_own = subst (λ (rs : List Request). count_by (λ (q : Request). not (stamp_of m w q == 0)) rs ≤ has_run.left.full + halted f.answer) is_seated.requests
           (few_entered m t keeper w closing lawful.planner.serves facts.history facts.callers
-          worker j.requests.items retry_short planning f.answer j.runner f.runner part _ _ _ _ _ _ has_run.serves there trace once
+          worker j.requests.items retry_short reads_free planning f.answer j.runner f.runner part _ _ has_run.left there trace once
           low has_run.own facts.descriptors facts.spent facts.worn (facts.worn_once worker) made facts.lists)
 
       -- and its gate was asked for each that it served
-      asked_own : min (16 * has_run.serves.count) (2 ^ 64 - 1) ≤ (asks f.gate).count
-      asked_own = subst (λ (a : Asks). min (16 * has_run.serves.count) (2 ^ 64 - 1) ≤ a.count) (sym has_run.serves.asked)
-          (counted_least (asks j.gate).count (asks_in has_run.serves.tries + has_run.serves.count) (16 * has_run.serves.count)
-          (let least = has_run.serves.least in omega (arith, least)))
+      asked_own : min (least_asks reads_free * has_run.left.full) (2 ^ 64 - 1) ≤ (asks f.gate).count
+      asked_own = subst (λ (a : Asks). min (least_asks reads_free * has_run.left.full) (2 ^ 64 - 1) ≤ a.count) (sym has_run.left.asked)
+          (counted_least (asks j.gate).count has_run.left.made (least_asks reads_free * has_run.left.full) (least_turned reads_free has_run.left.full has_run.left.made has_run.left.least))
 
       done_so : (short : Short) → f.answer ≡ stops.Short short → short.kind ≡ slots.Descriptor
           → (d : ℕ) → w.layout.sections * worker ≤ d → d < w.layout.sections * worker + w.layout.sections → word_of m w (DoneWord d) ≡ 1
       done_so short is kind = descriptors_done m t keeper w closing lawful.planner.serves facts.history facts.callers
-          worker j.requests.items retry_short planning f.answer j.runner f.runner part _ _ _ _ _ _ has_run.serves there trace once
+          worker j.requests.items retry_short reads_free planning f.answer j.runner f.runner part _ _ has_run.left there trace once
           low has_run.own facts.descriptors facts.spent facts.worn (facts.worn_once worker) made facts.lists
           facts.own facts.limbo short is kind
+
+      -- where it reads each `get` first, each of its own that has an entry has a read's stamp, or was read in vain
+      pub read_so : reads_free ≡ true → (i : ℕ) (q : Request) → slice_get (own_requests t.layout.runners worker t.requests) i ≡ Some q → is_get q.op ≡ true
+          → stamp_of m w q ≢ 0
+          → (stamp_of m w q % 2 ≡ 1) ⊎ ((r : RunnerState T) × (r.layout ≡ t.layout) × (r.requests ≡ t.requests) × WasReadInVain m planning q r)
+      read_so free i q at get some = ⊎_elim inl (λ vain. inr (j.runner, is_seated.may.own.layout, is_seated.may.own.requests, vain))
+          (read_odd m t keeper w closing lawful.planner.serves facts.history facts.callers
+          worker j.requests.items retry_short reads_free planning f.answer j.runner f.runner part _ _ has_run.left there trace once
+          low has_run.own facts.descriptors facts.spent facts.worn (facts.worn_once worker) made facts.lists
+          free i q (subst (λ (rs : List Request). slice_get rs i ≡ Some q) (sym is_seated.requests) at) get some)
 
     -- the worker with this answer is one
     is_one : (worker : ℕ) (answer : Served) → slice_get answers worker ≡ Some answer → worker < t.layout.runners
@@ -150,8 +164,8 @@ module _ {T : Type 0} (m : Meaning) (planning : Planning) (retry_short : Bool) (
     answered : (worker : ℕ) (answer : Served) (at : slice_get answers worker ≡ Some answer) → answer ≡ (f worker (is_one worker answer at)).answer
     answered worker answer at = sym (get_or_from_slice_get answers worker answer answer at) ∙ (is_kept worker (is_one worker answer at) answer).same
 
-    pub worker_served : (worker : ℕ) (answer : Served) → slice_get answers worker ≡ Some answer → HasServed m w retry_short (own_requests t.layout.runners worker t.requests) answer
-    worker_served worker answer at = subst (HasServed m w retry_short (own_requests t.layout.runners worker t.requests)) (sym (answered worker answer at))
+    pub worker_served : (worker : ℕ) (answer : Served) → slice_get answers worker ≡ Some answer → HasServed m w retry_short reads_free (own_requests t.layout.runners worker t.requests) answer
+    worker_served worker answer at = subst (HasServed m w retry_short reads_free (own_requests t.layout.runners worker t.requests)) (sym (answered worker answer at))
         (served_so worker (is_one worker answer at))
 
     worker_done : (worker : ℕ) (short : Short) → slice_get answers worker ≡ Some (stops.Short short) → short.kind ≡ slots.Descriptor
@@ -159,15 +173,15 @@ module _ {T : Type 0} (m : Meaning) (planning : Planning) (retry_short : Bool) (
     worker_done worker short at kind = done_so worker (is_one worker (stops.Short short) at) short (sym (answered worker (stops.Short short) at)) kind
 
     -- so all gates were asked often
-    pub asked_often : (before behind : ℕ) → behind ≡ asks_counted asks before finished → 0 < t.layout.runners → AsksOften m w answers before behind
+    pub asked_often : (before behind : ℕ) → behind ≡ asks_counted asks before finished → 0 < t.layout.runners → AsksOften m w reads_free answers before behind
     asked_often before behind counted some =
-        subst (λ (n : ℕ). min (before + 16 * (served_in m w - halted_in answers)) (2 ^ 64 - 1) ≤ n) (sym counted)
-        (often_asked asks before finished answers (λ worker. count_by (λ (q : Request). not (stamp_of m w q == 0)) (own_requests t.layout.runners worker t.requests))
+        subst (λ (n : ℕ). min (before + least_asks reads_free * (served_in m w - halted_in answers)) (2 ^ 64 - 1) ≤ n) (sym counted)
+        (often_asked reads_free asks before finished answers (λ worker. count_by (λ (q : Request). not (stamp_of m w q == 0)) (own_requests t.layout.runners worker t.requests))
         (each ∙ (sym as_many ∙ sym back))
         (λ worker seat d a. let low : worker < t.layout.runners = subst (λ (n : ℕ). worker < n) (back ∙ as_many) seat in (
-          (has_run worker low).serves.count,
-          subst (λ (n : ℕ). min (16 * (has_run worker low).serves.count) (2 ^ 64 - 1) ≤ n) (ap (λ (x : Finished T H). (asks x.gate).count) (same_at finished worker _ d seat)) (asked_own worker low),
-          subst (λ (x : Served). count_by (λ (q : Request). not (stamp_of m w q == 0)) (own_requests t.layout.runners worker t.requests) ≤ (has_run worker low).serves.count + halted x)
+          (has_run worker low).left.full,
+          subst (λ (n : ℕ). min (least_asks reads_free * (has_run worker low).left.full) (2 ^ 64 - 1) ≤ n) (ap (λ (x : Finished T H). (asks x.gate).count) (same_at finished worker _ d seat)) (asked_own worker low),
+          subst (λ (x : Served). count_by (λ (q : Request). not (stamp_of m w q == 0)) (own_requests t.layout.runners worker t.requests) ≤ (has_run worker low).left.full + halted x)
               (sym (is_kept worker low a).same) (few_own worker low),
         ))
         (served_in m w)
@@ -181,12 +195,12 @@ module _ {T : Type 0} (m : Meaning) (planning : Planning) (retry_short : Bool) (
 
     -- the gates came back from the workers to which they were given
     module _ (entries : List (Option ℕ)) (unhalted : AllUnhalted halts jobs) (given : AllGiven asks entries jobs) where
-      gate_is : (worker : ℕ) (low : worker < t.layout.runners) (a : Served) → IsGateOf m w halts asks entries worker (get_or answers worker a) (f worker low).gate
+      gate_is : (worker : ℕ) (low : worker < t.layout.runners) (a : Served) → IsGateOf m w reads_free halts asks entries worker (get_or answers worker a) (f worker low).gate
       gate_is worker low a = record {
-        given = ap (λ (x : Asks). x.plan) (has_run worker low).serves.asked ∙ ap (λ (x : Asks). x.plan) (given worker (some_of jobs worker (seat worker low)) (seat worker low));
+        given = ap (λ (x : Asks). x.plan) (has_run worker low).left.asked ∙ ap (λ (x : Asks). x.plan) (given worker (some_of jobs worker (seat worker low)) (seat worker low));
         stopped = λ e. (has_run worker low).halted still (sym same ∙ e);
         went = λ other. (has_run worker low).went still (λ e. other (same ∙ e));
-        often = often_so (has_run worker low).serves.count (served_by m w worker) (halted (get_or answers worker a)) (asks (f worker low).gate).count few (asked_own worker low);
+        often = often_so reads_free (has_run worker low).left.full (served_by m w worker) (halted (get_or answers worker a)) (asks (f worker low).gate).count few (asked_own worker low);
       }
         where
           same : get_or answers worker a ≡ (f worker low).answer
@@ -195,29 +209,29 @@ module _ {T : Type 0} (m : Meaning) (planning : Planning) (retry_short : Bool) (
           still : halts (j worker low).gate ≡ 0
           still = unhalted worker (some_of jobs worker (seat worker low)) (seat worker low)
 
-          few : served_by m w worker ≤ (has_run worker low).serves.count + halted (get_or answers worker a)
-          few = subst (λ (x : Served). served_by m w worker ≤ (has_run worker low).serves.count + halted x) (sym same)
-              (subst (λ (l : Layout). count_by (λ (q : Request). not (stamp_of m w q == 0)) (own_requests l.runners worker w.requests) ≤ (has_run worker low).serves.count + halted (f worker low).answer)
+          few : served_by m w worker ≤ (has_run worker low).left.full + halted (get_or answers worker a)
+          few = subst (λ (x : Served). served_by m w worker ≤ (has_run worker low).left.full + halted x) (sym same)
+              (subst (λ (l : Layout). count_by (λ (q : Request). not (stamp_of m w q == 0)) (own_requests l.runners worker w.requests) ≤ (has_run worker low).left.full + halted (f worker low).answer)
               (sym closing.layout)
-              (subst (λ (rs : List Request). count_by (λ (q : Request). not (stamp_of m w q == 0)) (own_requests t.layout.runners worker rs) ≤ (has_run worker low).serves.count + halted (f worker low).answer)
+              (subst (λ (rs : List Request). count_by (λ (q : Request). not (stamp_of m w q == 0)) (own_requests t.layout.runners worker rs) ≤ (has_run worker low).left.full + halted (f worker low).answer)
               (sym closing.requests) (few_own worker low)))
 
-      pub gates_came_back : (before behind : ℕ) → behind ≡ asks_counted asks before finished → GatesCameBack m w halts asks entries answers before behind
+      pub gates_came_back : (before behind : ℕ) → behind ≡ asks_counted asks before finished → GatesCameBack m w reads_free halts asks entries answers before behind
       gates_came_back before behind counted = record {
         gates = gates_of finished;
         each = length-gates_of finished ∙ (back ∙ (as_many ∙ sym each));
         of_worker = λ worker a d here.
             let few : worker < length finished = subst (λ (n : ℕ). worker < n) (length-gates_of finished) here in
             let low : worker < t.layout.runners = subst (λ (n : ℕ). worker < n) (back ∙ as_many) few in
-            subst (IsGateOf m w halts asks entries worker (get_or answers worker a)) (sym (gate_at finished worker d (some_of finished worker (comes worker low)) few)) (gate_is worker low a);
+            subst (IsGateOf m w reads_free halts asks entries worker (get_or answers worker a)) (sym (gate_at finished worker d (some_of finished worker (comes worker low)) few)) (gate_is worker low a);
         asked = counted;
       }
 
-    pub all_served : AreServed m w retry_short answers
+    pub all_served : AreServed m w retry_short reads_free answers
     all_served = record {
       each = each ∙ ap (λ (l : Layout). l.runners) (sym closing.layout);
-      served = λ worker answer at. subst (λ (l : Layout). HasServed m w retry_short (own_requests l.runners worker w.requests) answer) (sym closing.layout)
-          (subst (λ (rs : List Request). HasServed m w retry_short (own_requests t.layout.runners worker rs) answer) (sym closing.requests) (worker_served worker answer at));
+      served = λ worker answer at. subst (λ (l : Layout). HasServed m w retry_short reads_free (own_requests l.runners worker w.requests) answer) (sym closing.layout)
+          (subst (λ (rs : List Request). HasServed m w retry_short reads_free (own_requests t.layout.runners worker rs) answer) (sym closing.requests) (worker_served worker answer at));
       free = holds_none;
       replied = (history.settled holds_none).replied;
       done = worker_done;

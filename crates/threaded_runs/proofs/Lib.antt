@@ -8,4 +8,5 @@ mod Gates
 mod Closing
 mod Ending
 mod Alone
+mod Spending
 mod Lone

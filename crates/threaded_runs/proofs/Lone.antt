@@ -1,6 +1,6 @@
 -- The end of a run with one worker.
 use Rattle.std.specs.Prelude.{◌*◌, Bool, slice_get, ◌==◌, not, count_by}
-use Rattle.std.proofs.Common.{◌≡◌, ◌≢◌, ℕ, ◌+◌, ◌^◌, ◌<◌, ◌≤◌, List, [], length, refl, sym, ap, ◌∙◌, subst, arith, ⊎_elim, true, false, Option, None, Some, get_or, ne_eqb}
+use Rattle.std.proofs.Common.{◌≡◌, ◌≢◌, ℕ, ◌+◌, ◌^◌, ◌<◌, ◌≤◌, List, [], length, refl, sym, ap, ◌∙◌, subst, arith, ⊎_elim, inl, inr, true, false, Option, None, Some, get_or, ne_eqb}
 use Rattle.std.proofs.lemmas.Nat.{mul-le}
 use Rattle.std.proofs.lemmas.Option.{slice_get-get_or, get_or_from_slice_get}
 use Rattle.map_history.specs.declared.op.Request.{Request}
@@ -31,10 +31,17 @@ use Rattle.settling.specs.epoch_slots.specs.Reserves.{counts_of}
 use Rattle.settling.specs.epoch_slots.specs.declared.reserves.Kind.TheVariants as slots
 use Rattle.settling.specs.epoch_slots.specs.declared.reserves.Short.{Short}
 use Rattle.settling.specs.try_lock.specs.Planning.{Planning}
-use Rattle.serving.specs.Serving.{is_crossed, most_asks, Ends, ServedRuns, Try, WasCrossed}
+use Rattle.serving.specs.Serving.{is_crossed, most_asks}
+use Rattle.free_serving.specs.Services.{is_get, is_refusal}
+use Rattle.free_serving.specs.Left.{MostRuns, CameBetween, WasReadInVain, Ends}
+use Rattle.free_serving.specs.seq_read.specs.Course.{IsRefused}
+use Rattle.free_serving.specs.seq_read.specs.declared.answers.Read.{Read}
+use Rattle.free_serving.specs.seq_read.specs.declared.answers.Read.TheVariants as reads
+use Rattle.lone_reads.specs.lone_plans.specs.Lone.{IsLone as IsLoneReader}
+use Rattle.lone_reads.specs.Lone.{LoneReadsAreServed, NobodyCameBetween as ReadMetNobody}
 use Rattle.serving.specs.attempts.specs.declared.answers.Attempt.{Attempt}
 use Rattle.serving.specs.attempts.specs.declared.answers.Attempt.TheVariants as attempts
-use Rattle.serving.specs.attempt_bounds.specs.Lone.{LoneAttemptsAreServed, NobodyCameBetween}
+use Rattle.serving.specs.attempt_bounds.specs.Lone.{IsLone, LoneAttemptsAreServed, NobodyCameBetween}
 use Rattle.serving.specs.attempt_bounds.specs.Spared.{AttemptsSpareSlots}
 use Rattle.serving.specs.declared.answers.Served.{Served}
 use Rattle.serving.specs.declared.answers.Served.TheVariants as stops
@@ -46,13 +53,14 @@ use Rattle.threaded_runs.specs.declared.job.Finished.{Finished}
 use Rattle.threaded_runs.specs.Own.{own_requests}
 use Rattle.threaded_runs.specs.Jobs.{AllSeated, AllGiven, AllRun, AllKept, HasRun, IsSeated, asks_counted}
 use Rattle.threaded_runs.specs.Asks.{AsksAlone}
-use Rattle.threaded_runs.specs.Lone.{AreServedAlone, ServesAlone}
+use Rattle.threaded_runs.specs.Lone.{AreServedAlone, ServesAlone, ReachesSpent, ReadsAlone}
+use Rattle.threaded_runs.proofs.Spending.{read_spent}
 use Rattle.threaded_runs.specs.Runs.{AreEntered, HasServed, served_in, stamp_of}
 use Rattle.threaded_runs.proofs.Seats.{some_of}
 use Rattle.threaded_runs.proofs.Closing.{end, known_entry, part_is}
 use Rattle.threaded_runs.proofs.Counting.{asks_of_one, rises_within}
 use Rattle.threaded_runs.proofs.Picked.{front_passes}
-use Rattle.threaded_runs.proofs.Ending.{IsLawful, facts, settled, worker_served}
+use Rattle.threaded_runs.proofs.Ending.{IsLawful, facts, settled, worker_served, read_so}
 use Rattle.threaded_runs.proofs.Alone.{second_is, all_own, none_freed, few_versions, few_slots}
 
 -- the keeper once it has joined the workers and before it settles the table: it has run nothing
@@ -71,7 +79,7 @@ not_crossed (attempts.Short short) crossed nobody = absurd (let z = crossed in c
 not_crossed (attempts.Spent place word) crossed nobody = absurd (let z = crossed in cc)
 not_crossed attempts.Halted crossed nobody = absurd (let z = crossed in cc)
 
-most_runs : (answer : Served) (count before behind : ℕ) → ServedRuns answer count before behind → behind ≤ before + (count + 1)
+most_runs : (answer : Served) (count before behind : ℕ) → MostRuns answer count before behind → behind ≤ before + (count + 1)
 most_runs stops.All count before behind runs = omega (arith, runs)
 most_runs (stops.Short short) count before behind runs = omega (arith, runs)
 most_runs (stops.Spent place word) count before behind runs = runs
@@ -83,15 +91,15 @@ asks_within before behind count served most asked none few =
     let more : (count + 1) * most ≤ (served + 1) * most = mul-le (count + 1) most (served + 1) most (omega (arith, few)) (omega arith) in
     omega (arith, asked, none, more)
 
-module _ {T H : Type 0} (m : Meaning) (planning : Planning) (retry_short : Bool) (t : TableState T) (lawful : IsLawful m planning t) (gathered keeper : RunnerState T) (w : WordsState T)
+module _ {T H : Type 0} (m : Meaning) (planning : Planning) (retry_short reads_free : Bool) (t : TableState T) (lawful : IsLawful m planning t) (gathered keeper : RunnerState T) (w : WordsState T)
     (own : IsOf t keeper) (number : keeper.number ≡ t.layout.runners) (settles : Settles m gathered keeper) (closing : IsClosing m t keeper w)
     (halts : H → ℕ) (asks : H → Asks) (jobs : List (Job T H)) (finished : List (Finished T H)) (answers : List Served) (each : length answers ≡ t.layout.runners) (as_many : length jobs ≡ t.layout.runners)
-    (back : length finished ≡ length jobs) (seated : AllSeated planning t jobs) (run : AllRun m planning retry_short halts asks t jobs finished) (kept : AllKept gathered answers finished) (history : HaveHistory m w)
+    (back : length finished ≡ length jobs) (seated : AllSeated planning t jobs) (run : AllRun m planning retry_short reads_free halts asks t jobs finished) (kept : AllKept gathered answers finished) (history : HaveHistory m w)
     (fresh : IsFresh m t gathered) (one : t.layout.runners ≡ 1)
     (attempts_go : LoneAttemptsAreServed T m planning) (spare : AttemptsSpareSlots T m planning) where
   -- what holds of the state in which the table was closed
   reached : HasFacts m t.layout t.requests (end m t keeper w closing)
-  reached = facts m planning retry_short t lawful gathered keeper w own number settles closing
+  reached = facts m planning retry_short reads_free t lawful gathered keeper w own number settles closing
 
   low : 0 < t.layout.runners
   low = omega (arith, one)
@@ -114,7 +122,7 @@ module _ {T H : Type 0} (m : Meaning) (planning : Planning) (retry_short : Bool)
   abbrev f : Finished T H
   f = get_or finished 0 (some_of finished 0 (subst (λ (n : ℕ). 0 < n) (sym back) seat))
 
-  has_run : HasRun m planning retry_short halts asks t j f
+  has_run : HasRun m planning retry_short reads_free halts asks t j f
   has_run = run 0 (some_of jobs 0 seat) (some_of finished 0 (subst (λ (n : ℕ). 0 < n) (sym back) seat)) seat
 
   is_seated : IsSeated planning t 0 j
@@ -129,43 +137,45 @@ module _ {T H : Type 0} (m : Meaning) (planning : Planning) (retry_short : Bool)
   p_is : (end m t keeper w closing).part 0 ≡ leaves p
   p_is = part_is m t keeper w closing 0 p low (ap (λ js. left_part js 0) settles.joined ∙ (kept 0 stops.All (some_of finished 0 (subst (λ (n : ℕ). 0 < n) (sym back) seat)) here).part)
 
+  -- a runner of this table is one of a table with one worker
+  lone_of : (r : RunnerState T) → r.layout ≡ t.layout → r.requests ≡ t.requests → IsLone r
+  lone_of r layout requests = record {
+    limits = subst IsWithinLimits (sym layout) lawful.facts.limits;
+    allowed = subst AreAllowed (sym requests) lawful.facts.allowed;
+    one = ap (λ (l : Layout). l.runners) layout ∙ one;
+  }
+
   -- no attempt was refused since another one came between
-  uncrossed : (tries : List Try) → WasCrossed m planning tries j.runner → ⊥
-  uncrossed tries is = not_crossed is.answer is.crossed (attempts_go.refused is.request is.answer is.before is.cut (record {
-    limits = subst IsWithinLimits (sym layout_is) lawful.facts.limits;
-    allowed = subst AreAllowed (sym (is.requests ∙ is_seated.may.own.requests)) lawful.facts.allowed;
-    one = ap (λ (l : Layout). l.runners) layout_is ∙ one;
-  }) is.refused)
-    where
-      layout_is : is.before.layout ≡ t.layout
-      layout_is = is.layout ∙ is_seated.may.own.layout
+  uncrossed : CameBetween m planning j.runner → ⊥
+  uncrossed came = let is = came.1 in
+      not_crossed is.answer is.crossed (attempts_go.refused is.request is.answer is.before is.cut (lone_of is.before (is.layout ∙ is_seated.may.own.layout) (is.requests ∙ is_seated.may.own.requests)) is.refused)
 
   few_runs : length p.records.finished ≤ length t.requests + 1
-  few_runs = ⊎_elim (λ crossed. absurd (uncrossed has_run.serves.tries crossed)) (λ brief. by f.answer brief.runs) has_run.serves.brief
+  few_runs = ⊎_elim (λ crossed. absurd (uncrossed crossed)) (λ brief. by f.answer brief.runs) has_run.left.brief
     where
-      served : has_run.serves.count ≤ length t.requests
-      served = subst (λ (rs : List Request). has_run.serves.count ≤ length rs)
-          (is_seated.requests ∙ (ap (λ n. own_requests n 0 t.requests) one ∙ all_own t.requests)) has_run.serves.served.few
+      served : has_run.left.count ≤ length t.requests
+      served = subst (λ (rs : List Request). has_run.left.count ≤ length rs)
+          (is_seated.requests ∙ (ap (λ n. own_requests n 0 t.requests) one ∙ all_own t.requests)) has_run.left.served.few
 
-      by : (a : Served) → ServedRuns a has_run.serves.count (length j.runner.part.records.finished) (length p.records.finished)
+      by : (a : Served) → MostRuns a has_run.left.count (length j.runner.part.records.finished) (length p.records.finished)
           → length p.records.finished ≤ length t.requests + 1
-      by a runs = let most = most_runs a has_run.serves.count (length j.runner.part.records.finished) (length p.records.finished) runs in
+      by a runs = let most = most_runs a has_run.left.count (length j.runner.part.records.finished) (length p.records.finished) runs in
           let none : length j.runner.part.records.finished ≡ 0 = ap length is_seated.fresh in omega (arith, most, none, served)
 
   -- each request that the worker has served has its entry
-  all_entered : has_run.serves.count ≤ served_in m w
-  all_entered = subst (λ (rs : List Request). has_run.serves.count ≤ count_by (λ (q : Request). not (stamp_of m w q == 0)) rs)
+  all_entered : has_run.left.count ≤ served_in m w
+  all_entered = subst (λ (rs : List Request). has_run.left.count ≤ count_by (λ (q : Request). not (stamp_of m w q == 0)) rs)
       (is_seated.requests ∙ (ap (λ n. own_requests n 0 t.requests) one ∙ (all_own t.requests ∙ sym closing.requests)))
-      (front_passes (λ (q : Request). not (stamp_of m w q == 0)) j.requests.items has_run.serves.count has_run.serves.served.few
+      (front_passes (λ (q : Request). not (stamp_of m w q == 0)) j.requests.items has_run.left.count has_run.left.served.few
       (λ i q low e. ap not (ne_eqb (stamp_of m w q) 0 (known_entry m t keeper w closing reached.history 0 q.number
-      (ap (λ (x : PartState). is_answered x.records.known q.number) p_is ∙ has_run.serves.served.answered i q low e)))))
+      (ap (λ (x : PartState). is_answered x.records.known q.number) p_is ∙ has_run.left.served.answered i q low e)))))
 
   few_asks : (asks j.gate).count ≡ 0 → (asks f.gate).count ≤ (served_in m w + 1) * most_asks (cells.slots m w.layout)
-  few_asks none = ⊎_elim (λ crossed. absurd (uncrossed has_run.serves.tries crossed))
-      (λ brief. asks_within (asks j.gate).count (asks f.gate).count has_run.serves.count (served_in m w) (most_asks (cells.slots m w.layout))
-      (subst (λ (l : Layout). (asks f.gate).count ≤ (asks j.gate).count + (has_run.serves.count + 1) * most_asks (cells.slots m l)) (is_seated.may.own.layout ∙ sym closing.layout) brief.asked)
+  few_asks none = ⊎_elim (λ crossed. absurd (uncrossed crossed))
+      (λ brief. asks_within (asks j.gate).count (asks f.gate).count has_run.left.count (served_in m w) (most_asks (cells.slots m w.layout))
+      (subst (λ (l : Layout). (asks f.gate).count ≤ (asks j.gate).count + (has_run.left.count + 1) * most_asks (cells.slots m l)) (is_seated.may.own.layout ∙ sym closing.layout) brief.asked)
       none all_entered)
-      has_run.serves.brief
+      has_run.left.brief
 
   pub asked_alone : (before behind : ℕ) (entries : List (Option ℕ)) → AllGiven asks entries jobs → behind ≡ asks_counted asks before finished → AsksAlone m w before behind
   asked_alone before behind entries given counted = λ _.
@@ -173,11 +183,50 @@ module _ {T H : Type 0} (m : Meaning) (planning : Planning) (retry_short : Bool)
       (asks_of_one asks before finished (some_of finished 0 (subst (λ (n : ℕ). 0 < n) (sym back) seat)) (back ∙ (as_many ∙ one)))
       (few_asks (ap (λ (a : Asks). a.count) (given 0 (some_of jobs 0 seat) seat)))
 
+  -- where each `get` is read first, each that has an entry has a read's stamp, or its read met a lock with too few versions
+  -- left
+  module _ (reads_go : LoneReadsAreServed T m planning) where
+    own_is : own_requests t.layout.runners 0 t.requests ≡ w.requests
+    own_is = ap (λ n. own_requests n 0 t.requests) one ∙ (all_own t.requests ∙ sym closing.requests)
+
+    met_spent : (q : Request) (r : RunnerState T) → r.layout ≡ t.layout → r.requests ≡ t.requests → WasReadInVain m planning q r → ReachesSpent m w.layout w.requests
+    met_spent q r layout requests vain = by vain.answer refl
+      where
+        was : IsRefused m planning q vain.answer vain.refused.before vain.refused.cut
+        was = vain.refused.refused
+
+        lone : IsLone vain.refused.before
+        lone = lone_of vain.refused.before (vain.refused.layout ∙ layout) (vain.refused.requests ∙ requests)
+
+        reader : IsLoneReader vain.refused.before
+        reader = record { limits = lone.limits; allowed = lone.allowed; one = lone.one }
+
+        nobody : ReadMetNobody vain.answer
+        nobody = reads_go.refused q vain.answer vain.refused.before vain.refused.cut reader was
+
+        by : (a : Read) → vain.answer ≡ a → ReachesSpent m w.layout w.requests
+        by (reads.Spent place word) e =
+            subst (λ (l : Layout). ReachesSpent m l w.requests) (vain.refused.layout ∙ (layout ∙ sym closing.layout))
+            (subst (λ (rs : List Request). ReachesSpent m vain.refused.before.layout rs) (vain.refused.requests ∙ (requests ∙ sym closing.requests))
+            (read_spent m planning q vain.refused.before vain.refused.cut place word
+            (subst (λ (a : Read). IsRefused m planning q a vain.refused.before vain.refused.cut) e was)))
+        by (reads.Busy place word) e = absurd (subst ReadMetNobody e nobody)
+        by (reads.Stale place expected read) e = absurd (subst ReadMetNobody e nobody)
+        by (reads.Far loads) e = absurd (subst ReadMetNobody e nobody)
+        by (reads.Locked step) e = absurd (vain.looks lawful.planner.serves step e)
+        by (reads.Done reply stamp) e = absurd (let z = sym (ap is_refusal e) ∙ vain.refusal in cc)
+        by reads.Halted e = absurd (let z = sym (ap is_refusal e) ∙ vain.refusal in cc)
+
+    pub reads_alone : ReadsAlone m w reads_free
+    reads_alone free only i key q there get some = ⊎_elim inl (λ vain. inr (met_spent q vain.0 vain.1 vain.2 vain.3))
+        (read_so m planning retry_short reads_free t lawful gathered keeper w own number settles closing halts asks jobs finished answers each as_many back seated run kept history 0 low
+        free i q (ap (λ (rs : List Request). slice_get rs i) own_is ∙ there) (ap is_get get) some)
+
   module _ (went : answer ≢ stops.Halted) where
     tidy : IsTidy f.runner
-    tidy = by f.answer (λ e. went (same ∙ e)) has_run.serves.ends
+    tidy = by f.answer (λ e. went (same ∙ e)) has_run.left.ends
       where
-        by : (a : Served) → a ≢ stops.Halted → Ends m planning retry_short j.requests.items a has_run.serves.count has_run.serves.tries j.runner f.runner → IsTidy f.runner
+        by : (a : Served) → a ≢ stops.Halted → Ends m planning retry_short j.requests.items a has_run.left.count j.runner f.runner → IsTidy f.runner
         by stops.All not ends = ends.1
         by (stops.Short short) not ends = ends.2.tidy
         by (stops.Spent place word) not ends = ends.2.tidy
@@ -205,23 +254,23 @@ module _ {T H : Type 0} (m : Meaning) (planning : Planning) (retry_short : Bool)
         is_short : f.answer ≡ stops.Short short
         is_short = sym same ∙ get_or_from_slice_get answers 0 (stops.Short short) stops.All is
 
-        ends : Ends m planning retry_short j.requests.items (stops.Short short) has_run.serves.count has_run.serves.tries j.runner f.runner
-        ends = subst (λ (a : Served). Ends m planning retry_short j.requests.items a has_run.serves.count has_run.serves.tries j.runner f.runner) is_short has_run.serves.ends
+        ends : Ends m planning retry_short j.requests.items (stops.Short short) has_run.left.count j.runner f.runner
+        ends = subst (λ (a : Served). Ends m planning retry_short j.requests.items a has_run.left.count j.runner f.runner) is_short has_run.left.ends
 
         counts : short ≡ counts_of f.runner slots.Node
         counts = ends.2.stops.cause.counts ∙ ap (counts_of f.runner) kind
 
-        served : HasServed m w retry_short (own_requests t.layout.runners 0 t.requests) (stops.Short short)
-        served = worker_served m planning retry_short t lawful gathered keeper w own number settles closing halts asks jobs finished answers each as_many back seated run kept history 0 (stops.Short short) is
+        served : HasServed m w retry_short reads_free (own_requests t.layout.runners 0 t.requests) (stops.Short short)
+        served = worker_served m planning retry_short reads_free t lawful gathered keeper w own number settles closing halts asks jobs finished answers each as_many back seated run kept history 0 (stops.Short short) is
 
-        entered : AreEntered m w t.requests served.count
-        entered = subst (λ (rs : List Request). AreEntered m w rs served.count) (ap (λ n. own_requests n 0 t.requests) one ∙ all_own t.requests) served.entered
+        entered : AreEntered m w reads_free t.requests served.count
+        entered = subst (λ (rs : List Request). AreEntered m w reads_free rs served.count) (ap (λ n. own_requests n 0 t.requests) one ∙ all_own t.requests) served.entered
 
         few : t.layout.nodes ≤ entry_count p.nodes + planning.per_pair * peak t.requests
         few = few_slots m t keeper w closing one p p_is tidy.at.published planning.per_pair (reached.in_use planning.per_pair lawful.planner)
-            (settled m planning retry_short t lawful gathered keeper w own number settles closing).free
+            (settled m planning retry_short reads_free t lawful gathered keeper w own number settles closing).free
             reached.history lawful.planner.serves lawful.facts.allowed.in_order
-            ((settles.quiet none).0 ∙ fresh.nodes) served.count entered
+            ((settles.quiet none).0 ∙ fresh.nodes) served.count reads_free entered
 
     -- nobody crossed its steps
     alone_here : p.records.crossed ≡ false
@@ -235,8 +284,8 @@ module _ {T H : Type 0} (m : Meaning) (planning : Planning) (retry_short : Bool)
         is_short : f.answer ≡ stops.Short short
         is_short = sym same ∙ get_or_from_slice_get answers 0 (stops.Short short) stops.All is
 
-        ends : Ends m planning retry_short j.requests.items (stops.Short short) has_run.serves.count has_run.serves.tries j.runner f.runner
-        ends = subst (λ (a : Served). Ends m planning retry_short j.requests.items a has_run.serves.count has_run.serves.tries j.runner f.runner) is_short has_run.serves.ends
+        ends : Ends m planning retry_short j.requests.items (stops.Short short) has_run.left.count j.runner f.runner
+        ends = subst (λ (a : Served). Ends m planning retry_short j.requests.items a has_run.left.count j.runner f.runner) is_short has_run.left.ends
 
         low : length p.records.finished < 2 ^ 59
         low = below (length p.records.finished) (length t.requests) t.layout.version_max few_runs
@@ -248,7 +297,7 @@ module _ {T H : Type 0} (m : Meaning) (planning : Planning) (retry_short : Bool)
 
         unwaited : retry_short ≡ false → short.limbo ≡ 0
         unwaited is_so = ⊎_elim
-            (λ crossed. absurd (uncrossed has_run.serves.tries crossed))
+            (λ crossed. absurd (uncrossed crossed))
             (λ spared. spare.short short ends.0.number ends.2.before f.runner spared ends.2.stops.cause alone_here low)
             (ends.2.spared is_so (spare.first j.runner is_seated.unmet))
 

@@ -51,16 +51,16 @@ pub some_of : {X : Type 0} (xs : List X) (i : ℕ) → i < length xs → X
 some_of [] i below = absurd (omega (arith, below))
 some_of (x ∷ xs) i below = x
 
-module _ {T H : Type 0} (m : Meaning) (planning : Planning) (retry_short : Bool) (halts : H → ℕ) (asks : H → Asks) (t : TableState T) where
+module _ {T H : Type 0} (m : Meaning) (planning : Planning) (retry_short reads_free : Bool) (halts : H → ℕ) (asks : H → Asks) (t : TableState T) where
   -- the workers come back as they were seated
   pub are_back : (jobs : List (Job T H)) (finished : List (Finished T H)) → length finished ≡ length jobs → AllSeated planning t jobs → AllUnhalted halts jobs
-      → AllRun m planning retry_short halts asks t jobs finished → AreBack halts t finished
+      → AllRun m planning retry_short reads_free halts asks t jobs finished → AreBack halts t finished
   are_back jobs finished len seated unasked run i d low =
       let few : i < length jobs = subst (λ (n : ℕ). i < n) len low in
       let j = some_of jobs i few in
       let r = run i j d few in let s = seated i j few in let u = unasked i j few in record {
         own = r.own;
-        number = r.serves.knows.number ∙ s.number;
+        number = r.left.knows.number ∙ s.number;
         halted = r.halted u;
         went = r.went u;
       }

@@ -1,13 +1,13 @@
 -- Whose gates come back from a run, and what each has counted.
-use Rattle.std.specs.Prelude.{◌≡◌, ◌≢◌, ℕ, ◌-◌, ◌*◌, ◌^◌, ◌<◌, ◌≤◌, ◌==◌, min, not, count_by, List, [], ◌∷◌, length, Option, None, Some, slice_index_or}
+use Rattle.std.specs.Prelude.{◌≡◌, ◌≢◌, ℕ, Bool, ◌-◌, ◌*◌, ◌^◌, ◌<◌, ◌≤◌, ◌==◌, min, not, count_by, List, [], ◌∷◌, length, Option, None, Some, slice_index_or}
 use Rattle.map_history.specs.declared.op.Request.{Request}
 use Rattle.structure_laws.specs.Meaning.{Meaning}
 use Rattle.settling.specs.runner_gate.specs.Asks.{Asks}
 use Rattle.settling.specs.runner_gate.specs.Counts.{plus}
 use Rattle.version_words.specs.TableState.{WordsState}
-use Rattle.serving.specs.Serving.{least_asks}
 use Rattle.serving.specs.declared.answers.Served.{Served}
 use Rattle.serving.specs.declared.answers.Served.TheVariants as answers
+use Rattle.free_serving.specs.Left.{least_asks}
 use Rattle.threaded_runs.specs.Counts.{halted}
 use Rattle.threaded_runs.specs.Own.{own_requests}
 use Rattle.threaded_runs.specs.Runs.{stamp_of}
@@ -24,7 +24,8 @@ module _ {T : Type 0} (m : Meaning) (w : WordsState T) where
   served_by worker = count_by (λ (request : Request). not (stamp_of m w request == 0))
       (own_requests w.layout.runners worker w.requests)
 
-module _ {T H : Type 0} (m : Meaning) (w : WordsState T) (halts : H → ℕ) (asks : H → Asks) where
+module _ {T H : Type 0} (m : Meaning) (w : WordsState T) (reads_free : Bool) (halts : H → ℕ)
+    (asks : H → Asks) where
   -- this is the gate that was given out for the worker with its entry of these, and the one that it asked: it halted
   -- exactly where the worker was halted, and was asked so often at least for each of the worker's served requests, but
   -- for one at most where it was halted, whose section others or the keeper may have run to its end
@@ -32,7 +33,7 @@ module _ {T H : Type 0} (m : Meaning) (w : WordsState T) (halts : H → ℕ) (as
     pub given : (asks gate).plan ≡ Some (record { runner = worker; halt = slice_index_or entries worker None })
     pub stopped : answer ≡ answers.Halted → 0 < halts gate
     pub went : answer ≢ answers.Halted → halts gate ≡ 0
-    pub often : min (least_asks * (served_by m w worker - halted answer)) (2 ^ 64 - 1) ≤ (asks gate).count
+    pub often : min (least_asks reads_free * (served_by m w worker - halted answer)) (2 ^ 64 - 1) ≤ (asks gate).count
 
   -- the gates of workers with these answers came back, one of each, by which a count of asks rose so far
   pub record GatesCameBack (entries : List (Option ℕ)) (given : List Served) (before behind : ℕ) : Type 0 where

@@ -8,9 +8,11 @@ use Rattle.version_words.specs.Shown.{left_part}
 use Rattle.version_words.specs.TableState.{TableState, IsOf}
 use Rattle.settling.specs.try_lock.specs.Planning.{Planning}
 use Rattle.serving.specs.attempts.specs.Counted.{IsSeen}
-use Rattle.serving.specs.Serving.{MayServe, Serves}
+use Rattle.serving.specs.Serving.{MayServe}
 use Rattle.serving.specs.declared.answers.Served.{Served}
 use Rattle.serving.specs.declared.answers.Served.TheVariants as answers
+use Rattle.free_serving.specs.Left.{Leaves}
+use Rattle.free_serving.specs.Freely.{ServesBy}
 use Rattle.threaded_runs.specs.declared.job.Job.{Job}
 use Rattle.threaded_runs.specs.declared.job.Finished.{Finished}
 use Rattle.threaded_runs.specs.Gates.{asks_of_all}
@@ -47,7 +49,7 @@ module _ {T H : Type 0} where
   AllGiven asks entries jobs = (worker : ℕ) (d : Job T H) → worker < length jobs
       → asks (slice_index_or jobs worker d).gate ≡ unasked_of worker (slice_index_or entries worker None)
 
-  module _ (m : Meaning) (planning : Planning) (retry_short : Bool) (halts : H → ℕ) (asks : H → Asks)
+  module _ (m : Meaning) (planning : Planning) (retry_short reads_free : Bool) (halts : H → ℕ) (asks : H → Asks)
       (t : TableState T) where
     -- the worker has served its requests, as the answer says, and has its gate still, which halted exactly where the
     -- answer is Halted
@@ -55,8 +57,11 @@ module _ {T H : Type 0} where
       pub own : IsOf t f.runner
       -- so many steps were counted
       pub steps : ℕ
-      pub serves : Serves m planning retry_short j.requests.items f.answer j.runner f.runner (IsSeen halts asks)
-          (halts j.gate) (asks j.gate) (asks f.gate) 0 steps
+      pub serves : ServesBy m planning retry_short reads_free j.requests.items f.answer j.runner f.runner
+          (IsSeen halts asks) (halts j.gate) (asks j.gate) (asks f.gate) 0 steps
+      -- and this is left of it, whichever way its requests were served
+      pub left : Leaves m planning retry_short reads_free j.requests.items f.answer j.runner f.runner (asks j.gate)
+          (asks f.gate)
       pub halted : halts j.gate ≡ 0 → f.answer ≡ answers.Halted → 0 < halts f.gate
       pub went : halts j.gate ≡ 0 → f.answer ≢ answers.Halted → halts f.gate ≡ 0
 

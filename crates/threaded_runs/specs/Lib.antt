@@ -13,3 +13,4 @@ pub use Rattle.serving.specs.resource_bounds
 pub use Rattle.closed_words
 pub use Rattle.serving.specs.attempt_bounds
 pub use Rattle.serving
+pub use Rattle.free_serving

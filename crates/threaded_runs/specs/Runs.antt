@@ -13,6 +13,7 @@ use Rattle.settling.specs.epoch_slots.specs.declared.reserves.Kind.TheVariants a
 use Rattle.settling.specs.epoch_slots.specs.declared.reserves.Short.{Short}
 use Rattle.serving.specs.declared.answers.Served.{Served}
 use Rattle.serving.specs.declared.answers.Served.TheVariants as answers
+use Rattle.free_serving.specs.Left.{Rises}
 use Rattle.serving.specs.resource_bounds.specs.Makes.{added, inserts}
 use Rattle.threaded_runs.specs.Own.{own_requests}
 
@@ -31,13 +32,13 @@ module _ {T : Type 0} (m : Meaning) (w : WordsState T) where
   abbrev pub served_in : ℕ
   served_in = count_by (λ (request : Request). not (stamp_of request == 0)) w.requests
 
-  -- of these requests the first ones, so many, have an entry each, with stamps that rise along them,
-  -- and those behind them have none
-  pub record AreEntered (requests : List Request) (count : ℕ) : Type 0 where
+  -- of these requests the first ones, so many, have an entry each, with stamps that rise along them, where two that
+  -- follow one another may be the same odd one if a `get` may be read; and those behind them have none
+  pub record AreEntered (reads_free : Bool) (requests : List Request) (count : ℕ) : Type 0 where
     pub few : count ≤ length requests
     pub entries : (i : ℕ) (q : Request) → i < count → slice_get requests i ≡ Some q → stamp_of q ≢ 0
     pub rising : (i j : ℕ) (q q' : Request) → i < j → j < count
-        → slice_get requests i ≡ Some q → slice_get requests j ≡ Some q' → stamp_of q < stamp_of q'
+        → slice_get requests i ≡ Some q → slice_get requests j ≡ Some q' → Rises reads_free (stamp_of q) (stamp_of q')
     pub none : (i : ℕ) (q : Request) → count ≤ i → slice_get requests i ≡ Some q → stamp_of q ≡ 0
 
   -- so many different node slots have a cell with the greatest version
@@ -76,19 +77,19 @@ module _ {T : Type 0} (m : Meaning) (w : WordsState T) where
   IsShown _ = Unit {0}
 
   -- what is left of the run of a worker with these requests and this answer
-  pub record HasServed (retry_short : Bool) (requests : List Request) (answer : Served) : Type 0 where
+  pub record HasServed (retry_short reads_free : Bool) (requests : List Request) (answer : Served) : Type 0 where
     pub count : ℕ
-    pub entered : AreEntered requests count
+    pub entered : AreEntered reads_free requests count
     pub cause : IsCause retry_short requests answer count
     pub shown : IsShown answer
 
   -- what is left of a run of all workers with these answers, in order of number: each has served its
   -- own traces, no lock word names a section, each request that has an entry has its reply, and no
   -- more requests added a pair than are inserts
-  pub record AreServed (retry_short : Bool) (given : List Served) : Type 0 where
+  pub record AreServed (retry_short reads_free : Bool) (given : List Served) : Type 0 where
     pub each : length given ≡ w.layout.runners
     pub served : (worker : ℕ) (answer : Served) → slice_get given worker ≡ Some answer
-        → HasServed retry_short (own_requests w.layout.runners worker w.requests) answer
+        → HasServed retry_short reads_free (own_requests w.layout.runners worker w.requests) answer
     pub free : HoldsNoLock m w
     pub replied : (n : ℕ) → word_of m w (Stamp n) ≢ 0 → word_of m w (Reply n) ≢ 0
     -- where a worker lacked a descriptor, the section of each of its own is done

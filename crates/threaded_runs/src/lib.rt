@@ -14,5 +14,6 @@ pub use table_run::run_table;
 
 // Passed on to the layers above, so that they needn't name these libraries themselves.
 pub use closed_words;
+pub use free_serving;
 pub use serving;
 pub use settling::runner_gate;

@@ -4,8 +4,8 @@ ghost use Rattle.threaded_runs.specs.Jobs.{MayRun, HasRun, AllRun};
 
 use crate::job::{Finished, Job};
 use body_terms::Steps;
+use free_serving::serve_freely;
 use serving::lock_walks::Planner;
-use serving::serve;
 use settling::runner_gate::Gate;
 use std::alloc::AllocError;
 use std::sync::Wait;
@@ -18,11 +18,12 @@ fn run_job<R: Threads + Wait + Sync, S: Planner, G: Gate>(
     rt: &R,
     table: &FlockTable<S>,
     retry_short: bool,
+    reads_free: bool,
     job: Job<S, G>,
 ) -> Finished<S, G>
     requires { MayRun (S.planning table.now.structure) table.now job }
-    ensures { HasRun (S.meaning table.now.structure) (S.planning table.now.structure) retry_short G.halts G.asks
-        table.now job result }
+    ensures { HasRun (S.meaning table.now.structure) (S.planning table.now.structure) retry_short reads_free
+        G.halts G.asks table.now job result }
 {
     let Job {
         runner,
@@ -30,12 +31,13 @@ fn run_job<R: Threads + Wait + Sync, S: Planner, G: Gate>(
         requests,
     } = job;
     let mut steps = Steps::<()>::new();
-    let (runner, answer) = serve(
+    let (runner, answer) = serve_freely(
         rt,
         table,
         runner,
         requests.as_slice(),
         retry_short,
+        reads_free,
         &mut gate,
         &mut steps,
     );
@@ -53,6 +55,7 @@ pub fn run_jobs<R: Threads + Wait + Sync, S: Planner, G: Gate + Send + Drop>(
     rt: &R,
     table: &FlockTable<S>,
     retry_short: bool,
+    reads_free: bool,
     jobs: Vec<Job<S, G>>,
 ) -> Result<Vec<Finished<S, G>>, AllocError>
 where
@@ -60,12 +63,12 @@ where
     requires { All (MayRun (S.planning table.now.structure) table.now) jobs.items }
     ensures len { IfOk result (λ finished. vec_len finished ≡ vec_len jobs) }
     ensures each { IfOk result (λ finished. AllRun (S.meaning table.now.structure) (S.planning table.now.structure)
-        retry_short G.halts G.asks table.now jobs.items finished.items) }
+        retry_short reads_free G.halts G.asks table.now jobs.items finished.items) }
 {
     let run = |job: Job<S, G>| -> Finished<S, G>
         requires { MayRun (S.planning table.now.structure) table.now job }
         ensures { HasRun (S.meaning table.entry.now.structure) (S.planning table.entry.now.structure) retry_short
-            G.halts G.asks table.entry.now job result }
-    { run_job(rt, table, retry_short, job) };
+            reads_free G.halts G.asks table.entry.now job result }
+    { run_job(rt, table, retry_short, reads_free, job) };
     thread::map_vec(rt, jobs, &run)
 }

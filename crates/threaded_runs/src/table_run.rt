@@ -5,12 +5,13 @@ ghost use Rattle.table_words.specs.Limits.{IsWithinLimits};
 ghost use Rattle.threaded_runs.specs.Counts.{halts_counted, plans_given, plans_from, returns_counted, GivesFront};
 ghost use Rattle.threaded_runs.specs.Asks.{AreAsked};
 ghost use Rattle.threaded_runs.specs.Gates.{GatesCameBack};
-ghost use Rattle.threaded_runs.specs.Lone.{ServesAlone};
+ghost use Rattle.threaded_runs.specs.Lone.{ServesAlone, ReadsAlone};
 ghost use Rattle.threaded_runs.specs.Runs.{IsMadeWith, AreServed};
 
 use crate::running::run_jobs;
 use crate::seating::{gather, make_jobs};
 use closed_words::closed_words_have_a_history;
+use lone_reads::lone_reads_are_served;
 use map_history::Request;
 use reached_facts::table_keeps_its_facts;
 use serving::Served;
@@ -29,9 +30,11 @@ use version_words::{FlockTable, Words};
 ///
 /// Worker r of W serves the traces r, r + W, r + 2 * W and so on, each whole, in that order. It has the gate that
 /// `gates` gives for it with its entry of `halts`, one for each worker. Where `retry_short` holds, a worker that lacks
-/// slots tries again while some of its own are in limbo. Where no thread can be made for a worker, the caller does its
-/// work. Once all threads are joined, the keeper joins the workers, the gates are given back in order of number, what
-/// halted workers left is helped to its end, and the table is closed.
+/// slots tries again while some of its own are in limbo. Where `reads_free` holds, each `get` is read first, without
+/// its lock, and served under its lock where the read came to nothing; all else is served under its lock. Where no
+/// thread can be made for a worker, the caller does its work. Once all threads are joined, the keeper joins the
+/// workers, the gates are given back in order of number, what halted workers left is helped to its end, and the table
+/// is closed.
 ///
 /// The layout is within the limits; the requests are numbered from 0 in order, in traces that never fall along the list
 /// and are below 64, with keys up to 4,294,967,293, and the structure serves them. The Err is want of memory. A worker
@@ -46,6 +49,7 @@ pub fn run_table<R: Threads + Wait + Sync, S: Planner, G: Gates>(
     requests: &[Request],
     halts: &[Option<u64>],
     retry_short: bool,
+    reads_free: bool,
     gates: &mut G,
 ) -> Result<(Words<S>, Vec<Served>), AllocError>
 where
@@ -55,16 +59,17 @@ where
     requires served { All (λ (request : Request). (S.planning structure).serves request.op ≡ true) requests.now }
     requires halts { length halts.now ≡ layout.runners }
     ensures words { IfOk result (λ x. IsMadeWith structure layout requests.now x.0) }
-    ensures served { IfOk result (λ x. AreServed (S.meaning structure) x.0 retry_short x.1.items
+    ensures served { IfOk result (λ x. AreServed (S.meaning structure) x.0 retry_short reads_free x.1.items
         × ServesAlone (S.meaning structure) (S.planning structure).per_pair x.0 x.1.items
-        × AreAsked (S.meaning structure) x.0 x.1.items (G.asks gates.old) (G.asks gates.new)) }
+        × AreAsked (S.meaning structure) x.0 reads_free x.1.items (G.asks gates.old) (G.asks gates.new)
+        × ReadsAlone (S.meaning structure) x.0 reads_free) }
     ensures halts { IfOk result (λ x. G.halts gates.new ≡ halts_counted (G.halts gates.old) x.1.items) }
     ensures plans { IfOk result (λ _. G.plans gates.new ≡ plans_given (G.plans gates.old) halts.now) }
     // For each worker a gate was given with its entry of the halts, in order of number, and each came back: with what
     // the worker did that it was given for.
     ensures planned { IfOk result (λ _. G.planned gates.old ≡ [] → G.planned gates.new ≡ plans_from 0 halts.now) }
     ensures returned { IfOk result (λ _. G.returned gates.new ≡ returns_counted (G.returned gates.old) layout.runners) }
-    ensures gates { IfOk result (λ x. GatesCameBack (S.meaning structure) x.0 G.Gate.halts G.Gate.asks
+    ensures gates { IfOk result (λ x. GatesCameBack (S.meaning structure) x.0 reads_free G.Gate.halts G.Gate.asks
         halts.now x.1.items (G.asks gates.old) (G.asks gates.new)) }
     // At an Err gates were given with the first entries alone.
     ensures front { OnErr result (GivesFront (G.plans gates.old) (G.plans gates.new) halts.now) }
@@ -73,8 +78,9 @@ where
     table_keeps_its_facts(&table);
     lone_attempts_are_served(table.structure());
     attempts_spare_slots(table.structure());
+    lone_reads_are_served(table.structure());
     let (keeper, jobs) = make_jobs(&table, alloc, keeper, requests, halts, gates)?;
-    let finished = run_jobs(rt, &table, retry_short, jobs)?;
+    let finished = run_jobs(rt, &table, retry_short, reads_free, jobs)?;
     let (keeper, answers) = gather(&table, alloc, keeper, finished, gates)?;
     let keeper = settle(&table, keeper);
     let words = table.close(keeper);

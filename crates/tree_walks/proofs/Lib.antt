@@ -1,4 +1,5 @@
 mod Steps
 mod Knowing
 pub mod Leading
+pub mod Gets
 mod Far

@@ -6,6 +6,7 @@ ghost use Rattle.table_words.specs.Limits.{IsWithinLimits};
 ghost use Rattle.structure_laws.specs.Sections.{IsAllowed};
 ghost use Rattle.tree_laws.specs.bucket_laws.specs.Walk.{has_one_key};
 ghost use Rattle.tree_walks.specs.Leading.{WalkLeads, FarLaw};
+ghost use Rattle.tree_walks.specs.Gets.{WalksMakeFewLoads, GetsOnlyLook};
 
 /// The walk of an operation with one key on the search tree leads a plan, over every layout: it loads what a runner may
 /// load and makes at most 3N + 28 loads, N being the number of node slots; a lock refuses it where its word isn't free
@@ -18,4 +19,16 @@ pub fn tree_walks_lead()
 /// more: by what is known of the readings in each reached state, over every layout and operation within the limits.
 pub fn far_walks_are_long()
     ensures { (layout : Layout) (op : Op) → IsWithinLimits layout → IsAllowed op → FarLaw layout op }
+{}
+
+/// Readings each of which the walk wants after those before it are at most 3N + 28, N being the number of node slots,
+/// over every layout and operation, whatever was read.
+pub fn tree_walks_make_few_loads()
+    ensures { WalksMakeFewLoads }
+{}
+
+/// A thunk that fits a `get`, over every layout and by any readings, has a body that changes nothing: it loads cells,
+/// tests what was loaded, and is stamped and answered.
+pub fn tree_gets_only_look()
+    ensures { GetsOnlyLook }
 {}

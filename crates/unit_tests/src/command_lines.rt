@@ -1,5 +1,5 @@
 // Command lines, what they mean, and those that are refused. In the tables a space parts the words of a line.
-use command_line::{Command, Halts, RunOptions, TableKind, read_words};
+use command_line::{Command, Halts, Reads, RunOptions, TableKind, read_words};
 use std::alloc::{AllocError, Global};
 use std::process::Abort;
 use std::test::Fail;
@@ -47,6 +47,11 @@ run --version-max 2
 run --version-max 4294967296
 run --table trees
 run --table HASH
+run --reads
+run --reads locks
+run --reads FREE
+run --reads 1
+run --reads free --reads free
 run --halt 0:0
 run --halt 16:1
 run --halt 1
@@ -72,7 +77,10 @@ load --seed 7 --traces 1 --length 3 --keys 1 --
 check --
 check check
 check report
+gen --seed 7 --traces 1 --length 3 --keys 1 --reads free
+load --seed 7 --traces 1 --length 3 --keys 1 --reads fre
 check --table hash
+check --reads free
 check --help
 ";
 
@@ -83,20 +91,24 @@ run --nodes=007
 run --buckets 4096 --table hash
 run --table tree --runners 2
 run --table=hash --buckets=1
+run --reads free
+run --reads=lock --table tree
 run --sections 1024 --version-max 3 --runners 16 --nodes 262144 --halt 15:1000000000000,0:1
 gen --keys 32768 --length 131072 --traces 64 --seed 2147483647
 gen --seed=0 --traces=0 --length=0 --keys=1
 load --seed=1 --traces 8 --length 4000 --keys 1000 --runners 4
 load --version-max=3 --seed=1 --sections=1 --traces=8 --nodes=0 --length=4 --buckets=1 --keys=1 --table=hash
+load --reads=free --seed=1 --traces 8 --length 4000 --keys 1000
 check
 ";
 
 // Lines, and behind a bar what they mean, as `Debug` shows it.
 const MEANT: &str = "\
-run|Run(RunOptions { table: Hash, runners: None, bucket_bits: None, nodes: None, sections: 64, version_max: 4294967295, halts: Halts { items: [] } })
-run --halt=2:10,0:7 --nodes 18 --runners=3 --buckets 256 --sections=5 --version-max 9 --table=tree|Run(RunOptions { table: Tree, runners: Some(3), bucket_bits: Some(8), nodes: Some(18), sections: 5, version_max: 9, halts: Halts { items: [Halt { runner: 2, ask: 10 }, Halt { runner: 0, ask: 7 }] } })
+run|Run(RunOptions { table: Hash, runners: None, bucket_bits: None, nodes: None, sections: 64, version_max: 4294967295, reads: Lock, halts: Halts { items: [] } })
+run --reads=free|Run(RunOptions { table: Hash, runners: None, bucket_bits: None, nodes: None, sections: 64, version_max: 4294967295, reads: Free, halts: Halts { items: [] } })
+run --halt=2:10,0:7 --nodes 18 --runners=3 --buckets 256 --reads lock --sections=5 --version-max 9 --table=tree|Run(RunOptions { table: Tree, runners: Some(3), bucket_bits: Some(8), nodes: Some(18), sections: 5, version_max: 9, reads: Lock, halts: Halts { items: [Halt { runner: 2, ask: 10 }, Halt { runner: 0, ask: 7 }] } })
 gen --keys 100 --seed=1 --length 3 --traces 2|Gen(Gen { seed: 1, traces: 2, length: 3, keys: 100, apart: false })
-load --traces 2 --keys=100 --nodes=7 --seed=1 --length 3|Load(LoadOptions { plan: Gen { seed: 1, traces: 2, length: 3, keys: 100, apart: true }, run: RunOptions { table: Hash, runners: None, bucket_bits: None, nodes: Some(7), sections: 64, version_max: 4294967295, halts: Halts { items: [] } } })
+load --traces 2 --keys=100 --nodes=7 --reads free --seed=1 --length 3|Load(LoadOptions { plan: Gen { seed: 1, traces: 2, length: 3, keys: 100, apart: true }, run: RunOptions { table: Hash, runners: None, bucket_bits: None, nodes: Some(7), sections: 64, version_max: 4294967295, reads: Free, halts: Halts { items: [] } } })
 check|Check
 ";
 
@@ -159,6 +171,7 @@ fn options_with(alloc: Global, runners: Option<u32>, nodes: Option<u32>) -> RunO
         nodes,
         sections: 64,
         version_max: u32::MAX,
+        reads: Reads::Lock,
         halts: Halts::new(alloc),
     }
 }

@@ -6,7 +6,7 @@ use Rattle.direct_table.specs.try_lock.specs.Contents.{StandFor}
 use Rattle.direct_tests.proofs.runs.run_direct.Goals as goal
 
 pub returns-clause-served : goal.returns-clause-served
-returns-clause-served g c = subst (λ m. AreServed m c.in_ok-words.words false c.in_ok-words.answers.items)
+returns-clause-served g c = subst (λ m. AreServed m c.in_ok-words.words false false c.in_ok-words.answers.items)
     (λ i. direct (c.new-table.ensures.base i) (c.new-table.ensures.keys i)) c.in_ok-words.ensures.served.0
 
 pub returns-clause-contents : goal.returns-clause-contents

@@ -15,7 +15,7 @@ returns-clause-ran g c =
     c.run_table.ensures.planned c.run_table.ensures.returned
     (λ ran made served halted plans planned returned.
     has_run_on g.S.Structure.meaning (g.S.Planner.planning c.args.structure).per_pair c.args.structure c.args.plan.now ran.0 ran.1.items _ c.as_slice-requests.result.now c.in_ok-halts.halts.items
-    c.as_slice-asks.result.now c.name_below.result c.as_slice-requests.ensures c.as_slice-asks.ensures.value c.name_below.ensures c.in_ok-halts.ensures.length
+    c.as_slice-asks.result.now c.name_below.result c.are_free.result c.as_slice-requests.ensures c.as_slice-asks.ensures.value c.name_below.ensures c.are_free.ensures c.in_ok-halts.ensures.length
     c.in_ok-halts.ensures.asks made served halted plans planned returned)
 
 pub returns-in_err-halts-clause-unplanned : goal.returns-in_err-halts-clause-unplanned

@@ -1,7 +1,7 @@
 use Rattle.std.proofs.Common.{refl, sym, ◌∙◌, inl, inr, ⊎_elim, subst, arith, None}
 use Rattle.command_line.specs.Commands.{IsCommand, texts}
 use Rattle.command_line.specs.declared.command.Command.TheVariants as commands
-use Rattle.flock_tool.proofs.Asking.{load_asks, load_asks_often, run_asks, run_asks_often}
+use Rattle.flock_tool.proofs.Asking.{asks_often, load_asks, reads_first, run_asks}
 use Rattle.flock_tool.proofs.CheckPrinting.{check_few, check_silent, check_writes}
 use Rattle.flock_tool.proofs.Commanding.{back_none, gen_few, load_few, none_accepted, none_status, of_none, of_one, refused_ends}
 use Rattle.flock_tool.proofs.Completing.{load_keeps, none_keeps, run_keeps, whole, whole_alone}
@@ -26,7 +26,10 @@ pub returns-in-Err-clause-asks : goal.returns-in-Err-clause-asks
 returns-in-Err-clause-asks g c = if_none _ c.refuse.result.1 c.refuse.ensures.none
 
 pub returns-in-Err-clause-often : goal.returns-in-Err-clause-often
-returns-in-Err-clause-often g c = if_none _ c.refuse.result.1 c.refuse.ensures.none
+returns-in-Err-clause-often g c = λ command is. asks_often command c.refuse.result _ _ _ _ (returns-in-Err-clause-commands g c command is)
+
+pub returns-in-Err-clause-odd : goal.returns-in-Err-clause-odd
+returns-in-Err-clause-odd g c = λ command is. reads_first command c.refuse.result _ _ _ _ (returns-in-Err-clause-commands g c command is)
 
 pub returns-in-Err-clause-accepted : goal.returns-in-Err-clause-accepted
 returns-in-Err-clause-accepted g c = λ accepted two. none_accepted (texts c.args.words.now) c.in-Err.stop c.in-Err.ensures.refused accepted (sym c.refuse.ensures.status ∙ two)
@@ -62,7 +65,10 @@ pub returns-in-Run-clause-asks : goal.returns-in-Run-clause-asks
 returns-in-Run-clause-asks g c = run_asks c.in-Run.options c.run_command.result _ _ _ _ c.run_command.ensures.ends
 
 pub returns-in-Run-clause-often : goal.returns-in-Run-clause-often
-returns-in-Run-clause-often g c = run_asks_often c.in-Run.options c.run_command.result _ _ _ _ c.run_command.ensures.ends
+returns-in-Run-clause-often g c = λ command is. asks_often command c.run_command.result _ _ _ _ (returns-in-Run-clause-commands g c command is)
+
+pub returns-in-Run-clause-odd : goal.returns-in-Run-clause-odd
+returns-in-Run-clause-odd g c = λ command is. reads_first command c.run_command.result _ _ _ _ (returns-in-Run-clause-commands g c command is)
 
 pub returns-in-Run-clause-words : goal.returns-in-Run-clause-words
 returns-in-Run-clause-words g c = λ not. absurd (not (c.in-Ok.command, c.in-Ok.ensures.read))
@@ -89,7 +95,10 @@ pub returns-in-Gen-clause-asks : goal.returns-in-Gen-clause-asks
 returns-in-Gen-clause-asks g c = tt
 
 pub returns-in-Gen-clause-often : goal.returns-in-Gen-clause-often
-returns-in-Gen-clause-often g c = tt
+returns-in-Gen-clause-often g c = λ command is. asks_often command _ _ _ _ _ (returns-in-Gen-clause-commands g c command is)
+
+pub returns-in-Gen-clause-odd : goal.returns-in-Gen-clause-odd
+returns-in-Gen-clause-odd g c = λ command is. reads_first command _ _ _ _ _ (returns-in-Gen-clause-commands g c command is)
 
 pub returns-in-Gen-clause-accepted : goal.returns-in-Gen-clause-accepted
 returns-in-Gen-clause-accepted g c = λ accepted. (gen_few c.in-Gen.plan c.gen_command.result _ _ c.gen_command.ensures).0
@@ -128,7 +137,10 @@ pub returns-in-Load-clause-asks : goal.returns-in-Load-clause-asks
 returns-in-Load-clause-asks g c = load_asks c.in-Load.load c.load_command.result _ _ _ c.load_command.ensures
 
 pub returns-in-Load-clause-often : goal.returns-in-Load-clause-often
-returns-in-Load-clause-often g c = load_asks_often c.in-Load.load c.load_command.result _ _ _ c.load_command.ensures
+returns-in-Load-clause-often g c = λ command is. asks_often command c.load_command.result _ _ _ _ (returns-in-Load-clause-commands g c command is)
+
+pub returns-in-Load-clause-odd : goal.returns-in-Load-clause-odd
+returns-in-Load-clause-odd g c = λ command is. reads_first command c.load_command.result _ _ _ _ (returns-in-Load-clause-commands g c command is)
 
 pub returns-in-Load-clause-accepted : goal.returns-in-Load-clause-accepted
 returns-in-Load-clause-accepted g c = λ accepted. (load_few c.in-Load.load c.load_command.result _ _ _ c.load_command.ensures).0
@@ -167,7 +179,10 @@ pub returns-in-Check-clause-asks : goal.returns-in-Check-clause-asks
 returns-in-Check-clause-asks g c = tt
 
 pub returns-in-Check-clause-often : goal.returns-in-Check-clause-often
-returns-in-Check-clause-often g c = tt
+returns-in-Check-clause-often g c = λ command is. asks_often command _ _ _ _ _ (returns-in-Check-clause-commands g c command is)
+
+pub returns-in-Check-clause-odd : goal.returns-in-Check-clause-odd
+returns-in-Check-clause-odd g c = λ command is. reads_first command _ _ _ _ _ (returns-in-Check-clause-commands g c command is)
 
 pub returns-in-Check-clause-accepted : goal.returns-in-Check-clause-accepted
 returns-in-Check-clause-accepted g c = λ accepted. (check_few c.check_command.result _ _ _ c.check_command.ensures).0

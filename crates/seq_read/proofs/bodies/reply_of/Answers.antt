@@ -1,5 +1,5 @@
 use Rattle.runner_steps.specs.Sections.{reply_in}
-use Rattle.lock_walks.specs.section_runs.proofs.Replies.{reply_there, reply_found}
+use Rattle.caller_facts.specs.section_runs.proofs.Replies.{reply_there, reply_found}
 use Rattle.seq_read.proofs.bodies.reply_of.Goals as goal
 
 pub unreachable-requires : goal.unreachable-requires

@@ -1,6 +1,6 @@
 use Rattle.std.proofs.Common.{◌∙◌, sym, subst, refl}
 use Rattle.table_words.specs.Limits.{IsWithinLimits}
-use Rattle.request_facts.specs.reached_histories.specs.machine_invariant.specs.After.{AreAllowed}
+use Rattle.caller_facts.specs.request_facts.specs.reached_histories.specs.machine_invariant.specs.After.{AreAllowed}
 use Rattle.version_words.specs.Events.{Makes}
 use Rattle.version_words.specs.Naming.{load_of}
 use Rattle.seq_read.proofs.Courses.{clock_here}

@@ -2,7 +2,7 @@ use Rattle.std.proofs.Common.{◌∙◌, sym, ap, subst, refl, Some}
 use Rattle.table_words.specs.Limits.{IsWithinLimits}
 use Rattle.table_words.specs.declared.spot.Spot.TheVariants.{Reply}
 use Rattle.table_words.specs.declared.access.Access.TheVariants.{Exchanges}
-use Rattle.request_facts.specs.reached_histories.specs.machine_invariant.specs.After.{AreAllowed}
+use Rattle.caller_facts.specs.request_facts.specs.reached_histories.specs.machine_invariant.specs.After.{AreAllowed}
 use Rattle.runner_parts.specs.declared.event.EventKind.TheVariants as kinds
 use Rattle.version_words.specs.Events.{Makes}
 use Rattle.seq_read.proofs.Writing.{LooksStand, reply_asked, reply_left, reply_zero}

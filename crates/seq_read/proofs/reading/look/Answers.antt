@@ -1,98 +1,36 @@
-use Rattle.std.specs.Prelude.{not, position}
-use Rattle.std.specs.List.{list_any}
-use Rattle.std.proofs.Common.{◌∙◌, sym, ap, subst, refl}
-use Rattle.body_terms.specs.Shape.{IsShaped, is_look}
-use Rattle.table_words.specs.Limits.{IsWithinLimits}
-use Rattle.runner_steps.specs.Sections.{reply_in}
-use Rattle.request_facts.specs.reached_histories.specs.machine_invariant.specs.After.{AreAllowed}
+use Rattle.std.proofs.Common.{sym, subst, length}
+use Rattle.version_words.specs.RunnerState.{RunnerState}
+use Rattle.caller_facts.specs.try_lock.specs.declared.planned.Planned.TheVariants as plans
 use Rattle.caller_facts.specs.Counted.{IsSeen}
-use Rattle.seq_read.specs.Wants.{readings_of, is_missed, IsMiss, IsAmong}
-use Rattle.seq_read.specs.Parts.{MayLoad, HasLoadedCells}
-use Rattle.seq_read.proofs.Looked.{body_rests, may_load_so, loaded, cells_cut, cell_rests, found_so, found_rests}
+use Rattle.seq_read.specs.Course.{HasPlanned}
+use Rattle.seq_read.specs.Parts.{Rests}
 use Rattle.seq_read.proofs.reading.look.Goals as goal
 
-pub exit-requires-clause-entered : goal.exit-requires-clause-entered
-exit-requires-clause-entered g c κs within = let e = c.requires.planned in record { epoch = e.2.reading.epoch; at = e.2.reading.at }
-
-pub returns-in-Some-clause-rests : goal.returns-in-Some-clause-rests
-returns-in-Some-clause-rests g c =
-    let met = g.met.S.Structure g.world.𝓛 g.world.𝓜 g.world.𝓡 ((λ s allowed. allowed), (λ patient. patient), (λ alone. alone), (λ cuts. cuts)) in
-    let m = g.S.Structure.meaning c.args.table.now.structure in
-    λ readings old is.
-    body_rests m (met.laws c.args.table.now.structure) (g.S.Planner.planning c.args.table.now.structure) c.args.request.now old (subst IsWithinLimits (sym c.requires.own.layout ∙ is.reading.still.layout) (c.requires.own.limits _ refl)) (subst AreAllowed (sym c.requires.own.requests ∙ is.reading.still.requests) (c.requires.own.allowed _ refl)) c.args.thunk.now readings c.args.runner is (IsSeen g.G.Gate.halts g.G.Gate.asks) c.in-Some.at
-    (ap (position (λ step. not (is_look step))) (sym (c.as_slice-body.ensures.value ∙ (c.body.view_is ∙ (c.body_in.ensures ∙ ap (λ s. (g.S.Structure.meaning s).body c.args.thunk.now) c.structure.ensures)))) ∙ (sym c.first_change.ensures ∙ c.in-Some.is))
-    c.exit.result c.exit.ensures.exits (g.G.Gate.halts c.args.gate.now) (g.G.Gate.asks c.args.gate.now) c.args.steps.now.count
-
-pub load_cells-runner-requires-clause-may : goal.load_cells-runner-requires-clause-may
-load_cells-runner-requires-clause-may g c κs within =
-    let met = g.met.S.Structure g.world.𝓛 g.world.𝓜 g.world.𝓡 ((λ s allowed. allowed), (λ patient. patient), (λ alone. alone), (λ cuts. cuts)) in
-    let m = g.S.Structure.meaning c.args.table.now.structure in
+-- the runner is the same without its room, and with it again
+pub look_anew-requires-clause-planned : goal.look_anew-requires-clause-planned
+look_anew-requires-clause-planned g c κs within =
     let e = c.requires.planned in (
-      (g.S.Planner.planning c.args.table.now.structure),
-      c.args.request.now,
-      c.args.thunk.now,
       e.0,
       e.1,
-      subst (λ b. MayLoad m (g.S.Planner.planning c.args.table.now.structure) c.args.request.now b c.args.thunk.now e.0 e.1 c.args.runner) (sym (c.as_slice-body.ensures.value ∙ (c.body.view_is ∙ (c.body_in.ensures ∙ ap (λ s. (g.S.Structure.meaning s).body c.args.thunk.now) c.structure.ensures))))
-          (may_load_so m (met.laws c.args.table.now.structure) (g.S.Planner.planning c.args.table.now.structure) c.args.request.now e.1 (subst IsWithinLimits (sym c.requires.own.layout ∙ e.2.reading.still.layout) (c.requires.own.limits _ refl)) (subst AreAllowed (sym c.requires.own.requests ∙ e.2.reading.still.requests) (c.requires.own.allowed _ refl)) c.args.thunk.now e.0 c.args.runner e.2 (IsSeen g.G.Gate.halts g.G.Gate.asks) (ap (position (λ step. not (is_look step))) (sym (c.as_slice-body.ensures.value ∙ (c.body.view_is ∙ (c.body_in.ensures ∙ ap (λ s. (g.S.Structure.meaning s).body c.args.thunk.now) c.structure.ensures)))) ∙ (sym c.first_change.ensures ∙ c.in_default.is))),
+      subst (λ (r : RunnerState g.row.S.Denot). HasPlanned (g.S.Structure.meaning c.args.table.now.structure) (g.S.Planner.planning c.args.table.now.structure) c.args.request.now e.0 (plans.Thunk c.args.thunk.now) e.1 r) (sym c.take_room.ensures) e.2,
     )
 
-pub returns-then-not-going-clause-rests : goal.returns-then-not-going-clause-rests
-returns-then-not-going-clause-rests g c =
-    let met = g.met.S.Structure g.world.𝓛 g.world.𝓜 g.world.𝓡 ((λ s allowed. allowed), (λ patient. patient), (λ alone. alone), (λ cuts. cuts)) in
-    let m = g.S.Structure.meaning c.args.table.now.structure in
-    λ readings old is.
-    cells_cut m (met.laws c.args.table.now.structure) (g.S.Planner.planning c.args.table.now.structure) c.args.request.now old (subst IsWithinLimits (sym c.requires.own.layout ∙ is.reading.still.layout) (c.requires.own.limits _ refl)) (subst AreAllowed (sym c.requires.own.requests ∙ is.reading.still.requests) (c.requires.own.allowed _ refl)) c.args.thunk.now readings c.args.runner is (IsSeen g.G.Gate.halts g.G.Gate.asks) (ap (position (λ step. not (is_look step))) (sym (c.as_slice-body.ensures.value ∙ (c.body.view_is ∙ (c.body_in.ensures ∙ ap (λ s. (g.S.Structure.meaning s).body c.args.thunk.now) c.structure.ensures)))) ∙ (sym c.first_change.ensures ∙ c.in_default.is)) c.load_cells-runner.new.loaded.items c.load_cells-runner.result.1 c.load_cells-runner.result.0 (g.G.Gate.halts c.args.gate.now) (g.G.Gate.halts c.load_cells-runner.new.gate) (g.G.Gate.asks c.args.gate.now) (g.G.Gate.asks c.load_cells-runner.new.gate) c.args.steps.now.count c.load_cells-runner.new.steps.count (subst (λ b. HasLoadedCells m b c.load_cells-runner.new.loaded.items c.load_cells-runner.result.1 c.args.runner c.load_cells-runner.result.0 (IsSeen g.G.Gate.halts g.G.Gate.asks) (g.G.Gate.halts c.args.gate.now) (g.G.Gate.halts c.load_cells-runner.new.gate) (g.G.Gate.asks c.args.gate.now) (g.G.Gate.asks c.load_cells-runner.new.gate) c.args.steps.now.count c.load_cells-runner.new.steps.count) (c.as_slice-body.ensures.value ∙ (c.body.view_is ∙ (c.body_in.ensures ∙ ap (λ s. (g.S.Structure.meaning s).body c.args.thunk.now) c.structure.ensures))) c.load_cells-runner.ensures.loaded) c.if-not-going.true
+pub returns-in_default-clause-rests : goal.returns-in_default-clause-rests
+returns-in_default-clause-rests g c = λ readings old is.
+    c.look_anew.ensures.rests readings old
+    (subst (λ (r : RunnerState g.row.S.Denot). HasPlanned (g.S.Structure.meaning c.args.table.now.structure) (g.S.Planner.planning c.args.table.now.structure) c.args.request.now readings (plans.Thunk c.args.thunk.now) old r) (sym c.take_room.ensures) is)
 
-pub exit-requires-in-Some-first_missed-clause-entered : goal.exit-requires-in-Some-first_missed-clause-entered
-exit-requires-in-Some-first_missed-clause-entered g c κs within =
-    let met = g.met.S.Structure g.world.𝓛 g.world.𝓜 g.world.𝓡 ((λ s allowed. allowed), (λ patient. patient), (λ alone. alone), (λ cuts. cuts)) in
-    let m = g.S.Structure.meaning c.args.table.now.structure in
-    let e = c.requires.planned in
-    let was = loaded m (met.laws c.args.table.now.structure) (g.S.Planner.planning c.args.table.now.structure) c.args.request.now e.1 (subst IsWithinLimits (sym c.requires.own.layout ∙ e.2.reading.still.layout) (c.requires.own.limits _ refl)) (subst AreAllowed (sym c.requires.own.requests ∙ e.2.reading.still.requests) (c.requires.own.allowed _ refl)) c.args.thunk.now e.0 c.args.runner e.2 (IsSeen g.G.Gate.halts g.G.Gate.asks) (ap (position (λ step. not (is_look step))) (sym (c.as_slice-body.ensures.value ∙ (c.body.view_is ∙ (c.body_in.ensures ∙ ap (λ s. (g.S.Structure.meaning s).body c.args.thunk.now) c.structure.ensures)))) ∙ (sym c.first_change.ensures ∙ c.in_default.is)) c.load_cells-runner.new.loaded.items c.load_cells-runner.result.1 c.load_cells-runner.result.0 (g.G.Gate.halts c.args.gate.now) (g.G.Gate.halts c.load_cells-runner.new.gate) (g.G.Gate.asks c.args.gate.now) (g.G.Gate.asks c.load_cells-runner.new.gate) c.args.steps.now.count c.load_cells-runner.new.steps.count (subst (λ b. HasLoadedCells m b c.load_cells-runner.new.loaded.items c.load_cells-runner.result.1 c.args.runner c.load_cells-runner.result.0 (IsSeen g.G.Gate.halts g.G.Gate.asks) (g.G.Gate.halts c.args.gate.now) (g.G.Gate.halts c.load_cells-runner.new.gate) (g.G.Gate.asks c.args.gate.now) (g.G.Gate.asks c.load_cells-runner.new.gate) c.args.steps.now.count c.load_cells-runner.new.steps.count) (c.as_slice-body.ensures.value ∙ (c.body.view_is ∙ (c.body_in.ensures ∙ ap (λ s. (g.S.Structure.meaning s).body c.args.thunk.now) c.structure.ensures))) c.load_cells-runner.ensures.loaded) in
-    record { epoch = was.reading.epoch; at = was.reading.at }
-
-pub returns-in-Some-first_missed-clause-rests : goal.returns-in-Some-first_missed-clause-rests
-returns-in-Some-first_missed-clause-rests g c =
-    let met = g.met.S.Structure g.world.𝓛 g.world.𝓜 g.world.𝓡 ((λ s allowed. allowed), (λ patient. patient), (λ alone. alone), (λ cuts. cuts)) in
-    let m = g.S.Structure.meaning c.args.table.now.structure in
-    λ readings old is.
-    let miss = c.in-Some-first_missed.ensures.some in
-    cell_rests m (met.laws c.args.table.now.structure) (g.S.Planner.planning c.args.table.now.structure) c.args.request.now old (subst IsWithinLimits (sym c.requires.own.layout ∙ is.reading.still.layout) (c.requires.own.limits _ refl)) (subst AreAllowed (sym c.requires.own.requests ∙ is.reading.still.requests) (c.requires.own.allowed _ refl)) c.args.thunk.now readings c.args.runner is (IsSeen g.G.Gate.halts g.G.Gate.asks) (ap (position (λ step. not (is_look step))) (sym (c.as_slice-body.ensures.value ∙ (c.body.view_is ∙ (c.body_in.ensures ∙ ap (λ s. (g.S.Structure.meaning s).body c.args.thunk.now) c.structure.ensures)))) ∙ (sym c.first_change.ensures ∙ c.in_default.is)) c.load_cells-runner.new.loaded.items c.load_cells-runner.result.1 c.load_cells-runner.result.0 (g.G.Gate.halts c.args.gate.now) (g.G.Gate.halts c.load_cells-runner.new.gate) (g.G.Gate.asks c.args.gate.now) (g.G.Gate.asks c.load_cells-runner.new.gate) c.args.steps.now.count c.load_cells-runner.new.steps.count (subst (λ b. HasLoadedCells m b c.load_cells-runner.new.loaded.items c.load_cells-runner.result.1 c.args.runner c.load_cells-runner.result.0 (IsSeen g.G.Gate.halts g.G.Gate.asks) (g.G.Gate.halts c.args.gate.now) (g.G.Gate.halts c.load_cells-runner.new.gate) (g.G.Gate.asks c.args.gate.now) (g.G.Gate.asks c.load_cells-runner.new.gate) c.args.steps.now.count c.load_cells-runner.new.steps.count) (c.as_slice-body.ensures.value ∙ (c.body.view_is ∙ (c.body_in.ensures ∙ ap (λ s. (g.S.Structure.meaning s).body c.args.thunk.now) c.structure.ensures))) c.load_cells-runner.ensures.loaded) c.if-not-going.false miss.0
-    (subst (λ b. IsAmong b miss.0) (c.as_slice-body.ensures.value ∙ (c.body.view_is ∙ (c.body_in.ensures ∙ ap (λ s. (g.S.Structure.meaning s).body c.args.thunk.now) c.structure.ensures))) miss.1)
-    c.in-Some-first_missed.missed.place c.in-Some-first_missed.missed.expected c.in-Some-first_missed.missed.read
-    (subst (λ xs. IsMiss xs miss.0 c.in-Some-first_missed.missed.place c.in-Some-first_missed.missed.expected c.in-Some-first_missed.missed.read) c.as_slice.ensures.value miss.2)
-    c.exit-in-Some-first_missed.result c.exit-in-Some-first_missed.ensures.exits
-
-pub reply_of-requires : goal.reply_of-requires
-reply_of-requires g c =
-    let met = g.met.S.Structure g.world.𝓛 g.world.𝓜 g.world.𝓡 ((λ s allowed. allowed), (λ patient. patient), (λ alone. alone), (λ cuts. cuts)) in
-    let m = g.S.Structure.meaning c.args.table.now.structure in
-    let e = c.requires.planned in
-    subst IsShaped (sym (c.as_slice-body.ensures.value ∙ (c.body.view_is ∙ (c.body_in.ensures ∙ ap (λ s. (g.S.Structure.meaning s).body c.args.thunk.now) c.structure.ensures)))) (may_load_so m (met.laws c.args.table.now.structure) (g.S.Planner.planning c.args.table.now.structure) c.args.request.now e.1 (subst IsWithinLimits (sym c.requires.own.layout ∙ e.2.reading.still.layout) (c.requires.own.limits _ refl)) (subst AreAllowed (sym c.requires.own.requests ∙ e.2.reading.still.requests) (c.requires.own.allowed _ refl)) c.args.thunk.now e.0 c.args.runner e.2 (IsSeen g.G.Gate.halts g.G.Gate.asks) (ap (position (λ step. not (is_look step))) (sym (c.as_slice-body.ensures.value ∙ (c.body.view_is ∙ (c.body_in.ensures ∙ ap (λ s. (g.S.Structure.meaning s).body c.args.thunk.now) c.structure.ensures)))) ∙ (sym c.first_change.ensures ∙ c.in_default.is))).shaped
-
-pub confirm-requires-clause-found : goal.confirm-requires-clause-found
-confirm-requires-clause-found g c κs within =
-    let met = g.met.S.Structure g.world.𝓛 g.world.𝓜 g.world.𝓡 ((λ s allowed. allowed), (λ patient. patient), (λ alone. alone), (λ cuts. cuts)) in
-    let m = g.S.Structure.meaning c.args.table.now.structure in
+pub look_at-runner-requires-clause-planned : goal.look_at-runner-requires-clause-planned
+look_at-runner-requires-clause-planned g c κs within =
     let e = c.requires.planned in (
-      readings_of c.load_cells-runner.new.loaded.items,
+      e.0,
       e.1,
-      found_so m (met.laws c.args.table.now.structure) (g.S.Planner.planning c.args.table.now.structure) c.args.request.now e.1 (subst IsWithinLimits (sym c.requires.own.layout ∙ e.2.reading.still.layout) (c.requires.own.limits _ refl)) (subst AreAllowed (sym c.requires.own.requests ∙ e.2.reading.still.requests) (c.requires.own.allowed _ refl)) c.args.thunk.now e.0 c.args.runner e.2 (IsSeen g.G.Gate.halts g.G.Gate.asks) (ap (position (λ step. not (is_look step))) (sym (c.as_slice-body.ensures.value ∙ (c.body.view_is ∙ (c.body_in.ensures ∙ ap (λ s. (g.S.Structure.meaning s).body c.args.thunk.now) c.structure.ensures)))) ∙ (sym c.first_change.ensures ∙ c.in_default.is)) c.load_cells-runner.new.loaded.items c.load_cells-runner.result.1 c.load_cells-runner.result.0 (g.G.Gate.halts c.args.gate.now) (g.G.Gate.halts c.load_cells-runner.new.gate) (g.G.Gate.asks c.args.gate.now) (g.G.Gate.asks c.load_cells-runner.new.gate) c.args.steps.now.count c.load_cells-runner.new.steps.count (subst (λ b. HasLoadedCells m b c.load_cells-runner.new.loaded.items c.load_cells-runner.result.1 c.args.runner c.load_cells-runner.result.0 (IsSeen g.G.Gate.halts g.G.Gate.asks) (g.G.Gate.halts c.args.gate.now) (g.G.Gate.halts c.load_cells-runner.new.gate) (g.G.Gate.asks c.args.gate.now) (g.G.Gate.asks c.load_cells-runner.new.gate) c.args.steps.now.count c.load_cells-runner.new.steps.count) (c.as_slice-body.ensures.value ∙ (c.body.view_is ∙ (c.body_in.ensures ∙ ap (λ s. (g.S.Structure.meaning s).body c.args.thunk.now) c.structure.ensures))) c.load_cells-runner.ensures.loaded) c.if-not-going.false
-          (ap (list_any (is_missed c.load_cells-runner.new.loaded.items)) (sym (c.as_slice-body.ensures.value ∙ (c.body.view_is ∙ (c.body_in.ensures ∙ ap (λ s. (g.S.Structure.meaning s).body c.args.thunk.now) c.structure.ensures)))) ∙ (ap (λ xs. list_any (is_missed xs) c.as_slice-body.result.now) (sym c.as_slice.ensures.value) ∙ c.first_missed.ensures.none c.in_default-first_missed.is)),
+      subst (λ (r : RunnerState g.row.S.Denot). HasPlanned (g.S.Structure.meaning c.args.table.now.structure) (g.S.Planner.planning c.args.table.now.structure) c.args.request.now e.0 (plans.Thunk c.args.thunk.now) e.1 r) (sym c.take_room.ensures) e.2,
     )
-
-pub confirm-requires-clause-reply : goal.confirm-requires-clause-reply
-confirm-requires-clause-reply g c κs within =
-    c.reply_of.ensures ∙ ap reply_in (c.as_slice-body.ensures.value ∙ (c.body.view_is ∙ (c.body_in.ensures ∙ ap (λ s. (g.S.Structure.meaning s).body c.args.thunk.now) c.structure.ensures)))
 
 pub returns-clause-rests : goal.returns-clause-rests
-returns-clause-rests g c =
-    let met = g.met.S.Structure g.world.𝓛 g.world.𝓜 g.world.𝓡 ((λ s allowed. allowed), (λ patient. patient), (λ alone. alone), (λ cuts. cuts)) in
-    let m = g.S.Structure.meaning c.args.table.now.structure in
-    λ readings old is.
-    found_rests m (met.laws c.args.table.now.structure) (g.S.Planner.planning c.args.table.now.structure) c.args.request.now old (subst IsWithinLimits (sym c.requires.own.layout ∙ is.reading.still.layout) (c.requires.own.limits _ refl)) (subst AreAllowed (sym c.requires.own.requests ∙ is.reading.still.requests) (c.requires.own.allowed _ refl)) c.args.thunk.now readings c.args.runner is (IsSeen g.G.Gate.halts g.G.Gate.asks) (ap (position (λ step. not (is_look step))) (sym (c.as_slice-body.ensures.value ∙ (c.body.view_is ∙ (c.body_in.ensures ∙ ap (λ s. (g.S.Structure.meaning s).body c.args.thunk.now) c.structure.ensures)))) ∙ (sym c.first_change.ensures ∙ c.in_default.is)) c.load_cells-runner.new.loaded.items c.load_cells-runner.result.1 c.load_cells-runner.result.0 (g.G.Gate.halts c.args.gate.now) (g.G.Gate.halts c.load_cells-runner.new.gate) (g.G.Gate.asks c.args.gate.now) (g.G.Gate.asks c.load_cells-runner.new.gate) c.args.steps.now.count c.load_cells-runner.new.steps.count (subst (λ b. HasLoadedCells m b c.load_cells-runner.new.loaded.items c.load_cells-runner.result.1 c.args.runner c.load_cells-runner.result.0 (IsSeen g.G.Gate.halts g.G.Gate.asks) (g.G.Gate.halts c.args.gate.now) (g.G.Gate.halts c.load_cells-runner.new.gate) (g.G.Gate.asks c.args.gate.now) (g.G.Gate.asks c.load_cells-runner.new.gate) c.args.steps.now.count c.load_cells-runner.new.steps.count) (c.as_slice-body.ensures.value ∙ (c.body.view_is ∙ (c.body_in.ensures ∙ ap (λ s. (g.S.Structure.meaning s).body c.args.thunk.now) c.structure.ensures))) c.load_cells-runner.ensures.loaded) c.if-not-going.false
-    (ap (list_any (is_missed c.load_cells-runner.new.loaded.items)) (sym (c.as_slice-body.ensures.value ∙ (c.body.view_is ∙ (c.body_in.ensures ∙ ap (λ s. (g.S.Structure.meaning s).body c.args.thunk.now) c.structure.ensures)))) ∙ (ap (λ xs. list_any (is_missed xs) c.as_slice-body.result.now) (sym c.as_slice.ensures.value) ∙ c.first_missed.ensures.none c.in_default-first_missed.is))
-    c.confirm.result.1 c.confirm.result.0 _ _ _
-    (c.confirm.ensures.rests (readings_of c.load_cells-runner.new.loaded.items) old (found_so m (met.laws c.args.table.now.structure) (g.S.Planner.planning c.args.table.now.structure) c.args.request.now old (subst IsWithinLimits (sym c.requires.own.layout ∙ is.reading.still.layout) (c.requires.own.limits _ refl)) (subst AreAllowed (sym c.requires.own.requests ∙ is.reading.still.requests) (c.requires.own.allowed _ refl)) c.args.thunk.now readings c.args.runner is (IsSeen g.G.Gate.halts g.G.Gate.asks) (ap (position (λ step. not (is_look step))) (sym (c.as_slice-body.ensures.value ∙ (c.body.view_is ∙ (c.body_in.ensures ∙ ap (λ s. (g.S.Structure.meaning s).body c.args.thunk.now) c.structure.ensures)))) ∙ (sym c.first_change.ensures ∙ c.in_default.is)) c.load_cells-runner.new.loaded.items c.load_cells-runner.result.1 c.load_cells-runner.result.0 (g.G.Gate.halts c.args.gate.now) (g.G.Gate.halts c.load_cells-runner.new.gate) (g.G.Gate.asks c.args.gate.now) (g.G.Gate.asks c.load_cells-runner.new.gate) c.args.steps.now.count c.load_cells-runner.new.steps.count (subst (λ b. HasLoadedCells m b c.load_cells-runner.new.loaded.items c.load_cells-runner.result.1 c.args.runner c.load_cells-runner.result.0 (IsSeen g.G.Gate.halts g.G.Gate.asks) (g.G.Gate.halts c.args.gate.now) (g.G.Gate.halts c.load_cells-runner.new.gate) (g.G.Gate.asks c.args.gate.now) (g.G.Gate.asks c.load_cells-runner.new.gate) c.args.steps.now.count c.load_cells-runner.new.steps.count) (c.as_slice-body.ensures.value ∙ (c.body.view_is ∙ (c.body_in.ensures ∙ ap (λ s. (g.S.Structure.meaning s).body c.args.thunk.now) c.structure.ensures))) c.load_cells-runner.ensures.loaded) c.if-not-going.false
-    (ap (list_any (is_missed c.load_cells-runner.new.loaded.items)) (sym (c.as_slice-body.ensures.value ∙ (c.body.view_is ∙ (c.body_in.ensures ∙ ap (λ s. (g.S.Structure.meaning s).body c.args.thunk.now) c.structure.ensures)))) ∙ (ap (λ xs. list_any (is_missed xs) c.as_slice-body.result.now) (sym c.as_slice.ensures.value) ∙ c.first_missed.ensures.none c.in_default-first_missed.is))))
+returns-clause-rests g c = λ readings old is.
+    subst (λ (r : RunnerState g.row.S.Denot). Rests (g.S.Structure.meaning c.args.table.now.structure) (g.S.Planner.planning c.args.table.now.structure) c.args.request.now (length readings) c.look_at-runner.result.1 old r (IsSeen g.G.Gate.halts g.G.Gate.asks)
+    (g.G.Gate.halts c.args.gate.now) (g.G.Gate.halts c.look_at-runner.new.gate) (g.G.Gate.asks c.args.gate.now) (g.G.Gate.asks c.look_at-runner.new.gate) c.args.steps.now.count c.look_at-runner.new.steps.count) (sym c.keep_room.ensures)
+    (c.look_at-runner.ensures.rests readings old
+    (subst (λ (r : RunnerState g.row.S.Denot). HasPlanned (g.S.Structure.meaning c.args.table.now.structure) (g.S.Planner.planning c.args.table.now.structure) c.args.request.now readings (plans.Thunk c.args.thunk.now) old r) (sym c.take_room.ensures) is))

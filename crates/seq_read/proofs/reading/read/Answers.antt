@@ -1,10 +1,10 @@
 use Rattle.std.specs.Prelude.{not, slice_get}
 use Rattle.std.proofs.Common.{◌∙◌, length, sym, ap, subst, refl, None}
 use Rattle.table_words.specs.Limits.{IsWithinLimits}
-use Rattle.request_facts.specs.reached_histories.specs.machine_invariant.specs.After.{AreAllowed}
+use Rattle.caller_facts.specs.request_facts.specs.reached_histories.specs.machine_invariant.specs.After.{AreAllowed}
 use Rattle.runner_parts.specs.State.{ReadsState}
-use Rattle.lock_walks.specs.commit_log.specs.Asked.{IsAsked}
-use Rattle.lock_walks.specs.try_lock.specs.Plans.{HasPlanned as PlanIs, is_halted}
+use Rattle.caller_facts.specs.commit_log.specs.Asked.{IsAsked}
+use Rattle.caller_facts.specs.try_lock.specs.Plans.{HasPlanned as PlanIs, is_halted}
 use Rattle.caller_facts.specs.Counted.{IsCounted, IsSeen}
 use Rattle.seq_read.specs.Course.{HasPlanned}
 use Rattle.seq_read.specs.Reads.{Reads}
@@ -16,9 +16,10 @@ use Rattle.seq_read.proofs.reading.read.Goals as goal
 pub returns-then-not-goes_on-clause-reads : goal.returns-then-not-goes_on-clause-reads
 returns-then-not-goes_on-clause-reads g c =
     let met = g.met.S.Structure g.world.𝓛 g.world.𝓜 g.world.𝓡 ((λ s allowed. allowed), (λ patient. patient), (λ alone. alone), (λ cuts. cuts)) in
+    let plans = g.met.S.Planner g.world.𝓛 g.world.𝓜 g.world.𝓡 ((λ s allowed. allowed), (λ patient. patient), (λ alone. alone), (λ cuts. cuts)) in
     let m = g.S.Structure.meaning c.args.table.now.structure in
     let enters = entered_of m (g.S.Planner.planning c.args.table.now.structure) c.args.request.now c.args.runner c.args.table.now c.enter-runner.result c.requires.own c.enter-runner.ensures.own c.requires.next c.enter-runner.ensures.enters in
-    entry_halted m (met.laws c.args.table.now.structure) (g.S.Planner.planning c.args.table.now.structure) c.args.request.now c.args.runner
+    entry_halted m (met.laws c.args.table.now.structure) (g.S.Planner.planning c.args.table.now.structure) (plans.gets_are_light c.args.table.now.structure) c.args.request.now c.args.runner
     (subst IsWithinLimits (sym c.requires.own.layout) (c.requires.own.limits _ refl)) (subst AreAllowed (sym c.requires.own.requests) (c.requires.own.allowed _ refl))
     c.enter-runner.result enters (g.G.Gate.halts c.args.gate.now) (g.G.Gate.asks c.args.gate.now)
     (IsSeen g.G.Gate.halts g.G.Gate.asks) _ _ _ (c.args.gate.now, refl, refl)
@@ -56,11 +57,12 @@ exit-requires-clause-entered g c κs within =
 pub returns-in-Thunk-clause-reads : goal.returns-in-Thunk-clause-reads
 returns-in-Thunk-clause-reads g c =
     let met = g.met.S.Structure g.world.𝓛 g.world.𝓜 g.world.𝓡 ((λ s allowed. allowed), (λ patient. patient), (λ alone. alone), (λ cuts. cuts)) in
+    let plans = g.met.S.Planner g.world.𝓛 g.world.𝓜 g.world.𝓡 ((λ s allowed. allowed), (λ patient. patient), (λ alone. alone), (λ cuts. cuts)) in
     let m = g.S.Structure.meaning c.args.table.now.structure in
     let enters = entered_of m (g.S.Planner.planning c.args.table.now.structure) c.args.request.now c.args.runner c.args.table.now c.enter-runner.result c.requires.own c.enter-runner.ensures.own c.requires.next c.enter-runner.ensures.enters in
     let is = (subst (λ s. PlanIs (g.S.Structure.meaning s) (g.S.Planner.planning s) c.args.request.now c.plan-runner.result.1 c.enter-runner.result c.plan-runner.result.0 (g.G.Gate.halts c.goes_on.new.gate) (g.G.Gate.halts c.plan-runner.new.gate) (g.G.Gate.asks c.goes_on.new.gate) (g.G.Gate.asks c.plan-runner.new.gate) c.args.steps.now.count c.plan-runner.new.steps.count) c.structure.ensures c.plan-runner.ensures.plans) in
     let planned = planned_of m (g.S.Planner.planning c.args.table.now.structure) c.args.request.now c.args.runner c.enter-runner.result enters c.plan-runner.result.1 c.plan-runner.result.0 _ _ _ _ _ _ is in
-    reads_so m (met.laws c.args.table.now.structure) (g.S.Planner.planning c.args.table.now.structure) c.args.request.now c.args.runner
+    reads_so m (met.laws c.args.table.now.structure) (g.S.Planner.planning c.args.table.now.structure) (plans.gets_are_light c.args.table.now.structure) c.args.request.now c.args.runner
     (subst IsWithinLimits (sym c.requires.own.layout) (c.requires.own.limits _ refl)) (subst AreAllowed (sym c.requires.own.requests) (c.requires.own.allowed _ refl))
     c.enter-runner.result enters (g.G.Gate.halts c.args.gate.now) (g.G.Gate.asks c.args.gate.now) (g.G.Gate.halts c.goes_on.new.gate) (g.G.Gate.asks c.goes_on.new.gate) c.args.steps.now.count
     (subst (λ b. IsCounted 0 1 b (g.G.Gate.halts c.args.gate.now) (g.G.Gate.halts c.goes_on.new.gate) (g.G.Gate.asks c.args.gate.now) (g.G.Gate.asks c.goes_on.new.gate) c.args.steps.now.count c.args.steps.now.count) c.if-not-goes_on.false (c.goes_on.ensures c.args.steps.now.count))
@@ -71,11 +73,12 @@ returns-in-Thunk-clause-reads g c =
 pub returns-in-Halted-clause-reads : goal.returns-in-Halted-clause-reads
 returns-in-Halted-clause-reads g c =
     let met = g.met.S.Structure g.world.𝓛 g.world.𝓜 g.world.𝓡 ((λ s allowed. allowed), (λ patient. patient), (λ alone. alone), (λ cuts. cuts)) in
+    let plans = g.met.S.Planner g.world.𝓛 g.world.𝓜 g.world.𝓡 ((λ s allowed. allowed), (λ patient. patient), (λ alone. alone), (λ cuts. cuts)) in
     let m = g.S.Structure.meaning c.args.table.now.structure in
     let enters = entered_of m (g.S.Planner.planning c.args.table.now.structure) c.args.request.now c.args.runner c.args.table.now c.enter-runner.result c.requires.own c.enter-runner.ensures.own c.requires.next c.enter-runner.ensures.enters in
     let is = (subst (λ s. PlanIs (g.S.Structure.meaning s) (g.S.Planner.planning s) c.args.request.now c.plan-runner.result.1 c.enter-runner.result c.plan-runner.result.0 (g.G.Gate.halts c.goes_on.new.gate) (g.G.Gate.halts c.plan-runner.new.gate) (g.G.Gate.asks c.goes_on.new.gate) (g.G.Gate.asks c.plan-runner.new.gate) c.args.steps.now.count c.plan-runner.new.steps.count) c.structure.ensures c.plan-runner.ensures.plans) in
     let planned = planned_of m (g.S.Planner.planning c.args.table.now.structure) c.args.request.now c.args.runner c.enter-runner.result enters c.plan-runner.result.1 c.plan-runner.result.0 _ _ _ _ _ _ is in
-    plan_halted m (met.laws c.args.table.now.structure) (g.S.Planner.planning c.args.table.now.structure) c.args.request.now c.args.runner
+    plan_halted m (met.laws c.args.table.now.structure) (g.S.Planner.planning c.args.table.now.structure) (plans.gets_are_light c.args.table.now.structure) c.args.request.now c.args.runner
     (subst IsWithinLimits (sym c.requires.own.layout) (c.requires.own.limits _ refl)) (subst AreAllowed (sym c.requires.own.requests) (c.requires.own.allowed _ refl))
     c.enter-runner.result enters (g.G.Gate.halts c.args.gate.now) (g.G.Gate.asks c.args.gate.now) (g.G.Gate.halts c.goes_on.new.gate) (g.G.Gate.asks c.goes_on.new.gate) c.args.steps.now.count
     (subst (λ b. IsCounted 0 1 b (g.G.Gate.halts c.args.gate.now) (g.G.Gate.halts c.goes_on.new.gate) (g.G.Gate.asks c.args.gate.now) (g.G.Gate.asks c.goes_on.new.gate) c.args.steps.now.count c.args.steps.now.count) c.if-not-goes_on.false (c.goes_on.ensures c.args.steps.now.count))
@@ -85,6 +88,7 @@ returns-in-Halted-clause-reads g c =
 pub returns-in_default : goal.returns-in_default
 returns-in_default g c =
     let met = g.met.S.Structure g.world.𝓛 g.world.𝓜 g.world.𝓡 ((λ s allowed. allowed), (λ patient. patient), (λ alone. alone), (λ cuts. cuts)) in
+    let plans = g.met.S.Planner g.world.𝓛 g.world.𝓜 g.world.𝓡 ((λ s allowed. allowed), (λ patient. patient), (λ alone. alone), (λ cuts. cuts)) in
     let m = g.S.Structure.meaning c.args.table.now.structure in
     let enters = entered_of m (g.S.Planner.planning c.args.table.now.structure) c.args.request.now c.args.runner c.args.table.now c.enter-runner.result c.requires.own c.enter-runner.ensures.own c.requires.next c.enter-runner.ensures.enters in
     let is = (subst (λ s. PlanIs (g.S.Structure.meaning s) (g.S.Planner.planning s) c.args.request.now c.plan-runner.result.1 c.enter-runner.result c.plan-runner.result.0 (g.G.Gate.halts c.goes_on.new.gate) (g.G.Gate.halts c.plan-runner.new.gate) (g.G.Gate.asks c.goes_on.new.gate) (g.G.Gate.asks c.plan-runner.new.gate) c.args.steps.now.count c.plan-runner.new.steps.count) c.structure.ensures c.plan-runner.ensures.plans) in
@@ -93,7 +97,7 @@ returns-in_default g c =
     record {
       own = c.exit.ensures.own;
       reads = subst (λ a. Reads m (g.S.Planner.planning c.args.table.now.structure) c.args.request.now a c.args.runner c.exit.result (IsSeen g.G.Gate.halts g.G.Gate.asks) (g.G.Gate.halts c.args.gate.now) (g.G.Gate.halts c.plan-runner.new.gate) (g.G.Gate.asks c.args.gate.now) (g.G.Gate.asks c.plan-runner.new.gate) c.args.steps.now.count c.plan-runner.new.steps.count) (sym c.plan_refused.ensures)
-          (plan_refused_reads m (met.laws c.args.table.now.structure) (g.S.Planner.planning c.args.table.now.structure) c.args.request.now c.args.runner
+          (plan_refused_reads m (met.laws c.args.table.now.structure) (g.S.Planner.planning c.args.table.now.structure) (plans.gets_are_light c.args.table.now.structure) c.args.request.now c.args.runner
           (subst IsWithinLimits (sym c.requires.own.layout) (c.requires.own.limits _ refl)) (subst AreAllowed (sym c.requires.own.requests) (c.requires.own.allowed _ refl))
           c.enter-runner.result enters (g.G.Gate.halts c.args.gate.now) (g.G.Gate.asks c.args.gate.now) (g.G.Gate.halts c.goes_on.new.gate) (g.G.Gate.asks c.goes_on.new.gate) c.args.steps.now.count
           (subst (λ b. IsCounted 0 1 b (g.G.Gate.halts c.args.gate.now) (g.G.Gate.halts c.goes_on.new.gate) (g.G.Gate.asks c.args.gate.now) (g.G.Gate.asks c.goes_on.new.gate) c.args.steps.now.count c.args.steps.now.count) c.if-not-goes_on.false (c.goes_on.ensures c.args.steps.now.count))

@@ -7,14 +7,15 @@ use Rattle.threaded_runs.specs.Counts.{returns_counted}
 use Rattle.threaded_runs.specs.Jobs.{asks_counted}
 use Rattle.threaded_runs.specs.Asks.{AreAsked}
 use Rattle.threaded_runs.specs.Gates.{GatesCameBack}
-use Rattle.threaded_runs.specs.Lone.{ServesAlone}
+use Rattle.lone_reads.specs.Lone.{LoneReadsAreServed}
+use Rattle.threaded_runs.specs.Lone.{ServesAlone, ReadsAlone}
 use Rattle.threaded_runs.specs.Runs.{AreServed}
 use Rattle.threaded_runs.proofs.Counting.{front_all, front_none, on_err}
 use Rattle.settled_tables.proofs.Keeping.{first_is_idle, has_all, may_settle, settled_all}
 use Rattle.threaded_runs.proofs.Seats.{are_back}
 use Rattle.threaded_runs.proofs.Ending.{IsLawful, all_served, asked_often, gates_came_back}
 use Rattle.serving.specs.attempt_bounds.specs.Spared.{AttemptsSpareSlots}
-use Rattle.threaded_runs.proofs.Lone.{IsFresh, served_alone, asked_alone}
+use Rattle.threaded_runs.proofs.Lone.{IsFresh, served_alone, asked_alone, reads_alone}
 use Rattle.threaded_runs.proofs.table_run.run_table.Goals as goal
 
 pub make_jobs-requires-clause-keeper : goal.make_jobs-requires-clause-keeper
@@ -26,7 +27,7 @@ make_jobs-requires-clause-keeper g c κs within =
 pub gather-requires-clause-back : goal.gather-requires-clause-back
 gather-requires-clause-back g c κs within =
     let t = c.in_ok-table.table in
-    are_back (g.S.Structure.meaning t.structure) (g.S.Planner.planning t.structure) c.args.retry_short g.G.Gate.Gate.halts g.G.Gate.Gate.asks t c.in_ok-keeper.jobs.items c.in_ok-finished.finished.items (search rules)
+    are_back (g.S.Structure.meaning t.structure) (g.S.Planner.planning t.structure) c.args.retry_short c.args.reads_free g.G.Gate.Gate.halts g.G.Gate.Gate.asks t c.in_ok-keeper.jobs.items c.in_ok-finished.finished.items (search rules)
     c.in_ok-keeper.ensures.jobs c.in_ok-keeper.ensures.unhalted c.in_ok-finished.ensures.each
 
 pub settle-keeper-requires-clause-next : goal.settle-keeper-requires-clause-next
@@ -56,6 +57,8 @@ returns-clause-served g c =
     subst (λ s. AttemptsSpareSlots g.row.S.Denot (g.S.Structure.meaning s) (g.S.Planner.planning s)) c.structure-2.ensures c.attempts_spare_slots.ensures in
     let attempts_go : LoneAttemptsAreServed g.row.S.Denot m planning =
     subst (λ s. LoneAttemptsAreServed g.row.S.Denot (g.S.Structure.meaning s) (g.S.Planner.planning s)) c.structure.ensures c.lone_attempts_are_served.ensures in
+    let reads_go : LoneReadsAreServed g.row.S.Denot m planning =
+    subst (λ s. LoneReadsAreServed g.row.S.Denot (g.S.Structure.meaning s) (g.S.Planner.planning s)) c.structure-3.ensures c.lone_reads_are_served.ensures in
     let idle = c.in_ok-keeper-2.ensures.keeper in
     let asks_all : ◌≡◌ {A = ℕ} (g.G.Gates.asks c.gather.new.gates) (asks_counted g.G.Gate.Gate.asks (g.G.Gates.asks c.args.gates.now) c.in_ok-finished.finished.items)
     = c.in_ok-keeper-2.ensures.asks ∙ ap (λ (n : ℕ). asks_counted g.G.Gate.Gate.asks n c.in_ok-finished.finished.items) c.in_ok-keeper.ensures.asks in
@@ -66,22 +69,26 @@ returns-clause-served g c =
       finished = ap length idle.finished;
       apart = idle.apart;
     } in
-    subst (λ s. AreServed (g.S.Structure.meaning s) c.close-words.result c.args.retry_short c.in_ok-keeper-2.answers.items
+    subst (λ s. AreServed (g.S.Structure.meaning s) c.close-words.result c.args.retry_short c.args.reads_free c.in_ok-keeper-2.answers.items
     × ServesAlone (g.S.Structure.meaning s) (g.S.Planner.planning s).per_pair c.close-words.result c.in_ok-keeper-2.answers.items
-    × AreAsked (g.S.Structure.meaning s) c.close-words.result c.in_ok-keeper-2.answers.items (g.G.Gates.asks c.args.gates.now) (g.G.Gates.asks c.gather.new.gates)) c.in_ok-table.ensures.table.structure (
-      all_served m planning c.args.retry_short t lawful keeper settled c.close-words.result c.settle-keeper.ensures.own number c.settle-keeper.ensures.settles c.close-words.ensures g.G.Gate.Gate.halts g.G.Gate.Gate.asks
+    × AreAsked (g.S.Structure.meaning s) c.close-words.result c.args.reads_free c.in_ok-keeper-2.answers.items (g.G.Gates.asks c.args.gates.now) (g.G.Gates.asks c.gather.new.gates)
+    × ReadsAlone (g.S.Structure.meaning s) c.close-words.result c.args.reads_free) c.in_ok-table.ensures.table.structure (
+      all_served m planning c.args.retry_short c.args.reads_free t lawful keeper settled c.close-words.result c.settle-keeper.ensures.own number c.settle-keeper.ensures.settles c.close-words.ensures g.G.Gate.Gate.halts g.G.Gate.Gate.asks
           c.in_ok-keeper.jobs.items c.in_ok-finished.finished.items c.in_ok-keeper-2.answers.items (search rules) (search rules) (search rules) c.in_ok-keeper.ensures.jobs c.in_ok-finished.ensures.each c.in_ok-keeper-2.ensures.kept history,
-      λ one. served_alone m planning c.args.retry_short t lawful keeper settled c.close-words.result c.settle-keeper.ensures.own number c.settle-keeper.ensures.settles c.close-words.ensures g.G.Gate.Gate.halts g.G.Gate.Gate.asks
+      λ one. served_alone m planning c.args.retry_short c.args.reads_free t lawful keeper settled c.close-words.result c.settle-keeper.ensures.own number c.settle-keeper.ensures.settles c.close-words.ensures g.G.Gate.Gate.halts g.G.Gate.Gate.asks
           c.in_ok-keeper.jobs.items c.in_ok-finished.finished.items c.in_ok-keeper-2.answers.items (search rules) (search rules) (search rules) c.in_ok-keeper.ensures.jobs c.in_ok-finished.ensures.each c.in_ok-keeper-2.ensures.kept history
           fresh (ap (λ l. l.runners) (sym c.close-words.ensures.layout) ∙ one) attempts_go spare,
       record {
-        often = asked_often m planning c.args.retry_short t lawful keeper settled c.close-words.result c.settle-keeper.ensures.own number c.settle-keeper.ensures.settles c.close-words.ensures g.G.Gate.Gate.halts g.G.Gate.Gate.asks
+        often = asked_often m planning c.args.retry_short c.args.reads_free t lawful keeper settled c.close-words.result c.settle-keeper.ensures.own number c.settle-keeper.ensures.settles c.close-words.ensures g.G.Gate.Gate.halts g.G.Gate.Gate.asks
             c.in_ok-keeper.jobs.items c.in_ok-finished.finished.items c.in_ok-keeper-2.answers.items (search rules) (search rules) (search rules) c.in_ok-keeper.ensures.jobs c.in_ok-finished.ensures.each c.in_ok-keeper-2.ensures.kept history
             _ _ asks_all lawful.facts.limits.some_runners;
-        alone = λ one. asked_alone m planning c.args.retry_short t lawful keeper settled c.close-words.result c.settle-keeper.ensures.own number c.settle-keeper.ensures.settles c.close-words.ensures g.G.Gate.Gate.halts g.G.Gate.Gate.asks
+        alone = λ one. asked_alone m planning c.args.retry_short c.args.reads_free t lawful keeper settled c.close-words.result c.settle-keeper.ensures.own number c.settle-keeper.ensures.settles c.close-words.ensures g.G.Gate.Gate.halts g.G.Gate.Gate.asks
             c.in_ok-keeper.jobs.items c.in_ok-finished.finished.items c.in_ok-keeper-2.answers.items (search rules) (search rules) (search rules) c.in_ok-keeper.ensures.jobs c.in_ok-finished.ensures.each c.in_ok-keeper-2.ensures.kept history
             fresh (ap (λ l. l.runners) (sym c.close-words.ensures.layout) ∙ one) attempts_go spare _ _ c.args.halts.now c.in_ok-keeper.ensures.given asks_all one;
       },
+      λ free one. reads_alone m planning c.args.retry_short c.args.reads_free t lawful keeper settled c.close-words.result c.settle-keeper.ensures.own number c.settle-keeper.ensures.settles c.close-words.ensures g.G.Gate.Gate.halts g.G.Gate.Gate.asks
+          c.in_ok-keeper.jobs.items c.in_ok-finished.finished.items c.in_ok-keeper-2.answers.items (search rules) (search rules) (search rules) c.in_ok-keeper.ensures.jobs c.in_ok-finished.ensures.each c.in_ok-keeper-2.ensures.kept history
+          fresh (ap (λ l. l.runners) (sym c.close-words.ensures.layout) ∙ one) attempts_go spare reads_go free one,
     )
 
 pub returns-clause-gates : goal.returns-clause-gates
@@ -96,9 +103,9 @@ returns-clause-gates g c =
     let all = has_all m t keeper (vec_len c.in_ok-finished.finished) c.in_ok-keeper-2.ensures.own c.in_ok-keeper-2.ensures.keeper (search rules) in
     let number = c.settle-keeper.ensures.settles.number ∙ all.number in
     let history : HaveHistory m c.close-words.result = subst (λ s. HaveHistory (g.S.Structure.meaning s) c.close-words.result) c.close-words.ensures.structure c.closed_words_have_a_history.ensures in
-    subst (λ s. GatesCameBack (g.S.Structure.meaning s) c.close-words.result g.G.Gate.Gate.halts g.G.Gate.Gate.asks c.args.halts.now c.in_ok-keeper-2.answers.items
+    subst (λ s. GatesCameBack (g.S.Structure.meaning s) c.close-words.result c.args.reads_free g.G.Gate.Gate.halts g.G.Gate.Gate.asks c.args.halts.now c.in_ok-keeper-2.answers.items
     (g.G.Gates.asks c.args.gates.now) (g.G.Gates.asks c.gather.new.gates)) c.in_ok-table.ensures.table.structure
-    (gates_came_back m planning c.args.retry_short t lawful keeper settled c.close-words.result c.settle-keeper.ensures.own number c.settle-keeper.ensures.settles c.close-words.ensures g.G.Gate.Gate.halts g.G.Gate.Gate.asks
+    (gates_came_back m planning c.args.retry_short c.args.reads_free t lawful keeper settled c.close-words.result c.settle-keeper.ensures.own number c.settle-keeper.ensures.settles c.close-words.ensures g.G.Gate.Gate.halts g.G.Gate.Gate.asks
     c.in_ok-keeper.jobs.items c.in_ok-finished.finished.items c.in_ok-keeper-2.answers.items (search rules) (search rules) (search rules) c.in_ok-keeper.ensures.jobs c.in_ok-finished.ensures.each c.in_ok-keeper-2.ensures.kept history
     c.args.halts.now c.in_ok-keeper.ensures.unhalted c.in_ok-keeper.ensures.given _ _
     (c.in_ok-keeper-2.ensures.asks ∙ ap (λ (n : ℕ). asks_counted g.G.Gate.Gate.asks n c.in_ok-finished.finished.items) c.in_ok-keeper.ensures.asks))

@@ -1,0 +1,46 @@
+-- Walks make few loads, and the section of a `get` changes nothing.
+use Rattle.std.proofs.Common.{◌≡◌, ℕ, ◌+◌, ◌*◌, ◌^◌, ◌≤◌, length, Bool, true, false, cond, [], refl, sym, subst, arith}
+use Rattle.std.specs.Prelude.{◌==◌}
+use Rattle.std.specs.List.{list_all}
+use Rattle.map_history.specs.declared.op.Op.{Op}
+use Rattle.map_history.specs.declared.op.Op.TheVariants.{Get}
+use Rattle.body_terms.specs.Shape.{is_look}
+use Rattle.body_terms.specs.declared.thunk.Thunk.{Thunk}
+use Rattle.section_body.specs.Bucket.{bucket_index, read_steps, fits_read}
+use Rattle.bucket_laws.specs.bucket_bodies.specs.Table.{table_steps}
+use Rattle.table_words.specs.declared.layout.Layout.{Layout}
+use Rattle.table_words.specs.Places.{slot_count}
+use Rattle.structure_laws.specs.Scene.{Readings}
+use Rattle.structure_laws.proofs.Changes.{both_true, equal_of}
+use Rattle.bucket_laws.specs.Walk.{start, is_end, has_one_key}
+use Rattle.bucket_laws.specs.Buckets.{bounds, walk_of}
+use Rattle.bucket_walks.specs.Few.{WalksMakeFewLoads, GetsOnlyLook, IsBucketWalk}
+use Rattle.bucket_walks.proofs.Steps.{nearer, few_left}
+
+pub make_few_loads : (bits : ℕ) → WalksMakeFewLoads bits
+make_few_loads bits = record {
+  nearer = λ b op w place word wants. nearer (2 ^ bits) (λ key. bucket_index key bits) b op w place word wants;
+  few = λ layout op readings walks.
+      let few = few_left (2 ^ bits) (λ key. bucket_index key bits) (bounds (2 ^ bits) (λ key. bucket_index key bits) layout) op start readings walks in
+      omega (arith, few);
+}
+
+-- so they are within what a `get` may make
+pub get_few : (bits : ℕ) (layout : Layout) (op : Op) (readings : Readings) → IsBucketWalk bits layout op readings → length readings ≤ 3 * slot_count layout 0 + 28
+get_few bits layout op readings walks = let few = (make_few_loads bits).few layout op readings walks in omega (arith, few)
+
+-- form 1
+looks_in : (t : Thunk) → t.form ≡ 1 → list_all is_look (table_steps t) ≡ true
+looks_in t one = subst (λ form. list_all is_look (table_steps (record t { form = form })) ≡ true) (sym one) (by (fits_read t))
+  where
+    by : (b : Bool) → list_all is_look (cond b (read_steps t) []) ≡ true
+    by true = refl
+    by false = refl
+
+pub only_look : (bits : ℕ) → GetsOnlyLook bits
+only_look bits layout key readings thunk fits =
+    let w = walk_of (2 ^ bits) (λ k. bucket_index k bits) layout (Get key) readings in
+    let whole = both_true (has_one_key (Get key)) _ fits in
+    let parts = both_true (is_end w.stage) _ whole.1 in
+    let form = both_true (thunk.form == 1) _ parts.1 in
+    looks_in thunk (equal_of thunk.form 1 form.0)

@@ -1,0 +1,44 @@
+-- What a walk of a bucket costs, and what the section of a `get` does.
+use Rattle.std.specs.Prelude.{◌≡◌, ℕ, ◌+◌, ◌*◌, ◌^◌, ◌<◌, ◌≤◌, true, length, take, slice_get, Option, Some}
+use Rattle.std.specs.List.{list_all}
+use Rattle.map_history.specs.declared.op.Op.{Op}
+use Rattle.map_history.specs.declared.op.Op.TheVariants.{Get}
+use Rattle.map_history.specs.Keys.{key_of}
+use Rattle.body_terms.specs.Shape.{is_look}
+use Rattle.body_terms.specs.declared.thunk.Thunk.{Thunk}
+use Rattle.section_body.specs.Bucket.{bucket_index}
+use Rattle.table_words.specs.declared.layout.Layout.{Layout}
+use Rattle.table_words.specs.Places.{slot_count}
+use Rattle.structure_laws.specs.Scene.{Readings}
+use Rattle.bucket_laws.specs.Walk.{Walk, Bounds, wanted_at, fed}
+use Rattle.bucket_laws.specs.Buckets.{buckets_meaning, walk_of}
+use Rattle.bucket_walks.specs.Left.{left_in}
+
+module _ (bits : ℕ) where
+  -- the bucket of a key
+  abbrev bucket : ℕ → ℕ
+  bucket key = bucket_index key bits
+
+  -- what the walk of an operation in these readings wants next
+  abbrev pub wanted_in : Layout → Op → Readings → Option ℕ
+  wanted_in layout op readings = wanted_at (2 ^ bits) bucket (bucket (key_of op))
+      (walk_of (2 ^ bits) bucket layout op readings) (walk_of (2 ^ bits) bucket layout op readings).stage
+
+  -- each reading is of the place that the walk wants after those before it
+  abbrev pub IsBucketWalk : Layout → Op → Readings → Type 0
+  IsBucketWalk layout op readings = (i place word : ℕ) → slice_get readings i ≡ Some (place, word)
+      → wanted_in layout op (take i readings) ≡ Some place
+
+  -- each load brings a walk nearer to its end, so it makes few
+  pub record WalksMakeFewLoads : Type 0 where
+    pub nearer : (b : Bounds) (op : Op) (w : Walk) (place word : ℕ)
+        → wanted_at (2 ^ bits) bucket (bucket (key_of op)) w w.stage ≡ Some place
+        → left_in b (fed (2 ^ bits) bucket b op w w.stage word) < left_in b w
+    pub few : (layout : Layout) (op : Op) (readings : Readings) → IsBucketWalk layout op readings
+        → length readings ≤ 2 * slot_count layout 0 + 20
+
+  -- a thunk that fits a `get` has a body that changes nothing
+  abbrev pub GetsOnlyLook : Type 0
+  GetsOnlyLook = (layout : Layout) (key : ℕ) (readings : Readings) (thunk : Thunk)
+      → (buckets_meaning bits).fits layout (Get key) readings thunk ≡ true
+      → list_all is_look ((buckets_meaning bits).body thunk) ≡ true

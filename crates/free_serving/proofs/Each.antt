@@ -1,0 +1,286 @@
+-- What `serve_one` comes to, by how its request was served.
+use Rattle.std.specs.Prelude.{◌%◌, ◌⊎◌, Bool, true, false, not, slice_get}
+use Rattle.std.proofs.Common.{◌≡◌, ◌≢◌, ℕ, ◌+◌, ◌≤◌, List, [], ◌∷◌, refl, sym, ap, ◌∙◌, subst, inl, inr, Some, ⊎_elim}
+use Rattle.std.proofs.lemmas.Bool.{true≢false}
+use Rattle.map_history.specs.declared.op.Request.{Request}
+use Rattle.map_history.specs.declared.reply.Reply.{Reply}
+use Rattle.table_words.specs.Limits.{IsWithinLimits}
+use Rattle.table_words.specs.declared.layout.Layout.{Layout}
+use Rattle.body_terms.specs.Counted.{counted_on}
+use Rattle.runner_gate.specs.Asks.{Asks, asked_on}
+use Rattle.structure_laws.specs.Meaning.{Meaning}
+use Rattle.structure_laws.specs.Cells.{slots}
+use Rattle.structure_laws.specs.Laws.{Laws}
+use Rattle.runner_parts.specs.Tests.{is_answered}
+use Rattle.version_words.specs.RunnerState.{RunnerState}
+use Rattle.version_words.specs.TableState.{TableState, IsOf}
+use Rattle.serving.specs.lock_words.specs.machine_invariant.specs.After.{AreAllowed}
+use Rattle.serving.specs.attempt_bounds.specs.commit_log.proofs.Asked.{counted_more, asked_on_more}
+use Rattle.serving.specs.attempt_bounds.specs.try_lock.specs.Planning.{Planning}
+use Rattle.serving.specs.attempt_bounds.specs.Spared.{AttemptsSpareSlots}
+use Rattle.seq_read.specs.lock_walks.specs.Gets.{GetsAreLight}
+use Rattle.serving.specs.attempts.specs.Knowing.{IsOwn}
+use Rattle.serving.specs.attempts.specs.Course.{MayAttempt}
+use Rattle.seq_read.specs.Reads.{is_halted, IsTurnedAway, Answers, has_answered, Reads}
+use Rattle.seq_read.specs.declared.answers.Read.{Read}
+use Rattle.seq_read.specs.declared.answers.Read.TheVariants as reads
+use Rattle.serving.specs.Serving as serving
+use Rattle.serving.specs.Serving.{Try, IsTry, MayServe, Serves}
+use Rattle.serving.specs.declared.answers.Served.{Served}
+use Rattle.serving.specs.declared.answers.Served.TheVariants as answers
+use Rattle.serving.proofs.Along.{along_begins, may_next}
+use Rattle.serving.proofs.Trying.{same_layout, same_requests}
+use Rattle.serving.proofs.Standing.{answered_more}
+use Rattle.serving.proofs.Tries.{or_none}
+use Rattle.free_serving.specs.Services.{is_get, is_refusal, ByRead, HaltedRead, BothWays, UnderLock, IsEnd, IsReading, IsServing}
+use Rattle.free_serving.specs.Left.{CameBetween, WasReadInVain}
+use Rattle.free_serving.specs.One.{ServesOne}
+use Rattle.free_serving.proofs.Same.{Same}
+use Rattle.free_serving.proofs.Chain.{only_place}
+use Rattle.free_serving.proofs.Light.{most_of_get, attempt_few}
+use Rattle.free_serving.proofs.Bridge.{knows_of, no_other_of, may_read}
+use Rattle.free_serving.proofs.Onward.{refused_spared}
+use Rattle.free_serving.proofs.Reading.{key_of, done_all, done_halted, cut_leaves, few_made}
+use Rattle.free_serving.proofs.Single.{IsWithin, within, single_leaves}
+use Rattle.free_serving.proofs.Both.{both_leaves}
+
+-- the runner may attempt what it may serve
+pub may_attempt : {T : Type 0} (planning : Planning) (q : Request) (r : RunnerState T) (t : TableState T) → IsOf t r → AreAllowed t.requests
+    → MayServe planning (q ∷ []) r → MayAttempt planning q r
+may_attempt planning q r t of_r allowed may = may_next planning (q ∷ []) r r t allowed of_r of_r may 0 q refl (along_begins planning (q ∷ []) r may)
+
+module _ {T : Type 0} (m : Meaning) (laws : Laws m) (planning : Planning) (retry_short : Bool) (q : Request) (t : TableState T)
+    (limits : IsWithinLimits t.layout) (allowed : AreAllowed t.requests) where
+  abbrev serving_is : (answer : Served) (old new : RunnerState T) → MayServe planning (q ∷ []) old
+      → (Seen : ℕ → Asks → Type 0) (halts : ℕ) (asks asks' : Asks) (steps steps' : ℕ)
+      → (serves : Serves m planning retry_short (q ∷ []) answer old new Seen halts asks asks' steps steps')
+      → IsServing m planning retry_short q answer serves.tries old new
+  serving_is answer old new may Seen halts asks asks' steps steps' serves = record {
+    may = may;
+    tried = serves.tried;
+    ends = subst (λ n. serving.Ends m planning retry_short (q ∷ []) answer n serves.tries old new) serves.count_is serves.ends;
+  }
+
+  -- the end of a serving under the lock, as that of a service
+  end_under : (answer : Served) (tries : List Try) → IsEnd (q ∷ []) (UnderLock q answer tries ∷ []) answer
+  end_under answers.All tries = (refl, refl)
+  end_under answers.Halted tries = refl
+  end_under (answers.Short short) tries = refl
+  end_under (answers.Spent place word) tries = refl
+
+  end_both : (read : Read) (made : ℕ) (answer : Served) (tries : List Try) → IsEnd (q ∷ []) (BothWays q read made answer tries ∷ []) answer
+  end_both read made answers.All tries = (refl, refl)
+  end_both read made answers.Halted tries = refl
+  end_both read made (answers.Short short) tries = refl
+  end_both read made (answers.Spent place word) tries = refl
+
+  -- what is served under its lock at once
+  module _ (old new : RunnerState T) (of_old : IsOf t old) (of_new : IsOf t new) (may : MayServe planning (q ∷ []) old) (spare : AttemptsSpareSlots T m planning)
+      (answer : Served) (Seen : ℕ → Asks → Type 0) (halts : ℕ) (asks asks' : Asks) (steps steps' : ℕ)
+      (serves : Serves m planning retry_short (q ∷ []) answer old new Seen halts asks asks' steps steps') where
+    pub under_lock : is_get q.op ≡ false → ServesOne m planning retry_short q answer old new Seen halts asks asks' steps steps'
+    under_lock other = record {
+      service = UnderLock q answer serves.tries;
+      of_request = refl;
+      is = (other, serving_is answer old new may Seen halts asks asks' steps steps' serves);
+      ends = end_under answer serves.tries;
+      counted = serves.counted;
+      asked = serves.asked ∙ ap (λ n. asked_on asks (serving.asks_in serves.tries + n)) serves.count_is;
+      let_go = serves.let_go;
+      left = single_leaves m laws planning retry_short q t limits allowed old new of_old of_new answer Seen halts asks asks' steps steps' serves (may.own 0 q refl) spare
+          (λ get. absurd (true≢false (sym get ∙ other)));
+    }
+
+  -- a `get` that was read
+  module _ (get : is_get q.op ≡ true) (old new : RunnerState T) (of_old : IsOf t old) (of_new : IsOf t new) (may : MayServe planning (q ∷ []) old)
+      (Seen : ℕ → Asks → Type 0) (halts halts1 : ℕ) (asks asks1 : Asks) (steps steps1 : ℕ) where
+    limits_new : IsWithinLimits new.layout
+    limits_new = subst IsWithinLimits (sym of_new.layout) limits
+
+    allowed_new : AreAllowed new.requests
+    allowed_new = subst AreAllowed (sym of_new.requests) allowed
+
+    abbrev reading_is : (answer : Read) (read : Reads m planning q answer old new Seen halts halts1 asks asks1 steps steps1) → IsReading m planning q answer read.made old new
+    reading_is answer read = record {
+      get = get;
+      may = may_read planning q old (may_attempt planning q old t of_old allowed may);
+      answers = read.answers;
+      made_is = read.made_is;
+    }
+
+    module _ (reply : Reply) (stamp : ℕ) (read : Reads m planning q (reads.Done reply stamp) old new Seen halts halts1 asks asks1 steps steps1)
+        (asks2 : Asks) (asked : asks2 ≡ asked_on asks1 1) where
+      all_asked : asks2 ≡ asked_on asks (read.made + 1 + 1)
+      all_asked = asked ∙ (ap (λ (a : Asks). asked_on a 1) read.asked.asked ∙ asked_on_more asks (read.made + 1) 1)
+
+      pub read_all : ServesOne m planning retry_short q answers.All old new Seen halts asks asks2 steps steps1
+      read_all = record {
+        service = ByRead q reply stamp read.made;
+        of_request = refl;
+        is = reading_is (reads.Done reply stamp) read;
+        ends = (refl, refl);
+        counted = read.asked.counted;
+        asked = all_asked;
+        let_go = λ e. absurd (let z = e in cc);
+        left = done_all m planning retry_short q old laws new limits_new allowed_new get Seen halts halts1 asks asks1 steps steps1 reply stamp read;
+      }
+
+      -- or the ask behind it halted the runner: the gate was seen before it
+      pub read_then_halted : Seen halts asks1 → ServesOne m planning retry_short q answers.Halted old new Seen halts asks asks2 steps steps1
+      read_then_halted seen = record {
+        service = ByRead q reply stamp read.made;
+        of_request = refl;
+        is = reading_is (reads.Done reply stamp) read;
+        ends = refl;
+        counted = read.asked.counted;
+        asked = all_asked;
+        let_go = λ e. subst (Seen halts) read.asked.asked seen;
+        left = done_halted m planning retry_short q old laws new limits_new allowed_new get Seen halts halts1 asks asks1 steps steps1 reply stamp read;
+      }
+
+    pub read_halted : Reads m planning q reads.Halted old new Seen halts halts1 asks asks1 steps steps1
+        → ServesOne m planning retry_short q answers.Halted old new Seen halts asks asks1 steps steps1
+    read_halted read = record {
+      service = HaltedRead q (has_answered m planning q old new read.answers.at) read.made;
+      of_request = refl;
+      is = (reading_is reads.Halted read, refl);
+      ends = refl;
+      counted = read.asked.counted;
+      asked = read.asked.asked;
+      let_go = λ e. read.let_go refl;
+      left = cut_leaves m planning retry_short q old laws new limits_new allowed_new get Seen halts halts1 asks asks1 steps steps1 read;
+    }
+
+  -- a read that was refused, and left the runner idle
+  turned : (answer : Read) (old new : RunnerState T) → is_refusal answer ≡ true → Answers m planning q answer old new → IsTurnedAway m planning q answer old new
+  turned (reads.Locked at) old new e is = is
+  turned (reads.Busy place word) old new e is = is
+  turned (reads.Stale place expected read) old new e is = is
+  turned (reads.Far loads) old new e is = is
+  turned (reads.Spent place word) old new e is = is
+  turned (reads.Done reply stamp) old new e is = absurd (true≢false (sym e))
+  turned reads.Halted old new e is = absurd (true≢false (sym e))
+
+  module _ (get : is_get q.op ≡ true) (old mid : RunnerState T) (of_old : IsOf t old) (of_mid : IsOf t mid) (may : MayServe planning (q ∷ []) old)
+      (Seen : ℕ → Asks → Type 0) (halts halts1 : ℕ) (asks asks1 : Asks) (steps steps1 : ℕ)
+      (read_answer : Read) (refusal : is_refusal read_answer ≡ true) (read : Reads m planning q read_answer old mid Seen halts halts1 asks asks1 steps steps1) where
+    away : IsTurnedAway m planning q read_answer old mid
+    away = turned read_answer old mid refusal read.answers
+
+    abbrev vain : WasReadInVain m planning q old
+    vain = record {
+      answer = read_answer;
+      refused = record { get = get; before = old; cut = away.cut; layout = refl; requests = refl; refused = away.cause };
+      refusal = refusal;
+      looks = λ map at same. let key = key_of q.op get in read.looks map key.0 at key.1 same;
+    }
+
+    -- so it may be served under its lock
+    pub may_still : MayServe planning (q ∷ []) mid
+    may_still = record {
+      tidy = away.tidy;
+      own = λ i x there. let own = may.own i x there in record {
+        there = ap (λ rs. slice_get rs x.number) (same_requests t old mid of_old of_mid) ∙ own.there;
+        own = ap (λ l. x.trace % l.runners) (same_layout t old mid of_old of_mid) ∙ (own.own ∙ sym read.knows.number);
+      };
+      served = may.served;
+      once = may.once;
+      unanswered = λ i x there. subst (λ (y : Request). is_answered mid.part.records.known y.number ≡ false) (only i x there) away.untouched.unknown;
+      earlier = λ i x y there own trace below. ⊎_elim
+          (λ was. inl (still y was))
+          inr
+          (may.earlier i x y there (record {
+            there = ap (λ rs. slice_get rs y.number) (sym (same_requests t old mid of_old of_mid)) ∙ own.there;
+            own = ap (λ l. y.trace % l.runners) (sym (same_layout t old mid of_old of_mid)) ∙ (own.own ∙ read.knows.number);
+          }) trace below);
+    }
+      where
+        only : (i : ℕ) (x : Request) → slice_get (q ∷ []) i ≡ Some x → q ≡ x
+        only i x there = (only_place q x i there).1
+
+        still : (y : Request) → is_answered old.part.records.known y.number ≡ true → is_answered mid.part.records.known y.number ≡ true
+        still y was = answered_more old.part.records.known mid.part.records.known (knows_of old mid read.knows).known y.number was
+
+    module _ (gets : GetsAreLight m planning) (is_map : m.is_map ≡ true) (new : RunnerState T) (of_new : IsOf t new) (spare : AttemptsSpareSlots T m planning)
+        (answer : Served) (asks2 : Asks) (steps2 : ℕ) (went : halts1 ≡ halts)
+        (serves : Serves m planning retry_short (q ∷ []) answer mid new Seen halts1 asks1 asks2 steps1 steps2) where
+      same : Same old mid
+      same = (same_layout t old mid of_old of_mid, same_requests t old mid of_old of_mid)
+
+      limits_of : (r : RunnerState T) → Same mid r → IsWithinLimits r.layout
+      limits_of r s = subst IsWithinLimits (sym (s.0 ∙ of_mid.layout)) limits
+
+      allowed_of : (r : RunnerState T) → Same mid r → AreAllowed r.requests
+      allowed_of r s = subst AreAllowed (sym (s.1 ∙ of_mid.requests)) allowed
+
+      few_each : (x : Try) (r s : RunnerState T) → Same mid r → q ≡ x.request → IsTry m planning x r s → x.crossed ≡ false → x.made ≤ most_of_get (slots m mid.layout)
+      few_each x r s same_r of_q is e =
+          let key = key_of x.request.op (ap (λ (y : Request). is_get y.op) (sym of_q) ∙ get) in
+          let parts = or_none _ _ (sym is.crossed ∙ e) in
+          subst (λ (l : Layout). x.made ≤ most_of_get (slots m l)) same_r.0
+          (attempt_few m laws planning gets is_map x.request key.0 key.1 r (limits_of r same_r) (allowed_of r same_r) is.may x.answer x.made x.published s is.is parts.0 parts.1)
+
+      few_asks : CameBetween m planning mid ⊎ IsWithin answer (serving.served_in serves.tries) (serving.asks_in serves.tries + serving.served_in serves.tries)
+          (most_of_get (slots m mid.layout) + 3) mid new
+      few_asks = within m laws planning retry_short q t limits allowed mid new of_mid of_new answer Seen halts1 asks1 asks2 steps1 steps2 serves own spare
+          (most_of_get (slots m mid.layout)) few_each
+        where
+          own : IsOwn mid q
+          own = may_still.own 0 q refl
+
+      asked_both : asks2 ≡ asked_on asks (read.made + 1 + (serving.asks_in serves.tries + serving.served_in serves.tries))
+      asked_both = serves.asked ∙ (ap (λ n. asked_on asks1 (serving.asks_in serves.tries + n)) serves.count_is
+          ∙ (ap (λ (a : Asks). asked_on a (serving.asks_in serves.tries + serving.served_in serves.tries)) read.asked.asked
+          ∙ asked_on_more asks (read.made + 1) (serving.asks_in serves.tries + serving.served_in serves.tries)))
+
+      all_counted : steps2 ≡ counted_on steps (read.made + serving.steps_in serves.tries)
+      all_counted = serves.counted ∙ (ap (λ n. counted_on n (serving.steps_in serves.tries)) read.asked.counted
+          ∙ counted_more steps read.made (serving.steps_in serves.tries))
+
+      abbrev reading_too : IsReading m planning q read_answer read.made old mid
+      reading_too = record {
+        get = get;
+        may = may_read planning q old (may_attempt planning q old t of_old allowed may);
+        answers = read.answers;
+        made_is = read.made_is;
+      }
+
+      pub both_ways : ServesOne m planning retry_short q answer old new Seen halts asks asks2 steps steps2
+      both_ways = record {
+        service = BothWays q read_answer read.made answer serves.tries;
+        of_request = refl;
+        is = (refusal, mid, reading_too, serving_is answer mid new may_still Seen halts1 asks1 asks2 steps1 steps2 serves);
+        ends = end_both read_answer read.made answer serves.tries;
+        counted = all_counted;
+        asked = asked_both;
+        let_go = λ e. subst (λ h. Seen h (asked_on asks (read.made + 1 + serving.all_asks_let m planning retry_short (q ∷ []) serves.tries mid new serves.tried))) went
+            (subst (Seen halts1) (ap (λ (a : Asks). asked_on a (serving.all_asks_let m planning retry_short (q ∷ []) serves.tries mid new serves.tried)) read.asked.asked
+            ∙ asked_on_more asks (read.made + 1) (serving.all_asks_let m planning retry_short (q ∷ []) serves.tries mid new serves.tried)) (serves.let_go e));
+        left = both_leaves m planning retry_short q old mid new same (knows_of old mid read.knows) (no_other_of q.number old mid read.no_other) read.finished
+            read.made (few_made m planning retry_short q old laws mid (limits_of mid (refl, refl)) (allowed_of mid (refl, refl)) get Seen halts halts1 asks asks1 steps steps1 read_answer read) vain
+            (refused_spared m planning q old read_answer mid away read.finished) away.untouched.reached
+            answer (serving.served_in serves.tries) (serving.served_in serves.tries) (serving.asks_in serves.tries + serving.served_in serves.tries)
+            (single_leaves m laws planning retry_short q t limits allowed mid new of_mid of_new answer Seen halts1 asks1 asks2 steps1 steps2 serves (may_still.own 0 q refl) spare
+            (λ is. record { answer = read_answer; refused = record { get = get; before = old; cut = away.cut; layout = sym same.0; requests = sym same.1; refused = away.cause }; refusal = refusal; looks = vain.looks }))
+            few_asks;
+      }
+
+-- an answer that isn't Done or Halted is a refusal
+pub refusal_of : (answer : Read) → ((reply : Reply) (stamp : ℕ) → answer ≢ reads.Done reply stamp) → (answer ≢ reads.Halted) → is_refusal answer ≡ true
+refusal_of (reads.Done reply stamp) not_done not_halted = absurd (not_done reply stamp refl)
+refusal_of reads.Halted not_done not_halted = absurd (not_halted refl)
+refusal_of (reads.Locked at) not_done not_halted = refl
+refusal_of (reads.Busy place word) not_done not_halted = refl
+refusal_of (reads.Stale place expected read) not_done not_halted = refl
+refusal_of (reads.Far loads) not_done not_halted = refl
+refusal_of (reads.Spent place word) not_done not_halted = refl
+
+-- the gate of a read that wasn't halted is as it was
+pub going_on : (answer : Read) → is_refusal answer ≡ true → not (is_halted answer) ≡ true
+going_on reads.Halted e = absurd (true≢false (sym e))
+going_on (reads.Done reply stamp) e = refl
+going_on (reads.Locked at) e = refl
+going_on (reads.Busy place word) e = refl
+going_on (reads.Stale place expected read) e = refl
+going_on (reads.Far loads) e = refl
+going_on (reads.Spent place word) e = refl

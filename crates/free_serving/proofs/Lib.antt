@@ -1,0 +1,11 @@
+mod Same
+mod Chain
+mod Light
+mod Bridge
+mod Onward
+mod Reading
+mod Single
+mod Both
+mod Along
+mod Plain
+mod Each

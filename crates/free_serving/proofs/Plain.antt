@@ -1,0 +1,59 @@
+-- What is left where each request is served under its lock.
+use Rattle.std.specs.Prelude.{Bool, false}
+use Rattle.std.proofs.Common.{ℕ, ◌+◌, List, length, refl, inl, inr, ⊎_elim}
+use Rattle.map_history.specs.declared.op.Request.{Request}
+use Rattle.runner_gate.specs.Asks.{Asks}
+use Rattle.structure_laws.specs.Meaning.{Meaning}
+use Rattle.version_words.specs.RunnerState.{RunnerState}
+use Rattle.serving.specs.attempt_bounds.specs.try_lock.specs.Planning.{Planning}
+use Rattle.serving.specs.Serving as serving
+use Rattle.serving.specs.Serving.{Try, Serves}
+use Rattle.serving.specs.declared.answers.Served.{Served}
+use Rattle.serving.specs.declared.answers.Served.TheVariants as answers
+use Rattle.free_serving.specs.Left.{HasStopped, Ends, Leaves}
+use Rattle.free_serving.proofs.Single.{runs_few}
+
+module _ {T : Type 0} (m : Meaning) (planning : Planning) (retry_short : Bool) (requests : List Request) (old new : RunnerState T) where
+  stopped_so : (answer : Served) (q : Request) (tries : List Try) → serving.HasStopped m planning retry_short answer q tries old new
+      → HasStopped m planning retry_short answer q old new
+  stopped_so answer q tries is = record {
+    before = is.before;
+    number = is.knew.number;
+    spared = λ unwaited was. ⊎_elim (λ crossed. inl (tries, crossed)) inr (is.spared unwaited was);
+    stops = is.stops;
+    tidy = is.tidy;
+    unanswered = is.unanswered;
+  }
+
+  ends_so : (answer : Served) (count : ℕ) (tries : List Try) → serving.Ends m planning retry_short requests answer count tries old new
+      → Ends m planning retry_short requests answer count old new
+  ends_so answers.All count tries is = is
+  ends_so answers.Halted count tries is = is
+  ends_so (answers.Short short) count tries is = (is.0, is.1, stopped_so (answers.Short short) is.0 tries is.2)
+  ends_so (answers.Spent place word) count tries is = (is.0, is.1, stopped_so (answers.Spent place word) is.0 tries is.2)
+
+  pub plain_leaves : (answer : Served) (Seen : ℕ → Asks → Type 0) (halts : ℕ) (asks asks' : Asks) (steps steps' : ℕ)
+      → Serves m planning retry_short requests answer old new Seen halts asks asks' steps steps'
+      → Leaves m planning retry_short false requests answer old new asks asks'
+  plain_leaves answer Seen halts asks asks' steps steps' serves = record {
+    count = serves.count;
+    served = record {
+      few = serves.served.few;
+      answered = serves.served.answered;
+      rising = serves.served.rising;
+      behind = serves.served.behind;
+    };
+    ends = ends_so answer serves.count serves.tries serves.ends;
+    knows = serves.knows;
+    others = serves.others;
+    made = serving.asks_in serves.tries + serves.count;
+    full = serves.count;
+    asked = serves.asked;
+    least = serves.least;
+    whole = inl refl;
+    brief = ⊎_elim (λ was. inl (serves.tries, was)) (λ brief. inr (record {
+      runs = runs_few answer serves.count (length old.part.records.finished) (length new.part.records.finished) brief.runs;
+      asked = brief.asked;
+    })) serves.brief;
+    read = λ free. absurd (let z = free in cc);
+  }

@@ -1,0 +1,12 @@
+//! What plans come to with one worker.
+//!
+//! The definitions stand in specs: `Lone` has when a runner is alone, and what a plan may be refused by then. `laws`
+//! has the law on a contract.
+#![tactic(auto)]
+
+mod laws;
+
+pub use laws::lone_plans_meet_nobody;
+
+// Passed on to the layers above, so that they needn't name these libraries themselves.
+pub use one_worker;

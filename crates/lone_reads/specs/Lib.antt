@@ -1,0 +1,4 @@
+pub mod Lone
+-- Passed on to the layers above, so that they needn't name these libraries themselves.
+pub use Rattle.lone_plans
+pub use Rattle.seq_read
