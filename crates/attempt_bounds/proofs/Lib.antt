@@ -1,4 +1,3 @@
-mod Alone
 mod Planned
 mod Tried
 mod Left

@@ -21,7 +21,7 @@ module _ {T : Type 0} (m : Meaning) (laws : Laws m) (planning : Planning) (plann
       → NobodyCameBetween answer
   refused_so request answer old cut lone refused = ⊎_elim
       (λ plan. subst NobodyCameBetween (sym plan.same)
-      (plan_so m laws planning steady request old cut lone plan.readings plan.refusal plan.plans plan.refusal plan.plans.answers))
+      (plan_so m laws planning steady request old cut lone plan.readings plan.refusal plan.plans plan.plans.answers))
       (⊎_elim
       (λ lock. absurd (none_refused m laws planning steady request old cut lone lock.thunk lock.refusal lock.tries))
       (λ section. subst NobodyCameBetween (sym section.same)

@@ -29,13 +29,13 @@ use Rattle.one_worker.specs.machine_invariant.specs.After.{AreAllowed}
 use Rattle.version_words.specs.RunnerState.{RunnerState}
 use Rattle.version_words.specs.Events.{Makes}
 use Rattle.version_words.specs.Stages.{IsAt}
+use Rattle.lone_plans.proofs.Alone as alone
 use Rattle.attempts.specs.try_lock.specs.Planning.{Planning}
 use Rattle.attempts.specs.try_lock.specs.declared.planned.Planned.TheVariants as plans
 use Rattle.attempts.specs.try_lock.specs.Publishes.{IsRefused}
 use Rattle.attempts.specs.lock_walks.specs.Steady.{IsSteady}
 use Rattle.attempts.specs.Course.{HasTried}
 use Rattle.attempt_bounds.specs.Lone.{IsLone}
-use Rattle.attempt_bounds.proofs.Alone as alone
 use Rattle.attempt_bounds.proofs.Planned as planned
 
 -- such an exchange meets the lock

@@ -1,10 +1,8 @@
 -- What an attempt may come to with one worker.
-use Rattle.std.specs.Prelude.{◌≡◌}
 use Rattle.map_history.specs.declared.op.Request.{Request}
-use Rattle.table_words.specs.Limits.{IsWithinLimits}
 use Rattle.structure_laws.specs.Meaning.{Meaning}
-use Rattle.one_worker.specs.machine_invariant.specs.After.{AreAllowed}
 use Rattle.version_words.specs.RunnerState.{RunnerState}
+pub use Rattle.lone_plans.specs.Lone.{IsLone}
 use Rattle.attempts.specs.try_lock.specs.Planning.{Planning}
 use Rattle.attempts.specs.Course.{IsRefused}
 use Rattle.attempts.specs.Attempts.{Answers}
@@ -17,13 +15,6 @@ NobodyCameBetween (answers.Busy place word) = ⊥
 NobodyCameBetween (answers.Stale place expected read) = ⊥
 NobodyCameBetween (answers.Far loads) = ⊥
 NobodyCameBetween _ = Unit {0}
-
-module _ {T : Type 0} where
-  -- a runner of a table with one worker
-  pub record IsLone (r : RunnerState T) : Type 0 where
-    pub limits : IsWithinLimits r.layout
-    pub allowed : AreAllowed r.requests
-    pub one : r.layout.runners ≡ 1
 
 module _ (T : Type 0) (m : Meaning) (planning : Planning) where
   -- with one worker

@@ -1,6 +1,6 @@
 -- The walk of a key makes few loads, and the section of a `get` changes nothing.
-use Rattle.std.proofs.Common.{◌≡◌, ℕ, zero, suc, ◌+◌, ◌*◌, ◌≤◌, [], ◌∷◌, length, length-append, true, false, cond, refl, sym, subst, arith}
-use Rattle.std.specs.Prelude.{◌==◌, ◌&&◌, Option}
+use Rattle.std.proofs.Common.{◌≡◌, ℕ, zero, suc, ◌≤◌, [], ◌∷◌, length, length-append, true, false, refl, sym, subst, arith}
+use Rattle.std.specs.Prelude.{◌==◌}
 use Rattle.std.specs.List.{list_all}
 use Rattle.map_history.specs.declared.op.Op.{Op}
 use Rattle.map_history.specs.declared.op.Op.TheVariants.{Get}
@@ -12,11 +12,11 @@ use Rattle.structure_laws.specs.Scene.{Readings}
 use Rattle.structure_laws.specs.Meaning.{Meaning}
 use Rattle.structure_laws.proofs.Changes.{both_true, equal_of}
 use Rattle.key_cells.specs.Steps.{cell_steps}
-use Rattle.key_cells.specs.Keyed.{Keyed, IsKeyed, cell_place, wanted, new_of, key_in, key_body, body_by, was_read, is_for, serves_key, key_fits, keyed}
+use Rattle.key_cells.specs.Keyed.{Keyed, IsKeyed, cell_place, wanted, new_of, key_in, key_body, body_by, was_read, serves_key, keyed}
 use Rattle.lock_walks.specs.try_lock.specs.Plans.{IsWalk}
 use Rattle.lock_walks.specs.Gets.{GetsAreLight}
 use Rattle.lock_walks.proofs.Brief.{brief_walk}
-use Rattle.fixed_walks.specs.Fixed.{Course, places_for, fixed_planning, Suits}
+use Rattle.fixed_walks.specs.Fixed.{Course, fixed_planning, Suits}
 use Rattle.fixed_walks.specs.Keys.{key_course}
 use Rattle.fixed_walks.specs.Walk.{fixed_way}
 use Rattle.fixed_walks.proofs.KeySuits.{key_suits}

@@ -1,6 +1,5 @@
 -- A walk over fixed places is never too far, and there are no marks.
-use Rattle.std.specs.Prelude.{true, false}
-use Rattle.std.proofs.Common.{◌≡◌, refl}
+use Rattle.std.proofs.Common.{refl}
 use Rattle.small_lemmas.proofs.Bools.{from_false as no_mark}
 use Rattle.structure_laws.specs.Meaning.{Meaning}
 use Rattle.lock_walks.specs.Steady.{IsSteady}
