@@ -1,8 +1,7 @@
 -- What the words of a closed table hold where there was one worker.
 use Rattle.std.specs.Prelude.{◌*◌, ◌%◌, ◌==◌, cond, nat_lt, slice_get, Bool, true, false}
-use Rattle.std.specs.List.{filter}
 use Rattle.std.specs.FinMap.{len}
-use Rattle.std.proofs.Common.{◌≡◌, ◌≢◌, ℕ, suc, ◌+◌, ◌<◌, ◌≤◌, List, [], ◌∷◌, length, refl, sym, ap, ◌∙◌, subst, arith, ⊎_elim, inl, Option, Some, None, get_or, eq-eqb, if◌then◌else◌}
+use Rattle.std.proofs.Common.{◌≡◌, ℕ, suc, ◌+◌, ◌<◌, ◌≤◌, List, [], ◌∷◌, length, refl, sym, ap, ◌∙◌, subst, arith, ⊎_elim, inl, Option, Some, None, get_or, eq-eqb, if◌then◌else◌}
 use Rattle.std.proofs.lemmas.Bool.{cases_lt}
 use Rattle.std.proofs.lemmas.Bool.Decides.{nat_tests}
 use Rattle.std.proofs.lemmas.Nat.{mul-le}
@@ -14,15 +13,13 @@ use Rattle.map_history.specs.Replay.{Pairs}
 use Rattle.map_history.specs.Requests.{AreInOrder}
 use Rattle.history_orders.proofs.Replays.{map-oldest_first}
 use Rattle.history_orders.specs.Turns.{Follows}
-use Rattle.map_sizes.specs.Sizes.{HaveFirstStamps, map_behind, peak, size_behind}
+use Rattle.map_sizes.specs.Sizes.{HaveFirstStamps, map_behind, peak}
 use Rattle.map_sizes.proofs.InOrder.{replayed}
 use Rattle.map_sizes.proofs.Peaks.{below_peak}
 use Rattle.body_terms.specs.Word.{version_of}
-use Rattle.table_words.specs.declared.layout.Layout.{Layout}
 use Rattle.table_words.specs.declared.spot.Spot.TheVariants.{Cell, Stamp}
 use Rattle.structure_laws.specs.Meaning.{Meaning}
-use Rattle.runner_parts.specs.declared.entries.Published.{Published}
-use Rattle.runner_parts.specs.State.{NodesState, PartState, RunState}
+use Rattle.runner_parts.specs.State.{PartState}
 use Rattle.runner_parts.specs.Tests.{has}
 use Rattle.runner_steps.specs.After.{leaves}
 use Rattle.machine_states.specs.First.{falling, keeper_part}

@@ -9,7 +9,6 @@ use Rattle.std.proofs.lemmas.Bool.{true≢false}
 use Rattle.small_lemmas.proofs.Numbers.{last_or_before, self_tested}
 use Rattle.body_terms.specs.Counted.{counted_on}
 use Rattle.settling.specs.runner_gate.specs.Asks.{Asks}
-use Rattle.settling.specs.runner_gate.specs.Counts.{plus}
 use Rattle.serving.specs.declared.answers.Served.{Served}
 use Rattle.serving.specs.declared.answers.Served.TheVariants as stops
 use Rattle.free_serving.specs.Left.{least_asks}

@@ -9,7 +9,7 @@ use Rattle.small_lemmas.proofs.Bools.{from_both as true_false}
 use Rattle.map_history.specs.declared.op.Request.{Request}
 use Rattle.table_words.specs.declared.layout.Layout.{Layout}
 use Rattle.table_words.specs.declared.spot.Spot.{Spot}
-use Rattle.table_words.specs.declared.spot.Spot.TheVariants.{Cell, Stamp, Reply, DoneWord}
+use Rattle.table_words.specs.declared.spot.Spot.TheVariants.{Cell, Stamp, DoneWord}
 use Rattle.table_words.specs.Seen.{seen}
 use Rattle.structure_laws.specs.Cells as cells
 use Rattle.structure_laws.specs.Meaning.{Meaning}
@@ -19,19 +19,18 @@ use Rattle.runner_parts.specs.State.{PartState}
 use Rattle.runner_parts.specs.Tests.{has, has_pair, is_answered}
 use Rattle.runner_steps.specs.Asks.{sizes_for}
 use Rattle.runner_steps.specs.After.{leaves}
-use Rattle.machine_states.specs.World.{World, seat_of}
 use Rattle.machine_states.specs.Sight.{Sight, sight, part_or_first}
 use Rattle.machine_states.proofs.Steps.{some_same, none_some}
-use Rattle.closed_words.specs.reached_histories.specs.Requests.{requests_of, request_at, or_none}
+use Rattle.closed_words.specs.reached_histories.specs.Requests.{requests_of, or_none}
 use Rattle.runner_parts.specs.Lists.{entry_count}
 use Rattle.closed_words.specs.machine_invariant.specs.Lengths.{ListsAreShort}
 use Rattle.settling.specs.runner_gate.specs.Asks.{Asks}
 use Rattle.settling.specs.runner_facts.specs.Own.{HasOwn, OwnStand}
 use Rattle.settling.specs.runner_facts.specs.Facts.{LimboIsDone, DescriptorsAreKept, HasWornCell, WornAreWorn, descriptors_of, published_count}
 use Rattle.serving.specs.lock_words.specs.Spent.{IsLate, IsPast, IsSpentAt, SpentStand}
-use Rattle.closed_words.specs.reached_histories.specs.Sections.{Knows, HasOpen, HasPublished}
+use Rattle.closed_words.specs.reached_histories.specs.Sections.{Knows, HasOpen}
 use Rattle.closed_words.specs.reached_histories.specs.Laws.{HasHistory}
-use Rattle.serving.specs.request_facts.specs.Laws.{CallersStand, HasEntry, IsKnown}
+use Rattle.serving.specs.request_facts.specs.Laws.{CallersStand}
 use Rattle.version_words.specs.RunnerState.{RunnerState}
 use Rattle.version_words.specs.Shown.{left_part}
 use Rattle.version_words.specs.TableState.{TableState, WordsState, IsOf, IsClosing, word_of}
@@ -41,14 +40,14 @@ use Rattle.settling.specs.epoch_slots.specs.declared.reserves.Kind.{Kind}
 use Rattle.settling.specs.epoch_slots.specs.declared.reserves.Kind.TheVariants as slots
 use Rattle.settling.specs.epoch_slots.specs.declared.reserves.Short.{Short}
 use Rattle.settling.specs.try_lock.specs.Planning.{Planning}
-use Rattle.serving.specs.attempts.specs.Attempts.{IsFew, IsShort}
+use Rattle.serving.specs.attempts.specs.Attempts.{IsFew}
 use Rattle.serving.specs.Serving.{WasHalted, StopsShort}
 use Rattle.free_serving.specs.Services.{is_get}
 use Rattle.free_serving.specs.Left.{Rises, IsBefore, IsOdd, AreAskedWholly, WasReadInVain, Leaves, Ends}
 use Rattle.serving.specs.declared.answers.Served.{Served}
 use Rattle.serving.specs.declared.answers.Served.TheVariants as answers
 use Rattle.serving.specs.resource_bounds.specs.Makes.{added}
-use Rattle.threaded_runs.specs.Runs.{stamp_of, AreEntered, AreWornOut, IsShortOf, IsCause, IsShown, HasServed}
+use Rattle.threaded_runs.specs.Runs.{stamp_of, AreEntered, AreWornOut, IsShortOf, HasServed}
 use Rattle.threaded_runs.specs.Counts.{halted}
 use Rattle.threaded_runs.proofs.Picked.{front_only}
 use Rattle.threaded_runs.proofs.Stopping.{IsKeptSpent, kept_spent}

@@ -1,6 +1,6 @@
 -- The end of a run with one worker.
 use Rattle.std.specs.Prelude.{◌*◌, Bool, slice_get, ◌==◌, not, count_by}
-use Rattle.std.proofs.Common.{◌≡◌, ◌≢◌, ℕ, ◌+◌, ◌^◌, ◌<◌, ◌≤◌, List, [], length, refl, sym, ap, ◌∙◌, subst, arith, ⊎_elim, inl, inr, true, false, Option, None, Some, get_or, ne_eqb}
+use Rattle.std.proofs.Common.{◌≡◌, ◌≢◌, ℕ, ◌+◌, ◌^◌, ◌<◌, ◌≤◌, List, length, refl, sym, ap, ◌∙◌, subst, arith, ⊎_elim, inl, inr, true, false, Option, Some, get_or, ne_eqb}
 use Rattle.std.proofs.lemmas.Nat.{mul-le}
 use Rattle.std.proofs.lemmas.Option.{slice_get-get_or, get_or_from_slice_get}
 use Rattle.map_history.specs.declared.op.Request.{Request}
@@ -14,13 +14,9 @@ use Rattle.structure_laws.specs.Meaning.{Meaning}
 use Rattle.runner_parts.specs.State.{PartState}
 use Rattle.runner_parts.specs.Tests.{has, is_answered}
 use Rattle.runner_steps.specs.After.{leaves}
-use Rattle.machine_states.specs.World.{World}
 use Rattle.machine_states.specs.First.{keeper_part}
-use Rattle.machine_states.specs.Reached.{Reached}
-use Rattle.machine_states.specs.Sight.{sight}
 use Rattle.closed_words.specs.machine_invariant.specs.After.{AreAllowed}
 use Rattle.runner_parts.specs.Lists.{entry_count}
-use Rattle.closed_words.specs.reached_histories.specs.Laws.{HasHistory}
 use Rattle.reached_facts.specs.Facts.{HasFacts}
 use Rattle.version_words.specs.RunnerState.{RunnerState}
 use Rattle.version_words.specs.Shown.{left_part}
@@ -53,7 +49,7 @@ use Rattle.threaded_runs.specs.declared.job.Finished.{Finished}
 use Rattle.threaded_runs.specs.Own.{own_requests}
 use Rattle.threaded_runs.specs.Jobs.{AllSeated, AllGiven, AllRun, AllKept, HasRun, IsSeated, asks_counted}
 use Rattle.threaded_runs.specs.Asks.{AsksAlone}
-use Rattle.threaded_runs.specs.Lone.{AreServedAlone, ServesAlone, ReachesSpent, ReadsAlone}
+use Rattle.threaded_runs.specs.Lone.{AreServedAlone, ReachesSpent, ReadsAlone}
 use Rattle.threaded_runs.proofs.Spending.{read_spent}
 use Rattle.threaded_runs.specs.Runs.{AreEntered, HasServed, served_in, stamp_of}
 use Rattle.threaded_runs.proofs.Seats.{some_of}

@@ -1,8 +1,7 @@
 -- A worker that was just made may serve the requests of its traces.
-use Rattle.std.specs.Prelude.{◌==◌, ◌%◌, Bool, true, false, map, slice_get, slice_index_or, All}
-use Rattle.std.specs.List.{filter, range_with_len}
-use Rattle.std.proofs.Common.{◌≡◌, ℕ, ◌+◌, ◌<◌, List, [], length, take, refl, sym, ap, ◌∙◌, subst, arith, Option, Some, None, option_map, eq-eqb, inr}
-use Rattle.std.proofs.lemmas.Bool.Decides.{nat_tests}
+use Rattle.std.specs.Prelude.{◌==◌, ◌%◌, Bool, true, false, map, slice_get, All}
+use Rattle.std.specs.List.{range_with_len}
+use Rattle.std.proofs.Common.{◌≡◌, ℕ, ◌<◌, List, length, sym, ap, ◌∙◌, subst, Some, None, option_map, eq-eqb, inr}
 use Rattle.std.proofs.lemmas.Option.{slice_get-map, slice_get_within, slice_get-get_or, get_or_from_slice_get}
 use Rattle.std.proofs.lemmas.List.FromFn.{get_or-range_with_len, length-range_with_len}
 use Rattle.small_lemmas.proofs.Numbers.{tested_equal as same_test, from_zero as from_none}
@@ -19,10 +18,9 @@ use Rattle.version_words.specs.Events.{next_worker}
 use Rattle.version_words.proofs.Stages.{next_is_idle}
 use Rattle.settling.specs.epoch_slots.specs.Collects.{IsTidy}
 use Rattle.settling.specs.try_lock.specs.Planning.{Planning}
-use Rattle.serving.specs.attempts.specs.Knowing.{IsOwn}
 use Rattle.serving.specs.Serving.{MayServe}
 use Rattle.threaded_runs.specs.Own.{own_requests}
-use Rattle.threaded_runs.proofs.Picked.{IsPicked, picked, kept, before, count_before}
+use Rattle.threaded_runs.proofs.Picked.{picked, kept, before, count_before}
 
 -- requests are numbered by their place
 pub numbered : (requests : List Request) → AreInOrder requests 64 → (n : ℕ) (q : Request) → slice_get requests n ≡ Some q → q.number ≡ n

@@ -1,12 +1,7 @@
 -- One more job, and one more result.
-use Rattle.std.specs.Prelude.{slice_index_or, Bool}
-use Rattle.std.proofs.Common.{◌≡◌, ◌≢◌, ℕ, suc, ◌+◌, ◌<◌, ◌≤◌, List, [], ◌∷◌, ◌++◌, length, get_or, subst, sym, ap, ◌∙◌, refl, arith, Option, None, Some}
-use Rattle.std.proofs.lemmas.List.{get_or_append_left, length-append}
-use Rattle.std.proofs.Math.Seq.{get_or-append_seam}
-use mathlib.Core.Logic.{dite}
-use native.Mathlib.Decide.{ℕ_discrete}
+use Rattle.std.specs.Prelude.{Bool}
+use Rattle.std.proofs.Common.{◌≡◌, ℕ, ◌<◌, List, [], ◌∷◌, ◌++◌, length, get_or, subst, sym, ap, ◌∙◌, refl, arith, Option, None}
 use Rattle.structure_laws.specs.Meaning.{Meaning}
-use Rattle.runner_steps.specs.After.{leaves}
 use Rattle.version_words.specs.RunnerState.{RunnerState}
 use Rattle.version_words.specs.Shown.{left_part}
 use Rattle.version_words.specs.TableState.{TableState}
@@ -16,7 +11,7 @@ use Rattle.settling.specs.runner_gate.specs.Asks.{Asks, unasked_of}
 use Rattle.serving.specs.declared.answers.Served.{Served}
 use Rattle.threaded_runs.specs.declared.job.Job.{Job}
 use Rattle.threaded_runs.specs.declared.job.Finished.{Finished}
-use Rattle.threaded_runs.specs.Jobs.{IsSeated, AllSeated, AllUnhalted, AllGiven, AreBack, IsBack, HasRun, AllRun, IsKept, AllKept, MayRun}
+use Rattle.threaded_runs.specs.Jobs.{IsSeated, AllSeated, AllUnhalted, AllGiven, AreBack, AllRun, IsKept, AllKept}
 use Rattle.settled_tables.proofs.Keeping.{keeps_part, keeps_parts}
 use Rattle.settled_tables.proofs.Working.{one_more}
 

@@ -1,6 +1,6 @@
 -- A read that a lock with too few versions left refused: the machine reaches a state in which it stands so.
 use Rattle.std.specs.Prelude.{◌-◌, ◌+◌, ◌==◌, ◌&&◌, Bool, true, false, Option, if◌then◌else◌}
-use Rattle.std.proofs.Common.{◌≡◌, ◌≢◌, ℕ, List, [], ◌∷◌, ◌++◌, refl, sym, ap, ◌∙◌, subst, Some, None}
+use Rattle.std.proofs.Common.{◌≡◌, ℕ, List, [], ◌∷◌, ◌++◌, refl, sym, ap, ◌∙◌, subst, Some, None}
 use Rattle.map_history.specs.declared.op.Request.{Request}
 use Rattle.body_terms.specs.Word.{is_free, is_spent, pack, value_of, version_of}
 use Rattle.table_words.specs.declared.access.Access.{Access}
@@ -26,7 +26,7 @@ use Rattle.settling.specs.try_lock.specs.Planning.{Planning}
 use Rattle.settling.specs.try_lock.specs.declared.planned.Planned.{Planned}
 use Rattle.settling.specs.try_lock.specs.declared.planned.Planned.TheVariants as plans
 use Rattle.settling.specs.try_lock.specs.Plans as walks
-use Rattle.free_serving.specs.seq_read.specs.Course.{of_plan, of_lock, HasPlanned, IsRefused, ByPlan, ByBody, ByCell, ByLock}
+use Rattle.free_serving.specs.seq_read.specs.Course.{of_plan, HasPlanned, IsRefused, ByPlan, ByBody, ByCell, ByLock}
 use Rattle.free_serving.specs.seq_read.specs.declared.answers.Read.TheVariants as reads
 use Rattle.threaded_runs.specs.Lone.{ReachesSpent}
 

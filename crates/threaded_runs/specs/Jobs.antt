@@ -1,5 +1,5 @@
 -- What a worker's thread is given, and what it gives back.
-use Rattle.std.specs.Prelude.{◌≡◌, ◌≢◌, ℕ, ◌<◌, Bool, List, [], ◌∷◌, length, Option, None, Some, slice_get, slice_index_or}
+use Rattle.std.specs.Prelude.{◌≡◌, ◌≢◌, ℕ, ◌<◌, Bool, List, [], ◌∷◌, length, Option, None, Some, slice_index_or}
 use Rattle.structure_laws.specs.Meaning.{Meaning}
 use Rattle.settling.specs.runner_gate.specs.Asks.{Asks, unasked_of}
 use Rattle.runner_steps.specs.After.{leaves}

@@ -1,4 +1,4 @@
-use Rattle.std.proofs.Common.{rules, ◌≡◌, ℕ, ◌+◌, ◌<◌, ◌++◌, ◌∷◌, [], length, get_or, ap, ◌∙◌, arith, vec_items}
+use Rattle.std.proofs.Common.{rules, ◌≡◌, ◌<◌, ◌++◌, ◌∷◌, [], length, get_or, ap, ◌∙◌, vec_items}
 use Rattle.std.specs.Prelude.{None}
 use Rattle.settling.specs.runner_gate.specs.Counts.{planned_after, plans_after}
 use Rattle.threaded_runs.proofs.Seats.{seated_more, unhalted_more, gates_more}

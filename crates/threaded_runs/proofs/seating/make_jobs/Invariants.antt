@@ -1,4 +1,4 @@
-use Rattle.std.proofs.Common.{◌≡◌, ℕ, [], vec_len, vec_items, take}
+use Rattle.std.proofs.Common.{◌≡◌, [], vec_len, vec_items, take}
 use Rattle.version_words.specs.TableState.{IsOf}
 use Rattle.settled_tables.specs.Keeper.{IsIdleKeeper}
 use Rattle.threaded_runs.specs.Counts.{plans_from, plans_given}

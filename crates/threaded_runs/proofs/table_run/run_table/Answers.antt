@@ -1,4 +1,4 @@
-use Rattle.std.proofs.Common.{rules, ◌≡◌, ℕ, ◌<◌, length, subst, sym, ap, ◌∙◌, arith, vec_len}
+use Rattle.std.proofs.Common.{rules, ◌≡◌, ℕ, ◌<◌, length, subst, sym, ap, ◌∙◌, vec_len}
 use Rattle.machine_states.specs.First.{keeper_part}
 use Rattle.closed_words.specs.Histories.{HaveHistory}
 use Rattle.version_words.specs.TableState.{first_keeper}
