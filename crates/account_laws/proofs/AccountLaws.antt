@@ -4,22 +4,22 @@ use Rattle.std.proofs.lemmas.Bool.{true≢false}
 use Rattle.std.specs.Prelude.{◌==◌, ◌&&◌, ◌%◌, ◌^◌, ◌⊎◌, nat_lt, Some}
 use mathlib.Core.Logic.{dite}
 use native.Mathlib.Decide.{ℕ_discrete}
-use Rattle.body_terms.specs.Update.{upd}
-use Rattle.body_terms.specs.Word.{value_of, is_free, is_spent}
-use Rattle.body_terms.specs.declared.step.Step.TheVariants.{Load, Take, Make, Store, Retire}
-use Rattle.body_terms.specs.declared.value.Init.{Init}
-use Rattle.body_terms.specs.declared.value.Value.{Value}
-use Rattle.body_terms.specs.declared.thunk.Thunk.{Thunk}
-use Rattle.table_words.specs.declared.layout.Layout.{Layout}
-use Rattle.structure_laws.specs.Scene.{Readings, Section, Free, Live, Scene}
-use Rattle.structure_laws.specs.Meaning.{Meaning}
-use Rattle.structure_laws.specs.Sections.{IsSmall, Holds}
-use Rattle.structure_laws.specs.Shape.{HasStep, Shaped}
-use Rattle.structure_laws.specs.Keeps.{Keeps}
-use Rattle.structure_laws.specs.Gives.{GivesLaw}
-use Rattle.structure_laws.specs.Laws.{IsFirst, Laws}
-use Rattle.structure_laws.proofs.Changes.{upd_same, upd_other, value_small, equal_of, both_true}
-use Rattle.structure_laws.proofs.Costs.{shaped_cost}
+use Rattle.runner_parts.specs.structure_laws.specs.body_terms.specs.Update.{upd}
+use Rattle.runner_parts.specs.structure_laws.specs.body_terms.specs.Word.{value_of, is_free, is_spent}
+use Rattle.runner_parts.specs.structure_laws.specs.body_terms.specs.declared.step.Step.TheVariants.{Load, Take, Make, Store, Retire}
+use Rattle.runner_parts.specs.structure_laws.specs.body_terms.specs.declared.value.Init.{Init}
+use Rattle.runner_parts.specs.structure_laws.specs.body_terms.specs.declared.value.Value.{Value}
+use Rattle.runner_parts.specs.structure_laws.specs.body_terms.specs.declared.thunk.Thunk.{Thunk}
+use Rattle.runner_parts.specs.structure_laws.specs.table_words.specs.declared.layout.Layout.{Layout}
+use Rattle.runner_parts.specs.structure_laws.specs.Scene.{Readings, Section, Free, Live, Scene}
+use Rattle.runner_parts.specs.structure_laws.specs.Meaning.{Meaning}
+use Rattle.runner_parts.specs.structure_laws.specs.Sections.{IsSmall, Holds}
+use Rattle.runner_parts.specs.structure_laws.specs.Shape.{HasStep, Shaped}
+use Rattle.runner_parts.specs.structure_laws.specs.Keeps.{Keeps}
+use Rattle.runner_parts.specs.structure_laws.specs.Gives.{GivesLaw}
+use Rattle.runner_parts.specs.structure_laws.specs.Laws.{IsFirst, Laws}
+use Rattle.runner_parts.specs.structure_laws.proofs.Changes.{upd_same, upd_other, value_small, equal_of, both_true}
+use Rattle.runner_parts.specs.structure_laws.proofs.Costs.{shaped_cost}
 use Rattle.shared_laws.specs.Nodeless.{NoneLive}
 use Rattle.shared_laws.proofs.Numbers.{pair_read, lt_true, lt_false, eq_true, eq_false}
 use Rattle.account_laws.specs.Accounts.{lock_of, balance_of, upper_word, lower_in, upper_in, transfer_body, money, accounts_of}

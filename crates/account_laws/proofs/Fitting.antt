@@ -1,12 +1,12 @@
 -- What a thunk that fits is, and that it fits longer readings too.
 use Rattle.std.proofs.Common.{◌≡◌, ℕ, ◌+◌, ◌<◌, true, false}
 use Rattle.std.specs.Prelude.{◌++◌, ◌==◌, ◌&&◌, not, nat_lt}
-use Rattle.body_terms.specs.Word.{value_of, is_free, is_spent}
-use Rattle.body_terms.specs.declared.thunk.Thunk.{Thunk}
-use Rattle.structure_laws.specs.Scene.{Readings}
-use Rattle.structure_laws.proofs.Changes.{equal_of, both_true}
+use Rattle.runner_parts.specs.structure_laws.specs.body_terms.specs.Word.{value_of, is_free, is_spent}
+use Rattle.runner_parts.specs.structure_laws.specs.body_terms.specs.declared.thunk.Thunk.{Thunk}
+use Rattle.runner_parts.specs.structure_laws.specs.Scene.{Readings}
+use Rattle.runner_parts.specs.structure_laws.proofs.Changes.{equal_of, both_true}
 use Rattle.runner_parts.specs.Tests.{has_pair}
-use Rattle.small_lemmas.proofs.Bools.{negated}
+use Rattle.runner_parts.specs.epoch_core.specs.small_lemmas.proofs.Bools.{negated}
 use Rattle.shared_laws.proofs.Numbers.{lt_of, lt_true, eq_true}
 use Rattle.shared_laws.proofs.Still.{any_on}
 use Rattle.account_laws.specs.Accounts.{lock_of, balance_of, wanted_lower, wanted_upper, new_lower, new_upper, upper_word, lower_in, upper_in, is_in_order, was_read, is_takeable, keeps_sum, is_transfer}

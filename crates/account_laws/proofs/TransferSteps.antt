@@ -3,14 +3,14 @@ use Rattle.std.proofs.Common.{◌≡◌, ℕ, ◌+◌, false, cond, refl, ap, in
 use Rattle.std.specs.Prelude.{◌==◌, ◌||◌, ◌⊎◌, Some, None, slice_get}
 use mathlib.Core.Logic.{dite}
 use native.Mathlib.Decide.{ℕ_discrete}
-use Rattle.body_terms.specs.Shape.{IsShaped, is_make, is_retire}
-use Rattle.body_terms.specs.Word.{value_of}
-use Rattle.body_terms.specs.declared.misshape.Misshape.TheVariants.{StoredTwice}
-use Rattle.body_terms.specs.declared.thunk.Thunk.{Thunk}
-use Rattle.body_terms.specs.declared.value.Value.{Value}
-use Rattle.body_terms.specs.declared.value.Value.TheVariants.{Const}
-use Rattle.body_terms.specs.declared.step.Step.{Step}
-use Rattle.body_terms.specs.declared.step.Step.TheVariants.{Load, Take, Store, Answer}
+use Rattle.runner_parts.specs.structure_laws.specs.body_terms.specs.Shape.{IsShaped, is_make, is_retire}
+use Rattle.runner_parts.specs.structure_laws.specs.body_terms.specs.Word.{value_of}
+use Rattle.runner_parts.specs.structure_laws.specs.body_terms.specs.declared.misshape.Misshape.TheVariants.{StoredTwice}
+use Rattle.runner_parts.specs.structure_laws.specs.body_terms.specs.declared.thunk.Thunk.{Thunk}
+use Rattle.runner_parts.specs.structure_laws.specs.body_terms.specs.declared.value.Value.{Value}
+use Rattle.runner_parts.specs.structure_laws.specs.body_terms.specs.declared.value.Value.TheVariants.{Const}
+use Rattle.runner_parts.specs.structure_laws.specs.body_terms.specs.declared.step.Step.{Step}
+use Rattle.runner_parts.specs.structure_laws.specs.body_terms.specs.declared.step.Step.TheVariants.{Load, Take, Store, Answer}
 use Rattle.shared_laws.proofs.Shaping.{shaped_by}
 use Rattle.account_laws.specs.Accounts.{lock_of, balance_of, apart, wanted_lower, new_lower, new_upper, upper_word, transfer_steps}
 

@@ -2,18 +2,18 @@
 use Rattle.std.proofs.Common.{◌≡◌, ◌≢◌, ℕ, ◌+◌, ◌*◌, ◌<◌, refl, sym, ap, ◌∙◌, ⊎_elim, arith}
 use Rattle.std.proofs.lemmas.Bool.{true≢false}
 use Rattle.std.specs.Prelude.{◌==◌, ◌&&◌, ◌%◌, nat_lt}
-use Rattle.map_history.specs.Replay.{Pairs}
-use Rattle.body_terms.specs.Shape.{IsShaped}
-use Rattle.body_terms.specs.Update.{upd}
-use Rattle.body_terms.specs.Word.{value_of}
-use Rattle.body_terms.specs.declared.value.Value.TheVariants.{Const}
-use Rattle.body_terms.specs.declared.step.Step.TheVariants.{Load, Want}
-use Rattle.body_terms.specs.declared.thunk.Thunk.{Thunk}
-use Rattle.table_words.specs.declared.layout.Layout.{Layout}
-use Rattle.structure_laws.specs.Scene.{Cells, Readings, Section, Scene}
-use Rattle.structure_laws.specs.Sections.{IsStep}
-use Rattle.structure_laws.specs.InTurn.{StandsFor, AtStamp, AfterStores, InTurn}
-use Rattle.structure_laws.proofs.Changes.{upd_other, value-next_word, value_small}
+use Rattle.runner_parts.specs.structure_laws.specs.map_history.specs.Replay.{Pairs}
+use Rattle.runner_parts.specs.structure_laws.specs.body_terms.specs.Shape.{IsShaped}
+use Rattle.runner_parts.specs.structure_laws.specs.body_terms.specs.Update.{upd}
+use Rattle.runner_parts.specs.structure_laws.specs.body_terms.specs.Word.{value_of}
+use Rattle.runner_parts.specs.structure_laws.specs.body_terms.specs.declared.value.Value.TheVariants.{Const}
+use Rattle.runner_parts.specs.structure_laws.specs.body_terms.specs.declared.step.Step.TheVariants.{Load, Want}
+use Rattle.runner_parts.specs.structure_laws.specs.body_terms.specs.declared.thunk.Thunk.{Thunk}
+use Rattle.runner_parts.specs.structure_laws.specs.table_words.specs.declared.layout.Layout.{Layout}
+use Rattle.runner_parts.specs.structure_laws.specs.Scene.{Cells, Readings, Section, Scene}
+use Rattle.runner_parts.specs.structure_laws.specs.Sections.{IsStep}
+use Rattle.runner_parts.specs.structure_laws.specs.InTurn.{StandsFor, AtStamp, AfterStores, InTurn}
+use Rattle.runner_parts.specs.structure_laws.proofs.Changes.{upd_other, value-next_word, value_small}
 use Rattle.shared_laws.proofs.AtStamp.{wanted_now}
 use Rattle.shared_laws.proofs.Numbers.{eq_false}
 use Rattle.account_laws.specs.Accounts.{balance_of, wanted_lower, wanted_upper, new_lower, new_upper, lower_in, upper_in, transfer_body, money, accounts_of}

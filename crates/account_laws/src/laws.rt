@@ -1,6 +1,6 @@
 //! Accounts meet the laws of a structure.
 ghost use Rattle.std.specs.Prelude.{◌*◌, ◌<◌, ◌≤◌, ◌^◌};
-ghost use Rattle.structure_laws.specs.Laws.{Laws};
+ghost use Rattle.runner_parts.specs.structure_laws.specs.Laws.{Laws};
 ghost use Rattle.account_laws.specs.Accounts.{accounts_of};
 
 /// So many accounts, each of which has so much at first, meet every law: their first memory, the shape of a transfer,

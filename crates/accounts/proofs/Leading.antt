@@ -2,17 +2,17 @@
 use Rattle.std.proofs.Common.{◌≡◌, ℕ, ◌+◌, ◌*◌, ◌<◌, [], ◌∷◌, Bool, true, false, cond, refl, sym, ap, subst, ◌∙◌, arith, Option, Some, None}
 use Rattle.std.specs.Prelude.{◌&&◌, ◌||◌, not, ◌-◌, ◌/◌, nat_lt, is_some, if◌then◌else◌}
 use Rattle.std.proofs.lemmas.Option.{none-some}
-use Rattle.small_lemmas.proofs.Lists.{same_number as some_eq}
-use Rattle.small_lemmas.proofs.Bools.{negated}
-use Rattle.map_history.specs.declared.op.Op.{Op}
-use Rattle.body_terms.specs.Word.{value_of, is_free, is_spent}
-use Rattle.body_terms.specs.declared.thunk.Thunk.{Thunk}
-use Rattle.table_words.specs.declared.layout.Layout.{Layout}
-use Rattle.structure_laws.specs.Scene.{Readings}
-use Rattle.structure_laws.specs.Meaning.{Meaning}
-use Rattle.structure_laws.specs.Cells.{slots}
-use Rattle.structure_laws.proofs.Changes.{both_true, value_small}
-use Rattle.runner_parts.specs.Tests.{has_pair, is_readable}
+use Rattle.agreement_core.specs.section_lines.specs.small_lemmas.proofs.Lists.{same_number as some_eq}
+use Rattle.agreement_core.specs.section_lines.specs.small_lemmas.proofs.Bools.{negated}
+use Rattle.agreement_core.specs.map_history.specs.declared.op.Op.{Op}
+use Rattle.agreement_core.specs.body_terms.specs.Word.{value_of, is_free, is_spent}
+use Rattle.agreement_core.specs.body_terms.specs.declared.thunk.Thunk.{Thunk}
+use Rattle.agreement_core.specs.table_words.specs.declared.layout.Layout.{Layout}
+use Rattle.agreement_core.specs.section_lines.specs.structure_laws.specs.Scene.{Readings}
+use Rattle.agreement_core.specs.section_lines.specs.structure_laws.specs.Meaning.{Meaning}
+use Rattle.agreement_core.specs.section_lines.specs.structure_laws.specs.Cells.{slots}
+use Rattle.agreement_core.specs.section_lines.specs.structure_laws.proofs.Changes.{both_true, value_small}
+use Rattle.runner_steps.specs.runner_parts.specs.Tests.{has_pair, is_readable}
 use Rattle.account_laws.specs.shared_laws.proofs.Numbers.{lt_true, read_pair}
 use Rattle.account_laws.specs.Accounts.{lock_of, balance_of, lower_in, upper_in, accounts_of}
 use Rattle.account_laws.proofs.Places.{lock_there, balance_there}

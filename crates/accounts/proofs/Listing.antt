@@ -5,9 +5,9 @@ use Rattle.std.proofs.lemmas.List.{length-append}
 use Rattle.std.proofs.lemmas.List.Sums.{sum_by_push}
 use mathlib.Core.Logic.{dite}
 use native.Mathlib.Decide.{ℕ_discrete}
-use Rattle.structure_laws.specs.Meaning.{Meaning}
+use Rattle.agreement_core.specs.section_lines.specs.structure_laws.specs.Meaning.{Meaning}
 use Rattle.account_laws.specs.Money.{total}
-use Rattle.version_words.specs.TableState.{WordsState}
+use Rattle.closed_words.specs.version_words.specs.TableState.{WordsState}
 use Rattle.accounts.specs.Balances.{balance_in, AreBalances}
 
 index_first : (xs : List ℕ) (x i : ℕ) → i < length xs → slice_index (xs ++ x ∷ []) i ≡ slice_index xs i

@@ -2,18 +2,18 @@
 use Rattle.std.proofs.Common.{◌≡◌, ◌≢◌, ℕ, ◌+◌, ◌<◌, [], ◌∷◌, List, Bool, true, false, cond, refl, sym, ap, ◌∙◌, arith, None, Some}
 use Rattle.std.specs.Prelude.{◌-◌, ◌^◌, nat_lt, is_some}
 use Rattle.std.proofs.lemmas.Option.{none-some}
-use Rattle.small_lemmas.proofs.Lists.{same_number as some_eq}
-use Rattle.map_history.specs.declared.op.Op.{Op}
-use Rattle.body_terms.specs.Line.{line, micro_at}
-use Rattle.body_terms.specs.Word.{value_of, next_word}
-use Rattle.body_terms.specs.declared.thunk.Thunk.{Thunk}
-use Rattle.table_words.specs.declared.layout.Layout.{Layout}
-use Rattle.structure_laws.specs.Scene.{Readings}
-use Rattle.structure_laws.specs.Meaning.{Meaning}
-use Rattle.structure_laws.proofs.Changes.{value_small}
-use Rattle.structure_laws.proofs.Limits.{value-small}
+use Rattle.agreement_core.specs.section_lines.specs.small_lemmas.proofs.Lists.{same_number as some_eq}
+use Rattle.agreement_core.specs.map_history.specs.declared.op.Op.{Op}
+use Rattle.agreement_core.specs.body_terms.specs.Line.{line, micro_at}
+use Rattle.agreement_core.specs.body_terms.specs.Word.{value_of, next_word}
+use Rattle.agreement_core.specs.body_terms.specs.declared.thunk.Thunk.{Thunk}
+use Rattle.agreement_core.specs.table_words.specs.declared.layout.Layout.{Layout}
+use Rattle.agreement_core.specs.section_lines.specs.structure_laws.specs.Scene.{Readings}
+use Rattle.agreement_core.specs.section_lines.specs.structure_laws.specs.Meaning.{Meaning}
+use Rattle.agreement_core.specs.section_lines.specs.structure_laws.proofs.Changes.{value_small}
+use Rattle.agreement_core.specs.section_lines.specs.structure_laws.proofs.Limits.{value-small}
 use Rattle.agreement_core.specs.History.{Change, change_of}
-use Rattle.runner_parts.specs.Tests.{has_pair}
+use Rattle.runner_steps.specs.runner_parts.specs.Tests.{has_pair}
 use Rattle.runner_steps.specs.Sections.{reply_in}
 use Rattle.account_laws.specs.shared_laws.proofs.Numbers.{lt_true, read_pair}
 use Rattle.account_laws.specs.Accounts.{lock_of, balance_of, apart, lower_in, upper_in, new_lower, new_upper, accounts_of, transfer_steps, transfer_body}

@@ -1,9 +1,9 @@
 -- The accounts of a transfer, and that two balances have together after it what they had before.
 use Rattle.std.proofs.Common.{◌≡◌, ◌≢◌, ℕ, ◌+◌, ◌<◌, Bool, true, false, cond, refl, arith}
 use Rattle.std.specs.Prelude.{◌-◌, ◌^◌, nat_lt}
-use Rattle.body_terms.specs.Word.{value_of}
-use Rattle.small_lemmas.proofs.Numbers.{tested_not_less, tested_less as lt_of}
-use Rattle.structure_laws.proofs.Limits.{value-small}
+use Rattle.agreement_core.specs.body_terms.specs.Word.{value_of}
+use Rattle.agreement_core.specs.section_lines.specs.small_lemmas.proofs.Numbers.{tested_not_less, tested_less as lt_of}
+use Rattle.agreement_core.specs.section_lines.specs.structure_laws.proofs.Limits.{value-small}
 use Rattle.accounts.specs.Moves.{lower_of, upper_of, moved, lower_after, upper_after}
 use Rattle.accounts.specs.declared.transfer.Transfer.{Transfer}
 

@@ -3,11 +3,11 @@ use Rattle.std.proofs.Common.{◌≡◌, ℕ, true, sym, ◌∙◌, inl, inr, �
 use Rattle.std.specs.Prelude.{◌⊎◌, Some, slice_get}
 use mathlib.Core.Logic.{dite}
 use native.Mathlib.Decide.{ℕ_discrete}
-use Rattle.body_terms.specs.declared.step.Step.TheVariants.{Want}
-use Rattle.body_terms.specs.declared.thunk.Thunk.{Thunk}
-use Rattle.structure_laws.specs.Scene.{Readings}
-use Rattle.structure_laws.proofs.Pairs.{pair_read}
-use Rattle.runner_parts.specs.Tests.{has_pair}
+use Rattle.agreement_core.specs.body_terms.specs.declared.step.Step.TheVariants.{Want}
+use Rattle.agreement_core.specs.body_terms.specs.declared.thunk.Thunk.{Thunk}
+use Rattle.agreement_core.specs.section_lines.specs.structure_laws.specs.Scene.{Readings}
+use Rattle.agreement_core.specs.section_lines.specs.structure_laws.proofs.Pairs.{pair_read}
+use Rattle.runner_steps.specs.runner_parts.specs.Tests.{has_pair}
 use Rattle.account_laws.specs.Accounts.{wanted_lower, wanted_upper, lower_in, upper_in, accounts_of}
 use Rattle.account_laws.proofs.Fitting.{Fit, fit_of}
 use Rattle.account_laws.proofs.TransferSteps.{TransferIs, load_at}

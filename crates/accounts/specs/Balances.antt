@@ -1,9 +1,9 @@
 -- The balances in the words of a closed table.
 use Rattle.std.specs.Prelude.{◌≡◌, ℕ, ◌<◌, List, length, slice_index}
-use Rattle.body_terms.specs.Word.{value_of}
-use Rattle.table_words.specs.declared.spot.Spot.TheVariants.{Cell}
-use Rattle.structure_laws.specs.Meaning.{Meaning}
-use Rattle.version_words.specs.TableState.{WordsState, word_of}
+use Rattle.agreement_core.specs.body_terms.specs.Word.{value_of}
+use Rattle.agreement_core.specs.table_words.specs.declared.spot.Spot.TheVariants.{Cell}
+use Rattle.agreement_core.specs.section_lines.specs.structure_laws.specs.Meaning.{Meaning}
+use Rattle.closed_words.specs.version_words.specs.TableState.{WordsState, word_of}
 use Rattle.account_laws.specs.Accounts.{balance_of}
 
 module _ {T : Type 0} (m : Meaning) (w : WordsState T) where

@@ -4,6 +4,3 @@ pub mod Made
 pub mod Balances
 -- Passed on to the layers above, so that they needn't name these libraries themselves.
 pub use Rattle.account_laws
-pub use Rattle.closed_words
-pub use Rattle.lock_walks.specs.try_lock
-pub use Rattle.lock_walks

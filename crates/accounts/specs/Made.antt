@@ -1,15 +1,15 @@
 -- What the section of a transfer does to the two balances.
 use Rattle.std.specs.Prelude.{◌≡◌, ◌≢◌, ℕ, ◌+◌, ◌-◌, true, List, [], ◌∷◌, None}
-use Rattle.map_history.specs.declared.op.Op.{Op}
-use Rattle.body_terms.specs.Line.{line, micro_at}
-use Rattle.body_terms.specs.Word.{value_of, next_word}
-use Rattle.body_terms.specs.declared.micro.Micro.TheVariants.{CheckWord}
-use Rattle.body_terms.specs.declared.step.Step.{Step}
-use Rattle.table_words.specs.declared.layout.Layout.{Layout}
-use Rattle.structure_laws.specs.Scene.{Readings}
-use Rattle.structure_laws.specs.Meaning.{Meaning}
+use Rattle.agreement_core.specs.map_history.specs.declared.op.Op.{Op}
+use Rattle.agreement_core.specs.body_terms.specs.Line.{line, micro_at}
+use Rattle.agreement_core.specs.body_terms.specs.Word.{value_of, next_word}
+use Rattle.agreement_core.specs.body_terms.specs.declared.micro.Micro.TheVariants.{CheckWord}
+use Rattle.agreement_core.specs.body_terms.specs.declared.step.Step.{Step}
+use Rattle.agreement_core.specs.table_words.specs.declared.layout.Layout.{Layout}
+use Rattle.agreement_core.specs.section_lines.specs.structure_laws.specs.Scene.{Readings}
+use Rattle.agreement_core.specs.section_lines.specs.structure_laws.specs.Meaning.{Meaning}
 use Rattle.agreement_core.specs.History.{Change, change_of}
-use Rattle.runner_parts.specs.Tests.{has_pair}
+use Rattle.runner_steps.specs.runner_parts.specs.Tests.{has_pair}
 use Rattle.runner_steps.specs.Sections.{reply_in}
 use Rattle.account_laws.specs.Accounts.{balance_of}
 use Rattle.lock_walks.specs.try_lock.specs.Plans.{IsWalk, NoneRefuses}

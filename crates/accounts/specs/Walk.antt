@@ -1,9 +1,9 @@
 -- The walk of a transfer: which words it loads, how it goes on by them, and the thunk at its end.
 use Rattle.std.specs.Prelude.{ℕ, ◌&&◌, Bool, true, false, not, cond, [], ◌∷◌, Option, None, Some}
-use Rattle.map_history.specs.declared.op.Op.{Op}
-use Rattle.body_terms.specs.Word.{value_of, is_free, is_spent}
-use Rattle.body_terms.specs.declared.thunk.Thunk.{Thunk}
-use Rattle.structure_laws.specs.Scene.{Readings}
+use Rattle.agreement_core.specs.map_history.specs.declared.op.Op.{Op}
+use Rattle.agreement_core.specs.body_terms.specs.Word.{value_of, is_free, is_spent}
+use Rattle.agreement_core.specs.body_terms.specs.declared.thunk.Thunk.{Thunk}
+use Rattle.agreement_core.specs.section_lines.specs.structure_laws.specs.Scene.{Readings}
 use Rattle.account_laws.specs.Accounts.{lock_of, balance_of}
 use Rattle.lock_walks.specs.try_lock.specs.Planning.{Planning}
 use Rattle.lock_walks.specs.Way.{Way}

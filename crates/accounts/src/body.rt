@@ -3,7 +3,7 @@ ghost use Rattle.std.specs.Prelude.{◌≡◌, ◌*◌, ◌≤◌, ◌<◌, ◌+
 ghost use Rattle.account_laws.specs.Accounts.{lock_of, balance_of, apart, account_in, transfer_body};
 
 use account_laws::shared_laws::{answer, load, store, want};
-use body_terms::{Body, Place, Step, Thunk, Word};
+use runner_steps::body_terms::{Body, Place, Step, Thunk, Word};
 
 /// The account that an operand names, where it is one of so many; else the first.
 pub fn account_in(accounts: u32, thunk: &Thunk, operand: usize) -> u32

@@ -7,8 +7,8 @@ ghost use Rattle.accounts.specs.Balances.{balance_in, AreBalances};
 use crate::body::balance_of;
 use crate::table::Accounts;
 use closed_words::closed_words_have_a_history;
+use closed_words::version_words::Words;
 use std::alloc::{AllocError, Global};
-use version_words::Words;
 
 /// The balances of all accounts, in order of number. The Err is want of memory.
 ///

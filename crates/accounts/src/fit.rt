@@ -1,10 +1,10 @@
 //! Which thunk fits what was read.
 ghost use Rattle.std.specs.Prelude.{◌≡◌, ◌*◌, ◌≤◌};
-ghost use Rattle.runner_parts.specs.Tests.{has_pair};
+ghost use Rattle.runner_steps.specs.runner_parts.specs.Tests.{has_pair};
 ghost use Rattle.account_laws.specs.Accounts.{is_in_order, was_read, is_takeable, keeps_sum, is_transfer};
 
 use crate::body::{account_in, balance_of, lock_of};
-use body_terms::{Place, Thunk, Word};
+use runner_steps::body_terms::{Place, Thunk, Word};
 
 /// Whether this word was read in this place.
 fn has_pair(readings: &[(Place, Word)], place: Place, word: Word) -> bool

@@ -15,8 +15,3 @@ pub use closing::balances;
 pub use table::Accounts;
 pub use transfer::Transfer;
 pub use walk::{Found, TransferWalk};
-
-// Passed on to the layers above, so that they needn't name these libraries themselves.
-pub use account_laws;
-pub use closed_words;
-pub use lock_walks;

@@ -5,10 +5,10 @@ ghost use Rattle.account_laws.proofs.AccountLaws.{account_laws};
 
 use crate::body::fill_body;
 use crate::fit::is_transfer;
-use body_terms::{Body, Place, Thunk, Word};
-use map_history::Op;
-use structure_laws::Structure;
-use table_words::Layout;
+use agreement_core::section_lines::structure_laws::Structure;
+use runner_steps::body_terms::{Body, Place, Thunk, Word};
+use runner_steps::map_history::Op;
+use runner_steps::table_words::Layout;
 
 /// So many accounts, each with a lock and a balance, which is the same for all of them at first.
 ///

@@ -9,10 +9,10 @@ ghost use Rattle.accounts.specs.Made.{Makes};
 use crate::body::lock_of;
 use crate::table::Accounts;
 use crate::transfer::Transfer;
-use body_terms::{Place, Thunk, Word};
 use lock_walks::Walker;
-use map_history::Op;
-use table_words::Layout;
+use runner_steps::body_terms::{Place, Thunk, Word};
+use runner_steps::map_history::Op;
+use runner_steps::table_words::Layout;
 
 /// The words that a walk has found: the lower account's balance, the upper one's, and then the upper account's lock and
 /// the lower one's.

@@ -2,12 +2,12 @@
 use Rattle.std.proofs.Common.{◌≡◌, ℕ, zero, suc, ◌<◌, ◌≤◌, true, false, List, [], ◌∷◌, length, take, drop, refl, sym, ap, ◌∙◌, arith, Some, None}
 use Rattle.std.proofs.Math.Seq.{take-suc}
 use Rattle.std.proofs.lemmas.List.{take-append-drop}
-use Rattle.body_terms.specs.Line.{is_check, micro_at}
-use Rattle.body_terms.specs.Run.{Setting, Run, leaves, ran, acted, unless_over}
-use Rattle.body_terms.specs.declared.outcome.Outcome.TheVariants.{Answered}
-use Rattle.body_terms.specs.declared.micro.Micro.{Micro}
-use Rattle.body_terms.specs.declared.micro.Micro.TheVariants as micros
-use Rattle.body_terms.proofs.RunLemmas.{ran-append, ran_over}
+use Rattle.section_lines.specs.structure_laws.specs.body_terms.specs.Line.{is_check, micro_at}
+use Rattle.section_lines.specs.structure_laws.specs.body_terms.specs.Run.{Setting, Run, leaves, ran, acted, unless_over}
+use Rattle.section_lines.specs.structure_laws.specs.body_terms.specs.declared.outcome.Outcome.TheVariants.{Answered}
+use Rattle.section_lines.specs.structure_laws.specs.body_terms.specs.declared.micro.Micro.{Micro}
+use Rattle.section_lines.specs.structure_laws.specs.body_terms.specs.declared.micro.Micro.TheVariants as micros
+use Rattle.section_lines.specs.structure_laws.specs.body_terms.proofs.RunLemmas.{ran-append, ran_over}
 use Rattle.section_lines.specs.Runs.{agreed, Follows}
 use Rattle.agreement_core.specs.Checks.{is_reply_exchange}
 use Rattle.agreement_core.proofs.Frame.{not_both}

@@ -1,7 +1,7 @@
 -- Each event leaves every published section as it is, but for one more word, one more place, or the done word.
 use Rattle.std.proofs.Common.{◌<◌, ◌≤◌, ◌≡◌, ◌≢◌, ℕ, suc, false, refl, sym, ap, ◌∙◌, subst, arith}
-use Rattle.body_terms.specs.Update.{upd}
-use Rattle.body_terms.specs.Run.{written_once}
+use Rattle.section_lines.specs.structure_laws.specs.body_terms.specs.Update.{upd}
+use Rattle.section_lines.specs.structure_laws.specs.body_terms.specs.Run.{written_once}
 use Rattle.agreement_core.specs.State.{CellRules, Section, Finished, AgreementState, section_of}
 use Rattle.agreement_core.specs.Update.{upd2}
 use Rattle.agreement_core.specs.Checks.{came}

@@ -2,10 +2,10 @@
 use Rattle.std.proofs.Common.{◌≡◌, ◌≢◌, ℕ, ◌≤◌, Bool, true, false, refl, sym, ap, ◌∙◌, subst, inl, ⊎_elim, arith}
 use Rattle.std.proofs.lemmas.Bool.{cases_lt, cases_eq}
 use mathlib.Core.Path.{fun_ext}
-use Rattle.body_terms.specs.Update.{upd}
-use Rattle.body_terms.specs.Run.{written_once}
-use Rattle.body_terms.specs.Line.{is_check, is_end}
-use Rattle.body_terms.specs.declared.micro.Micro.{Micro}
+use Rattle.section_lines.specs.structure_laws.specs.body_terms.specs.Update.{upd}
+use Rattle.section_lines.specs.structure_laws.specs.body_terms.specs.Run.{written_once}
+use Rattle.section_lines.specs.structure_laws.specs.body_terms.specs.Line.{is_check, is_end}
+use Rattle.section_lines.specs.structure_laws.specs.body_terms.specs.declared.micro.Micro.{Micro}
 use Rattle.agreement_core.specs.State.{CellRules, Shared, Section, Run, AgreementState}
 use Rattle.agreement_core.specs.Checks.{passes, is_stop}
 use Rattle.agreement_core.specs.Events.{Enabled, after, begun}

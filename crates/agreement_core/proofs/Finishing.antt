@@ -1,10 +1,10 @@
 -- A run is over, and its record is kept.
 use Rattle.std.proofs.Common.{Bool, ◌≡◌, ◌≢◌, ℕ, suc, ◌<◌, true, false, refl, sym, ap, ◌∙◌, subst, inl, inr, ⊎_elim, arith}
 use Rattle.std.proofs.lemmas.Bool.{cases_lt, cases_eq}
-use Rattle.body_terms.specs.Update.{upd}
-use Rattle.body_terms.specs.Line.{is_event}
-use Rattle.body_terms.specs.Word.{value_of, version_of, held_word}
-use Rattle.body_terms.specs.declared.micro.Micro.TheVariants as micros
+use Rattle.section_lines.specs.structure_laws.specs.body_terms.specs.Update.{upd}
+use Rattle.section_lines.specs.structure_laws.specs.body_terms.specs.Line.{is_event}
+use Rattle.section_lines.specs.structure_laws.specs.body_terms.specs.Word.{value_of, version_of, held_word}
+use Rattle.section_lines.specs.structure_laws.specs.body_terms.specs.declared.micro.Micro.TheVariants as micros
 use Rattle.agreement_core.specs.Update.{upd2}
 use Rattle.agreement_core.specs.State.{CellRules, Section, Run, Finished, AgreementState}
 use Rattle.agreement_core.specs.Checks.{passes, is_stop}

@@ -1,9 +1,9 @@
 -- The runs of a section when its first run goes on, and a run's own step.
 use Rattle.std.proofs.Common.{◌≡◌, ℕ, suc, ◌<◌, ◌≤◌, Bool, true, false, refl, sym, ap, ◌∙◌, subst, ⊎_elim, arith}
-use Rattle.body_terms.specs.Update.{upd}
-use Rattle.body_terms.specs.Line.{is_commit}
-use Rattle.body_terms.specs.declared.micro.Micro.{Micro}
-use Rattle.body_terms.specs.declared.micro.Micro.TheVariants as micros
+use Rattle.section_lines.specs.structure_laws.specs.body_terms.specs.Update.{upd}
+use Rattle.section_lines.specs.structure_laws.specs.body_terms.specs.Line.{is_commit}
+use Rattle.section_lines.specs.structure_laws.specs.body_terms.specs.declared.micro.Micro.{Micro}
+use Rattle.section_lines.specs.structure_laws.specs.body_terms.specs.declared.micro.Micro.TheVariants as micros
 use Rattle.section_lines.specs.Line.{is_clock_raise}
 use Rattle.agreement_core.specs.State.{CellRules, Shared, Section, Run}
 use Rattle.agreement_core.specs.Checks.{is_stamp_exchange}

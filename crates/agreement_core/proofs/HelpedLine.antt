@@ -1,9 +1,9 @@
 -- The example's line is a line.
 use Rattle.std.proofs.Common.{◌≡◌, ◌≢◌, ℕ, suc, ◌≤◌, cond, refl, sym, ◌∙◌, subst, lit<, arith}
 use Rattle.std.specs.Prelude.{◌==◌, nat_lt}
-use Rattle.body_terms.specs.declared.micro.Source.{Source}
-use Rattle.body_terms.specs.declared.micro.Source.TheVariants.{Fixed, Agreed}
-use Rattle.body_terms.specs.declared.micro.Micro.TheVariants as micros
+use Rattle.section_lines.specs.structure_laws.specs.body_terms.specs.declared.micro.Source.{Source}
+use Rattle.section_lines.specs.structure_laws.specs.body_terms.specs.declared.micro.Source.TheVariants.{Fixed, Agreed}
+use Rattle.section_lines.specs.structure_laws.specs.body_terms.specs.declared.micro.Micro.TheVariants as micros
 use Rattle.section_lines.specs.Line.{phase, IsInPhases, IsCounted, IsOrdered, IsResolved, IsPlaced, IsStamped, IsLine, IsWholeLine}
 use Rattle.agreement_core.specs.Helped.{few, code, slot}
 

@@ -1,8 +1,8 @@
 -- The example's events may come, each by computation.
 use Rattle.std.proofs.Common.{◌≡◌, ◌≢◌, ℕ, List, [], ◌∷◌, ◌++◌, true, false, refl, ap, ◌∙◌, subst, inl, ⊎_elim, lit<, lit≤, arith}
 use Rattle.std.proofs.lemmas.Bool.{cases_eq}
-use Rattle.body_terms.specs.Update.{upd}
-use Rattle.body_terms.specs.Word.{pack}
+use Rattle.section_lines.specs.structure_laws.specs.body_terms.specs.Update.{upd}
+use Rattle.section_lines.specs.structure_laws.specs.body_terms.specs.Word.{pack}
 use Rattle.agreement_core.specs.State.{AgreementState, Run}
 use Rattle.agreement_core.proofs.Frame.{not_both}
 use Rattle.agreement_core.proofs.Committing.{upd_else}

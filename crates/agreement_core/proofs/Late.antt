@@ -3,12 +3,12 @@ use Rattle.std.proofs.Common.{◌≡◌, ℕ, suc, ◌/◌, ◌<◌, ◌≤◌, 
 use Rattle.std.proofs.lemmas.Bool.{cases_eq}
 use Rattle.std.specs.Prelude.{max, ◌⊎◌}
 use mathlib.Core.Path.{fun_ext}
-use Rattle.small_lemmas.proofs.Lists.{same_number as same_runner}
-use Rattle.body_terms.specs.Update.{upd}
-use Rattle.body_terms.specs.Run.{written_once}
-use Rattle.body_terms.specs.Line.{is_commit}
-use Rattle.body_terms.specs.Word.{value_of, held_word}
-use Rattle.body_terms.specs.declared.micro.Source.{Source}
+use Rattle.section_lines.specs.small_lemmas.proofs.Lists.{same_number as same_runner}
+use Rattle.section_lines.specs.structure_laws.specs.body_terms.specs.Update.{upd}
+use Rattle.section_lines.specs.structure_laws.specs.body_terms.specs.Run.{written_once}
+use Rattle.section_lines.specs.structure_laws.specs.body_terms.specs.Line.{is_commit}
+use Rattle.section_lines.specs.structure_laws.specs.body_terms.specs.Word.{value_of, held_word}
+use Rattle.section_lines.specs.structure_laws.specs.body_terms.specs.declared.micro.Source.{Source}
 use Rattle.section_lines.specs.Line.{is_clock_raise}
 use Rattle.agreement_core.specs.State.{CellRules, Section, Run, AgreementState, section_of}
 use Rattle.agreement_core.specs.Checks.{came, exchanged, is_stamp_exchange, is_reply_exchange}

@@ -1,13 +1,13 @@
 -- What follows from the facts of a line.
 use Rattle.std.proofs.Common.{◌≡◌, ◌≢◌, ℕ, zero, suc, ◌<◌, Bool, true, false, refl, sym, ap, ◌∙◌, subst, ⊎_elim, arith}
 use Rattle.std.proofs.lemmas.Bool.{cases_lt}
-use Rattle.body_terms.specs.Line.{is_commit, is_event}
+use Rattle.section_lines.specs.structure_laws.specs.body_terms.specs.Line.{is_commit, is_event}
 use Rattle.std.specs.Prelude.{◌==◌, ◌&&◌, ◌||◌, ◌^◌, not}
-use Rattle.body_terms.specs.Word.{is_free, is_spent, held_word, next_word, version_of, value_of}
-use Rattle.body_terms.specs.declared.micro.Source.{Source}
-use Rattle.body_terms.specs.declared.micro.Source.TheVariants.{Fixed, Agreed}
-use Rattle.body_terms.specs.declared.micro.Micro.{Micro}
-use Rattle.body_terms.specs.declared.micro.Micro.TheVariants as micros
+use Rattle.section_lines.specs.structure_laws.specs.body_terms.specs.Word.{is_free, is_spent, held_word, next_word, version_of, value_of}
+use Rattle.section_lines.specs.structure_laws.specs.body_terms.specs.declared.micro.Source.{Source}
+use Rattle.section_lines.specs.structure_laws.specs.body_terms.specs.declared.micro.Source.TheVariants.{Fixed, Agreed}
+use Rattle.section_lines.specs.structure_laws.specs.body_terms.specs.declared.micro.Micro.{Micro}
+use Rattle.section_lines.specs.structure_laws.specs.body_terms.specs.declared.micro.Micro.TheVariants as micros
 use Rattle.section_lines.specs.Line.{phase, IsLine, IsWholeLine, is_clock_raise}
 use Rattle.agreement_core.specs.State.{CellRules}
 use Rattle.agreement_core.specs.Checks.{passes, is_stop, source_in, stored_word, is_stamp_exchange}

@@ -2,8 +2,8 @@
 use Rattle.std.proofs.Common.{◌≡◌, ◌≢◌, ℕ, suc, ◌<◌, ◌≤◌, Bool, true, refl, sym, ap, ◌∙◌, subst, ⊎_elim}
 use Rattle.std.proofs.lemmas.Bool.{cases_eq}
 use Rattle.std.specs.Prelude.{◌⊎◌}
-use Rattle.body_terms.specs.Update.{upd}
-use Rattle.body_terms.specs.Word.{value_of}
+use Rattle.section_lines.specs.structure_laws.specs.body_terms.specs.Update.{upd}
+use Rattle.section_lines.specs.structure_laws.specs.body_terms.specs.Word.{value_of}
 use Rattle.agreement_core.specs.State.{CellRules, Shared, Section, Run, Finished, AgreementState, section_of, IsOpen}
 use Rattle.agreement_core.specs.Events.{HasCome, IsAlone}
 use Rattle.agreement_core.specs.Sections.{SectionIsSound}

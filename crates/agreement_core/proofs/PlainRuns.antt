@@ -1,19 +1,19 @@
 -- A section's log is what the plain run of its body agrees on.
 use Rattle.std.proofs.Common.{◌≤◌, ◌≡◌, ◌≢◌, ℕ, zero, suc, ◌-◌, ◌<◌, Bool, true, false, cond, List, length, refl, sym, ap, ◌∙◌, subst, ⊎_elim, arith, Some, None, Option}
 use Rattle.std.specs.Prelude.{◌==◌, ◌&&◌, not, slice_index}
-use Rattle.small_lemmas.proofs.Bools.{negated as not_true}
-use Rattle.body_terms.specs.Line.{line, micro_at, committed, is_check, is_commit}
-use Rattle.body_terms.specs.Word.{version_of, is_free, is_spent, held_word}
-use Rattle.body_terms.specs.Run.{Setting, Run, ran, leaves, refusal}
-use Rattle.body_terms.specs.declared.outcome.Outcome.{Outcome}
-use Rattle.body_terms.specs.declared.outcome.Outcome.TheVariants.{Answered}
-use Rattle.body_terms.specs.declared.outcome.Outcome.TheVariants.{Stale, Spent}
-use Rattle.body_terms.specs.declared.step.Step.{Step}
-use Rattle.body_terms.specs.declared.micro.Micro.{Micro}
-use Rattle.body_terms.specs.declared.micro.Micro.TheVariants as micros
-use Rattle.body_terms.proofs.ValueLemmas.{get_or-first_values}
+use Rattle.section_lines.specs.small_lemmas.proofs.Bools.{negated as not_true}
+use Rattle.section_lines.specs.structure_laws.specs.body_terms.specs.Line.{line, micro_at, committed, is_check, is_commit}
+use Rattle.section_lines.specs.structure_laws.specs.body_terms.specs.Word.{version_of, is_free, is_spent, held_word}
+use Rattle.section_lines.specs.structure_laws.specs.body_terms.specs.Run.{Setting, Run, ran, leaves, refusal}
+use Rattle.section_lines.specs.structure_laws.specs.body_terms.specs.declared.outcome.Outcome.{Outcome}
+use Rattle.section_lines.specs.structure_laws.specs.body_terms.specs.declared.outcome.Outcome.TheVariants.{Answered}
+use Rattle.section_lines.specs.structure_laws.specs.body_terms.specs.declared.outcome.Outcome.TheVariants.{Stale, Spent}
+use Rattle.section_lines.specs.structure_laws.specs.body_terms.specs.declared.step.Step.{Step}
+use Rattle.section_lines.specs.structure_laws.specs.body_terms.specs.declared.micro.Micro.{Micro}
+use Rattle.section_lines.specs.structure_laws.specs.body_terms.specs.declared.micro.Micro.TheVariants as micros
+use Rattle.section_lines.specs.structure_laws.specs.body_terms.proofs.ValueLemmas.{get_or-first_values}
 use Rattle.std.proofs.lemmas.Bool.{cases_lt}
-use Rattle.body_terms.proofs.LineLemmas.{past_line}
+use Rattle.section_lines.specs.structure_laws.specs.body_terms.proofs.LineLemmas.{past_line}
 use Rattle.section_lines.specs.Line.{phase, IsLine}
 use Rattle.section_lines.specs.Runs.{agreed, Follows, AgreesWith}
 use Rattle.section_lines.proofs.Phases.{is_in_phases, one_answer}

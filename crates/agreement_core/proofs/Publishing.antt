@@ -2,10 +2,10 @@
 use Rattle.std.proofs.Common.{◌≡◌, ◌≢◌, ℕ, suc, ◌<◌, ◌≤◌, Bool, true, false, refl, sym, ap, ◌∙◌, subst, inl, inr, ⊎_elim, arith}
 use Rattle.std.proofs.lemmas.Bool.{cases_eq}
 use Rattle.std.specs.Prelude.{◌⊎◌}
-use Rattle.body_terms.specs.Update.{upd}
-use Rattle.body_terms.specs.Word.{value_of, version_of, held_word}
-use Rattle.body_terms.specs.declared.micro.Micro.{Micro}
-use Rattle.body_terms.specs.declared.micro.Micro.TheVariants as micros
+use Rattle.section_lines.specs.structure_laws.specs.body_terms.specs.Update.{upd}
+use Rattle.section_lines.specs.structure_laws.specs.body_terms.specs.Word.{value_of, version_of, held_word}
+use Rattle.section_lines.specs.structure_laws.specs.body_terms.specs.declared.micro.Micro.{Micro}
+use Rattle.section_lines.specs.structure_laws.specs.body_terms.specs.declared.micro.Micro.TheVariants as micros
 use Rattle.agreement_core.specs.State.{CellRules, Section, AgreementState, IsOpen}
 use Rattle.agreement_core.specs.Events.{Enabled, after, HasCome, IsPublishable}
 use Rattle.agreement_core.specs.Events.{Publish, RetireDescriptor, Free, StoreLog, StoreDone}

@@ -3,8 +3,8 @@ use Rattle.std.proofs.Common.{◌≡◌, ◌≢◌, ℕ, suc, ◌<◌, ◌≤◌
 use Rattle.std.proofs.lemmas.Bool.{cases_eq}
 use Rattle.std.specs.Prelude.{◌^◌}
 use mathlib.Core.Path.{fun_ext}
-use Rattle.body_terms.specs.Update.{upd}
-use Rattle.body_terms.specs.Word.{value_of, version_of, held_word, next_word}
+use Rattle.section_lines.specs.structure_laws.specs.body_terms.specs.Update.{upd}
+use Rattle.section_lines.specs.structure_laws.specs.body_terms.specs.Word.{value_of, version_of, held_word, next_word}
 use Rattle.agreement_core.specs.State.{CellRules, Section, Run, AgreementState}
 use Rattle.agreement_core.specs.Checks.{exchanged}
 use Rattle.agreement_core.specs.Events.{Enabled, after, HasTaken, IsPublishable, with_cell}

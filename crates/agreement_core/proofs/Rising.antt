@@ -2,8 +2,8 @@
 use Rattle.std.proofs.Common.{◌≡◌, ℕ, suc, refl, sym, ap, ◌∙◌, inl, inr, ⊎_elim, arith}
 use Rattle.std.proofs.lemmas.Bool.{cases_eq}
 use Rattle.std.specs.Prelude.{◌⊎◌}
-use Rattle.body_terms.specs.Update.{upd}
-use Rattle.body_terms.specs.Word.{version_of, held_word}
+use Rattle.section_lines.specs.structure_laws.specs.body_terms.specs.Update.{upd}
+use Rattle.section_lines.specs.structure_laws.specs.body_terms.specs.Word.{version_of, held_word}
 use Rattle.agreement_core.specs.State.{CellRules, AgreementState, section_of}
 use Rattle.agreement_core.specs.Checks.{exchanged}
 use Rattle.agreement_core.specs.Events.{Event, Enabled, after}

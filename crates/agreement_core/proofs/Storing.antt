@@ -1,11 +1,11 @@
 -- A section whose first run stores to a cell.
 use Rattle.std.proofs.Common.{◌≡◌, ◌≢◌, ℕ, suc, ◌<◌, true, false, refl, sym, ap, ◌∙◌, subst, inl, inr, ⊎_elim, arith}
 use Rattle.std.proofs.lemmas.Bool.{cases_eq}
-use Rattle.body_terms.specs.Update.{upd}
-use Rattle.body_terms.specs.Line.{is_event, is_commit}
-use Rattle.body_terms.specs.Word.{version_of}
-use Rattle.body_terms.specs.declared.micro.Source.{Source}
-use Rattle.body_terms.specs.declared.micro.Micro.TheVariants as micros
+use Rattle.section_lines.specs.structure_laws.specs.body_terms.specs.Update.{upd}
+use Rattle.section_lines.specs.structure_laws.specs.body_terms.specs.Line.{is_event, is_commit}
+use Rattle.section_lines.specs.structure_laws.specs.body_terms.specs.Word.{version_of}
+use Rattle.section_lines.specs.structure_laws.specs.body_terms.specs.declared.micro.Source.{Source}
+use Rattle.section_lines.specs.structure_laws.specs.body_terms.specs.declared.micro.Micro.TheVariants as micros
 use Rattle.section_lines.specs.Line.{phase, is_clock_raise}
 use Rattle.agreement_core.specs.State.{CellRules, Shared, Section}
 use Rattle.agreement_core.specs.Checks.{is_stop, stored_word, is_stamp_exchange, is_reply_exchange}

@@ -2,7 +2,7 @@
 use Rattle.std.proofs.Common.{◌≡◌, ℕ, suc, ◌^◌, ◌<◌, ◌≤◌, true, false, arith}
 use Rattle.std.specs.Prelude.{◌⊎◌}
 use Rattle.std.proofs.lemmas.Grind.{common_steps}
-use Rattle.body_terms.specs.Word.{value_of, version_of, next_word, held_word, is_free, is_spent}
+use Rattle.section_lines.specs.structure_laws.specs.body_terms.specs.Word.{value_of, version_of, next_word, held_word, is_free, is_spent}
 
 pub version_next : (old v : ℕ) → v < 2 ^ 32 → version_of (next_word old v) ≡ suc (version_of old)
 version_next old v small = grind (arith, common_steps)

@@ -1,11 +1,11 @@
 -- By what the checks of a run go, what its stores write, and the kinds of some steps.
 use Rattle.std.specs.Prelude.{ℕ, Bool, true, false, not, ◌&&◌, ◌||◌, ◌==◌, nat_lt, cond}
-use Rattle.body_terms.specs.Word.{value_of, version_of, next_word, held_word, is_free, is_spent}
-use Rattle.body_terms.specs.Line.{is_event}
-use Rattle.body_terms.specs.declared.micro.Source.{Source}
-use Rattle.body_terms.specs.declared.micro.Source.TheVariants.{Fixed, Agreed}
-use Rattle.body_terms.specs.declared.micro.Micro.{Micro}
-use Rattle.body_terms.specs.declared.micro.Micro.TheVariants.{CheckWord, CheckFresh, CheckFree, CheckHeld, StampExchange, ReplyExchange}
+use Rattle.section_lines.specs.structure_laws.specs.body_terms.specs.Word.{value_of, version_of, next_word, held_word, is_free, is_spent}
+use Rattle.section_lines.specs.structure_laws.specs.body_terms.specs.Line.{is_event}
+use Rattle.section_lines.specs.structure_laws.specs.body_terms.specs.declared.micro.Source.{Source}
+use Rattle.section_lines.specs.structure_laws.specs.body_terms.specs.declared.micro.Source.TheVariants.{Fixed, Agreed}
+use Rattle.section_lines.specs.structure_laws.specs.body_terms.specs.declared.micro.Micro.{Micro}
+use Rattle.section_lines.specs.structure_laws.specs.body_terms.specs.declared.micro.Micro.TheVariants.{CheckWord, CheckFresh, CheckFree, CheckHeld, StampExchange, ReplyExchange}
 use Rattle.agreement_core.specs.State.{CellRules, Section}
 
 -- a check of a section with this descriptor passes with these agreed words

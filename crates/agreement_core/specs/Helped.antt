@@ -1,9 +1,9 @@
 -- An example: one section is run by two runners, one of them late; its effects come once.
 use Rattle.std.specs.Prelude.{ℕ, ◌≡◌, ◌==◌, nat_lt, false, cond, List, [], ◌∷◌, ◌++◌}
-use Rattle.body_terms.specs.Word.{pack}
-use Rattle.body_terms.specs.declared.micro.Source.TheVariants.{Fixed}
-use Rattle.body_terms.specs.declared.micro.Micro.{Micro}
-use Rattle.body_terms.specs.declared.micro.Micro.TheVariants as micros
+use Rattle.section_lines.specs.structure_laws.specs.body_terms.specs.Word.{pack}
+use Rattle.section_lines.specs.structure_laws.specs.body_terms.specs.declared.micro.Source.TheVariants.{Fixed}
+use Rattle.section_lines.specs.structure_laws.specs.body_terms.specs.declared.micro.Micro.{Micro}
+use Rattle.section_lines.specs.structure_laws.specs.body_terms.specs.declared.micro.Micro.TheVariants as micros
 use Rattle.agreement_core.specs.State.{CellRules, AgreementState}
 use Rattle.agreement_core.specs.Events.{Event, Publish, RetireDescriptor, Free, Open, Pass, SetDone, Release, Finish, LoadCell, Commit, ClockLoad, StampExchange, ClockRaise, ExchangeCell, ReplyExchange}
 use Rattle.agreement_core.specs.Schedules.{IsFirst, first_state, AllEnabled, after_all}

@@ -1,6 +1,6 @@
 -- What late runs change, and what nobody changes in an open section.
 use Rattle.std.specs.Prelude.{ℕ, suc, ◌<◌, ◌≡◌, ◌⊎◌, true, Option, Some, None}
-use Rattle.body_terms.specs.Word.{value_of}
+use Rattle.section_lines.specs.structure_laws.specs.body_terms.specs.Word.{value_of}
 use Rattle.agreement_core.specs.State.{CellRules, AgreementState, section_of, IsOpen}
 use Rattle.agreement_core.specs.Events.{Event, Release, LoadCell, Commit, NestedLoad, NestedCommit, NestedHold, OutcomeLoad, OutcomeCommit, PrivateLoad, MakeCommit, ClockLoad, StampExchange, ClockRaise, ExchangeCell, EpochForRetire, RetireCommit, ReplyExchange}
 

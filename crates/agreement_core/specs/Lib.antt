@@ -16,3 +16,8 @@ pub mod History
 pub mod Closed
 pub mod PlainRuns
 pub mod Helped
+-- Passed on to the layers above, so that they needn't name these libraries themselves.
+pub use Rattle.section_lines.specs.structure_laws.specs.body_terms
+pub use Rattle.section_lines.specs.structure_laws.specs.map_history
+pub use Rattle.section_lines
+pub use Rattle.section_lines.specs.structure_laws.specs.table_words

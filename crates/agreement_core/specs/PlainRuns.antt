@@ -1,14 +1,14 @@
 -- A section's log and the plain run of its body.
 use Rattle.std.specs.Prelude.{ℕ, zero, suc, ◌-◌, ◌<◌, ◌≡◌, ◌≢◌, List, [], false, take, Some, None}
-use Rattle.body_terms.specs.Update.{upd}
-use Rattle.body_terms.specs.Line.{line, micro_at, committed}
-use Rattle.body_terms.specs.Shape.{IsShaped}
-use Rattle.body_terms.specs.Run.{Setting, Run, leaves, ran}
-use Rattle.body_terms.specs.declared.outcome.Outcome.{Outcome}
-use Rattle.body_terms.specs.declared.outcome.Outcome.TheVariants.{Answered}
-use Rattle.body_terms.specs.declared.step.Step.{Step}
-use Rattle.body_terms.specs.declared.micro.Micro.{Micro}
-use Rattle.body_terms.specs.declared.micro.Micro.TheVariants.{Commit, ReplyExchange}
+use Rattle.section_lines.specs.structure_laws.specs.body_terms.specs.Update.{upd}
+use Rattle.section_lines.specs.structure_laws.specs.body_terms.specs.Line.{line, micro_at, committed}
+use Rattle.section_lines.specs.structure_laws.specs.body_terms.specs.Shape.{IsShaped}
+use Rattle.section_lines.specs.structure_laws.specs.body_terms.specs.Run.{Setting, Run, leaves, ran}
+use Rattle.section_lines.specs.structure_laws.specs.body_terms.specs.declared.outcome.Outcome.{Outcome}
+use Rattle.section_lines.specs.structure_laws.specs.body_terms.specs.declared.outcome.Outcome.TheVariants.{Answered}
+use Rattle.section_lines.specs.structure_laws.specs.body_terms.specs.declared.step.Step.{Step}
+use Rattle.section_lines.specs.structure_laws.specs.body_terms.specs.declared.micro.Micro.{Micro}
+use Rattle.section_lines.specs.structure_laws.specs.body_terms.specs.declared.micro.Micro.TheVariants.{Commit, ReplyExchange}
 use Rattle.section_lines.specs.Runs.{agreed}
 use Rattle.agreement_core.specs.State.{CellRules, Section}
 use Rattle.agreement_core.specs.History.{HasAnswered, HasLeft}

@@ -1,6 +1,6 @@
 -- Versions: what one event does to them, and what was read.
 use Rattle.std.specs.Prelude.{ℕ, suc, ◌≤◌, ◌≡◌, ◌⊎◌, true}
-use Rattle.body_terms.specs.Word.{version_of}
+use Rattle.section_lines.specs.structure_laws.specs.body_terms.specs.Word.{version_of}
 use Rattle.agreement_core.specs.State.{AgreementState}
 
 -- each cell is the same, or its version has risen by one

@@ -1,7 +1,7 @@
 -- The first state, and lists of enabled events.
 use Rattle.std.specs.Prelude.{ℕ, ◌<◌, ◌≤◌, ◌≡◌, true, false, List, [], ◌∷◌}
-use Rattle.body_terms.specs.Word.{value_of, version_of}
-use Rattle.body_terms.specs.declared.micro.Micro.TheVariants.{End}
+use Rattle.section_lines.specs.structure_laws.specs.body_terms.specs.Word.{value_of, version_of}
+use Rattle.section_lines.specs.structure_laws.specs.body_terms.specs.declared.micro.Micro.TheVariants.{End}
 use Rattle.agreement_core.specs.State.{CellRules, Section, Run, Finished, AgreementState}
 use Rattle.agreement_core.specs.Events.{Event, Enabled, after}
 

@@ -1,6 +1,6 @@
 -- The invariant of agreement.
 use Rattle.std.specs.Prelude.{ℕ, suc, ◌<◌, ◌≤◌, ◌≡◌, ◌≢◌, ◌⊎◌, Bool, true}
-use Rattle.body_terms.specs.Word.{value_of, version_of}
+use Rattle.section_lines.specs.structure_laws.specs.body_terms.specs.Word.{value_of, version_of}
 use Rattle.agreement_core.specs.State.{CellRules, Shared, Section, Finished, AgreementState, section_of, IsOpen}
 use Rattle.agreement_core.specs.Events.{HasCome, IsPublishable}
 use Rattle.agreement_core.specs.Sections.{SectionIsSound}

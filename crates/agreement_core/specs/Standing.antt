@@ -1,8 +1,8 @@
 -- What stands in the cells and the locks of a section.
 use Rattle.std.specs.Prelude.{ℕ, suc, ◌<◌, ◌≡◌, ◌≢◌, ◌⊎◌, true}
-use Rattle.body_terms.specs.Word.{value_of, version_of, held_word}
-use Rattle.body_terms.specs.declared.micro.Source.{Source}
-use Rattle.body_terms.specs.declared.micro.Micro.TheVariants.{Commit, NestedHold, OutcomeCommit, ExchangeCell}
+use Rattle.section_lines.specs.structure_laws.specs.body_terms.specs.Word.{value_of, version_of, held_word}
+use Rattle.section_lines.specs.structure_laws.specs.body_terms.specs.declared.micro.Source.{Source}
+use Rattle.section_lines.specs.structure_laws.specs.body_terms.specs.declared.micro.Micro.TheVariants.{Commit, NestedHold, OutcomeCommit, ExchangeCell}
 use Rattle.agreement_core.specs.State.{CellRules, Section, AgreementState, IsOpen}
 use Rattle.agreement_core.specs.Checks.{is_stop, stored_word}
 use Rattle.agreement_core.specs.Sections.{HoldsWith}

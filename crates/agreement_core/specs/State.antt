@@ -1,6 +1,6 @@
 -- The state of agreement: the shared words, the sections by descriptor, and the runs by runner.
 use Rattle.std.specs.Prelude.{ℕ, ◌≡◌, Bool, true}
-use Rattle.body_terms.specs.declared.micro.Micro.{Micro}
+use Rattle.section_lines.specs.structure_laws.specs.body_terms.specs.declared.micro.Micro.{Micro}
 
 -- which places are locks, and the greatest version
 pub record CellRules : Type 0 where

@@ -1,6 +1,6 @@
 -- Agreement: what is said of a section's log and of the trails of its runs.
 use Rattle.std.specs.Prelude.{ℕ, suc, ◌<◌, ◌≤◌, ◌≡◌, ◌≢◌, true}
-use Rattle.body_terms.specs.Word.{value_of}
+use Rattle.section_lines.specs.structure_laws.specs.body_terms.specs.Word.{value_of}
 use Rattle.agreement_core.specs.State.{CellRules, Section, Run, AgreementState, section_of}
 use Rattle.agreement_core.specs.Sound.{IsOf, IsWhole, AreOfOne, AreEqual}
 

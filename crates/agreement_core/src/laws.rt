@@ -10,8 +10,8 @@ ghost use Rattle.agreement_core.specs.Continuing.{SectionsGoOn, RecordsStand, En
 ghost use Rattle.agreement_core.specs.Standing.{CellsStand, LocksStand, TakesStand, IsDoneLate};
 ghost use Rattle.agreement_core.specs.Late.{stepper, IsLate, IsUnchanged, LocksStay, LocksLeave};
 ghost use Rattle.agreement_core.specs.Frame.{IsSame};
-ghost use Rattle.body_terms.specs.Run.{Run};
-ghost use Rattle.body_terms.specs.declared.step.Step.{Step};
+ghost use Rattle.section_lines.specs.structure_laws.specs.body_terms.specs.Run.{Run};
+ghost use Rattle.section_lines.specs.structure_laws.specs.body_terms.specs.declared.step.Step.{Step};
 ghost use Rattle.agreement_core.specs.PlainRuns.{IsOfBody, chosen, IsOver, start_over, FollowsPlainRun};
 ghost use Rattle.agreement_core.specs.Helped.{IsHelped};
 ghost use Rattle.agreement_core.specs.History.{History, no_history, noted, noted_all, IsExact, HasAnswered, HasLeft, HappenedOnce, NothingHappened, Lasts};

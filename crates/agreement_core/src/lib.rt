@@ -12,3 +12,6 @@ pub use laws::{
     locks_name_live_sections, logs_follow_plain_runs, runs_agree, schedules_meet_the_invariant,
     takes_agree, the_history_lasts, versions_rise_by_one,
 };
+
+// Passed on to the layers above, so that they needn't name these libraries themselves.
+pub use section_lines;

@@ -1,22 +1,22 @@
 -- Along the steps of an attempt, what an uncrossed runner has seen of the epoch stays, but for an advance.
 use Rattle.std.specs.Prelude.{◌==◌, Bool, true, false}
 use Rattle.std.proofs.Common.{◌≡◌, ℕ, zero, suc, ◌+◌, List, [], ◌∷◌, refl, sym, ap, ◌∙◌, Some}
-use Rattle.body_terms.specs.declared.micro.Micro.{Micro}
-use Rattle.body_terms.specs.declared.micro.Micro.TheVariants as micros
-use Rattle.structure_laws.specs.Scene.{Readings}
-use Rattle.structure_laws.specs.Meaning.{Meaning}
-use Rattle.runner_parts.specs.declared.event.EventKind.{EventKind}
-use Rattle.runner_parts.specs.declared.event.EventKind.TheVariants as kinds
-use Rattle.runner_parts.specs.State.{RunState, PartState}
-use Rattle.runner_steps.specs.After.{own_epoch}
-use Rattle.one_worker.proofs.Onward.{is_advance, was_uncrossed, same_own}
+use Rattle.machine_states.specs.runner_steps.specs.body_terms.specs.declared.micro.Micro.{Micro}
+use Rattle.machine_states.specs.runner_steps.specs.body_terms.specs.declared.micro.Micro.TheVariants as micros
+use Rattle.machine_states.specs.structure_laws.specs.Scene.{Readings}
+use Rattle.machine_states.specs.structure_laws.specs.Meaning.{Meaning}
+use Rattle.machine_states.specs.runner_steps.specs.runner_parts.specs.declared.event.EventKind.{EventKind}
+use Rattle.machine_states.specs.runner_steps.specs.runner_parts.specs.declared.event.EventKind.TheVariants as kinds
+use Rattle.machine_states.specs.runner_steps.specs.runner_parts.specs.State.{RunState, PartState}
+use Rattle.machine_states.specs.runner_steps.specs.After.{own_epoch}
+use Rattle.lone_plans.specs.one_worker.proofs.Onward.{is_advance, was_uncrossed, same_own}
 use Rattle.version_words.specs.RunnerState.{RunnerState}
 use Rattle.version_words.specs.Events.{Makes, IsMade}
-use Rattle.one_worker.specs.next_steps.specs.Steps.{kind_at}
+use Rattle.lone_plans.specs.one_worker.specs.next_steps.specs.Steps.{kind_at}
 use Rattle.attempts.specs.epoch_slots.specs.Entries.{Enters, Exits}
 use Rattle.attempts.specs.epoch_slots.specs.Collects.{Scans, Looks, AreTested}
 use Rattle.attempts.specs.commit_log.specs.Runs.{Ran}
-use Rattle.attempts.specs.section_runs.specs.Opened.{Opens, is_opening}
+use Rattle.attempts.specs.try_lock.specs.section_runs.specs.Opened.{Opens, is_opening}
 use Rattle.attempts.specs.try_lock.specs.Plans.{Loads}
 use Rattle.attempts.specs.try_lock.specs.Prepares.{Stores, SetsWords}
 

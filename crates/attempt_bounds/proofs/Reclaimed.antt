@@ -1,8 +1,8 @@
 -- What a runner has in limbo once it collected where it had to, and how far it took the epoch on.
 use Rattle.std.specs.Prelude.{Bool, true, false}
 use Rattle.std.proofs.Common.{◌≡◌, ℕ, ◌+◌, ◌^◌, ◌<◌, ◌≤◌, length, refl, sym, ap, ◌∙◌, subst, arith, true≢false}
-use Rattle.structure_laws.specs.Meaning.{Meaning}
-use Rattle.runner_steps.specs.After.{own_epoch}
+use Rattle.machine_states.specs.structure_laws.specs.Meaning.{Meaning}
+use Rattle.machine_states.specs.runner_steps.specs.After.{own_epoch}
 use Rattle.version_words.specs.RunnerState.{RunnerState}
 use Rattle.attempts.specs.epoch_slots.specs.Collects.{Collects}
 use Rattle.attempts.specs.Reclaims.{lacks_slots, has_much_in_limbo, CollectsWhere, Reclaims}

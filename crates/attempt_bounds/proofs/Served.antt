@@ -1,9 +1,9 @@
 -- So with one worker no attempt is refused but by a spent word.
 use Rattle.std.proofs.Common.{sym, subst, ⊎_elim}
-use Rattle.map_history.specs.declared.op.Request.{Request}
-use Rattle.structure_laws.specs.Meaning.{Meaning}
-use Rattle.structure_laws.specs.Laws.{Laws}
-use Rattle.structure_laws.specs.Planner.{PlannerLaws}
+use Rattle.machine_states.specs.runner_steps.specs.map_history.specs.declared.op.Request.{Request}
+use Rattle.machine_states.specs.structure_laws.specs.Meaning.{Meaning}
+use Rattle.machine_states.specs.structure_laws.specs.Laws.{Laws}
+use Rattle.machine_states.specs.structure_laws.specs.Planner.{PlannerLaws}
 use Rattle.version_words.specs.RunnerState.{RunnerState}
 use Rattle.attempts.specs.try_lock.specs.Planning.{Planning}
 use Rattle.attempts.specs.lock_walks.specs.Steady.{IsSteady}

@@ -12,6 +12,4 @@ pub use spared::attempts_spare_slots;
 
 // Passed on to the layers above, so that they needn't name these libraries themselves.
 pub use attempts;
-pub use attempts::{epoch_slots, lock_walks, lock_words, request_facts};
-pub use one_worker;
-pub use one_worker::resource_bounds;
+pub use version_words;

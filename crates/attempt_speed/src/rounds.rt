@@ -1,6 +1,6 @@
 //! The serving of a table's first requests, and what was answered.
 ghost use Rattle.std.specs.Prelude.{◌≡◌, ◌≤◌, All, IfOk, length, take, true};
-ghost use Rattle.version_words.specs.TableState.{IsOf};
+ghost use Rattle.serving.specs.attempt_bounds.specs.version_words.specs.TableState.{IsOf};
 ghost use Rattle.serving.specs.Serving.{MayServe};
 ghost use Rattle.attempt_speed.specs.Asked.{requests_of};
 ghost use Rattle.attempt_speed.specs.Rounds.{IsRound};
@@ -9,17 +9,17 @@ use crate::kinds::Kind;
 use crate::requests::requests_of;
 use crate::scenes::{close, new_table, split};
 use crate::tables::TableKind;
-use body_terms::Steps;
 use hash_table::HashTable;
 use hash_table::lock_walks::Planner;
+use hash_table::lock_walks::version_words::{FlockTable, Runner, Words};
 use leaf_tree::LeafTree;
-use map_history::Request;
+use machine_states::runner_steps::body_terms::Steps;
+use machine_states::runner_steps::map_history::Request;
 use runner_gate::Free;
 use serving::serve;
 use std::alloc::{AllocError, Global};
 use std::sync::Wait;
 use std::thread::Threads;
-use version_words::{FlockTable, Runner, Words};
 
 /// The hash table has 1,024 buckets.
 const BUCKET_BITS: u32 = 10;

@@ -1,16 +1,16 @@
 //! A table with one worker, who serves all of its requests.
 ghost use Rattle.std.specs.Prelude.{◌≡◌, ◌≤◌, IfOk, length};
-ghost use Rattle.map_history.specs.Requests.{AreInOrder};
-ghost use Rattle.table_words.specs.Limits.{IsWithinLimits};
-ghost use Rattle.version_words.specs.TableState.{IsOf};
-ghost use Rattle.version_words.specs.Stages.{IsKeeper, HasJoined};
+ghost use Rattle.machine_states.specs.runner_steps.specs.map_history.specs.Requests.{AreInOrder};
+ghost use Rattle.machine_states.specs.runner_steps.specs.table_words.specs.Limits.{IsWithinLimits};
+ghost use Rattle.serving.specs.attempt_bounds.specs.version_words.specs.TableState.{IsOf};
+ghost use Rattle.serving.specs.attempt_bounds.specs.version_words.specs.Stages.{IsKeeper, HasJoined};
 ghost use Rattle.attempt_speed.specs.Scenes.{IsFresh};
 
 use hash_table::lock_walks::Planner;
-use map_history::Request;
+use hash_table::lock_walks::version_words::{FlockTable, Runner, Words};
+use machine_states::runner_steps::map_history::Request;
+use machine_states::runner_steps::table_words::Layout;
 use std::alloc::{AllocError, Global};
-use table_words::Layout;
-use version_words::{FlockTable, Runner, Words};
 
 /// How many of the requests may add a pair.
 fn insertions(requests: &[Request]) -> u32

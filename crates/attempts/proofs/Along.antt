@@ -2,39 +2,39 @@
 use Rattle.std.specs.Prelude.{Bool, true, false, slice_get}
 use Rattle.std.proofs.Common.{◌≡◌, ◌≢◌, ℕ, zero, suc, ◌<◌, List, [], ◌∷◌, ◌++◌, refl, sym, ap, ◌∙◌, subst, ⊎_elim, arith}
 use Rattle.std.proofs.lemmas.Bool.{cases_eq, cases_lt}
-use Rattle.body_terms.specs.declared.micro.Micro.{Micro}
-use Rattle.body_terms.specs.declared.micro.Micro.TheVariants as micros
-use Rattle.body_terms.specs.declared.thunk.Thunk.{Thunk}
-use Rattle.body_terms.specs.Line.{line, micro_at, is_check}
-use Rattle.body_terms.specs.Shape.{IsShaped}
+use Rattle.section_lines.specs.structure_laws.specs.body_terms.specs.declared.micro.Micro.{Micro}
+use Rattle.section_lines.specs.structure_laws.specs.body_terms.specs.declared.micro.Micro.TheVariants as micros
+use Rattle.section_lines.specs.structure_laws.specs.body_terms.specs.declared.thunk.Thunk.{Thunk}
+use Rattle.section_lines.specs.structure_laws.specs.body_terms.specs.Line.{line, micro_at, is_check}
+use Rattle.section_lines.specs.structure_laws.specs.body_terms.specs.Shape.{IsShaped}
 use Rattle.section_lines.proofs.Phases.{is_in_phases}
 use Rattle.section_lines.proofs.Resting.{rests_at}
-use Rattle.table_words.specs.declared.layout.Layout.{Layout}
-use Rattle.table_words.specs.Limits.{IsWithinLimits}
-use Rattle.structure_laws.specs.Meaning.{Meaning}
-use Rattle.structure_laws.specs.Laws.{Laws}
-use Rattle.runner_parts.specs.declared.entries.Known.{Known}
-use Rattle.runner_parts.specs.State.{RunState, PartState, ReadsState}
-use Rattle.runner_parts.specs.Tests.{has_pair}
-use Rattle.runner_steps.specs.Sections.{thunk_of, line_of, setting_of, settles}
-use Rattle.runner_steps.specs.After.{line_after}
-use Rattle.machine_epochs.proofs.RunPlaces.{is_of_end, next_in_line}
-use Rattle.lock_words.specs.machine_agreement.proofs.LineKinds.{after_line}
-use Rattle.lock_words.specs.machine_invariant.specs.After.{AreAllowed}
+use Rattle.section_lines.specs.structure_laws.specs.table_words.specs.declared.layout.Layout.{Layout}
+use Rattle.section_lines.specs.structure_laws.specs.table_words.specs.Limits.{IsWithinLimits}
+use Rattle.section_lines.specs.structure_laws.specs.Meaning.{Meaning}
+use Rattle.section_lines.specs.structure_laws.specs.Laws.{Laws}
+use Rattle.machine_states.specs.runner_steps.specs.runner_parts.specs.declared.entries.Known.{Known}
+use Rattle.machine_states.specs.runner_steps.specs.runner_parts.specs.State.{RunState, PartState, ReadsState}
+use Rattle.machine_states.specs.runner_steps.specs.runner_parts.specs.Tests.{has_pair}
+use Rattle.machine_states.specs.runner_steps.specs.Sections.{thunk_of, line_of, setting_of, settles}
+use Rattle.machine_states.specs.runner_steps.specs.After.{line_after}
+use Rattle.lock_words.specs.machine_epochs.proofs.RunPlaces.{is_of_end, next_in_line}
+use Rattle.version_words.specs.machine_invariant.specs.machine_agreement.proofs.LineKinds.{after_line}
+use Rattle.version_words.specs.machine_invariant.specs.After.{AreAllowed}
 use Rattle.machine_states.specs.World.{seat_of}
 use Rattle.machine_states.specs.Reached.{Reached}
 use Rattle.machine_states.proofs.Steps.{some_same, none_some}
-use Rattle.lock_words.specs.next_steps.specs.Steps.{kind_at}
+use Rattle.lock_walks.specs.runner_facts.specs.next_steps.specs.Steps.{kind_at}
 use Rattle.version_words.specs.RunnerState.{RunnerState}
 use Rattle.version_words.specs.TableState.{TableState, IsOf}
-use Rattle.lock_walks.specs.commit_log.specs.Runs.{IsRunning, Stepped, Ran}
-use Rattle.lock_walks.specs.commit_log.proofs.Next.{next_here}
-use Rattle.lock_walks.specs.section_runs.specs.Reached.{IsReached, run_or}
-use Rattle.lock_walks.specs.section_runs.specs.Opened.{Learns, HasOpened, opening}
-use Rattle.lock_walks.specs.section_runs.proofs.Going.{shaped}
-use Rattle.lock_walks.specs.section_runs.proofs.Records.{noted_known}
-use Rattle.lock_walks.specs.section_runs.proofs.Told.{HasStamp, stamp_of}
-use Rattle.lock_walks.specs.section_runs.proofs.Staying.{run_open, still_of, step_learns, step_stays, learns_more}
+use Rattle.lock_walks.specs.try_lock.specs.commit_log.specs.Runs.{IsRunning, Stepped, Ran}
+use Rattle.lock_walks.specs.try_lock.specs.commit_log.proofs.Next.{next_here}
+use Rattle.lock_walks.specs.try_lock.specs.section_runs.specs.Reached.{IsReached, run_or}
+use Rattle.lock_walks.specs.try_lock.specs.section_runs.specs.Opened.{Learns, HasOpened, opening}
+use Rattle.lock_walks.specs.try_lock.specs.section_runs.proofs.Going.{shaped}
+use Rattle.lock_walks.specs.try_lock.specs.section_runs.proofs.Records.{noted_known}
+use Rattle.lock_walks.specs.try_lock.specs.section_runs.proofs.Told.{HasStamp, stamp_of}
+use Rattle.lock_walks.specs.try_lock.specs.section_runs.proofs.Staying.{run_open, still_of, step_learns, step_stays, learns_more}
 use Rattle.attempts.specs.Learned.{StoodAtStamp, HasLearned}
 use Rattle.attempts.proofs.Knowing.{append_none}
 use Rattle.attempts.proofs.Placing.{tells, IsOn, is_on, quiet_known, cells_stay}

@@ -2,36 +2,36 @@
 use Rattle.std.specs.Prelude.{true, false, slice_get}
 use Rattle.std.proofs.Common.{◌≡◌, ◌≢◌, ℕ, ◌-◌, ◌≤◌, List, length, refl, sym, ap, ◌∙◌, subst, arith, inr, Option, Some, None, [], ◌∷◌, ◌++◌, ◌+◌}
 use Rattle.std.proofs.lemmas.Bool.{true≢false}
-use Rattle.map_history.specs.declared.op.Request.{Request}
-use Rattle.map_history.specs.declared.reply.Reply.{Reply}
-use Rattle.body_terms.specs.Trail.{Agreed}
-use Rattle.body_terms.specs.Line.{line, micro_at}
-use Rattle.body_terms.specs.Word.{value_of}
-use Rattle.body_terms.specs.declared.outcome.Outcome.{Outcome}
-use Rattle.body_terms.specs.declared.outcome.Outcome.TheVariants as outcomes
-use Rattle.body_terms.specs.declared.thunk.Thunk.{Thunk}
-use Rattle.table_words.specs.declared.layout.Layout.{Layout}
-use Rattle.table_words.specs.Limits.{IsWithinLimits}
+use Rattle.history_orders.specs.map_history.specs.declared.op.Request.{Request}
+use Rattle.history_orders.specs.map_history.specs.declared.reply.Reply.{Reply}
+use Rattle.section_lines.specs.structure_laws.specs.body_terms.specs.Trail.{Agreed}
+use Rattle.section_lines.specs.structure_laws.specs.body_terms.specs.Line.{line, micro_at}
+use Rattle.section_lines.specs.structure_laws.specs.body_terms.specs.Word.{value_of}
+use Rattle.section_lines.specs.structure_laws.specs.body_terms.specs.declared.outcome.Outcome.{Outcome}
+use Rattle.section_lines.specs.structure_laws.specs.body_terms.specs.declared.outcome.Outcome.TheVariants as outcomes
+use Rattle.section_lines.specs.structure_laws.specs.body_terms.specs.declared.thunk.Thunk.{Thunk}
+use Rattle.section_lines.specs.structure_laws.specs.table_words.specs.declared.layout.Layout.{Layout}
+use Rattle.section_lines.specs.structure_laws.specs.table_words.specs.Limits.{IsWithinLimits}
 use Rattle.runner_gate.specs.Asks.{Asks}
-use Rattle.structure_laws.specs.Meaning.{Meaning}
-use Rattle.structure_laws.specs.Laws.{Laws}
-use Rattle.structure_laws.specs.Shape.{Shaped}
-use Rattle.runner_parts.specs.declared.event.EventKind.TheVariants as kinds
-use Rattle.runner_parts.specs.declared.entries.Published.{Published}
-use Rattle.runner_parts.specs.State.{NodesState, PartState, ReadsState}
-use Rattle.runner_parts.specs.Tests.{has, has_pair, is_answered}
-use Rattle.runner_steps.specs.AfterOutside.{retire_after}
+use Rattle.section_lines.specs.structure_laws.specs.Meaning.{Meaning}
+use Rattle.section_lines.specs.structure_laws.specs.Laws.{Laws}
+use Rattle.section_lines.specs.structure_laws.specs.Shape.{Shaped}
+use Rattle.machine_states.specs.runner_steps.specs.runner_parts.specs.declared.event.EventKind.TheVariants as kinds
+use Rattle.machine_states.specs.runner_steps.specs.runner_parts.specs.declared.entries.Published.{Published}
+use Rattle.machine_states.specs.runner_steps.specs.runner_parts.specs.State.{NodesState, PartState, ReadsState}
+use Rattle.machine_states.specs.runner_steps.specs.runner_parts.specs.Tests.{has, has_pair, is_answered}
+use Rattle.machine_states.specs.runner_steps.specs.AfterOutside.{retire_after}
 use Rattle.machine_states.specs.World.{World}
 use Rattle.machine_states.specs.Reached.{Reached}
 use Rattle.machine_states.specs.Sight.{sight, part_or_first}
-use Rattle.lock_words.specs.machine_invariant.specs.After.{AreAllowed}
-use Rattle.lock_words.specs.runner_facts.proofs.Names.{pair_last}
+use Rattle.version_words.specs.machine_invariant.specs.After.{AreAllowed}
+use Rattle.lock_walks.specs.runner_facts.proofs.Names.{pair_last}
 use Rattle.lock_words.specs.Stale.{StaleStand}
 use Rattle.version_words.specs.RunnerState.{RunnerState}
 use Rattle.version_words.specs.TableState.{TableState, IsOf}
-use Rattle.lock_walks.specs.epoch_slots.specs.Entries.{HasLeave}
-use Rattle.lock_walks.specs.epoch_slots.proofs.Outside.{reads_made}
-use Rattle.lock_walks.specs.commit_log.proofs.Asked.{asked_none}
+use Rattle.lock_walks.specs.try_lock.specs.epoch_slots.specs.Entries.{HasLeave}
+use Rattle.lock_walks.specs.try_lock.specs.epoch_slots.proofs.Outside.{reads_made}
+use Rattle.lock_walks.specs.try_lock.specs.commit_log.proofs.Asked.{asked_none}
 use Rattle.lock_walks.specs.try_lock.specs.declared.section.Section.{Section}
 use Rattle.lock_walks.specs.try_lock.specs.Planning.{Planning}
 use Rattle.lock_walks.specs.try_lock.specs.Reached.{IsReached}

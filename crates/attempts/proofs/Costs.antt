@@ -1,23 +1,23 @@
 -- What a run costs at most, whatever its body.
 use Rattle.std.proofs.Common.{ℕ, ◌≤◌, Bool, List, length, sym, ap, ◌∙◌, arith, subst, inl, inr, zero, suc}
-use Rattle.body_terms.specs.Shape.{IsShaped}
-use Rattle.body_terms.specs.Trail.{Agreed}
-use Rattle.body_terms.specs.declared.outcome.Outcome.{Outcome}
-use Rattle.body_terms.specs.declared.thunk.Thunk.{Thunk}
-use Rattle.table_words.specs.Limits.{IsWithinLimits}
-use Rattle.structure_laws.specs.Meaning.{Meaning}
-use Rattle.structure_laws.specs.Laws.{Laws}
-use Rattle.structure_laws.proofs.Costs.{shaped_cost}
-use Rattle.runner_parts.specs.State.{RunState, PartState}
-use Rattle.runner_steps.specs.Sections.{thunk_of}
+use Rattle.section_lines.specs.structure_laws.specs.body_terms.specs.Shape.{IsShaped}
+use Rattle.section_lines.specs.structure_laws.specs.body_terms.specs.Trail.{Agreed}
+use Rattle.section_lines.specs.structure_laws.specs.body_terms.specs.declared.outcome.Outcome.{Outcome}
+use Rattle.section_lines.specs.structure_laws.specs.body_terms.specs.declared.thunk.Thunk.{Thunk}
+use Rattle.section_lines.specs.structure_laws.specs.table_words.specs.Limits.{IsWithinLimits}
+use Rattle.section_lines.specs.structure_laws.specs.Meaning.{Meaning}
+use Rattle.section_lines.specs.structure_laws.specs.Laws.{Laws}
+use Rattle.section_lines.specs.structure_laws.proofs.Costs.{shaped_cost}
+use Rattle.machine_states.specs.runner_steps.specs.runner_parts.specs.State.{RunState, PartState}
+use Rattle.machine_states.specs.runner_steps.specs.Sections.{thunk_of}
 use Rattle.machine_states.specs.Sight.{part_or_first}
-use Rattle.lock_words.specs.machine_invariant.specs.After.{AreAllowed}
-use Rattle.lock_words.specs.next_steps.proofs.Enabled.{reached_enabled}
+use Rattle.version_words.specs.machine_invariant.specs.After.{AreAllowed}
+use Rattle.lock_walks.specs.runner_facts.specs.next_steps.proofs.Enabled.{reached_enabled}
 use Rattle.version_words.specs.RunnerState.{RunnerState}
 use Rattle.version_words.specs.TableState.{TableState, IsOf}
-use Rattle.lock_walks.specs.section_runs.specs.Reached.{run_of, run_or}
-use Rattle.lock_walks.specs.section_runs.specs.Opened.{opening, IsOpening, HasOpened}
-use Rattle.lock_walks.specs.section_runs.proofs.Going.{shaped}
+use Rattle.lock_walks.specs.try_lock.specs.section_runs.specs.Reached.{run_of, run_or}
+use Rattle.lock_walks.specs.try_lock.specs.section_runs.specs.Opened.{opening, IsOpening, HasOpened}
+use Rattle.lock_walks.specs.try_lock.specs.section_runs.proofs.Going.{shaped}
 use Rattle.lock_walks.specs.try_lock.specs.Ends.{EndsSo, IsCutShort}
 use Rattle.attempts.specs.Attempts.{most_of_run}
 use Rattle.attempts.proofs.Along.{ran_back}

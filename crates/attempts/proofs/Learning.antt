@@ -2,38 +2,38 @@
 use Rattle.std.specs.Prelude.{◌==◌, Bool, true, false, slice_get, if◌then◌else◌}
 use Rattle.std.proofs.Common.{◌≡◌, ℕ, zero, suc, List, [], ◌∷◌, ◌++◌, refl, sym, ap, ◌∙◌, subst, ⊎_elim, Option, Some, None}
 use Rattle.std.proofs.lemmas.Bool.{cases_eq}
-use Rattle.map_history.specs.declared.op.Request.{Request}
-use Rattle.map_history.specs.Words.{word_of}
-use Rattle.table_words.specs.declared.sizes.Sizes.{Sizes}
-use Rattle.table_words.specs.declared.spot.Spot.{Spot}
-use Rattle.table_words.specs.declared.access.Access.{Access}
-use Rattle.table_words.specs.declared.access.Access.TheVariants.{Loads}
-use Rattle.table_words.specs.Access.{written}
-use Rattle.table_words.specs.Limits.{IsWithinLimits}
-use Rattle.table_words.specs.Places.{fits}
-use Rattle.structure_laws.specs.Meaning.{Meaning}
-use Rattle.structure_laws.specs.Laws.{Laws}
-use Rattle.runner_parts.specs.declared.entries.Known.{Known}
-use Rattle.runner_parts.specs.declared.event.EventKind.TheVariants as kinds
-use Rattle.epoch_core.specs.declared.stage.Stage.TheVariants as stages
-use Rattle.runner_parts.specs.Lists.{learned}
-use Rattle.runner_parts.specs.State.{RunState, PartState, RecordsState}
-use Rattle.runner_parts.specs.Tests.{is_answered, is_resting}
-use Rattle.runner_steps.specs.Outside.{when, entry_spot}
-use Rattle.runner_steps.specs.Asks.{ask_by, fitting, sizes_for}
+use Rattle.history_orders.specs.map_history.specs.declared.op.Request.{Request}
+use Rattle.history_orders.specs.map_history.specs.Words.{word_of}
+use Rattle.section_lines.specs.structure_laws.specs.table_words.specs.declared.sizes.Sizes.{Sizes}
+use Rattle.section_lines.specs.structure_laws.specs.table_words.specs.declared.spot.Spot.{Spot}
+use Rattle.section_lines.specs.structure_laws.specs.table_words.specs.declared.access.Access.{Access}
+use Rattle.section_lines.specs.structure_laws.specs.table_words.specs.declared.access.Access.TheVariants.{Loads}
+use Rattle.section_lines.specs.structure_laws.specs.table_words.specs.Access.{written}
+use Rattle.section_lines.specs.structure_laws.specs.table_words.specs.Limits.{IsWithinLimits}
+use Rattle.section_lines.specs.structure_laws.specs.table_words.specs.Places.{fits}
+use Rattle.section_lines.specs.structure_laws.specs.Meaning.{Meaning}
+use Rattle.section_lines.specs.structure_laws.specs.Laws.{Laws}
+use Rattle.machine_states.specs.runner_steps.specs.runner_parts.specs.declared.entries.Known.{Known}
+use Rattle.machine_states.specs.runner_steps.specs.runner_parts.specs.declared.event.EventKind.TheVariants as kinds
+use Rattle.machine_states.specs.epoch_core.specs.declared.stage.Stage.TheVariants as stages
+use Rattle.machine_states.specs.runner_steps.specs.runner_parts.specs.Lists.{learned}
+use Rattle.machine_states.specs.runner_steps.specs.runner_parts.specs.State.{RunState, PartState, RecordsState}
+use Rattle.machine_states.specs.runner_steps.specs.runner_parts.specs.Tests.{is_answered, is_resting}
+use Rattle.machine_states.specs.runner_steps.specs.Outside.{when, entry_spot}
+use Rattle.machine_states.specs.runner_steps.specs.Asks.{ask_by, fitting, sizes_for}
 use Rattle.machine_states.specs.Sight.{sight, part_or_first}
 use Rattle.machine_states.proofs.Steps.{some_same, none_some}
-use Rattle.lock_words.specs.machine_invariant.specs.After.{AreAllowed}
+use Rattle.version_words.specs.machine_invariant.specs.After.{AreAllowed}
 use Rattle.version_words.specs.RunnerState.{RunnerState}
 use Rattle.version_words.specs.Events.{Makes}
 use Rattle.version_words.specs.ReachedWith.{is_told}
 use Rattle.version_words.specs.Stages.{IsAt}
 use Rattle.version_words.proofs.Stages.{then_knows}
-use Rattle.lock_walks.specs.epoch_slots.specs.Collects.{IsTidy}
-use Rattle.lock_walks.specs.epoch_slots.specs.Entries.{Exits}
-use Rattle.lock_walks.specs.epoch_slots.proofs.Outside.{nodes_made, known_made, finished_made}
-use Rattle.lock_words.specs.machine_facts.specs.Known.{KnownStand}
-use Rattle.lock_words.specs.machine_facts.proofs.Following.{facts_after}
+use Rattle.lock_walks.specs.try_lock.specs.epoch_slots.specs.Collects.{IsTidy}
+use Rattle.lock_walks.specs.try_lock.specs.epoch_slots.specs.Entries.{Exits}
+use Rattle.lock_walks.specs.try_lock.specs.epoch_slots.proofs.Outside.{nodes_made, known_made, finished_made}
+use Rattle.request_facts.specs.reached_histories.specs.machine_facts.specs.Known.{KnownStand}
+use Rattle.request_facts.specs.reached_histories.specs.machine_facts.proofs.Following.{facts_after}
 use Rattle.request_facts.specs.Placed.{IsServedAs}
 use Rattle.request_facts.specs.Laws.{HasEntry, IsKnown}
 use Rattle.request_facts.proofs.Standing.{callers_stand}

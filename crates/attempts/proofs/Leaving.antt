@@ -2,32 +2,32 @@
 use Rattle.std.specs.Prelude.{◌==◌, ◌⊎◌, true, false, not, slice_get}
 use Rattle.std.proofs.Common.{◌≡◌, ◌≢◌, ℕ, suc, ◌+◌, ◌-◌, ◌≤◌, [], ◌∷◌, length, refl, sym, ap, ◌∙◌, subst, arith, Option, None, inl, inr, ⊎_elim}
 use Rattle.std.proofs.lemmas.Bool.Decides.{nat_tests}
-use Rattle.body_terms.specs.Trail.{Agreed}
-use Rattle.body_terms.specs.Word.{value_of, is_free}
-use Rattle.body_terms.specs.declared.outcome.Outcome.{Outcome}
-use Rattle.body_terms.specs.declared.thunk.Thunk.{Thunk}
-use Rattle.table_words.specs.declared.layout.Layout.{Layout}
-use Rattle.table_words.specs.Limits.{IsWithinLimits}
+use Rattle.section_lines.specs.structure_laws.specs.body_terms.specs.Trail.{Agreed}
+use Rattle.section_lines.specs.structure_laws.specs.body_terms.specs.Word.{value_of, is_free}
+use Rattle.section_lines.specs.structure_laws.specs.body_terms.specs.declared.outcome.Outcome.{Outcome}
+use Rattle.section_lines.specs.structure_laws.specs.body_terms.specs.declared.thunk.Thunk.{Thunk}
+use Rattle.section_lines.specs.structure_laws.specs.table_words.specs.declared.layout.Layout.{Layout}
+use Rattle.section_lines.specs.structure_laws.specs.table_words.specs.Limits.{IsWithinLimits}
 use Rattle.runner_gate.specs.Asks.{Asks}
-use Rattle.structure_laws.specs.Meaning.{Meaning}
-use Rattle.structure_laws.specs.Laws.{Laws}
-use Rattle.runner_parts.specs.declared.entries.Published.{Published}
-use Rattle.epoch_core.specs.declared.stage.Stage.TheVariants as stages
-use Rattle.runner_parts.specs.State.{PartState}
-use Rattle.runner_parts.specs.Tests.{has_pair, is_answered, is_between}
-use Rattle.runner_steps.specs.AfterInRun.{over_if}
+use Rattle.section_lines.specs.structure_laws.specs.Meaning.{Meaning}
+use Rattle.section_lines.specs.structure_laws.specs.Laws.{Laws}
+use Rattle.machine_states.specs.runner_steps.specs.runner_parts.specs.declared.entries.Published.{Published}
+use Rattle.machine_states.specs.epoch_core.specs.declared.stage.Stage.TheVariants as stages
+use Rattle.machine_states.specs.runner_steps.specs.runner_parts.specs.State.{PartState}
+use Rattle.machine_states.specs.runner_steps.specs.runner_parts.specs.Tests.{has_pair, is_answered, is_between}
+use Rattle.machine_states.specs.runner_steps.specs.AfterInRun.{over_if}
 use Rattle.machine_states.specs.World.{World}
 use Rattle.machine_states.specs.Reached.{Reached}
 use Rattle.machine_states.specs.Sight.{Sight, sight, part_or_first}
-use Rattle.lock_words.specs.machine_invariant.specs.After.{AreAllowed}
-use Rattle.lock_words.specs.runner_facts.specs.Names.{NamesStand}
+use Rattle.version_words.specs.machine_invariant.specs.After.{AreAllowed}
+use Rattle.lock_walks.specs.runner_facts.specs.Names.{NamesStand}
 use Rattle.lock_words.specs.Taken.{HasLeftBy, TakenStand}
 use Rattle.version_words.specs.RunnerState.{RunnerState}
 use Rattle.version_words.specs.Stages.{IsAt}
-use Rattle.lock_walks.specs.epoch_slots.specs.Collects.{IsTidy}
-use Rattle.lock_walks.specs.epoch_slots.specs.Entries.{HasLeave, Exits}
-use Rattle.lock_walks.specs.commit_log.specs.Asked.{IsAsked}
-use Rattle.lock_walks.specs.commit_log.proofs.Asked.{asked_none}
+use Rattle.lock_walks.specs.try_lock.specs.epoch_slots.specs.Collects.{IsTidy}
+use Rattle.lock_walks.specs.try_lock.specs.epoch_slots.specs.Entries.{HasLeave, Exits}
+use Rattle.lock_walks.specs.try_lock.specs.commit_log.specs.Asked.{IsAsked}
+use Rattle.lock_walks.specs.try_lock.specs.commit_log.proofs.Asked.{asked_none}
 use Rattle.lock_walks.specs.try_lock.specs.Ends.{EndsSo, IsCutShort}
 use Rattle.attempts.specs.Learned.{HasLearned, IsCut}
 use Rattle.attempts.specs.Knowing.{KnowsMore}

@@ -3,18 +3,18 @@ use Rattle.std.specs.Prelude.{slice_get, All}
 use Rattle.std.proofs.Common.{◌≡◌, ℕ, List, ap, ◌∙◌, subst, Some}
 use Rattle.std.proofs.lemmas.List.Elements.{All-get_or}
 use Rattle.std.proofs.lemmas.Option.{slice_get_within, get_or_from_slice_get}
-use Rattle.map_history.specs.declared.op.Request.{Request}
-use Rattle.body_terms.specs.declared.thunk.Thunk.{Thunk}
-use Rattle.table_words.specs.Limits.{IsWithinLimits}
-use Rattle.structure_laws.specs.Scene.{Readings}
-use Rattle.structure_laws.specs.Meaning.{Meaning}
-use Rattle.structure_laws.specs.Laws.{Laws}
-use Rattle.structure_laws.specs.Sections.{IsAllowed}
-use Rattle.structure_laws.specs.Shape.{Shaped}
-use Rattle.runner_parts.specs.State.{PartState, ReadsState}
+use Rattle.history_orders.specs.map_history.specs.declared.op.Request.{Request}
+use Rattle.section_lines.specs.structure_laws.specs.body_terms.specs.declared.thunk.Thunk.{Thunk}
+use Rattle.section_lines.specs.structure_laws.specs.table_words.specs.Limits.{IsWithinLimits}
+use Rattle.section_lines.specs.structure_laws.specs.Scene.{Readings}
+use Rattle.section_lines.specs.structure_laws.specs.Meaning.{Meaning}
+use Rattle.section_lines.specs.structure_laws.specs.Laws.{Laws}
+use Rattle.section_lines.specs.structure_laws.specs.Sections.{IsAllowed}
+use Rattle.section_lines.specs.structure_laws.specs.Shape.{Shaped}
+use Rattle.machine_states.specs.runner_steps.specs.runner_parts.specs.State.{PartState, ReadsState}
 use Rattle.machine_states.specs.Sight.{Sight, sight, part_or_first}
-use Rattle.lock_words.specs.machine_invariant.specs.After.{AreAllowed}
-use Rattle.lock_words.specs.runner_facts.proofs.Walks.{reached_shaped}
+use Rattle.version_words.specs.machine_invariant.specs.After.{AreAllowed}
+use Rattle.lock_walks.specs.runner_facts.proofs.Walks.{reached_shaped}
 use Rattle.version_words.specs.RunnerState.{RunnerState}
 use Rattle.lock_walks.specs.try_lock.specs.declared.planned.Planned.TheVariants as plans
 use Rattle.lock_walks.specs.try_lock.specs.Planning.{Planning}

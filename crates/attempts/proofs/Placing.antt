@@ -3,24 +3,24 @@ use Rattle.std.specs.Prelude.{◌==◌, ◌&&◌, ◌||◌, Bool, true, false, i
 use Rattle.std.proofs.Common.{◌≡◌, ℕ, ◌+◌, ◌-◌, ◌<◌, ◌≤◌, List, [], ◌∷◌, ◌++◌, refl, sym, ap, ◌∙◌, subst, arith, Option, Some, None}
 use Rattle.std.proofs.lemmas.List.Folds.{list_any-append}
 use Rattle.std.proofs.lemmas.Bool.{and_parts}
-use Rattle.body_terms.specs.declared.micro.Micro.{Micro}
-use Rattle.body_terms.specs.declared.micro.Micro.TheVariants as micros
-use Rattle.body_terms.specs.Line.{micro_at, is_check, is_end}
-use Rattle.body_terms.specs.Run.{written_once}
-use Rattle.table_words.specs.declared.layout.Layout.{Layout}
-use Rattle.structure_laws.specs.Meaning.{Meaning}
-use Rattle.runner_parts.specs.Lists.{lock_agreed, holds_named}
-use Rattle.runner_parts.specs.State.{RunState, PartState, RecordsState, ReadsState}
-use Rattle.runner_parts.specs.Tests.{has, has_pair}
-use Rattle.runner_steps.specs.InRun.{make_slot}
-use Rattle.runner_steps.specs.Sections.{line_of, next_of, settles}
-use Rattle.runner_steps.specs.AfterInRun as inside
-use Rattle.runner_steps.specs.AfterInRun.{ended_more}
-use Rattle.runner_steps.specs.After.{line_after}
-use Rattle.lock_words.specs.machine_agreement.proofs.Passes.{ahead, settled_rests}
+use Rattle.section_lines.specs.structure_laws.specs.body_terms.specs.declared.micro.Micro.{Micro}
+use Rattle.section_lines.specs.structure_laws.specs.body_terms.specs.declared.micro.Micro.TheVariants as micros
+use Rattle.section_lines.specs.structure_laws.specs.body_terms.specs.Line.{micro_at, is_check, is_end}
+use Rattle.section_lines.specs.structure_laws.specs.body_terms.specs.Run.{written_once}
+use Rattle.section_lines.specs.structure_laws.specs.table_words.specs.declared.layout.Layout.{Layout}
+use Rattle.section_lines.specs.structure_laws.specs.Meaning.{Meaning}
+use Rattle.machine_states.specs.runner_steps.specs.runner_parts.specs.Lists.{lock_agreed, holds_named}
+use Rattle.machine_states.specs.runner_steps.specs.runner_parts.specs.State.{RunState, PartState, RecordsState, ReadsState}
+use Rattle.machine_states.specs.runner_steps.specs.runner_parts.specs.Tests.{has, has_pair}
+use Rattle.machine_states.specs.runner_steps.specs.InRun.{make_slot}
+use Rattle.machine_states.specs.runner_steps.specs.Sections.{line_of, next_of, settles}
+use Rattle.machine_states.specs.runner_steps.specs.AfterInRun as inside
+use Rattle.machine_states.specs.runner_steps.specs.AfterInRun.{ended_more}
+use Rattle.machine_states.specs.runner_steps.specs.After.{line_after}
+use Rattle.version_words.specs.machine_invariant.specs.machine_agreement.proofs.Passes.{ahead, settled_rests}
 use Rattle.machine_states.proofs.Steps.{some_same, none_some}
-use Rattle.lock_words.specs.next_steps.specs.Steps.{slot_in, kind_at}
-use Rattle.lock_words.specs.next_steps.specs.Stages.{filling_slot, run_behind, reads_behind}
+use Rattle.lock_walks.specs.runner_facts.specs.next_steps.specs.Steps.{slot_in, kind_at}
+use Rattle.lock_walks.specs.runner_facts.specs.next_steps.specs.Stages.{filling_slot, run_behind, reads_behind}
 
 -- the step writes to the stamp word or to the reply word of its request
 abbrev pub tells : Micro → Bool

@@ -1,19 +1,19 @@
 -- The stamp of an attempt is above those of all requests that were answered as it began.
 use Rattle.std.specs.Prelude.{false, slice_get}
 use Rattle.std.proofs.Common.{◌≡◌, ◌≢◌, ℕ, ◌%◌, ◌<◌, sym, ap, ◌∙◌, subst, ⊎_elim, arith}
-use Rattle.small_lemmas.proofs.Numbers.{zero_or_some}
-use Rattle.map_history.specs.declared.op.Request.{Request}
+use Rattle.section_lines.specs.small_lemmas.proofs.Numbers.{zero_or_some}
+use Rattle.history_orders.specs.map_history.specs.declared.op.Request.{Request}
 use Rattle.history_orders.specs.Turns.{Follows}
-use Rattle.table_words.specs.Limits.{IsWithinLimits}
-use Rattle.table_words.specs.declared.spot.Spot.TheVariants.{Stamp}
-use Rattle.structure_laws.specs.Meaning.{Meaning}
-use Rattle.structure_laws.specs.Laws.{Laws}
-use Rattle.runner_parts.specs.State.{PartState}
-use Rattle.runner_parts.specs.Tests.{is_answered}
+use Rattle.section_lines.specs.structure_laws.specs.table_words.specs.Limits.{IsWithinLimits}
+use Rattle.section_lines.specs.structure_laws.specs.table_words.specs.declared.spot.Spot.TheVariants.{Stamp}
+use Rattle.section_lines.specs.structure_laws.specs.Meaning.{Meaning}
+use Rattle.section_lines.specs.structure_laws.specs.Laws.{Laws}
+use Rattle.machine_states.specs.runner_steps.specs.runner_parts.specs.State.{PartState}
+use Rattle.machine_states.specs.runner_steps.specs.runner_parts.specs.Tests.{is_answered}
 use Rattle.machine_states.specs.Sight.{sight, part_or_first}
-use Rattle.lock_words.specs.machine_invariant.specs.After.{AreAllowed}
-use Rattle.lock_words.specs.machine_facts.specs.Known.{KnownStand}
-use Rattle.lock_words.specs.machine_facts.proofs.Following.{facts_after}
+use Rattle.version_words.specs.machine_invariant.specs.After.{AreAllowed}
+use Rattle.request_facts.specs.reached_histories.specs.machine_facts.specs.Known.{KnownStand}
+use Rattle.request_facts.specs.reached_histories.specs.machine_facts.proofs.Following.{facts_after}
 use Rattle.request_facts.specs.reached_histories.specs.Requests.{or_none}
 use Rattle.request_facts.specs.reached_histories.specs.Kept.{link_of}
 use Rattle.version_words.specs.RunnerState.{RunnerState}

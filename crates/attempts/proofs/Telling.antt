@@ -1,27 +1,27 @@
 -- What a run of a section tells its runner, ended or cut.
 use Rattle.std.specs.Prelude.{true, ◌⊎◌, if◌then◌else◌}
 use Rattle.std.proofs.Common.{◌≡◌, ◌≢◌, ℕ, zero, suc, ◌≤◌, List, [], ◌∷◌, ◌++◌, length, refl, sym, ap, ◌∙◌, subst, ⊎_elim, inl, inr, arith, Option, Some, None}
-use Rattle.body_terms.specs.Trail.{Agreed}
-use Rattle.body_terms.specs.declared.micro.Micro.TheVariants as micros
-use Rattle.body_terms.specs.declared.outcome.Outcome.{Outcome}
-use Rattle.body_terms.specs.declared.outcome.Outcome.TheVariants.{Answered}
-use Rattle.body_terms.specs.declared.thunk.Thunk.{Thunk}
-use Rattle.table_words.specs.Limits.{IsWithinLimits}
-use Rattle.structure_laws.specs.Meaning.{Meaning}
-use Rattle.structure_laws.specs.Laws.{Laws}
-use Rattle.runner_parts.specs.State.{RunState, FinishedState, ReadsState}
-use Rattle.runner_parts.specs.Tests.{has_pair}
-use Rattle.runner_steps.specs.AfterInRun.{ended_more, over_if, finished_of}
-use Rattle.runner_steps.specs.Sections.{thunk_of, outcome_of}
+use Rattle.section_lines.specs.structure_laws.specs.body_terms.specs.Trail.{Agreed}
+use Rattle.section_lines.specs.structure_laws.specs.body_terms.specs.declared.micro.Micro.TheVariants as micros
+use Rattle.section_lines.specs.structure_laws.specs.body_terms.specs.declared.outcome.Outcome.{Outcome}
+use Rattle.section_lines.specs.structure_laws.specs.body_terms.specs.declared.outcome.Outcome.TheVariants.{Answered}
+use Rattle.section_lines.specs.structure_laws.specs.body_terms.specs.declared.thunk.Thunk.{Thunk}
+use Rattle.section_lines.specs.structure_laws.specs.table_words.specs.Limits.{IsWithinLimits}
+use Rattle.section_lines.specs.structure_laws.specs.Meaning.{Meaning}
+use Rattle.section_lines.specs.structure_laws.specs.Laws.{Laws}
+use Rattle.machine_states.specs.runner_steps.specs.runner_parts.specs.State.{RunState, FinishedState, ReadsState}
+use Rattle.machine_states.specs.runner_steps.specs.runner_parts.specs.Tests.{has_pair}
+use Rattle.machine_states.specs.runner_steps.specs.AfterInRun.{ended_more, over_if, finished_of}
+use Rattle.machine_states.specs.runner_steps.specs.Sections.{thunk_of, outcome_of}
 use Rattle.machine_states.specs.Sight.{sight}
 use Rattle.machine_states.proofs.Steps.{none_some}
-use Rattle.lock_words.specs.machine_invariant.specs.After.{AreAllowed}
-use Rattle.lock_words.specs.machine_invariant.specs.Sections.{IsAnswered, IsLeft}
+use Rattle.version_words.specs.machine_invariant.specs.After.{AreAllowed}
+use Rattle.version_words.specs.machine_invariant.specs.Sections.{IsAnswered, IsLeft}
 use Rattle.version_words.specs.RunnerState.{RunnerState}
 use Rattle.version_words.specs.TableState.{TableState, IsOf}
-use Rattle.lock_walks.specs.commit_log.specs.Runs.{Ran, Stepped}
-use Rattle.lock_walks.specs.section_runs.specs.Opened.{IsOpening}
-use Rattle.lock_walks.specs.section_runs.proofs.Staying.{step_stays}
+use Rattle.lock_walks.specs.try_lock.specs.commit_log.specs.Runs.{Ran, Stepped}
+use Rattle.lock_walks.specs.try_lock.specs.section_runs.specs.Opened.{IsOpening}
+use Rattle.lock_walks.specs.try_lock.specs.section_runs.proofs.Staying.{step_stays}
 use Rattle.lock_walks.specs.try_lock.specs.Ends.{EndsSo, RanShort, IsCutShort}
 use Rattle.attempts.specs.Learned.{HasLearned, IsCut}
 use Rattle.attempts.proofs.Knowing.{append_none}

@@ -2,33 +2,33 @@
 use Rattle.std.specs.Prelude.{◌&&◌, not, Bool, true, false, if◌then◌else◌, Ok, Err}
 use Rattle.std.proofs.Common.{◌≡◌, ◌≢◌, ℕ, ◌+◌, ◌*◌, ◌-◌, ◌≤◌, length, refl, sym, ap, ◌∙◌, subst, arith, inl, inr, None, Some}
 use Rattle.std.proofs.lemmas.Bool.{true≢false}
-use Rattle.small_lemmas.proofs.Numbers.{from_zero as from_none}
-use Rattle.map_history.specs.declared.op.Request.{Request}
-use Rattle.body_terms.specs.Word.{value_of}
-use Rattle.body_terms.specs.declared.outcome.Refused.{Refused}
-use Rattle.body_terms.specs.declared.thunk.Thunk.{Thunk}
-use Rattle.table_words.specs.declared.layout.Layout.{Layout}
-use Rattle.table_words.specs.Limits.{IsWithinLimits}
+use Rattle.section_lines.specs.small_lemmas.proofs.Numbers.{from_zero as from_none}
+use Rattle.history_orders.specs.map_history.specs.declared.op.Request.{Request}
+use Rattle.section_lines.specs.structure_laws.specs.body_terms.specs.Word.{value_of}
+use Rattle.section_lines.specs.structure_laws.specs.body_terms.specs.declared.outcome.Refused.{Refused}
+use Rattle.section_lines.specs.structure_laws.specs.body_terms.specs.declared.thunk.Thunk.{Thunk}
+use Rattle.section_lines.specs.structure_laws.specs.table_words.specs.declared.layout.Layout.{Layout}
+use Rattle.section_lines.specs.structure_laws.specs.table_words.specs.Limits.{IsWithinLimits}
 use Rattle.runner_gate.specs.Asks.{Asks, asked_on}
-use Rattle.structure_laws.specs.Scene.{Readings}
-use Rattle.structure_laws.specs.Meaning.{Meaning}
-use Rattle.structure_laws.specs.Cells.{slots}
-use Rattle.structure_laws.specs.Laws.{Laws}
-use Rattle.structure_laws.proofs.Pairs.{pair_read}
-use Rattle.epoch_core.specs.declared.stage.Stage.TheVariants as stages
-use Rattle.runner_parts.specs.Tests.{has, has_pair, is_answered}
-use Rattle.runner_parts.specs.State.{NodesState, DescriptorsState, ReadsState}
+use Rattle.section_lines.specs.structure_laws.specs.Scene.{Readings}
+use Rattle.section_lines.specs.structure_laws.specs.Meaning.{Meaning}
+use Rattle.section_lines.specs.structure_laws.specs.Cells.{slots}
+use Rattle.section_lines.specs.structure_laws.specs.Laws.{Laws}
+use Rattle.section_lines.specs.structure_laws.proofs.Pairs.{pair_read}
+use Rattle.machine_states.specs.epoch_core.specs.declared.stage.Stage.TheVariants as stages
+use Rattle.machine_states.specs.runner_steps.specs.runner_parts.specs.Tests.{has, has_pair, is_answered}
+use Rattle.machine_states.specs.runner_steps.specs.runner_parts.specs.State.{NodesState, DescriptorsState, ReadsState}
 use Rattle.machine_states.proofs.Steps.{none_some}
-use Rattle.lock_words.specs.machine_invariant.specs.After.{AreAllowed}
+use Rattle.version_words.specs.machine_invariant.specs.After.{AreAllowed}
 use Rattle.version_words.specs.RunnerState.{RunnerState}
 use Rattle.version_words.specs.TableState.{TableState, IsOf}
 use Rattle.version_words.specs.Stages.{IsAt}
 use Rattle.attempts.specs.Reclaims.{Reclaims}
-use Rattle.lock_walks.specs.epoch_slots.specs.Entries.{Enters}
-use Rattle.lock_walks.specs.epoch_slots.specs.Reserves.{counts_of}
-use Rattle.lock_walks.specs.epoch_slots.specs.declared.reserves.Short.{Short}
-use Rattle.lock_walks.specs.commit_log.specs.Asked.{IsAsked}
-use Rattle.lock_walks.specs.commit_log.proofs.Asked.{asked_none}
+use Rattle.lock_walks.specs.try_lock.specs.epoch_slots.specs.Entries.{Enters}
+use Rattle.lock_walks.specs.try_lock.specs.epoch_slots.specs.Reserves.{counts_of}
+use Rattle.lock_walks.specs.try_lock.specs.epoch_slots.specs.declared.reserves.Short.{Short}
+use Rattle.lock_walks.specs.try_lock.specs.commit_log.specs.Asked.{IsAsked}
+use Rattle.lock_walks.specs.try_lock.specs.commit_log.proofs.Asked.{asked_none}
 use Rattle.lock_walks.specs.try_lock.specs.declared.planned.Planned.{Planned}
 use Rattle.lock_walks.specs.try_lock.specs.declared.planned.Planned.TheVariants as plans
 use Rattle.lock_walks.specs.try_lock.specs.declared.section.Section.{Section}

@@ -1,15 +1,15 @@
 -- What a run of a section told its runner.
 use Rattle.std.specs.Prelude.{◌≡◌, ◌≢◌, ℕ, ◌≤◌, ◌⊎◌, List, [], ◌++◌, length, slice_get, Some}
-use Rattle.body_terms.specs.declared.micro.Micro.TheVariants.{StampExchange}
-use Rattle.body_terms.specs.declared.thunk.Thunk.{Thunk}
-use Rattle.structure_laws.specs.Meaning.{Meaning}
-use Rattle.runner_parts.specs.State.{RunState, PartState, FinishedState}
-use Rattle.runner_steps.specs.AfterInRun.{over_if}
-use Rattle.runner_steps.specs.Sections.{thunk_of, next_of}
+use Rattle.section_lines.specs.structure_laws.specs.body_terms.specs.declared.micro.Micro.TheVariants.{StampExchange}
+use Rattle.section_lines.specs.structure_laws.specs.body_terms.specs.declared.thunk.Thunk.{Thunk}
+use Rattle.section_lines.specs.structure_laws.specs.Meaning.{Meaning}
+use Rattle.machine_states.specs.runner_steps.specs.runner_parts.specs.State.{RunState, PartState, FinishedState}
+use Rattle.machine_states.specs.runner_steps.specs.AfterInRun.{over_if}
+use Rattle.machine_states.specs.runner_steps.specs.Sections.{thunk_of, next_of}
 use Rattle.machine_states.specs.World.{World, seat_of}
 use Rattle.machine_states.specs.Reached.{Reached}
 use Rattle.version_words.specs.RunnerState.{RunnerState}
-use Rattle.lock_walks.specs.section_runs.specs.Opened.{Learns}
+use Rattle.lock_walks.specs.try_lock.specs.section_runs.specs.Opened.{Learns}
 use Rattle.lock_walks.specs.try_lock.specs.Reached.{IsReached}
 
 module _ {T : Type 0} (m : Meaning) where

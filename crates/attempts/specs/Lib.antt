@@ -7,11 +7,10 @@ pub mod Learned
 pub mod RealTime
 pub mod Rests
 -- Passed on to the layers above, so that they needn't name these libraries themselves.
-pub use Rattle.lock_walks.specs.epoch_slots
-pub use Rattle.lock_words.specs.runner_facts
-pub use Rattle.lock_walks.specs.commit_log
+pub use Rattle.lock_walks.specs.try_lock.specs.commit_log
+pub use Rattle.lock_walks.specs.try_lock.specs.epoch_slots
+pub use Rattle.lock_walks
 pub use Rattle.lock_words
 pub use Rattle.request_facts
-pub use Rattle.lock_walks.specs.section_runs
+pub use Rattle.lock_walks.specs.runner_facts
 pub use Rattle.lock_walks.specs.try_lock
-pub use Rattle.lock_walks

@@ -1,8 +1,8 @@
 -- How a runner comes by free slots before it enters.
 use Rattle.std.specs.Prelude.{◌≡◌, ◌*◌, ◌&&◌, ◌||◌, ◌==◌, Bool, true, false, nat_lt, nat_le, length}
-use Rattle.structure_laws.specs.Meaning.{Meaning}
+use Rattle.section_lines.specs.structure_laws.specs.Meaning.{Meaning}
 use Rattle.version_words.specs.RunnerState.{RunnerState}
-use Rattle.lock_walks.specs.epoch_slots.specs.Collects.{IsTidy, Collects}
+use Rattle.lock_walks.specs.try_lock.specs.epoch_slots.specs.Collects.{IsTidy, Collects}
 
 module _ {T : Type 0} where
   -- fewer slots are free than an attempt needs: two node slots and one descriptor

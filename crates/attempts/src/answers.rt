@@ -1,8 +1,8 @@
 //! What an attempt of a request answers.
 
-use body_terms::{Place, Word};
+use history_orders::map_history::Reply;
 use lock_walks::epoch_slots::Short;
-use map_history::Reply;
+use section_lines::structure_laws::body_terms::{Place, Word};
 
 /// What one attempt of a request came to.
 #[derive(Clone, Copy, Debug, PartialEq, Eq)]

@@ -31,6 +31,5 @@ pub use turns::turn_away;
 
 // Passed on to the layers above, so that they needn't name these libraries themselves.
 pub use lock_walks;
-pub use lock_walks::{epoch_slots, section_runs, try_lock};
+pub use lock_walks::epoch_slots;
 pub use lock_words;
-pub use request_facts;

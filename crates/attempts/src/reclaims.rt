@@ -1,11 +1,11 @@
 //! How a runner comes by free slots before an attempt: it collects where it has to.
 ghost use Rattle.std.specs.Prelude.{◌≡◌};
 ghost use Rattle.version_words.specs.TableState.{IsOf};
-ghost use Rattle.lock_walks.specs.epoch_slots.specs.Collects.{IsTidy};
+ghost use Rattle.lock_walks.specs.try_lock.specs.epoch_slots.specs.Collects.{IsTidy};
 ghost use Rattle.attempts.specs.Reclaims.{lacks_slots, has_much_in_limbo, CollectsWhere, Reclaims, IsRested};
 
 use lock_walks::epoch_slots::collect;
-use structure_laws::Structure;
+use section_lines::structure_laws::Structure;
 use version_words::{FlockTable, Runner};
 
 /// Whether fewer slots are free than an attempt needs: two node slots and one descriptor.

@@ -1,11 +1,11 @@
 //! The own slots that an attempt needs.
 ghost use Rattle.std.specs.Prelude.{◌≡◌, IfOk, IfErr};
-ghost use Rattle.lock_walks.specs.epoch_slots.specs.Reserves.{counts_of};
+ghost use Rattle.lock_walks.specs.try_lock.specs.epoch_slots.specs.Reserves.{counts_of};
 ghost use Rattle.attempts.specs.Course.{HasReserve};
 ghost use Rattle.attempts.specs.Attempts.{IsFew};
 
 use lock_walks::epoch_slots::{Kind, Short, reserve};
-use structure_laws::Structure;
+use section_lines::structure_laws::Structure;
 use version_words::Runner;
 
 /// The runner, if two node slots and one descriptor are free; else the runner and the counts of the kind that

@@ -5,13 +5,13 @@ ghost use Rattle.attempts.specs.Attempts.{is_refusal};
 ghost use Rattle.attempts.specs.Rests.{MayLeave, HasTurned};
 
 use crate::answers::Attempt;
-use body_terms::Steps;
 use lock_walks::epoch_slots::exit;
 use lock_walks::try_lock::{RunEnd, help};
 use lock_words::runner_facts::names_stand;
 use lock_words::taken_names_stand;
 use runner_gate::Gate;
-use structure_laws::Structure;
+use section_lines::structure_laws::Structure;
+use section_lines::structure_laws::body_terms::Steps;
 use version_words::{FlockTable, Runner};
 
 /// Leaves with this refusal, and answers it; where a lock was held, the section that its word names is run to its end

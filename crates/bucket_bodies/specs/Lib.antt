@@ -1,1 +1,3 @@
 pub mod Table
+-- Passed on to the layers above, so that they needn't name these libraries themselves.
+pub use Rattle.section_body

@@ -4,3 +4,6 @@
 mod bodies;
 
 pub use bodies::{table_body, table_body_in};
+
+// Passed on to the layers above, so that they needn't name these libraries themselves.
+pub use section_body;

@@ -3,7 +3,7 @@ use Rattle.std.proofs.Common.{◌≡◌, ◌≢◌, ℕ, zero, suc, ◌<◌, ◌
 use Rattle.std.specs.Prelude.{Option, Some, None}
 use mathlib.Core.Logic.{dite}
 use native.Mathlib.Decide.{ℕ_discrete}
-use Rattle.body_terms.specs.Update.{upd}
+use Rattle.structure_laws.specs.body_terms.specs.Update.{upd}
 use Rattle.bucket_laws.specs.Chain.{Nodes, with_head, with_next, with_value, IsBeside, Chains, Contents}
 
 -- a slot in no chain links the first node of its bucket and becomes the head; its rank is above the bucket's

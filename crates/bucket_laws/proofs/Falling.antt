@@ -2,13 +2,13 @@
 use Rattle.std.specs.Prelude.{◌==◌, ◌&&◌, ◌-◌, ◌%◌, not, cond, nat_lt, nat_le, Bool, true, false, ◌⊎◌}
 use Rattle.std.proofs.Common.{◌≡◌, ℕ, suc, ◌+◌, ◌*◌, ◌<◌, ◌≤◌, [], ◌∷◌, refl, sym, ap, ◌∙◌, ⊎_elim, inl, inr, arith, Some}
 use Rattle.std.proofs.lemmas.Option.{none-some}
-use Rattle.small_lemmas.proofs.Lists.{same_number as some_eq}
-use Rattle.small_lemmas.proofs.Numbers.{tested_other as is_not}
-use Rattle.map_history.specs.declared.op.Op.{Op}
-use Rattle.map_history.specs.Keys.{key_of}
-use Rattle.map_history.specs.Replay.{Pairs}
-use Rattle.body_terms.specs.Word.{value_of, is_free, is_spent}
-use Rattle.section_body.specs.Bucket.{bucket_head}
+use Rattle.structure_laws.specs.table_words.specs.small_lemmas.proofs.Lists.{same_number as some_eq}
+use Rattle.structure_laws.specs.table_words.specs.small_lemmas.proofs.Numbers.{tested_other as is_not}
+use Rattle.structure_laws.specs.map_history.specs.declared.op.Op.{Op}
+use Rattle.structure_laws.specs.map_history.specs.Keys.{key_of}
+use Rattle.structure_laws.specs.map_history.specs.Replay.{Pairs}
+use Rattle.structure_laws.specs.body_terms.specs.Word.{value_of, is_free, is_spent}
+use Rattle.bucket_bodies.specs.section_body.specs.Bucket.{bucket_head}
 use Rattle.structure_laws.specs.Scene.{Cells, Readings}
 use Rattle.structure_laws.specs.Stand.{StandIn}
 use Rattle.structure_laws.specs.Ranks.{lower}

@@ -1,15 +1,15 @@
 -- What a thunk that fits a walk has for operands.
 use Rattle.std.proofs.Common.{◌≡◌, ℕ, ◌+◌, Bool, true, false, refl, sym, ap, ◌∙◌, subst, arith}
 use Rattle.std.specs.Prelude.{◌==◌, ◌*◌, ◌^◌, List, [], ◌∷◌, None, Some, is_none, Option, slice_index}
-use Rattle.small_lemmas.proofs.Bools.{both_of as both_true}
-use Rattle.small_lemmas.proofs.Numbers.{tested_equal as equal_of}
-use Rattle.map_history.specs.declared.op.Op.{Op}
-use Rattle.map_history.specs.declared.op.Op.TheVariants.{Get, Ins, Del, Put, Mov}
-use Rattle.map_history.specs.Keys.{key_of, other_key_of, value_given, IsOneKeyed}
-use Rattle.map_history.specs.AtKey.{Keeps, Gets, change_at}
-use Rattle.section_body.specs.Bucket.{bucket_lock, operand}
-use Rattle.body_terms.specs.Memory.{cell_of}
-use Rattle.body_terms.specs.declared.thunk.Thunk.{Thunk}
+use Rattle.structure_laws.specs.table_words.specs.small_lemmas.proofs.Bools.{both_of as both_true}
+use Rattle.structure_laws.specs.table_words.specs.small_lemmas.proofs.Numbers.{tested_equal as equal_of}
+use Rattle.structure_laws.specs.map_history.specs.declared.op.Op.{Op}
+use Rattle.structure_laws.specs.map_history.specs.declared.op.Op.TheVariants.{Get, Ins, Del, Put, Mov}
+use Rattle.structure_laws.specs.map_history.specs.Keys.{key_of, other_key_of, value_given, IsOneKeyed}
+use Rattle.structure_laws.specs.map_history.specs.AtKey.{Keeps, Gets, change_at}
+use Rattle.bucket_bodies.specs.section_body.specs.Bucket.{bucket_lock, operand}
+use Rattle.structure_laws.specs.body_terms.specs.Memory.{cell_of}
+use Rattle.structure_laws.specs.body_terms.specs.declared.thunk.Thunk.{Thunk}
 use Rattle.bucket_laws.specs.Walk.{Stage, AtEdition, AtLink, AtKey, AtValue, AtNext, AtLock, AtEnd, Refused, Walk, is_del, is_end, same_numbers, form_for, operands_for, fits_walk}
 
 no_other : (other : Option ℕ) → is_none other ≡ true → other ≡ None

@@ -2,17 +2,17 @@
 use Rattle.std.proofs.Common.{◌≡◌, ◌≢◌, ℕ, zero, suc, ◌+◌, ◌<◌, ◌≤◌, Bool, true, false, cond, refl, sym, ap, ◌∙◌, subst}
 use Rattle.std.proofs.Common.{inl, inr, ⊎_elim, arith}
 use Rattle.std.specs.Prelude.{◌==◌, ◌*◌, ◌^◌, ◌⊎◌, Some, None, List, [], ◌∷◌, Contains, slice_get, slice_index_or}
-use Rattle.small_lemmas.proofs.Lists.{some_same as some_inj}
-use Rattle.small_lemmas.proofs.Numbers.{tested_equal as equal_of}
-use Rattle.section_body.specs.Bucket.{operand, fits_read, fits_insert, fits_remove}
-use Rattle.section_body.specs.Bucket.{read_steps, insert_steps, remove_steps}
+use Rattle.structure_laws.specs.table_words.specs.small_lemmas.proofs.Lists.{some_same as some_inj}
+use Rattle.structure_laws.specs.table_words.specs.small_lemmas.proofs.Numbers.{tested_equal as equal_of}
+use Rattle.bucket_bodies.specs.section_body.specs.Bucket.{operand, fits_read, fits_insert, fits_remove}
+use Rattle.bucket_bodies.specs.section_body.specs.Bucket.{read_steps, insert_steps, remove_steps}
 use Rattle.bucket_bodies.specs.Table.{fits_set, set_steps, table_steps}
-use Rattle.body_terms.specs.declared.value.Value.{Value}
-use Rattle.body_terms.specs.declared.value.Value.TheVariants.{Const, Made}
-use Rattle.body_terms.specs.declared.value.Init.{Init}
-use Rattle.body_terms.specs.declared.step.Step.{Step}
-use Rattle.body_terms.specs.declared.step.Step.TheVariants.{Load, Want, Fresh, Take, Make, Stamp, Store, Retire, Answer}
-use Rattle.body_terms.specs.declared.thunk.Thunk.{Thunk}
+use Rattle.structure_laws.specs.body_terms.specs.declared.value.Value.{Value}
+use Rattle.structure_laws.specs.body_terms.specs.declared.value.Value.TheVariants.{Const, Made}
+use Rattle.structure_laws.specs.body_terms.specs.declared.value.Init.{Init}
+use Rattle.structure_laws.specs.body_terms.specs.declared.step.Step.{Step}
+use Rattle.structure_laws.specs.body_terms.specs.declared.step.Step.TheVariants.{Load, Want, Fresh, Take, Make, Stamp, Store, Retire, Answer}
+use Rattle.structure_laws.specs.body_terms.specs.declared.thunk.Thunk.{Thunk}
 use Rattle.structure_laws.specs.Sections.{is_exit}
 use Rattle.bucket_laws.specs.Halves.{Kind, Look, Insert, Remove, Set, Half, half_of, halves}
 

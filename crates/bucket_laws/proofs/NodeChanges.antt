@@ -4,9 +4,9 @@ use Rattle.std.proofs.Math.Path.{fun_ext}
 use Rattle.std.specs.Prelude.{nat_lt}
 use mathlib.Core.Logic.{dite}
 use native.Mathlib.Decide.{ℕ_discrete}
-use Rattle.body_terms.specs.Update.{upd}
-use Rattle.body_terms.specs.Word.{value_of}
-use Rattle.section_body.specs.Bucket.{bucket_head}
+use Rattle.structure_laws.specs.body_terms.specs.Update.{upd}
+use Rattle.structure_laws.specs.body_terms.specs.Word.{value_of}
+use Rattle.bucket_bodies.specs.section_body.specs.Bucket.{bucket_head}
 use Rattle.structure_laws.specs.Scene.{Cells}
 use Rattle.structure_laws.proofs.Changes.{upd_same, upd_other}
 use Rattle.bucket_laws.specs.Chain.{Nodes, with_head, with_next, with_value}

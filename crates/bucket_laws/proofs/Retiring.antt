@@ -1,10 +1,10 @@
 -- A section of the hash table retires one slot at most.
 use Rattle.std.specs.Prelude.{count_by, List}
 use Rattle.std.proofs.Common.{◌≤◌, sym, subst, ⊎_elim, arith}
-use Rattle.body_terms.specs.Shape.{is_retire}
+use Rattle.structure_laws.specs.body_terms.specs.Shape.{is_retire}
 use Rattle.bucket_bodies.specs.Table.{table_steps}
-use Rattle.body_terms.specs.declared.step.Step.{Step}
-use Rattle.body_terms.specs.declared.thunk.Thunk.{Thunk}
+use Rattle.structure_laws.specs.body_terms.specs.declared.step.Step.{Step}
+use Rattle.structure_laws.specs.body_terms.specs.declared.thunk.Thunk.{Thunk}
 use Rattle.bucket_laws.specs.Halves.{Kind, Look, Insert, Remove, Set}
 use Rattle.bucket_laws.proofs.Halves.{steps_for, body_cases}
 

@@ -2,17 +2,17 @@
 use Rattle.std.proofs.Common.{◌≡◌, ◌≢◌, ℕ, suc, ◌+◌, ◌*◌, ◌<◌, ◌≤◌, Bool, true, false, cond, refl, sym, ap, ◌∙◌, subst, inl, inr, ⊎_elim, arith}
 use Rattle.std.specs.Prelude.{◌==◌, ◌&&◌, ◌||◌, ◌⊎◌, ◌-◌, ◌/◌, ◌%◌, nat_lt, Some, [], ◌∷◌, slice_get}
 use Rattle.std.specs.List.{list_any}
-use Rattle.small_lemmas.proofs.Bools.{both_of as both_true, not_both}
-use Rattle.small_lemmas.proofs.Lists.{some_same as some_inj}
-use Rattle.small_lemmas.proofs.Numbers.{suc_equal as suc_eq, tested_equal as equal_of}
-use Rattle.map_history.specs.Keys.{key_of, DependsOn}
-use Rattle.map_history.proofs.Cells.{key_is}
-use Rattle.body_terms.specs.Word.{value_of, next_word}
-use Rattle.section_body.specs.Bucket.{bucket_lock, bucket_head, operand}
-use Rattle.body_terms.specs.declared.value.Value.{Value}
-use Rattle.body_terms.specs.declared.step.Step.TheVariants.{Load, Fresh, Store, Retire}
-use Rattle.table_words.specs.declared.layout.Layout.{Layout}
-use Rattle.body_terms.specs.Update.{upd}
+use Rattle.structure_laws.specs.table_words.specs.small_lemmas.proofs.Bools.{both_of as both_true, not_both}
+use Rattle.structure_laws.specs.table_words.specs.small_lemmas.proofs.Lists.{some_same as some_inj}
+use Rattle.structure_laws.specs.table_words.specs.small_lemmas.proofs.Numbers.{suc_equal as suc_eq, tested_equal as equal_of}
+use Rattle.structure_laws.specs.map_history.specs.Keys.{key_of, DependsOn}
+use Rattle.structure_laws.specs.map_history.proofs.Cells.{key_is}
+use Rattle.structure_laws.specs.body_terms.specs.Word.{value_of, next_word}
+use Rattle.bucket_bodies.specs.section_body.specs.Bucket.{bucket_lock, bucket_head, operand}
+use Rattle.structure_laws.specs.body_terms.specs.declared.value.Value.{Value}
+use Rattle.structure_laws.specs.body_terms.specs.declared.step.Step.TheVariants.{Load, Fresh, Store, Retire}
+use Rattle.structure_laws.specs.table_words.specs.declared.layout.Layout.{Layout}
+use Rattle.structure_laws.specs.body_terms.specs.Update.{upd}
 use Rattle.structure_laws.specs.Scene.{Cells, Readings, Section, Status, Free, Live, Retired, Scene}
 use Rattle.structure_laws.specs.Sections.{value_in, Here, IsStep, Holds, Settled}
 use Rattle.structure_laws.specs.Cells.{InUse, Links, IsSafe}

@@ -5,24 +5,24 @@ use Rattle.std.specs.Prelude.{slice_index, length, Contains}
 use Rattle.std.specs.FinMap.{get, empty, get-empty}
 use Rattle.std.specs.Ordering.{nat_cmp}
 use Rattle.std.proofs.lemmas.Nat.{pow_pos, pow_below, shr_below}
-use Rattle.small_lemmas.proofs.Bools.{false_not_true, both_hold}
-use Rattle.small_lemmas.proofs.Lists.{none_not_some, some_not_none, some_same}
-use Rattle.small_lemmas.proofs.Numbers.{zero_not_suc, last_or_before}
-use Rattle.map_history.specs.declared.op.Op.{Op}
-use Rattle.map_history.specs.declared.op.Op.TheVariants.{Get, Ins, Del, Put, Mov}
-use Rattle.map_history.specs.Keys.{key_of, value_given, IsOneKeyed}
-use Rattle.map_history.specs.Replay.{Pairs}
-use Rattle.body_terms.specs.Update.{upd}
-use Rattle.body_terms.specs.Word.{value_of}
-use Rattle.section_body.specs.Bucket.{bucket_index, bucket_head, operand, is_small}
+use Rattle.structure_laws.specs.table_words.specs.small_lemmas.proofs.Bools.{false_not_true, both_hold}
+use Rattle.structure_laws.specs.table_words.specs.small_lemmas.proofs.Lists.{none_not_some, some_not_none, some_same}
+use Rattle.structure_laws.specs.table_words.specs.small_lemmas.proofs.Numbers.{zero_not_suc, last_or_before}
+use Rattle.structure_laws.specs.map_history.specs.declared.op.Op.{Op}
+use Rattle.structure_laws.specs.map_history.specs.declared.op.Op.TheVariants.{Get, Ins, Del, Put, Mov}
+use Rattle.structure_laws.specs.map_history.specs.Keys.{key_of, value_given, IsOneKeyed}
+use Rattle.structure_laws.specs.map_history.specs.Replay.{Pairs}
+use Rattle.structure_laws.specs.body_terms.specs.Update.{upd}
+use Rattle.structure_laws.specs.body_terms.specs.Word.{value_of}
+use Rattle.bucket_bodies.specs.section_body.specs.Bucket.{bucket_index, bucket_head, operand, is_small}
 use Rattle.bucket_bodies.specs.Table.{table_steps}
-use Rattle.body_terms.specs.Shape.{IsShaped}
-use Rattle.body_terms.specs.declared.value.Value.{Value}
-use Rattle.body_terms.specs.declared.step.Step.TheVariants.{Load, Make, Store, Answer}
-use Rattle.body_terms.specs.declared.thunk.Thunk.{Thunk}
-use Rattle.table_words.specs.declared.layout.Layout.{Layout}
-use Rattle.table_words.specs.Limits.{IsWithinLimits}
-use Rattle.table_words.specs.Places.{slot_count}
+use Rattle.structure_laws.specs.body_terms.specs.Shape.{IsShaped}
+use Rattle.structure_laws.specs.body_terms.specs.declared.value.Value.{Value}
+use Rattle.structure_laws.specs.body_terms.specs.declared.step.Step.TheVariants.{Load, Make, Store, Answer}
+use Rattle.structure_laws.specs.body_terms.specs.declared.thunk.Thunk.{Thunk}
+use Rattle.structure_laws.specs.table_words.specs.declared.layout.Layout.{Layout}
+use Rattle.structure_laws.specs.table_words.specs.Limits.{IsWithinLimits}
+use Rattle.structure_laws.specs.table_words.specs.Places.{slot_count}
 use Rattle.structure_laws.specs.Scene.{Readings, Free, Live, Retired, Scene}
 use Rattle.structure_laws.specs.Sections.{IsAllowed, IsSmall}
 use Rattle.structure_laws.specs.Cells.{IsKnown, IsSafe}

@@ -3,15 +3,15 @@ use Rattle.std.proofs.Common.{◌≡◌, ◌≢◌, ℕ, zero, suc, ◌+◌, ◌
 use Rattle.std.proofs.Common.{subst, ⊎_elim, arith}
 use Rattle.std.proofs.lemmas.List.Elements.{All-nil, All-cons}
 use Rattle.std.specs.Prelude.{◌==◌, ◌^◌, ◌⊎◌, Some, List, [], ◌∷◌, All, Contains, nat_lt}
-use Rattle.small_lemmas.proofs.Lists.{some_same as some_inj}
-use Rattle.section_body.specs.Bucket.{operand, read_steps, insert_steps, remove_steps}
+use Rattle.structure_laws.specs.table_words.specs.small_lemmas.proofs.Lists.{some_same as some_inj}
+use Rattle.bucket_bodies.specs.section_body.specs.Bucket.{operand, read_steps, insert_steps, remove_steps}
 use Rattle.bucket_bodies.specs.Table.{set_steps}
-use Rattle.body_terms.specs.declared.value.Value.{Value}
-use Rattle.body_terms.specs.declared.value.Value.TheVariants.{Const, Of, Made}
-use Rattle.body_terms.specs.declared.step.Step.{Step}
-use Rattle.body_terms.specs.declared.step.Step.TheVariants.{Load, Want, Fresh, Make, Stamp, Store, Retire, Answer}
-use Rattle.body_terms.specs.declared.thunk.Thunk.{Thunk}
-use Rattle.body_terms.specs.Shape.{IsShaped, IsStep, SetBefore, LoadedBefore, FreshBefore, phase, used_values, set_registers, store_place}
+use Rattle.structure_laws.specs.body_terms.specs.declared.value.Value.{Value}
+use Rattle.structure_laws.specs.body_terms.specs.declared.value.Value.TheVariants.{Const, Of, Made}
+use Rattle.structure_laws.specs.body_terms.specs.declared.step.Step.{Step}
+use Rattle.structure_laws.specs.body_terms.specs.declared.step.Step.TheVariants.{Load, Want, Fresh, Make, Stamp, Store, Retire, Answer}
+use Rattle.structure_laws.specs.body_terms.specs.declared.thunk.Thunk.{Thunk}
+use Rattle.structure_laws.specs.body_terms.specs.Shape.{IsShaped, IsStep, SetBefore, LoadedBefore, FreshBefore, phase, used_values, set_registers, store_place}
 use Rattle.bucket_laws.specs.Halves.{Kind, Look, Insert, Remove, Set, Half, half_of}
 use Rattle.bucket_laws.proofs.Halves.{steps_for, node_init, IsOf, step_in}
 

@@ -8,19 +8,19 @@ use Rattle.std.proofs.lemmas.Bool.{both_ways}
 use Rattle.std.proofs.lemmas.Option.{none-some}
 use mathlib.Core.Logic.{dite}
 use native.Mathlib.Decide.{ℕ_discrete}
-use Rattle.small_lemmas.proofs.Lists.{none_if_never as none_is}
-use Rattle.map_history.specs.Keys.{key_of, value_given}
-use Rattle.map_history.specs.Replay.{Pairs, reply_of, map_after}
-use Rattle.map_history.specs.Words.{word_of}
-use Rattle.body_terms.specs.Update.{upd}
-use Rattle.body_terms.specs.Word.{value_of, next_word}
-use Rattle.section_body.specs.Bucket.{bucket_edition, bucket_head, operand}
+use Rattle.structure_laws.specs.table_words.specs.small_lemmas.proofs.Lists.{none_if_never as none_is}
+use Rattle.structure_laws.specs.map_history.specs.Keys.{key_of, value_given}
+use Rattle.structure_laws.specs.map_history.specs.Replay.{Pairs, reply_of, map_after}
+use Rattle.structure_laws.specs.map_history.specs.Words.{word_of}
+use Rattle.structure_laws.specs.body_terms.specs.Update.{upd}
+use Rattle.structure_laws.specs.body_terms.specs.Word.{value_of, next_word}
+use Rattle.bucket_bodies.specs.section_body.specs.Bucket.{bucket_edition, bucket_head, operand}
 use Rattle.bucket_bodies.specs.Table.{table_steps}
-use Rattle.body_terms.specs.declared.value.Value.TheVariants.{Made}
-use Rattle.body_terms.specs.declared.step.Step.TheVariants.{Load, Stamp, Store, Answer}
-use Rattle.table_words.specs.declared.layout.Layout.{Layout}
-use Rattle.table_words.specs.Limits.{IsWithinLimits}
-use Rattle.table_words.specs.Places.{slot_count}
+use Rattle.structure_laws.specs.body_terms.specs.declared.value.Value.TheVariants.{Made}
+use Rattle.structure_laws.specs.body_terms.specs.declared.step.Step.TheVariants.{Load, Stamp, Store, Answer}
+use Rattle.structure_laws.specs.table_words.specs.declared.layout.Layout.{Layout}
+use Rattle.structure_laws.specs.table_words.specs.Limits.{IsWithinLimits}
+use Rattle.structure_laws.specs.table_words.specs.Places.{slot_count}
 use Rattle.structure_laws.specs.Scene.{Cells, Section, Scene}
 use Rattle.structure_laws.specs.Sections.{Here, IsStep, value_in}
 use Rattle.structure_laws.specs.InTurn.{StandsFor, AtStamp, AfterStores}

@@ -1,6 +1,6 @@
 -- The chains of a hash table: which slots stand in them, each with a rank that falls along its chain.
 use Rattle.std.specs.Prelude.{ℕ, suc, ◌<◌, ◌≤◌, ◌≡◌, ◌≢◌, Bool, true, Option, Some}
-use Rattle.body_terms.specs.Update.{upd}
+use Rattle.structure_laws.specs.body_terms.specs.Update.{upd}
 
 -- the values of the heads by bucket, and of the cells of the slots
 pub record Nodes : Type 0 where

@@ -1,8 +1,8 @@
 -- What a body does in each bucket that it locks: its halves. Today each body locks one bucket.
 use Rattle.std.specs.Prelude.{ℕ, suc, ◌+◌, ◌<◌, ◌≤◌, ◌≡◌, ◌⊎◌, ◌==◌, cond, List, [], ◌∷◌, Contains}
-use Rattle.section_body.specs.Bucket.{bucket_lock, operand, fits_read, fits_insert, fits_remove}
+use Rattle.bucket_bodies.specs.section_body.specs.Bucket.{bucket_lock, operand, fits_read, fits_insert, fits_remove}
 use Rattle.bucket_bodies.specs.Table.{fits_set}
-use Rattle.body_terms.specs.declared.thunk.Thunk.{Thunk}
+use Rattle.structure_laws.specs.body_terms.specs.declared.thunk.Thunk.{Thunk}
 use Rattle.structure_laws.specs.Scene.{Section}
 
 -- it reads alone, puts a new node at the head, takes a node out, or sets the value of one

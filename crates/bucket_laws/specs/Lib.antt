@@ -3,5 +3,5 @@ pub mod Walk
 pub mod Halves
 pub mod Buckets
 pub mod Short
--- Passed on to the layers above, so that they needn't name this library themselves.
+-- Passed on to the layers above, so that they needn't name these libraries themselves.
 pub use Rattle.bucket_bodies

@@ -1,10 +1,10 @@
 -- Walks of the hash table that read what stands.
 use Rattle.std.specs.Prelude.{ℕ, ◌+◌, ◌^◌, ◌≤◌}
-use Rattle.map_history.specs.declared.op.Op.{Op}
-use Rattle.map_history.specs.Replay.{Pairs}
-use Rattle.section_body.specs.Bucket.{bucket_index}
-use Rattle.table_words.specs.declared.layout.Layout.{Layout}
-use Rattle.table_words.specs.Places.{slot_count}
+use Rattle.structure_laws.specs.map_history.specs.declared.op.Op.{Op}
+use Rattle.structure_laws.specs.map_history.specs.Replay.{Pairs}
+use Rattle.bucket_bodies.specs.section_body.specs.Bucket.{bucket_index}
+use Rattle.structure_laws.specs.table_words.specs.declared.layout.Layout.{Layout}
+use Rattle.structure_laws.specs.table_words.specs.Places.{slot_count}
 use Rattle.structure_laws.specs.Scene.{Cells, Readings}
 use Rattle.structure_laws.specs.Stand.{StandIn}
 use Rattle.bucket_laws.specs.Buckets.{buckets_meaning, walk_of}

@@ -1,13 +1,13 @@
 -- The walk of a key through its bucket, read off a list of readings, and the thunk that is the one for it.
 use Rattle.std.specs.Prelude.{ℕ, suc, ◌+◌, ◌*◌, ◌-◌, ◌^◌, Bool, true, false, cond, not, ◌&&◌, ◌==◌, nat_le}
 use Rattle.std.specs.Prelude.{is_none, List, [], ◌∷◌, Option, None, Some}
-use Rattle.map_history.specs.declared.op.Op.{Op}
-use Rattle.map_history.specs.declared.op.Op.TheVariants.{Get, Ins, Del, Put, Mov}
-use Rattle.map_history.specs.Keys.{key_of, other_key_of}
-use Rattle.body_terms.specs.Memory.{cell_of}
-use Rattle.body_terms.specs.Word.{value_of, is_free, is_spent}
-use Rattle.section_body.specs.Bucket.{bucket_lock, bucket_edition, bucket_head}
-use Rattle.body_terms.specs.declared.thunk.Thunk.{Thunk}
+use Rattle.structure_laws.specs.map_history.specs.declared.op.Op.{Op}
+use Rattle.structure_laws.specs.map_history.specs.declared.op.Op.TheVariants.{Get, Ins, Del, Put, Mov}
+use Rattle.structure_laws.specs.map_history.specs.Keys.{key_of, other_key_of}
+use Rattle.structure_laws.specs.body_terms.specs.Memory.{cell_of}
+use Rattle.structure_laws.specs.body_terms.specs.Word.{value_of, is_free, is_spent}
+use Rattle.bucket_bodies.specs.section_body.specs.Bucket.{bucket_lock, bucket_edition, bucket_head}
+use Rattle.structure_laws.specs.body_terms.specs.declared.thunk.Thunk.{Thunk}
 use Rattle.structure_laws.specs.Scene.{Readings}
 
 -- what the walk loads next; it is at its end, or was refused

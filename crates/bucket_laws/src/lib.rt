@@ -10,5 +10,5 @@ mod steady;
 pub use laws::{buckets_meet_the_laws, buckets_meet_the_planners_laws};
 pub use steady::bucket_walks_are_short;
 
-// Passed on to the layers above, so that they needn't name this library themselves.
+// Passed on to the layers above, so that they needn't name these libraries themselves.
 pub use bucket_bodies;

@@ -2,14 +2,14 @@
 use Rattle.std.proofs.Common.{◌≡◌, ℕ, ◌+◌, ◌*◌, ◌^◌, ◌≤◌, length, Bool, true, false, cond, [], refl, sym, subst, arith}
 use Rattle.std.specs.Prelude.{◌==◌}
 use Rattle.std.specs.List.{list_all}
-use Rattle.map_history.specs.declared.op.Op.{Op}
-use Rattle.map_history.specs.declared.op.Op.TheVariants.{Get}
-use Rattle.body_terms.specs.Shape.{is_look}
-use Rattle.body_terms.specs.declared.thunk.Thunk.{Thunk}
-use Rattle.section_body.specs.Bucket.{bucket_index, read_steps, fits_read}
+use Rattle.structure_laws.specs.map_history.specs.declared.op.Op.{Op}
+use Rattle.structure_laws.specs.map_history.specs.declared.op.Op.TheVariants.{Get}
+use Rattle.structure_laws.specs.body_terms.specs.Shape.{is_look}
+use Rattle.structure_laws.specs.body_terms.specs.declared.thunk.Thunk.{Thunk}
+use Rattle.bucket_laws.specs.bucket_bodies.specs.section_body.specs.Bucket.{bucket_index, read_steps, fits_read}
 use Rattle.bucket_laws.specs.bucket_bodies.specs.Table.{table_steps}
-use Rattle.table_words.specs.declared.layout.Layout.{Layout}
-use Rattle.table_words.specs.Places.{slot_count}
+use Rattle.structure_laws.specs.table_words.specs.declared.layout.Layout.{Layout}
+use Rattle.structure_laws.specs.table_words.specs.Places.{slot_count}
 use Rattle.structure_laws.specs.Scene.{Readings}
 use Rattle.structure_laws.proofs.Changes.{both_true, equal_of}
 use Rattle.bucket_laws.specs.Walk.{start, is_end, has_one_key}

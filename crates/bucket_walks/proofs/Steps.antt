@@ -3,10 +3,10 @@ use Rattle.std.proofs.Common.{◌≡◌, ℕ, suc, ◌<◌, ◌≤◌, [], ◌�
 use Rattle.std.specs.Prelude.{◌==◌, ◌&&◌, not, ◌-◌, nat_le, slice_get, take}
 use Rattle.std.proofs.lemmas.Bool.Decides.{nat_tests}
 use Rattle.std.proofs.lemmas.Option.{none-some}
-use Rattle.small_lemmas.proofs.Numbers.{self_tested}
-use Rattle.map_history.specs.declared.op.Op.{Op}
-use Rattle.map_history.specs.Keys.{key_of}
-use Rattle.body_terms.specs.Word.{value_of, is_free, is_spent}
+use Rattle.structure_laws.specs.table_words.specs.small_lemmas.proofs.Numbers.{self_tested}
+use Rattle.structure_laws.specs.map_history.specs.declared.op.Op.{Op}
+use Rattle.structure_laws.specs.map_history.specs.Keys.{key_of}
+use Rattle.structure_laws.specs.body_terms.specs.Word.{value_of, is_free, is_spent}
 use Rattle.structure_laws.specs.Scene.{Readings}
 use Rattle.bucket_laws.specs.Walk.{Stage, AtEdition, AtLink, AtKey, AtValue, AtNext, AtLock, AtEnd, Refused, Walk, Bounds, is_del, is_wanted, wanted_at, fed, walk, cell_at}
 use Rattle.bucket_walks.specs.Left.{left_at, left_in}

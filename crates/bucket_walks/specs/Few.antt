@@ -1,14 +1,14 @@
 -- What a walk of a bucket costs, and what the section of a `get` does.
 use Rattle.std.specs.Prelude.{◌≡◌, ℕ, ◌+◌, ◌*◌, ◌^◌, ◌<◌, ◌≤◌, true, length, take, slice_get, Option, Some}
 use Rattle.std.specs.List.{list_all}
-use Rattle.map_history.specs.declared.op.Op.{Op}
-use Rattle.map_history.specs.declared.op.Op.TheVariants.{Get}
-use Rattle.map_history.specs.Keys.{key_of}
-use Rattle.body_terms.specs.Shape.{is_look}
-use Rattle.body_terms.specs.declared.thunk.Thunk.{Thunk}
-use Rattle.section_body.specs.Bucket.{bucket_index}
-use Rattle.table_words.specs.declared.layout.Layout.{Layout}
-use Rattle.table_words.specs.Places.{slot_count}
+use Rattle.structure_laws.specs.map_history.specs.declared.op.Op.{Op}
+use Rattle.structure_laws.specs.map_history.specs.declared.op.Op.TheVariants.{Get}
+use Rattle.structure_laws.specs.map_history.specs.Keys.{key_of}
+use Rattle.structure_laws.specs.body_terms.specs.Shape.{is_look}
+use Rattle.structure_laws.specs.body_terms.specs.declared.thunk.Thunk.{Thunk}
+use Rattle.bucket_laws.specs.bucket_bodies.specs.section_body.specs.Bucket.{bucket_index}
+use Rattle.structure_laws.specs.table_words.specs.declared.layout.Layout.{Layout}
+use Rattle.structure_laws.specs.table_words.specs.Places.{slot_count}
 use Rattle.structure_laws.specs.Scene.{Readings}
 use Rattle.bucket_laws.specs.Walk.{Walk, Bounds, wanted_at, fed}
 use Rattle.bucket_laws.specs.Buckets.{buckets_meaning, walk_of}

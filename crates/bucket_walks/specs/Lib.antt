@@ -1,2 +1,5 @@
 pub mod Left
 pub mod Few
+-- Passed on to the layers above, so that they needn't name these libraries themselves.
+pub use Rattle.bucket_laws
+pub use Rattle.bucket_laws.specs.bucket_bodies.specs.section_body

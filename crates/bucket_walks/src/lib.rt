@@ -6,3 +6,7 @@
 mod laws;
 
 pub use laws::{bucket_gets_only_look, bucket_walks_make_few_loads};
+
+// Passed on to the layers above, so that they needn't name these libraries themselves.
+pub use bucket_laws;
+pub use bucket_laws::bucket_bodies::section_body;

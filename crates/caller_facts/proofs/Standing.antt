@@ -1,21 +1,21 @@
 -- The worker's own request that it doesn't know: nobody has served it.
 use Rattle.std.specs.Prelude.{◌==◌, ◌&&◌, not, Bool, true, false, None}
 use Rattle.std.proofs.Common.{◌≡◌, ℕ, ◌%◌, refl, sym, ap, ◌∙◌}
-use Rattle.small_lemmas.proofs.Numbers.{tested_equal as same_of}
-use Rattle.map_history.specs.declared.op.Request.{Request}
-use Rattle.table_words.specs.Limits.{IsWithinLimits}
-use Rattle.structure_laws.specs.Meaning.{Meaning}
-use Rattle.structure_laws.specs.Laws.{Laws}
-use Rattle.runner_parts.specs.declared.event.EventKind.{EventKind}
-use Rattle.runner_parts.specs.State.{PartState}
-use Rattle.runner_parts.specs.Tests.{is_between, is_answered, are_answered}
+use Rattle.machine_states.specs.epoch_core.specs.small_lemmas.proofs.Numbers.{tested_equal as same_of}
+use Rattle.machine_states.specs.runner_steps.specs.map_history.specs.declared.op.Request.{Request}
+use Rattle.machine_states.specs.runner_steps.specs.table_words.specs.Limits.{IsWithinLimits}
+use Rattle.machine_states.specs.structure_laws.specs.Meaning.{Meaning}
+use Rattle.machine_states.specs.structure_laws.specs.Laws.{Laws}
+use Rattle.machine_states.specs.runner_steps.specs.runner_parts.specs.declared.event.EventKind.{EventKind}
+use Rattle.machine_states.specs.runner_steps.specs.runner_parts.specs.State.{PartState}
+use Rattle.machine_states.specs.runner_steps.specs.runner_parts.specs.Tests.{is_between, is_answered, are_answered}
 use Rattle.machine_states.specs.Sight.{sight, part_or_first}
-use Rattle.request_facts.specs.reached_histories.specs.machine_invariant.specs.After.{AreAllowed}
+use Rattle.lock_walks.specs.version_words.specs.machine_invariant.specs.After.{AreAllowed}
 use Rattle.request_facts.specs.reached_histories.specs.Requests.{or_none}
 use Rattle.request_facts.specs.reached_histories.specs.Kept.{link_of}
 use Rattle.request_facts.proofs.Standing.{callers_stand}
-use Rattle.version_words.specs.RunnerState.{RunnerState}
-use Rattle.version_words.specs.Events.{Makes}
+use Rattle.lock_walks.specs.version_words.specs.RunnerState.{RunnerState}
+use Rattle.lock_walks.specs.version_words.specs.Events.{Makes}
 use Rattle.lock_walks.specs.try_lock.specs.Planning.{Planning}
 use Rattle.lock_walks.specs.try_lock.specs.Reached.{IsReached}
 use Rattle.caller_facts.specs.Knowing.{IsOwn}

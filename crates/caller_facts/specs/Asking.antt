@@ -1,14 +1,14 @@
 -- Which request a runner may ask, and what stands where nobody has served it.
 use Rattle.std.specs.Prelude.{◌≡◌, ℕ, ◌-◌, [], true, false, slice_get, Some}
-use Rattle.map_history.specs.declared.op.Request.{Request}
-use Rattle.body_terms.specs.Word.{value_of, version_of, pack}
-use Rattle.structure_laws.specs.Scene.{Readings}
-use Rattle.structure_laws.specs.Meaning.{Meaning}
-use Rattle.runner_parts.specs.Tests.{is_next, is_answered}
+use Rattle.machine_states.specs.runner_steps.specs.map_history.specs.declared.op.Request.{Request}
+use Rattle.machine_states.specs.runner_steps.specs.body_terms.specs.Word.{value_of, version_of, pack}
+use Rattle.machine_states.specs.structure_laws.specs.Scene.{Readings}
+use Rattle.machine_states.specs.structure_laws.specs.Meaning.{Meaning}
+use Rattle.machine_states.specs.runner_steps.specs.runner_parts.specs.Tests.{is_next, is_answered}
 use Rattle.machine_states.specs.Sight.{sight}
 use Rattle.request_facts.specs.Placed.{IsUnserved}
-use Rattle.version_words.specs.RunnerState.{RunnerState}
-use Rattle.lock_walks.specs.epoch_slots.specs.Collects.{IsTidy}
+use Rattle.lock_walks.specs.version_words.specs.RunnerState.{RunnerState}
+use Rattle.lock_walks.specs.try_lock.specs.epoch_slots.specs.Collects.{IsTidy}
 use Rattle.lock_walks.specs.try_lock.specs.Planning.{Planning}
 use Rattle.lock_walks.specs.try_lock.specs.Reached.{IsReached}
 

@@ -1,8 +1,8 @@
 -- What a runner knows, and never forgets.
 use Rattle.std.specs.Prelude.{◌≡◌, ◌≢◌, ℕ, ◌%◌, ◌++◌, List, Some, slice_get}
-use Rattle.map_history.specs.declared.op.Request.{Request}
-use Rattle.runner_parts.specs.Tests.{is_answered}
-use Rattle.version_words.specs.RunnerState.{RunnerState}
+use Rattle.machine_states.specs.runner_steps.specs.map_history.specs.declared.op.Request.{Request}
+use Rattle.machine_states.specs.runner_steps.specs.runner_parts.specs.Tests.{is_answered}
+use Rattle.lock_walks.specs.version_words.specs.RunnerState.{RunnerState}
 
 -- the one list is the other's front
 pub record IsFront {A : Type 0} (front whole : List A) : Type 0 where

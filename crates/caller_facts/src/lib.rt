@@ -10,5 +10,5 @@ pub use asks::goes_on;
 
 // Passed on to the layers above, so that they needn't name these libraries themselves.
 pub use lock_walks;
-pub use lock_walks::{epoch_slots, section_runs, try_lock};
-pub use request_facts;
+pub use lock_walks::try_lock;
+pub use runner_gate;

@@ -1,8 +1,8 @@
 -- The history of the state that a closed table's words show.
 use Rattle.std.proofs.Common.{ℕ, List, subst}
-use Rattle.table_words.specs.Limits.{IsWithinLimits}
-use Rattle.structure_laws.specs.Meaning.{Meaning}
-use Rattle.structure_laws.specs.Laws.{Laws}
+use Rattle.machine_states.specs.runner_steps.specs.table_words.specs.Limits.{IsWithinLimits}
+use Rattle.machine_states.specs.structure_laws.specs.Meaning.{Meaning}
+use Rattle.machine_states.specs.structure_laws.specs.Laws.{Laws}
 use Rattle.machine_states.specs.Sight.{sight}
 use Rattle.version_words.specs.machine_invariant.specs.After.{AreAllowed}
 use Rattle.reached_histories.specs.Laws.{HasHistory}

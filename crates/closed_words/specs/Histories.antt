@@ -1,14 +1,14 @@
 -- What the words of a closed table hold of the requests and of the map.
 use Rattle.std.specs.Prelude.{◌≡◌, ◌≢◌, ℕ, ◌<◌, true, List, Contains}
 use Rattle.std.specs.FinMap.{empty}
-use Rattle.map_history.specs.History.{IsLegalFrom}
-use Rattle.map_history.specs.Replay.{Pairs, map_after_all}
-use Rattle.map_history.specs.Words as replies
+use Rattle.history_orders.specs.map_history.specs.History.{IsLegalFrom}
+use Rattle.history_orders.specs.map_history.specs.Replay.{Pairs, map_after_all}
+use Rattle.history_orders.specs.map_history.specs.Words as replies
 use Rattle.history_orders.specs.Turns.{Follows}
 use Rattle.history_orders.specs.Stamped.{Stamped, oldest_first, ops_of, IsReplayed, IsHistoryOf}
-use Rattle.body_terms.specs.Word.{value_of}
-use Rattle.table_words.specs.declared.spot.Spot.TheVariants.{Cell, Stamp, Reply}
-use Rattle.structure_laws.specs.Meaning.{Meaning}
+use Rattle.machine_states.specs.runner_steps.specs.body_terms.specs.Word.{value_of}
+use Rattle.machine_states.specs.runner_steps.specs.table_words.specs.declared.spot.Spot.TheVariants.{Cell, Stamp, Reply}
+use Rattle.machine_states.specs.structure_laws.specs.Meaning.{Meaning}
 use Rattle.reached_histories.specs.history_core.specs.State.{Requests}
 use Rattle.reached_histories.specs.Requests.{requests_of}
 use Rattle.version_words.specs.TableState.{WordsState, word_of}

@@ -1,7 +1,7 @@
 //! The law of this crate, on a contract.
 ghost use Rattle.closed_words.specs.Histories.{HaveHistory};
 
-use structure_laws::Structure;
+use machine_states::structure_laws::Structure;
 use version_words::Words;
 
 /// The words of a closed table, whatever its runners did: the requests that have an entry, by stamp and then by number,

@@ -9,5 +9,4 @@ mod laws;
 pub use laws::closed_words_have_a_history;
 
 // Passed on to the layers above, so that they needn't name these libraries themselves.
-pub use reached_histories;
-pub use version_words::machine_invariant;
+pub use version_words;

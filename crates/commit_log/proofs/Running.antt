@@ -1,21 +1,21 @@
 -- A runner in a run may make the step that stands next, and is behind it then.
 use Rattle.std.proofs.Common.{◌≡◌, ℕ, zero, suc, ◌+◌, List, [], length, Bool, true, false, refl, sym, ap, subst, ◌∙◌, arith, Option, Some, None}
 use Rattle.std.specs.Prelude.{if◌then◌else◌}
-use Rattle.body_terms.specs.declared.micro.Micro.{Micro}
-use Rattle.body_terms.specs.declared.micro.Micro.TheVariants as micros
-use Rattle.body_terms.specs.Line.{is_end}
-use Rattle.table_words.specs.declared.layout.Layout.{Layout}
-use Rattle.table_words.specs.Limits.{IsWithinLimits}
-use Rattle.structure_laws.specs.Meaning.{Meaning}
-use Rattle.structure_laws.specs.Laws.{Laws}
-use Rattle.runner_parts.specs.State.{RunState, PartState}
-use Rattle.runner_steps.specs.Sections.{next_of}
-use Rattle.runner_steps.specs.InRun.{make_slot}
-use Rattle.runner_steps.specs.Asks.{line_ask}
-use Rattle.next_steps.specs.machine_agreement.proofs.LineAsked.{line_asked}
-use Rattle.runner_steps.specs.AfterInRun.{goes_on, ended_more}
-use Rattle.next_steps.specs.machine_invariant.specs.After.{AreAllowed}
-use Rattle.next_steps.specs.machine_invariant.specs.LogWords.{commits_to}
+use Rattle.section_lines.specs.structure_laws.specs.body_terms.specs.declared.micro.Micro.{Micro}
+use Rattle.section_lines.specs.structure_laws.specs.body_terms.specs.declared.micro.Micro.TheVariants as micros
+use Rattle.section_lines.specs.structure_laws.specs.body_terms.specs.Line.{is_end}
+use Rattle.section_lines.specs.structure_laws.specs.table_words.specs.declared.layout.Layout.{Layout}
+use Rattle.section_lines.specs.structure_laws.specs.table_words.specs.Limits.{IsWithinLimits}
+use Rattle.section_lines.specs.structure_laws.specs.Meaning.{Meaning}
+use Rattle.section_lines.specs.structure_laws.specs.Laws.{Laws}
+use Rattle.machine_states.specs.runner_steps.specs.runner_parts.specs.State.{RunState, PartState}
+use Rattle.machine_states.specs.runner_steps.specs.Sections.{next_of}
+use Rattle.machine_states.specs.runner_steps.specs.InRun.{make_slot}
+use Rattle.machine_states.specs.runner_steps.specs.Asks.{line_ask}
+use Rattle.version_words.specs.machine_invariant.specs.machine_agreement.proofs.LineAsked.{line_asked}
+use Rattle.machine_states.specs.runner_steps.specs.AfterInRun.{goes_on, ended_more}
+use Rattle.version_words.specs.machine_invariant.specs.After.{AreAllowed}
+use Rattle.version_words.specs.machine_invariant.specs.LogWords.{commits_to}
 use Rattle.next_steps.specs.Steps.{slot_in, kind_at, ask_at, has_slot}
 use Rattle.next_steps.specs.Stages.{filling_slot, run_behind, IsBehind}
 use Rattle.next_steps.proofs.Stages.{in_table, may_step, commits_behind, then_stepped}

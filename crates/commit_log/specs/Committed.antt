@@ -1,13 +1,13 @@
 -- Commits of words that were loaded.
 use Rattle.std.specs.Prelude.{◌≡◌, ℕ, ◌==◌, Bool, true, false, length}
-use Rattle.body_terms.specs.Run.{written_once}
-use Rattle.body_terms.specs.declared.micro.Micro.{Micro}
-use Rattle.body_terms.specs.declared.micro.Micro.TheVariants.{Commit, NestedCommit}
-use Rattle.table_words.specs.declared.spot.Spot.TheVariants.{LogWord}
-use Rattle.structure_laws.specs.Meaning.{Meaning}
-use Rattle.runner_parts.specs.State.{RunState}
-use Rattle.runner_steps.specs.Sections.{next_of}
-use Rattle.runner_steps.specs.AfterInRun.{agrees}
+use Rattle.section_lines.specs.structure_laws.specs.body_terms.specs.Run.{written_once}
+use Rattle.section_lines.specs.structure_laws.specs.body_terms.specs.declared.micro.Micro.{Micro}
+use Rattle.section_lines.specs.structure_laws.specs.body_terms.specs.declared.micro.Micro.TheVariants.{Commit, NestedCommit}
+use Rattle.section_lines.specs.structure_laws.specs.table_words.specs.declared.spot.Spot.TheVariants.{LogWord}
+use Rattle.section_lines.specs.structure_laws.specs.Meaning.{Meaning}
+use Rattle.machine_states.specs.runner_steps.specs.runner_parts.specs.State.{RunState}
+use Rattle.machine_states.specs.runner_steps.specs.Sections.{next_of}
+use Rattle.machine_states.specs.runner_steps.specs.AfterInRun.{agrees}
 use Rattle.version_words.specs.RunnerState.{RunnerState}
 use Rattle.version_words.specs.ReachedWith.{ReachedWith}
 use Rattle.commit_log.specs.Runs.{IsRunning, Stepped}

@@ -1,9 +1,9 @@
 -- A runner in a run, and the steps that it makes there.
 use Rattle.std.specs.Prelude.{◌≡◌, ℕ, zero, suc, length, Some}
-use Rattle.body_terms.specs.declared.micro.Micro.{Micro}
-use Rattle.structure_laws.specs.Meaning.{Meaning}
-use Rattle.runner_parts.specs.State.{RunState}
-use Rattle.runner_steps.specs.Sections.{next_of}
+use Rattle.section_lines.specs.structure_laws.specs.body_terms.specs.declared.micro.Micro.{Micro}
+use Rattle.section_lines.specs.structure_laws.specs.Meaning.{Meaning}
+use Rattle.machine_states.specs.runner_steps.specs.runner_parts.specs.State.{RunState}
+use Rattle.machine_states.specs.runner_steps.specs.Sections.{next_of}
 use Rattle.version_words.specs.RunnerState.{RunnerState}
 use Rattle.version_words.specs.Events.{Makes}
 use Rattle.next_steps.specs.Steps.{kind_at}

@@ -14,3 +14,6 @@ mod commits;
 pub use apart::{Unasked, tell};
 pub use between::passes;
 pub use commits::commit;
+
+// Passed on to the layers above, so that they needn't name these libraries themselves.
+pub use version_words;

@@ -5,13 +5,13 @@ use Rattle.std.proofs.lemmas.Option.{slice_get_within, slice_get_cases}
 use mathlib.Core.Path.{fun_ext}
 use mathlib.Core.Logic.{dite}
 use native.Mathlib.Decide.{ℕ_discrete}
-use Rattle.body_terms.specs.Update.{upd}
-use Rattle.body_terms.specs.Word.{next_word}
-use Rattle.body_terms.specs.declared.value.Value.{Value}
-use Rattle.body_terms.specs.declared.step.Step.{Step}
-use Rattle.body_terms.specs.declared.step.Step.TheVariants.{Load, Want, Fresh, Take, Make, Stamp, Store, Retire, Answer}
-use Rattle.body_terms.specs.Shape.{phase}
-use Rattle.table_words.specs.declared.layout.Layout.{Layout}
+use Rattle.structure_laws.specs.body_terms.specs.Update.{upd}
+use Rattle.structure_laws.specs.body_terms.specs.Word.{next_word}
+use Rattle.structure_laws.specs.body_terms.specs.declared.value.Value.{Value}
+use Rattle.structure_laws.specs.body_terms.specs.declared.step.Step.{Step}
+use Rattle.structure_laws.specs.body_terms.specs.declared.step.Step.TheVariants.{Load, Want, Fresh, Take, Make, Stamp, Store, Retire, Answer}
+use Rattle.structure_laws.specs.body_terms.specs.Shape.{phase}
+use Rattle.structure_laws.specs.table_words.specs.declared.layout.Layout.{Layout}
 use Rattle.structure_laws.specs.Scene.{Cells, Section, Scene, with_cell, passed, passes}
 use Rattle.structure_laws.specs.Meaning.{Meaning}
 use Rattle.structure_laws.specs.Sections.{value_in, Here, IsStep, AllStored}

@@ -5,15 +5,15 @@ use Rattle.std.specs.FinMap.{empty}
 use mathlib.Core.Path.{fun_ext}
 use mathlib.Core.Logic.{dite}
 use native.Mathlib.Decide.{ℕ_discrete}
-use Rattle.map_history.specs.Replay.{Pairs, reply_of, map_after}
-use Rattle.map_history.specs.Words.{word_of}
-use Rattle.body_terms.specs.Update.{upd}
-use Rattle.body_terms.specs.Word.{next_word}
-use Rattle.body_terms.specs.declared.value.Value.{Value}
-use Rattle.body_terms.specs.declared.step.Step.TheVariants.{Load, Stamp, Store, Answer}
-use Rattle.body_terms.specs.Shape.{phase}
-use Rattle.table_words.specs.declared.layout.Layout.{Layout}
-use Rattle.table_words.specs.Limits.{IsWithinLimits}
+use Rattle.structure_laws.specs.map_history.specs.Replay.{Pairs, reply_of, map_after}
+use Rattle.structure_laws.specs.map_history.specs.Words.{word_of}
+use Rattle.structure_laws.specs.body_terms.specs.Update.{upd}
+use Rattle.structure_laws.specs.body_terms.specs.Word.{next_word}
+use Rattle.structure_laws.specs.body_terms.specs.declared.value.Value.{Value}
+use Rattle.structure_laws.specs.body_terms.specs.declared.step.Step.TheVariants.{Load, Stamp, Store, Answer}
+use Rattle.structure_laws.specs.body_terms.specs.Shape.{phase}
+use Rattle.structure_laws.specs.table_words.specs.declared.layout.Layout.{Layout}
+use Rattle.structure_laws.specs.table_words.specs.Limits.{IsWithinLimits}
 use Rattle.structure_laws.specs.Scene.{Section, Status, Free, Live, Scene, with_cell, passed, passes}
 use Rattle.structure_laws.specs.Meaning.{Meaning}
 use Rattle.structure_laws.specs.Sections.{value_in, Here, IsStep, Unstamped}

@@ -1,12 +1,12 @@
 -- The remaining Stores of sections that have come to their Stamp: their places are apart, and what a step leaves of them.
 use Rattle.std.proofs.Common.{◌≡◌, ◌≢◌, ℕ, ◌<◌, ◌≤◌, refl, sym, ap, ◌∙◌, subst, inl, inr, ⊎_elim, arith}
 use Rattle.std.specs.Prelude.{◌⊎◌}
-use Rattle.body_terms.specs.Word.{next_word}
-use Rattle.body_terms.specs.declared.value.Value.{Value}
-use Rattle.body_terms.specs.declared.step.Step.{Step}
-use Rattle.body_terms.specs.declared.step.Step.TheVariants.{Load, Stamp, Store}
-use Rattle.body_terms.specs.Shape.{phase}
-use Rattle.table_words.specs.declared.layout.Layout.{Layout}
+use Rattle.structure_laws.specs.body_terms.specs.Word.{next_word}
+use Rattle.structure_laws.specs.body_terms.specs.declared.value.Value.{Value}
+use Rattle.structure_laws.specs.body_terms.specs.declared.step.Step.{Step}
+use Rattle.structure_laws.specs.body_terms.specs.declared.step.Step.TheVariants.{Load, Stamp, Store}
+use Rattle.structure_laws.specs.body_terms.specs.Shape.{phase}
+use Rattle.structure_laws.specs.table_words.specs.declared.layout.Layout.{Layout}
 use Rattle.structure_laws.specs.Scene.{Section, Scene, passed}
 use Rattle.structure_laws.specs.Meaning.{Meaning}
 use Rattle.structure_laws.specs.Sections.{value_in, Here, IsStep, Settled, AllStored}

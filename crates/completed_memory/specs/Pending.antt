@@ -1,8 +1,8 @@
 -- The Stores that stamped sections have still to make, and the memory in which they are made.
 use Rattle.std.specs.Prelude.{ℕ, ◌≤◌, ◌≡◌, Bool, true, false, None}
-use Rattle.body_terms.specs.Word.{next_word}
-use Rattle.body_terms.specs.declared.value.Value.{Value}
-use Rattle.body_terms.specs.declared.step.Step.TheVariants.{Load, Stamp, Store}
+use Rattle.structure_laws.specs.body_terms.specs.Word.{next_word}
+use Rattle.structure_laws.specs.body_terms.specs.declared.value.Value.{Value}
+use Rattle.structure_laws.specs.body_terms.specs.declared.step.Step.TheVariants.{Load, Stamp, Store}
 use Rattle.structure_laws.specs.Scene.{Cells, Section, Scene}
 use Rattle.structure_laws.specs.Meaning.{Meaning}
 use Rattle.structure_laws.specs.Sections.{value_in, Here, IsStep, Unstamped}

@@ -1,6 +1,6 @@
 //! What becomes of the completed memory, on a contract.
-ghost use Rattle.table_words.specs.declared.layout.Layout.{Layout};
-ghost use Rattle.table_words.specs.Limits.{IsWithinLimits};
+ghost use Rattle.structure_laws.specs.table_words.specs.declared.layout.Layout.{Layout};
+ghost use Rattle.structure_laws.specs.table_words.specs.Limits.{IsWithinLimits};
 ghost use Rattle.completed_memory.specs.Moves.{MemoryMoves};
 
 use structure_laws::Structure;

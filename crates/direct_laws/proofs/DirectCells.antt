@@ -1,9 +1,9 @@
 -- What is to be shown of the direct table's cells.
 use Rattle.std.proofs.Common.{◌≡◌, ℕ, ◌+◌, ◌*◌, ◌<◌, ◌≤◌, true, false, ap, arith}
 use Rattle.std.specs.Prelude.{count_by, ◌==◌, ◌&&◌, ◌-◌, ◌%◌, nat_lt, cond, Some, None}
-use Rattle.body_terms.specs.Shape.{is_retire}
-use Rattle.body_terms.specs.Word.{value_of}
-use Rattle.body_terms.specs.declared.thunk.Thunk.{Thunk}
+use Rattle.structure_laws.specs.body_terms.specs.Shape.{is_retire}
+use Rattle.structure_laws.specs.body_terms.specs.Word.{value_of}
+use Rattle.structure_laws.specs.body_terms.specs.declared.thunk.Thunk.{Thunk}
 use Rattle.structure_laws.specs.Laws.{Laws}
 use Rattle.structure_laws.specs.Planner.{PlannerLaws}
 use Rattle.key_cells.specs.shared_laws.specs.Flagged.{held}

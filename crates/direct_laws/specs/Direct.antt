@@ -1,7 +1,7 @@
 -- The direct table: a map of keys below a bound, where each key has a lock, a flag and a value of its own.
 use Rattle.std.specs.Prelude.{ℕ, ◌+◌, ◌*◌, ◌-◌, ◌%◌, ◌==◌, ◌&&◌, Bool, cond, nat_lt}
-use Rattle.map_history.specs.declared.op.Op.{Op}
-use Rattle.map_history.specs.Keys.{key_of}
+use Rattle.structure_laws.specs.map_history.specs.declared.op.Op.{Op}
+use Rattle.structure_laws.specs.map_history.specs.Keys.{key_of}
 use Rattle.structure_laws.specs.Meaning.{Meaning}
 use Rattle.key_cells.specs.shared_laws.specs.Flagged.{held, flag_for, value_for}
 use Rattle.key_cells.specs.Keyed.{Keyed, has_one_key, keyed}

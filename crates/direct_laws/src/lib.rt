@@ -10,4 +10,3 @@ pub use laws::{direct_meets_the_laws, direct_meets_the_planners_laws};
 
 // Passed on to the layers above, so that they needn't name these libraries themselves.
 pub use key_cells;
-pub use key_cells::shared_laws;

@@ -12,3 +12,4 @@ pub use table::DirectTable;
 
 // Passed on to the layers above, so that they needn't name these libraries themselves.
 pub use fixed_walks::lock_walks;
+pub use fixed_walks::structure_laws::map_history;

@@ -1,7 +1,7 @@
 //! The direct table is a structure, and requests are planned on it.
 ghost use Rattle.std.specs.Prelude.{◌≡◌, true, refl, IfOk};
 ghost use Rattle.std.specs.FinMap.{entries};
-ghost use Rattle.map_history.specs.Replay.{Pairs};
+ghost use Rattle.fixed_walks.specs.map_history.specs.Replay.{Pairs};
 ghost use Rattle.direct_laws.specs.Direct.{direct_cells, direct};
 ghost use Rattle.direct_laws.proofs.DirectCells.{is_keyed, direct_laws, direct_plans, direct_retires};
 ghost use Rattle.fixed_walks.specs.try_lock.specs.Contents.{StandFor, NamesNone};
@@ -11,15 +11,15 @@ ghost use Rattle.fixed_walks.proofs.Gets.{key_gets};
 ghost use Rattle.fixed_walks.proofs.Steady.{fixed_steady};
 
 use crate::table::DirectTable;
-use body_terms::{Body, Place, Thunk, Word};
 use direct_laws::key_cells::{fill_body, key_fits};
 use fixed_walks::lock_walks::Planner;
+use fixed_walks::lock_walks::version_words::Words;
+use fixed_walks::structure_laws::Structure;
+use fixed_walks::structure_laws::body_terms::{Body, Place, Thunk, Word};
+use fixed_walks::structure_laws::map_history::Op;
+use fixed_walks::structure_laws::table_words::Layout;
 use fixed_walks::{FixedWalk, key_pairs, key_walk};
-use map_history::Op;
 use std::alloc::{AllocError, Global};
-use structure_laws::Structure;
-use table_words::Layout;
-use version_words::Words;
 
 impl Structure for DirectTable {
     ghost meaning = { λ s. direct s.base s.keys };

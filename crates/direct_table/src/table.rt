@@ -3,9 +3,9 @@ ghost use Rattle.std.specs.Prelude.{◌≡◌, ◌+◌, ◌*◌, ◌<◌, ◌≤
 ghost use Rattle.direct_laws.specs.Direct.{direct_cells};
 ghost use Rattle.direct_laws.proofs.DirectCells.{is_keyed};
 
-use body_terms::Place;
+use direct_laws::key_cells::shared_laws::{flag_for, held, value_for};
 use direct_laws::key_cells::{KeyCells, word_at};
-use direct_laws::shared_laws::{flag_for, held, value_for};
+use fixed_walks::structure_laws::body_terms::Place;
 
 /// A map of the keys below a bound. Each key has three cells, and no node: its lock, a flag that is 1 where the key is
 /// present, and its value. These cells begin at a place of one's choice; nothing is done with those below it.

@@ -4,7 +4,7 @@ ghost use Rattle.std.specs.Prelude.{◌+◌, ◌*◌, ◌≤◌};
 use crate::gates::StoppingGates;
 use crate::texts::{Row, run_text};
 use body_terms::StepKind;
-use map_history::Reply;
+use direct_table::map_history::Reply;
 use std::alloc::{AllocError, Global};
 use std::sync::Wait;
 use std::thread::Threads;

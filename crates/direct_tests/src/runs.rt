@@ -1,8 +1,8 @@
 //! A run of requests on a new direct table.
 ghost use Rattle.std.specs.Prelude.{◌≡◌, ◌+◌, ◌*◌, ◌<◌, ◌≤◌, IfOk, All, length, true, false};
 ghost use Rattle.std.specs.FinMap.{entries};
-ghost use Rattle.map_history.specs.Replay.{Pairs};
-ghost use Rattle.map_history.specs.Requests.{AreInOrder};
+ghost use Rattle.direct_table.specs.map_history.specs.Replay.{Pairs};
+ghost use Rattle.direct_table.specs.map_history.specs.Requests.{AreInOrder};
 ghost use Rattle.direct_table.specs.direct_laws.specs.Direct.{serves, direct};
 ghost use Rattle.threaded_runs.specs.Runs.{AreServed};
 ghost use Rattle.direct_table.specs.try_lock.specs.Contents.{StandFor};
@@ -10,7 +10,8 @@ ghost use Rattle.threaded_runs.specs.closed_words.specs.Histories.{HoldsNoLock};
 
 use direct_table::DirectTable;
 use direct_table::lock_walks::Planner;
-use map_history::{Reply, Request};
+use direct_table::lock_walks::version_words::Words;
+use direct_table::map_history::{Reply, Request};
 use std::alloc::{AllocError, Global};
 use std::sync::Wait;
 use std::thread::Threads;
@@ -19,7 +20,6 @@ use threaded_runs::closed_words::closed_words_have_a_history;
 use threaded_runs::run_table;
 use threaded_runs::runner_gate::Gates;
 use threaded_runs::serving::Served;
-use version_words::Words;
 
 /// What is left of a run: what each worker answered, in order of number, the closed table's words, and its pairs.
 #[derive(Drop)]

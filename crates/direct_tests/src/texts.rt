@@ -1,12 +1,12 @@
 //! A run of the requests of a text.
 ghost use Rattle.std.specs.Prelude.{◌≡◌, ◌+◌, ◌*◌, ◌≤◌, ◌&&◌, All, length, is_none, nat_lt, true};
 ghost use Rattle.std.specs.List.{list_all};
-ghost use Rattle.map_history.specs.declared.op.Request.{Request as Asked};
-ghost use Rattle.map_history.specs.Keys.{key_of, other_key_of};
+ghost use Rattle.direct_table.specs.map_history.specs.declared.op.Request.{Request as Asked};
+ghost use Rattle.direct_table.specs.map_history.specs.Keys.{key_of, other_key_of};
 ghost use Rattle.direct_table.specs.direct_laws.specs.Direct.{serves};
 
 use crate::runs::{Ended, run_direct};
-use map_history::{Reply, Request};
+use direct_table::map_history::{Reply, Request};
 use std::alloc::{AllocError, Global};
 use std::sync::Wait;
 use std::thread::Threads;

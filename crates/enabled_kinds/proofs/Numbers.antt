@@ -1,10 +1,10 @@
 -- Kinds by their numbers.
 use Rattle.std.specs.Prelude.{Bool, Option, Some, None}
-use Rattle.small_lemmas.proofs.Lists.{none_not_some as absent, some_not_none as present, some_the_same as the_same}
-use Rattle.body_terms.specs.declared.thunk.Thunk.{Thunk}
+use Rattle.runner_steps.specs.table_words.specs.small_lemmas.proofs.Lists.{none_not_some as absent, some_not_none as present, some_the_same as the_same}
+use Rattle.runner_steps.specs.body_terms.specs.declared.thunk.Thunk.{Thunk}
 use Rattle.std.proofs.Common.{◌≡◌, ◌≢◌, ◌<◌, ℕ, refl, arith}
-use Rattle.runner_parts.specs.declared.event.EventKind.{EventKind}
-use Rattle.runner_parts.specs.declared.event.EventKind.TheVariants as kinds
+use Rattle.runner_steps.specs.runner_parts.specs.declared.event.EventKind.{EventKind}
+use Rattle.runner_steps.specs.runner_parts.specs.declared.event.EventKind.TheVariants as kinds
 use Rattle.enabled_kinds.specs.Kinds.{kind_number, plain_kind, IsGiven}
 
 -- a kind whose events carry no argument has one event

@@ -2,21 +2,21 @@
 use Rattle.std.specs.Prelude.{Bool, true, false, ◌==◌, ◌&&◌, ◌||◌, nat_lt, nat_le, is_none}
 use Rattle.std.specs.List.{list_any}
 use Rattle.std.proofs.Common.{◌≡◌, ◌<◌, ℕ, List, length, ⊎_elim, sym, refl, ap, ◌∙◌, Option, Some, None, arith}
-use Rattle.map_history.specs.declared.op.Request.{Request}
-use Rattle.body_terms.specs.declared.thunk.Thunk.{Thunk}
-use Rattle.table_words.specs.declared.layout.Layout.{Layout}
-use Rattle.table_words.specs.declared.spot.Spot.{Spot}
-use Rattle.table_words.specs.declared.spot.Spot.TheVariants.{Announcement}
-use Rattle.table_words.specs.declared.access.Access.{Access}
-use Rattle.table_words.specs.declared.access.Access.TheVariants.{Loads, Exchanges}
-use Rattle.table_words.specs.Places.{fits}
-use Rattle.structure_laws.specs.Meaning.{Meaning}
-use Rattle.runner_parts.specs.declared.event.EventKind.{EventKind}
-use Rattle.runner_parts.specs.declared.event.EventKind.TheVariants as kinds
-use Rattle.epoch_core.specs.declared.stage.Stage.{Stage}
-use Rattle.epoch_core.specs.declared.stage.Stage.TheVariants as stages
-use Rattle.runner_parts.specs.State.{RunState, PartState}
-use Rattle.runner_parts.specs.Tests.{has, is_walking, is_outside}
+use Rattle.runner_steps.specs.map_history.specs.declared.op.Request.{Request}
+use Rattle.runner_steps.specs.body_terms.specs.declared.thunk.Thunk.{Thunk}
+use Rattle.runner_steps.specs.table_words.specs.declared.layout.Layout.{Layout}
+use Rattle.runner_steps.specs.table_words.specs.declared.spot.Spot.{Spot}
+use Rattle.runner_steps.specs.table_words.specs.declared.spot.Spot.TheVariants.{Announcement}
+use Rattle.runner_steps.specs.table_words.specs.declared.access.Access.{Access}
+use Rattle.runner_steps.specs.table_words.specs.declared.access.Access.TheVariants.{Loads, Exchanges}
+use Rattle.runner_steps.specs.table_words.specs.Places.{fits}
+use Rattle.runner_steps.specs.runner_parts.specs.structure_laws.specs.Meaning.{Meaning}
+use Rattle.runner_steps.specs.runner_parts.specs.declared.event.EventKind.{EventKind}
+use Rattle.runner_steps.specs.runner_parts.specs.declared.event.EventKind.TheVariants as kinds
+use Rattle.runner_steps.specs.runner_parts.specs.epoch_core.specs.declared.stage.Stage.{Stage}
+use Rattle.runner_steps.specs.runner_parts.specs.epoch_core.specs.declared.stage.Stage.TheVariants as stages
+use Rattle.runner_steps.specs.runner_parts.specs.State.{RunState, PartState}
+use Rattle.runner_steps.specs.runner_parts.specs.Tests.{has, is_walking, is_outside}
 use Rattle.runner_steps.specs.Outside.{scan_one_ask, entry_spot}
 use Rattle.runner_steps.specs.Asks.{sizes_for, ask_by}
 use Rattle.enabled_kinds.specs.Kinds.{kind_number, plain_kind, IsGiven}

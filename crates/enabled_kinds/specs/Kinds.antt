@@ -1,7 +1,7 @@
 -- The numbers of the kinds of step.
 use Rattle.std.specs.Prelude.{◌≡◌, ◌==◌, ℕ, length, Option, Some, None, if◌then◌else◌}
-use Rattle.runner_parts.specs.declared.event.EventKind.{EventKind}
-use Rattle.runner_parts.specs.declared.event.EventKind.TheVariants as kinds
+use Rattle.runner_steps.specs.runner_parts.specs.declared.event.EventKind.{EventKind}
+use Rattle.runner_steps.specs.runner_parts.specs.declared.event.EventKind.TheVariants as kinds
 
 -- the number of an event's kind; the clock is loaded in a run, and for a read without a lock
 abbrev pub kind_number : EventKind → ℕ

@@ -1,17 +1,17 @@
 -- The events that are tried, for kinds whose events carry arguments.
 use Rattle.std.specs.Prelude.{ℕ, ◌%◌, ◌^◌, List, [], ◌∷◌, Option, Some, None, if◌then◌else◌}
-use Rattle.body_terms.specs.declared.thunk.Thunk.{Thunk}
-use Rattle.body_terms.specs.declared.micro.Micro.{Micro}
-use Rattle.body_terms.specs.declared.micro.Micro.TheVariants as micros
-use Rattle.body_terms.specs.Word.{next_word}
-use Rattle.body_terms.specs.Run.{source_value}
-use Rattle.table_words.specs.declared.layout.Layout.{Layout}
-use Rattle.structure_laws.specs.Meaning.{Meaning}
-use Rattle.runner_parts.specs.declared.entries.Stored.{Stored}
-use Rattle.runner_parts.specs.declared.event.EventKind.{EventKind}
-use Rattle.runner_parts.specs.declared.event.EventKind.TheVariants as kinds
-use Rattle.runner_parts.specs.State.{RunState}
-use Rattle.runner_parts.specs.Tests.{last_stored}
+use Rattle.runner_steps.specs.body_terms.specs.declared.thunk.Thunk.{Thunk}
+use Rattle.runner_steps.specs.body_terms.specs.declared.micro.Micro.{Micro}
+use Rattle.runner_steps.specs.body_terms.specs.declared.micro.Micro.TheVariants as micros
+use Rattle.runner_steps.specs.body_terms.specs.Word.{next_word}
+use Rattle.runner_steps.specs.body_terms.specs.Run.{source_value}
+use Rattle.runner_steps.specs.table_words.specs.declared.layout.Layout.{Layout}
+use Rattle.runner_steps.specs.runner_parts.specs.structure_laws.specs.Meaning.{Meaning}
+use Rattle.runner_steps.specs.runner_parts.specs.declared.entries.Stored.{Stored}
+use Rattle.runner_steps.specs.runner_parts.specs.declared.event.EventKind.{EventKind}
+use Rattle.runner_steps.specs.runner_parts.specs.declared.event.EventKind.TheVariants as kinds
+use Rattle.runner_steps.specs.runner_parts.specs.State.{RunState}
+use Rattle.runner_steps.specs.runner_parts.specs.Tests.{last_stored}
 use Rattle.runner_steps.specs.Sections.{is_open_run, next_of}
 use Rattle.runner_steps.specs.InRun.{make_slot, can_raise}
 

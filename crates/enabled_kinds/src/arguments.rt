@@ -1,23 +1,23 @@
 //! The kinds whose events carry arguments.
 ghost use Rattle.std.specs.Prelude.{◌≡◌, ◌<◌, ◌≤◌, ◌+◌, ◌^◌, ◌&&◌, nat_lt, ℕ, Bool, Some, None, true, false, length};
 ghost use Rattle.std.specs.List.{list_any};
-ghost use Rattle.table_words.specs.Limits.{IsWithinLimits};
-ghost use Rattle.table_words.specs.Places.{slot_count, descriptor_count};
+ghost use Rattle.runner_steps.specs.table_words.specs.Limits.{IsWithinLimits};
+ghost use Rattle.runner_steps.specs.table_words.specs.Places.{slot_count, descriptor_count};
 ghost use Rattle.runner_steps.specs.Asks.{sizes_for};
-ghost use Rattle.runner_parts.specs.declared.event.EventKind.TheVariants as kinds;
-ghost use Rattle.epoch_core.specs.declared.stage.Stage.TheVariants.{Scanning};
-ghost use Rattle.runner_parts.specs.Tests.{last_stored};
+ghost use Rattle.runner_steps.specs.runner_parts.specs.declared.event.EventKind.TheVariants as kinds;
+ghost use Rattle.runner_steps.specs.runner_parts.specs.epoch_core.specs.declared.stage.Stage.TheVariants.{Scanning};
+ghost use Rattle.runner_steps.specs.runner_parts.specs.Tests.{last_stored};
 ghost use Rattle.enabled_kinds.specs.May.{is_enabled};
 ghost use Rattle.enabled_kinds.specs.Tried.{stored_thunk, or_zero, no_thunk};
 
-use body_terms::{Thunk, Word};
-use epoch_core::Stage;
-use map_history::Request;
 use runner_asks::{asks, last_stored, thunk_of};
-use runner_parts::{EventKind, Part, Stored};
+use runner_steps::body_terms::{Thunk, Word};
+use runner_steps::map_history::Request;
+use runner_steps::runner_parts::epoch_core::Stage;
+use runner_steps::runner_parts::structure_laws::Structure;
+use runner_steps::runner_parts::{EventKind, Part, Stored};
+use runner_steps::table_words::Layout;
 use runner_steps::{sizes_for, slot_count};
-use structure_laws::Structure;
-use table_words::Layout;
 
 /// Whether the runner may make this event next.
 pub fn may<S: Structure>(

@@ -1,7 +1,7 @@
 //! The kinds of step that a runner may make next.
 ghost use Rattle.std.specs.Prelude.{◌≡◌, ◌≤◌, ◌||◌, length};
 ghost use Rattle.std.specs.List.{list_any};
-ghost use Rattle.table_words.specs.Limits.{IsWithinLimits};
+ghost use Rattle.runner_steps.specs.table_words.specs.Limits.{IsWithinLimits};
 ghost use Rattle.enabled_kinds.specs.May.{Tells, AreEnabled, is_enabled_if};
 
 use crate::arguments::{
@@ -10,10 +10,10 @@ use crate::arguments::{
 };
 use crate::makes::{made_load, made_store};
 use crate::plain::plain_kind;
-use map_history::Request;
-use runner_parts::{EventKind, Part};
-use structure_laws::Structure;
-use table_words::Layout;
+use runner_steps::map_history::Request;
+use runner_steps::runner_parts::structure_laws::Structure;
+use runner_steps::runner_parts::{EventKind, Part};
+use runner_steps::table_words::Layout;
 
 /// Whether there is this event and the runner may make it next.
 fn may_if<S: Structure>(

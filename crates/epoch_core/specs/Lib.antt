@@ -13,3 +13,5 @@ pub mod History
 pub mod Freed
 pub mod Starts
 pub mod Round
+-- Passed on to the layers above, so that they needn't name these libraries themselves.
+pub use Rattle.small_lemmas

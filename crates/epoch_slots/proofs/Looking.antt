@@ -5,22 +5,22 @@ use Rattle.std.specs.List.{list_any}
 use Rattle.std.proofs.lemmas.Bool.Decides.{nat_tests}
 use Rattle.std.proofs.lemmas.List.{append_assoc, append-nil, length-take-le}
 use Rattle.std.proofs.Math.Seq.{drop-cons, take-suc}
-use Rattle.body_terms.specs.Word.{version_of}
-use Rattle.body_terms.specs.Memory.{cell_of}
-use Rattle.table_words.specs.declared.layout.Layout.{Layout}
-use Rattle.table_words.specs.declared.spot.Spot.TheVariants as spots
-use Rattle.table_words.specs.declared.access.Access.TheVariants.{Loads}
-use Rattle.table_words.specs.Places.{slot_count}
-use Rattle.structure_laws.specs.Meaning.{Meaning}
-use Rattle.runner_parts.specs.declared.entries.Tested.{Tested}
-use Rattle.runner_parts.specs.declared.event.EventKind.TheVariants as kinds
-use Rattle.epoch_core.specs.declared.stage.Stage.TheVariants as stages
-use Rattle.runner_parts.specs.State.{NodesState, PartState}
-use Rattle.runner_parts.specs.Tests.{has, is_resting}
-use Rattle.runner_parts.specs.Lists.{without, test_of, tests_without, slot_back, slot_tested, one_more, nodes_looked, descriptor_stored}
-use Rattle.runner_steps.specs.After.{outside_after}
-use Rattle.runner_steps.specs.Outside.{when, descriptor_spot}
-use Rattle.epoch_core.specs.Lists.{times}
+use Rattle.machine_states.specs.runner_steps.specs.body_terms.specs.Word.{version_of}
+use Rattle.machine_states.specs.runner_steps.specs.body_terms.specs.Memory.{cell_of}
+use Rattle.machine_states.specs.runner_steps.specs.table_words.specs.declared.layout.Layout.{Layout}
+use Rattle.machine_states.specs.runner_steps.specs.table_words.specs.declared.spot.Spot.TheVariants as spots
+use Rattle.machine_states.specs.runner_steps.specs.table_words.specs.declared.access.Access.TheVariants.{Loads}
+use Rattle.machine_states.specs.runner_steps.specs.table_words.specs.Places.{slot_count}
+use Rattle.machine_states.specs.structure_laws.specs.Meaning.{Meaning}
+use Rattle.machine_states.specs.runner_steps.specs.runner_parts.specs.declared.entries.Tested.{Tested}
+use Rattle.machine_states.specs.runner_steps.specs.runner_parts.specs.declared.event.EventKind.TheVariants as kinds
+use Rattle.machine_states.specs.epoch_core.specs.declared.stage.Stage.TheVariants as stages
+use Rattle.machine_states.specs.runner_steps.specs.runner_parts.specs.State.{NodesState, PartState}
+use Rattle.machine_states.specs.runner_steps.specs.runner_parts.specs.Tests.{has, is_resting}
+use Rattle.machine_states.specs.runner_steps.specs.runner_parts.specs.Lists.{without, test_of, tests_without, slot_back, slot_tested, one_more, nodes_looked, descriptor_stored}
+use Rattle.machine_states.specs.runner_steps.specs.After.{outside_after}
+use Rattle.machine_states.specs.runner_steps.specs.Outside.{when, descriptor_spot}
+use Rattle.machine_states.specs.epoch_core.specs.Lists.{times}
 use Rattle.version_words.specs.RunnerState.{RunnerState}
 use Rattle.version_words.specs.Events.{IsEnabled, Makes}
 use Rattle.version_words.specs.Stages.{IsAt}

@@ -1,15 +1,15 @@
 //! The scan of the announcements, and what comes out of limbo.
 ghost use Rattle.std.specs.Prelude.{◌≡◌, ◌+◌, ◌<◌, ◌≤◌, ◌&&◌, nat_lt, length, None};
-ghost use Rattle.epoch_core.specs.declared.stage.Stage.TheVariants as stages;
-ghost use Rattle.epoch_core.specs.State.{last_epoch};
-ghost use Rattle.epoch_core.specs.Moves.{is_clear};
+ghost use Rattle.machine_states.specs.epoch_core.specs.declared.stage.Stage.TheVariants as stages;
+ghost use Rattle.machine_states.specs.epoch_core.specs.State.{last_epoch};
+ghost use Rattle.machine_states.specs.epoch_core.specs.Moves.{is_clear};
 ghost use Rattle.version_words.specs.TableState.{IsOf};
 ghost use Rattle.version_words.specs.Stages.{IsAt};
 ghost use Rattle.epoch_slots.specs.Collects.{IsTidy, Collects, HasScanned, EndsScan};
 
 use crate::hand::look_back;
-use epoch_core::LAST_EPOCH;
-use structure_laws::Structure;
+use machine_states::epoch_core::LAST_EPOCH;
+use machine_states::structure_laws::Structure;
 use version_words::{FlockTable, Runner};
 
 /// Whether each announcement so far was idle or the epoch.

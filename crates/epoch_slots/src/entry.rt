@@ -1,11 +1,11 @@
 //! Entering and leaving.
 ghost use Rattle.std.specs.Prelude.{◌≡◌, None};
-ghost use Rattle.epoch_core.specs.declared.stage.Stage.TheVariants as stages;
+ghost use Rattle.machine_states.specs.epoch_core.specs.declared.stage.Stage.TheVariants as stages;
 ghost use Rattle.version_words.specs.TableState.{IsOf};
 ghost use Rattle.version_words.specs.Stages.{IsAt};
 ghost use Rattle.epoch_slots.specs.Entries.{HasLeave, Enters, Exits};
 
-use structure_laws::Structure;
+use machine_states::structure_laws::Structure;
 use version_words::{FlockTable, Runner};
 
 /// Enters: loads the epoch, announces it, and loads it again. The runner is entered with what the second

@@ -1,13 +1,13 @@
 //! The node slots that came out of limbo, looked at and given back.
 ghost use Rattle.std.specs.Prelude.{◌≡◌, ℕ, ◌<◌, [], true, length, None};
-ghost use Rattle.table_words.specs.Places.{slot_count};
-ghost use Rattle.epoch_core.specs.declared.stage.Stage.TheVariants as stages;
-ghost use Rattle.runner_parts.specs.Tests.{has};
+ghost use Rattle.machine_states.specs.runner_steps.specs.table_words.specs.Places.{slot_count};
+ghost use Rattle.machine_states.specs.epoch_core.specs.declared.stage.Stage.TheVariants as stages;
+ghost use Rattle.machine_states.specs.runner_steps.specs.runner_parts.specs.Tests.{has};
 ghost use Rattle.version_words.specs.TableState.{IsOf};
 ghost use Rattle.version_words.specs.Stages.{IsAt};
 ghost use Rattle.epoch_slots.specs.Hands.{IsLookedAt, HandIsOwn, IsBack};
 
-use structure_laws::Structure;
+use machine_states::structure_laws::Structure;
 use version_words::{FlockTable, Runner};
 
 /// Loads the slot's five cells, by which it goes to the free list or, where one is at the greatest version,

@@ -2,7 +2,7 @@
 ghost use Rattle.std.specs.Prelude.{◌≡◌, ◌≤◌, ◌<◌, IfOk, IfErr, length};
 ghost use Rattle.epoch_slots.specs.Reserves.{free_of, counts_of};
 
-use structure_laws::Structure;
+use machine_states::structure_laws::Structure;
 use version_words::Runner;
 
 /// The two kinds of slots that a runner owns.

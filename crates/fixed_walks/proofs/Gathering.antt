@@ -2,15 +2,15 @@
 use Rattle.std.proofs.Common.{◌≡◌, ℕ, zero, suc, ◌<◌, List, [], ◌∷◌, Bool, true, false, cond, refl, sym, ap, ◌∙◌, arith, None}
 use Rattle.std.specs.Prelude.{nat_lt, slice_index}
 use Rattle.std.specs.FinMap.{get, entries}
-use Rattle.map_history.specs.Replay.{Pairs}
-use Rattle.structure_laws.specs.Meaning.{Meaning}
-use Rattle.table_words.specs.declared.spot.Spot.TheVariants.{Cell}
+use Rattle.runner_parts.specs.structure_laws.specs.map_history.specs.Replay.{Pairs}
+use Rattle.runner_parts.specs.structure_laws.specs.Meaning.{Meaning}
+use Rattle.runner_parts.specs.structure_laws.specs.table_words.specs.declared.spot.Spot.TheVariants.{Cell}
 use Rattle.key_cells.specs.shared_laws.specs.Listing.{listed}
 use Rattle.key_cells.specs.shared_laws.proofs.Listing.{are_entries}
 use Rattle.key_cells.specs.shared_laws.proofs.Numbers.{lt_of, lt_true}
 use Rattle.key_cells.specs.Keyed.{Keyed, IsKeyed, cell_place}
 use Rattle.key_cells.proofs.Places.{cell_there}
-use Rattle.version_words.specs.TableState.{WordsState, HasWord, word_of}
+use Rattle.lock_walks.specs.version_words.specs.TableState.{WordsState, HasWord, word_of}
 use Rattle.lock_walks.specs.try_lock.specs.Contents.{StandFor}
 use Rattle.fixed_walks.specs.Keys.{Means, word_at, held_by}
 

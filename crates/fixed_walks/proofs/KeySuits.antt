@@ -1,17 +1,17 @@
 -- The walk of a key suits a structure of keys' cells.
 use Rattle.std.proofs.Common.{◌≡◌, ℕ, zero, suc, ◌<◌, ◌≤◌, List, [], ◌∷◌, ◌++◌, length, map, true, false, refl, sym, subst, arith, Some}
 use Rattle.std.specs.Prelude.{◌==◌, ◌&&◌, nat_lt, slice_get, slice_index}
-use Rattle.small_lemmas.proofs.Numbers.{self_tested as self}
-use Rattle.map_history.specs.declared.op.Op.{Op}
-use Rattle.map_history.specs.Keys.{key_of}
-use Rattle.section_body.specs.Bucket.{operand}
-use Rattle.body_terms.specs.declared.thunk.Thunk.{Thunk}
-use Rattle.table_words.specs.declared.layout.Layout.{Layout}
-use Rattle.structure_laws.specs.Scene.{Readings}
-use Rattle.structure_laws.specs.Meaning.{Meaning}
-use Rattle.structure_laws.proofs.Changes.{both_true}
+use Rattle.runner_parts.specs.epoch_core.specs.small_lemmas.proofs.Numbers.{self_tested as self}
+use Rattle.runner_parts.specs.structure_laws.specs.map_history.specs.declared.op.Op.{Op}
+use Rattle.runner_parts.specs.structure_laws.specs.map_history.specs.Keys.{key_of}
+use Rattle.key_cells.specs.section_body.specs.Bucket.{operand}
+use Rattle.runner_parts.specs.structure_laws.specs.body_terms.specs.declared.thunk.Thunk.{Thunk}
+use Rattle.runner_parts.specs.structure_laws.specs.table_words.specs.declared.layout.Layout.{Layout}
+use Rattle.runner_parts.specs.structure_laws.specs.Scene.{Readings}
+use Rattle.runner_parts.specs.structure_laws.specs.Meaning.{Meaning}
+use Rattle.runner_parts.specs.structure_laws.proofs.Changes.{both_true}
 use Rattle.runner_parts.specs.Tests.{has_pair}
-use Rattle.map_history.specs.AtKey.{left_at}
+use Rattle.runner_parts.specs.structure_laws.specs.map_history.specs.AtKey.{left_at}
 use Rattle.key_cells.specs.shared_laws.proofs.Numbers.{lt_of, eq_true, read_at}
 use Rattle.key_cells.specs.Keyed.{Keyed, IsKeyed, lock_place, cell_place, wanted, new_of, is_for, has_one_key, serves_key, key_fits, keyed}
 use Rattle.key_cells.proofs.Fitting.{each_all}

@@ -1,7 +1,7 @@
 -- A walk over fixed places is never too far, and there are no marks.
 use Rattle.std.proofs.Common.{refl}
-use Rattle.small_lemmas.proofs.Bools.{from_false as no_mark}
-use Rattle.structure_laws.specs.Meaning.{Meaning}
+use Rattle.runner_parts.specs.epoch_core.specs.small_lemmas.proofs.Bools.{from_false as no_mark}
+use Rattle.runner_parts.specs.structure_laws.specs.Meaning.{Meaning}
 use Rattle.lock_walks.specs.Steady.{IsSteady}
 use Rattle.fixed_walks.specs.Fixed.{Course, fixed_planning}
 

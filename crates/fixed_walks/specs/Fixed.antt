@@ -1,11 +1,11 @@
 -- Walks over the same places whatever they read: some cells, and a lock last.
 use Rattle.std.specs.Prelude.{◌≡◌, ℕ, ◌<◌, ◌≤◌, List, [], ◌∷◌, ◌++◌, Bool, true, false, not, ◌&&◌, ◌==◌, cond, map, length, Option, Some, None}
-use Rattle.map_history.specs.declared.op.Op.{Op}
-use Rattle.body_terms.specs.Word.{is_free, is_spent}
-use Rattle.body_terms.specs.declared.thunk.Thunk.{Thunk}
-use Rattle.table_words.specs.declared.layout.Layout.{Layout}
-use Rattle.structure_laws.specs.Scene.{Readings}
-use Rattle.structure_laws.specs.Meaning.{Meaning}
+use Rattle.runner_parts.specs.structure_laws.specs.map_history.specs.declared.op.Op.{Op}
+use Rattle.runner_parts.specs.structure_laws.specs.body_terms.specs.Word.{is_free, is_spent}
+use Rattle.runner_parts.specs.structure_laws.specs.body_terms.specs.declared.thunk.Thunk.{Thunk}
+use Rattle.runner_parts.specs.structure_laws.specs.table_words.specs.declared.layout.Layout.{Layout}
+use Rattle.runner_parts.specs.structure_laws.specs.Scene.{Readings}
+use Rattle.runner_parts.specs.structure_laws.specs.Meaning.{Meaning}
 use Rattle.runner_parts.specs.Tests.{has_pair}
 use Rattle.lock_walks.specs.try_lock.specs.Planning.{Planning}
 

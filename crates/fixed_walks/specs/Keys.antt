@@ -1,18 +1,18 @@
 -- The walk of a key, and what a key has in the words of a closed table, for a structure of keys' cells.
 use Rattle.std.specs.Prelude.{◌≡◌, ℕ, ◌+◌, List, [], ◌∷◌, ◌++◌, nat_lt, cond, Option, slice_index}
 use Rattle.std.specs.FinMap.{get}
-use Rattle.map_history.specs.declared.op.Op.{Op}
-use Rattle.map_history.specs.Keys.{key_of}
-use Rattle.map_history.specs.Words.{word_of as reply_word}
-use Rattle.map_history.specs.Replay.{Pairs}
-use Rattle.table_words.specs.declared.layout.Layout.{Layout}
-use Rattle.table_words.specs.declared.spot.Spot.TheVariants.{Cell}
-use Rattle.structure_laws.specs.Meaning.{Meaning}
-use Rattle.structure_laws.specs.Scene.{Cells}
-use Rattle.map_history.specs.AtKey.{reply_at, left_at, changes_at}
+use Rattle.runner_parts.specs.structure_laws.specs.map_history.specs.declared.op.Op.{Op}
+use Rattle.runner_parts.specs.structure_laws.specs.map_history.specs.Keys.{key_of}
+use Rattle.runner_parts.specs.structure_laws.specs.map_history.specs.Words.{word_of as reply_word}
+use Rattle.runner_parts.specs.structure_laws.specs.map_history.specs.Replay.{Pairs}
+use Rattle.runner_parts.specs.structure_laws.specs.table_words.specs.declared.layout.Layout.{Layout}
+use Rattle.runner_parts.specs.structure_laws.specs.table_words.specs.declared.spot.Spot.TheVariants.{Cell}
+use Rattle.runner_parts.specs.structure_laws.specs.Meaning.{Meaning}
+use Rattle.runner_parts.specs.structure_laws.specs.Scene.{Cells}
+use Rattle.runner_parts.specs.structure_laws.specs.map_history.specs.AtKey.{reply_at, left_at, changes_at}
 use Rattle.key_cells.specs.Keyed.{Keyed, lock_place, cell_place, serves_key, held_in}
 use Rattle.key_cells.specs.Steps.{part}
-use Rattle.version_words.specs.TableState.{WordsState, word_of}
+use Rattle.lock_walks.specs.version_words.specs.TableState.{WordsState, word_of}
 use Rattle.fixed_walks.specs.Fixed.{Course}
 
 -- n cells in order, at most three

@@ -3,8 +3,8 @@ ghost use Rattle.std.specs.Prelude.{◌≡◌, true};
 ghost use Rattle.fixed_walks.specs.Fixed.{Course, places_for};
 
 use arrayvec::ArrayVec;
-use body_terms::Place;
-use map_history::Op;
+use runner_parts::structure_laws::body_terms::Place;
+use runner_parts::structure_laws::map_history::Op;
 
 /// A structure whose walks load the same places whatever they read, or what of it they need.
 pub trait FixedPlaces: Drop {

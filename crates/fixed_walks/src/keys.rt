@@ -1,7 +1,7 @@
 //! The walk of a key, and the pairs of a closed table, for a structure of keys' cells.
 ghost use Rattle.std.specs.Prelude.{◌≡◌, ◌+◌, ◌<◌, ◌≤◌, ◌++◌, ◌∷◌, [], cond, true, length, IfOk};
 ghost use Rattle.std.specs.FinMap.{entries};
-ghost use Rattle.map_history.specs.Replay.{Pairs};
+ghost use Rattle.runner_parts.specs.structure_laws.specs.map_history.specs.Replay.{Pairs};
 ghost use Rattle.key_cells.specs.Keyed.{cell_place, keyed, serves_key};
 ghost use Rattle.key_cells.specs.Steps.{part};
 ghost use Rattle.lock_walks.specs.Way.{Leads};
@@ -13,14 +13,14 @@ ghost use Rattle.fixed_walks.specs.Walk.{fixed_way};
 use crate::course::FixedPlaces;
 use crate::walk::FixedWalk;
 use arrayvec::ArrayVec;
-use body_terms::Place;
 use key_cells::shared_laws::{changes_at, left_at, pairs_by_key, reply_at};
 use key_cells::{KeyCells, word_at};
-use map_history::Op;
+use lock_walks::version_words::Words;
+use runner_parts::structure_laws::Structure;
+use runner_parts::structure_laws::body_terms::Place;
+use runner_parts::structure_laws::map_history::Op;
+use runner_parts::structure_laws::table_words::Layout;
 use std::alloc::{AllocError, Global};
-use structure_laws::Structure;
-use table_words::Layout;
-use version_words::Words;
 
 impl<C: KeyCells> FixedPlaces for C {
     ghost course = { λ c. key_course (C.keyed c) };

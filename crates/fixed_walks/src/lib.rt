@@ -15,3 +15,4 @@ pub use walk::FixedWalk;
 
 // Passed on to the layers above, so that they needn't name these libraries themselves.
 pub use lock_walks;
+pub use runner_parts::structure_laws;

@@ -5,9 +5,9 @@ ghost use Rattle.fixed_walks.specs.Walk.{fixed_way};
 
 use crate::course::FixedPlaces;
 use arrayvec::ArrayVec;
-use body_terms::{Place, Thunk, Word};
 use lock_walks::Walker;
-use map_history::Op;
+use runner_parts::structure_laws::body_terms::{Place, Thunk, Word};
+use runner_parts::structure_laws::map_history::Op;
 
 /// How far the walk of an operation has come: the places that are ahead, the words that were found, and the last place
 /// with its word.

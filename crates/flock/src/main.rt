@@ -3,7 +3,7 @@
 
 mod start;
 
-use flock_tool::runner_gate::PlannedGates;
+use flock_tool::threaded_runs::runner_gate::PlannedGates;
 use flock_tool::{StdSink, StdSource};
 use start::{MEMORY, arguments, run, words_of};
 use std::process::ExitCode;

@@ -10,7 +10,7 @@ ghost use Rattle.flock_tool.specs.Streams.{gating, stream};
 
 use flock_tool::flock;
 use flock_tool::report_text::Sink;
-use flock_tool::runner_gate::Gates;
+use flock_tool::threaded_runs::runner_gate::Gates;
 use flock_tool::trace_reader::Source;
 use std::alloc::{AllocError, Global};
 use std::env;

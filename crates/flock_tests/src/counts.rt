@@ -1,6 +1,6 @@
 //! The counts of some replies, as they are printed.
+use flock_tool::load_counts::{count_replies, print_counts};
 use flock_tool::report_text::MemorySink;
-use load_counts::{count_replies, print_counts};
 use map_history::{Entry, Reply};
 use std::test::Fail;
 

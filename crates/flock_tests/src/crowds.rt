@@ -5,7 +5,7 @@ use crate::checks::is_found_legal;
 use crate::legal::is_legal;
 use crate::program::{Ended, TABLES, bytes_of, run, run_gated};
 use body_terms::StepKind;
-use flock_tool::runner_gate::{Pause, ScriptedGates};
+use flock_tool::threaded_runs::runner_gate::{Pause, ScriptedGates};
 use std::alloc::{AllocError, Global};
 use std::process::Abort;
 use std::sync::Wait;

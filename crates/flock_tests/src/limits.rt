@@ -3,7 +3,7 @@ ghost use Rattle.std.specs.Prelude.{None};
 
 use crate::program::{Ended, bytes_of, quiet_sink, run, status_of};
 use flock_tool::report_text::{Failed, Sink};
-use flock_tool::runner_gate::PlannedGates;
+use flock_tool::threaded_runs::runner_gate::PlannedGates;
 use flock_tool::trace_reader::SureSource;
 use std::alloc::{AllocError, Global};
 use std::process::Abort;

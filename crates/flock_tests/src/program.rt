@@ -5,7 +5,7 @@ ghost use Rattle.flock_tool.specs.Runs.{IsRunStatus};
 
 use flock_tool::flock;
 use flock_tool::report_text::{MemorySink, Sink};
-use flock_tool::runner_gate::{Gates, PlannedGates};
+use flock_tool::threaded_runs::runner_gate::{Gates, PlannedGates};
 use flock_tool::trace_reader::{Source, SureSource};
 use itoa::Buffer;
 use std::alloc::{AllocError, Global};

@@ -4,18 +4,18 @@ ghost use Rattle.map_history.specs.declared.op.Request.{Request};
 ghost use Rattle.map_history.specs.Requests.{AreInOrder};
 
 use crate::program::bytes_of;
-use flock_tool::runner_gate::FreeGates;
+use flock_tool::hash_table::HashTable;
+use flock_tool::hash_table::lock_walks::Planner;
+use flock_tool::leaf_tree::LeafTree;
+use flock_tool::threaded_runs::run_table;
+use flock_tool::threaded_runs::runner_gate::FreeGates;
 use flock_tool::trace_reader::{SureSource, read_traces};
-use hash_table::HashTable;
-use hash_table::lock_walks::Planner;
-use leaf_tree::LeafTree;
 use map_history::Request;
 use std::alloc::{AllocError, Global};
 use std::sync::Wait;
 use std::test::Fail;
 use std::thread::Threads;
 use table_words::Layout;
-use threaded_runs::run_table;
 
 /// Runs these requests on one table of the structure, by one worker that reads without a lock or doesn't, and gives the
 /// stamp of each, 0 where it has no entry. The Err is want of memory.

@@ -4,7 +4,7 @@ ghost use Rattle.std.specs.Prelude.{None};
 
 use crate::program::{Ended, bytes_of, quiet_sink, run_from, status_of};
 use flock_tool::report_text::{Failed, MemorySink, Sink};
-use flock_tool::runner_gate::PlannedGates;
+use flock_tool::threaded_runs::runner_gate::PlannedGates;
 use flock_tool::trace_reader::{MemorySource, SureSource};
 use std::alloc::{AllocError, Global};
 use std::process::Abort;

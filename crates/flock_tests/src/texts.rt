@@ -3,7 +3,7 @@
 
 use crate::program::{Ended, bytes_of, quiet_sink, run_from, status_of};
 use flock_tool::report_text::{MemorySink, Sink};
-use flock_tool::runner_gate::PlannedGates;
+use flock_tool::threaded_runs::runner_gate::PlannedGates;
 use flock_tool::trace_reader::SureSource;
 use flock_tool::{StdSink, StdSource};
 use std::alloc::{AllocError, Global};

@@ -3,7 +3,7 @@ use Rattle.std.specs.Prelude.{◌-◌, ◌^◌, min}
 use Rattle.std.proofs.Common.{◌≡◌, ℕ, ◌+◌, ◌*◌, ◌≤◌, Bool, false, true, Option, subst, arith}
 use Rattle.threaded_runs.specs.Asks.{AreAsked, AsksAlone}
 use Rattle.threaded_runs.specs.Lone.{ReadsAlone}
-use Rattle.threaded_runs.specs.serving.specs.Serving.{most_asks}
+use Rattle.threaded_runs.specs.free_serving.specs.serving.specs.Serving.{most_asks}
 use Rattle.command_line.specs.Options.{are_free}
 use Rattle.command_line.specs.declared.command.Command.{Command}
 use Rattle.command_line.specs.declared.command.Command.TheVariants as commands

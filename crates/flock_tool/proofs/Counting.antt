@@ -1,10 +1,10 @@
 -- What comes of the counts of a run.
 use Rattle.std.proofs.Common.{◌≡◌, ◌≢◌, ℕ, Bool, true, false, List, Some, codes, length, refl, sym, ap, ◌∙◌, ⊎_elim, inl, inr, subst, arith}
-use Rattle.table_words.specs.Limits.{IsWithinLimits}
-use Rattle.printed_traces.specs.report_text.specs.Sink.{Extends, ExtendsInPart}
+use Rattle.machine_states.specs.runner_steps.specs.table_words.specs.Limits.{IsWithinLimits}
+use Rattle.load_counts.specs.run_reports.specs.report_text.specs.Sink.{Extends, ExtendsInPart}
 use Rattle.load_counts.specs.Counts.{counts_text}
 use Rattle.load_counts.specs.run_reports.specs.Reports.{unserved_in}
-use Rattle.load_counts.specs.machine_invariant.specs.After.{AreAllowed}
+use Rattle.version_words.specs.machine_invariant.specs.After.{AreAllowed}
 use Rattle.threaded_runs.specs.Runs.{AreServed}
 use Rattle.flock_tool.specs.Finish.{finish_by, finish_status, is_whole, TellsFinish}
 use Rattle.flock_tool.specs.Loads.{EndsLoad, IsCounted, IsPlanText}

@@ -5,14 +5,14 @@ use Rattle.std.proofs.lemmas.Nat.{mul-le}
 use Rattle.std.proofs.lemmas.Option.{slice_get_within}
 use Rattle.machine_states.proofs.Steps.{some_same}
 use Rattle.threaded_runs.specs.map_sizes.specs.Sizes.{peak}
-use Rattle.body_terms.specs.Memory.{cell_of}
-use Rattle.structure_laws.specs.Meaning.{Meaning}
+use Rattle.machine_states.specs.runner_steps.specs.body_terms.specs.Memory.{cell_of}
+use Rattle.machine_states.specs.structure_laws.specs.Meaning.{Meaning}
 use Rattle.version_words.specs.TableState.{WordsState, word_of}
-use Rattle.hash_table.specs.epoch_slots.specs.declared.reserves.Kind.{Kind}
-use Rattle.hash_table.specs.epoch_slots.specs.declared.reserves.Kind.TheVariants as slots
-use Rattle.hash_table.specs.epoch_slots.specs.declared.reserves.Short.{Short}
-use Rattle.threaded_runs.specs.serving.specs.declared.answers.Served.{Served}
-use Rattle.threaded_runs.specs.serving.specs.declared.answers.Served.TheVariants as answers
+use Rattle.hash_table.specs.try_lock.specs.epoch_slots.specs.declared.reserves.Kind.{Kind}
+use Rattle.hash_table.specs.try_lock.specs.epoch_slots.specs.declared.reserves.Kind.TheVariants as slots
+use Rattle.hash_table.specs.try_lock.specs.epoch_slots.specs.declared.reserves.Short.{Short}
+use Rattle.threaded_runs.specs.free_serving.specs.serving.specs.declared.answers.Served.{Served}
+use Rattle.threaded_runs.specs.free_serving.specs.serving.specs.declared.answers.Served.TheVariants as answers
 use Rattle.threaded_runs.specs.Lone.{AreServedAlone, ServesAlone}
 use Rattle.threaded_runs.specs.Runs.{AreServed, IsShortOf}
 use Rattle.flock_tool.specs.Finish.{finish_by, finish_status}

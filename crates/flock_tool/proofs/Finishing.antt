@@ -2,9 +2,9 @@
 use Rattle.std.proofs.Common.{◌≡◌, ◌≢◌, ℕ, zero, suc, ◌+◌, ◌-◌, ◌≤◌, ◌^◌, Bool, true, false, List, [], ◌∷◌, Option, None, Some, refl, sym, ap, inl, inr, arith}
 use Rattle.std.specs.Prelude.{◌⊎◌, ◌&&◌, if◌then◌else◌, min, nat_lt, slice_get, unwrap_or}
 use Rattle.std.proofs.lemmas.Bool.Decides.{nat_tests}
-use Rattle.fault_count.specs.Rose.{Rose}
-use Rattle.threaded_runs.specs.serving.specs.declared.answers.Served.{Served}
-use Rattle.threaded_runs.specs.serving.specs.declared.answers.Served.TheVariants as answers
+use Rattle.threaded_runs.specs.runner_gate.specs.fault_count.specs.Rose.{Rose}
+use Rattle.threaded_runs.specs.free_serving.specs.serving.specs.declared.answers.Served.{Served}
+use Rattle.threaded_runs.specs.free_serving.specs.serving.specs.declared.answers.Served.TheVariants as answers
 use Rattle.threaded_runs.specs.Counts.{halts_counted}
 use Rattle.flock_tool.specs.Finish.{versions_of, slots_of, any_halted, first_or, first_from, finish_by, finish_status}
 use Rattle.flock_tool.specs.Runs.{IsRunStatus}

@@ -3,15 +3,15 @@ use Rattle.std.specs.Prelude.{◌||◌, ◌==◌, cond, find, nat_lt, not, optio
 use Rattle.std.proofs.Common.{◌≡◌, ◌≢◌, ℕ, zero, suc, ◌+◌, ◌<◌, Bool, true, false, List, [], ◌∷◌, length, Option, None, Some, Ok, Err, refl, sym, ap, ◌∙◌, subst, arith}
 use Rattle.std.proofs.lemmas.Bool.Decides.{nat_tests}
 use Rattle.std.proofs.lemmas.Option.{slice_get_within}
-use Rattle.map_history.specs.declared.op.Request.{Request}
-use Rattle.structure_laws.specs.Meaning.{Meaning}
+use Rattle.machine_states.specs.runner_steps.specs.map_history.specs.declared.op.Request.{Request}
+use Rattle.machine_states.specs.structure_laws.specs.Meaning.{Meaning}
 use Rattle.machine_states.proofs.Steps.{some_same}
 use Rattle.threaded_runs.specs.Counts.{halts_counted, plans_from, plans_given, returns_counted, GivesFront}
 use Rattle.threaded_runs.specs.Asks.{AreAsked}
 use Rattle.threaded_runs.specs.Lone.{ReadsAlone, ServesAlone}
 use Rattle.threaded_runs.specs.Runs.{AreServed, IsMadeWith}
 use Rattle.version_words.specs.TableState.{WordsState}
-use Rattle.threaded_runs.specs.serving.specs.declared.answers.Served.{Served}
+use Rattle.threaded_runs.specs.free_serving.specs.serving.specs.declared.answers.Served.{Served}
 use Rattle.command_line.specs.Halts.{ask_of, names_below}
 use Rattle.command_line.specs.Options.{are_free}
 use Rattle.command_line.specs.declared.halts.Halt.{Halt}

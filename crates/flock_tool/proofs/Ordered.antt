@@ -7,18 +7,18 @@ use Rattle.std.proofs.lemmas.Bool.{cases_lt}
 use Rattle.std.proofs.lemmas.Bool.Decides.{nat_tests}
 use Rattle.std.proofs.lemmas.List.Sums.{sum_by-cons}
 use Rattle.std.proofs.lemmas.Option.{slice_get-map, slice_get_within, slice_get-get_or}
-use Rattle.map_history.specs.declared.op.Entry.{Entry}
-use Rattle.map_history.specs.declared.op.Op.TheVariants.{Get}
-use Rattle.map_history.specs.declared.op.Request.{Request}
-use Rattle.map_history.specs.Requests.{AreInOrder}
-use Rattle.history_orders.specs.Turns.{Turn, comes_before}
-use Rattle.table_words.specs.declared.spot.Spot.TheVariants.{Stamp}
-use Rattle.structure_laws.specs.Meaning.{Meaning}
-use Rattle.printed_traces.specs.report_text.specs.Ranks.{rank_among, ranks_of, turn_of, turns_of}
+use Rattle.machine_states.specs.runner_steps.specs.map_history.specs.declared.op.Entry.{Entry}
+use Rattle.machine_states.specs.runner_steps.specs.map_history.specs.declared.op.Op.TheVariants.{Get}
+use Rattle.machine_states.specs.runner_steps.specs.map_history.specs.declared.op.Request.{Request}
+use Rattle.machine_states.specs.runner_steps.specs.map_history.specs.Requests.{AreInOrder}
+use Rattle.load_counts.specs.run_reports.specs.history_orders.specs.Turns.{Turn, comes_before}
+use Rattle.machine_states.specs.runner_steps.specs.table_words.specs.declared.spot.Spot.TheVariants.{Stamp}
+use Rattle.machine_states.specs.structure_laws.specs.Meaning.{Meaning}
+use Rattle.load_counts.specs.run_reports.specs.report_text.specs.Ranks.{rank_among, ranks_of, turn_of, turns_of}
 use Rattle.load_counts.specs.run_reports.specs.Reports.{HaveEntries}
 use Rattle.version_words.specs.TableState.{WordsState, word_of}
-use Rattle.threaded_runs.specs.serving.specs.declared.answers.Served.{Served}
-use Rattle.threaded_runs.specs.serving.specs.declared.answers.Served.TheVariants as answers
+use Rattle.threaded_runs.specs.free_serving.specs.serving.specs.declared.answers.Served.{Served}
+use Rattle.threaded_runs.specs.free_serving.specs.serving.specs.declared.answers.Served.TheVariants as answers
 use Rattle.threaded_runs.specs.free_serving.specs.Left.{Rises}
 use Rattle.threaded_runs.specs.Own.{own_requests}
 use Rattle.threaded_runs.specs.Runs.{AreEntered, AreServed, HasServed}

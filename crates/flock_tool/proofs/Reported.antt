@@ -1,7 +1,7 @@
 -- From what comes of a report to the clauses of the top call.
 use Rattle.std.proofs.Common.{◌≡◌, ℕ, Option, None, Some, IfSome, IsSome, codes, sym, ◌⊎◌, ⊎_elim, inl, inr, subst, arith, rules}
 use Rattle.std.specs.Prelude.{◌↔◌, Bool}
-use Rattle.fault_count.specs.Rose.{Rose}
+use Rattle.threaded_runs.specs.runner_gate.specs.fault_count.specs.Rose.{Rose}
 use Rattle.threaded_runs.specs.Counts.{halts_counted}
 use Rattle.flock_tool.specs.Runs.{answers_in, EndsRun, HasReported, IsRunStatus}
 use Rattle.flock_tool.specs.Streams.{Fails, Gating, Halts, Stream, Told}

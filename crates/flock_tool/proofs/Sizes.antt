@@ -4,12 +4,12 @@ use Rattle.std.specs.FinMap.{entries, len, len-entries}
 use Rattle.std.proofs.Math.Nat.{div-le_self}
 use Rattle.std.proofs.lemmas.Nat.{mul-le}
 use Rattle.std.proofs.lemmas.Bool.Decides.{nat_tests}
-use Rattle.map_history.specs.Replay.{Pairs}
-use Rattle.body_terms.specs.Word.{value_of, is_free}
-use Rattle.table_words.specs.declared.spot.Spot.TheVariants.{Cell}
-use Rattle.structure_laws.specs.Meaning.{Meaning}
+use Rattle.machine_states.specs.runner_steps.specs.map_history.specs.Replay.{Pairs}
+use Rattle.machine_states.specs.runner_steps.specs.body_terms.specs.Word.{value_of, is_free}
+use Rattle.machine_states.specs.runner_steps.specs.table_words.specs.declared.spot.Spot.TheVariants.{Cell}
+use Rattle.machine_states.specs.structure_laws.specs.Meaning.{Meaning}
 use Rattle.version_words.specs.TableState.{WordsState, word_of}
-use Rattle.load_counts.specs.closed_words.specs.Histories.{HoldsNoLock}
+use Rattle.threaded_runs.specs.closed_words.specs.Histories.{HoldsNoLock}
 use Rattle.hash_table.specs.try_lock.specs.Contents.{StandFor, NamesNone}
 use Rattle.load_counts.specs.run_reports.specs.Reports.{HaveContents}
 use Rattle.command_line.specs.Options.{runners_by, nodes_by, AreInRange}

@@ -1,6 +1,6 @@
 -- How often the gates of a run are asked.
 use Rattle.std.specs.Prelude.{◌≡◌, ◌≤◌, ◌+◌, ◌-◌, ◌*◌, ◌^◌, ℕ, min, Bool, false, true, Option, IfSome}
-use Rattle.structure_laws.specs.Cells.{slots}
+use Rattle.machine_states.specs.structure_laws.specs.Cells.{slots}
 use Rattle.threaded_runs.specs.Asks.{halted_in}
 use Rattle.threaded_runs.specs.Runs.{served_in}
 use Rattle.flock_tool.specs.Runs.{words_in, answers_in, meaning_of}

@@ -8,7 +8,7 @@ use Rattle.report_check.specs.declared.verdict.Verdict.{Verdict}
 use Rattle.report_check.specs.declared.verdict.Verdict.TheVariants.{Legal, Fails as FailsAt}
 use Rattle.report_check.specs.declared.whole.CheckError.{CheckError}
 use Rattle.report_check.specs.declared.whole.CheckError.TheVariants.{Text, NoReport}
-use Rattle.printed_traces.specs.report_text.specs.Sink.{Extends, ExtendsInPart}
+use Rattle.load_counts.specs.run_reports.specs.report_text.specs.Sink.{Extends, ExtendsInPart}
 use Rattle.flock_tool.specs.End.{error_line, error_status}
 use Rattle.flock_tool.specs.Streams.{Fails, IsUntouched, Stream, Told}
 

@@ -1,13 +1,13 @@
 -- What each command leaves, by its status.
 use Rattle.std.specs.Prelude.{◌≡◌, ◌≢◌, ◌↔◌, ◌⊎◌, ◌<◌, ◌≤◌, ℕ, List, [], Option, IfSome, IsSome, None, codes}
-use Rattle.map_history.specs.declared.op.Entry.{Entry}
+use Rattle.machine_states.specs.runner_steps.specs.map_history.specs.declared.op.Entry.{Entry}
 use Rattle.command_line.specs.trace_reader.specs.Answer.{StopsBefore}
 use Rattle.command_line.specs.trace_reader.specs.Text.{IsAccepted, IsFirstRefusal}
 use Rattle.command_line.specs.trace_reader.specs.declared.generator.Gen.{Gen}
 use Rattle.command_line.specs.trace_reader.specs.declared.traces.BadLine.{BadLine}
 use Rattle.command_line.specs.trace_reader.specs.declared.traces.TraceError.{TraceError}
 use Rattle.command_line.specs.trace_reader.specs.declared.traces.TraceError.TheVariants.{ReadFault, Memory, TooLarge, Malformed, TooManyTraces, TooManyRequests}
-use Rattle.printed_traces.specs.report_text.specs.Sink.{Extends, ExtendsInPart}
+use Rattle.load_counts.specs.run_reports.specs.report_text.specs.Sink.{Extends, ExtendsInPart}
 use Rattle.printed_traces.specs.Ends.{IsRead, Prints, PrintsInPart}
 use Rattle.load_counts.specs.run_reports.specs.Reports.{HaveEntries}
 use Rattle.load_counts.specs.Apart.{load_text}

@@ -1,7 +1,7 @@
 -- How the program ends without a report: what it says went wrong, and the number of its status.
 use Rattle.std.specs.Prelude.{ℕ, ◌⊎◌, List, ◌++◌, Option, codes, decimal}
-use Rattle.fault_count.specs.Rose.{Rose}
-use Rattle.printed_traces.specs.report_text.specs.Sink.{Extends, ExtendsInPart}
+use Rattle.threaded_runs.specs.runner_gate.specs.fault_count.specs.Rose.{Rose}
+use Rattle.load_counts.specs.run_reports.specs.report_text.specs.Sink.{Extends, ExtendsInPart}
 use Rattle.printed_traces.specs.declared.print.PrintStop.{PrintStop}
 use Rattle.printed_traces.specs.declared.print.PrintStop.TheVariants as print_stops
 use Rattle.load_counts.specs.run_reports.specs.declared.printing.PrintError.{PrintError}

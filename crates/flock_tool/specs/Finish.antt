@@ -1,11 +1,11 @@
 -- How a run ends, by the answers of its runners and by how many requests are unserved.
 use Rattle.std.specs.Prelude.{◌≡◌, ℕ, ◌+◌, Bool, true, false, ◌||◌, ◌&&◌, List, [], ◌∷◌, ◌++◌, Option, None, Some, if◌then◌else◌, codes, decimal, nat_lt, unwrap_or}
-use Rattle.body_terms.specs.Word.{value_of, version_of}
-use Rattle.hash_table.specs.epoch_slots.specs.declared.reserves.Kind.{Kind}
-use Rattle.hash_table.specs.epoch_slots.specs.declared.reserves.Kind.TheVariants.{Node, Descriptor}
-use Rattle.hash_table.specs.epoch_slots.specs.declared.reserves.Short.{Short}
-use Rattle.threaded_runs.specs.serving.specs.declared.answers.Served.{Served}
-use Rattle.threaded_runs.specs.serving.specs.declared.answers.Served.TheVariants as answers
+use Rattle.machine_states.specs.runner_steps.specs.body_terms.specs.Word.{value_of, version_of}
+use Rattle.hash_table.specs.try_lock.specs.epoch_slots.specs.declared.reserves.Kind.{Kind}
+use Rattle.hash_table.specs.try_lock.specs.epoch_slots.specs.declared.reserves.Kind.TheVariants.{Node, Descriptor}
+use Rattle.hash_table.specs.try_lock.specs.epoch_slots.specs.declared.reserves.Short.{Short}
+use Rattle.threaded_runs.specs.free_serving.specs.serving.specs.declared.answers.Served.{Served}
+use Rattle.threaded_runs.specs.free_serving.specs.serving.specs.declared.answers.Served.TheVariants as answers
 use Rattle.flock_tool.specs.Streams.{Stream, Told}
 use Rattle.flock_tool.specs.declared.finish.Finish.{Finish}
 use Rattle.flock_tool.specs.declared.finish.Finish.TheVariants.{Whole, Halted, Slots, WornSlots, Versions}

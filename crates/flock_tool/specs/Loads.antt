@@ -1,13 +1,13 @@
 -- What a run of generated requests leaves.
 use Rattle.std.specs.Prelude.{◌≡◌, ◌≢◌, ◌⊎◌, ℕ, Bool, List, Option, Some, true, codes}
 use Rattle.std.specs.FinMap.{len}
-use Rattle.map_history.specs.declared.op.Entry.{Entry}
-use Rattle.map_history.specs.Replay.{Pairs}
-use Rattle.map_history.specs.Requests.{AreInOrder}
-use Rattle.structure_laws.specs.Meaning.{Meaning}
+use Rattle.machine_states.specs.runner_steps.specs.map_history.specs.declared.op.Entry.{Entry}
+use Rattle.machine_states.specs.runner_steps.specs.map_history.specs.Replay.{Pairs}
+use Rattle.machine_states.specs.runner_steps.specs.map_history.specs.Requests.{AreInOrder}
+use Rattle.machine_states.specs.structure_laws.specs.Meaning.{Meaning}
 use Rattle.command_line.specs.trace_reader.specs.Generator.{generated}
 use Rattle.command_line.specs.trace_reader.specs.declared.generator.Gen.{Gen}
-use Rattle.printed_traces.specs.report_text.specs.Sink.{Extends, ExtendsInPart}
+use Rattle.load_counts.specs.run_reports.specs.report_text.specs.Sink.{Extends, ExtendsInPart}
 use Rattle.version_words.specs.TableState.{WordsState}
 use Rattle.threaded_runs.specs.Asks.{AreAsked}
 use Rattle.load_counts.specs.run_reports.specs.Reports.{HaveContents, HaveEntries, unserved_in}

@@ -1,17 +1,17 @@
 -- What a run of the program leaves.
 use Rattle.std.specs.Prelude.{◌≡◌, ◌≢◌, ◌<◌, ◌≤◌, ◌⊎◌, ℕ, Bool, not, List, [], Option, IfSome, None, Some, false, true, codes, length, slice_get}
-use Rattle.map_history.specs.declared.op.Entry.{Entry}
-use Rattle.structure_laws.specs.Meaning.{Meaning}
-use Rattle.hash_table.specs.bucket_laws.specs.Buckets.{buckets_meaning}
+use Rattle.machine_states.specs.runner_steps.specs.map_history.specs.declared.op.Entry.{Entry}
+use Rattle.machine_states.specs.structure_laws.specs.Meaning.{Meaning}
+use Rattle.leaf_tree.specs.tree_laws.specs.bucket_laws.specs.Buckets.{buckets_meaning}
 use Rattle.command_line.specs.trace_reader.specs.Answer.{AreTracesOf}
-use Rattle.printed_traces.specs.report_text.specs.Sink.{Extends, ExtendsInPart}
+use Rattle.load_counts.specs.run_reports.specs.report_text.specs.Sink.{Extends, ExtendsInPart}
 use Rattle.hash_table.specs.declared.table.HashTable.{HashTable}
 use Rattle.leaf_tree.specs.declared.tree.LeafTree.{LeafTree}
 use Rattle.leaf_tree.specs.tree_laws.specs.Leaves.{tree}
 use Rattle.version_words.specs.TableState.{WordsState}
-use Rattle.printed_traces.specs.report_text.specs.Ranks.{ranks_of}
+use Rattle.load_counts.specs.run_reports.specs.report_text.specs.Ranks.{ranks_of}
 use Rattle.load_counts.specs.run_reports.specs.Reports.{IsReport, PrintsInPart}
-use Rattle.threaded_runs.specs.serving.specs.declared.answers.Served.{Served}
+use Rattle.threaded_runs.specs.free_serving.specs.serving.specs.declared.answers.Served.{Served}
 use Rattle.threaded_runs.specs.runner_gate.specs.declared.counts.GatePlan.{GatePlan}
 use Rattle.threaded_runs.specs.Counts.{halts_counted, returns_counted}
 use Rattle.threaded_runs.specs.Asks.{AreAsked}
@@ -21,7 +21,7 @@ use Rattle.command_line.specs.Halts.{ask_of, names_below}
 use Rattle.command_line.specs.declared.halts.Halt.{Halt}
 use Rattle.command_line.specs.Options.{are_free, bits_by}
 use Rattle.command_line.specs.declared.options.RunOptions.{RunOptions}
-use Rattle.threaded_runs.specs.resource_bounds.specs.Makes.{inserts}
+use Rattle.threaded_runs.specs.free_serving.specs.resource_bounds.specs.Makes.{inserts}
 use Rattle.command_line.specs.declared.options.TableKind.TheVariants as kinds
 use Rattle.flock_tool.specs.Complete.{Completes}
 use Rattle.flock_tool.specs.Finish.{any_halted, finish_by, finish_status, TellsFinish}

@@ -1,7 +1,7 @@
 -- What streams and gates tell and count before and after a call.
 use Rattle.std.specs.Prelude.{◌≡◌, ℕ, List, Option}
 use Rattle.threaded_runs.specs.runner_gate.specs.declared.counts.GatePlan.{GatePlan}
-use Rattle.fault_count.specs.Rose.{Rose}
+use Rattle.threaded_runs.specs.runner_gate.specs.fault_count.specs.Rose.{Rose}
 use Rattle.flock_tool.specs.End.{Tells}
 
 -- what a stream tells before and after a call, and its count of faults

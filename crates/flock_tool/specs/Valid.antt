@@ -4,7 +4,7 @@ use Rattle.command_line.specs.trace_reader.specs.Answer.{AreTracesOf}
 use Rattle.command_line.specs.trace_reader.specs.Generator.{generated}
 use Rattle.command_line.specs.trace_reader.specs.declared.traces.Traces.{Traces}
 use Rattle.report_check.specs.Inputs.{HasLegalReport}
-use Rattle.threaded_runs.specs.resource_bounds.specs.Makes.{inserts}
+use Rattle.threaded_runs.specs.free_serving.specs.resource_bounds.specs.Makes.{inserts}
 use Rattle.command_line.specs.Halts.{names_below}
 use Rattle.command_line.specs.Options.{runners_by}
 use Rattle.command_line.specs.declared.command.Command.{Command}

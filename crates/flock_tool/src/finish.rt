@@ -5,9 +5,9 @@ ghost use Rattle.flock_tool.specs.Finish.{versions_of, slots_of, first_from, is_
 ghost use Rattle.flock_tool.specs.Streams.{stream};
 
 use arrayvec::ArrayString;
-use body_terms::{Place, Word};
-use hash_table::epoch_slots::{Kind, Short};
+use hash_table::lock_walks::epoch_slots::{Kind, Short};
 use itoa::Buffer;
+use machine_states::runner_steps::body_terms::{Place, Word};
 use printed_traces::report_text::{Sink, write_all};
 use threaded_runs::serving::Served;
 

@@ -1,9 +1,9 @@
 // The command `load`.
 ghost use Rattle.std.specs.Prelude.{◌≡◌, ◌≤◌, IfOk, length, true};
-ghost use Rattle.map_history.specs.Requests.{AreInOrder};
-ghost use Rattle.table_words.specs.Limits.{IsWithinLimits};
-ghost use Rattle.load_counts.specs.closed_words.specs.Histories.{HoldsNoLock};
-ghost use Rattle.load_counts.specs.machine_invariant.specs.After.{AreAllowed};
+ghost use Rattle.machine_states.specs.runner_steps.specs.map_history.specs.Requests.{AreInOrder};
+ghost use Rattle.machine_states.specs.runner_steps.specs.table_words.specs.Limits.{IsWithinLimits};
+ghost use Rattle.threaded_runs.specs.closed_words.specs.Histories.{HoldsNoLock};
+ghost use Rattle.version_words.specs.machine_invariant.specs.After.{AreAllowed};
 ghost use Rattle.threaded_runs.specs.Runs.{AreServed};
 ghost use Rattle.command_line.specs.Generated.{AreLoadRanges};
 ghost use Rattle.command_line.specs.Options.{are_free};

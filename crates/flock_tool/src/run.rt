@@ -1,13 +1,13 @@
 // The run itself, and its report.
 ghost use Rattle.std.specs.Prelude.{◌≡◌, ◌≤◌, All, IfOk, IfErr, OnErr, OnOk, [], not, true};
 ghost use Rattle.std.specs.FinMap.{len};
-ghost use Rattle.map_history.specs.declared.op.Request.{Request};
-ghost use Rattle.map_history.specs.Replay.{Pairs};
-ghost use Rattle.map_history.specs.Requests.{AreInOrder};
-ghost use Rattle.table_words.specs.Limits.{IsWithinLimits};
-ghost use Rattle.load_counts.specs.machine_invariant.specs.After.{AreAllowed};
-ghost use Rattle.load_counts.specs.closed_words.specs.Histories.{HoldsNoLock};
-ghost use Rattle.hash_table.specs.bucket_laws.specs.Walk.{has_one_key};
+ghost use Rattle.machine_states.specs.runner_steps.specs.map_history.specs.declared.op.Request.{Request};
+ghost use Rattle.machine_states.specs.runner_steps.specs.map_history.specs.Replay.{Pairs};
+ghost use Rattle.machine_states.specs.runner_steps.specs.map_history.specs.Requests.{AreInOrder};
+ghost use Rattle.machine_states.specs.runner_steps.specs.table_words.specs.Limits.{IsWithinLimits};
+ghost use Rattle.version_words.specs.machine_invariant.specs.After.{AreAllowed};
+ghost use Rattle.threaded_runs.specs.closed_words.specs.Histories.{HoldsNoLock};
+ghost use Rattle.leaf_tree.specs.tree_laws.specs.bucket_laws.specs.Walk.{has_one_key};
 ghost use Rattle.command_line.specs.Options.{AreInRange};
 ghost use Rattle.load_counts.specs.run_reports.specs.Reports.{HaveContents, Prints};
 ghost use Rattle.flock_tool.specs.Runs.{words_in, answers_in, meaning_of, HasRunOn, HasRunPlan, StopsReport};

@@ -3,8 +3,8 @@
 ghost use Rattle.std.specs.Prelude.{◌≡◌};
 
 use command_line::trace_reader::Source;
-use fault_count::FaultCount;
 use printed_traces::report_text::Sink;
+use printed_traces::report_text::fault_count::FaultCount;
 use std::io::{Read, Write};
 
 /// A reader as a source: it counts each read that fails.

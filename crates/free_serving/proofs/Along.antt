@@ -4,27 +4,27 @@ use Rattle.std.proofs.Common.{◌≡◌, ◌≢◌, ℕ, zero, suc, ◌+◌, ◌
 use Rattle.std.proofs.lemmas.Bool.{cases_eq}
 use Rattle.std.proofs.lemmas.Option.{slice_get_within}
 use Rattle.std.proofs.Math.Nat.{suc-mul}
-use Rattle.map_history.specs.declared.op.Request.{Request}
-use Rattle.history_orders.specs.Turns.{Follows}
-use Rattle.table_words.specs.Limits.{IsWithinLimits}
-use Rattle.structure_laws.specs.Meaning.{Meaning}
-use Rattle.structure_laws.specs.Cells.{slots}
-use Rattle.structure_laws.specs.Laws.{Laws}
-use Rattle.body_terms.specs.Counted.{counted_on}
-use Rattle.runner_gate.specs.Asks.{Asks, asked_on}
-use Rattle.runner_parts.specs.declared.entries.Known.{Known}
-use Rattle.runner_parts.specs.declared.entries.Published.{Published}
-use Rattle.runner_parts.specs.Tests.{is_answered}
+use Rattle.machine_states.specs.runner_steps.specs.map_history.specs.declared.op.Request.{Request}
+use Rattle.seq_read.specs.history_orders.specs.Turns.{Follows}
+use Rattle.machine_states.specs.runner_steps.specs.table_words.specs.Limits.{IsWithinLimits}
+use Rattle.machine_states.specs.structure_laws.specs.Meaning.{Meaning}
+use Rattle.machine_states.specs.structure_laws.specs.Cells.{slots}
+use Rattle.machine_states.specs.structure_laws.specs.Laws.{Laws}
+use Rattle.machine_states.specs.runner_steps.specs.body_terms.specs.Counted.{counted_on}
+use Rattle.seq_read.specs.runner_gate.specs.Asks.{Asks, asked_on}
+use Rattle.machine_states.specs.runner_steps.specs.runner_parts.specs.declared.entries.Known.{Known}
+use Rattle.machine_states.specs.runner_steps.specs.runner_parts.specs.declared.entries.Published.{Published}
+use Rattle.machine_states.specs.runner_steps.specs.runner_parts.specs.Tests.{is_answered}
 use Rattle.machine_states.proofs.Steps.{some_same, none_some}
 use Rattle.version_words.specs.RunnerState.{RunnerState}
 use Rattle.version_words.specs.TableState.{TableState, IsOf}
-use Rattle.serving.specs.lock_words.specs.machine_invariant.specs.After.{AreAllowed}
-use Rattle.serving.specs.attempt_bounds.specs.commit_log.proofs.Asked.{counted_more, asked_on_more}
-use Rattle.serving.specs.attempt_bounds.specs.try_lock.specs.Planning.{Planning}
-use Rattle.serving.specs.attempt_bounds.specs.try_lock.specs.Reached.{IsReached}
+use Rattle.version_words.specs.machine_invariant.specs.After.{AreAllowed}
+use Rattle.serving.specs.attempts.specs.commit_log.proofs.Asked.{counted_more, asked_on_more}
+use Rattle.seq_read.specs.caller_facts.specs.try_lock.specs.Planning.{Planning}
+use Rattle.seq_read.specs.caller_facts.specs.try_lock.specs.Reached.{IsReached}
 use Rattle.serving.specs.attempt_bounds.specs.Spared.{IsSpared}
-use Rattle.serving.specs.request_facts.specs.Laws.{HasEntry}
-use Rattle.serving.specs.attempts.specs.epoch_slots.specs.Collects.{IsTidy}
+use Rattle.seq_read.specs.caller_facts.specs.request_facts.specs.Laws.{HasEntry}
+use Rattle.seq_read.specs.caller_facts.specs.epoch_slots.specs.Collects.{IsTidy}
 use Rattle.serving.specs.attempts.specs.Knowing.{KnowsMore, IsOwn}
 use Rattle.serving.specs.attempts.proofs.Knowing.{knows_same, knows_on, own_on}
 use Rattle.serving.specs.Serving.{most_asks, WasHalted, MayServe}

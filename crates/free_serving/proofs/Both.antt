@@ -1,15 +1,15 @@
 -- A `get` whose read came to nothing, and that is served under its lock then.
 use Rattle.std.specs.Prelude.{◌*◌, ◌⊎◌, Bool}
 use Rattle.std.proofs.Common.{◌≡◌, ℕ, ◌+◌, ◌≤◌, length, sym, ap, ◌∙◌, subst, inl, inr, arith, ⊎_elim}
-use Rattle.map_history.specs.declared.op.Request.{Request}
-use Rattle.table_words.specs.declared.layout.Layout.{Layout}
-use Rattle.structure_laws.specs.Meaning.{Meaning}
-use Rattle.structure_laws.specs.Cells.{slots}
+use Rattle.machine_states.specs.runner_steps.specs.map_history.specs.declared.op.Request.{Request}
+use Rattle.machine_states.specs.runner_steps.specs.table_words.specs.declared.layout.Layout.{Layout}
+use Rattle.machine_states.specs.structure_laws.specs.Meaning.{Meaning}
+use Rattle.machine_states.specs.structure_laws.specs.Cells.{slots}
 use Rattle.version_words.specs.RunnerState.{RunnerState}
 use Rattle.serving.specs.attempts.specs.Knowing.{KnowsMore, LearnsNoOther}
 use Rattle.serving.specs.attempts.proofs.Knowing.{knows_on, no_other_on}
-use Rattle.serving.specs.attempt_bounds.specs.try_lock.specs.Planning.{Planning}
-use Rattle.serving.specs.attempt_bounds.specs.try_lock.specs.Reached.{IsReached}
+use Rattle.seq_read.specs.caller_facts.specs.try_lock.specs.Planning.{Planning}
+use Rattle.seq_read.specs.caller_facts.specs.try_lock.specs.Reached.{IsReached}
 use Rattle.serving.specs.attempt_bounds.specs.Spared.{IsSpared}
 use Rattle.seq_read.specs.Reads.{most_of_get}
 use Rattle.serving.specs.Serving.{most_asks}

@@ -1,8 +1,8 @@
 -- What reads and attempts say alike, each in its own words.
 use Rattle.std.proofs.Common.{ℕ, List}
-use Rattle.map_history.specs.declared.op.Request.{Request}
+use Rattle.machine_states.specs.runner_steps.specs.map_history.specs.declared.op.Request.{Request}
 use Rattle.version_words.specs.RunnerState.{RunnerState}
-use Rattle.serving.specs.attempt_bounds.specs.try_lock.specs.Planning.{Planning}
+use Rattle.seq_read.specs.caller_facts.specs.try_lock.specs.Planning.{Planning}
 use Rattle.seq_read.specs.caller_facts.specs.Knowing as of_reads
 use Rattle.seq_read.specs.caller_facts.specs.Asking as asked
 use Rattle.serving.specs.attempts.specs.Knowing.{IsFront, KnowsMore, LearnsNoOther}

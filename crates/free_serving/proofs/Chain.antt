@@ -2,14 +2,14 @@
 use Rattle.std.specs.Prelude.{◌||◌, ◌&&◌, ◌⊎◌, ◌==◌, not, Bool, true, false, slice_get, if◌then◌else◌}
 use Rattle.std.proofs.Common.{◌≡◌, ℕ, zero, suc, ◌+◌, ◌≤◌, List, [], ◌∷◌, refl, sym, ◌∙◌, subst, inl, inr, arith, Some, ⊎_elim}
 use Rattle.std.proofs.lemmas.Bool.{true≢false}
-use Rattle.map_history.specs.declared.op.Request.{Request}
-use Rattle.map_history.specs.declared.reply.Reply.{Reply}
-use Rattle.structure_laws.specs.Meaning.{Meaning}
-use Rattle.structure_laws.specs.Cells.{slots}
+use Rattle.machine_states.specs.runner_steps.specs.map_history.specs.declared.op.Request.{Request}
+use Rattle.machine_states.specs.runner_steps.specs.map_history.specs.declared.reply.Reply.{Reply}
+use Rattle.machine_states.specs.structure_laws.specs.Meaning.{Meaning}
+use Rattle.machine_states.specs.structure_laws.specs.Cells.{slots}
 use Rattle.machine_states.proofs.Steps.{some_same, none_some}
 use Rattle.version_words.specs.RunnerState.{RunnerState}
-use Rattle.serving.specs.attempt_bounds.specs.try_lock.specs.Planning.{Planning}
-use Rattle.serving.specs.attempt_bounds.specs.try_lock.specs.Reached.{IsReached}
+use Rattle.seq_read.specs.caller_facts.specs.try_lock.specs.Planning.{Planning}
+use Rattle.seq_read.specs.caller_facts.specs.try_lock.specs.Reached.{IsReached}
 use Rattle.serving.specs.attempt_bounds.specs.Spared.{IsSpared, AttemptsSpareSlots}
 use Rattle.serving.specs.attempts.specs.Knowing.{KnowsMore}
 use Rattle.serving.specs.attempts.proofs.Knowing.{knows_same, knows_on}

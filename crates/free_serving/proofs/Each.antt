@@ -2,23 +2,23 @@
 use Rattle.std.specs.Prelude.{◌%◌, ◌⊎◌, Bool, true, false, not, slice_get}
 use Rattle.std.proofs.Common.{◌≡◌, ◌≢◌, ℕ, ◌+◌, ◌≤◌, List, [], ◌∷◌, refl, sym, ap, ◌∙◌, subst, inl, inr, Some, ⊎_elim}
 use Rattle.std.proofs.lemmas.Bool.{true≢false}
-use Rattle.map_history.specs.declared.op.Request.{Request}
-use Rattle.map_history.specs.declared.reply.Reply.{Reply}
-use Rattle.table_words.specs.Limits.{IsWithinLimits}
-use Rattle.table_words.specs.declared.layout.Layout.{Layout}
-use Rattle.body_terms.specs.Counted.{counted_on}
-use Rattle.runner_gate.specs.Asks.{Asks, asked_on}
-use Rattle.structure_laws.specs.Meaning.{Meaning}
-use Rattle.structure_laws.specs.Cells.{slots}
-use Rattle.structure_laws.specs.Laws.{Laws}
-use Rattle.runner_parts.specs.Tests.{is_answered}
+use Rattle.machine_states.specs.runner_steps.specs.map_history.specs.declared.op.Request.{Request}
+use Rattle.machine_states.specs.runner_steps.specs.map_history.specs.declared.reply.Reply.{Reply}
+use Rattle.machine_states.specs.runner_steps.specs.table_words.specs.Limits.{IsWithinLimits}
+use Rattle.machine_states.specs.runner_steps.specs.table_words.specs.declared.layout.Layout.{Layout}
+use Rattle.machine_states.specs.runner_steps.specs.body_terms.specs.Counted.{counted_on}
+use Rattle.seq_read.specs.runner_gate.specs.Asks.{Asks, asked_on}
+use Rattle.machine_states.specs.structure_laws.specs.Meaning.{Meaning}
+use Rattle.machine_states.specs.structure_laws.specs.Cells.{slots}
+use Rattle.machine_states.specs.structure_laws.specs.Laws.{Laws}
+use Rattle.machine_states.specs.runner_steps.specs.runner_parts.specs.Tests.{is_answered}
 use Rattle.version_words.specs.RunnerState.{RunnerState}
 use Rattle.version_words.specs.TableState.{TableState, IsOf}
-use Rattle.serving.specs.lock_words.specs.machine_invariant.specs.After.{AreAllowed}
-use Rattle.serving.specs.attempt_bounds.specs.commit_log.proofs.Asked.{counted_more, asked_on_more}
-use Rattle.serving.specs.attempt_bounds.specs.try_lock.specs.Planning.{Planning}
+use Rattle.version_words.specs.machine_invariant.specs.After.{AreAllowed}
+use Rattle.serving.specs.attempts.specs.commit_log.proofs.Asked.{counted_more, asked_on_more}
+use Rattle.seq_read.specs.caller_facts.specs.try_lock.specs.Planning.{Planning}
 use Rattle.serving.specs.attempt_bounds.specs.Spared.{AttemptsSpareSlots}
-use Rattle.seq_read.specs.lock_walks.specs.Gets.{GetsAreLight}
+use Rattle.seq_read.specs.caller_facts.specs.lock_walks.specs.Gets.{GetsAreLight}
 use Rattle.serving.specs.attempts.specs.Knowing.{IsOwn}
 use Rattle.serving.specs.attempts.specs.Course.{MayAttempt}
 use Rattle.seq_read.specs.Reads.{is_halted, IsTurnedAway, Answers, has_answered, Reads}

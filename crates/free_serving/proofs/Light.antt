@@ -4,43 +4,43 @@ use Rattle.std.specs.Prelude.{◌*◌, count_by, sum_by, cond, Bool, true, false
 use Rattle.std.proofs.Common.{◌≡◌, ℕ, zero, suc, ◌+◌, ◌≤◌, List, [], ◌∷◌, length, refl, sym, ap, ◌∙◌, subst, inl, inr, arith, Some}
 use Rattle.std.proofs.lemmas.Bool.{true≢false, and_parts}
 use Rattle.std.proofs.lemmas.List.Sums.{sum_by-cons}
-use Rattle.map_history.specs.declared.op.Op.{Op}
-use Rattle.map_history.specs.declared.op.Op.TheVariants.{Get}
-use Rattle.map_history.specs.declared.op.Request.{Request}
-use Rattle.body_terms.specs.Cost.{cost_of, step_cost}
-use Rattle.body_terms.specs.Shape.{is_look, is_take, IsShaped}
-use Rattle.body_terms.specs.Trail.{Agreed}
-use Rattle.body_terms.specs.declared.outcome.Outcome.{Outcome}
-use Rattle.body_terms.specs.declared.step.Step.{Step}
-use Rattle.body_terms.specs.declared.step.Step.TheVariants as kinds_of
-use Rattle.body_terms.specs.declared.thunk.Thunk.{Thunk}
-use Rattle.table_words.specs.Limits.{IsWithinLimits}
-use Rattle.structure_laws.specs.Meaning.{Meaning}
-use Rattle.structure_laws.specs.Cells.{slots}
-use Rattle.structure_laws.specs.Laws.{Laws}
-use Rattle.structure_laws.specs.Scene.{Readings}
-use Rattle.structure_laws.specs.Sections.{IsAllowed}
-use Rattle.runner_parts.specs.declared.entries.Published.{Published}
-use Rattle.runner_parts.specs.State.{RunState, PartState}
-use Rattle.runner_steps.specs.Sections.{thunk_of}
+use Rattle.machine_states.specs.runner_steps.specs.map_history.specs.declared.op.Op.{Op}
+use Rattle.machine_states.specs.runner_steps.specs.map_history.specs.declared.op.Op.TheVariants.{Get}
+use Rattle.machine_states.specs.runner_steps.specs.map_history.specs.declared.op.Request.{Request}
+use Rattle.machine_states.specs.runner_steps.specs.body_terms.specs.Cost.{cost_of, step_cost}
+use Rattle.machine_states.specs.runner_steps.specs.body_terms.specs.Shape.{is_look, is_take, IsShaped}
+use Rattle.machine_states.specs.runner_steps.specs.body_terms.specs.Trail.{Agreed}
+use Rattle.machine_states.specs.runner_steps.specs.body_terms.specs.declared.outcome.Outcome.{Outcome}
+use Rattle.machine_states.specs.runner_steps.specs.body_terms.specs.declared.step.Step.{Step}
+use Rattle.machine_states.specs.runner_steps.specs.body_terms.specs.declared.step.Step.TheVariants as kinds_of
+use Rattle.machine_states.specs.runner_steps.specs.body_terms.specs.declared.thunk.Thunk.{Thunk}
+use Rattle.machine_states.specs.runner_steps.specs.table_words.specs.Limits.{IsWithinLimits}
+use Rattle.machine_states.specs.structure_laws.specs.Meaning.{Meaning}
+use Rattle.machine_states.specs.structure_laws.specs.Cells.{slots}
+use Rattle.machine_states.specs.structure_laws.specs.Laws.{Laws}
+use Rattle.machine_states.specs.structure_laws.specs.Scene.{Readings}
+use Rattle.machine_states.specs.structure_laws.specs.Sections.{IsAllowed}
+use Rattle.machine_states.specs.runner_steps.specs.runner_parts.specs.declared.entries.Published.{Published}
+use Rattle.machine_states.specs.runner_steps.specs.runner_parts.specs.State.{RunState, PartState}
+use Rattle.machine_states.specs.runner_steps.specs.Sections.{thunk_of}
 use Rattle.machine_states.specs.Sight.{Sight, sight, part_or_first}
 use Rattle.machine_epochs.specs.Slots.{thunk_in}
 use Rattle.version_words.specs.RunnerState.{RunnerState}
-use Rattle.serving.specs.lock_words.specs.machine_invariant.specs.After.{AreAllowed}
-use Rattle.serving.specs.lock_words.specs.machine_agreement.proofs.RunPlaces.{opened_thunk}
-use Rattle.serving.specs.lock_words.specs.machine_facts.specs.After.{AreFactsAfter}
-use Rattle.serving.specs.lock_words.specs.machine_facts.proofs.Following.{facts_after}
-use Rattle.serving.specs.lock_words.specs.next_steps.proofs.Enabled.{reached_enabled}
-use Rattle.serving.specs.lock_words.specs.next_steps.proofs.Stages.{in_table}
-use Rattle.serving.specs.attempt_bounds.specs.try_lock.specs.Planning.{Planning}
-use Rattle.serving.specs.attempt_bounds.specs.try_lock.specs.Plans.{IsWalk}
-use Rattle.serving.specs.attempt_bounds.specs.try_lock.specs.Ends.{EndsSo, IsCutShort}
-use Rattle.serving.specs.attempt_bounds.specs.try_lock.specs.declared.section.Section.{Section}
-use Rattle.serving.specs.attempt_bounds.specs.try_lock.specs.declared.planned.Planned.{Planned}
-use Rattle.serving.specs.attempt_bounds.specs.try_lock.specs.declared.planned.Planned.TheVariants as plans
-use Rattle.seq_read.specs.lock_walks.specs.Gets.{GetsAreLight}
-use Rattle.seq_read.specs.lock_walks.specs.section_runs.specs.Reached.{run_of, run_or}
-use Rattle.seq_read.specs.lock_walks.specs.section_runs.specs.Opened.{opening, IsOpening, HasOpened}
+use Rattle.version_words.specs.machine_invariant.specs.After.{AreAllowed}
+use Rattle.version_words.specs.machine_invariant.specs.machine_agreement.proofs.RunPlaces.{opened_thunk}
+use Rattle.serving.specs.one_worker.specs.machine_facts.specs.After.{AreFactsAfter}
+use Rattle.serving.specs.one_worker.specs.machine_facts.proofs.Following.{facts_after}
+use Rattle.serving.specs.one_worker.specs.next_steps.proofs.Enabled.{reached_enabled}
+use Rattle.serving.specs.one_worker.specs.next_steps.proofs.Stages.{in_table}
+use Rattle.seq_read.specs.caller_facts.specs.try_lock.specs.Planning.{Planning}
+use Rattle.seq_read.specs.caller_facts.specs.try_lock.specs.Plans.{IsWalk}
+use Rattle.seq_read.specs.caller_facts.specs.try_lock.specs.Ends.{EndsSo, IsCutShort}
+use Rattle.seq_read.specs.caller_facts.specs.try_lock.specs.declared.section.Section.{Section}
+use Rattle.seq_read.specs.caller_facts.specs.try_lock.specs.declared.planned.Planned.{Planned}
+use Rattle.seq_read.specs.caller_facts.specs.try_lock.specs.declared.planned.Planned.TheVariants as plans
+use Rattle.seq_read.specs.caller_facts.specs.lock_walks.specs.Gets.{GetsAreLight}
+use Rattle.seq_read.specs.caller_facts.specs.section_runs.specs.Reached.{run_of, run_or}
+use Rattle.seq_read.specs.caller_facts.specs.section_runs.specs.Opened.{opening, IsOpening, HasOpened}
 use Rattle.serving.specs.attempts.specs.Course.{MayAttempt, HasPlanned, HasTried, IsRefused, refused_steps}
 use Rattle.serving.specs.attempts.specs.Attempts.{has_met_held, is_stop_helping, IsAttempt, Stops, AtEntry, InPlan, BehindHold, InOwnRun, InHelpedRun, stop_steps}
 use Rattle.serving.specs.attempts.specs.declared.answers.Attempt.{Attempt}

@@ -1,15 +1,15 @@
 -- Along a read what an uncrossed runner has seen of the epoch stays.
 use Rattle.std.proofs.Common.{◌≡◌, ℕ, length, refl, ap, arith, Some}
-use Rattle.map_history.specs.declared.op.Request.{Request}
-use Rattle.body_terms.specs.declared.thunk.Thunk.{Thunk}
-use Rattle.structure_laws.specs.Meaning.{Meaning}
-use Rattle.structure_laws.specs.Scene.{Readings}
-use Rattle.runner_parts.specs.declared.event.EventKind.TheVariants as kinds
-use Rattle.runner_steps.specs.After.{own_epoch}
+use Rattle.machine_states.specs.runner_steps.specs.map_history.specs.declared.op.Request.{Request}
+use Rattle.machine_states.specs.runner_steps.specs.body_terms.specs.declared.thunk.Thunk.{Thunk}
+use Rattle.machine_states.specs.structure_laws.specs.Meaning.{Meaning}
+use Rattle.machine_states.specs.structure_laws.specs.Scene.{Readings}
+use Rattle.machine_states.specs.runner_steps.specs.runner_parts.specs.declared.event.EventKind.TheVariants as kinds
+use Rattle.machine_states.specs.runner_steps.specs.After.{own_epoch}
 use Rattle.version_words.specs.RunnerState.{RunnerState}
-use Rattle.serving.specs.attempt_bounds.specs.try_lock.specs.Planning.{Planning}
-use Rattle.serving.specs.attempt_bounds.specs.try_lock.specs.declared.planned.Planned.{Planned}
-use Rattle.serving.specs.attempt_bounds.specs.try_lock.specs.declared.planned.Planned.TheVariants as plans
+use Rattle.seq_read.specs.caller_facts.specs.try_lock.specs.Planning.{Planning}
+use Rattle.seq_read.specs.caller_facts.specs.try_lock.specs.declared.planned.Planned.{Planned}
+use Rattle.seq_read.specs.caller_facts.specs.try_lock.specs.declared.planned.Planned.TheVariants as plans
 use Rattle.serving.specs.attempt_bounds.specs.Spared.{IsSpared}
 use Rattle.serving.specs.attempt_bounds.proofs.Along.{Onward, then_on, made_on, is_made_on, enters_on, exits_on, loads_on}
 use Rattle.seq_read.specs.Course.{HasPlanned, HasLoaded, HasAnnounced, HasLock, HasStamped, IsRefused, ByPlan, ByBody, ByCell, ByLock}

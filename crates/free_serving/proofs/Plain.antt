@@ -1,11 +1,11 @@
 -- What is left where each request is served under its lock.
 use Rattle.std.specs.Prelude.{Bool, false}
 use Rattle.std.proofs.Common.{ℕ, ◌+◌, List, length, refl, inl, inr, ⊎_elim}
-use Rattle.map_history.specs.declared.op.Request.{Request}
-use Rattle.runner_gate.specs.Asks.{Asks}
-use Rattle.structure_laws.specs.Meaning.{Meaning}
+use Rattle.machine_states.specs.runner_steps.specs.map_history.specs.declared.op.Request.{Request}
+use Rattle.seq_read.specs.runner_gate.specs.Asks.{Asks}
+use Rattle.machine_states.specs.structure_laws.specs.Meaning.{Meaning}
 use Rattle.version_words.specs.RunnerState.{RunnerState}
-use Rattle.serving.specs.attempt_bounds.specs.try_lock.specs.Planning.{Planning}
+use Rattle.seq_read.specs.caller_facts.specs.try_lock.specs.Planning.{Planning}
 use Rattle.serving.specs.Serving as serving
 use Rattle.serving.specs.Serving.{Try, Serves}
 use Rattle.serving.specs.declared.answers.Served.{Served}

@@ -1,11 +1,11 @@
 -- The serving of a list of requests in which a `get` may be read first, without its lock.
 use Rattle.std.specs.Prelude.{◌≡◌, ℕ, List, Bool, true, false}
-use Rattle.map_history.specs.declared.op.Request.{Request}
-use Rattle.body_terms.specs.Counted.{counted_on}
-use Rattle.runner_gate.specs.Asks.{Asks, asked_on}
-use Rattle.structure_laws.specs.Meaning.{Meaning}
+use Rattle.machine_states.specs.runner_steps.specs.map_history.specs.declared.op.Request.{Request}
+use Rattle.machine_states.specs.runner_steps.specs.body_terms.specs.Counted.{counted_on}
+use Rattle.seq_read.specs.runner_gate.specs.Asks.{Asks, asked_on}
+use Rattle.machine_states.specs.structure_laws.specs.Meaning.{Meaning}
 use Rattle.version_words.specs.RunnerState.{RunnerState}
-use Rattle.serving.specs.attempt_bounds.specs.try_lock.specs.Planning.{Planning}
+use Rattle.seq_read.specs.caller_facts.specs.try_lock.specs.Planning.{Planning}
 use Rattle.serving.specs.Serving.{Serves}
 use Rattle.serving.specs.declared.answers.Served.{Served}
 use Rattle.serving.specs.declared.answers.Served.TheVariants as answers

@@ -9,8 +9,4 @@ mod serves_freely;
 pub use serves_freely::serve_freely;
 
 // Passed on to the layers above, so that they needn't name these libraries themselves.
-pub use seq_read;
 pub use serving;
-pub use serving::{
-    attempt_bounds, lock_walks, lock_words, one_worker, request_facts, resource_bounds,
-};

@@ -1,6 +1,6 @@
 //! One request, read first where it is a `get`, and served under its lock where that came to nothing.
 ghost use Rattle.std.specs.Prelude.{◌≡◌, ◌≢◌, [], ◌∷◌};
-ghost use Rattle.fault_count.specs.Rose.{Rose};
+ghost use Rattle.seq_read.specs.runner_gate.specs.fault_count.specs.Rose.{Rose};
 ghost use Rattle.version_words.specs.TableState.{IsOf};
 ghost use Rattle.serving.specs.attempts.specs.Counted.{IsSeen};
 ghost use Rattle.serving.specs.Serving.{MayServe};
@@ -8,13 +8,13 @@ ghost use Rattle.serving.specs.declared.answers.Served.TheVariants as answers;
 ghost use Rattle.free_serving.specs.Services.{is_get as is_get_of};
 ghost use Rattle.free_serving.specs.One.{ServesOne};
 
-use body_terms::{StepKind, Steps};
-use map_history::{Op, Request};
-use runner_gate::Gate;
+use machine_states::runner_steps::body_terms::{StepKind, Steps};
+use machine_states::runner_steps::map_history::{Op, Request};
+use seq_read::lock_walks::Planner;
+use seq_read::runner_gate::Gate;
 use seq_read::{Read, read};
 use serving::attempt_bounds::attempts::goes_on;
 use serving::attempt_bounds::attempts_spare_slots;
-use serving::lock_walks::Planner;
 use serving::{Served, serve};
 use std::slice;
 use std::sync::Wait;

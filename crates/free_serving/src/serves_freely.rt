@@ -1,6 +1,6 @@
 //! The requests of a worker, served in their order, each `get` read first where that is asked for.
 ghost use Rattle.std.specs.Prelude.{◌≡◌, ◌≢◌, true};
-ghost use Rattle.fault_count.specs.Rose.{Rose};
+ghost use Rattle.seq_read.specs.runner_gate.specs.fault_count.specs.Rose.{Rose};
 ghost use Rattle.version_words.specs.TableState.{IsOf};
 ghost use Rattle.serving.specs.attempts.specs.Counted.{IsSeen};
 ghost use Rattle.serving.specs.Serving.{MayServe};
@@ -9,10 +9,10 @@ ghost use Rattle.free_serving.specs.Freely.{ServesFreely, ServesBy};
 ghost use Rattle.free_serving.specs.Left.{Leaves};
 
 use crate::one::serve_one;
-use body_terms::Steps;
-use map_history::Request;
-use runner_gate::Gate;
-use serving::lock_walks::Planner;
+use machine_states::runner_steps::body_terms::Steps;
+use machine_states::runner_steps::map_history::Request;
+use seq_read::lock_walks::Planner;
+use seq_read::runner_gate::Gate;
 use serving::{Served, serve};
 use std::sync::Wait;
 use std::thread::Threads;

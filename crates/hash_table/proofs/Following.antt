@@ -1,8 +1,8 @@
 -- A walk in readings that were made already is the walk that a thunk is tested by.
 use Rattle.std.proofs.Common.{◌≡◌, ◌^◌, [], ◌∷◌, Bool, true, false, cond, refl, ap, ◌∙◌}
-use Rattle.section_body.specs.Bucket.{bucket_index}
-use Rattle.structure_laws.specs.Scene.{Readings}
-use Rattle.bucket_laws.specs.Walk.{Walk, is_wanted, walk}
+use Rattle.bucket_walks.specs.section_body.specs.Bucket.{bucket_index}
+use Rattle.machine_states.specs.structure_laws.specs.Scene.{Readings}
+use Rattle.bucket_walks.specs.bucket_laws.specs.Walk.{Walk, is_wanted, walk}
 use Rattle.lock_walks.specs.Followed.{followed}
 use Rattle.lock_walks.proofs.Following.{same_test}
 use Rattle.hash_table.specs.Walking.{Walking, wanted_by, fed_by}

@@ -7,7 +7,7 @@ use native.Mathlib.Decide.{ℕ_discrete}
 use Rattle.std.proofs.lemmas.Option.{slice_get_within}
 use Rattle.machine_states.proofs.Steps.{some_same}
 use Rattle.lock_walks.proofs.Each.{get_left, get_last, within_more}
-use Rattle.bucket_laws.specs.Chain.{Nodes, Chains}
+use Rattle.bucket_walks.specs.bucket_laws.specs.Chain.{Nodes, Chains}
 use Rattle.hash_table.specs.Gathered.{pair_of, IsAmong, IsGathered, IsGathering}
 
 -- how often a number stands in a list

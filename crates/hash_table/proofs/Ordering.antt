@@ -13,10 +13,10 @@ use Rattle.std.proofs.lemmas.Cmp.{nat_cmp_total, then_total, on_total}
 use Rattle.std.proofs.lemmas.List.Sorted.{Contains-permutation, sorted_far, ranks_by}
 use Rattle.std.proofs.lemmas.Map.Keys.{IsDistinct-IsPermutation, IsDistinct-from_apart, apart_from_distinct}
 use Rattle.std.proofs.lemmas.Option.{slice_get_within, slice_get-get_or, get_or_from_slice_get, slice_get-map}
-use Rattle.small_lemmas.proofs.Numbers.{tested_equal as equal_of, tested_other as differ_of}
-use Rattle.map_history.specs.Replay.{Pairs}
+use Rattle.machine_states.specs.epoch_core.specs.small_lemmas.proofs.Numbers.{tested_equal as equal_of, tested_other as differ_of}
+use Rattle.machine_states.specs.runner_steps.specs.map_history.specs.Replay.{Pairs}
 use Rattle.machine_states.proofs.Steps.{some_same}
-use Rattle.bucket_laws.specs.Chain.{Nodes, Chains, Contents}
+use Rattle.bucket_walks.specs.bucket_laws.specs.Chain.{Nodes, Chains, Contents}
 use Rattle.hash_table.specs.Gathered.{pair_of, IsGathered}
 
 abbrev pub pair_cmp : ℕ × ℕ → ℕ × ℕ → Ordering

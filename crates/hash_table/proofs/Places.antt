@@ -1,8 +1,8 @@
 -- How many buckets there are at most, and where their locks stand.
 use Rattle.std.proofs.Common.{ℕ, ◌^◌, ◌<◌, ◌≤◌, arith}
 use Rattle.std.proofs.Math.Nat.{pow-le-pow_right}
-use Rattle.section_body.specs.Bucket.{bucket_index}
-use Rattle.bucket_laws.proofs.TableLaws.{bucket_small}
+use Rattle.bucket_walks.specs.section_body.specs.Bucket.{bucket_index}
+use Rattle.bucket_walks.specs.bucket_laws.proofs.TableLaws.{bucket_small}
 
 pub few_buckets : (bits : ℕ) → bits ≤ 12 → 2 ^ bits ≤ 4096
 few_buckets bits few = pow-le-pow_right (omega arith) few

@@ -1,6 +1,6 @@
 -- The pairs of chains as they are gathered.
 use Rattle.std.specs.Prelude.{◌≡◌, ℕ, suc, ◌<◌, ◌≤◌, ◌⊎◌, List, Bool, true, length, map, slice_get, Some}
-use Rattle.bucket_laws.specs.Chain.{Nodes}
+use Rattle.bucket_walks.specs.bucket_laws.specs.Chain.{Nodes}
 
 module _ (bucket : ℕ → ℕ) (n : Nodes) (on : ℕ → Bool) where
   -- the pair of a node

@@ -1,11 +1,11 @@
 -- How the hash table plans.
 use Rattle.std.specs.Prelude.{ℕ, ◌^◌, ◌&&◌, false, nat_le}
-use Rattle.map_history.specs.declared.op.Op.{Op}
-use Rattle.section_body.specs.Bucket.{bucket_index}
-use Rattle.table_words.specs.declared.layout.Layout.{Layout}
-use Rattle.structure_laws.specs.Scene.{Readings}
-use Rattle.bucket_laws.specs.Walk.{Walk, has_one_key}
-use Rattle.bucket_laws.specs.Buckets.{walk_of, bounds}
+use Rattle.machine_states.specs.runner_steps.specs.map_history.specs.declared.op.Op.{Op}
+use Rattle.bucket_walks.specs.section_body.specs.Bucket.{bucket_index}
+use Rattle.machine_states.specs.runner_steps.specs.table_words.specs.declared.layout.Layout.{Layout}
+use Rattle.machine_states.specs.structure_laws.specs.Scene.{Readings}
+use Rattle.bucket_walks.specs.bucket_laws.specs.Walk.{Walk, has_one_key}
+use Rattle.bucket_walks.specs.bucket_laws.specs.Buckets.{walk_of, bounds}
 use Rattle.bucket_walks.specs.Few.{wanted_in}
 use Rattle.lock_walks.specs.try_lock.specs.Planning.{Planning}
 use Rattle.lock_walks.specs.Way.{Way}

@@ -12,4 +12,3 @@ pub use walk::BucketWalk;
 
 // Passed on to the layers above, so that they needn't name these libraries themselves.
 pub use lock_walks;
-pub use lock_walks::epoch_slots;

@@ -1,25 +1,25 @@
 //! Requests are planned on the hash table.
 ghost use Rattle.std.specs.Prelude.{◌≡◌, IfOk};
 ghost use Rattle.std.specs.FinMap.{entries};
-ghost use Rattle.map_history.specs.Replay.{Pairs};
-ghost use Rattle.map_history.specs.declared.op.Op.TheVariants.{Get};
-ghost use Rattle.bucket_laws.specs.Buckets.{buckets_meaning};
+ghost use Rattle.machine_states.specs.runner_steps.specs.map_history.specs.Replay.{Pairs};
+ghost use Rattle.machine_states.specs.runner_steps.specs.map_history.specs.declared.op.Op.TheVariants.{Get};
+ghost use Rattle.bucket_walks.specs.bucket_laws.specs.Buckets.{buckets_meaning};
 ghost use Rattle.lock_walks.specs.try_lock.specs.Contents.{StandFor, NamesNone};
 ghost use Rattle.hash_table.specs.Planned.{bucket_planning, walk_in};
 ghost use Rattle.hash_table.specs.Walking.{is_refused_at};
-ghost use Rattle.bucket_laws.proofs.Planner.{buckets_plan};
-ghost use Rattle.small_lemmas.proofs.Bools.{from_false};
-ghost use Rattle.bucket_laws.proofs.Near.{not_far};
-ghost use Rattle.bucket_laws.proofs.Retiring.{few_retires};
+ghost use Rattle.bucket_walks.specs.bucket_laws.proofs.Planner.{buckets_plan};
+ghost use Rattle.machine_states.specs.epoch_core.specs.small_lemmas.proofs.Bools.{from_false};
+ghost use Rattle.bucket_walks.specs.bucket_laws.proofs.Near.{not_far};
+ghost use Rattle.bucket_walks.specs.bucket_laws.proofs.Retiring.{few_retires};
 ghost use Rattle.bucket_walks.proofs.Gets.{get_few, only_look};
 
 use crate::table::HashTable;
 use crate::walk::BucketWalk;
 use lock_walks::Planner;
-use map_history::Op;
+use lock_walks::version_words::Words;
+use machine_states::runner_steps::map_history::Op;
+use machine_states::runner_steps::table_words::Layout;
 use std::alloc::{AllocError, Global};
-use table_words::Layout;
-use version_words::Words;
 
 impl Planner for HashTable {
     type Walk = BucketWalk;

@@ -2,8 +2,8 @@
 ghost use Rattle.hash_table.specs.Planned.{bucket_way};
 
 use crate::walk::BucketWalk;
-use body_terms::{Place, Thunk, Word};
 use lock_walks::Walker;
+use machine_states::runner_steps::body_terms::{Place, Thunk, Word};
 
 impl Walker for BucketWalk {
     ghost way = { bucket_way };

@@ -3,7 +3,7 @@ use Rattle.std.proofs.Common.{◌≡◌, ℕ, zero, suc, ◌≤◌, true, false,
 use Rattle.std.specs.Prelude.{max, Contains}
 use mathlib.Core.Logic.{dite}
 use native.Mathlib.Decide.{ℕ_discrete}
-use Rattle.map_history.specs.Words.{word_of}
+use Rattle.history_orders.specs.map_history.specs.Words.{word_of}
 use Rattle.body_terms.specs.Update.{upd}
 use Rattle.body_terms.specs.Run.{written_once}
 use Rattle.history_orders.specs.Stamped.{Stamped}

@@ -3,7 +3,7 @@ use Rattle.std.proofs.Common.{◌≡◌, ◌≢◌, ℕ, le_of_eq, suc, ◌<◌,
 use Rattle.std.specs.Prelude.{◌⊎◌, ◌/◌, ◌%◌, max, Contains}
 use mathlib.Core.Logic.{dite}
 use native.Mathlib.Decide.{ℕ_discrete}
-use Rattle.map_history.specs.Keys.{DependsOn, HaveNoCommonKey}
+use Rattle.history_orders.specs.map_history.specs.Keys.{DependsOn, HaveNoCommonKey}
 use Rattle.body_terms.specs.Update.{upd}
 use Rattle.body_terms.specs.Run.{written_once}
 use Rattle.std.proofs.lemmas.List.Elements.{All-contains}

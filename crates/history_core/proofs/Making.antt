@@ -3,13 +3,13 @@ use Rattle.std.proofs.Common.{◌≡◌, ℕ, List, [], ◌∷◌, refl, sym, ap
 use Rattle.std.specs.Prelude.{None}
 use Rattle.std.specs.Ordering.{nat_cmp}
 use Rattle.std.specs.FinMap.{empty, get, get-empty}
-use Rattle.map_history.specs.declared.op.Op.TheVariants.{Ins, Del}
-use Rattle.map_history.specs.declared.reply.Reply.{Reply}
-use Rattle.map_history.specs.declared.reply.Reply.TheVariants.{New, Gone}
-use Rattle.map_history.specs.Replay.{Pairs, reply_of, map_after}
-use Rattle.map_history.specs.Words.{word_of}
-use Rattle.map_history.specs.AtKey.{reply_at, left_at}
-use Rattle.map_history.proofs.Cells.{reply_of-at, get-left}
+use Rattle.history_orders.specs.map_history.specs.declared.op.Op.TheVariants.{Ins, Del}
+use Rattle.history_orders.specs.map_history.specs.declared.reply.Reply.{Reply}
+use Rattle.history_orders.specs.map_history.specs.declared.reply.Reply.TheVariants.{New, Gone}
+use Rattle.history_orders.specs.map_history.specs.Replay.{Pairs, reply_of, map_after}
+use Rattle.history_orders.specs.map_history.specs.Words.{word_of}
+use Rattle.history_orders.specs.map_history.specs.AtKey.{reply_at, left_at}
+use Rattle.history_orders.specs.map_history.proofs.Cells.{reply_of-at, get-left}
 use Rattle.history_orders.specs.Stamped.{Stamped}
 use Rattle.history_core.specs.Made.{IsMade}
 

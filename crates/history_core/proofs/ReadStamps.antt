@@ -2,9 +2,9 @@
 use Rattle.std.proofs.Common.{◌≡◌, ◌≢◌, ℕ, ◌<◌, ◌≤◌, true, false, Some, None, length, refl, sym, ap, ◌∙◌, subst, inl, inr, ⊎_elim, arith}
 use Rattle.std.specs.Prelude.{◌⊎◌, ◌/◌, ◌%◌}
 use Rattle.std.proofs.lemmas.Bool.{cases_eq}
-use Rattle.map_history.specs.Keys.{DependsOn}
-use Rattle.map_history.specs.Replay.{reply_of, map_after}
-use Rattle.map_history.specs.Words.{word_of}
+use Rattle.history_orders.specs.map_history.specs.Keys.{DependsOn}
+use Rattle.history_orders.specs.map_history.specs.Replay.{reply_of, map_after}
+use Rattle.history_orders.specs.map_history.specs.Words.{word_of}
 use Rattle.body_terms.specs.Update.{upd}
 use Rattle.history_orders.specs.Turns.{Follows}
 use Rattle.history_orders.specs.Stamped.{Stamped, IsStill, put_in}

@@ -4,8 +4,8 @@ use Rattle.std.specs.Prelude.{◌/◌}
 use Rattle.std.proofs.lemmas.Bool.{cases_eq}
 use mathlib.Core.Logic.{dite}
 use native.Mathlib.Decide.{ℕ_discrete}
-use Rattle.map_history.specs.Keys.{DependsOn}
-use Rattle.map_history.specs.Replay.{reply_of, map_after}
+use Rattle.history_orders.specs.map_history.specs.Keys.{DependsOn}
+use Rattle.history_orders.specs.map_history.specs.Replay.{reply_of, map_after}
 use Rattle.body_terms.specs.Update.{upd}
 use Rattle.history_orders.specs.Stamped.{Stamped, turn_of, AreApartOrStill}
 use Rattle.history_orders.proofs.Turns.{late_stamp}

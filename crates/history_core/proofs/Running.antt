@@ -3,7 +3,7 @@ use Rattle.std.proofs.Common.{◌≡◌, ◌≢◌, ℕ, zero, suc, ◌≤◌, t
 use Rattle.std.specs.Prelude.{◌/◌, max}
 use mathlib.Core.Logic.{dite}
 use native.Mathlib.Decide.{ℕ_discrete}
-use Rattle.map_history.specs.Keys.{DependsOn}
+use Rattle.history_orders.specs.map_history.specs.Keys.{DependsOn}
 use Rattle.body_terms.specs.Update.{upd}
 use Rattle.history_core.specs.State.{Requests, HistoryState}
 use Rattle.history_core.specs.Events.{LoadClock, RaiseClock, MayLoad, after}

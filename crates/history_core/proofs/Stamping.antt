@@ -4,9 +4,9 @@ use Rattle.std.specs.Prelude.{◌/◌, ◌⊎◌, max, Contains}
 use Rattle.std.proofs.lemmas.Bool.{true≢false}
 use mathlib.Core.Logic.{dite}
 use native.Mathlib.Decide.{ℕ_discrete}
-use Rattle.map_history.specs.Keys.{DependsOn, HaveNoCommonKey}
-use Rattle.map_history.specs.Replay.{reply_of, map_after}
-use Rattle.map_history.specs.Words.{word_of}
+use Rattle.history_orders.specs.map_history.specs.Keys.{DependsOn, HaveNoCommonKey}
+use Rattle.history_orders.specs.map_history.specs.Replay.{reply_of, map_after}
+use Rattle.history_orders.specs.map_history.specs.Words.{word_of}
 use Rattle.body_terms.specs.Update.{upd}
 use Rattle.history_orders.specs.Stamped.{Stamped, turn_of, is_earlier, put_in, IsLastOnItsKeys, IsHistoryOf}
 use Rattle.history_core.specs.State.{Requests, HistoryState}

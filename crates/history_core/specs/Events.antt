@@ -1,8 +1,8 @@
 -- The events of the history, when each may come, and the state after it.
 use Rattle.std.specs.Prelude.{ℕ, suc, ◌+◌, ◌*◌, ◌/◌, ◌<◌, ◌≤◌, ◌≡◌, ◌≢◌, ◌⊎◌, ◌==◌, max, cond, true, false, Option, Some, None}
-use Rattle.map_history.specs.Keys.{HaveNoCommonKey}
-use Rattle.map_history.specs.Replay.{reply_of, map_after}
-use Rattle.map_history.specs.Words.{word_of}
+use Rattle.history_orders.specs.map_history.specs.Keys.{HaveNoCommonKey}
+use Rattle.history_orders.specs.map_history.specs.Replay.{reply_of, map_after}
+use Rattle.history_orders.specs.map_history.specs.Words.{word_of}
 use Rattle.body_terms.specs.Update.{upd}
 use Rattle.body_terms.specs.Run.{written_once}
 use Rattle.history_orders.specs.Stamped.{Stamped, put_in}

@@ -1,9 +1,9 @@
 -- What the invariant says of the history, of the clock, and to whoever knows a request's words.
 use Rattle.std.specs.Prelude.{ℕ, suc, ◌/◌, ◌%◌, ◌<◌, ◌≤◌, ◌≡◌, ◌≢◌, ◌⊎◌, Bool, true, false, List, Some, None, length, slice_get, Contains}
 use Rattle.std.specs.FinMap.{empty}
-use Rattle.map_history.specs.History.{IsLegalFrom}
-use Rattle.map_history.specs.Replay.{map_after_all}
-use Rattle.map_history.specs.Words.{word_of}
+use Rattle.history_orders.specs.map_history.specs.History.{IsLegalFrom}
+use Rattle.history_orders.specs.map_history.specs.Replay.{map_after_all}
+use Rattle.history_orders.specs.map_history.specs.Words.{word_of}
 use Rattle.history_orders.specs.Turns.{Follows}
 use Rattle.history_orders.specs.Stamped.{Stamped, oldest_first, ops_of, map_before, IsReplayed, IsStill, IsHistoryOf}
 use Rattle.history_core.specs.State.{Requests, HistoryState, has_replied}

@@ -1,9 +1,9 @@
 -- Two examples: a stamp that is written last and stands first, and reads without a lock.
 use Rattle.std.specs.Prelude.{ℕ, ◌≡◌, ◌==◌, cond, true, List, [], ◌∷◌}
-use Rattle.map_history.specs.declared.op.Op.{Op}
-use Rattle.map_history.specs.declared.op.Op.TheVariants.{Get, Ins, Del}
-use Rattle.map_history.specs.declared.reply.Reply.TheVariants.{New, Gone, Val, Absent}
-use Rattle.map_history.specs.Words.{word_of}
+use Rattle.history_orders.specs.map_history.specs.declared.op.Op.{Op}
+use Rattle.history_orders.specs.map_history.specs.declared.op.Op.TheVariants.{Get, Ins, Del}
+use Rattle.history_orders.specs.map_history.specs.declared.reply.Reply.TheVariants.{New, Gone, Val, Absent}
+use Rattle.history_orders.specs.map_history.specs.Words.{word_of}
 use Rattle.history_core.specs.State.{Requests}
 use Rattle.history_core.specs.Events.{Event, Publish, Over, LoadClock, StampExchange, RaiseClock, WriteReply, SetDone, Learn, Look, ReadReply, ReadStamp}
 use Rattle.history_core.specs.Schedules.{first_state, AllEnabled, after_all}

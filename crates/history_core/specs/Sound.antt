@@ -1,7 +1,7 @@
 -- The invariant of the history.
 use Rattle.std.specs.Prelude.{ℕ, suc, ◌/◌, ◌%◌, ◌<◌, ◌≤◌, ◌≡◌, ◌≢◌, ◌⊎◌, true, false, Some, length, Contains}
-use Rattle.map_history.specs.Keys.{DependsOn}
-use Rattle.map_history.specs.Words.{word_of}
+use Rattle.history_orders.specs.map_history.specs.Keys.{DependsOn}
+use Rattle.history_orders.specs.map_history.specs.Words.{word_of}
 use Rattle.history_orders.specs.Turns.{Follows}
 use Rattle.history_orders.specs.Stamped.{Stamped, map_of, IsReplayed, HasReply, IsStill, IsHistoryOf}
 use Rattle.history_core.specs.State.{Requests, Seen, HistoryState, has_replied}

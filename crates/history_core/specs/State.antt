@@ -1,9 +1,9 @@
 -- The state of the history: the clock, the stamps and the replies, the sections and their runs as
 -- far as these go, and what is known.
 use Rattle.std.specs.Prelude.{ℕ, ◌==◌, ◌&&◌, Bool, false, List, Option, Some, None}
-use Rattle.map_history.specs.declared.op.Op.{Op}
-use Rattle.map_history.specs.declared.reply.Reply.{Reply}
-use Rattle.map_history.specs.Replay.{Pairs}
+use Rattle.history_orders.specs.map_history.specs.declared.op.Op.{Op}
+use Rattle.history_orders.specs.map_history.specs.declared.reply.Reply.{Reply}
+use Rattle.history_orders.specs.map_history.specs.Replay.{Pairs}
 use Rattle.history_orders.specs.Stamped.{Stamped}
 
 -- what doesn't change: whether the sections do a map's operations, and by request its operation,

@@ -10,3 +10,6 @@ pub use laws::{
     a_history_is_one, entries_are_put_in, replays_are_legal, still_entries_are_put_in,
     turns_are_found, turns_follow, turns_stand,
 };
+
+// Passed on to the layers above, so that they needn't name these libraries themselves.
+pub use map_history;

@@ -2,29 +2,29 @@
 use Rattle.std.proofs.Common.{◌≡◌, ℕ, zero, suc, ◌+◌, ◌*◌, ◌^◌, ◌<◌, List, true, false, refl, sym, ap, subst, ◌∙◌, arith, Option, Some, None}
 use Rattle.std.specs.Prelude.{◌==◌, ◌||◌, is_some, nat_lt, slice_index, slice_index_or, if◌then◌else◌}
 use Rattle.std.proofs.lemmas.Bool.Decides.{nat_tests}
-use Rattle.body_terms.specs.declared.value.Init.{Init}
-use Rattle.body_terms.specs.declared.step.Step.TheVariants.{Make}
-use Rattle.body_terms.specs.declared.micro.Source.{Source}
-use Rattle.body_terms.specs.declared.micro.Micro.TheVariants.{PrivateLoad, PrivateStore}
-use Rattle.body_terms.specs.Shape.{IsStep}
-use Rattle.body_terms.specs.declared.value.Value.TheVariants.{Const}
-use Rattle.body_terms.specs.Line.{Registers, begins, micro_at, micros, is_event, registers_before, source_of}
-use Rattle.body_terms.specs.Run.{source_value}
-use Rattle.body_terms.specs.Word.{version_of, next_word}
-use Rattle.body_terms.proofs.LineLemmas.{micro_within}
+use Rattle.runner_steps.specs.body_terms.specs.declared.value.Init.{Init}
+use Rattle.runner_steps.specs.body_terms.specs.declared.step.Step.TheVariants.{Make}
+use Rattle.runner_steps.specs.body_terms.specs.declared.micro.Source.{Source}
+use Rattle.runner_steps.specs.body_terms.specs.declared.micro.Micro.TheVariants.{PrivateLoad, PrivateStore}
+use Rattle.runner_steps.specs.body_terms.specs.Shape.{IsStep}
+use Rattle.runner_steps.specs.body_terms.specs.declared.value.Value.TheVariants.{Const}
+use Rattle.runner_steps.specs.body_terms.specs.Line.{Registers, begins, micro_at, micros, is_event, registers_before, source_of}
+use Rattle.runner_steps.specs.body_terms.specs.Run.{source_value}
+use Rattle.runner_steps.specs.body_terms.specs.Word.{version_of, next_word}
+use Rattle.runner_steps.specs.body_terms.proofs.LineLemmas.{micro_within}
 use Rattle.section_lines.proofs.Ordered.{Fills, fills}
-use Rattle.table_words.specs.declared.layout.Layout.{Layout}
-use Rattle.table_words.specs.Limits.{IsWithinLimits}
-use Rattle.structure_laws.specs.Meaning.{Meaning}
-use Rattle.structure_laws.specs.Laws.{Laws}
-use Rattle.runner_parts.specs.declared.event.EventKind.TheVariants as kinds
-use Rattle.runner_parts.specs.State.{RunState, NodesState}
-use Rattle.runner_parts.specs.Lists.{slot_taken}
+use Rattle.runner_steps.specs.table_words.specs.declared.layout.Layout.{Layout}
+use Rattle.runner_steps.specs.table_words.specs.Limits.{IsWithinLimits}
+use Rattle.section_lines.specs.structure_laws.specs.Meaning.{Meaning}
+use Rattle.section_lines.specs.structure_laws.specs.Laws.{Laws}
+use Rattle.runner_steps.specs.runner_parts.specs.declared.event.EventKind.TheVariants as kinds
+use Rattle.runner_steps.specs.runner_parts.specs.State.{RunState, NodesState}
+use Rattle.runner_steps.specs.runner_parts.specs.Lists.{slot_taken}
 use Rattle.runner_steps.specs.InRun.{last_of, make_slot, can_raise}
 use Rattle.runner_steps.specs.Sections.{thunk_of, line_of, next_of}
 use Rattle.runner_steps.specs.AfterInRun.{goes_on}
-use Rattle.commit_log.specs.machine_agreement.proofs.LineAsked.{fill_store_asked}
-use Rattle.commit_log.specs.machine_invariant.specs.After.{AreAllowed}
+use Rattle.version_words.specs.machine_invariant.specs.machine_agreement.proofs.LineAsked.{fill_store_asked}
+use Rattle.version_words.specs.machine_invariant.specs.After.{AreAllowed}
 use Rattle.commit_log.specs.next_steps.specs.Steps.{slot_in, kind_at, ask_at, has_slot}
 use Rattle.commit_log.specs.next_steps.specs.Stages.{filling_slot, nodes_taking}
 use Rattle.version_words.specs.RunnerState.{RunnerState}

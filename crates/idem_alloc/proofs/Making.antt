@@ -2,23 +2,23 @@
 use Rattle.std.proofs.Common.{◌≡◌, ℕ, ◌+◌, ◌-◌, ◌≤◌, List, length, Bool, true, false, refl, sym, ap, ◌∙◌, cond, arith, Option, Some, None}
 use Rattle.std.specs.Prelude.{◌==◌, slice_index, if◌then◌else◌}
 use Rattle.std.proofs.lemmas.Bool.Decides.{nat_tests}
-use Rattle.body_terms.specs.declared.step.Step.TheVariants.{Make}
-use Rattle.body_terms.specs.declared.micro.Micro.TheVariants.{MakeCommit}
-use Rattle.body_terms.specs.Line.{line, begins, micro_at, registers_before}
-use Rattle.body_terms.specs.Run.{written_once}
-use Rattle.body_terms.proofs.LineLemmas.{micro_within}
-use Rattle.table_words.specs.declared.spot.Spot.TheVariants.{LogWord}
-use Rattle.table_words.specs.declared.access.Access.TheVariants.{Exchanges}
-use Rattle.table_words.specs.Limits.{IsWithinLimits}
-use Rattle.structure_laws.specs.Meaning.{Meaning}
-use Rattle.structure_laws.specs.Laws.{Laws}
-use Rattle.runner_parts.specs.declared.event.EventKind.TheVariants as kinds
-use Rattle.runner_parts.specs.State.{RunState, NodesState}
-use Rattle.runner_parts.specs.Lists.{slot_taken, slot_made, slot_back}
+use Rattle.runner_steps.specs.body_terms.specs.declared.step.Step.TheVariants.{Make}
+use Rattle.runner_steps.specs.body_terms.specs.declared.micro.Micro.TheVariants.{MakeCommit}
+use Rattle.runner_steps.specs.body_terms.specs.Line.{line, begins, micro_at, registers_before}
+use Rattle.runner_steps.specs.body_terms.specs.Run.{written_once}
+use Rattle.runner_steps.specs.body_terms.proofs.LineLemmas.{micro_within}
+use Rattle.runner_steps.specs.table_words.specs.declared.spot.Spot.TheVariants.{LogWord}
+use Rattle.runner_steps.specs.table_words.specs.declared.access.Access.TheVariants.{Exchanges}
+use Rattle.runner_steps.specs.table_words.specs.Limits.{IsWithinLimits}
+use Rattle.section_lines.specs.structure_laws.specs.Meaning.{Meaning}
+use Rattle.section_lines.specs.structure_laws.specs.Laws.{Laws}
+use Rattle.runner_steps.specs.runner_parts.specs.declared.event.EventKind.TheVariants as kinds
+use Rattle.runner_steps.specs.runner_parts.specs.State.{RunState, NodesState}
+use Rattle.runner_steps.specs.runner_parts.specs.Lists.{slot_taken, slot_made, slot_back}
 use Rattle.runner_steps.specs.InRun.{last_of}
 use Rattle.runner_steps.specs.Sections.{thunk_of, line_of, next_of}
 use Rattle.runner_steps.specs.AfterInRun.{agrees}
-use Rattle.commit_log.specs.machine_invariant.specs.After.{AreAllowed}
+use Rattle.version_words.specs.machine_invariant.specs.After.{AreAllowed}
 use Rattle.commit_log.specs.next_steps.specs.Steps.{slot_in}
 use Rattle.commit_log.specs.next_steps.specs.Stages.{unfilled}
 use Rattle.version_words.specs.RunnerState.{RunnerState}

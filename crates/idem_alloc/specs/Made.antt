@@ -1,17 +1,17 @@
 -- The filling of a new node's cells in a run.
 use Rattle.std.specs.Prelude.{◌≡◌, ℕ, ◌+◌, ◌*◌, ◌<◌, ◌≤◌, List, length, Bool, true, ◌||◌, ◌==◌, if◌then◌else◌, slice_index, slice_index_or, None, Some}
-use Rattle.body_terms.specs.declared.value.Init.{Init}
-use Rattle.body_terms.specs.declared.value.Value.TheVariants.{Const}
-use Rattle.body_terms.specs.declared.step.Step.TheVariants.{Make}
-use Rattle.body_terms.specs.declared.micro.Source.{Source}
-use Rattle.body_terms.specs.declared.micro.Micro.TheVariants.{PrivateLoad, PrivateStore, MakeCommit}
-use Rattle.body_terms.specs.Line.{begins, registers_before, source_of}
-use Rattle.body_terms.specs.Run.{source_value}
-use Rattle.body_terms.specs.Shape.{IsStep}
-use Rattle.body_terms.specs.Word.{version_of, next_word}
-use Rattle.structure_laws.specs.Meaning.{Meaning}
-use Rattle.runner_parts.specs.State.{RunState}
-use Rattle.runner_parts.specs.Lists.{slot_taken, slot_made, slot_back}
+use Rattle.runner_steps.specs.body_terms.specs.declared.value.Init.{Init}
+use Rattle.runner_steps.specs.body_terms.specs.declared.value.Value.TheVariants.{Const}
+use Rattle.runner_steps.specs.body_terms.specs.declared.step.Step.TheVariants.{Make}
+use Rattle.runner_steps.specs.body_terms.specs.declared.micro.Source.{Source}
+use Rattle.runner_steps.specs.body_terms.specs.declared.micro.Micro.TheVariants.{PrivateLoad, PrivateStore, MakeCommit}
+use Rattle.runner_steps.specs.body_terms.specs.Line.{begins, registers_before, source_of}
+use Rattle.runner_steps.specs.body_terms.specs.Run.{source_value}
+use Rattle.runner_steps.specs.body_terms.specs.Shape.{IsStep}
+use Rattle.runner_steps.specs.body_terms.specs.Word.{version_of, next_word}
+use Rattle.section_lines.specs.structure_laws.specs.Meaning.{Meaning}
+use Rattle.runner_steps.specs.runner_parts.specs.State.{RunState}
+use Rattle.runner_steps.specs.runner_parts.specs.Lists.{slot_taken, slot_made, slot_back}
 use Rattle.runner_steps.specs.InRun.{make_slot, last_of}
 use Rattle.runner_steps.specs.Sections.{thunk_of}
 use Rattle.runner_steps.specs.AfterInRun.{goes_on, agrees}

@@ -1,8 +1,8 @@
 -- The numbers that a new node's cells get.
 use Rattle.std.specs.Prelude.{ℕ, List, [], ◌∷◌, slice_index_or}
-use Rattle.body_terms.specs.declared.value.Init.{Init}
-use Rattle.body_terms.specs.declared.value.Value.{Value}
-use Rattle.body_terms.specs.declared.value.Value.TheVariants.{Const}
+use Rattle.runner_steps.specs.body_terms.specs.declared.value.Init.{Init}
+use Rattle.runner_steps.specs.body_terms.specs.declared.value.Value.{Value}
+use Rattle.runner_steps.specs.body_terms.specs.declared.value.Value.TheVariants.{Const}
 
 -- the number that this value gives a cell, where it names no register
 abbrev pub number_of : Value → ℕ

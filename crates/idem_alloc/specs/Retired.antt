@@ -1,9 +1,9 @@
 -- Retirements of node slots in a run.
 use Rattle.std.specs.Prelude.{◌≡◌, ℕ, ◌+◌, Bool, if◌then◌else◌}
-use Rattle.body_terms.specs.declared.micro.Micro.TheVariants.{EpochForRetire, RetireCommit}
-use Rattle.structure_laws.specs.Meaning.{Meaning}
-use Rattle.runner_parts.specs.State.{RunState, NodesState}
-use Rattle.runner_parts.specs.Lists.{slot_retired}
+use Rattle.runner_steps.specs.body_terms.specs.declared.micro.Micro.TheVariants.{EpochForRetire, RetireCommit}
+use Rattle.section_lines.specs.structure_laws.specs.Meaning.{Meaning}
+use Rattle.runner_steps.specs.runner_parts.specs.State.{RunState, NodesState}
+use Rattle.runner_steps.specs.runner_parts.specs.Lists.{slot_retired}
 use Rattle.runner_steps.specs.Sections.{next_of}
 use Rattle.runner_steps.specs.AfterInRun.{goes_on, agrees}
 use Rattle.version_words.specs.RunnerState.{RunnerState}

@@ -1,7 +1,7 @@
 //! Nodes that a run makes.
 ghost use Rattle.std.specs.Prelude.{◌≡◌, length, Some, true, false, IfSome, IfNone};
 ghost use Rattle.runner_steps.specs.InRun.{last_of};
-ghost use Rattle.runner_parts.specs.State.{RunState};
+ghost use Rattle.runner_steps.specs.runner_parts.specs.State.{RunState};
 ghost use Rattle.version_words.specs.TableState.{IsOf};
 ghost use Rattle.commit_log.specs.Runs.{IsRunning};
 ghost use Rattle.commit_log.specs.Asked.{IsAsked};
@@ -9,10 +9,10 @@ ghost use Rattle.commit_log.specs.Halted.{IsHalted};
 ghost use Rattle.idem_alloc.specs.Numbers.{number_of, numbers_of};
 ghost use Rattle.idem_alloc.specs.Made.{MayFill, HasFilled, MayMake, IsFilling, HasMade};
 
-use body_terms::{Init, StepKind, Steps, Value, Word};
 use commit_log::{Unasked, passes};
 use runner_gate::Gate;
-use structure_laws::Structure;
+use runner_steps::body_terms::{Init, StepKind, Steps, Value, Word};
+use section_lines::structure_laws::Structure;
 use version_words::{FlockTable, Runner};
 
 /// Fills one cell of the slot that the run's Make prepares, in two steps: loads it, and stores the value with the next

@@ -1,22 +1,22 @@
 -- A load in a run.
 use Rattle.std.proofs.Common.{◌≡◌, ℕ, ◌+◌, Bool, refl, ap, subst, ◌∙◌, add-one, Option, Some}
-use Rattle.body_terms.specs.declared.micro.Micro.TheVariants.{LoadCell, Commit}
-use Rattle.body_terms.specs.Line.{micro_at}
+use Rattle.section_lines.specs.structure_laws.specs.body_terms.specs.declared.micro.Micro.TheVariants.{LoadCell, Commit}
+use Rattle.section_lines.specs.structure_laws.specs.body_terms.specs.Line.{micro_at}
 use Rattle.section_lines.proofs.Ordered.{is_ordered}
-use Rattle.table_words.specs.declared.spot.Spot.TheVariants.{Cell}
-use Rattle.table_words.specs.declared.access.Access.TheVariants.{Loads}
-use Rattle.table_words.specs.Limits.{IsWithinLimits}
-use Rattle.structure_laws.specs.Meaning.{Meaning}
-use Rattle.structure_laws.specs.Laws.{Laws}
-use Rattle.runner_parts.specs.State.{RunState}
-use Rattle.runner_steps.specs.Sections.{thunk_of, line_of}
-use Rattle.runner_steps.specs.AfterInRun.{goes_on, agrees}
+use Rattle.section_lines.specs.structure_laws.specs.table_words.specs.declared.spot.Spot.TheVariants.{Cell}
+use Rattle.section_lines.specs.structure_laws.specs.table_words.specs.declared.access.Access.TheVariants.{Loads}
+use Rattle.section_lines.specs.structure_laws.specs.table_words.specs.Limits.{IsWithinLimits}
+use Rattle.section_lines.specs.structure_laws.specs.Meaning.{Meaning}
+use Rattle.section_lines.specs.structure_laws.specs.Laws.{Laws}
+use Rattle.machine_states.specs.runner_steps.specs.runner_parts.specs.State.{RunState}
+use Rattle.machine_states.specs.runner_steps.specs.Sections.{thunk_of, line_of}
+use Rattle.machine_states.specs.runner_steps.specs.AfterInRun.{goes_on, agrees}
 use Rattle.machine_epochs.proofs.RunPlaces.{next_in_line}
-use Rattle.commit_log.specs.machine_invariant.specs.After.{AreAllowed}
-use Rattle.version_words.specs.RunnerState.{RunnerState}
-use Rattle.version_words.specs.TableState.{TableState, IsOf}
-use Rattle.version_words.specs.Events.{met_by, Makes}
-use Rattle.version_words.specs.Naming.{load_of}
+use Rattle.commit_log.specs.version_words.specs.machine_invariant.specs.After.{AreAllowed}
+use Rattle.commit_log.specs.version_words.specs.RunnerState.{RunnerState}
+use Rattle.commit_log.specs.version_words.specs.TableState.{TableState, IsOf}
+use Rattle.commit_log.specs.version_words.specs.Events.{met_by, Makes}
+use Rattle.commit_log.specs.version_words.specs.Naming.{load_of}
 use Rattle.commit_log.specs.Runs.{IsRunning, Stepped}
 use Rattle.commit_log.specs.Committed.{MayCommit, HasCommitted}
 use Rattle.commit_log.proofs.Running.{may_make, then_made}

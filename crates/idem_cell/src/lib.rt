@@ -10,3 +10,8 @@ mod stores;
 
 pub use loads::{load, load_gated};
 pub use stores::store;
+
+// Passed on to the layers above, so that they needn't name these libraries themselves.
+pub use runner_gate;
+pub use section_lines;
+pub use section_lines::structure_laws::body_terms;

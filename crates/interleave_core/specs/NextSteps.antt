@@ -1,14 +1,14 @@
 -- The next step of each run after every list of events.
 use Rattle.std.specs.Prelude.{List}
-use Rattle.map_history.specs.declared.op.Request.{Request}
-use Rattle.table_words.specs.Limits.{IsWithinLimits}
-use Rattle.table_words.specs.declared.layout.Layout.{Layout}
-use Rattle.structure_laws.specs.Meaning.{Meaning}
-use Rattle.runner_parts.specs.declared.event.Event.{Event}
+use Rattle.machine_states.specs.runner_steps.specs.map_history.specs.declared.op.Request.{Request}
+use Rattle.machine_states.specs.runner_steps.specs.table_words.specs.Limits.{IsWithinLimits}
+use Rattle.machine_states.specs.runner_steps.specs.table_words.specs.declared.layout.Layout.{Layout}
+use Rattle.machine_states.specs.structure_laws.specs.Meaning.{Meaning}
+use Rattle.machine_states.specs.runner_steps.specs.runner_parts.specs.declared.event.Event.{Event}
 use Rattle.machine_states.specs.World.{World}
 use Rattle.machine_states.specs.Schedules.{IsAfter}
 use Rattle.machine_states.specs.Sight.{sight}
-use Rattle.next_steps.specs.machine_invariant.specs.After.{AreAllowed}
+use Rattle.reached_histories.specs.machine_facts.specs.machine_invariant.specs.After.{AreAllowed}
 use Rattle.next_steps.specs.Enabled.{NextIsEnabled, RunsGoOn}
 
 -- whoever is in a run and wasn't joined has an enabled event, the next one of its opening, line or end, but

@@ -1,13 +1,13 @@
 //! What the runners are at in the first state.
 ghost use Rattle.std.specs.Prelude.{◌≡◌, ◌<◌, ◌+◌, ◌^◌, ◌∷◌, IfOk};
-ghost use Rattle.table_words.specs.Limits.{IsWithinLimits};
+ghost use Rattle.machine_states.specs.runner_steps.specs.table_words.specs.Limits.{IsWithinLimits};
 ghost use Rattle.machine_states.specs.First.{falling, first_part, keeper_part, worker_part, workers};
 
-use epoch_core::Stage;
-use runner_parts::{Descriptors, Nodes, Part, Reads, Records};
+use machine_states::epoch_core::Stage;
+use machine_states::runner_steps::runner_parts::{Descriptors, Nodes, Part, Reads, Records};
+use machine_states::runner_steps::table_words::Layout;
+use machine_states::structure_laws::Structure;
 use std::alloc::{AllocError, Global};
-use structure_laws::Structure;
-use table_words::Layout;
 
 /// As many numbers as said from this one on, in falling order.
 fn falling(alloc: Global, from: u32, count: u32) -> Result<Vec<u32>, AllocError>

@@ -1,14 +1,14 @@
 //! What is said of every event, and of every structure.
 ghost use Rattle.std.specs.Prelude.{◌≡◌, ℕ, List, None};
-ghost use Rattle.map_history.specs.declared.op.Request.{Request};
-ghost use Rattle.table_words.specs.declared.layout.Layout.{Layout};
-ghost use Rattle.table_words.specs.Limits.{IsWithinLimits};
-ghost use Rattle.structure_laws.specs.Lawful.{Moves};
-ghost use Rattle.runner_parts.specs.declared.event.Event.{Event};
-ghost use Rattle.runner_parts.specs.declared.event.EventKind.TheVariants.{Join};
+ghost use Rattle.machine_states.specs.runner_steps.specs.map_history.specs.declared.op.Request.{Request};
+ghost use Rattle.machine_states.specs.runner_steps.specs.table_words.specs.declared.layout.Layout.{Layout};
+ghost use Rattle.machine_states.specs.runner_steps.specs.table_words.specs.Limits.{IsWithinLimits};
+ghost use Rattle.machine_states.specs.structure_laws.specs.Lawful.{Moves};
+ghost use Rattle.machine_states.specs.runner_steps.specs.runner_parts.specs.declared.event.Event.{Event};
+ghost use Rattle.machine_states.specs.runner_steps.specs.runner_parts.specs.declared.event.EventKind.TheVariants.{Join};
 ghost use Rattle.interleave_core.specs.Local.{joined_by, IsLocal, JoinsTwo};
 
-use structure_laws::Structure;
+use machine_states::structure_laws::Structure;
 
 /// Every event but a join reads and changes one word and the stepping runner's part alone. A join changes
 /// no word, and of the parts only the keeper's and the worker's.

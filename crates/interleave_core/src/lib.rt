@@ -15,9 +15,9 @@ mod tray;
 pub use first::worker_part;
 pub use laws::{events_are_local, moves_are_lawful};
 pub use machine::{Machine, StepError};
-pub use runner_parts::{Event, EventKind};
+pub use machine_states::runner_steps::runner_parts::{Event, EventKind};
+pub use machine_states::structure_laws::Structure;
 pub use schedules::{ScheduleError, all_schedules};
-pub use structure_laws::Structure;
 pub use tray::Tray;
 
 // Passed on to the layers above, so that they needn't name these libraries themselves.

@@ -1,34 +1,34 @@
 //! The pure machine.
 ghost use Rattle.std.specs.Prelude.{◌≡◌, ◌≤◌, ◌<◌, ◌+◌, ◌↔◌, ℕ, Some, None, Err, OnOk, OnErr, IfOk, length, vec_len, slice_get, slice_set, ◌++◌, ◌==◌, not};
-ghost use Rattle.map_history.specs.Requests.{AreInOrder};
-ghost use Rattle.table_words.specs.Limits.{IsWithinLimits};
-ghost use Rattle.table_words.specs.Places.{size, address, Fits};
-ghost use Rattle.runner_steps.specs.After.{after, knows_also};
+ghost use Rattle.machine_states.specs.runner_steps.specs.map_history.specs.Requests.{AreInOrder};
+ghost use Rattle.machine_states.specs.runner_steps.specs.table_words.specs.Limits.{IsWithinLimits};
+ghost use Rattle.machine_states.specs.runner_steps.specs.table_words.specs.Places.{size, address, Fits};
+ghost use Rattle.machine_states.specs.runner_steps.specs.After.{after, knows_also};
 ghost use Rattle.machine_states.specs.World.{happens, seat_of, settled_part, put_part};
 ghost use Rattle.std.specs.List.{list_any};
-ghost use Rattle.runner_parts.specs.State.{PartState};
-ghost use Rattle.runner_parts.specs.Tests.{has};
+ghost use Rattle.machine_states.specs.runner_steps.specs.runner_parts.specs.State.{PartState};
+ghost use Rattle.machine_states.specs.runner_steps.specs.runner_parts.specs.Tests.{has};
 ghost use Rattle.interleave_core.specs.Parts.{is_listed, owns};
 ghost use Rattle.machine_states.specs.First.{IsFirst};
 ghost use Rattle.machine_states.specs.Reached.{Reached};
 ghost use Rattle.interleave_core.specs.Enabled.{NamesEnabled};
 ghost use Rattle.interleave_core.specs.Machine.{IsSameTable, HasWord, word_of};
-ghost use Rattle.table_words.specs.declared.spot.Spot.TheVariants.{Epoch, Announcement, Cell, LogWord};
+ghost use Rattle.machine_states.specs.runner_steps.specs.table_words.specs.declared.spot.Spot.TheVariants.{Epoch, Announcement, Cell, LogWord};
 ghost use Rattle.interleave_core.specs.declared.machine.StepError.TheVariants.{NotEnabled};
 
 use crate::first::first_parts;
-use body_terms::{Place, Word};
 use enabled_kinds::enabled;
 use enabled_kinds::runner_asks::asks;
 use machine_states::first_words;
-use map_history::Request;
-use runner_parts::{Event, EventKind, Nodes, Part, Records, Retired};
-use runner_steps::sizes_for;
+use machine_states::runner_steps::body_terms::{Place, Word};
+use machine_states::runner_steps::map_history::Request;
+use machine_states::runner_steps::runner_parts::{Event, EventKind, Nodes, Part, Records, Retired};
+use machine_states::runner_steps::sizes_for;
+use machine_states::runner_steps::table_words::{Access, Layout, Sizes, Spot, word_at};
+use machine_states::structure_laws::Structure;
 use state_changes::{after, part_copy};
 use std::alloc::{AllocError, Global};
 use std::marker::Model;
-use structure_laws::Structure;
-use table_words::{Access, Layout, Sizes, Spot, word_at};
 
 /// Why a step wasn't made; the state is then as it was.
 #[derive(Clone, Copy, Debug, PartialEq, Eq)]

@@ -1,14 +1,14 @@
 //! The machine after a list of events.
 ghost use Rattle.std.specs.Prelude.{◌≡◌, ◌≤◌, ℕ, Some, None, Err, IfOk, length, take, slice_get};
-ghost use Rattle.map_history.specs.Requests.{AreInOrder};
-ghost use Rattle.table_words.specs.Limits.{IsWithinLimits};
+ghost use Rattle.machine_states.specs.runner_steps.specs.map_history.specs.Requests.{AreInOrder};
+ghost use Rattle.machine_states.specs.runner_steps.specs.table_words.specs.Limits.{IsWithinLimits};
 ghost use Rattle.interleave_core.specs.declared.schedules.ScheduleError.TheVariants.{NotEnabled};
 ghost use Rattle.machine_states.specs.Schedules.{IsAfter};
 ghost use Rattle.machine_epochs.specs.Descriptors.{DescriptorsSoundAfter};
 ghost use Rattle.machine_epochs.specs.Epochs.{SoundAfter};
-ghost use Rattle.next_steps.specs.machine_invariant.specs.After.{WholeAfter};
-ghost use Rattle.next_steps.specs.machine_invariant.specs.LogWords.{LogWordsSayAfter};
-ghost use Rattle.next_steps.specs.machine_invariant.specs.Rising.{RisesAfter};
+ghost use Rattle.reached_histories.specs.machine_facts.specs.machine_invariant.specs.After.{WholeAfter};
+ghost use Rattle.reached_histories.specs.machine_facts.specs.machine_invariant.specs.LogWords.{LogWordsSayAfter};
+ghost use Rattle.reached_histories.specs.machine_facts.specs.machine_invariant.specs.Rising.{RisesAfter};
 ghost use Rattle.reached_histories.specs.machine_facts.specs.After.{FactsAfter, StepFactsAfter};
 ghost use Rattle.reached_histories.specs.Laws.{HistoryAfter};
 ghost use Rattle.reached_histories.specs.RealTime.{LinearizableAfter};
@@ -16,11 +16,11 @@ ghost use Rattle.interleave_core.specs.Enabled.{StopsNaming};
 ghost use Rattle.interleave_core.specs.NextSteps.{NextStepsAfter};
 
 use crate::machine::{Machine, StepError};
-use map_history::Request;
-use runner_parts::Event;
+use machine_states::runner_steps::map_history::Request;
+use machine_states::runner_steps::runner_parts::Event;
+use machine_states::runner_steps::table_words::Layout;
+use machine_states::structure_laws::Structure;
 use std::alloc::{AllocError, Global};
-use structure_laws::Structure;
-use table_words::Layout;
 
 /// Why there is no machine after these events.
 #[derive(Clone, Copy, Debug, PartialEq, Eq)]

@@ -1,14 +1,14 @@
 //! Worked rows.
 ghost use Rattle.std.specs.Prelude.{◌≤◌};
-ghost use Rattle.map_history.specs.Requests.{AreInOrder};
-ghost use Rattle.table_words.specs.Limits.{IsWithinLimits};
+ghost use Rattle.machine_states.specs.runner_steps.specs.map_history.specs.Requests.{AreInOrder};
+ghost use Rattle.machine_states.specs.runner_steps.specs.table_words.specs.Limits.{IsWithinLimits};
 
-use body_terms::{Outcome, Thunk, Word};
 use interleave_core::{Event, EventKind, Machine, ScheduleError, StepError, Tray, all_schedules};
-use map_history::{Op, Request};
-use runner_parts::{Part, thunk_words};
+use machine_states::runner_steps::body_terms::{Outcome, Thunk, Word};
+use machine_states::runner_steps::map_history::{Op, Request};
+use machine_states::runner_steps::runner_parts::{Part, thunk_words};
+use machine_states::runner_steps::table_words::Layout;
 use std::alloc::AllocError;
-use table_words::Layout;
 
 /// The first word of a cell: value 0, version 1.
 const FIRST: u64 = 4294967296;

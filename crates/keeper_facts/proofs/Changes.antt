@@ -3,17 +3,17 @@ use Rattle.std.specs.Prelude.{◌-◌, ◌==◌, cond, nat_lt, Bool, true, false
 use Rattle.std.proofs.Common.{◌≡◌, ℕ, suc, List, [], ◌∷◌, ◌++◌, refl, sym, ap, ◌∙◌, subst, inl, inr, ⊎_elim, arith, Option, Some, None}
 use Rattle.std.specs.Prelude.{◌⊎◌}
 use Rattle.std.proofs.lemmas.Bool.{cases_eq}
-use Rattle.body_terms.specs.Update.{upd}
-use Rattle.body_terms.specs.Word.{value_of, next_word, held_word}
-use Rattle.table_words.specs.declared.layout.Layout.{Layout}
-use Rattle.table_words.specs.declared.spot.Spot.TheVariants.{Cell}
-use Rattle.table_words.specs.Places.{slot_count}
-use Rattle.map_history.specs.declared.op.Request.{Request}
-use Rattle.structure_laws.specs.Meaning.{Meaning}
-use Rattle.runner_parts.specs.declared.event.EventKind.{EventKind}
-use Rattle.runner_parts.specs.declared.event.EventKind.TheVariants as kinds
-use Rattle.runner_parts.specs.State.{RunState, PartState}
-use Rattle.runner_steps.specs.Sections.{is_open_run}
+use Rattle.agreement_core.specs.body_terms.specs.Update.{upd}
+use Rattle.agreement_core.specs.body_terms.specs.Word.{value_of, next_word, held_word}
+use Rattle.agreement_core.specs.table_words.specs.declared.layout.Layout.{Layout}
+use Rattle.agreement_core.specs.table_words.specs.declared.spot.Spot.TheVariants.{Cell}
+use Rattle.agreement_core.specs.table_words.specs.Places.{slot_count}
+use Rattle.agreement_core.specs.map_history.specs.declared.op.Request.{Request}
+use Rattle.machine_states.specs.structure_laws.specs.Meaning.{Meaning}
+use Rattle.machine_states.specs.runner_steps.specs.runner_parts.specs.declared.event.EventKind.{EventKind}
+use Rattle.machine_states.specs.runner_steps.specs.runner_parts.specs.declared.event.EventKind.TheVariants as kinds
+use Rattle.machine_states.specs.runner_steps.specs.runner_parts.specs.State.{RunState, PartState}
+use Rattle.machine_states.specs.runner_steps.specs.Sections.{is_open_run}
 use Rattle.agreement_core.specs.State.{CellRules, AgreementState, section_of}
 use Rattle.agreement_core.specs.Checks.{exchanged}
 use Rattle.agreement_core.specs.Events.{Event, Enabled, after}
@@ -27,11 +27,11 @@ use Rattle.agreement_core.proofs.Words.{value_next, value_held}
 use Rattle.agreement_core.proofs.Lines.{exchange_unlocked}
 use Rattle.machine_states.specs.Sight.{Sight}
 use Rattle.machine_scenes.specs.Shown.{rules_of}
-use Rattle.runner_facts.specs.machine_agreement.specs.Chunks as sections
-use Rattle.runner_facts.specs.machine_agreement.specs.Supplied.{collects}
-use Rattle.runner_facts.specs.machine_agreement.specs.Joined.{IsJoinedToAgreement, ShowsRun}
-use Rattle.runner_facts.specs.machine_invariant.specs.Along.{Components, components_after, AreEventsOf}
-use Rattle.runner_facts.specs.machine_invariant.proofs.Runs.{AllAre, passes_are, append_are}
+use Rattle.runner_facts.specs.machine_facts.specs.machine_agreement.specs.Chunks as sections
+use Rattle.runner_facts.specs.machine_facts.specs.machine_agreement.specs.Supplied.{collects}
+use Rattle.runner_facts.specs.machine_facts.specs.machine_agreement.specs.Joined.{IsJoinedToAgreement, ShowsRun}
+use Rattle.runner_facts.specs.machine_facts.specs.machine_invariant.specs.Along.{Components, components_after, AreEventsOf}
+use Rattle.runner_facts.specs.machine_facts.specs.machine_invariant.proofs.Runs.{AllAre, passes_are, append_are}
 use Rattle.runner_facts.specs.machine_facts.proofs.Chunks.{collected_frees}
 
 -- the word is as before, or free

@@ -5,30 +5,30 @@ use Rattle.std.specs.Prelude.{◌⊎◌}
 use Rattle.std.proofs.lemmas.Bool.Decides.{nat_tests}
 use Rattle.std.proofs.lemmas.Bool.{cases_lt, and_parts}
 use Rattle.std.proofs.lemmas.Nat.{mod_below}
-use Rattle.map_history.specs.declared.op.Request.{Request}
-use Rattle.body_terms.specs.Word.{value_of}
-use Rattle.body_terms.specs.declared.thunk.Thunk.{Thunk}
-use Rattle.table_words.specs.declared.layout.Layout.{Layout}
-use Rattle.table_words.specs.declared.spot.Spot.{Spot}
-use Rattle.table_words.specs.declared.spot.Spot.TheVariants.{Cell}
-use Rattle.table_words.specs.declared.access.Access.{Access}
-use Rattle.table_words.specs.Access.{written}
-use Rattle.table_words.specs.Limits.{IsWithinLimits}
-use Rattle.table_words.specs.Seen.{upd, put}
-use Rattle.structure_laws.specs.Meaning.{Meaning}
-use Rattle.structure_laws.specs.Laws.{Laws}
-use Rattle.runner_parts.specs.declared.entries.Known.{Known}
-use Rattle.runner_parts.specs.declared.entries.Left.{Left}
-use Rattle.runner_parts.specs.declared.event.Event.{Event}
-use Rattle.runner_parts.specs.declared.event.EventKind.{EventKind}
-use Rattle.runner_parts.specs.declared.event.EventKind.TheVariants as kinds
-use Rattle.runner_parts.specs.State.{RunState, FinishedState, PartState}
-use Rattle.runner_parts.specs.Tests.{has, is_next, is_open, is_walking, is_between}
-use Rattle.runner_steps.specs.Asks.{ask_by, sizes_for}
-use Rattle.runner_steps.specs.Outside.{hold_ask, is_ready, is_publishable}
-use Rattle.runner_steps.specs.Sections.{thunk_of, is_open_run}
-use Rattle.runner_steps.specs.AfterInRun.{ended_more, finished_of}
-use Rattle.runner_steps.specs.After.{after_by, after}
+use Rattle.agreement_core.specs.map_history.specs.declared.op.Request.{Request}
+use Rattle.agreement_core.specs.body_terms.specs.Word.{value_of}
+use Rattle.agreement_core.specs.body_terms.specs.declared.thunk.Thunk.{Thunk}
+use Rattle.agreement_core.specs.table_words.specs.declared.layout.Layout.{Layout}
+use Rattle.agreement_core.specs.table_words.specs.declared.spot.Spot.{Spot}
+use Rattle.agreement_core.specs.table_words.specs.declared.spot.Spot.TheVariants.{Cell}
+use Rattle.agreement_core.specs.table_words.specs.declared.access.Access.{Access}
+use Rattle.agreement_core.specs.table_words.specs.Access.{written}
+use Rattle.agreement_core.specs.table_words.specs.Limits.{IsWithinLimits}
+use Rattle.agreement_core.specs.table_words.specs.Seen.{upd, put}
+use Rattle.machine_states.specs.structure_laws.specs.Meaning.{Meaning}
+use Rattle.machine_states.specs.structure_laws.specs.Laws.{Laws}
+use Rattle.machine_states.specs.runner_steps.specs.runner_parts.specs.declared.entries.Known.{Known}
+use Rattle.machine_states.specs.runner_steps.specs.runner_parts.specs.declared.entries.Left.{Left}
+use Rattle.machine_states.specs.runner_steps.specs.runner_parts.specs.declared.event.Event.{Event}
+use Rattle.machine_states.specs.runner_steps.specs.runner_parts.specs.declared.event.EventKind.{EventKind}
+use Rattle.machine_states.specs.runner_steps.specs.runner_parts.specs.declared.event.EventKind.TheVariants as kinds
+use Rattle.machine_states.specs.runner_steps.specs.runner_parts.specs.State.{RunState, FinishedState, PartState}
+use Rattle.machine_states.specs.runner_steps.specs.runner_parts.specs.Tests.{has, is_next, is_open, is_walking, is_between}
+use Rattle.machine_states.specs.runner_steps.specs.Asks.{ask_by, sizes_for}
+use Rattle.machine_states.specs.runner_steps.specs.Outside.{hold_ask, is_ready, is_publishable}
+use Rattle.machine_states.specs.runner_steps.specs.Sections.{thunk_of, is_open_run}
+use Rattle.machine_states.specs.runner_steps.specs.AfterInRun.{ended_more, finished_of}
+use Rattle.machine_states.specs.runner_steps.specs.After.{after_by, after}
 use Rattle.machine_states.specs.World.{World, happens, is_join}
 use Rattle.machine_states.specs.Reached.{Reached}
 use Rattle.machine_states.specs.Sight.{Sight, sight}
@@ -38,20 +38,20 @@ use Rattle.machine_states.proofs.Sights.{if_some, some_none, unless_gone, happen
 use Rattle.machine_states.proofs.Updates.{upd_here, upd_else, upd_split}
 use Rattle.machine_epochs.specs.Slots.{thunk_in}
 use Rattle.machine_epochs.proofs.Joining.{thunk_same}
-use Rattle.runner_facts.specs.machine_agreement.specs.Joined.{IsJoinedToAgreement}
+use Rattle.runner_facts.specs.machine_facts.specs.machine_agreement.specs.Joined.{IsJoinedToAgreement}
 use Rattle.runner_facts.proofs.Keeper.{put_here}
-use Rattle.runner_facts.specs.machine_agreement.proofs.LineKinds.{noted_finished}
-use Rattle.runner_facts.specs.machine_agreement.proofs.RunPlaces.{opened_thunk}
-use Rattle.runner_facts.specs.machine_invariant.specs.After.{AreAllowed}
-use Rattle.runner_facts.specs.machine_invariant.specs.Along.{components_after}
-use Rattle.runner_facts.specs.machine_invariant.specs.Trails.{IsEndOf}
-use Rattle.runner_facts.specs.machine_invariant.proofs.After.{reached_whole}
-use Rattle.runner_facts.specs.machine_invariant.proofs.Basics.{not_both}
-use Rattle.runner_facts.specs.machine_invariant.proofs.Sights.{after_is}
+use Rattle.runner_facts.specs.machine_facts.specs.machine_agreement.proofs.LineKinds.{noted_finished}
+use Rattle.runner_facts.specs.machine_facts.specs.machine_agreement.proofs.RunPlaces.{opened_thunk}
+use Rattle.runner_facts.specs.machine_facts.specs.machine_invariant.specs.After.{AreAllowed}
+use Rattle.runner_facts.specs.machine_facts.specs.machine_invariant.specs.Along.{components_after}
+use Rattle.runner_facts.specs.machine_facts.specs.machine_invariant.specs.Trails.{IsEndOf}
+use Rattle.runner_facts.specs.machine_facts.specs.machine_invariant.proofs.After.{reached_whole}
+use Rattle.runner_facts.specs.machine_facts.specs.machine_invariant.proofs.Basics.{not_both}
+use Rattle.runner_facts.specs.machine_facts.specs.machine_invariant.proofs.Sights.{after_is}
 use Rattle.runner_facts.specs.machine_facts.specs.After.{AreFactsOfStep}
 use Rattle.runner_facts.specs.machine_facts.specs.Steps.{IsRelease}
 use Rattle.runner_facts.specs.machine_facts.proofs.Following.{step_facts_after}
-use Rattle.runner_facts.specs.machine_invariant.proofs.Keeping.{IsStep}
+use Rattle.runner_facts.specs.machine_facts.specs.machine_invariant.proofs.Keeping.{IsStep}
 use Rattle.runner_facts.specs.Keeper.{AllJoined}
 use Rattle.runner_facts.specs.Facts.{JoinedAreGone}
 use Rattle.keeper_facts.proofs.Changes.{IsChanged, is_hold, lock_changes}

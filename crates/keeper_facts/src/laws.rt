@@ -1,16 +1,16 @@
 //! The law of this crate, on a contract.
 ghost use Rattle.std.specs.Prelude.{List};
-ghost use Rattle.map_history.specs.declared.op.Request.{Request};
-ghost use Rattle.table_words.specs.Limits.{IsWithinLimits};
-ghost use Rattle.table_words.specs.declared.layout.Layout.{Layout};
+ghost use Rattle.agreement_core.specs.map_history.specs.declared.op.Request.{Request};
+ghost use Rattle.agreement_core.specs.table_words.specs.Limits.{IsWithinLimits};
+ghost use Rattle.agreement_core.specs.table_words.specs.declared.layout.Layout.{Layout};
 ghost use Rattle.machine_states.specs.World.{World};
 ghost use Rattle.machine_states.specs.Reached.{Reached};
 ghost use Rattle.machine_states.specs.Sight.{sight};
-ghost use Rattle.runner_facts.specs.machine_invariant.specs.After.{AreAllowed};
+ghost use Rattle.runner_facts.specs.machine_facts.specs.machine_invariant.specs.After.{AreAllowed};
 ghost use Rattle.keeper_facts.specs.Freed.{LocksTell};
 
+use machine_states::structure_laws::Structure;
 use runner_facts::{joined_workers_are_gone, what_the_keeper_left_stands};
-use structure_laws::Structure;
 
 /// In every state that the machine reaches, once the keeper has joined all workers: take a section that a lock named
 /// which the keeper saw with another word too, before or after that. While the keeper is in no run, no lock names that

@@ -6,6 +6,3 @@
 mod laws;
 
 pub use laws::what_the_keeper_saw_tells;
-
-// Passed on to the layers above, so that they needn't name these libraries themselves.
-pub use runner_facts;

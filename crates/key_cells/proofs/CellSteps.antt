@@ -1,13 +1,13 @@
 -- The steps of the bodies over a key's cells, found by their kind, and their shape.
 use Rattle.std.proofs.Common.{◌≡◌, ℕ, zero, suc, ◌+◌, ◌*◌, ◌<◌, ◌≤◌, Bool, true, false, cond, refl, ap, arith}
 use Rattle.std.specs.Prelude.{◌==◌, ◌||◌, Some, None, slice_get}
-use Rattle.body_terms.specs.Word.{value_of}
-use Rattle.body_terms.specs.Shape.{IsShaped}
-use Rattle.body_terms.specs.declared.misshape.Misshape.TheVariants.{StoredTwice}
-use Rattle.body_terms.specs.declared.value.Value.{Value}
-use Rattle.body_terms.specs.declared.value.Value.TheVariants.{Const}
-use Rattle.body_terms.specs.declared.step.Step.{Step}
-use Rattle.body_terms.specs.declared.step.Step.TheVariants.{Load, Want, Store, Answer}
+use Rattle.runner_parts.specs.structure_laws.specs.body_terms.specs.Word.{value_of}
+use Rattle.runner_parts.specs.structure_laws.specs.body_terms.specs.Shape.{IsShaped}
+use Rattle.runner_parts.specs.structure_laws.specs.body_terms.specs.declared.misshape.Misshape.TheVariants.{StoredTwice}
+use Rattle.runner_parts.specs.structure_laws.specs.body_terms.specs.declared.value.Value.{Value}
+use Rattle.runner_parts.specs.structure_laws.specs.body_terms.specs.declared.value.Value.TheVariants.{Const}
+use Rattle.runner_parts.specs.structure_laws.specs.body_terms.specs.declared.step.Step.{Step}
+use Rattle.runner_parts.specs.structure_laws.specs.body_terms.specs.declared.step.Step.TheVariants.{Load, Want, Store, Answer}
 use Rattle.shared_laws.specs.Nodeless.{is_plain}
 use Rattle.shared_laws.proofs.Shaping.{shaped_by}
 use Rattle.key_cells.specs.Steps.{cell_steps}

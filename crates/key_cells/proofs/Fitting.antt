@@ -1,15 +1,15 @@
 -- What a thunk that fits is.
 use Rattle.std.proofs.Common.{◌≡◌, ℕ, zero, suc, ◌+◌, ◌<◌, ◌≤◌, Bool, true, false, cond, refl, ap, ◌∙◌, arith}
 use Rattle.std.specs.Prelude.{◌==◌, ◌&&◌, ◌||◌, nat_lt, is_none, Option, None, Some}
-use Rattle.map_history.specs.declared.op.Op.{Op}
-use Rattle.map_history.specs.Keys.{key_of, other_key_of, IsOneKeyed}
-use Rattle.map_history.specs.Words.{word_of}
+use Rattle.runner_parts.specs.structure_laws.specs.map_history.specs.declared.op.Op.{Op}
+use Rattle.runner_parts.specs.structure_laws.specs.map_history.specs.Keys.{key_of, other_key_of, IsOneKeyed}
+use Rattle.runner_parts.specs.structure_laws.specs.map_history.specs.Words.{word_of}
 use Rattle.section_body.specs.Bucket.{operand}
-use Rattle.body_terms.specs.declared.thunk.Thunk.{Thunk}
-use Rattle.structure_laws.specs.Scene.{Readings}
-use Rattle.structure_laws.proofs.Changes.{equal_of, both_true}
+use Rattle.runner_parts.specs.structure_laws.specs.body_terms.specs.declared.thunk.Thunk.{Thunk}
+use Rattle.runner_parts.specs.structure_laws.specs.Scene.{Readings}
+use Rattle.runner_parts.specs.structure_laws.proofs.Changes.{equal_of, both_true}
 use Rattle.runner_parts.specs.Tests.{has_pair}
-use Rattle.map_history.specs.AtKey.{reply_at, left_at, changes_at}
+use Rattle.runner_parts.specs.structure_laws.specs.map_history.specs.AtKey.{reply_at, left_at, changes_at}
 use Rattle.shared_laws.proofs.Numbers.{lt_of, lt_true}
 use Rattle.key_cells.specs.Keyed.{Keyed, lock_place, cell_place, each_of, wanted, new_of, has_one_key, key_in, body_by, key_body, was_read, is_for, key_fits}
 

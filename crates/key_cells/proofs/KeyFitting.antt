@@ -1,21 +1,21 @@
 -- A thunk that fits goes on to fit, and a body without a Store answers what leaves the map as it was.
 use Rattle.std.proofs.Common.{◌≡◌, ℕ, ◌+◌, ◌*◌, ◌<◌, true, false, refl, sym, ap, ◌∙◌, subst, arith}
 use Rattle.std.specs.Prelude.{◌++◌, ◌==◌, ◌&&◌, List, Option, Some, None, slice_get}
-use Rattle.map_history.specs.declared.op.Op.{Op}
-use Rattle.map_history.specs.Keys.{key_of}
-use Rattle.body_terms.specs.Word.{value_of, next_word}
+use Rattle.runner_parts.specs.structure_laws.specs.map_history.specs.declared.op.Op.{Op}
+use Rattle.runner_parts.specs.structure_laws.specs.map_history.specs.Keys.{key_of}
+use Rattle.runner_parts.specs.structure_laws.specs.body_terms.specs.Word.{value_of, next_word}
 use Rattle.section_body.specs.Bucket.{operand}
-use Rattle.body_terms.specs.declared.value.Value.TheVariants.{Const}
-use Rattle.body_terms.specs.declared.step.Step.{Step}
-use Rattle.body_terms.specs.declared.step.Step.TheVariants.{Store, Answer}
-use Rattle.body_terms.specs.declared.thunk.Thunk.{Thunk}
-use Rattle.table_words.specs.declared.layout.Layout.{Layout}
-use Rattle.structure_laws.specs.Scene.{Readings}
-use Rattle.structure_laws.specs.Shape.{HasStep}
-use Rattle.structure_laws.specs.Fitting.{Leaves, StoresNothing, Fitting}
-use Rattle.structure_laws.proofs.Changes.{both_true, equal_of}
+use Rattle.runner_parts.specs.structure_laws.specs.body_terms.specs.declared.value.Value.TheVariants.{Const}
+use Rattle.runner_parts.specs.structure_laws.specs.body_terms.specs.declared.step.Step.{Step}
+use Rattle.runner_parts.specs.structure_laws.specs.body_terms.specs.declared.step.Step.TheVariants.{Store, Answer}
+use Rattle.runner_parts.specs.structure_laws.specs.body_terms.specs.declared.thunk.Thunk.{Thunk}
+use Rattle.runner_parts.specs.structure_laws.specs.table_words.specs.declared.layout.Layout.{Layout}
+use Rattle.runner_parts.specs.structure_laws.specs.Scene.{Readings}
+use Rattle.runner_parts.specs.structure_laws.specs.Shape.{HasStep}
+use Rattle.runner_parts.specs.structure_laws.specs.Fitting.{Leaves, StoresNothing, Fitting}
+use Rattle.runner_parts.specs.structure_laws.proofs.Changes.{both_true, equal_of}
 use Rattle.runner_parts.specs.Tests.{has_pair}
-use Rattle.map_history.specs.AtKey.{changes_at}
+use Rattle.runner_parts.specs.structure_laws.specs.map_history.specs.AtKey.{changes_at}
 use Rattle.shared_laws.proofs.Numbers.{bool_cases}
 use Rattle.shared_laws.proofs.Still.{reply_leaves, any_on}
 use Rattle.key_cells.specs.Keyed.{Keyed, IsKeyed, lock_place, cell_place, each_of, wanted, new_of, body_by, was_read, is_for, key_fits, keyed}

@@ -3,26 +3,26 @@ use Rattle.std.proofs.Common.{◌≡◌, ℕ, ◌+◌, ◌*◌, ◌<◌, Bool, t
 use Rattle.std.specs.Prelude.{◌==◌, ◌^◌, nat_lt, Some, None, slice_get, List}
 use Rattle.std.specs.Ordering.{nat_cmp}
 use Rattle.std.specs.FinMap.{get, empty, get-empty}
-use Rattle.map_history.specs.declared.op.Op.{Op}
-use Rattle.map_history.specs.Keys.{key_of}
+use Rattle.runner_parts.specs.structure_laws.specs.map_history.specs.declared.op.Op.{Op}
+use Rattle.runner_parts.specs.structure_laws.specs.map_history.specs.Keys.{key_of}
 use Rattle.section_body.specs.Bucket.{operand}
-use Rattle.body_terms.specs.Word.{value_of}
-use Rattle.body_terms.specs.declared.step.Step.{Step}
-use Rattle.body_terms.specs.declared.step.Step.TheVariants.{Load, Want, Store, Answer}
-use Rattle.body_terms.specs.declared.value.Value.{Value}
-use Rattle.body_terms.specs.declared.value.Value.TheVariants.{Const}
-use Rattle.body_terms.specs.declared.thunk.Thunk.{Thunk}
-use Rattle.table_words.specs.declared.layout.Layout.{Layout}
-use Rattle.structure_laws.specs.Scene.{Readings, Scene}
-use Rattle.structure_laws.specs.Sections.{IsSmall}
-use Rattle.structure_laws.specs.Shape.{HasStep}
-use Rattle.structure_laws.specs.Laws.{IsFirst, Laws}
-use Rattle.structure_laws.specs.Planner.{PlannerLaws}
-use Rattle.structure_laws.proofs.Changes.{value_small}
-use Rattle.map_history.specs.AtKey.{reply_at, changes_at}
+use Rattle.runner_parts.specs.structure_laws.specs.body_terms.specs.Word.{value_of}
+use Rattle.runner_parts.specs.structure_laws.specs.body_terms.specs.declared.step.Step.{Step}
+use Rattle.runner_parts.specs.structure_laws.specs.body_terms.specs.declared.step.Step.TheVariants.{Load, Want, Store, Answer}
+use Rattle.runner_parts.specs.structure_laws.specs.body_terms.specs.declared.value.Value.{Value}
+use Rattle.runner_parts.specs.structure_laws.specs.body_terms.specs.declared.value.Value.TheVariants.{Const}
+use Rattle.runner_parts.specs.structure_laws.specs.body_terms.specs.declared.thunk.Thunk.{Thunk}
+use Rattle.runner_parts.specs.structure_laws.specs.table_words.specs.declared.layout.Layout.{Layout}
+use Rattle.runner_parts.specs.structure_laws.specs.Scene.{Readings, Scene}
+use Rattle.runner_parts.specs.structure_laws.specs.Sections.{IsSmall}
+use Rattle.runner_parts.specs.structure_laws.specs.Shape.{HasStep}
+use Rattle.runner_parts.specs.structure_laws.specs.Laws.{IsFirst, Laws}
+use Rattle.runner_parts.specs.structure_laws.specs.Planner.{PlannerLaws}
+use Rattle.runner_parts.specs.structure_laws.proofs.Changes.{value_small}
+use Rattle.runner_parts.specs.structure_laws.specs.map_history.specs.AtKey.{reply_at, changes_at}
 use Rattle.shared_laws.specs.Nodeless.{IsNodeless, HoldsItsLock, IsPlainBody}
-use Rattle.map_history.proofs.Cells.{key_is}
-use Rattle.map_history.proofs.Words.{reply_some}
+use Rattle.runner_parts.specs.structure_laws.specs.map_history.proofs.Cells.{key_is}
+use Rattle.runner_parts.specs.structure_laws.specs.map_history.proofs.Words.{reply_some}
 use Rattle.shared_laws.proofs.Nodeless.{nodeless_begins, nodeless_keeps, nodeless_gives, nodeless_shaped, nodeless_adds, nodeless_sized}
 use Rattle.shared_laws.proofs.Numbers.{pair_read}
 use Rattle.key_cells.specs.Keyed.{Keyed, IsKeyed, lock_place, cell_place, is_lock_place, guard_place, wanted, new_of, key_in, body_by, held_in, keyed}

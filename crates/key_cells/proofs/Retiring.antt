@@ -1,8 +1,8 @@
 -- A section over a key's cells retires nothing.
 use Rattle.std.proofs.Common.{ℕ, zero, suc, ◌≤◌, Bool, true, false, arith}
 use Rattle.std.specs.Prelude.{◌==◌, count_by}
-use Rattle.body_terms.specs.Shape.{is_retire}
-use Rattle.body_terms.specs.declared.thunk.Thunk.{Thunk}
+use Rattle.runner_parts.specs.structure_laws.specs.body_terms.specs.Shape.{is_retire}
+use Rattle.runner_parts.specs.structure_laws.specs.body_terms.specs.declared.thunk.Thunk.{Thunk}
 use Rattle.section_body.specs.Bucket.{operand}
 use Rattle.key_cells.specs.Steps.{cell_steps}
 use Rattle.key_cells.specs.Keyed.{Keyed, IsKeyed, cell_place, wanted, new_of, key_in, key_body}

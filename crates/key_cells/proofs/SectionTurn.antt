@@ -3,26 +3,26 @@ use Rattle.std.proofs.Common.{◌≡◌, ◌≢◌, ℕ, ◌+◌, ◌*◌, ◌<�
 use Rattle.std.proofs.lemmas.Bool.{true≢false}
 use Rattle.std.specs.Prelude.{nat_lt, Option, None, Some, slice_get, List}
 use Rattle.std.specs.FinMap.{get}
-use Rattle.map_history.specs.Keys.{key_of}
-use Rattle.map_history.specs.Replay.{Pairs, reply_of, map_after}
-use Rattle.map_history.specs.Words.{word_of}
+use Rattle.runner_parts.specs.structure_laws.specs.map_history.specs.Keys.{key_of}
+use Rattle.runner_parts.specs.structure_laws.specs.map_history.specs.Replay.{Pairs, reply_of, map_after}
+use Rattle.runner_parts.specs.structure_laws.specs.map_history.specs.Words.{word_of}
 use Rattle.section_body.specs.Bucket.{operand}
-use Rattle.body_terms.specs.Shape.{IsShaped}
-use Rattle.body_terms.specs.Update.{upd}
-use Rattle.body_terms.specs.Word.{value_of, next_word}
-use Rattle.body_terms.specs.declared.value.Value.{Value}
-use Rattle.body_terms.specs.declared.value.Value.TheVariants.{Const}
-use Rattle.body_terms.specs.declared.step.Step.{Step}
-use Rattle.body_terms.specs.declared.step.Step.TheVariants.{Load, Store, Answer}
-use Rattle.body_terms.specs.declared.thunk.Thunk.{Thunk}
-use Rattle.table_words.specs.declared.layout.Layout.{Layout}
-use Rattle.structure_laws.specs.Scene.{Cells, Readings, Section, Scene}
-use Rattle.structure_laws.specs.Sections.{IsStep}
-use Rattle.structure_laws.specs.InTurn.{StandsFor, AtStamp, AfterStores, InTurn}
-use Rattle.structure_laws.proofs.Changes.{upd_other}
-use Rattle.map_history.specs.declared.op.Op.{Op}
-use Rattle.map_history.specs.AtKey.{reply_at, left_at, changes_at}
-use Rattle.map_history.proofs.Cells.{reply_of-at, unchanged}
+use Rattle.runner_parts.specs.structure_laws.specs.body_terms.specs.Shape.{IsShaped}
+use Rattle.runner_parts.specs.structure_laws.specs.body_terms.specs.Update.{upd}
+use Rattle.runner_parts.specs.structure_laws.specs.body_terms.specs.Word.{value_of, next_word}
+use Rattle.runner_parts.specs.structure_laws.specs.body_terms.specs.declared.value.Value.{Value}
+use Rattle.runner_parts.specs.structure_laws.specs.body_terms.specs.declared.value.Value.TheVariants.{Const}
+use Rattle.runner_parts.specs.structure_laws.specs.body_terms.specs.declared.step.Step.{Step}
+use Rattle.runner_parts.specs.structure_laws.specs.body_terms.specs.declared.step.Step.TheVariants.{Load, Store, Answer}
+use Rattle.runner_parts.specs.structure_laws.specs.body_terms.specs.declared.thunk.Thunk.{Thunk}
+use Rattle.runner_parts.specs.structure_laws.specs.table_words.specs.declared.layout.Layout.{Layout}
+use Rattle.runner_parts.specs.structure_laws.specs.Scene.{Cells, Readings, Section, Scene}
+use Rattle.runner_parts.specs.structure_laws.specs.Sections.{IsStep}
+use Rattle.runner_parts.specs.structure_laws.specs.InTurn.{StandsFor, AtStamp, AfterStores, InTurn}
+use Rattle.runner_parts.specs.structure_laws.proofs.Changes.{upd_other}
+use Rattle.runner_parts.specs.structure_laws.specs.map_history.specs.declared.op.Op.{Op}
+use Rattle.runner_parts.specs.structure_laws.specs.map_history.specs.AtKey.{reply_at, left_at, changes_at}
+use Rattle.runner_parts.specs.structure_laws.specs.map_history.proofs.Cells.{reply_of-at, unchanged}
 use Rattle.shared_laws.proofs.AtKey.{stand_after, left_small}
 use Rattle.shared_laws.proofs.AtStamp.{wanted_now}
 use Rattle.shared_laws.proofs.Numbers.{bool_cases, lt_of, lt_true, eq_false}

@@ -1,17 +1,17 @@
 -- Structures that give each key below a bound some cells of its own, at most three, under one lock.
 use Rattle.std.specs.Prelude.{◌≡◌, ℕ, ◌+◌, ◌-◌, ◌<◌, ◌≤◌, ◌^◌, ◌==◌, ◌&&◌, ◌||◌, Bool, true, false, not, cond, nat_lt, is_none, List, Option, None, Some}
 use Rattle.std.specs.FinMap.{get}
-use Rattle.map_history.specs.declared.op.Op.{Op}
-use Rattle.map_history.specs.Keys.{key_of, other_key_of}
-use Rattle.map_history.specs.Words.{word_of}
-use Rattle.body_terms.specs.Word.{value_of, next_word}
+use Rattle.runner_parts.specs.structure_laws.specs.map_history.specs.declared.op.Op.{Op}
+use Rattle.runner_parts.specs.structure_laws.specs.map_history.specs.Keys.{key_of, other_key_of}
+use Rattle.runner_parts.specs.structure_laws.specs.map_history.specs.Words.{word_of}
+use Rattle.runner_parts.specs.structure_laws.specs.body_terms.specs.Word.{value_of, next_word}
 use Rattle.section_body.specs.Bucket.{operand}
-use Rattle.body_terms.specs.declared.step.Step.{Step}
-use Rattle.body_terms.specs.declared.thunk.Thunk.{Thunk}
-use Rattle.structure_laws.specs.Scene.{Cells, Readings}
-use Rattle.structure_laws.specs.Meaning.{Meaning}
+use Rattle.runner_parts.specs.structure_laws.specs.body_terms.specs.declared.step.Step.{Step}
+use Rattle.runner_parts.specs.structure_laws.specs.body_terms.specs.declared.thunk.Thunk.{Thunk}
+use Rattle.runner_parts.specs.structure_laws.specs.Scene.{Cells, Readings}
+use Rattle.runner_parts.specs.structure_laws.specs.Meaning.{Meaning}
 use Rattle.runner_parts.specs.Tests.{has_pair}
-use Rattle.map_history.specs.AtKey.{reply_at, left_at, changes_at}
+use Rattle.runner_parts.specs.structure_laws.specs.map_history.specs.AtKey.{reply_at, left_at, changes_at}
 use Rattle.shared_laws.specs.Nodeless.{NoneLive}
 use Rattle.key_cells.specs.Steps.{cell_steps}
 

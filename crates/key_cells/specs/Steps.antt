@@ -1,9 +1,9 @@
 -- The bodies over a key's cells: each cell is loaded and wanted, and where the key changes each is stored.
 use Rattle.std.specs.Prelude.{ℕ, List, [], ◌∷◌, ◌++◌, Bool, true, false, nat_lt, cond}
-use Rattle.body_terms.specs.Word.{value_of}
-use Rattle.body_terms.specs.declared.value.Value.TheVariants.{Const}
-use Rattle.body_terms.specs.declared.step.Step.{Step}
-use Rattle.body_terms.specs.declared.step.Step.TheVariants.{Load, Want, Fresh, Stamp, Store, Answer}
+use Rattle.runner_parts.specs.structure_laws.specs.body_terms.specs.Word.{value_of}
+use Rattle.runner_parts.specs.structure_laws.specs.body_terms.specs.declared.value.Value.TheVariants.{Const}
+use Rattle.runner_parts.specs.structure_laws.specs.body_terms.specs.declared.step.Step.{Step}
+use Rattle.runner_parts.specs.structure_laws.specs.body_terms.specs.declared.step.Step.TheVariants.{Load, Want, Fresh, Stamp, Store, Answer}
 
 -- what is written for the cell with this number, where there are so many
 abbrev pub part : {A : Type 0} → ℕ → ℕ → List A → List A

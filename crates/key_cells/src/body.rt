@@ -4,7 +4,7 @@ ghost use Rattle.key_cells.specs.Steps.{part, read_of, store_of};
 ghost use Rattle.key_cells.specs.Keyed.{cell_place, wanted, new_of, key_in, key_body};
 
 use crate::cells::KeyCells;
-use body_terms::{Body, Step, Thunk};
+use runner_parts::structure_laws::body_terms::{Body, Step, Thunk};
 use shared_laws::{answer, load, store, want};
 
 /// Puts the body of a thunk in place of the steps that are there.

@@ -2,7 +2,7 @@
 ghost use Rattle.std.specs.Prelude.{◌≡◌, ◌<◌, slice_index};
 ghost use Rattle.key_cells.specs.Keyed.{Keyed, IsKeyed, lock_place, cell_place};
 
-use body_terms::Place;
+use runner_parts::structure_laws::body_terms::Place;
 
 /// A structure that gives each key below a bound some cells of its own, at most three, under one lock.
 pub trait KeyCells: Drop {

@@ -1,13 +1,13 @@
 //! Whether a thunk is the one for its readings.
 ghost use Rattle.std.specs.Prelude.{◌≡◌, ◌+◌, ◌<◌, ◌==◌, ◌||◌, nat_lt};
 ghost use Rattle.runner_parts.specs.Tests.{has_pair};
-ghost use Rattle.map_history.specs.AtKey.{left_at};
+ghost use Rattle.runner_parts.specs.structure_laws.specs.map_history.specs.AtKey.{left_at};
 ghost use Rattle.key_cells.specs.Keyed.{cell_place, each_of, wanted, new_of, was_read, is_for, key_fits};
 
 use crate::cells::KeyCells;
 use crate::readings::has_pair;
-use body_terms::{Place, Thunk, Word};
-use map_history::Op;
+use runner_parts::structure_laws::body_terms::{Place, Thunk, Word};
+use runner_parts::structure_laws::map_history::Op;
 use shared_laws::{changes_at, left_at, reply_at};
 
 /// Whether the thunk is for this operation, and what it wants was read.

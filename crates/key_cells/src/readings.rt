@@ -2,7 +2,7 @@
 ghost use Rattle.std.specs.Prelude.{◌≡◌, slice_index};
 ghost use Rattle.runner_parts.specs.Tests.{has_pair};
 
-use body_terms::{Place, Word};
+use runner_parts::structure_laws::body_terms::{Place, Word};
 
 /// The word that was found at the place with this number, and 0 where that place wasn't loaded.
 pub fn word_at(words: &[u64], number: usize) -> Word

@@ -1,7 +1,7 @@
 -- A walk in readings that were made already is the walk that a thunk is tested by.
 use Rattle.std.proofs.Common.{◌≡◌, [], ◌∷◌, Bool, true, false, cond, refl, ap, ◌∙◌}
-use Rattle.structure_laws.specs.Scene.{Readings}
-use Rattle.tree_walks.specs.bucket_laws.specs.Walk.{is_wanted}
+use Rattle.tree_walks.specs.structure_laws.specs.Scene.{Readings}
+use Rattle.tree_walks.specs.tree_laws.specs.bucket_laws.specs.Walk.{is_wanted}
 use Rattle.tree_walks.specs.tree_laws.specs.Walk.{Walk, walk}
 use Rattle.tree_walks.specs.Walking.{wanted_by, fed_by, followed_by}
 use Rattle.lock_walks.specs.Followed.{followed}

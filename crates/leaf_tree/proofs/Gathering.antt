@@ -9,11 +9,11 @@ use Rattle.std.proofs.lemmas.Cmp.{nat_cmp_total}
 use Rattle.std.proofs.lemmas.Bool.{and_from}
 use mathlib.Core.Logic.{dite}
 use native.Mathlib.Decide.{ℕ_discrete}
-use Rattle.small_lemmas.proofs.Bools.{or_first as or_left, or_second as or_right, from_false as false_true}
-use Rattle.small_lemmas.proofs.Numbers.{less_tested as lt_test, not_less_tested as lt_not, tested_less as lt_of, equal_tested as eq_test}
-use Rattle.map_history.specs.Replay.{Pairs}
-use Rattle.structure_laws.specs.Scene.{Cells}
-use Rattle.structure_laws.proofs.Changes.{both_true, or_cases, equal_of}
+use Rattle.tree_walks.specs.small_lemmas.proofs.Bools.{or_first as or_left, or_second as or_right, from_false as false_true}
+use Rattle.tree_walks.specs.small_lemmas.proofs.Numbers.{less_tested as lt_test, not_less_tested as lt_not, tested_less as lt_of, equal_tested as eq_test}
+use Rattle.tree_walks.specs.structure_laws.specs.map_history.specs.Replay.{Pairs}
+use Rattle.tree_walks.specs.structure_laws.specs.Scene.{Cells}
+use Rattle.tree_walks.specs.structure_laws.proofs.Changes.{both_true, or_cases, equal_of}
 use Rattle.tree_walks.specs.tree_laws.specs.Search.{Nodes, Covers, IsInner, IsLeaf, key_end}
 use Rattle.tree_walks.specs.tree_laws.specs.Leaves.{nodes, TreeStands}
 use Rattle.leaf_tree.specs.Gathered.{count, AreNext, is_before, HasPairs, IsGathering}

@@ -3,15 +3,15 @@ use Rattle.std.proofs.Common.{◌≡◌, ℕ, ◌+◌, ◌≤◌, [], ◌∷◌,
 use Rattle.std.specs.Prelude.{◌==◌, ◌&&◌, ◌-◌, not, nat_le, is_some, if◌then◌else◌}
 use Rattle.std.proofs.lemmas.Bool.Decides.{nat_tests}
 use Rattle.std.proofs.lemmas.Bool.{true≢false}
-use Rattle.small_lemmas.proofs.Bools.{false_not_true as false_true}
-use Rattle.map_history.specs.declared.op.Op.{Op}
-use Rattle.body_terms.specs.Word.{value_of, version_of, pack, is_free, is_spent}
-use Rattle.structure_laws.proofs.Changes.{equal_of}
-use Rattle.table_words.specs.declared.layout.Layout.{Layout}
-use Rattle.table_words.specs.Places.{slot_count}
-use Rattle.structure_laws.specs.Scene.{Readings}
-use Rattle.tree_walks.specs.bucket_laws.specs.Walk.{has_one_key}
-use Rattle.tree_walks.specs.bucket_laws.proofs.Places.{eq_true}
+use Rattle.tree_walks.specs.small_lemmas.proofs.Bools.{false_not_true as false_true}
+use Rattle.tree_walks.specs.structure_laws.specs.map_history.specs.declared.op.Op.{Op}
+use Rattle.tree_walks.specs.structure_laws.specs.body_terms.specs.Word.{value_of, version_of, pack, is_free, is_spent}
+use Rattle.tree_walks.specs.structure_laws.proofs.Changes.{equal_of}
+use Rattle.tree_walks.specs.structure_laws.specs.table_words.specs.declared.layout.Layout.{Layout}
+use Rattle.tree_walks.specs.structure_laws.specs.table_words.specs.Places.{slot_count}
+use Rattle.tree_walks.specs.structure_laws.specs.Scene.{Readings}
+use Rattle.tree_walks.specs.tree_laws.specs.bucket_laws.specs.Walk.{has_one_key}
+use Rattle.tree_walks.specs.tree_laws.specs.bucket_laws.proofs.Places.{eq_true}
 use Rattle.tree_walks.specs.tree_laws.specs.Walk.{Walk}
 use Rattle.tree_walks.specs.tree_laws.specs.Leaves.{tree, walk_of, is_lock_place}
 use Rattle.tree_walks.specs.Walking.{fed_by, followed_by, is_refused_in}

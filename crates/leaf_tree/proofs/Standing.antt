@@ -1,14 +1,14 @@
 -- The words of a closed table, node by node.
 use Rattle.std.proofs.Common.{◌≡◌, ◌≢◌, ℕ, suc, ◌+◌, ◌-◌, ◌<◌, ◌≤◌, List, ◌∷◌, ◌++◌, [], length, refl, sym, ap, subst, ◌∙◌, arith, true, false}
-use Rattle.map_history.specs.Replay.{Pairs}
-use Rattle.body_terms.specs.Memory.{cell_of}
-use Rattle.body_terms.specs.Word.{value_of}
-use Rattle.table_words.specs.Limits.{IsWithinLimits}
-use Rattle.table_words.specs.Places.{slot_count}
-use Rattle.table_words.specs.declared.spot.Spot.TheVariants.{Cell}
+use Rattle.tree_walks.specs.structure_laws.specs.map_history.specs.Replay.{Pairs}
+use Rattle.tree_walks.specs.structure_laws.specs.body_terms.specs.Memory.{cell_of}
+use Rattle.tree_walks.specs.structure_laws.specs.body_terms.specs.Word.{value_of}
+use Rattle.tree_walks.specs.structure_laws.specs.table_words.specs.Limits.{IsWithinLimits}
+use Rattle.tree_walks.specs.structure_laws.specs.table_words.specs.Places.{slot_count}
+use Rattle.tree_walks.specs.structure_laws.specs.table_words.specs.declared.spot.Spot.TheVariants.{Cell}
 use Rattle.tree_walks.specs.tree_laws.specs.Search.{IsInner, IsLeaf}
 use Rattle.tree_walks.specs.tree_laws.specs.Leaves.{tree, nodes}
-use Rattle.version_words.specs.TableState.{WordsState, word_of}
+use Rattle.lock_walks.specs.version_words.specs.TableState.{WordsState, word_of}
 use Rattle.lock_walks.specs.try_lock.specs.Contents.{StandFor}
 use Rattle.leaf_tree.specs.Stands.{Gathers, Waits}
 use Rattle.leaf_tree.proofs.Gathering.{is_linked, gathers_leaf, gathers_none, gathers_inner}

@@ -2,8 +2,8 @@
 use Rattle.std.specs.Prelude.{◌≡◌, ℕ, zero, suc, ◌+◌, ◌<◌, ◌≤◌, List, [], ◌∷◌, ◌++◌, Bool, true, cond, ◌&&◌, ◌||◌, ◌==◌, nat_lt, None, Some, slice_get}
 use Rattle.std.specs.Ordering.{nat_cmp}
 use Rattle.std.specs.FinMap.{get, find, is_sorted}
-use Rattle.map_history.specs.Replay.{Pairs}
-use Rattle.structure_laws.specs.Scene.{Cells}
+use Rattle.tree_walks.specs.structure_laws.specs.map_history.specs.Replay.{Pairs}
+use Rattle.tree_walks.specs.structure_laws.specs.Scene.{Cells}
 use Rattle.tree_walks.specs.tree_laws.specs.Search.{Covers, key_end}
 use Rattle.tree_walks.specs.tree_laws.specs.Leaves.{TreeStands}
 

@@ -1,7 +1,7 @@
 -- How the search tree plans.
 use Rattle.std.specs.Prelude.{◌+◌, ◌&&◌, nat_le}
-use Rattle.table_words.specs.Places.{slot_count}
-use Rattle.tree_walks.specs.bucket_laws.specs.Walk.{has_one_key}
+use Rattle.tree_walks.specs.structure_laws.specs.table_words.specs.Places.{slot_count}
+use Rattle.tree_walks.specs.tree_laws.specs.bucket_laws.specs.Walk.{has_one_key}
 use Rattle.tree_walks.specs.tree_laws.specs.Leaves.{walk_of}
 use Rattle.tree_walks.specs.Walking.{is_refused_in, is_refused_of, wanted_by, fed_by, left_by, thunk_by}
 use Rattle.tree_walks.specs.Leading.{is_mark_place, wanted_in}

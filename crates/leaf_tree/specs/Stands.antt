@@ -1,9 +1,9 @@
 -- What was gathered of the words of a closed table.
 use Rattle.std.specs.Prelude.{ℕ, List, [], ◌∷◌, ◌++◌}
-use Rattle.map_history.specs.Replay.{Pairs}
-use Rattle.table_words.specs.Places.{slot_count}
+use Rattle.tree_walks.specs.structure_laws.specs.map_history.specs.Replay.{Pairs}
+use Rattle.tree_walks.specs.structure_laws.specs.table_words.specs.Places.{slot_count}
 use Rattle.tree_walks.specs.tree_laws.specs.Leaves.{tree}
-use Rattle.version_words.specs.TableState.{WordsState}
+use Rattle.lock_walks.specs.version_words.specs.TableState.{WordsState}
 use Rattle.lock_walks.specs.try_lock.specs.Contents.{StandFor}
 use Rattle.leaf_tree.specs.Gathered.{IsGathering}
 

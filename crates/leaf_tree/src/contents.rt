@@ -1,19 +1,19 @@
 //! The contents of a closed table.
 ghost use Rattle.std.specs.Prelude.{◌≡◌, ◌+◌, ◌-◌, ◌<◌, ◌++◌, ◌∷◌, [], ℕ, IfOk, OnOk};
 ghost use Rattle.std.specs.FinMap.{entries};
-ghost use Rattle.map_history.specs.Replay.{Pairs};
-ghost use Rattle.body_terms.specs.Memory.{cell_of};
-ghost use Rattle.body_terms.specs.Word.{value_of};
-ghost use Rattle.table_words.specs.Places.{slot_count};
-ghost use Rattle.table_words.specs.declared.spot.Spot.TheVariants.{Cell};
+ghost use Rattle.tree_walks.specs.structure_laws.specs.map_history.specs.Replay.{Pairs};
+ghost use Rattle.tree_walks.specs.structure_laws.specs.body_terms.specs.Memory.{cell_of};
+ghost use Rattle.tree_walks.specs.structure_laws.specs.body_terms.specs.Word.{value_of};
+ghost use Rattle.tree_walks.specs.structure_laws.specs.table_words.specs.Places.{slot_count};
+ghost use Rattle.tree_walks.specs.structure_laws.specs.table_words.specs.declared.spot.Spot.TheVariants.{Cell};
 ghost use Rattle.tree_walks.specs.tree_laws.specs.Leaves.{tree};
-ghost use Rattle.version_words.specs.TableState.{word_of};
+ghost use Rattle.lock_walks.specs.version_words.specs.TableState.{word_of};
 ghost use Rattle.lock_walks.specs.try_lock.specs.Contents.{StandFor};
 ghost use Rattle.leaf_tree.specs.Stands.{Waits, Gathers};
 
 use crate::tree::LeafTree;
+use lock_walks::version_words::{Words, words_are_reached};
 use std::alloc::{AllocError, Global};
-use version_words::{Words, words_are_reached};
 
 /// No table has more node slots than these.
 const MOST_SLOTS: u32 = 262_181;

@@ -8,6 +8,3 @@ mod walker;
 
 pub use tree::LeafTree;
 pub use walker::LeafWalk;
-
-// Passed on to the layers above, so that they needn't name these libraries themselves.
-pub use lock_walks::epoch_slots;

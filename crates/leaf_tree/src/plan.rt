@@ -1,8 +1,8 @@
 //! Requests are planned on the search tree.
 ghost use Rattle.std.specs.Prelude.{◌≡◌, IfOk};
 ghost use Rattle.std.specs.FinMap.{entries};
-ghost use Rattle.map_history.specs.Replay.{Pairs};
-ghost use Rattle.map_history.specs.declared.op.Op.TheVariants.{Get};
+ghost use Rattle.tree_walks.specs.structure_laws.specs.map_history.specs.Replay.{Pairs};
+ghost use Rattle.tree_walks.specs.structure_laws.specs.map_history.specs.declared.op.Op.TheVariants.{Get};
 ghost use Rattle.tree_walks.specs.tree_laws.specs.Leaves.{tree, walk_of};
 ghost use Rattle.tree_walks.specs.tree_laws.proofs.TreeLaws.{tree_plans};
 ghost use Rattle.tree_walks.specs.Walking.{is_refused_in};
@@ -15,11 +15,11 @@ ghost use Rattle.tree_walks.proofs.Gets.{make_few_loads, only_look};
 use crate::tree::LeafTree;
 use crate::walker::LeafWalk;
 use lock_walks::Planner;
-use map_history::Op;
+use lock_walks::version_words::Words;
 use std::alloc::{AllocError, Global};
-use table_words::Layout;
 use tree_walks::far_walks_are_long;
-use version_words::Words;
+use tree_walks::structure_laws::map_history::Op;
+use tree_walks::structure_laws::table_words::Layout;
 
 impl Planner for LeafTree {
     type Walk = LeafWalk;

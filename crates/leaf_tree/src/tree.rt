@@ -1,18 +1,18 @@
 //! The search tree as a structure.
 ghost use Rattle.std.specs.Prelude.{◌≡◌, ◌+◌, ◌≤◌, true, refl};
-ghost use Rattle.body_terms.specs.Word.{value_of};
-ghost use Rattle.table_words.specs.Places.{slot_count};
+ghost use Rattle.tree_walks.specs.structure_laws.specs.body_terms.specs.Word.{value_of};
+ghost use Rattle.tree_walks.specs.structure_laws.specs.table_words.specs.Places.{slot_count};
 ghost use Rattle.tree_walks.specs.tree_laws.specs.Leaves.{tree, shows_inner, shows_link};
 ghost use Rattle.tree_walks.specs.tree_laws.proofs.TreeLaws.{tree_laws};
 ghost use Rattle.tree_walks.specs.Leading.{first_walk};
 
 use crate::walker::LeafWalk;
-use body_terms::{Body, Place, Thunk, Word};
 use lock_walks::follow;
-use map_history::Op;
-use structure_laws::Structure;
-use table_words::Layout;
 use tree_walks::TreeWalk;
+use tree_walks::structure_laws::Structure;
+use tree_walks::structure_laws::body_terms::{Body, Place, Thunk, Word};
+use tree_walks::structure_laws::map_history::Op;
+use tree_walks::structure_laws::table_words::Layout;
 use tree_walks::tree_bodies::{tree_body, tree_body_in};
 
 /// A map in an external search tree (Ellen, Fatourou, Ruppert, van Breugel, *Non-blocking binary search trees*, 2010):

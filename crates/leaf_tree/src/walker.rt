@@ -1,9 +1,9 @@
 //! The walk of the tree leads a plan.
 ghost use Rattle.leaf_tree.specs.Planned.{tree_way};
 
-use body_terms::{Place, Thunk, Word};
 use lock_walks::Walker;
 use tree_walks::TreeWalk;
+use tree_walks::structure_laws::body_terms::{Place, Thunk, Word};
 
 /// The walk of a key through the tree, as plans make it.
 #[derive(Drop)]

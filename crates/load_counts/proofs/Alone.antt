@@ -10,14 +10,14 @@ use Rattle.std.proofs.lemmas.List.{get_or-map, length-map}
 use Rattle.std.proofs.lemmas.List.Kept.{AllPairs-cons, AllPairs-filter}
 use Rattle.std.proofs.lemmas.List.Sorted.{Contains-permutation, IsPermutation-sym, sum_by-IsPermutation}
 use Rattle.std.proofs.lemmas.List.Sums.{sum_by-cons}
-use Rattle.map_history.specs.declared.op.Entry.{Entry}
-use Rattle.map_history.specs.declared.op.Request.{Request}
-use Rattle.map_history.specs.History.{Answered, AreOneKeyed, IsLegalFrom}
-use Rattle.map_history.specs.Keys.{key_of, IsOneKeyed}
-use Rattle.map_history.specs.Replay.{map_after_all, replies_of}
-use Rattle.history_orders.specs.Turns.{comes_before}
-use Rattle.history_orders.proofs.Entries.{contains_behind, contains_front}
-use Rattle.history_orders.proofs.Turns.{before_turns}
+use Rattle.structure_laws.specs.map_history.specs.declared.op.Entry.{Entry}
+use Rattle.structure_laws.specs.map_history.specs.declared.op.Request.{Request}
+use Rattle.structure_laws.specs.map_history.specs.History.{Answered, AreOneKeyed, IsLegalFrom}
+use Rattle.structure_laws.specs.map_history.specs.Keys.{key_of, IsOneKeyed}
+use Rattle.structure_laws.specs.map_history.specs.Replay.{map_after_all, replies_of}
+use Rattle.run_reports.specs.history_orders.specs.Turns.{comes_before}
+use Rattle.run_reports.specs.history_orders.proofs.Entries.{contains_behind, contains_front}
+use Rattle.run_reports.specs.history_orders.proofs.Turns.{before_turns}
 use Rattle.run_reports.specs.report_text.specs.Entries.{AreLegal, Entered, answered_by, entered_of, op_of_entered, turn_of_entered}
 use Rattle.load_counts.specs.Apart.{AreApart, ops_of_trace, pairs_alone, replies_alone, unserved_in}
 use Rattle.load_counts.specs.Counts.{counts_in, counts_of, has, is_of}

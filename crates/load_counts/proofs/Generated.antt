@@ -6,10 +6,10 @@ use Rattle.std.proofs.lemmas.List.Elements.{All-map}
 use Rattle.std.proofs.lemmas.List.FromFn.{get_or-range_with_len, length-range_with_len}
 use Rattle.std.proofs.lemmas.Nat.{mod-mul-add}
 use Rattle.std.proofs.Math.Nat.{div-lt_iff_lt-mul}
-use Rattle.map_history.specs.declared.op.Op.TheVariants.{Get, Ins, Del}
-use Rattle.map_history.specs.declared.op.Request.{Request}
-use Rattle.map_history.specs.Keys.{key_of, IsOneKeyed}
-use Rattle.map_history.proofs.Cells.{format_1_one_keyed}
+use Rattle.structure_laws.specs.map_history.specs.declared.op.Op.TheVariants.{Get, Ins, Del}
+use Rattle.structure_laws.specs.map_history.specs.declared.op.Request.{Request}
+use Rattle.structure_laws.specs.map_history.specs.Keys.{key_of, IsOneKeyed}
+use Rattle.structure_laws.specs.map_history.proofs.Cells.{format_1_one_keyed}
 use Rattle.trace_reader.proofs.Generated.{op_format}
 use Rattle.trace_reader.specs.Generator.{generated, generated_at, key_by, op_by, output_at}
 use Rattle.trace_reader.specs.declared.generator.Gen.{Gen}

@@ -1,7 +1,7 @@
 -- Two lists with the same elements in one order are one list.
 use Rattle.std.proofs.Common.{◌≡◌, suc, Bool, true, false, cond, List, [], ◌∷◌, refl, sym, ap, ◌∙◌, subst, ⊎_elim, inl, inr, arith}
 use Rattle.std.specs.Prelude.{◌⊎◌, AllPairs, Contains, filter}
-use Rattle.history_orders.proofs.Entries.{contains_behind, contains_cases, contains_front, contains_none}
+use Rattle.run_reports.specs.history_orders.proofs.Entries.{contains_behind, contains_cases, contains_front, contains_none}
 
 pairs_head : {X : Type 0} (R : X → X → Type 0) (x y : X) (xs : List X) → AllPairs R (x ∷ xs) → Contains xs y → R x y
 pairs_head R x y xs pairs here = subst (R x) here.2 (pairs 0 (suc here.0) y (omega arith) (omega (arith, here.1)))

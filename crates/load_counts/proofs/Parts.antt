@@ -6,13 +6,13 @@ use Rattle.std.specs.FinMap.{contains_key, empty, empty_of_len, get, get-empty, 
 use Rattle.std.proofs.lemmas.Bool.Decides.{nat_tests}
 use Rattle.std.proofs.lemmas.Cmp.{nat_cmp_total}
 use Rattle.std.proofs.lemmas.List.Sums.{sum_by-cons}
-use Rattle.map_history.specs.declared.op.Op.{Op}
-use Rattle.map_history.specs.declared.op.Op.TheVariants.{Get, Ins, Del, Put, Mov}
-use Rattle.map_history.specs.declared.reply.Reply.TheVariants as replies
-use Rattle.map_history.specs.History.{Answered, AreOneKeyed, IsLegalFrom, on_key}
-use Rattle.map_history.specs.Keys.{key_of, IsOneKeyed}
-use Rattle.map_history.specs.Replay.{Pairs, found, replaced, map_after, map_after_all, replies_of, reply_of}
-use Rattle.map_history.proofs.ByKey.{by_key}
+use Rattle.structure_laws.specs.map_history.specs.declared.op.Op.{Op}
+use Rattle.structure_laws.specs.map_history.specs.declared.op.Op.TheVariants.{Get, Ins, Del, Put, Mov}
+use Rattle.structure_laws.specs.map_history.specs.declared.reply.Reply.TheVariants as replies
+use Rattle.structure_laws.specs.map_history.specs.History.{Answered, AreOneKeyed, IsLegalFrom, on_key}
+use Rattle.structure_laws.specs.map_history.specs.Keys.{key_of, IsOneKeyed}
+use Rattle.structure_laws.specs.map_history.specs.Replay.{Pairs, found, replaced, map_after, map_after_all, replies_of, reply_of}
+use Rattle.structure_laws.specs.map_history.proofs.ByKey.{by_key}
 use Rattle.load_counts.specs.Counts.{is_of}
 use Rattle.load_counts.specs.declared.counts.Kind.TheVariants as kinds
 

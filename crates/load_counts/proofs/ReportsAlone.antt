@@ -2,14 +2,14 @@
 use Rattle.std.proofs.Common.{◌≡◌, ◌<◌, ℕ, true, List, Option, length, sym, ap, ◌∙◌, subst}
 use Rattle.std.specs.Prelude.{All}
 use Rattle.std.specs.FinMap.{len}
-use Rattle.map_history.specs.declared.op.Entry.{Entry}
-use Rattle.map_history.specs.declared.op.Request.{Request}
-use Rattle.map_history.specs.Replay.{Pairs}
-use Rattle.map_history.specs.Requests.{AreInOrder}
+use Rattle.structure_laws.specs.map_history.specs.declared.op.Entry.{Entry}
+use Rattle.structure_laws.specs.map_history.specs.declared.op.Request.{Request}
+use Rattle.structure_laws.specs.map_history.specs.Replay.{Pairs}
+use Rattle.structure_laws.specs.map_history.specs.Requests.{AreInOrder}
 use Rattle.structure_laws.specs.Meaning.{Meaning}
 use Rattle.run_reports.specs.closed_words.specs.Histories.{HaveHistory, HoldsNoLock}
-use Rattle.run_reports.specs.machine_invariant.specs.After.{AreAllowed}
-use Rattle.version_words.specs.TableState.{WordsState}
+use Rattle.run_reports.specs.version_words.specs.machine_invariant.specs.After.{AreAllowed}
+use Rattle.run_reports.specs.version_words.specs.TableState.{WordsState}
 use Rattle.run_reports.specs.report_text.specs.Entries.{AreLegal}
 use Rattle.trace_reader.specs.Generator.{generated}
 use Rattle.trace_reader.specs.declared.generator.Gen.{Gen}

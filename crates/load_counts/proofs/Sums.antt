@@ -4,7 +4,7 @@ use Rattle.std.specs.Prelude.{◌==◌, Contains, count_by, filter, map}
 use Rattle.std.specs.List.{flat_map, range_with_len, sum_by}
 use Rattle.std.proofs.lemmas.Bool.Decides.{nat_tests}
 use Rattle.std.proofs.lemmas.List.Sums.{sum_by-append, sum_by-cons}
-use Rattle.history_orders.proofs.Entries.{contains_behind, contains_front}
+use Rattle.run_reports.specs.history_orders.proofs.Entries.{contains_behind, contains_front}
 
 -- a sum of nothing
 pub sum_none : (ts : List ℕ) → sum_by (λ t. 0) ts ≡ 0

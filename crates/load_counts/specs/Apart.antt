@@ -2,12 +2,12 @@
 use Rattle.std.specs.Prelude.{◌≡◌, ℕ, ◌==◌, ◌%◌, List, Option, All, count_by, filter, is_some, length, map, not}
 use Rattle.std.specs.FinMap.{empty, len}
 use Rattle.std.specs.List.{flat_map, range_with_len, sum_by}
-use Rattle.map_history.specs.declared.op.Entry.{Entry}
-use Rattle.map_history.specs.declared.op.Op.{Op}
-use Rattle.map_history.specs.declared.op.Request.{Request}
-use Rattle.map_history.specs.declared.reply.Reply.{Reply}
-use Rattle.map_history.specs.Keys.{key_of, IsOneKeyed}
-use Rattle.map_history.specs.Replay.{map_after_all, replies_of}
+use Rattle.structure_laws.specs.map_history.specs.declared.op.Entry.{Entry}
+use Rattle.structure_laws.specs.map_history.specs.declared.op.Op.{Op}
+use Rattle.structure_laws.specs.map_history.specs.declared.op.Request.{Request}
+use Rattle.structure_laws.specs.map_history.specs.declared.reply.Reply.{Reply}
+use Rattle.structure_laws.specs.map_history.specs.Keys.{key_of, IsOneKeyed}
+use Rattle.structure_laws.specs.map_history.specs.Replay.{map_after_all, replies_of}
 use Rattle.trace_reader.specs.Generator.{generated}
 use Rattle.trace_reader.specs.declared.generator.Gen.{Gen}
 use Rattle.load_counts.specs.Counts.{counts_of, counts_text}

@@ -1,8 +1,8 @@
 -- How often each kind of reply came, and the text that says so.
 use Rattle.std.specs.Prelude.{ℕ, Bool, false, true, List, ◌++◌, Option, None, Some, codes, count_by, decimal}
-use Rattle.map_history.specs.declared.op.Entry.{Entry}
-use Rattle.map_history.specs.declared.reply.Reply.{Reply}
-use Rattle.map_history.specs.declared.reply.Reply.TheVariants as replies
+use Rattle.structure_laws.specs.map_history.specs.declared.op.Entry.{Entry}
+use Rattle.structure_laws.specs.map_history.specs.declared.reply.Reply.{Reply}
+use Rattle.structure_laws.specs.map_history.specs.declared.reply.Reply.TheVariants as replies
 use Rattle.load_counts.specs.declared.counts.Counts.{Counts}
 use Rattle.load_counts.specs.declared.counts.Kind.{Kind}
 use Rattle.load_counts.specs.declared.counts.Kind.TheVariants.{New, Dup, Val, Gone, Absent}

@@ -2,6 +2,4 @@ pub mod Apart
 pub mod Counts
 pub mod Tallies
 -- Passed on to the layers above, so that they needn't name these libraries themselves.
-pub use Rattle.run_reports.specs.machine_invariant
-pub use Rattle.run_reports.specs.closed_words
 pub use Rattle.run_reports

@@ -1,11 +1,11 @@
 -- What the entries of a closed table's requests come to.
 use Rattle.std.specs.Prelude.{◌≡◌, ℕ, true, List, Option, length}
 use Rattle.std.specs.FinMap.{len}
-use Rattle.map_history.specs.declared.op.Entry.{Entry}
-use Rattle.map_history.specs.Replay.{Pairs}
-use Rattle.map_history.specs.Requests.{AreInOrder}
+use Rattle.structure_laws.specs.map_history.specs.declared.op.Entry.{Entry}
+use Rattle.structure_laws.specs.map_history.specs.Replay.{Pairs}
+use Rattle.structure_laws.specs.map_history.specs.Requests.{AreInOrder}
 use Rattle.structure_laws.specs.Meaning.{Meaning}
-use Rattle.version_words.specs.TableState.{WordsState}
+use Rattle.run_reports.specs.version_words.specs.TableState.{WordsState}
 use Rattle.trace_reader.specs.Generator.{generated}
 use Rattle.trace_reader.specs.declared.generator.Gen.{Gen}
 use Rattle.load_counts.specs.Apart.{load_text, unserved_in}

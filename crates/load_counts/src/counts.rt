@@ -3,7 +3,7 @@ ghost use Rattle.std.specs.Prelude.{◌≡◌, ◌≤◌, count_by, length};
 ghost use Rattle.load_counts.specs.Apart.{unserved_in};
 ghost use Rattle.load_counts.specs.Counts.{counts_in, has, is_of};
 
-use map_history::{Entry, Reply};
+use structure_laws::map_history::{Entry, Reply};
 
 /// How often each kind of reply came.
 #[derive(Clone, Copy, Debug, PartialEq, Eq)]

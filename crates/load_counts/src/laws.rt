@@ -1,7 +1,7 @@
 // What the counts of a legal report say where each trace has keys of its own.
 ghost use Rattle.std.specs.Prelude.{◌≡◌, ◌<◌, ℕ, All, List, Option, true};
-ghost use Rattle.map_history.specs.declared.op.Entry.{Entry};
-ghost use Rattle.map_history.specs.declared.op.Request.{Request};
+ghost use Rattle.structure_laws.specs.map_history.specs.declared.op.Entry.{Entry};
+ghost use Rattle.structure_laws.specs.map_history.specs.declared.op.Request.{Request};
 ghost use Rattle.run_reports.specs.report_text.specs.Entries.{AreLegal};
 ghost use Rattle.trace_reader.specs.Generator.{generated};
 ghost use Rattle.trace_reader.specs.declared.generator.Gen.{Gen};

@@ -1,6 +1,6 @@
 // The printing of the counts.
 ghost use Rattle.std.specs.Prelude.{◌≡◌, OnErr, OnOk};
-ghost use Rattle.fault_count.specs.Rose.{Rose};
+ghost use Rattle.run_reports.specs.report_text.specs.fault_count.specs.Rose.{Rose};
 ghost use Rattle.run_reports.specs.report_text.specs.Sink.{Extends, ExtendsInPart};
 ghost use Rattle.load_counts.specs.Counts.{counts_text};
 

@@ -8,10 +8,10 @@ use crate::{
     traces_apart_are_answered_alone,
 };
 use run_reports::closed_words::closed_words_have_a_history;
+use run_reports::closed_words::version_words::{Words, words_are_reached};
 use run_reports::entries_of;
 use std::alloc::{AllocError, Global};
 use structure_laws::Structure;
-use version_words::{Words, words_are_reached};
 
 /// What the entries of a closed table's requests come to.
 #[derive(Clone, Copy, Debug, PartialEq, Eq)]

@@ -1,34 +1,34 @@
 -- The rest of an attempt that was answered, from an earlier point on.
 use Rattle.std.specs.Prelude.{true, false, Result, Ok, Err}
 use Rattle.std.proofs.Common.{◌≡◌, ℕ, ◌+◌, ◌*◌, ◌≤◌, ◌∷◌, [], length, refl, sym, ap, ◌∙◌, subst, arith}
-use Rattle.small_lemmas.proofs.Numbers.{from_zero as from_none}
-use Rattle.map_history.specs.declared.op.Request.{Request}
-use Rattle.body_terms.specs.Trail.{Agreed}
-use Rattle.body_terms.specs.declared.outcome.Outcome.{Outcome}
-use Rattle.body_terms.specs.declared.thunk.Thunk.{Thunk}
-use Rattle.table_words.specs.declared.layout.Layout.{Layout}
-use Rattle.table_words.specs.Limits.{IsWithinLimits}
+use Rattle.agreement_core.specs.section_lines.specs.small_lemmas.proofs.Numbers.{from_zero as from_none}
+use Rattle.agreement_core.specs.map_history.specs.declared.op.Request.{Request}
+use Rattle.agreement_core.specs.body_terms.specs.Trail.{Agreed}
+use Rattle.agreement_core.specs.body_terms.specs.declared.outcome.Outcome.{Outcome}
+use Rattle.agreement_core.specs.body_terms.specs.declared.thunk.Thunk.{Thunk}
+use Rattle.agreement_core.specs.table_words.specs.declared.layout.Layout.{Layout}
+use Rattle.agreement_core.specs.table_words.specs.Limits.{IsWithinLimits}
 use Rattle.runner_gate.specs.Asks.{Asks}
-use Rattle.structure_laws.specs.Scene.{Readings}
-use Rattle.structure_laws.specs.Meaning.{Meaning}
-use Rattle.structure_laws.specs.Cells.{slots}
-use Rattle.structure_laws.specs.Laws.{Laws}
-use Rattle.lock_words.specs.machine_invariant.specs.After.{AreAllowed}
-use Rattle.runner_parts.specs.State.{ReadsState}
+use Rattle.machine_states.specs.structure_laws.specs.Scene.{Readings}
+use Rattle.machine_states.specs.structure_laws.specs.Meaning.{Meaning}
+use Rattle.machine_states.specs.structure_laws.specs.Cells.{slots}
+use Rattle.machine_states.specs.structure_laws.specs.Laws.{Laws}
+use Rattle.version_words.specs.machine_invariant.specs.After.{AreAllowed}
+use Rattle.machine_states.specs.runner_steps.specs.runner_parts.specs.State.{ReadsState}
 use Rattle.version_words.specs.RunnerState.{RunnerState}
 use Rattle.version_words.specs.TableState.{TableState, IsOf}
-use Rattle.lock_walks.specs.epoch_slots.specs.Entries.{Enters}
-use Rattle.lock_walks.specs.commit_log.specs.Asked.{IsAsked}
-use Rattle.lock_walks.specs.commit_log.proofs.Asked.{asked_none}
-use Rattle.lock_walks.specs.try_lock.specs.declared.section.Section.{Section}
-use Rattle.lock_walks.specs.try_lock.specs.Ends.{EndsSo}
-use Rattle.lock_walks.specs.try_lock.specs.Planning.{Planning}
-use Rattle.lock_walks.specs.try_lock.specs.Plans as plan
-use Rattle.lock_walks.specs.try_lock.specs.Publishes.{Publishes}
-use Rattle.lock_walks.specs.try_lock.specs.declared.planned.Planned.{Planned}
-use Rattle.lock_walks.specs.try_lock.specs.declared.planned.Planned.TheVariants as plans
-use Rattle.lock_walks.specs.Way.{Way}
-use Rattle.lock_walks.specs.Own.{own_thunk, IsOwn}
+use Rattle.attempts.specs.epoch_slots.specs.Entries.{Enters}
+use Rattle.attempts.specs.commit_log.specs.Asked.{IsAsked}
+use Rattle.attempts.specs.commit_log.proofs.Asked.{asked_none}
+use Rattle.attempts.specs.try_lock.specs.declared.section.Section.{Section}
+use Rattle.attempts.specs.try_lock.specs.Ends.{EndsSo}
+use Rattle.attempts.specs.try_lock.specs.Planning.{Planning}
+use Rattle.attempts.specs.try_lock.specs.Plans as plan
+use Rattle.attempts.specs.try_lock.specs.Publishes.{Publishes}
+use Rattle.attempts.specs.try_lock.specs.declared.planned.Planned.{Planned}
+use Rattle.attempts.specs.try_lock.specs.declared.planned.Planned.TheVariants as plans
+use Rattle.attempts.specs.lock_walks.specs.Way.{Way}
+use Rattle.attempts.specs.lock_walks.specs.Own.{own_thunk, IsOwn}
 use Rattle.attempts.specs.Knowing.{IsStill}
 use Rattle.attempts.specs.Counted.{IsCounted}
 use Rattle.attempts.specs.Course.{MayAttempt, HasReserve, HasEntered, HasPlanned, HasTried}

@@ -2,41 +2,41 @@
 use Rattle.std.specs.Prelude.{cond, nat_lt, [], Bool, true, false, Result, Ok, Err}
 use Rattle.std.proofs.Common.{◌≡◌, ◌≢◌, ℕ, ◌+◌, length, refl, sym, ap, ◌∙◌, subst, ⊎_elim, arith, Option, Some, None}
 use Rattle.std.proofs.lemmas.Bool.{true≢false}
-use Rattle.small_lemmas.proofs.Numbers.{tested_equal}
-use Rattle.map_history.specs.declared.op.Request.{Request}
-use Rattle.body_terms.specs.Line.{is_check, is_end}
-use Rattle.body_terms.specs.Trail.{Agreed}
-use Rattle.body_terms.specs.declared.micro.Micro.{Micro}
-use Rattle.body_terms.specs.declared.micro.Micro.TheVariants.{CheckWord, ExchangeCell}
-use Rattle.body_terms.specs.declared.outcome.Outcome.{Outcome}
-use Rattle.body_terms.specs.declared.outcome.Outcome.TheVariants as outcomes
-use Rattle.body_terms.specs.declared.thunk.Thunk.{Thunk}
-use Rattle.table_words.specs.Limits.{IsWithinLimits}
+use Rattle.agreement_core.specs.section_lines.specs.small_lemmas.proofs.Numbers.{tested_equal}
+use Rattle.agreement_core.specs.map_history.specs.declared.op.Request.{Request}
+use Rattle.agreement_core.specs.body_terms.specs.Line.{is_check, is_end}
+use Rattle.agreement_core.specs.body_terms.specs.Trail.{Agreed}
+use Rattle.agreement_core.specs.body_terms.specs.declared.micro.Micro.{Micro}
+use Rattle.agreement_core.specs.body_terms.specs.declared.micro.Micro.TheVariants.{CheckWord, ExchangeCell}
+use Rattle.agreement_core.specs.body_terms.specs.declared.outcome.Outcome.{Outcome}
+use Rattle.agreement_core.specs.body_terms.specs.declared.outcome.Outcome.TheVariants as outcomes
+use Rattle.agreement_core.specs.body_terms.specs.declared.thunk.Thunk.{Thunk}
+use Rattle.agreement_core.specs.table_words.specs.Limits.{IsWithinLimits}
 use Rattle.runner_gate.specs.Asks.{Asks}
-use Rattle.structure_laws.specs.Scene.{Readings}
-use Rattle.structure_laws.specs.Meaning.{Meaning}
-use Rattle.structure_laws.specs.Laws.{Laws}
-use Rattle.section_lines.specs.Line.{phase}
+use Rattle.machine_states.specs.structure_laws.specs.Scene.{Readings}
+use Rattle.machine_states.specs.structure_laws.specs.Meaning.{Meaning}
+use Rattle.machine_states.specs.structure_laws.specs.Laws.{Laws}
+use Rattle.agreement_core.specs.section_lines.specs.Line.{phase}
 use Rattle.agreement_core.specs.Checks.{passes}
 use Rattle.agreement_core.specs.History as agreement_history
 use Rattle.agreement_core.specs.History.{change_of, moves_of}
 use Rattle.agreement_core.specs.State as agreement
 use Rattle.agreement_core.proofs.Lasting.{before_end}
 use Rattle.agreement_core.proofs.Noting.{is_exchange, no_change, below}
-use Rattle.runner_parts.specs.Tests.{is_answered}
-use Rattle.runner_steps.specs.Sections.{reply_in}
+use Rattle.machine_states.specs.runner_steps.specs.runner_parts.specs.Tests.{is_answered}
+use Rattle.machine_states.specs.runner_steps.specs.Sections.{reply_in}
 use Rattle.machine_states.specs.Sight.{Sight, sight}
-use Rattle.lock_words.specs.machine_agreement.specs.Joined.{IsJoinedToAgreement}
-use Rattle.lock_words.specs.machine_invariant.specs.After.{AreAllowed}
-use Rattle.lock_words.specs.machine_invariant.specs.Sections.{IsAnswered, IsLeft}
-use Rattle.lock_words.specs.machine_invariant.specs.Trails.{step_at, log_of}
+use Rattle.version_words.specs.machine_invariant.specs.machine_agreement.specs.Joined.{IsJoinedToAgreement}
+use Rattle.version_words.specs.machine_invariant.specs.After.{AreAllowed}
+use Rattle.version_words.specs.machine_invariant.specs.Sections.{IsAnswered, IsLeft}
+use Rattle.version_words.specs.machine_invariant.specs.Trails.{step_at, log_of}
 use Rattle.version_words.specs.RunnerState.{RunnerState}
 use Rattle.version_words.specs.TableState.{TableState, IsOf}
-use Rattle.lock_walks.specs.epoch_slots.specs.Entries.{HasLeave, Exits}
-use Rattle.lock_walks.specs.commit_log.proofs.Asked.{asked_none}
-use Rattle.lock_walks.specs.try_lock.specs.declared.section.Section.{Section}
-use Rattle.lock_walks.specs.try_lock.specs.Planning.{Planning}
-use Rattle.lock_walks.specs.try_lock.specs.Retires.{HasRetired}
+use Rattle.attempts.specs.epoch_slots.specs.Entries.{HasLeave, Exits}
+use Rattle.attempts.specs.commit_log.proofs.Asked.{asked_none}
+use Rattle.attempts.specs.try_lock.specs.declared.section.Section.{Section}
+use Rattle.attempts.specs.try_lock.specs.Planning.{Planning}
+use Rattle.attempts.specs.try_lock.specs.Retires.{HasRetired}
 use Rattle.attempts.specs.Knowing.{KnowsMore}
 use Rattle.attempts.specs.Course.{HasEnded, HasRun}
 use Rattle.attempts.specs.Attempts.{is_halted, is_refusal}

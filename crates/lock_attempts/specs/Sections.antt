@@ -1,29 +1,29 @@
 -- Attempts of sections, where a request is a ticket for one section: what each answer says.
 use Rattle.std.specs.Prelude.{◌≡◌, ℕ, ◌+◌, ◌≤◌, Bool, true, false, List, [], ◌∷◌, length, Result, Ok, Err}
-use Rattle.map_history.specs.declared.op.Request.{Request}
-use Rattle.body_terms.specs.Trail.{Agreed}
-use Rattle.body_terms.specs.declared.micro.Source.{Source}
-use Rattle.body_terms.specs.declared.micro.Micro.TheVariants.{CheckWord, ExchangeCell}
-use Rattle.body_terms.specs.declared.outcome.Outcome.TheVariants.{Answered}
-use Rattle.body_terms.specs.declared.thunk.Thunk.{Thunk}
-use Rattle.table_words.specs.declared.spot.Spot.TheVariants.{Stamp, Reply}
+use Rattle.agreement_core.specs.map_history.specs.declared.op.Request.{Request}
+use Rattle.agreement_core.specs.body_terms.specs.Trail.{Agreed}
+use Rattle.agreement_core.specs.body_terms.specs.declared.micro.Source.{Source}
+use Rattle.agreement_core.specs.body_terms.specs.declared.micro.Micro.TheVariants.{CheckWord, ExchangeCell}
+use Rattle.agreement_core.specs.body_terms.specs.declared.outcome.Outcome.TheVariants.{Answered}
+use Rattle.agreement_core.specs.body_terms.specs.declared.thunk.Thunk.{Thunk}
+use Rattle.agreement_core.specs.table_words.specs.declared.spot.Spot.TheVariants.{Stamp, Reply}
 use Rattle.runner_gate.specs.Asks.{Asks}
-use Rattle.structure_laws.specs.Scene.{Readings}
-use Rattle.structure_laws.specs.Meaning.{Meaning}
-use Rattle.structure_laws.specs.Cells.{slots}
+use Rattle.machine_states.specs.structure_laws.specs.Scene.{Readings}
+use Rattle.machine_states.specs.structure_laws.specs.Meaning.{Meaning}
+use Rattle.machine_states.specs.structure_laws.specs.Cells.{slots}
 use Rattle.agreement_core.specs.Checks.{stored_word}
 use Rattle.agreement_core.specs.History.{Change, change_of}
-use Rattle.runner_parts.specs.Tests.{is_answered}
-use Rattle.runner_steps.specs.Sections.{reply_in}
+use Rattle.machine_states.specs.runner_steps.specs.runner_parts.specs.Tests.{is_answered}
+use Rattle.machine_states.specs.runner_steps.specs.Sections.{reply_in}
 use Rattle.machine_states.specs.Sight.{Sight, sight}
-use Rattle.lock_words.specs.machine_invariant.specs.Along.{Components}
-use Rattle.lock_words.specs.machine_invariant.specs.Trails.{thunk_at, step_at, log_of}
-use Rattle.lock_words.specs.machine_invariant.specs.Sections.{IsAnswered}
+use Rattle.version_words.specs.machine_invariant.specs.Along.{Components}
+use Rattle.version_words.specs.machine_invariant.specs.Trails.{thunk_at, step_at, log_of}
+use Rattle.version_words.specs.machine_invariant.specs.Sections.{IsAnswered}
 use Rattle.version_words.specs.RunnerState.{RunnerState}
-use Rattle.lock_walks.specs.epoch_slots.specs.Collects.{IsTidy}
-use Rattle.lock_walks.specs.epoch_slots.specs.Entries.{Exits}
-use Rattle.lock_walks.specs.try_lock.specs.Planning.{Planning}
-use Rattle.lock_walks.specs.try_lock.specs.Reached.{IsReached}
+use Rattle.attempts.specs.epoch_slots.specs.Collects.{IsTidy}
+use Rattle.attempts.specs.epoch_slots.specs.Entries.{Exits}
+use Rattle.attempts.specs.try_lock.specs.Planning.{Planning}
+use Rattle.attempts.specs.try_lock.specs.Reached.{IsReached}
 use Rattle.attempts.specs.Knowing.{KnowsMore, LearnsNoOther}
 use Rattle.attempts.specs.Counted.{IsCounted}
 use Rattle.attempts.specs.Course.{HasRun}

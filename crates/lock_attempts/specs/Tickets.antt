@@ -1,11 +1,11 @@
 -- Tickets: requests of one section each, and those of a worker that aren't used yet.
 use Rattle.std.specs.Prelude.{◌≡◌, ℕ, ◌*◌, ◌/◌, ◌%◌, ◌<◌, ◌≤◌, true, false, List, map, Some, slice_get}
 use Rattle.std.specs.List.{range_with_len}
-use Rattle.map_history.specs.declared.op.Op.TheVariants.{Get}
-use Rattle.map_history.specs.declared.op.Request.{Request}
-use Rattle.runner_parts.specs.Tests.{is_answered, are_answered}
+use Rattle.agreement_core.specs.map_history.specs.declared.op.Op.TheVariants.{Get}
+use Rattle.agreement_core.specs.map_history.specs.declared.op.Request.{Request}
+use Rattle.machine_states.specs.runner_steps.specs.runner_parts.specs.Tests.{is_answered, are_answered}
 use Rattle.version_words.specs.RunnerState.{RunnerState}
-use Rattle.lock_walks.specs.epoch_slots.specs.Collects.{IsTidy}
+use Rattle.attempts.specs.epoch_slots.specs.Collects.{IsTidy}
 use Rattle.lock_attempts.specs.declared.tickets.Tickets.{Tickets}
 
 -- the ticket with this number, in this trace. Its operation means nothing, since it serves no map

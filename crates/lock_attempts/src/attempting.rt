@@ -1,26 +1,26 @@
 //! One attempt of a ticket's section.
 ghost use Rattle.std.specs.Prelude.{◌≡◌, false};
-ghost use Rattle.structure_laws.specs.Cells.{slots};
+ghost use Rattle.machine_states.specs.structure_laws.specs.Cells.{slots};
 ghost use Rattle.version_words.specs.RunnerState.{RunnerState};
 ghost use Rattle.version_words.specs.TableState.{IsOf};
-ghost use Rattle.lock_walks.specs.Way.{Leads};
-ghost use Rattle.lock_walks.specs.Own.{own_thunk};
+ghost use Rattle.attempts.specs.lock_walks.specs.Way.{Leads};
+ghost use Rattle.attempts.specs.lock_walks.specs.Own.{own_thunk};
 ghost use Rattle.attempts.specs.Counted.{IsSeen};
 ghost use Rattle.attempts.specs.Course.{MayAttempt, HasEntered};
 ghost use Rattle.attempts.specs.Attempts.{most_of_attempt};
-ghost use Rattle.lock_walks.specs.Wants.{WantsWereRead};
+ghost use Rattle.attempts.specs.lock_walks.specs.Wants.{WantsWereRead};
 ghost use Rattle.lock_attempts.specs.Sections.{SectionAttempts};
 ghost use Rattle.lock_attempts.specs.Parts.{SectionRests};
 
 use crate::tries::try_section;
 use attempts::epoch_slots::enter;
+use attempts::lock_walks::try_lock::Planned;
 use attempts::lock_walks::{Walker, plan_by};
-use attempts::try_lock::Planned;
 use attempts::{Attempt, goes_on, plan_refused, reclaim, reserve_slots, turn_away};
-use body_terms::{StepKind, Steps};
-use map_history::Request;
+use machine_states::runner_steps::body_terms::{StepKind, Steps};
+use machine_states::runner_steps::map_history::Request;
+use machine_states::structure_laws::Structure;
 use runner_gate::Gate;
-use structure_laws::Structure;
 use version_words::{FlockTable, Runner};
 
 /// Plans the section by this walk, behind the entry, and tries it; or leaves where the plan was refused.

@@ -1,25 +1,25 @@
 //! The run of an own section, and what is answered by it.
 ghost use Rattle.std.specs.Prelude.{◌≡◌, ◌+◌, length, true, false, Ok};
-ghost use Rattle.map_history.specs.declared.op.Request.{Request};
-ghost use Rattle.body_terms.specs.Trail.{Agreed};
-ghost use Rattle.body_terms.specs.declared.thunk.Thunk.{Thunk};
-ghost use Rattle.structure_laws.specs.Scene.{Readings};
+ghost use Rattle.agreement_core.specs.map_history.specs.declared.op.Request.{Request};
+ghost use Rattle.agreement_core.specs.body_terms.specs.Trail.{Agreed};
+ghost use Rattle.agreement_core.specs.body_terms.specs.declared.thunk.Thunk.{Thunk};
+ghost use Rattle.machine_states.specs.structure_laws.specs.Scene.{Readings};
 ghost use Rattle.version_words.specs.RunnerState.{RunnerState};
 ghost use Rattle.version_words.specs.TableState.{IsOf};
-ghost use Rattle.lock_walks.specs.try_lock.specs.Planning.{Planning};
+ghost use Rattle.attempts.specs.try_lock.specs.Planning.{Planning};
 ghost use Rattle.attempts.specs.Counted.{IsSeen};
 ghost use Rattle.attempts.specs.Course.{HasTried, HasEnded};
 ghost use Rattle.attempts.specs.Attempts.{most_of_run};
-ghost use Rattle.lock_walks.specs.Wants.{WantsWereRead};
+ghost use Rattle.attempts.specs.lock_walks.specs.Wants.{WantsWereRead};
 ghost use Rattle.lock_attempts.specs.Parts.{SectionRests};
 
 use attempts::epoch_slots::exit;
-use attempts::try_lock::{RunEnd, Section, retire_section, run_section};
+use attempts::lock_walks::try_lock::{RunEnd, Section, retire_section, run_section};
+use attempts::lock_words::stale_words_differ;
 use attempts::{Attempt, goes_on, section_left, turn_away};
-use body_terms::{Outcome, StepKind, Steps};
-use lock_words::stale_words_differ;
+use machine_states::runner_steps::body_terms::{Outcome, StepKind, Steps};
+use machine_states::structure_laws::Structure;
 use runner_gate::Gate;
-use structure_laws::Structure;
 use version_words::{FlockTable, Runner};
 
 /// Retires the own section, which was run to its end with this outcome, and leaves: where it answered, with that

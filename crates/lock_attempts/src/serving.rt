@@ -1,10 +1,10 @@
 //! The section of a ticket, again where it was refused.
 ghost use Rattle.std.specs.Prelude.{◌≡◌, ◌≢◌, ◌+◌, ◌<◌, IfOk, IfErr, Err, true};
-ghost use Rattle.map_history.specs.declared.op.Op.TheVariants.{Get};
+ghost use Rattle.agreement_core.specs.map_history.specs.declared.op.Op.TheVariants.{Get};
 ghost use Rattle.version_words.specs.TableState.{IsOf};
-ghost use Rattle.lock_walks.specs.Way.{Leads};
-ghost use Rattle.lock_walks.specs.Own.{own_thunk};
-ghost use Rattle.lock_walks.specs.Wants.{WantsWereRead};
+ghost use Rattle.attempts.specs.lock_walks.specs.Way.{Leads};
+ghost use Rattle.attempts.specs.lock_walks.specs.Own.{own_thunk};
+ghost use Rattle.attempts.specs.lock_walks.specs.Wants.{WantsWereRead};
 ghost use Rattle.attempts.specs.Counted.{IsSeen};
 ghost use Rattle.attempts.specs.Course.{MayAttempt};
 ghost use Rattle.attempts.specs.declared.answers.Attempt.TheVariants as answers;
@@ -15,10 +15,10 @@ use crate::attempting::attempt_section;
 use crate::tickets::Tickets;
 use attempts::Attempt;
 use attempts::lock_walks::Walker;
-use body_terms::Steps;
-use map_history::{Op, Request};
+use machine_states::runner_steps::body_terms::Steps;
+use machine_states::runner_steps::map_history::{Op, Request};
+use machine_states::structure_laws::Structure;
 use runner_gate::Gate;
-use structure_laws::Structure;
 use version_words::{FlockTable, Runner};
 
 /// Whether a section is attempted again after this answer: another one came between, or slots are in limbo.

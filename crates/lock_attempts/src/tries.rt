@@ -1,24 +1,24 @@
 //! The publication of a planned section.
 ghost use Rattle.std.specs.Prelude.{◌≡◌, length, false};
-ghost use Rattle.map_history.specs.declared.op.Request.{Request};
-ghost use Rattle.body_terms.specs.declared.thunk.Thunk.{Thunk};
-ghost use Rattle.structure_laws.specs.Scene.{Readings};
+ghost use Rattle.agreement_core.specs.map_history.specs.declared.op.Request.{Request};
+ghost use Rattle.agreement_core.specs.body_terms.specs.declared.thunk.Thunk.{Thunk};
+ghost use Rattle.machine_states.specs.structure_laws.specs.Scene.{Readings};
 ghost use Rattle.version_words.specs.RunnerState.{RunnerState};
 ghost use Rattle.version_words.specs.TableState.{IsOf};
-ghost use Rattle.lock_walks.specs.try_lock.specs.Planning.{Planning};
-ghost use Rattle.lock_walks.specs.try_lock.specs.declared.planned.Planned.TheVariants as plans;
+ghost use Rattle.attempts.specs.try_lock.specs.Planning.{Planning};
+ghost use Rattle.attempts.specs.try_lock.specs.declared.planned.Planned.TheVariants as plans;
 ghost use Rattle.attempts.specs.Counted.{IsSeen};
 ghost use Rattle.attempts.specs.Course.{HasPlanned};
 ghost use Rattle.attempts.specs.Attempts.{most_of_run};
-ghost use Rattle.lock_walks.specs.Wants.{WantsWereRead};
+ghost use Rattle.attempts.specs.lock_walks.specs.Wants.{WantsWereRead};
 ghost use Rattle.lock_attempts.specs.Parts.{SectionRests};
 
 use crate::runs::run_own;
-use attempts::try_lock::publish;
+use attempts::lock_walks::try_lock::publish;
 use attempts::{Attempt, lock_refused, turn_away};
-use body_terms::{Steps, Thunk};
+use machine_states::runner_steps::body_terms::{Steps, Thunk};
+use machine_states::structure_laws::Structure;
 use runner_gate::Gate;
-use structure_laws::Structure;
 use version_words::{FlockTable, Runner};
 
 /// Publishes the section of this thunk, which was just planned, and runs it; or leaves where the lock refused it.

@@ -2,23 +2,23 @@
 use Rattle.std.specs.Prelude.{◌==◌, ◌&&◌, ◌||◌, ◌%◌, cond, not, Bool, true, false, slice_get}
 use Rattle.std.proofs.Common.{◌≡◌, ℕ, zero, suc, List, [], ◌∷◌, refl, sym, ap, ◌∙◌, subst, arith, Some}
 use Rattle.std.proofs.lemmas.Bool.Decides.{nat_tests}
-use Rattle.map_history.specs.declared.op.Request.{Request}
-use Rattle.map_history.specs.declared.reply.Reply.{Reply}
-use Rattle.map_history.specs.Words.{word_of}
-use Rattle.runner_gate.specs.Asks.{Asks}
-use Rattle.table_words.specs.declared.layout.Layout.{Layout}
-use Rattle.structure_laws.specs.Meaning.{Meaning}
-use Rattle.runner_parts.specs.declared.entries.Known.{Known}
-use Rattle.runner_parts.specs.Tests.{knows, is_answered, are_answered}
+use Rattle.machine_states.specs.runner_steps.specs.map_history.specs.declared.op.Request.{Request}
+use Rattle.machine_states.specs.runner_steps.specs.map_history.specs.declared.reply.Reply.{Reply}
+use Rattle.machine_states.specs.runner_steps.specs.map_history.specs.Words.{word_of}
+use Rattle.settled_tables.specs.settling.specs.runner_gate.specs.Asks.{Asks}
+use Rattle.machine_states.specs.runner_steps.specs.table_words.specs.declared.layout.Layout.{Layout}
+use Rattle.machine_states.specs.structure_laws.specs.Meaning.{Meaning}
+use Rattle.machine_states.specs.runner_steps.specs.runner_parts.specs.declared.entries.Known.{Known}
+use Rattle.machine_states.specs.runner_steps.specs.runner_parts.specs.Tests.{knows, is_answered, are_answered}
 use Rattle.machine_states.proofs.Steps.{some_same, none_some}
-use Rattle.version_words.specs.RunnerState.{RunnerState}
-use Rattle.version_words.specs.TableState.{TableState, IsOf}
-use Rattle.hash_table.specs.epoch_slots.specs.Collects.{IsTidy}
+use Rattle.settled_tables.specs.closed_words.specs.version_words.specs.RunnerState.{RunnerState}
+use Rattle.settled_tables.specs.closed_words.specs.version_words.specs.TableState.{TableState, IsOf}
+use Rattle.hash_table.specs.try_lock.specs.epoch_slots.specs.Collects.{IsTidy}
 use Rattle.hash_table.specs.try_lock.specs.Planning.{Planning}
-use Rattle.attempts.specs.Attempts.{Answers, Attempts}
-use Rattle.attempts.specs.Course.{MayAttempt}
-use Rattle.attempts.specs.declared.answers.Attempt.{Attempt}
-use Rattle.attempts.specs.declared.answers.Attempt.TheVariants as answers
+use Rattle.lock_attempts.specs.attempts.specs.Attempts.{Answers, Attempts}
+use Rattle.lock_attempts.specs.attempts.specs.Course.{MayAttempt}
+use Rattle.lock_attempts.specs.attempts.specs.declared.answers.Attempt.{Attempt}
+use Rattle.lock_attempts.specs.attempts.specs.declared.answers.Attempt.TheVariants as answers
 use Rattle.lock_tests.specs.AttemptScene.{adds, takes, asks, their_requests, IsScene, IsFresh}
 
 module _ {T : Type 0} (planning : Planning) (t : TableState T) (scene : IsScene planning t) (r : RunnerState T) (own : IsOf t r) (tidy : IsTidy r) where

@@ -5,15 +5,15 @@ use Rattle.std.specs.List.{range_with_len}
 use Rattle.std.proofs.lemmas.List.FromFn.{get_or-map-range_with_len, length-map-range_with_len, get_or-range_with_len, length-range_with_len}
 use Rattle.std.proofs.lemmas.Nat.{mod_below}
 use Rattle.std.proofs.lemmas.Option.{slice_get-map, slice_get_within, slice_get-get_or}
-use Rattle.small_lemmas.proofs.Numbers.{from_zero as from_none}
+use Rattle.machine_states.specs.epoch_core.specs.small_lemmas.proofs.Numbers.{from_zero as from_none}
 use Rattle.machine_states.proofs.Steps.{some_same}
-use Rattle.map_history.specs.declared.op.Op.{Op}
-use Rattle.map_history.specs.declared.op.Op.TheVariants.{Get}
-use Rattle.map_history.specs.declared.op.Request.{Request}
-use Rattle.map_history.specs.Keys.{key_of, other_key_of}
-use Rattle.map_history.specs.Requests.{AreInOrder}
-use Rattle.map_history.proofs.Cells.{key_is}
-use Rattle.hash_table.specs.bucket_laws.specs.Walk.{has_one_key}
+use Rattle.machine_states.specs.runner_steps.specs.map_history.specs.declared.op.Op.{Op}
+use Rattle.machine_states.specs.runner_steps.specs.map_history.specs.declared.op.Op.TheVariants.{Get}
+use Rattle.machine_states.specs.runner_steps.specs.map_history.specs.declared.op.Request.{Request}
+use Rattle.machine_states.specs.runner_steps.specs.map_history.specs.Keys.{key_of, other_key_of}
+use Rattle.machine_states.specs.runner_steps.specs.map_history.specs.Requests.{AreInOrder}
+use Rattle.machine_states.specs.runner_steps.specs.map_history.proofs.Cells.{key_is}
+use Rattle.leaf_tree.specs.tree_laws.specs.bucket_laws.specs.Walk.{has_one_key}
 use Rattle.lock_tests.specs.Asked.{request_at, trace_of}
 
 pub none_of : {A : Type 0} (o : Option A) → is_none o ≡ true → o ≡ None

@@ -2,20 +2,20 @@
 use Rattle.std.proofs.Common.{◌≡◌, ℕ, ◌-◌, ◌≤◌, List, length, [], ◌∷◌, ◌++◌, true, false, sym, ap, subst, ◌∙◌, arith, Some, None}
 use Rattle.std.specs.Prelude.{◌==◌, ◌||◌, if◌then◌else◌}
 use Rattle.std.proofs.lemmas.Bool.Decides.{nat_tests}
-use Rattle.small_lemmas.proofs.Bools.{or_second as either}
-use Rattle.body_terms.specs.Word.{value_of}
-use Rattle.structure_laws.specs.Meaning.{Meaning}
-use Rattle.runner_parts.specs.declared.event.EventKind.TheVariants as kinds
-use Rattle.runner_parts.specs.State.{DescriptorsState, NodesState, ReadsState}
-use Rattle.runner_parts.specs.Lists.{named_by}
-use Rattle.runner_parts.specs.Tests.{has, has_pair}
-use Rattle.version_words.specs.RunnerState.{RunnerState}
-use Rattle.version_words.specs.Events.{Makes}
-use Rattle.version_words.specs.Naming.{load_of}
-use Rattle.version_words.proofs.Stages.{then_loaded_cell}
-use Rattle.attempts.specs.epoch_slots.specs.Entries.{Enters}
-use Rattle.attempts.specs.epoch_slots.proofs.Outside.{nodes_made, descriptors_made, reads_made, known_made}
-use Rattle.attempts.specs.runner_facts.proofs.Names.{pair_last}
+use Rattle.machine_states.specs.epoch_core.specs.small_lemmas.proofs.Bools.{or_second as either}
+use Rattle.machine_states.specs.runner_steps.specs.body_terms.specs.Word.{value_of}
+use Rattle.machine_states.specs.structure_laws.specs.Meaning.{Meaning}
+use Rattle.machine_states.specs.runner_steps.specs.runner_parts.specs.declared.event.EventKind.TheVariants as kinds
+use Rattle.machine_states.specs.runner_steps.specs.runner_parts.specs.State.{DescriptorsState, NodesState, ReadsState}
+use Rattle.machine_states.specs.runner_steps.specs.runner_parts.specs.Lists.{named_by}
+use Rattle.machine_states.specs.runner_steps.specs.runner_parts.specs.Tests.{has, has_pair}
+use Rattle.settled_tables.specs.closed_words.specs.version_words.specs.RunnerState.{RunnerState}
+use Rattle.settled_tables.specs.closed_words.specs.version_words.specs.Events.{Makes}
+use Rattle.settled_tables.specs.closed_words.specs.version_words.specs.Naming.{load_of}
+use Rattle.settled_tables.specs.closed_words.specs.version_words.proofs.Stages.{then_loaded_cell}
+use Rattle.hash_table.specs.try_lock.specs.epoch_slots.specs.Entries.{Enters}
+use Rattle.hash_table.specs.try_lock.specs.epoch_slots.proofs.Outside.{nodes_made, descriptors_made, reads_made, known_made}
+use Rattle.lock_attempts.specs.attempts.specs.runner_facts.proofs.Names.{pair_last}
 use Rattle.lock_tests.specs.Workers.{IsReady, HasRead}
 
 has_last : (xs : List ℕ) (x : ℕ) → has (xs ++ x ∷ []) x ≡ true

@@ -3,22 +3,22 @@ use Rattle.std.specs.Prelude.{◌==◌, ◌&&◌, ◌||◌, ◌%◌, cond, not, 
 use Rattle.std.proofs.Common.{◌≡◌, ◌≢◌, ℕ, zero, suc, ◌+◌, ◌<◌, List, [], ◌∷◌, ◌++◌, Bool, true, false, refl, sym, ap, ◌∙◌, arith, ⊎_elim, Some, None}
 use Rattle.std.proofs.lemmas.Bool.{cases_eq}
 use Rattle.std.proofs.lemmas.Bool.Decides.{nat_tests}
-use Rattle.map_history.specs.declared.op.Request.{Request}
-use Rattle.structure_laws.specs.Meaning.{Meaning}
-use Rattle.runner_parts.specs.declared.entries.Known.{Known}
-use Rattle.runner_parts.specs.declared.event.EventKind.TheVariants as kinds
-use Rattle.epoch_core.specs.declared.stage.Stage.TheVariants as stages
-use Rattle.runner_parts.specs.Lists.{learned}
-use Rattle.runner_parts.specs.State.{NodesState}
-use Rattle.runner_parts.specs.Tests.{knows, is_answered, are_answered}
+use Rattle.machine_states.specs.runner_steps.specs.map_history.specs.declared.op.Request.{Request}
+use Rattle.machine_states.specs.structure_laws.specs.Meaning.{Meaning}
+use Rattle.machine_states.specs.runner_steps.specs.runner_parts.specs.declared.entries.Known.{Known}
+use Rattle.machine_states.specs.runner_steps.specs.runner_parts.specs.declared.event.EventKind.TheVariants as kinds
+use Rattle.machine_states.specs.epoch_core.specs.declared.stage.Stage.TheVariants as stages
+use Rattle.machine_states.specs.runner_steps.specs.runner_parts.specs.Lists.{learned}
+use Rattle.machine_states.specs.runner_steps.specs.runner_parts.specs.State.{NodesState}
+use Rattle.machine_states.specs.runner_steps.specs.runner_parts.specs.Tests.{knows, is_answered, are_answered}
 use Rattle.machine_states.proofs.Steps.{some_same, none_some}
-use Rattle.version_words.specs.RunnerState.{RunnerState}
-use Rattle.version_words.specs.Events.{Makes}
-use Rattle.version_words.proofs.Stages.{then_knows}
-use Rattle.attempts.specs.epoch_slots.specs.Collects.{IsTidy}
-use Rattle.attempts.specs.epoch_slots.proofs.Outside.{nodes_made, known_made}
-use Rattle.attempts.specs.section_runs.specs.Opened.{Learns}
-use Rattle.attempts.proofs.Knowing.{answered_of_other}
+use Rattle.settled_tables.specs.closed_words.specs.version_words.specs.RunnerState.{RunnerState}
+use Rattle.settled_tables.specs.closed_words.specs.version_words.specs.Events.{Makes}
+use Rattle.settled_tables.specs.closed_words.specs.version_words.proofs.Stages.{then_knows}
+use Rattle.hash_table.specs.try_lock.specs.epoch_slots.specs.Collects.{IsTidy}
+use Rattle.hash_table.specs.try_lock.specs.epoch_slots.proofs.Outside.{nodes_made, known_made}
+use Rattle.hash_table.specs.try_lock.specs.section_runs.specs.Opened.{Learns}
+use Rattle.lock_attempts.specs.attempts.proofs.Knowing.{answered_of_other}
 use Rattle.lock_tests.specs.Workers.{HasReserve, IsNewWorker}
 use Rattle.lock_tests.specs.Asked.{KnowsOthers, IsDue, IsOnlyWorker, HasServed}
 

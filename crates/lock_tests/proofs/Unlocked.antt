@@ -2,14 +2,14 @@
 use Rattle.std.specs.Prelude.{◌==◌, ◌&&◌, not, cond, nat_lt, slice_index}
 use Rattle.std.proofs.Common.{◌≡◌, ℕ, ◌+◌, ◌<◌, ◌≤◌, Bool, true, false, refl, sym, ap, subst, arith}
 use Rattle.std.proofs.lemmas.Bool.Decides.{nat_tests}
-use Rattle.body_terms.specs.Word.{value_of}
-use Rattle.table_words.specs.Places.{address}
-use Rattle.table_words.specs.declared.spot.Spot.TheVariants.{Cell}
-use Rattle.table_words.specs.Seen.{blank}
-use Rattle.structure_laws.specs.Meaning.{Meaning}
-use Rattle.runner_steps.specs.Asks.{sizes_for}
-use Rattle.version_words.specs.TableState.{WordsState, word_of}
-use Rattle.closed_words.specs.Histories.{HoldsNoLock}
+use Rattle.machine_states.specs.runner_steps.specs.body_terms.specs.Word.{value_of}
+use Rattle.machine_states.specs.runner_steps.specs.table_words.specs.Places.{address}
+use Rattle.machine_states.specs.runner_steps.specs.table_words.specs.declared.spot.Spot.TheVariants.{Cell}
+use Rattle.machine_states.specs.runner_steps.specs.table_words.specs.Seen.{blank}
+use Rattle.machine_states.specs.structure_laws.specs.Meaning.{Meaning}
+use Rattle.machine_states.specs.runner_steps.specs.Asks.{sizes_for}
+use Rattle.settled_tables.specs.closed_words.specs.version_words.specs.TableState.{WordsState, word_of}
+use Rattle.settled_tables.specs.closed_words.specs.Histories.{HoldsNoLock}
 use Rattle.lock_tests.specs.Closing.{cells_of, AreFreeBelow}
 
 module _ {T : Type 0} (m : Meaning) (w : WordsState T) where

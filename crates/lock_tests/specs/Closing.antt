@@ -1,10 +1,10 @@
 -- The cells of a closed table.
 use Rattle.std.specs.Prelude.{◌≡◌, ℕ, ◌+◌, ◌*◌, ◌<◌, true}
-use Rattle.body_terms.specs.Word.{value_of}
-use Rattle.table_words.specs.Places.{slot_count}
-use Rattle.table_words.specs.declared.spot.Spot.TheVariants.{Cell}
-use Rattle.structure_laws.specs.Meaning.{Meaning}
-use Rattle.version_words.specs.TableState.{WordsState, word_of}
+use Rattle.machine_states.specs.runner_steps.specs.body_terms.specs.Word.{value_of}
+use Rattle.machine_states.specs.runner_steps.specs.table_words.specs.Places.{slot_count}
+use Rattle.machine_states.specs.runner_steps.specs.table_words.specs.declared.spot.Spot.TheVariants.{Cell}
+use Rattle.machine_states.specs.structure_laws.specs.Meaning.{Meaning}
+use Rattle.settled_tables.specs.closed_words.specs.version_words.specs.TableState.{WordsState, word_of}
 
 module _ {T : Type 0} (m : Meaning) (words : WordsState T) where
   -- how many there are

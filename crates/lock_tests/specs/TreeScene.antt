@@ -1,7 +1,7 @@
 -- A tree with one worker and these requests.
 use Rattle.std.specs.Prelude.{◌≡◌, ℕ, List}
-use Rattle.map_history.specs.declared.op.Request.{Request}
-use Rattle.version_words.specs.TableState.{TableState}
+use Rattle.machine_states.specs.runner_steps.specs.map_history.specs.declared.op.Request.{Request}
+use Rattle.settled_tables.specs.closed_words.specs.version_words.specs.TableState.{TableState}
 use Rattle.leaf_tree.specs.declared.tree.LeafTree.{LeafTree}
 
 pub record IsScene (nodes : ℕ) (requests : List Request) (t : TableState LeafTree) : Type 0 where

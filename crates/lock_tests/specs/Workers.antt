@@ -1,17 +1,17 @@
 -- Workers on their way to a section and through it.
 use Rattle.std.specs.Prelude.{◌≡◌, ℕ, ◌-◌, [], true, false, None}
-use Rattle.body_terms.specs.Word.{value_of, is_free}
-use Rattle.body_terms.specs.declared.thunk.Thunk.{Thunk}
-use Rattle.structure_laws.specs.Meaning.{Meaning}
-use Rattle.epoch_core.specs.declared.stage.Stage.TheVariants as stages
-use Rattle.runner_parts.specs.Tests.{has, has_pair}
-use Rattle.version_words.specs.RunnerState.{RunnerState}
-use Rattle.version_words.specs.Stages.{IsAt}
-use Rattle.attempts.specs.epoch_slots.specs.Collects.{IsTidy}
-use Rattle.attempts.specs.try_lock.specs.Reached.{IsReached, MayRunSection}
-use Rattle.attempts.specs.try_lock.specs.declared.section.Section.{Section}
+use Rattle.machine_states.specs.runner_steps.specs.body_terms.specs.Word.{value_of, is_free}
+use Rattle.machine_states.specs.runner_steps.specs.body_terms.specs.declared.thunk.Thunk.{Thunk}
+use Rattle.machine_states.specs.structure_laws.specs.Meaning.{Meaning}
+use Rattle.machine_states.specs.epoch_core.specs.declared.stage.Stage.TheVariants as stages
+use Rattle.machine_states.specs.runner_steps.specs.runner_parts.specs.Tests.{has, has_pair}
+use Rattle.settled_tables.specs.closed_words.specs.version_words.specs.RunnerState.{RunnerState}
+use Rattle.settled_tables.specs.closed_words.specs.version_words.specs.Stages.{IsAt}
+use Rattle.hash_table.specs.try_lock.specs.epoch_slots.specs.Collects.{IsTidy}
+use Rattle.hash_table.specs.try_lock.specs.Reached.{IsReached, MayRunSection}
+use Rattle.hash_table.specs.try_lock.specs.declared.section.Section.{Section}
 -- two node slots and one descriptor are free; no slot is in the runner's hand
-pub use Rattle.attempts.specs.Course.{HasReserve, IsEmptyHanded}
+pub use Rattle.lock_attempts.specs.attempts.specs.Course.{HasReserve, IsEmptyHanded}
 
 module _ {T : Type 0} where
   -- the worker with this number has done nothing yet

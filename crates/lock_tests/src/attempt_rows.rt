@@ -1,20 +1,20 @@
 //! Tests.
 ghost use Rattle.std.specs.Prelude.{◌≡◌};
-ghost use Rattle.version_words.specs.TableState.{IsOf};
+ghost use Rattle.settled_tables.specs.closed_words.specs.version_words.specs.TableState.{IsOf};
 ghost use Rattle.lock_tests.specs.AttemptScene.{IsScene, IsFresh, ServesThem};
 
 use crate::attempt_scene::{add_once, ask_twice, new_table, split, take_once};
-use attempts::Attempt;
-use body_terms::StepKind;
 use hash_table::HashTable;
 use hash_table::lock_walks::Planner;
+use hash_table::lock_walks::version_words::{FlockTable, Runner};
 use leaf_tree::LeafTree;
-use map_history::Reply;
-use runner_gate::{Free, Gates, HaltAt, Pause, Scripted, ScriptedGates};
+use lock_attempts::attempts::Attempt;
+use machine_states::runner_steps::body_terms::StepKind;
+use machine_states::runner_steps::map_history::Reply;
+use settled_tables::settling::runner_gate::{Free, Gates, HaltAt, Pause, Scripted, ScriptedGates};
 use std::alloc::{AllocError, Global};
 use std::thread;
 use std::thread::Threads;
-use version_words::{FlockTable, Runner};
 
 /// Gates of a script in which the first worker waits inside its section, behind its publication, until the second one
 /// has published its own; and the second one, as it enters, until the first one has published.

@@ -1,18 +1,18 @@
 //! Two workers, and their requests.
 ghost use Rattle.std.specs.Prelude.{◌≡◌, ◌+◌, ◌<◌, IfOk};
-ghost use Rattle.map_history.specs.declared.op.Op.TheVariants.{Get, Ins, Del};
-ghost use Rattle.version_words.specs.TableState.{IsOf};
-ghost use Rattle.version_words.specs.Stages.{IsKeeper};
+ghost use Rattle.machine_states.specs.runner_steps.specs.map_history.specs.declared.op.Op.TheVariants.{Get, Ins, Del};
+ghost use Rattle.settled_tables.specs.closed_words.specs.version_words.specs.TableState.{IsOf};
+ghost use Rattle.settled_tables.specs.closed_words.specs.version_words.specs.Stages.{IsKeeper};
 ghost use Rattle.lock_tests.specs.AttemptScene.{IsScene, IsFresh, ServesThem};
 
-use attempts::{Attempt, attempt};
-use body_terms::Steps;
 use hash_table::lock_walks::Planner;
-use map_history::{Op, Request};
-use runner_gate::{Free, Gate};
+use hash_table::lock_walks::version_words::{FlockTable, Runner};
+use lock_attempts::attempts::{Attempt, attempt};
+use machine_states::runner_steps::body_terms::Steps;
+use machine_states::runner_steps::map_history::{Op, Request};
+use machine_states::runner_steps::table_words::Layout;
+use settled_tables::settling::runner_gate::{Free, Gate};
 use std::alloc::{AllocError, Global};
-use table_words::Layout;
-use version_words::{FlockTable, Runner};
 
 /// The first worker's first request: it adds a pair.
 pub fn added() -> Request

@@ -1,22 +1,22 @@
 //! Workers that move money between accounts.
 ghost use Rattle.std.specs.Prelude.{◌≡◌, ◌≢◌, ◌*◌, ◌<◌, ◌≤◌, IfOk, All, sum, vec_len};
-ghost use Rattle.account_laws.specs.Accounts.{accounts_of};
-ghost use Rattle.version_words.specs.TableState.{IsOf};
+ghost use Rattle.accounts.specs.account_laws.specs.Accounts.{accounts_of};
+ghost use Rattle.settled_tables.specs.closed_words.specs.version_words.specs.TableState.{IsOf};
 ghost use Rattle.settled_tables.specs.Keeper.{IsIdleKeeper};
 ghost use Rattle.settled_tables.specs.Seats.{AreNewWorkers, CameBack, AllCameBack};
 ghost use Rattle.lock_tests.specs.Bank.{IsBank, MayMove};
 
 use accounts::{Accounts, Transfer, balances};
-use body_terms::Steps;
+use hash_table::lock_walks::version_words::{FlockTable, Runner};
 use lock_attempts::{make_tickets, spend_ticket, tickets_of};
-use map_history::Op;
-use runner_gate::{Free, Gate, HaltAt};
+use machine_states::runner_steps::body_terms::Steps;
+use machine_states::runner_steps::map_history::Op;
+use machine_states::runner_steps::table_words::Layout;
+use settled_tables::settling::runner_gate::{Free, Gate, HaltAt};
 use settled_tables::{close_table, open_table};
 use std::alloc::{AllocError, Global};
 use std::thread;
 use std::thread::Threads;
-use table_words::Layout;
-use version_words::{FlockTable, Runner};
 
 /// So many accounts, each with 100 at first, for so many workers with so many tickets each.
 pub fn open_bank(

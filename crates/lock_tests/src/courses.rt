@@ -1,10 +1,10 @@
 //! A worker's requests from plan to answer.
 ghost use Rattle.std.specs.Prelude.{◌≡◌, ◌+◌, ◌<◌, length, true, All, Some, IfOk, IfSome, slice_get};
-ghost use Rattle.map_history.specs.declared.op.Request.{Request};
-ghost use Rattle.runner_parts.specs.Tests.{is_answered};
-ghost use Rattle.version_words.specs.TableState.{IsOf};
-ghost use Rattle.attempts.specs.epoch_slots.specs.Collects.{IsTidy};
-ghost use Rattle.attempts.specs.try_lock.specs.declared.section.Section.{Section};
+ghost use Rattle.machine_states.specs.runner_steps.specs.map_history.specs.declared.op.Request.{Request};
+ghost use Rattle.machine_states.specs.runner_steps.specs.runner_parts.specs.Tests.{is_answered};
+ghost use Rattle.settled_tables.specs.closed_words.specs.version_words.specs.TableState.{IsOf};
+ghost use Rattle.hash_table.specs.try_lock.specs.epoch_slots.specs.Collects.{IsTidy};
+ghost use Rattle.hash_table.specs.try_lock.specs.declared.section.Section.{Section};
 ghost use Rattle.lock_tests.specs.Workers.{MayRun, MayRunFor};
 ghost use Rattle.lock_tests.specs.Asked.{KnowsOthers, IsDue, HasServed, IsOnlyWorker};
 ghost use Rattle.lock_tests.specs.declared.turns.Offer.TheVariants.{Published};
@@ -12,17 +12,17 @@ ghost use Rattle.lock_tests.specs.declared.courses.Served.TheVariants as served;
 ghost use Rattle.lock_tests.specs.declared.courses.Course.{Course as Came};
 
 use crate::turns::{Offer, Turn, run_own};
-use attempts::epoch_slots::{Short, collect, enter};
-use attempts::lock_walks::Planner;
-use attempts::reserve_slots;
-use attempts::section_runs::RunEnd;
-use attempts::try_lock::{Planned, publish};
-use body_terms::Steps;
-use map_history::Request;
-use runner_gate::Free;
+use hash_table::lock_walks::Planner;
+use hash_table::lock_walks::epoch_slots::{Short, collect, enter};
+use hash_table::lock_walks::section_runs::RunEnd;
+use hash_table::lock_walks::try_lock::{Planned, publish};
+use hash_table::lock_walks::version_words::{FlockTable, Runner};
+use lock_attempts::attempts::reserve_slots;
+use machine_states::runner_steps::body_terms::Steps;
+use machine_states::runner_steps::map_history::Request;
+use machine_states::structure_laws::Structure;
+use settled_tables::settling::runner_gate::Free;
 use std::alloc::{AllocError, Global};
-use structure_laws::Structure;
-use version_words::{FlockTable, Runner};
 
 /// What came of a request.
 #[derive(Drop)]

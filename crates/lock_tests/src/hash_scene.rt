@@ -1,12 +1,12 @@
 //! Two workers on a hash table of one bucket, from a plan to the contents.
 ghost use Rattle.std.specs.Prelude.{◌≡◌, ◌<◌, ◌≤◌, true, IfOk};
 ghost use Rattle.std.specs.FinMap.{entries};
-ghost use Rattle.map_history.specs.Keys.{key_of};
-ghost use Rattle.map_history.specs.Replay.{Pairs};
-ghost use Rattle.hash_table.specs.bucket_laws.specs.Buckets.{buckets_meaning};
-ghost use Rattle.hash_table.specs.bucket_laws.specs.Walk.{has_one_key};
-ghost use Rattle.version_words.specs.TableState.{IsOf};
-ghost use Rattle.version_words.specs.Stages.{IsKeeper, HasJoined};
+ghost use Rattle.machine_states.specs.runner_steps.specs.map_history.specs.Keys.{key_of};
+ghost use Rattle.machine_states.specs.runner_steps.specs.map_history.specs.Replay.{Pairs};
+ghost use Rattle.leaf_tree.specs.tree_laws.specs.bucket_laws.specs.Buckets.{buckets_meaning};
+ghost use Rattle.leaf_tree.specs.tree_laws.specs.bucket_laws.specs.Walk.{has_one_key};
+ghost use Rattle.settled_tables.specs.closed_words.specs.version_words.specs.TableState.{IsOf};
+ghost use Rattle.settled_tables.specs.closed_words.specs.version_words.specs.Stages.{IsKeeper, HasJoined};
 ghost use Rattle.hash_table.specs.try_lock.specs.declared.section.Section.{Section};
 ghost use Rattle.hash_table.specs.try_lock.specs.Contents.{StandFor};
 ghost use Rattle.lock_tests.specs.Workers.{IsReady, MayRun};
@@ -16,10 +16,10 @@ ghost use Rattle.lock_tests.specs.HashScene.{IsScene, asked};
 use crate::turns::Offer;
 use crate::{closing, courses};
 use hash_table::HashTable;
-use map_history::{Op, Request};
+use hash_table::lock_walks::version_words::{FlockTable, Runner, Words};
+use machine_states::runner_steps::map_history::{Op, Request};
+use machine_states::runner_steps::table_words::Layout;
 use std::alloc::{AllocError, Global};
-use table_words::Layout;
-use version_words::{FlockTable, Runner, Words};
 
 /// The request of the worker with this number, where these are the operations of both.
 fn request_of(number: u32, ops: (Op, Op)) -> Request

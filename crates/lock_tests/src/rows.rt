@@ -1,26 +1,26 @@
 //! Tests.
 ghost use Rattle.std.specs.Prelude.{◌≡◌, IfOk};
-ghost use Rattle.body_terms.specs.Trail.{Agreed};
-ghost use Rattle.body_terms.specs.declared.outcome.Outcome.{Outcome};
-ghost use Rattle.attempts.specs.section_runs.specs.declared.runs.RunEnd.TheVariants.{Done};
-ghost use Rattle.attempts.specs.epoch_slots.specs.Collects.{IsTidy};
-ghost use Rattle.version_words.specs.TableState.{IsOf};
-ghost use Rattle.version_words.specs.Stages.{IsKeeper, HasJoined};
+ghost use Rattle.machine_states.specs.runner_steps.specs.body_terms.specs.Trail.{Agreed};
+ghost use Rattle.machine_states.specs.runner_steps.specs.body_terms.specs.declared.outcome.Outcome.{Outcome};
+ghost use Rattle.hash_table.specs.try_lock.specs.section_runs.specs.declared.runs.RunEnd.TheVariants.{Done};
+ghost use Rattle.hash_table.specs.try_lock.specs.epoch_slots.specs.Collects.{IsTidy};
+ghost use Rattle.settled_tables.specs.closed_words.specs.version_words.specs.TableState.{IsOf};
+ghost use Rattle.settled_tables.specs.closed_words.specs.version_words.specs.Stages.{IsKeeper, HasJoined};
 ghost use Rattle.lock_tests.specs.Scenes.{two_requests};
 
 use crate::scenes::{new_table, offer, visit};
 use crate::scripts::scripted;
 use crate::turns::{Offer, Turn, help_held, read_lock, run_own, side_by_side};
 use crate::workers::{crew, gather};
-use attempts::epoch_slots::{Kind, Short, collect, enter, exit, reserve};
-use attempts::section_runs::RunEnd;
-use attempts::try_lock::Section;
-use body_terms::{Outcome, Refused, StepKind, Word};
+use hash_table::lock_walks::epoch_slots::{Kind, Short, collect, enter, exit, reserve};
+use hash_table::lock_walks::section_runs::RunEnd;
+use hash_table::lock_walks::try_lock::Section;
+use hash_table::lock_walks::version_words::{FlockTable, Runner, Words};
 use interleave_core::Tray;
-use runner_gate::{Free, Gate, HaltAt};
+use machine_states::runner_steps::body_terms::{Outcome, Refused, StepKind, Word};
+use settled_tables::settling::runner_gate::{Free, Gate, HaltAt};
 use std::alloc::{AllocError, Global};
 use std::thread::Threads;
-use version_words::{FlockTable, Runner, Words};
 
 /// The first word of a cell: value 0, version 1.
 const FIRST: u64 = 4294967296;

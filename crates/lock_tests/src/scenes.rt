@@ -1,23 +1,23 @@
 //! Two workers on a table of the test structure, and their offers.
 ghost use Rattle.std.specs.Prelude.{◌≡◌, ◌<◌, IfOk};
-ghost use Rattle.structure_laws.specs.Tray.{tray};
-ghost use Rattle.attempts.specs.epoch_slots.specs.Collects.{IsTidy};
-ghost use Rattle.version_words.specs.TableState.{IsOf};
-ghost use Rattle.version_words.specs.Stages.{IsKeeper, HasJoined};
+ghost use Rattle.machine_states.specs.structure_laws.specs.Tray.{tray};
+ghost use Rattle.hash_table.specs.try_lock.specs.epoch_slots.specs.Collects.{IsTidy};
+ghost use Rattle.settled_tables.specs.closed_words.specs.version_words.specs.TableState.{IsOf};
+ghost use Rattle.settled_tables.specs.closed_words.specs.version_words.specs.Stages.{IsKeeper, HasJoined};
 ghost use Rattle.lock_tests.specs.Scenes.{IsScene};
 ghost use Rattle.lock_tests.specs.Workers.{HasRead, MayRun};
 ghost use Rattle.lock_tests.specs.declared.turns.Offer.TheVariants.{Published};
-ghost use Rattle.attempts.specs.try_lock.specs.declared.section.Section.{Section};
+ghost use Rattle.hash_table.specs.try_lock.specs.declared.section.Section.{Section};
 
 use crate::turns::Offer;
-use attempts::epoch_slots::{enter, exit};
-use attempts::try_lock::publish;
-use body_terms::{Thunk, Word};
+use hash_table::lock_walks::epoch_slots::{enter, exit};
+use hash_table::lock_walks::try_lock::publish;
+use hash_table::lock_walks::version_words::{FlockTable, Runner};
 use interleave_core::Tray;
-use map_history::{Op, Request};
+use machine_states::runner_steps::body_terms::{Thunk, Word};
+use machine_states::runner_steps::map_history::{Op, Request};
+use machine_states::runner_steps::table_words::Layout;
 use std::alloc::{AllocError, Global};
-use table_words::Layout;
-use version_words::{FlockTable, Runner};
 
 /// A table with two node slots and one descriptor for each of two workers, and one request for each.
 pub fn new_table(

@@ -1,7 +1,7 @@
 //! Scripts for two workers.
 
-use body_terms::StepKind;
-use runner_gate::{Gates, Pause, Scripted, ScriptedGates};
+use machine_states::runner_steps::body_terms::StepKind;
+use settled_tables::settling::runner_gate::{Gates, Pause, Scripted, ScriptedGates};
 use std::alloc::{AllocError, Global};
 
 /// The gates of both workers, which follow this script: each line has who waits at which ask, and for whose ask.

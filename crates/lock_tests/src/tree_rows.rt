@@ -2,9 +2,9 @@
 
 use crate::courses::{Course, Served};
 use crate::tree_scene::{Row, serve_trace};
-use body_terms::{Outcome, Word};
-use leaf_tree::epoch_slots::{Kind, Short};
-use map_history::Op;
+use hash_table::lock_walks::epoch_slots::{Kind, Short};
+use machine_states::runner_steps::body_terms::{Outcome, Word};
+use machine_states::runner_steps::map_history::Op;
 use std::alloc::AllocError;
 
 /// The reply words of an added pair, of a key that was there, of a pair that was taken out, and of an absent key.

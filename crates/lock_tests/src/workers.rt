@@ -1,14 +1,14 @@
 //! A table's keeper and its two workers, before and after their work.
 ghost use Rattle.std.specs.Prelude.{◌≡◌, ◌+◌, ◌<◌, IfOk};
-ghost use Rattle.attempts.specs.epoch_slots.specs.Collects.{IsTidy};
-ghost use Rattle.version_words.specs.TableState.{IsOf};
-ghost use Rattle.version_words.specs.Stages.{IsKeeper, HasJoined};
+ghost use Rattle.hash_table.specs.try_lock.specs.epoch_slots.specs.Collects.{IsTidy};
+ghost use Rattle.settled_tables.specs.closed_words.specs.version_words.specs.TableState.{IsOf};
+ghost use Rattle.settled_tables.specs.closed_words.specs.version_words.specs.Stages.{IsKeeper, HasJoined};
 ghost use Rattle.lock_tests.specs.Workers.{IsNewWorker, IsReady, HasReserve};
 
-use attempts::reserve_slots;
+use hash_table::lock_walks::version_words::{FlockTable, Runner, Words};
+use lock_attempts::attempts::reserve_slots;
+use machine_states::structure_laws::Structure;
 use std::alloc::{AllocError, Global};
-use structure_laws::Structure;
-use version_words::{FlockTable, Runner, Words};
 
 /// The worker, where two node slots and one descriptor are free.
 fn with_reserve<S: Structure>(worker: Runner<S>) -> Result<Runner<S>, AllocError>

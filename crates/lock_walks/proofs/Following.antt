@@ -1,6 +1,6 @@
 -- A walk in readings that were made already, reading by reading.
 use Rattle.std.proofs.Common.{◌≡◌, ℕ, suc, ◌==◌, [], ◌∷◌, Bool, true, cond, refl, sym, ap, ◌∙◌, arith, Option, Some, None}
-use Rattle.structure_laws.specs.Scene.{Readings}
+use Rattle.machine_states.specs.structure_laws.specs.Scene.{Readings}
 use Rattle.lock_walks.specs.Way.{Way, fed_all, IsLedBy}
 use Rattle.lock_walks.specs.Followed.{is_next, followed}
 

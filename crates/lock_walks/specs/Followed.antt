@@ -1,7 +1,7 @@
 -- A walk in readings that were made already.
 use Rattle.std.specs.Prelude.{ℕ, [], ◌∷◌, ◌==◌, Bool, cond, Option, Some}
 use Rattle.std.specs.Option.{option_eq}
-use Rattle.structure_laws.specs.Scene.{Readings}
+use Rattle.machine_states.specs.structure_laws.specs.Scene.{Readings}
 use Rattle.lock_walks.specs.Way.{Way}
 
 -- this is the place that is wanted, if one is

@@ -1,11 +1,11 @@
 -- How far a runner has come on a walk.
 use Rattle.std.specs.Prelude.{◌≡◌, ℕ, ◌+◌, ◌<◌, ◌≤◌, [], ◌∷◌, ◌++◌, Bool, true, false, length, Some, None}
-use Rattle.table_words.specs.declared.layout.Layout.{Layout}
-use Rattle.runner_gate.specs.Asks.{Asks}
-use Rattle.structure_laws.specs.Scene.{Readings}
-use Rattle.structure_laws.specs.Meaning.{Meaning}
-use Rattle.structure_laws.specs.Sections.{IsAllowed}
-use Rattle.version_words.specs.RunnerState.{RunnerState}
+use Rattle.machine_states.specs.runner_steps.specs.table_words.specs.declared.layout.Layout.{Layout}
+use Rattle.try_lock.specs.section_runs.specs.runner_gate.specs.Asks.{Asks}
+use Rattle.machine_states.specs.structure_laws.specs.Scene.{Readings}
+use Rattle.machine_states.specs.structure_laws.specs.Meaning.{Meaning}
+use Rattle.machine_states.specs.structure_laws.specs.Sections.{IsAllowed}
+use Rattle.try_lock.specs.commit_log.specs.version_words.specs.RunnerState.{RunnerState}
 use Rattle.try_lock.specs.commit_log.specs.Asked.{IsAsked}
 use Rattle.try_lock.specs.Reached.{IsReached}
 use Rattle.try_lock.specs.Plans.{MayPlan, IsWalk, NoneRefuses, HasWalked}

@@ -7,7 +7,6 @@ pub mod Retires
 pub mod Gets
 pub mod Wants
 -- Passed on to the layers above, so that they needn't name these libraries themselves.
-pub use Rattle.try_lock.specs.epoch_slots
-pub use Rattle.try_lock.specs.commit_log
-pub use Rattle.try_lock.specs.section_runs
+pub use Rattle.runner_facts
 pub use Rattle.try_lock
+pub use Rattle.try_lock.specs.commit_log.specs.version_words

@@ -1,8 +1,8 @@
 -- How many slots a section retires at most.
 use Rattle.std.specs.Prelude.{◌≤◌, count_by}
-use Rattle.body_terms.specs.Shape.{is_retire}
-use Rattle.body_terms.specs.declared.thunk.Thunk.{Thunk}
-use Rattle.structure_laws.specs.Meaning.{Meaning}
+use Rattle.machine_states.specs.runner_steps.specs.body_terms.specs.Shape.{is_retire}
+use Rattle.machine_states.specs.runner_steps.specs.body_terms.specs.declared.thunk.Thunk.{Thunk}
+use Rattle.machine_states.specs.structure_laws.specs.Meaning.{Meaning}
 
 -- no body has more than two Retires
 abbrev pub RetiresFew : Meaning → Type 0

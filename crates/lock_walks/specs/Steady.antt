@@ -1,16 +1,16 @@
 -- Walks of what stands in a memory where no section is open.
 use Rattle.std.specs.Prelude.{◌≡◌, ◌≢◌, ℕ, true, false, slice_get, Some}
-use Rattle.map_history.specs.declared.op.Op.{Op}
-use Rattle.map_history.specs.Replay.{Pairs}
-use Rattle.body_terms.specs.Word.{value_of}
-use Rattle.table_words.specs.declared.layout.Layout.{Layout}
-use Rattle.table_words.specs.Limits.{IsWithinLimits}
-use Rattle.structure_laws.specs.Scene.{Readings, Scene}
-use Rattle.structure_laws.specs.Meaning.{Meaning}
-use Rattle.structure_laws.specs.Sections.{IsAllowed}
-use Rattle.structure_laws.specs.InTurn.{StandsFor}
-use Rattle.structure_laws.specs.Planner.{IsQuiet}
-use Rattle.structure_laws.specs.Stand.{StandIn}
+use Rattle.machine_states.specs.runner_steps.specs.map_history.specs.declared.op.Op.{Op}
+use Rattle.machine_states.specs.runner_steps.specs.map_history.specs.Replay.{Pairs}
+use Rattle.machine_states.specs.runner_steps.specs.body_terms.specs.Word.{value_of}
+use Rattle.machine_states.specs.runner_steps.specs.table_words.specs.declared.layout.Layout.{Layout}
+use Rattle.machine_states.specs.runner_steps.specs.table_words.specs.Limits.{IsWithinLimits}
+use Rattle.machine_states.specs.structure_laws.specs.Scene.{Readings, Scene}
+use Rattle.machine_states.specs.structure_laws.specs.Meaning.{Meaning}
+use Rattle.machine_states.specs.structure_laws.specs.Sections.{IsAllowed}
+use Rattle.machine_states.specs.structure_laws.specs.InTurn.{StandsFor}
+use Rattle.machine_states.specs.structure_laws.specs.Planner.{IsQuiet}
+use Rattle.machine_states.specs.structure_laws.specs.Stand.{StandIn}
 use Rattle.try_lock.specs.Planning.{Planning}
 use Rattle.try_lock.specs.Plans.{IsWalk}
 

@@ -16,4 +16,5 @@ pub use walker::{Walker, follow};
 
 // Passed on to the layers above, so that they needn't name these libraries themselves.
 pub use try_lock;
+pub use try_lock::commit_log::version_words;
 pub use try_lock::{epoch_slots, section_runs};

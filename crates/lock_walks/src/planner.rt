@@ -1,11 +1,11 @@
 //! What a structure offers to those who plan requests on it.
 ghost use Rattle.std.specs.Prelude.{◌≡◌, true, Some, IfOk, slice_get};
 ghost use Rattle.std.specs.FinMap.{entries};
-ghost use Rattle.map_history.specs.Replay.{Pairs};
-ghost use Rattle.table_words.specs.Limits.{IsWithinLimits};
-ghost use Rattle.structure_laws.specs.Planner.{PlannerLaws};
-ghost use Rattle.structure_laws.specs.Sections.{IsAllowed};
-ghost use Rattle.version_words.specs.TableState.{IsOf};
+ghost use Rattle.machine_states.specs.runner_steps.specs.map_history.specs.Replay.{Pairs};
+ghost use Rattle.machine_states.specs.runner_steps.specs.table_words.specs.Limits.{IsWithinLimits};
+ghost use Rattle.machine_states.specs.structure_laws.specs.Planner.{PlannerLaws};
+ghost use Rattle.machine_states.specs.structure_laws.specs.Sections.{IsAllowed};
+ghost use Rattle.try_lock.specs.commit_log.specs.version_words.specs.TableState.{IsOf};
 ghost use Rattle.try_lock.specs.Planning.{Planning};
 ghost use Rattle.try_lock.specs.Plans.{MayPlan, HasPlanned};
 ghost use Rattle.try_lock.specs.Contents.{StandFor, NamesNone};
@@ -16,14 +16,14 @@ ghost use Rattle.lock_walks.specs.Gets.{GetsAreLight};
 
 use crate::plans::plan_by;
 use crate::walker::Walker;
-use body_terms::Steps;
-use map_history::{Op, Request};
-use runner_gate::Gate;
+use machine_states::runner_steps::body_terms::Steps;
+use machine_states::runner_steps::map_history::{Op, Request};
+use machine_states::runner_steps::table_words::Layout;
+use machine_states::structure_laws::Structure;
 use std::alloc::{AllocError, Global};
-use structure_laws::Structure;
-use table_words::Layout;
 use try_lock::Planned;
-use version_words::{FlockTable, Runner, Words};
+use try_lock::commit_log::version_words::{FlockTable, Runner, Words};
+use try_lock::section_runs::runner_gate::Gate;
 
 /// A map over cells and node slots, on which requests are planned.
 ///

@@ -1,26 +1,26 @@
 //! The loads of a plan, and its answer.
 ghost use Rattle.std.specs.Prelude.{◌≡◌, ◌+◌, ◌<◌, ℕ, true, is_some, Some};
-ghost use Rattle.map_history.specs.declared.op.Op.{Op};
-ghost use Rattle.table_words.specs.Limits.{IsWithinLimits};
-ghost use Rattle.structure_laws.specs.Scene.{Readings};
-ghost use Rattle.structure_laws.specs.Cells.{slots};
-ghost use Rattle.structure_laws.specs.Sections.{IsAllowed};
-ghost use Rattle.version_words.specs.TableState.{IsOf};
+ghost use Rattle.machine_states.specs.runner_steps.specs.map_history.specs.declared.op.Op.{Op};
+ghost use Rattle.machine_states.specs.runner_steps.specs.table_words.specs.Limits.{IsWithinLimits};
+ghost use Rattle.machine_states.specs.structure_laws.specs.Scene.{Readings};
+ghost use Rattle.machine_states.specs.structure_laws.specs.Cells.{slots};
+ghost use Rattle.machine_states.specs.structure_laws.specs.Sections.{IsAllowed};
+ghost use Rattle.try_lock.specs.commit_log.specs.version_words.specs.TableState.{IsOf};
 ghost use Rattle.try_lock.specs.Plans.{MayPlan, HasPlanned, refused_at};
 ghost use Rattle.lock_walks.specs.Way.{Leads};
 ghost use Rattle.lock_walks.specs.Own.{IsOwn};
 ghost use Rattle.lock_walks.specs.Led.{HasLed, Start, IsOnWay, GoesOn, GoesThrough};
 
 use crate::walker::Walker;
-use body_terms::{Place, StepKind, Steps, Word};
-use map_history::Request;
+use machine_states::runner_steps::body_terms::{Place, StepKind, Steps, Word};
+use machine_states::runner_steps::map_history::Request;
+use machine_states::runner_steps::table_words::Layout;
+use machine_states::structure_laws::Structure;
 use runner_facts::walks_stand;
-use runner_gate::Gate;
-use structure_laws::Structure;
-use table_words::Layout;
 use try_lock::Planned;
+use try_lock::commit_log::version_words::{FlockTable, Runner};
 use try_lock::commit_log::{Unasked, passes, tell};
-use version_words::{FlockTable, Runner};
+use try_lock::section_runs::runner_gate::Gate;
 
 /// Makes the load that the walker wants, if it wants one, and goes on by the word; the gate is asked behind it. Gives
 /// the last place with its word, and whether the gate let the runner go on.

@@ -1,22 +1,22 @@
 -- The word by which a run leaves was read at its place.
 use Rattle.std.specs.Prelude.{slice_index, false, true}
 use Rattle.std.proofs.Common.{◌≡◌, ℕ, suc, ◌<◌, length, sym, ap, ◌∙◌, subst, ⊎_elim, inl, inr, arith, Some}
-use Rattle.body_terms.specs.Word.{version_of}
-use Rattle.body_terms.specs.Line.{micro_at, is_commit}
-use Rattle.body_terms.specs.declared.micro.Micro.TheVariants.{CheckFresh, Commit, NestedCommit, OutcomeCommit}
-use Rattle.table_words.specs.declared.layout.Layout.{Layout}
-use Rattle.structure_laws.specs.Meaning.{Meaning}
-use Rattle.runner_parts.specs.State.{RunState}
-use Rattle.runner_steps.specs.Sections.{line_of}
-use Rattle.section_lines.specs.Line.{IsLine}
+use Rattle.agreement_core.specs.body_terms.specs.Word.{version_of}
+use Rattle.agreement_core.specs.body_terms.specs.Line.{micro_at, is_commit}
+use Rattle.agreement_core.specs.body_terms.specs.declared.micro.Micro.TheVariants.{CheckFresh, Commit, NestedCommit, OutcomeCommit}
+use Rattle.agreement_core.specs.table_words.specs.declared.layout.Layout.{Layout}
+use Rattle.machine_states.specs.structure_laws.specs.Meaning.{Meaning}
+use Rattle.machine_states.specs.runner_steps.specs.runner_parts.specs.State.{RunState}
+use Rattle.machine_states.specs.runner_steps.specs.Sections.{line_of}
+use Rattle.agreement_core.specs.section_lines.specs.Line.{IsLine}
 use Rattle.agreement_core.specs.State.{AgreementState, Section}
 use Rattle.agreement_core.specs.Sound.{UsedIsSound}
 use Rattle.agreement_core.specs.Runs.{TrailIsSound}
 use Rattle.agreement_core.proofs.Lines.{outcome_lock}
 use Rattle.machine_states.specs.Sight.{Sight}
 use Rattle.machine_scenes.specs.Shown.{rules_of}
-use Rattle.runner_facts.specs.machine_agreement.specs.Joined.{IsRunOf, IsJoinedToAgreement}
-use Rattle.runner_facts.specs.machine_agreement.proofs.RunPlaces.{run_here, used_here, code_here}
+use Rattle.runner_facts.specs.machine_facts.specs.machine_agreement.specs.Joined.{IsRunOf, IsJoinedToAgreement}
+use Rattle.runner_facts.specs.machine_facts.specs.machine_agreement.proofs.RunPlaces.{run_here, used_here, code_here}
 use Rattle.lock_words.specs.Spent.{IsPast, IsSpentAt}
 use Rattle.lock_words.proofs.Leaving.{IsTakeCheck, IsCheckOf, LeavesAt}
 

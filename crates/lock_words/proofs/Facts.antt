@@ -3,30 +3,30 @@ use Rattle.std.specs.Prelude.{◌==◌, ◌||◌, cond, Bool, true, false, slice
 use Rattle.std.proofs.Common.{◌≡◌, ℕ, ◌+◌, ◌<◌, List, [], ◌∷◌, refl, sym, ap, ◌∙◌, subst, ⊎_elim, arith, Some}
 use Rattle.std.proofs.lemmas.Bool.Decides.{nat_tests}
 use Rattle.std.proofs.lemmas.Option.{slice_get_within}
-use Rattle.body_terms.specs.Line.{line, micro_at}
-use Rattle.body_terms.specs.Word.{version_of}
-use Rattle.section_lines.specs.Line.{IsLine}
-use Rattle.table_words.specs.declared.layout.Layout.{Layout}
-use Rattle.table_words.specs.declared.spot.Spot.TheVariants.{Cell}
-use Rattle.table_words.specs.Places.{descriptor_count}
-use Rattle.structure_laws.specs.Meaning.{Meaning}
-use Rattle.runner_parts.specs.State.{FinishedState}
-use Rattle.runner_parts.specs.Tests.{has}
+use Rattle.agreement_core.specs.body_terms.specs.Line.{line, micro_at}
+use Rattle.agreement_core.specs.body_terms.specs.Word.{version_of}
+use Rattle.agreement_core.specs.section_lines.specs.Line.{IsLine}
+use Rattle.agreement_core.specs.table_words.specs.declared.layout.Layout.{Layout}
+use Rattle.agreement_core.specs.table_words.specs.declared.spot.Spot.TheVariants.{Cell}
+use Rattle.agreement_core.specs.table_words.specs.Places.{descriptor_count}
+use Rattle.machine_states.specs.structure_laws.specs.Meaning.{Meaning}
+use Rattle.machine_states.specs.runner_steps.specs.runner_parts.specs.State.{FinishedState}
+use Rattle.machine_states.specs.runner_steps.specs.runner_parts.specs.Tests.{has}
 use Rattle.agreement_core.specs.State.{AgreementState}
 use Rattle.agreement_core.proofs.Lines.{outcome_lock}
-use Rattle.epoch_core.specs.declared.location.Location.{Location}
-use Rattle.epoch_core.specs.declared.location.Location.TheVariants.{Fixed, Live, Hand, Free, Worn, Limbo}
-use Rattle.epoch_core.specs.Events.{slot_of}
-use Rattle.epoch_core.specs.History.{is_out}
-use Rattle.epoch_core.specs.Lists.{times, in_free}
-use Rattle.epoch_core.specs.Sound.{is_for_nodes}
+use Rattle.machine_states.specs.epoch_core.specs.declared.location.Location.{Location}
+use Rattle.machine_states.specs.epoch_core.specs.declared.location.Location.TheVariants.{Fixed, Live, Hand, Free, Worn, Limbo}
+use Rattle.machine_states.specs.epoch_core.specs.Events.{slot_of}
+use Rattle.machine_states.specs.epoch_core.specs.History.{is_out}
+use Rattle.machine_states.specs.epoch_core.specs.Lists.{times, in_free}
+use Rattle.machine_states.specs.epoch_core.specs.Sound.{is_for_nodes}
 use Rattle.machine_states.specs.Sight.{Sight}
 use Rattle.machine_epochs.specs.Entries.{counts_of}
 use Rattle.machine_epochs.specs.Slots.{thunk_in}
 use Rattle.machine_epochs.proofs.Places.{free_descriptor}
 use Rattle.machine_scenes.specs.Shown.{rules_of}
-use Rattle.runner_facts.specs.machine_invariant.specs.Whole.{Beside, IsWhole}
-use Rattle.runner_facts.specs.machine_invariant.proofs.Basics.{by_bool}
+use Rattle.runner_facts.specs.machine_facts.specs.machine_invariant.specs.Whole.{Beside, IsWhole}
+use Rattle.runner_facts.specs.machine_facts.specs.machine_invariant.proofs.Basics.{by_bool}
 use Rattle.lock_words.specs.Taken.{CommitsLock}
 
 -- a number that a list hasn't

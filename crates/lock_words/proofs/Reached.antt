@@ -1,13 +1,13 @@
 -- What stands of spent words in every reached state.
 use Rattle.std.specs.Prelude.{slice_get}
 use Rattle.std.proofs.Common.{◌≡◌, ℕ, List, sym, le_of_eq, subst, Some}
-use Rattle.map_history.specs.declared.op.Request.{Request}
-use Rattle.table_words.specs.declared.layout.Layout.{Layout}
-use Rattle.table_words.specs.Limits.{IsWithinLimits}
-use Rattle.structure_laws.specs.Meaning.{Meaning}
-use Rattle.structure_laws.specs.Laws.{Laws}
-use Rattle.runner_parts.specs.declared.event.Event.{Event}
-use Rattle.runner_parts.specs.State.{FinishedState, PartState}
+use Rattle.agreement_core.specs.map_history.specs.declared.op.Request.{Request}
+use Rattle.agreement_core.specs.table_words.specs.declared.layout.Layout.{Layout}
+use Rattle.agreement_core.specs.table_words.specs.Limits.{IsWithinLimits}
+use Rattle.machine_states.specs.structure_laws.specs.Meaning.{Meaning}
+use Rattle.machine_states.specs.structure_laws.specs.Laws.{Laws}
+use Rattle.machine_states.specs.runner_steps.specs.runner_parts.specs.declared.event.Event.{Event}
+use Rattle.machine_states.specs.runner_steps.specs.runner_parts.specs.State.{FinishedState, PartState}
 use Rattle.machine_states.specs.World.{World, happens}
 use Rattle.machine_states.specs.First.{IsFirst}
 use Rattle.machine_states.specs.Reached.{Reached}
@@ -17,9 +17,9 @@ use Rattle.machine_states.proofs.Reached.{first_reached, more_reached, reached_h
 use Rattle.machine_states.proofs.Sights.{happens_steps}
 use Rattle.machine_states.proofs.Steps.{none_some}
 use Rattle.machine_epochs.proofs.FirstJoin as FirstJoin
-use Rattle.runner_facts.specs.machine_invariant.specs.After.{AreAllowed}
-use Rattle.runner_facts.specs.machine_invariant.proofs.Rising.{rises_after}
-use Rattle.runner_facts.specs.machine_invariant.proofs.After.{reached_whole}
+use Rattle.runner_facts.specs.machine_facts.specs.machine_invariant.specs.After.{AreAllowed}
+use Rattle.runner_facts.specs.machine_facts.specs.machine_invariant.proofs.Rising.{rises_after}
+use Rattle.runner_facts.specs.machine_facts.specs.machine_invariant.proofs.After.{reached_whole}
 use Rattle.lock_words.specs.Spent.{SpentStand}
 use Rattle.lock_words.proofs.Agreed.{seen_past}
 use Rattle.lock_words.proofs.Kept.{FinishedStand, finished_kept}

@@ -2,14 +2,14 @@
 use Rattle.std.specs.Prelude.{◌==◌, ◌&&◌, ◌⊎◌, cond, not, Bool, true, false, slice_index}
 use Rattle.std.proofs.Common.{◌≡◌, ◌≢◌, ℕ, List, refl, sym, ap, ◌∙◌, inl, inr, arith, Option, Some, None}
 use Rattle.std.proofs.lemmas.Bool.Decides.{nat_tests}
-use Rattle.body_terms.specs.Run.{leaves, refusal, is_takable}
-use Rattle.body_terms.specs.Word.{held_word, is_free, is_spent}
-use Rattle.body_terms.specs.declared.outcome.Outcome.{Outcome}
-use Rattle.body_terms.specs.declared.outcome.Outcome.TheVariants.{Busy, Stale, Spent}
-use Rattle.body_terms.specs.declared.micro.Micro.{Micro}
-use Rattle.body_terms.specs.declared.micro.Micro.TheVariants.{CheckWord, CheckFresh, CheckFree, CheckHeld}
-use Rattle.table_words.specs.declared.layout.Layout.{Layout}
-use Rattle.runner_steps.specs.Sections.{setting_of, outcome_or}
+use Rattle.agreement_core.specs.body_terms.specs.Run.{leaves, refusal, is_takable}
+use Rattle.agreement_core.specs.body_terms.specs.Word.{held_word, is_free, is_spent}
+use Rattle.agreement_core.specs.body_terms.specs.declared.outcome.Outcome.{Outcome}
+use Rattle.agreement_core.specs.body_terms.specs.declared.outcome.Outcome.TheVariants.{Busy, Stale, Spent}
+use Rattle.agreement_core.specs.body_terms.specs.declared.micro.Micro.{Micro}
+use Rattle.agreement_core.specs.body_terms.specs.declared.micro.Micro.TheVariants.{CheckWord, CheckFresh, CheckFree, CheckHeld}
+use Rattle.agreement_core.specs.table_words.specs.declared.layout.Layout.{Layout}
+use Rattle.machine_states.specs.runner_steps.specs.Sections.{setting_of, outcome_or}
 use Rattle.machine_states.proofs.Steps.{some_same, none_some}
 
 -- the check behind the outcome of a Take at which it leaves: its place in the log has the word

@@ -1,16 +1,16 @@
 -- So it is in every reached state.
 use Rattle.std.specs.Prelude.{cond, slice_get, slice_index, Bool, true, false}
 use Rattle.std.proofs.Common.{◌≡◌, ℕ, List, refl, sym, ap, ◌∙◌, subst, Some, None}
-use Rattle.map_history.specs.declared.op.Request.{Request}
-use Rattle.table_words.specs.declared.layout.Layout.{Layout}
-use Rattle.table_words.specs.declared.spot.Spot.TheVariants.{LogWord}
-use Rattle.table_words.specs.Limits.{IsWithinLimits}
-use Rattle.table_words.specs.Places.{address, fits}
-use Rattle.table_words.proofs.Seen as words
-use Rattle.structure_laws.specs.Meaning.{Meaning}
-use Rattle.structure_laws.specs.Laws.{Laws}
-use Rattle.runner_parts.specs.State.{PartState, RunState, FinishedState}
-use Rattle.runner_steps.specs.Asks.{sizes_for}
+use Rattle.agreement_core.specs.map_history.specs.declared.op.Request.{Request}
+use Rattle.agreement_core.specs.table_words.specs.declared.layout.Layout.{Layout}
+use Rattle.agreement_core.specs.table_words.specs.declared.spot.Spot.TheVariants.{LogWord}
+use Rattle.agreement_core.specs.table_words.specs.Limits.{IsWithinLimits}
+use Rattle.agreement_core.specs.table_words.specs.Places.{address, fits}
+use Rattle.agreement_core.specs.table_words.proofs.Seen as words
+use Rattle.machine_states.specs.structure_laws.specs.Meaning.{Meaning}
+use Rattle.machine_states.specs.structure_laws.specs.Laws.{Laws}
+use Rattle.machine_states.specs.runner_steps.specs.runner_parts.specs.State.{PartState, RunState, FinishedState}
+use Rattle.machine_states.specs.runner_steps.specs.Asks.{sizes_for}
 use Rattle.machine_states.specs.First.{IsFirst}
 use Rattle.machine_states.specs.World.{World}
 use Rattle.machine_states.specs.Reached.{Reached}
@@ -18,8 +18,8 @@ use Rattle.machine_states.specs.Sight.{sight}
 use Rattle.machine_states.proofs.FirstSights.{first_parts}
 use Rattle.machine_states.proofs.Steps.{none_some}
 use Rattle.machine_epochs.proofs.FirstJoin as FirstJoin
-use Rattle.runner_facts.specs.machine_invariant.specs.After.{AreAllowed}
-use Rattle.runner_facts.specs.machine_invariant.proofs.Keeping.{reached_keeps}
+use Rattle.runner_facts.specs.machine_facts.specs.machine_invariant.specs.After.{AreAllowed}
+use Rattle.runner_facts.specs.machine_facts.specs.machine_invariant.proofs.Keeping.{reached_keeps}
 use Rattle.lock_words.specs.Stale.{StaleStand}
 use Rattle.lock_words.proofs.StaleKept.{AllDiffer, all_differ}
 

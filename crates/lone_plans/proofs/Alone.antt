@@ -1,29 +1,29 @@
 -- What stands where the one worker is entered and has published nothing since.
 use Rattle.std.specs.Prelude.{cond, Bool, true, false, slice_get}
 use Rattle.std.proofs.Common.{◌≡◌, ◌⊎◌, ℕ, [], sym, ap, ◌∙◌, subst, inl, Some, None}
-use Rattle.map_history.specs.declared.op.Op.{Op}
-use Rattle.body_terms.specs.Word.{value_of}
-use Rattle.body_terms.specs.declared.thunk.Thunk.{Thunk}
-use Rattle.table_words.specs.declared.spot.Spot.TheVariants as spots
-use Rattle.structure_laws.specs.Meaning.{Meaning}
-use Rattle.structure_laws.specs.Laws.{Laws}
-use Rattle.structure_laws.specs.Cells.{IsKnown}
-use Rattle.structure_laws.specs.Sections.{IsAllowed}
-use Rattle.structure_laws.specs.Shape.{Shaped}
-use Rattle.epoch_core.specs.declared.stage.Stage.TheVariants as stages
-use Rattle.runner_parts.specs.State.{PartState}
+use Rattle.machine_states.specs.runner_steps.specs.map_history.specs.declared.op.Op.{Op}
+use Rattle.machine_states.specs.runner_steps.specs.body_terms.specs.Word.{value_of}
+use Rattle.machine_states.specs.runner_steps.specs.body_terms.specs.declared.thunk.Thunk.{Thunk}
+use Rattle.machine_states.specs.runner_steps.specs.table_words.specs.declared.spot.Spot.TheVariants as spots
+use Rattle.machine_states.specs.structure_laws.specs.Meaning.{Meaning}
+use Rattle.machine_states.specs.structure_laws.specs.Laws.{Laws}
+use Rattle.machine_states.specs.structure_laws.specs.Cells.{IsKnown}
+use Rattle.machine_states.specs.structure_laws.specs.Sections.{IsAllowed}
+use Rattle.machine_states.specs.structure_laws.specs.Shape.{Shaped}
+use Rattle.machine_states.specs.epoch_core.specs.declared.stage.Stage.TheVariants as stages
+use Rattle.machine_states.specs.runner_steps.specs.runner_parts.specs.State.{PartState}
 use Rattle.machine_states.specs.World.{World, seat_of}
 use Rattle.machine_states.specs.Reached.{Reached}
 use Rattle.machine_states.specs.Sight.{Sight, sight, part_or_first}
-use Rattle.one_worker.specs.machine_invariant.proofs.Asked.{entered_at}
+use Rattle.one_worker.specs.machine_facts.specs.machine_invariant.proofs.Asked.{entered_at}
 use Rattle.one_worker.specs.reached_histories.specs.Laws.{HasHistory}
 use Rattle.one_worker.specs.reached_histories.proofs.Histories.{reached_have}
 use Rattle.one_worker.specs.resource_bounds.specs.Versions.{open_count}
 use Rattle.one_worker.specs.Alone.{AloneStands}
 use Rattle.one_worker.proofs.Reached.{reached_alone}
 use Rattle.one_worker.specs.resource_bounds.proofs.Quiet.{scene, cells_are, stands_for, quiet}
-use Rattle.version_words.specs.RunnerState.{RunnerState}
-use Rattle.version_words.specs.Stages.{IsAt}
+use Rattle.lock_walks.specs.version_words.specs.RunnerState.{RunnerState}
+use Rattle.lock_walks.specs.version_words.specs.Stages.{IsAt}
 use Rattle.lock_walks.specs.try_lock.specs.Planning.{Planning}
 use Rattle.lock_walks.specs.try_lock.specs.Plans.{IsWalk}
 use Rattle.lock_walks.specs.Steady.{IsSteadyWalk}

@@ -7,6 +7,3 @@
 mod laws;
 
 pub use laws::lone_plans_meet_nobody;
-
-// Passed on to the layers above, so that they needn't name these libraries themselves.
-pub use one_worker;

@@ -2,29 +2,29 @@
 use Rattle.std.specs.Prelude.{◌++◌, true, slice_get}
 use Rattle.std.proofs.Common.{◌≡◌, ◌≢◌, ℕ, suc, List, [], ◌∷◌, sym, ap, ◌∙◌, subst, inl, inr, Some}
 use Rattle.std.proofs.lemmas.Option.{slice_get_within}
-use Rattle.map_history.specs.declared.op.Request.{Request}
-use Rattle.body_terms.specs.declared.thunk.Thunk.{Thunk}
-use Rattle.table_words.specs.declared.layout.Layout.{Layout}
-use Rattle.table_words.specs.Limits.{IsWithinLimits}
-use Rattle.structure_laws.specs.Scene.{Readings}
-use Rattle.structure_laws.specs.Meaning.{Meaning}
-use Rattle.structure_laws.specs.Laws.{Laws}
-use Rattle.structure_laws.specs.Planner.{PlannerLaws}
-use Rattle.structure_laws.specs.Sections.{IsAllowed}
-use Rattle.structure_laws.proofs.Pairs.{pair_read}
+use Rattle.runner_parts.specs.structure_laws.specs.map_history.specs.declared.op.Request.{Request}
+use Rattle.runner_parts.specs.structure_laws.specs.body_terms.specs.declared.thunk.Thunk.{Thunk}
+use Rattle.runner_parts.specs.structure_laws.specs.table_words.specs.declared.layout.Layout.{Layout}
+use Rattle.runner_parts.specs.structure_laws.specs.table_words.specs.Limits.{IsWithinLimits}
+use Rattle.runner_parts.specs.structure_laws.specs.Scene.{Readings}
+use Rattle.runner_parts.specs.structure_laws.specs.Meaning.{Meaning}
+use Rattle.runner_parts.specs.structure_laws.specs.Laws.{Laws}
+use Rattle.runner_parts.specs.structure_laws.specs.Planner.{PlannerLaws}
+use Rattle.runner_parts.specs.structure_laws.specs.Sections.{IsAllowed}
+use Rattle.runner_parts.specs.structure_laws.proofs.Pairs.{pair_read}
 use Rattle.runner_parts.specs.declared.event.EventKind.TheVariants as kinds
 use Rattle.runner_parts.specs.State.{ReadsState}
-use Rattle.lone_plans.specs.machine_invariant.specs.After.{AreAllowed}
+use Rattle.version_words.specs.machine_invariant.specs.After.{AreAllowed}
 use Rattle.version_words.specs.RunnerState.{RunnerState}
 use Rattle.lone_plans.specs.Lone.{NobodyRefuses, IsLone, IsAlone, HasWalkedAlone}
 use Rattle.lone_plans.proofs.Planned as alones
-use Rattle.seq_read.specs.lock_walks.specs.Steady.{IsSteady}
-use Rattle.seq_read.specs.lock_walks.proofs.Each.{get_left}
-use Rattle.seq_read.specs.lock_walks.specs.epoch_slots.proofs.Outside.{reads_made}
-use Rattle.seq_read.specs.lock_walks.specs.try_lock.specs.declared.planned.Planned.{Planned}
-use Rattle.seq_read.specs.lock_walks.specs.try_lock.specs.declared.planned.Planned.TheVariants as plans
-use Rattle.seq_read.specs.lock_walks.specs.try_lock.specs.Planning.{Planning}
-use Rattle.seq_read.specs.lock_walks.specs.try_lock.specs.Plans.{IsWalk, Answers}
+use Rattle.seq_read.specs.caller_facts.specs.lock_walks.specs.Steady.{IsSteady}
+use Rattle.seq_read.specs.caller_facts.specs.lock_walks.proofs.Each.{get_left}
+use Rattle.seq_read.specs.caller_facts.specs.epoch_slots.proofs.Outside.{reads_made}
+use Rattle.seq_read.specs.caller_facts.specs.try_lock.specs.declared.planned.Planned.{Planned}
+use Rattle.seq_read.specs.caller_facts.specs.try_lock.specs.declared.planned.Planned.TheVariants as plans
+use Rattle.seq_read.specs.caller_facts.specs.try_lock.specs.Planning.{Planning}
+use Rattle.seq_read.specs.caller_facts.specs.try_lock.specs.Plans.{IsWalk, Answers}
 use Rattle.seq_read.specs.caller_facts.specs.Asking.{MayAttempt}
 use Rattle.seq_read.specs.caller_facts.proofs.Shapes.{allowed_at}
 use Rattle.seq_read.specs.Course.{of_plan, IsReading, HasPlanned, HasLoaded, HasAnnounced, HasClock, HasLock, CellDiffers}

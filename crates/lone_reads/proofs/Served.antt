@@ -1,15 +1,15 @@
 -- So with one worker no read is refused but by a spent word or by its body.
 use Rattle.std.proofs.Common.{◌≡◌, ℕ, sym, subst, true}
-use Rattle.map_history.specs.declared.op.Op.TheVariants.{Get}
-use Rattle.map_history.specs.declared.op.Request.{Request}
-use Rattle.structure_laws.specs.Meaning.{Meaning}
-use Rattle.structure_laws.specs.Laws.{Laws}
-use Rattle.structure_laws.specs.Planner.{PlannerLaws}
+use Rattle.runner_parts.specs.structure_laws.specs.map_history.specs.declared.op.Op.TheVariants.{Get}
+use Rattle.runner_parts.specs.structure_laws.specs.map_history.specs.declared.op.Request.{Request}
+use Rattle.runner_parts.specs.structure_laws.specs.Meaning.{Meaning}
+use Rattle.runner_parts.specs.structure_laws.specs.Laws.{Laws}
+use Rattle.runner_parts.specs.structure_laws.specs.Planner.{PlannerLaws}
 use Rattle.version_words.specs.RunnerState.{RunnerState}
 use Rattle.lone_plans.specs.Lone.{IsLone}
-use Rattle.seq_read.specs.lock_walks.specs.Gets.{GetsAreLight}
-use Rattle.seq_read.specs.lock_walks.specs.Steady.{IsSteady}
-use Rattle.seq_read.specs.lock_walks.specs.try_lock.specs.Planning.{Planning}
+use Rattle.seq_read.specs.caller_facts.specs.lock_walks.specs.Gets.{GetsAreLight}
+use Rattle.seq_read.specs.caller_facts.specs.lock_walks.specs.Steady.{IsSteady}
+use Rattle.seq_read.specs.caller_facts.specs.try_lock.specs.Planning.{Planning}
 use Rattle.seq_read.specs.Course.{IsRefused, ByPlan, ByBody, ByCell, ByLock}
 use Rattle.seq_read.specs.Reads.{Answers}
 use Rattle.seq_read.specs.declared.answers.Read.{Read}

@@ -1,11 +1,11 @@
 -- What a read may come to with one worker.
 use Rattle.std.specs.Prelude.{◌≡◌, ℕ, true}
-use Rattle.map_history.specs.declared.op.Op.TheVariants.{Get}
-use Rattle.map_history.specs.declared.op.Request.{Request}
-use Rattle.structure_laws.specs.Meaning.{Meaning}
+use Rattle.runner_parts.specs.structure_laws.specs.map_history.specs.declared.op.Op.TheVariants.{Get}
+use Rattle.runner_parts.specs.structure_laws.specs.map_history.specs.declared.op.Request.{Request}
+use Rattle.runner_parts.specs.structure_laws.specs.Meaning.{Meaning}
 use Rattle.version_words.specs.RunnerState.{RunnerState}
 use Rattle.lone_plans.specs.Lone.{IsLone}
-use Rattle.seq_read.specs.lock_walks.specs.try_lock.specs.Planning.{Planning}
+use Rattle.seq_read.specs.caller_facts.specs.try_lock.specs.Planning.{Planning}
 use Rattle.seq_read.specs.Course.{IsRefused}
 use Rattle.seq_read.specs.Reads.{Answers}
 use Rattle.seq_read.specs.declared.answers.Read.{Read}

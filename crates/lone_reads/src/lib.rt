@@ -9,5 +9,4 @@ mod laws;
 pub use laws::lone_reads_are_served;
 
 // Passed on to the layers above, so that they needn't name these libraries themselves.
-pub use lone_plans;
 pub use seq_read;

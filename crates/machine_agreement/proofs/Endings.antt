@@ -4,11 +4,11 @@ use Rattle.std.specs.List.{list_any}
 use Rattle.std.proofs.Common.{◌≡◌, ℕ, zero, suc, ◌<◌, ◌≤◌, List, [], ◌∷◌, ◌++◌, length, take, sym, refl, ap, ◌∙◌, arith, inl, inr, ⊎_elim}
 use Rattle.std.specs.Prelude.{◌⊎◌}
 use Rattle.std.proofs.lemmas.Bool.Decides.{nat_tests}
-use Rattle.small_lemmas.proofs.Bools.{or_true}
-use Rattle.body_terms.specs.declared.micro.Micro.{Micro}
-use Rattle.body_terms.specs.declared.micro.Micro.TheVariants as micros
-use Rattle.body_terms.specs.Line.{micro_at, releases, is_end}
-use Rattle.runner_steps.specs.AfterInRun.{place_of}
+use Rattle.agreement_core.specs.section_lines.specs.small_lemmas.proofs.Bools.{or_true}
+use Rattle.agreement_core.specs.body_terms.specs.declared.micro.Micro.{Micro}
+use Rattle.agreement_core.specs.body_terms.specs.declared.micro.Micro.TheVariants as micros
+use Rattle.agreement_core.specs.body_terms.specs.Line.{micro_at, releases, is_end}
+use Rattle.machine_states.specs.runner_steps.specs.AfterInRun.{place_of}
 
 -- these steps have taken this lock, free with this word: the outer one, or a nested one that was found to be held
 abbrev pub TakesIn : List Micro → ℕ → ℕ → ℕ → ℕ → Type 0

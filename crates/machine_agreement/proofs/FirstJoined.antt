@@ -3,19 +3,19 @@ use Rattle.std.specs.Prelude.{◌==◌, nat_lt, slice_index, cond, Bool, true, f
 use Rattle.std.proofs.Common.{◌≡◌, ℕ, ◌+◌, ◌*◌, ◌<◌, ◌≤◌, List, [], sym, refl, ap, ◌∙◌, subst, arith}
 use Rattle.std.specs.Prelude.{◌^◌}
 use Rattle.std.proofs.lemmas.Bool.Decides.{nat_tests}
-use Rattle.map_history.specs.declared.op.Request.{Request}
-use Rattle.body_terms.specs.Word.{value_of, version_of, pack}
-use Rattle.table_words.specs.declared.layout.Layout.{Layout}
-use Rattle.table_words.specs.declared.spot.Spot.{Spot}
-use Rattle.table_words.specs.declared.spot.Spot.TheVariants as spots
-use Rattle.table_words.specs.Limits.{IsWithinLimits}
-use Rattle.table_words.specs.Places.{Fits, fits, address}
-use Rattle.table_words.specs.Seen.{blank}
-use Rattle.table_words.proofs.Seen as words
-use Rattle.structure_laws.specs.Meaning.{Meaning}
-use Rattle.structure_laws.specs.Cells.{first_word}
-use Rattle.structure_laws.specs.Laws.{FirstMemory}
-use Rattle.runner_steps.specs.Asks.{sizes_for}
+use Rattle.agreement_core.specs.map_history.specs.declared.op.Request.{Request}
+use Rattle.agreement_core.specs.body_terms.specs.Word.{value_of, version_of, pack}
+use Rattle.agreement_core.specs.table_words.specs.declared.layout.Layout.{Layout}
+use Rattle.agreement_core.specs.table_words.specs.declared.spot.Spot.{Spot}
+use Rattle.agreement_core.specs.table_words.specs.declared.spot.Spot.TheVariants as spots
+use Rattle.agreement_core.specs.table_words.specs.Limits.{IsWithinLimits}
+use Rattle.agreement_core.specs.table_words.specs.Places.{Fits, fits, address}
+use Rattle.agreement_core.specs.table_words.specs.Seen.{blank}
+use Rattle.agreement_core.specs.table_words.proofs.Seen as words
+use Rattle.machine_states.specs.structure_laws.specs.Meaning.{Meaning}
+use Rattle.machine_states.specs.structure_laws.specs.Cells.{first_word}
+use Rattle.machine_states.specs.structure_laws.specs.Laws.{FirstMemory}
+use Rattle.machine_states.specs.runner_steps.specs.Asks.{sizes_for}
 use Rattle.agreement_core.specs.Schedules.{first_state}
 use Rattle.machine_states.specs.World.{World}
 use Rattle.machine_states.specs.First.{IsFirst, first_part, keeper_part, worker_part, filled}

@@ -3,37 +3,37 @@ use Rattle.std.specs.Prelude.{◌==◌, ◌&&◌, not, Bool, true, false, nat_le
 use Rattle.std.specs.List.{filter}
 use Rattle.std.proofs.Common.{◌≡◌, ◌≢◌, ℕ, ◌+◌, ◌-◌, ◌<◌, ◌≤◌, List, [], ◌∷◌, ◌++◌, sym, refl, ap, ◌∙◌, subst, arith, inl, inr, Option, Some, None}
 use Rattle.std.proofs.lemmas.Bool.Decides.{nat_tests}
-use Rattle.map_history.specs.declared.op.Request.{Request}
-use Rattle.body_terms.specs.Word.{held_word}
-use Rattle.body_terms.specs.declared.thunk.Thunk.{Thunk}
-use Rattle.table_words.specs.declared.layout.Layout.{Layout}
-use Rattle.table_words.specs.declared.spot.Spot.{Spot}
-use Rattle.table_words.specs.declared.spot.Spot.TheVariants as spots
-use Rattle.table_words.specs.declared.access.Access.{Access}
-use Rattle.table_words.specs.declared.access.Access.TheVariants.{Loads, Stores, Exchanges}
-use Rattle.table_words.specs.Access.{written}
-use Rattle.table_words.specs.Places.{slot_count}
-use Rattle.table_words.specs.Seen.{put}
-use Rattle.table_words.specs.Seen as table
-use Rattle.structure_laws.specs.Meaning.{Meaning}
-use Rattle.epoch_core.specs.Moves.{is_clear}
-use Rattle.runner_parts.specs.declared.event.EventKind.{EventKind}
-use Rattle.runner_parts.specs.declared.event.EventKind.TheVariants as kinds
-use Rattle.epoch_core.specs.declared.stage.Stage.{Stage}
-use Rattle.epoch_core.specs.declared.stage.Stage.TheVariants as stages
-use Rattle.runner_parts.specs.declared.entries.Look.{Look}
-use Rattle.runner_parts.specs.declared.entries.LookStage.TheVariants.{Replied, Stamped}
-use Rattle.runner_parts.specs.declared.entries.Published.{Published}
-use Rattle.runner_parts.specs.State.{RecordsState, NodesState, DescriptorsState, PartState}
-use Rattle.runner_parts.specs.Tests.{has}
-use Rattle.runner_steps.specs.Outside.{descriptor_spot, retire_ask, is_over}
-use Rattle.epoch_core.specs.State.{last_epoch}
-use Rattle.runner_steps.specs.Sections.{reply_in}
-use Rattle.runner_steps.specs.Reads.{read_stamp_after, plan_by, looked_by, come_to, reply_known, stamp_known}
-use Rattle.runner_steps.specs.Asks.{outside_ask}
-use Rattle.runner_parts.specs.Lists as lists
-use Rattle.runner_steps.specs.AfterOutside as outside
-use Rattle.runner_steps.specs.After.{outside_after, noted}
+use Rattle.agreement_core.specs.map_history.specs.declared.op.Request.{Request}
+use Rattle.agreement_core.specs.body_terms.specs.Word.{held_word}
+use Rattle.agreement_core.specs.body_terms.specs.declared.thunk.Thunk.{Thunk}
+use Rattle.agreement_core.specs.table_words.specs.declared.layout.Layout.{Layout}
+use Rattle.agreement_core.specs.table_words.specs.declared.spot.Spot.{Spot}
+use Rattle.agreement_core.specs.table_words.specs.declared.spot.Spot.TheVariants as spots
+use Rattle.agreement_core.specs.table_words.specs.declared.access.Access.{Access}
+use Rattle.agreement_core.specs.table_words.specs.declared.access.Access.TheVariants.{Loads, Stores, Exchanges}
+use Rattle.agreement_core.specs.table_words.specs.Access.{written}
+use Rattle.agreement_core.specs.table_words.specs.Places.{slot_count}
+use Rattle.agreement_core.specs.table_words.specs.Seen.{put}
+use Rattle.agreement_core.specs.table_words.specs.Seen as table
+use Rattle.machine_states.specs.structure_laws.specs.Meaning.{Meaning}
+use Rattle.machine_states.specs.epoch_core.specs.Moves.{is_clear}
+use Rattle.machine_states.specs.runner_steps.specs.runner_parts.specs.declared.event.EventKind.{EventKind}
+use Rattle.machine_states.specs.runner_steps.specs.runner_parts.specs.declared.event.EventKind.TheVariants as kinds
+use Rattle.machine_states.specs.epoch_core.specs.declared.stage.Stage.{Stage}
+use Rattle.machine_states.specs.epoch_core.specs.declared.stage.Stage.TheVariants as stages
+use Rattle.machine_states.specs.runner_steps.specs.runner_parts.specs.declared.entries.Look.{Look}
+use Rattle.machine_states.specs.runner_steps.specs.runner_parts.specs.declared.entries.LookStage.TheVariants.{Replied, Stamped}
+use Rattle.machine_states.specs.runner_steps.specs.runner_parts.specs.declared.entries.Published.{Published}
+use Rattle.machine_states.specs.runner_steps.specs.runner_parts.specs.State.{RecordsState, NodesState, DescriptorsState, PartState}
+use Rattle.machine_states.specs.runner_steps.specs.runner_parts.specs.Tests.{has}
+use Rattle.machine_states.specs.runner_steps.specs.Outside.{descriptor_spot, retire_ask, is_over}
+use Rattle.machine_states.specs.epoch_core.specs.State.{last_epoch}
+use Rattle.machine_states.specs.runner_steps.specs.Sections.{reply_in}
+use Rattle.machine_states.specs.runner_steps.specs.Reads.{read_stamp_after, plan_by, looked_by, come_to, reply_known, stamp_known}
+use Rattle.machine_states.specs.runner_steps.specs.Asks.{outside_ask}
+use Rattle.machine_states.specs.runner_steps.specs.runner_parts.specs.Lists as lists
+use Rattle.machine_states.specs.runner_steps.specs.AfterOutside as outside
+use Rattle.machine_states.specs.runner_steps.specs.After.{outside_after, noted}
 use Rattle.agreement_core.specs.State.{AgreementState}
 use Rattle.agreement_core.specs.Events as events
 use Rattle.machine_states.specs.Sight.{Sight}
@@ -49,7 +49,7 @@ use Rattle.machine_agreement.proofs.LineKinds.{noting, noted_finished}
 use Rattle.machine_agreement.proofs.Outside.{IsSamePart, SameWords, load_same, quiet_joined, quiet_goes, reply_goes, stamp_goes, read_goes}
 use Rattle.machine_agreement.proofs.Descriptors as descriptors
 use Rattle.machine_agreement.proofs.Freeing.{freed}
-use Rattle.runner_steps.specs.AfterOutside.{published_by}
+use Rattle.machine_states.specs.runner_steps.specs.AfterOutside.{published_by}
 
 -- a part that differs in what the component doesn't see
 pub same_part : (m : Meaning) (l : Layout) (p : PartState) (stage : Stage) (nodes : NodesState) (descriptors : DescriptorsState) (records : RecordsState) → records.finished ≡ p.records.finished

@@ -1,11 +1,11 @@
 //! The law of the join, on a contract.
 ghost use Rattle.std.specs.Prelude.{List};
-ghost use Rattle.map_history.specs.declared.op.Request.{Request};
-ghost use Rattle.table_words.specs.Limits.{IsWithinLimits};
-ghost use Rattle.table_words.specs.declared.layout.Layout.{Layout};
+ghost use Rattle.agreement_core.specs.map_history.specs.declared.op.Request.{Request};
+ghost use Rattle.agreement_core.specs.table_words.specs.Limits.{IsWithinLimits};
+ghost use Rattle.agreement_core.specs.table_words.specs.declared.layout.Layout.{Layout};
 ghost use Rattle.machine_agreement.specs.Goes.{StepsAreEvents, StartsJoined};
 
-use structure_laws::Structure;
+use machine_states::structure_laws::Structure;
 
 /// Each step of the machine is the events of agreement that belong to its kind, each enabled where it
 /// comes, and then a Pass for each check that passes, where the step is supplied with what the other

@@ -4,33 +4,33 @@ use Rattle.std.specs.List.{filter}
 use Rattle.std.proofs.Common.{◌≡◌, ◌≢◌, ℕ, suc, ◌+◌, ◌<◌, ◌≤◌, List, [], ◌∷◌, ◌++◌, map, refl, sym, ap, ◌∙◌, subst, arith, add-one, Some, None, inl, inr}
 use Rattle.std.proofs.lemmas.Bool.Decides.{nat_tests}
 use Rattle.std.proofs.lemmas.Option.{none-some}
-use Rattle.body_terms.specs.declared.thunk.Thunk.{Thunk}
-use Rattle.table_words.specs.declared.layout.Layout.{Layout}
-use Rattle.table_words.specs.declared.spot.Spot.{Spot}
-use Rattle.table_words.specs.declared.spot.Spot.TheVariants.{Epoch, Announcement}
-use Rattle.table_words.specs.declared.access.Access.{Access}
-use Rattle.table_words.specs.Access.{exchanged, written}
-use Rattle.table_words.specs.Seen.{upd, put}
-use Rattle.structure_laws.specs.Meaning.{Meaning}
-use Rattle.runner_parts.specs.declared.event.EventKind.{EventKind}
-use Rattle.runner_parts.specs.declared.event.EventKind.TheVariants as kinds
-use Rattle.epoch_core.specs.declared.stage.Stage.{Stage}
-use Rattle.epoch_core.specs.declared.stage.Stage.TheVariants.{Idle, Loaded, Announced, Entered, Scanning}
-use Rattle.runner_parts.specs.declared.entries.Retired.{Retired}
-use Rattle.runner_parts.specs.State.{PartState, RecordsState}
-use Rattle.runner_parts.specs.Tests.{has, last_stored}
-use Rattle.runner_steps.specs.Outside.{enter_load_ask, announce_ask, enter_again_ask, idle_ask, scan_one_ask, advance_ask}
-use Rattle.runner_parts.specs.Lists as lists
-use Rattle.runner_steps.specs.After.{outside_after}
-use Rattle.runner_steps.specs.AfterOutside as outside
-use Rattle.epoch_core.specs.declared.location.Location.{Location}
-use Rattle.epoch_core.specs.declared.location.Location.TheVariants.{Fixed, Live, Hand, Free, Worn, Limbo}
-use Rattle.epoch_core.specs.Moves.{is_clear, is_over, is_old, collected}
-use Rattle.epoch_core.specs.State.{EpochState, Retiring, no_retire, last_epoch, is_entered}
-use Rattle.epoch_core.specs.Events as events
-use Rattle.epoch_core.specs.Events.{slot_of, Enabled, after, after_collect}
-use Rattle.epoch_core.specs.History.{is_out}
-use Rattle.epoch_core.specs.Lists.{Entry, Lists, old_slots, young, collect_lists, listed}
+use Rattle.section_lines.specs.structure_laws.specs.body_terms.specs.declared.thunk.Thunk.{Thunk}
+use Rattle.section_lines.specs.structure_laws.specs.table_words.specs.declared.layout.Layout.{Layout}
+use Rattle.section_lines.specs.structure_laws.specs.table_words.specs.declared.spot.Spot.{Spot}
+use Rattle.section_lines.specs.structure_laws.specs.table_words.specs.declared.spot.Spot.TheVariants.{Epoch, Announcement}
+use Rattle.section_lines.specs.structure_laws.specs.table_words.specs.declared.access.Access.{Access}
+use Rattle.section_lines.specs.structure_laws.specs.table_words.specs.Access.{exchanged, written}
+use Rattle.section_lines.specs.structure_laws.specs.table_words.specs.Seen.{upd, put}
+use Rattle.section_lines.specs.structure_laws.specs.Meaning.{Meaning}
+use Rattle.machine_states.specs.runner_steps.specs.runner_parts.specs.declared.event.EventKind.{EventKind}
+use Rattle.machine_states.specs.runner_steps.specs.runner_parts.specs.declared.event.EventKind.TheVariants as kinds
+use Rattle.machine_states.specs.epoch_core.specs.declared.stage.Stage.{Stage}
+use Rattle.machine_states.specs.epoch_core.specs.declared.stage.Stage.TheVariants.{Idle, Loaded, Announced, Entered, Scanning}
+use Rattle.machine_states.specs.runner_steps.specs.runner_parts.specs.declared.entries.Retired.{Retired}
+use Rattle.machine_states.specs.runner_steps.specs.runner_parts.specs.State.{PartState, RecordsState}
+use Rattle.machine_states.specs.runner_steps.specs.runner_parts.specs.Tests.{has, last_stored}
+use Rattle.machine_states.specs.runner_steps.specs.Outside.{enter_load_ask, announce_ask, enter_again_ask, idle_ask, scan_one_ask, advance_ask}
+use Rattle.machine_states.specs.runner_steps.specs.runner_parts.specs.Lists as lists
+use Rattle.machine_states.specs.runner_steps.specs.After.{outside_after}
+use Rattle.machine_states.specs.runner_steps.specs.AfterOutside as outside
+use Rattle.machine_states.specs.epoch_core.specs.declared.location.Location.{Location}
+use Rattle.machine_states.specs.epoch_core.specs.declared.location.Location.TheVariants.{Fixed, Live, Hand, Free, Worn, Limbo}
+use Rattle.machine_states.specs.epoch_core.specs.Moves.{is_clear, is_over, is_old, collected}
+use Rattle.machine_states.specs.epoch_core.specs.State.{EpochState, Retiring, no_retire, last_epoch, is_entered}
+use Rattle.machine_states.specs.epoch_core.specs.Events as events
+use Rattle.machine_states.specs.epoch_core.specs.Events.{slot_of, Enabled, after, after_collect}
+use Rattle.machine_states.specs.epoch_core.specs.History.{is_out}
+use Rattle.machine_states.specs.epoch_core.specs.Lists.{Entry, Lists, old_slots, young, collect_lists, listed}
 use Rattle.machine_states.specs.Sight.{Sight}
 use Rattle.machine_states.proofs.Updates.{map_same, map_upd, upd_here, upd_else}
 use Rattle.machine_epochs.specs.Entries.{counts_of}

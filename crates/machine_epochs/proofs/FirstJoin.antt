@@ -4,23 +4,23 @@ use Rattle.std.proofs.Common.{◌≡◌, ℕ, ◌+◌, ◌-◌, ◌*◌, ◌<◌
 use Rattle.std.proofs.lemmas.Bool.Decides.{nat_tests}
 use Rattle.std.proofs.lemmas.Option.{none-some}
 use mathlib.Core.Path.{fun_ext}
-use Rattle.map_history.specs.declared.op.Request.{Request}
-use Rattle.table_words.specs.declared.layout.Layout.{Layout}
-use Rattle.table_words.specs.declared.spot.Spot.{Spot}
-use Rattle.table_words.specs.declared.spot.Spot.TheVariants.{Epoch}
-use Rattle.table_words.specs.Places.{slot_count, descriptor_count}
-use Rattle.structure_laws.specs.Meaning.{Meaning}
-use Rattle.runner_parts.specs.State.{PartState}
-use Rattle.epoch_core.specs.declared.stage.Stage.TheVariants as points
-use Rattle.epoch_core.specs.declared.location.Location.{Location}
-use Rattle.epoch_core.specs.declared.location.Location.TheVariants.{Fixed, Free}
-use Rattle.epoch_core.specs.State.{EpochState}
-use Rattle.epoch_core.specs.Events.{slot_of}
-use Rattle.epoch_core.specs.Sound.{is_for_nodes}
-use Rattle.epoch_core.specs.History.{is_out}
-use Rattle.epoch_core.specs.Lists.{times, times_retired, in_hand, in_free, in_worn, in_limbo, IsListed}
-use Rattle.epoch_core.specs.Schedules.{IsFirst, first_state, is_unused}
-use Rattle.epoch_core.proofs.Keeping.{first}
+use Rattle.section_lines.specs.structure_laws.specs.map_history.specs.declared.op.Request.{Request}
+use Rattle.section_lines.specs.structure_laws.specs.table_words.specs.declared.layout.Layout.{Layout}
+use Rattle.section_lines.specs.structure_laws.specs.table_words.specs.declared.spot.Spot.{Spot}
+use Rattle.section_lines.specs.structure_laws.specs.table_words.specs.declared.spot.Spot.TheVariants.{Epoch}
+use Rattle.section_lines.specs.structure_laws.specs.table_words.specs.Places.{slot_count, descriptor_count}
+use Rattle.section_lines.specs.structure_laws.specs.Meaning.{Meaning}
+use Rattle.machine_states.specs.runner_steps.specs.runner_parts.specs.State.{PartState}
+use Rattle.machine_states.specs.epoch_core.specs.declared.stage.Stage.TheVariants as points
+use Rattle.machine_states.specs.epoch_core.specs.declared.location.Location.{Location}
+use Rattle.machine_states.specs.epoch_core.specs.declared.location.Location.TheVariants.{Fixed, Free}
+use Rattle.machine_states.specs.epoch_core.specs.State.{EpochState}
+use Rattle.machine_states.specs.epoch_core.specs.Events.{slot_of}
+use Rattle.machine_states.specs.epoch_core.specs.Sound.{is_for_nodes}
+use Rattle.machine_states.specs.epoch_core.specs.History.{is_out}
+use Rattle.machine_states.specs.epoch_core.specs.Lists.{times, times_retired, in_hand, in_free, in_worn, in_limbo, IsListed}
+use Rattle.machine_states.specs.epoch_core.specs.Schedules.{IsFirst, first_state, is_unused}
+use Rattle.machine_states.specs.epoch_core.proofs.Keeping.{first}
 use Rattle.machine_states.specs.World.{World}
 use Rattle.machine_states.specs.First as states
 use Rattle.machine_states.specs.First.{first_part, keeper_part, worker_part, falling}

@@ -3,8 +3,8 @@ use Rattle.std.specs.Prelude.{◌==◌, ◌&&◌, ◌/◌, cond, nat_lt, nat_le,
 use Rattle.std.proofs.Common.{◌≡◌, ◌≢◌, ℕ, zero, suc, ◌+◌, ◌-◌, ◌*◌, ◌<◌, ◌≤◌, List, [], refl, sym, ap, ◌∙◌, subst, arith, ◌⊎◌, ⊎_elim, div-add-mod', mod-lt, mul_comm, mul-suc, mul-le-mul_left, zero-mul, inl, inr}
 use Rattle.std.proofs.lemmas.Bool.{cases_eq}
 use Rattle.std.proofs.lemmas.Bool.Decides.{nat_tests}
-use Rattle.small_lemmas.proofs.Numbers.{self_tested as same_test, other_tested as other_test}
-use Rattle.epoch_core.specs.Lists.{times}
+use Rattle.section_lines.specs.small_lemmas.proofs.Numbers.{self_tested as same_test, other_tested as other_test}
+use Rattle.machine_states.specs.epoch_core.specs.Lists.{times}
 use Rattle.machine_states.specs.First.{falling}
 use Rattle.machine_epochs.specs.Firsts.{owner_of}
 

@@ -1,28 +1,28 @@
 -- What every kind of step has in common: what is new for the stepping runner, and why the facts on the others stay.
 use Rattle.std.specs.Prelude.{◌==◌, cond, Bool, true, false, nat_lt}
 use Rattle.std.proofs.Common.{◌≡◌, ◌≢◌, ℕ, ◌-◌, ◌≤◌, List, [], refl, sym, ap, ◌∙◌, subst, Some, Option}
-use Rattle.table_words.specs.declared.layout.Layout.{Layout}
-use Rattle.table_words.specs.declared.spot.Spot.{Spot}
-use Rattle.table_words.specs.declared.spot.Spot.TheVariants.{Epoch, Clock, Announcement, Stamp, Reply, Cell, ThunkWord, DoneWord, LogWord}
-use Rattle.table_words.specs.declared.access.Access.TheVariants.{Exchanges}
-use Rattle.table_words.specs.Access.{written}
-use Rattle.table_words.specs.Seen.{upd, put}
-use Rattle.body_terms.specs.declared.thunk.Thunk.{Thunk}
-use Rattle.structure_laws.specs.Meaning.{Meaning}
-use Rattle.runner_parts.specs.declared.entries.Look.{Look}
-use Rattle.runner_parts.specs.declared.entries.Published.{Published}
-use Rattle.runner_parts.specs.State.{PartState, NodesState, RecordsState}
-use Rattle.runner_parts.specs.Tests.{has}
-use Rattle.runner_steps.specs.Outside.{descriptor_spot}
-use Rattle.epoch_core.specs.declared.location.Location.TheVariants.{Live, Hand}
-use Rattle.epoch_core.specs.State.{Counts, EpochState, is_entered}
-use Rattle.epoch_core.specs.Events.{slot_of}
-use Rattle.epoch_core.specs.Events as events
-use Rattle.epoch_core.specs.Schedules.{AllEnabled, after_all}
-use Rattle.epoch_core.specs.Lists.{Lists, IsListed, listed_all}
-use Rattle.epoch_core.specs.History.{is_out}
-use Rattle.epoch_core.proofs.Keeping.{keeps_all}
-use Rattle.epoch_core.proofs.Listing.{lists_follow_all}
+use Rattle.section_lines.specs.structure_laws.specs.table_words.specs.declared.layout.Layout.{Layout}
+use Rattle.section_lines.specs.structure_laws.specs.table_words.specs.declared.spot.Spot.{Spot}
+use Rattle.section_lines.specs.structure_laws.specs.table_words.specs.declared.spot.Spot.TheVariants.{Epoch, Clock, Announcement, Stamp, Reply, Cell, ThunkWord, DoneWord, LogWord}
+use Rattle.section_lines.specs.structure_laws.specs.table_words.specs.declared.access.Access.TheVariants.{Exchanges}
+use Rattle.section_lines.specs.structure_laws.specs.table_words.specs.Access.{written}
+use Rattle.section_lines.specs.structure_laws.specs.table_words.specs.Seen.{upd, put}
+use Rattle.section_lines.specs.structure_laws.specs.body_terms.specs.declared.thunk.Thunk.{Thunk}
+use Rattle.section_lines.specs.structure_laws.specs.Meaning.{Meaning}
+use Rattle.machine_states.specs.runner_steps.specs.runner_parts.specs.declared.entries.Look.{Look}
+use Rattle.machine_states.specs.runner_steps.specs.runner_parts.specs.declared.entries.Published.{Published}
+use Rattle.machine_states.specs.runner_steps.specs.runner_parts.specs.State.{PartState, NodesState, RecordsState}
+use Rattle.machine_states.specs.runner_steps.specs.runner_parts.specs.Tests.{has}
+use Rattle.machine_states.specs.runner_steps.specs.Outside.{descriptor_spot}
+use Rattle.machine_states.specs.epoch_core.specs.declared.location.Location.TheVariants.{Live, Hand}
+use Rattle.machine_states.specs.epoch_core.specs.State.{Counts, EpochState, is_entered}
+use Rattle.machine_states.specs.epoch_core.specs.Events.{slot_of}
+use Rattle.machine_states.specs.epoch_core.specs.Events as events
+use Rattle.machine_states.specs.epoch_core.specs.Schedules.{AllEnabled, after_all}
+use Rattle.machine_states.specs.epoch_core.specs.Lists.{Lists, IsListed, listed_all}
+use Rattle.machine_states.specs.epoch_core.specs.History.{is_out}
+use Rattle.machine_states.specs.epoch_core.proofs.Keeping.{keeps_all}
+use Rattle.machine_states.specs.epoch_core.proofs.Listing.{lists_follow_all}
 use Rattle.machine_states.specs.Sight.{Sight}
 use Rattle.machine_states.proofs.Updates.{upd_split, map_same, put_same, put_kept}
 use Rattle.machine_epochs.specs.Entries.{counts_of}

@@ -1,15 +1,15 @@
 -- A state that supplied events lead to is joined, together with whatever else they keep.
 use Rattle.std.proofs.Common.{◌≡◌, List, Some}
-use Rattle.map_history.specs.declared.op.Request.{Request}
-use Rattle.table_words.specs.declared.layout.Layout.{Layout}
-use Rattle.table_words.specs.declared.spot.Spot.{Spot}
-use Rattle.structure_laws.specs.Meaning.{Meaning}
-use Rattle.runner_parts.specs.declared.event.Event.{Event}
-use Rattle.epoch_core.specs.State.{EpochState}
-use Rattle.epoch_core.specs.Events as events
-use Rattle.epoch_core.specs.Schedules.{after_all}
-use Rattle.epoch_core.specs.History.{History, no_history, noted_all, IsExact}
-use Rattle.epoch_core.proofs.Exactly.{exact_first, exact_all}
+use Rattle.section_lines.specs.structure_laws.specs.map_history.specs.declared.op.Request.{Request}
+use Rattle.section_lines.specs.structure_laws.specs.table_words.specs.declared.layout.Layout.{Layout}
+use Rattle.section_lines.specs.structure_laws.specs.table_words.specs.declared.spot.Spot.{Spot}
+use Rattle.section_lines.specs.structure_laws.specs.Meaning.{Meaning}
+use Rattle.machine_states.specs.runner_steps.specs.runner_parts.specs.declared.event.Event.{Event}
+use Rattle.machine_states.specs.epoch_core.specs.State.{EpochState}
+use Rattle.machine_states.specs.epoch_core.specs.Events as events
+use Rattle.machine_states.specs.epoch_core.specs.Schedules.{after_all}
+use Rattle.machine_states.specs.epoch_core.specs.History.{History, no_history, noted_all, IsExact}
+use Rattle.machine_states.specs.epoch_core.proofs.Exactly.{exact_first, exact_all}
 use Rattle.machine_epochs.specs.Firsts.{first_place}
 use Rattle.machine_states.specs.World.{World, happens, run}
 use Rattle.machine_states.specs.First.{IsFirst}

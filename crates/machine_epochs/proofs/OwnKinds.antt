@@ -2,44 +2,44 @@
 use Rattle.std.specs.Prelude.{◌==◌, ◌&&◌, ◌||◌, cond, Bool, true, false, nat_lt, nat_le, slice_index_or, All}
 use Rattle.std.proofs.Common.{◌≡◌, ℕ, ◌+◌, ◌-◌, ◌<◌, ◌≤◌, List, [], ◌∷◌, ◌++◌, length, refl, sym, ap, ◌∙◌, subst, arith, ⊎_elim, Option, Some, None}
 use Rattle.std.proofs.lemmas.List.Elements.{All-push}
-use Rattle.map_history.specs.declared.op.Request.{Request}
-use Rattle.body_terms.specs.declared.thunk.Thunk.{Thunk}
-use Rattle.body_terms.specs.declared.micro.Micro.{Micro}
-use Rattle.body_terms.specs.declared.micro.Micro.TheVariants as micros
-use Rattle.body_terms.specs.Line.{is_event, micro_at, ending}
-use Rattle.body_terms.specs.Run.{settled, written_once}
-use Rattle.body_terms.specs.Word.{version_of}
-use Rattle.table_words.specs.declared.layout.Layout.{Layout}
-use Rattle.table_words.specs.declared.spot.Spot.{Spot}
-use Rattle.table_words.specs.declared.spot.Spot.TheVariants.{Epoch}
-use Rattle.table_words.specs.declared.access.Access.{Access}
-use Rattle.structure_laws.specs.Meaning.{Meaning}
-use Rattle.runner_parts.specs.declared.event.EventKind.{EventKind}
-use Rattle.runner_parts.specs.declared.event.EventKind.TheVariants as kinds
-use Rattle.epoch_core.specs.declared.stage.Stage.{Stage}
-use Rattle.epoch_core.specs.declared.stage.Stage.TheVariants.{Idle, Loaded, Announced, Entered, Scanning}
-use Rattle.runner_parts.specs.declared.entries.Published.{Published}
-use Rattle.runner_parts.specs.declared.entries.Tested.{Tested}
-use Rattle.runner_parts.specs.State.{RunState, PartState, NodesState, ReadsState, RecordsState}
-use Rattle.runner_parts.specs.Tests.{has}
-use Rattle.runner_steps.specs.Outside.{retire_ask}
-use Rattle.runner_steps.specs.Sections.{thunk_of, is_open_run, line_of, next_of, setting_of}
-use Rattle.runner_parts.specs.Lists as lists
-use Rattle.runner_steps.specs.AfterOutside as outside
-use Rattle.runner_steps.specs.AfterInRun as runs
-use Rattle.runner_steps.specs.Asks.{outside_ask, line_ask, opening_ask, inside_ask}
-use Rattle.runner_steps.specs.After.{outside_after, line_after, inside_after}
+use Rattle.section_lines.specs.structure_laws.specs.map_history.specs.declared.op.Request.{Request}
+use Rattle.section_lines.specs.structure_laws.specs.body_terms.specs.declared.thunk.Thunk.{Thunk}
+use Rattle.section_lines.specs.structure_laws.specs.body_terms.specs.declared.micro.Micro.{Micro}
+use Rattle.section_lines.specs.structure_laws.specs.body_terms.specs.declared.micro.Micro.TheVariants as micros
+use Rattle.section_lines.specs.structure_laws.specs.body_terms.specs.Line.{is_event, micro_at, ending}
+use Rattle.section_lines.specs.structure_laws.specs.body_terms.specs.Run.{settled, written_once}
+use Rattle.section_lines.specs.structure_laws.specs.body_terms.specs.Word.{version_of}
+use Rattle.section_lines.specs.structure_laws.specs.table_words.specs.declared.layout.Layout.{Layout}
+use Rattle.section_lines.specs.structure_laws.specs.table_words.specs.declared.spot.Spot.{Spot}
+use Rattle.section_lines.specs.structure_laws.specs.table_words.specs.declared.spot.Spot.TheVariants.{Epoch}
+use Rattle.section_lines.specs.structure_laws.specs.table_words.specs.declared.access.Access.{Access}
+use Rattle.section_lines.specs.structure_laws.specs.Meaning.{Meaning}
+use Rattle.machine_states.specs.runner_steps.specs.runner_parts.specs.declared.event.EventKind.{EventKind}
+use Rattle.machine_states.specs.runner_steps.specs.runner_parts.specs.declared.event.EventKind.TheVariants as kinds
+use Rattle.machine_states.specs.epoch_core.specs.declared.stage.Stage.{Stage}
+use Rattle.machine_states.specs.epoch_core.specs.declared.stage.Stage.TheVariants.{Idle, Loaded, Announced, Entered, Scanning}
+use Rattle.machine_states.specs.runner_steps.specs.runner_parts.specs.declared.entries.Published.{Published}
+use Rattle.machine_states.specs.runner_steps.specs.runner_parts.specs.declared.entries.Tested.{Tested}
+use Rattle.machine_states.specs.runner_steps.specs.runner_parts.specs.State.{RunState, PartState, NodesState, ReadsState, RecordsState}
+use Rattle.machine_states.specs.runner_steps.specs.runner_parts.specs.Tests.{has}
+use Rattle.machine_states.specs.runner_steps.specs.Outside.{retire_ask}
+use Rattle.machine_states.specs.runner_steps.specs.Sections.{thunk_of, is_open_run, line_of, next_of, setting_of}
+use Rattle.machine_states.specs.runner_steps.specs.runner_parts.specs.Lists as lists
+use Rattle.machine_states.specs.runner_steps.specs.AfterOutside as outside
+use Rattle.machine_states.specs.runner_steps.specs.AfterInRun as runs
+use Rattle.machine_states.specs.runner_steps.specs.Asks.{outside_ask, line_ask, opening_ask, inside_ask}
+use Rattle.machine_states.specs.runner_steps.specs.After.{outside_after, line_after, inside_after}
 use Rattle.machine_states.proofs.Steps.{some_same}
 use Rattle.machine_states.proofs.Sights.{some_none}
 use Rattle.machine_epochs.specs.Slots.{retire_before, retiring_of}
-use Rattle.epoch_core.specs.State.{Retiring, no_retire}
+use Rattle.machine_states.specs.epoch_core.specs.State.{Retiring, no_retire}
 use Rattle.machine_epochs.specs.Descriptors.{times_published}
 use Rattle.machine_epochs.proofs.OutsideAsked as asked
 use Rattle.machine_epochs.proofs.InsideAsked as inside
 use Rattle.machine_epochs.proofs.RunPlaces.{next_in_line, open_run, goes_on_unretired, begins_unretired}
 use Rattle.machine_epochs.proofs.OwnDescriptors.{IsOwn, IsRecent, IsSameLists, stays, idles, collects, publishes, retires}
-use Rattle.runner_steps.specs.AfterOutside.{published_by}
-use Rattle.table_words.specs.Places.{slot_count}
+use Rattle.machine_states.specs.runner_steps.specs.AfterOutside.{published_by}
+use Rattle.section_lines.specs.structure_laws.specs.table_words.specs.Places.{slot_count}
 
 -- whether a runner at this stage is entered
 abbrev is_in : Stage → Bool

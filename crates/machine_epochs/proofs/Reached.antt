@@ -1,19 +1,19 @@
 -- What is said of the epochs holds in every state that the machine reaches.
 use Rattle.std.specs.Prelude.{cond, Bool, true, false, nat_lt, ◌==◌}
 use Rattle.std.proofs.Common.{◌≡◌, ℕ, ◌+◌, ◌≤◌, List, [], ◌∷◌, sym, refl, ap, subst, ◌∙◌, Option, Some, None}
-use Rattle.map_history.specs.declared.op.Request.{Request}
-use Rattle.table_words.specs.declared.layout.Layout.{Layout}
-use Rattle.table_words.specs.declared.spot.Spot.TheVariants.{Epoch, Announcement}
-use Rattle.structure_laws.specs.Meaning.{Meaning}
-use Rattle.epoch_core.specs.declared.stage.Stage.{Stage}
-use Rattle.epoch_core.specs.declared.stage.Stage.TheVariants.{Idle, Loaded, Announced, Entered, Scanning}
-use Rattle.runner_parts.specs.declared.event.Event.{Event}
-use Rattle.runner_parts.specs.State.{PartState}
-use Rattle.epoch_core.specs.State.{EpochState, last_epoch, is_entered, entry_of, is_announcing}
-use Rattle.epoch_core.specs.Sound.{IsSound}
-use Rattle.epoch_core.specs.Schedules.{first_state}
-use Rattle.epoch_core.specs.Starts.{all_free}
-use Rattle.epoch_core.proofs.Keeping.{first}
+use Rattle.section_lines.specs.structure_laws.specs.map_history.specs.declared.op.Request.{Request}
+use Rattle.section_lines.specs.structure_laws.specs.table_words.specs.declared.layout.Layout.{Layout}
+use Rattle.section_lines.specs.structure_laws.specs.table_words.specs.declared.spot.Spot.TheVariants.{Epoch, Announcement}
+use Rattle.section_lines.specs.structure_laws.specs.Meaning.{Meaning}
+use Rattle.machine_states.specs.epoch_core.specs.declared.stage.Stage.{Stage}
+use Rattle.machine_states.specs.epoch_core.specs.declared.stage.Stage.TheVariants.{Idle, Loaded, Announced, Entered, Scanning}
+use Rattle.machine_states.specs.runner_steps.specs.runner_parts.specs.declared.event.Event.{Event}
+use Rattle.machine_states.specs.runner_steps.specs.runner_parts.specs.State.{PartState}
+use Rattle.machine_states.specs.epoch_core.specs.State.{EpochState, last_epoch, is_entered, entry_of, is_announcing}
+use Rattle.machine_states.specs.epoch_core.specs.Sound.{IsSound}
+use Rattle.machine_states.specs.epoch_core.specs.Schedules.{first_state}
+use Rattle.machine_states.specs.epoch_core.specs.Starts.{all_free}
+use Rattle.machine_states.specs.epoch_core.proofs.Keeping.{first}
 use Rattle.machine_states.specs.World.{World, happens, then_run, run}
 use Rattle.machine_states.specs.First.{IsFirst, first_part, keeper_part, worker_part}
 use Rattle.machine_states.specs.Sight.{Sight, sight, IsWhole}

@@ -2,16 +2,16 @@
 use Rattle.std.specs.Prelude.{◌||◌, Bool, true, false}
 use Rattle.std.proofs.Common.{◌≡◌, ◌≢◌, ℕ, ◌<◌, List, ◌∷◌, refl, ap, ◌∙◌, subst, arith}
 use Rattle.std.proofs.lemmas.Bool.Decides.{nat_tests}
-use Rattle.table_words.specs.declared.layout.Layout.{Layout}
-use Rattle.structure_laws.specs.Meaning.{Meaning}
-use Rattle.epoch_core.specs.declared.location.Location.{Location}
-use Rattle.epoch_core.specs.Update.{upd, upd_row}
-use Rattle.epoch_core.specs.State.{Counts, EpochState, MayHold}
-use Rattle.epoch_core.specs.Events.{Event, after, Enabled, slot_of}
-use Rattle.epoch_core.specs.Events as events
-use Rattle.epoch_core.specs.Sound.{IsSound, is_for_nodes}
-use Rattle.epoch_core.proofs.Keeping.{keeps}
-use Rattle.epoch_core.proofs.Listing.{lists_follow}
+use Rattle.section_lines.specs.structure_laws.specs.table_words.specs.declared.layout.Layout.{Layout}
+use Rattle.section_lines.specs.structure_laws.specs.Meaning.{Meaning}
+use Rattle.machine_states.specs.epoch_core.specs.declared.location.Location.{Location}
+use Rattle.machine_states.specs.epoch_core.specs.Update.{upd, upd_row}
+use Rattle.machine_states.specs.epoch_core.specs.State.{Counts, EpochState, MayHold}
+use Rattle.machine_states.specs.epoch_core.specs.Events.{Event, after, Enabled, slot_of}
+use Rattle.machine_states.specs.epoch_core.specs.Events as events
+use Rattle.machine_states.specs.epoch_core.specs.Sound.{IsSound, is_for_nodes}
+use Rattle.machine_states.specs.epoch_core.proofs.Keeping.{keeps}
+use Rattle.machine_states.specs.epoch_core.proofs.Listing.{lists_follow}
 use Rattle.machine_states.specs.Sight.{Sight}
 use Rattle.machine_epochs.specs.Entries.{counts_of}
 use Rattle.machine_epochs.specs.Slots.{lists_of}

@@ -2,37 +2,37 @@
 use Rattle.std.specs.Prelude.{◌==◌, cond, if◌then◌else◌, Bool, true, false}
 use Rattle.std.proofs.Common.{◌≡◌, ◌≢◌, ℕ, suc, ◌+◌, ◌<◌, List, [], ◌∷◌, ◌++◌, map, refl, sym, ap, ◌∙◌, subst, arith, add-one, Some}
 use Rattle.std.proofs.lemmas.Bool.Decides.{nat_tests}
-use Rattle.map_history.specs.declared.op.Request.{Request}
-use Rattle.body_terms.specs.declared.micro.Micro.{Micro}
-use Rattle.body_terms.specs.declared.micro.Micro.TheVariants as micros
-use Rattle.body_terms.specs.Line.{micro_at}
-use Rattle.body_terms.specs.Run.{written_once}
-use Rattle.table_words.specs.declared.layout.Layout.{Layout}
-use Rattle.table_words.specs.declared.spot.Spot.{Spot}
-use Rattle.table_words.specs.declared.spot.Spot.TheVariants.{Epoch, LogWord}
-use Rattle.table_words.specs.declared.access.Access.{Access}
-use Rattle.table_words.specs.declared.access.Access.TheVariants.{Loads, Exchanges}
-use Rattle.table_words.specs.Access.{exchanged}
-use Rattle.table_words.specs.Places.{Fits}
-use Rattle.table_words.specs.Seen.{upd, put}
-use Rattle.structure_laws.specs.Meaning.{Meaning}
-use Rattle.runner_parts.specs.declared.event.EventKind.TheVariants as kinds
-use Rattle.runner_parts.specs.declared.entries.Retired.{Retired}
-use Rattle.runner_parts.specs.State.{RunState, PartState, RecordsState}
-use Rattle.runner_steps.specs.Sections.{thunk_of, is_open_run, line_of, next_of, setting_of}
-use Rattle.runner_parts.specs.Lists.{slot_retired}
-use Rattle.runner_steps.specs.Asks.{sizes_for}
-use Rattle.runner_steps.specs.InRun.{retire_commit_ask, epoch_for_retire_ask}
-use Rattle.runner_steps.specs.AfterInRun as runs
-use Rattle.epoch_core.specs.declared.location.Location.{Location}
-use Rattle.epoch_core.specs.declared.location.Location.TheVariants.{Live, Hand}
-use Rattle.epoch_core.specs.Update.{upd2}
-use Rattle.epoch_core.specs.Moves as moves
-use Rattle.epoch_core.specs.State.{EpochState, Retiring, no_retire, Retires}
-use Rattle.epoch_core.specs.Events.{slot_of}
-use Rattle.epoch_core.specs.Events as events
-use Rattle.epoch_core.specs.History.{is_out}
-use Rattle.epoch_core.specs.Lists.{Entry, Lists, retired_lists}
+use Rattle.section_lines.specs.structure_laws.specs.map_history.specs.declared.op.Request.{Request}
+use Rattle.section_lines.specs.structure_laws.specs.body_terms.specs.declared.micro.Micro.{Micro}
+use Rattle.section_lines.specs.structure_laws.specs.body_terms.specs.declared.micro.Micro.TheVariants as micros
+use Rattle.section_lines.specs.structure_laws.specs.body_terms.specs.Line.{micro_at}
+use Rattle.section_lines.specs.structure_laws.specs.body_terms.specs.Run.{written_once}
+use Rattle.section_lines.specs.structure_laws.specs.table_words.specs.declared.layout.Layout.{Layout}
+use Rattle.section_lines.specs.structure_laws.specs.table_words.specs.declared.spot.Spot.{Spot}
+use Rattle.section_lines.specs.structure_laws.specs.table_words.specs.declared.spot.Spot.TheVariants.{Epoch, LogWord}
+use Rattle.section_lines.specs.structure_laws.specs.table_words.specs.declared.access.Access.{Access}
+use Rattle.section_lines.specs.structure_laws.specs.table_words.specs.declared.access.Access.TheVariants.{Loads, Exchanges}
+use Rattle.section_lines.specs.structure_laws.specs.table_words.specs.Access.{exchanged}
+use Rattle.section_lines.specs.structure_laws.specs.table_words.specs.Places.{Fits}
+use Rattle.section_lines.specs.structure_laws.specs.table_words.specs.Seen.{upd, put}
+use Rattle.section_lines.specs.structure_laws.specs.Meaning.{Meaning}
+use Rattle.machine_states.specs.runner_steps.specs.runner_parts.specs.declared.event.EventKind.TheVariants as kinds
+use Rattle.machine_states.specs.runner_steps.specs.runner_parts.specs.declared.entries.Retired.{Retired}
+use Rattle.machine_states.specs.runner_steps.specs.runner_parts.specs.State.{RunState, PartState, RecordsState}
+use Rattle.machine_states.specs.runner_steps.specs.Sections.{thunk_of, is_open_run, line_of, next_of, setting_of}
+use Rattle.machine_states.specs.runner_steps.specs.runner_parts.specs.Lists.{slot_retired}
+use Rattle.machine_states.specs.runner_steps.specs.Asks.{sizes_for}
+use Rattle.machine_states.specs.runner_steps.specs.InRun.{retire_commit_ask, epoch_for_retire_ask}
+use Rattle.machine_states.specs.runner_steps.specs.AfterInRun as runs
+use Rattle.machine_states.specs.epoch_core.specs.declared.location.Location.{Location}
+use Rattle.machine_states.specs.epoch_core.specs.declared.location.Location.TheVariants.{Live, Hand}
+use Rattle.machine_states.specs.epoch_core.specs.Update.{upd2}
+use Rattle.machine_states.specs.epoch_core.specs.Moves as moves
+use Rattle.machine_states.specs.epoch_core.specs.State.{EpochState, Retiring, no_retire, Retires}
+use Rattle.machine_states.specs.epoch_core.specs.Events.{slot_of}
+use Rattle.machine_states.specs.epoch_core.specs.Events as events
+use Rattle.machine_states.specs.epoch_core.specs.History.{is_out}
+use Rattle.machine_states.specs.epoch_core.specs.Lists.{Entry, Lists, retired_lists}
 use Rattle.machine_states.specs.Sight.{Sight}
 use Rattle.machine_states.proofs.Updates.{map_same, map_upd, upd_here}
 use Rattle.machine_epochs.specs.Entries.{counts_of}

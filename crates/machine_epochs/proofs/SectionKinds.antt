@@ -5,36 +5,36 @@ use Rattle.std.proofs.Common.{◌≡◌, ◌≢◌, ℕ, zero, suc, ◌+◌, ◌
 use Rattle.std.proofs.lemmas.Bool.{cases_eq}
 use Rattle.std.proofs.lemmas.List.{length-replicate}
 use Rattle.std.proofs.lemmas.Bool.Decides.{nat_tests}
-use Rattle.small_lemmas.proofs.Numbers.{tested_equal as same_word, tested_other as other_word}
-use Rattle.map_history.specs.declared.op.Request.{Request}
-use Rattle.body_terms.specs.declared.thunk.Thunk.{Thunk}
-use Rattle.body_terms.specs.Word.{held_word}
-use Rattle.table_words.specs.declared.layout.Layout.{Layout}
-use Rattle.table_words.specs.declared.spot.Spot.{Spot}
-use Rattle.table_words.specs.declared.spot.Spot.TheVariants.{Epoch, Cell, ThunkWord, LogWord}
-use Rattle.table_words.specs.declared.access.Access.{Access}
-use Rattle.table_words.specs.declared.access.Access.TheVariants.{Exchanges}
-use Rattle.table_words.specs.Access.{written}
-use Rattle.table_words.specs.Seen.{upd, put}
-use Rattle.structure_laws.specs.Meaning.{Meaning}
-use Rattle.runner_parts.specs.declared.event.EventKind.TheVariants as kinds
-use Rattle.epoch_core.specs.declared.stage.Stage.TheVariants.{Entered}
-use Rattle.runner_parts.specs.declared.entries.Published.{Published}
-use Rattle.runner_parts.specs.declared.entries.Stored.{Stored}
-use Rattle.runner_parts.specs.State.{PartState, RecordsState}
-use Rattle.runner_parts.specs.Tests.{has, last_stored, is_some_of, are_stored, thunk_words, is_prepared}
-use Rattle.runner_steps.specs.Outside.{descriptor_spot, hold_ask, retire_ask}
-use Rattle.runner_steps.specs.Sections.{thunk_of}
-use Rattle.runner_parts.specs.Lists as lists
-use Rattle.runner_steps.specs.AfterOutside as outside
-use Rattle.epoch_core.specs.declared.location.Location.{Location}
-use Rattle.epoch_core.specs.declared.location.Location.TheVariants.{Live, Hand, Free, Limbo}
-use Rattle.epoch_core.specs.Update.{upd2, upd_row}
-use Rattle.epoch_core.specs.State.{EpochState, Role, MayHold, is_entered}
-use Rattle.epoch_core.specs.Events as events
-use Rattle.epoch_core.specs.Events.{slot_of}
-use Rattle.epoch_core.specs.History.{is_out}
-use Rattle.epoch_core.specs.Lists.{Entry, Lists}
+use Rattle.section_lines.specs.small_lemmas.proofs.Numbers.{tested_equal as same_word, tested_other as other_word}
+use Rattle.section_lines.specs.structure_laws.specs.map_history.specs.declared.op.Request.{Request}
+use Rattle.section_lines.specs.structure_laws.specs.body_terms.specs.declared.thunk.Thunk.{Thunk}
+use Rattle.section_lines.specs.structure_laws.specs.body_terms.specs.Word.{held_word}
+use Rattle.section_lines.specs.structure_laws.specs.table_words.specs.declared.layout.Layout.{Layout}
+use Rattle.section_lines.specs.structure_laws.specs.table_words.specs.declared.spot.Spot.{Spot}
+use Rattle.section_lines.specs.structure_laws.specs.table_words.specs.declared.spot.Spot.TheVariants.{Epoch, Cell, ThunkWord, LogWord}
+use Rattle.section_lines.specs.structure_laws.specs.table_words.specs.declared.access.Access.{Access}
+use Rattle.section_lines.specs.structure_laws.specs.table_words.specs.declared.access.Access.TheVariants.{Exchanges}
+use Rattle.section_lines.specs.structure_laws.specs.table_words.specs.Access.{written}
+use Rattle.section_lines.specs.structure_laws.specs.table_words.specs.Seen.{upd, put}
+use Rattle.section_lines.specs.structure_laws.specs.Meaning.{Meaning}
+use Rattle.machine_states.specs.runner_steps.specs.runner_parts.specs.declared.event.EventKind.TheVariants as kinds
+use Rattle.machine_states.specs.epoch_core.specs.declared.stage.Stage.TheVariants.{Entered}
+use Rattle.machine_states.specs.runner_steps.specs.runner_parts.specs.declared.entries.Published.{Published}
+use Rattle.machine_states.specs.runner_steps.specs.runner_parts.specs.declared.entries.Stored.{Stored}
+use Rattle.machine_states.specs.runner_steps.specs.runner_parts.specs.State.{PartState, RecordsState}
+use Rattle.machine_states.specs.runner_steps.specs.runner_parts.specs.Tests.{has, last_stored, is_some_of, are_stored, thunk_words, is_prepared}
+use Rattle.machine_states.specs.runner_steps.specs.Outside.{descriptor_spot, hold_ask, retire_ask}
+use Rattle.machine_states.specs.runner_steps.specs.Sections.{thunk_of}
+use Rattle.machine_states.specs.runner_steps.specs.runner_parts.specs.Lists as lists
+use Rattle.machine_states.specs.runner_steps.specs.AfterOutside as outside
+use Rattle.machine_states.specs.epoch_core.specs.declared.location.Location.{Location}
+use Rattle.machine_states.specs.epoch_core.specs.declared.location.Location.TheVariants.{Live, Hand, Free, Limbo}
+use Rattle.machine_states.specs.epoch_core.specs.Update.{upd2, upd_row}
+use Rattle.machine_states.specs.epoch_core.specs.State.{EpochState, Role, MayHold, is_entered}
+use Rattle.machine_states.specs.epoch_core.specs.Events as events
+use Rattle.machine_states.specs.epoch_core.specs.Events.{slot_of}
+use Rattle.machine_states.specs.epoch_core.specs.History.{is_out}
+use Rattle.machine_states.specs.epoch_core.specs.Lists.{Entry, Lists}
 use Rattle.machine_states.specs.Sight.{Sight}
 use Rattle.machine_states.proofs.Steps.{some_same}
 use Rattle.machine_states.proofs.Updates.{map_upd}
@@ -50,7 +50,7 @@ use Rattle.machine_epochs.proofs.Joining.{but_cell, but_load, descriptor_same, G
 use Rattle.machine_epochs.proofs.SlotKinds.{other_place, this_place, kept_place, live_hand}
 use Rattle.machine_epochs.proofs.RetireKinds.{map_more}
 use Rattle.machine_epochs.proofs.OutsideKinds.{Leads, reads}
-use Rattle.runner_steps.specs.AfterOutside.{published_by}
+use Rattle.machine_states.specs.runner_steps.specs.AfterOutside.{published_by}
 
 -- each of these words was stored last at its place
 pub stored_index : (stored : List Stored) (d : ℕ) (ns : List ℕ) (word i : ℕ) → i < length ns → are_stored stored d word ns ≡ true → last_stored stored d (word + i) None ≡ Some (slice_index ns i)

@@ -2,40 +2,40 @@
 use Rattle.std.specs.Prelude.{◌==◌, ◌||◌, cond, if◌then◌else◌, Bool, true, false, slice_index}
 use Rattle.std.proofs.Common.{◌≡◌, ◌≢◌, ℕ, zero, suc, ◌+◌, ◌-◌, ◌<◌, List, [], ◌∷◌, ◌++◌, length, refl, sym, ap, ◌∙◌, subst, arith, add-one, ◌⊎◌, inl, inr, Option, Some, None}
 use Rattle.std.proofs.lemmas.Bool.Decides.{nat_tests}
-use Rattle.small_lemmas.proofs.Numbers.{tested_equal as same_slot}
-use Rattle.map_history.specs.declared.op.Request.{Request}
-use Rattle.body_terms.specs.declared.micro.Micro.{Micro}
-use Rattle.body_terms.specs.declared.micro.Micro.TheVariants as micros
-use Rattle.body_terms.specs.Line.{line, micro_at}
-use Rattle.body_terms.specs.Run.{written_once}
-use Rattle.body_terms.specs.Word.{version_of}
-use Rattle.table_words.specs.declared.layout.Layout.{Layout}
-use Rattle.table_words.specs.declared.spot.Spot.{Spot}
-use Rattle.table_words.specs.declared.spot.Spot.TheVariants.{Cell, LogWord}
-use Rattle.table_words.specs.declared.access.Access.{Access}
-use Rattle.table_words.specs.declared.access.Access.TheVariants.{Loads, Stores, Exchanges}
-use Rattle.table_words.specs.Access.{exchanged}
-use Rattle.table_words.specs.Places.{Fits}
-use Rattle.table_words.specs.Seen.{upd, put}
-use Rattle.structure_laws.specs.Meaning.{Meaning}
-use Rattle.runner_parts.specs.declared.event.EventKind.TheVariants as kinds
-use Rattle.runner_parts.specs.State.{RunState, PartState, RecordsState}
-use Rattle.runner_steps.specs.Sections.{thunk_of, is_open_run, next_of}
-use Rattle.runner_parts.specs.Tests.{has}
-use Rattle.runner_parts.specs.Lists.{without, slot_taken, slot_made, slot_back}
-use Rattle.runner_steps.specs.Asks.{sizes_for}
-use Rattle.runner_steps.specs.InRun.{last_of, make_slot, is_slot, fill_load_ask, fill_store_ask, make_commit_ask}
-use Rattle.runner_steps.specs.AfterInRun as runs
-use Rattle.epoch_core.specs.declared.location.Location.{Location}
-use Rattle.epoch_core.specs.declared.location.Location.TheVariants.{Live, Hand, Free}
-use Rattle.epoch_core.specs.Moves as moves
-use Rattle.epoch_core.specs.State.{EpochState, Makes}
-use Rattle.epoch_core.specs.Events.{slot_of}
-use Rattle.epoch_core.specs.Events as events
-use Rattle.epoch_core.specs.History.{is_out}
-use Rattle.epoch_core.specs.Sound.{is_for_nodes}
-use Rattle.epoch_core.specs.Update.{upd2}
-use Rattle.epoch_core.specs.Lists.{Lists, made_lists, tested_lists}
+use Rattle.section_lines.specs.small_lemmas.proofs.Numbers.{tested_equal as same_slot}
+use Rattle.section_lines.specs.structure_laws.specs.map_history.specs.declared.op.Request.{Request}
+use Rattle.section_lines.specs.structure_laws.specs.body_terms.specs.declared.micro.Micro.{Micro}
+use Rattle.section_lines.specs.structure_laws.specs.body_terms.specs.declared.micro.Micro.TheVariants as micros
+use Rattle.section_lines.specs.structure_laws.specs.body_terms.specs.Line.{line, micro_at}
+use Rattle.section_lines.specs.structure_laws.specs.body_terms.specs.Run.{written_once}
+use Rattle.section_lines.specs.structure_laws.specs.body_terms.specs.Word.{version_of}
+use Rattle.section_lines.specs.structure_laws.specs.table_words.specs.declared.layout.Layout.{Layout}
+use Rattle.section_lines.specs.structure_laws.specs.table_words.specs.declared.spot.Spot.{Spot}
+use Rattle.section_lines.specs.structure_laws.specs.table_words.specs.declared.spot.Spot.TheVariants.{Cell, LogWord}
+use Rattle.section_lines.specs.structure_laws.specs.table_words.specs.declared.access.Access.{Access}
+use Rattle.section_lines.specs.structure_laws.specs.table_words.specs.declared.access.Access.TheVariants.{Loads, Stores, Exchanges}
+use Rattle.section_lines.specs.structure_laws.specs.table_words.specs.Access.{exchanged}
+use Rattle.section_lines.specs.structure_laws.specs.table_words.specs.Places.{Fits}
+use Rattle.section_lines.specs.structure_laws.specs.table_words.specs.Seen.{upd, put}
+use Rattle.section_lines.specs.structure_laws.specs.Meaning.{Meaning}
+use Rattle.machine_states.specs.runner_steps.specs.runner_parts.specs.declared.event.EventKind.TheVariants as kinds
+use Rattle.machine_states.specs.runner_steps.specs.runner_parts.specs.State.{RunState, PartState, RecordsState}
+use Rattle.machine_states.specs.runner_steps.specs.Sections.{thunk_of, is_open_run, next_of}
+use Rattle.machine_states.specs.runner_steps.specs.runner_parts.specs.Tests.{has}
+use Rattle.machine_states.specs.runner_steps.specs.runner_parts.specs.Lists.{without, slot_taken, slot_made, slot_back}
+use Rattle.machine_states.specs.runner_steps.specs.Asks.{sizes_for}
+use Rattle.machine_states.specs.runner_steps.specs.InRun.{last_of, make_slot, is_slot, fill_load_ask, fill_store_ask, make_commit_ask}
+use Rattle.machine_states.specs.runner_steps.specs.AfterInRun as runs
+use Rattle.machine_states.specs.epoch_core.specs.declared.location.Location.{Location}
+use Rattle.machine_states.specs.epoch_core.specs.declared.location.Location.TheVariants.{Live, Hand, Free}
+use Rattle.machine_states.specs.epoch_core.specs.Moves as moves
+use Rattle.machine_states.specs.epoch_core.specs.State.{EpochState, Makes}
+use Rattle.machine_states.specs.epoch_core.specs.Events.{slot_of}
+use Rattle.machine_states.specs.epoch_core.specs.Events as events
+use Rattle.machine_states.specs.epoch_core.specs.History.{is_out}
+use Rattle.machine_states.specs.epoch_core.specs.Sound.{is_for_nodes}
+use Rattle.machine_states.specs.epoch_core.specs.Update.{upd2}
+use Rattle.machine_states.specs.epoch_core.specs.Lists.{Lists, made_lists, tested_lists}
 use Rattle.machine_states.specs.Sight.{Sight}
 use Rattle.machine_states.proofs.Updates.{map_upd}
 use Rattle.machine_epochs.specs.Entries.{counts_of}

@@ -2,32 +2,32 @@
 use Rattle.std.specs.Prelude.{◌==◌, ◌&&◌, cond, if◌then◌else◌, Bool, true, false, nat_lt}
 use Rattle.std.proofs.Common.{◌≡◌, ◌≢◌, ℕ, ◌-◌, ◌<◌, ◌≤◌, List, [], ◌∷◌, ◌++◌, refl, sym, ap, ◌∙◌, subst, ⊎_elim, arith, Option, Some, None}
 use Rattle.std.proofs.lemmas.Bool.Decides.{nat_tests}
-use Rattle.small_lemmas.proofs.Lists.{same_number as some_number}
-use Rattle.map_history.specs.declared.op.Request.{Request}
-use Rattle.body_terms.specs.declared.thunk.Thunk.{Thunk}
-use Rattle.table_words.specs.declared.layout.Layout.{Layout}
-use Rattle.table_words.specs.declared.sizes.Sizes.{Sizes}
-use Rattle.table_words.specs.declared.spot.Spot.{Spot}
-use Rattle.table_words.specs.declared.spot.Spot.TheVariants.{Epoch, Announcement, ThunkWord, DoneWord, LogWord}
-use Rattle.table_words.specs.declared.access.Access.{Access}
-use Rattle.table_words.specs.Places.{Fits, slot_count}
-use Rattle.table_words.specs.Seen.{put}
-use Rattle.structure_laws.specs.Meaning.{Meaning}
-use Rattle.runner_parts.specs.declared.event.EventKind.TheVariants as kinds
-use Rattle.runner_parts.specs.declared.entries.Stored.{Stored}
-use Rattle.runner_parts.specs.State.{PartState, RecordsState}
-use Rattle.runner_parts.specs.Tests.{has, last_stored}
-use Rattle.runner_parts.specs.Lists.{nodes_looked, descriptor_stored}
-use Rattle.runner_steps.specs.Outside.{descriptor_spot, private_load_ask, private_store_ask}
-use Rattle.runner_steps.specs.Asks.{sizes_for}
-use Rattle.epoch_core.specs.declared.location.Location.TheVariants.{Free}
-use Rattle.epoch_core.specs.Update.{upd2}
-use Rattle.epoch_core.specs.State.{EpochState}
-use Rattle.epoch_core.specs.Events as events
-use Rattle.epoch_core.specs.Events.{slot_of}
-use Rattle.epoch_core.specs.Schedules.{AllEnabled, after_all}
-use Rattle.epoch_core.specs.History.{is_out}
-use Rattle.epoch_core.specs.Lists.{listed_all}
+use Rattle.section_lines.specs.small_lemmas.proofs.Lists.{same_number as some_number}
+use Rattle.section_lines.specs.structure_laws.specs.map_history.specs.declared.op.Request.{Request}
+use Rattle.section_lines.specs.structure_laws.specs.body_terms.specs.declared.thunk.Thunk.{Thunk}
+use Rattle.section_lines.specs.structure_laws.specs.table_words.specs.declared.layout.Layout.{Layout}
+use Rattle.section_lines.specs.structure_laws.specs.table_words.specs.declared.sizes.Sizes.{Sizes}
+use Rattle.section_lines.specs.structure_laws.specs.table_words.specs.declared.spot.Spot.{Spot}
+use Rattle.section_lines.specs.structure_laws.specs.table_words.specs.declared.spot.Spot.TheVariants.{Epoch, Announcement, ThunkWord, DoneWord, LogWord}
+use Rattle.section_lines.specs.structure_laws.specs.table_words.specs.declared.access.Access.{Access}
+use Rattle.section_lines.specs.structure_laws.specs.table_words.specs.Places.{Fits, slot_count}
+use Rattle.section_lines.specs.structure_laws.specs.table_words.specs.Seen.{put}
+use Rattle.section_lines.specs.structure_laws.specs.Meaning.{Meaning}
+use Rattle.machine_states.specs.runner_steps.specs.runner_parts.specs.declared.event.EventKind.TheVariants as kinds
+use Rattle.machine_states.specs.runner_steps.specs.runner_parts.specs.declared.entries.Stored.{Stored}
+use Rattle.machine_states.specs.runner_steps.specs.runner_parts.specs.State.{PartState, RecordsState}
+use Rattle.machine_states.specs.runner_steps.specs.runner_parts.specs.Tests.{has, last_stored}
+use Rattle.machine_states.specs.runner_steps.specs.runner_parts.specs.Lists.{nodes_looked, descriptor_stored}
+use Rattle.machine_states.specs.runner_steps.specs.Outside.{descriptor_spot, private_load_ask, private_store_ask}
+use Rattle.machine_states.specs.runner_steps.specs.Asks.{sizes_for}
+use Rattle.machine_states.specs.epoch_core.specs.declared.location.Location.TheVariants.{Free}
+use Rattle.machine_states.specs.epoch_core.specs.Update.{upd2}
+use Rattle.machine_states.specs.epoch_core.specs.State.{EpochState}
+use Rattle.machine_states.specs.epoch_core.specs.Events as events
+use Rattle.machine_states.specs.epoch_core.specs.Events.{slot_of}
+use Rattle.machine_states.specs.epoch_core.specs.Schedules.{AllEnabled, after_all}
+use Rattle.machine_states.specs.epoch_core.specs.History.{is_out}
+use Rattle.machine_states.specs.epoch_core.specs.Lists.{listed_all}
 use Rattle.machine_states.specs.Sight.{Sight}
 use Rattle.machine_states.proofs.Updates.{map_same}
 use Rattle.machine_epochs.specs.Entries.{counts_of}

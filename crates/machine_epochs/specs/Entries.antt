@@ -1,9 +1,9 @@
 -- What the component of epochs and slots sees of the machine: the epoch, the announcements and the stages.
-use Rattle.table_words.specs.declared.layout.Layout.{Layout}
-use Rattle.table_words.specs.Places.{slot_count, descriptor_count}
-use Rattle.table_words.specs.declared.spot.Spot.TheVariants.{Epoch, Announcement}
-use Rattle.structure_laws.specs.Meaning.{Meaning}
-use Rattle.epoch_core.specs.State.{Counts, EpochState}
+use Rattle.section_lines.specs.structure_laws.specs.table_words.specs.declared.layout.Layout.{Layout}
+use Rattle.section_lines.specs.structure_laws.specs.table_words.specs.Places.{slot_count, descriptor_count}
+use Rattle.section_lines.specs.structure_laws.specs.table_words.specs.declared.spot.Spot.TheVariants.{Epoch, Announcement}
+use Rattle.section_lines.specs.structure_laws.specs.Meaning.{Meaning}
+use Rattle.machine_states.specs.epoch_core.specs.State.{Counts, EpochState}
 use Rattle.machine_states.specs.Sight.{Sight}
 
 -- how many workers, node slots and descriptors there are

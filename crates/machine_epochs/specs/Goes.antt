@@ -1,12 +1,12 @@
 -- A step of the machine as events of the component of epochs and slots.
 use Rattle.std.specs.Prelude.{ℕ, List}
-use Rattle.map_history.specs.declared.op.Request.{Request}
-use Rattle.table_words.specs.declared.layout.Layout.{Layout}
-use Rattle.structure_laws.specs.Meaning.{Meaning}
-use Rattle.runner_parts.specs.declared.event.EventKind.{EventKind}
-use Rattle.epoch_core.specs.State.{EpochState}
-use Rattle.epoch_core.specs.Events.{Event}
-use Rattle.epoch_core.specs.Schedules.{first_state, AllEnabled, after_all}
+use Rattle.section_lines.specs.structure_laws.specs.map_history.specs.declared.op.Request.{Request}
+use Rattle.section_lines.specs.structure_laws.specs.table_words.specs.declared.layout.Layout.{Layout}
+use Rattle.section_lines.specs.structure_laws.specs.Meaning.{Meaning}
+use Rattle.machine_states.specs.runner_steps.specs.runner_parts.specs.declared.event.EventKind.{EventKind}
+use Rattle.machine_states.specs.epoch_core.specs.State.{EpochState}
+use Rattle.machine_states.specs.epoch_core.specs.Events.{Event}
+use Rattle.machine_states.specs.epoch_core.specs.Schedules.{first_state, AllEnabled, after_all}
 use Rattle.machine_states.specs.World.{World}
 use Rattle.machine_states.specs.First.{IsFirst}
 use Rattle.machine_states.specs.Sight.{Sight, sight, Steps}

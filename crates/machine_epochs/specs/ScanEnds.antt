@@ -1,12 +1,12 @@
 -- Where a scan ends, and the epoch for which the scanner then collects.
 use Rattle.std.specs.Prelude.{ℕ, ◌+◌, not, ◌==◌, ◌&&◌, nat_lt, Option, Some, None, if◌then◌else◌}
-use Rattle.table_words.specs.declared.layout.Layout.{Layout}
-use Rattle.runner_parts.specs.declared.event.EventKind.{EventKind}
-use Rattle.runner_parts.specs.declared.event.EventKind.TheVariants as kinds
-use Rattle.epoch_core.specs.declared.stage.Stage.{Stage}
-use Rattle.epoch_core.specs.declared.stage.Stage.TheVariants.{Scanning}
-use Rattle.epoch_core.specs.State.{last_epoch}
-use Rattle.epoch_core.specs.Moves.{is_clear}
+use Rattle.section_lines.specs.structure_laws.specs.table_words.specs.declared.layout.Layout.{Layout}
+use Rattle.machine_states.specs.runner_steps.specs.runner_parts.specs.declared.event.EventKind.{EventKind}
+use Rattle.machine_states.specs.runner_steps.specs.runner_parts.specs.declared.event.EventKind.TheVariants as kinds
+use Rattle.machine_states.specs.epoch_core.specs.declared.stage.Stage.{Stage}
+use Rattle.machine_states.specs.epoch_core.specs.declared.stage.Stage.TheVariants.{Scanning}
+use Rattle.machine_states.specs.epoch_core.specs.State.{last_epoch}
+use Rattle.machine_states.specs.epoch_core.specs.Moves.{is_clear}
 
 -- the epoch for which a scanner collects that reads the last announcement, where no advance is tried
 abbrev pub scan_collects : Layout → ℕ → Stage → Option ℕ

@@ -1,15 +1,15 @@
 -- What lists of events of epochs and slots leave.
 use Rattle.std.proofs.Common.{◌≡◌, ℕ, Bool, true, false, List, [], ◌∷◌, ◌++◌, refl, sym, ap, ◌∙◌, subst, inl, inr, ⊎_elim}
-use Rattle.epoch_core.specs.declared.location.Location.{Location}
-use Rattle.epoch_core.specs.State.{Counts, Role, EpochState}
-use Rattle.epoch_core.specs.Events.{Event, Reach, WordCommit, Publish, after, slot_of}
-use Rattle.epoch_core.specs.Schedules.{AllEnabled, after_all}
-use Rattle.epoch_core.specs.Sound.{IsSound}
-use Rattle.epoch_core.specs.History.{History, noted, noted_all, IsExact, is_out}
-use Rattle.epoch_core.specs.Freed.{IsMade, IsRetired, SlotsMove, FreedStay}
-use Rattle.epoch_core.proofs.Freeing.{moves, freed_stay}
-use Rattle.epoch_core.proofs.Keeping.{keeps}
-use Rattle.epoch_core.proofs.Exactly as exactly
+use Rattle.machine_states.specs.epoch_core.specs.declared.location.Location.{Location}
+use Rattle.machine_states.specs.epoch_core.specs.State.{Counts, Role, EpochState}
+use Rattle.machine_states.specs.epoch_core.specs.Events.{Event, Reach, WordCommit, Publish, after, slot_of}
+use Rattle.machine_states.specs.epoch_core.specs.Schedules.{AllEnabled, after_all}
+use Rattle.machine_states.specs.epoch_core.specs.Sound.{IsSound}
+use Rattle.machine_states.specs.epoch_core.specs.History.{History, noted, noted_all, IsExact, is_out}
+use Rattle.machine_states.specs.epoch_core.specs.Freed.{IsMade, IsRetired, SlotsMove, FreedStay}
+use Rattle.machine_states.specs.epoch_core.proofs.Freeing.{moves, freed_stay}
+use Rattle.machine_states.specs.epoch_core.proofs.Keeping.{keeps}
+use Rattle.machine_states.specs.epoch_core.proofs.Exactly as exactly
 use Rattle.machine_invariant.specs.Along.{reaches_of}
 use Rattle.machine_invariant.proofs.Runs.{AllAre}
 

@@ -2,18 +2,18 @@
 use Rattle.std.specs.Prelude.{◌⊎◌, true, slice_get}
 use Rattle.std.proofs.Common.{◌≡◌, ℕ, List, sym, ap, ◌∙◌, subst, inl, inr, ⊎_elim, Some}
 use Rattle.std.proofs.lemmas.Bool.{cases_eq}
-use Rattle.map_history.specs.declared.op.Request.{Request}
-use Rattle.table_words.specs.declared.layout.Layout.{Layout}
-use Rattle.table_words.specs.Seen.{upd}
-use Rattle.structure_laws.specs.Meaning.{Meaning}
-use Rattle.runner_parts.specs.declared.event.EventKind.{EventKind}
-use Rattle.runner_parts.specs.declared.event.EventKind.TheVariants as kinds
-use Rattle.runner_parts.specs.State.{FinishedState, PartState, RunState}
-use Rattle.runner_steps.specs.After.{after, leaves as leaves_part, knows_also, stepped}
+use Rattle.agreement_core.specs.map_history.specs.declared.op.Request.{Request}
+use Rattle.agreement_core.specs.table_words.specs.declared.layout.Layout.{Layout}
+use Rattle.agreement_core.specs.table_words.specs.Seen.{upd}
+use Rattle.machine_states.specs.structure_laws.specs.Meaning.{Meaning}
+use Rattle.machine_states.specs.runner_steps.specs.runner_parts.specs.declared.event.EventKind.{EventKind}
+use Rattle.machine_states.specs.runner_steps.specs.runner_parts.specs.declared.event.EventKind.TheVariants as kinds
+use Rattle.machine_states.specs.runner_steps.specs.runner_parts.specs.State.{FinishedState, PartState, RunState}
+use Rattle.machine_states.specs.runner_steps.specs.After.{after, leaves as leaves_part, knows_also, stepped}
 use Rattle.machine_states.specs.Sight.{Sight, Steps, parts_after}
 use Rattle.machine_states.proofs.Updates.{upd_here, upd_else}
-use Rattle.runner_steps.specs.Sections.{is_open_run}
-use Rattle.runner_steps.specs.AfterInRun.{ended_more, finished_of}
+use Rattle.machine_states.specs.runner_steps.specs.Sections.{is_open_run}
+use Rattle.machine_states.specs.runner_steps.specs.AfterInRun.{ended_more, finished_of}
 use Rattle.machine_invariant.specs.machine_agreement.proofs.LineKinds.{noted_finished}
 use Rattle.machine_invariant.specs.machine_agreement.proofs.Releases.{get_more}
 use Rattle.machine_facts.proofs.Records.{stepped_same}

@@ -2,16 +2,16 @@
 use Rattle.std.specs.Prelude.{◌-◌, ◌==◌, nat_lt, Bool, true, false, replicate, if◌then◌else◌}
 use Rattle.std.proofs.Common.{◌≡◌, ℕ, suc, List, [], ◌∷◌, ◌++◌, refl, sym, ap, ◌∙◌, subst, inl, inr, ⊎_elim, arith, Option, Some, None}
 use Rattle.std.specs.Prelude.{◌⊎◌}
-use Rattle.body_terms.specs.Word.{value_of}
-use Rattle.table_words.specs.declared.layout.Layout.{Layout}
-use Rattle.table_words.specs.declared.spot.Spot.TheVariants.{Cell}
-use Rattle.table_words.specs.Places.{slot_count}
-use Rattle.map_history.specs.declared.op.Request.{Request}
-use Rattle.structure_laws.specs.Meaning.{Meaning}
-use Rattle.runner_parts.specs.declared.event.EventKind.{EventKind}
-use Rattle.runner_parts.specs.declared.event.EventKind.TheVariants as kinds
-use Rattle.runner_parts.specs.State.{RunState, PartState}
-use Rattle.runner_steps.specs.Sections.{is_open_run}
+use Rattle.agreement_core.specs.body_terms.specs.Word.{value_of}
+use Rattle.agreement_core.specs.table_words.specs.declared.layout.Layout.{Layout}
+use Rattle.agreement_core.specs.table_words.specs.declared.spot.Spot.TheVariants.{Cell}
+use Rattle.agreement_core.specs.table_words.specs.Places.{slot_count}
+use Rattle.agreement_core.specs.map_history.specs.declared.op.Request.{Request}
+use Rattle.machine_states.specs.structure_laws.specs.Meaning.{Meaning}
+use Rattle.machine_states.specs.runner_steps.specs.runner_parts.specs.declared.event.EventKind.{EventKind}
+use Rattle.machine_states.specs.runner_steps.specs.runner_parts.specs.declared.event.EventKind.TheVariants as kinds
+use Rattle.machine_states.specs.runner_steps.specs.runner_parts.specs.State.{RunState, PartState}
+use Rattle.machine_states.specs.runner_steps.specs.Sections.{is_open_run}
 use Rattle.agreement_core.specs.State.{CellRules, AgreementState}
 use Rattle.agreement_core.specs.Events as agreement
 use Rattle.agreement_core.specs.Schedules as agreement_schedules
@@ -20,7 +20,7 @@ use Rattle.agreement_core.specs.Late.{IsReleaseOf}
 use Rattle.agreement_core.proofs.Keeping as agreement_keeping
 use Rattle.agreement_core.proofs.Late.{locks_leave}
 use Rattle.machine_states.specs.Sight.{Sight}
-use Rattle.machine_scenes.specs.Shown.{rules_of}
+use Rattle.machine_invariant.specs.machine_agreement.specs.machine_scenes.specs.Shown.{rules_of}
 use Rattle.machine_invariant.specs.machine_agreement.specs.Chunks as sections
 use Rattle.machine_invariant.specs.machine_agreement.specs.Supplied.{collects}
 use Rattle.machine_invariant.specs.machine_agreement.specs.Joined.{IsJoinedToAgreement, ShowsRun}

@@ -3,23 +3,23 @@ use Rattle.std.specs.Prelude.{true, slice_get, replicate}
 use Rattle.std.proofs.Common.{◌≡◌, ◌≢◌, ℕ, zero, suc, ◌<◌, List, [], ◌∷◌, ◌++◌, length, sym, ap, ◌∙◌, subst, ⊎_elim, arith, Option, Some}
 use Rattle.std.specs.Prelude.{◌⊎◌}
 use Rattle.std.proofs.lemmas.Bool.Decides.{nat_tests}
-use Rattle.map_history.specs.declared.op.Request.{Request}
-use Rattle.body_terms.specs.Line.{line, micro_at}
-use Rattle.body_terms.specs.Run.{leaves}
-use Rattle.body_terms.specs.declared.outcome.Outcome.{Outcome}
-use Rattle.body_terms.specs.declared.thunk.Thunk.{Thunk}
-use Rattle.table_words.specs.declared.layout.Layout.{Layout}
-use Rattle.structure_laws.specs.Meaning.{Meaning}
-use Rattle.runner_parts.specs.declared.event.EventKind.{EventKind}
-use Rattle.runner_parts.specs.declared.event.EventKind.TheVariants as kinds
-use Rattle.runner_parts.specs.State.{RunState, FinishedState}
-use Rattle.runner_steps.specs.Sections.{thunk_of, is_open_run, setting_of, outcome_or, reply_in}
+use Rattle.agreement_core.specs.map_history.specs.declared.op.Request.{Request}
+use Rattle.agreement_core.specs.body_terms.specs.Line.{line, micro_at}
+use Rattle.agreement_core.specs.body_terms.specs.Run.{leaves}
+use Rattle.agreement_core.specs.body_terms.specs.declared.outcome.Outcome.{Outcome}
+use Rattle.agreement_core.specs.body_terms.specs.declared.thunk.Thunk.{Thunk}
+use Rattle.agreement_core.specs.table_words.specs.declared.layout.Layout.{Layout}
+use Rattle.machine_states.specs.structure_laws.specs.Meaning.{Meaning}
+use Rattle.machine_states.specs.runner_steps.specs.runner_parts.specs.declared.event.EventKind.{EventKind}
+use Rattle.machine_states.specs.runner_steps.specs.runner_parts.specs.declared.event.EventKind.TheVariants as kinds
+use Rattle.machine_states.specs.runner_steps.specs.runner_parts.specs.State.{RunState, FinishedState}
+use Rattle.machine_states.specs.runner_steps.specs.Sections.{thunk_of, is_open_run, setting_of, outcome_or, reply_in}
 use Rattle.agreement_core.specs.State.{AgreementState}
 use Rattle.agreement_core.specs.Events as agreement
 use Rattle.agreement_core.specs.Schedules as agreement_schedules
 use Rattle.machine_states.specs.Sight.{Sight, Steps}
-use Rattle.machine_epochs.proofs.Joining.{thunk_same}
-use Rattle.machine_scenes.specs.Shown.{rules_of}
+use Rattle.machine_invariant.specs.machine_agreement.specs.machine_epochs.proofs.Joining.{thunk_same}
+use Rattle.machine_invariant.specs.machine_agreement.specs.machine_scenes.specs.Shown.{rules_of}
 use Rattle.machine_invariant.specs.machine_agreement.specs.Chunks as sections
 use Rattle.machine_invariant.specs.machine_agreement.specs.Joined.{IsJoinedToAgreement, IsRunOf}
 use Rattle.machine_invariant.specs.machine_agreement.proofs.RunPlaces.{run_here, used_here, opened_thunk}

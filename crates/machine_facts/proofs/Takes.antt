@@ -1,18 +1,18 @@
 -- What the whole invariant says of descriptors that the locks of Takes name.
 use Rattle.std.proofs.Common.{◌≡◌, ℕ, suc, ◌+◌, ◌<◌, true, sym, ap, ◌∙◌, subst, ⊎_elim, arith}
 use Rattle.std.proofs.lemmas.Bool.{cases_lt}
-use Rattle.body_terms.specs.Line.{line, micro_at}
-use Rattle.body_terms.specs.Word.{value_of}
-use Rattle.body_terms.specs.declared.micro.Micro.{Micro}
-use Rattle.section_lines.specs.Line.{IsCounted}
-use Rattle.table_words.specs.declared.layout.Layout.{Layout}
-use Rattle.structure_laws.specs.Meaning.{Meaning}
-use Rattle.epoch_core.specs.declared.stage.Stage.TheVariants.{Entered}
-use Rattle.runner_parts.specs.Tests.{has}
-use Rattle.runner_steps.specs.Sections.{line_of}
+use Rattle.agreement_core.specs.body_terms.specs.Line.{line, micro_at}
+use Rattle.agreement_core.specs.body_terms.specs.Word.{value_of}
+use Rattle.agreement_core.specs.body_terms.specs.declared.micro.Micro.{Micro}
+use Rattle.agreement_core.specs.section_lines.specs.Line.{IsCounted}
+use Rattle.agreement_core.specs.table_words.specs.declared.layout.Layout.{Layout}
+use Rattle.machine_states.specs.structure_laws.specs.Meaning.{Meaning}
+use Rattle.machine_states.specs.epoch_core.specs.declared.stage.Stage.TheVariants.{Entered}
+use Rattle.machine_states.specs.runner_steps.specs.runner_parts.specs.Tests.{has}
+use Rattle.machine_states.specs.runner_steps.specs.Sections.{line_of}
 use Rattle.agreement_core.specs.State.{AgreementState}
 use Rattle.machine_states.specs.Sight.{Sight}
-use Rattle.machine_epochs.proofs.Places.{run_thunk}
+use Rattle.machine_invariant.specs.machine_agreement.specs.machine_epochs.proofs.Places.{run_thunk}
 use Rattle.machine_invariant.specs.Named.{IsLockCommit}
 use Rattle.machine_invariant.specs.Slots.{node_count, HeldStand}
 use Rattle.machine_invariant.specs.Trails.{step_at, log_of}

@@ -3,37 +3,37 @@ use Rattle.std.specs.Prelude.{◌==◌, ◌&&◌, not, nat_lt, nat_le, Bool, tru
 use Rattle.std.proofs.Common.{◌≡◌, ◌≢◌, ℕ, ◌<◌, List, length, refl, sym, ap, ◌∙◌, subst, ⊎_elim, arith, Option, Some, None}
 use Rattle.std.proofs.lemmas.Bool.{cases_eq}
 use Rattle.std.proofs.lemmas.Bool.Decides.{nat_tests}
-use Rattle.map_history.specs.declared.op.Request.{Request}
-use Rattle.body_terms.specs.declared.micro.Micro.TheVariants as micros
-use Rattle.body_terms.specs.Line.{micro_at}
-use Rattle.table_words.specs.declared.layout.Layout.{Layout}
-use Rattle.table_words.specs.declared.spot.Spot.{Spot}
-use Rattle.table_words.specs.declared.access.Access.{Access}
-use Rattle.table_words.specs.Access.{written}
-use Rattle.table_words.specs.Places.{slot_count}
-use Rattle.table_words.specs.Seen.{upd}
-use Rattle.structure_laws.specs.Meaning.{Meaning}
-use Rattle.epoch_core.specs.Moves.{is_clear}
-use Rattle.runner_parts.specs.declared.entries.Published.{Published}
-use Rattle.runner_parts.specs.declared.event.EventKind.{EventKind}
-use Rattle.runner_parts.specs.declared.event.EventKind.TheVariants as kinds
-use Rattle.epoch_core.specs.declared.stage.Stage.{Stage}
-use Rattle.epoch_core.specs.declared.stage.Stage.TheVariants as stages
-use Rattle.runner_parts.specs.State.{RunState, RecordsState, PartState}
-use Rattle.runner_parts.specs.Tests.{knows}
-use Rattle.runner_steps.specs.Sections.{thunk_of, line_of, is_open_run, next_of}
-use Rattle.epoch_core.specs.State.{last_epoch}
-use Rattle.runner_steps.specs.Asks.{asks, line_ask, opening_ask}
-use Rattle.runner_steps.specs.AfterInRun as inside
-use Rattle.runner_steps.specs.AfterOutside as outside
-use Rattle.runner_steps.specs.After.{outside_after, line_after, after_by, stepped, after, noted, leaves, knows_also}
+use Rattle.agreement_core.specs.map_history.specs.declared.op.Request.{Request}
+use Rattle.agreement_core.specs.body_terms.specs.declared.micro.Micro.TheVariants as micros
+use Rattle.agreement_core.specs.body_terms.specs.Line.{micro_at}
+use Rattle.agreement_core.specs.table_words.specs.declared.layout.Layout.{Layout}
+use Rattle.agreement_core.specs.table_words.specs.declared.spot.Spot.{Spot}
+use Rattle.agreement_core.specs.table_words.specs.declared.access.Access.{Access}
+use Rattle.agreement_core.specs.table_words.specs.Access.{written}
+use Rattle.agreement_core.specs.table_words.specs.Places.{slot_count}
+use Rattle.agreement_core.specs.table_words.specs.Seen.{upd}
+use Rattle.machine_states.specs.structure_laws.specs.Meaning.{Meaning}
+use Rattle.machine_states.specs.epoch_core.specs.Moves.{is_clear}
+use Rattle.machine_states.specs.runner_steps.specs.runner_parts.specs.declared.entries.Published.{Published}
+use Rattle.machine_states.specs.runner_steps.specs.runner_parts.specs.declared.event.EventKind.{EventKind}
+use Rattle.machine_states.specs.runner_steps.specs.runner_parts.specs.declared.event.EventKind.TheVariants as kinds
+use Rattle.machine_states.specs.epoch_core.specs.declared.stage.Stage.{Stage}
+use Rattle.machine_states.specs.epoch_core.specs.declared.stage.Stage.TheVariants as stages
+use Rattle.machine_states.specs.runner_steps.specs.runner_parts.specs.State.{RunState, RecordsState, PartState}
+use Rattle.machine_states.specs.runner_steps.specs.runner_parts.specs.Tests.{knows}
+use Rattle.machine_states.specs.runner_steps.specs.Sections.{thunk_of, line_of, is_open_run, next_of}
+use Rattle.machine_states.specs.epoch_core.specs.State.{last_epoch}
+use Rattle.machine_states.specs.runner_steps.specs.Asks.{asks, line_ask, opening_ask}
+use Rattle.machine_states.specs.runner_steps.specs.AfterInRun as inside
+use Rattle.machine_states.specs.runner_steps.specs.AfterOutside as outside
+use Rattle.machine_states.specs.runner_steps.specs.After.{outside_after, line_after, after_by, stepped, after, noted, leaves, knows_also}
 use Rattle.machine_states.specs.Sight.{Sight, sight, parts_after}
 use Rattle.machine_states.proofs.FirstSights.{first_parts}
 use Rattle.machine_states.proofs.Sights.{if_some, some_none}
 use Rattle.machine_states.proofs.Steps.{some_same}
 use Rattle.machine_states.proofs.Updates.{upd_here, upd_else}
-use Rattle.machine_epochs.proofs.FirstJoin.{each_part}
-use Rattle.machine_epochs.proofs.RunPlaces.{next_in_line, open_run}
+use Rattle.machine_invariant.specs.machine_agreement.specs.machine_epochs.proofs.FirstJoin.{each_part}
+use Rattle.machine_invariant.specs.machine_agreement.specs.machine_epochs.proofs.RunPlaces.{next_in_line, open_run}
 use Rattle.machine_invariant.specs.machine_agreement.proofs.RunPlaces.{used_here, code_here}
 use Rattle.machine_invariant.specs.Whole.{Beside, IsWhole}
 use Rattle.machine_invariant.proofs.Asked.{asked_by}

@@ -1,7 +1,7 @@
 -- The stamp and reply words that runners know.
 use Rattle.std.specs.Prelude.{◌≡◌, ◌≢◌, ℕ, slice_get, Some}
-use Rattle.runner_parts.specs.declared.entries.Known.{Known}
-use Rattle.runner_steps.specs.Outside.{entry_spot}
+use Rattle.machine_states.specs.runner_steps.specs.runner_parts.specs.declared.entries.Known.{Known}
+use Rattle.machine_states.specs.runner_steps.specs.Outside.{entry_spot}
 use Rattle.machine_states.specs.Sight.{Sight}
 
 -- each stamp word and each reply word that a runner knows isn't 0, and stands

@@ -1,16 +1,16 @@
 -- The outcomes of the runs that came to their end.
 use Rattle.std.specs.Prelude.{◌≡◌, ◌≢◌, ℕ, true, slice_get, Some}
-use Rattle.body_terms.specs.Line.{line}
-use Rattle.body_terms.specs.Run.{Run, ran}
-use Rattle.body_terms.specs.declared.outcome.Outcome.TheVariants.{Answered}
-use Rattle.table_words.specs.declared.layout.Layout.{Layout}
-use Rattle.structure_laws.specs.Meaning.{Meaning}
-use Rattle.runner_parts.specs.State.{FinishedState}
-use Rattle.runner_steps.specs.Sections.{reply_in}
+use Rattle.agreement_core.specs.body_terms.specs.Line.{line}
+use Rattle.agreement_core.specs.body_terms.specs.Run.{Run, ran}
+use Rattle.agreement_core.specs.body_terms.specs.declared.outcome.Outcome.TheVariants.{Answered}
+use Rattle.agreement_core.specs.table_words.specs.declared.layout.Layout.{Layout}
+use Rattle.machine_states.specs.structure_laws.specs.Meaning.{Meaning}
+use Rattle.machine_states.specs.runner_steps.specs.runner_parts.specs.State.{FinishedState}
+use Rattle.machine_states.specs.runner_steps.specs.Sections.{reply_in}
 use Rattle.agreement_core.specs.State.{AgreementState}
 use Rattle.agreement_core.specs.PlainRuns.{chosen, IsOver}
 use Rattle.machine_states.specs.Sight.{Sight}
-use Rattle.machine_scenes.specs.Shown.{rules_of}
+use Rattle.machine_invariant.specs.machine_agreement.specs.machine_scenes.specs.Shown.{rules_of}
 use Rattle.machine_invariant.specs.Trails.{thunk_at, IsEndOf}
 use Rattle.machine_invariant.specs.Sections.{IsAnswered, IsLeft}
 

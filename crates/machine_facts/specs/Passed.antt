@@ -1,15 +1,15 @@
 -- The states that events of the machine pass, each with all that is known of it.
 use Rattle.std.specs.Prelude.{◌≡◌, List, [], ◌∷◌, Some}
-use Rattle.map_history.specs.declared.op.Request.{Request}
-use Rattle.table_words.specs.declared.layout.Layout.{Layout}
-use Rattle.structure_laws.specs.Meaning.{Meaning}
-use Rattle.runner_parts.specs.declared.event.Event.{Event}
+use Rattle.agreement_core.specs.map_history.specs.declared.op.Request.{Request}
+use Rattle.agreement_core.specs.table_words.specs.declared.layout.Layout.{Layout}
+use Rattle.machine_states.specs.structure_laws.specs.Meaning.{Meaning}
+use Rattle.machine_states.specs.runner_steps.specs.runner_parts.specs.declared.event.Event.{Event}
 use Rattle.agreement_core.specs.Events as agreement
-use Rattle.epoch_core.specs.Events as epochs
-use Rattle.epoch_core.specs.Freed.{SlotsMove}
+use Rattle.machine_states.specs.epoch_core.specs.Events as epochs
+use Rattle.machine_states.specs.epoch_core.specs.Freed.{SlotsMove}
 use Rattle.machine_states.specs.World.{World, happens}
 use Rattle.machine_states.specs.Sight.{sight}
-use Rattle.machine_epochs.specs.Entries.{counts_of}
+use Rattle.machine_invariant.specs.machine_agreement.specs.machine_epochs.specs.Entries.{counts_of}
 use Rattle.machine_invariant.specs.Along.{Components, components_after, AreEventsOf}
 use Rattle.machine_facts.specs.Steps.{WordsStand, LocksStand}
 use Rattle.machine_facts.specs.States.{FactsStand}

@@ -1,13 +1,13 @@
 //! What is known of the machine's states and steps, each on a contract.
 ghost use Rattle.std.specs.Prelude.{List};
-ghost use Rattle.map_history.specs.declared.op.Request.{Request};
-ghost use Rattle.table_words.specs.declared.layout.Layout.{Layout};
-ghost use Rattle.runner_parts.specs.declared.event.Event.{Event};
+ghost use Rattle.agreement_core.specs.map_history.specs.declared.op.Request.{Request};
+ghost use Rattle.agreement_core.specs.table_words.specs.declared.layout.Layout.{Layout};
+ghost use Rattle.machine_states.specs.runner_steps.specs.runner_parts.specs.declared.event.Event.{Event};
 ghost use Rattle.machine_states.specs.World.{World};
 ghost use Rattle.machine_facts.specs.After.{FactsAfter, StepFactsAfter};
 ghost use Rattle.machine_facts.specs.Got.{ReachedGotLocksAreHeld};
 
-use structure_laws::Structure;
+use machine_states::structure_laws::Structure;
 
 /// Over every structure, after every list of events of the machine, each enabled where it is made:
 /// all facts hold of each state that the events pass, and of each step; and each section that was

@@ -1,10 +1,10 @@
 //! What runs tell their runners, on a contract.
 ghost use Rattle.std.specs.Prelude.{List};
-ghost use Rattle.map_history.specs.declared.op.Request.{Request};
-ghost use Rattle.table_words.specs.declared.layout.Layout.{Layout};
+ghost use Rattle.agreement_core.specs.map_history.specs.declared.op.Request.{Request};
+ghost use Rattle.agreement_core.specs.table_words.specs.declared.layout.Layout.{Layout};
 ghost use Rattle.machine_facts.specs.Told.{FirstIsTold, StepsTellRuns, ReachedAreTold};
 
-use structure_laws::Structure;
+use machine_states::structure_laws::Structure;
 
 /// Each runner knows the stamp word and the reply word of its run's request once the run has passed
 /// the exchange of that word: so it is in the first state, each step keeps it, and so it is in every

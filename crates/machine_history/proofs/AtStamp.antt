@@ -1,18 +1,18 @@
 -- Open sections whose furthest runs stand at the atomic steps of the stamp: they are settled and have stored nothing.
 use Rattle.std.proofs.Common.{◌≡◌, ℕ, ◌≤◌, true, refl, sym, ⊎_elim, inl, inr, arith}
 use Rattle.std.specs.Prelude.{◌⊎◌}
-use Rattle.body_terms.specs.Shape.{phase, IsStep}
-use Rattle.body_terms.specs.declared.step.Step.TheVariants.{Stamp, Store}
-use Rattle.body_terms.specs.declared.micro.Micro.{Micro}
-use Rattle.body_terms.specs.declared.micro.Micro.TheVariants as micros
-use Rattle.table_words.specs.declared.layout.Layout.{Layout}
-use Rattle.structure_laws.specs.Scene as scenes
-use Rattle.structure_laws.specs.Meaning.{Meaning}
-use Rattle.structure_laws.specs.Sections.{Here, Settled, Unstored}
-use Rattle.section_lines.specs.Progress.{passed_steps}
+use Rattle.agreement_core.specs.body_terms.specs.Shape.{phase, IsStep}
+use Rattle.agreement_core.specs.body_terms.specs.declared.step.Step.TheVariants.{Stamp, Store}
+use Rattle.agreement_core.specs.body_terms.specs.declared.micro.Micro.{Micro}
+use Rattle.agreement_core.specs.body_terms.specs.declared.micro.Micro.TheVariants as micros
+use Rattle.agreement_core.specs.table_words.specs.declared.layout.Layout.{Layout}
+use Rattle.agreement_core.specs.section_lines.specs.structure_laws.specs.Scene as scenes
+use Rattle.agreement_core.specs.section_lines.specs.structure_laws.specs.Meaning.{Meaning}
+use Rattle.agreement_core.specs.section_lines.specs.structure_laws.specs.Sections.{Here, Settled, Unstored}
+use Rattle.agreement_core.specs.section_lines.specs.Progress.{passed_steps}
 use Rattle.agreement_core.specs.State.{Section, IsOpen}
 use Rattle.epoch_core.specs.State.{Counts}
-use Rattle.completed_memory.proofs.Stores.{compare_places, come_settled}
+use Rattle.read_answers.specs.completed_memory.proofs.Stores.{compare_places, come_settled}
 use Rattle.machine_scenes.specs.Shown.{States, scene_of, section_with}
 use Rattle.machine_scenes.specs.Kept.{IsKept}
 use Rattle.machine_scenes.proofs.Shown.{shown_open}

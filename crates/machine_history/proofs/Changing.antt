@@ -1,23 +1,23 @@
 -- What a change of the cells, or of no cell, makes of the completed memory.
 use Rattle.std.proofs.Common.{◌≡◌, ℕ, ◌<◌, true, sym, ap, ◌∙◌, subst, ⊎_elim}
 use Rattle.std.proofs.lemmas.Bool.{cases_eq}
-use Rattle.map_history.specs.Replay.{Pairs}
-use Rattle.body_terms.specs.Update.{upd}
-use Rattle.body_terms.specs.Word.{version_of}
-use Rattle.table_words.specs.declared.layout.Layout.{Layout}
-use Rattle.table_words.specs.Limits.{IsWithinLimits}
-use Rattle.structure_laws.specs.Scene.{Section, Scene, with_cell}
-use Rattle.structure_laws.specs.Meaning.{Meaning}
-use Rattle.structure_laws.specs.Sections.{Here}
-use Rattle.structure_laws.specs.Laws.{Laws}
-use Rattle.structure_laws.specs.Lawful.{Moves}
-use Rattle.structure_laws.proofs.Moves.{moves}
+use Rattle.agreement_core.specs.map_history.specs.Replay.{Pairs}
+use Rattle.agreement_core.specs.body_terms.specs.Update.{upd}
+use Rattle.agreement_core.specs.body_terms.specs.Word.{version_of}
+use Rattle.agreement_core.specs.table_words.specs.declared.layout.Layout.{Layout}
+use Rattle.agreement_core.specs.table_words.specs.Limits.{IsWithinLimits}
+use Rattle.agreement_core.specs.section_lines.specs.structure_laws.specs.Scene.{Section, Scene, with_cell}
+use Rattle.agreement_core.specs.section_lines.specs.structure_laws.specs.Meaning.{Meaning}
+use Rattle.agreement_core.specs.section_lines.specs.structure_laws.specs.Sections.{Here}
+use Rattle.agreement_core.specs.section_lines.specs.structure_laws.specs.Laws.{Laws}
+use Rattle.agreement_core.specs.section_lines.specs.structure_laws.specs.Lawful.{Moves}
+use Rattle.agreement_core.specs.section_lines.specs.structure_laws.proofs.Moves.{moves}
 use Rattle.agreement_core.specs.Checks.{exchanged}
 use Rattle.agreement_core.proofs.Changing.{exchange_wins, exchange_fails}
 use Rattle.epoch_core.specs.State.{Counts}
-use Rattle.completed_memory.specs.Pending.{Marks}
-use Rattle.completed_memory.specs.Moves.{StandsCompleted, MemoryMoves}
-use Rattle.completed_memory.proofs.Moving.{memory_moves}
+use Rattle.read_answers.specs.completed_memory.specs.Pending.{Marks}
+use Rattle.read_answers.specs.completed_memory.specs.Moves.{StandsCompleted, MemoryMoves}
+use Rattle.read_answers.specs.completed_memory.proofs.Moving.{memory_moves}
 use Rattle.machine_scenes.specs.Shown.{States, scene_of}
 use Rattle.machine_scenes.specs.Kept.{IsKept}
 use Rattle.machine_scenes.proofs.Shown.{upd_found}

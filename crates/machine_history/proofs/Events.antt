@@ -5,23 +5,23 @@ use Rattle.std.proofs.lemmas.Bool.{cases_eq}
 use Rattle.std.proofs.lemmas.Option.{slice_get_within, slice_get_cases}
 use mathlib.Core.Logic.{dite}
 use native.Mathlib.Decide.{ℕ_discrete}
-use Rattle.map_history.specs.Replay.{Pairs}
-use Rattle.body_terms.specs.Update.{upd}
-use Rattle.body_terms.specs.Run.{written_once}
-use Rattle.body_terms.specs.Word.{next_word, held_word}
-use Rattle.body_terms.specs.Line.{is_event, is_commit, is_check}
-use Rattle.body_terms.specs.declared.step.Step.TheVariants.{Store}
-use Rattle.body_terms.specs.declared.micro.Micro.{Micro}
-use Rattle.body_terms.specs.declared.micro.Micro.TheVariants as micros
-use Rattle.table_words.specs.declared.layout.Layout.{Layout}
-use Rattle.table_words.specs.Limits.{IsWithinLimits}
-use Rattle.structure_laws.specs.Scene.{Status, Readings}
-use Rattle.structure_laws.specs.Scene as scenes
-use Rattle.structure_laws.specs.Meaning.{Meaning}
-use Rattle.structure_laws.specs.Sections.{Here, Settled, Ended}
-use Rattle.structure_laws.specs.Laws.{Laws}
-use Rattle.structure_laws.proofs.Changes.{upd_same, upd_other}
-use Rattle.section_lines.specs.Line.{IsLine}
+use Rattle.agreement_core.specs.map_history.specs.Replay.{Pairs}
+use Rattle.agreement_core.specs.body_terms.specs.Update.{upd}
+use Rattle.agreement_core.specs.body_terms.specs.Run.{written_once}
+use Rattle.agreement_core.specs.body_terms.specs.Word.{next_word, held_word}
+use Rattle.agreement_core.specs.body_terms.specs.Line.{is_event, is_commit, is_check}
+use Rattle.agreement_core.specs.body_terms.specs.declared.step.Step.TheVariants.{Store}
+use Rattle.agreement_core.specs.body_terms.specs.declared.micro.Micro.{Micro}
+use Rattle.agreement_core.specs.body_terms.specs.declared.micro.Micro.TheVariants as micros
+use Rattle.agreement_core.specs.table_words.specs.declared.layout.Layout.{Layout}
+use Rattle.agreement_core.specs.table_words.specs.Limits.{IsWithinLimits}
+use Rattle.agreement_core.specs.section_lines.specs.structure_laws.specs.Scene.{Status, Readings}
+use Rattle.agreement_core.specs.section_lines.specs.structure_laws.specs.Scene as scenes
+use Rattle.agreement_core.specs.section_lines.specs.structure_laws.specs.Meaning.{Meaning}
+use Rattle.agreement_core.specs.section_lines.specs.structure_laws.specs.Sections.{Here, Settled, Ended}
+use Rattle.agreement_core.specs.section_lines.specs.structure_laws.specs.Laws.{Laws}
+use Rattle.agreement_core.specs.section_lines.specs.structure_laws.proofs.Changes.{upd_same, upd_other}
+use Rattle.agreement_core.specs.section_lines.specs.Line.{IsLine}
 use Rattle.agreement_core.specs.State.{Section, AgreementState}
 use Rattle.agreement_core.specs.Events as agreement
 use Rattle.agreement_core.specs.Events.{Event, Enabled, IsBefore, step_of}
@@ -31,8 +31,8 @@ use Rattle.agreement_core.proofs.Words.{version_held, version_next}
 use Rattle.agreement_core.proofs.Lines.{hold_lock}
 use Rattle.agreement_core.proofs.Releasing.{taken_lock}
 use Rattle.epoch_core.specs.State.{Counts}
-use Rattle.completed_memory.specs.Pending.{StillStores}
-use Rattle.completed_memory.proofs.Stores.{come_settled}
+use Rattle.read_answers.specs.completed_memory.specs.Pending.{StillStores}
+use Rattle.read_answers.specs.completed_memory.proofs.Stores.{come_settled}
 use Rattle.machine_scenes.specs.Shown.{Publications, States, rules_of, scene_of, status_of, reader_of, section_of}
 use Rattle.machine_scenes.specs.Kinds.{is_plain}
 use Rattle.machine_scenes.specs.Steps.{Agreement}

@@ -2,21 +2,21 @@
 use Rattle.std.proofs.Common.{◌≡◌, ◌≢◌, ℕ, suc, ◌<◌, ◌≤◌, Bool, true, false, List, [], ◌∷◌, refl, sym, ap, ◌∙◌, subst, arith}
 use Rattle.std.specs.Prelude.{◌&&◌, ◌==◌, ◌+◌, ◌*◌, cond, not, Some}
 use Rattle.std.proofs.lemmas.Bool.Decides.{nat_tests}
-use Rattle.map_history.specs.declared.op.Op.{Op}
-use Rattle.map_history.specs.Keys.{HaveNoCommonKey}
-use Rattle.map_history.specs.Replay.{reply_of, map_after}
-use Rattle.map_history.specs.Words.{word_of}
-use Rattle.body_terms.specs.Update.{upd}
-use Rattle.body_terms.specs.Run.{written_once}
-use Rattle.body_terms.specs.Line.{is_check}
-use Rattle.body_terms.specs.declared.thunk.Thunk.{Thunk}
-use Rattle.body_terms.specs.declared.micro.Micro.{Micro}
-use Rattle.body_terms.specs.declared.micro.Micro.TheVariants as micros
-use Rattle.table_words.specs.declared.layout.Layout.{Layout}
-use Rattle.table_words.specs.Limits.{IsWithinLimits}
-use Rattle.structure_laws.specs.Meaning.{Meaning}
-use Rattle.structure_laws.specs.Cells.{slots}
-use Rattle.structure_laws.specs.Laws.{Laws}
+use Rattle.agreement_core.specs.map_history.specs.declared.op.Op.{Op}
+use Rattle.agreement_core.specs.map_history.specs.Keys.{HaveNoCommonKey}
+use Rattle.agreement_core.specs.map_history.specs.Replay.{reply_of, map_after}
+use Rattle.agreement_core.specs.map_history.specs.Words.{word_of}
+use Rattle.agreement_core.specs.body_terms.specs.Update.{upd}
+use Rattle.agreement_core.specs.body_terms.specs.Run.{written_once}
+use Rattle.agreement_core.specs.body_terms.specs.Line.{is_check}
+use Rattle.agreement_core.specs.body_terms.specs.declared.thunk.Thunk.{Thunk}
+use Rattle.agreement_core.specs.body_terms.specs.declared.micro.Micro.{Micro}
+use Rattle.agreement_core.specs.body_terms.specs.declared.micro.Micro.TheVariants as micros
+use Rattle.agreement_core.specs.table_words.specs.declared.layout.Layout.{Layout}
+use Rattle.agreement_core.specs.table_words.specs.Limits.{IsWithinLimits}
+use Rattle.agreement_core.specs.section_lines.specs.structure_laws.specs.Meaning.{Meaning}
+use Rattle.agreement_core.specs.section_lines.specs.structure_laws.specs.Cells.{slots}
+use Rattle.agreement_core.specs.section_lines.specs.structure_laws.specs.Laws.{Laws}
 use Rattle.agreement_core.specs.State.{CellRules, Section, Shared, AgreementState, section_of, IsOpen}
 use Rattle.agreement_core.specs.Checks.{is_stamp_exchange, is_stop}
 use Rattle.agreement_core.specs.Events as agreement

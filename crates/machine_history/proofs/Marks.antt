@@ -4,17 +4,17 @@ use Rattle.std.specs.Prelude.{◌⊎◌, ◌||◌}
 use Rattle.std.proofs.lemmas.Bool.{cases_lt}
 use mathlib.Core.Logic.{dite}
 use native.Mathlib.Decide.{ℕ_discrete}
-use Rattle.body_terms.specs.declared.step.Step.{Step}
-use Rattle.body_terms.specs.declared.step.Step.TheVariants.{Stamp}
-use Rattle.body_terms.specs.declared.micro.Micro.{Micro}
-use Rattle.body_terms.specs.declared.micro.Micro.TheVariants as micros
-use Rattle.body_terms.specs.Shape.{IsStep}
-use Rattle.body_terms.specs.Line.{line, micro_at, begins}
-use Rattle.body_terms.proofs.LineLemmas.{begins_next, micro_within}
-use Rattle.section_lines.proofs.Places.{step_inside}
-use Rattle.section_lines.specs.Line.{phase, IsLine}
-use Rattle.section_lines.specs.Progress.{passed_steps}
-use Rattle.section_lines.proofs.Sources.{of_stamp}
+use Rattle.agreement_core.specs.body_terms.specs.declared.step.Step.{Step}
+use Rattle.agreement_core.specs.body_terms.specs.declared.step.Step.TheVariants.{Stamp}
+use Rattle.agreement_core.specs.body_terms.specs.declared.micro.Micro.{Micro}
+use Rattle.agreement_core.specs.body_terms.specs.declared.micro.Micro.TheVariants as micros
+use Rattle.agreement_core.specs.body_terms.specs.Shape.{IsStep}
+use Rattle.agreement_core.specs.body_terms.specs.Line.{line, micro_at, begins}
+use Rattle.agreement_core.specs.body_terms.proofs.LineLemmas.{begins_next, micro_within}
+use Rattle.agreement_core.specs.section_lines.proofs.Places.{step_inside}
+use Rattle.agreement_core.specs.section_lines.specs.Line.{phase, IsLine}
+use Rattle.agreement_core.specs.section_lines.specs.Progress.{passed_steps}
+use Rattle.agreement_core.specs.section_lines.proofs.Sources.{of_stamp}
 use Rattle.agreement_core.specs.Checks.{is_stamp_exchange}
 use Rattle.machine_scenes.proofs.Places.{passed_from}
 use Rattle.machine_scenes.proofs.Takes.{passed_below}

@@ -5,18 +5,18 @@ use Rattle.std.proofs.lemmas.Bool.Decides.{nat_tests}
 use mathlib.Core.Path.{fun_ext}
 use mathlib.Core.Logic.{dite}
 use native.Mathlib.Decide.{ℕ_discrete}
-use Rattle.map_history.specs.declared.op.Op.{Op}
-use Rattle.body_terms.specs.Update.{upd}
-use Rattle.body_terms.specs.Run.{written_once}
-use Rattle.body_terms.specs.declared.thunk.Thunk.{Thunk}
-use Rattle.body_terms.specs.declared.micro.Micro.{Micro}
-use Rattle.body_terms.specs.declared.micro.Micro.TheVariants as micros
-use Rattle.table_words.specs.declared.layout.Layout.{Layout}
-use Rattle.table_words.specs.Limits.{IsWithinLimits}
-use Rattle.structure_laws.specs.Meaning.{Meaning}
-use Rattle.structure_laws.specs.Cells.{slots}
-use Rattle.structure_laws.specs.Laws.{Laws}
-use Rattle.structure_laws.proofs.Changes.{upd_same, upd_other}
+use Rattle.agreement_core.specs.map_history.specs.declared.op.Op.{Op}
+use Rattle.agreement_core.specs.body_terms.specs.Update.{upd}
+use Rattle.agreement_core.specs.body_terms.specs.Run.{written_once}
+use Rattle.agreement_core.specs.body_terms.specs.declared.thunk.Thunk.{Thunk}
+use Rattle.agreement_core.specs.body_terms.specs.declared.micro.Micro.{Micro}
+use Rattle.agreement_core.specs.body_terms.specs.declared.micro.Micro.TheVariants as micros
+use Rattle.agreement_core.specs.table_words.specs.declared.layout.Layout.{Layout}
+use Rattle.agreement_core.specs.table_words.specs.Limits.{IsWithinLimits}
+use Rattle.agreement_core.specs.section_lines.specs.structure_laws.specs.Meaning.{Meaning}
+use Rattle.agreement_core.specs.section_lines.specs.structure_laws.specs.Cells.{slots}
+use Rattle.agreement_core.specs.section_lines.specs.structure_laws.specs.Laws.{Laws}
+use Rattle.agreement_core.specs.section_lines.specs.structure_laws.proofs.Changes.{upd_same, upd_other}
 use Rattle.agreement_core.specs.State.{Section, Run, AgreementState, section_of}
 use Rattle.agreement_core.specs.Checks.{is_stamp_exchange}
 use Rattle.agreement_core.specs.Events as agreement

@@ -4,9 +4,9 @@ use Rattle.std.specs.Prelude.{nat_lt, max}
 use Rattle.std.proofs.lemmas.Bool.{cases_lt}
 use mathlib.Core.Logic.{dite}
 use native.Mathlib.Decide.{ℕ_discrete}
-use Rattle.body_terms.specs.declared.micro.Micro.{Micro}
-use Rattle.body_terms.specs.declared.micro.Micro.TheVariants as micros
-use Rattle.section_lines.specs.Line.{phase, is_clock_raise, IsLine, IsWholeLine}
+use Rattle.agreement_core.specs.body_terms.specs.declared.micro.Micro.{Micro}
+use Rattle.agreement_core.specs.body_terms.specs.declared.micro.Micro.TheVariants as micros
+use Rattle.agreement_core.specs.section_lines.specs.Line.{phase, is_clock_raise, IsLine, IsWholeLine}
 use Rattle.machine_history.specs.Tied.{rank}
 
 pub rank_most : (x : Micro) → rank x ≤ 4

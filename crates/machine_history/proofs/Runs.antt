@@ -3,24 +3,24 @@ use Rattle.std.proofs.Common.{◌≡◌, ◌≢◌, ℕ, suc, ◌<◌, true, fal
 use Rattle.std.specs.Prelude.{◌⊎◌, ◌||◌, Option, Some}
 use mathlib.Core.Logic.{dite}
 use native.Mathlib.Decide.{ℕ_discrete}
-use Rattle.small_lemmas.proofs.Numbers.{later_edge as late_edge}
-use Rattle.map_history.specs.Replay.{Pairs}
-use Rattle.body_terms.specs.Update.{upd}
-use Rattle.body_terms.specs.Line.{is_event}
-use Rattle.body_terms.specs.declared.step.Step.{Step}
-use Rattle.body_terms.specs.declared.step.Step.TheVariants.{Stamp, Retire, Answer}
-use Rattle.body_terms.specs.declared.micro.Micro.{Micro}
-use Rattle.body_terms.specs.declared.micro.Micro.TheVariants as micros
-use Rattle.table_words.specs.declared.layout.Layout.{Layout}
-use Rattle.structure_laws.specs.Scene as scenes
-use Rattle.structure_laws.specs.Meaning.{Meaning}
-use Rattle.structure_laws.proofs.Changes.{upd_same, upd_other}
-use Rattle.section_lines.proofs.Moves.{within_moves, stamp_moves, retire_moves, answer_moves}
+use Rattle.epoch_core.specs.small_lemmas.proofs.Numbers.{later_edge as late_edge}
+use Rattle.agreement_core.specs.map_history.specs.Replay.{Pairs}
+use Rattle.agreement_core.specs.body_terms.specs.Update.{upd}
+use Rattle.agreement_core.specs.body_terms.specs.Line.{is_event}
+use Rattle.agreement_core.specs.body_terms.specs.declared.step.Step.{Step}
+use Rattle.agreement_core.specs.body_terms.specs.declared.step.Step.TheVariants.{Stamp, Retire, Answer}
+use Rattle.agreement_core.specs.body_terms.specs.declared.micro.Micro.{Micro}
+use Rattle.agreement_core.specs.body_terms.specs.declared.micro.Micro.TheVariants as micros
+use Rattle.agreement_core.specs.table_words.specs.declared.layout.Layout.{Layout}
+use Rattle.agreement_core.specs.section_lines.specs.structure_laws.specs.Scene as scenes
+use Rattle.agreement_core.specs.section_lines.specs.structure_laws.specs.Meaning.{Meaning}
+use Rattle.agreement_core.specs.section_lines.specs.structure_laws.proofs.Changes.{upd_same, upd_other}
+use Rattle.agreement_core.specs.section_lines.proofs.Moves.{within_moves, stamp_moves, retire_moves, answer_moves}
 use Rattle.agreement_core.specs.State.{Section, Run, AgreementState}
 use Rattle.agreement_core.specs.Checks.{is_stamp_exchange, came}
 use Rattle.agreement_core.proofs.Stepping.{lead_edge}
 use Rattle.epoch_core.specs.State.{Counts}
-use Rattle.completed_memory.specs.Pending.{Marks}
+use Rattle.read_answers.specs.completed_memory.specs.Pending.{Marks}
 use Rattle.machine_scenes.specs.Shown.{Publications, States, rules_of, scene_of, section_with}
 use Rattle.machine_scenes.specs.Kept.{IsKept}
 use Rattle.machine_scenes.proofs.Running.{further, own, by_place, at_edge, event_open, here, late_shown, lead_shown}

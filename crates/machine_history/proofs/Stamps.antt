@@ -5,35 +5,35 @@ use Rattle.std.proofs.lemmas.Bool.{cases_lt}
 use Rattle.std.proofs.lemmas.Bool.Decides.{nat_tests}
 use mathlib.Core.Logic.{dite}
 use native.Mathlib.Decide.{ℕ_discrete}
-use Rattle.map_history.specs.Replay.{Pairs, map_after}
-use Rattle.body_terms.specs.Update.{upd}
-use Rattle.body_terms.specs.Word.{next_word}
-use Rattle.body_terms.specs.Line.{line, micro_at, is_event}
-use Rattle.body_terms.specs.Shape.{IsStep}
-use Rattle.body_terms.specs.declared.step.Step.{Step}
-use Rattle.body_terms.specs.declared.step.Step.TheVariants.{Stamp}
-use Rattle.body_terms.specs.declared.micro.Source.{Source}
-use Rattle.body_terms.specs.declared.micro.Micro.{Micro}
-use Rattle.body_terms.specs.declared.micro.Micro.TheVariants as micros
-use Rattle.table_words.specs.declared.layout.Layout.{Layout}
-use Rattle.table_words.specs.Limits.{IsWithinLimits}
-use Rattle.structure_laws.specs.Scene.{Status, Readings, with_cell, passes}
-use Rattle.structure_laws.specs.Scene as scenes
-use Rattle.structure_laws.specs.Meaning.{Meaning}
-use Rattle.structure_laws.specs.Sections.{value_in}
-use Rattle.structure_laws.specs.Laws.{Laws}
-use Rattle.structure_laws.proofs.Changes.{upd_same, upd_other}
-use Rattle.section_lines.specs.Line.{phase}
-use Rattle.section_lines.specs.Progress.{passed_steps}
-use Rattle.section_lines.proofs.Progress.{passed_at}
-use Rattle.section_lines.proofs.Steps.{owner, part}
-use Rattle.section_lines.proofs.Sources.{of_stamp}
+use Rattle.agreement_core.specs.map_history.specs.Replay.{Pairs, map_after}
+use Rattle.agreement_core.specs.body_terms.specs.Update.{upd}
+use Rattle.agreement_core.specs.body_terms.specs.Word.{next_word}
+use Rattle.agreement_core.specs.body_terms.specs.Line.{line, micro_at, is_event}
+use Rattle.agreement_core.specs.body_terms.specs.Shape.{IsStep}
+use Rattle.agreement_core.specs.body_terms.specs.declared.step.Step.{Step}
+use Rattle.agreement_core.specs.body_terms.specs.declared.step.Step.TheVariants.{Stamp}
+use Rattle.agreement_core.specs.body_terms.specs.declared.micro.Source.{Source}
+use Rattle.agreement_core.specs.body_terms.specs.declared.micro.Micro.{Micro}
+use Rattle.agreement_core.specs.body_terms.specs.declared.micro.Micro.TheVariants as micros
+use Rattle.agreement_core.specs.table_words.specs.declared.layout.Layout.{Layout}
+use Rattle.agreement_core.specs.table_words.specs.Limits.{IsWithinLimits}
+use Rattle.agreement_core.specs.section_lines.specs.structure_laws.specs.Scene.{Status, Readings, with_cell, passes}
+use Rattle.agreement_core.specs.section_lines.specs.structure_laws.specs.Scene as scenes
+use Rattle.agreement_core.specs.section_lines.specs.structure_laws.specs.Meaning.{Meaning}
+use Rattle.agreement_core.specs.section_lines.specs.structure_laws.specs.Sections.{value_in}
+use Rattle.agreement_core.specs.section_lines.specs.structure_laws.specs.Laws.{Laws}
+use Rattle.agreement_core.specs.section_lines.specs.structure_laws.proofs.Changes.{upd_same, upd_other}
+use Rattle.agreement_core.specs.section_lines.specs.Line.{phase}
+use Rattle.agreement_core.specs.section_lines.specs.Progress.{passed_steps}
+use Rattle.agreement_core.specs.section_lines.proofs.Progress.{passed_at}
+use Rattle.agreement_core.specs.section_lines.proofs.Steps.{owner, part}
+use Rattle.agreement_core.specs.section_lines.proofs.Sources.{of_stamp}
 use Rattle.agreement_core.specs.State.{Section, Run, AgreementState}
 use Rattle.agreement_core.specs.Checks.{is_stamp_exchange}
 use Rattle.agreement_core.specs.Events as agreement
 use Rattle.agreement_core.proofs.Stepping.{lead_edge}
 use Rattle.epoch_core.specs.State.{Counts}
-use Rattle.completed_memory.specs.Moves.{IsAtStamp}
+use Rattle.read_answers.specs.completed_memory.specs.Moves.{IsAtStamp}
 use Rattle.machine_scenes.specs.Shown.{Publications, States, rules_of, scene_of, status_of, reader_of, section_with}
 use Rattle.machine_scenes.specs.Kept.{IsKept}
 use Rattle.machine_scenes.proofs.Running.{own, at_edge, event_open, late_shown, lead_shown, within_shown}

@@ -2,17 +2,17 @@
 use Rattle.std.proofs.Common.{◌≡◌, ℕ, Bool, true, false, List, refl, sym, ◌∙◌, subst, ⊎_elim, arith}
 use Rattle.std.specs.Prelude.{◌^◌, None}
 use Rattle.std.proofs.lemmas.Bool.{cases_lt}
-use Rattle.map_history.specs.Replay.{Pairs}
-use Rattle.body_terms.specs.declared.step.Step.{Step}
-use Rattle.section_lines.specs.Progress.{passed_steps}
-use Rattle.table_words.specs.declared.layout.Layout.{Layout}
-use Rattle.structure_laws.specs.Scene.{Section}
-use Rattle.structure_laws.specs.Meaning.{Meaning}
-use Rattle.structure_laws.specs.Sections.{Here, Unstamped}
+use Rattle.agreement_core.specs.map_history.specs.Replay.{Pairs}
+use Rattle.agreement_core.specs.body_terms.specs.declared.step.Step.{Step}
+use Rattle.agreement_core.specs.section_lines.specs.Progress.{passed_steps}
+use Rattle.agreement_core.specs.table_words.specs.declared.layout.Layout.{Layout}
+use Rattle.agreement_core.specs.section_lines.specs.structure_laws.specs.Scene.{Section}
+use Rattle.agreement_core.specs.section_lines.specs.structure_laws.specs.Meaning.{Meaning}
+use Rattle.agreement_core.specs.section_lines.specs.structure_laws.specs.Sections.{Here, Unstamped}
 use Rattle.agreement_core.specs.State.{AgreementState}
 use Rattle.epoch_core.specs.State.{Counts}
-use Rattle.completed_memory.specs.Pending.{HasCome, AreMarked, AreBelow}
-use Rattle.completed_memory.specs.Moves.{StandsCompleted}
+use Rattle.read_answers.specs.completed_memory.specs.Pending.{HasCome, AreMarked, AreBelow}
+use Rattle.read_answers.specs.completed_memory.specs.Moves.{StandsCompleted}
 use Rattle.machine_scenes.specs.Shown.{Publications, States, scene_of, sections_of}
 use Rattle.machine_scenes.specs.Kept.{IsKept}
 use Rattle.machine_scenes.proofs.Shown.{IsShown, shown_some, shown_unused}

@@ -5,31 +5,31 @@ use Rattle.std.specs.FinMap.{empty}
 use mathlib.Core.Path.{fun_ext}
 use mathlib.Core.Logic.{dite}
 use native.Mathlib.Decide.{ℕ_discrete}
-use Rattle.small_lemmas.proofs.Numbers.{tested_equal as equal_of}
-use Rattle.map_history.specs.declared.op.Op.{Op}
-use Rattle.map_history.specs.Replay.{Pairs}
-use Rattle.body_terms.specs.Update.{upd}
-use Rattle.body_terms.specs.Run.{written_once}
-use Rattle.body_terms.specs.Word.{version_of, held_word}
-use Rattle.body_terms.specs.Line.{is_event, is_commit}
-use Rattle.body_terms.specs.Shape.{IsStep}
-use Rattle.body_terms.specs.declared.step.Step.TheVariants.{Answer}
-use Rattle.body_terms.specs.declared.thunk.Thunk.{Thunk}
-use Rattle.body_terms.specs.declared.micro.Source.{Source}
-use Rattle.body_terms.specs.declared.micro.Micro.{Micro}
-use Rattle.body_terms.specs.declared.micro.Micro.TheVariants as micros
-use Rattle.table_words.specs.declared.layout.Layout.{Layout}
-use Rattle.table_words.specs.Limits.{IsWithinLimits}
-use Rattle.structure_laws.specs.Scene.{Status, Readings, with_cell, opened}
-use Rattle.structure_laws.specs.Meaning.{Meaning}
-use Rattle.structure_laws.specs.Cells.{cell_of}
-use Rattle.structure_laws.specs.Laws.{Laws}
-use Rattle.structure_laws.proofs.Changes.{upd_same, upd_other}
-use Rattle.section_lines.proofs.Sources.{of_answer}
+use Rattle.epoch_core.specs.small_lemmas.proofs.Numbers.{tested_equal as equal_of}
+use Rattle.agreement_core.specs.map_history.specs.declared.op.Op.{Op}
+use Rattle.agreement_core.specs.map_history.specs.Replay.{Pairs}
+use Rattle.agreement_core.specs.body_terms.specs.Update.{upd}
+use Rattle.agreement_core.specs.body_terms.specs.Run.{written_once}
+use Rattle.agreement_core.specs.body_terms.specs.Word.{version_of, held_word}
+use Rattle.agreement_core.specs.body_terms.specs.Line.{is_event, is_commit}
+use Rattle.agreement_core.specs.body_terms.specs.Shape.{IsStep}
+use Rattle.agreement_core.specs.body_terms.specs.declared.step.Step.TheVariants.{Answer}
+use Rattle.agreement_core.specs.body_terms.specs.declared.thunk.Thunk.{Thunk}
+use Rattle.agreement_core.specs.body_terms.specs.declared.micro.Source.{Source}
+use Rattle.agreement_core.specs.body_terms.specs.declared.micro.Micro.{Micro}
+use Rattle.agreement_core.specs.body_terms.specs.declared.micro.Micro.TheVariants as micros
+use Rattle.agreement_core.specs.table_words.specs.declared.layout.Layout.{Layout}
+use Rattle.agreement_core.specs.table_words.specs.Limits.{IsWithinLimits}
+use Rattle.agreement_core.specs.section_lines.specs.structure_laws.specs.Scene.{Status, Readings, with_cell, opened}
+use Rattle.agreement_core.specs.section_lines.specs.structure_laws.specs.Meaning.{Meaning}
+use Rattle.agreement_core.specs.section_lines.specs.structure_laws.specs.Cells.{cell_of}
+use Rattle.agreement_core.specs.section_lines.specs.structure_laws.specs.Laws.{Laws}
+use Rattle.agreement_core.specs.section_lines.specs.structure_laws.proofs.Changes.{upd_same, upd_other}
+use Rattle.agreement_core.specs.section_lines.proofs.Sources.{of_answer}
 use Rattle.agreement_core.specs.State.{Section, AgreementState}
 use Rattle.agreement_core.proofs.Words.{version_held}
 use Rattle.epoch_core.specs.State.{Counts}
-use Rattle.completed_memory.specs.Moves.{StandsCompleted}
+use Rattle.read_answers.specs.completed_memory.specs.Moves.{StandsCompleted}
 use Rattle.machine_scenes.specs.Shown.{Publications, States, scene_of, status_of, reader_of, section_with}
 use Rattle.machine_scenes.specs.Steps.{Step as JointStep, Agreement, Epochs, Enter, Read, Leave, Publish, Fill, Make, LoadEpoch, Retire, Enabled, after, MayPublish, MayMake, MayRetire}
 use Rattle.machine_scenes.specs.Kept.{IsKept}

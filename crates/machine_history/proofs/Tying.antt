@@ -4,12 +4,12 @@ use Rattle.std.specs.Prelude.{◌&&◌, not, max}
 use mathlib.Core.Path.{fun_ext}
 use mathlib.Core.Logic.{dite}
 use native.Mathlib.Decide.{ℕ_discrete}
-use Rattle.body_terms.specs.Update.{upd}
-use Rattle.body_terms.specs.declared.micro.Micro.{Micro}
-use Rattle.section_lines.specs.Line.{IsLine, IsWholeLine}
-use Rattle.table_words.specs.declared.layout.Layout.{Layout}
-use Rattle.structure_laws.specs.Meaning.{Meaning}
-use Rattle.structure_laws.proofs.Changes.{upd_same, upd_other}
+use Rattle.agreement_core.specs.body_terms.specs.Update.{upd}
+use Rattle.agreement_core.specs.body_terms.specs.declared.micro.Micro.{Micro}
+use Rattle.agreement_core.specs.section_lines.specs.Line.{IsLine, IsWholeLine}
+use Rattle.agreement_core.specs.table_words.specs.declared.layout.Layout.{Layout}
+use Rattle.agreement_core.specs.section_lines.specs.structure_laws.specs.Meaning.{Meaning}
+use Rattle.agreement_core.specs.section_lines.specs.structure_laws.proofs.Changes.{upd_same, upd_other}
 use Rattle.agreement_core.specs.State.{Section, Run, AgreementState, section_of}
 use Rattle.agreement_core.specs.Checks.{is_stamp_exchange, came}
 use Rattle.epoch_core.specs.State.{Counts}

@@ -1,25 +1,25 @@
 -- The completed memory in the joint states, and the map for which it stands.
 use Rattle.std.specs.Prelude.{ℕ, zero, suc, ◌++◌, ◌≡◌, ◌≢◌, ◌==◌, ◌||◌, Bool, true, false, cond}
 use Rattle.std.specs.FinMap.{empty}
-use Rattle.map_history.specs.declared.op.Op.{Op}
-use Rattle.map_history.specs.Keys.{HaveNoCommonKey}
-use Rattle.map_history.specs.Replay.{Pairs, reply_of, map_after}
-use Rattle.map_history.specs.Words.{word_of}
-use Rattle.body_terms.specs.declared.micro.Micro.{Micro}
-use Rattle.body_terms.specs.declared.micro.Micro.TheVariants as micros
-use Rattle.body_terms.specs.declared.step.Step.TheVariants.{Answer}
-use Rattle.body_terms.specs.declared.thunk.Thunk.{Thunk}
-use Rattle.table_words.specs.declared.layout.Layout.{Layout}
-use Rattle.structure_laws.specs.Scene.{Cells, Readings}
-use Rattle.structure_laws.specs.Meaning.{Meaning}
-use Rattle.structure_laws.specs.Cells.{slots}
-use Rattle.structure_laws.specs.Shape.{HasStep}
+use Rattle.agreement_core.specs.map_history.specs.declared.op.Op.{Op}
+use Rattle.agreement_core.specs.map_history.specs.Keys.{HaveNoCommonKey}
+use Rattle.agreement_core.specs.map_history.specs.Replay.{Pairs, reply_of, map_after}
+use Rattle.agreement_core.specs.map_history.specs.Words.{word_of}
+use Rattle.agreement_core.specs.body_terms.specs.declared.micro.Micro.{Micro}
+use Rattle.agreement_core.specs.body_terms.specs.declared.micro.Micro.TheVariants as micros
+use Rattle.agreement_core.specs.body_terms.specs.declared.step.Step.TheVariants.{Answer}
+use Rattle.agreement_core.specs.body_terms.specs.declared.thunk.Thunk.{Thunk}
+use Rattle.agreement_core.specs.table_words.specs.declared.layout.Layout.{Layout}
+use Rattle.agreement_core.specs.section_lines.specs.structure_laws.specs.Scene.{Cells, Readings}
+use Rattle.agreement_core.specs.section_lines.specs.structure_laws.specs.Meaning.{Meaning}
+use Rattle.agreement_core.specs.section_lines.specs.structure_laws.specs.Cells.{slots}
+use Rattle.agreement_core.specs.section_lines.specs.structure_laws.specs.Shape.{HasStep}
 use Rattle.agreement_core.specs.State.{AgreementState, section_of, IsOpen}
 use Rattle.agreement_core.specs.Checks.{is_stamp_exchange}
 use Rattle.agreement_core.specs.Events as agreement
 use Rattle.epoch_core.specs.declared.location.Location.{Location}
 use Rattle.epoch_core.specs.State.{Counts, is_entered}
-use Rattle.completed_memory.specs.Pending.{Marks, IsCompleted}
+use Rattle.read_answers.specs.completed_memory.specs.Pending.{Marks, IsCompleted}
 use Rattle.read_answers.specs.Looks.{ReadsStand, IsLook}
 use Rattle.machine_scenes.specs.Shown.{Publications, States, scene_of}
 use Rattle.machine_scenes.specs.Steps.{Step, Agreement, descriptor_of, Enabled, after}

@@ -1,7 +1,7 @@
 -- How the history's state is tied to the joint states.
 use Rattle.std.specs.Prelude.{ℕ, ◌<◌, ◌≤◌, ◌≡◌, ◌≢◌, ◌==◌, ◌&&◌, not, Bool, true}
-use Rattle.body_terms.specs.declared.micro.Micro.{Micro}
-use Rattle.body_terms.specs.declared.micro.Micro.TheVariants as micros
+use Rattle.agreement_core.specs.body_terms.specs.declared.micro.Micro.{Micro}
+use Rattle.agreement_core.specs.body_terms.specs.declared.micro.Micro.TheVariants as micros
 use Rattle.agreement_core.specs.State.{Section, Run, AgreementState, section_of}
 use Rattle.agreement_core.specs.Checks.{is_stamp_exchange}
 use Rattle.history_core.specs.State.{Requests, HistoryState}

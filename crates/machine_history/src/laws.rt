@@ -1,9 +1,9 @@
 //! The laws of the joint states with the history, each on a contract.
-ghost use Rattle.table_words.specs.declared.layout.Layout.{Layout};
-ghost use Rattle.table_words.specs.Limits.{IsWithinLimits};
+ghost use Rattle.agreement_core.specs.table_words.specs.declared.layout.Layout.{Layout};
+ghost use Rattle.agreement_core.specs.table_words.specs.Limits.{IsWithinLimits};
 ghost use Rattle.machine_history.specs.Laws.{FirstIsJoined, StepsKeepJoined, SchedulesKeepJoined, JoinedStands};
 
-use structure_laws::Structure;
+use agreement_core::section_lines::structure_laws::Structure;
 
 /// Over every structure: the first states are joined, each enabled step keeps that, and so they are after
 /// every list of enabled steps. The history's state is sound and has the words of the joint states, and the

@@ -1,10 +1,10 @@
 //! The laws of the completed memory in the joint states, each on a contract.
-ghost use Rattle.table_words.specs.declared.layout.Layout.{Layout};
-ghost use Rattle.table_words.specs.Limits.{IsWithinLimits};
+ghost use Rattle.agreement_core.specs.table_words.specs.declared.layout.Layout.{Layout};
+ghost use Rattle.agreement_core.specs.table_words.specs.Limits.{IsWithinLimits};
 ghost use Rattle.machine_history.specs.Memory.{FirstMemoryStands, StepsKeepMemory, StampsAnswer, StampsApart, ClosedMemoryStands};
 ghost use Rattle.machine_history.specs.Memory.{LooksAnswer, LooksLeave, LooksApart};
 
-use structure_laws::Structure;
+use agreement_core::section_lines::structure_laws::Structure;
 
 /// Over every structure: at first the completed memory stands for the empty map. The first exchange of a
 /// section's stamp leads it on to the map after the section's operation, and every other step leaves the

@@ -1,13 +1,13 @@
 -- Every state that the machine reaches is sound.
 use Rattle.std.proofs.Common.{List, refl}
-use Rattle.map_history.specs.declared.op.Request.{Request}
-use Rattle.table_words.specs.Limits.{IsWithinLimits}
-use Rattle.table_words.specs.declared.layout.Layout.{Layout}
-use Rattle.structure_laws.specs.Meaning.{Meaning}
-use Rattle.structure_laws.specs.Laws.{Laws}
-use Rattle.runner_parts.specs.declared.event.Event.{Event}
+use Rattle.agreement_core.specs.map_history.specs.declared.op.Request.{Request}
+use Rattle.agreement_core.specs.table_words.specs.Limits.{IsWithinLimits}
+use Rattle.agreement_core.specs.table_words.specs.declared.layout.Layout.{Layout}
+use Rattle.machine_states.specs.structure_laws.specs.Meaning.{Meaning}
+use Rattle.machine_states.specs.structure_laws.specs.Laws.{Laws}
+use Rattle.machine_states.specs.runner_steps.specs.runner_parts.specs.declared.event.Event.{Event}
 use Rattle.agreement_core.specs.History as agreement_history
-use Rattle.epoch_core.specs.History as epoch_history
+use Rattle.machine_states.specs.epoch_core.specs.History as epoch_history
 use Rattle.machine_states.specs.World.{World}
 use Rattle.machine_states.specs.First.{IsFirst}
 use Rattle.machine_states.specs.Schedules.{IsAfter}

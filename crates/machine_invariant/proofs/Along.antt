@@ -1,13 +1,13 @@
 -- The histories stay exact while the components go along with the machine.
 use Rattle.std.proofs.Common.{List, [], ◌∷◌, sym, subst}
-use Rattle.map_history.specs.declared.op.Request.{Request}
-use Rattle.table_words.specs.declared.layout.Layout.{Layout}
-use Rattle.structure_laws.specs.Meaning.{Meaning}
-use Rattle.structure_laws.specs.Laws.{FirstMemory}
-use Rattle.epoch_core.specs.Events as epoch_events
-use Rattle.epoch_core.specs.Schedules as epoch_schedules
-use Rattle.epoch_core.proofs.Keeping as epoch_keeping
-use Rattle.epoch_core.proofs.Exactly as epoch_exactly
+use Rattle.agreement_core.specs.map_history.specs.declared.op.Request.{Request}
+use Rattle.agreement_core.specs.table_words.specs.declared.layout.Layout.{Layout}
+use Rattle.machine_states.specs.structure_laws.specs.Meaning.{Meaning}
+use Rattle.machine_states.specs.structure_laws.specs.Laws.{FirstMemory}
+use Rattle.machine_states.specs.epoch_core.specs.Events as epoch_events
+use Rattle.machine_states.specs.epoch_core.specs.Schedules as epoch_schedules
+use Rattle.machine_states.specs.epoch_core.proofs.Keeping as epoch_keeping
+use Rattle.machine_states.specs.epoch_core.proofs.Exactly as epoch_exactly
 use Rattle.agreement_core.specs.Events as agreement_events
 use Rattle.agreement_core.specs.Sound as agreement_sound
 use Rattle.agreement_core.specs.Schedules as agreement_schedules
@@ -15,10 +15,10 @@ use Rattle.agreement_core.proofs.Keeping as agreement_keeping
 use Rattle.agreement_core.proofs.Recording as agreement_recording
 use Rattle.machine_states.specs.Sight.{Sight, sight}
 use Rattle.machine_agreement.proofs.FirstJoined.{first_joined}
-use Rattle.table_words.specs.Limits.{IsWithinLimits}
-use Rattle.machine_epochs.specs.Entries.{counts_of}
-use Rattle.machine_epochs.proofs.FirstJoin.{first_is}
-use Rattle.machine_scenes.specs.Shown.{rules_of}
+use Rattle.agreement_core.specs.table_words.specs.Limits.{IsWithinLimits}
+use Rattle.machine_agreement.specs.machine_epochs.specs.Entries.{counts_of}
+use Rattle.machine_agreement.specs.machine_epochs.proofs.FirstJoin.{first_is}
+use Rattle.machine_agreement.specs.machine_scenes.specs.Shown.{rules_of}
 use Rattle.machine_invariant.specs.Along.{Components, first_components, components_after, AreExact, StayExact, BeginExact}
 
 module _ (m : Meaning) (l : Layout) where

@@ -1,28 +1,28 @@
 -- What is known of a step by its runner's part: what it asks for, which events of the components it is, and what its run knows.
 use Rattle.std.proofs.Common.{◌≡◌, ℕ, true, List, refl, sym, ap, ◌∙◌, subst, Option, Some}
-use Rattle.map_history.specs.declared.op.Request.{Request}
-use Rattle.body_terms.specs.declared.micro.Source.{Source}
-use Rattle.body_terms.specs.declared.micro.Source.TheVariants.{Fixed, Agreed}
-use Rattle.body_terms.specs.Run.{source_value}
-use Rattle.body_terms.specs.Word.{value_of}
-use Rattle.table_words.specs.declared.layout.Layout.{Layout}
-use Rattle.table_words.specs.declared.spot.Spot.{Spot}
-use Rattle.table_words.specs.declared.access.Access.{Access}
-use Rattle.structure_laws.specs.Meaning.{Meaning}
-use Rattle.runner_parts.specs.declared.event.EventKind.{EventKind}
-use Rattle.epoch_core.specs.declared.stage.Stage.TheVariants.{Entered}
-use Rattle.runner_parts.specs.State.{RunState, PartState}
-use Rattle.runner_steps.specs.Sections.{is_open_run, next_of}
-use Rattle.runner_steps.specs.Asks.{asks, ask_by}
+use Rattle.agreement_core.specs.map_history.specs.declared.op.Request.{Request}
+use Rattle.agreement_core.specs.body_terms.specs.declared.micro.Source.{Source}
+use Rattle.agreement_core.specs.body_terms.specs.declared.micro.Source.TheVariants.{Fixed, Agreed}
+use Rattle.agreement_core.specs.body_terms.specs.Run.{source_value}
+use Rattle.agreement_core.specs.body_terms.specs.Word.{value_of}
+use Rattle.agreement_core.specs.table_words.specs.declared.layout.Layout.{Layout}
+use Rattle.agreement_core.specs.table_words.specs.declared.spot.Spot.{Spot}
+use Rattle.agreement_core.specs.table_words.specs.declared.access.Access.{Access}
+use Rattle.machine_states.specs.structure_laws.specs.Meaning.{Meaning}
+use Rattle.machine_states.specs.runner_steps.specs.runner_parts.specs.declared.event.EventKind.{EventKind}
+use Rattle.machine_states.specs.epoch_core.specs.declared.stage.Stage.TheVariants.{Entered}
+use Rattle.machine_states.specs.runner_steps.specs.runner_parts.specs.State.{RunState, PartState}
+use Rattle.machine_states.specs.runner_steps.specs.Sections.{is_open_run, next_of}
+use Rattle.machine_states.specs.runner_steps.specs.Asks.{asks, ask_by}
 use Rattle.agreement_core.specs.State.{Run, AgreementState}
 use Rattle.agreement_core.specs.Checks.{source_in}
 use Rattle.agreement_core.specs.Events as agreement
-use Rattle.epoch_core.specs.State.{EpochState, is_entered}
-use Rattle.epoch_core.specs.Events as epochs
+use Rattle.machine_states.specs.epoch_core.specs.State.{EpochState, is_entered}
+use Rattle.machine_states.specs.epoch_core.specs.Events as epochs
 use Rattle.machine_states.specs.Sight.{Sight}
 use Rattle.machine_states.proofs.Sights.{unless_gone}
-use Rattle.machine_epochs.specs.Joined as joins
-use Rattle.machine_epochs.specs.Chunks as slots
+use Rattle.machine_agreement.specs.machine_epochs.specs.Joined as joins
+use Rattle.machine_agreement.specs.machine_epochs.specs.Chunks as slots
 use Rattle.machine_agreement.specs.Joined.{IsRunOf}
 use Rattle.machine_agreement.specs.Chunks as chunks
 

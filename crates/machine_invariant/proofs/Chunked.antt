@@ -1,21 +1,21 @@
 -- Of what sort the events are that a step of the machine is.
 use Rattle.std.specs.Prelude.{Bool, true, false, nat_lt, ◌==◌, ◌-◌, if◌then◌else◌}
 use Rattle.std.proofs.Common.{◌≡◌, ℕ, List, [], ◌∷◌, sym, refl, subst, ⊎_elim, Option, Some, None}
-use Rattle.body_terms.specs.declared.micro.Micro.{Micro}
-use Rattle.table_words.specs.declared.layout.Layout.{Layout}
-use Rattle.table_words.specs.Places.{slot_count}
-use Rattle.structure_laws.specs.Meaning.{Meaning}
-use Rattle.runner_parts.specs.declared.event.EventKind.{EventKind}
-use Rattle.runner_parts.specs.declared.event.EventKind.TheVariants as kinds
-use Rattle.runner_parts.specs.State.{RunState, NodesState, PartState}
-use Rattle.runner_parts.specs.Lists.{test_of, one_more}
-use Rattle.runner_steps.specs.Sections.{is_open_run, next_of}
+use Rattle.agreement_core.specs.body_terms.specs.declared.micro.Micro.{Micro}
+use Rattle.agreement_core.specs.table_words.specs.declared.layout.Layout.{Layout}
+use Rattle.agreement_core.specs.table_words.specs.Places.{slot_count}
+use Rattle.machine_states.specs.structure_laws.specs.Meaning.{Meaning}
+use Rattle.machine_states.specs.runner_steps.specs.runner_parts.specs.declared.event.EventKind.{EventKind}
+use Rattle.machine_states.specs.runner_steps.specs.runner_parts.specs.declared.event.EventKind.TheVariants as kinds
+use Rattle.machine_states.specs.runner_steps.specs.runner_parts.specs.State.{RunState, NodesState, PartState}
+use Rattle.machine_states.specs.runner_steps.specs.runner_parts.specs.Lists.{test_of, one_more}
+use Rattle.machine_states.specs.runner_steps.specs.Sections.{is_open_run, next_of}
 use Rattle.agreement_core.specs.State.{AgreementState}
 use Rattle.agreement_core.specs.Events as agreement
-use Rattle.epoch_core.specs.Events as epochs
-use Rattle.machine_epochs.proofs.Reaching.{leaves_descriptors}
-use Rattle.machine_epochs.specs.Chunks as slots
-use Rattle.machine_scenes.specs.Kinds.{is_alone}
+use Rattle.machine_states.specs.epoch_core.specs.Events as epochs
+use Rattle.machine_agreement.specs.machine_epochs.proofs.Reaching.{leaves_descriptors}
+use Rattle.machine_agreement.specs.machine_epochs.specs.Chunks as slots
+use Rattle.machine_agreement.specs.machine_scenes.specs.Kinds.{is_alone}
 use Rattle.machine_agreement.specs.Chunks as sections
 use Rattle.machine_invariant.specs.Named.{LoadsLock, LoadNoLock}
 use Rattle.machine_invariant.proofs.Runs.{AllAre}

@@ -2,34 +2,34 @@
 use Rattle.std.specs.Prelude.{replicate, is_none, true, false, All}
 use Rattle.std.proofs.Common.{◌≡◌, ◌≢◌, ℕ, ◌≤◌, List, [], ◌∷◌, length, sym, refl, ap, ◌∙◌, ⊎_elim, Option, Some, None}
 use Rattle.std.proofs.lemmas.Bool.{cases_eq}
-use Rattle.map_history.specs.declared.op.Request.{Request}
-use Rattle.table_words.specs.declared.layout.Layout.{Layout}
-use Rattle.table_words.specs.declared.spot.Spot.{Spot}
-use Rattle.table_words.specs.declared.access.Access.{Access}
-use Rattle.table_words.specs.Limits.{IsWithinLimits}
-use Rattle.structure_laws.specs.Meaning.{Meaning}
-use Rattle.structure_laws.specs.Laws.{Laws}
-use Rattle.structure_laws.specs.Sections.{IsAllowed}
-use Rattle.structure_laws.proofs.Changes.{upd_same, upd_other}
-use Rattle.runner_parts.specs.declared.event.EventKind.TheVariants as kinds
-use Rattle.runner_parts.specs.declared.entries.Published.{Published}
-use Rattle.runner_parts.specs.State.{ReadsState, PartState}
-use Rattle.runner_parts.specs.Tests.{has}
-use Rattle.runner_steps.specs.Outside.{idle_ask}
-use Rattle.runner_steps.specs.Asks.{asks}
-use Rattle.runner_steps.specs.After.{after_by, after}
-use Rattle.table_words.specs.Seen.{upd}
+use Rattle.agreement_core.specs.map_history.specs.declared.op.Request.{Request}
+use Rattle.agreement_core.specs.table_words.specs.declared.layout.Layout.{Layout}
+use Rattle.agreement_core.specs.table_words.specs.declared.spot.Spot.{Spot}
+use Rattle.agreement_core.specs.table_words.specs.declared.access.Access.{Access}
+use Rattle.agreement_core.specs.table_words.specs.Limits.{IsWithinLimits}
+use Rattle.machine_states.specs.structure_laws.specs.Meaning.{Meaning}
+use Rattle.machine_states.specs.structure_laws.specs.Laws.{Laws}
+use Rattle.machine_states.specs.structure_laws.specs.Sections.{IsAllowed}
+use Rattle.machine_states.specs.structure_laws.proofs.Changes.{upd_same, upd_other}
+use Rattle.machine_states.specs.runner_steps.specs.runner_parts.specs.declared.event.EventKind.TheVariants as kinds
+use Rattle.machine_states.specs.runner_steps.specs.runner_parts.specs.declared.entries.Published.{Published}
+use Rattle.machine_states.specs.runner_steps.specs.runner_parts.specs.State.{ReadsState, PartState}
+use Rattle.machine_states.specs.runner_steps.specs.runner_parts.specs.Tests.{has}
+use Rattle.machine_states.specs.runner_steps.specs.Outside.{idle_ask}
+use Rattle.machine_states.specs.runner_steps.specs.Asks.{asks}
+use Rattle.machine_states.specs.runner_steps.specs.After.{after_by, after}
+use Rattle.agreement_core.specs.table_words.specs.Seen.{upd}
 use Rattle.agreement_core.specs.State.{IsOpen}
 use Rattle.agreement_core.specs.Events as agreement
-use Rattle.epoch_core.specs.declared.stage.Stage.TheVariants.{Idle}
-use Rattle.epoch_core.specs.State.{Counts, EpochState, is_entered}
-use Rattle.epoch_core.specs.Events as epochs
+use Rattle.machine_states.specs.epoch_core.specs.declared.stage.Stage.TheVariants.{Idle}
+use Rattle.machine_states.specs.epoch_core.specs.State.{Counts, EpochState, is_entered}
+use Rattle.machine_states.specs.epoch_core.specs.Events as epochs
 use Rattle.machine_states.specs.Sight.{Sight, sight_after}
 use Rattle.machine_states.proofs.Updates.{upd_split}
 use Rattle.machine_states.proofs.Sights.{if_some}
-use Rattle.machine_epochs.specs.Entries.{counts_of}
-use Rattle.machine_scenes.specs.Steps as steps
-use Rattle.machine_scenes.proofs.Entries.{others_hold}
+use Rattle.machine_agreement.specs.machine_epochs.specs.Entries.{counts_of}
+use Rattle.machine_agreement.specs.machine_scenes.specs.Steps as steps
+use Rattle.machine_agreement.specs.machine_scenes.proofs.Entries.{others_hold}
 use Rattle.machine_invariant.specs.Whole.{Beside, states_of, made_of, IsWhole}
 use Rattle.machine_invariant.proofs.Basics.{both}
 use Rattle.machine_invariant.proofs.Runs.{is_calm, step_stands, agreement_stands, passes_are}

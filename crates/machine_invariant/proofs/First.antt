@@ -2,36 +2,36 @@
 use Rattle.std.specs.Prelude.{◌+◌, ◌*◌, ◌-◌, Bool, true, false, nat_lt, cond, slice_index}
 use Rattle.std.proofs.Common.{◌≡◌, ◌≢◌, ℕ, ◌<◌, ◌≤◌, List, [], sym, refl, ap, ◌∙◌, subst, arith}
 use Rattle.std.proofs.lemmas.Bool.Decides.{nat_tests}
-use Rattle.map_history.specs.declared.op.Request.{Request}
-use Rattle.map_history.specs.declared.op.Op.TheVariants.{Get}
-use Rattle.body_terms.specs.Word.{pack}
-use Rattle.table_words.specs.declared.layout.Layout.{Layout}
-use Rattle.table_words.specs.declared.spot.Spot.TheVariants.{Cell}
-use Rattle.table_words.specs.Limits.{IsWithinLimits}
-use Rattle.table_words.specs.Places.{slot_count, address, fits}
-use Rattle.table_words.specs.Seen.{blank}
-use Rattle.table_words.proofs.Seen as words
-use Rattle.structure_laws.specs.Meaning.{Meaning}
-use Rattle.structure_laws.specs.Cells.{first_word}
-use Rattle.structure_laws.specs.Laws.{Laws}
-use Rattle.runner_parts.specs.State.{PartState}
-use Rattle.runner_steps.specs.Asks.{sizes_for}
+use Rattle.agreement_core.specs.map_history.specs.declared.op.Request.{Request}
+use Rattle.agreement_core.specs.map_history.specs.declared.op.Op.TheVariants.{Get}
+use Rattle.agreement_core.specs.body_terms.specs.Word.{pack}
+use Rattle.agreement_core.specs.table_words.specs.declared.layout.Layout.{Layout}
+use Rattle.agreement_core.specs.table_words.specs.declared.spot.Spot.TheVariants.{Cell}
+use Rattle.agreement_core.specs.table_words.specs.Limits.{IsWithinLimits}
+use Rattle.agreement_core.specs.table_words.specs.Places.{slot_count, address, fits}
+use Rattle.agreement_core.specs.table_words.specs.Seen.{blank}
+use Rattle.agreement_core.specs.table_words.proofs.Seen as words
+use Rattle.machine_states.specs.structure_laws.specs.Meaning.{Meaning}
+use Rattle.machine_states.specs.structure_laws.specs.Cells.{first_word}
+use Rattle.machine_states.specs.structure_laws.specs.Laws.{Laws}
+use Rattle.machine_states.specs.runner_steps.specs.runner_parts.specs.State.{PartState}
+use Rattle.machine_states.specs.runner_steps.specs.Asks.{sizes_for}
 use Rattle.agreement_core.specs.Schedules as agreement_schedules
-use Rattle.epoch_core.specs.declared.location.Location.TheVariants.{Fixed, Free}
-use Rattle.epoch_core.specs.State.{Counts}
-use Rattle.epoch_core.specs.Schedules as epoch_schedules
-use Rattle.epoch_core.specs.History.{is_out}
+use Rattle.machine_states.specs.epoch_core.specs.declared.location.Location.TheVariants.{Fixed, Free}
+use Rattle.machine_states.specs.epoch_core.specs.State.{Counts}
+use Rattle.machine_states.specs.epoch_core.specs.Schedules as epoch_schedules
+use Rattle.machine_states.specs.epoch_core.specs.History.{is_out}
 use Rattle.machine_states.specs.World.{World}
 use Rattle.machine_states.specs.First.{IsFirst}
 use Rattle.machine_states.specs.Sight.{Sight, sight}
 use Rattle.machine_states.proofs.FirstSights.{first_parts}
-use Rattle.machine_epochs.specs.Entries.{counts_of}
-use Rattle.machine_epochs.specs.Firsts.{owner_of, first_place}
-use Rattle.machine_epochs.proofs.FirstJoin as joins
-use Rattle.machine_scenes.specs.Shown.{Publications, States}
-use Rattle.machine_scenes.specs.Schedules as scenes
-use Rattle.machine_scenes.specs.Kept.{IsKept}
-use Rattle.machine_scenes.proofs.First.{first_kept}
+use Rattle.machine_agreement.specs.machine_epochs.specs.Entries.{counts_of}
+use Rattle.machine_agreement.specs.machine_epochs.specs.Firsts.{owner_of, first_place}
+use Rattle.machine_agreement.specs.machine_epochs.proofs.FirstJoin as joins
+use Rattle.machine_agreement.specs.machine_scenes.specs.Shown.{Publications, States}
+use Rattle.machine_agreement.specs.machine_scenes.specs.Schedules as scenes
+use Rattle.machine_agreement.specs.machine_scenes.specs.Kept.{IsKept}
+use Rattle.machine_agreement.specs.machine_scenes.proofs.First.{first_kept}
 use Rattle.machine_agreement.proofs.FirstJoined as sections
 use Rattle.machine_slots.specs.Hands.{LocksAreHeld, SlotsAreFilled}
 use Rattle.machine_slots.proofs.Stores.{first_held, first_filled}

@@ -1,28 +1,28 @@
 -- The components go along with every list of the machine's events, and the whole invariant with them.
 use Rattle.std.specs.Prelude.{◌++◌, replicate, Bool, true, false, Option, Some, None}
 use Rattle.std.proofs.Common.{◌≡◌, ℕ, List, [], ◌∷◌, inl, ⊎_elim, sym, refl, subst, ◌∙◌}
-use Rattle.map_history.specs.declared.op.Request.{Request}
-use Rattle.table_words.specs.declared.layout.Layout.{Layout}
-use Rattle.table_words.specs.declared.spot.Spot.{Spot}
-use Rattle.table_words.specs.declared.access.Access.{Access}
-use Rattle.structure_laws.specs.Meaning.{Meaning}
-use Rattle.runner_parts.specs.declared.event.Event.{Event}
-use Rattle.runner_parts.specs.declared.event.EventKind.{EventKind}
-use Rattle.runner_steps.specs.Asks.{asks}
+use Rattle.agreement_core.specs.map_history.specs.declared.op.Request.{Request}
+use Rattle.agreement_core.specs.table_words.specs.declared.layout.Layout.{Layout}
+use Rattle.agreement_core.specs.table_words.specs.declared.spot.Spot.{Spot}
+use Rattle.agreement_core.specs.table_words.specs.declared.access.Access.{Access}
+use Rattle.machine_states.specs.structure_laws.specs.Meaning.{Meaning}
+use Rattle.machine_states.specs.runner_steps.specs.runner_parts.specs.declared.event.Event.{Event}
+use Rattle.machine_states.specs.runner_steps.specs.runner_parts.specs.declared.event.EventKind.{EventKind}
+use Rattle.machine_states.specs.runner_steps.specs.Asks.{asks}
 use Rattle.agreement_core.specs.Events as agreement
 use Rattle.agreement_core.specs.Schedules as agreement_schedules
 use Rattle.agreement_core.specs.History as agreement_history
-use Rattle.epoch_core.specs.State.{Counts, EpochState}
-use Rattle.epoch_core.specs.Events as epochs
-use Rattle.epoch_core.specs.Schedules as epoch_schedules
-use Rattle.epoch_core.specs.History as epoch_history
+use Rattle.machine_states.specs.epoch_core.specs.State.{Counts, EpochState}
+use Rattle.machine_states.specs.epoch_core.specs.Events as epochs
+use Rattle.machine_states.specs.epoch_core.specs.Schedules as epoch_schedules
+use Rattle.machine_states.specs.epoch_core.specs.History as epoch_history
 use Rattle.machine_states.specs.World.{World, happens, then_run, run}
 use Rattle.machine_states.specs.Sight.{Sight, sight, Steps}
 use Rattle.machine_states.specs.Sight as states
 use Rattle.machine_states.proofs.Sights.{some_none, happens_steps}
 use Rattle.machine_states.proofs.Steps.{some_same}
-use Rattle.machine_epochs.specs.Entries.{counts_of}
-use Rattle.machine_scenes.specs.Shown.{States, Publications, rules_of}
+use Rattle.machine_agreement.specs.machine_epochs.specs.Entries.{counts_of}
+use Rattle.machine_agreement.specs.machine_scenes.specs.Shown.{States, Publications, rules_of}
 use Rattle.machine_invariant.specs.Along.{Components, reaches_of, components_after, AreEventsOf, GoAlong}
 use Rattle.machine_invariant.specs.Whole.{Beside, states_of, IsWhole}
 use Rattle.machine_invariant.proofs.States.{with_histories}

@@ -4,45 +4,45 @@ use Rattle.std.specs.List.{filter}
 use Rattle.std.proofs.Common.{◌≡◌, ℕ, ◌+◌, ◌≤◌, List, [], ◌∷◌, ◌++◌, length, sym, refl, ap, ◌∙◌, subst, arith, ⊎_elim, Some, None}
 use Rattle.std.proofs.lemmas.Bool.{cases_lt}
 use Rattle.std.proofs.lemmas.Bool.Decides.{nat_tests}
-use Rattle.map_history.specs.declared.op.Request.{Request}
-use Rattle.table_words.specs.declared.layout.Layout.{Layout}
-use Rattle.table_words.specs.declared.spot.Spot.{Spot}
-use Rattle.table_words.specs.declared.access.Access.{Access}
-use Rattle.table_words.specs.Limits.{IsWithinLimits}
-use Rattle.structure_laws.specs.Meaning.{Meaning}
-use Rattle.structure_laws.specs.Laws.{Laws}
-use Rattle.structure_laws.specs.Sections.{IsAllowed}
-use Rattle.runner_parts.specs.declared.entries.Retired.{Retired}
-use Rattle.runner_parts.specs.declared.event.EventKind.{EventKind}
-use Rattle.runner_parts.specs.declared.event.EventKind.TheVariants as kinds
-use Rattle.runner_parts.specs.State.{PartState}
-use Rattle.runner_parts.specs.Tests.{has}
-use Rattle.runner_parts.specs.Lists.{slots_of}
-use Rattle.runner_parts.specs.Lists as lists
-use Rattle.runner_steps.specs.Asks.{asks}
+use Rattle.agreement_core.specs.map_history.specs.declared.op.Request.{Request}
+use Rattle.agreement_core.specs.table_words.specs.declared.layout.Layout.{Layout}
+use Rattle.agreement_core.specs.table_words.specs.declared.spot.Spot.{Spot}
+use Rattle.agreement_core.specs.table_words.specs.declared.access.Access.{Access}
+use Rattle.agreement_core.specs.table_words.specs.Limits.{IsWithinLimits}
+use Rattle.machine_states.specs.structure_laws.specs.Meaning.{Meaning}
+use Rattle.machine_states.specs.structure_laws.specs.Laws.{Laws}
+use Rattle.machine_states.specs.structure_laws.specs.Sections.{IsAllowed}
+use Rattle.machine_states.specs.runner_steps.specs.runner_parts.specs.declared.entries.Retired.{Retired}
+use Rattle.machine_states.specs.runner_steps.specs.runner_parts.specs.declared.event.EventKind.{EventKind}
+use Rattle.machine_states.specs.runner_steps.specs.runner_parts.specs.declared.event.EventKind.TheVariants as kinds
+use Rattle.machine_states.specs.runner_steps.specs.runner_parts.specs.State.{PartState}
+use Rattle.machine_states.specs.runner_steps.specs.runner_parts.specs.Tests.{has}
+use Rattle.machine_states.specs.runner_steps.specs.runner_parts.specs.Lists.{slots_of}
+use Rattle.machine_states.specs.runner_steps.specs.runner_parts.specs.Lists as lists
+use Rattle.machine_states.specs.runner_steps.specs.Asks.{asks}
 use Rattle.agreement_core.specs.State.{CellRules, AgreementState}
 use Rattle.agreement_core.specs.Events as agreement
 use Rattle.agreement_core.specs.Schedules as agreement_schedules
-use Rattle.epoch_core.specs.declared.location.Location.{Location}
-use Rattle.epoch_core.specs.declared.location.Location.TheVariants.{Fixed, Live, Hand, Free, Worn, Limbo}
-use Rattle.epoch_core.specs.Update.{upd}
-use Rattle.epoch_core.specs.Moves.{is_old, collected}
-use Rattle.epoch_core.specs.State.{Counts, EpochState}
-use Rattle.epoch_core.specs.Events as epochs
-use Rattle.epoch_core.specs.Events.{Event, slot_of, after_collect}
-use Rattle.epoch_core.specs.History.{is_out}
-use Rattle.epoch_core.specs.Lists.{times_retired, in_limbo}
+use Rattle.machine_states.specs.epoch_core.specs.declared.location.Location.{Location}
+use Rattle.machine_states.specs.epoch_core.specs.declared.location.Location.TheVariants.{Fixed, Live, Hand, Free, Worn, Limbo}
+use Rattle.machine_states.specs.epoch_core.specs.Update.{upd}
+use Rattle.machine_states.specs.epoch_core.specs.Moves.{is_old, collected}
+use Rattle.machine_states.specs.epoch_core.specs.State.{Counts, EpochState}
+use Rattle.machine_states.specs.epoch_core.specs.Events as epochs
+use Rattle.machine_states.specs.epoch_core.specs.Events.{Event, slot_of, after_collect}
+use Rattle.machine_states.specs.epoch_core.specs.History.{is_out}
+use Rattle.machine_states.specs.epoch_core.specs.Lists.{times_retired, in_limbo}
 use Rattle.machine_states.specs.Sight.{Sight, sight_after}
 use Rattle.machine_slots.specs.Hands.{Made}
-use Rattle.machine_epochs.specs.Entries.{counts_of}
-use Rattle.machine_epochs.specs.Slots.{thunk_in}
-use Rattle.machine_epochs.specs.Slots.{entry_of as limbo_entry}
-use Rattle.machine_epochs.specs.Joined as joins
-use Rattle.machine_epochs.proofs.Reaching.{leaves_descriptors}
-use Rattle.machine_scenes.specs.Kinds.{is_alone}
-use Rattle.machine_scenes.specs.Shown.{States, rules_of}
-use Rattle.machine_scenes.specs.Steps.{Agreement}
-use Rattle.machine_scenes.specs.Steps as steps
+use Rattle.machine_agreement.specs.machine_epochs.specs.Entries.{counts_of}
+use Rattle.machine_agreement.specs.machine_epochs.specs.Slots.{thunk_in}
+use Rattle.machine_agreement.specs.machine_epochs.specs.Slots.{entry_of as limbo_entry}
+use Rattle.machine_agreement.specs.machine_epochs.specs.Joined as joins
+use Rattle.machine_agreement.specs.machine_epochs.proofs.Reaching.{leaves_descriptors}
+use Rattle.machine_agreement.specs.machine_scenes.specs.Kinds.{is_alone}
+use Rattle.machine_agreement.specs.machine_scenes.specs.Shown.{States, rules_of}
+use Rattle.machine_agreement.specs.machine_scenes.specs.Steps.{Agreement}
+use Rattle.machine_agreement.specs.machine_scenes.specs.Steps as steps
 use Rattle.machine_agreement.specs.Chunks.{frees}
 use Rattle.machine_agreement.specs.Chunks as chunks
 use Rattle.machine_invariant.specs.Whole.{Beside, states_of, made_of, IsHeldFor, AreTied, IsWhole}

@@ -1,22 +1,22 @@
 -- A step of the machine as a list of steps of the joint states.
 use Rattle.std.specs.Prelude.{◌⊎◌, Bool, true, false, slice_get}
 use Rattle.std.proofs.Common.{◌≡◌, ◌≢◌, ℕ, List, [], ◌∷◌, ◌++◌, refl, sym, ap, ◌∙◌, subst, Some, None}
-use Rattle.map_history.specs.declared.op.Request.{Request}
-use Rattle.body_terms.specs.Line.{line, micro_at, committed}
-use Rattle.body_terms.specs.declared.thunk.Thunk.{Thunk}
-use Rattle.table_words.specs.declared.layout.Layout.{Layout}
-use Rattle.structure_laws.specs.Meaning.{Meaning}
-use Rattle.runner_parts.specs.declared.event.EventKind.{EventKind}
-use Rattle.runner_parts.specs.declared.event.EventKind.TheVariants as kinds
+use Rattle.agreement_core.specs.map_history.specs.declared.op.Request.{Request}
+use Rattle.agreement_core.specs.body_terms.specs.Line.{line, micro_at, committed}
+use Rattle.agreement_core.specs.body_terms.specs.declared.thunk.Thunk.{Thunk}
+use Rattle.agreement_core.specs.table_words.specs.declared.layout.Layout.{Layout}
+use Rattle.machine_states.specs.structure_laws.specs.Meaning.{Meaning}
+use Rattle.machine_states.specs.runner_steps.specs.runner_parts.specs.declared.event.EventKind.{EventKind}
+use Rattle.machine_states.specs.runner_steps.specs.runner_parts.specs.declared.event.EventKind.TheVariants as kinds
 use Rattle.agreement_core.specs.Events as agreement
-use Rattle.epoch_core.specs.Events as epochs
+use Rattle.machine_states.specs.epoch_core.specs.Events as epochs
 use Rattle.machine_states.specs.Sight.{Sight}
-use Rattle.machine_epochs.specs.Entries.{counts_of}
-use Rattle.machine_scenes.specs.Kinds.{is_alone}
-use Rattle.machine_scenes.specs.Shown.{States, rules_of}
-use Rattle.machine_scenes.specs.Steps as steps
-use Rattle.machine_scenes.specs.Steps.{Step, Enabled, after}
-use Rattle.machine_scenes.specs.Schedules.{AllEnabled, after_all}
+use Rattle.machine_agreement.specs.machine_epochs.specs.Entries.{counts_of}
+use Rattle.machine_agreement.specs.machine_scenes.specs.Kinds.{is_alone}
+use Rattle.machine_agreement.specs.machine_scenes.specs.Shown.{States, rules_of}
+use Rattle.machine_agreement.specs.machine_scenes.specs.Steps as steps
+use Rattle.machine_agreement.specs.machine_scenes.specs.Steps.{Step, Enabled, after}
+use Rattle.machine_agreement.specs.machine_scenes.specs.Schedules.{AllEnabled, after_all}
 use Rattle.machine_agreement.specs.Chunks.{publication, IsOutsideChunk}
 use Rattle.machine_invariant.specs.Whole.{Beside, states_of, IsWhole}
 

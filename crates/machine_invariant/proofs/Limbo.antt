@@ -3,31 +3,31 @@ use Rattle.std.specs.Prelude.{◌==◌, ◌&&◌, ◌||◌, cond, Bool, true, fa
 use Rattle.std.specs.List.{filter}
 use Rattle.std.proofs.Common.{◌≡◌, ℕ, ◌+◌, ◌<◌, ◌≤◌, List, [], ◌∷◌, refl, sym, ap, ◌∙◌, subst, arith, Some, ⊎_elim}
 use Rattle.std.proofs.lemmas.Bool.Decides.{nat_tests}
-use Rattle.table_words.specs.declared.layout.Layout.{Layout}
-use Rattle.structure_laws.specs.Meaning.{Meaning}
-use Rattle.runner_parts.specs.declared.event.EventKind.{EventKind}
-use Rattle.runner_parts.specs.declared.event.EventKind.TheVariants as kinds
-use Rattle.runner_parts.specs.declared.entries.Retired.{Retired}
-use Rattle.runner_parts.specs.Lists.{slots_of}
-use Rattle.runner_parts.specs.Lists as lists
-use Rattle.runner_parts.specs.Tests.{has}
-use Rattle.epoch_core.specs.declared.location.Location.{Location}
-use Rattle.epoch_core.specs.declared.location.Location.TheVariants.{Live, Fixed, Hand, Free, Worn, Limbo}
-use Rattle.epoch_core.specs.State.{EpochState, IsKept, entry_of}
-use Rattle.epoch_core.specs.Moves.{is_old, back, collected}
-use Rattle.epoch_core.specs.Events.{slot_of, Event, after, Enabled, after_collect}
-use Rattle.epoch_core.specs.Events as events
-use Rattle.epoch_core.specs.Lists.{times_retired, in_limbo}
-use Rattle.epoch_core.specs.Schedules.{AllEnabled}
-use Rattle.epoch_core.proofs.Keeping.{keeps}
+use Rattle.agreement_core.specs.table_words.specs.declared.layout.Layout.{Layout}
+use Rattle.machine_states.specs.structure_laws.specs.Meaning.{Meaning}
+use Rattle.machine_states.specs.runner_steps.specs.runner_parts.specs.declared.event.EventKind.{EventKind}
+use Rattle.machine_states.specs.runner_steps.specs.runner_parts.specs.declared.event.EventKind.TheVariants as kinds
+use Rattle.machine_states.specs.runner_steps.specs.runner_parts.specs.declared.entries.Retired.{Retired}
+use Rattle.machine_states.specs.runner_steps.specs.runner_parts.specs.Lists.{slots_of}
+use Rattle.machine_states.specs.runner_steps.specs.runner_parts.specs.Lists as lists
+use Rattle.machine_states.specs.runner_steps.specs.runner_parts.specs.Tests.{has}
+use Rattle.machine_states.specs.epoch_core.specs.declared.location.Location.{Location}
+use Rattle.machine_states.specs.epoch_core.specs.declared.location.Location.TheVariants.{Live, Fixed, Hand, Free, Worn, Limbo}
+use Rattle.machine_states.specs.epoch_core.specs.State.{EpochState, IsKept, entry_of}
+use Rattle.machine_states.specs.epoch_core.specs.Moves.{is_old, back, collected}
+use Rattle.machine_states.specs.epoch_core.specs.Events.{slot_of, Event, after, Enabled, after_collect}
+use Rattle.machine_states.specs.epoch_core.specs.Events as events
+use Rattle.machine_states.specs.epoch_core.specs.Lists.{times_retired, in_limbo}
+use Rattle.machine_states.specs.epoch_core.specs.Schedules.{AllEnabled}
+use Rattle.machine_states.specs.epoch_core.proofs.Keeping.{keeps}
 use Rattle.machine_states.specs.Sight.{Sight}
 use Rattle.machine_states.proofs.Sights.{some_none}
 use Rattle.machine_states.proofs.Steps.{some_same}
-use Rattle.machine_epochs.specs.Entries.{counts_of}
-use Rattle.machine_epochs.specs.Slots.{entry_of as limbo_entry}
-use Rattle.machine_epochs.specs.Joined.{IsJoinedToEpochs}
-use Rattle.machine_epochs.specs.ScanEnds.{collects}
-use Rattle.machine_epochs.specs.Chunks.{IsOutsideChunk}
+use Rattle.machine_agreement.specs.machine_epochs.specs.Entries.{counts_of}
+use Rattle.machine_agreement.specs.machine_epochs.specs.Slots.{entry_of as limbo_entry}
+use Rattle.machine_agreement.specs.machine_epochs.specs.Joined.{IsJoinedToEpochs}
+use Rattle.machine_agreement.specs.machine_epochs.specs.ScanEnds.{collects}
+use Rattle.machine_agreement.specs.machine_epochs.specs.Chunks.{IsOutsideChunk}
 
 -- an old one of these with this slot
 pub record IsOldOf (epoch d : ℕ) (xs : List Retired) : Type 0 where

@@ -1,24 +1,24 @@
 -- A run's descriptor isn't free again, so its section's log words and its done word are what the components allow, and its trail goes as far as
 -- agreement says.
 use Rattle.std.proofs.Common.{◌≡◌, ℕ, ◌≤◌, true, length, Some, sym, ap, ◌∙◌, subst}
-use Rattle.body_terms.specs.Line.{line, micro_at, committed}
-use Rattle.body_terms.specs.declared.micro.Micro.{Micro}
-use Rattle.body_terms.specs.declared.thunk.Thunk.{Thunk}
-use Rattle.body_terms.specs.declared.micro.Micro.TheVariants.{Commit, NestedCommit, OutcomeCommit, MakeCommit, RetireCommit}
-use Rattle.section_lines.specs.Line.{IsCounted}
-use Rattle.table_words.specs.declared.layout.Layout.{Layout}
-use Rattle.table_words.specs.declared.spot.Spot.TheVariants.{LogWord}
-use Rattle.structure_laws.specs.Meaning.{Meaning}
-use Rattle.runner_parts.specs.State.{RunState}
-use Rattle.runner_steps.specs.Sections.{thunk_of, line_of}
-use Rattle.epoch_core.specs.State.{Role, Retires}
-use Rattle.epoch_core.specs.Sound.{IsLogged}
+use Rattle.agreement_core.specs.body_terms.specs.Line.{line, micro_at, committed}
+use Rattle.agreement_core.specs.body_terms.specs.declared.micro.Micro.{Micro}
+use Rattle.agreement_core.specs.body_terms.specs.declared.thunk.Thunk.{Thunk}
+use Rattle.agreement_core.specs.body_terms.specs.declared.micro.Micro.TheVariants.{Commit, NestedCommit, OutcomeCommit, MakeCommit, RetireCommit}
+use Rattle.agreement_core.specs.section_lines.specs.Line.{IsCounted}
+use Rattle.agreement_core.specs.table_words.specs.declared.layout.Layout.{Layout}
+use Rattle.agreement_core.specs.table_words.specs.declared.spot.Spot.TheVariants.{LogWord}
+use Rattle.machine_states.specs.structure_laws.specs.Meaning.{Meaning}
+use Rattle.machine_states.specs.runner_steps.specs.runner_parts.specs.State.{RunState}
+use Rattle.machine_states.specs.runner_steps.specs.Sections.{thunk_of, line_of}
+use Rattle.machine_states.specs.epoch_core.specs.State.{Role, Retires}
+use Rattle.machine_states.specs.epoch_core.specs.Sound.{IsLogged}
 use Rattle.machine_states.specs.Sight.{Sight}
-use Rattle.machine_epochs.specs.Entries.{counts_of}
-use Rattle.machine_epochs.specs.Roles.{role_at}
-use Rattle.machine_epochs.specs.Slots.{thunk_in}
-use Rattle.machine_epochs.proofs.Places.{held_out, run_thunk, run_role}
-use Rattle.machine_epochs.proofs.Roles.{make_role, retire_role}
+use Rattle.machine_agreement.specs.machine_epochs.specs.Entries.{counts_of}
+use Rattle.machine_agreement.specs.machine_epochs.specs.Roles.{role_at}
+use Rattle.machine_agreement.specs.machine_epochs.specs.Slots.{thunk_in}
+use Rattle.machine_agreement.specs.machine_epochs.proofs.Places.{held_out, run_thunk, run_role}
+use Rattle.machine_agreement.specs.machine_epochs.proofs.Roles.{make_role, retire_role}
 use Rattle.machine_invariant.specs.Whole.{Beside, IsWhole}
 use Rattle.machine_invariant.specs.LogWords.{commits_to, LogWordsSay}
 use Rattle.machine_invariant.proofs.Trails.{run_is, run_used}

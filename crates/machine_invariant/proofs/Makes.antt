@@ -4,43 +4,43 @@ use Rattle.std.proofs.Common.{◌≡◌, ℕ, suc, ◌<◌, ◌≤◌, List, [],
 use Rattle.std.proofs.Common.{Some, None}
 use Rattle.std.proofs.lemmas.Bool.{cases_eq}
 use Rattle.std.proofs.lemmas.Bool.Decides.{nat_tests}
-use Rattle.map_history.specs.declared.op.Request.{Request}
-use Rattle.body_terms.specs.declared.micro.Source.{Source}
-use Rattle.body_terms.specs.declared.micro.Micro.{Micro}
-use Rattle.body_terms.specs.declared.micro.Micro.TheVariants as micros
-use Rattle.body_terms.specs.Memory.{cell_of}
-use Rattle.body_terms.specs.Run.{source_value}
-use Rattle.body_terms.specs.Word.{value_of, next_word}
-use Rattle.table_words.specs.declared.layout.Layout.{Layout}
-use Rattle.table_words.specs.declared.spot.Spot.{Spot}
-use Rattle.table_words.specs.declared.access.Access.{Access}
-use Rattle.table_words.specs.Limits.{IsWithinLimits}
-use Rattle.table_words.specs.Places.{slot_count}
-use Rattle.table_words.specs.Seen.{upd}
-use Rattle.structure_laws.specs.Meaning.{Meaning}
-use Rattle.structure_laws.specs.Laws.{Laws}
-use Rattle.structure_laws.specs.Sections.{IsAllowed}
-use Rattle.runner_parts.specs.declared.event.EventKind.{EventKind}
-use Rattle.runner_parts.specs.declared.event.EventKind.TheVariants as kinds
-use Rattle.runner_parts.specs.State.{RunState, PartState}
-use Rattle.runner_steps.specs.Sections.{is_open_run, next_of}
-use Rattle.runner_steps.specs.InRun.{fill_load_ask, fill_store_ask}
-use Rattle.runner_steps.specs.AfterInRun.{fill_loaded, make_committed}
-use Rattle.runner_steps.specs.Asks.{asks, line_ask}
+use Rattle.agreement_core.specs.map_history.specs.declared.op.Request.{Request}
+use Rattle.agreement_core.specs.body_terms.specs.declared.micro.Source.{Source}
+use Rattle.agreement_core.specs.body_terms.specs.declared.micro.Micro.{Micro}
+use Rattle.agreement_core.specs.body_terms.specs.declared.micro.Micro.TheVariants as micros
+use Rattle.agreement_core.specs.body_terms.specs.Memory.{cell_of}
+use Rattle.agreement_core.specs.body_terms.specs.Run.{source_value}
+use Rattle.agreement_core.specs.body_terms.specs.Word.{value_of, next_word}
+use Rattle.agreement_core.specs.table_words.specs.declared.layout.Layout.{Layout}
+use Rattle.agreement_core.specs.table_words.specs.declared.spot.Spot.{Spot}
+use Rattle.agreement_core.specs.table_words.specs.declared.access.Access.{Access}
+use Rattle.agreement_core.specs.table_words.specs.Limits.{IsWithinLimits}
+use Rattle.agreement_core.specs.table_words.specs.Places.{slot_count}
+use Rattle.agreement_core.specs.table_words.specs.Seen.{upd}
+use Rattle.machine_states.specs.structure_laws.specs.Meaning.{Meaning}
+use Rattle.machine_states.specs.structure_laws.specs.Laws.{Laws}
+use Rattle.machine_states.specs.structure_laws.specs.Sections.{IsAllowed}
+use Rattle.machine_states.specs.runner_steps.specs.runner_parts.specs.declared.event.EventKind.{EventKind}
+use Rattle.machine_states.specs.runner_steps.specs.runner_parts.specs.declared.event.EventKind.TheVariants as kinds
+use Rattle.machine_states.specs.runner_steps.specs.runner_parts.specs.State.{RunState, PartState}
+use Rattle.machine_states.specs.runner_steps.specs.Sections.{is_open_run, next_of}
+use Rattle.machine_states.specs.runner_steps.specs.InRun.{fill_load_ask, fill_store_ask}
+use Rattle.machine_states.specs.runner_steps.specs.AfterInRun.{fill_loaded, make_committed}
+use Rattle.machine_states.specs.runner_steps.specs.Asks.{asks, line_ask}
 use Rattle.agreement_core.specs.Checks.{source_in}
 use Rattle.agreement_core.specs.Events as agreement
 use Rattle.agreement_core.proofs.Words.{value_next}
-use Rattle.epoch_core.specs.State.{Counts}
-use Rattle.epoch_core.specs.Events as epochs
+use Rattle.machine_states.specs.epoch_core.specs.State.{Counts}
+use Rattle.machine_states.specs.epoch_core.specs.Events as epochs
 use Rattle.machine_states.specs.Sight.{Sight, sight_after}
 use Rattle.machine_states.proofs.Sights.{if_some, some_none}
 use Rattle.machine_states.proofs.Steps.{some_same}
 use Rattle.machine_states.proofs.Updates.{upd_here, upd_else}
-use Rattle.machine_epochs.specs.Entries.{counts_of}
-use Rattle.machine_scenes.specs.Kinds.{is_alone}
-use Rattle.machine_scenes.specs.Shown.{States}
-use Rattle.machine_scenes.specs.Steps.{Agreement, Fill, Make, MayMake}
-use Rattle.machine_scenes.specs.Steps as steps
+use Rattle.machine_agreement.specs.machine_epochs.specs.Entries.{counts_of}
+use Rattle.machine_agreement.specs.machine_scenes.specs.Kinds.{is_alone}
+use Rattle.machine_agreement.specs.machine_scenes.specs.Shown.{States}
+use Rattle.machine_agreement.specs.machine_scenes.specs.Steps.{Agreement, Fill, Make, MayMake}
+use Rattle.machine_agreement.specs.machine_scenes.specs.Steps as steps
 use Rattle.machine_agreement.proofs.LineAsked as asked_line
 use Rattle.machine_agreement.proofs.RunPlaces.{run_here}
 use Rattle.machine_slots.specs.Hands.{LooksAt}

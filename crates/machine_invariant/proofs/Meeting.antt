@@ -1,23 +1,23 @@
 -- Before a runner reads a cell outside a run, it comes to hold what it meets there.
 use Rattle.std.specs.Prelude.{All}
 use Rattle.std.proofs.Common.{◌≡◌, ℕ, ◌≤◌, List, [], ◌∷◌, length, refl, sym, subst, Some}
-use Rattle.map_history.specs.declared.op.Request.{Request}
-use Rattle.table_words.specs.declared.layout.Layout.{Layout}
-use Rattle.table_words.specs.declared.spot.Spot.{Spot}
-use Rattle.table_words.specs.declared.access.Access.{Access}
-use Rattle.table_words.specs.Limits.{IsWithinLimits}
-use Rattle.structure_laws.specs.Meaning.{Meaning}
-use Rattle.structure_laws.specs.Laws.{Laws}
-use Rattle.structure_laws.specs.Sections.{IsAllowed}
-use Rattle.runner_parts.specs.declared.event.EventKind.{EventKind}
-use Rattle.runner_parts.specs.declared.event.EventKind.TheVariants as kinds
-use Rattle.runner_steps.specs.Asks.{asks}
-use Rattle.epoch_core.specs.State.{Counts}
-use Rattle.epoch_core.specs.Events.{Event, Reach}
-use Rattle.epoch_core.specs.Schedules.{AllEnabled, after_all}
+use Rattle.agreement_core.specs.map_history.specs.declared.op.Request.{Request}
+use Rattle.agreement_core.specs.table_words.specs.declared.layout.Layout.{Layout}
+use Rattle.agreement_core.specs.table_words.specs.declared.spot.Spot.{Spot}
+use Rattle.agreement_core.specs.table_words.specs.declared.access.Access.{Access}
+use Rattle.agreement_core.specs.table_words.specs.Limits.{IsWithinLimits}
+use Rattle.machine_states.specs.structure_laws.specs.Meaning.{Meaning}
+use Rattle.machine_states.specs.structure_laws.specs.Laws.{Laws}
+use Rattle.machine_states.specs.structure_laws.specs.Sections.{IsAllowed}
+use Rattle.machine_states.specs.runner_steps.specs.runner_parts.specs.declared.event.EventKind.{EventKind}
+use Rattle.machine_states.specs.runner_steps.specs.runner_parts.specs.declared.event.EventKind.TheVariants as kinds
+use Rattle.machine_states.specs.runner_steps.specs.Asks.{asks}
+use Rattle.machine_states.specs.epoch_core.specs.State.{Counts}
+use Rattle.machine_states.specs.epoch_core.specs.Events.{Event, Reach}
+use Rattle.machine_states.specs.epoch_core.specs.Schedules.{AllEnabled, after_all}
 use Rattle.machine_states.specs.Sight.{Sight}
-use Rattle.machine_epochs.specs.Entries.{counts_of}
-use Rattle.machine_scenes.specs.Steps.{MeetsBy}
+use Rattle.machine_agreement.specs.machine_epochs.specs.Entries.{counts_of}
+use Rattle.machine_agreement.specs.machine_scenes.specs.Steps.{MeetsBy}
 use Rattle.machine_invariant.specs.Whole.{Beside, states_of, IsWhole}
 use Rattle.machine_invariant.proofs.Reaching.{now_held, whole_reached}
 use Rattle.machine_invariant.proofs.SuppliesSlots.{slots_met, by_met, HoldsMet, meets_reach}

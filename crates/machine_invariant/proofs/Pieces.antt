@@ -1,26 +1,26 @@
 -- The components' events of one step of the machine, and what they lead to.
 use Rattle.std.specs.Prelude.{replicate, All}
 use Rattle.std.proofs.Common.{◌≡◌, ℕ, ◌≤◌, List, ◌++◌, length, inl, inr, refl, sym, subst, false}
-use Rattle.map_history.specs.declared.op.Request.{Request}
-use Rattle.table_words.specs.declared.layout.Layout.{Layout}
-use Rattle.table_words.specs.declared.spot.Spot.{Spot}
-use Rattle.table_words.specs.declared.access.Access.{Access}
-use Rattle.table_words.specs.Limits.{IsWithinLimits}
-use Rattle.structure_laws.specs.Meaning.{Meaning}
-use Rattle.structure_laws.specs.Laws.{Laws}
-use Rattle.structure_laws.specs.Sections.{IsAllowed}
-use Rattle.runner_parts.specs.declared.event.EventKind.{EventKind}
+use Rattle.agreement_core.specs.map_history.specs.declared.op.Request.{Request}
+use Rattle.agreement_core.specs.table_words.specs.declared.layout.Layout.{Layout}
+use Rattle.agreement_core.specs.table_words.specs.declared.spot.Spot.{Spot}
+use Rattle.agreement_core.specs.table_words.specs.declared.access.Access.{Access}
+use Rattle.agreement_core.specs.table_words.specs.Limits.{IsWithinLimits}
+use Rattle.machine_states.specs.structure_laws.specs.Meaning.{Meaning}
+use Rattle.machine_states.specs.structure_laws.specs.Laws.{Laws}
+use Rattle.machine_states.specs.structure_laws.specs.Sections.{IsAllowed}
+use Rattle.machine_states.specs.runner_steps.specs.runner_parts.specs.declared.event.EventKind.{EventKind}
 use Rattle.agreement_core.specs.State.{AgreementState}
 use Rattle.agreement_core.specs.Events as agreement
 use Rattle.agreement_core.specs.Schedules as agreement_schedules
-use Rattle.epoch_core.specs.Events as epochs
-use Rattle.epoch_core.specs.Schedules as epoch_schedules
+use Rattle.machine_states.specs.epoch_core.specs.Events as epochs
+use Rattle.machine_states.specs.epoch_core.specs.Schedules as epoch_schedules
 use Rattle.machine_states.specs.Sight.{Sight, Steps}
-use Rattle.machine_epochs.specs.Entries.{counts_of}
-use Rattle.machine_epochs.specs.Joined as joins
-use Rattle.machine_epochs.specs.Chunks as slots
-use Rattle.machine_epochs.proofs.AllKinds as joins_kinds
-use Rattle.machine_scenes.specs.Shown.{Publications, rules_of}
+use Rattle.machine_agreement.specs.machine_epochs.specs.Entries.{counts_of}
+use Rattle.machine_agreement.specs.machine_epochs.specs.Joined as joins
+use Rattle.machine_agreement.specs.machine_epochs.specs.Chunks as slots
+use Rattle.machine_agreement.specs.machine_epochs.proofs.AllKinds as joins_kinds
+use Rattle.machine_agreement.specs.machine_scenes.specs.Shown.{Publications, rules_of}
 use Rattle.machine_agreement.specs.Joined as sections
 use Rattle.machine_agreement.specs.Chunks as chunks
 use Rattle.machine_agreement.proofs.AllKinds as sections_kinds

@@ -1,33 +1,33 @@
 -- The kinds of step that are quiet keep the whole invariant.
 use Rattle.std.specs.Prelude.{◌-◌, Bool, true, false, replicate, if◌then◌else◌}
 use Rattle.std.proofs.Common.{◌≡◌, ◌≢◌, ℕ, List, ◌++◌, sym, refl, ap, ◌∙◌, subst, Option, Some, None}
-use Rattle.map_history.specs.declared.op.Request.{Request}
-use Rattle.table_words.specs.declared.layout.Layout.{Layout}
-use Rattle.table_words.specs.declared.spot.Spot.{Spot}
-use Rattle.table_words.specs.declared.access.Access.{Access}
-use Rattle.table_words.specs.declared.spot.Spot.TheVariants.{ThunkWord}
-use Rattle.table_words.specs.Access.{written}
-use Rattle.table_words.specs.Places.{slot_count}
-use Rattle.table_words.specs.Seen.{put}
-use Rattle.table_words.specs.Limits.{IsWithinLimits}
-use Rattle.structure_laws.specs.Meaning.{Meaning}
-use Rattle.structure_laws.specs.Laws.{Laws}
-use Rattle.runner_parts.specs.declared.event.EventKind.{EventKind}
-use Rattle.runner_parts.specs.declared.event.EventKind.TheVariants as kinds
-use Rattle.runner_parts.specs.State.{RunState, PartState}
-use Rattle.runner_steps.specs.Sections.{is_open_run, next_of}
-use Rattle.runner_steps.specs.Outside.{private_store_ask}
-use Rattle.runner_steps.specs.Asks.{outside_ask, inside_ask, line_ask, opening_ask, asks}
+use Rattle.agreement_core.specs.map_history.specs.declared.op.Request.{Request}
+use Rattle.agreement_core.specs.table_words.specs.declared.layout.Layout.{Layout}
+use Rattle.agreement_core.specs.table_words.specs.declared.spot.Spot.{Spot}
+use Rattle.agreement_core.specs.table_words.specs.declared.access.Access.{Access}
+use Rattle.agreement_core.specs.table_words.specs.declared.spot.Spot.TheVariants.{ThunkWord}
+use Rattle.agreement_core.specs.table_words.specs.Access.{written}
+use Rattle.agreement_core.specs.table_words.specs.Places.{slot_count}
+use Rattle.agreement_core.specs.table_words.specs.Seen.{put}
+use Rattle.agreement_core.specs.table_words.specs.Limits.{IsWithinLimits}
+use Rattle.machine_states.specs.structure_laws.specs.Meaning.{Meaning}
+use Rattle.machine_states.specs.structure_laws.specs.Laws.{Laws}
+use Rattle.machine_states.specs.runner_steps.specs.runner_parts.specs.declared.event.EventKind.{EventKind}
+use Rattle.machine_states.specs.runner_steps.specs.runner_parts.specs.declared.event.EventKind.TheVariants as kinds
+use Rattle.machine_states.specs.runner_steps.specs.runner_parts.specs.State.{RunState, PartState}
+use Rattle.machine_states.specs.runner_steps.specs.Sections.{is_open_run, next_of}
+use Rattle.machine_states.specs.runner_steps.specs.Outside.{private_store_ask}
+use Rattle.machine_states.specs.runner_steps.specs.Asks.{outside_ask, inside_ask, line_ask, opening_ask, asks}
 use Rattle.agreement_core.specs.Events as agreement
 use Rattle.agreement_core.specs.Schedules as agreement_schedules
 use Rattle.machine_states.specs.World.{is_join}
 use Rattle.machine_states.specs.Sight.{Sight, sight_after}
 use Rattle.machine_states.proofs.Sights.{some_none}
-use Rattle.machine_epochs.specs.Slots.{thunk_in}
-use Rattle.machine_epochs.specs.Chunks as slots
-use Rattle.machine_epochs.proofs.Joining.{thunk_same}
-use Rattle.machine_epochs.proofs.OutsideAsked.{private_store_asked}
-use Rattle.machine_scenes.specs.Shown.{rules_of}
+use Rattle.machine_agreement.specs.machine_epochs.specs.Slots.{thunk_in}
+use Rattle.machine_agreement.specs.machine_epochs.specs.Chunks as slots
+use Rattle.machine_agreement.specs.machine_epochs.proofs.Joining.{thunk_same}
+use Rattle.machine_agreement.specs.machine_epochs.proofs.OutsideAsked.{private_store_asked}
+use Rattle.machine_agreement.specs.machine_scenes.specs.Shown.{rules_of}
 use Rattle.machine_agreement.specs.Chunks as chunks
 use Rattle.machine_agreement.proofs.LineAsked.{inside_asked}
 use Rattle.machine_invariant.specs.Named.{AreNamed}

@@ -3,17 +3,17 @@ use Rattle.std.specs.Prelude.{◌^◌, true, replicate}
 use Rattle.std.proofs.Common.{◌≡◌, ℕ, ◌+◌, ◌<◌, length, sym, ap, ◌∙◌, ⊎_elim, arith, Some}
 use Rattle.std.proofs.lemmas.List.{length-replicate}
 use Rattle.std.proofs.lemmas.Bool.{cases_lt}
-use Rattle.body_terms.specs.declared.thunk.Thunk.{Thunk}
-use Rattle.table_words.specs.declared.layout.Layout.{Layout}
-use Rattle.table_words.specs.declared.spot.Spot.TheVariants.{DoneWord, LogWord}
-use Rattle.structure_laws.specs.Meaning.{Meaning}
-use Rattle.runner_parts.specs.Tests.{has, is_prepared}
-use Rattle.runner_steps.specs.Outside.{descriptor_spot}
-use Rattle.epoch_core.specs.State.{EpochState}
+use Rattle.agreement_core.specs.body_terms.specs.declared.thunk.Thunk.{Thunk}
+use Rattle.agreement_core.specs.table_words.specs.declared.layout.Layout.{Layout}
+use Rattle.agreement_core.specs.table_words.specs.declared.spot.Spot.TheVariants.{DoneWord, LogWord}
+use Rattle.machine_states.specs.structure_laws.specs.Meaning.{Meaning}
+use Rattle.machine_states.specs.runner_steps.specs.runner_parts.specs.Tests.{has, is_prepared}
+use Rattle.machine_states.specs.runner_steps.specs.Outside.{descriptor_spot}
+use Rattle.machine_states.specs.epoch_core.specs.State.{EpochState}
 use Rattle.machine_states.specs.Sight.{Sight}
-use Rattle.machine_epochs.specs.Slots.{thunk_in}
-use Rattle.machine_epochs.specs.Joined.{IsJoinedToEpochs}
-use Rattle.machine_epochs.proofs.SectionKinds.{stored_index, replicate_index, prepared_thunk, thunk_again, log_spot}
+use Rattle.machine_agreement.specs.machine_epochs.specs.Slots.{thunk_in}
+use Rattle.machine_agreement.specs.machine_epochs.specs.Joined.{IsJoinedToEpochs}
+use Rattle.machine_agreement.specs.machine_epochs.proofs.SectionKinds.{stored_index, replicate_index, prepared_thunk, thunk_again, log_spot}
 use Rattle.machine_invariant.proofs.Basics.{both}
 
 module _ (m : Meaning) (l : Layout) (w : EpochState) (s : Sight) (old : IsJoinedToEpochs m l w s) (r : ℕ) (t : Thunk) (d : ℕ)

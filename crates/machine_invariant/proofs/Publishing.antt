@@ -4,52 +4,52 @@ use Rattle.std.proofs.Common.{◌≡◌, ◌≢◌, ◌⊎◌, inl, inr, ℕ, �
 use Rattle.std.proofs.Common.{Some, None}
 use Rattle.std.proofs.lemmas.Bool.{cases_eq}
 use Rattle.std.proofs.lemmas.Bool.Decides.{nat_tests}
-use Rattle.map_history.specs.declared.op.Op.{Op}
-use Rattle.map_history.specs.declared.op.Request.{Request}
-use Rattle.body_terms.specs.declared.thunk.Thunk.{Thunk}
-use Rattle.body_terms.specs.Line.{line, micro_at, committed}
-use Rattle.table_words.specs.declared.layout.Layout.{Layout}
-use Rattle.table_words.specs.declared.spot.Spot.{Spot}
-use Rattle.table_words.specs.declared.access.Access.{Access}
-use Rattle.table_words.specs.Limits.{IsWithinLimits}
-use Rattle.structure_laws.specs.Scene.{Readings}
-use Rattle.structure_laws.specs.Meaning.{Meaning}
-use Rattle.structure_laws.specs.Laws.{Laws}
-use Rattle.structure_laws.specs.Sections.{IsAllowed}
-use Rattle.structure_laws.proofs.Changes.{upd_same, upd_other}
-use Rattle.runner_parts.specs.declared.entries.Published.{Published}
-use Rattle.runner_parts.specs.declared.event.EventKind.{EventKind}
-use Rattle.runner_parts.specs.declared.event.EventKind.TheVariants as kinds
-use Rattle.runner_parts.specs.State.{PartState}
-use Rattle.runner_parts.specs.Tests.{has, thunk_words}
-use Rattle.runner_parts.specs.Lists.{descriptor_taken, cell_read, section_published}
-use Rattle.runner_steps.specs.Outside.{hold_ask}
-use Rattle.runner_steps.specs.Asks.{asks}
-use Rattle.runner_steps.specs.AfterOutside.{hold_after, published_by}
-use Rattle.runner_steps.specs.After.{after_by, after}
+use Rattle.agreement_core.specs.map_history.specs.declared.op.Op.{Op}
+use Rattle.agreement_core.specs.map_history.specs.declared.op.Request.{Request}
+use Rattle.agreement_core.specs.body_terms.specs.declared.thunk.Thunk.{Thunk}
+use Rattle.agreement_core.specs.body_terms.specs.Line.{line, micro_at, committed}
+use Rattle.agreement_core.specs.table_words.specs.declared.layout.Layout.{Layout}
+use Rattle.agreement_core.specs.table_words.specs.declared.spot.Spot.{Spot}
+use Rattle.agreement_core.specs.table_words.specs.declared.access.Access.{Access}
+use Rattle.agreement_core.specs.table_words.specs.Limits.{IsWithinLimits}
+use Rattle.machine_states.specs.structure_laws.specs.Scene.{Readings}
+use Rattle.machine_states.specs.structure_laws.specs.Meaning.{Meaning}
+use Rattle.machine_states.specs.structure_laws.specs.Laws.{Laws}
+use Rattle.machine_states.specs.structure_laws.specs.Sections.{IsAllowed}
+use Rattle.machine_states.specs.structure_laws.proofs.Changes.{upd_same, upd_other}
+use Rattle.machine_states.specs.runner_steps.specs.runner_parts.specs.declared.entries.Published.{Published}
+use Rattle.machine_states.specs.runner_steps.specs.runner_parts.specs.declared.event.EventKind.{EventKind}
+use Rattle.machine_states.specs.runner_steps.specs.runner_parts.specs.declared.event.EventKind.TheVariants as kinds
+use Rattle.machine_states.specs.runner_steps.specs.runner_parts.specs.State.{PartState}
+use Rattle.machine_states.specs.runner_steps.specs.runner_parts.specs.Tests.{has, thunk_words}
+use Rattle.machine_states.specs.runner_steps.specs.runner_parts.specs.Lists.{descriptor_taken, cell_read, section_published}
+use Rattle.machine_states.specs.runner_steps.specs.Outside.{hold_ask}
+use Rattle.machine_states.specs.runner_steps.specs.Asks.{asks}
+use Rattle.machine_states.specs.runner_steps.specs.AfterOutside.{hold_after, published_by}
+use Rattle.machine_states.specs.runner_steps.specs.After.{after_by, after}
 use Rattle.agreement_core.specs.State.{AgreementState}
 use Rattle.agreement_core.specs.Sound.{IsSound}
 use Rattle.agreement_core.specs.Events as agreement
 use Rattle.agreement_core.specs.Schedules as agreement_schedules
-use Rattle.epoch_core.specs.declared.location.Location.TheVariants.{Live}
-use Rattle.epoch_core.specs.State.{Counts, EpochState, Role, is_entered}
-use Rattle.epoch_core.specs.Update.{upd, upd2}
-use Rattle.epoch_core.specs.Events as epochs
-use Rattle.epoch_core.specs.Events.{Event, slot_of}
-use Rattle.epoch_core.specs.History.{is_out}
+use Rattle.machine_states.specs.epoch_core.specs.declared.location.Location.TheVariants.{Live}
+use Rattle.machine_states.specs.epoch_core.specs.State.{Counts, EpochState, Role, is_entered}
+use Rattle.machine_states.specs.epoch_core.specs.Update.{upd, upd2}
+use Rattle.machine_states.specs.epoch_core.specs.Events as epochs
+use Rattle.machine_states.specs.epoch_core.specs.Events.{Event, slot_of}
+use Rattle.machine_states.specs.epoch_core.specs.History.{is_out}
 use Rattle.machine_states.specs.Sight.{Sight, sight_after}
 use Rattle.machine_states.proofs.Sights.{some_none}
 use Rattle.machine_states.proofs.Updates.{upd_split}
-use Rattle.machine_epochs.specs.Entries.{counts_of}
-use Rattle.machine_epochs.specs.Slots.{thunk_in}
-use Rattle.machine_epochs.specs.Supplied.{comes_outside}
-use Rattle.machine_epochs.specs.Joined as joins
-use Rattle.machine_epochs.specs.Chunks.{roles_of}
-use Rattle.machine_epochs.proofs.OutsideAsked as outside
-use Rattle.machine_epochs.proofs.Places.{has_append, held_unfree}
-use Rattle.machine_scenes.specs.Shown.{States, Publications, publishes, rules_of}
-use Rattle.machine_scenes.specs.Steps as steps
-use Rattle.machine_scenes.proofs.Entries.{stays_held}
+use Rattle.machine_agreement.specs.machine_epochs.specs.Entries.{counts_of}
+use Rattle.machine_agreement.specs.machine_epochs.specs.Slots.{thunk_in}
+use Rattle.machine_agreement.specs.machine_epochs.specs.Supplied.{comes_outside}
+use Rattle.machine_agreement.specs.machine_epochs.specs.Joined as joins
+use Rattle.machine_agreement.specs.machine_epochs.specs.Chunks.{roles_of}
+use Rattle.machine_agreement.specs.machine_epochs.proofs.OutsideAsked as outside
+use Rattle.machine_agreement.specs.machine_epochs.proofs.Places.{has_append, held_unfree}
+use Rattle.machine_agreement.specs.machine_scenes.specs.Shown.{States, Publications, publishes, rules_of}
+use Rattle.machine_agreement.specs.machine_scenes.specs.Steps as steps
+use Rattle.machine_agreement.specs.machine_scenes.proofs.Entries.{stays_held}
 use Rattle.machine_agreement.specs.Chunks.{publication}
 use Rattle.machine_invariant.specs.Named.{AreNamed}
 use Rattle.machine_invariant.specs.Whole.{Beside, states_of, made_in, made_of, IsHeldFor, HasPublished, AreTied, IsWhole}

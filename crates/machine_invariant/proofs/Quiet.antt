@@ -1,29 +1,29 @@
 -- A step of which nothing is published, retired or freed keeps the whole invariant.
 use Rattle.std.specs.Prelude.{Bool, true, false}
 use Rattle.std.proofs.Common.{◌≡◌, ℕ, List, [], ◌∷◌, sym, refl, ap, ◌∙◌, subst, Option, Some, None}
-use Rattle.table_words.specs.declared.layout.Layout.{Layout}
-use Rattle.table_words.specs.Limits.{IsWithinLimits}
-use Rattle.structure_laws.specs.Scene.{Readings}
-use Rattle.structure_laws.specs.Meaning.{Meaning}
-use Rattle.structure_laws.specs.Laws.{Laws}
-use Rattle.runner_parts.specs.State.{RunState}
-use Rattle.runner_parts.specs.Tests.{has}
+use Rattle.agreement_core.specs.table_words.specs.declared.layout.Layout.{Layout}
+use Rattle.agreement_core.specs.table_words.specs.Limits.{IsWithinLimits}
+use Rattle.machine_states.specs.structure_laws.specs.Scene.{Readings}
+use Rattle.machine_states.specs.structure_laws.specs.Meaning.{Meaning}
+use Rattle.machine_states.specs.structure_laws.specs.Laws.{Laws}
+use Rattle.machine_states.specs.runner_steps.specs.runner_parts.specs.State.{RunState}
+use Rattle.machine_states.specs.runner_steps.specs.runner_parts.specs.Tests.{has}
 use Rattle.agreement_core.specs.State.{CellRules, AgreementState}
 use Rattle.agreement_core.specs.Events as agreement
 use Rattle.agreement_core.specs.Schedules as agreement_schedules
-use Rattle.epoch_core.specs.State.{Counts, EpochState}
-use Rattle.epoch_core.specs.Events as epochs
-use Rattle.epoch_core.specs.Events.{slot_of}
-use Rattle.epoch_core.specs.Schedules as epoch_schedules
-use Rattle.epoch_core.specs.Sound as epoch_sound
-use Rattle.epoch_core.proofs.Keeping as epoch_keeping
+use Rattle.machine_states.specs.epoch_core.specs.State.{Counts, EpochState}
+use Rattle.machine_states.specs.epoch_core.specs.Events as epochs
+use Rattle.machine_states.specs.epoch_core.specs.Events.{slot_of}
+use Rattle.machine_states.specs.epoch_core.specs.Schedules as epoch_schedules
+use Rattle.machine_states.specs.epoch_core.specs.Sound as epoch_sound
+use Rattle.machine_states.specs.epoch_core.proofs.Keeping as epoch_keeping
 use Rattle.machine_states.specs.Sight.{Sight}
-use Rattle.machine_epochs.specs.Entries.{counts_of}
-use Rattle.machine_epochs.specs.Slots.{thunk_in}
-use Rattle.machine_epochs.specs.Joined as joins
-use Rattle.machine_epochs.proofs.Reaching.{leaves_descriptors, descriptors_stay}
-use Rattle.machine_scenes.specs.Kinds.{is_alone}
-use Rattle.machine_scenes.specs.Shown.{States, rules_of}
+use Rattle.machine_agreement.specs.machine_epochs.specs.Entries.{counts_of}
+use Rattle.machine_agreement.specs.machine_epochs.specs.Slots.{thunk_in}
+use Rattle.machine_agreement.specs.machine_epochs.specs.Joined as joins
+use Rattle.machine_agreement.specs.machine_epochs.proofs.Reaching.{leaves_descriptors, descriptors_stay}
+use Rattle.machine_agreement.specs.machine_scenes.specs.Kinds.{is_alone}
+use Rattle.machine_agreement.specs.machine_scenes.specs.Shown.{States, rules_of}
 use Rattle.machine_agreement.specs.Joined as sections
 use Rattle.machine_agreement.specs.Joined.{ShowsRun}
 use Rattle.machine_slots.specs.Hands.{Made}
@@ -32,7 +32,7 @@ use Rattle.machine_invariant.specs.Whole.{Beside, states_of, made_in, made_of, I
 use Rattle.machine_invariant.proofs.Runs.{AllAre, is_calm, InHands, Stands, agreement_stands, epochs_stand, filled_other}
 use Rattle.machine_invariant.proofs.Jointly.{no_steps, IsWholeAfter}
 use Rattle.machine_invariant.proofs.Ties.{IsOnward, alone_onward, named_onward, tied_onward}
-use Rattle.body_terms.specs.declared.thunk.Thunk.{Thunk}
+use Rattle.agreement_core.specs.body_terms.specs.declared.thunk.Thunk.{Thunk}
 
 -- an event of agreement that publishes, retires and frees nothing, and has nothing to do with a Make's slot, a Retire or
 -- a read without a lock

@@ -2,21 +2,21 @@
 use Rattle.std.specs.Prelude.{◌||◌, Bool, true}
 use Rattle.std.proofs.Common.{◌≡◌, ℕ, refl, arith}
 use Rattle.std.proofs.lemmas.Bool.Decides.{nat_tests}
-use Rattle.table_words.specs.declared.layout.Layout.{Layout}
-use Rattle.table_words.specs.Limits.{IsWithinLimits}
-use Rattle.structure_laws.specs.Meaning.{Meaning}
-use Rattle.structure_laws.specs.Laws.{Laws}
-use Rattle.epoch_core.specs.Update.{upd_row}
-use Rattle.epoch_core.specs.Events.{Reach, Enabled, after, slot_of}
+use Rattle.agreement_core.specs.table_words.specs.declared.layout.Layout.{Layout}
+use Rattle.agreement_core.specs.table_words.specs.Limits.{IsWithinLimits}
+use Rattle.machine_states.specs.structure_laws.specs.Meaning.{Meaning}
+use Rattle.machine_states.specs.structure_laws.specs.Laws.{Laws}
+use Rattle.machine_states.specs.epoch_core.specs.Update.{upd_row}
+use Rattle.machine_states.specs.epoch_core.specs.Events.{Reach, Enabled, after, slot_of}
 use Rattle.machine_states.specs.Sight.{Sight}
-use Rattle.machine_epochs.specs.Entries.{counts_of}
-use Rattle.machine_epochs.proofs.Reaching.{reach_joined}
-use Rattle.machine_scenes.specs.Shown.{rules_of}
-use Rattle.machine_scenes.specs.Steps.{Epochs}
-use Rattle.machine_scenes.proofs.Kept.{step_kept}
+use Rattle.machine_agreement.specs.machine_epochs.specs.Entries.{counts_of}
+use Rattle.machine_agreement.specs.machine_epochs.proofs.Reaching.{reach_joined}
+use Rattle.machine_agreement.specs.machine_scenes.specs.Shown.{rules_of}
+use Rattle.machine_agreement.specs.machine_scenes.specs.Steps.{Epochs}
+use Rattle.machine_agreement.specs.machine_scenes.proofs.Kept.{step_kept}
 use Rattle.machine_slots.specs.Hands.{LocksAreHeld}
 use Rattle.machine_slots.proofs.Locks.{locks_held_after}
-use Rattle.machine_scenes.specs.Kept.{IsKept}
+use Rattle.machine_agreement.specs.machine_scenes.specs.Kept.{IsKept}
 use Rattle.machine_invariant.specs.Whole.{Beside, states_of, IsHeldFor, IsWhole}
 use Rattle.machine_invariant.proofs.Named.{named_more}
 

@@ -1,29 +1,29 @@
 -- A step by which a read without a lock writes a word keeps the whole invariant.
 use Rattle.std.specs.Prelude.{Bool, true, false, replicate}
 use Rattle.std.proofs.Common.{◌≡◌, ℕ, List, [], ◌∷◌, sym, refl, ap, ◌∙◌, None, Some}
-use Rattle.map_history.specs.declared.op.Request.{Request}
-use Rattle.table_words.specs.declared.layout.Layout.{Layout}
-use Rattle.table_words.specs.declared.spot.Spot.{Spot}
-use Rattle.table_words.specs.declared.access.Access.{Access}
-use Rattle.table_words.specs.Limits.{IsWithinLimits}
-use Rattle.structure_laws.specs.Meaning.{Meaning}
-use Rattle.structure_laws.specs.Laws.{Laws}
-use Rattle.runner_parts.specs.declared.event.EventKind.{EventKind}
-use Rattle.runner_parts.specs.declared.event.EventKind.TheVariants as kinds
-use Rattle.runner_parts.specs.State.{PartState}
-use Rattle.runner_parts.specs.Tests.{has}
-use Rattle.runner_steps.specs.Sections.{reply_in}
-use Rattle.runner_steps.specs.Reads.{read_stamp_after}
-use Rattle.runner_steps.specs.Asks.{asks}
+use Rattle.agreement_core.specs.map_history.specs.declared.op.Request.{Request}
+use Rattle.agreement_core.specs.table_words.specs.declared.layout.Layout.{Layout}
+use Rattle.agreement_core.specs.table_words.specs.declared.spot.Spot.{Spot}
+use Rattle.agreement_core.specs.table_words.specs.declared.access.Access.{Access}
+use Rattle.agreement_core.specs.table_words.specs.Limits.{IsWithinLimits}
+use Rattle.machine_states.specs.structure_laws.specs.Meaning.{Meaning}
+use Rattle.machine_states.specs.structure_laws.specs.Laws.{Laws}
+use Rattle.machine_states.specs.runner_steps.specs.runner_parts.specs.declared.event.EventKind.{EventKind}
+use Rattle.machine_states.specs.runner_steps.specs.runner_parts.specs.declared.event.EventKind.TheVariants as kinds
+use Rattle.machine_states.specs.runner_steps.specs.runner_parts.specs.State.{PartState}
+use Rattle.machine_states.specs.runner_steps.specs.runner_parts.specs.Tests.{has}
+use Rattle.machine_states.specs.runner_steps.specs.Sections.{reply_in}
+use Rattle.machine_states.specs.runner_steps.specs.Reads.{read_stamp_after}
+use Rattle.machine_states.specs.runner_steps.specs.Asks.{asks}
 use Rattle.agreement_core.specs.State.{AgreementState}
 use Rattle.agreement_core.specs.Events as agreement
 use Rattle.agreement_core.specs.Schedules as agreement_schedules
 use Rattle.machine_states.specs.World.{is_join}
 use Rattle.machine_states.specs.Sight.{Sight, sight_after}
-use Rattle.machine_epochs.specs.Entries.{counts_of}
-use Rattle.machine_epochs.specs.Slots.{thunk_in}
-use Rattle.machine_scenes.specs.Shown.{States, rules_of}
-use Rattle.machine_scenes.specs.Steps as steps
+use Rattle.machine_agreement.specs.machine_epochs.specs.Entries.{counts_of}
+use Rattle.machine_agreement.specs.machine_epochs.specs.Slots.{thunk_in}
+use Rattle.machine_agreement.specs.machine_scenes.specs.Shown.{States, rules_of}
+use Rattle.machine_agreement.specs.machine_scenes.specs.Steps as steps
 use Rattle.machine_slots.specs.Hands.{Made}
 use Rattle.machine_invariant.specs.Whole.{Beside, states_of, made_of, IsHeldFor, IsWhole}
 use Rattle.machine_invariant.proofs.Named.{named_all}

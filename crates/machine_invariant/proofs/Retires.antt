@@ -1,32 +1,32 @@
 -- The load of the epoch for a Retire, and a Retire's commit, keep the whole invariant.
 use Rattle.std.specs.Prelude.{cond, true, slice_index_or, replicate, All}
 use Rattle.std.proofs.Common.{◌≡◌, ℕ, ◌≤◌, List, [], ◌∷◌, length, sym, refl, ap, ◌∙◌, subst, Some}
-use Rattle.map_history.specs.declared.op.Request.{Request}
-use Rattle.body_terms.specs.declared.micro.Micro.{Micro}
-use Rattle.body_terms.specs.declared.micro.Micro.TheVariants as micros
-use Rattle.body_terms.specs.Line.{micro_at, is_event, ending}
-use Rattle.table_words.specs.declared.layout.Layout.{Layout}
-use Rattle.table_words.specs.declared.spot.Spot.{Spot}
-use Rattle.table_words.specs.declared.access.Access.{Access}
-use Rattle.table_words.specs.Limits.{IsWithinLimits}
-use Rattle.structure_laws.specs.Meaning.{Meaning}
-use Rattle.structure_laws.specs.Laws.{Laws}
-use Rattle.structure_laws.specs.Sections.{IsAllowed}
-use Rattle.runner_parts.specs.declared.event.EventKind.TheVariants as kinds
-use Rattle.runner_parts.specs.State.{RunState}
-use Rattle.runner_steps.specs.Sections.{thunk_of, is_open_run, line_of, next_of, setting_of}
-use Rattle.runner_steps.specs.AfterInRun.{goes_on}
-use Rattle.runner_steps.specs.Asks.{asks}
+use Rattle.agreement_core.specs.map_history.specs.declared.op.Request.{Request}
+use Rattle.agreement_core.specs.body_terms.specs.declared.micro.Micro.{Micro}
+use Rattle.agreement_core.specs.body_terms.specs.declared.micro.Micro.TheVariants as micros
+use Rattle.agreement_core.specs.body_terms.specs.Line.{micro_at, is_event, ending}
+use Rattle.agreement_core.specs.table_words.specs.declared.layout.Layout.{Layout}
+use Rattle.agreement_core.specs.table_words.specs.declared.spot.Spot.{Spot}
+use Rattle.agreement_core.specs.table_words.specs.declared.access.Access.{Access}
+use Rattle.agreement_core.specs.table_words.specs.Limits.{IsWithinLimits}
+use Rattle.machine_states.specs.structure_laws.specs.Meaning.{Meaning}
+use Rattle.machine_states.specs.structure_laws.specs.Laws.{Laws}
+use Rattle.machine_states.specs.structure_laws.specs.Sections.{IsAllowed}
+use Rattle.machine_states.specs.runner_steps.specs.runner_parts.specs.declared.event.EventKind.TheVariants as kinds
+use Rattle.machine_states.specs.runner_steps.specs.runner_parts.specs.State.{RunState}
+use Rattle.machine_states.specs.runner_steps.specs.Sections.{thunk_of, is_open_run, line_of, next_of, setting_of}
+use Rattle.machine_states.specs.runner_steps.specs.AfterInRun.{goes_on}
+use Rattle.machine_states.specs.runner_steps.specs.Asks.{asks}
 use Rattle.agreement_core.specs.Events as agreement
-use Rattle.epoch_core.specs.State.{Counts, Retiring}
-use Rattle.epoch_core.specs.Events as epochs
+use Rattle.machine_states.specs.epoch_core.specs.State.{Counts, Retiring}
+use Rattle.machine_states.specs.epoch_core.specs.Events as epochs
 use Rattle.machine_states.specs.Sight.{Sight, sight_after}
-use Rattle.machine_epochs.specs.Entries.{counts_of}
-use Rattle.machine_epochs.specs.Slots.{retire_before, retiring_of}
-use Rattle.machine_epochs.proofs.RunPlaces.{next_in_line, open_run, retire_next}
-use Rattle.machine_scenes.specs.Shown.{States}
-use Rattle.machine_scenes.specs.Steps.{LoadEpoch, Retire, MayLoadEpoch, MayRetire}
-use Rattle.machine_scenes.specs.Steps as steps
+use Rattle.machine_agreement.specs.machine_epochs.specs.Entries.{counts_of}
+use Rattle.machine_agreement.specs.machine_epochs.specs.Slots.{retire_before, retiring_of}
+use Rattle.machine_agreement.specs.machine_epochs.proofs.RunPlaces.{next_in_line, open_run, retire_next}
+use Rattle.machine_agreement.specs.machine_scenes.specs.Shown.{States}
+use Rattle.machine_agreement.specs.machine_scenes.specs.Steps.{LoadEpoch, Retire, MayLoadEpoch, MayRetire}
+use Rattle.machine_agreement.specs.machine_scenes.specs.Steps as steps
 use Rattle.machine_agreement.specs.Joined.{IsRunOf}
 use Rattle.machine_agreement.proofs.RunPlaces.{run_here, before}
 use Rattle.machine_invariant.specs.Whole.{Beside, states_of, made_of, IsWhole}

@@ -1,22 +1,22 @@
 -- Lists of events of the components keep the joint states lawful, and what stands in slots that Makes fill.
 use Rattle.std.specs.Prelude.{Bool, true, false, replicate}
 use Rattle.std.proofs.Common.{◌≡◌, ℕ, zero, suc, ◌<◌, List, [], ◌∷◌, ◌++◌, refl, ◌∙◌, Some}
-use Rattle.table_words.specs.declared.layout.Layout.{Layout}
-use Rattle.table_words.specs.Limits.{IsWithinLimits}
-use Rattle.structure_laws.specs.Meaning.{Meaning}
-use Rattle.structure_laws.specs.Laws.{Laws}
+use Rattle.agreement_core.specs.table_words.specs.declared.layout.Layout.{Layout}
+use Rattle.agreement_core.specs.table_words.specs.Limits.{IsWithinLimits}
+use Rattle.machine_states.specs.structure_laws.specs.Meaning.{Meaning}
+use Rattle.machine_states.specs.structure_laws.specs.Laws.{Laws}
 use Rattle.agreement_core.specs.Events as agreement
 use Rattle.agreement_core.specs.Schedules as agreement_schedules
-use Rattle.epoch_core.specs.declared.location.Location.TheVariants.{Hand}
-use Rattle.epoch_core.specs.State.{Counts, EpochState}
-use Rattle.epoch_core.specs.Events as epochs
-use Rattle.epoch_core.specs.Schedules as epoch_schedules
-use Rattle.machine_epochs.specs.Entries.{counts_of}
-use Rattle.machine_scenes.specs.Shown.{States, rules_of}
-use Rattle.machine_scenes.specs.Kinds.{is_plain, is_alone}
-use Rattle.machine_scenes.specs.Steps.{Step, Agreement, Epochs, Enabled, after}
-use Rattle.machine_scenes.specs.Kept.{IsKept}
-use Rattle.machine_scenes.proofs.Kept.{step_kept}
+use Rattle.machine_states.specs.epoch_core.specs.declared.location.Location.TheVariants.{Hand}
+use Rattle.machine_states.specs.epoch_core.specs.State.{Counts, EpochState}
+use Rattle.machine_states.specs.epoch_core.specs.Events as epochs
+use Rattle.machine_states.specs.epoch_core.specs.Schedules as epoch_schedules
+use Rattle.machine_agreement.specs.machine_epochs.specs.Entries.{counts_of}
+use Rattle.machine_agreement.specs.machine_scenes.specs.Shown.{States, rules_of}
+use Rattle.machine_agreement.specs.machine_scenes.specs.Kinds.{is_plain, is_alone}
+use Rattle.machine_agreement.specs.machine_scenes.specs.Steps.{Step, Agreement, Epochs, Enabled, after}
+use Rattle.machine_agreement.specs.machine_scenes.specs.Kept.{IsKept}
+use Rattle.machine_agreement.specs.machine_scenes.proofs.Kept.{step_kept}
 use Rattle.machine_slots.specs.Hands.{Made, IsHeldBack, LocksAreHeld, AreInHand, SlotsAreFilled, MadeGoes}
 use Rattle.machine_slots.proofs.Locks.{locks_held_after}
 use Rattle.machine_slots.proofs.Filled.{filled_after}

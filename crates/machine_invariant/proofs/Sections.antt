@@ -3,19 +3,19 @@ use Rattle.std.proofs.Common.{◌≡◌, ◌≢◌, ℕ, suc, ◌-◌, ◌<◌, 
 use Rattle.std.proofs.Common.{⊎_elim, arith}
 use Rattle.std.specs.Prelude.{◌⊎◌}
 use mathlib.Core.Path.{fun_ext}
-use Rattle.body_terms.specs.Line.{line, micro_at, is_check, is_end, is_commit}
-use Rattle.body_terms.specs.Shape.{IsShaped}
-use Rattle.body_terms.specs.declared.thunk.Thunk.{Thunk}
-use Rattle.body_terms.specs.declared.micro.Micro.{Micro}
-use Rattle.body_terms.specs.declared.micro.Micro.TheVariants.{MakeCommit, RetireCommit}
-use Rattle.section_lines.specs.Line.{phase, IsCounted}
-use Rattle.table_words.specs.declared.layout.Layout.{Layout}
-use Rattle.table_words.specs.declared.spot.Spot.TheVariants.{Stamp, Reply, DoneWord}
-use Rattle.structure_laws.specs.Meaning.{Meaning}
-use Rattle.runner_parts.specs.declared.entries.Published.{Published}
-use Rattle.epoch_core.specs.State.{EpochState, Role}
-use Rattle.epoch_core.specs.Events.{slot_of}
-use Rattle.epoch_core.specs.History as epochs
+use Rattle.agreement_core.specs.body_terms.specs.Line.{line, micro_at, is_check, is_end, is_commit}
+use Rattle.agreement_core.specs.body_terms.specs.Shape.{IsShaped}
+use Rattle.agreement_core.specs.body_terms.specs.declared.thunk.Thunk.{Thunk}
+use Rattle.agreement_core.specs.body_terms.specs.declared.micro.Micro.{Micro}
+use Rattle.agreement_core.specs.body_terms.specs.declared.micro.Micro.TheVariants.{MakeCommit, RetireCommit}
+use Rattle.agreement_core.specs.section_lines.specs.Line.{phase, IsCounted}
+use Rattle.agreement_core.specs.table_words.specs.declared.layout.Layout.{Layout}
+use Rattle.agreement_core.specs.table_words.specs.declared.spot.Spot.TheVariants.{Stamp, Reply, DoneWord}
+use Rattle.machine_states.specs.structure_laws.specs.Meaning.{Meaning}
+use Rattle.machine_states.specs.runner_steps.specs.runner_parts.specs.declared.entries.Published.{Published}
+use Rattle.machine_states.specs.epoch_core.specs.State.{EpochState, Role}
+use Rattle.machine_states.specs.epoch_core.specs.Events.{slot_of}
+use Rattle.machine_states.specs.epoch_core.specs.History as epochs
 use Rattle.agreement_core.specs.State.{AgreementState}
 use Rattle.agreement_core.specs.Checks.{stored_word}
 use Rattle.agreement_core.specs.PlainRuns.{IsOfBody}
@@ -24,10 +24,10 @@ use Rattle.agreement_core.proofs.Standing.{agree, not_future, cells_stand, locks
 use Rattle.agreement_core.proofs.PlainRuns.{follows_plain_run, starts_over}
 use Rattle.agreement_core.proofs.Lasting.{answered_or_left, before_end, happened, nothing, check_phase}
 use Rattle.machine_states.specs.Sight.{Sight}
-use Rattle.machine_epochs.specs.Entries.{counts_of}
-use Rattle.machine_epochs.specs.Joined as slots
-use Rattle.machine_epochs.proofs.Roles.{make_role, retire_role}
-use Rattle.machine_scenes.specs.Shown.{rules_of, IsOfThunk}
+use Rattle.machine_agreement.specs.machine_epochs.specs.Entries.{counts_of}
+use Rattle.machine_agreement.specs.machine_epochs.specs.Joined as slots
+use Rattle.machine_agreement.specs.machine_epochs.proofs.Roles.{make_role, retire_role}
+use Rattle.machine_agreement.specs.machine_scenes.specs.Shown.{rules_of, IsOfThunk}
 use Rattle.machine_agreement.specs.Joined.{IsJoinedToAgreement}
 use Rattle.machine_invariant.specs.Trails.{thunk_at, step_at, log_of, PublishedStand}
 use Rattle.machine_invariant.specs.Slots.{CommitsAreWonOnce}

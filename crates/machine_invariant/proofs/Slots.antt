@@ -5,26 +5,26 @@ use Rattle.std.proofs.lemmas.Bool.{cases_lt}
 use Rattle.std.proofs.lemmas.Bool.Decides.{nat_tests}
 use mathlib.Core.Logic.{dite}
 use native.Mathlib.Decide.{ℕ_discrete}
-use Rattle.small_lemmas.proofs.Numbers.{one_at_most as one_or_none}
-use Rattle.body_terms.specs.declared.micro.Micro.TheVariants.{RetireCommit}
-use Rattle.table_words.specs.declared.layout.Layout.{Layout}
-use Rattle.structure_laws.specs.Meaning.{Meaning}
-use Rattle.epoch_core.specs.declared.stage.Stage as machine
-use Rattle.epoch_core.specs.declared.stage.Stage.TheVariants as stages
-use Rattle.runner_parts.specs.declared.entries.Retired.{Retired}
-use Rattle.epoch_core.specs.declared.location.Location.{Location}
-use Rattle.epoch_core.specs.declared.location.Location.TheVariants.{Fixed, Live, Hand, Free, Worn, Limbo}
-use Rattle.epoch_core.specs.State.{EpochState, IsKept, IsPending, Retiring, is_entered, entry_of}
-use Rattle.epoch_core.specs.Lists.{times_retired, in_hand, in_free, in_worn, in_limbo}
-use Rattle.epoch_core.specs.History.{History, IsExact, is_makes, is_retires, agreed_slot, agreed_count}
-use Rattle.epoch_core.specs.Sound.{is_for_nodes}
+use Rattle.agreement_core.specs.section_lines.specs.small_lemmas.proofs.Numbers.{one_at_most as one_or_none}
+use Rattle.agreement_core.specs.body_terms.specs.declared.micro.Micro.TheVariants.{RetireCommit}
+use Rattle.agreement_core.specs.table_words.specs.declared.layout.Layout.{Layout}
+use Rattle.machine_states.specs.structure_laws.specs.Meaning.{Meaning}
+use Rattle.machine_states.specs.epoch_core.specs.declared.stage.Stage as machine
+use Rattle.machine_states.specs.epoch_core.specs.declared.stage.Stage.TheVariants as stages
+use Rattle.machine_states.specs.runner_steps.specs.runner_parts.specs.declared.entries.Retired.{Retired}
+use Rattle.machine_states.specs.epoch_core.specs.declared.location.Location.{Location}
+use Rattle.machine_states.specs.epoch_core.specs.declared.location.Location.TheVariants.{Fixed, Live, Hand, Free, Worn, Limbo}
+use Rattle.machine_states.specs.epoch_core.specs.State.{EpochState, IsKept, IsPending, Retiring, is_entered, entry_of}
+use Rattle.machine_states.specs.epoch_core.specs.Lists.{times_retired, in_hand, in_free, in_worn, in_limbo}
+use Rattle.machine_states.specs.epoch_core.specs.History.{History, IsExact, is_makes, is_retires, agreed_slot, agreed_count}
+use Rattle.machine_states.specs.epoch_core.specs.Sound.{is_for_nodes}
 use Rattle.machine_states.specs.Sight.{Sight}
-use Rattle.machine_epochs.specs.Entries.{counts_of}
-use Rattle.machine_epochs.specs.Slots.{retiring_of, retire_before}
-use Rattle.machine_epochs.specs.Roles.{role_at}
-use Rattle.machine_epochs.specs.Slots as shows
-use Rattle.machine_epochs.specs.Descriptors.{times_limbo}
-use Rattle.machine_epochs.specs.Joined.{IsJoinedToEpochs}
+use Rattle.machine_agreement.specs.machine_epochs.specs.Entries.{counts_of}
+use Rattle.machine_agreement.specs.machine_epochs.specs.Slots.{retiring_of, retire_before}
+use Rattle.machine_agreement.specs.machine_epochs.specs.Roles.{role_at}
+use Rattle.machine_agreement.specs.machine_epochs.specs.Slots as shows
+use Rattle.machine_agreement.specs.machine_epochs.specs.Descriptors.{times_limbo}
+use Rattle.machine_agreement.specs.machine_epochs.specs.Joined.{IsJoinedToEpochs}
 use Rattle.machine_invariant.specs.Slots.{times_among, IsRetiring, NodesStand, DescriptorsStand, HeldStand, InUseAreKept, RetiresStand}
 use Rattle.machine_invariant.specs.Slots.{CommitsAreWonOnce, SlotsAreSound}
 use Rattle.machine_invariant.proofs.Asked.{entered_at}

@@ -1,22 +1,22 @@
 -- The whole invariant gives all that is known of a state.
 use Rattle.std.proofs.Common.{◌≡◌, sym, subst, ℕ, ◌∙◌, ap, true, Some}
-use Rattle.table_words.specs.declared.layout.Layout.{Layout}
-use Rattle.structure_laws.specs.Meaning.{Meaning}
-use Rattle.epoch_core.specs.State.{EpochState}
-use Rattle.epoch_core.specs.History as epoch_history
+use Rattle.agreement_core.specs.table_words.specs.declared.layout.Layout.{Layout}
+use Rattle.machine_states.specs.structure_laws.specs.Meaning.{Meaning}
+use Rattle.machine_states.specs.epoch_core.specs.State.{EpochState}
+use Rattle.machine_states.specs.epoch_core.specs.History as epoch_history
 use Rattle.agreement_core.specs.State.{AgreementState}
 use Rattle.agreement_core.specs.History as agreement_history
 use Rattle.machine_states.specs.Sight.{Sight}
-use Rattle.machine_epochs.specs.Entries.{counts_of}
+use Rattle.machine_agreement.specs.machine_epochs.specs.Entries.{counts_of}
 use Rattle.machine_invariant.specs.Whole.{Beside, IsWhole}
 use Rattle.machine_invariant.specs.Along.{Components}
 use Rattle.machine_invariant.specs.States.{StateIsSound}
 use Rattle.machine_invariant.proofs.Slots.{slots_sound}
 use Rattle.machine_invariant.proofs.Sections.{sections_sound}
-use Rattle.runner_parts.specs.declared.entries.Published.{Published}
+use Rattle.machine_states.specs.runner_steps.specs.runner_parts.specs.declared.entries.Published.{Published}
 use Rattle.machine_invariant.specs.Trails.{PublishedStand}
 use Rattle.machine_states.proofs.Steps.{some_same}
-use Rattle.epoch_core.specs.History.{is_out}
+use Rattle.machine_states.specs.epoch_core.specs.History.{is_out}
 
 -- the components' states with these histories
 abbrev pub with_histories : Beside → agreement_history.History → epoch_history.History → Components

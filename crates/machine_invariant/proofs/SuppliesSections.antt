@@ -4,50 +4,50 @@ use Rattle.std.specs.List.{filter}
 use Rattle.std.proofs.Common.{◌≡◌, ◌≢◌, ℕ, suc, ◌<◌, ◌≤◌, List, length, refl, sym, ap, ◌∙◌, subst, arith, Option, Some, None}
 use Rattle.std.proofs.lemmas.Option.{slice_get_within, get_or_from_slice_get}
 use Rattle.std.proofs.lemmas.List.Elements.{All-get_or}
-use Rattle.map_history.specs.declared.op.Request.{Request}
-use Rattle.body_terms.specs.declared.micro.Micro.TheVariants as micros
-use Rattle.body_terms.specs.declared.thunk.Thunk.{Thunk}
-use Rattle.body_terms.specs.Word.{next_word}
-use Rattle.body_terms.specs.Line.{line, micro_at, committed}
-use Rattle.body_terms.specs.Memory.{cell_of}
-use Rattle.body_terms.specs.Run.{source_value}
-use Rattle.table_words.specs.declared.layout.Layout.{Layout}
-use Rattle.table_words.specs.declared.spot.Spot.{Spot}
-use Rattle.table_words.specs.declared.spot.Spot.TheVariants as spots
-use Rattle.table_words.specs.declared.access.Access.{Access}
-use Rattle.table_words.specs.Limits.{IsWithinLimits}
-use Rattle.table_words.specs.Places.{Fits, descriptor_count}
-use Rattle.structure_laws.specs.Meaning.{Meaning}
-use Rattle.structure_laws.specs.Laws.{Laws}
-use Rattle.structure_laws.specs.Sections.{IsAllowed}
-use Rattle.runner_parts.specs.declared.event.EventKind.{EventKind}
-use Rattle.runner_parts.specs.declared.event.EventKind.TheVariants as kinds
-use Rattle.runner_parts.specs.declared.entries.Published.{Published}
-use Rattle.runner_parts.specs.State.{RunState, PartState}
-use Rattle.runner_parts.specs.Tests.{has}
-use Rattle.runner_parts.specs.Lists.{is_old, slots_of}
-use Rattle.runner_steps.specs.Asks.{asks, ask_by, sizes_for, line_ask, opening_ask}
-use Rattle.runner_steps.specs.InRun.{is_slot, can_raise}
-use Rattle.runner_steps.specs.Outside.{hold_ask, open_ask}
-use Rattle.runner_steps.specs.Sections.{is_open_run, next_of}
+use Rattle.agreement_core.specs.map_history.specs.declared.op.Request.{Request}
+use Rattle.agreement_core.specs.body_terms.specs.declared.micro.Micro.TheVariants as micros
+use Rattle.agreement_core.specs.body_terms.specs.declared.thunk.Thunk.{Thunk}
+use Rattle.agreement_core.specs.body_terms.specs.Word.{next_word}
+use Rattle.agreement_core.specs.body_terms.specs.Line.{line, micro_at, committed}
+use Rattle.agreement_core.specs.body_terms.specs.Memory.{cell_of}
+use Rattle.agreement_core.specs.body_terms.specs.Run.{source_value}
+use Rattle.agreement_core.specs.table_words.specs.declared.layout.Layout.{Layout}
+use Rattle.agreement_core.specs.table_words.specs.declared.spot.Spot.{Spot}
+use Rattle.agreement_core.specs.table_words.specs.declared.spot.Spot.TheVariants as spots
+use Rattle.agreement_core.specs.table_words.specs.declared.access.Access.{Access}
+use Rattle.agreement_core.specs.table_words.specs.Limits.{IsWithinLimits}
+use Rattle.agreement_core.specs.table_words.specs.Places.{Fits, descriptor_count}
+use Rattle.machine_states.specs.structure_laws.specs.Meaning.{Meaning}
+use Rattle.machine_states.specs.structure_laws.specs.Laws.{Laws}
+use Rattle.machine_states.specs.structure_laws.specs.Sections.{IsAllowed}
+use Rattle.machine_states.specs.runner_steps.specs.runner_parts.specs.declared.event.EventKind.{EventKind}
+use Rattle.machine_states.specs.runner_steps.specs.runner_parts.specs.declared.event.EventKind.TheVariants as kinds
+use Rattle.machine_states.specs.runner_steps.specs.runner_parts.specs.declared.entries.Published.{Published}
+use Rattle.machine_states.specs.runner_steps.specs.runner_parts.specs.State.{RunState, PartState}
+use Rattle.machine_states.specs.runner_steps.specs.runner_parts.specs.Tests.{has}
+use Rattle.machine_states.specs.runner_steps.specs.runner_parts.specs.Lists.{is_old, slots_of}
+use Rattle.machine_states.specs.runner_steps.specs.Asks.{asks, ask_by, sizes_for, line_ask, opening_ask}
+use Rattle.machine_states.specs.runner_steps.specs.InRun.{is_slot, can_raise}
+use Rattle.machine_states.specs.runner_steps.specs.Outside.{hold_ask, open_ask}
+use Rattle.machine_states.specs.runner_steps.specs.Sections.{is_open_run, next_of}
 use Rattle.agreement_core.specs.State.{AgreementState, section_of}
 use Rattle.agreement_core.specs.Events.{IsAlone, IsPrivateStore, IsPublishable}
-use Rattle.epoch_core.specs.declared.location.Location.TheVariants.{Live, Hand, Free}
-use Rattle.epoch_core.specs.Events.{Event, slot_of}
-use Rattle.epoch_core.specs.Schedules.{AllEnabled}
-use Rattle.epoch_core.specs.Sound.{is_for_nodes}
-use Rattle.epoch_core.specs.History.{is_out}
+use Rattle.machine_states.specs.epoch_core.specs.declared.location.Location.TheVariants.{Live, Hand, Free}
+use Rattle.machine_states.specs.epoch_core.specs.Events.{Event, slot_of}
+use Rattle.machine_states.specs.epoch_core.specs.Schedules.{AllEnabled}
+use Rattle.machine_states.specs.epoch_core.specs.Sound.{is_for_nodes}
+use Rattle.machine_states.specs.epoch_core.specs.History.{is_out}
 use Rattle.machine_states.specs.Sight.{Sight}
 use Rattle.machine_states.proofs.Sights.{unless_gone, some_none}
-use Rattle.machine_epochs.specs.Entries.{counts_of}
-use Rattle.machine_epochs.specs.ScanEnds.{collects}
-use Rattle.machine_epochs.specs.Chunks.{IsChunk}
-use Rattle.machine_epochs.proofs.OutsideAsked as outside
-use Rattle.machine_epochs.proofs.RunPlaces.{open_run}
-use Rattle.machine_epochs.proofs.Places.{free_descriptor, held_out}
-use Rattle.machine_scenes.specs.Shown.{rules_of}
-use Rattle.machine_scenes.specs.Supplied.{SuppliesAgreement}
-use Rattle.machine_scenes.proofs.Supplies.{supplies_agreement}
+use Rattle.machine_agreement.specs.machine_epochs.specs.Entries.{counts_of}
+use Rattle.machine_agreement.specs.machine_epochs.specs.ScanEnds.{collects}
+use Rattle.machine_agreement.specs.machine_epochs.specs.Chunks.{IsChunk}
+use Rattle.machine_agreement.specs.machine_epochs.proofs.OutsideAsked as outside
+use Rattle.machine_agreement.specs.machine_epochs.proofs.RunPlaces.{open_run}
+use Rattle.machine_agreement.specs.machine_epochs.proofs.Places.{free_descriptor, held_out}
+use Rattle.machine_agreement.specs.machine_scenes.specs.Shown.{rules_of}
+use Rattle.machine_agreement.specs.machine_scenes.specs.Supplied.{SuppliesAgreement}
+use Rattle.machine_agreement.specs.machine_scenes.proofs.Supplies.{supplies_agreement}
 use Rattle.machine_agreement.specs.Joined.{IsRunOf, ShowsRun}
 use Rattle.machine_agreement.specs.Supplied as supplied
 use Rattle.machine_agreement.proofs.LineAsked as asked_line

@@ -4,53 +4,53 @@ use Rattle.std.proofs.Common.{◌≡◌, ◌⊎◌, inl, inr, ℕ, suc, ◌+◌,
 use Rattle.std.proofs.Common.{Option, Some, None, ⊎_elim}
 use Rattle.std.proofs.lemmas.Bool.{cases_lt}
 use Rattle.std.proofs.lemmas.Bool.Decides.{nat_tests}
-use Rattle.small_lemmas.proofs.Bools.{one_of as either}
-use Rattle.map_history.specs.declared.op.Request.{Request}
-use Rattle.body_terms.specs.declared.micro.Micro.{Micro}
-use Rattle.body_terms.specs.declared.micro.Micro.TheVariants as micros
-use Rattle.body_terms.specs.Line.{is_event}
-use Rattle.body_terms.specs.Word.{value_of}
-use Rattle.body_terms.specs.Run.{written_once}
-use Rattle.table_words.specs.declared.layout.Layout.{Layout}
-use Rattle.table_words.specs.declared.spot.Spot.{Spot}
-use Rattle.table_words.specs.declared.spot.Spot.TheVariants.{Cell, LogWord}
-use Rattle.table_words.specs.declared.access.Access.{Access}
-use Rattle.table_words.specs.Limits.{IsWithinLimits}
-use Rattle.structure_laws.specs.Scene.{Readings}
-use Rattle.structure_laws.specs.Meaning.{Meaning}
-use Rattle.structure_laws.specs.Laws.{Laws}
-use Rattle.structure_laws.specs.Cells.{cell_of, IsLoadable}
-use Rattle.structure_laws.specs.Sections.{IsAllowed}
-use Rattle.structure_laws.proofs.Changes.{upd_same}
-use Rattle.runner_parts.specs.declared.event.EventKind.{EventKind}
-use Rattle.runner_parts.specs.declared.event.EventKind.TheVariants as kinds
-use Rattle.runner_parts.specs.State.{RunState, PartState}
-use Rattle.runner_parts.specs.Tests.{has, is_readable}
-use Rattle.runner_parts.specs.Lists.{named_by}
-use Rattle.runner_steps.specs.Asks.{asks, ask_by, outside_ask, line_ask, opening_ask}
-use Rattle.runner_steps.specs.AfterInRun.{is_of_lock}
-use Rattle.runner_steps.specs.Outside.{read_ask}
-use Rattle.runner_steps.specs.Sections.{is_open_run, next_of}
+use Rattle.agreement_core.specs.section_lines.specs.small_lemmas.proofs.Bools.{one_of as either}
+use Rattle.agreement_core.specs.map_history.specs.declared.op.Request.{Request}
+use Rattle.agreement_core.specs.body_terms.specs.declared.micro.Micro.{Micro}
+use Rattle.agreement_core.specs.body_terms.specs.declared.micro.Micro.TheVariants as micros
+use Rattle.agreement_core.specs.body_terms.specs.Line.{is_event}
+use Rattle.agreement_core.specs.body_terms.specs.Word.{value_of}
+use Rattle.agreement_core.specs.body_terms.specs.Run.{written_once}
+use Rattle.agreement_core.specs.table_words.specs.declared.layout.Layout.{Layout}
+use Rattle.agreement_core.specs.table_words.specs.declared.spot.Spot.{Spot}
+use Rattle.agreement_core.specs.table_words.specs.declared.spot.Spot.TheVariants.{Cell, LogWord}
+use Rattle.agreement_core.specs.table_words.specs.declared.access.Access.{Access}
+use Rattle.agreement_core.specs.table_words.specs.Limits.{IsWithinLimits}
+use Rattle.machine_states.specs.structure_laws.specs.Scene.{Readings}
+use Rattle.machine_states.specs.structure_laws.specs.Meaning.{Meaning}
+use Rattle.machine_states.specs.structure_laws.specs.Laws.{Laws}
+use Rattle.machine_states.specs.structure_laws.specs.Cells.{cell_of, IsLoadable}
+use Rattle.machine_states.specs.structure_laws.specs.Sections.{IsAllowed}
+use Rattle.machine_states.specs.structure_laws.proofs.Changes.{upd_same}
+use Rattle.machine_states.specs.runner_steps.specs.runner_parts.specs.declared.event.EventKind.{EventKind}
+use Rattle.machine_states.specs.runner_steps.specs.runner_parts.specs.declared.event.EventKind.TheVariants as kinds
+use Rattle.machine_states.specs.runner_steps.specs.runner_parts.specs.State.{RunState, PartState}
+use Rattle.machine_states.specs.runner_steps.specs.runner_parts.specs.Tests.{has, is_readable}
+use Rattle.machine_states.specs.runner_steps.specs.runner_parts.specs.Lists.{named_by}
+use Rattle.machine_states.specs.runner_steps.specs.Asks.{asks, ask_by, outside_ask, line_ask, opening_ask}
+use Rattle.machine_states.specs.runner_steps.specs.AfterInRun.{is_of_lock}
+use Rattle.machine_states.specs.runner_steps.specs.Outside.{read_ask}
+use Rattle.machine_states.specs.runner_steps.specs.Sections.{is_open_run, next_of}
 use Rattle.agreement_core.specs.State.{AgreementState, section_of}
 use Rattle.agreement_core.specs.Events.{IsBefore}
 use Rattle.agreement_core.specs.Sound.{UsedIsSound}
-use Rattle.epoch_core.specs.State.{Counts, is_entered, entry_of, IsKept, MayHold}
-use Rattle.epoch_core.specs.Events.{Reach, Enabled, slot_of}
-use Rattle.epoch_core.proofs.Reusing.{may_follow}
+use Rattle.machine_states.specs.epoch_core.specs.State.{Counts, is_entered, entry_of, IsKept, MayHold}
+use Rattle.machine_states.specs.epoch_core.specs.Events.{Reach, Enabled, slot_of}
+use Rattle.machine_states.specs.epoch_core.proofs.Reusing.{may_follow}
 use Rattle.machine_states.specs.Sight.{Sight}
 use Rattle.machine_states.proofs.Sights.{unless_gone, some_none, if_some}
-use Rattle.machine_epochs.specs.Entries.{counts_of}
-use Rattle.machine_epochs.specs.Supplied.{names_slot, comes_outside, comes_agreed, comes_inside, comes_by, MayRetire}
-use Rattle.machine_epochs.specs.Supplied as supplied
-use Rattle.machine_epochs.proofs.OutsideAsked as outside
-use Rattle.machine_epochs.proofs.RunPlaces.{open_run, is_of_end}
-use Rattle.machine_epochs.proofs.Places.{run_entered}
-use Rattle.machine_scenes.specs.Shown.{States, rules_of}
-use Rattle.machine_scenes.specs.Steps as steps
-use Rattle.machine_scenes.specs.Steps.{MeetsBy}
-use Rattle.machine_scenes.specs.Supplied.{SuppliesEpochs}
-use Rattle.machine_scenes.proofs.Supplies.{supplies_epochs}
-use Rattle.machine_scenes.proofs.Kept.{step_kept}
+use Rattle.machine_agreement.specs.machine_epochs.specs.Entries.{counts_of}
+use Rattle.machine_agreement.specs.machine_epochs.specs.Supplied.{names_slot, comes_outside, comes_agreed, comes_inside, comes_by, MayRetire}
+use Rattle.machine_agreement.specs.machine_epochs.specs.Supplied as supplied
+use Rattle.machine_agreement.specs.machine_epochs.proofs.OutsideAsked as outside
+use Rattle.machine_agreement.specs.machine_epochs.proofs.RunPlaces.{open_run, is_of_end}
+use Rattle.machine_agreement.specs.machine_epochs.proofs.Places.{run_entered}
+use Rattle.machine_agreement.specs.machine_scenes.specs.Shown.{States, rules_of}
+use Rattle.machine_agreement.specs.machine_scenes.specs.Steps as steps
+use Rattle.machine_agreement.specs.machine_scenes.specs.Steps.{MeetsBy}
+use Rattle.machine_agreement.specs.machine_scenes.specs.Supplied.{SuppliesEpochs}
+use Rattle.machine_agreement.specs.machine_scenes.proofs.Supplies.{supplies_epochs}
+use Rattle.machine_agreement.specs.machine_scenes.proofs.Kept.{step_kept}
 use Rattle.machine_agreement.specs.Joined.{IsRunOf}
 use Rattle.machine_agreement.proofs.LineAsked as asked_line
 use Rattle.machine_agreement.proofs.RunPlaces.{run_here, before}

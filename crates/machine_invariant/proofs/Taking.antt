@@ -2,47 +2,47 @@
 use Rattle.std.specs.Prelude.{◌==◌, ◌-◌, ◌&&◌, ◌||◌, Bool, true, false, replicate, if◌then◌else◌}
 use Rattle.std.proofs.Common.{◌≡◌, ℕ, suc, List, [], ◌∷◌, ◌++◌, sym, refl, ap, ◌∙◌, subst, arith, ⊎_elim, Some}
 use Rattle.std.proofs.lemmas.Bool.Decides.{nat_tests}
-use Rattle.map_history.specs.declared.op.Request.{Request}
-use Rattle.body_terms.specs.Line.{is_event}
-use Rattle.body_terms.specs.Word.{value_of}
-use Rattle.body_terms.specs.declared.micro.Micro.{Micro}
-use Rattle.body_terms.specs.declared.micro.Micro.TheVariants as micros
-use Rattle.table_words.specs.declared.layout.Layout.{Layout}
-use Rattle.table_words.specs.declared.spot.Spot.{Spot}
-use Rattle.table_words.specs.declared.spot.Spot.TheVariants.{Cell}
-use Rattle.table_words.specs.declared.access.Access.{Access}
-use Rattle.table_words.specs.Limits.{IsWithinLimits}
-use Rattle.structure_laws.specs.Meaning.{Meaning}
-use Rattle.structure_laws.specs.Laws.{Laws}
-use Rattle.runner_parts.specs.declared.event.EventKind.{EventKind}
-use Rattle.runner_parts.specs.declared.event.EventKind.TheVariants as kinds
-use Rattle.runner_parts.specs.State.{RunState, PartState}
-use Rattle.runner_steps.specs.Sections.{is_open_run, next_of}
-use Rattle.runner_steps.specs.AfterInRun.{place_of}
-use Rattle.runner_parts.specs.Lists.{named_by}
-use Rattle.runner_parts.specs.Tests.{has}
-use Rattle.runner_steps.specs.Asks.{asks}
+use Rattle.agreement_core.specs.map_history.specs.declared.op.Request.{Request}
+use Rattle.agreement_core.specs.body_terms.specs.Line.{is_event}
+use Rattle.agreement_core.specs.body_terms.specs.Word.{value_of}
+use Rattle.agreement_core.specs.body_terms.specs.declared.micro.Micro.{Micro}
+use Rattle.agreement_core.specs.body_terms.specs.declared.micro.Micro.TheVariants as micros
+use Rattle.agreement_core.specs.table_words.specs.declared.layout.Layout.{Layout}
+use Rattle.agreement_core.specs.table_words.specs.declared.spot.Spot.{Spot}
+use Rattle.agreement_core.specs.table_words.specs.declared.spot.Spot.TheVariants.{Cell}
+use Rattle.agreement_core.specs.table_words.specs.declared.access.Access.{Access}
+use Rattle.agreement_core.specs.table_words.specs.Limits.{IsWithinLimits}
+use Rattle.machine_states.specs.structure_laws.specs.Meaning.{Meaning}
+use Rattle.machine_states.specs.structure_laws.specs.Laws.{Laws}
+use Rattle.machine_states.specs.runner_steps.specs.runner_parts.specs.declared.event.EventKind.{EventKind}
+use Rattle.machine_states.specs.runner_steps.specs.runner_parts.specs.declared.event.EventKind.TheVariants as kinds
+use Rattle.machine_states.specs.runner_steps.specs.runner_parts.specs.State.{RunState, PartState}
+use Rattle.machine_states.specs.runner_steps.specs.Sections.{is_open_run, next_of}
+use Rattle.machine_states.specs.runner_steps.specs.AfterInRun.{place_of}
+use Rattle.machine_states.specs.runner_steps.specs.runner_parts.specs.Lists.{named_by}
+use Rattle.machine_states.specs.runner_steps.specs.runner_parts.specs.Tests.{has}
+use Rattle.machine_states.specs.runner_steps.specs.Asks.{asks}
 use Rattle.agreement_core.specs.State.{AgreementState}
 use Rattle.agreement_core.specs.Events as agreement
 use Rattle.agreement_core.specs.Events.{IsBefore}
 use Rattle.agreement_core.specs.Schedules as agreement_schedules
 use Rattle.agreement_core.proofs.Keeping as agreement_keeping
 use Rattle.agreement_core.proofs.Lines.{outcome_lock}
-use Rattle.epoch_core.specs.Update.{upd_row}
-use Rattle.epoch_core.specs.State.{Counts, EpochState, is_entered}
-use Rattle.epoch_core.specs.Events as epochs
-use Rattle.epoch_core.specs.Events.{slot_of}
-use Rattle.epoch_core.specs.Schedules as epoch_schedules
+use Rattle.machine_states.specs.epoch_core.specs.Update.{upd_row}
+use Rattle.machine_states.specs.epoch_core.specs.State.{Counts, EpochState, is_entered}
+use Rattle.machine_states.specs.epoch_core.specs.Events as epochs
+use Rattle.machine_states.specs.epoch_core.specs.Events.{slot_of}
+use Rattle.machine_states.specs.epoch_core.specs.Schedules as epoch_schedules
 use Rattle.machine_states.specs.World.{is_join}
 use Rattle.machine_states.specs.Sight.{Sight, sight_after}
-use Rattle.machine_epochs.specs.Entries.{counts_of}
-use Rattle.machine_epochs.specs.Supplied.{names_slot}
-use Rattle.machine_epochs.specs.Chunks as slots
-use Rattle.machine_epochs.proofs.Places.{names_it}
-use Rattle.machine_epochs.proofs.RunPlaces.{is_of_end, open_run}
-use Rattle.machine_epochs.proofs.Reaching.{leaves_descriptors}
-use Rattle.machine_scenes.specs.Kinds.{is_alone}
-use Rattle.machine_scenes.specs.Shown.{rules_of}
+use Rattle.machine_agreement.specs.machine_epochs.specs.Entries.{counts_of}
+use Rattle.machine_agreement.specs.machine_epochs.specs.Supplied.{names_slot}
+use Rattle.machine_agreement.specs.machine_epochs.specs.Chunks as slots
+use Rattle.machine_agreement.specs.machine_epochs.proofs.Places.{names_it}
+use Rattle.machine_agreement.specs.machine_epochs.proofs.RunPlaces.{is_of_end, open_run}
+use Rattle.machine_agreement.specs.machine_epochs.proofs.Reaching.{leaves_descriptors}
+use Rattle.machine_agreement.specs.machine_scenes.specs.Kinds.{is_alone}
+use Rattle.machine_agreement.specs.machine_scenes.specs.Shown.{rules_of}
 use Rattle.machine_agreement.specs.Chunks as chunks
 use Rattle.machine_agreement.proofs.LineAsked.{inside_asked}
 use Rattle.machine_agreement.proofs.RunPlaces as places

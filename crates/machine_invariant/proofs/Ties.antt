@@ -1,27 +1,27 @@
 -- What the components say of descriptors still belongs together after steps that concern other things.
 use Rattle.std.proofs.Common.{◌≡◌, ℕ, true, sym, ap, ◌∙◌, List, [], ◌∷◌}
-use Rattle.table_words.specs.declared.layout.Layout.{Layout}
-use Rattle.structure_laws.specs.Meaning.{Meaning}
-use Rattle.runner_parts.specs.State.{PartState}
-use Rattle.runner_parts.specs.Tests.{has}
+use Rattle.agreement_core.specs.table_words.specs.declared.layout.Layout.{Layout}
+use Rattle.machine_states.specs.structure_laws.specs.Meaning.{Meaning}
+use Rattle.machine_states.specs.runner_steps.specs.runner_parts.specs.State.{PartState}
+use Rattle.machine_states.specs.runner_steps.specs.runner_parts.specs.Tests.{has}
 use Rattle.agreement_core.specs.State.{AgreementState}
-use Rattle.epoch_core.specs.State.{Counts, EpochState, is_entered}
-use Rattle.epoch_core.specs.Events as epochs
-use Rattle.epoch_core.specs.Events.{slot_of}
-use Rattle.epoch_core.specs.History.{is_out}
-use Rattle.epoch_core.specs.Schedules as schedules
+use Rattle.machine_states.specs.epoch_core.specs.State.{Counts, EpochState, is_entered}
+use Rattle.machine_states.specs.epoch_core.specs.Events as epochs
+use Rattle.machine_states.specs.epoch_core.specs.Events.{slot_of}
+use Rattle.machine_states.specs.epoch_core.specs.History.{is_out}
+use Rattle.machine_states.specs.epoch_core.specs.Schedules as schedules
 use Rattle.machine_states.specs.Sight.{Sight}
-use Rattle.machine_epochs.specs.Entries.{counts_of}
-use Rattle.machine_epochs.specs.Slots.{thunk_in}
-use Rattle.machine_scenes.specs.Kinds.{is_alone}
-use Rattle.machine_scenes.specs.Shown.{Publications, rules_of}
-use Rattle.machine_scenes.proofs.Entries.{was_entered, stays_held}
+use Rattle.machine_agreement.specs.machine_epochs.specs.Entries.{counts_of}
+use Rattle.machine_agreement.specs.machine_epochs.specs.Slots.{thunk_in}
+use Rattle.machine_agreement.specs.machine_scenes.specs.Kinds.{is_alone}
+use Rattle.machine_agreement.specs.machine_scenes.specs.Shown.{Publications, rules_of}
+use Rattle.machine_agreement.specs.machine_scenes.proofs.Entries.{was_entered, stays_held}
 use Rattle.agreement_core.specs.Sound as agreement_sound
 use Rattle.machine_invariant.specs.Named.{AreNamed}
 use Rattle.machine_invariant.specs.Whole.{IsHeldFor, HasPublished, AreTied}
 use Rattle.machine_invariant.proofs.Named.{named_more}
 use Rattle.machine_invariant.proofs.Runs.{AllAre}
-use Rattle.body_terms.specs.declared.thunk.Thunk.{Thunk}
+use Rattle.agreement_core.specs.body_terms.specs.declared.thunk.Thunk.{Thunk}
 
 module _ (m : Meaning) (l : Layout) where
   abbrev c : Counts

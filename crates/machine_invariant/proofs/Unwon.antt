@@ -1,15 +1,15 @@
 -- A section that left at a check has committed no Make and no Retire.
 use Rattle.std.proofs.Common.{◌≡◌, ℕ, zero, suc, ◌<◌, ◌≤◌, Bool, true, false, cond, List, [], ◌∷◌, length, refl, ap, ◌∙◌, ⊎_elim, arith}
 use Rattle.std.proofs.lemmas.Bool.{cases_lt}
-use Rattle.body_terms.specs.Line.{line, micro_at, is_commit}
-use Rattle.body_terms.specs.declared.step.Step.{Step}
-use Rattle.body_terms.specs.declared.micro.Micro.{Micro}
-use Rattle.body_terms.specs.declared.micro.Micro.TheVariants.{Commit, NestedCommit, OutcomeCommit, MakeCommit, RetireCommit}
-use Rattle.section_lines.specs.Line.{phase, IsCounted}
-use Rattle.epoch_core.specs.State.{Agrees}
-use Rattle.epoch_core.specs.History.{is_makes, is_retires, agreed_slot, agreed_count}
-use Rattle.machine_epochs.specs.Roles.{role_at}
-use Rattle.machine_epochs.proofs.Roles.{load_role, nested_role, outcome_role}
+use Rattle.agreement_core.specs.body_terms.specs.Line.{line, micro_at, is_commit}
+use Rattle.agreement_core.specs.body_terms.specs.declared.step.Step.{Step}
+use Rattle.agreement_core.specs.body_terms.specs.declared.micro.Micro.{Micro}
+use Rattle.agreement_core.specs.body_terms.specs.declared.micro.Micro.TheVariants.{Commit, NestedCommit, OutcomeCommit, MakeCommit, RetireCommit}
+use Rattle.agreement_core.specs.section_lines.specs.Line.{phase, IsCounted}
+use Rattle.machine_states.specs.epoch_core.specs.State.{Agrees}
+use Rattle.machine_states.specs.epoch_core.specs.History.{is_makes, is_retires, agreed_slot, agreed_count}
+use Rattle.machine_agreement.specs.machine_epochs.specs.Roles.{role_at}
+use Rattle.machine_agreement.specs.machine_epochs.proofs.Roles.{load_role, nested_role, outcome_role}
 
 -- a step of a line that commits to this place of the log
 record CommitsTo (code : ℕ → Micro) (slot : ℕ → ℕ) (edge k : ℕ) : Type 0 where

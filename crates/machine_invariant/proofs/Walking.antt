@@ -1,34 +1,34 @@
 -- A runner that reads a cell outside its runs keeps the whole invariant.
 use Rattle.std.specs.Prelude.{replicate, true, All}
 use Rattle.std.proofs.Common.{◌≡◌, ℕ, ◌≤◌, List, [], ◌∷◌, ◌++◌, length, sym, refl, ap, ◌∙◌, Some, None}
-use Rattle.map_history.specs.declared.op.Request.{Request}
-use Rattle.table_words.specs.declared.layout.Layout.{Layout}
-use Rattle.table_words.specs.declared.spot.Spot.{Spot}
-use Rattle.table_words.specs.declared.access.Access.{Access}
-use Rattle.table_words.specs.Limits.{IsWithinLimits}
-use Rattle.table_words.specs.Seen.{upd}
-use Rattle.structure_laws.specs.Meaning.{Meaning}
-use Rattle.structure_laws.specs.Laws.{Laws}
-use Rattle.structure_laws.specs.Sections.{IsAllowed}
-use Rattle.structure_laws.proofs.Changes.{upd_same, upd_other}
-use Rattle.runner_parts.specs.declared.event.EventKind.{EventKind}
-use Rattle.runner_parts.specs.declared.event.EventKind.TheVariants as kinds
-use Rattle.runner_parts.specs.State.{PartState}
-use Rattle.runner_parts.specs.Tests.{has, is_readable}
-use Rattle.runner_steps.specs.Outside.{read_ask}
-use Rattle.runner_steps.specs.Asks.{asks}
-use Rattle.runner_steps.specs.After.{after_by, after}
+use Rattle.agreement_core.specs.map_history.specs.declared.op.Request.{Request}
+use Rattle.agreement_core.specs.table_words.specs.declared.layout.Layout.{Layout}
+use Rattle.agreement_core.specs.table_words.specs.declared.spot.Spot.{Spot}
+use Rattle.agreement_core.specs.table_words.specs.declared.access.Access.{Access}
+use Rattle.agreement_core.specs.table_words.specs.Limits.{IsWithinLimits}
+use Rattle.agreement_core.specs.table_words.specs.Seen.{upd}
+use Rattle.machine_states.specs.structure_laws.specs.Meaning.{Meaning}
+use Rattle.machine_states.specs.structure_laws.specs.Laws.{Laws}
+use Rattle.machine_states.specs.structure_laws.specs.Sections.{IsAllowed}
+use Rattle.machine_states.specs.structure_laws.proofs.Changes.{upd_same, upd_other}
+use Rattle.machine_states.specs.runner_steps.specs.runner_parts.specs.declared.event.EventKind.{EventKind}
+use Rattle.machine_states.specs.runner_steps.specs.runner_parts.specs.declared.event.EventKind.TheVariants as kinds
+use Rattle.machine_states.specs.runner_steps.specs.runner_parts.specs.State.{PartState}
+use Rattle.machine_states.specs.runner_steps.specs.runner_parts.specs.Tests.{has, is_readable}
+use Rattle.machine_states.specs.runner_steps.specs.Outside.{read_ask}
+use Rattle.machine_states.specs.runner_steps.specs.Asks.{asks}
+use Rattle.machine_states.specs.runner_steps.specs.After.{after_by, after}
 use Rattle.agreement_core.specs.Events as agreement
-use Rattle.epoch_core.specs.State.{Counts}
-use Rattle.epoch_core.specs.Events as epochs
-use Rattle.epoch_core.specs.Events.{Event}
+use Rattle.machine_states.specs.epoch_core.specs.State.{Counts}
+use Rattle.machine_states.specs.epoch_core.specs.Events as epochs
+use Rattle.machine_states.specs.epoch_core.specs.Events.{Event}
 use Rattle.machine_states.specs.Sight.{Sight, sight_after}
 use Rattle.machine_states.proofs.Updates.{upd_split}
 use Rattle.machine_states.proofs.Sights.{if_some}
-use Rattle.machine_epochs.specs.Entries.{counts_of}
-use Rattle.machine_epochs.specs.Supplied.{comes_outside}
-use Rattle.machine_epochs.proofs.OutsideAsked as outside
-use Rattle.machine_scenes.specs.Steps as steps
+use Rattle.machine_agreement.specs.machine_epochs.specs.Entries.{counts_of}
+use Rattle.machine_agreement.specs.machine_epochs.specs.Supplied.{comes_outside}
+use Rattle.machine_agreement.specs.machine_epochs.proofs.OutsideAsked as outside
+use Rattle.machine_agreement.specs.machine_scenes.specs.Steps as steps
 use Rattle.machine_invariant.specs.Whole.{Beside, states_of, made_of, IsWhole}
 use Rattle.machine_invariant.proofs.Basics.{both}
 use Rattle.machine_invariant.proofs.Asked.{entered_at}

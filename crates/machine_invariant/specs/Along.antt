@@ -1,19 +1,19 @@
 -- Events of the machine as events of the components, with what these changed and won.
 use Rattle.std.specs.Prelude.{◌≡◌, ℕ, Bool, List, [], ◌∷◌, ◌++◌, map, replicate, Some}
-use Rattle.map_history.specs.declared.op.Request.{Request}
-use Rattle.table_words.specs.declared.layout.Layout.{Layout}
-use Rattle.table_words.specs.declared.spot.Spot.{Spot}
-use Rattle.table_words.specs.declared.spot.Spot.TheVariants.{Cell}
-use Rattle.table_words.specs.declared.access.Access.{Access}
-use Rattle.structure_laws.specs.Meaning.{Meaning}
-use Rattle.runner_parts.specs.declared.event.EventKind.{EventKind}
-use Rattle.runner_parts.specs.declared.event.Event.{Event}
-use Rattle.runner_steps.specs.Asks.{asks}
-use Rattle.epoch_core.specs.State.{EpochState}
-use Rattle.epoch_core.specs.Events as epoch_events
-use Rattle.epoch_core.specs.Schedules as epoch_schedules
-use Rattle.epoch_core.specs.Sound as epoch_sound
-use Rattle.epoch_core.specs.History as epoch_history
+use Rattle.agreement_core.specs.map_history.specs.declared.op.Request.{Request}
+use Rattle.agreement_core.specs.table_words.specs.declared.layout.Layout.{Layout}
+use Rattle.agreement_core.specs.table_words.specs.declared.spot.Spot.{Spot}
+use Rattle.agreement_core.specs.table_words.specs.declared.spot.Spot.TheVariants.{Cell}
+use Rattle.agreement_core.specs.table_words.specs.declared.access.Access.{Access}
+use Rattle.machine_states.specs.structure_laws.specs.Meaning.{Meaning}
+use Rattle.machine_states.specs.runner_steps.specs.runner_parts.specs.declared.event.EventKind.{EventKind}
+use Rattle.machine_states.specs.runner_steps.specs.runner_parts.specs.declared.event.Event.{Event}
+use Rattle.machine_states.specs.runner_steps.specs.Asks.{asks}
+use Rattle.machine_states.specs.epoch_core.specs.State.{EpochState}
+use Rattle.machine_states.specs.epoch_core.specs.Events as epoch_events
+use Rattle.machine_states.specs.epoch_core.specs.Schedules as epoch_schedules
+use Rattle.machine_states.specs.epoch_core.specs.Sound as epoch_sound
+use Rattle.machine_states.specs.epoch_core.specs.History as epoch_history
 use Rattle.agreement_core.specs.State.{AgreementState}
 use Rattle.agreement_core.specs.Events as agreement_events
 use Rattle.agreement_core.specs.Schedules as agreement_schedules
@@ -22,10 +22,10 @@ use Rattle.agreement_core.specs.History as agreement_history
 use Rattle.machine_states.specs.World.{World, happens}
 use Rattle.machine_states.specs.First.{IsFirst}
 use Rattle.machine_states.specs.Sight.{Sight, sight}
-use Rattle.machine_epochs.specs.Entries.{counts_of}
-use Rattle.machine_epochs.specs.Firsts.{first_place}
-use Rattle.machine_epochs.specs.Chunks as slots
-use Rattle.machine_scenes.specs.Shown.{rules_of}
+use Rattle.machine_agreement.specs.machine_epochs.specs.Entries.{counts_of}
+use Rattle.machine_agreement.specs.machine_epochs.specs.Firsts.{first_place}
+use Rattle.machine_agreement.specs.machine_epochs.specs.Chunks as slots
+use Rattle.machine_agreement.specs.machine_scenes.specs.Shown.{rules_of}
 use Rattle.machine_agreement.specs.Chunks as sections
 
 -- the components' states, what the exchanges of cells, stamps and replies changed so far, and which commits

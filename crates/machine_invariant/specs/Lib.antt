@@ -10,5 +10,5 @@ pub mod Lengths
 pub mod LogWords
 pub mod Rising
 -- Passed on to the layers above, so that they needn't name these libraries themselves.
-pub use Rattle.machine_slots
 pub use Rattle.machine_agreement
+pub use Rattle.machine_slots

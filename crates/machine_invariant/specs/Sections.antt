@@ -1,13 +1,13 @@
 -- What holds of the sections in a state of the machine, by the state of agreement that belongs to it.
 use Rattle.std.specs.Prelude.{◌≡◌, ◌≢◌, ℕ, ◌-◌, ◌<◌, ◌⊎◌, true, [], ◌∷◌}
-use Rattle.body_terms.specs.Line.{is_check, is_end}
-use Rattle.body_terms.specs.Run.{Run}
-use Rattle.body_terms.specs.declared.micro.Source.{Source}
-use Rattle.body_terms.specs.declared.micro.Micro.TheVariants.{ExchangeCell, MakeCommit, RetireCommit}
-use Rattle.table_words.specs.declared.layout.Layout.{Layout}
-use Rattle.table_words.specs.declared.spot.Spot.TheVariants.{Stamp, Reply, DoneWord}
-use Rattle.structure_laws.specs.Meaning.{Meaning}
-use Rattle.epoch_core.specs.History as epochs
+use Rattle.agreement_core.specs.body_terms.specs.Line.{is_check, is_end}
+use Rattle.agreement_core.specs.body_terms.specs.Run.{Run}
+use Rattle.agreement_core.specs.body_terms.specs.declared.micro.Source.{Source}
+use Rattle.agreement_core.specs.body_terms.specs.declared.micro.Micro.TheVariants.{ExchangeCell, MakeCommit, RetireCommit}
+use Rattle.agreement_core.specs.table_words.specs.declared.layout.Layout.{Layout}
+use Rattle.agreement_core.specs.table_words.specs.declared.spot.Spot.TheVariants.{Stamp, Reply, DoneWord}
+use Rattle.machine_states.specs.structure_laws.specs.Meaning.{Meaning}
+use Rattle.machine_states.specs.epoch_core.specs.History as epochs
 use Rattle.agreement_core.specs.State.{AgreementState}
 use Rattle.agreement_core.specs.Checks.{stored_word}
 use Rattle.agreement_core.specs.Sound.{IsOf}
@@ -17,7 +17,7 @@ use Rattle.agreement_core.specs.Standing.{CellsStand, LocksStand, TakesStand, Is
 use Rattle.agreement_core.specs.PlainRuns.{chosen, IsOver, start_over, FollowsPlainRun}
 use Rattle.agreement_core.specs.History.{History, written, IsExact, HasAnswered, HasLeft, HappenedOnce, NothingHappened}
 use Rattle.machine_states.specs.Sight.{Sight}
-use Rattle.machine_scenes.specs.Shown.{rules_of}
+use Rattle.machine_agreement.specs.machine_scenes.specs.Shown.{rules_of}
 use Rattle.machine_agreement.specs.Joined.{IsJoinedToAgreement}
 use Rattle.machine_invariant.specs.Trails.{thunk_at, step_at, log_of, TrailsAgree, LocksNameSections, PublishedStand, CellsArePast}
 

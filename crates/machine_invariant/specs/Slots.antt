@@ -1,26 +1,26 @@
 -- Where the slots are and who holds them, in the machine's own words.
 use Rattle.std.specs.Prelude.{◌≡◌, ℕ, ◌+◌, ◌<◌, ◌≤◌, Bool, true, false, cond, [], length, map, Some}
-use Rattle.body_terms.specs.declared.micro.Micro.TheVariants.{RetireCommit}
-use Rattle.body_terms.specs.Line.{micro_at}
-use Rattle.table_words.specs.declared.layout.Layout.{Layout}
-use Rattle.table_words.specs.declared.spot.Spot.TheVariants.{Epoch, LogWord}
-use Rattle.table_words.specs.Places.{slot_count, descriptor_count}
-use Rattle.structure_laws.specs.Meaning.{Meaning}
-use Rattle.epoch_core.specs.declared.stage.Stage.TheVariants.{Entered}
-use Rattle.runner_parts.specs.declared.entries.Published.{Published}
-use Rattle.runner_parts.specs.State.{RunState, NodesState}
-use Rattle.runner_parts.specs.Tests.{has}
-use Rattle.runner_steps.specs.Sections.{line_of}
-use Rattle.epoch_core.specs.declared.location.Location.{Location}
-use Rattle.epoch_core.specs.declared.location.Location.TheVariants.{Live, Hand, Limbo}
-use Rattle.epoch_core.specs.State.{IsKept}
-use Rattle.epoch_core.specs.Sound.{is_for_nodes}
-use Rattle.epoch_core.specs.Lists.{times, times_retired, in_hand, in_free, in_worn, in_limbo}
-use Rattle.epoch_core.specs.History.{History, is_out, is_makes, is_retires, agreed_slot, agreed_count}
+use Rattle.agreement_core.specs.body_terms.specs.declared.micro.Micro.TheVariants.{RetireCommit}
+use Rattle.agreement_core.specs.body_terms.specs.Line.{micro_at}
+use Rattle.agreement_core.specs.table_words.specs.declared.layout.Layout.{Layout}
+use Rattle.agreement_core.specs.table_words.specs.declared.spot.Spot.TheVariants.{Epoch, LogWord}
+use Rattle.agreement_core.specs.table_words.specs.Places.{slot_count, descriptor_count}
+use Rattle.machine_states.specs.structure_laws.specs.Meaning.{Meaning}
+use Rattle.machine_states.specs.epoch_core.specs.declared.stage.Stage.TheVariants.{Entered}
+use Rattle.machine_states.specs.runner_steps.specs.runner_parts.specs.declared.entries.Published.{Published}
+use Rattle.machine_states.specs.runner_steps.specs.runner_parts.specs.State.{RunState, NodesState}
+use Rattle.machine_states.specs.runner_steps.specs.runner_parts.specs.Tests.{has}
+use Rattle.machine_states.specs.runner_steps.specs.Sections.{line_of}
+use Rattle.machine_states.specs.epoch_core.specs.declared.location.Location.{Location}
+use Rattle.machine_states.specs.epoch_core.specs.declared.location.Location.TheVariants.{Live, Hand, Limbo}
+use Rattle.machine_states.specs.epoch_core.specs.State.{IsKept}
+use Rattle.machine_states.specs.epoch_core.specs.Sound.{is_for_nodes}
+use Rattle.machine_states.specs.epoch_core.specs.Lists.{times, times_retired, in_hand, in_free, in_worn, in_limbo}
+use Rattle.machine_states.specs.epoch_core.specs.History.{History, is_out, is_makes, is_retires, agreed_slot, agreed_count}
 use Rattle.machine_states.specs.Sight.{Sight}
-use Rattle.machine_epochs.specs.Slots.{entry_of, thunk_in}
-use Rattle.machine_epochs.specs.Roles.{role_at}
-use Rattle.machine_epochs.specs.Descriptors.{times_limbo}
+use Rattle.machine_agreement.specs.machine_epochs.specs.Slots.{entry_of, thunk_in}
+use Rattle.machine_agreement.specs.machine_epochs.specs.Roles.{role_at}
+use Rattle.machine_agreement.specs.machine_epochs.specs.Descriptors.{times_limbo}
 
 -- how many node slots there are; the descriptors are numbered after them
 abbrev pub node_count : Meaning → Layout → ℕ

@@ -1,12 +1,12 @@
 -- A state of the machine, with all that is known of its slots and of its sections.
 use Rattle.std.specs.Prelude.{◌≡◌, ℕ, ◌+◌, true}
-use Rattle.table_words.specs.declared.layout.Layout.{Layout}
-use Rattle.structure_laws.specs.Meaning.{Meaning}
-use Rattle.epoch_core.specs.declared.location.Location.TheVariants.{Live}
-use Rattle.epoch_core.specs.History as epoch_history
+use Rattle.agreement_core.specs.table_words.specs.declared.layout.Layout.{Layout}
+use Rattle.machine_states.specs.structure_laws.specs.Meaning.{Meaning}
+use Rattle.machine_states.specs.epoch_core.specs.declared.location.Location.TheVariants.{Live}
+use Rattle.machine_states.specs.epoch_core.specs.History as epoch_history
 use Rattle.agreement_core.specs.History as agreement_history
 use Rattle.machine_states.specs.Sight.{Sight}
-use Rattle.machine_epochs.specs.Entries.{counts_of}
+use Rattle.machine_agreement.specs.machine_epochs.specs.Entries.{counts_of}
 use Rattle.machine_invariant.specs.Slots.{node_count, is_used, SlotsAreSound}
 use Rattle.machine_invariant.specs.Sections.{SectionsAreSound}
 use Rattle.machine_invariant.specs.Along.{Components}

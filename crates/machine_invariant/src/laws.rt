@@ -1,9 +1,9 @@
 //! What is known of the machine's states, each on a contract.
 ghost use Rattle.std.specs.Prelude.{List};
-ghost use Rattle.map_history.specs.declared.op.Request.{Request};
-ghost use Rattle.table_words.specs.Limits.{IsWithinLimits};
-ghost use Rattle.table_words.specs.declared.layout.Layout.{Layout};
-ghost use Rattle.runner_parts.specs.declared.event.Event.{Event};
+ghost use Rattle.agreement_core.specs.map_history.specs.declared.op.Request.{Request};
+ghost use Rattle.agreement_core.specs.table_words.specs.Limits.{IsWithinLimits};
+ghost use Rattle.agreement_core.specs.table_words.specs.declared.layout.Layout.{Layout};
+ghost use Rattle.machine_states.specs.runner_steps.specs.runner_parts.specs.declared.event.Event.{Event};
 ghost use Rattle.machine_states.specs.World.{World};
 ghost use Rattle.machine_invariant.specs.After.{WholeAfter};
 ghost use Rattle.machine_invariant.specs.Along.{BeginExact, StayExact};
@@ -12,7 +12,7 @@ ghost use Rattle.machine_invariant.specs.States.{WholeStatesAreSound};
 ghost use Rattle.machine_invariant.specs.Lengths.{ShortAfter, StandingListsAreShort, WholeListsAreShort};
 ghost use Rattle.machine_invariant.specs.LogWords.{LogWordsSayAfter, WholeLogWordsSay};
 
-use structure_laws::Structure;
+use machine_states::structure_laws::Structure;
 
 /// Where the components go along with the machine's events, their histories say what happened: what the
 /// exchanges of cells, stamps and replies changed, and which commits of Makes and Retires won. At first

@@ -1,17 +1,17 @@
 -- What each event of agreement leaves of the links.
 use Rattle.std.proofs.Common.{◌≡◌, ℕ, true, refl, sym, ap, subst}
 use Rattle.std.specs.Prelude.{Option}
-use Rattle.body_terms.specs.Update.{upd}
-use Rattle.body_terms.specs.Word.{held_word, next_word}
-use Rattle.body_terms.specs.Line.{is_event}
-use Rattle.body_terms.specs.declared.micro.Source.{Source}
-use Rattle.body_terms.specs.declared.micro.Micro.TheVariants as micros
-use Rattle.table_words.specs.declared.layout.Layout.{Layout}
-use Rattle.table_words.specs.Limits.{IsWithinLimits}
-use Rattle.structure_laws.specs.Scene.{Readings, Status}
-use Rattle.structure_laws.specs.Scene as scenes
-use Rattle.structure_laws.specs.Meaning.{Meaning}
-use Rattle.structure_laws.specs.Laws.{Laws}
+use Rattle.agreement_core.specs.body_terms.specs.Update.{upd}
+use Rattle.agreement_core.specs.body_terms.specs.Word.{held_word, next_word}
+use Rattle.agreement_core.specs.body_terms.specs.Line.{is_event}
+use Rattle.agreement_core.specs.body_terms.specs.declared.micro.Source.{Source}
+use Rattle.agreement_core.specs.body_terms.specs.declared.micro.Micro.TheVariants as micros
+use Rattle.agreement_core.specs.table_words.specs.declared.layout.Layout.{Layout}
+use Rattle.agreement_core.specs.table_words.specs.Limits.{IsWithinLimits}
+use Rattle.agreement_core.specs.section_lines.specs.structure_laws.specs.Scene.{Readings, Status}
+use Rattle.agreement_core.specs.section_lines.specs.structure_laws.specs.Scene as scenes
+use Rattle.agreement_core.specs.section_lines.specs.structure_laws.specs.Meaning.{Meaning}
+use Rattle.agreement_core.specs.section_lines.specs.structure_laws.specs.Laws.{Laws}
 use Rattle.agreement_core.specs.State.{AgreementState}
 use Rattle.agreement_core.specs.Checks.{exchanged, stored_word}
 use Rattle.agreement_core.specs.Events.{Event, Enabled, after, IsBefore}

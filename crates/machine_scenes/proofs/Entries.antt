@@ -3,8 +3,8 @@ use Rattle.std.proofs.Common.{◌≡◌, ◌≢◌, ℕ, zero, suc, List, Bool, 
 use Rattle.std.specs.Prelude.{◌⊎◌, ◌||◌, ◌&&◌, Some, [], ◌∷◌, ◌++◌, slice_get}
 use Rattle.std.proofs.lemmas.Bool.{cases_eq, both_ways}
 use Rattle.std.proofs.lemmas.Bool.Decides.{nat_tests}
-use Rattle.small_lemmas.proofs.Bools.{or_first as held_or}
-use Rattle.structure_laws.proofs.Changes.{upd_same, upd_other}
+use Rattle.epoch_core.specs.small_lemmas.proofs.Bools.{or_first as held_or}
+use Rattle.agreement_core.specs.section_lines.specs.structure_laws.proofs.Changes.{upd_same, upd_other}
 use Rattle.epoch_core.specs.Update.{upd, upd2, upd_row}
 use Rattle.epoch_core.specs.declared.stage.Stage.{Stage}
 use Rattle.epoch_core.specs.declared.stage.Stage.TheVariants as stages

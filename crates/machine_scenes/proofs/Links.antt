@@ -1,21 +1,21 @@
 -- What each step that changes a cell leaves of the links.
 use Rattle.std.proofs.Common.{◌≡◌, ◌≢◌, ℕ, ◌+◌, ◌*◌, ◌<◌, ◌≤◌, Bool, true, false, refl, sym, ap, ◌∙◌, subst, ⊎_elim, arith}
 use Rattle.std.specs.Prelude.{◌⊎◌}
-use Rattle.body_terms.specs.Update.{upd}
-use Rattle.body_terms.specs.Word.{next_word}
-use Rattle.body_terms.specs.declared.step.Step.TheVariants.{Load, Store}
-use Rattle.body_terms.specs.declared.value.Value.{Value}
-use Rattle.table_words.specs.declared.layout.Layout.{Layout}
-use Rattle.table_words.specs.Limits.{IsWithinLimits}
-use Rattle.structure_laws.specs.Scene.{Section, Status, Free, Live, Retired, Scene}
-use Rattle.structure_laws.specs.Meaning.{Meaning}
-use Rattle.structure_laws.specs.Sections.{Here, IsStep, Settled, value_in}
-use Rattle.structure_laws.specs.Cells.{cell_of, IsCellOf, IsSafe, IsOutside}
-use Rattle.structure_laws.specs.Laws.{Laws}
-use Rattle.structure_laws.specs.Gives.{Gives}
-use Rattle.structure_laws.specs.Lawful.{IsLawful}
-use Rattle.structure_laws.proofs.Bodies.{no_exit_after}
-use Rattle.structure_laws.proofs.Changes.{upd_other}
+use Rattle.agreement_core.specs.body_terms.specs.Update.{upd}
+use Rattle.agreement_core.specs.body_terms.specs.Word.{next_word}
+use Rattle.agreement_core.specs.body_terms.specs.declared.step.Step.TheVariants.{Load, Store}
+use Rattle.agreement_core.specs.body_terms.specs.declared.value.Value.{Value}
+use Rattle.agreement_core.specs.table_words.specs.declared.layout.Layout.{Layout}
+use Rattle.agreement_core.specs.table_words.specs.Limits.{IsWithinLimits}
+use Rattle.agreement_core.specs.section_lines.specs.structure_laws.specs.Scene.{Section, Status, Free, Live, Retired, Scene}
+use Rattle.agreement_core.specs.section_lines.specs.structure_laws.specs.Meaning.{Meaning}
+use Rattle.agreement_core.specs.section_lines.specs.structure_laws.specs.Sections.{Here, IsStep, Settled, value_in}
+use Rattle.agreement_core.specs.section_lines.specs.structure_laws.specs.Cells.{cell_of, IsCellOf, IsSafe, IsOutside}
+use Rattle.agreement_core.specs.section_lines.specs.structure_laws.specs.Laws.{Laws}
+use Rattle.agreement_core.specs.section_lines.specs.structure_laws.specs.Gives.{Gives}
+use Rattle.agreement_core.specs.section_lines.specs.structure_laws.specs.Lawful.{IsLawful}
+use Rattle.agreement_core.specs.section_lines.specs.structure_laws.proofs.Bodies.{no_exit_after}
+use Rattle.agreement_core.specs.section_lines.specs.structure_laws.proofs.Changes.{upd_other}
 use Rattle.agreement_core.specs.Checks.{exchanged}
 use Rattle.machine_scenes.specs.Cells.{LeavesLinks}
 

@@ -2,12 +2,12 @@
 use Rattle.std.proofs.Common.{◌≡◌, ◌≢◌, ℕ, suc, ◌<◌, Bool, true, false, cond, refl, sym, ap, ◌∙◌, subst, ⊎_elim, arith}
 use Rattle.std.specs.Prelude.{nat_lt}
 use Rattle.std.proofs.lemmas.Bool.{cases_eq, cases_lt}
-use Rattle.small_lemmas.proofs.Numbers.{later_edge as late_edge, last_or_before as last}
-use Rattle.body_terms.specs.Update.{upd}
-use Rattle.body_terms.specs.Run.{written_once}
-use Rattle.body_terms.specs.declared.micro.Micro.{Micro}
-use Rattle.body_terms.specs.declared.micro.Micro.TheVariants as micros
-use Rattle.structure_laws.proofs.Changes.{upd_same, upd_other}
+use Rattle.epoch_core.specs.small_lemmas.proofs.Numbers.{later_edge as late_edge, last_or_before as last}
+use Rattle.agreement_core.specs.body_terms.specs.Update.{upd}
+use Rattle.agreement_core.specs.body_terms.specs.Run.{written_once}
+use Rattle.agreement_core.specs.body_terms.specs.declared.micro.Micro.{Micro}
+use Rattle.agreement_core.specs.body_terms.specs.declared.micro.Micro.TheVariants as micros
+use Rattle.agreement_core.specs.section_lines.specs.structure_laws.proofs.Changes.{upd_same, upd_other}
 use Rattle.agreement_core.specs.State.{CellRules, Section, AgreementState}
 use Rattle.agreement_core.specs.Checks.{came}
 use Rattle.agreement_core.specs.Events.{Event, Enabled, after, IsBefore}

@@ -1,21 +1,21 @@
 -- The places of an open section's line up to its edge, as steps of its body.
 use Rattle.std.proofs.Common.{◌≡◌, ℕ, suc, ◌≤◌, List, length, refl, sym, ap, ◌∙◌, subst, ⊎_elim, arith, ◌<◌}
 use Rattle.std.proofs.lemmas.Bool.{cases_lt}
-use Rattle.body_terms.specs.declared.step.Step.{Step}
-use Rattle.body_terms.specs.declared.step.Step.TheVariants.{Load, Make, Retire}
-use Rattle.body_terms.specs.declared.value.Init.{Init}
-use Rattle.body_terms.specs.declared.value.Value.TheVariants.{Const}
-use Rattle.body_terms.specs.declared.micro.Source.{Source}
-use Rattle.body_terms.specs.declared.micro.Micro.TheVariants as micros
-use Rattle.body_terms.specs.Line.{registers_before, line, begins, micro_at, source_of}
-use Rattle.body_terms.specs.Shape.{IsStep}
-use Rattle.body_terms.proofs.LineLemmas.{begins_next}
+use Rattle.agreement_core.specs.body_terms.specs.declared.step.Step.{Step}
+use Rattle.agreement_core.specs.body_terms.specs.declared.step.Step.TheVariants.{Load, Make, Retire}
+use Rattle.agreement_core.specs.body_terms.specs.declared.value.Init.{Init}
+use Rattle.agreement_core.specs.body_terms.specs.declared.value.Value.TheVariants.{Const}
+use Rattle.agreement_core.specs.body_terms.specs.declared.micro.Source.{Source}
+use Rattle.agreement_core.specs.body_terms.specs.declared.micro.Micro.TheVariants as micros
+use Rattle.agreement_core.specs.body_terms.specs.Line.{registers_before, line, begins, micro_at, source_of}
+use Rattle.agreement_core.specs.body_terms.specs.Shape.{IsStep}
+use Rattle.agreement_core.specs.body_terms.proofs.LineLemmas.{begins_next}
 use Rattle.std.specs.Prelude.{slice_index_or}
-use Rattle.section_lines.specs.Progress.{passed_steps}
-use Rattle.section_lines.proofs.Places.{stands, whole_line, begins_rises, step_inside}
-use Rattle.section_lines.proofs.Progress.{passed_at, passed_all}
-use Rattle.section_lines.proofs.Sources.{of_load, of_make, of_retire}
-use Rattle.section_lines.proofs.Ordered.{fill_of, fills}
+use Rattle.agreement_core.specs.section_lines.specs.Progress.{passed_steps}
+use Rattle.agreement_core.specs.section_lines.proofs.Places.{stands, whole_line, begins_rises, step_inside}
+use Rattle.agreement_core.specs.section_lines.proofs.Progress.{passed_at, passed_all}
+use Rattle.agreement_core.specs.section_lines.proofs.Sources.{of_load, of_make, of_retire}
+use Rattle.agreement_core.specs.section_lines.proofs.Ordered.{fill_of, fills}
 
 -- from a step's beginning on that step is come to
 pub passed_from : (body : List Step) (edge n : ℕ) → n ≤ length body → begins body n ≤ edge → n ≤ passed_steps body edge

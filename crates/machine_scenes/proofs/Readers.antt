@@ -3,9 +3,9 @@ use Rattle.std.proofs.Common.{◌≡◌, ℕ, Bool, true, false, cond, refl, sym
 use Rattle.std.specs.Prelude.{Option, Some, None}
 use Rattle.std.proofs.lemmas.Bool.{cases_eq}
 use mathlib.Core.Path.{fun_ext}
-use Rattle.body_terms.specs.Update.{upd}
-use Rattle.structure_laws.specs.Scene.{Readings}
-use Rattle.structure_laws.proofs.Changes.{upd_same, upd_other}
+use Rattle.agreement_core.specs.body_terms.specs.Update.{upd}
+use Rattle.agreement_core.specs.section_lines.specs.structure_laws.specs.Scene.{Readings}
+use Rattle.agreement_core.specs.section_lines.specs.structure_laws.proofs.Changes.{upd_same, upd_other}
 use Rattle.epoch_core.specs.declared.stage.Stage.{Stage}
 use Rattle.epoch_core.specs.State.{is_entered}
 use Rattle.machine_scenes.proofs.Shown.{upd_found}

@@ -3,28 +3,28 @@ use Rattle.std.proofs.Common.{◌≡◌, ◌≢◌, ℕ, suc, ◌<◌, List, tru
 use Rattle.std.specs.Prelude.{◌⊎◌, ◌==◌, not, Option, Some, None}
 use Rattle.std.proofs.lemmas.Bool.{cases_eq, both_ways}
 use Rattle.std.proofs.lemmas.Bool.Decides.{nat_tests}
-use Rattle.body_terms.specs.Update.{upd}
-use Rattle.body_terms.specs.Run.{written_once}
-use Rattle.body_terms.specs.Word.{value_of, version_of, next_word, held_word}
-use Rattle.body_terms.specs.Line.{line, micro_at, is_event, is_commit, is_check}
-use Rattle.body_terms.specs.Shape.{IsShaped}
-use Rattle.body_terms.specs.declared.step.Step.{Step}
-use Rattle.body_terms.specs.declared.step.Step.TheVariants.{Take}
-use Rattle.body_terms.specs.declared.micro.Source.{Source}
-use Rattle.body_terms.specs.declared.micro.Source.TheVariants.{Fixed, Agreed}
-use Rattle.body_terms.specs.declared.micro.Micro.{Micro}
-use Rattle.body_terms.specs.declared.micro.Micro.TheVariants as micros
-use Rattle.table_words.specs.declared.layout.Layout.{Layout}
-use Rattle.table_words.specs.Limits.{IsWithinLimits}
-use Rattle.structure_laws.specs.Scene.{Readings, Status, Scene}
-use Rattle.structure_laws.specs.Scene as scenes
-use Rattle.structure_laws.specs.Meaning.{Meaning}
-use Rattle.structure_laws.specs.Sections.{value_in, Here, IsStep, Holds, Unheld, Settled, Ended}
-use Rattle.structure_laws.specs.Laws.{Laws}
-use Rattle.structure_laws.specs.Lawful.{IsLawful, Moves}
-use Rattle.structure_laws.proofs.Moves.{moves}
-use Rattle.section_lines.specs.Progress.{source_word}
-use Rattle.section_lines.proofs.Moves.{is_within, load_moves, want_moves, fresh_moves, take_moves, stamp_moves, StoreMoves, store_moves, answer_moves, nested_moves, outcome_moves, check_exits, end_passes}
+use Rattle.agreement_core.specs.body_terms.specs.Update.{upd}
+use Rattle.agreement_core.specs.body_terms.specs.Run.{written_once}
+use Rattle.agreement_core.specs.body_terms.specs.Word.{value_of, version_of, next_word, held_word}
+use Rattle.agreement_core.specs.body_terms.specs.Line.{line, micro_at, is_event, is_commit, is_check}
+use Rattle.agreement_core.specs.body_terms.specs.Shape.{IsShaped}
+use Rattle.agreement_core.specs.body_terms.specs.declared.step.Step.{Step}
+use Rattle.agreement_core.specs.body_terms.specs.declared.step.Step.TheVariants.{Take}
+use Rattle.agreement_core.specs.body_terms.specs.declared.micro.Source.{Source}
+use Rattle.agreement_core.specs.body_terms.specs.declared.micro.Source.TheVariants.{Fixed, Agreed}
+use Rattle.agreement_core.specs.body_terms.specs.declared.micro.Micro.{Micro}
+use Rattle.agreement_core.specs.body_terms.specs.declared.micro.Micro.TheVariants as micros
+use Rattle.agreement_core.specs.table_words.specs.declared.layout.Layout.{Layout}
+use Rattle.agreement_core.specs.table_words.specs.Limits.{IsWithinLimits}
+use Rattle.agreement_core.specs.section_lines.specs.structure_laws.specs.Scene.{Readings, Status, Scene}
+use Rattle.agreement_core.specs.section_lines.specs.structure_laws.specs.Scene as scenes
+use Rattle.agreement_core.specs.section_lines.specs.structure_laws.specs.Meaning.{Meaning}
+use Rattle.agreement_core.specs.section_lines.specs.structure_laws.specs.Sections.{value_in, Here, IsStep, Holds, Unheld, Settled, Ended}
+use Rattle.agreement_core.specs.section_lines.specs.structure_laws.specs.Laws.{Laws}
+use Rattle.agreement_core.specs.section_lines.specs.structure_laws.specs.Lawful.{IsLawful, Moves}
+use Rattle.agreement_core.specs.section_lines.specs.structure_laws.proofs.Moves.{moves}
+use Rattle.agreement_core.specs.section_lines.specs.Progress.{source_word}
+use Rattle.agreement_core.specs.section_lines.proofs.Moves.{is_within, load_moves, want_moves, fresh_moves, take_moves, stamp_moves, StoreMoves, store_moves, answer_moves, nested_moves, outcome_moves, check_exits, end_passes}
 use Rattle.agreement_core.specs.State.{Section, Run, AgreementState}
 use Rattle.agreement_core.specs.Checks.{passes, is_stop, exchanged, stored_word, source_in}
 use Rattle.agreement_core.specs.Sound.{IsSound}

@@ -2,16 +2,16 @@
 use Rattle.std.proofs.Common.{◌≡◌, ℕ, suc, ◌<◌, List, true, false, refl, sym, ap, ◌∙◌, subst, ⊎_elim, arith}
 use Rattle.std.specs.Prelude.{Option, Some}
 use Rattle.std.proofs.lemmas.Bool.{cases_lt}
-use Rattle.small_lemmas.proofs.Numbers.{later_edge as late_edge}
-use Rattle.body_terms.specs.Update.{upd}
-use Rattle.body_terms.specs.Run.{written_once}
-use Rattle.body_terms.specs.Line.{line, micro_at, is_event, is_commit}
-use Rattle.body_terms.specs.declared.step.Step.{Step}
-use Rattle.body_terms.specs.declared.micro.Micro.{Micro}
-use Rattle.table_words.specs.declared.layout.Layout.{Layout}
-use Rattle.structure_laws.specs.Scene as scenes
-use Rattle.structure_laws.specs.Meaning.{Meaning}
-use Rattle.section_lines.proofs.Moves.{is_within, within_moves}
+use Rattle.epoch_core.specs.small_lemmas.proofs.Numbers.{later_edge as late_edge}
+use Rattle.agreement_core.specs.body_terms.specs.Update.{upd}
+use Rattle.agreement_core.specs.body_terms.specs.Run.{written_once}
+use Rattle.agreement_core.specs.body_terms.specs.Line.{line, micro_at, is_event, is_commit}
+use Rattle.agreement_core.specs.body_terms.specs.declared.step.Step.{Step}
+use Rattle.agreement_core.specs.body_terms.specs.declared.micro.Micro.{Micro}
+use Rattle.agreement_core.specs.table_words.specs.declared.layout.Layout.{Layout}
+use Rattle.agreement_core.specs.section_lines.specs.structure_laws.specs.Scene as scenes
+use Rattle.agreement_core.specs.section_lines.specs.structure_laws.specs.Meaning.{Meaning}
+use Rattle.agreement_core.specs.section_lines.proofs.Moves.{is_within, within_moves}
 use Rattle.agreement_core.specs.State.{CellRules, Section, Run, AgreementState}
 use Rattle.agreement_core.specs.Checks.{passes, came}
 use Rattle.agreement_core.specs.Sound.{IsSound, UsedIsSound}

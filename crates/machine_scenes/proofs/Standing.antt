@@ -1,12 +1,12 @@
 -- What each event of agreement leaves of the published sections: those that are open were open, and each stays that of its thunk.
 use Rattle.std.proofs.Common.{◌≡◌, ◌≢◌, ℕ, suc, ◌<◌, Bool, true, false, sym, ap, ◌∙◌, ⊎_elim, arith}
 use Rattle.std.proofs.lemmas.Bool.{cases_eq, cases_lt, both_ways}
-use Rattle.small_lemmas.proofs.Numbers.{later_edge as late_edge}
-use Rattle.body_terms.specs.Update.{upd}
-use Rattle.body_terms.specs.declared.micro.Micro.{Micro}
-use Rattle.body_terms.specs.declared.micro.Micro.TheVariants as micros
-use Rattle.structure_laws.specs.Meaning.{Meaning}
-use Rattle.structure_laws.proofs.Changes.{upd_same, upd_other}
+use Rattle.epoch_core.specs.small_lemmas.proofs.Numbers.{later_edge as late_edge}
+use Rattle.agreement_core.specs.body_terms.specs.Update.{upd}
+use Rattle.agreement_core.specs.body_terms.specs.declared.micro.Micro.{Micro}
+use Rattle.agreement_core.specs.body_terms.specs.declared.micro.Micro.TheVariants as micros
+use Rattle.agreement_core.specs.section_lines.specs.structure_laws.specs.Meaning.{Meaning}
+use Rattle.agreement_core.specs.section_lines.specs.structure_laws.proofs.Changes.{upd_same, upd_other}
 use Rattle.agreement_core.specs.State.{CellRules, Section, AgreementState, IsOpen}
 use Rattle.agreement_core.specs.Checks.{passes, is_stop, came}
 use Rattle.agreement_core.specs.Events.{Event, Enabled, after}

@@ -3,33 +3,33 @@ use Rattle.std.proofs.Common.{◌≡◌, ℕ, suc, ◌+◌, ◌<◌, ◌≤◌, 
 use Rattle.std.specs.Prelude.{◌⊎◌, ◌^◌, nat_lt, cond, Some, [], slice_get, slice_index_or, ◌∷◌}
 use Rattle.std.proofs.lemmas.Bool.{cases_lt}
 use Rattle.std.proofs.lemmas.Bool.Decides.{nat_tests}
-use Rattle.map_history.specs.declared.op.Op.{Op}
-use Rattle.body_terms.specs.Line.{registers_before, source_of, line, micro_at, committed, is_event}
-use Rattle.body_terms.specs.Word.{is_free, is_spent}
-use Rattle.body_terms.specs.declared.step.Step.TheVariants.{Retire}
-use Rattle.body_terms.specs.declared.value.Value.{Value}
-use Rattle.body_terms.specs.declared.value.Value.TheVariants.{Const}
-use Rattle.body_terms.specs.declared.micro.Source.{Source}
-use Rattle.body_terms.specs.declared.micro.Source.TheVariants.{Fixed}
-use Rattle.body_terms.specs.declared.micro.Micro.{Micro}
-use Rattle.body_terms.specs.declared.micro.Micro.TheVariants as micros
-use Rattle.body_terms.specs.declared.thunk.Thunk.{Thunk}
-use Rattle.table_words.specs.declared.layout.Layout.{Layout}
-use Rattle.table_words.specs.Limits.{IsWithinLimits}
-use Rattle.structure_laws.specs.Scene.{Status, Free, Live, Retired, with_reader}
-use Rattle.structure_laws.specs.Scene as scenes
-use Rattle.structure_laws.specs.Meaning.{Meaning}
-use Rattle.structure_laws.specs.Sections.{IsAllowed, Here, IsStep, Settled}
-use Rattle.structure_laws.specs.Cells.{cell_of, IsCellOf, InUse, Links, IsLoadable, slots}
-use Rattle.structure_laws.specs.Laws.{Laws}
-use Rattle.structure_laws.specs.Gives.{Gives}
-use Rattle.structure_laws.specs.Shape.{Shaped}
-use Rattle.structure_laws.proofs.Bodies.{no_exit_after}
-use Rattle.structure_laws.proofs.Changes.{upd_same}
-use Rattle.structure_laws.proofs.Moves.{moves}
-use Rattle.structure_laws.proofs.Readings.{known_outside}
-use Rattle.section_lines.proofs.Moves.{retire_moves}
-use Rattle.section_lines.proofs.Placed.{is_line, is_whole}
+use Rattle.agreement_core.specs.map_history.specs.declared.op.Op.{Op}
+use Rattle.agreement_core.specs.body_terms.specs.Line.{registers_before, source_of, line, micro_at, committed, is_event}
+use Rattle.agreement_core.specs.body_terms.specs.Word.{is_free, is_spent}
+use Rattle.agreement_core.specs.body_terms.specs.declared.step.Step.TheVariants.{Retire}
+use Rattle.agreement_core.specs.body_terms.specs.declared.value.Value.{Value}
+use Rattle.agreement_core.specs.body_terms.specs.declared.value.Value.TheVariants.{Const}
+use Rattle.agreement_core.specs.body_terms.specs.declared.micro.Source.{Source}
+use Rattle.agreement_core.specs.body_terms.specs.declared.micro.Source.TheVariants.{Fixed}
+use Rattle.agreement_core.specs.body_terms.specs.declared.micro.Micro.{Micro}
+use Rattle.agreement_core.specs.body_terms.specs.declared.micro.Micro.TheVariants as micros
+use Rattle.agreement_core.specs.body_terms.specs.declared.thunk.Thunk.{Thunk}
+use Rattle.agreement_core.specs.table_words.specs.declared.layout.Layout.{Layout}
+use Rattle.agreement_core.specs.table_words.specs.Limits.{IsWithinLimits}
+use Rattle.agreement_core.specs.section_lines.specs.structure_laws.specs.Scene.{Status, Free, Live, Retired, with_reader}
+use Rattle.agreement_core.specs.section_lines.specs.structure_laws.specs.Scene as scenes
+use Rattle.agreement_core.specs.section_lines.specs.structure_laws.specs.Meaning.{Meaning}
+use Rattle.agreement_core.specs.section_lines.specs.structure_laws.specs.Sections.{IsAllowed, Here, IsStep, Settled}
+use Rattle.agreement_core.specs.section_lines.specs.structure_laws.specs.Cells.{cell_of, IsCellOf, InUse, Links, IsLoadable, slots}
+use Rattle.agreement_core.specs.section_lines.specs.structure_laws.specs.Laws.{Laws}
+use Rattle.agreement_core.specs.section_lines.specs.structure_laws.specs.Gives.{Gives}
+use Rattle.agreement_core.specs.section_lines.specs.structure_laws.specs.Shape.{Shaped}
+use Rattle.agreement_core.specs.section_lines.specs.structure_laws.proofs.Bodies.{no_exit_after}
+use Rattle.agreement_core.specs.section_lines.specs.structure_laws.proofs.Changes.{upd_same}
+use Rattle.agreement_core.specs.section_lines.specs.structure_laws.proofs.Moves.{moves}
+use Rattle.agreement_core.specs.section_lines.specs.structure_laws.proofs.Readings.{known_outside}
+use Rattle.agreement_core.specs.section_lines.proofs.Moves.{retire_moves}
+use Rattle.agreement_core.specs.section_lines.proofs.Placed.{is_line, is_whole}
 use Rattle.agreement_core.specs.State.{Section, AgreementState, IsOpen}
 use Rattle.agreement_core.specs.Events.{HasCome, IsBefore, IsAlone, IsPublishable}
 use Rattle.agreement_core.specs.Sound.{UsedIsSound}

@@ -2,22 +2,22 @@
 use Rattle.std.proofs.Common.{◌≡◌, ℕ, zero, suc, ◌+◌, ◌-◌, ◌<◌, ◌≤◌, List, length, true, sym, ap, ◌∙◌, subst, ⊎_elim, arith}
 use Rattle.std.specs.Prelude.{Some}
 use Rattle.std.proofs.lemmas.Bool.{cases_lt}
-use Rattle.body_terms.specs.Word.{value_of, held_word}
-use Rattle.body_terms.specs.declared.step.Step.{Step}
-use Rattle.body_terms.specs.declared.step.Step.TheVariants.{Take}
-use Rattle.body_terms.specs.declared.micro.Micro.TheVariants as micros
-use Rattle.body_terms.specs.Line.{registers_before, micro_count, line, begins, micro_at, is_check}
-use Rattle.body_terms.specs.Shape.{IsStep}
-use Rattle.body_terms.proofs.LineLemmas.{begins_next, micro_within}
-use Rattle.body_terms.proofs.RegisterLemmas.{step_at}
-use Rattle.body_terms.specs.declared.thunk.Thunk.{Thunk}
-use Rattle.table_words.specs.declared.layout.Layout.{Layout}
-use Rattle.structure_laws.specs.Scene as scenes
-use Rattle.structure_laws.specs.Meaning.{Meaning}
-use Rattle.structure_laws.specs.Sections.{Holds}
-use Rattle.section_lines.specs.Progress.{passed_steps}
-use Rattle.section_lines.proofs.Places.{step_inside}
-use Rattle.section_lines.proofs.Progress.{passed_at}
+use Rattle.agreement_core.specs.body_terms.specs.Word.{value_of, held_word}
+use Rattle.agreement_core.specs.body_terms.specs.declared.step.Step.{Step}
+use Rattle.agreement_core.specs.body_terms.specs.declared.step.Step.TheVariants.{Take}
+use Rattle.agreement_core.specs.body_terms.specs.declared.micro.Micro.TheVariants as micros
+use Rattle.agreement_core.specs.body_terms.specs.Line.{registers_before, micro_count, line, begins, micro_at, is_check}
+use Rattle.agreement_core.specs.body_terms.specs.Shape.{IsStep}
+use Rattle.agreement_core.specs.body_terms.proofs.LineLemmas.{begins_next, micro_within}
+use Rattle.agreement_core.specs.body_terms.proofs.RegisterLemmas.{step_at}
+use Rattle.agreement_core.specs.body_terms.specs.declared.thunk.Thunk.{Thunk}
+use Rattle.agreement_core.specs.table_words.specs.declared.layout.Layout.{Layout}
+use Rattle.agreement_core.specs.section_lines.specs.structure_laws.specs.Scene as scenes
+use Rattle.agreement_core.specs.section_lines.specs.structure_laws.specs.Meaning.{Meaning}
+use Rattle.agreement_core.specs.section_lines.specs.structure_laws.specs.Sections.{Holds}
+use Rattle.agreement_core.specs.section_lines.specs.Progress.{passed_steps}
+use Rattle.agreement_core.specs.section_lines.proofs.Places.{step_inside}
+use Rattle.agreement_core.specs.section_lines.proofs.Progress.{passed_at}
 use Rattle.agreement_core.specs.State.{AgreementState}
 use Rattle.agreement_core.specs.Checks.{passes}
 use Rattle.agreement_core.specs.Sound.{IsSound}

@@ -1,8 +1,8 @@
 -- What a step leaves of the links in the cells.
 use Rattle.std.specs.Prelude.{ℕ, ◌<◌, ◌≡◌, ◌≢◌, true}
-use Rattle.structure_laws.specs.Scene.{Free, Retired, Scene}
-use Rattle.structure_laws.specs.Meaning.{Meaning}
-use Rattle.structure_laws.specs.Cells.{cell_of, IsCellOf}
+use Rattle.agreement_core.specs.section_lines.specs.structure_laws.specs.Scene.{Free, Retired, Scene}
+use Rattle.agreement_core.specs.section_lines.specs.structure_laws.specs.Meaning.{Meaning}
+use Rattle.agreement_core.specs.section_lines.specs.structure_laws.specs.Cells.{cell_of, IsCellOf}
 
 -- no place becomes a link or stops to be one but in a free slot, and the links of retired slots stand
 pub record LeavesLinks (m : Meaning) (s : Scene) (cells : ℕ → ℕ) : Type 0 where

@@ -1,12 +1,12 @@
 -- The invariant of the joined states.
 use Rattle.std.specs.Prelude.{ℕ, ◌<◌, ◌≤◌, ◌≡◌, true}
-use Rattle.body_terms.specs.declared.micro.Micro.TheVariants.{RetireCommit}
-use Rattle.table_words.specs.declared.layout.Layout.{Layout}
-use Rattle.structure_laws.specs.Scene.{Retired, Scene}
-use Rattle.structure_laws.specs.Meaning.{Meaning}
-use Rattle.structure_laws.specs.Cells.{cell_of, Links}
-use Rattle.structure_laws.specs.Shape.{Shaped}
-use Rattle.structure_laws.specs.Lawful.{IsLawful}
+use Rattle.agreement_core.specs.body_terms.specs.declared.micro.Micro.TheVariants.{RetireCommit}
+use Rattle.agreement_core.specs.table_words.specs.declared.layout.Layout.{Layout}
+use Rattle.agreement_core.specs.section_lines.specs.structure_laws.specs.Scene.{Retired, Scene}
+use Rattle.agreement_core.specs.section_lines.specs.structure_laws.specs.Meaning.{Meaning}
+use Rattle.agreement_core.specs.section_lines.specs.structure_laws.specs.Cells.{cell_of, Links}
+use Rattle.agreement_core.specs.section_lines.specs.structure_laws.specs.Shape.{Shaped}
+use Rattle.agreement_core.specs.section_lines.specs.structure_laws.specs.Lawful.{IsLawful}
 use Rattle.agreement_core.specs.State.{AgreementState, IsOpen}
 use Rattle.agreement_core.specs.Sound as agreement
 use Rattle.epoch_core.specs.declared.location.Location.TheVariants.{Fixed}

@@ -1,16 +1,16 @@
 -- The steps of the joined states: an event of agreement, one of epochs and slots, or one of both at once.
 use Rattle.std.specs.Prelude.{ℕ, suc, ◌<◌, ◌≡◌, ◌≢◌, ◌⊎◌, Bool, true, false, [], ◌∷◌, ◌++◌}
-use Rattle.map_history.specs.declared.op.Op.{Op}
-use Rattle.body_terms.specs.Update.{upd}
-use Rattle.body_terms.specs.Word.{value_of}
-use Rattle.body_terms.specs.declared.micro.Source.{Source}
-use Rattle.body_terms.specs.declared.micro.Micro.{Micro}
-use Rattle.body_terms.specs.declared.micro.Micro.TheVariants as micros
-use Rattle.body_terms.specs.declared.thunk.Thunk.{Thunk}
-use Rattle.table_words.specs.declared.layout.Layout.{Layout}
-use Rattle.structure_laws.specs.Meaning.{Meaning}
-use Rattle.structure_laws.specs.Sections.{IsAllowed}
-use Rattle.structure_laws.specs.Cells.{cell_of, IsCellOf, IsLoadable}
+use Rattle.agreement_core.specs.map_history.specs.declared.op.Op.{Op}
+use Rattle.agreement_core.specs.body_terms.specs.Update.{upd}
+use Rattle.agreement_core.specs.body_terms.specs.Word.{value_of}
+use Rattle.agreement_core.specs.body_terms.specs.declared.micro.Source.{Source}
+use Rattle.agreement_core.specs.body_terms.specs.declared.micro.Micro.{Micro}
+use Rattle.agreement_core.specs.body_terms.specs.declared.micro.Micro.TheVariants as micros
+use Rattle.agreement_core.specs.body_terms.specs.declared.thunk.Thunk.{Thunk}
+use Rattle.agreement_core.specs.table_words.specs.declared.layout.Layout.{Layout}
+use Rattle.agreement_core.specs.section_lines.specs.structure_laws.specs.Meaning.{Meaning}
+use Rattle.agreement_core.specs.section_lines.specs.structure_laws.specs.Sections.{IsAllowed}
+use Rattle.agreement_core.specs.section_lines.specs.structure_laws.specs.Cells.{cell_of, IsCellOf, IsLoadable}
 use Rattle.agreement_core.specs.State.{Section, AgreementState, IsOpen}
 use Rattle.agreement_core.specs.State as agreement
 use Rattle.agreement_core.specs.Checks.{source_in}

@@ -1,16 +1,16 @@
 -- What the joined states supply to the two components: premises of their events.
 use Rattle.std.specs.Prelude.{ℕ, suc, ◌<◌, ◌^◌, ◌≡◌, true, false, []}
-use Rattle.map_history.specs.declared.op.Op.{Op}
-use Rattle.body_terms.specs.Line.{line, micro_at, committed}
-use Rattle.body_terms.specs.Word.{is_free, is_spent}
-use Rattle.body_terms.specs.declared.micro.Source.{Source}
-use Rattle.body_terms.specs.declared.micro.Source.TheVariants.{Fixed}
-use Rattle.body_terms.specs.declared.micro.Micro.TheVariants as micros
-use Rattle.body_terms.specs.declared.thunk.Thunk.{Thunk}
-use Rattle.table_words.specs.declared.layout.Layout.{Layout}
-use Rattle.structure_laws.specs.Meaning.{Meaning}
-use Rattle.structure_laws.specs.Sections.{IsAllowed}
-use Rattle.structure_laws.specs.Cells.{cell_of, slots, IsLoadable}
+use Rattle.agreement_core.specs.map_history.specs.declared.op.Op.{Op}
+use Rattle.agreement_core.specs.body_terms.specs.Line.{line, micro_at, committed}
+use Rattle.agreement_core.specs.body_terms.specs.Word.{is_free, is_spent}
+use Rattle.agreement_core.specs.body_terms.specs.declared.micro.Source.{Source}
+use Rattle.agreement_core.specs.body_terms.specs.declared.micro.Source.TheVariants.{Fixed}
+use Rattle.agreement_core.specs.body_terms.specs.declared.micro.Micro.TheVariants as micros
+use Rattle.agreement_core.specs.body_terms.specs.declared.thunk.Thunk.{Thunk}
+use Rattle.agreement_core.specs.table_words.specs.declared.layout.Layout.{Layout}
+use Rattle.agreement_core.specs.section_lines.specs.structure_laws.specs.Meaning.{Meaning}
+use Rattle.agreement_core.specs.section_lines.specs.structure_laws.specs.Sections.{IsAllowed}
+use Rattle.agreement_core.specs.section_lines.specs.structure_laws.specs.Cells.{cell_of, slots, IsLoadable}
 use Rattle.agreement_core.specs.State.{IsOpen}
 use Rattle.agreement_core.specs.Events.{HasCome, IsBefore, IsAlone, IsPublishable}
 use Rattle.epoch_core.specs.declared.location.Location.TheVariants.{Live, Hand}

@@ -1,10 +1,10 @@
 //! The laws of the joined states, each on a contract.
-ghost use Rattle.table_words.specs.declared.layout.Layout.{Layout};
-ghost use Rattle.table_words.specs.Limits.{IsWithinLimits};
+ghost use Rattle.agreement_core.specs.table_words.specs.declared.layout.Layout.{Layout};
+ghost use Rattle.agreement_core.specs.table_words.specs.Limits.{IsWithinLimits};
 ghost use Rattle.machine_scenes.specs.Schedules.{FirstIsKept, SchedulesKeep, StepsKeep};
 ghost use Rattle.machine_scenes.specs.Supplied.{KeptSupplies};
 
-use structure_laws::Structure;
+use agreement_core::section_lines::structure_laws::Structure;
 
 /// Over every structure each step of the joined states keeps their invariant: agreement stays sound, and
 /// epochs and slots, they show a lawful scene, each entered runner holds the slots that its readings meet,

@@ -1,23 +1,23 @@
 -- The cells of a free slot stand, but where a Make stores to them.
 use Rattle.std.proofs.Common.{◌≡◌, ℕ, ◌+◌, ◌*◌, ◌<◌, true, refl, sym, ap, ◌∙◌, subst, inl, inr, ⊎_elim, arith}
 use Rattle.std.proofs.lemmas.Bool.{cases_eq}
-use Rattle.map_history.specs.declared.op.Op.{Op}
-use Rattle.body_terms.specs.Update.{upd}
-use Rattle.body_terms.specs.Line.{is_event}
-use Rattle.body_terms.specs.Word.{value_of, held_word, next_word}
-use Rattle.body_terms.specs.declared.micro.Micro.{Micro}
-use Rattle.body_terms.specs.declared.micro.Source.{Source}
-use Rattle.body_terms.specs.declared.micro.Micro.TheVariants as micros
-use Rattle.body_terms.specs.declared.thunk.Thunk.{Thunk}
-use Rattle.table_words.specs.declared.layout.Layout.{Layout}
-use Rattle.table_words.specs.Limits.{IsWithinLimits}
-use Rattle.structure_laws.specs.Scene.{Free}
-use Rattle.structure_laws.specs.Scene as scenes
-use Rattle.structure_laws.specs.Meaning.{Meaning}
-use Rattle.structure_laws.specs.Cells.{cell_of, slots}
-use Rattle.structure_laws.specs.Laws.{Laws}
-use Rattle.structure_laws.proofs.Changes.{upd_other}
-use Rattle.structure_laws.proofs.Readings.{known_outside}
+use Rattle.agreement_core.specs.map_history.specs.declared.op.Op.{Op}
+use Rattle.agreement_core.specs.body_terms.specs.Update.{upd}
+use Rattle.agreement_core.specs.body_terms.specs.Line.{is_event}
+use Rattle.agreement_core.specs.body_terms.specs.Word.{value_of, held_word, next_word}
+use Rattle.agreement_core.specs.body_terms.specs.declared.micro.Micro.{Micro}
+use Rattle.agreement_core.specs.body_terms.specs.declared.micro.Source.{Source}
+use Rattle.agreement_core.specs.body_terms.specs.declared.micro.Micro.TheVariants as micros
+use Rattle.agreement_core.specs.body_terms.specs.declared.thunk.Thunk.{Thunk}
+use Rattle.agreement_core.specs.table_words.specs.declared.layout.Layout.{Layout}
+use Rattle.agreement_core.specs.table_words.specs.Limits.{IsWithinLimits}
+use Rattle.agreement_core.specs.section_lines.specs.structure_laws.specs.Scene.{Free}
+use Rattle.agreement_core.specs.section_lines.specs.structure_laws.specs.Scene as scenes
+use Rattle.agreement_core.specs.section_lines.specs.structure_laws.specs.Meaning.{Meaning}
+use Rattle.agreement_core.specs.section_lines.specs.structure_laws.specs.Cells.{cell_of, slots}
+use Rattle.agreement_core.specs.section_lines.specs.structure_laws.specs.Laws.{Laws}
+use Rattle.agreement_core.specs.section_lines.specs.structure_laws.proofs.Changes.{upd_other}
+use Rattle.agreement_core.specs.section_lines.specs.structure_laws.proofs.Readings.{known_outside}
 use Rattle.agreement_core.specs.State.{AgreementState, IsOpen}
 use Rattle.agreement_core.specs.Checks.{exchanged, stored_word}
 use Rattle.agreement_core.specs.Events.{HasCome, IsBefore}

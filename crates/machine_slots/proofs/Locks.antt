@@ -3,21 +3,21 @@ use Rattle.std.proofs.Common.{◌≡◌, ℕ, zero, suc, ◌<◌, ◌≤◌, Boo
 use Rattle.std.specs.Prelude.{cond, nat_lt, [], ◌∷◌, ◌++◌}
 use Rattle.std.proofs.lemmas.Bool.{cases_eq, cases_lt}
 use Rattle.std.proofs.lemmas.Bool.Decides.{nat_tests}
-use Rattle.map_history.specs.declared.op.Op.{Op}
-use Rattle.body_terms.specs.Update.{upd}
-use Rattle.body_terms.specs.Word.{value_of}
-use Rattle.body_terms.specs.declared.micro.Micro.{Micro}
-use Rattle.body_terms.specs.declared.micro.Micro.TheVariants as micros
-use Rattle.body_terms.specs.declared.thunk.Thunk.{Thunk}
-use Rattle.table_words.specs.declared.layout.Layout.{Layout}
-use Rattle.table_words.specs.Limits.{IsWithinLimits}
-use Rattle.structure_laws.specs.Scene.{Readings, Status, Free, Live}
-use Rattle.structure_laws.specs.Meaning.{Meaning}
-use Rattle.structure_laws.specs.Cells.{cell_of, slots, IsKnown}
-use Rattle.structure_laws.specs.Laws.{Laws}
-use Rattle.structure_laws.specs.Shape.{Shaped}
-use Rattle.structure_laws.proofs.Changes.{upd_same, upd_other}
-use Rattle.section_lines.proofs.Sources.{of_take}
+use Rattle.agreement_core.specs.map_history.specs.declared.op.Op.{Op}
+use Rattle.agreement_core.specs.body_terms.specs.Update.{upd}
+use Rattle.agreement_core.specs.body_terms.specs.Word.{value_of}
+use Rattle.agreement_core.specs.body_terms.specs.declared.micro.Micro.{Micro}
+use Rattle.agreement_core.specs.body_terms.specs.declared.micro.Micro.TheVariants as micros
+use Rattle.agreement_core.specs.body_terms.specs.declared.thunk.Thunk.{Thunk}
+use Rattle.agreement_core.specs.table_words.specs.declared.layout.Layout.{Layout}
+use Rattle.agreement_core.specs.table_words.specs.Limits.{IsWithinLimits}
+use Rattle.agreement_core.specs.section_lines.specs.structure_laws.specs.Scene.{Readings, Status, Free, Live}
+use Rattle.agreement_core.specs.section_lines.specs.structure_laws.specs.Meaning.{Meaning}
+use Rattle.agreement_core.specs.section_lines.specs.structure_laws.specs.Cells.{cell_of, slots, IsKnown}
+use Rattle.agreement_core.specs.section_lines.specs.structure_laws.specs.Laws.{Laws}
+use Rattle.agreement_core.specs.section_lines.specs.structure_laws.specs.Shape.{Shaped}
+use Rattle.agreement_core.specs.section_lines.specs.structure_laws.proofs.Changes.{upd_same, upd_other}
+use Rattle.agreement_core.specs.section_lines.proofs.Sources.{of_take}
 use Rattle.agreement_core.specs.State.{Section, AgreementState}
 use Rattle.agreement_core.specs.Continuing.{GoesOn}
 use Rattle.agreement_core.specs.Events as agreement

@@ -2,17 +2,17 @@
 use Rattle.std.proofs.Common.{◌≡◌, ◌≢◌, ℕ, suc, ◌<◌, Bool, true, false, refl, sym, ap, ◌∙◌, subst, ⊎_elim, arith}
 use Rattle.std.specs.Prelude.{◌⊎◌, Option, Some}
 use Rattle.std.proofs.lemmas.Bool.{both_ways}
-use Rattle.small_lemmas.proofs.Numbers.{last_or_before as last_or}
-use Rattle.body_terms.specs.Update.{upd}
-use Rattle.body_terms.specs.Word.{value_of}
-use Rattle.body_terms.specs.declared.micro.Source.{Source}
-use Rattle.body_terms.specs.declared.micro.Micro.{Micro}
-use Rattle.body_terms.specs.declared.micro.Micro.TheVariants as micros
-use Rattle.table_words.specs.declared.layout.Layout.{Layout}
-use Rattle.structure_laws.specs.Meaning.{Meaning}
-use Rattle.structure_laws.specs.Cells.{cell_of}
-use Rattle.section_lines.specs.Line.{IsLine}
-use Rattle.section_lines.proofs.Fills.{fill_at, fill_log, fill_once}
+use Rattle.epoch_core.specs.small_lemmas.proofs.Numbers.{last_or_before as last_or}
+use Rattle.agreement_core.specs.body_terms.specs.Update.{upd}
+use Rattle.agreement_core.specs.body_terms.specs.Word.{value_of}
+use Rattle.agreement_core.specs.body_terms.specs.declared.micro.Source.{Source}
+use Rattle.agreement_core.specs.body_terms.specs.declared.micro.Micro.{Micro}
+use Rattle.agreement_core.specs.body_terms.specs.declared.micro.Micro.TheVariants as micros
+use Rattle.agreement_core.specs.table_words.specs.declared.layout.Layout.{Layout}
+use Rattle.agreement_core.specs.section_lines.specs.structure_laws.specs.Meaning.{Meaning}
+use Rattle.agreement_core.specs.section_lines.specs.structure_laws.specs.Cells.{cell_of}
+use Rattle.agreement_core.specs.section_lines.specs.Line.{IsLine}
+use Rattle.agreement_core.specs.section_lines.proofs.Fills.{fill_at, fill_log, fill_once}
 use Rattle.agreement_core.specs.State.{CellRules, Run, AgreementState}
 use Rattle.agreement_core.specs.Checks.{passes, source_in}
 use Rattle.agreement_core.specs.Events.{Event, Enabled, after, begun, step_of}

@@ -2,21 +2,21 @@
 use Rattle.std.proofs.Common.{◌≡◌, ℕ, suc, ◌<◌, ◌≤◌, ◌^◌, true, zero, refl, sym, ap, ◌∙◌, subst, ⊎_elim, arith}
 use Rattle.std.specs.Prelude.{Option, Some, slice_get, slice_index_or, List, [], ◌∷◌, length}
 use Rattle.std.proofs.lemmas.Bool.{cases_eq, cases_lt, both_ways}
-use Rattle.body_terms.specs.Word.{value_of, version_of, next_word}
-use Rattle.body_terms.specs.Line.{Registers, registers_before, source_of, is_commit}
-use Rattle.body_terms.specs.declared.micro.Source.{Source}
-use Rattle.body_terms.specs.declared.micro.Micro.{Micro}
-use Rattle.body_terms.specs.declared.micro.Micro.TheVariants as micros
-use Rattle.body_terms.specs.declared.value.Value.{Value}
-use Rattle.body_terms.specs.declared.value.Value.TheVariants.{Const, Of, Made}
-use Rattle.table_words.specs.declared.layout.Layout.{Layout}
-use Rattle.table_words.specs.Limits.{IsWithinLimits}
-use Rattle.structure_laws.specs.Meaning.{Meaning}
-use Rattle.structure_laws.specs.Sections.{IsSmall}
-use Rattle.structure_laws.specs.Cells.{cell_of, slots}
-use Rattle.structure_laws.specs.Laws.{Laws}
-use Rattle.section_lines.specs.Line.{IsLine}
-use Rattle.section_lines.proofs.Fills.{fill_at}
+use Rattle.agreement_core.specs.body_terms.specs.Word.{value_of, version_of, next_word}
+use Rattle.agreement_core.specs.body_terms.specs.Line.{Registers, registers_before, source_of, is_commit}
+use Rattle.agreement_core.specs.body_terms.specs.declared.micro.Source.{Source}
+use Rattle.agreement_core.specs.body_terms.specs.declared.micro.Micro.{Micro}
+use Rattle.agreement_core.specs.body_terms.specs.declared.micro.Micro.TheVariants as micros
+use Rattle.agreement_core.specs.body_terms.specs.declared.value.Value.{Value}
+use Rattle.agreement_core.specs.body_terms.specs.declared.value.Value.TheVariants.{Const, Of, Made}
+use Rattle.agreement_core.specs.table_words.specs.declared.layout.Layout.{Layout}
+use Rattle.agreement_core.specs.table_words.specs.Limits.{IsWithinLimits}
+use Rattle.agreement_core.specs.section_lines.specs.structure_laws.specs.Meaning.{Meaning}
+use Rattle.agreement_core.specs.section_lines.specs.structure_laws.specs.Sections.{IsSmall}
+use Rattle.agreement_core.specs.section_lines.specs.structure_laws.specs.Cells.{cell_of, slots}
+use Rattle.agreement_core.specs.section_lines.specs.structure_laws.specs.Laws.{Laws}
+use Rattle.agreement_core.specs.section_lines.specs.Line.{IsLine}
+use Rattle.agreement_core.specs.section_lines.proofs.Fills.{fill_at}
 use Rattle.agreement_core.specs.State.{Run, Section, AgreementState, section_of}
 use Rattle.agreement_core.specs.Checks.{source_in}
 use Rattle.agreement_core.specs.Events.{IsBefore, IsPrivateStore}

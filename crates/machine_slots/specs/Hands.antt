@@ -1,12 +1,12 @@
 -- What stands in slots that are in hands or free, and who holds the slots in which locks stand.
 use Rattle.std.specs.Prelude.{ℕ, ◌<◌, ◌≤◌, ◌≡◌, ◌≢◌, ◌⊎◌, true, Option, None, Some}
-use Rattle.body_terms.specs.Word.{value_of}
-use Rattle.body_terms.specs.Update.{upd}
-use Rattle.body_terms.specs.declared.micro.Source.{Source}
-use Rattle.body_terms.specs.declared.micro.Micro.TheVariants as micros
-use Rattle.structure_laws.specs.Scene.{Free}
-use Rattle.structure_laws.specs.Meaning.{Meaning}
-use Rattle.structure_laws.specs.Cells.{cell_of}
+use Rattle.agreement_core.specs.body_terms.specs.Word.{value_of}
+use Rattle.agreement_core.specs.body_terms.specs.Update.{upd}
+use Rattle.agreement_core.specs.body_terms.specs.declared.micro.Source.{Source}
+use Rattle.agreement_core.specs.body_terms.specs.declared.micro.Micro.TheVariants as micros
+use Rattle.agreement_core.specs.section_lines.specs.structure_laws.specs.Scene.{Free}
+use Rattle.agreement_core.specs.section_lines.specs.structure_laws.specs.Meaning.{Meaning}
+use Rattle.agreement_core.specs.section_lines.specs.structure_laws.specs.Cells.{cell_of}
 use Rattle.agreement_core.specs.State.{Section, section_of}
 use Rattle.agreement_core.specs.Events as agreement
 use Rattle.agreement_core.specs.Checks.{source_in}

@@ -1,12 +1,12 @@
 -- What is proved of the slots in hands and of the locks.
 use Rattle.std.specs.Prelude.{ℕ, ◌<◌, ◌≡◌, Some}
-use Rattle.body_terms.specs.Word.{value_of, version_of, next_word}
-use Rattle.body_terms.specs.declared.micro.Source.{Source}
-use Rattle.body_terms.specs.declared.micro.Micro.TheVariants as micros
-use Rattle.table_words.specs.declared.layout.Layout.{Layout}
-use Rattle.structure_laws.specs.Scene.{Free}
-use Rattle.structure_laws.specs.Meaning.{Meaning}
-use Rattle.structure_laws.specs.Cells.{cell_of, slots}
+use Rattle.agreement_core.specs.body_terms.specs.Word.{value_of, version_of, next_word}
+use Rattle.agreement_core.specs.body_terms.specs.declared.micro.Source.{Source}
+use Rattle.agreement_core.specs.body_terms.specs.declared.micro.Micro.TheVariants as micros
+use Rattle.agreement_core.specs.table_words.specs.declared.layout.Layout.{Layout}
+use Rattle.agreement_core.specs.section_lines.specs.structure_laws.specs.Scene.{Free}
+use Rattle.agreement_core.specs.section_lines.specs.structure_laws.specs.Meaning.{Meaning}
+use Rattle.agreement_core.specs.section_lines.specs.structure_laws.specs.Cells.{cell_of, slots}
 use Rattle.agreement_core.specs.State.{section_of}
 use Rattle.agreement_core.specs.Checks.{source_in}
 use Rattle.agreement_core.specs.Events.{IsBefore, IsPrivateStore}

@@ -1,9 +1,9 @@
 //! The laws of slots in hands and of locks, each on a contract.
-ghost use Rattle.table_words.specs.declared.layout.Layout.{Layout};
-ghost use Rattle.table_words.specs.Limits.{IsWithinLimits};
+ghost use Rattle.agreement_core.specs.table_words.specs.declared.layout.Layout.{Layout};
+ghost use Rattle.agreement_core.specs.table_words.specs.Limits.{IsWithinLimits};
 ghost use Rattle.machine_slots.specs.Laws.{FreeSlotsAreUnlocked, HandsBegin, HandsStand, LocksStayHeld, SlotsStayFilled, StoresAreSupplied};
 
-use structure_laws::Structure;
+use agreement_core::section_lines::structure_laws::Structure;
 
 /// Over every structure: as long as each publisher of a section that isn't retired holds the slots in which
 /// the section's locks stand, no step changes a cell of a slot that is in a hand, in a free list or worn,

@@ -2,14 +2,14 @@
 use Rattle.std.specs.Prelude.{◌==◌, cond, nat_lt, slice_get, slice_index, Bool, true, false}
 use Rattle.std.proofs.Common.{◌≡◌, ℕ, zero, suc, List, [], ◌∷◌, ◌++◌, length, sym, refl, ap, ◌∙◌, arith, le_of_eq}
 use Rattle.std.proofs.lemmas.Bool.Decides.{nat_tests}
-use Rattle.map_history.specs.declared.op.Request.{Request}
-use Rattle.table_words.specs.declared.layout.Layout.{Layout}
-use Rattle.table_words.specs.declared.spot.Spot.TheVariants.{Announcement, LogWord}
-use Rattle.table_words.specs.Places.{address, fits}
-use Rattle.table_words.specs.Seen.{seen}
-use Rattle.table_words.proofs.Seen as words
-use Rattle.structure_laws.specs.Meaning.{Meaning}
-use Rattle.runner_parts.specs.State.{PartState}
+use Rattle.runner_steps.specs.map_history.specs.declared.op.Request.{Request}
+use Rattle.runner_steps.specs.table_words.specs.declared.layout.Layout.{Layout}
+use Rattle.runner_steps.specs.table_words.specs.declared.spot.Spot.TheVariants.{Announcement, LogWord}
+use Rattle.runner_steps.specs.table_words.specs.Places.{address, fits}
+use Rattle.runner_steps.specs.table_words.specs.Seen.{seen}
+use Rattle.runner_steps.specs.table_words.proofs.Seen as words
+use Rattle.runner_steps.specs.runner_parts.specs.structure_laws.specs.Meaning.{Meaning}
+use Rattle.runner_steps.specs.runner_parts.specs.State.{PartState}
 use Rattle.runner_steps.specs.Asks.{sizes_for}
 use Rattle.machine_states.specs.World.{World}
 use Rattle.machine_states.specs.First.{IsFirst, first_part, keeper_part, worker_part, workers}

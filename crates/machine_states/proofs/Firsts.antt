@@ -4,16 +4,16 @@ use Rattle.std.proofs.Common.{◌≡◌, ℕ, zero, suc, ◌+◌, ◌-◌, ◌*�
 use Rattle.std.proofs.Math.Nat.{mul-le-mul_left}
 use Rattle.std.proofs.Math.ListN.{length-set}
 use Rattle.std.proofs.lemmas.Bool.Decides.{nat_tests}
-use Rattle.table_words.specs.declared.sizes.Sizes.{Sizes}
-use Rattle.table_words.specs.declared.spot.Spot.{Spot}
-use Rattle.table_words.specs.declared.spot.Spot.TheVariants.{Seat, Epoch, Clock, Announcement, Stamp, Reply, Cell, ThunkWord, DoneWord, LogWord}
-use Rattle.table_words.specs.Places.{size, address, Fits}
-use Rattle.table_words.specs.Seen.{seen, put}
-use Rattle.table_words.proofs.Seen as words
-use Rattle.structure_laws.specs.Meaning.{Meaning}
-use Rattle.structure_laws.specs.Cells.{first_word}
+use Rattle.runner_steps.specs.table_words.specs.declared.sizes.Sizes.{Sizes}
+use Rattle.runner_steps.specs.table_words.specs.declared.spot.Spot.{Spot}
+use Rattle.runner_steps.specs.table_words.specs.declared.spot.Spot.TheVariants.{Seat, Epoch, Clock, Announcement, Stamp, Reply, Cell, ThunkWord, DoneWord, LogWord}
+use Rattle.runner_steps.specs.table_words.specs.Places.{size, address, Fits}
+use Rattle.runner_steps.specs.table_words.specs.Seen.{seen, put}
+use Rattle.runner_steps.specs.table_words.proofs.Seen as words
+use Rattle.runner_steps.specs.runner_parts.specs.structure_laws.specs.Meaning.{Meaning}
+use Rattle.runner_steps.specs.runner_parts.specs.structure_laws.specs.Cells.{first_word}
 use Rattle.machine_states.specs.First.{falling, filled, IsFilled, keeper_part, worker_part, workers}
-use Rattle.table_words.specs.declared.layout.Layout.{Layout}
+use Rattle.runner_steps.specs.table_words.specs.declared.layout.Layout.{Layout}
 
 pub nodes_below : (nodes k runners : ℕ) → k < runners → nodes * runners ≤ 262144 → nodes * k + nodes ≤ 262144
 nodes_below nodes k runners h few = let step = mul-le-mul_left nodes (let le : k + 1 ≤ runners = omega arith in le) in omega (arith, step)

@@ -1,21 +1,21 @@
 -- What a step makes of what is kept of the epoch, is made as the step is noted, and not before.
 use Rattle.std.specs.Prelude.{◌==◌, ◌&&◌, not, nat_lt, nat_le, Bool, true, false, if◌then◌else◌}
 use Rattle.std.proofs.Common.{◌≡◌, ℕ, [], ◌∷◌, ◌++◌, refl, Option, Some, None}
-use Rattle.body_terms.specs.Line.{is_end}
-use Rattle.body_terms.specs.declared.micro.Micro.{Micro}
-use Rattle.table_words.specs.declared.layout.Layout.{Layout}
-use Rattle.table_words.specs.Places.{slot_count}
-use Rattle.structure_laws.specs.Meaning.{Meaning}
-use Rattle.epoch_core.specs.Moves.{is_clear}
-use Rattle.runner_parts.specs.declared.entries.Published.{Published}
-use Rattle.epoch_core.specs.declared.stage.Stage.{Stage}
-use Rattle.epoch_core.specs.declared.stage.Stage.TheVariants as stages
-use Rattle.runner_parts.specs.declared.event.EventKind.{EventKind}
-use Rattle.runner_parts.specs.declared.event.EventKind.TheVariants as kinds
-use Rattle.runner_parts.specs.State.{RunState, RecordsState, PartState}
-use Rattle.runner_parts.specs.Lists.{learned}
+use Rattle.runner_steps.specs.body_terms.specs.Line.{is_end}
+use Rattle.runner_steps.specs.body_terms.specs.declared.micro.Micro.{Micro}
+use Rattle.runner_steps.specs.table_words.specs.declared.layout.Layout.{Layout}
+use Rattle.runner_steps.specs.table_words.specs.Places.{slot_count}
+use Rattle.runner_steps.specs.runner_parts.specs.structure_laws.specs.Meaning.{Meaning}
+use Rattle.runner_steps.specs.runner_parts.specs.epoch_core.specs.Moves.{is_clear}
+use Rattle.runner_steps.specs.runner_parts.specs.declared.entries.Published.{Published}
+use Rattle.runner_steps.specs.runner_parts.specs.epoch_core.specs.declared.stage.Stage.{Stage}
+use Rattle.runner_steps.specs.runner_parts.specs.epoch_core.specs.declared.stage.Stage.TheVariants as stages
+use Rattle.runner_steps.specs.runner_parts.specs.declared.event.EventKind.{EventKind}
+use Rattle.runner_steps.specs.runner_parts.specs.declared.event.EventKind.TheVariants as kinds
+use Rattle.runner_steps.specs.runner_parts.specs.State.{RunState, RecordsState, PartState}
+use Rattle.runner_steps.specs.runner_parts.specs.Lists.{learned}
 use Rattle.runner_steps.specs.Sections.{is_open_run, next_of}
-use Rattle.epoch_core.specs.State.{last_epoch}
+use Rattle.runner_steps.specs.runner_parts.specs.epoch_core.specs.State.{last_epoch}
 use Rattle.runner_steps.specs.InRun.{last_clock}
 use Rattle.runner_steps.specs.AfterInRun as inside
 use Rattle.runner_steps.specs.AfterOutside as outside

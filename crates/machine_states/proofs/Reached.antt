@@ -1,12 +1,12 @@
 -- The states that the machine reaches.
 use Rattle.std.specs.Prelude.{slice_get}
 use Rattle.std.proofs.Common.{◌≡◌, ◌+◌, List, [], ◌∷◌, ◌++◌, length, sym, refl, ap, subst, ◌∙◌, Option, Some, None}
-use Rattle.map_history.specs.declared.op.Request.{Request}
-use Rattle.table_words.specs.declared.layout.Layout.{Layout}
-use Rattle.table_words.specs.Places.{size}
-use Rattle.structure_laws.specs.Meaning.{Meaning}
-use Rattle.runner_parts.specs.declared.event.Event.{Event}
-use Rattle.runner_parts.specs.State.{PartState}
+use Rattle.runner_steps.specs.map_history.specs.declared.op.Request.{Request}
+use Rattle.runner_steps.specs.table_words.specs.declared.layout.Layout.{Layout}
+use Rattle.runner_steps.specs.table_words.specs.Places.{size}
+use Rattle.runner_steps.specs.runner_parts.specs.structure_laws.specs.Meaning.{Meaning}
+use Rattle.runner_steps.specs.runner_parts.specs.declared.event.Event.{Event}
+use Rattle.runner_steps.specs.runner_parts.specs.State.{PartState}
 use Rattle.runner_steps.specs.Outside.{Ask}
 use Rattle.runner_steps.specs.Asks.{asks, sizes_for}
 use Rattle.machine_states.specs.World.{World, seat_of, acted, acts, happens, then_run, run}

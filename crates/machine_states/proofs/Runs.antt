@@ -1,9 +1,9 @@
 -- A run with one more event.
 use Rattle.std.proofs.Common.{◌≡◌, List, [], ◌∷◌, ◌++◌, ap, ◌∙◌, Option, Some, None}
-use Rattle.map_history.specs.declared.op.Request.{Request}
-use Rattle.table_words.specs.declared.layout.Layout.{Layout}
-use Rattle.structure_laws.specs.Meaning.{Meaning}
-use Rattle.runner_parts.specs.declared.event.Event.{Event}
+use Rattle.runner_steps.specs.map_history.specs.declared.op.Request.{Request}
+use Rattle.runner_steps.specs.table_words.specs.declared.layout.Layout.{Layout}
+use Rattle.runner_steps.specs.runner_parts.specs.structure_laws.specs.Meaning.{Meaning}
+use Rattle.runner_steps.specs.runner_parts.specs.declared.event.Event.{Event}
 use Rattle.machine_states.specs.World.{World, happens, then_run, run}
 
 some_world : (w v : World) → Some w ≡ Some v → w ≡ v

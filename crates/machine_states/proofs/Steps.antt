@@ -3,20 +3,20 @@ use Rattle.std.specs.Prelude.{Bool, true, false, slice_index, slice_set, slice_g
 use Rattle.std.proofs.Common.{◌≡◌, ℕ, suc, ◌<◌, List, length, sym, refl, ap, subst, ◌∙◌, Option, Some, None}
 use Rattle.std.proofs.Math.ListN.{length-set}
 use Rattle.std.proofs.lemmas.Option.{none-some}
-use Rattle.map_history.specs.declared.op.Request.{Request}
-use Rattle.table_words.specs.declared.layout.Layout.{Layout}
-use Rattle.table_words.specs.declared.sizes.Sizes.{Sizes}
-use Rattle.table_words.specs.declared.spot.Spot.{Spot}
-use Rattle.table_words.specs.declared.access.Access.{Access}
-use Rattle.table_words.specs.Access.{written}
-use Rattle.table_words.specs.Places.{size, address, Fits, fits}
-use Rattle.table_words.specs.Seen.{seen}
-use Rattle.table_words.proofs.Seen as words
-use Rattle.structure_laws.specs.Meaning.{Meaning}
-use Rattle.runner_parts.specs.declared.event.EventKind.{EventKind}
-use Rattle.runner_parts.specs.declared.event.EventKind.TheVariants as kinds
-use Rattle.runner_parts.specs.declared.event.Event.{Event}
-use Rattle.runner_parts.specs.State.{PartState}
+use Rattle.runner_steps.specs.map_history.specs.declared.op.Request.{Request}
+use Rattle.runner_steps.specs.table_words.specs.declared.layout.Layout.{Layout}
+use Rattle.runner_steps.specs.table_words.specs.declared.sizes.Sizes.{Sizes}
+use Rattle.runner_steps.specs.table_words.specs.declared.spot.Spot.{Spot}
+use Rattle.runner_steps.specs.table_words.specs.declared.access.Access.{Access}
+use Rattle.runner_steps.specs.table_words.specs.Access.{written}
+use Rattle.runner_steps.specs.table_words.specs.Places.{size, address, Fits, fits}
+use Rattle.runner_steps.specs.table_words.specs.Seen.{seen}
+use Rattle.runner_steps.specs.table_words.proofs.Seen as words
+use Rattle.runner_steps.specs.runner_parts.specs.structure_laws.specs.Meaning.{Meaning}
+use Rattle.runner_steps.specs.runner_parts.specs.declared.event.EventKind.{EventKind}
+use Rattle.runner_steps.specs.runner_parts.specs.declared.event.EventKind.TheVariants as kinds
+use Rattle.runner_steps.specs.runner_parts.specs.declared.event.Event.{Event}
+use Rattle.runner_steps.specs.runner_parts.specs.State.{PartState}
 use Rattle.runner_steps.specs.Outside.{Ask}
 use Rattle.runner_steps.specs.Asks.{fitting, sizes_for, asks, ask_by}
 use Rattle.runner_steps.specs.After.{after}

@@ -4,11 +4,11 @@ use Rattle.std.proofs.Common.{◌≡◌, ◌≢◌, ℕ, sym, refl, ap, ◌∙�
 use Rattle.std.proofs.lemmas.Bool.Decides.{nat_tests}
 use Rattle.std.proofs.lemmas.Bool.{cases_eq}
 use mathlib.Core.Path.{fun_ext}
-use Rattle.table_words.specs.declared.spot.Spot.{Spot}
-use Rattle.table_words.specs.declared.spot.Spot.TheVariants.{Seat, Epoch, Clock, Announcement, Stamp, Reply, Cell, ThunkWord, DoneWord, LogWord}
-use Rattle.table_words.specs.Seen.{upd, put}
-use Rattle.table_words.specs.Access.{written}
-use Rattle.table_words.specs.declared.access.Access.TheVariants.{Exchanges}
+use Rattle.runner_steps.specs.table_words.specs.declared.spot.Spot.{Spot}
+use Rattle.runner_steps.specs.table_words.specs.declared.spot.Spot.TheVariants.{Seat, Epoch, Clock, Announcement, Stamp, Reply, Cell, ThunkWord, DoneWord, LogWord}
+use Rattle.runner_steps.specs.table_words.specs.Seen.{upd, put}
+use Rattle.runner_steps.specs.table_words.specs.Access.{written}
+use Rattle.runner_steps.specs.table_words.specs.declared.access.Access.TheVariants.{Exchanges}
 
 module _ {A : Type 0} (f : ℕ → A) (k : ℕ) (v : A) where
   pub upd_here : upd f k v k ≡ v

@@ -3,3 +3,7 @@ pub mod First
 pub mod Schedules
 pub mod Sight
 pub mod Reached
+-- Passed on to the layers above, so that they needn't name these libraries themselves.
+pub use Rattle.runner_steps.specs.runner_parts.specs.epoch_core
+pub use Rattle.runner_steps
+pub use Rattle.runner_steps.specs.runner_parts.specs.structure_laws

@@ -1,16 +1,16 @@
 -- A state without its lists: the word at each spot, and each runner's part by its number.
 use Rattle.std.specs.Prelude.{◌≡◌, ℕ, ◌+◌, ◌≤◌, List, [], length, Option, Some, None, slice_get}
-use Rattle.map_history.specs.declared.op.Request.{Request}
-use Rattle.table_words.specs.declared.layout.Layout.{Layout}
-use Rattle.table_words.specs.declared.spot.Spot.{Spot}
-use Rattle.table_words.specs.declared.access.Access.{Access}
-use Rattle.table_words.specs.Access.{written}
-use Rattle.table_words.specs.Places.{size, Fits}
-use Rattle.table_words.specs.Seen.{seen, upd, put}
-use Rattle.structure_laws.specs.Meaning.{Meaning}
-use Rattle.runner_parts.specs.declared.event.EventKind.{EventKind}
-use Rattle.runner_parts.specs.declared.event.EventKind.TheVariants as kinds
-use Rattle.runner_parts.specs.State.{PartState}
+use Rattle.runner_steps.specs.map_history.specs.declared.op.Request.{Request}
+use Rattle.runner_steps.specs.table_words.specs.declared.layout.Layout.{Layout}
+use Rattle.runner_steps.specs.table_words.specs.declared.spot.Spot.{Spot}
+use Rattle.runner_steps.specs.table_words.specs.declared.access.Access.{Access}
+use Rattle.runner_steps.specs.table_words.specs.Access.{written}
+use Rattle.runner_steps.specs.table_words.specs.Places.{size, Fits}
+use Rattle.runner_steps.specs.table_words.specs.Seen.{seen, upd, put}
+use Rattle.runner_steps.specs.runner_parts.specs.structure_laws.specs.Meaning.{Meaning}
+use Rattle.runner_steps.specs.runner_parts.specs.declared.event.EventKind.{EventKind}
+use Rattle.runner_steps.specs.runner_parts.specs.declared.event.EventKind.TheVariants as kinds
+use Rattle.runner_steps.specs.runner_parts.specs.State.{PartState}
 use Rattle.runner_steps.specs.Asks.{asks, sizes_for}
 use Rattle.runner_steps.specs.After.{after, leaves, knows_also}
 use Rattle.machine_states.specs.World.{World, seat_of}

@@ -7,3 +7,7 @@
 mod words;
 
 pub use words::first_words;
+
+// Passed on to the layers above, so that they needn't name these libraries themselves.
+pub use runner_steps;
+pub use runner_steps::runner_parts::{epoch_core, structure_laws};

@@ -1,12 +1,12 @@
 //! The first words.
 ghost use Rattle.std.specs.Prelude.{◌≡◌, ◌+◌, ◌*◌, IfOk};
-ghost use Rattle.structure_laws.specs.Cells.{first_word};
+ghost use Rattle.runner_steps.specs.runner_parts.specs.structure_laws.specs.Cells.{first_word};
 ghost use Rattle.machine_states.specs.First.{IsFilled};
 
-use body_terms::{Place, Word};
+use runner_steps::body_terms::{Place, Word};
+use runner_steps::runner_parts::structure_laws::Structure;
+use runner_steps::table_words::{Sizes, Spot, set_word};
 use std::alloc::{AllocError, Global};
-use structure_laws::Structure;
-use table_words::{Sizes, Spot, set_word};
 
 /// The first word of a place.
 fn first_word<S: Structure>(structure: &S, place: Place) -> u64

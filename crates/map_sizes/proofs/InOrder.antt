@@ -5,10 +5,10 @@ use Rattle.std.specs.FinMap.{empty}
 use Rattle.std.proofs.lemmas.Bool.{cases_eq, cases_lt}
 use Rattle.std.proofs.lemmas.List.Elements.{All-contains}
 use Rattle.std.proofs.lemmas.Option.{slice_get-get_or}
-use Rattle.map_history.specs.declared.op.Op.{Op}
-use Rattle.map_history.specs.declared.op.Op.TheVariants.{Get}
-use Rattle.map_history.specs.declared.op.Request.{Request}
-use Rattle.map_history.specs.Replay.{Pairs, map_after}
+use Rattle.history_orders.specs.map_history.specs.declared.op.Op.{Op}
+use Rattle.history_orders.specs.map_history.specs.declared.op.Op.TheVariants.{Get}
+use Rattle.history_orders.specs.map_history.specs.declared.op.Request.{Request}
+use Rattle.history_orders.specs.map_history.specs.Replay.{Pairs, map_after}
 use Rattle.history_orders.specs.Turns.{Follows}
 use Rattle.history_orders.specs.Stamped.{Stamped, turn_of, is_earlier, IsInOrder, map_of, IsHistoryOf}
 use Rattle.history_orders.proofs.Entries.{contains_cases, contains_front, contains_behind, contains_none, order_head, order_tail}

@@ -2,8 +2,8 @@
 use Rattle.std.proofs.Common.{ℕ, zero, suc, ◌≤◌, List, [], ◌∷◌, arith}
 use Rattle.std.specs.FinMap.{empty, len}
 use Rattle.std.proofs.Math.Nat.{le-max_left, le-max_right}
-use Rattle.map_history.specs.declared.op.Request.{Request}
-use Rattle.map_history.specs.Replay.{Pairs, map_after}
+use Rattle.history_orders.specs.map_history.specs.declared.op.Request.{Request}
+use Rattle.history_orders.specs.map_history.specs.Replay.{Pairs, map_after}
 use Rattle.map_sizes.specs.Sizes.{map_from, peak_from, size_behind, peak}
 
 below_from : (pairs : Pairs) (requests : List Request) (count : ℕ) → len (map_from pairs requests count) ≤ peak_from pairs requests

@@ -1,9 +1,9 @@
 -- The maps that requests leave, served in their order from the empty map on.
 use Rattle.std.specs.Prelude.{◌≡◌, ◌≢◌, ℕ, zero, suc, ◌<◌, ◌≤◌, List, [], ◌∷◌, Some, length, max, slice_get}
 use Rattle.std.specs.FinMap.{empty, len}
-use Rattle.map_history.specs.declared.op.Op.{Op}
-use Rattle.map_history.specs.declared.op.Request.{Request}
-use Rattle.map_history.specs.Replay.{Pairs, map_after}
+use Rattle.history_orders.specs.map_history.specs.declared.op.Op.{Op}
+use Rattle.history_orders.specs.map_history.specs.declared.op.Request.{Request}
+use Rattle.history_orders.specs.map_history.specs.Replay.{Pairs, map_after}
 use Rattle.history_orders.specs.Turns.{Follows}
 
 -- the map that the first requests, so many, leave of this one

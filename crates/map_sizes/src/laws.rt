@@ -1,8 +1,8 @@
 //! The laws of this crate, on contracts.
 ghost use Rattle.std.specs.Prelude.{◌≡◌, ℕ, ◌≤◌, List};
 ghost use Rattle.std.specs.FinMap.{len};
-ghost use Rattle.map_history.specs.declared.op.Op.{Op};
-ghost use Rattle.map_history.specs.declared.op.Request.{Request};
+ghost use Rattle.history_orders.specs.map_history.specs.declared.op.Op.{Op};
+ghost use Rattle.history_orders.specs.map_history.specs.declared.op.Request.{Request};
 ghost use Rattle.history_orders.specs.Stamped.{Stamped, map_of, IsHistoryOf};
 ghost use Rattle.map_sizes.specs.Sizes.{HaveFirstStamps, HaveOps, map_behind, peak, size_behind};
 

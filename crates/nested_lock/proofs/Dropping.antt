@@ -2,29 +2,29 @@
 use Rattle.std.proofs.Common.{◌≡◌, ◌≢◌, ℕ, ◌+◌, ◌-◌, ◌%◌, ◌^◌, ◌<◌, ◌≤◌, Bool, true, false, refl, sym, ap, ◌∙◌, arith, eq-eqb, Option, Some}
 use Rattle.std.specs.Prelude.{◌==◌, ◌&&◌, nat_lt, if◌then◌else◌}
 use Rattle.std.proofs.lemmas.Bool.Decides.{nat_tests}
-use Rattle.body_terms.specs.declared.micro.Micro.TheVariants.{Release}
-use Rattle.body_terms.specs.Word.{version_of, pack, next_word, held_word, is_free}
-use Rattle.table_words.specs.Access.{exchanged, written}
-use Rattle.table_words.specs.Places.{descriptor_count}
-use Rattle.table_words.specs.Seen.{seen}
-use Rattle.table_words.specs.declared.spot.Spot.{Spot}
-use Rattle.table_words.specs.declared.spot.Spot.TheVariants.{Cell}
-use Rattle.table_words.specs.declared.access.Access.{Access}
-use Rattle.table_words.specs.declared.access.Access.TheVariants.{Exchanges}
-use Rattle.table_words.specs.Limits.{IsWithinLimits}
-use Rattle.structure_laws.specs.Meaning.{Meaning}
-use Rattle.structure_laws.specs.Laws.{Laws}
-use Rattle.runner_parts.specs.declared.event.EventKind.TheVariants as kinds
-use Rattle.runner_parts.specs.State.{RunState}
-use Rattle.runner_steps.specs.Asks.{sizes_for}
+use Rattle.section_lines.specs.structure_laws.specs.body_terms.specs.declared.micro.Micro.TheVariants.{Release}
+use Rattle.section_lines.specs.structure_laws.specs.body_terms.specs.Word.{version_of, pack, next_word, held_word, is_free}
+use Rattle.section_lines.specs.structure_laws.specs.table_words.specs.Access.{exchanged, written}
+use Rattle.section_lines.specs.structure_laws.specs.table_words.specs.Places.{descriptor_count}
+use Rattle.section_lines.specs.structure_laws.specs.table_words.specs.Seen.{seen}
+use Rattle.section_lines.specs.structure_laws.specs.table_words.specs.declared.spot.Spot.{Spot}
+use Rattle.section_lines.specs.structure_laws.specs.table_words.specs.declared.spot.Spot.TheVariants.{Cell}
+use Rattle.section_lines.specs.structure_laws.specs.table_words.specs.declared.access.Access.{Access}
+use Rattle.section_lines.specs.structure_laws.specs.table_words.specs.declared.access.Access.TheVariants.{Exchanges}
+use Rattle.section_lines.specs.structure_laws.specs.table_words.specs.Limits.{IsWithinLimits}
+use Rattle.section_lines.specs.structure_laws.specs.Meaning.{Meaning}
+use Rattle.section_lines.specs.structure_laws.specs.Laws.{Laws}
+use Rattle.machine_states.specs.runner_steps.specs.runner_parts.specs.declared.event.EventKind.TheVariants as kinds
+use Rattle.machine_states.specs.runner_steps.specs.runner_parts.specs.State.{RunState}
+use Rattle.machine_states.specs.runner_steps.specs.Asks.{sizes_for}
 use Rattle.machine_states.proofs.Sights.{if_some}
 use Rattle.machine_states.proofs.Steps.{some_same}
 use Rattle.machine_facts.specs.machine_invariant.specs.After.{AreAllowed}
-use Rattle.version_words.specs.RunnerState.{RunnerState}
-use Rattle.version_words.specs.TableState.{TableState, IsOf}
-use Rattle.version_words.specs.Events.{met_by, IsMade}
-use Rattle.version_words.specs.Place.{held_by_run}
-use Rattle.version_words.proofs.Inside.{few_descriptors}
+use Rattle.commit_log.specs.version_words.specs.RunnerState.{RunnerState}
+use Rattle.commit_log.specs.version_words.specs.TableState.{TableState, IsOf}
+use Rattle.commit_log.specs.version_words.specs.Events.{met_by, IsMade}
+use Rattle.commit_log.specs.version_words.specs.Place.{held_by_run}
+use Rattle.commit_log.specs.version_words.proofs.Inside.{few_descriptors}
 use Rattle.commit_log.proofs.Running.{may_make, asked_there, then_made}
 use Rattle.nested_lock.specs.Dropped.{MayDrop, HasDropped}
 

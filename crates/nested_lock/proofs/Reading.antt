@@ -1,25 +1,25 @@
 -- The first half of a Take in a run.
 use Rattle.std.proofs.Common.{◌≡◌, ℕ, suc, ◌+◌, ◌<◌, List, [], ◌∷◌, ◌++◌, length, Bool, refl, ap, subst, ◌∙◌, arith, slice_index, Some, None}
-use Rattle.body_terms.specs.declared.step.Step.TheVariants.{Take}
-use Rattle.body_terms.specs.declared.micro.Micro.TheVariants.{NestedLoad, NestedCommit, CheckFree, NestedHold}
-use Rattle.body_terms.specs.Line.{begins, micro_at, micros, is_check, registers_before}
-use Rattle.body_terms.specs.Run.{leaves, settled}
-use Rattle.body_terms.proofs.LineLemmas.{micro_within}
+use Rattle.section_lines.specs.structure_laws.specs.body_terms.specs.declared.step.Step.TheVariants.{Take}
+use Rattle.section_lines.specs.structure_laws.specs.body_terms.specs.declared.micro.Micro.TheVariants.{NestedLoad, NestedCommit, CheckFree, NestedHold}
+use Rattle.section_lines.specs.structure_laws.specs.body_terms.specs.Line.{begins, micro_at, micros, is_check, registers_before}
+use Rattle.section_lines.specs.structure_laws.specs.body_terms.specs.Run.{leaves, settled}
+use Rattle.section_lines.specs.structure_laws.specs.body_terms.proofs.LineLemmas.{micro_within}
 use Rattle.section_lines.proofs.Resting.{rests_at}
-use Rattle.table_words.specs.declared.layout.Layout.{Layout}
-use Rattle.table_words.specs.declared.spot.Spot.TheVariants.{Cell}
-use Rattle.table_words.specs.declared.access.Access.TheVariants.{Loads}
-use Rattle.table_words.specs.Limits.{IsWithinLimits}
-use Rattle.structure_laws.specs.Meaning.{Meaning}
-use Rattle.structure_laws.specs.Laws.{Laws}
-use Rattle.runner_parts.specs.declared.event.EventKind.TheVariants as kinds
-use Rattle.runner_parts.specs.State.{RunState}
-use Rattle.runner_steps.specs.Sections.{thunk_of, line_of, next_of, setting_of}
-use Rattle.runner_steps.specs.AfterInRun.{goes_on, agrees}
+use Rattle.section_lines.specs.structure_laws.specs.table_words.specs.declared.layout.Layout.{Layout}
+use Rattle.section_lines.specs.structure_laws.specs.table_words.specs.declared.spot.Spot.TheVariants.{Cell}
+use Rattle.section_lines.specs.structure_laws.specs.table_words.specs.declared.access.Access.TheVariants.{Loads}
+use Rattle.section_lines.specs.structure_laws.specs.table_words.specs.Limits.{IsWithinLimits}
+use Rattle.section_lines.specs.structure_laws.specs.Meaning.{Meaning}
+use Rattle.section_lines.specs.structure_laws.specs.Laws.{Laws}
+use Rattle.machine_states.specs.runner_steps.specs.runner_parts.specs.declared.event.EventKind.TheVariants as kinds
+use Rattle.machine_states.specs.runner_steps.specs.runner_parts.specs.State.{RunState}
+use Rattle.machine_states.specs.runner_steps.specs.Sections.{thunk_of, line_of, next_of, setting_of}
+use Rattle.machine_states.specs.runner_steps.specs.AfterInRun.{goes_on, agrees}
 use Rattle.machine_facts.specs.machine_invariant.specs.After.{AreAllowed}
-use Rattle.version_words.specs.RunnerState.{RunnerState}
-use Rattle.version_words.specs.TableState.{TableState, IsOf}
-use Rattle.version_words.specs.Events.{met_by, Makes}
+use Rattle.commit_log.specs.version_words.specs.RunnerState.{RunnerState}
+use Rattle.commit_log.specs.version_words.specs.TableState.{TableState, IsOf}
+use Rattle.commit_log.specs.version_words.specs.Events.{met_by, Makes}
 use Rattle.commit_log.specs.Runs.{IsRunning, Stepped}
 use Rattle.commit_log.specs.Committed.{MayCommit, HasCommitted}
 use Rattle.commit_log.proofs.Running.{may_make, goes_behind, then_made}

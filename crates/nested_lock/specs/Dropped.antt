@@ -1,14 +1,14 @@
 -- Releases of locks in a run.
 use Rattle.std.specs.Prelude.{◌≡◌, ◌≢◌, ℕ, true}
-use Rattle.body_terms.specs.declared.micro.Micro.TheVariants.{Release}
-use Rattle.body_terms.specs.Word.{is_free, held_word, next_word}
-use Rattle.table_words.specs.Access.{exchanged}
-use Rattle.table_words.specs.declared.spot.Spot.TheVariants.{Cell}
-use Rattle.structure_laws.specs.Meaning.{Meaning}
-use Rattle.runner_parts.specs.State.{RunState}
-use Rattle.runner_steps.specs.Sections.{next_of}
-use Rattle.version_words.specs.RunnerState.{RunnerState}
-use Rattle.version_words.specs.ReachedWith.{ReachedWith}
+use Rattle.section_lines.specs.structure_laws.specs.body_terms.specs.declared.micro.Micro.TheVariants.{Release}
+use Rattle.section_lines.specs.structure_laws.specs.body_terms.specs.Word.{is_free, held_word, next_word}
+use Rattle.section_lines.specs.structure_laws.specs.table_words.specs.Access.{exchanged}
+use Rattle.section_lines.specs.structure_laws.specs.table_words.specs.declared.spot.Spot.TheVariants.{Cell}
+use Rattle.section_lines.specs.structure_laws.specs.Meaning.{Meaning}
+use Rattle.machine_states.specs.runner_steps.specs.runner_parts.specs.State.{RunState}
+use Rattle.machine_states.specs.runner_steps.specs.Sections.{next_of}
+use Rattle.commit_log.specs.version_words.specs.RunnerState.{RunnerState}
+use Rattle.commit_log.specs.version_words.specs.ReachedWith.{ReachedWith}
 use Rattle.commit_log.specs.Runs.{IsRunning, Stepped}
 
 module _ {T : Type 0} (m : Meaning) where

@@ -1,12 +1,12 @@
 -- A lock that a section has got.
 use Rattle.std.specs.Prelude.{◌≡◌, ℕ, slice_get, Some}
-use Rattle.body_terms.specs.Word.{held_word}
-use Rattle.table_words.specs.declared.spot.Spot.TheVariants.{Cell, DoneWord}
-use Rattle.structure_laws.specs.Meaning.{Meaning}
+use Rattle.section_lines.specs.structure_laws.specs.body_terms.specs.Word.{held_word}
+use Rattle.section_lines.specs.structure_laws.specs.table_words.specs.declared.spot.Spot.TheVariants.{Cell, DoneWord}
+use Rattle.section_lines.specs.structure_laws.specs.Meaning.{Meaning}
 use Rattle.machine_states.specs.World.{World, seat_of}
 use Rattle.machine_states.specs.Reached.{Reached}
 use Rattle.machine_states.specs.Sight.{sight}
-use Rattle.version_words.specs.RunnerState.{RunnerState}
+use Rattle.commit_log.specs.version_words.specs.RunnerState.{RunnerState}
 
 -- in each state that the machine reaches, in which the runner has this part, the lock has the word by which it names
 -- the section, or the section is done

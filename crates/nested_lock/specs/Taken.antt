@@ -1,16 +1,16 @@
 -- Takes of further locks in a run.
 use Rattle.std.specs.Prelude.{◌≡◌, ℕ, ◌+◌, ◌⊎◌, Bool, true, false, Result, is_err, None, Some}
-use Rattle.body_terms.specs.declared.outcome.Refused.{Refused}
-use Rattle.body_terms.specs.declared.step.Step.TheVariants.{Take}
-use Rattle.body_terms.specs.declared.micro.Micro.TheVariants.{NestedLoad, NestedHold, OutcomeLoad, OutcomeCommit}
-use Rattle.body_terms.specs.Line.{begins}
-use Rattle.body_terms.specs.Run.{written_once}
-use Rattle.body_terms.specs.Shape.{IsStep}
-use Rattle.structure_laws.specs.Meaning.{Meaning}
-use Rattle.runner_parts.specs.State.{RunState}
-use Rattle.runner_steps.specs.Sections.{thunk_of}
-use Rattle.runner_steps.specs.AfterInRun.{goes_on, agrees}
-use Rattle.version_words.specs.RunnerState.{RunnerState}
+use Rattle.section_lines.specs.structure_laws.specs.body_terms.specs.declared.outcome.Refused.{Refused}
+use Rattle.section_lines.specs.structure_laws.specs.body_terms.specs.declared.step.Step.TheVariants.{Take}
+use Rattle.section_lines.specs.structure_laws.specs.body_terms.specs.declared.micro.Micro.TheVariants.{NestedLoad, NestedHold, OutcomeLoad, OutcomeCommit}
+use Rattle.section_lines.specs.structure_laws.specs.body_terms.specs.Line.{begins}
+use Rattle.section_lines.specs.structure_laws.specs.body_terms.specs.Run.{written_once}
+use Rattle.section_lines.specs.structure_laws.specs.body_terms.specs.Shape.{IsStep}
+use Rattle.section_lines.specs.structure_laws.specs.Meaning.{Meaning}
+use Rattle.machine_states.specs.runner_steps.specs.runner_parts.specs.State.{RunState}
+use Rattle.machine_states.specs.runner_steps.specs.Sections.{thunk_of}
+use Rattle.machine_states.specs.runner_steps.specs.AfterInRun.{goes_on, agrees}
+use Rattle.commit_log.specs.version_words.specs.RunnerState.{RunnerState}
 use Rattle.commit_log.specs.Runs.{IsRunning, Stepped}
 use Rattle.commit_log.specs.Committed.{HasCommitted}
 use Rattle.nested_lock.specs.declared.takes.TakeEnd.{TakeEnd}

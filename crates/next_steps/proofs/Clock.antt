@@ -3,33 +3,33 @@ use Rattle.std.specs.Prelude.{◌==◌, ◌/◌, cond, max, Bool, true, false}
 use Rattle.std.proofs.Common.{◌≡◌, ◌≢◌, ℕ, zero, suc, ◌+◌, ◌<◌, ◌≤◌, List, length, sym, refl, ap, ◌∙◌, subst, arith, ⊎_elim, Some}
 use Rattle.std.proofs.lemmas.Bool.Decides.{nat_tests}
 use Rattle.std.proofs.lemmas.Bool.{cases_eq}
-use Rattle.map_history.specs.declared.op.Request.{Request}
-use Rattle.body_terms.specs.declared.micro.Micro.{Micro}
-use Rattle.body_terms.specs.declared.micro.Micro.TheVariants as micros
-use Rattle.table_words.specs.declared.layout.Layout.{Layout}
-use Rattle.table_words.specs.declared.spot.Spot.{Spot}
-use Rattle.table_words.specs.declared.spot.Spot.TheVariants.{Clock, Stamp}
-use Rattle.table_words.specs.declared.access.Access.{Access}
-use Rattle.table_words.specs.Access.{written, exchanged}
-use Rattle.table_words.specs.Seen.{put}
-use Rattle.structure_laws.specs.Meaning.{Meaning}
-use Rattle.runner_parts.specs.declared.event.EventKind.{EventKind}
-use Rattle.runner_parts.specs.declared.event.EventKind.TheVariants as kinds
-use Rattle.runner_steps.specs.InRun.{stamp_after}
-use Rattle.runner_steps.specs.Reads.{read_stamp_after}
-use Rattle.structure_laws.specs.Laws.{Laws}
-use Rattle.table_words.specs.Limits.{IsWithinLimits}
-use Rattle.table_words.specs.Places.{Fits}
-use Rattle.runner_steps.specs.Asks.{sizes_for}
-use Rattle.runner_parts.specs.State.{RunState}
-use Rattle.runner_steps.specs.Sections.{thunk_of, is_open_run, next_of}
-use Rattle.section_lines.specs.Line.{is_clock_raise}
+use Rattle.agreement_core.specs.map_history.specs.declared.op.Request.{Request}
+use Rattle.agreement_core.specs.body_terms.specs.declared.micro.Micro.{Micro}
+use Rattle.agreement_core.specs.body_terms.specs.declared.micro.Micro.TheVariants as micros
+use Rattle.agreement_core.specs.table_words.specs.declared.layout.Layout.{Layout}
+use Rattle.agreement_core.specs.table_words.specs.declared.spot.Spot.{Spot}
+use Rattle.agreement_core.specs.table_words.specs.declared.spot.Spot.TheVariants.{Clock, Stamp}
+use Rattle.agreement_core.specs.table_words.specs.declared.access.Access.{Access}
+use Rattle.agreement_core.specs.table_words.specs.Access.{written, exchanged}
+use Rattle.agreement_core.specs.table_words.specs.Seen.{put}
+use Rattle.machine_states.specs.structure_laws.specs.Meaning.{Meaning}
+use Rattle.machine_states.specs.runner_steps.specs.runner_parts.specs.declared.event.EventKind.{EventKind}
+use Rattle.machine_states.specs.runner_steps.specs.runner_parts.specs.declared.event.EventKind.TheVariants as kinds
+use Rattle.machine_states.specs.runner_steps.specs.InRun.{stamp_after}
+use Rattle.machine_states.specs.runner_steps.specs.Reads.{read_stamp_after}
+use Rattle.machine_states.specs.structure_laws.specs.Laws.{Laws}
+use Rattle.agreement_core.specs.table_words.specs.Limits.{IsWithinLimits}
+use Rattle.agreement_core.specs.table_words.specs.Places.{Fits}
+use Rattle.machine_states.specs.runner_steps.specs.Asks.{sizes_for}
+use Rattle.machine_states.specs.runner_steps.specs.runner_parts.specs.State.{RunState}
+use Rattle.machine_states.specs.runner_steps.specs.Sections.{thunk_of, is_open_run, next_of}
+use Rattle.agreement_core.specs.section_lines.specs.Line.{is_clock_raise}
 use Rattle.agreement_core.specs.Checks.{is_stamp_exchange}
 use Rattle.machine_states.specs.World.{World}
 use Rattle.machine_states.specs.First.{IsFirst}
 use Rattle.machine_states.specs.Reached.{Reached}
 use Rattle.machine_states.specs.Sight.{Sight, sight, sight_after}
-use Rattle.machine_epochs.proofs.RunPlaces.{is_of_end, next_in_line, open_run}
+use Rattle.machine_invariant.specs.machine_agreement.specs.machine_epochs.proofs.RunPlaces.{is_of_end, next_in_line, open_run}
 use Rattle.machine_invariant.specs.machine_agreement.proofs.LineAsked.{stamp_asked, clock_raise_asked}
 use Rattle.machine_invariant.specs.After.{AreAllowed}
 use Rattle.machine_invariant.specs.Whole.{Beside, IsWhole}
@@ -37,7 +37,7 @@ use Rattle.machine_invariant.proofs.First.{first_whole}
 use Rattle.next_steps.specs.Rooms.{stamped, ClockIsSmall}
 use Rattle.next_steps.proofs.Touched.{raises_clock, stamps, asked_may, clock_same, stamp_same}
 use Rattle.machine_invariant.proofs.Keeping.{IsStep, reached_keeps}
-use Rattle.machine_epochs.proofs.ReadsAsked.{read_stamp_asked, stamp_some}
+use Rattle.machine_invariant.specs.machine_agreement.specs.machine_epochs.proofs.ReadsAsked.{read_stamp_asked, stamp_some}
 use Rattle.next_steps.specs.Looks.{LooksAreSmall, LooksHaveStamps}
 use Rattle.next_steps.proofs.Looks.{looks_small, first_looks}
 use Rattle.next_steps.proofs.Runs.{in_line, out_of_run, section, run, here, run_sound, code}

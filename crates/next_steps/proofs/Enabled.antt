@@ -3,38 +3,38 @@ use Rattle.std.specs.Prelude.{◌⊎◌, ◌==◌, ◌&&◌, ◌*◌, not, nat_l
 use Rattle.std.proofs.Common.{◌≡◌, ◌≢◌, ℕ, zero, suc, ◌+◌, ◌<◌, ◌≤◌, List, length, inl, inr, ⊎_elim, sym, refl, ap, ◌∙◌, subst, arith, Option, Some, None}
 use Rattle.std.proofs.lemmas.Bool.Decides.{nat_tests}
 use Rattle.std.proofs.lemmas.Option.{none-some}
-use Rattle.small_lemmas.proofs.Numbers.{less_tested as below_test, self_tested as same_test}
-use Rattle.map_history.specs.declared.op.Request.{Request}
-use Rattle.body_terms.specs.declared.micro.Micro.{Micro}
-use Rattle.body_terms.specs.declared.micro.Micro.TheVariants as micros
-use Rattle.body_terms.specs.declared.micro.Source.{Source}
-use Rattle.body_terms.specs.declared.thunk.Thunk.{Thunk}
-use Rattle.body_terms.specs.Memory.{cell_of}
-use Rattle.body_terms.specs.Run.{source_value}
-use Rattle.body_terms.specs.Word.{version_of, next_word, held_word}
-use Rattle.body_terms.specs.Line.{is_check, is_commit, is_end, micro_at}
-use Rattle.section_lines.proofs.Counted.{is_counted}
-use Rattle.section_lines.proofs.Resolved.{is_resolved}
-use Rattle.body_terms.specs.Line.{committed}
-use Rattle.table_words.specs.declared.layout.Layout.{Layout}
-use Rattle.table_words.specs.declared.sizes.Sizes.{Sizes}
-use Rattle.table_words.specs.declared.spot.Spot.{Spot}
-use Rattle.table_words.specs.declared.spot.Spot.TheVariants as spots
-use Rattle.table_words.specs.declared.access.Access.{Access}
-use Rattle.table_words.specs.declared.access.Access.TheVariants.{Loads, Exchanges}
-use Rattle.table_words.specs.Limits.{IsWithinLimits}
-use Rattle.table_words.specs.Places.{fits, slot_count, descriptor_count}
-use Rattle.structure_laws.specs.Meaning.{Meaning}
-use Rattle.structure_laws.specs.Laws.{Laws}
-use Rattle.runner_parts.specs.declared.event.EventKind.{EventKind}
-use Rattle.runner_parts.specs.declared.event.EventKind.TheVariants as kinds
-use Rattle.runner_parts.specs.State.{RunState, PartState}
-use Rattle.runner_parts.specs.Tests.{has}
-use Rattle.runner_steps.specs.Sections.{thunk_of, is_open_run, line_of, next_of}
-use Rattle.runner_steps.specs.InRun.{can_hold, make_slot, is_slot, last_clock, make_commit_to}
-use Rattle.runner_steps.specs.AfterInRun.{place_of}
-use Rattle.runner_steps.specs.Outside.{Ask, when}
-use Rattle.runner_steps.specs.Asks.{line_ask, inside_ask, opening_ask, ask_by, fitting, sizes_for}
+use Rattle.agreement_core.specs.section_lines.specs.small_lemmas.proofs.Numbers.{less_tested as below_test, self_tested as same_test}
+use Rattle.agreement_core.specs.map_history.specs.declared.op.Request.{Request}
+use Rattle.agreement_core.specs.body_terms.specs.declared.micro.Micro.{Micro}
+use Rattle.agreement_core.specs.body_terms.specs.declared.micro.Micro.TheVariants as micros
+use Rattle.agreement_core.specs.body_terms.specs.declared.micro.Source.{Source}
+use Rattle.agreement_core.specs.body_terms.specs.declared.thunk.Thunk.{Thunk}
+use Rattle.agreement_core.specs.body_terms.specs.Memory.{cell_of}
+use Rattle.agreement_core.specs.body_terms.specs.Run.{source_value}
+use Rattle.agreement_core.specs.body_terms.specs.Word.{version_of, next_word, held_word}
+use Rattle.agreement_core.specs.body_terms.specs.Line.{is_check, is_commit, is_end, micro_at}
+use Rattle.agreement_core.specs.section_lines.proofs.Counted.{is_counted}
+use Rattle.agreement_core.specs.section_lines.proofs.Resolved.{is_resolved}
+use Rattle.agreement_core.specs.body_terms.specs.Line.{committed}
+use Rattle.agreement_core.specs.table_words.specs.declared.layout.Layout.{Layout}
+use Rattle.agreement_core.specs.table_words.specs.declared.sizes.Sizes.{Sizes}
+use Rattle.agreement_core.specs.table_words.specs.declared.spot.Spot.{Spot}
+use Rattle.agreement_core.specs.table_words.specs.declared.spot.Spot.TheVariants as spots
+use Rattle.agreement_core.specs.table_words.specs.declared.access.Access.{Access}
+use Rattle.agreement_core.specs.table_words.specs.declared.access.Access.TheVariants.{Loads, Exchanges}
+use Rattle.agreement_core.specs.table_words.specs.Limits.{IsWithinLimits}
+use Rattle.agreement_core.specs.table_words.specs.Places.{fits, slot_count, descriptor_count}
+use Rattle.machine_states.specs.structure_laws.specs.Meaning.{Meaning}
+use Rattle.machine_states.specs.structure_laws.specs.Laws.{Laws}
+use Rattle.machine_states.specs.runner_steps.specs.runner_parts.specs.declared.event.EventKind.{EventKind}
+use Rattle.machine_states.specs.runner_steps.specs.runner_parts.specs.declared.event.EventKind.TheVariants as kinds
+use Rattle.machine_states.specs.runner_steps.specs.runner_parts.specs.State.{RunState, PartState}
+use Rattle.machine_states.specs.runner_steps.specs.runner_parts.specs.Tests.{has}
+use Rattle.machine_states.specs.runner_steps.specs.Sections.{thunk_of, is_open_run, line_of, next_of}
+use Rattle.machine_states.specs.runner_steps.specs.InRun.{can_hold, make_slot, is_slot, last_clock, make_commit_to}
+use Rattle.machine_states.specs.runner_steps.specs.AfterInRun.{place_of}
+use Rattle.machine_states.specs.runner_steps.specs.Outside.{Ask, when}
+use Rattle.machine_states.specs.runner_steps.specs.Asks.{line_ask, inside_ask, opening_ask, ask_by, fitting, sizes_for}
 use Rattle.agreement_core.specs.State.{section_of}
 use Rattle.agreement_core.specs.Checks.{passes}
 use Rattle.agreement_core.proofs.Words.{unspent_room, version_held}
@@ -42,8 +42,8 @@ use Rattle.machine_states.specs.World.{World}
 use Rattle.machine_states.specs.Sight.{Sight, sight}
 use Rattle.machine_states.specs.Reached.{Reached}
 use Rattle.machine_states.proofs.Steps.{some_same}
-use Rattle.machine_scenes.specs.Shown.{rules_of}
-use Rattle.machine_epochs.proofs.RunPlaces.{is_of_end, next_in_line}
+use Rattle.machine_invariant.specs.machine_agreement.specs.machine_scenes.specs.Shown.{rules_of}
+use Rattle.machine_invariant.specs.machine_agreement.specs.machine_epochs.proofs.RunPlaces.{is_of_end, next_in_line}
 use Rattle.machine_invariant.specs.machine_agreement.proofs.RunPlaces.{opened_thunk, of_thunk, before}
 use Rattle.machine_invariant.specs.After.{AreAllowed}
 use Rattle.machine_invariant.specs.Whole.{Beside, made_in, IsWhole}

@@ -1,42 +1,42 @@
 -- What a runner has loaded of the clock for a read without a lock is no more than the clock.
 use Rattle.std.specs.Prelude.{◌==◌, ◌&&◌, not, max, nat_lt, nat_le, Bool, true, false, if◌then◌else◌}
 use Rattle.std.proofs.Common.{◌≡◌, ℕ, ◌≤◌, List, refl, sym, ap, ◌∙◌, subst, arith, Option, Some, None}
-use Rattle.map_history.specs.declared.op.Request.{Request}
-use Rattle.body_terms.specs.Line.{is_end}
-use Rattle.body_terms.specs.declared.micro.Micro.{Micro}
-use Rattle.table_words.specs.declared.layout.Layout.{Layout}
-use Rattle.table_words.specs.declared.spot.Spot.{Spot}
-use Rattle.table_words.specs.declared.spot.Spot.TheVariants.{Clock}
-use Rattle.table_words.specs.declared.access.Access.{Access}
-use Rattle.table_words.specs.Places.{slot_count}
-use Rattle.structure_laws.specs.Meaning.{Meaning}
-use Rattle.epoch_core.specs.Moves.{is_clear}
-use Rattle.epoch_core.specs.State.{last_epoch}
-use Rattle.epoch_core.specs.declared.stage.Stage.{Stage}
-use Rattle.epoch_core.specs.declared.stage.Stage.TheVariants as stages
-use Rattle.runner_parts.specs.declared.entries.Look.{Look}
-use Rattle.runner_parts.specs.declared.entries.LookStage.{LookStage}
-use Rattle.runner_parts.specs.declared.entries.LookStage.TheVariants.{Replied, Stamped}
-use Rattle.runner_parts.specs.declared.entries.Published.{Published}
-use Rattle.runner_parts.specs.declared.event.EventKind.{EventKind}
-use Rattle.runner_parts.specs.declared.event.EventKind.TheVariants as kinds
-use Rattle.runner_parts.specs.State.{RunState, PartState}
-use Rattle.runner_parts.specs.Lists.{holds_named, lock_agreed}
-use Rattle.runner_parts.specs.Tests.{has}
-use Rattle.runner_steps.specs.Sections.{is_open_run, next_of}
-use Rattle.runner_steps.specs.InRun.{last_clock}
-use Rattle.runner_steps.specs.Reads.{plan_by, come_to, look_by, looked_by}
-use Rattle.runner_steps.specs.AfterInRun as inside
-use Rattle.runner_steps.specs.AfterOutside as outside
-use Rattle.runner_steps.specs.After.{line_after, inside_after, outside_after, after_by}
+use Rattle.agreement_core.specs.map_history.specs.declared.op.Request.{Request}
+use Rattle.agreement_core.specs.body_terms.specs.Line.{is_end}
+use Rattle.agreement_core.specs.body_terms.specs.declared.micro.Micro.{Micro}
+use Rattle.agreement_core.specs.table_words.specs.declared.layout.Layout.{Layout}
+use Rattle.agreement_core.specs.table_words.specs.declared.spot.Spot.{Spot}
+use Rattle.agreement_core.specs.table_words.specs.declared.spot.Spot.TheVariants.{Clock}
+use Rattle.agreement_core.specs.table_words.specs.declared.access.Access.{Access}
+use Rattle.agreement_core.specs.table_words.specs.Places.{slot_count}
+use Rattle.machine_states.specs.structure_laws.specs.Meaning.{Meaning}
+use Rattle.machine_states.specs.epoch_core.specs.Moves.{is_clear}
+use Rattle.machine_states.specs.epoch_core.specs.State.{last_epoch}
+use Rattle.machine_states.specs.epoch_core.specs.declared.stage.Stage.{Stage}
+use Rattle.machine_states.specs.epoch_core.specs.declared.stage.Stage.TheVariants as stages
+use Rattle.machine_states.specs.runner_steps.specs.runner_parts.specs.declared.entries.Look.{Look}
+use Rattle.machine_states.specs.runner_steps.specs.runner_parts.specs.declared.entries.LookStage.{LookStage}
+use Rattle.machine_states.specs.runner_steps.specs.runner_parts.specs.declared.entries.LookStage.TheVariants.{Replied, Stamped}
+use Rattle.machine_states.specs.runner_steps.specs.runner_parts.specs.declared.entries.Published.{Published}
+use Rattle.machine_states.specs.runner_steps.specs.runner_parts.specs.declared.event.EventKind.{EventKind}
+use Rattle.machine_states.specs.runner_steps.specs.runner_parts.specs.declared.event.EventKind.TheVariants as kinds
+use Rattle.machine_states.specs.runner_steps.specs.runner_parts.specs.State.{RunState, PartState}
+use Rattle.machine_states.specs.runner_steps.specs.runner_parts.specs.Lists.{holds_named, lock_agreed}
+use Rattle.machine_states.specs.runner_steps.specs.runner_parts.specs.Tests.{has}
+use Rattle.machine_states.specs.runner_steps.specs.Sections.{is_open_run, next_of}
+use Rattle.machine_states.specs.runner_steps.specs.InRun.{last_clock}
+use Rattle.machine_states.specs.runner_steps.specs.Reads.{plan_by, come_to, look_by, looked_by}
+use Rattle.machine_states.specs.runner_steps.specs.AfterInRun as inside
+use Rattle.machine_states.specs.runner_steps.specs.AfterOutside as outside
+use Rattle.machine_states.specs.runner_steps.specs.After.{line_after, inside_after, outside_after, after_by}
 use Rattle.machine_states.specs.First.{IsFirst}
 use Rattle.machine_states.specs.Sight.{Sight, sight, sight_after}
 use Rattle.machine_states.specs.World.{World}
 use Rattle.machine_states.proofs.FirstSights.{first_parts}
 use Rattle.machine_states.proofs.Sights.{some_none, joins}
 use Rattle.machine_states.proofs.Steps.{some_same}
-use Rattle.machine_epochs.proofs.FirstJoin as FirstJoin
-use Rattle.machine_epochs.proofs.ReadsAsked.{read_clock_asked}
+use Rattle.machine_invariant.specs.machine_agreement.specs.machine_epochs.proofs.FirstJoin as FirstJoin
+use Rattle.machine_invariant.specs.machine_agreement.specs.machine_epochs.proofs.ReadsAsked.{read_clock_asked}
 use Rattle.machine_invariant.specs.machine_agreement.proofs.LineAsked.{clock_raise_asked}
 use Rattle.machine_invariant.proofs.Keeping.{IsStep}
 use Rattle.next_steps.specs.Looks.{LooksAreSmall}

@@ -3,44 +3,44 @@ use Rattle.std.specs.Prelude.{◌==◌, ◌⊎◌, nat_lt, cond, slice_index, Bo
 use Rattle.std.proofs.Common.{◌≡◌, ◌≢◌, ℕ, ◌<◌, List, ⊎_elim, sym, refl, ap, ◌∙◌, subst, arith, Some, None}
 use Rattle.std.proofs.lemmas.Bool.Decides.{nat_tests}
 use Rattle.std.proofs.lemmas.Bool.{cases_eq, cases_lt}
-use Rattle.map_history.specs.declared.op.Request.{Request}
-use Rattle.body_terms.specs.declared.micro.Micro.TheVariants as micros
-use Rattle.body_terms.specs.declared.thunk.Thunk.{Thunk}
-use Rattle.body_terms.specs.Memory.{cell_of}
-use Rattle.body_terms.specs.Run.{source_value}
-use Rattle.body_terms.specs.Word.{value_of, next_word, held_word}
-use Rattle.table_words.specs.declared.layout.Layout.{Layout}
-use Rattle.table_words.specs.declared.spot.Spot.{Spot}
-use Rattle.table_words.specs.declared.spot.Spot.TheVariants as spots
-use Rattle.table_words.specs.declared.access.Access.{Access}
-use Rattle.table_words.specs.declared.access.Access.TheVariants.{Exchanges}
-use Rattle.table_words.specs.Access.{written, exchanged}
-use Rattle.table_words.specs.Limits.{IsWithinLimits}
-use Rattle.table_words.specs.Seen.{put}
-use Rattle.structure_laws.specs.Scene.{Free, Status}
-use Rattle.structure_laws.specs.Meaning.{Meaning}
-use Rattle.structure_laws.specs.Laws.{Laws}
-use Rattle.structure_laws.specs.Cells.{IsKnown}
-use Rattle.structure_laws.proofs.Changes.{upd_same}
+use Rattle.agreement_core.specs.map_history.specs.declared.op.Request.{Request}
+use Rattle.agreement_core.specs.body_terms.specs.declared.micro.Micro.TheVariants as micros
+use Rattle.agreement_core.specs.body_terms.specs.declared.thunk.Thunk.{Thunk}
+use Rattle.agreement_core.specs.body_terms.specs.Memory.{cell_of}
+use Rattle.agreement_core.specs.body_terms.specs.Run.{source_value}
+use Rattle.agreement_core.specs.body_terms.specs.Word.{value_of, next_word, held_word}
+use Rattle.agreement_core.specs.table_words.specs.declared.layout.Layout.{Layout}
+use Rattle.agreement_core.specs.table_words.specs.declared.spot.Spot.{Spot}
+use Rattle.agreement_core.specs.table_words.specs.declared.spot.Spot.TheVariants as spots
+use Rattle.agreement_core.specs.table_words.specs.declared.access.Access.{Access}
+use Rattle.agreement_core.specs.table_words.specs.declared.access.Access.TheVariants.{Exchanges}
+use Rattle.agreement_core.specs.table_words.specs.Access.{written, exchanged}
+use Rattle.agreement_core.specs.table_words.specs.Limits.{IsWithinLimits}
+use Rattle.agreement_core.specs.table_words.specs.Seen.{put}
+use Rattle.machine_states.specs.structure_laws.specs.Scene.{Free, Status}
+use Rattle.machine_states.specs.structure_laws.specs.Meaning.{Meaning}
+use Rattle.machine_states.specs.structure_laws.specs.Laws.{Laws}
+use Rattle.machine_states.specs.structure_laws.specs.Cells.{IsKnown}
+use Rattle.machine_states.specs.structure_laws.proofs.Changes.{upd_same}
 use Rattle.machine_invariant.specs.After.{AreAllowed}
 use Rattle.machine_invariant.proofs.Keeping.{IsStep}
-use Rattle.runner_parts.specs.declared.event.EventKind.{EventKind}
-use Rattle.runner_parts.specs.declared.event.EventKind.TheVariants as kinds
-use Rattle.runner_parts.specs.State.{PartState}
-use Rattle.runner_parts.specs.Tests.{has}
-use Rattle.runner_steps.specs.Sections.{next_of}
+use Rattle.machine_states.specs.runner_steps.specs.runner_parts.specs.declared.event.EventKind.{EventKind}
+use Rattle.machine_states.specs.runner_steps.specs.runner_parts.specs.declared.event.EventKind.TheVariants as kinds
+use Rattle.machine_states.specs.runner_steps.specs.runner_parts.specs.State.{PartState}
+use Rattle.machine_states.specs.runner_steps.specs.runner_parts.specs.Tests.{has}
+use Rattle.machine_states.specs.runner_steps.specs.Sections.{next_of}
 use Rattle.agreement_core.specs.Checks as checks
 use Rattle.agreement_core.specs.Events as agreement
 use Rattle.agreement_core.proofs.Words.{value_held}
-use Rattle.epoch_core.specs.State.{Counts}
+use Rattle.machine_states.specs.epoch_core.specs.State.{Counts}
 use Rattle.machine_states.specs.Sight.{Sight}
-use Rattle.machine_epochs.specs.Entries.{counts_of}
-use Rattle.machine_epochs.proofs.OutsideAsked.{hold_asked}
-use Rattle.machine_epochs.proofs.Places.{has_times, free_node, hand_node}
-use Rattle.machine_epochs.proofs.RunPlaces.{open_run}
-use Rattle.machine_scenes.specs.Shown.{rules_of, status_at, status_of, scene_of}
-use Rattle.machine_scenes.specs.Kinds.{is_plain}
-use Rattle.machine_scenes.specs.Steps.{Agreement}
+use Rattle.machine_invariant.specs.machine_agreement.specs.machine_epochs.specs.Entries.{counts_of}
+use Rattle.machine_invariant.specs.machine_agreement.specs.machine_epochs.proofs.OutsideAsked.{hold_asked}
+use Rattle.machine_invariant.specs.machine_agreement.specs.machine_epochs.proofs.Places.{has_times, free_node, hand_node}
+use Rattle.machine_invariant.specs.machine_agreement.specs.machine_epochs.proofs.RunPlaces.{open_run}
+use Rattle.machine_invariant.specs.machine_agreement.specs.machine_scenes.specs.Shown.{rules_of, status_at, status_of, scene_of}
+use Rattle.machine_invariant.specs.machine_agreement.specs.machine_scenes.specs.Kinds.{is_plain}
+use Rattle.machine_invariant.specs.machine_agreement.specs.machine_scenes.specs.Steps.{Agreement}
 use Rattle.machine_invariant.specs.machine_agreement.proofs.LineAsked.{exchange_asked, nested_hold_asked, release_asked}
 use Rattle.machine_invariant.specs.machine_agreement.proofs.RunPlaces.{before}
 use Rattle.machine_invariant.specs.machine_slots.proofs.Cells.{hands_stand}

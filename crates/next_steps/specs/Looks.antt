@@ -1,8 +1,8 @@
 -- The clocks that were loaded for reads without a lock.
 use Rattle.std.specs.Prelude.{ℕ, ◌<◌, ◌≤◌, ◌≡◌, Some}
-use Rattle.table_words.specs.declared.spot.Spot.TheVariants.{Clock}
-use Rattle.runner_parts.specs.declared.entries.Look.{Look}
-use Rattle.runner_steps.specs.InRun.{last_clock}
+use Rattle.agreement_core.specs.table_words.specs.declared.spot.Spot.TheVariants.{Clock}
+use Rattle.machine_states.specs.runner_steps.specs.runner_parts.specs.declared.entries.Look.{Look}
+use Rattle.machine_states.specs.runner_steps.specs.InRun.{last_clock}
 use Rattle.machine_states.specs.Sight.{Sight}
 
 -- none is more than the clock

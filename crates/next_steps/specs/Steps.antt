@@ -1,20 +1,20 @@
 -- Which event a run makes next.
 use Rattle.std.specs.Prelude.{ℕ, zero, ◌+◌, ◌/◌, slice_index, Bool, true, is_some, nat_lt, length, Option, Some, None, if◌then◌else◌}
-use Rattle.body_terms.specs.declared.micro.Micro.{Micro}
-use Rattle.body_terms.specs.declared.micro.Micro.TheVariants as micros
-use Rattle.body_terms.specs.Memory.{cell_of}
-use Rattle.body_terms.specs.Word.{next_word, held_word}
-use Rattle.body_terms.specs.Run.{source_value}
-use Rattle.table_words.specs.declared.spot.Spot.{Spot}
-use Rattle.table_words.specs.declared.spot.Spot.TheVariants.{Epoch, Clock, Stamp, Reply, Cell, ThunkWord, DoneWord, LogWord}
-use Rattle.table_words.specs.declared.access.Access.{Access}
-use Rattle.table_words.specs.declared.access.Access.TheVariants.{Loads, Stores, Exchanges, Raises}
-use Rattle.structure_laws.specs.Meaning.{Meaning}
-use Rattle.runner_parts.specs.declared.event.EventKind.{EventKind}
-use Rattle.runner_parts.specs.declared.event.EventKind.TheVariants as kinds
-use Rattle.runner_parts.specs.State.{RunState, PartState}
-use Rattle.runner_steps.specs.Sections.{thunk_of, is_open_run, next_of}
-use Rattle.runner_steps.specs.InRun.{make_slot, stamp_after}
+use Rattle.agreement_core.specs.body_terms.specs.declared.micro.Micro.{Micro}
+use Rattle.agreement_core.specs.body_terms.specs.declared.micro.Micro.TheVariants as micros
+use Rattle.agreement_core.specs.body_terms.specs.Memory.{cell_of}
+use Rattle.agreement_core.specs.body_terms.specs.Word.{next_word, held_word}
+use Rattle.agreement_core.specs.body_terms.specs.Run.{source_value}
+use Rattle.agreement_core.specs.table_words.specs.declared.spot.Spot.{Spot}
+use Rattle.agreement_core.specs.table_words.specs.declared.spot.Spot.TheVariants.{Epoch, Clock, Stamp, Reply, Cell, ThunkWord, DoneWord, LogWord}
+use Rattle.agreement_core.specs.table_words.specs.declared.access.Access.{Access}
+use Rattle.agreement_core.specs.table_words.specs.declared.access.Access.TheVariants.{Loads, Stores, Exchanges, Raises}
+use Rattle.machine_states.specs.structure_laws.specs.Meaning.{Meaning}
+use Rattle.machine_states.specs.runner_steps.specs.runner_parts.specs.declared.event.EventKind.{EventKind}
+use Rattle.machine_states.specs.runner_steps.specs.runner_parts.specs.declared.event.EventKind.TheVariants as kinds
+use Rattle.machine_states.specs.runner_steps.specs.runner_parts.specs.State.{RunState, PartState}
+use Rattle.machine_states.specs.runner_steps.specs.Sections.{thunk_of, is_open_run, next_of}
+use Rattle.machine_states.specs.runner_steps.specs.InRun.{make_slot, stamp_after}
 
 -- a slot's number, and 0 where there is none
 abbrev pub slot_in : Option ℕ → ℕ

@@ -1,8 +1,8 @@
 //! What is known of the next steps in the machine's reached states, each on a contract.
 ghost use Rattle.std.specs.Prelude.{List};
-ghost use Rattle.map_history.specs.declared.op.Request.{Request};
-ghost use Rattle.table_words.specs.Limits.{IsWithinLimits};
-ghost use Rattle.table_words.specs.declared.layout.Layout.{Layout};
+ghost use Rattle.agreement_core.specs.map_history.specs.declared.op.Request.{Request};
+ghost use Rattle.agreement_core.specs.table_words.specs.Limits.{IsWithinLimits};
+ghost use Rattle.agreement_core.specs.table_words.specs.declared.layout.Layout.{Layout};
 ghost use Rattle.machine_states.specs.World.{World};
 ghost use Rattle.machine_states.specs.Reached.{Reached};
 ghost use Rattle.machine_states.specs.Sight.{sight};
@@ -13,7 +13,7 @@ ghost use Rattle.next_steps.specs.Looks.{LooksAreSmall, LooksHaveStamps};
 ghost use Rattle.next_steps.specs.Enabled.{NextIsEnabled, RunsGoOn};
 ghost use Rattle.next_steps.specs.Stages.{RunsAreInTable, MayOpen, ThenOpened, MayStep, CommitsBehind, ThenStepped};
 
-use structure_laws::Structure;
+use machine_states::structure_laws::Structure;
 
 /// Over every structure, in every state that the machine reaches: a runner that is in a run and wasn't
 /// joined has an enabled event. Until the run has loaded the thunk and the done word it is the next of

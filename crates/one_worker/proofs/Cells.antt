@@ -3,45 +3,45 @@ use Rattle.std.specs.Prelude.{◌^◌, ◌⊎◌, nat_le, Bool, true, false, sli
 use Rattle.std.proofs.Common.{◌≡◌, ◌≢◌, ℕ, zero, suc, ◌<◌, ◌≤◌, List, length, refl, sym, ap, ◌∙◌, subst, ⊎_elim, inl, inr, arith, Option, Some, None}
 use Rattle.std.proofs.lemmas.Bool.{cases_eq}
 use Rattle.std.proofs.lemmas.Bool.Decides.{nat_tests}
-use Rattle.map_history.specs.declared.op.Request.{Request}
-use Rattle.body_terms.specs.Line.{micro_at, is_event, ending}
-use Rattle.body_terms.specs.Memory.{cell_of}
-use Rattle.body_terms.specs.Word.{value_of, version_of, held_word}
-use Rattle.body_terms.specs.declared.micro.Source.{Source}
-use Rattle.body_terms.specs.declared.micro.Micro.{Micro}
-use Rattle.body_terms.specs.declared.micro.Micro.TheVariants as micros
-use Rattle.body_terms.specs.declared.thunk.Thunk.{Thunk}
-use Rattle.section_lines.specs.Line.{IsLine}
-use Rattle.table_words.specs.declared.layout.Layout.{Layout}
-use Rattle.table_words.specs.declared.spot.Spot.{Spot}
-use Rattle.table_words.specs.declared.spot.Spot.TheVariants as spots
-use Rattle.table_words.specs.declared.access.Access.{Access}
-use Rattle.table_words.specs.Access.{written, exchanged}
-use Rattle.table_words.specs.Seen.{put}
-use Rattle.structure_laws.specs.Meaning.{Meaning}
-use Rattle.runner_parts.specs.declared.event.EventKind.{EventKind}
-use Rattle.runner_parts.specs.declared.event.EventKind.TheVariants as kinds
-use Rattle.runner_parts.specs.State.{RunState, PartState}
-use Rattle.runner_steps.specs.Asks.{ask_by, line_ask, opening_ask, outside_ask}
-use Rattle.runner_steps.specs.InRun.{is_slot}
-use Rattle.runner_steps.specs.Sections.{thunk_of, is_open_run, line_of, next_of}
+use Rattle.agreement_core.specs.map_history.specs.declared.op.Request.{Request}
+use Rattle.agreement_core.specs.body_terms.specs.Line.{micro_at, is_event, ending}
+use Rattle.agreement_core.specs.body_terms.specs.Memory.{cell_of}
+use Rattle.agreement_core.specs.body_terms.specs.Word.{value_of, version_of, held_word}
+use Rattle.agreement_core.specs.body_terms.specs.declared.micro.Source.{Source}
+use Rattle.agreement_core.specs.body_terms.specs.declared.micro.Micro.{Micro}
+use Rattle.agreement_core.specs.body_terms.specs.declared.micro.Micro.TheVariants as micros
+use Rattle.agreement_core.specs.body_terms.specs.declared.thunk.Thunk.{Thunk}
+use Rattle.agreement_core.specs.section_lines.specs.Line.{IsLine}
+use Rattle.agreement_core.specs.table_words.specs.declared.layout.Layout.{Layout}
+use Rattle.agreement_core.specs.table_words.specs.declared.spot.Spot.{Spot}
+use Rattle.agreement_core.specs.table_words.specs.declared.spot.Spot.TheVariants as spots
+use Rattle.agreement_core.specs.table_words.specs.declared.access.Access.{Access}
+use Rattle.agreement_core.specs.table_words.specs.Access.{written, exchanged}
+use Rattle.agreement_core.specs.table_words.specs.Seen.{put}
+use Rattle.machine_states.specs.structure_laws.specs.Meaning.{Meaning}
+use Rattle.machine_states.specs.runner_steps.specs.runner_parts.specs.declared.event.EventKind.{EventKind}
+use Rattle.machine_states.specs.runner_steps.specs.runner_parts.specs.declared.event.EventKind.TheVariants as kinds
+use Rattle.machine_states.specs.runner_steps.specs.runner_parts.specs.State.{RunState, PartState}
+use Rattle.machine_states.specs.runner_steps.specs.Asks.{ask_by, line_ask, opening_ask, outside_ask}
+use Rattle.machine_states.specs.runner_steps.specs.InRun.{is_slot}
+use Rattle.machine_states.specs.runner_steps.specs.Sections.{thunk_of, is_open_run, line_of, next_of}
 use Rattle.agreement_core.specs.State.{AgreementState, Section, Run}
 use Rattle.agreement_core.specs.Checks.{is_stop}
 use Rattle.agreement_core.specs.Runs.{RunIsSound}
 use Rattle.agreement_core.specs.Sound.{UsedIsSound}
 use Rattle.agreement_core.proofs.Lines.{event_goes, store_logged}
-use Rattle.epoch_core.specs.declared.location.Location.TheVariants.{Hand}
+use Rattle.machine_states.specs.epoch_core.specs.declared.location.Location.TheVariants.{Hand}
 use Rattle.machine_states.specs.Sight.{Sight}
-use Rattle.machine_epochs.specs.Entries.{counts_of}
-use Rattle.machine_epochs.proofs.OutsideAsked.{HoldAsked, hold_asked}
-use Rattle.machine_epochs.proofs.RunPlaces.{next_in_line, open_run}
-use Rattle.machine_scenes.specs.Shown.{rules_of}
-use Rattle.runner_facts.specs.machine_slots.proofs.Runs.{fill_low}
-use Rattle.runner_facts.specs.machine_agreement.specs.Joined.{IsRunOf}
-use Rattle.runner_facts.specs.machine_agreement.proofs.Ends.{at_end}
-use Rattle.runner_facts.specs.machine_agreement.proofs.RunPlaces.{run_here, used_here, code_here}
-use Rattle.runner_facts.specs.machine_agreement.proofs.LineAsked as asked_line
-use Rattle.runner_facts.specs.machine_invariant.specs.Whole.{Beside, states_of, IsWhole}
+use Rattle.resource_bounds.specs.machine_epochs.specs.Entries.{counts_of}
+use Rattle.resource_bounds.specs.machine_epochs.proofs.OutsideAsked.{HoldAsked, hold_asked}
+use Rattle.resource_bounds.specs.machine_epochs.proofs.RunPlaces.{next_in_line, open_run}
+use Rattle.resource_bounds.specs.machine_scenes.specs.Shown.{rules_of}
+use Rattle.runner_facts.specs.machine_facts.specs.machine_slots.proofs.Runs.{fill_low}
+use Rattle.runner_facts.specs.machine_facts.specs.machine_agreement.specs.Joined.{IsRunOf}
+use Rattle.runner_facts.specs.machine_facts.specs.machine_agreement.proofs.Ends.{at_end}
+use Rattle.runner_facts.specs.machine_facts.specs.machine_agreement.proofs.RunPlaces.{run_here, used_here, code_here}
+use Rattle.runner_facts.specs.machine_facts.specs.machine_agreement.proofs.LineAsked as asked_line
+use Rattle.runner_facts.specs.machine_facts.specs.machine_invariant.specs.Whole.{Beside, states_of, IsWhole}
 use Rattle.resource_bounds.proofs.Releases.{released_lock}
 use Rattle.resource_bounds.proofs.Words.{Stays, line_stays, opening_stays, outside_stays}
 use Rattle.one_worker.proofs.OneCell.{test_same, other, it, misses}

@@ -1,29 +1,29 @@
 -- How a run of the section that is under way ends.
 use Rattle.std.specs.Prelude.{◌==◌, ◌&&◌, not, cond, Bool, true, false, slice_index}
 use Rattle.std.proofs.Common.{◌≡◌, ◌≢◌, ℕ, ◌<◌, ◌≤◌, List, length, refl, sym, ap, ◌∙◌, subst, arith, Option, Some, None}
-use Rattle.small_lemmas.proofs.Numbers.{equal_tested as same_test}
-use Rattle.map_history.specs.declared.op.Request.{Request}
-use Rattle.body_terms.specs.Line.{line, micro_at}
-use Rattle.body_terms.specs.Run.{leaves, is_takable, refusal}
-use Rattle.body_terms.specs.Word.{version_of, held_word, is_free, is_spent}
-use Rattle.body_terms.specs.declared.outcome.Outcome.{Outcome}
-use Rattle.body_terms.specs.declared.outcome.Outcome.TheVariants.{Spent, Stale}
-use Rattle.body_terms.specs.declared.micro.Micro.{Micro}
-use Rattle.body_terms.specs.declared.micro.Micro.TheVariants as micros
-use Rattle.body_terms.specs.declared.thunk.Thunk.{Thunk}
-use Rattle.section_lines.specs.Line.{IsLine}
-use Rattle.table_words.specs.declared.layout.Layout.{Layout}
-use Rattle.table_words.specs.declared.spot.Spot.TheVariants as spots
-use Rattle.structure_laws.specs.Meaning.{Meaning}
-use Rattle.runner_parts.specs.State.{RunState}
-use Rattle.runner_steps.specs.Sections.{thunk_of, line_of, setting_of, outcome_or, outcome_of, reply_in}
+use Rattle.agreement_core.specs.section_lines.specs.small_lemmas.proofs.Numbers.{equal_tested as same_test}
+use Rattle.agreement_core.specs.map_history.specs.declared.op.Request.{Request}
+use Rattle.agreement_core.specs.body_terms.specs.Line.{line, micro_at}
+use Rattle.agreement_core.specs.body_terms.specs.Run.{leaves, is_takable, refusal}
+use Rattle.agreement_core.specs.body_terms.specs.Word.{version_of, held_word, is_free, is_spent}
+use Rattle.agreement_core.specs.body_terms.specs.declared.outcome.Outcome.{Outcome}
+use Rattle.agreement_core.specs.body_terms.specs.declared.outcome.Outcome.TheVariants.{Spent, Stale}
+use Rattle.agreement_core.specs.body_terms.specs.declared.micro.Micro.{Micro}
+use Rattle.agreement_core.specs.body_terms.specs.declared.micro.Micro.TheVariants as micros
+use Rattle.agreement_core.specs.body_terms.specs.declared.thunk.Thunk.{Thunk}
+use Rattle.agreement_core.specs.section_lines.specs.Line.{IsLine}
+use Rattle.agreement_core.specs.table_words.specs.declared.layout.Layout.{Layout}
+use Rattle.agreement_core.specs.table_words.specs.declared.spot.Spot.TheVariants as spots
+use Rattle.machine_states.specs.structure_laws.specs.Meaning.{Meaning}
+use Rattle.machine_states.specs.runner_steps.specs.runner_parts.specs.State.{RunState}
+use Rattle.machine_states.specs.runner_steps.specs.Sections.{thunk_of, line_of, setting_of, outcome_or, outcome_of, reply_in}
 use Rattle.agreement_core.specs.State.{Section}
 use Rattle.agreement_core.proofs.Lines.{word_logged, free_logged, held_logged}
 use Rattle.machine_states.specs.Sight.{Sight}
-use Rattle.machine_epochs.specs.Slots.{thunk_in}
-use Rattle.machine_scenes.specs.Shown.{rules_of}
-use Rattle.runner_facts.specs.machine_agreement.proofs.RunPlaces.{opened_thunk}
-use Rattle.runner_facts.specs.machine_invariant.specs.Whole.{IsWhole}
+use Rattle.resource_bounds.specs.machine_epochs.specs.Slots.{thunk_in}
+use Rattle.resource_bounds.specs.machine_scenes.specs.Shown.{rules_of}
+use Rattle.runner_facts.specs.machine_facts.specs.machine_agreement.proofs.RunPlaces.{opened_thunk}
+use Rattle.runner_facts.specs.machine_facts.specs.machine_invariant.specs.Whole.{IsWhole}
 use Rattle.resource_bounds.specs.reached_histories.specs.Laws.{HasHistory}
 use Rattle.one_worker.specs.Lone.{IsAnswerOrSpent}
 use Rattle.one_worker.proofs.Cells as cells_of

@@ -4,22 +4,22 @@ use Rattle.std.proofs.Common.{◌≡◌, ◌≢◌, ℕ, ◌≤◌, ◌<◌, ◌
 use Rattle.std.specs.Prelude.{◌⊎◌}
 use Rattle.std.proofs.lemmas.Bool.{cases_eq}
 use Rattle.std.proofs.lemmas.Bool.Decides.{nat_tests}
-use Rattle.map_history.specs.declared.op.Request.{Request}
-use Rattle.table_words.specs.declared.layout.Layout.{Layout}
-use Rattle.table_words.specs.declared.spot.Spot.{Spot}
-use Rattle.table_words.specs.declared.spot.Spot.TheVariants.{Seat, Epoch, Clock, Announcement, Stamp, Reply, Cell, ThunkWord, DoneWord, LogWord}
-use Rattle.table_words.specs.declared.access.Access.{Access}
-use Rattle.table_words.specs.declared.access.Access.TheVariants.{Loads}
-use Rattle.table_words.specs.Access.{written}
-use Rattle.table_words.specs.Seen.{upd, put}
-use Rattle.structure_laws.specs.Meaning.{Meaning}
-use Rattle.runner_parts.specs.declared.event.Event.{Event}
-use Rattle.runner_parts.specs.declared.event.EventKind.{EventKind}
-use Rattle.runner_parts.specs.declared.event.EventKind.TheVariants as kinds
-use Rattle.epoch_core.specs.declared.stage.Stage.TheVariants.{Idle, Scanning}
-use Rattle.runner_parts.specs.State.{RunState, RecordsState, PartState}
-use Rattle.runner_steps.specs.Asks.{ask_by}
-use Rattle.runner_steps.specs.After.{after, stepped, leaves, knows_also, own_epoch, epoch_after, is_busy, is_moved, is_late_join}
+use Rattle.agreement_core.specs.map_history.specs.declared.op.Request.{Request}
+use Rattle.agreement_core.specs.table_words.specs.declared.layout.Layout.{Layout}
+use Rattle.agreement_core.specs.table_words.specs.declared.spot.Spot.{Spot}
+use Rattle.agreement_core.specs.table_words.specs.declared.spot.Spot.TheVariants.{Seat, Epoch, Clock, Announcement, Stamp, Reply, Cell, ThunkWord, DoneWord, LogWord}
+use Rattle.agreement_core.specs.table_words.specs.declared.access.Access.{Access}
+use Rattle.agreement_core.specs.table_words.specs.declared.access.Access.TheVariants.{Loads}
+use Rattle.agreement_core.specs.table_words.specs.Access.{written}
+use Rattle.agreement_core.specs.table_words.specs.Seen.{upd, put}
+use Rattle.machine_states.specs.structure_laws.specs.Meaning.{Meaning}
+use Rattle.machine_states.specs.runner_steps.specs.runner_parts.specs.declared.event.Event.{Event}
+use Rattle.machine_states.specs.runner_steps.specs.runner_parts.specs.declared.event.EventKind.{EventKind}
+use Rattle.machine_states.specs.runner_steps.specs.runner_parts.specs.declared.event.EventKind.TheVariants as kinds
+use Rattle.machine_states.specs.epoch_core.specs.declared.stage.Stage.TheVariants.{Idle, Scanning}
+use Rattle.machine_states.specs.runner_steps.specs.runner_parts.specs.State.{RunState, RecordsState, PartState}
+use Rattle.machine_states.specs.runner_steps.specs.Asks.{ask_by}
+use Rattle.machine_states.specs.runner_steps.specs.After.{after, stepped, leaves, knows_also, own_epoch, epoch_after, is_busy, is_moved, is_late_join}
 use Rattle.machine_states.specs.World.{World, happens, is_join}
 use Rattle.machine_states.specs.First.{IsFirst, first_part, keeper_part, worker_part}
 use Rattle.machine_states.specs.Reached.{Reached}
@@ -28,12 +28,12 @@ use Rattle.machine_states.proofs.FirstSights.{first_parts, unannounced}
 use Rattle.machine_states.proofs.Reached.{first_reached, more_reached, reached_has, reached_all}
 use Rattle.machine_states.proofs.Sights.{happens_steps, unless_gone, cond_none, joins}
 use Rattle.machine_states.proofs.Updates.{upd_here, upd_else, put_same}
-use Rattle.machine_epochs.specs.Epochs.{EpochsAreSound}
-use Rattle.machine_epochs.specs.Scans.{Found}
-use Rattle.machine_epochs.proofs.OutsideAsked as asked
-use Rattle.machine_epochs.proofs.Elsewhere.{is_entry, quiet_asks, stage_kept}
-use Rattle.machine_epochs.proofs.FirstJoin as FirstJoin
-use Rattle.machine_epochs.proofs.Reached.{sound_after}
+use Rattle.resource_bounds.specs.machine_epochs.specs.Epochs.{EpochsAreSound}
+use Rattle.resource_bounds.specs.machine_epochs.specs.Scans.{Found}
+use Rattle.resource_bounds.specs.machine_epochs.proofs.OutsideAsked as asked
+use Rattle.resource_bounds.specs.machine_epochs.proofs.Elsewhere.{is_entry, quiet_asks, stage_kept}
+use Rattle.resource_bounds.specs.machine_epochs.proofs.FirstJoin as FirstJoin
+use Rattle.resource_bounds.specs.machine_epochs.proofs.Reached.{sound_after}
 use Rattle.one_worker.specs.Uncrossed.{IsUncrossed, EpochIsOwn}
 use Rattle.machine_states.proofs.Marks.{Stays, stays}
 

@@ -4,37 +4,37 @@ use Rattle.std.specs.List.{filter}
 use Rattle.std.proofs.Common.{◌≡◌, ◌≢◌, ℕ, ◌+◌, ◌≤◌, List, [], ◌∷◌, ◌++◌, refl, sym, ap, ◌∙◌, subst, ⊎_elim, arith, Option, Some, None}
 use Rattle.std.proofs.lemmas.Bool.{cases_eq}
 use Rattle.std.proofs.lemmas.Bool.Decides.{nat_tests}
-use Rattle.body_terms.specs.Line.{is_end}
-use Rattle.body_terms.specs.declared.micro.Micro.{Micro}
-use Rattle.body_terms.specs.declared.thunk.Thunk.{Thunk}
-use Rattle.table_words.specs.declared.layout.Layout.{Layout}
-use Rattle.table_words.specs.Places.{slot_count}
-use Rattle.structure_laws.specs.Meaning.{Meaning}
-use Rattle.epoch_core.specs.Moves.{is_clear}
-use Rattle.runner_parts.specs.declared.entries.Published.{Published}
-use Rattle.runner_parts.specs.declared.entries.Tested.{Tested}
-use Rattle.epoch_core.specs.declared.stage.Stage.{Stage}
-use Rattle.epoch_core.specs.declared.stage.Stage.TheVariants as stages
-use Rattle.runner_parts.specs.declared.event.EventKind.{EventKind}
-use Rattle.runner_parts.specs.declared.event.EventKind.TheVariants as kinds
-use Rattle.runner_parts.specs.State.{RunState, NodesState, PartState}
-use Rattle.runner_parts.specs.Lists as lists
-use Rattle.runner_parts.specs.Lists.{without, is_old, slots_of}
-use Rattle.runner_parts.specs.Tests.{has}
-use Rattle.runner_steps.specs.Sections.{is_open_run, next_of}
-use Rattle.epoch_core.specs.State.{last_epoch}
-use Rattle.runner_steps.specs.InRun.{last_clock}
-use Rattle.runner_steps.specs.AfterInRun as inside
-use Rattle.runner_steps.specs.AfterOutside as outside
-use Rattle.runner_steps.specs.After.{line_after, inside_after, outside_after}
-use Rattle.epoch_core.specs.State.{EpochState}
-use Rattle.epoch_core.specs.declared.location.Location.TheVariants.{Hand}
-use Rattle.epoch_core.specs.Sound.{is_for_nodes}
-use Rattle.epoch_core.specs.Lists.{times, in_hand}
-use Rattle.epoch_core.proofs.Times.{times-append}
+use Rattle.agreement_core.specs.body_terms.specs.Line.{is_end}
+use Rattle.agreement_core.specs.body_terms.specs.declared.micro.Micro.{Micro}
+use Rattle.agreement_core.specs.body_terms.specs.declared.thunk.Thunk.{Thunk}
+use Rattle.agreement_core.specs.table_words.specs.declared.layout.Layout.{Layout}
+use Rattle.agreement_core.specs.table_words.specs.Places.{slot_count}
+use Rattle.machine_states.specs.structure_laws.specs.Meaning.{Meaning}
+use Rattle.machine_states.specs.epoch_core.specs.Moves.{is_clear}
+use Rattle.machine_states.specs.runner_steps.specs.runner_parts.specs.declared.entries.Published.{Published}
+use Rattle.machine_states.specs.runner_steps.specs.runner_parts.specs.declared.entries.Tested.{Tested}
+use Rattle.machine_states.specs.epoch_core.specs.declared.stage.Stage.{Stage}
+use Rattle.machine_states.specs.epoch_core.specs.declared.stage.Stage.TheVariants as stages
+use Rattle.machine_states.specs.runner_steps.specs.runner_parts.specs.declared.event.EventKind.{EventKind}
+use Rattle.machine_states.specs.runner_steps.specs.runner_parts.specs.declared.event.EventKind.TheVariants as kinds
+use Rattle.machine_states.specs.runner_steps.specs.runner_parts.specs.State.{RunState, NodesState, PartState}
+use Rattle.machine_states.specs.runner_steps.specs.runner_parts.specs.Lists as lists
+use Rattle.machine_states.specs.runner_steps.specs.runner_parts.specs.Lists.{without, is_old, slots_of}
+use Rattle.machine_states.specs.runner_steps.specs.runner_parts.specs.Tests.{has}
+use Rattle.machine_states.specs.runner_steps.specs.Sections.{is_open_run, next_of}
+use Rattle.machine_states.specs.epoch_core.specs.State.{last_epoch}
+use Rattle.machine_states.specs.runner_steps.specs.InRun.{last_clock}
+use Rattle.machine_states.specs.runner_steps.specs.AfterInRun as inside
+use Rattle.machine_states.specs.runner_steps.specs.AfterOutside as outside
+use Rattle.machine_states.specs.runner_steps.specs.After.{line_after, inside_after, outside_after}
+use Rattle.machine_states.specs.epoch_core.specs.State.{EpochState}
+use Rattle.machine_states.specs.epoch_core.specs.declared.location.Location.TheVariants.{Hand}
+use Rattle.machine_states.specs.epoch_core.specs.Sound.{is_for_nodes}
+use Rattle.machine_states.specs.epoch_core.specs.Lists.{times, in_hand}
+use Rattle.machine_states.specs.epoch_core.proofs.Times.{times-append}
 use Rattle.machine_states.specs.Sight.{Sight}
-use Rattle.machine_epochs.specs.Joined as joins
-use Rattle.runner_facts.specs.machine_invariant.proofs.Slots.{nodes_stand}
+use Rattle.resource_bounds.specs.machine_epochs.specs.Joined as joins
+use Rattle.runner_facts.specs.machine_facts.specs.machine_invariant.proofs.Slots.{nodes_stand}
 
 -- how often a slot stands in a runner's hand, free list and worn list
 abbrev pub idle_times : NodesState → ℕ → ℕ

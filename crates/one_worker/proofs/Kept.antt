@@ -2,34 +2,34 @@
 use Rattle.std.specs.Prelude.{◌==◌, ◌⊎◌, Bool, true, false, slice_get, if◌then◌else◌}
 use Rattle.std.proofs.Common.{◌≡◌, ℕ, ◌<◌, ◌≤◌, List, [], refl, sym, ap, ◌∙◌, subst, ⊎_elim, inl, inr, Option, Some, None}
 use Rattle.std.proofs.lemmas.Bool.{both_ways}
-use Rattle.small_lemmas.proofs.Numbers.{equal_tested as same_test}
-use Rattle.map_history.specs.declared.op.Request.{Request}
-use Rattle.body_terms.specs.Memory.{cell_of}
-use Rattle.table_words.specs.declared.layout.Layout.{Layout}
-use Rattle.table_words.specs.declared.spot.Spot.{Spot}
-use Rattle.table_words.specs.declared.spot.Spot.TheVariants as spots
-use Rattle.table_words.specs.declared.access.Access.{Access}
-use Rattle.table_words.specs.Access.{written}
-use Rattle.table_words.specs.Seen.{put}
-use Rattle.structure_laws.specs.Meaning.{Meaning}
-use Rattle.runner_parts.specs.declared.entries.Published.{Published}
-use Rattle.epoch_core.specs.declared.stage.Stage.TheVariants as stages
-use Rattle.runner_parts.specs.declared.event.EventKind.{EventKind}
-use Rattle.runner_parts.specs.declared.event.EventKind.TheVariants as kinds
-use Rattle.runner_parts.specs.State.{RunState, PartState}
-use Rattle.runner_steps.specs.Asks.{ask_by}
-use Rattle.runner_steps.specs.Sections.{is_open_run}
-use Rattle.runner_parts.specs.Lists.{cell_read, holds_named, section_published, descriptor_taken}
-use Rattle.runner_steps.specs.AfterOutside.{published_by}
-use Rattle.runner_steps.specs.After.{after_by}
-use Rattle.epoch_core.specs.State.{is_entered}
+use Rattle.agreement_core.specs.section_lines.specs.small_lemmas.proofs.Numbers.{equal_tested as same_test}
+use Rattle.agreement_core.specs.map_history.specs.declared.op.Request.{Request}
+use Rattle.agreement_core.specs.body_terms.specs.Memory.{cell_of}
+use Rattle.agreement_core.specs.table_words.specs.declared.layout.Layout.{Layout}
+use Rattle.agreement_core.specs.table_words.specs.declared.spot.Spot.{Spot}
+use Rattle.agreement_core.specs.table_words.specs.declared.spot.Spot.TheVariants as spots
+use Rattle.agreement_core.specs.table_words.specs.declared.access.Access.{Access}
+use Rattle.agreement_core.specs.table_words.specs.Access.{written}
+use Rattle.agreement_core.specs.table_words.specs.Seen.{put}
+use Rattle.machine_states.specs.structure_laws.specs.Meaning.{Meaning}
+use Rattle.machine_states.specs.runner_steps.specs.runner_parts.specs.declared.entries.Published.{Published}
+use Rattle.machine_states.specs.epoch_core.specs.declared.stage.Stage.TheVariants as stages
+use Rattle.machine_states.specs.runner_steps.specs.runner_parts.specs.declared.event.EventKind.{EventKind}
+use Rattle.machine_states.specs.runner_steps.specs.runner_parts.specs.declared.event.EventKind.TheVariants as kinds
+use Rattle.machine_states.specs.runner_steps.specs.runner_parts.specs.State.{RunState, PartState}
+use Rattle.machine_states.specs.runner_steps.specs.Asks.{ask_by}
+use Rattle.machine_states.specs.runner_steps.specs.Sections.{is_open_run}
+use Rattle.machine_states.specs.runner_steps.specs.runner_parts.specs.Lists.{cell_read, holds_named, section_published, descriptor_taken}
+use Rattle.machine_states.specs.runner_steps.specs.AfterOutside.{published_by}
+use Rattle.machine_states.specs.runner_steps.specs.After.{after_by}
+use Rattle.machine_states.specs.epoch_core.specs.State.{is_entered}
 use Rattle.machine_states.specs.Sight.{Sight, Steps}
 use Rattle.machine_states.proofs.Sights.{cond_none, unless_gone, joins}
 use Rattle.machine_states.proofs.Steps.{none_some}
 use Rattle.machine_states.proofs.Updates.{upd_here}
-use Rattle.machine_epochs.proofs.OutsideAsked.{enter_again_asked, read_asked}
-use Rattle.runner_facts.specs.machine_agreement.proofs.Releases.{get_more}
-use Rattle.runner_facts.specs.machine_invariant.specs.Whole.{IsWhole}
+use Rattle.resource_bounds.specs.machine_epochs.proofs.OutsideAsked.{enter_again_asked, read_asked}
+use Rattle.runner_facts.specs.machine_facts.specs.machine_agreement.proofs.Releases.{get_more}
+use Rattle.runner_facts.specs.machine_facts.specs.machine_invariant.specs.Whole.{IsWhole}
 use Rattle.resource_bounds.specs.reached_histories.specs.Kept.{link_of}
 use Rattle.runner_facts.specs.next_steps.proofs.Parts.{each_part}
 use Rattle.resource_bounds.specs.reached_histories.specs.Laws.{HasHistory}

@@ -2,22 +2,22 @@
 use Rattle.std.specs.Prelude.{◌==◌, ◌||◌, not, Bool, true, false, if◌then◌else◌}
 use Rattle.std.proofs.Common.{◌≡◌, ℕ, ◌≤◌, List, refl, sym, ap, ◌∙◌, subst, arith, ⊎_elim, Option, Some, None}
 use Rattle.std.proofs.lemmas.Bool.Decides.{nat_tests}
-use Rattle.map_history.specs.declared.op.Request.{Request}
-use Rattle.table_words.specs.declared.layout.Layout.{Layout}
-use Rattle.table_words.specs.declared.spot.Spot.{Spot}
-use Rattle.table_words.specs.declared.spot.Spot.TheVariants.{Epoch}
-use Rattle.table_words.specs.declared.access.Access.{Access}
-use Rattle.table_words.specs.Access.{written}
-use Rattle.table_words.specs.Seen.{put}
-use Rattle.structure_laws.specs.Meaning.{Meaning}
-use Rattle.runner_parts.specs.declared.event.EventKind.{EventKind}
-use Rattle.runner_parts.specs.declared.event.EventKind.TheVariants as kinds
-use Rattle.runner_parts.specs.State.{RunState, RecordsState, PartState}
-use Rattle.runner_steps.specs.Asks.{asks, ask_by}
-use Rattle.runner_steps.specs.After.{after, stepped, own_epoch, epoch_after, is_busy, is_moved}
+use Rattle.agreement_core.specs.map_history.specs.declared.op.Request.{Request}
+use Rattle.agreement_core.specs.table_words.specs.declared.layout.Layout.{Layout}
+use Rattle.agreement_core.specs.table_words.specs.declared.spot.Spot.{Spot}
+use Rattle.agreement_core.specs.table_words.specs.declared.spot.Spot.TheVariants.{Epoch}
+use Rattle.agreement_core.specs.table_words.specs.declared.access.Access.{Access}
+use Rattle.agreement_core.specs.table_words.specs.Access.{written}
+use Rattle.agreement_core.specs.table_words.specs.Seen.{put}
+use Rattle.machine_states.specs.structure_laws.specs.Meaning.{Meaning}
+use Rattle.machine_states.specs.runner_steps.specs.runner_parts.specs.declared.event.EventKind.{EventKind}
+use Rattle.machine_states.specs.runner_steps.specs.runner_parts.specs.declared.event.EventKind.TheVariants as kinds
+use Rattle.machine_states.specs.runner_steps.specs.runner_parts.specs.State.{RunState, RecordsState, PartState}
+use Rattle.machine_states.specs.runner_steps.specs.Asks.{asks, ask_by}
+use Rattle.machine_states.specs.runner_steps.specs.After.{after, stepped, own_epoch, epoch_after, is_busy, is_moved}
 use Rattle.machine_states.proofs.Sights.{unless_gone, cond_none}
-use Rattle.machine_epochs.proofs.OutsideAsked as asked
-use Rattle.machine_epochs.proofs.Elsewhere.{quiet_asks}
+use Rattle.resource_bounds.specs.machine_epochs.proofs.OutsideAsked as asked
+use Rattle.resource_bounds.specs.machine_epochs.proofs.Elsewhere.{quiet_asks}
 use Rattle.machine_states.proofs.Marks.{Stays, stays}
 use Rattle.one_worker.proofs.EpochsReached.{elsewhere, or_left, or_right}
 

@@ -1,18 +1,18 @@
 -- With one worker every section is its own.
 use Rattle.std.specs.Prelude.{◌==◌, ◌%◌, not, cond, Bool, true, false}
 use Rattle.std.proofs.Common.{◌≡◌, ◌≢◌, ℕ, zero, suc, List, refl, sym, ap, ◌∙◌, arith, Option, Some, None}
-use Rattle.map_history.specs.declared.op.Request.{Request}
-use Rattle.body_terms.specs.Word.{value_of}
-use Rattle.table_words.specs.declared.layout.Layout.{Layout}
-use Rattle.structure_laws.specs.Meaning.{Meaning}
-use Rattle.runner_parts.specs.declared.entries.Published.{Published}
+use Rattle.agreement_core.specs.map_history.specs.declared.op.Request.{Request}
+use Rattle.agreement_core.specs.body_terms.specs.Word.{value_of}
+use Rattle.agreement_core.specs.table_words.specs.declared.layout.Layout.{Layout}
+use Rattle.machine_states.specs.structure_laws.specs.Meaning.{Meaning}
+use Rattle.machine_states.specs.runner_steps.specs.runner_parts.specs.declared.entries.Published.{Published}
 use Rattle.agreement_core.specs.State.{AgreementState}
-use Rattle.resource_bounds.specs.history_core.specs.State.{Requests, HistoryState}
-use Rattle.resource_bounds.specs.history_core.specs.Sound.{IsSound}
+use Rattle.resource_bounds.specs.reached_histories.specs.history_core.specs.State.{Requests, HistoryState}
+use Rattle.resource_bounds.specs.reached_histories.specs.history_core.specs.Sound.{IsSound}
 use Rattle.machine_states.specs.Sight.{Sight}
-use Rattle.resource_bounds.specs.machine_history.specs.Tied.{AreTied}
-use Rattle.runner_facts.specs.machine_agreement.proofs.RunPlaces.{used_here}
-use Rattle.runner_facts.specs.machine_invariant.specs.Whole.{states_of, IsWhole}
+use Rattle.resource_bounds.specs.reached_histories.specs.machine_history.specs.Tied.{AreTied}
+use Rattle.runner_facts.specs.machine_facts.specs.machine_agreement.proofs.RunPlaces.{used_here}
+use Rattle.runner_facts.specs.machine_facts.specs.machine_invariant.specs.Whole.{states_of, IsWhole}
 use Rattle.resource_bounds.specs.reached_histories.specs.Requests.{requests_of}
 use Rattle.resource_bounds.specs.reached_histories.specs.Kept.{link_of}
 use Rattle.resource_bounds.specs.reached_histories.specs.Laws.{HasHistory}

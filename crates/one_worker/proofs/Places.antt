@@ -1,24 +1,24 @@
 -- A place that an entered worker's walk knows is in no slot that is in a hand, free or worn.
 use Rattle.std.specs.Prelude.{◌⊎◌, cond, Bool, true, false, slice_get}
 use Rattle.std.proofs.Common.{◌≡◌, ℕ, ◌+◌, ◌*◌, ◌<◌, ◌≤◌, List, refl, sym, ap, ◌∙◌, subst, ⊎_elim, arith, Some, None}
-use Rattle.map_history.specs.declared.op.Request.{Request}
-use Rattle.table_words.specs.declared.layout.Layout.{Layout}
-use Rattle.structure_laws.specs.Meaning.{Meaning}
-use Rattle.structure_laws.specs.Scene.{Scene, Status, Free, Live, Retired}
-use Rattle.structure_laws.specs.Sound.{IsRead}
-use Rattle.structure_laws.specs.Cells.{IsSafe, IsKnown}
-use Rattle.epoch_core.specs.declared.stage.Stage.TheVariants.{Entered}
-use Rattle.epoch_core.specs.declared.location.Location.{Location}
-use Rattle.epoch_core.specs.declared.location.Location.TheVariants as locations
-use Rattle.epoch_core.specs.Lists.{in_hand, in_free, in_worn}
-use Rattle.epoch_core.specs.State.{IsKept, entry_of}
+use Rattle.agreement_core.specs.map_history.specs.declared.op.Request.{Request}
+use Rattle.agreement_core.specs.table_words.specs.declared.layout.Layout.{Layout}
+use Rattle.machine_states.specs.structure_laws.specs.Meaning.{Meaning}
+use Rattle.machine_states.specs.structure_laws.specs.Scene.{Scene, Status, Free, Live, Retired}
+use Rattle.machine_states.specs.structure_laws.specs.Sound.{IsRead}
+use Rattle.machine_states.specs.structure_laws.specs.Cells.{IsSafe, IsKnown}
+use Rattle.machine_states.specs.epoch_core.specs.declared.stage.Stage.TheVariants.{Entered}
+use Rattle.machine_states.specs.epoch_core.specs.declared.location.Location.{Location}
+use Rattle.machine_states.specs.epoch_core.specs.declared.location.Location.TheVariants as locations
+use Rattle.machine_states.specs.epoch_core.specs.Lists.{in_hand, in_free, in_worn}
+use Rattle.machine_states.specs.epoch_core.specs.State.{IsKept, entry_of}
 use Rattle.machine_states.specs.Sight.{Sight}
-use Rattle.machine_epochs.specs.Entries.{counts_of}
-use Rattle.machine_scenes.specs.Shown.{scene_of, status_at}
-use Rattle.runner_facts.specs.machine_invariant.specs.Slots.{node_count, NodesStand}
-use Rattle.runner_facts.specs.machine_invariant.specs.Whole.{states_of, IsWhole}
-use Rattle.runner_facts.specs.machine_invariant.proofs.Asked.{entered_at}
-use Rattle.runner_facts.specs.machine_invariant.proofs.Slots.{nodes_stand}
+use Rattle.resource_bounds.specs.machine_epochs.specs.Entries.{counts_of}
+use Rattle.resource_bounds.specs.machine_scenes.specs.Shown.{scene_of, status_at}
+use Rattle.runner_facts.specs.machine_facts.specs.machine_invariant.specs.Slots.{node_count, NodesStand}
+use Rattle.runner_facts.specs.machine_facts.specs.machine_invariant.specs.Whole.{states_of, IsWhole}
+use Rattle.runner_facts.specs.machine_facts.specs.machine_invariant.proofs.Asked.{entered_at}
+use Rattle.runner_facts.specs.machine_facts.specs.machine_invariant.proofs.Slots.{nodes_stand}
 use Rattle.resource_bounds.specs.reached_histories.specs.Laws.{HasHistory}
 use Rattle.one_worker.specs.Alone.{ReadingsStand}
 use Rattle.one_worker.proofs.Kept.{IsIdlePlace, Holds}

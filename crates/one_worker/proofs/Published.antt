@@ -1,29 +1,29 @@
 -- A section that the worker has just published, as the first in its entry.
 use Rattle.std.specs.Prelude.{true, false, slice_get}
 use Rattle.std.proofs.Common.{◌≡◌, ◌≢◌, ℕ, List, refl, sym, ap, ◌∙◌, subst, inl, Some}
-use Rattle.map_history.specs.declared.op.Request.{Request}
-use Rattle.body_terms.specs.Line.{line, micro_at}
-use Rattle.body_terms.specs.declared.step.Step.TheVariants.{Load, Want}
-use Rattle.body_terms.specs.declared.micro.Micro.{Micro}
-use Rattle.body_terms.specs.declared.micro.Micro.TheVariants as micros
-use Rattle.body_terms.specs.declared.thunk.Thunk.{Thunk}
-use Rattle.section_lines.specs.Line.{IsLine}
-use Rattle.section_lines.proofs.Sources.{of_take}
-use Rattle.section_lines.proofs.Wants.{wanted_at}
-use Rattle.table_words.specs.declared.layout.Layout.{Layout}
-use Rattle.table_words.specs.declared.spot.Spot.TheVariants as spots
-use Rattle.structure_laws.specs.Meaning.{Meaning}
-use Rattle.structure_laws.specs.Shape.{HasStep, Shaped}
-use Rattle.structure_laws.specs.Planner.{PlannerLawsOver}
-use Rattle.structure_laws.specs.Scene as scenes
-use Rattle.runner_parts.specs.State.{RunState}
+use Rattle.agreement_core.specs.map_history.specs.declared.op.Request.{Request}
+use Rattle.agreement_core.specs.body_terms.specs.Line.{line, micro_at}
+use Rattle.agreement_core.specs.body_terms.specs.declared.step.Step.TheVariants.{Load, Want}
+use Rattle.agreement_core.specs.body_terms.specs.declared.micro.Micro.{Micro}
+use Rattle.agreement_core.specs.body_terms.specs.declared.micro.Micro.TheVariants as micros
+use Rattle.agreement_core.specs.body_terms.specs.declared.thunk.Thunk.{Thunk}
+use Rattle.agreement_core.specs.section_lines.specs.Line.{IsLine}
+use Rattle.agreement_core.specs.section_lines.proofs.Sources.{of_take}
+use Rattle.agreement_core.specs.section_lines.proofs.Wants.{wanted_at}
+use Rattle.agreement_core.specs.table_words.specs.declared.layout.Layout.{Layout}
+use Rattle.agreement_core.specs.table_words.specs.declared.spot.Spot.TheVariants as spots
+use Rattle.machine_states.specs.structure_laws.specs.Meaning.{Meaning}
+use Rattle.machine_states.specs.structure_laws.specs.Shape.{HasStep, Shaped}
+use Rattle.machine_states.specs.structure_laws.specs.Planner.{PlannerLawsOver}
+use Rattle.machine_states.specs.structure_laws.specs.Scene as scenes
+use Rattle.machine_states.specs.runner_steps.specs.runner_parts.specs.State.{RunState}
 use Rattle.agreement_core.specs.State.{AgreementState, Section}
 use Rattle.agreement_core.proofs.Lines.{hold_inner}
 use Rattle.machine_states.specs.Sight.{Sight}
-use Rattle.machine_epochs.specs.Slots.{thunk_in}
-use Rattle.machine_scenes.specs.Shown.{rules_of, section_with, section_of}
-use Rattle.machine_scenes.proofs.Shown.{shown_open}
-use Rattle.runner_facts.specs.machine_invariant.specs.Whole.{IsWhole}
+use Rattle.resource_bounds.specs.machine_epochs.specs.Slots.{thunk_in}
+use Rattle.resource_bounds.specs.machine_scenes.specs.Shown.{rules_of, section_with, section_of}
+use Rattle.resource_bounds.specs.machine_scenes.proofs.Shown.{shown_open}
+use Rattle.runner_facts.specs.machine_facts.specs.machine_invariant.specs.Whole.{IsWhole}
 use Rattle.resource_bounds.specs.reached_histories.specs.Laws.{HasHistory}
 use Rattle.one_worker.proofs.State.{not_both, in_line, code_is}
 use Rattle.one_worker.proofs.Goes.{Goes}

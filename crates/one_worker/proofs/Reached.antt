@@ -1,13 +1,13 @@
 -- So it is in every reached state with one worker.
 use Rattle.std.specs.Prelude.{slice_get}
 use Rattle.std.proofs.Common.{◌≡◌, List, [], le_of_eq, refl, sym, ap, ◌∙◌, Some, None}
-use Rattle.map_history.specs.declared.op.Request.{Request}
-use Rattle.table_words.specs.declared.layout.Layout.{Layout}
-use Rattle.table_words.specs.Limits.{IsWithinLimits}
-use Rattle.structure_laws.specs.Meaning.{Meaning}
-use Rattle.structure_laws.specs.Laws.{Laws}
-use Rattle.runner_parts.specs.declared.event.Event.{Event}
-use Rattle.runner_parts.specs.State.{PartState}
+use Rattle.agreement_core.specs.map_history.specs.declared.op.Request.{Request}
+use Rattle.agreement_core.specs.table_words.specs.declared.layout.Layout.{Layout}
+use Rattle.agreement_core.specs.table_words.specs.Limits.{IsWithinLimits}
+use Rattle.machine_states.specs.structure_laws.specs.Meaning.{Meaning}
+use Rattle.machine_states.specs.structure_laws.specs.Laws.{Laws}
+use Rattle.machine_states.specs.runner_steps.specs.runner_parts.specs.declared.event.Event.{Event}
+use Rattle.machine_states.specs.runner_steps.specs.runner_parts.specs.State.{PartState}
 use Rattle.machine_states.specs.World.{World, happens}
 use Rattle.machine_states.specs.First.{IsFirst}
 use Rattle.machine_states.specs.Reached.{Reached}
@@ -16,8 +16,8 @@ use Rattle.machine_states.proofs.FirstSights.{first_part_of, first_parts}
 use Rattle.machine_states.proofs.Reached.{first_reached, more_reached, reached_has, reached_all}
 use Rattle.machine_states.proofs.Sights.{happens_steps}
 use Rattle.machine_states.proofs.Steps.{none_some}
-use Rattle.machine_epochs.proofs.FirstJoin as FirstJoin
-use Rattle.runner_facts.specs.machine_invariant.specs.After.{AreAllowed}
+use Rattle.resource_bounds.specs.machine_epochs.proofs.FirstJoin as FirstJoin
+use Rattle.runner_facts.specs.machine_facts.specs.machine_invariant.specs.After.{AreAllowed}
 use Rattle.resource_bounds.specs.reached_histories.proofs.Histories.{reached_have}
 use Rattle.one_worker.specs.Alone.{OneWorkerStands}
 use Rattle.one_worker.proofs.Open.{none_open}

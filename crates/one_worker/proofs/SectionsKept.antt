@@ -3,52 +3,52 @@ use Rattle.std.specs.Prelude.{◌==◌, ◌^◌, ◌⊎◌, cond, Bool, true, fa
 use Rattle.std.proofs.Common.{◌≡◌, ◌≢◌, ℕ, suc, ◌+◌, ◌<◌, ◌≤◌, List, [], ◌∷◌, length, length-append, refl, sym, ap, ◌∙◌, subst, ⊎_elim, inl, inr, arith, Option, Some, None}
 use Rattle.std.proofs.lemmas.Bool.{cases_lt}
 use Rattle.std.proofs.lemmas.Bool.Decides.{nat_tests}
-use Rattle.map_history.specs.declared.op.Request.{Request}
-use Rattle.body_terms.specs.Run.{settled}
-use Rattle.body_terms.specs.Shape.{IsShaped}
-use Rattle.body_terms.specs.declared.step.Step.TheVariants.{Load, Want}
-use Rattle.body_terms.specs.Line.{line, micro_at, is_event, is_commit, is_check}
-use Rattle.body_terms.specs.Word.{value_of, version_of, held_word}
-use Rattle.body_terms.specs.declared.micro.Source.{Source}
-use Rattle.body_terms.specs.declared.micro.Micro.{Micro}
-use Rattle.body_terms.specs.declared.micro.Micro.TheVariants as micros
-use Rattle.body_terms.specs.declared.thunk.Thunk.{Thunk}
-use Rattle.section_lines.specs.Line.{IsLine}
-use Rattle.section_lines.proofs.Wants.{wanted_at}
-use Rattle.table_words.specs.declared.layout.Layout.{Layout}
-use Rattle.table_words.specs.declared.spot.Spot.{Spot}
-use Rattle.table_words.specs.declared.spot.Spot.TheVariants as spots
-use Rattle.table_words.specs.declared.access.Access.{Access}
-use Rattle.table_words.specs.Access.{written, exchanged}
-use Rattle.table_words.specs.Seen.{put}
-use Rattle.table_words.specs.Limits.{IsWithinLimits}
-use Rattle.structure_laws.specs.Meaning.{Meaning}
-use Rattle.structure_laws.specs.Shape.{HasStep}
-use Rattle.structure_laws.specs.Planner.{PlannerLawsOver}
-use Rattle.structure_laws.specs.Cells.{IsOutside}
-use Rattle.runner_parts.specs.declared.event.EventKind.{EventKind}
-use Rattle.runner_parts.specs.declared.event.EventKind.TheVariants as kinds
-use Rattle.runner_parts.specs.State.{RunState, PartState}
-use Rattle.runner_parts.specs.Tests.{has}
-use Rattle.runner_steps.specs.Asks.{ask_by, line_ask, opening_ask}
-use Rattle.runner_steps.specs.AfterInRun.{opened_more}
-use Rattle.runner_steps.specs.Sections.{thunk_of, is_open_run, line_of, next_of, setting_of}
-use Rattle.runner_steps.specs.After.{after_by, line_after}
+use Rattle.agreement_core.specs.map_history.specs.declared.op.Request.{Request}
+use Rattle.agreement_core.specs.body_terms.specs.Run.{settled}
+use Rattle.agreement_core.specs.body_terms.specs.Shape.{IsShaped}
+use Rattle.agreement_core.specs.body_terms.specs.declared.step.Step.TheVariants.{Load, Want}
+use Rattle.agreement_core.specs.body_terms.specs.Line.{line, micro_at, is_event, is_commit, is_check}
+use Rattle.agreement_core.specs.body_terms.specs.Word.{value_of, version_of, held_word}
+use Rattle.agreement_core.specs.body_terms.specs.declared.micro.Source.{Source}
+use Rattle.agreement_core.specs.body_terms.specs.declared.micro.Micro.{Micro}
+use Rattle.agreement_core.specs.body_terms.specs.declared.micro.Micro.TheVariants as micros
+use Rattle.agreement_core.specs.body_terms.specs.declared.thunk.Thunk.{Thunk}
+use Rattle.agreement_core.specs.section_lines.specs.Line.{IsLine}
+use Rattle.agreement_core.specs.section_lines.proofs.Wants.{wanted_at}
+use Rattle.agreement_core.specs.table_words.specs.declared.layout.Layout.{Layout}
+use Rattle.agreement_core.specs.table_words.specs.declared.spot.Spot.{Spot}
+use Rattle.agreement_core.specs.table_words.specs.declared.spot.Spot.TheVariants as spots
+use Rattle.agreement_core.specs.table_words.specs.declared.access.Access.{Access}
+use Rattle.agreement_core.specs.table_words.specs.Access.{written, exchanged}
+use Rattle.agreement_core.specs.table_words.specs.Seen.{put}
+use Rattle.agreement_core.specs.table_words.specs.Limits.{IsWithinLimits}
+use Rattle.machine_states.specs.structure_laws.specs.Meaning.{Meaning}
+use Rattle.machine_states.specs.structure_laws.specs.Shape.{HasStep}
+use Rattle.machine_states.specs.structure_laws.specs.Planner.{PlannerLawsOver}
+use Rattle.machine_states.specs.structure_laws.specs.Cells.{IsOutside}
+use Rattle.machine_states.specs.runner_steps.specs.runner_parts.specs.declared.event.EventKind.{EventKind}
+use Rattle.machine_states.specs.runner_steps.specs.runner_parts.specs.declared.event.EventKind.TheVariants as kinds
+use Rattle.machine_states.specs.runner_steps.specs.runner_parts.specs.State.{RunState, PartState}
+use Rattle.machine_states.specs.runner_steps.specs.runner_parts.specs.Tests.{has}
+use Rattle.machine_states.specs.runner_steps.specs.Asks.{ask_by, line_ask, opening_ask}
+use Rattle.machine_states.specs.runner_steps.specs.AfterInRun.{opened_more}
+use Rattle.machine_states.specs.runner_steps.specs.Sections.{thunk_of, is_open_run, line_of, next_of, setting_of}
+use Rattle.machine_states.specs.runner_steps.specs.After.{after_by, line_after}
 use Rattle.agreement_core.specs.State.{AgreementState, Section}
 use Rattle.agreement_core.specs.Runs.{RunIsSound}
 use Rattle.agreement_core.proofs.Lines.{hold_lock, hold_inner, hold_once, commit_unlocked, exchange_unlocked}
-use Rattle.epoch_core.specs.History.{is_out}
+use Rattle.machine_states.specs.epoch_core.specs.History.{is_out}
 use Rattle.machine_states.specs.Sight.{Sight, Steps}
 use Rattle.machine_states.proofs.Sights.{unless_gone, joins}
 use Rattle.machine_states.proofs.Steps.{some_same, none_some}
-use Rattle.machine_epochs.specs.Slots.{thunk_in}
-use Rattle.machine_epochs.proofs.Places.{free_descriptor}
-use Rattle.machine_epochs.proofs.RunPlaces.{next_in_line, open_run}
-use Rattle.machine_scenes.specs.Shown.{rules_of, section_with}
-use Rattle.machine_scenes.proofs.Shown.{shown_open}
-use Rattle.runner_facts.specs.machine_agreement.specs.Joined.{IsRunOf}
-use Rattle.runner_facts.specs.machine_agreement.proofs.RunPlaces.{opened_thunk}
-use Rattle.runner_facts.specs.machine_invariant.specs.Whole.{IsWhole}
+use Rattle.resource_bounds.specs.machine_epochs.specs.Slots.{thunk_in}
+use Rattle.resource_bounds.specs.machine_epochs.proofs.Places.{free_descriptor}
+use Rattle.resource_bounds.specs.machine_epochs.proofs.RunPlaces.{next_in_line, open_run}
+use Rattle.resource_bounds.specs.machine_scenes.specs.Shown.{rules_of, section_with}
+use Rattle.resource_bounds.specs.machine_scenes.proofs.Shown.{shown_open}
+use Rattle.runner_facts.specs.machine_facts.specs.machine_agreement.specs.Joined.{IsRunOf}
+use Rattle.runner_facts.specs.machine_facts.specs.machine_agreement.proofs.RunPlaces.{opened_thunk}
+use Rattle.runner_facts.specs.machine_facts.specs.machine_invariant.specs.Whole.{IsWhole}
 use Rattle.runner_facts.specs.next_steps.proofs.Parts.{each_part}
 use Rattle.resource_bounds.specs.reached_histories.specs.Laws.{HasHistory}
 use Rattle.runner_facts.proofs.Lines.{commit_unique, rests_behind}

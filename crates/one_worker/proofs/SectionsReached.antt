@@ -2,39 +2,39 @@
 use Rattle.std.specs.Prelude.{◌==◌, ◌⊎◌, cond, not, Bool, true, false, slice_get, if◌then◌else◌}
 use Rattle.std.proofs.Common.{◌≡◌, ◌≢◌, ℕ, suc, ◌≤◌, List, [], ◌∷◌, ◌++◌, length, le_of_eq, refl, sym, ap, ◌∙◌, subst, ⊎_elim, inl, inr, arith, Option, Some, None}
 use Rattle.std.proofs.lemmas.Bool.{cases_lt}
-use Rattle.small_lemmas.proofs.Numbers.{equal_tested as same_test}
-use Rattle.map_history.specs.declared.op.Request.{Request}
-use Rattle.body_terms.specs.Line.{line, micro_at}
-use Rattle.body_terms.specs.Word.{value_of}
-use Rattle.body_terms.specs.declared.micro.Micro.TheVariants as micros
-use Rattle.body_terms.specs.declared.thunk.Thunk.{Thunk}
-use Rattle.table_words.specs.declared.layout.Layout.{Layout}
-use Rattle.table_words.specs.declared.spot.Spot.{Spot}
-use Rattle.table_words.specs.declared.spot.Spot.TheVariants as spots
-use Rattle.table_words.specs.declared.access.Access.{Access}
-use Rattle.table_words.specs.Access.{written}
-use Rattle.table_words.specs.Seen.{put}
-use Rattle.table_words.specs.Limits.{IsWithinLimits}
-use Rattle.structure_laws.specs.Meaning.{Meaning}
-use Rattle.structure_laws.specs.Laws.{Laws}
-use Rattle.structure_laws.specs.Planner.{PlannerLaws}
-use Rattle.structure_laws.specs.Scene.{Status, Free, Live}
-use Rattle.runner_parts.specs.declared.entries.Published.{Published}
-use Rattle.epoch_core.specs.declared.stage.Stage.TheVariants as stages
-use Rattle.runner_parts.specs.declared.event.Event.{Event}
-use Rattle.runner_parts.specs.declared.event.EventKind.TheVariants as kinds
-use Rattle.runner_parts.specs.State.{RunState, NodesState, PartState}
-use Rattle.runner_parts.specs.Lists.{cell_read, holds_named, section_published, descriptor_taken}
-use Rattle.runner_steps.specs.Asks.{ask_by}
-use Rattle.runner_steps.specs.Sections.{is_open_run}
-use Rattle.runner_steps.specs.AfterOutside.{published_by}
-use Rattle.runner_steps.specs.After.{after_by}
+use Rattle.agreement_core.specs.section_lines.specs.small_lemmas.proofs.Numbers.{equal_tested as same_test}
+use Rattle.agreement_core.specs.map_history.specs.declared.op.Request.{Request}
+use Rattle.agreement_core.specs.body_terms.specs.Line.{line, micro_at}
+use Rattle.agreement_core.specs.body_terms.specs.Word.{value_of}
+use Rattle.agreement_core.specs.body_terms.specs.declared.micro.Micro.TheVariants as micros
+use Rattle.agreement_core.specs.body_terms.specs.declared.thunk.Thunk.{Thunk}
+use Rattle.agreement_core.specs.table_words.specs.declared.layout.Layout.{Layout}
+use Rattle.agreement_core.specs.table_words.specs.declared.spot.Spot.{Spot}
+use Rattle.agreement_core.specs.table_words.specs.declared.spot.Spot.TheVariants as spots
+use Rattle.agreement_core.specs.table_words.specs.declared.access.Access.{Access}
+use Rattle.agreement_core.specs.table_words.specs.Access.{written}
+use Rattle.agreement_core.specs.table_words.specs.Seen.{put}
+use Rattle.agreement_core.specs.table_words.specs.Limits.{IsWithinLimits}
+use Rattle.machine_states.specs.structure_laws.specs.Meaning.{Meaning}
+use Rattle.machine_states.specs.structure_laws.specs.Laws.{Laws}
+use Rattle.machine_states.specs.structure_laws.specs.Planner.{PlannerLaws}
+use Rattle.machine_states.specs.structure_laws.specs.Scene.{Status, Free, Live}
+use Rattle.machine_states.specs.runner_steps.specs.runner_parts.specs.declared.entries.Published.{Published}
+use Rattle.machine_states.specs.epoch_core.specs.declared.stage.Stage.TheVariants as stages
+use Rattle.machine_states.specs.runner_steps.specs.runner_parts.specs.declared.event.Event.{Event}
+use Rattle.machine_states.specs.runner_steps.specs.runner_parts.specs.declared.event.EventKind.TheVariants as kinds
+use Rattle.machine_states.specs.runner_steps.specs.runner_parts.specs.State.{RunState, NodesState, PartState}
+use Rattle.machine_states.specs.runner_steps.specs.runner_parts.specs.Lists.{cell_read, holds_named, section_published, descriptor_taken}
+use Rattle.machine_states.specs.runner_steps.specs.Asks.{ask_by}
+use Rattle.machine_states.specs.runner_steps.specs.Sections.{is_open_run}
+use Rattle.machine_states.specs.runner_steps.specs.AfterOutside.{published_by}
+use Rattle.machine_states.specs.runner_steps.specs.After.{after_by}
 use Rattle.agreement_core.specs.State.{AgreementState}
-use Rattle.epoch_core.specs.State.{entry_of}
-use Rattle.epoch_core.specs.History.{is_out}
-use Rattle.epoch_core.specs.Events.{slot_of}
-use Rattle.epoch_core.specs.declared.location.Location.{Location}
-use Rattle.epoch_core.specs.State.{IsKept}
+use Rattle.machine_states.specs.epoch_core.specs.State.{entry_of}
+use Rattle.machine_states.specs.epoch_core.specs.History.{is_out}
+use Rattle.machine_states.specs.epoch_core.specs.Events.{slot_of}
+use Rattle.machine_states.specs.epoch_core.specs.declared.location.Location.{Location}
+use Rattle.machine_states.specs.epoch_core.specs.State.{IsKept}
 use Rattle.machine_states.specs.World.{World, happens}
 use Rattle.machine_states.specs.First.{IsFirst}
 use Rattle.machine_states.specs.Reached.{Reached}
@@ -44,16 +44,16 @@ use Rattle.machine_states.proofs.Reached.{first_reached, more_reached, reached_h
 use Rattle.machine_states.proofs.Sights.{happens_steps, cond_none, unless_gone, joins}
 use Rattle.machine_states.proofs.Steps.{none_some}
 use Rattle.machine_states.proofs.Updates.{upd_else}
-use Rattle.machine_epochs.specs.Entries.{counts_of}
-use Rattle.machine_epochs.specs.Slots.{thunk_in}
-use Rattle.machine_epochs.proofs.FirstJoin as FirstJoin
-use Rattle.machine_epochs.proofs.OutsideAsked.{HoldAsked, hold_asked}
-use Rattle.machine_epochs.proofs.Places.{free_descriptor}
+use Rattle.resource_bounds.specs.machine_epochs.specs.Entries.{counts_of}
+use Rattle.resource_bounds.specs.machine_epochs.specs.Slots.{thunk_in}
+use Rattle.resource_bounds.specs.machine_epochs.proofs.FirstJoin as FirstJoin
+use Rattle.resource_bounds.specs.machine_epochs.proofs.OutsideAsked.{HoldAsked, hold_asked}
+use Rattle.resource_bounds.specs.machine_epochs.proofs.Places.{free_descriptor}
 use Rattle.runner_facts.specs.machine_facts.specs.After.{AreFactsOfStep}
 use Rattle.runner_facts.specs.machine_facts.proofs.Following.{facts_after, step_facts_after}
-use Rattle.runner_facts.specs.machine_invariant.specs.After.{AreAllowed}
-use Rattle.runner_facts.specs.machine_invariant.specs.Whole.{IsWhole}
-use Rattle.runner_facts.specs.machine_invariant.proofs.Prepared.{done_is, log_is}
+use Rattle.runner_facts.specs.machine_facts.specs.machine_invariant.specs.After.{AreAllowed}
+use Rattle.runner_facts.specs.machine_facts.specs.machine_invariant.specs.Whole.{IsWhole}
+use Rattle.runner_facts.specs.machine_facts.specs.machine_invariant.proofs.Prepared.{done_is, log_is}
 use Rattle.resource_bounds.specs.reached_histories.specs.Kept.{link_of}
 use Rattle.runner_facts.specs.next_steps.proofs.Parts.{each_part}
 use Rattle.resource_bounds.specs.reached_histories.specs.Laws.{HasHistory}

@@ -2,33 +2,33 @@
 use Rattle.std.specs.Prelude.{◌^◌, ◌⊎◌, Bool, true, false}
 use Rattle.std.proofs.Common.{◌≡◌, ◌≢◌, ℕ, zero, suc, ◌+◌, ◌*◌, ◌<◌, ◌≤◌, List, refl, sym, ap, ◌∙◌, subst, ⊎_elim, inl, inr, arith}
 use Rattle.std.proofs.lemmas.Bool.{cases_lt}
-use Rattle.map_history.specs.declared.op.Request.{Request}
-use Rattle.body_terms.specs.Line.{line, micro_at, is_event, is_commit}
-use Rattle.body_terms.specs.Memory.{cell_of}
-use Rattle.body_terms.specs.Word.{value_of, held_word}
-use Rattle.body_terms.specs.declared.micro.Micro.{Micro}
-use Rattle.body_terms.specs.declared.micro.Micro.TheVariants as micros
-use Rattle.body_terms.specs.declared.thunk.Thunk.{Thunk}
-use Rattle.section_lines.specs.Line.{IsLine}
-use Rattle.table_words.specs.declared.layout.Layout.{Layout}
-use Rattle.table_words.specs.declared.spot.Spot.TheVariants as spots
-use Rattle.structure_laws.specs.Meaning.{Meaning}
-use Rattle.structure_laws.specs.Scene.{Scene, Status, Free, Live, Retired}
-use Rattle.structure_laws.specs.Cells.{IsSafe, IsOutside}
+use Rattle.agreement_core.specs.map_history.specs.declared.op.Request.{Request}
+use Rattle.agreement_core.specs.body_terms.specs.Line.{line, micro_at, is_event, is_commit}
+use Rattle.agreement_core.specs.body_terms.specs.Memory.{cell_of}
+use Rattle.agreement_core.specs.body_terms.specs.Word.{value_of, held_word}
+use Rattle.agreement_core.specs.body_terms.specs.declared.micro.Micro.{Micro}
+use Rattle.agreement_core.specs.body_terms.specs.declared.micro.Micro.TheVariants as micros
+use Rattle.agreement_core.specs.body_terms.specs.declared.thunk.Thunk.{Thunk}
+use Rattle.agreement_core.specs.section_lines.specs.Line.{IsLine}
+use Rattle.agreement_core.specs.table_words.specs.declared.layout.Layout.{Layout}
+use Rattle.agreement_core.specs.table_words.specs.declared.spot.Spot.TheVariants as spots
+use Rattle.machine_states.specs.structure_laws.specs.Meaning.{Meaning}
+use Rattle.machine_states.specs.structure_laws.specs.Scene.{Scene, Status, Free, Live, Retired}
+use Rattle.machine_states.specs.structure_laws.specs.Cells.{IsSafe, IsOutside}
 use Rattle.agreement_core.specs.State.{AgreementState, Section}
 use Rattle.agreement_core.specs.Checks.{is_stop}
 use Rattle.agreement_core.specs.Sound.{UsedIsSound}
 use Rattle.agreement_core.proofs.Lines.{event_goes}
-use Rattle.epoch_core.specs.declared.location.Location.TheVariants.{Hand}
-use Rattle.epoch_core.specs.declared.location.Location.{Location}
-use Rattle.epoch_core.specs.Sound.{is_for_nodes}
-use Rattle.epoch_core.specs.State.{IsKept, entry_of}
+use Rattle.machine_states.specs.epoch_core.specs.declared.location.Location.TheVariants.{Hand}
+use Rattle.machine_states.specs.epoch_core.specs.declared.location.Location.{Location}
+use Rattle.machine_states.specs.epoch_core.specs.Sound.{is_for_nodes}
+use Rattle.machine_states.specs.epoch_core.specs.State.{IsKept, entry_of}
 use Rattle.machine_states.specs.Sight.{Sight}
-use Rattle.machine_epochs.specs.Entries.{counts_of}
-use Rattle.machine_epochs.specs.Slots.{thunk_in}
-use Rattle.machine_scenes.specs.Shown.{rules_of, scene_of}
-use Rattle.machine_scenes.proofs.JointSteps.{hand_status}
-use Rattle.runner_facts.specs.machine_invariant.specs.Whole.{states_of, IsWhole}
+use Rattle.resource_bounds.specs.machine_epochs.specs.Entries.{counts_of}
+use Rattle.resource_bounds.specs.machine_epochs.specs.Slots.{thunk_in}
+use Rattle.resource_bounds.specs.machine_scenes.specs.Shown.{rules_of, scene_of}
+use Rattle.resource_bounds.specs.machine_scenes.proofs.JointSteps.{hand_status}
+use Rattle.runner_facts.specs.machine_facts.specs.machine_invariant.specs.Whole.{states_of, IsWhole}
 use Rattle.resource_bounds.specs.reached_histories.specs.Laws.{HasHistory}
 use Rattle.runner_facts.proofs.Logs.{log_of, log_place}
 

@@ -1,9 +1,9 @@
 -- Who moves the epoch where there is one worker, and whom its scans meet.
 use Rattle.std.specs.Prelude.{◌≡◌, true, false}
-use Rattle.table_words.specs.declared.layout.Layout.{Layout}
-use Rattle.table_words.specs.declared.spot.Spot.TheVariants.{Epoch, Announcement}
-use Rattle.epoch_core.specs.declared.stage.Stage.TheVariants.{Idle}
-use Rattle.runner_steps.specs.After.{own_epoch}
+use Rattle.agreement_core.specs.table_words.specs.declared.layout.Layout.{Layout}
+use Rattle.agreement_core.specs.table_words.specs.declared.spot.Spot.TheVariants.{Epoch, Announcement}
+use Rattle.machine_states.specs.epoch_core.specs.declared.stage.Stage.TheVariants.{Idle}
+use Rattle.machine_states.specs.runner_steps.specs.After.{own_epoch}
 use Rattle.machine_states.specs.Sight.{Sight}
 
 -- the worker, which has number 0, found the epoch as its own steps had left it, and met no announcement but idle ones

@@ -1,13 +1,13 @@
 //! The law of this crate, on a contract.
 ghost use Rattle.std.specs.Prelude.{List};
-ghost use Rattle.map_history.specs.declared.op.Request.{Request};
-ghost use Rattle.table_words.specs.declared.layout.Layout.{Layout};
+ghost use Rattle.agreement_core.specs.map_history.specs.declared.op.Request.{Request};
+ghost use Rattle.agreement_core.specs.table_words.specs.declared.layout.Layout.{Layout};
 ghost use Rattle.machine_states.specs.World.{World};
 ghost use Rattle.machine_states.specs.Reached.{Reached};
 ghost use Rattle.machine_states.specs.Sight.{sight};
 ghost use Rattle.one_worker.specs.Uncrossed.{OneWorkerIsUncrossed};
 
-use structure_laws::Structure;
+use machine_states::structure_laws::Structure;
 
 /// In every state that the machine reaches with one worker: as long as the worker isn't joined and the keeper's own
 /// steps have not met the epoch, the epoch is what the worker's steps left it, the worker's scans met no announcement

@@ -1,15 +1,15 @@
 //! The law of this crate, on a contract.
 ghost use Rattle.std.specs.Prelude.{List};
-ghost use Rattle.map_history.specs.declared.op.Request.{Request};
-ghost use Rattle.table_words.specs.Limits.{IsWithinLimits};
-ghost use Rattle.table_words.specs.declared.layout.Layout.{Layout};
+ghost use Rattle.agreement_core.specs.map_history.specs.declared.op.Request.{Request};
+ghost use Rattle.agreement_core.specs.table_words.specs.Limits.{IsWithinLimits};
+ghost use Rattle.agreement_core.specs.table_words.specs.declared.layout.Layout.{Layout};
 ghost use Rattle.machine_states.specs.World.{World};
 ghost use Rattle.machine_states.specs.Reached.{Reached};
 ghost use Rattle.machine_states.specs.Sight.{sight};
-ghost use Rattle.runner_facts.specs.machine_invariant.specs.After.{AreAllowed};
+ghost use Rattle.runner_facts.specs.machine_facts.specs.machine_invariant.specs.After.{AreAllowed};
 ghost use Rattle.one_worker.specs.Alone.{OneWorkerStands};
 
-use structure_laws::Structure;
+use machine_states::structure_laws::Structure;
 
 /// In every state that the machine reaches with one worker: while the worker has no section that it has published and
 /// not yet run to its end, no lock names a section, and whoever still runs one finds it done. What the worker has read

@@ -1,16 +1,16 @@
 //! The law of this crate, on a contract.
 ghost use Rattle.std.specs.Prelude.{ℕ, List};
-ghost use Rattle.map_history.specs.declared.op.Request.{Request};
-ghost use Rattle.table_words.specs.Limits.{IsWithinLimits};
-ghost use Rattle.table_words.specs.declared.layout.Layout.{Layout};
-ghost use Rattle.structure_laws.specs.Planner.{PlannerLaws};
+ghost use Rattle.agreement_core.specs.map_history.specs.declared.op.Request.{Request};
+ghost use Rattle.agreement_core.specs.table_words.specs.Limits.{IsWithinLimits};
+ghost use Rattle.agreement_core.specs.table_words.specs.declared.layout.Layout.{Layout};
+ghost use Rattle.machine_states.specs.structure_laws.specs.Planner.{PlannerLaws};
 ghost use Rattle.machine_states.specs.World.{World};
 ghost use Rattle.machine_states.specs.Reached.{Reached};
 ghost use Rattle.machine_states.specs.Sight.{sight};
-ghost use Rattle.runner_facts.specs.machine_invariant.specs.After.{AreAllowed};
+ghost use Rattle.runner_facts.specs.machine_facts.specs.machine_invariant.specs.After.{AreAllowed};
 ghost use Rattle.one_worker.specs.Lone.{LoneSectionsGoThrough};
 
-use structure_laws::Structure;
+use machine_states::structure_laws::Structure;
 
 /// In every state that the machine reaches with one worker, over a structure that gives what planners need: take the
 /// first section that the worker has published since it entered, as long as it hasn't retired it. A run of it that ends

@@ -1,7 +1,7 @@
 -- One slot that was filled, or two.
 use Rattle.std.proofs.Common.{◌≡◌, ◌≢◌, ℕ, zero, suc, ◌<◌, refl, ◌∙◌, arith}
-use Rattle.body_terms.specs.Update.{upd}
-use Rattle.body_terms.specs.Memory.{cell_of}
+use Rattle.structure_laws.specs.body_terms.specs.Update.{upd}
+use Rattle.structure_laws.specs.body_terms.specs.Memory.{cell_of}
 use Rattle.structure_laws.proofs.Changes.{upd_same, upd_other}
 use Rattle.plain_laws.proofs.TreeForms.{five}
 

@@ -2,18 +2,18 @@
 use Rattle.std.proofs.Common.{◌≡◌, ◌≢◌, ℕ, ◌+◌, ◌*◌, List, [], ◌∷◌, refl, sym, ap, subst, arith, Some, None}
 use Rattle.std.specs.Prelude.{true, false, cond, ◌==◌, ◌^◌}
 use Rattle.std.proofs.lemmas.Bool.Decides.{nat_tests}
-use Rattle.body_terms.specs.Update.{upd}
-use Rattle.body_terms.specs.Word.{value_of, version_of, next_word}
-use Rattle.body_terms.specs.Memory.{cell_of}
-use Rattle.section_body.specs.Bucket.{operand, read_steps, insert_steps, remove_steps}
+use Rattle.structure_laws.specs.body_terms.specs.Update.{upd}
+use Rattle.structure_laws.specs.body_terms.specs.Word.{value_of, version_of, next_word}
+use Rattle.structure_laws.specs.body_terms.specs.Memory.{cell_of}
+use Rattle.tree_laws.specs.section_body.specs.Bucket.{operand, read_steps, insert_steps, remove_steps}
 use Rattle.tree_laws.specs.bucket_laws.specs.bucket_bodies.specs.Table.{set_steps}
-use Rattle.body_terms.specs.Line.{line}
-use Rattle.body_terms.specs.Run.{Setting, Run, ran, exchanged}
-use Rattle.body_terms.specs.declared.outcome.Outcome.TheVariants.{Answered, Stale, Spent}
-use Rattle.body_terms.specs.declared.micro.Source.TheVariants.{Fixed, Agreed}
-use Rattle.body_terms.specs.declared.micro.Micro.{Micro}
-use Rattle.body_terms.specs.declared.micro.Micro.TheVariants.{LoadCell, Commit, CheckFresh, PrivateLoad, PrivateStore, MakeCommit, ClockLoad, StampExchange, ClockRaise, ExchangeCell, EpochForRetire, RetireCommit, ReplyExchange}
-use Rattle.body_terms.specs.declared.thunk.Thunk.{Thunk}
+use Rattle.structure_laws.specs.body_terms.specs.Line.{line}
+use Rattle.structure_laws.specs.body_terms.specs.Run.{Setting, Run, ran, exchanged}
+use Rattle.structure_laws.specs.body_terms.specs.declared.outcome.Outcome.TheVariants.{Answered, Stale, Spent}
+use Rattle.structure_laws.specs.body_terms.specs.declared.micro.Source.TheVariants.{Fixed, Agreed}
+use Rattle.structure_laws.specs.body_terms.specs.declared.micro.Micro.{Micro}
+use Rattle.structure_laws.specs.body_terms.specs.declared.micro.Micro.TheVariants.{LoadCell, Commit, CheckFresh, PrivateLoad, PrivateStore, MakeCommit, ClockLoad, StampExchange, ClockRaise, ExchangeCell, EpochForRetire, RetireCommit, ReplyExchange}
+use Rattle.structure_laws.specs.body_terms.specs.declared.thunk.Thunk.{Thunk}
 
 -- the check of a Want passes where the word is the wanted one
 pub word_passes : (place word read : ℕ) → read ≡ word → cond (read == word) None (Some (Stale place word read)) ≡ None

@@ -6,22 +6,22 @@ use Rattle.std.proofs.lemmas.Bool.Decides.{nat_tests}
 use Rattle.std.proofs.Math.Nat.{div-lt_iff_lt-mul, pow-le-pow_right}
 use Rattle.std.proofs.lemmas.Nat.{pow-add, pow_pos}
 use Rattle.std.proofs.lemmas.Option.{none-some}
-use Rattle.small_lemmas.proofs.Lists.{none_if_never as none_is}
-use Rattle.small_lemmas.proofs.Numbers.{equal_tested as equal_number, other_tested as other_number}
-use Rattle.map_history.specs.declared.op.Op.{Op}
-use Rattle.map_history.specs.declared.op.Op.TheVariants.{Put}
-use Rattle.map_history.specs.Keys.{key_of, value_given}
-use Rattle.map_history.specs.Replay.{Pairs, map_after}
-use Rattle.body_terms.specs.Update.{upd}
-use Rattle.body_terms.specs.Word.{value_of, next_word}
-use Rattle.body_terms.specs.Memory.{PlainMemory, cell_of}
-use Rattle.section_body.specs.Bucket.{bucket_index, bucket_edition, bucket_head, operand, is_small, fits_read, fits_insert, fits_remove, read_steps, insert_steps, remove_steps, bucket_steps}
+use Rattle.structure_laws.specs.table_words.specs.small_lemmas.proofs.Lists.{none_if_never as none_is}
+use Rattle.structure_laws.specs.table_words.specs.small_lemmas.proofs.Numbers.{equal_tested as equal_number, other_tested as other_number}
+use Rattle.structure_laws.specs.map_history.specs.declared.op.Op.{Op}
+use Rattle.structure_laws.specs.map_history.specs.declared.op.Op.TheVariants.{Put}
+use Rattle.structure_laws.specs.map_history.specs.Keys.{key_of, value_given}
+use Rattle.structure_laws.specs.map_history.specs.Replay.{Pairs, map_after}
+use Rattle.structure_laws.specs.body_terms.specs.Update.{upd}
+use Rattle.structure_laws.specs.body_terms.specs.Word.{value_of, next_word}
+use Rattle.structure_laws.specs.body_terms.specs.Memory.{PlainMemory, cell_of}
+use Rattle.tree_laws.specs.section_body.specs.Bucket.{bucket_index, bucket_edition, bucket_head, operand, is_small, fits_read, fits_insert, fits_remove, read_steps, insert_steps, remove_steps, bucket_steps}
 use Rattle.tree_laws.specs.bucket_laws.specs.bucket_bodies.specs.Table.{fits_set, set_steps, table_steps}
-use Rattle.body_terms.specs.Run.{exchanged}
-use Rattle.body_terms.specs.Plain.{plain_setting, plain_run}
-use Rattle.body_terms.specs.declared.outcome.Outcome.TheVariants.{Answered}
-use Rattle.body_terms.specs.declared.step.Step.{Step}
-use Rattle.body_terms.specs.declared.thunk.Thunk.{Thunk}
+use Rattle.structure_laws.specs.body_terms.specs.Run.{exchanged}
+use Rattle.structure_laws.specs.body_terms.specs.Plain.{plain_setting, plain_run}
+use Rattle.structure_laws.specs.body_terms.specs.declared.outcome.Outcome.TheVariants.{Answered}
+use Rattle.structure_laws.specs.body_terms.specs.declared.step.Step.{Step}
+use Rattle.structure_laws.specs.body_terms.specs.declared.thunk.Thunk.{Thunk}
 use Rattle.structure_laws.specs.Scene.{Readings}
 use Rattle.structure_laws.proofs.Changes.{upd_same, upd_other, value-next_word, value_small}
 use Rattle.tree_laws.specs.bucket_laws.specs.Chain.{Nodes, with_head, with_next, with_value, Chains, Contents}

@@ -1,21 +1,21 @@
 -- The runs of the search tree's four bodies.
 use Rattle.std.proofs.Common.{◌≡◌, ◌≢◌, ℕ, ◌+◌, ◌*◌, Bool, true, false, cond, List, [], ◌∷◌, refl, sym, ap, subst, Some, None}
 use Rattle.std.specs.Prelude.{◌==◌, ◌^◌, slice_index}
-use Rattle.body_terms.specs.Update.{upd}
-use Rattle.body_terms.specs.Word.{value_of, version_of, next_word, held_word}
-use Rattle.body_terms.specs.Memory.{cell_of}
-use Rattle.section_body.specs.Bucket.{operand}
-use Rattle.body_terms.specs.Line.{line}
-use Rattle.body_terms.specs.Run.{Setting, Run, ran, exchanged, is_takable, refusal}
-use Rattle.body_terms.specs.declared.outcome.Outcome.TheVariants.{Busy}
-use Rattle.body_terms.specs.declared.micro.Source.TheVariants.{Fixed, Agreed}
-use Rattle.body_terms.specs.declared.micro.Micro.{Micro}
-use Rattle.body_terms.specs.declared.micro.Micro.TheVariants.{LoadCell, Commit, CheckWord, CheckFresh, NestedLoad, NestedCommit, CheckFree, NestedHold, OutcomeLoad, OutcomeCommit, CheckHeld, PrivateLoad, PrivateStore, MakeCommit, ClockLoad, StampExchange, ClockRaise, ExchangeCell, EpochForRetire, RetireCommit, ReplyExchange}
-use Rattle.body_terms.specs.declared.step.Step.{Step}
-use Rattle.body_terms.specs.declared.step.Step.TheVariants.{Load, Want, Fresh, Make, Stamp, Store, Answer}
-use Rattle.body_terms.specs.declared.value.Init.{Init}
-use Rattle.body_terms.specs.declared.value.Value.TheVariants.{Const, Made}
-use Rattle.body_terms.specs.declared.thunk.Thunk.{Thunk}
+use Rattle.structure_laws.specs.body_terms.specs.Update.{upd}
+use Rattle.structure_laws.specs.body_terms.specs.Word.{value_of, version_of, next_word, held_word}
+use Rattle.structure_laws.specs.body_terms.specs.Memory.{cell_of}
+use Rattle.tree_laws.specs.section_body.specs.Bucket.{operand}
+use Rattle.structure_laws.specs.body_terms.specs.Line.{line}
+use Rattle.structure_laws.specs.body_terms.specs.Run.{Setting, Run, ran, exchanged, is_takable, refusal}
+use Rattle.structure_laws.specs.body_terms.specs.declared.outcome.Outcome.TheVariants.{Busy}
+use Rattle.structure_laws.specs.body_terms.specs.declared.micro.Source.TheVariants.{Fixed, Agreed}
+use Rattle.structure_laws.specs.body_terms.specs.declared.micro.Micro.{Micro}
+use Rattle.structure_laws.specs.body_terms.specs.declared.micro.Micro.TheVariants.{LoadCell, Commit, CheckWord, CheckFresh, NestedLoad, NestedCommit, CheckFree, NestedHold, OutcomeLoad, OutcomeCommit, CheckHeld, PrivateLoad, PrivateStore, MakeCommit, ClockLoad, StampExchange, ClockRaise, ExchangeCell, EpochForRetire, RetireCommit, ReplyExchange}
+use Rattle.structure_laws.specs.body_terms.specs.declared.step.Step.{Step}
+use Rattle.structure_laws.specs.body_terms.specs.declared.step.Step.TheVariants.{Load, Want, Fresh, Make, Stamp, Store, Answer}
+use Rattle.structure_laws.specs.body_terms.specs.declared.value.Init.{Init}
+use Rattle.structure_laws.specs.body_terms.specs.declared.value.Value.TheVariants.{Const, Made}
+use Rattle.structure_laws.specs.body_terms.specs.declared.thunk.Thunk.{Thunk}
 use Rattle.plain_laws.proofs.Forms.{Ends, word_passes, fresh_passes}
 use Rattle.tree_laws.specs.tree_bodies.specs.Tree.{lock_of, mark_of, leaf_init, inner_with, parent_in, leaf_in}
 use Rattle.tree_laws.specs.tree_bodies.specs.Tree.{sibling_of}

@@ -4,23 +4,23 @@ use Rattle.std.specs.Prelude.{◌==◌, ◌&&◌, ◌||◌, ◌-◌, ◌^◌, �
 use Rattle.std.specs.FinMap.{get, insert}
 use Rattle.std.proofs.lemmas.Bool.Decides.{nat_tests}
 use Rattle.std.proofs.lemmas.Bool.{cases_eq, and_from, both_ways}
-use Rattle.small_lemmas.proofs.Bools.{from_false as false_true}
-use Rattle.small_lemmas.proofs.Numbers.{equal_tested as eq_true, other_tested as eq_false}
-use Rattle.map_history.specs.declared.op.Op.{Op}
-use Rattle.map_history.specs.declared.op.Op.TheVariants.{Get, Ins, Del, Put, Mov}
-use Rattle.map_history.specs.Keys.{key_of}
-use Rattle.map_history.specs.Replay.{Pairs, map_after, reply_of}
-use Rattle.map_history.specs.Words.{word_of}
-use Rattle.map_history.specs.declared.reply.Reply.TheVariants.{Gone, Absent}
-use Rattle.body_terms.specs.Update.{upd}
-use Rattle.body_terms.specs.Word.{value_of, next_word, held_word, is_free, is_spent}
-use Rattle.body_terms.specs.Memory.{PlainMemory, cell_of}
-use Rattle.section_body.specs.Bucket.{operand, is_small}
-use Rattle.body_terms.specs.Run.{exchanged}
-use Rattle.body_terms.specs.Plain.{plain_setting, plain_run}
-use Rattle.body_terms.specs.declared.outcome.Outcome.TheVariants.{Answered}
-use Rattle.body_terms.specs.declared.step.Step.{Step}
-use Rattle.body_terms.specs.declared.thunk.Thunk.{Thunk}
+use Rattle.structure_laws.specs.table_words.specs.small_lemmas.proofs.Bools.{from_false as false_true}
+use Rattle.structure_laws.specs.table_words.specs.small_lemmas.proofs.Numbers.{equal_tested as eq_true, other_tested as eq_false}
+use Rattle.structure_laws.specs.map_history.specs.declared.op.Op.{Op}
+use Rattle.structure_laws.specs.map_history.specs.declared.op.Op.TheVariants.{Get, Ins, Del, Put, Mov}
+use Rattle.structure_laws.specs.map_history.specs.Keys.{key_of}
+use Rattle.structure_laws.specs.map_history.specs.Replay.{Pairs, map_after, reply_of}
+use Rattle.structure_laws.specs.map_history.specs.Words.{word_of}
+use Rattle.structure_laws.specs.map_history.specs.declared.reply.Reply.TheVariants.{Gone, Absent}
+use Rattle.structure_laws.specs.body_terms.specs.Update.{upd}
+use Rattle.structure_laws.specs.body_terms.specs.Word.{value_of, next_word, held_word, is_free, is_spent}
+use Rattle.structure_laws.specs.body_terms.specs.Memory.{PlainMemory, cell_of}
+use Rattle.tree_laws.specs.section_body.specs.Bucket.{operand, is_small}
+use Rattle.structure_laws.specs.body_terms.specs.Run.{exchanged}
+use Rattle.structure_laws.specs.body_terms.specs.Plain.{plain_setting, plain_run}
+use Rattle.structure_laws.specs.body_terms.specs.declared.outcome.Outcome.TheVariants.{Answered}
+use Rattle.structure_laws.specs.body_terms.specs.declared.step.Step.{Step}
+use Rattle.structure_laws.specs.body_terms.specs.declared.thunk.Thunk.{Thunk}
 use Rattle.structure_laws.specs.Scene.{Cells}
 use Rattle.structure_laws.specs.Sections.{IsAllowed}
 use Rattle.structure_laws.proofs.Changes.{upd_same, upd_other, value-next_word, value_small, equal_of}

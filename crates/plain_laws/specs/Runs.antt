@@ -1,16 +1,16 @@
 -- The plain run of the hash table's body for an operation.
 use Rattle.std.specs.Prelude.{◌≡◌, ◌≢◌, ℕ, suc, ◌+◌, ◌*◌, ◌^◌, ◌<◌, ◌≤◌, [], length, slice_get, slice_index, true, false, Some}
-use Rattle.map_history.specs.declared.op.Op.{Op}
-use Rattle.map_history.specs.Keys.{DependsOn, GivesSmall}
-use Rattle.map_history.specs.Replay.{Pairs, reply_of, map_after}
-use Rattle.map_history.specs.Words.{word_of}
-use Rattle.body_terms.specs.Word.{version_of}
-use Rattle.body_terms.specs.Memory.{PlainMemory}
-use Rattle.section_body.specs.Bucket.{bucket_index, operand}
-use Rattle.body_terms.specs.Run.{Run}
-use Rattle.body_terms.specs.Plain.{plain_run}
-use Rattle.body_terms.specs.declared.outcome.Outcome.TheVariants.{Answered}
-use Rattle.body_terms.specs.declared.thunk.Thunk.{Thunk}
+use Rattle.structure_laws.specs.map_history.specs.declared.op.Op.{Op}
+use Rattle.structure_laws.specs.map_history.specs.Keys.{DependsOn, GivesSmall}
+use Rattle.structure_laws.specs.map_history.specs.Replay.{Pairs, reply_of, map_after}
+use Rattle.structure_laws.specs.map_history.specs.Words.{word_of}
+use Rattle.structure_laws.specs.body_terms.specs.Word.{version_of}
+use Rattle.structure_laws.specs.body_terms.specs.Memory.{PlainMemory}
+use Rattle.tree_laws.specs.section_body.specs.Bucket.{bucket_index, operand}
+use Rattle.structure_laws.specs.body_terms.specs.Run.{Run}
+use Rattle.structure_laws.specs.body_terms.specs.Plain.{plain_run}
+use Rattle.structure_laws.specs.body_terms.specs.declared.outcome.Outcome.TheVariants.{Answered}
+use Rattle.structure_laws.specs.body_terms.specs.declared.thunk.Thunk.{Thunk}
 use Rattle.structure_laws.specs.Scene.{Readings}
 use Rattle.tree_laws.specs.bucket_laws.specs.bucket_bodies.specs.Table.{table_steps}
 use Rattle.tree_laws.specs.bucket_laws.specs.Walk.{Bounds, start, walk, fits_walk}

@@ -1,6 +1,6 @@
 -- How the printing of generated requests ends.
 use Rattle.std.specs.Prelude.{◌≡◌, ℕ, ◌*◌, ◌<◌, ◌≤◌, List, Option}
-use Rattle.fault_count.specs.Rose.{Rose}
+use Rattle.report_text.specs.fault_count.specs.Rose.{Rose}
 use Rattle.report_text.specs.Sink.{Extends, ExtendsInPart}
 use Rattle.trace_reader.specs.Answer.{AreTracesOf}
 use Rattle.trace_reader.specs.Generator.{generated}

@@ -1,6 +1,6 @@
 // The printing of generated requests.
 ghost use Rattle.std.specs.Prelude.{◌≡◌, ◌*◌, ◌<◌, ◌≤◌, Err, IfErr, OnOk};
-ghost use Rattle.fault_count.specs.Rose.{Rose};
+ghost use Rattle.report_text.specs.fault_count.specs.Rose.{Rose};
 ghost use Rattle.trace_reader.specs.Generator.{IsPlan};
 ghost use Rattle.printed_traces.specs.Ends.{IsPlanInRange, IsRead, Prints, Stops};
 ghost use Rattle.printed_traces.specs.declared.print.PrintStop.TheVariants.{TooManyRequests, Memory, WriteFault};

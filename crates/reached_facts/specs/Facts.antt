@@ -1,20 +1,20 @@
 -- What holds of each state that the machine reaches over an allowed table.
 use Rattle.std.specs.Prelude.{ℕ, List}
-use Rattle.map_history.specs.declared.op.Request.{Request}
-use Rattle.table_words.specs.declared.layout.Layout.{Layout}
-use Rattle.table_words.specs.Limits.{IsWithinLimits}
-use Rattle.structure_laws.specs.Meaning.{Meaning}
-use Rattle.structure_laws.specs.Planner.{PlannerLaws}
+use Rattle.machine_states.specs.runner_steps.specs.map_history.specs.declared.op.Request.{Request}
+use Rattle.machine_states.specs.runner_steps.specs.table_words.specs.declared.layout.Layout.{Layout}
+use Rattle.machine_states.specs.runner_steps.specs.table_words.specs.Limits.{IsWithinLimits}
+use Rattle.machine_states.specs.structure_laws.specs.Meaning.{Meaning}
+use Rattle.machine_states.specs.structure_laws.specs.Planner.{PlannerLaws}
 use Rattle.machine_states.specs.World.{World}
 use Rattle.machine_states.specs.Reached.{Reached}
 use Rattle.machine_states.specs.Sight.{Sight, sight}
 use Rattle.version_words.specs.machine_invariant.specs.After.{AreAllowed}
 use Rattle.version_words.specs.machine_invariant.specs.Lengths.{ListsAreShort}
-use Rattle.reached_histories.specs.Laws.{HasHistory}
+use Rattle.request_facts.specs.reached_histories.specs.Laws.{HasHistory}
 use Rattle.request_facts.specs.Laws.{CallersStand}
-use Rattle.lock_words.specs.runner_facts.specs.Facts.{LimboIsDone, DescriptorsAreKept, WornAreWorn}
-use Rattle.lock_words.specs.runner_facts.specs.Own.{OwnStand}
-use Rattle.lock_words.specs.runner_facts.specs.Worn.{HasNoRepeats}
+use Rattle.keeper_facts.specs.runner_facts.specs.Facts.{LimboIsDone, DescriptorsAreKept, WornAreWorn}
+use Rattle.keeper_facts.specs.runner_facts.specs.Own.{OwnStand}
+use Rattle.keeper_facts.specs.runner_facts.specs.Worn.{HasNoRepeats}
 use Rattle.lock_words.specs.Spent.{SpentStand}
 use Rattle.keeper_facts.specs.Freed.{LocksTell}
 use Rattle.one_worker.specs.resource_bounds.specs.Versions.{VersionsAreCounted}

@@ -1,19 +1,19 @@
 //! The law of this crate, on a contract.
 ghost use Rattle.reached_facts.specs.Facts.{KeepsFacts};
 
-use keeper_facts::runner_facts::{
+use keeper_facts::what_the_keeper_saw_tells;
+use lock_words::runner_facts::{
     descriptors_are_kept, limbo_is_done, own_descriptors_stand, worn_lists_have_no_repeats,
     worn_slots_are_worn,
 };
-use keeper_facts::what_the_keeper_saw_tells;
 use lock_words::spent_words_stand;
+use machine_states::structure_laws::Structure;
 use one_worker::one_worker_is_uncrossed;
 use one_worker::resource_bounds::{
     few_pairs_are_added, few_slots_are_in_use, makes_are_counted, versions_are_counted,
 };
-use reached_histories::reached_states_have_histories;
 use request_facts::reached_callers_stand;
-use structure_laws::Structure;
+use request_facts::reached_histories::reached_states_have_histories;
 use version_words::machine_invariant::lists_are_short;
 use version_words::{FlockTable, table_is_allowed};
 

@@ -3,14 +3,14 @@ use Rattle.std.specs.Prelude.{◌==◌, ◌&&◌, not, nat_le, true, false}
 use Rattle.std.proofs.Common.{◌≡◌, ◌≢◌, ℕ, ◌<◌, ◌≤◌, sym, ap, ◌∙◌, subst, ⊎_elim, arith, Some}
 use Rattle.std.proofs.lemmas.Bool.{cases_lt, and_parts}
 use Rattle.std.proofs.lemmas.Bool.Decides.{nat_tests}
-use Rattle.body_terms.specs.Line.{micro_at}
-use Rattle.section_lines.specs.Line.{IsStamped}
-use Rattle.table_words.specs.declared.layout.Layout.{Layout}
-use Rattle.structure_laws.specs.Meaning.{Meaning}
-use Rattle.runner_parts.specs.State.{RunState}
-use Rattle.runner_parts.specs.Tests.{knows, is_answered}
-use Rattle.runner_steps.specs.Sections.{thunk_of, line_of, is_open_run}
-use Rattle.agreement_core.specs.State.{AgreementState, Section}
+use Rattle.machine_states.specs.runner_steps.specs.body_terms.specs.Line.{micro_at}
+use Rattle.still_reads.specs.agreement_core.specs.section_lines.specs.Line.{IsStamped}
+use Rattle.machine_states.specs.runner_steps.specs.table_words.specs.declared.layout.Layout.{Layout}
+use Rattle.machine_states.specs.structure_laws.specs.Meaning.{Meaning}
+use Rattle.machine_states.specs.runner_steps.specs.runner_parts.specs.State.{RunState}
+use Rattle.machine_states.specs.runner_steps.specs.runner_parts.specs.Tests.{knows, is_answered}
+use Rattle.machine_states.specs.runner_steps.specs.Sections.{thunk_of, line_of, is_open_run}
+use Rattle.still_reads.specs.agreement_core.specs.State.{AgreementState, Section}
 use Rattle.machine_history.specs.history_core.specs.State.{Requests, HistoryState}
 use Rattle.machine_history.specs.history_core.specs.Sound.{IsSound}
 use Rattle.machine_states.specs.Sight.{Sight}

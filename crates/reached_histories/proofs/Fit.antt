@@ -5,22 +5,22 @@ use Rattle.std.specs.List.{list_all}
 use Rattle.std.proofs.Common.{◌≡◌, ◌≢◌, ℕ, suc, refl, subst, arith}
 use Rattle.std.proofs.lemmas.Bool.{and_parts}
 use Rattle.std.proofs.lemmas.Bool.Decides.{nat_tests}
-use Rattle.small_lemmas.proofs.Bools.{negated as not_so}
-use Rattle.small_lemmas.proofs.Numbers.{tested_equal as same_test}
-use Rattle.map_history.specs.declared.op.Request.{Request}
-use Rattle.body_terms.specs.Shape.{is_look}
-use Rattle.body_terms.specs.Word.{is_free, is_spent}
-use Rattle.body_terms.specs.declared.step.Step.{Step}
-use Rattle.body_terms.specs.declared.step.Step.TheVariants.{Load, Want, Answer}
-use Rattle.table_words.specs.declared.layout.Layout.{Layout}
-use Rattle.structure_laws.specs.Meaning.{Meaning}
-use Rattle.structure_laws.specs.Shape.{HasStep}
-use Rattle.runner_parts.specs.declared.entries.Known.{Known}
-use Rattle.runner_parts.specs.declared.entries.Look.{Look}
-use Rattle.runner_parts.specs.Tests.{has_pair, is_open, is_next, serves}
-use Rattle.runner_steps.specs.Sections.{reply_in}
-use Rattle.runner_steps.specs.Outside.{is_due}
-use Rattle.runner_steps.specs.Reads.{is_found, is_met, finds, is_looking, is_planned, is_fit, planned_of, found_of}
+use Rattle.machine_states.specs.epoch_core.specs.small_lemmas.proofs.Bools.{negated as not_so}
+use Rattle.machine_states.specs.epoch_core.specs.small_lemmas.proofs.Numbers.{tested_equal as same_test}
+use Rattle.history_orders.specs.map_history.specs.declared.op.Request.{Request}
+use Rattle.machine_states.specs.runner_steps.specs.body_terms.specs.Shape.{is_look}
+use Rattle.machine_states.specs.runner_steps.specs.body_terms.specs.Word.{is_free, is_spent}
+use Rattle.machine_states.specs.runner_steps.specs.body_terms.specs.declared.step.Step.{Step}
+use Rattle.machine_states.specs.runner_steps.specs.body_terms.specs.declared.step.Step.TheVariants.{Load, Want, Answer}
+use Rattle.machine_states.specs.runner_steps.specs.table_words.specs.declared.layout.Layout.{Layout}
+use Rattle.machine_states.specs.structure_laws.specs.Meaning.{Meaning}
+use Rattle.machine_states.specs.structure_laws.specs.Shape.{HasStep}
+use Rattle.machine_states.specs.runner_steps.specs.runner_parts.specs.declared.entries.Known.{Known}
+use Rattle.machine_states.specs.runner_steps.specs.runner_parts.specs.declared.entries.Look.{Look}
+use Rattle.machine_states.specs.runner_steps.specs.runner_parts.specs.Tests.{has_pair, is_open, is_next, serves}
+use Rattle.machine_states.specs.runner_steps.specs.Sections.{reply_in}
+use Rattle.machine_states.specs.runner_steps.specs.Outside.{is_due}
+use Rattle.machine_states.specs.runner_steps.specs.Reads.{is_found, is_met, finds, is_looking, is_planned, is_fit, planned_of, found_of}
 use Rattle.reached_histories.proofs.Supplying.{IsNextRequest, next_request, passes}
 
 -- a pair that the list has stands in it

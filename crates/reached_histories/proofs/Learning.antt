@@ -2,19 +2,19 @@
 use Rattle.std.specs.Prelude.{◌⊎◌, ◌==◌, ◌||◌, cond, Bool, true, false, []}
 use Rattle.std.proofs.Common.{◌≡◌, ◌≢◌, ℕ, List, ◌∷◌, refl, sym, ap, ◌∙◌, ⊎_elim, arith}
 use Rattle.std.proofs.lemmas.Bool.Decides.{nat_tests}
-use Rattle.map_history.specs.declared.op.Request.{Request}
-use Rattle.table_words.specs.declared.layout.Layout.{Layout}
-use Rattle.table_words.specs.Limits.{IsWithinLimits}
-use Rattle.structure_laws.specs.Meaning.{Meaning}
-use Rattle.structure_laws.specs.Laws.{Laws}
-use Rattle.runner_parts.specs.Tests.{has}
-use Rattle.epoch_core.specs.State.{Counts}
+use Rattle.history_orders.specs.map_history.specs.declared.op.Request.{Request}
+use Rattle.machine_states.specs.runner_steps.specs.table_words.specs.declared.layout.Layout.{Layout}
+use Rattle.machine_states.specs.runner_steps.specs.table_words.specs.Limits.{IsWithinLimits}
+use Rattle.machine_states.specs.structure_laws.specs.Meaning.{Meaning}
+use Rattle.machine_states.specs.structure_laws.specs.Laws.{Laws}
+use Rattle.machine_states.specs.runner_steps.specs.runner_parts.specs.Tests.{has}
+use Rattle.machine_states.specs.epoch_core.specs.State.{Counts}
 use Rattle.machine_history.specs.history_core.specs.State.{Requests, HistoryState}
 use Rattle.machine_history.specs.history_core.specs.Events as history
 use Rattle.machine_history.specs.history_core.specs.Schedules.{after_all}
 use Rattle.machine_states.specs.Sight.{Sight}
 use Rattle.machine_epochs.specs.Entries.{counts_of}
-use Rattle.machine_scenes.specs.Shown.{States}
+use Rattle.machine_facts.specs.machine_agreement.specs.machine_scenes.specs.Shown.{States}
 use Rattle.machine_history.specs.Steps.{Over, Learn}
 use Rattle.machine_history.specs.Laws.{IsJoined}
 use Rattle.machine_history.proofs.Joining.{steps_keep}

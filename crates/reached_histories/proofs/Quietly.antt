@@ -3,27 +3,27 @@ use Rattle.std.specs.Prelude.{◌⊎◌, ◌==◌, ◌&&◌, not, max, cond, Boo
 use Rattle.std.proofs.Common.{◌≡◌, ◌≢◌, ℕ, zero, suc, ◌≤◌, List, ◌∷◌, inl, inr, refl, sym, ap, ◌∙◌, subst, ⊎_elim, arith}
 use Rattle.std.proofs.lemmas.Bool.{cases_eq}
 use Rattle.std.proofs.lemmas.Bool.Decides.{nat_tests}
-use Rattle.map_history.specs.declared.op.Request.{Request}
-use Rattle.body_terms.specs.Update.{upd}
-use Rattle.body_terms.specs.declared.micro.Micro.TheVariants as micros
-use Rattle.structure_laws.proofs.Changes.{upd_same, upd_other}
-use Rattle.table_words.specs.declared.layout.Layout.{Layout}
-use Rattle.table_words.specs.Limits.{IsWithinLimits}
-use Rattle.structure_laws.specs.Meaning.{Meaning}
-use Rattle.structure_laws.specs.Laws.{Laws}
-use Rattle.agreement_core.specs.State.{AgreementState}
-use Rattle.agreement_core.specs.Checks.{is_stamp_exchange}
-use Rattle.agreement_core.specs.Events as agreement
-use Rattle.epoch_core.specs.State.{Counts}
+use Rattle.history_orders.specs.map_history.specs.declared.op.Request.{Request}
+use Rattle.machine_states.specs.runner_steps.specs.body_terms.specs.Update.{upd}
+use Rattle.machine_states.specs.runner_steps.specs.body_terms.specs.declared.micro.Micro.TheVariants as micros
+use Rattle.machine_states.specs.structure_laws.proofs.Changes.{upd_same, upd_other}
+use Rattle.machine_states.specs.runner_steps.specs.table_words.specs.declared.layout.Layout.{Layout}
+use Rattle.machine_states.specs.runner_steps.specs.table_words.specs.Limits.{IsWithinLimits}
+use Rattle.machine_states.specs.structure_laws.specs.Meaning.{Meaning}
+use Rattle.machine_states.specs.structure_laws.specs.Laws.{Laws}
+use Rattle.still_reads.specs.agreement_core.specs.State.{AgreementState}
+use Rattle.still_reads.specs.agreement_core.specs.Checks.{is_stamp_exchange}
+use Rattle.still_reads.specs.agreement_core.specs.Events as agreement
+use Rattle.machine_states.specs.epoch_core.specs.State.{Counts}
 use Rattle.machine_history.specs.history_core.specs.State.{Requests, HistoryState}
 use Rattle.machine_history.specs.history_core.specs.Events as history
 use Rattle.machine_history.specs.history_core.specs.Schedules as schedules
 use Rattle.machine_history.specs.history_core.specs.Sound.{IsSound}
 use Rattle.machine_history.specs.history_core.proofs.RealTime.{Passes, passes_nowhere, passes_more, event_passes}
 use Rattle.machine_epochs.specs.Entries.{counts_of}
-use Rattle.machine_scenes.specs.Shown.{States}
-use Rattle.machine_scenes.specs.Steps as scenes
-use Rattle.machine_scenes.specs.Schedules as scene_lists
+use Rattle.machine_facts.specs.machine_agreement.specs.machine_scenes.specs.Shown.{States}
+use Rattle.machine_facts.specs.machine_agreement.specs.machine_scenes.specs.Steps as scenes
+use Rattle.machine_facts.specs.machine_agreement.specs.machine_scenes.specs.Schedules as scene_lists
 use Rattle.machine_history.specs.Tied.{is_loading}
 use Rattle.machine_history.specs.Steps.{HistoryStates, Joint, events_of, is_apart, MayFree}
 use Rattle.machine_history.specs.Laws.{IsJoined}

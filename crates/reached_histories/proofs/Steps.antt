@@ -4,28 +4,28 @@ use Rattle.std.proofs.Common.{◌≡◌, ◌≢◌, ℕ, suc, ◌≤◌, List, �
 use Rattle.std.proofs.lemmas.Bool.{cases_eq}
 use Rattle.std.proofs.lemmas.Bool.Decides.{nat_tests}
 use Rattle.std.proofs.lemmas.List.{append-nil}
-use Rattle.map_history.specs.declared.op.Request.{Request}
-use Rattle.body_terms.specs.Line.{line, micro_at, committed}
-use Rattle.body_terms.specs.declared.thunk.Thunk.{Thunk}
-use Rattle.structure_laws.proofs.Changes.{upd_same, upd_other}
-use Rattle.table_words.specs.declared.layout.Layout.{Layout}
-use Rattle.table_words.specs.Limits.{IsWithinLimits}
-use Rattle.structure_laws.specs.Meaning.{Meaning}
-use Rattle.structure_laws.specs.Laws.{Laws}
-use Rattle.runner_parts.specs.declared.entries.Known.{Known}
-use Rattle.runner_parts.specs.declared.entries.Published.{Published}
-use Rattle.runner_parts.specs.declared.event.EventKind.{EventKind}
-use Rattle.runner_parts.specs.declared.event.EventKind.TheVariants as kinds
-use Rattle.runner_parts.specs.State.{PartState}
-use Rattle.runner_parts.specs.Tests.{has, is_answered}
-use Rattle.body_terms.specs.Update.{upd}
-use Rattle.runner_steps.specs.AfterOutside.{published_by}
-use Rattle.runner_steps.specs.Asks.{asks}
-use Rattle.agreement_core.specs.Events as agreement
-use Rattle.agreement_core.specs.Schedules as agreement_schedules
-use Rattle.epoch_core.specs.State.{Counts}
-use Rattle.epoch_core.specs.History.{is_out}
-use Rattle.epoch_core.specs.Schedules as epoch_schedules
+use Rattle.history_orders.specs.map_history.specs.declared.op.Request.{Request}
+use Rattle.machine_states.specs.runner_steps.specs.body_terms.specs.Line.{line, micro_at, committed}
+use Rattle.machine_states.specs.runner_steps.specs.body_terms.specs.declared.thunk.Thunk.{Thunk}
+use Rattle.machine_states.specs.structure_laws.proofs.Changes.{upd_same, upd_other}
+use Rattle.machine_states.specs.runner_steps.specs.table_words.specs.declared.layout.Layout.{Layout}
+use Rattle.machine_states.specs.runner_steps.specs.table_words.specs.Limits.{IsWithinLimits}
+use Rattle.machine_states.specs.structure_laws.specs.Meaning.{Meaning}
+use Rattle.machine_states.specs.structure_laws.specs.Laws.{Laws}
+use Rattle.machine_states.specs.runner_steps.specs.runner_parts.specs.declared.entries.Known.{Known}
+use Rattle.machine_states.specs.runner_steps.specs.runner_parts.specs.declared.entries.Published.{Published}
+use Rattle.machine_states.specs.runner_steps.specs.runner_parts.specs.declared.event.EventKind.{EventKind}
+use Rattle.machine_states.specs.runner_steps.specs.runner_parts.specs.declared.event.EventKind.TheVariants as kinds
+use Rattle.machine_states.specs.runner_steps.specs.runner_parts.specs.State.{PartState}
+use Rattle.machine_states.specs.runner_steps.specs.runner_parts.specs.Tests.{has, is_answered}
+use Rattle.machine_states.specs.runner_steps.specs.body_terms.specs.Update.{upd}
+use Rattle.machine_states.specs.runner_steps.specs.AfterOutside.{published_by}
+use Rattle.machine_states.specs.runner_steps.specs.Asks.{asks}
+use Rattle.still_reads.specs.agreement_core.specs.Events as agreement
+use Rattle.still_reads.specs.agreement_core.specs.Schedules as agreement_schedules
+use Rattle.machine_states.specs.epoch_core.specs.State.{Counts}
+use Rattle.machine_states.specs.epoch_core.specs.History.{is_out}
+use Rattle.machine_states.specs.epoch_core.specs.Schedules as epoch_schedules
 use Rattle.machine_history.specs.history_core.specs.State.{Requests, HistoryState, is_replied}
 use Rattle.machine_history.specs.history_core.specs.Events as history
 use Rattle.machine_history.specs.history_core.specs.Schedules.{after_all}
@@ -33,8 +33,8 @@ use Rattle.machine_history.specs.history_core.proofs.RealTime.{Passes, passes_mo
 use Rattle.machine_states.specs.Sight.{Sight, Steps, sight_after}
 use Rattle.machine_states.proofs.Steps.{some_same}
 use Rattle.machine_epochs.specs.Entries.{counts_of}
-use Rattle.machine_scenes.specs.Shown.{States, rules_of}
-use Rattle.machine_scenes.specs.Steps as scenes
+use Rattle.machine_facts.specs.machine_agreement.specs.machine_scenes.specs.Shown.{States, rules_of}
+use Rattle.machine_facts.specs.machine_agreement.specs.machine_scenes.specs.Steps as scenes
 use Rattle.machine_history.specs.Steps.{Joint, Publish}
 use Rattle.machine_history.specs.Laws.{IsJoined}
 use Rattle.machine_history.proofs.Joining.{steps_keep}

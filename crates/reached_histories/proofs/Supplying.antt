@@ -6,30 +6,30 @@ use Rattle.std.proofs.lemmas.Bool.Decides.{nat_tests}
 use Rattle.std.proofs.lemmas.Option.{slice_get-map, slice_get_within, slice_get-get_or}
 use Rattle.std.proofs.lemmas.List.FromFn.{get_or-range_with_len, length-range_with_len}
 use Rattle.std.proofs.lemmas.Bool.{and_parts}
-use Rattle.small_lemmas.proofs.Bools.{negated as not_so}
-use Rattle.small_lemmas.proofs.Numbers.{tested_equal as same_test, from_zero as from_none}
-use Rattle.map_history.specs.declared.op.Request.{Request}
-use Rattle.map_history.specs.Requests.{AreInOrder}
-use Rattle.body_terms.specs.declared.thunk.Thunk.{Thunk}
-use Rattle.table_words.specs.declared.layout.Layout.{Layout}
-use Rattle.table_words.specs.declared.spot.Spot.{Spot}
-use Rattle.table_words.specs.declared.access.Access.{Access}
-use Rattle.structure_laws.specs.Meaning.{Meaning}
-use Rattle.runner_parts.specs.declared.entries.Known.{Known}
-use Rattle.runner_parts.specs.declared.entries.Published.{Published}
-use Rattle.runner_parts.specs.declared.entries.Retired.{Retired}
-use Rattle.runner_parts.specs.declared.event.EventKind.TheVariants.{Hold}
-use Rattle.runner_parts.specs.State.{RunState, PartState}
-use Rattle.runner_parts.specs.Lists.{slots_of}
-use Rattle.runner_parts.specs.Tests.{has, is_answered, are_answered, is_next, is_between}
-use Rattle.runner_steps.specs.Sections.{is_open_run, next_of}
-use Rattle.runner_steps.specs.Outside.{hold_ask}
-use Rattle.runner_steps.specs.Asks.{ask_by, line_ask, opening_ask}
-use Rattle.epoch_core.specs.declared.location.Location.{Location}
-use Rattle.epoch_core.specs.declared.location.Location.TheVariants.{Fixed, Live, Hand, Free, Worn, Limbo}
-use Rattle.epoch_core.specs.Events.{slot_of}
-use Rattle.epoch_core.specs.History.{is_out}
-use Rattle.epoch_core.specs.Lists.{times_retired, in_limbo}
+use Rattle.machine_states.specs.epoch_core.specs.small_lemmas.proofs.Bools.{negated as not_so}
+use Rattle.machine_states.specs.epoch_core.specs.small_lemmas.proofs.Numbers.{tested_equal as same_test, from_zero as from_none}
+use Rattle.history_orders.specs.map_history.specs.declared.op.Request.{Request}
+use Rattle.history_orders.specs.map_history.specs.Requests.{AreInOrder}
+use Rattle.machine_states.specs.runner_steps.specs.body_terms.specs.declared.thunk.Thunk.{Thunk}
+use Rattle.machine_states.specs.runner_steps.specs.table_words.specs.declared.layout.Layout.{Layout}
+use Rattle.machine_states.specs.runner_steps.specs.table_words.specs.declared.spot.Spot.{Spot}
+use Rattle.machine_states.specs.runner_steps.specs.table_words.specs.declared.access.Access.{Access}
+use Rattle.machine_states.specs.structure_laws.specs.Meaning.{Meaning}
+use Rattle.machine_states.specs.runner_steps.specs.runner_parts.specs.declared.entries.Known.{Known}
+use Rattle.machine_states.specs.runner_steps.specs.runner_parts.specs.declared.entries.Published.{Published}
+use Rattle.machine_states.specs.runner_steps.specs.runner_parts.specs.declared.entries.Retired.{Retired}
+use Rattle.machine_states.specs.runner_steps.specs.runner_parts.specs.declared.event.EventKind.TheVariants.{Hold}
+use Rattle.machine_states.specs.runner_steps.specs.runner_parts.specs.State.{RunState, PartState}
+use Rattle.machine_states.specs.runner_steps.specs.runner_parts.specs.Lists.{slots_of}
+use Rattle.machine_states.specs.runner_steps.specs.runner_parts.specs.Tests.{has, is_answered, are_answered, is_next, is_between}
+use Rattle.machine_states.specs.runner_steps.specs.Sections.{is_open_run, next_of}
+use Rattle.machine_states.specs.runner_steps.specs.Outside.{hold_ask}
+use Rattle.machine_states.specs.runner_steps.specs.Asks.{ask_by, line_ask, opening_ask}
+use Rattle.machine_states.specs.epoch_core.specs.declared.location.Location.{Location}
+use Rattle.machine_states.specs.epoch_core.specs.declared.location.Location.TheVariants.{Fixed, Live, Hand, Free, Worn, Limbo}
+use Rattle.machine_states.specs.epoch_core.specs.Events.{slot_of}
+use Rattle.machine_states.specs.epoch_core.specs.History.{is_out}
+use Rattle.machine_states.specs.epoch_core.specs.Lists.{times_retired, in_limbo}
 use Rattle.machine_states.proofs.Sights.{if_some, some_none, unless_gone}
 use Rattle.machine_states.proofs.Steps.{some_same}
 use Rattle.machine_epochs.specs.Entries.{counts_of}

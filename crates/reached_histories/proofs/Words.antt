@@ -2,30 +2,30 @@
 use Rattle.std.specs.Prelude.{◌/◌, ◌%◌, cond, Bool, true, false}
 use Rattle.std.proofs.Common.{◌≡◌, ◌≢◌, ℕ, suc, ◌<◌, ◌≤◌, List, length, inl, inr, refl, sym, ap, ◌∙◌, subst, ⊎_elim, arith, Option, Some, None}
 use Rattle.std.proofs.lemmas.Bool.{cases_lt}
-use Rattle.map_history.specs.declared.op.Request.{Request}
+use Rattle.history_orders.specs.map_history.specs.declared.op.Request.{Request}
 use Rattle.history_orders.specs.Stamped.{IsHistoryOf}
 use Rattle.history_orders.specs.Turns.{Follows}
-use Rattle.body_terms.specs.Line.{is_end, line, micro_at}
-use Rattle.body_terms.specs.Word.{value_of, held_word}
-use Rattle.body_terms.specs.declared.thunk.Thunk.{Thunk}
-use Rattle.body_terms.specs.declared.micro.Micro.{Micro}
-use Rattle.body_terms.specs.declared.micro.Micro.TheVariants as micros
-use Rattle.body_terms.specs.declared.micro.Source.{Source}
-use Rattle.section_lines.specs.Line.{IsLine, phase}
-use Rattle.table_words.specs.declared.layout.Layout.{Layout}
-use Rattle.table_words.specs.declared.spot.Spot.TheVariants.{Cell, Clock, Stamp, Reply}
-use Rattle.table_words.specs.Limits.{IsWithinLimits}
-use Rattle.structure_laws.specs.Scene.{Cells}
-use Rattle.structure_laws.specs.Meaning.{Meaning}
-use Rattle.structure_laws.specs.Laws.{Laws}
-use Rattle.runner_parts.specs.declared.entries.Look.{Look}
-use Rattle.runner_parts.specs.declared.entries.Published.{Published}
-use Rattle.runner_parts.specs.Tests.{is_replied, is_between}
-use Rattle.runner_parts.specs.State.{RunState}
-use Rattle.runner_steps.specs.Sections.{is_open_run, next_of}
-use Rattle.agreement_core.specs.State.{AgreementState}
-use Rattle.agreement_core.proofs.Words.{value_held}
-use Rattle.epoch_core.specs.History.{is_out}
+use Rattle.machine_states.specs.runner_steps.specs.body_terms.specs.Line.{is_end, line, micro_at}
+use Rattle.machine_states.specs.runner_steps.specs.body_terms.specs.Word.{value_of, held_word}
+use Rattle.machine_states.specs.runner_steps.specs.body_terms.specs.declared.thunk.Thunk.{Thunk}
+use Rattle.machine_states.specs.runner_steps.specs.body_terms.specs.declared.micro.Micro.{Micro}
+use Rattle.machine_states.specs.runner_steps.specs.body_terms.specs.declared.micro.Micro.TheVariants as micros
+use Rattle.machine_states.specs.runner_steps.specs.body_terms.specs.declared.micro.Source.{Source}
+use Rattle.still_reads.specs.agreement_core.specs.section_lines.specs.Line.{IsLine, phase}
+use Rattle.machine_states.specs.runner_steps.specs.table_words.specs.declared.layout.Layout.{Layout}
+use Rattle.machine_states.specs.runner_steps.specs.table_words.specs.declared.spot.Spot.TheVariants.{Cell, Clock, Stamp, Reply}
+use Rattle.machine_states.specs.runner_steps.specs.table_words.specs.Limits.{IsWithinLimits}
+use Rattle.machine_states.specs.structure_laws.specs.Scene.{Cells}
+use Rattle.machine_states.specs.structure_laws.specs.Meaning.{Meaning}
+use Rattle.machine_states.specs.structure_laws.specs.Laws.{Laws}
+use Rattle.machine_states.specs.runner_steps.specs.runner_parts.specs.declared.entries.Look.{Look}
+use Rattle.machine_states.specs.runner_steps.specs.runner_parts.specs.declared.entries.Published.{Published}
+use Rattle.machine_states.specs.runner_steps.specs.runner_parts.specs.Tests.{is_replied, is_between}
+use Rattle.machine_states.specs.runner_steps.specs.runner_parts.specs.State.{RunState}
+use Rattle.machine_states.specs.runner_steps.specs.Sections.{is_open_run, next_of}
+use Rattle.still_reads.specs.agreement_core.specs.State.{AgreementState}
+use Rattle.still_reads.specs.agreement_core.proofs.Words.{value_held}
+use Rattle.machine_states.specs.epoch_core.specs.History.{is_out}
 use Rattle.machine_history.specs.history_core.specs.State.{Requests, Seen, HistoryState, has_replied}
 use Rattle.machine_history.specs.history_core.specs.State as history_states
 use Rattle.machine_history.specs.history_core.proofs.Looks.{replied_parts}

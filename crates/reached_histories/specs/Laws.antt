@@ -1,10 +1,10 @@
 -- One legal history stands beside every state that the machine reaches.
 use Rattle.std.specs.Prelude.{List, length}
-use Rattle.map_history.specs.declared.op.Request.{Request}
-use Rattle.table_words.specs.Limits.{IsWithinLimits}
-use Rattle.table_words.specs.declared.layout.Layout.{Layout}
-use Rattle.structure_laws.specs.Meaning.{Meaning}
-use Rattle.runner_parts.specs.declared.event.Event.{Event}
+use Rattle.history_orders.specs.map_history.specs.declared.op.Request.{Request}
+use Rattle.machine_states.specs.runner_steps.specs.table_words.specs.Limits.{IsWithinLimits}
+use Rattle.machine_states.specs.runner_steps.specs.table_words.specs.declared.layout.Layout.{Layout}
+use Rattle.machine_states.specs.structure_laws.specs.Meaning.{Meaning}
+use Rattle.machine_states.specs.runner_steps.specs.runner_parts.specs.declared.event.Event.{Event}
 use Rattle.machine_history.specs.history_core.specs.State.{HistoryState}
 use Rattle.machine_states.specs.World.{World}
 use Rattle.machine_states.specs.Reached.{Reached}

@@ -10,7 +10,5 @@ pub mod Keeping
 pub mod Publishing
 -- Passed on to the layers above, so that they needn't name these libraries themselves.
 pub use Rattle.machine_history.specs.history_core
-pub use Rattle.machine_history
-pub use Rattle.machine_facts.specs.machine_agreement
-pub use Rattle.machine_facts.specs.machine_invariant
 pub use Rattle.machine_facts
+pub use Rattle.machine_history

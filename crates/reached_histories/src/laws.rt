@@ -1,11 +1,11 @@
 //! The law of this crate, on a contract.
 ghost use Rattle.std.specs.Prelude.{List};
-ghost use Rattle.map_history.specs.declared.op.Request.{Request};
-ghost use Rattle.table_words.specs.declared.layout.Layout.{Layout};
+ghost use Rattle.history_orders.specs.map_history.specs.declared.op.Request.{Request};
+ghost use Rattle.machine_states.specs.runner_steps.specs.table_words.specs.declared.layout.Layout.{Layout};
 ghost use Rattle.reached_histories.specs.Laws.{ReachedHaveHistories};
 ghost use Rattle.reached_histories.specs.RealTime.{ReachedAreLinearizable};
 
-use structure_laws::Structure;
+use machine_states::structure_laws::Structure;
 
 /// Over every structure, in every state that the machine reaches: the requests whose stamp word isn't 0, by
 /// stamp and then by number, are one legal history, and the completed memory stands for its final map; the

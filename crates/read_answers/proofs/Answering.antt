@@ -1,24 +1,24 @@
 -- What follows where a look stands, by its imagined section.
 use Rattle.std.proofs.Common.{◌≡◌, ◌≢◌, ℕ, suc, true, false, refl, sym, ap, ◌∙◌, subst, ⊎_elim, arith}
 use Rattle.std.specs.Prelude.{Some}
-use Rattle.map_history.specs.declared.op.Op.{Op}
-use Rattle.map_history.specs.Keys.{HaveNoCommonKey}
-use Rattle.map_history.specs.Replay.{Pairs, reply_of, map_after}
-use Rattle.map_history.specs.Words.{word_of}
-use Rattle.body_terms.specs.Update.{upd}
-use Rattle.body_terms.specs.declared.step.Step.TheVariants.{Answer}
-use Rattle.body_terms.specs.declared.micro.Micro.TheVariants.{ReplyExchange}
-use Rattle.body_terms.specs.declared.thunk.Thunk.{Thunk}
-use Rattle.table_words.specs.declared.layout.Layout.{Layout}
-use Rattle.table_words.specs.Limits.{IsWithinLimits}
-use Rattle.structure_laws.specs.Scene.{Section, Scene, with_section}
-use Rattle.structure_laws.specs.Meaning.{Meaning}
-use Rattle.structure_laws.specs.Sections.{Here, Settled, Unstored, Unstamped}
-use Rattle.structure_laws.specs.Shape.{Shaped, HasStep}
-use Rattle.structure_laws.specs.Fitting.{Leaves}
-use Rattle.structure_laws.specs.Laws.{Laws}
-use Rattle.structure_laws.specs.Lawful.{IsLawful}
-use Rattle.structure_laws.proofs.Changes.{upd_same, upd_other, upd_some}
+use Rattle.section_lines.specs.structure_laws.specs.map_history.specs.declared.op.Op.{Op}
+use Rattle.section_lines.specs.structure_laws.specs.map_history.specs.Keys.{HaveNoCommonKey}
+use Rattle.section_lines.specs.structure_laws.specs.map_history.specs.Replay.{Pairs, reply_of, map_after}
+use Rattle.section_lines.specs.structure_laws.specs.map_history.specs.Words.{word_of}
+use Rattle.section_lines.specs.structure_laws.specs.body_terms.specs.Update.{upd}
+use Rattle.section_lines.specs.structure_laws.specs.body_terms.specs.declared.step.Step.TheVariants.{Answer}
+use Rattle.section_lines.specs.structure_laws.specs.body_terms.specs.declared.micro.Micro.TheVariants.{ReplyExchange}
+use Rattle.section_lines.specs.structure_laws.specs.body_terms.specs.declared.thunk.Thunk.{Thunk}
+use Rattle.section_lines.specs.structure_laws.specs.table_words.specs.declared.layout.Layout.{Layout}
+use Rattle.section_lines.specs.structure_laws.specs.table_words.specs.Limits.{IsWithinLimits}
+use Rattle.section_lines.specs.structure_laws.specs.Scene.{Section, Scene, with_section}
+use Rattle.section_lines.specs.structure_laws.specs.Meaning.{Meaning}
+use Rattle.section_lines.specs.structure_laws.specs.Sections.{Here, Settled, Unstored, Unstamped}
+use Rattle.section_lines.specs.structure_laws.specs.Shape.{Shaped, HasStep}
+use Rattle.section_lines.specs.structure_laws.specs.Fitting.{Leaves}
+use Rattle.section_lines.specs.structure_laws.specs.Laws.{Laws}
+use Rattle.section_lines.specs.structure_laws.specs.Lawful.{IsLawful}
+use Rattle.section_lines.specs.structure_laws.proofs.Changes.{upd_same, upd_other, upd_some}
 use Rattle.section_lines.proofs.Phases.{is_stamped}
 use Rattle.section_lines.proofs.Sources.{of_answer}
 use Rattle.completed_memory.specs.Pending.{Marks, AreMarked, AreBelow}

@@ -2,27 +2,27 @@
 use Rattle.std.proofs.Common.{◌≡◌, ℕ, zero, suc, ◌+◌, ◌<◌, ◌≤◌, true, false, List, length, refl, sym, ◌∙◌, subst, ⊎_elim, arith}
 use Rattle.std.specs.Prelude.{◌++◌, Some, None, [], ◌∷◌, slice_get}
 use Rattle.std.proofs.lemmas.Option.{slice_get_within, slice_get_cases}
-use Rattle.map_history.specs.declared.op.Op.{Op}
-use Rattle.body_terms.specs.Update.{upd}
-use Rattle.body_terms.specs.declared.value.Value.{Value}
-use Rattle.body_terms.specs.declared.step.Step.{Step}
-use Rattle.body_terms.specs.declared.step.Step.TheVariants.{Load, Want, Fresh, Take, Make, Stamp, Store, Retire, Answer}
-use Rattle.body_terms.specs.declared.thunk.Thunk.{Thunk}
-use Rattle.body_terms.specs.Shape as shape
-use Rattle.body_terms.specs.Shape.{phase, is_look}
-use Rattle.table_words.specs.declared.layout.Layout.{Layout}
-use Rattle.table_words.specs.Limits.{IsWithinLimits}
-use Rattle.structure_laws.specs.Scene.{Readings, Section, Scene, with_section}
-use Rattle.structure_laws.specs.Meaning.{Meaning}
-use Rattle.structure_laws.specs.Sections.{Here}
-use Rattle.structure_laws.specs.Shape.{Shaped, HasStep}
-use Rattle.structure_laws.specs.Keeps.{Publishes}
-use Rattle.structure_laws.specs.Gives.{Gives}
-use Rattle.structure_laws.specs.Laws.{LawsOver, Laws}
-use Rattle.structure_laws.specs.Lawful.{IsLawful, Moves}
-use Rattle.structure_laws.proofs.Bodies.{loaded_before}
-use Rattle.structure_laws.proofs.Changes.{upd_same}
-use Rattle.structure_laws.proofs.Moves.{moves}
+use Rattle.section_lines.specs.structure_laws.specs.map_history.specs.declared.op.Op.{Op}
+use Rattle.section_lines.specs.structure_laws.specs.body_terms.specs.Update.{upd}
+use Rattle.section_lines.specs.structure_laws.specs.body_terms.specs.declared.value.Value.{Value}
+use Rattle.section_lines.specs.structure_laws.specs.body_terms.specs.declared.step.Step.{Step}
+use Rattle.section_lines.specs.structure_laws.specs.body_terms.specs.declared.step.Step.TheVariants.{Load, Want, Fresh, Take, Make, Stamp, Store, Retire, Answer}
+use Rattle.section_lines.specs.structure_laws.specs.body_terms.specs.declared.thunk.Thunk.{Thunk}
+use Rattle.section_lines.specs.structure_laws.specs.body_terms.specs.Shape as shape
+use Rattle.section_lines.specs.structure_laws.specs.body_terms.specs.Shape.{phase, is_look}
+use Rattle.section_lines.specs.structure_laws.specs.table_words.specs.declared.layout.Layout.{Layout}
+use Rattle.section_lines.specs.structure_laws.specs.table_words.specs.Limits.{IsWithinLimits}
+use Rattle.section_lines.specs.structure_laws.specs.Scene.{Readings, Section, Scene, with_section}
+use Rattle.section_lines.specs.structure_laws.specs.Meaning.{Meaning}
+use Rattle.section_lines.specs.structure_laws.specs.Sections.{Here}
+use Rattle.section_lines.specs.structure_laws.specs.Shape.{Shaped, HasStep}
+use Rattle.section_lines.specs.structure_laws.specs.Keeps.{Publishes}
+use Rattle.section_lines.specs.structure_laws.specs.Gives.{Gives}
+use Rattle.section_lines.specs.structure_laws.specs.Laws.{LawsOver, Laws}
+use Rattle.section_lines.specs.structure_laws.specs.Lawful.{IsLawful, Moves}
+use Rattle.section_lines.specs.structure_laws.proofs.Bodies.{loaded_before}
+use Rattle.section_lines.specs.structure_laws.proofs.Changes.{upd_same}
+use Rattle.section_lines.specs.structure_laws.proofs.Moves.{moves}
 use Rattle.section_lines.proofs.Phases.{sole, is_the_stamp}
 use Rattle.completed_memory.proofs.Finishing.{upd_twice}
 use Rattle.completed_memory.proofs.Completing.{true_false}

@@ -2,13 +2,13 @@
 use Rattle.std.proofs.Common.{◌≡◌, ℕ, Bool, true, false, cond, Option, None, Some, is_some, refl, sym, ap, ◌∙◌, ◌==◌, ⊎_elim, arith}
 use Rattle.std.specs.Prelude.{◌⊎◌, ◌*◌, ◌^◌}
 use Rattle.std.specs.FinMap.{get, contains_key, insert, remove}
-use Rattle.map_history.specs.declared.op.Op.{Op}
-use Rattle.map_history.specs.declared.op.Op.TheVariants.{Get, Ins, Del, Put, Mov}
-use Rattle.map_history.specs.declared.reply.Reply.TheVariants.{New, Dup, Gone, Absent}
-use Rattle.map_history.specs.Replay.{Pairs, moved, after_move, reply_of, map_after}
-use Rattle.map_history.specs.Words.{word_of}
-use Rattle.map_history.proofs.Cells.{same_pairs, same_there, get-remove_key}
-use Rattle.structure_laws.specs.Fitting.{Leaves}
+use Rattle.section_lines.specs.structure_laws.specs.map_history.specs.declared.op.Op.{Op}
+use Rattle.section_lines.specs.structure_laws.specs.map_history.specs.declared.op.Op.TheVariants.{Get, Ins, Del, Put, Mov}
+use Rattle.section_lines.specs.structure_laws.specs.map_history.specs.declared.reply.Reply.TheVariants.{New, Dup, Gone, Absent}
+use Rattle.section_lines.specs.structure_laws.specs.map_history.specs.Replay.{Pairs, moved, after_move, reply_of, map_after}
+use Rattle.section_lines.specs.structure_laws.specs.map_history.specs.Words.{word_of}
+use Rattle.section_lines.specs.structure_laws.specs.map_history.proofs.Cells.{same_pairs, same_there, get-remove_key}
+use Rattle.section_lines.specs.structure_laws.specs.Fitting.{Leaves}
 
 inserted : (pairs : Pairs) (key value : ℕ) (b : Bool) → word_of (cond b Dup New) ≡ word_of Dup
     → cond b pairs (insert pairs key value) ≡ pairs

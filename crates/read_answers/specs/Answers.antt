@@ -1,17 +1,17 @@
 -- What follows where a reader's look stands.
 use Rattle.std.specs.Prelude.{ℕ, ◌≡◌, true}
-use Rattle.map_history.specs.declared.op.Op.{Op}
-use Rattle.map_history.specs.Keys.{HaveNoCommonKey}
-use Rattle.map_history.specs.Replay.{Pairs, reply_of, map_after}
-use Rattle.map_history.specs.Words.{word_of}
-use Rattle.body_terms.specs.declared.step.Step.TheVariants.{Answer}
-use Rattle.body_terms.specs.declared.thunk.Thunk.{Thunk}
-use Rattle.table_words.specs.declared.layout.Layout.{Layout}
-use Rattle.structure_laws.specs.Scene.{Section, Scene}
-use Rattle.structure_laws.specs.Meaning.{Meaning}
-use Rattle.structure_laws.specs.Sections.{Here, Settled, Unstored}
-use Rattle.structure_laws.specs.Shape.{HasStep}
-use Rattle.structure_laws.specs.Lawful.{IsLawful}
+use Rattle.section_lines.specs.structure_laws.specs.map_history.specs.declared.op.Op.{Op}
+use Rattle.section_lines.specs.structure_laws.specs.map_history.specs.Keys.{HaveNoCommonKey}
+use Rattle.section_lines.specs.structure_laws.specs.map_history.specs.Replay.{Pairs, reply_of, map_after}
+use Rattle.section_lines.specs.structure_laws.specs.map_history.specs.Words.{word_of}
+use Rattle.section_lines.specs.structure_laws.specs.body_terms.specs.declared.step.Step.TheVariants.{Answer}
+use Rattle.section_lines.specs.structure_laws.specs.body_terms.specs.declared.thunk.Thunk.{Thunk}
+use Rattle.section_lines.specs.structure_laws.specs.table_words.specs.declared.layout.Layout.{Layout}
+use Rattle.section_lines.specs.structure_laws.specs.Scene.{Section, Scene}
+use Rattle.section_lines.specs.structure_laws.specs.Meaning.{Meaning}
+use Rattle.section_lines.specs.structure_laws.specs.Sections.{Here, Settled, Unstored}
+use Rattle.section_lines.specs.structure_laws.specs.Shape.{HasStep}
+use Rattle.section_lines.specs.structure_laws.specs.Lawful.{IsLawful}
 use Rattle.completed_memory.specs.Pending.{Marks, AreBelow}
 use Rattle.completed_memory.specs.Moves.{StandsCompleted}
 use Rattle.read_answers.specs.Looks.{LookStands}

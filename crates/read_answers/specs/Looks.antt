@@ -1,16 +1,16 @@
 -- What a reader without a lock has found, and what of it stands.
 use Rattle.std.specs.Prelude.{ℕ, ◌<◌, ◌++◌, ◌≡◌, true, false, Some, slice_get}
-use Rattle.map_history.specs.declared.op.Op.{Op}
-use Rattle.body_terms.specs.Word.{is_free, is_spent}
-use Rattle.body_terms.specs.Shape.{is_look}
-use Rattle.body_terms.specs.declared.step.Step.{Step}
-use Rattle.body_terms.specs.declared.step.Step.TheVariants.{Load, Want}
-use Rattle.body_terms.specs.declared.thunk.Thunk.{Thunk}
-use Rattle.table_words.specs.declared.layout.Layout.{Layout}
-use Rattle.structure_laws.specs.Scene.{Cells, Readings, Scene}
-use Rattle.structure_laws.specs.Meaning.{Meaning}
-use Rattle.structure_laws.specs.Sections.{IsAllowed, Unheld}
-use Rattle.structure_laws.specs.Shape.{HasStep}
+use Rattle.section_lines.specs.structure_laws.specs.map_history.specs.declared.op.Op.{Op}
+use Rattle.section_lines.specs.structure_laws.specs.body_terms.specs.Word.{is_free, is_spent}
+use Rattle.section_lines.specs.structure_laws.specs.body_terms.specs.Shape.{is_look}
+use Rattle.section_lines.specs.structure_laws.specs.body_terms.specs.declared.step.Step.{Step}
+use Rattle.section_lines.specs.structure_laws.specs.body_terms.specs.declared.step.Step.TheVariants.{Load, Want}
+use Rattle.section_lines.specs.structure_laws.specs.body_terms.specs.declared.thunk.Thunk.{Thunk}
+use Rattle.section_lines.specs.structure_laws.specs.table_words.specs.declared.layout.Layout.{Layout}
+use Rattle.section_lines.specs.structure_laws.specs.Scene.{Cells, Readings, Scene}
+use Rattle.section_lines.specs.structure_laws.specs.Meaning.{Meaning}
+use Rattle.section_lines.specs.structure_laws.specs.Sections.{IsAllowed, Unheld}
+use Rattle.section_lines.specs.structure_laws.specs.Shape.{HasStep}
 
 module _ (m : Meaning) where
   -- the thunk's body changes nothing

@@ -1,9 +1,9 @@
 //! What a look answers, on a contract.
-ghost use Rattle.table_words.specs.declared.layout.Layout.{Layout};
-ghost use Rattle.table_words.specs.Limits.{IsWithinLimits};
+ghost use Rattle.section_lines.specs.structure_laws.specs.table_words.specs.declared.layout.Layout.{Layout};
+ghost use Rattle.section_lines.specs.structure_laws.specs.table_words.specs.Limits.{IsWithinLimits};
 ghost use Rattle.read_answers.specs.Answers.{LooksAnswer};
 
-use structure_laws::Structure;
+use section_lines::structure_laws::Structure;
 
 /// Over every structure that serves a map: where a reader's look stands, the Answer of its thunk is the reply of
 /// the map after all stamped requests, and its operation leaves that map as it is. Each open section with a key in

@@ -13,9 +13,9 @@ use Rattle.std.proofs.lemmas.List.FromFn.{get_or-range_with_len}
 use Rattle.std.proofs.lemmas.List.Sorted.{Contains-permutation, IsPermutation-sym, length_permutation}
 use Rattle.std.proofs.lemmas.Map.Keys.{IsDistinct-IsPermutation, IsDistinct-from_apart, apart_from_distinct}
 use Rattle.std.proofs.lemmas.Option.{slice_get_within, get_or_from_slice_get}
-use Rattle.map_history.specs.declared.op.Request.{Request}
-use Rattle.map_history.specs.History.{IsLegalFrom}
-use Rattle.map_history.specs.Replay.{Pairs, map_after, map_after_all, reply_of}
+use Rattle.history_orders.specs.map_history.specs.declared.op.Request.{Request}
+use Rattle.history_orders.specs.map_history.specs.History.{IsLegalFrom}
+use Rattle.history_orders.specs.map_history.specs.Replay.{Pairs, map_after, map_after_all, reply_of}
 use Rattle.report_text.specs.Legal.{IsHistory, IsLegal, Served, answered, op_of, served_in}
 use Rattle.report_text.specs.Report.{Answer, Row, line_text, report_lines}
 use Rattle.report_check.specs.Faults.{Clashes, EndsTurn, HasRank, IsRankFault, IsReplyFault, NoFault}

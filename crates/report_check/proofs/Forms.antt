@@ -5,11 +5,11 @@ use Rattle.std.specs.List.{range_with_len}
 use Rattle.std.specs.List.Sorted.{IsNonDecreasingBy}
 use Rattle.std.proofs.lemmas.List.{map-append}
 use Rattle.std.proofs.lemmas.List.Elements.{All-cons, All-nil, All-weaker}
-use Rattle.map_history.specs.declared.op.Request.{Request}
+use Rattle.history_orders.specs.map_history.specs.declared.op.Request.{Request}
 use Rattle.report_text.specs.Report.{Line, Row, report_lines}
 use Rattle.report_text.specs.Report.Line.{trace_line, answer_line, final_line}
 use Rattle.report_text.proofs.Lines.{left_lines, lines-begin, lines-end, lines-row, lines-start, range_with_len-append}
-use Rattle.map_history.specs.declared.op.Entry.{Entry}
+use Rattle.history_orders.specs.map_history.specs.declared.op.Entry.{Entry}
 use Rattle.report_check.specs.Lines.{IsFirstBad, NoneStands, SayAll}
 use Rattle.report_check.specs.Rows.{SaysRows, places, unserved}
 use Rattle.report_check.specs.Said.{IsNext, answer_said, rows_said}

@@ -9,11 +9,11 @@ use Rattle.std.proofs.lemmas.List.{length-map}
 use Rattle.std.proofs.lemmas.List.Elements.{All-cons, All-from_recursion, All-nil}
 use Rattle.std.proofs.lemmas.List.Sorted.{length_permutation}
 use Rattle.std.proofs.lemmas.Option.{slice_get-get_or}
-use Rattle.map_history.specs.declared.op.Op.{Op}
-use Rattle.map_history.specs.declared.op.Request.{Request}
-use Rattle.map_history.specs.History.{IsLegalFrom}
-use Rattle.map_history.specs.Replay.{Pairs, map_after, map_after_all}
-use Rattle.map_history.proofs.Sizes.{len-map_after}
+use Rattle.history_orders.specs.map_history.specs.declared.op.Op.{Op}
+use Rattle.history_orders.specs.map_history.specs.declared.op.Request.{Request}
+use Rattle.history_orders.specs.map_history.specs.History.{IsLegalFrom}
+use Rattle.history_orders.specs.map_history.specs.Replay.{Pairs, map_after, map_after_all}
+use Rattle.history_orders.specs.map_history.proofs.Sizes.{len-map_after}
 use Rattle.report_text.specs.Legal.{IsHistory, Served, answered, op_of, served_in}
 use Rattle.report_text.specs.Report.{Answer, Line, Row, line_text, report_lines, reply_text}
 use Rattle.report_text.specs.Report.Line.{trace_line, answer_line, final_line}

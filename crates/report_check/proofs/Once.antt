@@ -6,10 +6,10 @@ use Rattle.std.specs.List.{list_all, range_with_len}
 use Rattle.std.proofs.lemmas.List.{append_cancel_left}
 use Rattle.std.proofs.lemmas.List.Elements.{All-head, All-tail}
 use Rattle.small_lemmas.proofs.Bools.{both_of}
-use Rattle.map_history.specs.declared.op.Request.{Request}
-use Rattle.map_history.specs.declared.reply.Reply.{Reply}
-use Rattle.map_history.specs.declared.reply.Reply.TheVariants.{New, Dup, Val, Gone, Absent, Was, Moved}
-use Rattle.map_history.specs.Words.{IsReply}
+use Rattle.history_orders.specs.map_history.specs.declared.op.Request.{Request}
+use Rattle.history_orders.specs.map_history.specs.declared.reply.Reply.{Reply}
+use Rattle.history_orders.specs.map_history.specs.declared.reply.Reply.TheVariants.{New, Dup, Val, Gone, Absent, Was, Moved}
+use Rattle.history_orders.specs.map_history.specs.Words.{IsReply}
 use Rattle.report_text.specs.Report.{Answer, Line, Row, reply_text}
 use Rattle.report_text.specs.Report.Line.{trace_line, answer_line, final_line}
 use Rattle.trace_reader.specs.Fields.{value_of}

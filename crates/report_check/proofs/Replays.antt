@@ -6,12 +6,12 @@ use Rattle.std.proofs.Math.Seq.{get_or-append_seam}
 use Rattle.std.proofs.lemmas.Bool.{cases_eq, cases_lt}
 use Rattle.std.proofs.lemmas.List.{get_or-map, get_or_default, length-map, map-append, take_all, take_more}
 use Rattle.small_lemmas.proofs.Lists.{none_not_some, same_number, some_not_none}
-use Rattle.map_history.specs.declared.op.Entry.{Entry}
-use Rattle.map_history.specs.declared.op.Op.{Op}
-use Rattle.map_history.specs.declared.op.Request.{Request}
-use Rattle.map_history.specs.declared.reply.Reply.{Reply}
-use Rattle.map_history.specs.History.{IsLegalFrom}
-use Rattle.map_history.specs.Replay.{Pairs, map_after, map_after_all, reply_of}
+use Rattle.history_orders.specs.map_history.specs.declared.op.Entry.{Entry}
+use Rattle.history_orders.specs.map_history.specs.declared.op.Op.{Op}
+use Rattle.history_orders.specs.map_history.specs.declared.op.Request.{Request}
+use Rattle.history_orders.specs.map_history.specs.declared.reply.Reply.{Reply}
+use Rattle.history_orders.specs.map_history.specs.History.{IsLegalFrom}
+use Rattle.history_orders.specs.map_history.specs.Replay.{Pairs, map_after, map_after_all, reply_of}
 use Rattle.history_orders.specs.Turns.{Turn}
 use Rattle.report_text.specs.Legal.{Served, answered, op_of, served_in}
 use Rattle.report_text.specs.Ranks.{turns_of}

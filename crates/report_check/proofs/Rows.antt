@@ -4,8 +4,8 @@ use Rattle.std.specs.Prelude.{count_by, slice_get}
 use Rattle.std.proofs.lemmas.List.Sums.{sum_by-cons}
 use Rattle.std.proofs.lemmas.Option.{slice_get_within}
 use Rattle.small_lemmas.proofs.Lists.{some_the_same}
-use Rattle.map_history.specs.declared.op.Entry.{Entry}
-use Rattle.map_history.specs.declared.op.Request.{Request}
+use Rattle.history_orders.specs.map_history.specs.declared.op.Entry.{Entry}
+use Rattle.history_orders.specs.map_history.specs.declared.op.Request.{Request}
 use Rattle.report_text.specs.Legal.{served_in}
 use Rattle.report_text.specs.Report.{Answer, Row}
 use Rattle.report_check.specs.Faults.{IsAnsweredAt}

@@ -12,9 +12,9 @@ use Rattle.std.proofs.lemmas.List.Quantifiers.{position-Some}
 use Rattle.std.proofs.lemmas.List.Sums.{AllPass-from_list_all}
 use Rattle.small_lemmas.proofs.Bools.{both_of, from_both, negated}
 use Rattle.small_lemmas.proofs.Lists.{none_not_some, same_number}
-use Rattle.map_history.specs.declared.reply.Reply.{Reply}
-use Rattle.map_history.specs.declared.reply.Reply.TheVariants.{New, Dup, Val, Gone, Absent, Was, Moved}
-use Rattle.map_history.specs.Words.{IsReply}
+use Rattle.history_orders.specs.map_history.specs.declared.reply.Reply.{Reply}
+use Rattle.history_orders.specs.map_history.specs.declared.reply.Reply.TheVariants.{New, Dup, Val, Gone, Absent, Was, Moved}
+use Rattle.history_orders.specs.map_history.specs.Words.{IsReply}
 use Rattle.report_text.specs.Report.{Answer, Line, reply_text}
 use Rattle.report_text.specs.Report.Line.{trace_line, answer_line, final_line}
 use Rattle.trace_reader.specs.Lines.{IsOneLine}

@@ -1,7 +1,7 @@
 -- What is wrong with a row of a report: with its rank, and with its reply.
 use Rattle.std.specs.Prelude.{◌≡◌, ◌≢◌, ◌⊎◌, ℕ, ◌<◌, ◌≤◌, List, Option, None, Some, length, map, slice_get, take}
 use Rattle.std.specs.FinMap.{empty}
-use Rattle.map_history.specs.Replay.{map_after_all, reply_of}
+use Rattle.history_orders.specs.map_history.specs.Replay.{map_after_all, reply_of}
 use Rattle.report_check.specs.Rows.{line_number}
 use Rattle.report_text.specs.Legal.{Served, op_of, served_in}
 use Rattle.report_text.specs.Report.{Answer, Row}

@@ -1,6 +1,6 @@
 -- What each line of a report says, and the first line that can't stand in its place.
 use Rattle.std.specs.Prelude.{◌≡◌, ◌≢◌, ◌⊎◌, ℕ, ◌+◌, ◌^◌, List, [], ◌∷◌, ◌++◌, Option, None, Some, codes, decimal, length, min, slice_index, true}
-use Rattle.map_history.specs.Words.{IsReply}
+use Rattle.history_orders.specs.map_history.specs.Words.{IsReply}
 use Rattle.report_text.specs.Report.{Answer, Line, reply_text}
 use Rattle.report_text.specs.Report.Line.{trace_line, answer_line, final_line}
 use Rattle.trace_reader.specs.Fields.{is_number, value_of}

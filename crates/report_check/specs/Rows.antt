@@ -1,6 +1,6 @@
 -- The rows that a report's bytes say, for given requests.
 use Rattle.std.specs.Prelude.{◌≡◌, ℕ, ◌+◌, List, None, length, map}
-use Rattle.map_history.specs.declared.op.Request.{Request}
+use Rattle.history_orders.specs.map_history.specs.declared.op.Request.{Request}
 use Rattle.report_check.specs.Lines.{SayAll}
 use Rattle.report_text.specs.Report.{Line, Row, report_lines}
 

@@ -1,8 +1,8 @@
 -- What the code reads off a report, as the lines and rows that it stands for.
 use Rattle.std.specs.Prelude.{◌≡◌, ℕ, ◌-◌, ◌<◌, List, [], ◌∷◌, ◌++◌, Option, None, Some, get_or, length}
-use Rattle.map_history.specs.declared.op.Request.{Request}
+use Rattle.history_orders.specs.map_history.specs.declared.op.Request.{Request}
 use Rattle.report_check.specs.declared.form.Form.{Form}
-use Rattle.map_history.specs.declared.op.Entry.{Entry}
+use Rattle.history_orders.specs.map_history.specs.declared.op.Entry.{Entry}
 use Rattle.report_check.specs.Faults.{EndsTurn}
 use Rattle.report_check.specs.Lines.{IsNumeral, Says}
 use Rattle.report_check.specs.Rows.{SaysRows}

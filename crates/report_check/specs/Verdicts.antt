@@ -1,9 +1,9 @@
 -- What the check of a report may answer.
 use Rattle.std.specs.Prelude.{◌≡◌, ◌≢◌, ℕ, ◌-◌, ◌^◌, List, All, Option, None, Some, map, min}
 use Rattle.std.specs.FinMap.{empty, len}
-use Rattle.map_history.specs.declared.op.Request.{Request}
-use Rattle.map_history.specs.Replay.{map_after_all}
-use Rattle.map_history.specs.Words.{IsReply}
+use Rattle.history_orders.specs.map_history.specs.declared.op.Request.{Request}
+use Rattle.history_orders.specs.map_history.specs.Replay.{map_after_all}
+use Rattle.history_orders.specs.map_history.specs.Words.{IsReply}
 use Rattle.report_check.specs.declared.verdict.BadReport.{BadReport}
 use Rattle.report_check.specs.declared.verdict.BadReport.TheVariants.{Form, Rank, Reply, Final}
 use Rattle.report_check.specs.declared.verdict.Verdict.{Verdict}

@@ -8,7 +8,7 @@ use crate::form::{Form, read_form};
 use crate::ranks::{order_of_ranks, wrong_rank};
 use crate::replay::replay;
 use crate::verdict::{BadReport, Verdict};
-use map_history::Request;
+use history_orders::map_history::Request;
 use std::alloc::{AllocError, Global};
 use trace_reader::Traces;
 

@@ -9,7 +9,7 @@ ghost use Rattle.report_text.specs.Report.{Line};
 ghost use Rattle.report_text.specs.Report.Line.{final_line, trace_line};
 
 use crate::line::{take_answer, take_size, take_trace};
-use map_history::{Entry, Request};
+use history_orders::map_history::{Entry, Request};
 use std::alloc::{AllocError, Global};
 
 /// What a report says of each request, as an entry that has its rank in place of a stamp, and its final number.

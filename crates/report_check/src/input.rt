@@ -1,6 +1,6 @@
 // An input that is read whole.
 ghost use Rattle.std.specs.Prelude.{◌≡◌, ◌≤◌, ℕ, IsErrOf, IfErr, IfOk, IfSome, length};
-ghost use Rattle.fault_count.specs.Rose.{Rose};
+ghost use Rattle.report_text.specs.fault_count.specs.Rose.{Rose};
 ghost use Rattle.report_check.specs.Input.{IsTooLarge, StopsWithin};
 ghost use Rattle.report_check.specs.declared.input.InputError.TheVariants.{ReadFault, Memory};
 

@@ -1,7 +1,7 @@
 // One line of a report.
 ghost use Rattle.std.specs.Prelude.{◌≡◌, ◌==◌, ◌++◌, ◌^◌, ◌<◌, ℕ, false, IfNone, IfSome, IsTrue, List, None, Option, codes, decimal, position};
-ghost use Rattle.map_history.specs.declared.reply.Reply.{Reply};
-ghost use Rattle.map_history.specs.Words.{IsReply};
+ghost use Rattle.history_orders.specs.map_history.specs.declared.reply.Reply.{Reply};
+ghost use Rattle.history_orders.specs.map_history.specs.Words.{IsReply};
 ghost use Rattle.report_check.specs.Lines.{IsNumeral, NoneStands, Says, SaysAnswer};
 ghost use Rattle.report_check.specs.Said.{IsCut, IsNext, SaysNumber, answer_said, said_answer};
 ghost use Rattle.report_text.specs.Report.{Answer, reply_text};
@@ -9,7 +9,7 @@ ghost use Rattle.report_text.specs.Report.Line.{trace_line, answer_line, final_l
 ghost use Rattle.trace_reader.specs.Lines.{IsOneLine};
 
 use crate::parts::find_feed;
-use map_history::{Entry, Reply};
+use history_orders::map_history::{Entry, Reply};
 use trace_reader::number;
 
 /// The line that begins this trace, at the front of the bytes: what stands behind it.

@@ -1,16 +1,16 @@
 // The replies of a report, held against a plain map.
 ghost use Rattle.std.specs.Prelude.{◌≡◌, ◌≢◌, ◌<◌, ◌≤◌, Some, false, IfNone, IfOk, IfSome, IsPermutation, IsTrue, length, map};
 ghost use Rattle.std.specs.FinMap.{empty, len};
-ghost use Rattle.map_history.specs.declared.op.Entry.{Entry};
-ghost use Rattle.map_history.specs.History.{IsLegalFrom};
-ghost use Rattle.map_history.specs.Replay.{map_after_all};
+ghost use Rattle.history_orders.specs.map_history.specs.declared.op.Entry.{Entry};
+ghost use Rattle.history_orders.specs.map_history.specs.History.{IsLegalFrom};
+ghost use Rattle.history_orders.specs.map_history.specs.Replay.{map_after_all};
 ghost use Rattle.report_check.specs.Faults.{IsFirstLine, IsReplyFault, NoFault};
 ghost use Rattle.report_check.specs.Histories.{AreRanked, IsLineOf, history_of, lower_of};
 ghost use Rattle.report_check.specs.Said.{rows_said};
 ghost use Rattle.report_text.specs.Legal.{answered, op_of};
 ghost use Rattle.report_text.specs.Ranks.{turns_of};
 
-use map_history::{Book, Entry, Reply, Request};
+use history_orders::map_history::{Book, Entry, Reply, Request};
 use std::alloc::{AllocError, Global};
 
 /// What a replay shows.

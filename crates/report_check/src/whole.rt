@@ -1,7 +1,7 @@
 // A whole input that is checked: a text, a line `report`, and a report.
 ghost use Rattle.std.specs.Prelude.{◌≡◌, ◌≤◌, IsErrOf, IfOk, IfSome, length};
-ghost use Rattle.fault_count.specs.Rose.{Rose};
-ghost use Rattle.map_history.specs.Requests.{AreInOrder};
+ghost use Rattle.report_text.specs.fault_count.specs.Rose.{Rose};
+ghost use Rattle.history_orders.specs.map_history.specs.Requests.{AreInOrder};
 ghost use Rattle.trace_reader.specs.Answer.{IsAnswered};
 ghost use Rattle.trace_reader.specs.Lines.{lines_of};
 ghost use Rattle.trace_reader.specs.declared.traces.TraceError.TheVariants.{ReadFault};

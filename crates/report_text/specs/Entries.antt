@@ -3,11 +3,11 @@ use Rattle.std.specs.Prelude.{◌≡◌, ℕ, ◌≤◌, List, Option, length, m
 use Rattle.std.specs.List.{enumerate_from, filter_map, zip}
 use Rattle.std.specs.Option.{option_map}
 use Rattle.std.specs.FinMap.{empty, len}
-use Rattle.map_history.specs.declared.op.Op.{Op}
-use Rattle.map_history.specs.declared.op.Entry.{Entry}
-use Rattle.map_history.specs.declared.op.Request.{Request}
-use Rattle.map_history.specs.History.{Answered, IsLegalFrom}
-use Rattle.map_history.specs.Replay.{map_after_all}
+use Rattle.history_orders.specs.map_history.specs.declared.op.Op.{Op}
+use Rattle.history_orders.specs.map_history.specs.declared.op.Entry.{Entry}
+use Rattle.history_orders.specs.map_history.specs.declared.op.Request.{Request}
+use Rattle.history_orders.specs.map_history.specs.History.{Answered, IsLegalFrom}
+use Rattle.history_orders.specs.map_history.specs.Replay.{map_after_all}
 use Rattle.history_orders.specs.Turns.{Turn, comes_before}
 
 -- a served request with its number and its entry

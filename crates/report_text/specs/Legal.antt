@@ -4,10 +4,10 @@ use Rattle.std.specs.Prelude.{◌≡◌, ℕ, ◌<◌, List, Option, length, map
 use Rattle.std.specs.List.{filter_map, range_with_len}
 use Rattle.std.specs.Option.{option_map}
 use Rattle.std.specs.FinMap.{empty, len}
-use Rattle.map_history.specs.declared.op.Op.{Op}
-use Rattle.map_history.specs.declared.op.Request.{Request}
-use Rattle.map_history.specs.History.{Answered, IsLegalFrom}
-use Rattle.map_history.specs.Replay.{map_after_all}
+use Rattle.history_orders.specs.map_history.specs.declared.op.Op.{Op}
+use Rattle.history_orders.specs.map_history.specs.declared.op.Request.{Request}
+use Rattle.history_orders.specs.map_history.specs.History.{Answered, IsLegalFrom}
+use Rattle.history_orders.specs.map_history.specs.Replay.{map_after_all}
 use Rattle.report_text.specs.Report.{Answer, Row}
 
 -- a request that was served

@@ -15,3 +15,6 @@ pub use memory::MemorySink;
 pub use order::{ranks, turns_in_order};
 pub use report::write_report;
 pub use sink::{Failed, Sink, write_all};
+
+// Passed on to the layers above, so that they needn't name these libraries themselves.
+pub use fault_count;

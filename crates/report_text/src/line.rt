@@ -5,8 +5,8 @@ ghost use Rattle.report_text.specs.Report.{reply_text, answer_of, line_text};
 ghost use Rattle.report_text.specs.Report.Line.{trace_line, answer_line, final_line};
 
 use arrayvec::ArrayString;
+use history_orders::map_history::{Entry, Reply};
 use itoa::Buffer;
-use map_history::{Entry, Reply};
 
 /// The bytes of one line. The longest is `4294967295 val 4294967295`.
 pub type Line = ArrayString<32>;

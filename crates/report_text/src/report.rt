@@ -9,7 +9,7 @@ ghost use Rattle.report_text.specs.Sink.{Appends, ExtendsInPart};
 use crate::line::{line_of_answer, line_of_size, line_of_trace};
 use crate::page::{Page, print_line, send};
 use crate::sink::{Failed, Sink};
-use map_history::{Entry, Request};
+use history_orders::map_history::{Entry, Request};
 
 /// Appends the report on `traces` traces, whose requests have these entries and ranks, and on the `size` pairs that
 /// are left. Failed where a write failed or took nothing; the sink then holds a part of the report, from the front.

@@ -4,33 +4,33 @@ use Rattle.std.proofs.Common.{◌≡◌, ◌≢◌, ℕ, suc, ◌≤◌, List, r
 use Rattle.std.proofs.lemmas.List.Elements.{All-get_or}
 use Rattle.std.proofs.lemmas.Option.{slice_get_within, get_or_from_slice_get}
 use Rattle.std.proofs.lemmas.Bool.{and_parts}
-use Rattle.small_lemmas.proofs.Numbers.{zero_or_some as zero_or}
-use Rattle.map_history.specs.declared.op.Request.{Request}
-use Rattle.map_history.specs.Keys.{GivesSmall}
-use Rattle.map_history.specs.Words.{word_of}
-use Rattle.body_terms.specs.declared.micro.Micro.{Micro}
-use Rattle.body_terms.specs.declared.micro.Micro.TheVariants.{StampExchange}
+use Rattle.agreement_core.specs.section_lines.specs.small_lemmas.proofs.Numbers.{zero_or_some as zero_or}
+use Rattle.history_orders.specs.map_history.specs.declared.op.Request.{Request}
+use Rattle.history_orders.specs.map_history.specs.Keys.{GivesSmall}
+use Rattle.history_orders.specs.map_history.specs.Words.{word_of}
+use Rattle.agreement_core.specs.body_terms.specs.declared.micro.Micro.{Micro}
+use Rattle.agreement_core.specs.body_terms.specs.declared.micro.Micro.TheVariants.{StampExchange}
 use Rattle.history_orders.specs.Stamped.{Stamped}
-use Rattle.table_words.specs.declared.layout.Layout.{Layout}
-use Rattle.table_words.specs.declared.spot.Spot.TheVariants as spots
-use Rattle.structure_laws.specs.Meaning.{Meaning}
-use Rattle.structure_laws.specs.Laws.{Laws}
-use Rattle.structure_laws.specs.Sections.{IsAllowed}
-use Rattle.runner_parts.specs.declared.entries.Known.{Known}
-use Rattle.runner_parts.specs.declared.entries.Look.{Look}
-use Rattle.runner_parts.specs.declared.entries.Published.{Published}
-use Rattle.epoch_core.specs.declared.stage.Stage.TheVariants.{Idle}
-use Rattle.runner_parts.specs.State.{RunState, PartState}
-use Rattle.runner_parts.specs.Tests.{knows, is_answered, is_between}
+use Rattle.agreement_core.specs.table_words.specs.declared.layout.Layout.{Layout}
+use Rattle.agreement_core.specs.table_words.specs.declared.spot.Spot.TheVariants as spots
+use Rattle.machine_states.specs.structure_laws.specs.Meaning.{Meaning}
+use Rattle.machine_states.specs.structure_laws.specs.Laws.{Laws}
+use Rattle.machine_states.specs.structure_laws.specs.Sections.{IsAllowed}
+use Rattle.machine_states.specs.runner_steps.specs.runner_parts.specs.declared.entries.Known.{Known}
+use Rattle.machine_states.specs.runner_steps.specs.runner_parts.specs.declared.entries.Look.{Look}
+use Rattle.machine_states.specs.runner_steps.specs.runner_parts.specs.declared.entries.Published.{Published}
+use Rattle.machine_states.specs.epoch_core.specs.declared.stage.Stage.TheVariants.{Idle}
+use Rattle.machine_states.specs.runner_steps.specs.runner_parts.specs.State.{RunState, PartState}
+use Rattle.machine_states.specs.runner_steps.specs.runner_parts.specs.Tests.{knows, is_answered, is_between}
 use Rattle.agreement_core.specs.State.{AgreementState, section_of}
 use Rattle.agreement_core.specs.Checks.{is_stamp_exchange}
 use Rattle.reached_histories.specs.history_core.specs.State.{Requests, HistoryState}
 use Rattle.reached_histories.specs.history_core.specs.Sound.{IsSound}
 use Rattle.machine_states.specs.Sight.{Sight, sight}
-use Rattle.reached_histories.specs.machine_agreement.proofs.RunPlaces.{run_here, used_here, of_thunk, before}
+use Rattle.reached_histories.specs.machine_facts.specs.machine_agreement.proofs.RunPlaces.{run_here, used_here, of_thunk, before}
 use Rattle.reached_histories.specs.machine_history.specs.Tied.{AreTied}
-use Rattle.reached_histories.specs.machine_invariant.specs.After.{AreAllowed}
-use Rattle.reached_histories.specs.machine_invariant.specs.Whole.{states_of}
+use Rattle.reached_histories.specs.machine_facts.specs.machine_invariant.specs.After.{AreAllowed}
+use Rattle.reached_histories.specs.machine_facts.specs.machine_invariant.specs.Whole.{states_of}
 use Rattle.reached_histories.specs.machine_facts.specs.Known.{KnownStand}
 use Rattle.reached_histories.specs.machine_facts.proofs.Following.{facts_after}
 use Rattle.reached_histories.specs.Requests.{or_none, requests_of}

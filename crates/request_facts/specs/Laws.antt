@@ -1,21 +1,21 @@
 -- What stands of requests in every state that the machine reaches, for a runner that has its part.
 use Rattle.std.specs.Prelude.{◌≡◌, ◌≢◌, ℕ, suc, true, false, List, Some, length, slice_get}
-use Rattle.map_history.specs.declared.op.Request.{Request}
-use Rattle.map_history.specs.declared.reply.Reply.{Reply}
-use Rattle.map_history.specs.Words.{word_of}
-use Rattle.body_terms.specs.declared.micro.Micro.TheVariants.{StampExchange}
-use Rattle.table_words.specs.declared.layout.Layout.{Layout}
-use Rattle.table_words.specs.Limits.{IsWithinLimits}
-use Rattle.structure_laws.specs.Meaning.{Meaning}
-use Rattle.runner_parts.specs.declared.entries.Known.{Known}
-use Rattle.runner_parts.specs.declared.entries.Look.{Look}
-use Rattle.runner_parts.specs.State.{RunState}
-use Rattle.runner_parts.specs.Tests.{is_answered, is_between}
-use Rattle.runner_steps.specs.Sections.{thunk_of, next_of}
+use Rattle.history_orders.specs.map_history.specs.declared.op.Request.{Request}
+use Rattle.history_orders.specs.map_history.specs.declared.reply.Reply.{Reply}
+use Rattle.history_orders.specs.map_history.specs.Words.{word_of}
+use Rattle.agreement_core.specs.body_terms.specs.declared.micro.Micro.TheVariants.{StampExchange}
+use Rattle.agreement_core.specs.table_words.specs.declared.layout.Layout.{Layout}
+use Rattle.agreement_core.specs.table_words.specs.Limits.{IsWithinLimits}
+use Rattle.machine_states.specs.structure_laws.specs.Meaning.{Meaning}
+use Rattle.machine_states.specs.runner_steps.specs.runner_parts.specs.declared.entries.Known.{Known}
+use Rattle.machine_states.specs.runner_steps.specs.runner_parts.specs.declared.entries.Look.{Look}
+use Rattle.machine_states.specs.runner_steps.specs.runner_parts.specs.State.{RunState}
+use Rattle.machine_states.specs.runner_steps.specs.runner_parts.specs.Tests.{is_answered, is_between}
+use Rattle.machine_states.specs.runner_steps.specs.Sections.{thunk_of, next_of}
 use Rattle.machine_states.specs.World.{World}
 use Rattle.machine_states.specs.Reached.{Reached}
 use Rattle.machine_states.specs.Sight.{Sight, sight}
-use Rattle.reached_histories.specs.machine_invariant.specs.After.{AreAllowed}
+use Rattle.reached_histories.specs.machine_facts.specs.machine_invariant.specs.After.{AreAllowed}
 use Rattle.reached_histories.specs.Requests.{requests_of}
 use Rattle.reached_histories.specs.Kept.{link_of}
 use Rattle.reached_histories.specs.RealTime.{LeadsTo, ComesBefore, IsSought}

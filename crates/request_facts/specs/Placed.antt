@@ -1,11 +1,11 @@
 -- A request in the one history of a state.
 use Rattle.std.specs.Prelude.{◌≡◌, ℕ, List}
-use Rattle.map_history.specs.declared.op.Request.{Request}
-use Rattle.map_history.specs.declared.reply.Reply.{Reply}
-use Rattle.map_history.specs.Words.{word_of, IsReply}
-use Rattle.table_words.specs.declared.layout.Layout.{Layout}
-use Rattle.table_words.specs.declared.spot.Spot.TheVariants.{Stamp, Reply as ReplyWord}
-use Rattle.structure_laws.specs.Meaning.{Meaning}
+use Rattle.history_orders.specs.map_history.specs.declared.op.Request.{Request}
+use Rattle.history_orders.specs.map_history.specs.declared.reply.Reply.{Reply}
+use Rattle.history_orders.specs.map_history.specs.Words.{word_of, IsReply}
+use Rattle.agreement_core.specs.table_words.specs.declared.layout.Layout.{Layout}
+use Rattle.agreement_core.specs.table_words.specs.declared.spot.Spot.TheVariants.{Stamp, Reply as ReplyWord}
+use Rattle.machine_states.specs.structure_laws.specs.Meaning.{Meaning}
 use Rattle.machine_states.specs.Sight.{Sight}
 use Rattle.reached_histories.specs.History.{IsPlaced}
 use Rattle.reached_histories.specs.Laws.{HasHistory}

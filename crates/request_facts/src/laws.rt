@@ -1,10 +1,10 @@
 //! The law, on a contract.
 ghost use Rattle.std.specs.Prelude.{List};
-ghost use Rattle.map_history.specs.declared.op.Request.{Request};
-ghost use Rattle.table_words.specs.declared.layout.Layout.{Layout};
+ghost use Rattle.history_orders.specs.map_history.specs.declared.op.Request.{Request};
+ghost use Rattle.agreement_core.specs.table_words.specs.declared.layout.Layout.{Layout};
 ghost use Rattle.request_facts.specs.Laws.{ReachedCallersStand, AnsweredComeFirst};
 
-use structure_laws::Structure;
+use machine_states::structure_laws::Structure;
 
 /// Over every structure: in every state that the machine reaches, who knows both words of a request knows its place
 /// in the one history; a worker that has no section on the way, and no read's reply without its stamp, knows each of

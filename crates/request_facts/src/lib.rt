@@ -7,3 +7,6 @@
 mod laws;
 
 pub use laws::{answered_requests_come_first, reached_callers_stand};
+
+// Passed on to the layers above, so that they needn't name these libraries themselves.
+pub use reached_histories;

@@ -5,18 +5,18 @@ use Rattle.std.proofs.Common.{◌≡◌, ℕ, suc, ◌+◌, ◌<◌, ◌≤◌, 
 use Rattle.std.proofs.lemmas.Bool.{cases_lt}
 use Rattle.std.proofs.lemmas.Bool.Decides.{nat_tests}
 use Rattle.std.proofs.lemmas.Option.{slice_get_past}
-use Rattle.small_lemmas.proofs.Numbers.{less_tested as less}
-use Rattle.map_history.specs.declared.op.Request.{Request}
-use Rattle.table_words.specs.declared.layout.Layout.{Layout}
-use Rattle.table_words.specs.Limits.{IsWithinLimits}
-use Rattle.structure_laws.specs.Meaning.{Meaning}
-use Rattle.structure_laws.specs.Scene.{Scene, Free}
-use Rattle.structure_laws.specs.Planner.{PlannerLaws, AreInUse}
-use Rattle.runner_parts.specs.State.{PartState}
-use Rattle.epoch_core.specs.declared.location.Location.{Location}
-use Rattle.epoch_core.specs.declared.location.Location.TheVariants as locations
-use Rattle.epoch_core.specs.Lists.{times, in_hand, in_free, in_worn, in_limbo}
-use Rattle.epoch_core.proofs.Times.{times-append}
+use Rattle.agreement_core.specs.section_lines.specs.small_lemmas.proofs.Numbers.{less_tested as less}
+use Rattle.history_orders.specs.map_history.specs.declared.op.Request.{Request}
+use Rattle.agreement_core.specs.table_words.specs.declared.layout.Layout.{Layout}
+use Rattle.agreement_core.specs.table_words.specs.Limits.{IsWithinLimits}
+use Rattle.machine_states.specs.structure_laws.specs.Meaning.{Meaning}
+use Rattle.machine_states.specs.structure_laws.specs.Scene.{Scene, Free}
+use Rattle.machine_states.specs.structure_laws.specs.Planner.{PlannerLaws, AreInUse}
+use Rattle.machine_states.specs.runner_steps.specs.runner_parts.specs.State.{PartState}
+use Rattle.machine_states.specs.epoch_core.specs.declared.location.Location.{Location}
+use Rattle.machine_states.specs.epoch_core.specs.declared.location.Location.TheVariants as locations
+use Rattle.machine_states.specs.epoch_core.specs.Lists.{times, in_hand, in_free, in_worn, in_limbo}
+use Rattle.machine_states.specs.epoch_core.proofs.Times.{times-append}
 use Rattle.machine_states.specs.World.{World, seat_of}
 use Rattle.machine_states.specs.First.{first_part}
 use Rattle.machine_states.specs.Reached.{Reached}
@@ -24,9 +24,9 @@ use Rattle.machine_states.specs.Sight.{Sight, sight, part_or_first}
 use Rattle.machine_states.proofs.Reached.{reached_all}
 use Rattle.machine_epochs.specs.Entries.{counts_of}
 use Rattle.machine_scenes.specs.Shown.{status_at}
-use Rattle.next_steps.specs.machine_invariant.specs.Slots.{node_count, times_among, NodesStand}
-use Rattle.next_steps.specs.machine_invariant.specs.Whole.{IsWhole}
-use Rattle.next_steps.specs.machine_invariant.proofs.Slots.{nodes_stand}
+use Rattle.reached_histories.specs.machine_facts.specs.machine_invariant.specs.Slots.{node_count, times_among, NodesStand}
+use Rattle.reached_histories.specs.machine_facts.specs.machine_invariant.specs.Whole.{IsWhole}
+use Rattle.reached_histories.specs.machine_facts.specs.machine_invariant.proofs.Slots.{nodes_stand}
 use Rattle.reached_histories.specs.Laws.{HasHistory}
 use Rattle.resource_bounds.specs.InUse.{entries_below, NoneIsHeld, FewAreInUse}
 use Rattle.resource_bounds.proofs.Quiet.{scene, stands_for, quiet}

@@ -3,35 +3,35 @@ use Rattle.std.specs.Prelude.{◌==◌, ◌-◌, ◌%◌, ◌^◌, ◌⊎◌, �
 use Rattle.std.proofs.Common.{◌≡◌, ◌≢◌, ℕ, zero, suc, ◌+◌, ◌*◌, ◌<◌, ◌≤◌, List, length, refl, sym, ap, ◌∙◌, subst, ⊎_elim, inl, inr, arith, Option, Some, None}
 use Rattle.std.proofs.lemmas.Bool.{cases_eq, and_parts}
 use Rattle.std.proofs.lemmas.Bool.Decides.{nat_tests}
-use Rattle.small_lemmas.proofs.Numbers.{one_at_most as flag_few, tested_equal as test_same}
-use Rattle.map_history.specs.declared.op.Request.{Request}
-use Rattle.body_terms.specs.Line.{micro_at}
-use Rattle.body_terms.specs.Memory.{cell_of}
-use Rattle.body_terms.specs.Word.{value_of, version_of, next_word, held_word}
-use Rattle.body_terms.specs.declared.micro.Micro.{Micro}
-use Rattle.body_terms.specs.declared.micro.Micro.TheVariants as micros
-use Rattle.body_terms.specs.declared.thunk.Thunk.{Thunk}
-use Rattle.section_lines.specs.Line.{IsLine}
-use Rattle.table_words.specs.declared.layout.Layout.{Layout}
-use Rattle.table_words.specs.declared.spot.Spot.{Spot}
-use Rattle.table_words.specs.declared.spot.Spot.TheVariants as spots
-use Rattle.table_words.specs.declared.access.Access.{Access}
-use Rattle.table_words.specs.declared.access.Access.TheVariants.{Exchanges}
-use Rattle.table_words.specs.Access.{written, exchanged}
-use Rattle.table_words.specs.Seen.{upd, put}
-use Rattle.table_words.specs.Limits.{IsWithinLimits}
-use Rattle.structure_laws.specs.Meaning.{Meaning}
-use Rattle.structure_laws.specs.Laws.{Laws}
-use Rattle.runner_parts.specs.declared.entries.Published.{Published}
-use Rattle.runner_parts.specs.declared.event.EventKind.{EventKind}
-use Rattle.runner_parts.specs.declared.event.EventKind.TheVariants as kinds
-use Rattle.runner_parts.specs.State.{RunState, PartState}
-use Rattle.runner_parts.specs.Tests.{is_walking}
-use Rattle.runner_steps.specs.Asks.{ask_by, line_ask, opening_ask, outside_ask}
-use Rattle.runner_steps.specs.InRun.{is_slot}
-use Rattle.runner_steps.specs.Sections.{thunk_of, is_open_run, line_of, next_of}
-use Rattle.runner_steps.specs.AfterInRun.{goes_on, opened_more, place_of}
-use Rattle.runner_steps.specs.After.{after, after_by, line_after, outside_after, knows_also, leaves}
+use Rattle.agreement_core.specs.section_lines.specs.small_lemmas.proofs.Numbers.{one_at_most as flag_few, tested_equal as test_same}
+use Rattle.history_orders.specs.map_history.specs.declared.op.Request.{Request}
+use Rattle.agreement_core.specs.body_terms.specs.Line.{micro_at}
+use Rattle.agreement_core.specs.body_terms.specs.Memory.{cell_of}
+use Rattle.agreement_core.specs.body_terms.specs.Word.{value_of, version_of, next_word, held_word}
+use Rattle.agreement_core.specs.body_terms.specs.declared.micro.Micro.{Micro}
+use Rattle.agreement_core.specs.body_terms.specs.declared.micro.Micro.TheVariants as micros
+use Rattle.agreement_core.specs.body_terms.specs.declared.thunk.Thunk.{Thunk}
+use Rattle.agreement_core.specs.section_lines.specs.Line.{IsLine}
+use Rattle.agreement_core.specs.table_words.specs.declared.layout.Layout.{Layout}
+use Rattle.agreement_core.specs.table_words.specs.declared.spot.Spot.{Spot}
+use Rattle.agreement_core.specs.table_words.specs.declared.spot.Spot.TheVariants as spots
+use Rattle.agreement_core.specs.table_words.specs.declared.access.Access.{Access}
+use Rattle.agreement_core.specs.table_words.specs.declared.access.Access.TheVariants.{Exchanges}
+use Rattle.agreement_core.specs.table_words.specs.Access.{written, exchanged}
+use Rattle.agreement_core.specs.table_words.specs.Seen.{upd, put}
+use Rattle.agreement_core.specs.table_words.specs.Limits.{IsWithinLimits}
+use Rattle.machine_states.specs.structure_laws.specs.Meaning.{Meaning}
+use Rattle.machine_states.specs.structure_laws.specs.Laws.{Laws}
+use Rattle.machine_states.specs.runner_steps.specs.runner_parts.specs.declared.entries.Published.{Published}
+use Rattle.machine_states.specs.runner_steps.specs.runner_parts.specs.declared.event.EventKind.{EventKind}
+use Rattle.machine_states.specs.runner_steps.specs.runner_parts.specs.declared.event.EventKind.TheVariants as kinds
+use Rattle.machine_states.specs.runner_steps.specs.runner_parts.specs.State.{RunState, PartState}
+use Rattle.machine_states.specs.runner_steps.specs.runner_parts.specs.Tests.{is_walking}
+use Rattle.machine_states.specs.runner_steps.specs.Asks.{ask_by, line_ask, opening_ask, outside_ask}
+use Rattle.machine_states.specs.runner_steps.specs.InRun.{is_slot}
+use Rattle.machine_states.specs.runner_steps.specs.Sections.{thunk_of, is_open_run, line_of, next_of}
+use Rattle.machine_states.specs.runner_steps.specs.AfterInRun.{goes_on, opened_more, place_of}
+use Rattle.machine_states.specs.runner_steps.specs.After.{after, after_by, line_after, outside_after, knows_also, leaves}
 use Rattle.agreement_core.specs.State.{Section}
 use Rattle.agreement_core.proofs.Lines.{exchange_unlocked}
 use Rattle.machine_states.specs.Sight.{Sight, parts_after}
@@ -45,18 +45,18 @@ use Rattle.machine_epochs.proofs.OutsideAsked.{HoldAsked, hold_asked}
 use Rattle.machine_epochs.proofs.RunPlaces.{next_in_line, open_run}
 use Rattle.machine_scenes.specs.Shown.{rules_of}
 use Rattle.machine_scenes.proofs.JointSteps.{hand_status}
-use Rattle.next_steps.specs.machine_slots.proofs.Locks.{locks_free}
-use Rattle.next_steps.specs.machine_slots.proofs.Runs.{fill_low}
-use Rattle.epoch_core.specs.declared.location.Location.TheVariants.{Hand}
-use Rattle.epoch_core.specs.History.{is_out}
-use Rattle.epoch_core.specs.Sound.{is_for_nodes}
-use Rattle.next_steps.specs.machine_agreement.proofs.RunPlaces.{used_here, code_here, opened_thunk}
-use Rattle.next_steps.specs.machine_agreement.proofs.LineAsked as asked_line
-use Rattle.next_steps.specs.machine_agreement.proofs.LineKinds.{noted_finished}
-use Rattle.next_steps.specs.machine_invariant.specs.Rising.{CellsRise}
-use Rattle.next_steps.specs.machine_invariant.specs.Whole.{Beside, states_of, IsWhole}
+use Rattle.reached_histories.specs.machine_facts.specs.machine_slots.proofs.Locks.{locks_free}
+use Rattle.reached_histories.specs.machine_facts.specs.machine_slots.proofs.Runs.{fill_low}
+use Rattle.machine_states.specs.epoch_core.specs.declared.location.Location.TheVariants.{Hand}
+use Rattle.machine_states.specs.epoch_core.specs.History.{is_out}
+use Rattle.machine_states.specs.epoch_core.specs.Sound.{is_for_nodes}
+use Rattle.reached_histories.specs.machine_facts.specs.machine_agreement.proofs.RunPlaces.{used_here, code_here, opened_thunk}
+use Rattle.reached_histories.specs.machine_facts.specs.machine_agreement.proofs.LineAsked as asked_line
+use Rattle.reached_histories.specs.machine_facts.specs.machine_agreement.proofs.LineKinds.{noted_finished}
+use Rattle.reached_histories.specs.machine_facts.specs.machine_invariant.specs.Rising.{CellsRise}
+use Rattle.reached_histories.specs.machine_facts.specs.machine_invariant.specs.Whole.{Beside, states_of, IsWhole}
 use Rattle.next_steps.proofs.Parts.{each_part}
-use Rattle.next_steps.specs.machine_invariant.proofs.Keeping.{IsStep}
+use Rattle.reached_histories.specs.machine_facts.specs.machine_invariant.proofs.Keeping.{IsStep}
 use Rattle.resource_bounds.proofs.Weights.{weight, spent}
 use Rattle.resource_bounds.proofs.Releases.{released_lock}
 use Rattle.resource_bounds.proofs.Runs.{run_most, outer_most}

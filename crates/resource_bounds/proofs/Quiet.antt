@@ -3,18 +3,18 @@ use Rattle.std.specs.Prelude.{◌==◌, cond, Bool, true, false}
 use Rattle.std.proofs.Common.{◌≡◌, ◌≢◌, ℕ, List, refl, sym, ap, ◌∙◌, subst, arith, Some, None}
 use Rattle.std.proofs.lemmas.Bool.Decides.{nat_tests}
 use mathlib.Core.Path.{fun_ext}
-use Rattle.map_history.specs.declared.op.Request.{Request}
-use Rattle.table_words.specs.declared.layout.Layout.{Layout}
-use Rattle.table_words.specs.declared.spot.Spot.TheVariants.{Cell}
-use Rattle.structure_laws.specs.Meaning.{Meaning}
-use Rattle.structure_laws.specs.Scene.{Scene}
-use Rattle.structure_laws.specs.InTurn.{StandsFor}
-use Rattle.structure_laws.specs.Planner.{IsQuiet}
+use Rattle.history_orders.specs.map_history.specs.declared.op.Request.{Request}
+use Rattle.agreement_core.specs.table_words.specs.declared.layout.Layout.{Layout}
+use Rattle.agreement_core.specs.table_words.specs.declared.spot.Spot.TheVariants.{Cell}
+use Rattle.machine_states.specs.structure_laws.specs.Meaning.{Meaning}
+use Rattle.machine_states.specs.structure_laws.specs.Scene.{Scene}
+use Rattle.machine_states.specs.structure_laws.specs.InTurn.{StandsFor}
+use Rattle.machine_states.specs.structure_laws.specs.Planner.{IsQuiet}
 use Rattle.agreement_core.specs.State.{AgreementState}
 use Rattle.machine_states.specs.Sight.{Sight}
 use Rattle.machine_epochs.specs.Entries.{counts_of}
 use Rattle.machine_scenes.specs.Shown.{scene_of, section_of, section_with}
-use Rattle.next_steps.specs.machine_invariant.specs.Whole.{states_of, IsWhole}
+use Rattle.reached_histories.specs.machine_facts.specs.machine_invariant.specs.Whole.{states_of, IsWhole}
 use Rattle.reached_histories.specs.History.{IsClosed}
 use Rattle.reached_histories.specs.Laws.{HasHistory}
 use Rattle.resource_bounds.specs.InUse.{NoneIsHeld}

@@ -1,18 +1,18 @@
 -- So it is in every reached state.
 use Rattle.std.specs.Prelude.{◌==◌, ◌*◌, ◌^◌, nat_lt, cond, Bool, true, false}
 use Rattle.std.proofs.Common.{◌≡◌, ℕ, zero, suc, ◌+◌, ◌<◌, ◌≤◌, List, length, le_of_eq, refl, sym, ap, ◌∙◌, arith, Option, Some, None}
-use Rattle.map_history.specs.declared.op.Request.{Request}
+use Rattle.history_orders.specs.map_history.specs.declared.op.Request.{Request}
 use Rattle.std.proofs.lemmas.Bool.Decides.{nat_tests}
-use Rattle.body_terms.specs.Word.{version_of, value_of, pack}
-use Rattle.table_words.specs.declared.layout.Layout.{Layout}
-use Rattle.table_words.specs.declared.spot.Spot.TheVariants as spots
-use Rattle.table_words.specs.Limits.{IsWithinLimits}
-use Rattle.structure_laws.specs.Meaning.{Meaning}
-use Rattle.structure_laws.specs.Laws.{Laws}
-use Rattle.structure_laws.specs.Cells.{first_word}
-use Rattle.runner_parts.specs.declared.entries.Published.{Published}
-use Rattle.runner_parts.specs.declared.event.Event.{Event}
-use Rattle.runner_parts.specs.State.{RunState}
+use Rattle.agreement_core.specs.body_terms.specs.Word.{version_of, value_of, pack}
+use Rattle.agreement_core.specs.table_words.specs.declared.layout.Layout.{Layout}
+use Rattle.agreement_core.specs.table_words.specs.declared.spot.Spot.TheVariants as spots
+use Rattle.agreement_core.specs.table_words.specs.Limits.{IsWithinLimits}
+use Rattle.machine_states.specs.structure_laws.specs.Meaning.{Meaning}
+use Rattle.machine_states.specs.structure_laws.specs.Laws.{Laws}
+use Rattle.machine_states.specs.structure_laws.specs.Cells.{first_word}
+use Rattle.machine_states.specs.runner_steps.specs.runner_parts.specs.declared.entries.Published.{Published}
+use Rattle.machine_states.specs.runner_steps.specs.runner_parts.specs.declared.event.Event.{Event}
+use Rattle.machine_states.specs.runner_steps.specs.runner_parts.specs.State.{RunState}
 use Rattle.machine_states.specs.World.{World, happens}
 use Rattle.machine_states.specs.First.{IsFirst}
 use Rattle.machine_states.specs.Reached.{Reached}
@@ -20,11 +20,11 @@ use Rattle.machine_states.specs.Sight.{Sight, sight}
 use Rattle.machine_states.proofs.Reached.{first_reached, more_reached, reached_has, reached_all}
 use Rattle.machine_states.proofs.Sights.{happens_steps}
 use Rattle.machine_scenes.specs.Shown.{States}
-use Rattle.next_steps.specs.machine_invariant.specs.After.{AreAllowed}
-use Rattle.next_steps.specs.machine_invariant.specs.Whole.{Beside, IsWhole}
-use Rattle.next_steps.specs.machine_invariant.proofs.After.{reached_whole}
-use Rattle.next_steps.specs.machine_invariant.proofs.First.{same_states}
-use Rattle.next_steps.specs.machine_invariant.proofs.Rising.{rises_after}
+use Rattle.reached_histories.specs.machine_facts.specs.machine_invariant.specs.After.{AreAllowed}
+use Rattle.reached_histories.specs.machine_facts.specs.machine_invariant.specs.Whole.{Beside, IsWhole}
+use Rattle.reached_histories.specs.machine_facts.specs.machine_invariant.proofs.After.{reached_whole}
+use Rattle.reached_histories.specs.machine_facts.specs.machine_invariant.proofs.First.{same_states}
+use Rattle.reached_histories.specs.machine_facts.specs.machine_invariant.proofs.Rising.{rises_after}
 use Rattle.resource_bounds.specs.Versions.{run_count, open_count, runs_below, VersionsAreCounted}
 use Rattle.resource_bounds.proofs.Runs.{run_most}
 use Rattle.resource_bounds.proofs.Parts.{index, by_run, by_open, charge, by_opened_run, fewer}

@@ -1,25 +1,25 @@
 -- What a run releases at its end is a lock.
 use Rattle.std.specs.Prelude.{slice_index_or, true}
 use Rattle.std.proofs.Common.{◌≡◌, ℕ, zero, suc, ◌<◌, List, [], ◌∷◌, length, take, ⊎_elim, sym, refl, ap, ◌∙◌, arith, Some}
-use Rattle.map_history.specs.declared.op.Request.{Request}
-use Rattle.body_terms.specs.declared.micro.Micro.{Micro}
-use Rattle.body_terms.specs.declared.micro.Micro.TheVariants as micros
-use Rattle.body_terms.specs.declared.thunk.Thunk.{Thunk}
-use Rattle.body_terms.specs.Line.{micro_at, ending}
-use Rattle.section_lines.specs.Line.{IsLine}
-use Rattle.table_words.specs.declared.layout.Layout.{Layout}
-use Rattle.structure_laws.specs.Meaning.{Meaning}
-use Rattle.runner_parts.specs.State.{RunState}
-use Rattle.runner_steps.specs.Sections.{thunk_of, is_open_run, line_of, next_of}
+use Rattle.history_orders.specs.map_history.specs.declared.op.Request.{Request}
+use Rattle.agreement_core.specs.body_terms.specs.declared.micro.Micro.{Micro}
+use Rattle.agreement_core.specs.body_terms.specs.declared.micro.Micro.TheVariants as micros
+use Rattle.agreement_core.specs.body_terms.specs.declared.thunk.Thunk.{Thunk}
+use Rattle.agreement_core.specs.body_terms.specs.Line.{micro_at, ending}
+use Rattle.agreement_core.specs.section_lines.specs.Line.{IsLine}
+use Rattle.agreement_core.specs.table_words.specs.declared.layout.Layout.{Layout}
+use Rattle.machine_states.specs.structure_laws.specs.Meaning.{Meaning}
+use Rattle.machine_states.specs.runner_steps.specs.runner_parts.specs.State.{RunState}
+use Rattle.machine_states.specs.runner_steps.specs.Sections.{thunk_of, is_open_run, line_of, next_of}
 use Rattle.agreement_core.specs.State.{Section}
 use Rattle.agreement_core.proofs.Lines.{hold_lock}
 use Rattle.machine_states.specs.Sight.{Sight}
 use Rattle.machine_epochs.proofs.RunPlaces.{open_run}
 use Rattle.machine_scenes.specs.Shown.{rules_of}
-use Rattle.next_steps.specs.machine_agreement.proofs.RunPlaces.{used_here, code_here, of_thunk}
-use Rattle.next_steps.specs.machine_agreement.proofs.Ends.{at_end}
-use Rattle.next_steps.specs.machine_agreement.proofs.Endings.{TakesIn, release_taken}
-use Rattle.next_steps.specs.machine_invariant.specs.Whole.{Beside, IsWhole}
+use Rattle.reached_histories.specs.machine_facts.specs.machine_agreement.proofs.RunPlaces.{used_here, code_here, of_thunk}
+use Rattle.reached_histories.specs.machine_facts.specs.machine_agreement.proofs.Ends.{at_end}
+use Rattle.reached_histories.specs.machine_facts.specs.machine_agreement.proofs.Endings.{TakesIn, release_taken}
+use Rattle.reached_histories.specs.machine_facts.specs.machine_invariant.specs.Whole.{Beside, IsWhole}
 
 -- a step below a place of a line stands in the line
 taken_at : (ms : List Micro) (n i : ℕ) → i < length (take n ms) → micro_at (take n ms) i ≡ micro_at ms i

@@ -2,20 +2,20 @@
 use Rattle.std.specs.Prelude.{Bool, true, false}
 use Rattle.std.proofs.Common.{◌≡◌, ℕ, ◌≤◌, length, refl, sym, ap, ◌∙◌, arith, Some}
 use Rattle.std.proofs.lemmas.Bool.{both_ways}
-use Rattle.body_terms.specs.Line.{micro_at, no_registers}
-use Rattle.body_terms.specs.declared.micro.Micro.{Micro}
-use Rattle.body_terms.specs.declared.micro.Micro.TheVariants.{NestedHold}
-use Rattle.section_lines.specs.Line.{IsLine}
-use Rattle.table_words.specs.declared.layout.Layout.{Layout}
-use Rattle.structure_laws.specs.Meaning.{Meaning}
-use Rattle.runner_parts.specs.State.{RunState}
-use Rattle.runner_steps.specs.Sections.{thunk_of, line_of}
+use Rattle.agreement_core.specs.body_terms.specs.Line.{micro_at, no_registers}
+use Rattle.agreement_core.specs.body_terms.specs.declared.micro.Micro.{Micro}
+use Rattle.agreement_core.specs.body_terms.specs.declared.micro.Micro.TheVariants.{NestedHold}
+use Rattle.agreement_core.specs.section_lines.specs.Line.{IsLine}
+use Rattle.agreement_core.specs.table_words.specs.declared.layout.Layout.{Layout}
+use Rattle.machine_states.specs.structure_laws.specs.Meaning.{Meaning}
+use Rattle.machine_states.specs.runner_steps.specs.runner_parts.specs.State.{RunState}
+use Rattle.machine_states.specs.runner_steps.specs.Sections.{thunk_of, line_of}
 use Rattle.agreement_core.specs.State.{Section}
 use Rattle.agreement_core.proofs.Lines.{hold_lock, hold_inner, hold_once, exchange_unlocked}
 use Rattle.machine_states.specs.Sight.{Sight}
 use Rattle.machine_scenes.specs.Shown.{rules_of}
-use Rattle.next_steps.specs.machine_agreement.proofs.RunPlaces.{used_here, code_here, of_thunk}
-use Rattle.next_steps.specs.machine_invariant.specs.Whole.{Beside, IsWhole}
+use Rattle.reached_histories.specs.machine_facts.specs.machine_agreement.proofs.RunPlaces.{used_here, code_here, of_thunk}
+use Rattle.reached_histories.specs.machine_facts.specs.machine_invariant.specs.Whole.{Beside, IsWhole}
 use Rattle.next_steps.proofs.Runs.{shaped}
 use Rattle.resource_bounds.proofs.Weights.{takes_one, stores_one, fills_one, weight, total, spent, spent_all, nought, never, once, takes_few, stores_few, takes_it, stores_it, total_parts, few_fills}
 

@@ -1,15 +1,15 @@
 //! The law of this crate, on a contract.
 ghost use Rattle.std.specs.Prelude.{List};
-ghost use Rattle.map_history.specs.declared.op.Request.{Request};
-ghost use Rattle.table_words.specs.Limits.{IsWithinLimits};
-ghost use Rattle.table_words.specs.declared.layout.Layout.{Layout};
+ghost use Rattle.history_orders.specs.map_history.specs.declared.op.Request.{Request};
+ghost use Rattle.agreement_core.specs.table_words.specs.Limits.{IsWithinLimits};
+ghost use Rattle.agreement_core.specs.table_words.specs.declared.layout.Layout.{Layout};
 ghost use Rattle.machine_states.specs.World.{World};
 ghost use Rattle.machine_states.specs.Reached.{Reached};
 ghost use Rattle.machine_states.specs.Sight.{sight};
-ghost use Rattle.next_steps.specs.machine_invariant.specs.After.{AreAllowed};
+ghost use Rattle.reached_histories.specs.machine_facts.specs.machine_invariant.specs.After.{AreAllowed};
 ghost use Rattle.resource_bounds.specs.Versions.{VersionsAreCounted};
 
-use structure_laws::Structure;
+use machine_states::structure_laws::Structure;
 
 /// In every state that the machine reaches, the version of each cell is at most 1 and four for each run of
 /// each runner: those that came to their end, those in progress, and one for each published section that

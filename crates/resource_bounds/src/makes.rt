@@ -1,16 +1,16 @@
 //! The law of this crate, on a contract.
 ghost use Rattle.std.specs.Prelude.{ℕ, List};
-ghost use Rattle.map_history.specs.declared.op.Request.{Request};
-ghost use Rattle.table_words.specs.Limits.{IsWithinLimits};
-ghost use Rattle.table_words.specs.declared.layout.Layout.{Layout};
-ghost use Rattle.structure_laws.specs.Planner.{PlannerLaws};
+ghost use Rattle.history_orders.specs.map_history.specs.declared.op.Request.{Request};
+ghost use Rattle.agreement_core.specs.table_words.specs.Limits.{IsWithinLimits};
+ghost use Rattle.agreement_core.specs.table_words.specs.declared.layout.Layout.{Layout};
+ghost use Rattle.machine_states.specs.structure_laws.specs.Planner.{PlannerLaws};
 ghost use Rattle.machine_states.specs.World.{World};
 ghost use Rattle.machine_states.specs.Reached.{Reached};
 ghost use Rattle.machine_states.specs.Sight.{sight};
-ghost use Rattle.next_steps.specs.machine_invariant.specs.After.{AreAllowed};
+ghost use Rattle.reached_histories.specs.machine_facts.specs.machine_invariant.specs.After.{AreAllowed};
 ghost use Rattle.resource_bounds.specs.Makes.{MakesAreCounted, FewAreAdded};
 
-use structure_laws::Structure;
+use machine_states::structure_laws::Structure;
 
 /// In every state that the machine reaches, over a structure that gives what planners need: where no lock is held, each
 /// worker's free, looked at, waiting and worn node slots, with two for each request that added a pair or replaced one,

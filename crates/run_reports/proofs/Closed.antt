@@ -5,21 +5,21 @@ use Rattle.std.specs.FinMap.{len}
 use Rattle.std.proofs.lemmas.Bool.Decides.{nat_tests}
 use Rattle.std.proofs.lemmas.List.Elements.{All-get_or}
 use Rattle.std.proofs.lemmas.Option.{slice_get_within, slice_get-get_or, get_or_from_slice_get}
-use Rattle.map_history.specs.declared.op.Entry.{Entry}
-use Rattle.map_history.specs.declared.op.Request.{Request}
-use Rattle.map_history.specs.declared.reply.Reply as replies
-use Rattle.map_history.specs.Keys.{value_given}
-use Rattle.map_history.specs.Words as words
+use Rattle.history_orders.specs.map_history.specs.declared.op.Entry.{Entry}
+use Rattle.history_orders.specs.map_history.specs.declared.op.Request.{Request}
+use Rattle.history_orders.specs.map_history.specs.declared.reply.Reply as replies
+use Rattle.history_orders.specs.map_history.specs.Keys.{value_given}
+use Rattle.history_orders.specs.map_history.specs.Words as words
 use Rattle.history_orders.specs.Stamped.{Stamped}
 use Rattle.history_orders.proofs.Replays.{oldest_first-legal}
-use Rattle.table_words.specs.declared.spot.Spot.TheVariants.{Stamp, Reply}
+use Rattle.structure_laws.specs.table_words.specs.declared.spot.Spot.TheVariants.{Stamp, Reply}
 use Rattle.structure_laws.specs.Meaning.{Meaning}
 use Rattle.structure_laws.specs.Sections.{IsAllowed}
-use Rattle.closed_words.specs.machine_invariant.specs.After.{AreAllowed}
+use Rattle.closed_words.specs.version_words.specs.machine_invariant.specs.After.{AreAllowed}
 use Rattle.closed_words.specs.reached_histories.specs.Requests.{or_none, request_at}
 use Rattle.history_orders.proofs.Replies.{replies_small}
 use Rattle.report_text.specs.Entries.{AreLegal}
-use Rattle.version_words.specs.TableState.{WordsState, word_of}
+use Rattle.closed_words.specs.version_words.specs.TableState.{WordsState, word_of}
 use Rattle.closed_words.specs.Histories.{HaveHistory, HoldsNoLock, AreSettled}
 use Rattle.run_reports.specs.Reports.{HaveEntries, HaveContents}
 use Rattle.run_reports.proofs.Few.{few_pairs}

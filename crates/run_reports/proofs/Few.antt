@@ -9,9 +9,9 @@ use Rattle.std.proofs.lemmas.Bool.Decides.{nat_tests}
 use Rattle.std.proofs.lemmas.List.{length-map, length-reverse}
 use Rattle.std.proofs.lemmas.Map.Keys.{IsDistinct-from_apart}
 use Rattle.std.proofs.lemmas.Map.Steps.{length-le_from_distinct_below}
-use Rattle.map_history.specs.declared.op.Op.{Op}
-use Rattle.map_history.specs.Replay.{Pairs, map_after, map_after_all}
-use Rattle.map_history.proofs.Sizes.{len-map_after}
+use Rattle.history_orders.specs.map_history.specs.declared.op.Op.{Op}
+use Rattle.history_orders.specs.map_history.specs.Replay.{Pairs, map_after, map_after_all}
+use Rattle.history_orders.specs.map_history.proofs.Sizes.{len-map_after}
 use Rattle.history_orders.specs.Stamped.{Stamped, answered_of, oldest_first, ops_of, IsHistoryOf}
 use Rattle.history_orders.proofs.Entries.{contains_front, contains_behind}
 use Rattle.run_reports.proofs.Elements.{pairs_mapped}

@@ -10,13 +10,13 @@ use Rattle.std.proofs.lemmas.List.Sorted.{IsPermutation-reverse, IsPermutation-s
 use Rattle.std.proofs.lemmas.Map.Keys.{IsDistinct-from_apart}
 use Rattle.std.proofs.lemmas.Option.{slice_get-get_or}
 use Rattle.std.proofs.lemmas.Slice.Zip.{get_or-zip, length-zip}
-use Rattle.map_history.specs.declared.op.Op.{Op}
-use Rattle.map_history.specs.declared.op.Entry.{Entry}
-use Rattle.map_history.specs.declared.op.Request.{Request}
-use Rattle.map_history.specs.History.{Answered, IsLegalFrom}
-use Rattle.map_history.specs.Replay.{map_after_all}
-use Rattle.map_history.specs.Words.{word_of, IsReply}
-use Rattle.map_history.proofs.Words.{same_reply}
+use Rattle.history_orders.specs.map_history.specs.declared.op.Op.{Op}
+use Rattle.history_orders.specs.map_history.specs.declared.op.Entry.{Entry}
+use Rattle.history_orders.specs.map_history.specs.declared.op.Request.{Request}
+use Rattle.history_orders.specs.map_history.specs.History.{Answered, IsLegalFrom}
+use Rattle.history_orders.specs.map_history.specs.Replay.{map_after_all}
+use Rattle.history_orders.specs.map_history.specs.Words.{word_of, IsReply}
+use Rattle.history_orders.specs.map_history.proofs.Words.{same_reply}
 use Rattle.history_orders.specs.Turns.{comes_before, Follows}
 use Rattle.history_orders.specs.Stamped.{Stamped, turn_of, is_earlier, answered_of, oldest_first, ops_of, IsHistoryOf}
 use Rattle.history_orders.proofs.Turns.{before_itself}

@@ -1,16 +1,16 @@
 -- The report that is written is that of the words.
 use Rattle.std.proofs.Common.{◌≡◌, ℕ, true, List, Option, sym, ap, ◌∙◌, subst}
 use Rattle.std.specs.FinMap.{len}
-use Rattle.map_history.specs.declared.op.Entry.{Entry}
-use Rattle.map_history.specs.declared.op.Request.{Request}
-use Rattle.map_history.specs.Replay.{Pairs}
+use Rattle.history_orders.specs.map_history.specs.declared.op.Entry.{Entry}
+use Rattle.history_orders.specs.map_history.specs.declared.op.Request.{Request}
+use Rattle.history_orders.specs.map_history.specs.Replay.{Pairs}
 use Rattle.structure_laws.specs.Meaning.{Meaning}
-use Rattle.closed_words.specs.machine_invariant.specs.After.{AreAllowed}
+use Rattle.closed_words.specs.version_words.specs.machine_invariant.specs.After.{AreAllowed}
 use Rattle.report_text.specs.Entries.{AreLegal}
 use Rattle.report_text.specs.Legal.{IsLegal}
 use Rattle.report_text.specs.Ranks.{ranks_of}
 use Rattle.report_text.specs.Report.{Row, rows_of, report_text}
-use Rattle.version_words.specs.TableState.{WordsState}
+use Rattle.closed_words.specs.version_words.specs.TableState.{WordsState}
 use Rattle.closed_words.specs.Histories.{HaveHistory, HoldsNoLock}
 use Rattle.run_reports.specs.Reports.{HaveEntries, HaveContents, IsReport, unserved_in}
 use Rattle.run_reports.proofs.Closed.{closed_legal, closed_contents}

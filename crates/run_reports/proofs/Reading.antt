@@ -2,8 +2,8 @@
 use Rattle.std.proofs.Common.{◌≡◌, ◌≢◌, ℕ, zero, suc, Bool, true, false, List, [], ◌∷◌, ◌++◌, Option, None, Some, length, refl, sym, ap, ◌∙◌, inl, inr, ⊎_elim, subst, arith}
 use Rattle.std.specs.Prelude.{◌⊎◌, ◌==◌, if◌then◌else◌, slice_get}
 use Rattle.std.proofs.lemmas.Bool.Decides.{nat_tests}
-use Rattle.map_history.specs.declared.reply.Reply.{Reply}
-use Rattle.version_words.specs.TableState.{entry_of}
+use Rattle.history_orders.specs.map_history.specs.declared.reply.Reply.{Reply}
+use Rattle.closed_words.specs.version_words.specs.TableState.{entry_of}
 
 -- the words of an entry that was found
 pub found_entry : (stamp reply a b : ℕ) (result : Option (ℕ × ℕ)) → result ≡ entry_of stamp reply → result ≡ Some (a, b) → (stamp ≢ 0) × (stamp ≡ a) × (reply ≡ b)

@@ -4,8 +4,8 @@ use Rattle.std.specs.Prelude.{All, AllPairs, Contains, slice_get}
 use Rattle.std.specs.List.{enumerate_from, filter_map, zip}
 use Rattle.std.proofs.lemmas.List.Elements.{All-nil, All-cons, All-weaker}
 use Rattle.std.proofs.lemmas.List.Kept.{AllPairs-cons}
-use Rattle.map_history.specs.declared.op.Entry.{Entry}
-use Rattle.map_history.specs.declared.op.Request.{Request}
+use Rattle.history_orders.specs.map_history.specs.declared.op.Entry.{Entry}
+use Rattle.history_orders.specs.map_history.specs.declared.op.Request.{Request}
 use Rattle.history_orders.proofs.Entries.{contains_cases, contains_front, contains_behind, contains_none}
 use Rattle.report_text.specs.Entries.{Entered, entered_of}
 

@@ -1,15 +1,15 @@
 -- The report on the requests of a closed table, by its words.
 use Rattle.std.specs.Prelude.{◌≡◌, ℕ, List, Option, not, is_some, count_by}
 use Rattle.std.specs.FinMap.{len}
-use Rattle.map_history.specs.declared.op.Entry.{Entry}
-use Rattle.map_history.specs.Replay.{Pairs}
-use Rattle.table_words.specs.declared.spot.Spot.TheVariants.{Cell, Stamp, Reply}
+use Rattle.history_orders.specs.map_history.specs.declared.op.Entry.{Entry}
+use Rattle.history_orders.specs.map_history.specs.Replay.{Pairs}
+use Rattle.structure_laws.specs.table_words.specs.declared.spot.Spot.TheVariants.{Cell, Stamp, Reply}
 use Rattle.structure_laws.specs.Meaning.{Meaning}
 use Rattle.report_text.specs.Legal.{IsLegal}
 use Rattle.report_text.specs.Ranks.{ranks_of}
 use Rattle.report_text.specs.Report.{Row, rows_of, report_text}
 use Rattle.report_text.specs.Sink.{Extends, ExtendsInPart}
-use Rattle.version_words.specs.TableState.{WordsState, word_of}
+use Rattle.closed_words.specs.version_words.specs.TableState.{WordsState, word_of}
 use Rattle.run_reports.specs.Shown.{IsShown, AreShown}
 
 -- how many requests have no entry

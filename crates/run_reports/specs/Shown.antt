@@ -1,8 +1,8 @@
 -- The entries of requests, as their stamp words and reply words show them.
 use Rattle.std.specs.Prelude.{◌≡◌, ◌≢◌, ℕ, List, Option, None, Some, length, slice_get}
-use Rattle.map_history.specs.declared.op.Entry.{Entry}
-use Rattle.map_history.specs.declared.op.Request.{Request}
-use Rattle.map_history.specs.Words.{word_of, IsReply}
+use Rattle.history_orders.specs.map_history.specs.declared.op.Entry.{Entry}
+use Rattle.history_orders.specs.map_history.specs.declared.op.Request.{Request}
+use Rattle.history_orders.specs.map_history.specs.Words.{word_of, IsReply}
 
 -- what these two words show of a request: no entry where the stamp word is 0, else the stamp and the reply
 -- that has the reply word

@@ -1,8 +1,8 @@
 -- How the printing of a report ends early.
 use Rattle.std.specs.Prelude.{◌≡◌, ℕ, List, Option}
-use Rattle.fault_count.specs.Rose.{Rose}
+use Rattle.report_text.specs.fault_count.specs.Rose.{Rose}
 use Rattle.structure_laws.specs.Meaning.{Meaning}
-use Rattle.version_words.specs.TableState.{WordsState}
+use Rattle.closed_words.specs.version_words.specs.TableState.{WordsState}
 use Rattle.run_reports.specs.Reports.{PrintsInPart}
 use Rattle.run_reports.specs.declared.printing.PrintError.{PrintError}
 use Rattle.run_reports.specs.declared.printing.PrintError.TheVariants.{Memory, Failed}

@@ -4,10 +4,10 @@ ghost use Rattle.closed_words.specs.Histories.{HoldsNoLock};
 ghost use Rattle.run_reports.specs.Reports.{IsEntryOf, HaveEntries};
 
 use closed_words::closed_words_have_a_history;
-use map_history::{Entry, Reply};
+use closed_words::version_words::{Words, words_are_reached};
+use history_orders::map_history::{Entry, Reply};
 use std::alloc::{AllocError, Global};
 use structure_laws::Structure;
-use version_words::{Words, words_are_reached};
 
 /// The entry of the request with this number: its stamp and its reply, or none where its stamp word is 0.
 fn entry_of<S: Structure>(words: &Words<S>, number: u32) -> Option<Entry>

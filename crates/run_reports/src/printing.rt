@@ -1,19 +1,19 @@
 //! The report, printed from the words of a closed table.
 ghost use Rattle.std.specs.Prelude.{◌≡◌, true, ◌≤◌, length, IfOk, IfErr, OnOk};
 ghost use Rattle.std.specs.FinMap.{len};
-ghost use Rattle.map_history.specs.Replay.{Pairs};
-ghost use Rattle.map_history.specs.Requests.{AreInOrder};
+ghost use Rattle.history_orders.specs.map_history.specs.Replay.{Pairs};
+ghost use Rattle.history_orders.specs.map_history.specs.Requests.{AreInOrder};
 ghost use Rattle.closed_words.specs.Histories.{HoldsNoLock};
 ghost use Rattle.run_reports.specs.Reports.{unserved_in, HaveContents, Prints};
 ghost use Rattle.run_reports.specs.Stops.{StopsPrinting};
 
 use crate::entries::entries_of;
 use closed_words::closed_words_have_a_history;
-use map_history::{Entry, Request};
+use closed_words::version_words::{Words, words_are_reached};
+use history_orders::map_history::{Entry, Request};
 use report_text::{Sink, ranks, write_report};
 use std::alloc::{AllocError, Global};
 use structure_laws::Structure;
-use version_words::{Words, words_are_reached};
 
 /// Why a report wasn't printed whole.
 #[derive(Clone, Copy, Debug, PartialEq, Eq)]

@@ -1,8 +1,8 @@
 -- The words stored last, one after the other.
 use Rattle.std.proofs.Common.{◌≡◌, ℕ, zero, suc, ◌+◌, ◌<◌, ◌≤◌, List, [], ◌∷◌, length, drop, get_or, Bool, true, false, refl, arith, None}
 use Rattle.std.specs.Prelude.{◌&&◌}
-use Rattle.runner_parts.specs.declared.entries.Stored.{Stored}
-use Rattle.runner_parts.specs.Tests.{last_stored, are_stored, is_some_of}
+use Rattle.runner_steps.specs.runner_parts.specs.declared.entries.Stored.{Stored}
+use Rattle.runner_steps.specs.runner_parts.specs.Tests.{last_stored, are_stored, is_some_of}
 
 -- one more number is looked at
 pub stored_next : (xs : List Stored) (d w : ℕ) (ns : List ℕ) (i e : ℕ) → i < length ns

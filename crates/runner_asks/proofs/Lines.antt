@@ -1,12 +1,12 @@
 -- Lines read place by place.
 use Rattle.std.proofs.Common.{◌≡◌, ℕ, zero, suc, ◌+◌, ◌*◌, ◌<◌, ◌≤◌, List, [], ◌∷◌, ◌++◌, length, take, drop, true, false, cond, refl, ap, ◌∙◌, arith, length-append, Option, Some, None}
 use Rattle.std.specs.Prelude.{◌&&◌, is_none, slice_index_or}
-use Rattle.body_terms.specs.declared.step.Step.{Step}
-use Rattle.body_terms.specs.declared.micro.Micro.{Micro}
-use Rattle.body_terms.specs.declared.micro.Micro.TheVariants.{CheckHeld, End, Release}
-use Rattle.body_terms.specs.Line.{Registers, no_registers, registers_after, micros, line, line_from, micro_at, is_check, release_of, releases}
-use Rattle.body_terms.specs.Run.{Setting, leaves, passed_checks, settled}
-use Rattle.body_terms.proofs.LineLemmas.{length-micros, micro_count_le}
+use Rattle.runner_steps.specs.body_terms.specs.declared.step.Step.{Step}
+use Rattle.runner_steps.specs.body_terms.specs.declared.micro.Micro.{Micro}
+use Rattle.runner_steps.specs.body_terms.specs.declared.micro.Micro.TheVariants.{CheckHeld, End, Release}
+use Rattle.runner_steps.specs.body_terms.specs.Line.{Registers, no_registers, registers_after, micros, line, line_from, micro_at, is_check, release_of, releases}
+use Rattle.runner_steps.specs.body_terms.specs.Run.{Setting, leaves, passed_checks, settled}
+use Rattle.runner_steps.specs.body_terms.proofs.LineLemmas.{length-micros, micro_count_le}
 use Rattle.runner_steps.specs.Sections.{lock_of}
 
 -- the checks that pass from a place on, by the one that stands there

@@ -1,7 +1,7 @@
 //! Which word an event meets, and how; none where it isn't enabled.
 ghost use Rattle.std.specs.Prelude.{◌≡◌, ◌<◌, ◌^◌, ◌≤◌, length};
-ghost use Rattle.table_words.specs.Limits.{IsWithinLimits};
-ghost use Rattle.table_words.specs.Places.{sizes_of};
+ghost use Rattle.runner_steps.specs.table_words.specs.Limits.{IsWithinLimits};
+ghost use Rattle.runner_steps.specs.table_words.specs.Places.{sizes_of};
 ghost use Rattle.runner_steps.specs.Asks.{outside_ask, line_ask, opening_ask, inside_ask, ask_by, fitting, sizes_for, asks};
 
 use crate::inside::{
@@ -16,12 +16,12 @@ use crate::outside::{
     split_ask,
 };
 use crate::reads::{read_clock_ask, read_plan_ask, read_reply_ask, read_stamp_ask};
-use body_terms::Micro;
-use map_history::Request;
-use runner_parts::{EventKind, Part, Run};
+use runner_steps::body_terms::Micro;
+use runner_steps::map_history::Request;
+use runner_steps::runner_parts::structure_laws::Structure;
+use runner_steps::runner_parts::{EventKind, Part, Run};
 use runner_steps::sizes_for;
-use structure_laws::Structure;
-use table_words::{Access, Layout, Sizes, Spot};
+use runner_steps::table_words::{Access, Layout, Sizes, Spot};
 
 /// Only words that the table has.
 fn fitting(sizes: Sizes, ask: Option<(Spot, Access)>) -> Option<(Spot, Access)>

@@ -1,17 +1,17 @@
 //! Which word the next event of a run meets, and how.
 ghost use Rattle.std.specs.Prelude.{◌≡◌, ◌≤◌, ◌<◌, ◌-◌, ◌^◌, ◌==◌, ◌&&◌, length};
-ghost use Rattle.table_words.specs.Limits.{IsWithinLimits};
-ghost use Rattle.body_terms.specs.Run.{source_value};
-ghost use Rattle.body_terms.specs.Word.{version_of, next_word};
+ghost use Rattle.runner_steps.specs.table_words.specs.Limits.{IsWithinLimits};
+ghost use Rattle.runner_steps.specs.body_terms.specs.Run.{source_value};
+ghost use Rattle.runner_steps.specs.body_terms.specs.Word.{version_of, next_word};
 ghost use Rattle.runner_steps.specs.Sections.{is_open_run, next_of};
 ghost use Rattle.runner_steps.specs.InRun.{open_more_ask, load_done_ask, commit_to, commit_ask, load_cell_ask, exchange_cell_ask, can_raise, last_of, make_slot, is_slot, is_cell, fill_load_ask, fill_store_ask, make_commit_ask, retire_commit_ask, epoch_for_retire_ask, clock_load_ask, stamp_exchange_ask, clock_raise_ask, reply_exchange_ask, nested_load_ask, can_hold, nested_hold_ask, outcome_load_ask, outcome_commit_ask, set_done_ask, release_ask};
 
 use crate::section::{LINE_LIMIT, agreed, next_micro, source_value, thunk_of};
-use body_terms::{Micro, Source, Word};
-use runner_parts::Run;
+use runner_steps::body_terms::{Micro, Source, Word};
+use runner_steps::runner_parts::Run;
+use runner_steps::runner_parts::structure_laws::Structure;
+use runner_steps::table_words::{Access, Layout, Spot};
 use runner_steps::{cell_place, descriptor_count, slot_count};
-use structure_laws::Structure;
-use table_words::{Access, Layout, Spot};
 
 /// The clock number from which on no stamp is made.
 pub const LAST_CLOCK: u64 = 1 << 62;

@@ -1,14 +1,14 @@
 //! What a runner can tell from what it keeps.
 ghost use Rattle.std.specs.Prelude.{◌≡◌, ◌<◌, ◌≤◌};
-ghost use Rattle.runner_parts.specs.Tests.{has_pair, is_walking, is_resting, is_outside, knows, is_answered, are_answered, is_next, is_readable, is_open, is_planned_stage, is_looked, is_replied, is_between};
-ghost use Rattle.table_words.specs.Limits.{IsWithinLimits};
+ghost use Rattle.runner_steps.specs.runner_parts.specs.Tests.{has_pair, is_walking, is_resting, is_outside, knows, is_answered, are_answered, is_next, is_readable, is_open, is_planned_stage, is_looked, is_replied, is_between};
+ghost use Rattle.runner_steps.specs.table_words.specs.Limits.{IsWithinLimits};
 
-use body_terms::{Place, Thunk, Word};
-use epoch_core::Stage;
-use map_history::Request;
-use runner_parts::{Known, Look, LookStage, Run};
-use structure_laws::Structure;
-use table_words::Layout;
+use runner_steps::body_terms::{Place, Thunk, Word};
+use runner_steps::map_history::Request;
+use runner_steps::runner_parts::epoch_core::Stage;
+use runner_steps::runner_parts::structure_laws::Structure;
+use runner_steps::runner_parts::{Known, Look, LookStage, Run};
+use runner_steps::table_words::Layout;
 
 /// Whether this word was read at this place.
 pub fn has_pair(pairs: &[(Place, Word)], place: Place, word: Word) -> bool

@@ -1,23 +1,23 @@
 //! Which word an event outside a run meets, and how.
 ghost use Rattle.std.specs.Prelude.{◌≡◌, ◌≤◌, ◌<◌, ◌-◌, ◌^◌, ◌&&◌, not, is_none};
-ghost use Rattle.table_words.specs.Limits.{IsWithinLimits};
-ghost use Rattle.table_words.specs.Places.{slot_count, descriptor_count};
-ghost use Rattle.body_terms.specs.Word.{held_word, version_of};
-ghost use Rattle.body_terms.specs.Memory.{cell_of};
-ghost use Rattle.runner_parts.specs.Tests.{is_walking, is_between, is_open, serves};
+ghost use Rattle.runner_steps.specs.table_words.specs.Limits.{IsWithinLimits};
+ghost use Rattle.runner_steps.specs.table_words.specs.Places.{slot_count, descriptor_count};
+ghost use Rattle.runner_steps.specs.body_terms.specs.Word.{held_word, version_of};
+ghost use Rattle.runner_steps.specs.body_terms.specs.Memory.{cell_of};
+ghost use Rattle.runner_steps.specs.runner_parts.specs.Tests.{is_walking, is_between, is_open, serves};
 ghost use Rattle.runner_steps.specs.Outside.{enter_load_ask, announce_ask, enter_again_ask, idle_ask, scan_one_ask, advance_ask, split_ask, join_ask, read_ask, entry_ask, descriptor_spot, private_load_ask, private_store_ask, is_due, is_publishable, is_ready, hold_ask, open_ask, is_over, retire_ask};
 
 use crate::knowledge::{
     is_between, is_next, is_open, is_outside, is_readable, is_resting, is_walking,
 };
 use crate::stores::is_prepared;
-use body_terms::{Place, Thunk, Word};
-use epoch_core::{LAST_EPOCH, Stage};
-use map_history::Request;
-use runner_parts::{Known, Part, Published, Reads, Records, has};
+use runner_steps::body_terms::{Place, Thunk, Word};
+use runner_steps::map_history::Request;
+use runner_steps::runner_parts::epoch_core::{LAST_EPOCH, Stage};
+use runner_steps::runner_parts::structure_laws::Structure;
+use runner_steps::runner_parts::{Known, Part, Published, Reads, Records, has};
+use runner_steps::table_words::{Access, Layout, Spot};
 use runner_steps::{cell_place, descriptor_count, descriptor_spot, held_word, slot_count};
-use structure_laws::Structure;
-use table_words::{Access, Layout, Spot};
 
 pub fn enter_load_ask(stage: Stage) -> Option<(Spot, Access)>
     ensures { result ≡ enter_load_ask stage }

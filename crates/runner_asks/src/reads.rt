@@ -1,18 +1,18 @@
 //! Which word a step of a read without a lock meets, and how.
 ghost use Rattle.std.specs.Prelude.{◌≡◌, ◌≤◌, length, take, drop};
 ghost use Rattle.std.specs.List.{list_all};
-ghost use Rattle.body_terms.specs.Shape.{is_look, loaded_places};
+ghost use Rattle.runner_steps.specs.body_terms.specs.Shape.{is_look, loaded_places};
 ghost use Rattle.runner_steps.specs.Reads.{are_of, is_found, is_met, finds, is_looking, is_fit, is_again, read_plan_ask, read_clock_ask, only_reads, has_come, may_reply, read_reply_ask, read_stamp_ask};
 
 use crate::inside::LAST_CLOCK;
 use crate::knowledge::{has_pair, is_looked, is_open, is_planned_stage, is_replied, is_walking};
 use crate::outside::is_due_by;
 use crate::section::reply_in;
-use body_terms::{Body, Place, Step, Thunk, Word};
-use map_history::Request;
-use runner_parts::{Known, Look, Part, Reads, Records};
-use structure_laws::Structure;
-use table_words::{Access, Layout, Spot};
+use runner_steps::body_terms::{Body, Place, Step, Thunk, Word};
+use runner_steps::map_history::Request;
+use runner_steps::runner_parts::structure_laws::Structure;
+use runner_steps::runner_parts::{Known, Look, Part, Reads, Records};
+use runner_steps::table_words::{Access, Layout, Spot};
 
 /// The first so many of these readings, or all of them.
 fn first_readings(walk: &[(Place, Word)], count: usize) -> &[(Place, Word)]

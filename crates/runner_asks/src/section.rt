@@ -1,13 +1,13 @@
 //! A run's section, and what comes next in it.
 ghost use Rattle.std.specs.Prelude.{◌&&◌, ◌++◌, ◌∷◌, [], take, slice_index_or, is_none, ◌≡◌, ◌<◌, ◌≤◌, ◌%◌, ◌^◌, ◌==◌, length, slice_index};
-ghost use Rattle.body_terms.specs.Word.{held_word};
-ghost use Rattle.body_terms.specs.Line.{line, micro_at, is_check, is_end, is_event, ending, releases, next_micro};
-ghost use Rattle.body_terms.specs.Run.{leaves, settled, refusal, is_takable, source_value, written_once};
-ghost use Rattle.body_terms.specs.declared.micro.Micro.TheVariants.{End, Release};
+ghost use Rattle.runner_steps.specs.body_terms.specs.Word.{held_word};
+ghost use Rattle.runner_steps.specs.body_terms.specs.Line.{line, micro_at, is_check, is_end, is_event, ending, releases, next_micro};
+ghost use Rattle.runner_steps.specs.body_terms.specs.Run.{leaves, settled, refusal, is_takable, source_value, written_once};
+ghost use Rattle.runner_steps.specs.body_terms.specs.declared.micro.Micro.TheVariants.{End, Release};
 ghost use Rattle.runner_steps.specs.Sections.{thunk_of, setting_of, lock_of, reply_in, outcome_or};
 
-use body_terms::{Body, Micro, Outcome, Place, Source, Step, Thunk, Word, micro_at};
-use table_words::Layout;
+use runner_steps::body_terms::{Body, Micro, Outcome, Place, Source, Step, Thunk, Word, micro_at};
+use runner_steps::table_words::Layout;
 
 /// The thunk that these words hold.
 pub fn thunk_of(words: &[u64]) -> Thunk

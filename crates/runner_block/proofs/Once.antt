@@ -1,9 +1,9 @@
 -- Numbers and tests that stand at most once in a list.
 use Rattle.std.proofs.Common.{◌≡◌, ℕ, ◌+◌, ◌≤◌, List, [], ◌∷◌, ◌++◌, Bool, true, false, refl, sym, ap, ◌∙◌, cond, eq-eqb, length, get_or, set, arith}
 use Rattle.std.specs.Prelude.{◌==◌, not}
-use Rattle.runner_parts.specs.Lists.{without, tests_without}
-use Rattle.runner_parts.specs.declared.entries.Tested.{Tested}
-use Rattle.epoch_core.specs.Lists.{times}
+use Rattle.machine_states.specs.runner_steps.specs.runner_parts.specs.Lists.{without, tests_without}
+use Rattle.machine_states.specs.runner_steps.specs.runner_parts.specs.declared.entries.Tested.{Tested}
+use Rattle.machine_states.specs.epoch_core.specs.Lists.{times}
 
 -- how often it stands there, by whether it is the first
 times_by : (b : Bool) (x y : ℕ) (ys : List ℕ) → y == x ≡ b → times x (y ∷ ys) ≡ cond b (1 + times x ys) (times x ys)

@@ -1,7 +1,7 @@
 -- What a runner's block asks before a private load.
 use Rattle.std.specs.Prelude.{◌≡◌, ℕ, ◌≤◌, true, false}
-use Rattle.runner_parts.specs.Tests.{has}
-use Rattle.epoch_core.specs.Lists.{times}
+use Rattle.machine_states.specs.runner_steps.specs.runner_parts.specs.Tests.{has}
+use Rattle.machine_states.specs.epoch_core.specs.Lists.{times}
 use Rattle.runner_block.specs.declared.block.Block.{Block}
 
 -- in a run a Make that has no slot takes a free one, which stands in the free list once, and no

@@ -1,7 +1,7 @@
 -- A runner's stage, in fields.
 use Rattle.std.specs.Prelude.{ℕ, Bool, ◌&&◌}
-use Rattle.epoch_core.specs.declared.stage.Stage.{Stage}
-use Rattle.epoch_core.specs.declared.stage.Stage.TheVariants as stages
+use Rattle.machine_states.specs.epoch_core.specs.declared.stage.Stage.{Stage}
+use Rattle.machine_states.specs.epoch_core.specs.declared.stage.Stage.TheVariants as stages
 use Rattle.runner_block.specs.declared.stage_fields.Phase.{Phase}
 use Rattle.runner_block.specs.declared.stage_fields.Phase.TheVariants as phases
 

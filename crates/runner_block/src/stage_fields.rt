@@ -1,10 +1,10 @@
 //! The stage of a runner, in fields of its own.
 ghost use Rattle.std.specs.Prelude.{◌≡◌};
-ghost use Rattle.epoch_core.specs.declared.stage.Stage.TheVariants as stages;
+ghost use Rattle.machine_states.specs.epoch_core.specs.declared.stage.Stage.TheVariants as stages;
 ghost use Rattle.runner_block.specs.Kept.{loaded_of, scanned_of};
 ghost use Rattle.runner_block.specs.StageFields.{gone_on};
 
-use epoch_core::Stage;
+use machine_states::epoch_core::Stage;
 use std::marker::Model;
 
 /// Which stage it is.
@@ -28,7 +28,7 @@ pub struct StageFields {
 }
 
 impl Model for StageFields {
-    ghost use Rattle.epoch_core.specs.declared.stage.Stage.{Stage};
+    ghost use Rattle.machine_states.specs.epoch_core.specs.declared.stage.Stage.{Stage};
     ghost use Rattle.runner_block.specs.StageFields.{stage_of};
 
     ghost Value = { Stage };

@@ -3,17 +3,17 @@ use Rattle.std.specs.Prelude.{◌==◌, ◌||◌, ◌*◌, nat_lt, cond, Bool, t
 use Rattle.std.proofs.Common.{◌≡◌, ℕ, zero, suc, ◌+◌, ◌<◌, ◌≤◌, List, [], refl, sym, ap, ◌∙◌, subst, inl, ⊎_elim, arith, Option, Some, None}
 use Rattle.std.proofs.lemmas.Bool.{cases_eq}
 use Rattle.std.proofs.lemmas.Bool.Decides.{nat_tests}
-use Rattle.map_history.specs.declared.op.Request.{Request}
-use Rattle.table_words.specs.declared.layout.Layout.{Layout}
-use Rattle.table_words.specs.Limits.{IsWithinLimits}
-use Rattle.structure_laws.specs.Meaning.{Meaning}
-use Rattle.structure_laws.specs.Laws.{Laws}
-use Rattle.runner_parts.specs.declared.event.EventKind.{EventKind}
-use Rattle.runner_parts.specs.declared.event.EventKind.TheVariants as kinds
-use Rattle.runner_parts.specs.State.{RunState, PartState}
-use Rattle.runner_parts.specs.Tests.{has}
-use Rattle.runner_steps.specs.Asks.{ask_by, outside_ask}
-use Rattle.runner_steps.specs.After.{after_by}
+use Rattle.section_lines.specs.structure_laws.specs.map_history.specs.declared.op.Request.{Request}
+use Rattle.section_lines.specs.structure_laws.specs.table_words.specs.declared.layout.Layout.{Layout}
+use Rattle.section_lines.specs.structure_laws.specs.table_words.specs.Limits.{IsWithinLimits}
+use Rattle.section_lines.specs.structure_laws.specs.Meaning.{Meaning}
+use Rattle.section_lines.specs.structure_laws.specs.Laws.{Laws}
+use Rattle.machine_states.specs.runner_steps.specs.runner_parts.specs.declared.event.EventKind.{EventKind}
+use Rattle.machine_states.specs.runner_steps.specs.runner_parts.specs.declared.event.EventKind.TheVariants as kinds
+use Rattle.machine_states.specs.runner_steps.specs.runner_parts.specs.State.{RunState, PartState}
+use Rattle.machine_states.specs.runner_steps.specs.runner_parts.specs.Tests.{has}
+use Rattle.machine_states.specs.runner_steps.specs.Asks.{ask_by, outside_ask}
+use Rattle.machine_states.specs.runner_steps.specs.After.{after_by}
 use Rattle.machine_states.specs.World.{World}
 use Rattle.machine_states.specs.First.{falling, first_part, keeper_part, worker_part}
 use Rattle.machine_states.specs.Reached.{Reached}

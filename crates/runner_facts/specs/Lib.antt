@@ -4,8 +4,5 @@ pub mod Keeper
 pub mod Worn
 pub mod Own
 -- Passed on to the layers above, so that they needn't name these libraries themselves.
-pub use Rattle.machine_facts.specs.machine_slots
-pub use Rattle.machine_facts.specs.machine_agreement
-pub use Rattle.machine_facts.specs.machine_invariant
 pub use Rattle.machine_facts
 pub use Rattle.next_steps

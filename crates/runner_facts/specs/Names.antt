@@ -1,12 +1,12 @@
 -- What the words of locks name that entered runners have read.
 use Rattle.std.specs.Prelude.{ℕ, suc, ◌≡◌, ◌⊎◌, true, false}
-use Rattle.body_terms.specs.Line.{line, micro_at}
-use Rattle.body_terms.specs.Word.{value_of, held_word}
-use Rattle.body_terms.specs.declared.micro.Micro.TheVariants.{NestedHold}
-use Rattle.table_words.specs.declared.spot.Spot.{Spot}
-use Rattle.structure_laws.specs.Meaning.{Meaning}
-use Rattle.epoch_core.specs.declared.stage.Stage.TheVariants.{Entered}
-use Rattle.runner_parts.specs.Tests.{has, has_pair}
+use Rattle.section_lines.specs.structure_laws.specs.body_terms.specs.Line.{line, micro_at}
+use Rattle.section_lines.specs.structure_laws.specs.body_terms.specs.Word.{value_of, held_word}
+use Rattle.section_lines.specs.structure_laws.specs.body_terms.specs.declared.micro.Micro.TheVariants.{NestedHold}
+use Rattle.section_lines.specs.structure_laws.specs.table_words.specs.declared.spot.Spot.{Spot}
+use Rattle.section_lines.specs.structure_laws.specs.Meaning.{Meaning}
+use Rattle.machine_states.specs.epoch_core.specs.declared.stage.Stage.TheVariants.{Entered}
+use Rattle.machine_states.specs.runner_steps.specs.runner_parts.specs.Tests.{has, has_pair}
 use Rattle.machine_states.specs.Sight.{Sight}
 use Rattle.machine_epochs.specs.Slots.{thunk_in}
 

@@ -1,8 +1,8 @@
 -- How a runner's lists change.
 use Rattle.std.specs.Prelude.{ℕ, ◌+◌, ◌-◌, List, [], ◌∷◌, ◌++◌, Bool, true, false, not, ◌==◌, ◌&&◌, ◌||◌, nat_lt, nat_le, map, length, None, if◌then◌else◌}
 use Rattle.std.specs.List.{filter}
-use Rattle.body_terms.specs.Word.{value_of, version_of, is_free}
-use Rattle.table_words.specs.declared.layout.Layout.{Layout}
+use Rattle.structure_laws.specs.body_terms.specs.Word.{value_of, version_of, is_free}
+use Rattle.structure_laws.specs.table_words.specs.declared.layout.Layout.{Layout}
 use Rattle.runner_parts.specs.declared.entries.Retired.{Retired}
 use Rattle.runner_parts.specs.declared.entries.Tested.{Tested}
 use Rattle.runner_parts.specs.State.{NodesState, DescriptorsState, ReadsState, RecordsState}

@@ -1,6 +1,6 @@
 -- What contracts see of a runner's part.
 use Rattle.std.specs.Prelude.{ℕ, List, Bool, Option}
-use Rattle.body_terms.specs.declared.outcome.Outcome.{Outcome}
+use Rattle.structure_laws.specs.body_terms.specs.declared.outcome.Outcome.{Outcome}
 use Rattle.epoch_core.specs.declared.stage.Stage.{Stage}
 use Rattle.runner_parts.specs.declared.entries.Retired.{Retired}
 use Rattle.runner_parts.specs.declared.entries.Tested.{Tested}

@@ -1,7 +1,7 @@
 //! The entries of a runner's lists.
 
-use body_terms::Thunk;
-use table_words::Spot;
+use structure_laws::body_terms::Thunk;
+use structure_laws::table_words::Spot;
 
 /// A slot in limbo, with the epoch that was loaded for its retirement.
 #[derive(Clone, Copy, Debug, PartialEq, Eq)]

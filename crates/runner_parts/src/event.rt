@@ -1,6 +1,6 @@
 //! What a runner may do next.
 
-use body_terms::{Place, Thunk};
+use structure_laws::body_terms::{Place, Thunk};
 
 /// One kind of atomic step, with the arguments that the runner chooses.
 #[derive(Clone, Copy, Debug, PartialEq, Eq)]

@@ -19,3 +19,7 @@ pub use lists_change::has;
 pub use part::Part;
 pub use run::{Finished, Run};
 pub use stores::thunk_words;
+
+// Passed on to the layers above, so that they needn't name these libraries themselves.
+pub use epoch_core;
+pub use structure_laws;

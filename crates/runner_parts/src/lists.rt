@@ -2,8 +2,8 @@
 
 use crate::entries::{Known, Left, Look, Retired, Stored, Tested};
 use crate::run::Finished;
-use body_terms::{Place, Word};
 use std::marker::Model;
+use structure_laws::body_terms::{Place, Word};
 
 /// The own node slots: the free ones, those in the hand with how far their cells were looked at, those in
 /// limbo, and the worn ones. A Make takes the slot at the end of the free list, and a slot that comes back

@@ -6,9 +6,9 @@ ghost use Rattle.runner_parts.specs.Tests.{has};
 
 use crate::entries::{Known, Retired, Stored, Tested};
 use crate::lists::{Descriptors, Nodes, Reads, Records};
-use body_terms::{Place, Word};
 use std::alloc::{AllocError, Global};
-use table_words::Layout;
+use structure_laws::body_terms::{Place, Word};
+use structure_laws::table_words::Layout;
 
 /// Whether the list has this number.
 pub fn has(numbers: &[u32], number: u32) -> bool

@@ -1,7 +1,7 @@
 //! A run of a section, and what is kept of one that came to its end.
 
-use body_terms::{Outcome, Place, Word};
 use std::marker::Model;
+use structure_laws::body_terms::{Outcome, Place, Word};
 
 /// A run of a section in progress.
 ///

@@ -2,7 +2,7 @@
 ghost use Rattle.std.specs.Prelude.{◌≡◌};
 ghost use Rattle.runner_parts.specs.Tests.{thunk_words};
 
-use body_terms::Thunk;
+use structure_laws::body_terms::Thunk;
 
 /// The thunk words of a descriptor.
 pub fn thunk_words(thunk: &Thunk) -> [u64; 12]

@@ -1,16 +1,16 @@
 -- A runner's part after an event, and the state after it.
 use Rattle.std.specs.Prelude.{ℕ, ◌+◌, List, [], ◌∷◌, ◌++◌, Bool, true, false, not, ◌||◌, ◌==◌, nat_lt, Option, Some, None, if◌then◌else◌}
-use Rattle.table_words.specs.declared.layout.Layout.{Layout}
-use Rattle.table_words.specs.declared.spot.Spot.{Spot}
-use Rattle.table_words.specs.declared.spot.Spot.TheVariants as spots
-use Rattle.table_words.specs.declared.access.Access.{Access}
-use Rattle.table_words.specs.Access.{written, wins}
-use Rattle.structure_laws.specs.Meaning.{Meaning}
+use Rattle.runner_parts.specs.structure_laws.specs.table_words.specs.declared.layout.Layout.{Layout}
+use Rattle.runner_parts.specs.structure_laws.specs.table_words.specs.declared.spot.Spot.{Spot}
+use Rattle.runner_parts.specs.structure_laws.specs.table_words.specs.declared.spot.Spot.TheVariants as spots
+use Rattle.runner_parts.specs.structure_laws.specs.table_words.specs.declared.access.Access.{Access}
+use Rattle.runner_parts.specs.structure_laws.specs.table_words.specs.Access.{written, wins}
+use Rattle.runner_parts.specs.structure_laws.specs.Meaning.{Meaning}
 use Rattle.runner_parts.specs.declared.event.EventKind.{EventKind}
 use Rattle.runner_parts.specs.declared.event.EventKind.TheVariants as kinds
-use Rattle.epoch_core.specs.declared.stage.Stage.TheVariants as stages
+use Rattle.runner_parts.specs.epoch_core.specs.declared.stage.Stage.TheVariants as stages
 use Rattle.runner_parts.specs.declared.entries.Left.{Left}
-use Rattle.body_terms.specs.declared.micro.Micro.{Micro}
+use Rattle.runner_parts.specs.structure_laws.specs.body_terms.specs.declared.micro.Micro.{Micro}
 use Rattle.runner_parts.specs.State.{RunState, PartState, RecordsState}
 use Rattle.runner_steps.specs.Sections.{is_open_run, next_of}
 use Rattle.runner_steps.specs.AfterOutside.{with_stage, entered, scan_one_after, advance_after, split_after, read_after, entry_after, private_load_after, private_store_after, hold_after, open_after, retire_after}

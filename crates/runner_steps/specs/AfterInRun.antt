@@ -1,12 +1,12 @@
 -- A runner's part after an event of a run, which found this word.
 use Rattle.std.specs.Prelude.{ℕ, ◌+◌, [], ◌∷◌, ◌++◌, Bool, true, false, ◌==◌, ◌||◌, nat_lt, Option, Some, None, if◌then◌else◌}
-use Rattle.body_terms.specs.declared.micro.Micro.{Micro}
-use Rattle.body_terms.specs.declared.micro.Micro.TheVariants as micros
-use Rattle.body_terms.specs.Word.{version_of}
-use Rattle.body_terms.specs.Line.{is_end}
-use Rattle.body_terms.specs.Run.{written_once}
-use Rattle.table_words.specs.declared.layout.Layout.{Layout}
-use Rattle.structure_laws.specs.Meaning.{Meaning}
+use Rattle.runner_parts.specs.structure_laws.specs.body_terms.specs.declared.micro.Micro.{Micro}
+use Rattle.runner_parts.specs.structure_laws.specs.body_terms.specs.declared.micro.Micro.TheVariants as micros
+use Rattle.runner_parts.specs.structure_laws.specs.body_terms.specs.Word.{version_of}
+use Rattle.runner_parts.specs.structure_laws.specs.body_terms.specs.Line.{is_end}
+use Rattle.runner_parts.specs.structure_laws.specs.body_terms.specs.Run.{written_once}
+use Rattle.runner_parts.specs.structure_laws.specs.table_words.specs.declared.layout.Layout.{Layout}
+use Rattle.runner_parts.specs.structure_laws.specs.Meaning.{Meaning}
 use Rattle.runner_parts.specs.declared.entries.Published.{Published}
 use Rattle.runner_parts.specs.State.{RunState, FinishedState, PartState, NodesState}
 use Rattle.runner_steps.specs.Sections.{thunk_of, next_of, settles, outcome_of, is_late}

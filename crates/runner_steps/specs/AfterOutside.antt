@@ -1,15 +1,15 @@
 -- A runner's part after an event outside a run, which found this word.
 use Rattle.std.specs.Prelude.{ℕ, ◌+◌, ◌-◌, [], ◌∷◌, Bool, false, not, ◌==◌, ◌&&◌, nat_lt, nat_le, length, Option, Some, None, if◌then◌else◌}
-use Rattle.body_terms.specs.declared.thunk.Thunk.{Thunk}
-use Rattle.table_words.specs.declared.layout.Layout.{Layout}
-use Rattle.table_words.specs.Places.{slot_count}
-use Rattle.structure_laws.specs.Meaning.{Meaning}
-use Rattle.epoch_core.specs.Moves.{is_clear}
-use Rattle.epoch_core.specs.declared.stage.Stage.{Stage}
-use Rattle.epoch_core.specs.declared.stage.Stage.TheVariants as stages
+use Rattle.runner_parts.specs.structure_laws.specs.body_terms.specs.declared.thunk.Thunk.{Thunk}
+use Rattle.runner_parts.specs.structure_laws.specs.table_words.specs.declared.layout.Layout.{Layout}
+use Rattle.runner_parts.specs.structure_laws.specs.table_words.specs.Places.{slot_count}
+use Rattle.runner_parts.specs.structure_laws.specs.Meaning.{Meaning}
+use Rattle.runner_parts.specs.epoch_core.specs.Moves.{is_clear}
+use Rattle.runner_parts.specs.epoch_core.specs.declared.stage.Stage.{Stage}
+use Rattle.runner_parts.specs.epoch_core.specs.declared.stage.Stage.TheVariants as stages
 use Rattle.runner_parts.specs.declared.entries.Published.{Published}
 use Rattle.runner_parts.specs.State.{RunState, PartState}
-use Rattle.epoch_core.specs.State.{last_epoch}
+use Rattle.runner_parts.specs.epoch_core.specs.State.{last_epoch}
 use Rattle.runner_parts.specs.Lists.{nodes_collected, descriptors_collected, nodes_looked, descriptor_stored, descriptor_taken, descriptor_retired, no_reads, cell_read, holds_named, walked, section_published, learned}
 
 abbrev pub with_stage : PartState → Stage → PartState

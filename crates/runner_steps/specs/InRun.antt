@@ -1,15 +1,15 @@
 -- Which word the next event of a run meets, and how.
 use Rattle.std.specs.Prelude.{ℕ, ◌+◌, ◌-◌, ◌*◌, ◌/◌, ◌^◌, List, Bool, false, ◌==◌, ◌&&◌, nat_lt, Option, Some, None, length, slice_index, if◌then◌else◌}
-use Rattle.body_terms.specs.declared.micro.Micro.{Micro}
-use Rattle.body_terms.specs.declared.micro.Micro.TheVariants as micros
-use Rattle.body_terms.specs.Word.{version_of, next_word, held_word}
-use Rattle.body_terms.specs.Memory.{cell_of}
-use Rattle.body_terms.specs.Run.{source_value}
-use Rattle.table_words.specs.declared.layout.Layout.{Layout}
-use Rattle.table_words.specs.Places.{slot_count, descriptor_count}
-use Rattle.table_words.specs.declared.spot.Spot.TheVariants as spots
-use Rattle.table_words.specs.declared.access.Access.TheVariants.{Loads, Stores, Exchanges, Raises}
-use Rattle.structure_laws.specs.Meaning.{Meaning}
+use Rattle.runner_parts.specs.structure_laws.specs.body_terms.specs.declared.micro.Micro.{Micro}
+use Rattle.runner_parts.specs.structure_laws.specs.body_terms.specs.declared.micro.Micro.TheVariants as micros
+use Rattle.runner_parts.specs.structure_laws.specs.body_terms.specs.Word.{version_of, next_word, held_word}
+use Rattle.runner_parts.specs.structure_laws.specs.body_terms.specs.Memory.{cell_of}
+use Rattle.runner_parts.specs.structure_laws.specs.body_terms.specs.Run.{source_value}
+use Rattle.runner_parts.specs.structure_laws.specs.table_words.specs.declared.layout.Layout.{Layout}
+use Rattle.runner_parts.specs.structure_laws.specs.table_words.specs.Places.{slot_count, descriptor_count}
+use Rattle.runner_parts.specs.structure_laws.specs.table_words.specs.declared.spot.Spot.TheVariants as spots
+use Rattle.runner_parts.specs.structure_laws.specs.table_words.specs.declared.access.Access.TheVariants.{Loads, Stores, Exchanges, Raises}
+use Rattle.runner_parts.specs.structure_laws.specs.Meaning.{Meaning}
 use Rattle.runner_parts.specs.State.{RunState}
 use Rattle.runner_steps.specs.Sections.{thunk_of}
 use Rattle.runner_steps.specs.Outside.{Ask, when}

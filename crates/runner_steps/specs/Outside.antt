@@ -1,19 +1,19 @@
 -- Which word an event outside a run meets, and how.
 use Rattle.std.specs.Prelude.{ℕ, ◌+◌, ◌-◌, List, Bool, true, false, not, ◌==◌, ◌&&◌, ◌||◌, nat_lt, nat_le, Option, Some, None, slice_get, length, if◌then◌else◌, is_none}
-use Rattle.map_history.specs.declared.op.Request.{Request}
-use Rattle.body_terms.specs.declared.thunk.Thunk.{Thunk}
-use Rattle.body_terms.specs.Word.{held_word}
-use Rattle.body_terms.specs.Memory.{cell_of}
-use Rattle.table_words.specs.declared.layout.Layout.{Layout}
-use Rattle.table_words.specs.declared.spot.Spot.{Spot}
-use Rattle.table_words.specs.declared.spot.Spot.TheVariants as spots
-use Rattle.table_words.specs.declared.access.Access.{Access}
-use Rattle.table_words.specs.declared.access.Access.TheVariants.{Loads, Stores, Exchanges}
-use Rattle.table_words.specs.Places.{slot_count, descriptor_count}
-use Rattle.structure_laws.specs.Meaning.{Meaning}
-use Rattle.epoch_core.specs.State.{last_epoch}
-use Rattle.epoch_core.specs.declared.stage.Stage.{Stage}
-use Rattle.epoch_core.specs.declared.stage.Stage.TheVariants as stages
+use Rattle.runner_parts.specs.structure_laws.specs.map_history.specs.declared.op.Request.{Request}
+use Rattle.runner_parts.specs.structure_laws.specs.body_terms.specs.declared.thunk.Thunk.{Thunk}
+use Rattle.runner_parts.specs.structure_laws.specs.body_terms.specs.Word.{held_word}
+use Rattle.runner_parts.specs.structure_laws.specs.body_terms.specs.Memory.{cell_of}
+use Rattle.runner_parts.specs.structure_laws.specs.table_words.specs.declared.layout.Layout.{Layout}
+use Rattle.runner_parts.specs.structure_laws.specs.table_words.specs.declared.spot.Spot.{Spot}
+use Rattle.runner_parts.specs.structure_laws.specs.table_words.specs.declared.spot.Spot.TheVariants as spots
+use Rattle.runner_parts.specs.structure_laws.specs.table_words.specs.declared.access.Access.{Access}
+use Rattle.runner_parts.specs.structure_laws.specs.table_words.specs.declared.access.Access.TheVariants.{Loads, Stores, Exchanges}
+use Rattle.runner_parts.specs.structure_laws.specs.table_words.specs.Places.{slot_count, descriptor_count}
+use Rattle.runner_parts.specs.structure_laws.specs.Meaning.{Meaning}
+use Rattle.runner_parts.specs.epoch_core.specs.State.{last_epoch}
+use Rattle.runner_parts.specs.epoch_core.specs.declared.stage.Stage.{Stage}
+use Rattle.runner_parts.specs.epoch_core.specs.declared.stage.Stage.TheVariants as stages
 use Rattle.runner_parts.specs.declared.entries.Published.{Published}
 use Rattle.runner_parts.specs.declared.entries.Known.{Known}
 use Rattle.runner_parts.specs.State.{PartState}

@@ -1,16 +1,16 @@
 -- Which word an event of a read without a lock meets, and how, and the part after it.
 use Rattle.std.specs.Prelude.{ℕ, ◌+◌, ◌-◌, ◌*◌, List, [], ◌∷◌, Bool, true, false, not, ◌==◌, ◌&&◌, ◌||◌, nat_lt, take, drop, length, Option, Some, None, is_none, if◌then◌else◌}
 use Rattle.std.specs.List.{list_all}
-use Rattle.map_history.specs.declared.op.Request.{Request}
-use Rattle.body_terms.specs.Run.{written_once}
-use Rattle.body_terms.specs.Shape.{is_look, loaded_places}
-use Rattle.body_terms.specs.declared.step.Step.{Step}
-use Rattle.body_terms.specs.declared.step.Step.TheVariants.{Load, Want}
-use Rattle.body_terms.specs.declared.thunk.Thunk.{Thunk}
-use Rattle.table_words.specs.declared.layout.Layout.{Layout}
-use Rattle.table_words.specs.declared.spot.Spot.TheVariants as spots
-use Rattle.table_words.specs.declared.access.Access.TheVariants.{Loads, Exchanges}
-use Rattle.structure_laws.specs.Meaning.{Meaning}
+use Rattle.runner_parts.specs.structure_laws.specs.map_history.specs.declared.op.Request.{Request}
+use Rattle.runner_parts.specs.structure_laws.specs.body_terms.specs.Run.{written_once}
+use Rattle.runner_parts.specs.structure_laws.specs.body_terms.specs.Shape.{is_look, loaded_places}
+use Rattle.runner_parts.specs.structure_laws.specs.body_terms.specs.declared.step.Step.{Step}
+use Rattle.runner_parts.specs.structure_laws.specs.body_terms.specs.declared.step.Step.TheVariants.{Load, Want}
+use Rattle.runner_parts.specs.structure_laws.specs.body_terms.specs.declared.thunk.Thunk.{Thunk}
+use Rattle.runner_parts.specs.structure_laws.specs.table_words.specs.declared.layout.Layout.{Layout}
+use Rattle.runner_parts.specs.structure_laws.specs.table_words.specs.declared.spot.Spot.TheVariants as spots
+use Rattle.runner_parts.specs.structure_laws.specs.table_words.specs.declared.access.Access.TheVariants.{Loads, Exchanges}
+use Rattle.runner_parts.specs.structure_laws.specs.Meaning.{Meaning}
 use Rattle.runner_parts.specs.declared.entries.Look.{Look}
 use Rattle.runner_parts.specs.declared.entries.LookStage.{LookStage}
 use Rattle.runner_parts.specs.declared.entries.LookStage.TheVariants.{Planned, Looked, Replied, Stamped}

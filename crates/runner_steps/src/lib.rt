@@ -10,3 +10,7 @@ mod places;
 pub use places::{
     agreed_on, cell_place, descriptor_count, descriptor_spot, held_word, sizes_for, slot_count,
 };
+
+// Passed on to the layers above, so that they needn't name these libraries themselves.
+pub use runner_parts;
+pub use runner_parts::structure_laws::{body_terms, map_history, table_words};

@@ -1,17 +1,17 @@
 //! How many words the table has and where some of them stand, and the words that runners put there.
 ghost use Rattle.std.specs.Prelude.{◌≡◌, ◌<◌, ◌≤◌, ◌-◌, ◌^◌, length};
-ghost use Rattle.table_words.specs.Limits.{IsWithinLimits};
-ghost use Rattle.table_words.specs.Places.{slot_count, descriptor_count};
-ghost use Rattle.body_terms.specs.Memory.{cell_of};
-ghost use Rattle.body_terms.specs.Run.{written_once};
-ghost use Rattle.body_terms.specs.Word.{held_word, version_of};
+ghost use Rattle.runner_parts.specs.structure_laws.specs.table_words.specs.Limits.{IsWithinLimits};
+ghost use Rattle.runner_parts.specs.structure_laws.specs.table_words.specs.Places.{slot_count, descriptor_count};
+ghost use Rattle.runner_parts.specs.structure_laws.specs.body_terms.specs.Memory.{cell_of};
+ghost use Rattle.runner_parts.specs.structure_laws.specs.body_terms.specs.Run.{written_once};
+ghost use Rattle.runner_parts.specs.structure_laws.specs.body_terms.specs.Word.{held_word, version_of};
 ghost use Rattle.runner_steps.specs.Asks.{sizes_for};
 ghost use Rattle.runner_steps.specs.Outside.{descriptor_spot};
 
-use body_terms::{Place, Word};
-use map_history::Request;
-use structure_laws::Structure;
-use table_words::{Layout, Sizes, Spot};
+use runner_parts::structure_laws::Structure;
+use runner_parts::structure_laws::body_terms::{Place, Word};
+use runner_parts::structure_laws::map_history::Request;
+use runner_parts::structure_laws::table_words::{Layout, Sizes, Spot};
 
 /// How many words of each kind the table has.
 pub fn sizes_for<S: Structure>(structure: &S, layout: Layout, requests: &[Request]) -> Sizes

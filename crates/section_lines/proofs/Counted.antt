@@ -1,13 +1,13 @@
 -- Commits and their places in the log.
 use Rattle.std.proofs.Common.{◌≡◌, ℕ, zero, suc, ◌+◌, ◌<◌, ◌≤◌, List, length, true, false, refl, sym, ap, ◌∙◌, subst, arith, ⊎_elim}
 use Rattle.std.specs.Prelude.{cond, ◌⊎◌, count_by, take}
-use Rattle.body_terms.specs.declared.step.Step.{Step}
-use Rattle.body_terms.specs.declared.step.Step.TheVariants.{Load, Take, Make, Retire}
-use Rattle.body_terms.specs.declared.micro.Micro.{Micro}
-use Rattle.body_terms.specs.declared.micro.Micro.TheVariants.{Commit, NestedCommit, OutcomeCommit, MakeCommit, RetireCommit}
-use Rattle.body_terms.specs.Line.{registers_before, line, micro_at, micros, is_commit, committed}
-use Rattle.body_terms.proofs.RegisterLemmas.{count_le}
-use Rattle.body_terms.proofs.LineLemmas.{take_all}
+use Rattle.structure_laws.specs.body_terms.specs.declared.step.Step.{Step}
+use Rattle.structure_laws.specs.body_terms.specs.declared.step.Step.TheVariants.{Load, Take, Make, Retire}
+use Rattle.structure_laws.specs.body_terms.specs.declared.micro.Micro.{Micro}
+use Rattle.structure_laws.specs.body_terms.specs.declared.micro.Micro.TheVariants.{Commit, NestedCommit, OutcomeCommit, MakeCommit, RetireCommit}
+use Rattle.structure_laws.specs.body_terms.specs.Line.{registers_before, line, micro_at, micros, is_commit, committed}
+use Rattle.structure_laws.specs.body_terms.proofs.RegisterLemmas.{count_le}
+use Rattle.structure_laws.specs.body_terms.proofs.LineLemmas.{take_all}
 use Rattle.std.proofs.lemmas.List.Sums.{sum_by-take-le}
 use Rattle.section_lines.proofs.Places.{step_inside}
 use Rattle.section_lines.proofs.Counts.{one_more, counted_within, counted_to}

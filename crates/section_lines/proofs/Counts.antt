@@ -4,13 +4,13 @@ use Rattle.std.specs.Prelude.{cond, count_by}
 use Rattle.std.proofs.Math.Seq.{take-append-add}
 use Rattle.std.proofs.lemmas.List.{take-append-le}
 use Rattle.std.proofs.lemmas.List.Sums.{sum_by-append, sum_by-cons}
-use Rattle.body_terms.specs.declared.step.Step.{Step}
-use Rattle.body_terms.specs.declared.step.Step.TheVariants.{Load, Want, Fresh, Take, Make, Stamp, Store, Retire, Answer}
-use Rattle.body_terms.specs.declared.micro.Micro.{Micro}
-use Rattle.body_terms.specs.Line.{Registers, registers_before, registers_after, micros, micro_count, line, line_from, begins, micro_at, is_commit, committed, log_words}
-use Rattle.body_terms.specs.Shape.{IsStep}
-use Rattle.body_terms.proofs.LineLemmas.{line_next, line_split, length-micros, count_after, registers_before_next}
-use Rattle.body_terms.proofs.RegisterLemmas.{step_at}
+use Rattle.structure_laws.specs.body_terms.specs.declared.step.Step.{Step}
+use Rattle.structure_laws.specs.body_terms.specs.declared.step.Step.TheVariants.{Load, Want, Fresh, Take, Make, Stamp, Store, Retire, Answer}
+use Rattle.structure_laws.specs.body_terms.specs.declared.micro.Micro.{Micro}
+use Rattle.structure_laws.specs.body_terms.specs.Line.{Registers, registers_before, registers_after, micros, micro_count, line, line_from, begins, micro_at, is_commit, committed, log_words}
+use Rattle.structure_laws.specs.body_terms.specs.Shape.{IsStep}
+use Rattle.structure_laws.specs.body_terms.proofs.LineLemmas.{line_next, line_split, length-micros, count_after, registers_before_next}
+use Rattle.structure_laws.specs.body_terms.proofs.RegisterLemmas.{step_at}
 
 count_append : (xs ys : List Micro) → count_by is_commit (xs ++ ys) ≡ count_by is_commit xs + count_by is_commit ys
 count_append xs ys = sum_by-append (λ m. cond (is_commit m) 1 0) xs ys

@@ -2,16 +2,16 @@
 use Rattle.std.proofs.Common.{◌≡◌, ℕ, zero, suc, ◌+◌, ◌*◌, ◌<◌, List, refl, sym, ap, ◌∙◌, ⊎_elim, arith}
 use Rattle.std.specs.Prelude.{count_by, take, slice_index_or}
 use Rattle.std.proofs.lemmas.Bool.{cases_eq, cases_lt}
-use Rattle.body_terms.specs.declared.step.Step.{Step}
-use Rattle.body_terms.specs.declared.step.Step.TheVariants.{Make}
-use Rattle.body_terms.specs.declared.value.Init.{Init}
-use Rattle.body_terms.specs.declared.value.Value.TheVariants.{Const}
-use Rattle.body_terms.specs.declared.micro.Source.{Source}
-use Rattle.body_terms.specs.declared.micro.Micro.{Micro}
-use Rattle.body_terms.specs.declared.micro.Micro.TheVariants.{PrivateStore}
-use Rattle.body_terms.specs.Line.{Registers, registers_before, source_of, micros, line, begins, micro_at, is_commit, committed}
-use Rattle.body_terms.specs.Shape.{IsShaped, IsStep}
-use Rattle.body_terms.proofs.RegisterLemmas.{committed_below}
+use Rattle.structure_laws.specs.body_terms.specs.declared.step.Step.{Step}
+use Rattle.structure_laws.specs.body_terms.specs.declared.step.Step.TheVariants.{Make}
+use Rattle.structure_laws.specs.body_terms.specs.declared.value.Init.{Init}
+use Rattle.structure_laws.specs.body_terms.specs.declared.value.Value.TheVariants.{Const}
+use Rattle.structure_laws.specs.body_terms.specs.declared.micro.Source.{Source}
+use Rattle.structure_laws.specs.body_terms.specs.declared.micro.Micro.{Micro}
+use Rattle.structure_laws.specs.body_terms.specs.declared.micro.Micro.TheVariants.{PrivateStore}
+use Rattle.structure_laws.specs.body_terms.specs.Line.{Registers, registers_before, source_of, micros, line, begins, micro_at, is_commit, committed}
+use Rattle.structure_laws.specs.body_terms.specs.Shape.{IsShaped, IsStep}
+use Rattle.structure_laws.specs.body_terms.proofs.RegisterLemmas.{committed_below}
 use Rattle.section_lines.proofs.Places.{step_inside}
 use Rattle.section_lines.proofs.Counts.{counted_within}
 use Rattle.section_lines.proofs.Sources.{of_make}

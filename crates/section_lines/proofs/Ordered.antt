@@ -1,14 +1,14 @@
 -- Which atomic steps stand next to one another in a line.
 use Rattle.std.proofs.Common.{◌≡◌, ℕ, zero, suc, ◌+◌, ◌*◌, ◌<◌, List, refl, ◌∙◌, arith}
 use Rattle.std.specs.Prelude.{slice_index_or}
-use Rattle.body_terms.specs.declared.value.Init.{Init}
-use Rattle.body_terms.specs.declared.value.Value.TheVariants.{Const}
-use Rattle.body_terms.specs.declared.step.Step.{Step}
-use Rattle.body_terms.specs.declared.step.Step.TheVariants.{Make}
-use Rattle.body_terms.specs.declared.micro.Source.{Source}
-use Rattle.body_terms.specs.declared.micro.Micro.{Micro}
-use Rattle.body_terms.specs.declared.micro.Micro.TheVariants.{LoadCell, Commit, NestedLoad, NestedCommit, CheckFree, NestedHold, OutcomeLoad, OutcomeCommit, CheckHeld, PrivateLoad, PrivateStore, MakeCommit, ClockLoad, StampExchange, ClockRaise, EpochForRetire, RetireCommit}
-use Rattle.body_terms.specs.Line.{Registers, registers_before, source_of, line, begins, micro_at}
+use Rattle.structure_laws.specs.body_terms.specs.declared.value.Init.{Init}
+use Rattle.structure_laws.specs.body_terms.specs.declared.value.Value.TheVariants.{Const}
+use Rattle.structure_laws.specs.body_terms.specs.declared.step.Step.{Step}
+use Rattle.structure_laws.specs.body_terms.specs.declared.step.Step.TheVariants.{Make}
+use Rattle.structure_laws.specs.body_terms.specs.declared.micro.Source.{Source}
+use Rattle.structure_laws.specs.body_terms.specs.declared.micro.Micro.{Micro}
+use Rattle.structure_laws.specs.body_terms.specs.declared.micro.Micro.TheVariants.{LoadCell, Commit, NestedLoad, NestedCommit, CheckFree, NestedHold, OutcomeLoad, OutcomeCommit, CheckHeld, PrivateLoad, PrivateStore, MakeCommit, ClockLoad, StampExchange, ClockRaise, EpochForRetire, RetireCommit}
+use Rattle.structure_laws.specs.body_terms.specs.Line.{Registers, registers_before, source_of, line, begins, micro_at}
 use Rattle.section_lines.proofs.Steps.{part_of}
 use Rattle.section_lines.proofs.Sources.{part_there, of_load, of_take, of_make, of_stamp, of_retire}
 use Rattle.section_lines.specs.Line.{IsOrdered}

@@ -2,16 +2,16 @@
 use Rattle.std.proofs.Common.{◌≡◌, ℕ, zero, suc, ◌+◌, ◌*◌, ◌<◌, ◌≤◌, List, [], ◌∷◌, length, true, false, refl, sym, ap, ◌∙◌, subst, arith, ⊎_elim}
 use Rattle.std.specs.Prelude.{◌⊎◌, Bool, cond, count_by}
 use Rattle.std.proofs.lemmas.List.Sums.{sum_by-cons}
-use Rattle.body_terms.specs.declared.step.Step.{Step}
-use Rattle.body_terms.specs.declared.step.Step.TheVariants.{Load, Want, Fresh, Take, Make, Stamp, Store, Retire, Answer}
-use Rattle.body_terms.specs.declared.micro.Micro.{Micro}
-use Rattle.body_terms.specs.declared.micro.Micro.TheVariants.{StampExchange, ReplyExchange, End}
-use Rattle.body_terms.specs.Line.{line, begins, micro_at, is_check}
-use Rattle.body_terms.specs.Shape.{IsStep, IsShaped}
-use Rattle.body_terms.specs.Shape as shape
-use Rattle.body_terms.proofs.LineLemmas.{past_line, begins_next, micro_count_le}
-use Rattle.body_terms.proofs.RegisterLemmas.{step_at}
-use Rattle.body_terms.proofs.SoundLemmas.{counted}
+use Rattle.structure_laws.specs.body_terms.specs.declared.step.Step.{Step}
+use Rattle.structure_laws.specs.body_terms.specs.declared.step.Step.TheVariants.{Load, Want, Fresh, Take, Make, Stamp, Store, Retire, Answer}
+use Rattle.structure_laws.specs.body_terms.specs.declared.micro.Micro.{Micro}
+use Rattle.structure_laws.specs.body_terms.specs.declared.micro.Micro.TheVariants.{StampExchange, ReplyExchange, End}
+use Rattle.structure_laws.specs.body_terms.specs.Line.{line, begins, micro_at, is_check}
+use Rattle.structure_laws.specs.body_terms.specs.Shape.{IsStep, IsShaped}
+use Rattle.structure_laws.specs.body_terms.specs.Shape as shape
+use Rattle.structure_laws.specs.body_terms.proofs.LineLemmas.{past_line, begins_next, micro_count_le}
+use Rattle.structure_laws.specs.body_terms.proofs.RegisterLemmas.{step_at}
+use Rattle.structure_laws.specs.body_terms.proofs.SoundLemmas.{counted}
 use Rattle.structure_laws.proofs.Bodies.{loaded_before}
 use Rattle.section_lines.proofs.Places.{Stands, stands, stands_there, part_at, steps_in_order, whole_line}
 use Rattle.section_lines.proofs.Sources.{of_stamp, of_answer}

@@ -1,11 +1,11 @@
 -- Which step of a body stands at a place of its line.
 use Rattle.std.proofs.Common.{◌≡◌, ℕ, zero, suc, ◌+◌, ◌-◌, ◌<◌, ◌≤◌, List, [], ◌∷◌, length, sym, ap, ◌∙◌, subst, arith, ⊎_elim}
 use Rattle.std.specs.Prelude.{◌⊎◌}
-use Rattle.body_terms.specs.declared.step.Step.{Step}
-use Rattle.body_terms.specs.Line.{registers_before, micro_count, line, begins, micro_at}
-use Rattle.body_terms.specs.Shape.{IsStep}
-use Rattle.body_terms.proofs.LineLemmas.{begins_next, micro_within, past_line, take_all}
-use Rattle.body_terms.proofs.RegisterLemmas.{step_at}
+use Rattle.structure_laws.specs.body_terms.specs.declared.step.Step.{Step}
+use Rattle.structure_laws.specs.body_terms.specs.Line.{registers_before, micro_count, line, begins, micro_at}
+use Rattle.structure_laws.specs.body_terms.specs.Shape.{IsStep}
+use Rattle.structure_laws.specs.body_terms.proofs.LineLemmas.{begins_next, micro_within, past_line, take_all}
+use Rattle.structure_laws.specs.body_terms.proofs.RegisterLemmas.{step_at}
 use Rattle.section_lines.proofs.Steps.{part_of, owner, is_part, IsPart}
 
 module _ (body : List Step) where

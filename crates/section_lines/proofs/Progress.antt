@@ -2,13 +2,13 @@
 use Rattle.std.proofs.Common.{◌≡◌, ℕ, zero, suc, ◌+◌, ◌-◌, ◌<◌, ◌≤◌, List, [], ◌∷◌, ◌++◌, length, take, refl, sym, ap, ◌∙◌, subst, arith, ⊎_elim}
 use Rattle.std.specs.Prelude.{◌⊎◌, nat_le, if◌then◌else◌}
 use Rattle.std.proofs.lemmas.Bool.Decides.{nat_tests}
-use Rattle.body_terms.specs.Update.{upd}
-use Rattle.body_terms.specs.declared.step.Step.{Step}
-use Rattle.body_terms.specs.declared.step.Step.TheVariants.{Load, Want, Fresh, Take, Make, Stamp, Store, Retire, Answer}
-use Rattle.body_terms.specs.Line.{Registers, no_registers, registers_after, registers_through, registers_before, micro_count, log_words, begins}
-use Rattle.body_terms.specs.Shape.{IsStep}
-use Rattle.body_terms.proofs.LineLemmas.{take_next, begins_next, registers_before_next, count_after}
-use Rattle.body_terms.proofs.RegisterLemmas.{step_at}
+use Rattle.structure_laws.specs.body_terms.specs.Update.{upd}
+use Rattle.structure_laws.specs.body_terms.specs.declared.step.Step.{Step}
+use Rattle.structure_laws.specs.body_terms.specs.declared.step.Step.TheVariants.{Load, Want, Fresh, Take, Make, Stamp, Store, Retire, Answer}
+use Rattle.structure_laws.specs.body_terms.specs.Line.{Registers, no_registers, registers_after, registers_through, registers_before, micro_count, log_words, begins}
+use Rattle.structure_laws.specs.body_terms.specs.Shape.{IsStep}
+use Rattle.structure_laws.specs.body_terms.proofs.LineLemmas.{take_next, begins_next, registers_before_next, count_after}
+use Rattle.structure_laws.specs.body_terms.proofs.RegisterLemmas.{step_at}
 use Rattle.section_lines.proofs.Places.{step_inside}
 use Rattle.section_lines.specs.Progress.{passed_steps, words_after, words_through, words_of}
 

@@ -2,18 +2,18 @@
 use Rattle.std.proofs.Common.{◌≡◌, ℕ, suc, ◌+◌, ◌*◌, ◌<◌, ◌≤◌, List, [], ◌∷◌, length, refl, sym, ap, ◌∙◌, subst, arith, ⊎_elim}
 use Rattle.std.specs.Prelude.{slice_index_or, All, count_by, take, ◌⊎◌}
 use Rattle.std.proofs.lemmas.List.{get_or_past}
-use Rattle.body_terms.specs.declared.value.Value.{Value}
-use Rattle.body_terms.specs.declared.value.Value.TheVariants.{Const, Of, Made}
-use Rattle.body_terms.specs.declared.step.Step.{Step}
-use Rattle.body_terms.specs.declared.step.Step.TheVariants.{Load, Want, Fresh, Make, Store}
-use Rattle.body_terms.specs.declared.micro.Source.{Source}
-use Rattle.body_terms.specs.declared.micro.Source.TheVariants.{Agreed}
-use Rattle.body_terms.specs.declared.micro.Micro.{Micro}
-use Rattle.body_terms.specs.declared.micro.Micro.TheVariants.{Commit, CheckWord, CheckFresh, PrivateStore, ExchangeCell}
-use Rattle.body_terms.specs.Line.{Registers, registers_before, source_of, line, begins, micro_at, micros, is_commit, committed}
-use Rattle.body_terms.specs.Shape.{IsStep, IsShaped, SetBefore, LoadedBefore, FreshBefore}
-use Rattle.body_terms.proofs.LineLemmas.{begins_next}
-use Rattle.body_terms.proofs.RegisterLemmas.{loaded_register, logged}
+use Rattle.structure_laws.specs.body_terms.specs.declared.value.Value.{Value}
+use Rattle.structure_laws.specs.body_terms.specs.declared.value.Value.TheVariants.{Const, Of, Made}
+use Rattle.structure_laws.specs.body_terms.specs.declared.step.Step.{Step}
+use Rattle.structure_laws.specs.body_terms.specs.declared.step.Step.TheVariants.{Load, Want, Fresh, Make, Store}
+use Rattle.structure_laws.specs.body_terms.specs.declared.micro.Source.{Source}
+use Rattle.structure_laws.specs.body_terms.specs.declared.micro.Source.TheVariants.{Agreed}
+use Rattle.structure_laws.specs.body_terms.specs.declared.micro.Micro.{Micro}
+use Rattle.structure_laws.specs.body_terms.specs.declared.micro.Micro.TheVariants.{Commit, CheckWord, CheckFresh, PrivateStore, ExchangeCell}
+use Rattle.structure_laws.specs.body_terms.specs.Line.{Registers, registers_before, source_of, line, begins, micro_at, micros, is_commit, committed}
+use Rattle.structure_laws.specs.body_terms.specs.Shape.{IsStep, IsShaped, SetBefore, LoadedBefore, FreshBefore}
+use Rattle.structure_laws.specs.body_terms.proofs.LineLemmas.{begins_next}
+use Rattle.structure_laws.specs.body_terms.proofs.RegisterLemmas.{loaded_register, logged}
 use Rattle.structure_laws.proofs.Bodies.{loaded_before}
 use Rattle.section_lines.proofs.Places.{stands_there, begins_rises, step_inside}
 use Rattle.section_lines.proofs.Counts.{counted_within}

@@ -4,18 +4,18 @@ use Rattle.std.specs.Prelude.{cond, count_by, is_none, ◌&&◌}
 use Rattle.std.proofs.Math.Seq.{take-append-add}
 use Rattle.std.proofs.lemmas.List.{append_assoc, take-append-le, take-append-drop, length-append, take_all, drop_all}
 use Rattle.std.proofs.lemmas.List.Sums.{sum_by-cons}
-use Rattle.body_terms.specs.declared.step.Step.{Step}
-use Rattle.body_terms.specs.declared.step.Step.TheVariants.{Load, Want, Fresh, Take, Make, Stamp, Store, Retire, Answer}
-use Rattle.body_terms.specs.declared.outcome.Outcome.{Outcome}
-use Rattle.body_terms.specs.declared.micro.Micro.{Micro}
-use Rattle.body_terms.specs.declared.micro.Micro.TheVariants as kinds
-use Rattle.body_terms.specs.Cost.{cost_of, steps_to}
-use Rattle.body_terms.specs.Line.{Registers, no_registers, registers_before, registers_after, micros, micro_count, line, line_from, begins, micro_at, is_check, is_event, release_of, releases}
-use Rattle.body_terms.specs.Run.{Setting, leaves, passed_checks, settled}
-use Rattle.body_terms.specs.Shape.{IsStep, IsShaped}
-use Rattle.body_terms.specs.Shape as shape
-use Rattle.body_terms.proofs.CostLemmas.{whole_run}
-use Rattle.body_terms.proofs.LineLemmas.{begins_next, line_split, length-micros, micro_within}
+use Rattle.structure_laws.specs.body_terms.specs.declared.step.Step.{Step}
+use Rattle.structure_laws.specs.body_terms.specs.declared.step.Step.TheVariants.{Load, Want, Fresh, Take, Make, Stamp, Store, Retire, Answer}
+use Rattle.structure_laws.specs.body_terms.specs.declared.outcome.Outcome.{Outcome}
+use Rattle.structure_laws.specs.body_terms.specs.declared.micro.Micro.{Micro}
+use Rattle.structure_laws.specs.body_terms.specs.declared.micro.Micro.TheVariants as kinds
+use Rattle.structure_laws.specs.body_terms.specs.Cost.{cost_of, steps_to}
+use Rattle.structure_laws.specs.body_terms.specs.Line.{Registers, no_registers, registers_before, registers_after, micros, micro_count, line, line_from, begins, micro_at, is_check, is_event, release_of, releases}
+use Rattle.structure_laws.specs.body_terms.specs.Run.{Setting, leaves, passed_checks, settled}
+use Rattle.structure_laws.specs.body_terms.specs.Shape.{IsStep, IsShaped}
+use Rattle.structure_laws.specs.body_terms.specs.Shape as shape
+use Rattle.structure_laws.specs.body_terms.proofs.CostLemmas.{whole_run}
+use Rattle.structure_laws.specs.body_terms.proofs.LineLemmas.{begins_next, line_split, length-micros, micro_within}
 use Rattle.section_lines.specs.Line.{phase}
 use Rattle.section_lines.specs.Rests.{is_test, taken_releases, RestsAt, Rests}
 use Rattle.section_lines.proofs.Places.{whole_line, stands_there}

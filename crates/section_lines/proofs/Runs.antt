@@ -4,14 +4,14 @@ use Rattle.std.specs.Prelude.{Bool, cond, ◌⊎◌}
 use Rattle.std.proofs.Math.Seq.{take-suc}
 use Rattle.std.proofs.lemmas.List.{get_or-drop, append-nil, take-append-drop, take_all, take_at}
 use Rattle.std.proofs.lemmas.List.FromFn.{map-range_with_len_more, length-map-range_with_len}
-use Rattle.body_terms.specs.declared.outcome.Outcome.{Outcome}
-use Rattle.body_terms.specs.declared.micro.Micro.{Micro}
-use Rattle.body_terms.specs.declared.micro.Micro.TheVariants.{LoadCell, Commit, CheckWord, CheckFresh, NestedLoad, NestedCommit, CheckFree, NestedHold, OutcomeLoad, OutcomeCommit, CheckHeld, PrivateLoad, PrivateStore, MakeCommit, ClockLoad, StampExchange, ClockRaise, ExchangeCell, EpochForRetire, RetireCommit, ReplyExchange, End, SetDone, Release}
-use Rattle.body_terms.specs.Line.{is_check, is_commit, committed, micro_at}
-use Rattle.body_terms.specs.Plain.{first_values}
-use Rattle.body_terms.specs.Run.{Setting, Run, leaves, ran, acted, unless_over}
-use Rattle.body_terms.proofs.LineLemmas.{past_line}
-use Rattle.body_terms.proofs.RunLemmas.{ran-append, ran_over}
+use Rattle.structure_laws.specs.body_terms.specs.declared.outcome.Outcome.{Outcome}
+use Rattle.structure_laws.specs.body_terms.specs.declared.micro.Micro.{Micro}
+use Rattle.structure_laws.specs.body_terms.specs.declared.micro.Micro.TheVariants.{LoadCell, Commit, CheckWord, CheckFresh, NestedLoad, NestedCommit, CheckFree, NestedHold, OutcomeLoad, OutcomeCommit, CheckHeld, PrivateLoad, PrivateStore, MakeCommit, ClockLoad, StampExchange, ClockRaise, ExchangeCell, EpochForRetire, RetireCommit, ReplyExchange, End, SetDone, Release}
+use Rattle.structure_laws.specs.body_terms.specs.Line.{is_check, is_commit, committed, micro_at}
+use Rattle.structure_laws.specs.body_terms.specs.Plain.{first_values}
+use Rattle.structure_laws.specs.body_terms.specs.Run.{Setting, Run, leaves, ran, acted, unless_over}
+use Rattle.structure_laws.specs.body_terms.proofs.LineLemmas.{past_line}
+use Rattle.structure_laws.specs.body_terms.proofs.RunLemmas.{ran-append, ran_over}
 use Rattle.section_lines.specs.Line.{phase, IsInPhases, IsCounted}
 use Rattle.section_lines.specs.Runs.{agreed, Follows, AgreesWith}
 

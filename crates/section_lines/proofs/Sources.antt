@@ -1,12 +1,12 @@
 -- From an atomic step of a line to the step of the body to which it belongs.
 use Rattle.std.proofs.Common.{◌≡◌, ℕ, ◌+◌, ◌<◌, List, sym, ap, ◌∙◌, subst, arith}
-use Rattle.body_terms.specs.declared.value.Init.{Init}
-use Rattle.body_terms.specs.declared.value.Value.{Value}
-use Rattle.body_terms.specs.declared.step.Step.{Step}
-use Rattle.body_terms.specs.declared.step.Step.TheVariants.{Load, Want, Fresh, Take, Make, Stamp, Store, Retire, Answer}
-use Rattle.body_terms.specs.declared.micro.Micro.{Micro}
-use Rattle.body_terms.specs.Line.{Registers, registers_before, micro_count, line, begins, micro_at}
-use Rattle.body_terms.specs.Shape.{IsStep}
+use Rattle.structure_laws.specs.body_terms.specs.declared.value.Init.{Init}
+use Rattle.structure_laws.specs.body_terms.specs.declared.value.Value.{Value}
+use Rattle.structure_laws.specs.body_terms.specs.declared.step.Step.{Step}
+use Rattle.structure_laws.specs.body_terms.specs.declared.step.Step.TheVariants.{Load, Want, Fresh, Take, Make, Stamp, Store, Retire, Answer}
+use Rattle.structure_laws.specs.body_terms.specs.declared.micro.Micro.{Micro}
+use Rattle.structure_laws.specs.body_terms.specs.Line.{Registers, registers_before, micro_count, line, begins, micro_at}
+use Rattle.structure_laws.specs.body_terms.specs.Shape.{IsStep}
 use Rattle.section_lines.proofs.Steps.{part_of, owner, part, kind, is_load, is_want, is_fresh, is_take, is_make, is_stamp, is_store, is_retire, is_answer}
 use Rattle.section_lines.proofs.Places.{Stands, stands, stands_there, inside, part_at}
 

@@ -1,12 +1,12 @@
 -- From the check of a wanted word to the Load and the Want of the body.
 use Rattle.std.proofs.Common.{◌≡◌, ℕ, List, [], refl, sym, ◌∙◌, subst, arith}
 use Rattle.std.proofs.lemmas.Option.{slice_get_within}
-use Rattle.body_terms.specs.declared.micro.Micro.TheVariants.{CheckWord}
-use Rattle.body_terms.specs.declared.step.Step.{Step}
-use Rattle.body_terms.specs.declared.step.Step.TheVariants.{Load, Want}
-use Rattle.body_terms.specs.Line.{registers_before, line, micro_at}
-use Rattle.body_terms.specs.Shape.{IsShaped, IsStep}
-use Rattle.body_terms.proofs.RegisterLemmas.{loaded_register}
+use Rattle.structure_laws.specs.body_terms.specs.declared.micro.Micro.TheVariants.{CheckWord}
+use Rattle.structure_laws.specs.body_terms.specs.declared.step.Step.{Step}
+use Rattle.structure_laws.specs.body_terms.specs.declared.step.Step.TheVariants.{Load, Want}
+use Rattle.structure_laws.specs.body_terms.specs.Line.{registers_before, line, micro_at}
+use Rattle.structure_laws.specs.body_terms.specs.Shape.{IsShaped, IsStep}
+use Rattle.structure_laws.specs.body_terms.proofs.RegisterLemmas.{loaded_register}
 use Rattle.section_lines.proofs.Sources.{of_want}
 use Rattle.structure_laws.proofs.Bodies.{loaded_before}
 

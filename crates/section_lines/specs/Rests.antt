@@ -1,13 +1,13 @@
 -- Where a run rests in its line, by the steps of its body, and which locks it has to release there.
 use Rattle.std.specs.Prelude.{◌≡◌, ℕ, suc, ◌+◌, ◌<◌, List, [], ◌∷◌, Bool, true, false, take, length, Some, None}
-use Rattle.body_terms.specs.declared.step.Step.{Step}
-use Rattle.body_terms.specs.declared.step.Step.TheVariants.{Want, Fresh, Take}
-use Rattle.body_terms.specs.declared.outcome.Outcome.{Outcome}
-use Rattle.body_terms.specs.declared.micro.Micro.{Micro}
-use Rattle.body_terms.specs.declared.micro.Micro.TheVariants.{Release}
-use Rattle.body_terms.specs.Line.{line, begins, micro_at, micro_count, is_check, releases}
-use Rattle.body_terms.specs.Run.{Setting, leaves, settled}
-use Rattle.body_terms.specs.Shape.{IsStep}
+use Rattle.structure_laws.specs.body_terms.specs.declared.step.Step.{Step}
+use Rattle.structure_laws.specs.body_terms.specs.declared.step.Step.TheVariants.{Want, Fresh, Take}
+use Rattle.structure_laws.specs.body_terms.specs.declared.outcome.Outcome.{Outcome}
+use Rattle.structure_laws.specs.body_terms.specs.declared.micro.Micro.{Micro}
+use Rattle.structure_laws.specs.body_terms.specs.declared.micro.Micro.TheVariants.{Release}
+use Rattle.structure_laws.specs.body_terms.specs.Line.{line, begins, micro_at, micro_count, is_check, releases}
+use Rattle.structure_laws.specs.body_terms.specs.Run.{Setting, leaves, settled}
+use Rattle.structure_laws.specs.body_terms.specs.Shape.{IsStep}
 
 -- a step that is a check alone
 abbrev pub is_test : Step → Bool

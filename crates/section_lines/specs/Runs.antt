@@ -1,11 +1,11 @@
 -- The run of a line in one go that goes by a log.
 use Rattle.std.specs.Prelude.{ℕ, suc, ◌<◌, ◌≡◌, List, [], true, take, Some, None}
-use Rattle.body_terms.specs.Line.{is_check, committed, micro_at}
-use Rattle.body_terms.specs.Plain.{first_values}
-use Rattle.body_terms.specs.Run.{Setting, Run, leaves, ran}
-use Rattle.body_terms.specs.declared.outcome.Outcome.{Outcome}
-use Rattle.body_terms.specs.declared.micro.Micro.{Micro}
-use Rattle.body_terms.specs.declared.micro.Micro.TheVariants.{Commit, NestedCommit, OutcomeCommit, MakeCommit, RetireCommit, End}
+use Rattle.structure_laws.specs.body_terms.specs.Line.{is_check, committed, micro_at}
+use Rattle.structure_laws.specs.body_terms.specs.Plain.{first_values}
+use Rattle.structure_laws.specs.body_terms.specs.Run.{Setting, Run, leaves, ran}
+use Rattle.structure_laws.specs.body_terms.specs.declared.outcome.Outcome.{Outcome}
+use Rattle.structure_laws.specs.body_terms.specs.declared.micro.Micro.{Micro}
+use Rattle.structure_laws.specs.body_terms.specs.declared.micro.Micro.TheVariants.{Commit, NestedCommit, OutcomeCommit, MakeCommit, RetireCommit, End}
 
 -- the first words of a log that are agreed below this place of the line
 abbrev pub agreed : List Micro → (ℕ → ℕ) → ℕ → List ℕ

@@ -1,11 +1,11 @@
 //! What holds of the lines of bodies.
 ghost use Rattle.std.specs.Prelude.{◌≡◌, ◌<◌, ℕ, List, true};
-ghost use Rattle.body_terms.specs.Shape.{IsShaped};
-ghost use Rattle.body_terms.specs.Line.{line, micro_at, is_check, committed};
-ghost use Rattle.body_terms.specs.Cost.{cost_of, steps_to};
-ghost use Rattle.body_terms.specs.Run.{Setting, Run};
-ghost use Rattle.body_terms.specs.declared.step.Step.{Step};
-ghost use Rattle.body_terms.specs.declared.micro.Micro.{Micro};
+ghost use Rattle.structure_laws.specs.body_terms.specs.Shape.{IsShaped};
+ghost use Rattle.structure_laws.specs.body_terms.specs.Line.{line, micro_at, is_check, committed};
+ghost use Rattle.structure_laws.specs.body_terms.specs.Cost.{cost_of, steps_to};
+ghost use Rattle.structure_laws.specs.body_terms.specs.Run.{Setting, Run};
+ghost use Rattle.structure_laws.specs.body_terms.specs.declared.step.Step.{Step};
+ghost use Rattle.structure_laws.specs.body_terms.specs.declared.micro.Micro.{Micro};
 ghost use Rattle.section_lines.specs.Line.{IsInPhases, IsOrdered, IsCounted, IsResolved};
 ghost use Rattle.section_lines.specs.Runs.{Follows, AgreesWith};
 ghost use Rattle.section_lines.specs.Rests.{RestsAt, Rests};

@@ -10,3 +10,6 @@ mod laws;
 pub use laws::{
     bodies_have_such_lines, leaving_runs_make_fewer_steps, runs_agree_with_logs, runs_rest_at_steps,
 };
+
+// Passed on to the layers above, so that they needn't name these libraries themselves.
+pub use structure_laws;

@@ -1,10 +1,10 @@
 -- Steps that are counted apart, and added up behind.
 use Rattle.std.proofs.Common.{◌≡◌, ℕ, ◌+◌, ◌-◌, ◌^◌, ◌≤◌, min, Bool, true, false, sym, ap, subst, ◌∙◌, arith}
-use Rattle.body_terms.specs.Counted.{counted_on}
-use Rattle.body_terms.proofs.CountedLemmas.{counts}
-use Rattle.runner_gate.specs.Asks.{Asks}
-use Rattle.structure_laws.specs.Meaning.{Meaning}
-use Rattle.version_words.specs.RunnerState.{RunnerState}
+use Rattle.idem_cell.specs.body_terms.specs.Counted.{counted_on}
+use Rattle.idem_cell.specs.body_terms.proofs.CountedLemmas.{counts}
+use Rattle.idem_cell.specs.runner_gate.specs.Asks.{Asks}
+use Rattle.idem_cell.specs.machine_states.specs.structure_laws.specs.Meaning.{Meaning}
+use Rattle.idem_alloc.specs.commit_log.specs.version_words.specs.RunnerState.{RunnerState}
 use Rattle.idem_alloc.specs.commit_log.specs.Asked.{IsAsked}
 use Rattle.idem_alloc.specs.commit_log.specs.Halted.{IsThrough, IsHalted}
 use Rattle.section_runs.proofs.Testing.{stood}

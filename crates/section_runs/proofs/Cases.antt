@@ -2,32 +2,32 @@
 use Rattle.std.proofs.Common.{◌≡◌, ℕ, suc, ◌+◌, ◌-◌, ◌<◌, ◌≤◌, List, [], ◌∷◌, ◌++◌, length, length-append, Bool, true, false, refl, sym, ap, ◌∙◌, subst, arith, Some, None, zero, eq-eqb}
 use Rattle.std.specs.Prelude.{◌==◌, cond, if◌then◌else◌, not, slice_index, slice_index_or}
 use Rattle.std.proofs.lemmas.Bool.Decides.{nat_tests}
-use Rattle.body_terms.specs.declared.micro.Micro.{Micro}
-use Rattle.body_terms.specs.declared.micro.Micro.TheVariants as micros
-use Rattle.body_terms.specs.declared.step.Step.TheVariants.{Load, Make, Store, Retire}
-use Rattle.body_terms.specs.declared.value.Init.{Init}
-use Rattle.body_terms.specs.declared.value.Value.{Value}
-use Rattle.body_terms.specs.declared.value.Value.TheVariants.{Const}
-use Rattle.body_terms.specs.Line.{registers_before, source_of}
-use Rattle.body_terms.specs.Run.{source_value}
-use Rattle.table_words.specs.declared.layout.Layout.{Layout}
-use Rattle.table_words.specs.Limits.{IsWithinLimits}
-use Rattle.structure_laws.specs.Meaning.{Meaning}
-use Rattle.structure_laws.specs.Laws.{Laws}
-use Rattle.runner_parts.specs.State.{RunState, NodesState, PartState}
-use Rattle.runner_parts.specs.Tests.{has}
-use Rattle.runner_parts.specs.Lists.{without, tests_without, slot_taken, slot_made, slot_back}
-use Rattle.runner_steps.specs.InRun.{last_of}
-use Rattle.runner_steps.specs.Sections.{settles}
-use Rattle.runner_steps.specs.AfterInRun.{goes_on}
-use Rattle.epoch_core.specs.Lists.{times}
-use Rattle.machine_states.specs.Sight.{part_or_first}
-use Rattle.machine_states.proofs.Steps.{some_same}
-use Rattle.idem_alloc.specs.machine_invariant.specs.After.{AreAllowed}
-use Rattle.idem_alloc.specs.machine_invariant.specs.Slots.{times_among}
-use Rattle.idem_alloc.specs.machine_invariant.proofs.After.{whole_after}
-use Rattle.idem_alloc.specs.next_steps.specs.Stages.{unfilled, nodes_behind}
-use Rattle.version_words.specs.RunnerState.{RunnerState}
+use Rattle.idem_cell.specs.body_terms.specs.declared.micro.Micro.{Micro}
+use Rattle.idem_cell.specs.body_terms.specs.declared.micro.Micro.TheVariants as micros
+use Rattle.idem_cell.specs.body_terms.specs.declared.step.Step.TheVariants.{Load, Make, Store, Retire}
+use Rattle.idem_cell.specs.body_terms.specs.declared.value.Init.{Init}
+use Rattle.idem_cell.specs.body_terms.specs.declared.value.Value.{Value}
+use Rattle.idem_cell.specs.body_terms.specs.declared.value.Value.TheVariants.{Const}
+use Rattle.idem_cell.specs.body_terms.specs.Line.{registers_before, source_of}
+use Rattle.idem_cell.specs.body_terms.specs.Run.{source_value}
+use Rattle.idem_cell.specs.table_words.specs.declared.layout.Layout.{Layout}
+use Rattle.idem_cell.specs.table_words.specs.Limits.{IsWithinLimits}
+use Rattle.idem_cell.specs.machine_states.specs.structure_laws.specs.Meaning.{Meaning}
+use Rattle.idem_cell.specs.machine_states.specs.structure_laws.specs.Laws.{Laws}
+use Rattle.idem_cell.specs.runner_parts.specs.State.{RunState, NodesState, PartState}
+use Rattle.idem_cell.specs.runner_parts.specs.Tests.{has}
+use Rattle.idem_cell.specs.runner_parts.specs.Lists.{without, tests_without, slot_taken, slot_made, slot_back}
+use Rattle.idem_cell.specs.machine_states.specs.runner_steps.specs.InRun.{last_of}
+use Rattle.idem_cell.specs.machine_states.specs.runner_steps.specs.Sections.{settles}
+use Rattle.idem_cell.specs.machine_states.specs.runner_steps.specs.AfterInRun.{goes_on}
+use Rattle.idem_cell.specs.machine_states.specs.epoch_core.specs.Lists.{times}
+use Rattle.idem_cell.specs.machine_states.specs.Sight.{part_or_first}
+use Rattle.idem_cell.specs.machine_states.proofs.Steps.{some_same}
+use Rattle.nested_lock.specs.machine_facts.specs.machine_invariant.specs.After.{AreAllowed}
+use Rattle.nested_lock.specs.machine_facts.specs.machine_invariant.specs.Slots.{times_among}
+use Rattle.nested_lock.specs.machine_facts.specs.machine_invariant.proofs.After.{whole_after}
+use Rattle.idem_alloc.specs.commit_log.specs.next_steps.specs.Stages.{unfilled, nodes_behind}
+use Rattle.idem_alloc.specs.commit_log.specs.version_words.specs.RunnerState.{RunnerState}
 use Rattle.idem_alloc.specs.commit_log.specs.Runs.{IsRunning, Ran}
 use Rattle.idem_alloc.specs.commit_log.specs.Committed.{commits_loaded, HasCommitted}
 use Rattle.idem_alloc.specs.commit_log.proofs.Next.{settled_at}

@@ -1,34 +1,34 @@
 -- A whole run, put together.
 use Rattle.std.proofs.Common.{◌≡◌, ◌≢◌, ℕ, ◌+◌, ◌-◌, ◌≤◌, List, [], ◌∷◌, ◌++◌, Bool, true, refl, sym, ap, ◌∙◌, subst, arith, Option, Some, None}
 use Rattle.std.specs.Prelude.{if◌then◌else◌}
-use Rattle.body_terms.specs.Cost.{cost_of}
-use Rattle.body_terms.specs.Line.{line, micro_at}
-use Rattle.body_terms.specs.Run.{leaves}
-use Rattle.body_terms.specs.Trail.{Agreed}
-use Rattle.body_terms.specs.Word.{value_of}
-use Rattle.body_terms.specs.declared.outcome.Outcome.{Outcome}
-use Rattle.body_terms.specs.declared.outcome.Outcome.TheVariants as outcomes
-use Rattle.body_terms.specs.declared.step.Step.{Step}
-use Rattle.body_terms.specs.declared.thunk.Thunk.{Thunk}
-use Rattle.table_words.specs.Limits.{IsWithinLimits}
-use Rattle.table_words.specs.declared.layout.Layout.{Layout}
-use Rattle.structure_laws.specs.Meaning.{Meaning}
-use Rattle.structure_laws.specs.Laws.{Laws}
-use Rattle.runner_parts.specs.State.{RunState, FinishedState, NodesState, ReadsState}
-use Rattle.runner_parts.specs.Tests.{has, is_answered}
-use Rattle.runner_steps.specs.AfterInRun.{ended_more, over_if, finished_of}
-use Rattle.runner_steps.specs.Sections.{thunk_of, outcome_of, outcome_or, setting_of, settles, is_late}
-use Rattle.idem_alloc.specs.machine_invariant.specs.After.{AreAllowed}
-use Rattle.version_words.specs.RunnerState.{RunnerState}
-use Rattle.version_words.specs.TableState.{TableState, IsOf}
+use Rattle.idem_cell.specs.body_terms.specs.Cost.{cost_of}
+use Rattle.idem_cell.specs.body_terms.specs.Line.{line, micro_at}
+use Rattle.idem_cell.specs.body_terms.specs.Run.{leaves}
+use Rattle.idem_cell.specs.body_terms.specs.Trail.{Agreed}
+use Rattle.idem_cell.specs.body_terms.specs.Word.{value_of}
+use Rattle.idem_cell.specs.body_terms.specs.declared.outcome.Outcome.{Outcome}
+use Rattle.idem_cell.specs.body_terms.specs.declared.outcome.Outcome.TheVariants as outcomes
+use Rattle.idem_cell.specs.body_terms.specs.declared.step.Step.{Step}
+use Rattle.idem_cell.specs.body_terms.specs.declared.thunk.Thunk.{Thunk}
+use Rattle.idem_cell.specs.table_words.specs.Limits.{IsWithinLimits}
+use Rattle.idem_cell.specs.table_words.specs.declared.layout.Layout.{Layout}
+use Rattle.idem_cell.specs.machine_states.specs.structure_laws.specs.Meaning.{Meaning}
+use Rattle.idem_cell.specs.machine_states.specs.structure_laws.specs.Laws.{Laws}
+use Rattle.idem_cell.specs.runner_parts.specs.State.{RunState, FinishedState, NodesState, ReadsState}
+use Rattle.idem_cell.specs.runner_parts.specs.Tests.{has, is_answered}
+use Rattle.idem_cell.specs.machine_states.specs.runner_steps.specs.AfterInRun.{ended_more, over_if, finished_of}
+use Rattle.idem_cell.specs.machine_states.specs.runner_steps.specs.Sections.{thunk_of, outcome_of, outcome_or, setting_of, settles, is_late}
+use Rattle.nested_lock.specs.machine_facts.specs.machine_invariant.specs.After.{AreAllowed}
+use Rattle.idem_alloc.specs.commit_log.specs.version_words.specs.RunnerState.{RunnerState}
+use Rattle.idem_alloc.specs.commit_log.specs.version_words.specs.TableState.{TableState, IsOf}
 use Rattle.idem_alloc.specs.commit_log.specs.Runs.{Ran}
 use Rattle.idem_alloc.specs.commit_log.proofs.Running.{ran_one, ran_more}
 use Rattle.section_runs.specs.Reached.{run_or, run_of, events_after}
 use Rattle.section_runs.specs.Opened.{Learns, HasOpened, StandsOpened, opening}
 use Rattle.section_runs.specs.Bodies.{NodesGone, body_of, HasWalked}
 use Rattle.section_runs.specs.Ends.{HasEnded}
-use Rattle.machine_states.specs.Sight.{sight}
-use Rattle.runner_steps.specs.After.{counted}
+use Rattle.idem_cell.specs.machine_states.specs.Sight.{sight}
+use Rattle.idem_cell.specs.machine_states.specs.runner_steps.specs.After.{counted}
 use Rattle.section_runs.specs.Ended.{NodesRan, IsDone, EndsSo}
 use Rattle.section_runs.proofs.Going.{run_is}
 use Rattle.section_runs.proofs.Staying.{Passed, learns_more, still_of, step_events, step_learns, ran_passed, ran_own, events_more}

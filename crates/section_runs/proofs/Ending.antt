@@ -2,31 +2,31 @@
 use Rattle.std.proofs.Common.{◌≡◌, ℕ, zero, suc, ◌+◌, ◌≤◌, ◌<◌, List, [], ◌∷◌, ◌++◌, length, take, true, false, refl, sym, ap, ◌∙◌, subst, arith, Option, Some, None}
 use Rattle.std.specs.Prelude.{cond, count_by, slice_index_or, if◌then◌else◌}
 use Rattle.std.proofs.lemmas.List.Sums.{sum_by-cons}
-use Rattle.body_terms.specs.declared.micro.Micro.{Micro}
-use Rattle.body_terms.specs.declared.micro.Micro.TheVariants as micros
-use Rattle.body_terms.specs.declared.outcome.Outcome.{Outcome}
-use Rattle.body_terms.specs.declared.step.Step.{Step}
-use Rattle.body_terms.specs.declared.step.Step.TheVariants.{Load, Want, Fresh, Take, Make, Stamp, Store, Retire, Answer}
-use Rattle.body_terms.specs.Line.{micro_at, is_event, is_end, releases, ending}
-use Rattle.body_terms.specs.Shape.{IsStep, is_take}
-use Rattle.body_terms.specs.Word.{next_word}
-use Rattle.body_terms.proofs.LineLemmas.{take_next}
-use Rattle.section_lines.specs.Rests.{taken_releases}
-use Rattle.table_words.specs.Limits.{IsWithinLimits}
-use Rattle.table_words.specs.declared.spot.Spot.TheVariants as spots
-use Rattle.table_words.specs.declared.access.Access.TheVariants.{Exchanges}
-use Rattle.structure_laws.specs.Meaning.{Meaning}
-use Rattle.structure_laws.specs.Laws.{Laws}
-use Rattle.runner_parts.specs.declared.event.EventKind.TheVariants as kinds
-use Rattle.runner_parts.specs.State.{RunState}
-use Rattle.runner_steps.specs.AfterInRun.{ended_more}
-use Rattle.runner_steps.specs.Sections.{thunk_of, line_of, next_of}
-use Rattle.machine_states.proofs.Steps.{some_same}
-use Rattle.idem_alloc.specs.machine_invariant.specs.After.{AreAllowed}
-use Rattle.version_words.specs.RunnerState.{RunnerState}
-use Rattle.version_words.specs.TableState.{TableState, IsOf}
-use Rattle.version_words.specs.Events.{met_by, Makes}
-use Rattle.version_words.specs.Place.{own_done, held_by_run}
+use Rattle.idem_cell.specs.body_terms.specs.declared.micro.Micro.{Micro}
+use Rattle.idem_cell.specs.body_terms.specs.declared.micro.Micro.TheVariants as micros
+use Rattle.idem_cell.specs.body_terms.specs.declared.outcome.Outcome.{Outcome}
+use Rattle.idem_cell.specs.body_terms.specs.declared.step.Step.{Step}
+use Rattle.idem_cell.specs.body_terms.specs.declared.step.Step.TheVariants.{Load, Want, Fresh, Take, Make, Stamp, Store, Retire, Answer}
+use Rattle.idem_cell.specs.body_terms.specs.Line.{micro_at, is_event, is_end, releases, ending}
+use Rattle.idem_cell.specs.body_terms.specs.Shape.{IsStep, is_take}
+use Rattle.idem_cell.specs.body_terms.specs.Word.{next_word}
+use Rattle.idem_cell.specs.body_terms.proofs.LineLemmas.{take_next}
+use Rattle.idem_cell.specs.section_lines.specs.Rests.{taken_releases}
+use Rattle.idem_cell.specs.table_words.specs.Limits.{IsWithinLimits}
+use Rattle.idem_cell.specs.table_words.specs.declared.spot.Spot.TheVariants as spots
+use Rattle.idem_cell.specs.table_words.specs.declared.access.Access.TheVariants.{Exchanges}
+use Rattle.idem_cell.specs.machine_states.specs.structure_laws.specs.Meaning.{Meaning}
+use Rattle.idem_cell.specs.machine_states.specs.structure_laws.specs.Laws.{Laws}
+use Rattle.idem_cell.specs.runner_parts.specs.declared.event.EventKind.TheVariants as kinds
+use Rattle.idem_cell.specs.runner_parts.specs.State.{RunState}
+use Rattle.idem_cell.specs.machine_states.specs.runner_steps.specs.AfterInRun.{ended_more}
+use Rattle.idem_cell.specs.machine_states.specs.runner_steps.specs.Sections.{thunk_of, line_of, next_of}
+use Rattle.idem_cell.specs.machine_states.proofs.Steps.{some_same}
+use Rattle.nested_lock.specs.machine_facts.specs.machine_invariant.specs.After.{AreAllowed}
+use Rattle.idem_alloc.specs.commit_log.specs.version_words.specs.RunnerState.{RunnerState}
+use Rattle.idem_alloc.specs.commit_log.specs.version_words.specs.TableState.{TableState, IsOf}
+use Rattle.idem_alloc.specs.commit_log.specs.version_words.specs.Events.{met_by, Makes}
+use Rattle.idem_alloc.specs.commit_log.specs.version_words.specs.Place.{own_done, held_by_run}
 use Rattle.idem_alloc.specs.commit_log.specs.Runs.{IsRunning, Stepped}
 use Rattle.idem_alloc.specs.commit_log.proofs.Running.{may_make, then_made}
 use Rattle.section_runs.specs.Reached.{run_of}

@@ -2,37 +2,37 @@
 use Rattle.std.proofs.Common.{◌≡◌, ℕ, ◌+◌, ◌≤◌, List, [], ◌∷◌, ◌++◌, length, true, refl, sym, ap, ◌∙◌, subst, Some}
 use Rattle.std.specs.Prelude.{slice_get, if◌then◌else◌}
 use Rattle.std.proofs.lemmas.List.FromFn.{length-map-range_with_len}
-use Rattle.body_terms.specs.declared.micro.Micro.TheVariants as micros
-use Rattle.body_terms.specs.declared.thunk.Thunk.{Thunk}
-use Rattle.body_terms.specs.Line.{is_end}
-use Rattle.body_terms.specs.Plain.{first_values}
-use Rattle.table_words.specs.Limits.{IsWithinLimits}
-use Rattle.table_words.specs.declared.spot.Spot.TheVariants as spots
-use Rattle.structure_laws.specs.Meaning.{Meaning}
-use Rattle.structure_laws.specs.Laws.{Laws}
-use Rattle.runner_parts.specs.declared.event.EventKind.TheVariants as kinds
-use Rattle.runner_parts.specs.declared.event.Event.{Event}
-use Rattle.epoch_core.specs.declared.stage.Stage.TheVariants as stages
-use Rattle.runner_parts.specs.State.{RunState, FinishedState, PartState}
-use Rattle.runner_parts.specs.Tests.{has}
-use Rattle.runner_steps.specs.AfterInRun.{ended_more, finished_of}
-use Rattle.runner_steps.specs.Sections.{thunk_of, next_of, settles}
-use Rattle.epoch_core.specs.declared.location.Location.{Location}
-use Rattle.epoch_core.specs.declared.location.Location.TheVariants as places
-use Rattle.epoch_core.specs.History.{is_out}
-use Rattle.epoch_core.specs.State.{IsKept}
-use Rattle.machine_states.specs.Sight.{Sight, sight, part_or_first}
-use Rattle.machine_epochs.specs.Slots.{thunk_in}
-use Rattle.machine_epochs.proofs.Joining.{thunk_same}
-use Rattle.idem_alloc.specs.machine_agreement.proofs.RunPlaces.{opened_thunk}
-use Rattle.idem_alloc.specs.machine_invariant.specs.After.{AreAllowed}
-use Rattle.idem_alloc.specs.machine_invariant.specs.Along.{Components}
-use Rattle.idem_alloc.specs.machine_invariant.specs.Slots.{node_count}
-use Rattle.idem_alloc.specs.machine_invariant.specs.Trails.{IsEndOf}
+use Rattle.idem_cell.specs.body_terms.specs.declared.micro.Micro.TheVariants as micros
+use Rattle.idem_cell.specs.body_terms.specs.declared.thunk.Thunk.{Thunk}
+use Rattle.idem_cell.specs.body_terms.specs.Line.{is_end}
+use Rattle.idem_cell.specs.body_terms.specs.Plain.{first_values}
+use Rattle.idem_cell.specs.table_words.specs.Limits.{IsWithinLimits}
+use Rattle.idem_cell.specs.table_words.specs.declared.spot.Spot.TheVariants as spots
+use Rattle.idem_cell.specs.machine_states.specs.structure_laws.specs.Meaning.{Meaning}
+use Rattle.idem_cell.specs.machine_states.specs.structure_laws.specs.Laws.{Laws}
+use Rattle.idem_cell.specs.runner_parts.specs.declared.event.EventKind.TheVariants as kinds
+use Rattle.idem_cell.specs.runner_parts.specs.declared.event.Event.{Event}
+use Rattle.idem_cell.specs.machine_states.specs.epoch_core.specs.declared.stage.Stage.TheVariants as stages
+use Rattle.idem_cell.specs.runner_parts.specs.State.{RunState, FinishedState, PartState}
+use Rattle.idem_cell.specs.runner_parts.specs.Tests.{has}
+use Rattle.idem_cell.specs.machine_states.specs.runner_steps.specs.AfterInRun.{ended_more, finished_of}
+use Rattle.idem_cell.specs.machine_states.specs.runner_steps.specs.Sections.{thunk_of, next_of, settles}
+use Rattle.idem_cell.specs.machine_states.specs.epoch_core.specs.declared.location.Location.{Location}
+use Rattle.idem_cell.specs.machine_states.specs.epoch_core.specs.declared.location.Location.TheVariants as places
+use Rattle.idem_cell.specs.machine_states.specs.epoch_core.specs.History.{is_out}
+use Rattle.idem_cell.specs.machine_states.specs.epoch_core.specs.State.{IsKept}
+use Rattle.idem_cell.specs.machine_states.specs.Sight.{Sight, sight, part_or_first}
+use Rattle.idem_cell.specs.machine_epochs.specs.Slots.{thunk_in}
+use Rattle.idem_cell.specs.machine_epochs.proofs.Joining.{thunk_same}
+use Rattle.nested_lock.specs.machine_facts.specs.machine_agreement.proofs.RunPlaces.{opened_thunk}
+use Rattle.nested_lock.specs.machine_facts.specs.machine_invariant.specs.After.{AreAllowed}
+use Rattle.nested_lock.specs.machine_facts.specs.machine_invariant.specs.Along.{Components}
+use Rattle.nested_lock.specs.machine_facts.specs.machine_invariant.specs.Slots.{node_count}
+use Rattle.nested_lock.specs.machine_facts.specs.machine_invariant.specs.Trails.{IsEndOf}
 use Rattle.nested_lock.specs.machine_facts.specs.After.{AreFactsOfStep}
 use Rattle.nested_lock.specs.machine_facts.specs.States.{FactsStand}
 use Rattle.nested_lock.specs.machine_facts.proofs.Following.{step_facts_after}
-use Rattle.version_words.specs.RunnerState.{RunnerState}
+use Rattle.idem_alloc.specs.commit_log.specs.version_words.specs.RunnerState.{RunnerState}
 use Rattle.idem_alloc.specs.commit_log.specs.Runs.{Stepped}
 use Rattle.section_runs.specs.Reached.{IsReached}
 use Rattle.section_runs.specs.Ended.{IsDone}

@@ -2,36 +2,36 @@
 use Rattle.std.proofs.Common.{◌≡◌, ℕ, zero, suc, ◌+◌, ◌<◌, List, [], ◌∷◌, ◌++◌, length, length-append, Bool, true, false, refl, sym, ap, ◌∙◌, subst, arith, Option, Some, None}
 use Rattle.std.specs.Prelude.{◌==◌, ◌&&◌, nat_lt, if◌then◌else◌}
 use Rattle.std.proofs.lemmas.Bool.Decides.{nat_tests}
-use Rattle.body_terms.specs.declared.thunk.Thunk.{Thunk}
-use Rattle.table_words.specs.declared.sizes.Sizes.{Sizes}
-use Rattle.table_words.proofs.Seen.{fits_is}
-use Rattle.table_words.specs.Limits.{IsWithinLimits}
-use Rattle.table_words.specs.Places.{descriptor_count}
-use Rattle.table_words.specs.declared.access.Access.TheVariants.{Loads}
-use Rattle.table_words.specs.declared.spot.Spot.TheVariants as spots
-use Rattle.structure_laws.specs.Meaning.{Meaning}
-use Rattle.structure_laws.specs.Laws.{Laws}
-use Rattle.runner_parts.specs.declared.event.EventKind.{EventKind}
-use Rattle.runner_parts.specs.declared.event.EventKind.TheVariants as kinds
-use Rattle.runner_parts.specs.State.{RunState, PartState}
-use Rattle.runner_parts.specs.Tests.{has, is_walking}
-use Rattle.runner_steps.specs.Outside.{when}
-use Rattle.runner_steps.specs.Asks.{ask_by, fitting, sizes_for}
-use Rattle.runner_steps.specs.Sections.{thunk_of, is_late, next_of}
-use Rattle.runner_steps.specs.AfterInRun.{with_run, opened_more}
-use Rattle.runner_steps.specs.After.{after_by, line_after, counted}
-use Rattle.idem_alloc.specs.machine_agreement.proofs.LineKinds.{noted_finished, noting}
-use Rattle.machine_states.specs.Sight.{sight, part_or_first}
-use Rattle.idem_alloc.specs.machine_invariant.specs.After.{AreAllowed}
-use Rattle.idem_alloc.specs.next_steps.specs.Stages.{IsInRun}
-use Rattle.idem_alloc.specs.next_steps.specs.Steps.{opening_kind, opened_next}
-use Rattle.idem_alloc.specs.next_steps.proofs.Stages.{may_open}
-use Rattle.idem_alloc.specs.next_steps.proofs.Numbers.{reached_numbers}
-use Rattle.version_words.specs.RunnerState.{RunnerState}
-use Rattle.version_words.specs.TableState.{TableState, IsOf}
-use Rattle.version_words.specs.Events.{met_by, Makes}
-use Rattle.version_words.specs.Naming.{open_of}
-use Rattle.version_words.specs.Place.{opened_of, own_done}
+use Rattle.idem_cell.specs.body_terms.specs.declared.thunk.Thunk.{Thunk}
+use Rattle.idem_cell.specs.table_words.specs.declared.sizes.Sizes.{Sizes}
+use Rattle.idem_cell.specs.table_words.proofs.Seen.{fits_is}
+use Rattle.idem_cell.specs.table_words.specs.Limits.{IsWithinLimits}
+use Rattle.idem_cell.specs.table_words.specs.Places.{descriptor_count}
+use Rattle.idem_cell.specs.table_words.specs.declared.access.Access.TheVariants.{Loads}
+use Rattle.idem_cell.specs.table_words.specs.declared.spot.Spot.TheVariants as spots
+use Rattle.idem_cell.specs.machine_states.specs.structure_laws.specs.Meaning.{Meaning}
+use Rattle.idem_cell.specs.machine_states.specs.structure_laws.specs.Laws.{Laws}
+use Rattle.idem_cell.specs.runner_parts.specs.declared.event.EventKind.{EventKind}
+use Rattle.idem_cell.specs.runner_parts.specs.declared.event.EventKind.TheVariants as kinds
+use Rattle.idem_cell.specs.runner_parts.specs.State.{RunState, PartState}
+use Rattle.idem_cell.specs.runner_parts.specs.Tests.{has, is_walking}
+use Rattle.idem_cell.specs.machine_states.specs.runner_steps.specs.Outside.{when}
+use Rattle.idem_cell.specs.machine_states.specs.runner_steps.specs.Asks.{ask_by, fitting, sizes_for}
+use Rattle.idem_cell.specs.machine_states.specs.runner_steps.specs.Sections.{thunk_of, is_late, next_of}
+use Rattle.idem_cell.specs.machine_states.specs.runner_steps.specs.AfterInRun.{with_run, opened_more}
+use Rattle.idem_cell.specs.machine_states.specs.runner_steps.specs.After.{after_by, line_after, counted}
+use Rattle.nested_lock.specs.machine_facts.specs.machine_agreement.proofs.LineKinds.{noted_finished, noting}
+use Rattle.idem_cell.specs.machine_states.specs.Sight.{sight, part_or_first}
+use Rattle.nested_lock.specs.machine_facts.specs.machine_invariant.specs.After.{AreAllowed}
+use Rattle.idem_alloc.specs.commit_log.specs.next_steps.specs.Stages.{IsInRun}
+use Rattle.idem_alloc.specs.commit_log.specs.next_steps.specs.Steps.{opening_kind, opened_next}
+use Rattle.idem_alloc.specs.commit_log.specs.next_steps.proofs.Stages.{may_open}
+use Rattle.idem_alloc.specs.commit_log.specs.next_steps.proofs.Numbers.{reached_numbers}
+use Rattle.idem_alloc.specs.commit_log.specs.version_words.specs.RunnerState.{RunnerState}
+use Rattle.idem_alloc.specs.commit_log.specs.version_words.specs.TableState.{TableState, IsOf}
+use Rattle.idem_alloc.specs.commit_log.specs.version_words.specs.Events.{met_by, Makes}
+use Rattle.idem_alloc.specs.commit_log.specs.version_words.specs.Naming.{open_of}
+use Rattle.idem_alloc.specs.commit_log.specs.version_words.specs.Place.{opened_of, own_done}
 use Rattle.idem_alloc.specs.commit_log.specs.Runs.{IsRunning}
 use Rattle.section_runs.specs.Reached.{MayBegin, run_or, events_after}
 use Rattle.section_runs.specs.Opened.{opening, opening_of, is_opening, Opens, IsOpening, HasOpened}

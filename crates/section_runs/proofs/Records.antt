@@ -1,25 +1,25 @@
 -- What a step of a run leaves of the runner's records: it is counted, and what is learned is of the run's request.
 use Rattle.std.proofs.Common.{◌≡◌, ℕ, zero, suc, List, [], ◌∷◌, ◌++◌, Bool, true, false, refl, sym, ap, ◌∙◌, subst, Option, Some, None}
 use Rattle.std.specs.Prelude.{◌==◌, nat_lt, slice_get, if◌then◌else◌}
-use Rattle.small_lemmas.proofs.Lists.{append_none}
-use Rattle.body_terms.specs.declared.micro.Micro.{Micro}
-use Rattle.body_terms.specs.declared.micro.Micro.TheVariants as micros
-use Rattle.body_terms.specs.Line.{is_end}
-use Rattle.body_terms.specs.Run.{written_once}
-use Rattle.table_words.specs.declared.layout.Layout.{Layout}
-use Rattle.table_words.specs.declared.spot.Spot.{Spot}
-use Rattle.table_words.specs.declared.access.Access.{Access}
-use Rattle.structure_laws.specs.Meaning.{Meaning}
-use Rattle.runner_parts.specs.declared.event.EventKind.{EventKind}
-use Rattle.runner_parts.specs.declared.entries.Known.{Known}
-use Rattle.runner_parts.specs.State.{RunState, RecordsState, PartState}
-use Rattle.runner_parts.specs.Lists.{learned, cell_read}
-use Rattle.runner_steps.specs.InRun.{make_slot, last_clock, stamp_after}
-use Rattle.runner_steps.specs.Sections.{thunk_of, next_of}
-use Rattle.runner_steps.specs.AfterInRun as inside
-use Rattle.runner_steps.specs.After.{line_after, counted, noted}
-use Rattle.machine_states.proofs.Steps.{some_same}
-use Rattle.idem_alloc.specs.next_steps.specs.Steps.{slot_in, kind_at}
+use Rattle.idem_cell.specs.section_lines.specs.small_lemmas.proofs.Lists.{append_none}
+use Rattle.idem_cell.specs.body_terms.specs.declared.micro.Micro.{Micro}
+use Rattle.idem_cell.specs.body_terms.specs.declared.micro.Micro.TheVariants as micros
+use Rattle.idem_cell.specs.body_terms.specs.Line.{is_end}
+use Rattle.idem_cell.specs.body_terms.specs.Run.{written_once}
+use Rattle.idem_cell.specs.table_words.specs.declared.layout.Layout.{Layout}
+use Rattle.idem_cell.specs.table_words.specs.declared.spot.Spot.{Spot}
+use Rattle.idem_cell.specs.table_words.specs.declared.access.Access.{Access}
+use Rattle.idem_cell.specs.machine_states.specs.structure_laws.specs.Meaning.{Meaning}
+use Rattle.idem_cell.specs.runner_parts.specs.declared.event.EventKind.{EventKind}
+use Rattle.idem_cell.specs.runner_parts.specs.declared.entries.Known.{Known}
+use Rattle.idem_cell.specs.runner_parts.specs.State.{RunState, RecordsState, PartState}
+use Rattle.idem_cell.specs.runner_parts.specs.Lists.{learned, cell_read}
+use Rattle.idem_cell.specs.machine_states.specs.runner_steps.specs.InRun.{make_slot, last_clock, stamp_after}
+use Rattle.idem_cell.specs.machine_states.specs.runner_steps.specs.Sections.{thunk_of, next_of}
+use Rattle.idem_cell.specs.machine_states.specs.runner_steps.specs.AfterInRun as inside
+use Rattle.idem_cell.specs.machine_states.specs.runner_steps.specs.After.{line_after, counted, noted}
+use Rattle.idem_cell.specs.machine_states.proofs.Steps.{some_same}
+use Rattle.idem_alloc.specs.commit_log.specs.next_steps.specs.Steps.{slot_in, kind_at}
 use Rattle.section_runs.specs.Opened.{Learns}
 
 module _ (l : Layout) (r : ℕ) (kind : EventKind) (spot : Spot) (access : Access) (n : ℕ) (s : RecordsState) where

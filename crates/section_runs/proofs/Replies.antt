@@ -2,16 +2,16 @@
 use Rattle.std.proofs.Common.{◌≡◌, ℕ, zero, suc, ◌-◌, ◌≤◌, ◌<◌, List, [], ◌∷◌, length, true, false, refl, sym, ap, ◌∙◌, subst, arith, ⊎_elim, Some}
 use Rattle.std.specs.Prelude.{◌⊎◌, slice_index_or}
 use Rattle.std.proofs.lemmas.Option.{slice_get-get_or}
-use Rattle.small_lemmas.proofs.Bools.{not_true}
-use Rattle.body_terms.specs.declared.step.Step.{Step}
-use Rattle.body_terms.specs.declared.step.Step.TheVariants.{Load, Want, Fresh, Take, Make, Stamp, Store, Retire, Answer}
-use Rattle.body_terms.specs.Shape.{IsStep, IsShaped, is_answer}
-use Rattle.body_terms.specs.Shape as shape
-use Rattle.body_terms.proofs.RegisterLemmas.{step_at}
-use Rattle.section_lines.proofs.Phases.{sole}
-use Rattle.section_lines.proofs.Places.{step_inside}
-use Rattle.machine_states.proofs.Steps.{some_same}
-use Rattle.runner_steps.specs.Sections.{reply_in}
+use Rattle.idem_cell.specs.section_lines.specs.small_lemmas.proofs.Bools.{not_true}
+use Rattle.idem_cell.specs.body_terms.specs.declared.step.Step.{Step}
+use Rattle.idem_cell.specs.body_terms.specs.declared.step.Step.TheVariants.{Load, Want, Fresh, Take, Make, Stamp, Store, Retire, Answer}
+use Rattle.idem_cell.specs.body_terms.specs.Shape.{IsStep, IsShaped, is_answer}
+use Rattle.idem_cell.specs.body_terms.specs.Shape as shape
+use Rattle.idem_cell.specs.body_terms.proofs.RegisterLemmas.{step_at}
+use Rattle.idem_cell.specs.section_lines.proofs.Phases.{sole}
+use Rattle.idem_cell.specs.section_lines.proofs.Places.{step_inside}
+use Rattle.idem_cell.specs.machine_states.proofs.Steps.{some_same}
+use Rattle.idem_cell.specs.machine_states.specs.runner_steps.specs.Sections.{reply_in}
 
 answer_of : (step : Step) → is_answer step ≡ true → (reply : ℕ) × (step ≡ Answer reply)
 answer_of (Answer reply) e = (reply, refl)

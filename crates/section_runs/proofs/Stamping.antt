@@ -1,32 +1,32 @@
 -- The Stamp and the Answer of a body.
 use Rattle.std.proofs.Common.{◌≡◌, ℕ, ◌+◌, ◌*◌, ◌/◌, ◌<◌, ◌^◌, [], refl, sym, ap, ◌∙◌, arith, Option, Some}
-use Rattle.small_lemmas.proofs.Numbers.{tested_less as low}
-use Rattle.body_terms.specs.declared.micro.Micro.TheVariants as micros
-use Rattle.body_terms.specs.declared.step.Step.TheVariants.{Stamp, Answer}
-use Rattle.body_terms.specs.Line.{micro_at, registers_before}
-use Rattle.body_terms.specs.Line as lines
-use Rattle.body_terms.specs.Run.{written_once}
-use Rattle.table_words.specs.Access.{written}
-use Rattle.table_words.specs.Limits.{IsWithinLimits}
-use Rattle.table_words.specs.declared.layout.Layout.{Layout}
-use Rattle.table_words.specs.declared.spot.Spot.{Spot}
-use Rattle.table_words.specs.declared.spot.Spot.TheVariants as spots
-use Rattle.table_words.specs.declared.access.Access.{Access}
-use Rattle.table_words.specs.declared.access.Access.TheVariants.{Loads, Exchanges, Raises}
-use Rattle.structure_laws.specs.Meaning.{Meaning}
-use Rattle.structure_laws.specs.Laws.{Laws}
-use Rattle.runner_parts.specs.declared.event.EventKind.TheVariants as kinds
-use Rattle.runner_parts.specs.State.{RunState}
-use Rattle.runner_steps.specs.InRun.{last_clock, stamp_after}
-use Rattle.runner_steps.specs.Sections.{thunk_of, line_of, next_of}
-use Rattle.runner_steps.specs.AfterInRun.{goes_on}
-use Rattle.machine_states.proofs.Sights.{if_some}
-use Rattle.machine_states.proofs.Steps.{some_same}
-use Rattle.idem_alloc.specs.machine_invariant.specs.After.{AreAllowed}
-use Rattle.version_words.specs.RunnerState.{RunnerState}
-use Rattle.version_words.specs.TableState.{TableState, IsOf}
-use Rattle.version_words.specs.Events.{met_by, Makes, Leaves}
-use Rattle.version_words.specs.Place.{own_stamp, own_reply}
+use Rattle.idem_cell.specs.section_lines.specs.small_lemmas.proofs.Numbers.{tested_less as low}
+use Rattle.idem_cell.specs.body_terms.specs.declared.micro.Micro.TheVariants as micros
+use Rattle.idem_cell.specs.body_terms.specs.declared.step.Step.TheVariants.{Stamp, Answer}
+use Rattle.idem_cell.specs.body_terms.specs.Line.{micro_at, registers_before}
+use Rattle.idem_cell.specs.body_terms.specs.Line as lines
+use Rattle.idem_cell.specs.body_terms.specs.Run.{written_once}
+use Rattle.idem_cell.specs.table_words.specs.Access.{written}
+use Rattle.idem_cell.specs.table_words.specs.Limits.{IsWithinLimits}
+use Rattle.idem_cell.specs.table_words.specs.declared.layout.Layout.{Layout}
+use Rattle.idem_cell.specs.table_words.specs.declared.spot.Spot.{Spot}
+use Rattle.idem_cell.specs.table_words.specs.declared.spot.Spot.TheVariants as spots
+use Rattle.idem_cell.specs.table_words.specs.declared.access.Access.{Access}
+use Rattle.idem_cell.specs.table_words.specs.declared.access.Access.TheVariants.{Loads, Exchanges, Raises}
+use Rattle.idem_cell.specs.machine_states.specs.structure_laws.specs.Meaning.{Meaning}
+use Rattle.idem_cell.specs.machine_states.specs.structure_laws.specs.Laws.{Laws}
+use Rattle.idem_cell.specs.runner_parts.specs.declared.event.EventKind.TheVariants as kinds
+use Rattle.idem_cell.specs.runner_parts.specs.State.{RunState}
+use Rattle.idem_cell.specs.machine_states.specs.runner_steps.specs.InRun.{last_clock, stamp_after}
+use Rattle.idem_cell.specs.machine_states.specs.runner_steps.specs.Sections.{thunk_of, line_of, next_of}
+use Rattle.idem_cell.specs.machine_states.specs.runner_steps.specs.AfterInRun.{goes_on}
+use Rattle.idem_cell.specs.machine_states.proofs.Sights.{if_some}
+use Rattle.idem_cell.specs.machine_states.proofs.Steps.{some_same}
+use Rattle.nested_lock.specs.machine_facts.specs.machine_invariant.specs.After.{AreAllowed}
+use Rattle.idem_alloc.specs.commit_log.specs.version_words.specs.RunnerState.{RunnerState}
+use Rattle.idem_alloc.specs.commit_log.specs.version_words.specs.TableState.{TableState, IsOf}
+use Rattle.idem_alloc.specs.commit_log.specs.version_words.specs.Events.{met_by, Makes, Leaves}
+use Rattle.idem_alloc.specs.commit_log.specs.version_words.specs.Place.{own_stamp, own_reply}
 use Rattle.idem_alloc.specs.commit_log.specs.Runs.{IsRunning, Stepped, Ran}
 use Rattle.idem_alloc.specs.commit_log.proofs.Next.{settled_at, settled_next}
 use Rattle.idem_alloc.specs.commit_log.proofs.Running.{may_make, asked_there, then_made, ran_one, ran_more}

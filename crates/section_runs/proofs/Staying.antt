@@ -1,31 +1,31 @@
 -- What no step of a run changes but the last one, and how its steps are counted.
 use Rattle.std.proofs.Common.{◌≡◌, ℕ, zero, suc, ◌+◌, List, [], ◌∷◌, ◌++◌, Bool, true, false, refl, sym, ap, ◌∙◌, subst, arith, Some, None, append_assoc}
 use Rattle.std.specs.Prelude.{◌||◌, slice_get, if◌then◌else◌}
-use Rattle.body_terms.specs.declared.micro.Micro.{Micro}
-use Rattle.body_terms.specs.declared.micro.Micro.TheVariants as micros
-use Rattle.body_terms.specs.Line.{is_end}
-use Rattle.body_terms.specs.Run.{written_once}
-use Rattle.table_words.specs.declared.layout.Layout.{Layout}
-use Rattle.table_words.specs.declared.access.Access.{Access}
-use Rattle.table_words.specs.declared.spot.Spot.{Spot}
-use Rattle.table_words.specs.Limits.{IsWithinLimits}
-use Rattle.structure_laws.specs.Meaning.{Meaning}
-use Rattle.structure_laws.specs.Laws.{Laws}
-use Rattle.runner_parts.specs.declared.entries.Known.{Known}
-use Rattle.runner_parts.specs.State.{RunState, ReadsState, PartState}
-use Rattle.runner_parts.specs.Lists.{named_by, lock_agreed, holds_named}
-use Rattle.runner_parts.specs.Tests.{has}
-use Rattle.runner_steps.specs.Sections.{thunk_of, is_open_run, next_of}
-use Rattle.runner_steps.specs.AfterInRun.{ended_more, over_if, finished_of}
-use Rattle.runner_steps.specs.After.{line_after, after, counted}
-use Rattle.idem_alloc.specs.machine_agreement.proofs.LineKinds.{noting, after_line}
-use Rattle.machine_epochs.proofs.Places.{has_append}
-use Rattle.idem_alloc.specs.machine_invariant.specs.After.{AreAllowed}
-use Rattle.idem_alloc.specs.next_steps.specs.Steps.{kind_at}
-use Rattle.idem_alloc.specs.next_steps.specs.Stages.{run_behind, reads_behind, published_behind, finished_behind}
-use Rattle.idem_alloc.specs.next_steps.proofs.Stages.{in_table}
-use Rattle.version_words.specs.RunnerState.{RunnerState}
-use Rattle.version_words.specs.TableState.{TableState, IsOf}
+use Rattle.idem_cell.specs.body_terms.specs.declared.micro.Micro.{Micro}
+use Rattle.idem_cell.specs.body_terms.specs.declared.micro.Micro.TheVariants as micros
+use Rattle.idem_cell.specs.body_terms.specs.Line.{is_end}
+use Rattle.idem_cell.specs.body_terms.specs.Run.{written_once}
+use Rattle.idem_cell.specs.table_words.specs.declared.layout.Layout.{Layout}
+use Rattle.idem_cell.specs.table_words.specs.declared.access.Access.{Access}
+use Rattle.idem_cell.specs.table_words.specs.declared.spot.Spot.{Spot}
+use Rattle.idem_cell.specs.table_words.specs.Limits.{IsWithinLimits}
+use Rattle.idem_cell.specs.machine_states.specs.structure_laws.specs.Meaning.{Meaning}
+use Rattle.idem_cell.specs.machine_states.specs.structure_laws.specs.Laws.{Laws}
+use Rattle.idem_cell.specs.runner_parts.specs.declared.entries.Known.{Known}
+use Rattle.idem_cell.specs.runner_parts.specs.State.{RunState, ReadsState, PartState}
+use Rattle.idem_cell.specs.runner_parts.specs.Lists.{named_by, lock_agreed, holds_named}
+use Rattle.idem_cell.specs.runner_parts.specs.Tests.{has}
+use Rattle.idem_cell.specs.machine_states.specs.runner_steps.specs.Sections.{thunk_of, is_open_run, next_of}
+use Rattle.idem_cell.specs.machine_states.specs.runner_steps.specs.AfterInRun.{ended_more, over_if, finished_of}
+use Rattle.idem_cell.specs.machine_states.specs.runner_steps.specs.After.{line_after, after, counted}
+use Rattle.nested_lock.specs.machine_facts.specs.machine_agreement.proofs.LineKinds.{noting, after_line}
+use Rattle.idem_cell.specs.machine_epochs.proofs.Places.{has_append}
+use Rattle.nested_lock.specs.machine_facts.specs.machine_invariant.specs.After.{AreAllowed}
+use Rattle.idem_alloc.specs.commit_log.specs.next_steps.specs.Steps.{kind_at}
+use Rattle.idem_alloc.specs.commit_log.specs.next_steps.specs.Stages.{run_behind, reads_behind, published_behind, finished_behind}
+use Rattle.idem_alloc.specs.commit_log.specs.next_steps.proofs.Stages.{in_table}
+use Rattle.idem_alloc.specs.commit_log.specs.version_words.specs.RunnerState.{RunnerState}
+use Rattle.idem_alloc.specs.commit_log.specs.version_words.specs.TableState.{TableState, IsOf}
 use Rattle.idem_alloc.specs.commit_log.specs.Runs.{IsRunning, Stepped, Ran}
 use Rattle.idem_alloc.specs.commit_log.proofs.Running.{opened_stays, one_run}
 use Rattle.section_runs.specs.Reached.{events_after}

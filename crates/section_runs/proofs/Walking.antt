@@ -2,27 +2,27 @@
 use Rattle.std.proofs.Common.{◌≡◌, ℕ, zero, suc, ◌+◌, ◌-◌, ◌≤◌, List, [], ◌∷◌, ◌++◌, length, length-append, append_assoc, take, Bool, true, false, refl, sym, ap, ◌∙◌, subst, arith}
 use Rattle.std.specs.Prelude.{cond, count_by, sum_by}
 use Rattle.std.proofs.lemmas.List.Sums.{sum_by-cons}
-use Rattle.small_lemmas.proofs.Lists.{append_none}
-use Rattle.body_terms.specs.declared.micro.Micro.{Micro}
-use Rattle.body_terms.specs.declared.micro.Micro.TheVariants as micros
-use Rattle.body_terms.specs.declared.outcome.Outcome.{Outcome}
-use Rattle.body_terms.specs.declared.outcome.Outcome.TheVariants as outcomes
-use Rattle.body_terms.specs.declared.step.Step.{Step}
-use Rattle.body_terms.specs.declared.step.Step.TheVariants.{Load, Want, Fresh, Take, Make, Stamp, Store, Retire, Answer}
-use Rattle.body_terms.specs.Line.{no_registers, line, micro_at, is_event, releases, registers_before}
-use Rattle.body_terms.specs.Shape.{IsStep, IsShaped, phase, is_make, is_retire, is_take}
-use Rattle.body_terms.specs.Word.{value_of}
-use Rattle.body_terms.proofs.LineLemmas.{take_next, take_all, past_line}
-use Rattle.section_lines.specs.Rests.{taken_releases}
-use Rattle.section_lines.specs.Rests as resting
-use Rattle.section_lines.proofs.Places.{step_inside}
-use Rattle.section_lines.proofs.Resting.{run_rests}
-use Rattle.structure_laws.specs.Meaning.{Meaning}
-use Rattle.runner_parts.specs.State.{NodesState}
-use Rattle.runner_parts.specs.Tests.{has}
-use Rattle.runner_steps.specs.Sections.{thunk_of, setting_of, outcome_or, reply_in}
-use Rattle.body_terms.specs.Run.{leaves}
-use Rattle.version_words.specs.RunnerState.{RunnerState}
+use Rattle.idem_cell.specs.section_lines.specs.small_lemmas.proofs.Lists.{append_none}
+use Rattle.idem_cell.specs.body_terms.specs.declared.micro.Micro.{Micro}
+use Rattle.idem_cell.specs.body_terms.specs.declared.micro.Micro.TheVariants as micros
+use Rattle.idem_cell.specs.body_terms.specs.declared.outcome.Outcome.{Outcome}
+use Rattle.idem_cell.specs.body_terms.specs.declared.outcome.Outcome.TheVariants as outcomes
+use Rattle.idem_cell.specs.body_terms.specs.declared.step.Step.{Step}
+use Rattle.idem_cell.specs.body_terms.specs.declared.step.Step.TheVariants.{Load, Want, Fresh, Take, Make, Stamp, Store, Retire, Answer}
+use Rattle.idem_cell.specs.body_terms.specs.Line.{no_registers, line, micro_at, is_event, releases, registers_before}
+use Rattle.idem_cell.specs.body_terms.specs.Shape.{IsStep, IsShaped, phase, is_make, is_retire, is_take}
+use Rattle.idem_cell.specs.body_terms.specs.Word.{value_of}
+use Rattle.idem_cell.specs.body_terms.proofs.LineLemmas.{take_next, take_all, past_line}
+use Rattle.idem_cell.specs.section_lines.specs.Rests.{taken_releases}
+use Rattle.idem_cell.specs.section_lines.specs.Rests as resting
+use Rattle.idem_cell.specs.section_lines.proofs.Places.{step_inside}
+use Rattle.idem_cell.specs.section_lines.proofs.Resting.{run_rests}
+use Rattle.idem_cell.specs.machine_states.specs.structure_laws.specs.Meaning.{Meaning}
+use Rattle.idem_cell.specs.runner_parts.specs.State.{NodesState}
+use Rattle.idem_cell.specs.runner_parts.specs.Tests.{has}
+use Rattle.idem_cell.specs.machine_states.specs.runner_steps.specs.Sections.{thunk_of, setting_of, outcome_or, reply_in}
+use Rattle.idem_cell.specs.body_terms.specs.Run.{leaves}
+use Rattle.idem_alloc.specs.commit_log.specs.version_words.specs.RunnerState.{RunnerState}
 use Rattle.section_runs.specs.Reached.{run_of}
 use Rattle.section_runs.specs.Bodies.{NodesStepped, NodesGone, body_of, IsBefore, IsSameRun, IsOver, HasWalked}
 use Rattle.section_runs.specs.declared.passed.Walked.{Walked}

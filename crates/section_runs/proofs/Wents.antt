@@ -1,21 +1,21 @@
 -- What came of a step, by what its call gave.
 use Rattle.std.proofs.Common.{◌≡◌, ◌≢◌, ℕ, Bool, true, false, refl, sym, ap, ◌∙◌, subst, Option, Some, None}
 use Rattle.std.specs.Prelude.{◌==◌, cond}
-use Rattle.body_terms.specs.Cost.{step_cost}
-use Rattle.body_terms.specs.Line.{micros, micro_at, registers_before}
-use Rattle.body_terms.specs.Run.{leaves}
-use Rattle.body_terms.specs.Shape.{IsStep, phase}
-use Rattle.body_terms.specs.Word.{version_of}
-use Rattle.body_terms.specs.Trail.{Agreed}
-use Rattle.body_terms.specs.declared.outcome.Outcome.{Outcome}
-use Rattle.body_terms.specs.declared.outcome.Outcome.TheVariants.{Answered, Busy, Stale, Spent}
-use Rattle.body_terms.specs.declared.step.Step.{Step}
-use Rattle.runner_gate.specs.Asks.{Asks}
-use Rattle.structure_laws.specs.Meaning.{Meaning}
-use Rattle.section_lines.specs.Rests.{is_test}
-use Rattle.machine_states.proofs.Steps.{some_same}
-use Rattle.runner_steps.specs.Sections.{setting_of}
-use Rattle.version_words.specs.RunnerState.{RunnerState}
+use Rattle.idem_cell.specs.body_terms.specs.Cost.{step_cost}
+use Rattle.idem_cell.specs.body_terms.specs.Line.{micros, micro_at, registers_before}
+use Rattle.idem_cell.specs.body_terms.specs.Run.{leaves}
+use Rattle.idem_cell.specs.body_terms.specs.Shape.{IsStep, phase}
+use Rattle.idem_cell.specs.body_terms.specs.Word.{version_of}
+use Rattle.idem_cell.specs.body_terms.specs.Trail.{Agreed}
+use Rattle.idem_cell.specs.body_terms.specs.declared.outcome.Outcome.{Outcome}
+use Rattle.idem_cell.specs.body_terms.specs.declared.outcome.Outcome.TheVariants.{Answered, Busy, Stale, Spent}
+use Rattle.idem_cell.specs.body_terms.specs.declared.step.Step.{Step}
+use Rattle.idem_cell.specs.runner_gate.specs.Asks.{Asks}
+use Rattle.idem_cell.specs.machine_states.specs.structure_laws.specs.Meaning.{Meaning}
+use Rattle.idem_cell.specs.section_lines.specs.Rests.{is_test}
+use Rattle.idem_cell.specs.machine_states.proofs.Steps.{some_same}
+use Rattle.idem_cell.specs.machine_states.specs.runner_steps.specs.Sections.{setting_of}
+use Rattle.idem_alloc.specs.commit_log.specs.version_words.specs.RunnerState.{RunnerState}
 use Rattle.idem_alloc.specs.commit_log.specs.Halted.{IsThrough, IsHalted}
 use Rattle.section_runs.specs.Reached.{run_of}
 use Rattle.section_runs.specs.Bodies.{body_of, IsSameRun, GoesOn, Leaves}

@@ -1,15 +1,15 @@
 -- The end of a run.
 use Rattle.std.specs.Prelude.{◌≡◌, ℕ, ◌+◌, ◌≤◌, count_by, take, true, false}
-use Rattle.body_terms.specs.declared.micro.Micro.TheVariants.{Release}
-use Rattle.body_terms.specs.Line.{micro_at, is_event, is_end, releases}
-use Rattle.body_terms.specs.Shape.{is_take}
-use Rattle.runner_gate.specs.Asks.{Asks}
-use Rattle.section_lines.specs.Rests.{taken_releases}
-use Rattle.structure_laws.specs.Meaning.{Meaning}
-use Rattle.runner_parts.specs.State.{RunState}
-use Rattle.runner_steps.specs.AfterInRun.{ended_more}
-use Rattle.runner_steps.specs.Sections.{thunk_of, line_of, next_of}
-use Rattle.version_words.specs.RunnerState.{RunnerState}
+use Rattle.idem_cell.specs.body_terms.specs.declared.micro.Micro.TheVariants.{Release}
+use Rattle.idem_cell.specs.body_terms.specs.Line.{micro_at, is_event, is_end, releases}
+use Rattle.idem_cell.specs.body_terms.specs.Shape.{is_take}
+use Rattle.idem_cell.specs.runner_gate.specs.Asks.{Asks}
+use Rattle.idem_cell.specs.section_lines.specs.Rests.{taken_releases}
+use Rattle.idem_cell.specs.machine_states.specs.structure_laws.specs.Meaning.{Meaning}
+use Rattle.idem_cell.specs.runner_parts.specs.State.{RunState}
+use Rattle.idem_cell.specs.machine_states.specs.runner_steps.specs.AfterInRun.{ended_more}
+use Rattle.idem_cell.specs.machine_states.specs.runner_steps.specs.Sections.{thunk_of, line_of, next_of}
+use Rattle.idem_alloc.specs.commit_log.specs.version_words.specs.RunnerState.{RunnerState}
 use Rattle.idem_alloc.specs.commit_log.specs.Asked.{IsAsked}
 use Rattle.idem_alloc.specs.commit_log.specs.Runs.{IsRunning, Stepped, Ran}
 use Rattle.section_runs.specs.Reached.{run_of, IsInside}

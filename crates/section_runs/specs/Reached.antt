@@ -1,15 +1,15 @@
 -- A runner in a state that the machine reaches, and the run that it is in.
 use Rattle.std.specs.Prelude.{◌≡◌, ℕ, zero, suc, true, false, [], slice_get, Option, Some, None}
-use Rattle.structure_laws.specs.Meaning.{Meaning}
-use Rattle.epoch_core.specs.declared.stage.Stage.TheVariants as stages
-use Rattle.runner_parts.specs.declared.entries.Published.{Published}
-use Rattle.runner_parts.specs.State.{RunState}
-use Rattle.runner_parts.specs.Tests.{has}
-use Rattle.runner_steps.specs.After.{counted}
-use Rattle.machine_states.specs.World.{World, seat_of}
-use Rattle.machine_states.specs.Reached.{Reached}
-use Rattle.version_words.specs.RunnerState.{RunnerState}
-use Rattle.version_words.specs.Stages.{IsAt}
+use Rattle.idem_cell.specs.machine_states.specs.structure_laws.specs.Meaning.{Meaning}
+use Rattle.idem_cell.specs.machine_states.specs.epoch_core.specs.declared.stage.Stage.TheVariants as stages
+use Rattle.idem_cell.specs.runner_parts.specs.declared.entries.Published.{Published}
+use Rattle.idem_cell.specs.runner_parts.specs.State.{RunState}
+use Rattle.idem_cell.specs.runner_parts.specs.Tests.{has}
+use Rattle.idem_cell.specs.machine_states.specs.runner_steps.specs.After.{counted}
+use Rattle.idem_cell.specs.machine_states.specs.World.{World, seat_of}
+use Rattle.idem_cell.specs.machine_states.specs.Reached.{Reached}
+use Rattle.idem_alloc.specs.commit_log.specs.version_words.specs.RunnerState.{RunnerState}
+use Rattle.idem_alloc.specs.commit_log.specs.version_words.specs.Stages.{IsAt}
 use Rattle.idem_alloc.specs.commit_log.specs.Runs.{IsRunning}
 
 -- in no run

@@ -1,10 +1,10 @@
 //! The steps of a run's body, one after the other.
 ghost use Rattle.std.specs.Prelude.{◌≡◌, ◌≢◌, ℕ, ◌+◌, ◌<◌, ◌≤◌, cond, length, count_by, sum_by};
-ghost use Rattle.body_terms.specs.Cost.{step_cost};
-ghost use Rattle.body_terms.specs.Shape.{IsShaped, is_make, is_take};
-ghost use Rattle.body_terms.specs.declared.outcome.Outcome.{Outcome as Ending};
-ghost use Rattle.runner_steps.specs.Sections.{reply_in};
-ghost use Rattle.version_words.specs.TableState.{IsOf};
+ghost use Rattle.idem_cell.specs.body_terms.specs.Cost.{step_cost};
+ghost use Rattle.idem_cell.specs.body_terms.specs.Shape.{IsShaped, is_make, is_take};
+ghost use Rattle.idem_cell.specs.body_terms.specs.declared.outcome.Outcome.{Outcome as Ending};
+ghost use Rattle.idem_cell.specs.machine_states.specs.runner_steps.specs.Sections.{reply_in};
+ghost use Rattle.idem_alloc.specs.commit_log.specs.version_words.specs.TableState.{IsOf};
 ghost use Rattle.idem_alloc.specs.commit_log.specs.Halted.{IsThrough, IsHalted};
 ghost use Rattle.section_runs.specs.Reached.{run_of};
 ghost use Rattle.section_runs.specs.Bodies.{body_of, IsBefore, HasWalked};
@@ -14,10 +14,10 @@ use crate::passed::{Passed, Walked};
 use crate::registers::Places;
 use crate::steps::step_gated;
 use crate::sums::add_up;
-use body_terms::{Outcome, Step, Steps, Trail};
-use runner_gate::Gate;
-use structure_laws::Structure;
-use version_words::{FlockTable, Runner};
+use idem_alloc::commit_log::version_words::{FlockTable, Runner};
+use idem_cell::body_terms::{Outcome, Step, Steps, Trail};
+use idem_cell::runner_gate::Gate;
+use idem_cell::section_lines::structure_laws::Structure;
 
 /// The reply of a body's Answer, which is its last step.
 fn reply_of(body: &[Step]) -> u64

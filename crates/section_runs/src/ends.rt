@@ -1,20 +1,20 @@
 //! The end of a run: its section is done, and its locks are released.
 ghost use Rattle.std.specs.Prelude.{◌≡◌, ℕ, ◌+◌, ◌≤◌, ◌<◌, cond, true, false, length, take, count_by};
-ghost use Rattle.body_terms.specs.Shape.{IsStep, is_take};
-ghost use Rattle.body_terms.specs.declared.outcome.Outcome.{Outcome};
-ghost use Rattle.runner_steps.specs.Sections.{thunk_of};
-ghost use Rattle.version_words.specs.TableState.{IsOf};
+ghost use Rattle.idem_cell.specs.body_terms.specs.Shape.{IsStep, is_take};
+ghost use Rattle.idem_cell.specs.body_terms.specs.declared.outcome.Outcome.{Outcome};
+ghost use Rattle.idem_cell.specs.machine_states.specs.runner_steps.specs.Sections.{thunk_of};
+ghost use Rattle.idem_alloc.specs.commit_log.specs.version_words.specs.TableState.{IsOf};
 ghost use Rattle.idem_alloc.specs.commit_log.specs.Asked.{IsAsked};
 ghost use Rattle.idem_alloc.specs.commit_log.specs.Halted.{IsThrough, IsHalted};
 ghost use Rattle.section_runs.specs.Reached.{run_of};
 ghost use Rattle.section_runs.specs.Bodies.{body_of, IsOver};
 ghost use Rattle.section_runs.specs.Ends.{IsEnding, EndsOn, HasReleased, EndsAsked};
 
-use body_terms::{Place, Step, StepKind, Steps, Word};
 use idem_alloc::commit_log::passes;
-use runner_gate::Gate;
-use structure_laws::Structure;
-use version_words::{FlockTable, Runner};
+use idem_alloc::commit_log::version_words::{FlockTable, Runner};
+use idem_cell::body_terms::{Place, Step, StepKind, Steps, Word};
+use idem_cell::runner_gate::Gate;
+use idem_cell::section_lines::structure_laws::Structure;
 
 /// Sets the done word.
 fn finish<S: Structure, G: Gate, L>(

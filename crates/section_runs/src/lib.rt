@@ -26,4 +26,5 @@ pub use runs::{RunEnd, run};
 
 // Passed on to the layers above, so that they needn't name these libraries themselves.
 pub use idem_alloc::commit_log;
+pub use idem_cell::runner_gate;
 pub use nested_lock;

@@ -1,17 +1,17 @@
 //! The opening of a run.
 ghost use Rattle.std.specs.Prelude.{◌≡◌, ◌≤◌, take, cond, length, IfSome, IfNone, true, false};
-ghost use Rattle.runner_steps.specs.Sections.{thunk_of};
-ghost use Rattle.version_words.specs.TableState.{IsOf};
+ghost use Rattle.idem_cell.specs.machine_states.specs.runner_steps.specs.Sections.{thunk_of};
+ghost use Rattle.idem_alloc.specs.commit_log.specs.version_words.specs.TableState.{IsOf};
 ghost use Rattle.idem_alloc.specs.commit_log.specs.Asked.{IsAsked};
 ghost use Rattle.section_runs.specs.Reached.{MayBegin};
 ghost use Rattle.section_runs.specs.Opened.{IsOpening, HasOpened, HasHalted};
 
 use crate::sums::add_up;
-use body_terms::{StepKind, Steps, Thunk, Word};
 use idem_alloc::commit_log::passes;
-use runner_gate::Gate;
-use structure_laws::Structure;
-use version_words::{FlockTable, Runner};
+use idem_alloc::commit_log::version_words::{FlockTable, Runner};
+use idem_cell::body_terms::{StepKind, Steps, Thunk, Word};
+use idem_cell::runner_gate::Gate;
+use idem_cell::section_lines::structure_laws::Structure;
 
 /// The thunk that these words hold.
 fn thunk_from(words: &[u64]) -> Thunk

@@ -1,6 +1,6 @@
 //! How a run came through a step of its body.
 
-use body_terms::Outcome;
+use idem_cell::body_terms::Outcome;
 
 /// How a run came through a step of its body.
 #[derive(Clone, Copy, Debug, PartialEq, Eq)]

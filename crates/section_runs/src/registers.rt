@@ -1,10 +1,10 @@
 //! What a run's code keeps of the registers of its body.
 ghost use Rattle.std.specs.Prelude.{◌≡◌, ◌≤◌};
-ghost use Rattle.body_terms.specs.Line.{Registers, no_registers, registers_after};
-ghost use Rattle.body_terms.specs.Shape.{set_registers};
+ghost use Rattle.idem_cell.specs.body_terms.specs.Line.{Registers, no_registers, registers_after};
+ghost use Rattle.idem_cell.specs.body_terms.specs.Shape.{set_registers};
 ghost use Rattle.section_runs.specs.Registers.{AreKept, IsWithin};
 
-use body_terms::{Place, Step};
+use idem_cell::body_terms::{Place, Step};
 
 /// The place from which each register was loaded, and the place of its word in the log.
 #[derive(Clone, Copy, Debug, PartialEq, Eq)]

@@ -1,9 +1,9 @@
 //! A whole run of a section.
 ghost use Rattle.std.specs.Prelude.{◌≡◌, ℕ, ◌≤◌, [], true, false, length};
-ghost use Rattle.body_terms.specs.Trail.{Agreed};
-ghost use Rattle.body_terms.specs.declared.outcome.Outcome.{Outcome as Ending};
-ghost use Rattle.body_terms.specs.declared.thunk.Thunk.{Thunk as Words};
-ghost use Rattle.version_words.specs.TableState.{IsOf};
+ghost use Rattle.idem_cell.specs.body_terms.specs.Trail.{Agreed};
+ghost use Rattle.idem_cell.specs.body_terms.specs.declared.outcome.Outcome.{Outcome as Ending};
+ghost use Rattle.idem_cell.specs.body_terms.specs.declared.thunk.Thunk.{Thunk as Words};
+ghost use Rattle.idem_alloc.specs.commit_log.specs.version_words.specs.TableState.{IsOf};
 ghost use Rattle.idem_alloc.specs.commit_log.specs.Asked.{IsAsked};
 ghost use Rattle.section_runs.specs.Reached.{MayBegin};
 ghost use Rattle.section_runs.specs.Opened.{StandsOpened};
@@ -14,11 +14,11 @@ use crate::bodies::walk;
 use crate::ends::end;
 use crate::opens::open;
 use crate::passed::Walked;
-use body_terms::{Outcome, Step, Steps, Thunk, Trail};
+use idem_alloc::commit_log::version_words::{FlockTable, RunRoom, Runner};
 use idem_alloc::commit_log::{Unasked, tell};
-use runner_gate::Gate;
-use structure_laws::Structure;
-use version_words::{FlockTable, RunRoom, Runner};
+use idem_cell::body_terms::{Outcome, Step, Steps, Thunk, Trail};
+use idem_cell::runner_gate::Gate;
+use idem_cell::section_lines::structure_laws::Structure;
 
 /// How a run of a section ended.
 #[derive(Debug, Drop)]

@@ -1,10 +1,10 @@
 //! One step of a run's body.
 ghost use Rattle.std.specs.Prelude.{◌≡◌, ◌≢◌, ℕ, ◌≤◌, true, false, length, cond};
-ghost use Rattle.body_terms.specs.Line.{Registers, registers_after};
-ghost use Rattle.body_terms.specs.Shape.{is_make};
-ghost use Rattle.body_terms.specs.declared.outcome.Outcome.{Outcome};
-ghost use Rattle.body_terms.specs.declared.step.Step.TheVariants as kinds;
-ghost use Rattle.version_words.specs.TableState.{IsOf};
+ghost use Rattle.idem_cell.specs.body_terms.specs.Line.{Registers, registers_after};
+ghost use Rattle.idem_cell.specs.body_terms.specs.Shape.{is_make};
+ghost use Rattle.idem_cell.specs.body_terms.specs.declared.outcome.Outcome.{Outcome};
+ghost use Rattle.idem_cell.specs.body_terms.specs.declared.step.Step.TheVariants as kinds;
+ghost use Rattle.idem_alloc.specs.commit_log.specs.version_words.specs.TableState.{IsOf};
 ghost use Rattle.idem_alloc.specs.commit_log.specs.Halted.{IsThrough, IsHalted};
 ghost use Rattle.section_runs.specs.Reached.{run_of};
 ghost use Rattle.section_runs.specs.Bodies.{MayGo, GoesOn, Leaves};
@@ -15,14 +15,14 @@ ghost use Rattle.section_runs.specs.declared.passed.Passed.TheVariants.{On, Left
 use crate::passed::Passed;
 use crate::registers::Places;
 use crate::values::{agree_on, taken, tested, value_in, wanted};
-use body_terms::{Init, Place, Step, StepKind, Steps, Trail, Value, Word};
 use idem_alloc::commit_log::passes;
+use idem_alloc::commit_log::version_words::{FlockTable, Runner};
 use idem_alloc::{make_gated, retire_gated};
+use idem_cell::body_terms::{Init, Place, Step, StepKind, Steps, Trail, Value, Word};
+use idem_cell::runner_gate::Gate;
+use idem_cell::section_lines::structure_laws::Structure;
 use idem_cell::{load_gated, store};
 use nested_lock::take_gated;
-use runner_gate::Gate;
-use structure_laws::Structure;
-use version_words::{FlockTable, Runner};
 
 /// Loads a cell and agrees on its word.
 fn load_step<S: Structure, G: Gate, L>(

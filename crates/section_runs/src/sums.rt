@@ -1,7 +1,7 @@
 //! Steps that are counted apart, and added up behind.
 ghost use Rattle.std.specs.Prelude.{◌≡◌, ◌+◌, ◌≤◌, min};
 
-use body_terms::Steps;
+use idem_cell::body_terms::Steps;
 
 /// Adds up steps that were counted apart. A count that no other part sees stays in a register of the processor, so the
 /// loops of a run count their steps so: between two locked operations, a write to memory waits for them.

@@ -1,11 +1,11 @@
 //! Values and checks, by the words that were agreed on.
 ghost use Rattle.std.specs.Prelude.{◌≡◌, ℕ, ◌+◌, ◌≤◌, ◌++◌, ◌==◌, cond, length, slice_index};
-ghost use Rattle.body_terms.specs.Act.{IsLogged};
-ghost use Rattle.body_terms.specs.Line.{Registers, source_of};
-ghost use Rattle.body_terms.specs.Run.{source_value};
-ghost use Rattle.body_terms.specs.Word.{version_of};
-ghost use Rattle.body_terms.specs.declared.value.Value.TheVariants.{Of};
-ghost use Rattle.body_terms.specs.declared.outcome.Outcome.TheVariants.{Stale, Spent};
+ghost use Rattle.idem_cell.specs.body_terms.specs.Act.{IsLogged};
+ghost use Rattle.idem_cell.specs.body_terms.specs.Line.{Registers, source_of};
+ghost use Rattle.idem_cell.specs.body_terms.specs.Run.{source_value};
+ghost use Rattle.idem_cell.specs.body_terms.specs.Word.{version_of};
+ghost use Rattle.idem_cell.specs.body_terms.specs.declared.value.Value.TheVariants.{Of};
+ghost use Rattle.idem_cell.specs.body_terms.specs.declared.outcome.Outcome.TheVariants.{Stale, Spent};
 ghost use Rattle.nested_lock.specs.Answers.{outcome_by};
 ghost use Rattle.section_runs.specs.Registers.{AreKept, IsSmall};
 ghost use Rattle.section_runs.specs.Takes.{passed_by, words_of};
@@ -13,7 +13,7 @@ ghost use Rattle.section_runs.specs.declared.passed.Passed.TheVariants.{On, Left
 
 use crate::passed::Passed;
 use crate::registers::Places;
-use body_terms::{Outcome, Place, Refused, Trail, Value, Word};
+use idem_cell::body_terms::{Outcome, Place, Refused, Trail, Value, Word};
 use nested_lock::TakeEnd;
 
 /// The number that a value stands for.

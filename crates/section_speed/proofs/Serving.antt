@@ -2,26 +2,26 @@
 use Rattle.std.proofs.Common.{◌≡◌, ℕ, zero, suc, ◌+◌, ◌<◌, ◌≤◌, List, [], ◌∷◌, ◌++◌, length, Bool, true, false, refl, sym, ap, subst, ◌∙◌, eq-eqb, arith, Option, Result, Ok, Some, None, inl, inr, slice_get}
 use Rattle.std.specs.Prelude.{◌==◌, ◌&&◌, ◌||◌, not, cond, ◌%◌}
 use Rattle.std.proofs.lemmas.Bool.Decides.{nat_tests}
-use Rattle.small_lemmas.proofs.Bools.{or_second as either}
-use Rattle.body_terms.specs.Trail.{Agreed}
-use Rattle.body_terms.specs.Word.{value_of, version_of, is_free, is_spent}
-use Rattle.body_terms.specs.declared.outcome.Outcome.{Outcome}
-use Rattle.body_terms.specs.declared.outcome.Refused.{Refused}
-use Rattle.body_terms.specs.declared.thunk.Thunk.{Thunk}
-use Rattle.table_words.specs.declared.layout.Layout.{Layout}
-use Rattle.structure_laws.specs.Tray.{tray}
-use Rattle.runner_parts.specs.declared.entries.Known.{Known}
-use Rattle.runner_parts.specs.declared.entries.Published.{Published}
-use Rattle.runner_parts.specs.declared.event.EventKind.TheVariants as kinds
-use Rattle.runner_parts.specs.State.{DescriptorsState, NodesState, ReadsState}
-use Rattle.runner_parts.specs.Tests.{has_pair, is_open, is_next, is_answered, knows, serves, is_between}
+use Rattle.runner_steps.specs.table_words.specs.small_lemmas.proofs.Bools.{or_second as either}
+use Rattle.runner_steps.specs.body_terms.specs.Trail.{Agreed}
+use Rattle.runner_steps.specs.body_terms.specs.Word.{value_of, version_of, is_free, is_spent}
+use Rattle.runner_steps.specs.body_terms.specs.declared.outcome.Outcome.{Outcome}
+use Rattle.runner_steps.specs.body_terms.specs.declared.outcome.Refused.{Refused}
+use Rattle.runner_steps.specs.body_terms.specs.declared.thunk.Thunk.{Thunk}
+use Rattle.runner_steps.specs.table_words.specs.declared.layout.Layout.{Layout}
+use Rattle.runner_steps.specs.runner_parts.specs.structure_laws.specs.Tray.{tray}
+use Rattle.runner_steps.specs.runner_parts.specs.declared.entries.Known.{Known}
+use Rattle.runner_steps.specs.runner_parts.specs.declared.entries.Published.{Published}
+use Rattle.runner_steps.specs.runner_parts.specs.declared.event.EventKind.TheVariants as kinds
+use Rattle.runner_steps.specs.runner_parts.specs.State.{DescriptorsState, NodesState, ReadsState}
+use Rattle.runner_steps.specs.runner_parts.specs.Tests.{has_pair, is_open, is_next, is_answered, knows, serves, is_between}
 use Rattle.runner_steps.specs.AfterInRun.{over_if}
 use Rattle.runner_steps.specs.Outside.{is_due}
-use Rattle.version_words.specs.RunnerState.{RunnerState}
-use Rattle.version_words.specs.TableState.{TableState, IsOf}
-use Rattle.version_words.specs.Events.{Makes}
-use Rattle.version_words.specs.Naming.{load_of}
-use Rattle.version_words.proofs.Stages.{then_loaded_cell}
+use Rattle.try_lock.specs.commit_log.specs.version_words.specs.RunnerState.{RunnerState}
+use Rattle.try_lock.specs.commit_log.specs.version_words.specs.TableState.{TableState, IsOf}
+use Rattle.try_lock.specs.commit_log.specs.version_words.specs.Events.{Makes}
+use Rattle.try_lock.specs.commit_log.specs.version_words.specs.Naming.{load_of}
+use Rattle.try_lock.specs.commit_log.specs.version_words.proofs.Stages.{then_loaded_cell}
 use Rattle.try_lock.specs.epoch_slots.specs.Entries.{Enters, Exits}
 use Rattle.try_lock.specs.epoch_slots.proofs.Outside.{nodes_made, descriptors_made, reads_made, known_made}
 use Rattle.try_lock.specs.commit_log.specs.Runs.{Ran}

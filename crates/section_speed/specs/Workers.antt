@@ -1,12 +1,12 @@
 -- The worker on its way to a section and through it.
 use Rattle.std.specs.Prelude.{◌≡◌, ℕ, ◌<◌, ◌≤◌, List, [], true, length, slice_get, Some, None}
-use Rattle.body_terms.specs.declared.thunk.Thunk.{Thunk}
-use Rattle.structure_laws.specs.Tray.{tray}
-use Rattle.runner_parts.specs.declared.entries.Known.{Known}
-use Rattle.epoch_core.specs.declared.stage.Stage.TheVariants as stages
-use Rattle.runner_parts.specs.Tests.{has_pair}
-use Rattle.version_words.specs.RunnerState.{RunnerState}
-use Rattle.version_words.specs.Stages.{IsAt}
+use Rattle.runner_steps.specs.body_terms.specs.declared.thunk.Thunk.{Thunk}
+use Rattle.runner_steps.specs.runner_parts.specs.structure_laws.specs.Tray.{tray}
+use Rattle.runner_steps.specs.runner_parts.specs.declared.entries.Known.{Known}
+use Rattle.runner_steps.specs.runner_parts.specs.epoch_core.specs.declared.stage.Stage.TheVariants as stages
+use Rattle.runner_steps.specs.runner_parts.specs.Tests.{has_pair}
+use Rattle.try_lock.specs.commit_log.specs.version_words.specs.RunnerState.{RunnerState}
+use Rattle.try_lock.specs.commit_log.specs.version_words.specs.Stages.{IsAt}
 use Rattle.try_lock.specs.epoch_slots.specs.Collects.{IsTidy}
 use Rattle.try_lock.specs.Reached.{IsReached, MayRunSection}
 use Rattle.try_lock.specs.declared.section.Section.{Section}

@@ -1,15 +1,15 @@
 //! A table of the test structure with one worker, who has eight requests.
 ghost use Rattle.std.specs.Prelude.{◌≡◌, IfOk};
-ghost use Rattle.version_words.specs.TableState.{IsOf};
-ghost use Rattle.version_words.specs.Stages.{IsKeeper, HasJoined};
+ghost use Rattle.try_lock.specs.commit_log.specs.version_words.specs.TableState.{IsOf};
+ghost use Rattle.try_lock.specs.commit_log.specs.version_words.specs.Stages.{IsKeeper, HasJoined};
 ghost use Rattle.section_speed.specs.Scenes.{IsScene, request_of};
 ghost use Rattle.section_speed.specs.Workers.{IsBefore};
 
 use interleave_core::Tray;
-use map_history::{Op, Request};
+use runner_steps::map_history::{Op, Request};
+use runner_steps::table_words::Layout;
 use std::alloc::{AllocError, Global};
-use table_words::Layout;
-use version_words::{FlockTable, Runner, Words};
+use try_lock::commit_log::version_words::{FlockTable, Runner, Words};
 
 /// The first request of a trace of its own.
 fn first_of(number: u32) -> Request

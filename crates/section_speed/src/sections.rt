@@ -1,16 +1,16 @@
 //! A request's section, from the entry of its worker to the end.
 ghost use Rattle.std.specs.Prelude.{◌≡◌, ◌+◌, ◌<◌, ◌≤◌, length, IfSome, IfOk, IfErr};
-ghost use Rattle.version_words.specs.TableState.{IsOf};
+ghost use Rattle.try_lock.specs.commit_log.specs.version_words.specs.TableState.{IsOf};
 ghost use Rattle.section_speed.specs.Scenes.{IsScene};
 ghost use Rattle.section_speed.specs.Workers.{IsBefore, HasRead, MayRun};
 
-use body_terms::{Outcome, Steps, Thunk, Word};
 use interleave_core::Tray;
-use runner_gate::Free;
+use runner_steps::body_terms::{Outcome, Steps, Thunk, Word};
+use try_lock::commit_log::version_words::{FlockTable, Runner};
 use try_lock::epoch_slots::{Kind, enter, exit, reserve};
 use try_lock::section_runs::RunEnd;
+use try_lock::section_runs::runner_gate::Free;
 use try_lock::{Section, publish, retire_section, run_section};
-use version_words::{FlockTable, Runner};
 
 /// The worker, where two node slots and a descriptor are free; else the worker too.
 fn with_reserve(worker: Runner<Tray>) -> Result<Runner<Tray>, Runner<Tray>>

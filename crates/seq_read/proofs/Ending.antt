@@ -2,27 +2,27 @@
 use Rattle.std.specs.Prelude.{true, false, slice_get}
 use Rattle.std.proofs.Common.{◌≡◌, ℕ, ◌+◌, ◌*◌, length, refl, sym, ap, ◌∙◌, subst}
 use Rattle.std.proofs.lemmas.Bool.{true≢false}
-use Rattle.map_history.specs.declared.op.Request.{Request}
-use Rattle.map_history.specs.declared.reply.Reply.{Reply}
-use Rattle.map_history.specs.Words.{word_of, IsReply}
+use Rattle.history_orders.specs.map_history.specs.declared.op.Request.{Request}
+use Rattle.history_orders.specs.map_history.specs.declared.reply.Reply.{Reply}
+use Rattle.history_orders.specs.map_history.specs.Words.{word_of, IsReply}
 use Rattle.history_orders.specs.Turns.{Follows}
-use Rattle.body_terms.specs.declared.thunk.Thunk.{Thunk}
-use Rattle.table_words.specs.Limits.{IsWithinLimits}
-use Rattle.table_words.specs.declared.spot.Spot.TheVariants as spots
-use Rattle.table_words.specs.declared.access.Access.TheVariants.{Loads}
-use Rattle.runner_gate.specs.Asks.{Asks, asked_on}
-use Rattle.structure_laws.specs.Scene.{Readings}
-use Rattle.structure_laws.specs.Meaning.{Meaning}
-use Rattle.structure_laws.specs.Laws.{Laws}
-use Rattle.runner_parts.specs.declared.entries.Known.{Known}
-use Rattle.runner_parts.specs.declared.event.EventKind.TheVariants as kinds
-use Rattle.runner_parts.specs.State.{NodesState}
-use Rattle.runner_parts.specs.Tests.{is_answered}
-use Rattle.runner_steps.specs.Sections.{reply_in}
-use Rattle.caller_facts.specs.request_facts.specs.reached_histories.specs.machine_invariant.specs.After.{AreAllowed}
+use Rattle.machine_states.specs.runner_steps.specs.body_terms.specs.declared.thunk.Thunk.{Thunk}
+use Rattle.machine_states.specs.runner_steps.specs.table_words.specs.Limits.{IsWithinLimits}
+use Rattle.machine_states.specs.runner_steps.specs.table_words.specs.declared.spot.Spot.TheVariants as spots
+use Rattle.machine_states.specs.runner_steps.specs.table_words.specs.declared.access.Access.TheVariants.{Loads}
+use Rattle.caller_facts.specs.section_runs.specs.runner_gate.specs.Asks.{Asks, asked_on}
+use Rattle.machine_states.specs.structure_laws.specs.Scene.{Readings}
+use Rattle.machine_states.specs.structure_laws.specs.Meaning.{Meaning}
+use Rattle.machine_states.specs.structure_laws.specs.Laws.{Laws}
+use Rattle.machine_states.specs.runner_steps.specs.runner_parts.specs.declared.entries.Known.{Known}
+use Rattle.machine_states.specs.runner_steps.specs.runner_parts.specs.declared.event.EventKind.TheVariants as kinds
+use Rattle.machine_states.specs.runner_steps.specs.runner_parts.specs.State.{NodesState}
+use Rattle.machine_states.specs.runner_steps.specs.runner_parts.specs.Tests.{is_answered}
+use Rattle.machine_states.specs.runner_steps.specs.Sections.{reply_in}
+use Rattle.caller_facts.specs.version_words.specs.machine_invariant.specs.After.{AreAllowed}
 use Rattle.caller_facts.specs.request_facts.specs.Laws.{HasEntry}
-use Rattle.version_words.specs.RunnerState.{RunnerState}
-use Rattle.caller_facts.specs.commit_log.specs.Asked.{IsAsked}
+use Rattle.caller_facts.specs.version_words.specs.RunnerState.{RunnerState}
+use Rattle.caller_facts.specs.section_runs.specs.commit_log.specs.Asked.{IsAsked}
 use Rattle.caller_facts.specs.epoch_slots.specs.Entries.{Exits}
 use Rattle.caller_facts.specs.lock_walks.proofs.Each.{get_last}
 use Rattle.caller_facts.specs.try_lock.specs.Planning.{Planning}

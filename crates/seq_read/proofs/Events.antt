@@ -2,32 +2,32 @@
 use Rattle.std.specs.Prelude.{◌==◌, ◌&&◌, Bool, true, false, is_none, nat_lt, if◌then◌else◌}
 use Rattle.std.proofs.Common.{◌≡◌, ℕ, ◌≤◌, ◌<◌, [], ◌∷◌, ◌++◌, append-nil, length, refl, sym, ap, ◌∙◌, subst, Option, Some, None}
 use Rattle.std.proofs.lemmas.List.{append_assoc}
-use Rattle.body_terms.specs.declared.thunk.Thunk.{Thunk}
-use Rattle.table_words.specs.declared.sizes.Sizes.{Sizes}
-use Rattle.table_words.specs.declared.spot.Spot.{Spot}
-use Rattle.table_words.specs.declared.spot.Spot.TheVariants as spots
-use Rattle.table_words.specs.declared.access.Access.{Access}
-use Rattle.table_words.specs.declared.access.Access.TheVariants.{Loads, Exchanges}
-use Rattle.table_words.specs.Places.{Fits}
-use Rattle.table_words.proofs.Seen.{fits_is}
-use Rattle.structure_laws.specs.Scene.{Readings}
-use Rattle.structure_laws.specs.Meaning.{Meaning}
-use Rattle.epoch_core.specs.declared.stage.Stage.TheVariants as stages
-use Rattle.runner_parts.specs.declared.entries.Look.{Look}
-use Rattle.runner_parts.specs.declared.entries.LookStage.TheVariants.{Looked, Replied, Stamped}
-use Rattle.runner_parts.specs.declared.event.EventKind.{EventKind}
-use Rattle.runner_parts.specs.declared.event.EventKind.TheVariants as kinds
-use Rattle.runner_parts.specs.State.{RunState, PartState}
-use Rattle.runner_parts.specs.Tests.{is_walking, is_between, is_replied}
-use Rattle.runner_steps.specs.InRun.{last_clock}
-use Rattle.runner_steps.specs.Outside.{when}
-use Rattle.runner_steps.specs.Sections.{reply_in}
-use Rattle.runner_steps.specs.Reads.{plan_by, looked_by, come_to, only_loads_after, read_clock_ask, read_reply_ask, read_stamp_ask, may_reply, read_stamp_after}
-use Rattle.runner_steps.specs.Asks.{ask_by, outside_ask, fitting, sizes_for}
-use Rattle.runner_steps.specs.After.{outside_after, after_by}
-use Rattle.version_words.specs.RunnerState.{RunnerState}
-use Rattle.version_words.specs.Events.{met_by, Makes}
-use Rattle.version_words.specs.Stages.{IsAt}
+use Rattle.machine_states.specs.runner_steps.specs.body_terms.specs.declared.thunk.Thunk.{Thunk}
+use Rattle.machine_states.specs.runner_steps.specs.table_words.specs.declared.sizes.Sizes.{Sizes}
+use Rattle.machine_states.specs.runner_steps.specs.table_words.specs.declared.spot.Spot.{Spot}
+use Rattle.machine_states.specs.runner_steps.specs.table_words.specs.declared.spot.Spot.TheVariants as spots
+use Rattle.machine_states.specs.runner_steps.specs.table_words.specs.declared.access.Access.{Access}
+use Rattle.machine_states.specs.runner_steps.specs.table_words.specs.declared.access.Access.TheVariants.{Loads, Exchanges}
+use Rattle.machine_states.specs.runner_steps.specs.table_words.specs.Places.{Fits}
+use Rattle.machine_states.specs.runner_steps.specs.table_words.proofs.Seen.{fits_is}
+use Rattle.machine_states.specs.structure_laws.specs.Scene.{Readings}
+use Rattle.machine_states.specs.structure_laws.specs.Meaning.{Meaning}
+use Rattle.machine_states.specs.epoch_core.specs.declared.stage.Stage.TheVariants as stages
+use Rattle.machine_states.specs.runner_steps.specs.runner_parts.specs.declared.entries.Look.{Look}
+use Rattle.machine_states.specs.runner_steps.specs.runner_parts.specs.declared.entries.LookStage.TheVariants.{Looked, Replied, Stamped}
+use Rattle.machine_states.specs.runner_steps.specs.runner_parts.specs.declared.event.EventKind.{EventKind}
+use Rattle.machine_states.specs.runner_steps.specs.runner_parts.specs.declared.event.EventKind.TheVariants as kinds
+use Rattle.machine_states.specs.runner_steps.specs.runner_parts.specs.State.{RunState, PartState}
+use Rattle.machine_states.specs.runner_steps.specs.runner_parts.specs.Tests.{is_walking, is_between, is_replied}
+use Rattle.machine_states.specs.runner_steps.specs.InRun.{last_clock}
+use Rattle.machine_states.specs.runner_steps.specs.Outside.{when}
+use Rattle.machine_states.specs.runner_steps.specs.Sections.{reply_in}
+use Rattle.machine_states.specs.runner_steps.specs.Reads.{plan_by, looked_by, come_to, only_loads_after, read_clock_ask, read_reply_ask, read_stamp_ask, may_reply, read_stamp_after}
+use Rattle.machine_states.specs.runner_steps.specs.Asks.{ask_by, outside_ask, fitting, sizes_for}
+use Rattle.machine_states.specs.runner_steps.specs.After.{outside_after, after_by}
+use Rattle.caller_facts.specs.version_words.specs.RunnerState.{RunnerState}
+use Rattle.caller_facts.specs.version_words.specs.Events.{met_by, Makes}
+use Rattle.caller_facts.specs.version_words.specs.Stages.{IsAt}
 use Rattle.caller_facts.specs.try_lock.specs.Plans as plans
 use Rattle.caller_facts.specs.epoch_slots.proofs.Outside.{reads_made}
 

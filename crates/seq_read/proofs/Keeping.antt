@@ -2,28 +2,28 @@
 use Rattle.std.specs.Prelude.{Bool, true, false, cond, take, slice_get, count_by}
 use Rattle.std.proofs.lemmas.List.Sums.{sum_by-cons}
 use Rattle.std.proofs.Common.{◌≡◌, ℕ, zero, suc, ◌+◌, ◌≤◌, List, [], ◌∷◌, ◌++◌, length, sym, ap, ◌∙◌, arith, Some}
-use Rattle.map_history.specs.declared.op.Request.{Request}
-use Rattle.map_history.specs.declared.reply.Reply.{Reply}
-use Rattle.body_terms.specs.Shape.{IsShaped, is_stamp, is_answer, loaded_places}
-use Rattle.body_terms.specs.declared.step.Step.{Step}
-use Rattle.body_terms.specs.declared.step.Step.TheVariants.{Load, Want, Fresh, Take, Make, Stamp, Store, Retire, Answer}
-use Rattle.body_terms.specs.declared.thunk.Thunk.{Thunk}
-use Rattle.table_words.specs.Limits.{IsWithinLimits}
-use Rattle.structure_laws.specs.Scene.{Readings}
-use Rattle.structure_laws.specs.Meaning.{Meaning}
-use Rattle.structure_laws.specs.Laws.{Laws}
-use Rattle.runner_parts.specs.declared.entries.Known.{Known}
-use Rattle.runner_parts.specs.declared.event.EventKind.TheVariants as kinds
-use Rattle.runner_parts.specs.Tests.{is_answered}
-use Rattle.caller_facts.specs.request_facts.specs.reached_histories.specs.machine_invariant.specs.After.{AreAllowed}
-use Rattle.version_words.specs.RunnerState.{RunnerState}
+use Rattle.history_orders.specs.map_history.specs.declared.op.Request.{Request}
+use Rattle.history_orders.specs.map_history.specs.declared.reply.Reply.{Reply}
+use Rattle.machine_states.specs.runner_steps.specs.body_terms.specs.Shape.{IsShaped, is_stamp, is_answer, loaded_places}
+use Rattle.machine_states.specs.runner_steps.specs.body_terms.specs.declared.step.Step.{Step}
+use Rattle.machine_states.specs.runner_steps.specs.body_terms.specs.declared.step.Step.TheVariants.{Load, Want, Fresh, Take, Make, Stamp, Store, Retire, Answer}
+use Rattle.machine_states.specs.runner_steps.specs.body_terms.specs.declared.thunk.Thunk.{Thunk}
+use Rattle.machine_states.specs.runner_steps.specs.table_words.specs.Limits.{IsWithinLimits}
+use Rattle.machine_states.specs.structure_laws.specs.Scene.{Readings}
+use Rattle.machine_states.specs.structure_laws.specs.Meaning.{Meaning}
+use Rattle.machine_states.specs.structure_laws.specs.Laws.{Laws}
+use Rattle.machine_states.specs.runner_steps.specs.runner_parts.specs.declared.entries.Known.{Known}
+use Rattle.machine_states.specs.runner_steps.specs.runner_parts.specs.declared.event.EventKind.TheVariants as kinds
+use Rattle.machine_states.specs.runner_steps.specs.runner_parts.specs.Tests.{is_answered}
+use Rattle.caller_facts.specs.version_words.specs.machine_invariant.specs.After.{AreAllowed}
+use Rattle.caller_facts.specs.version_words.specs.RunnerState.{RunnerState}
 use Rattle.caller_facts.specs.epoch_slots.specs.Entries.{Exits}
 use Rattle.caller_facts.specs.epoch_slots.proofs.Outside.{finished_made}
 use Rattle.caller_facts.specs.try_lock.specs.declared.planned.Planned.{Planned}
 use Rattle.caller_facts.specs.try_lock.specs.declared.planned.Planned.TheVariants as plans
 use Rattle.caller_facts.specs.try_lock.specs.Planning.{Planning}
-use Rattle.runner_steps.specs.Reads.{read_stamp_after}
-use Rattle.runner_steps.specs.Sections.{reply_in}
+use Rattle.machine_states.specs.runner_steps.specs.Reads.{read_stamp_after}
+use Rattle.machine_states.specs.runner_steps.specs.Sections.{reply_in}
 use Rattle.machine_states.proofs.Steps.{some_same, none_some}
 use Rattle.caller_facts.specs.Knowing.{IsFront, KnowsMore, LearnsNoOther}
 use Rattle.caller_facts.proofs.Knowing.{front_same, front_on, no_other_same, no_other_on, answered_of_other}

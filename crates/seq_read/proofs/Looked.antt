@@ -2,19 +2,19 @@
 use Rattle.std.specs.Prelude.{not, Bool, true, false, position}
 use Rattle.std.specs.List.{list_all, list_any}
 use Rattle.std.proofs.Common.{◌≡◌, ℕ, ◌-◌, ◌≤◌, List, length, refl, sym, ◌∙◌, subst, arith, Some, None}
-use Rattle.map_history.specs.declared.op.Request.{Request}
-use Rattle.body_terms.specs.Shape.{is_look}
-use Rattle.body_terms.specs.declared.step.Step.{Step}
-use Rattle.body_terms.specs.declared.thunk.Thunk.{Thunk}
-use Rattle.table_words.specs.Limits.{IsWithinLimits}
-use Rattle.runner_gate.specs.Asks.{Asks}
-use Rattle.structure_laws.specs.Scene.{Readings}
-use Rattle.structure_laws.specs.Meaning.{Meaning}
-use Rattle.structure_laws.specs.Laws.{Laws}
-use Rattle.caller_facts.specs.request_facts.specs.reached_histories.specs.machine_invariant.specs.After.{AreAllowed}
-use Rattle.version_words.specs.RunnerState.{RunnerState}
-use Rattle.caller_facts.specs.commit_log.specs.Asked.{IsAsked}
-use Rattle.caller_facts.specs.commit_log.proofs.Asked.{asked_none}
+use Rattle.history_orders.specs.map_history.specs.declared.op.Request.{Request}
+use Rattle.machine_states.specs.runner_steps.specs.body_terms.specs.Shape.{is_look}
+use Rattle.machine_states.specs.runner_steps.specs.body_terms.specs.declared.step.Step.{Step}
+use Rattle.machine_states.specs.runner_steps.specs.body_terms.specs.declared.thunk.Thunk.{Thunk}
+use Rattle.machine_states.specs.runner_steps.specs.table_words.specs.Limits.{IsWithinLimits}
+use Rattle.caller_facts.specs.section_runs.specs.runner_gate.specs.Asks.{Asks}
+use Rattle.machine_states.specs.structure_laws.specs.Scene.{Readings}
+use Rattle.machine_states.specs.structure_laws.specs.Meaning.{Meaning}
+use Rattle.machine_states.specs.structure_laws.specs.Laws.{Laws}
+use Rattle.caller_facts.specs.version_words.specs.machine_invariant.specs.After.{AreAllowed}
+use Rattle.caller_facts.specs.version_words.specs.RunnerState.{RunnerState}
+use Rattle.caller_facts.specs.section_runs.specs.commit_log.specs.Asked.{IsAsked}
+use Rattle.caller_facts.specs.section_runs.specs.commit_log.proofs.Asked.{asked_none}
 use Rattle.caller_facts.specs.epoch_slots.specs.Entries.{Exits}
 use Rattle.caller_facts.specs.try_lock.specs.declared.planned.Planned.TheVariants as plans
 use Rattle.caller_facts.specs.try_lock.specs.Planning.{Planning}

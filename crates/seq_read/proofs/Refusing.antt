@@ -1,14 +1,14 @@
 -- What refused a plan, as an answer of a read.
 use Rattle.std.specs.Prelude.{◌==◌, ◌&&◌, ◌-◌, Bool, true, false, slice_get, if◌then◌else◌}
 use Rattle.std.proofs.Common.{◌≡◌, ◌≢◌, ℕ, ◌+◌, [], ◌∷◌, ◌++◌, length, refl, sym, ap, ◌∙◌, subst, Some, None}
-use Rattle.small_lemmas.proofs.Bools.{both_of}
-use Rattle.small_lemmas.proofs.Numbers.{tested_equal}
-use Rattle.map_history.specs.declared.op.Op.{Op}
-use Rattle.body_terms.specs.Word.{value_of, version_of, pack, is_free, is_spent}
-use Rattle.table_words.specs.declared.layout.Layout.{Layout}
-use Rattle.structure_laws.specs.Scene.{Readings}
-use Rattle.structure_laws.specs.Meaning.{Meaning}
-use Rattle.structure_laws.specs.Cells.{slots}
+use Rattle.machine_states.specs.epoch_core.specs.small_lemmas.proofs.Bools.{both_of}
+use Rattle.machine_states.specs.epoch_core.specs.small_lemmas.proofs.Numbers.{tested_equal}
+use Rattle.history_orders.specs.map_history.specs.declared.op.Op.{Op}
+use Rattle.machine_states.specs.runner_steps.specs.body_terms.specs.Word.{value_of, version_of, pack, is_free, is_spent}
+use Rattle.machine_states.specs.runner_steps.specs.table_words.specs.declared.layout.Layout.{Layout}
+use Rattle.machine_states.specs.structure_laws.specs.Scene.{Readings}
+use Rattle.machine_states.specs.structure_laws.specs.Meaning.{Meaning}
+use Rattle.machine_states.specs.structure_laws.specs.Cells.{slots}
 use Rattle.machine_states.proofs.Steps.{some_same, none_some}
 use Rattle.caller_facts.specs.try_lock.specs.declared.planned.Planned.{Planned}
 use Rattle.caller_facts.specs.try_lock.specs.declared.planned.Planned.TheVariants as plans

@@ -4,29 +4,29 @@ use Rattle.std.proofs.Common.{◌≡◌, ◌≢◌, ◌⊎◌, ℕ, zero, suc, �
 use Rattle.std.proofs.lemmas.Bool.{and_parts}
 use Rattle.std.proofs.lemmas.Bool.Decides.{nat_tests}
 use Rattle.std.proofs.lemmas.List.Folds.{list_any-append}
-use Rattle.small_lemmas.proofs.Numbers.{zero_or_some}
-use Rattle.map_history.specs.declared.op.Request.{Request}
-use Rattle.map_history.specs.declared.reply.Reply.{Reply}
-use Rattle.map_history.specs.Words.{word_of, IsReply}
+use Rattle.machine_states.specs.epoch_core.specs.small_lemmas.proofs.Numbers.{zero_or_some}
+use Rattle.history_orders.specs.map_history.specs.declared.op.Request.{Request}
+use Rattle.history_orders.specs.map_history.specs.declared.reply.Reply.{Reply}
+use Rattle.history_orders.specs.map_history.specs.Words.{word_of, IsReply}
 use Rattle.history_orders.specs.Turns.{Follows}
-use Rattle.table_words.specs.Limits.{IsWithinLimits}
-use Rattle.table_words.specs.declared.spot.Spot.{Spot}
-use Rattle.table_words.specs.declared.spot.Spot.TheVariants as spots
-use Rattle.table_words.specs.declared.access.Access.{Access}
-use Rattle.structure_laws.specs.Meaning.{Meaning}
-use Rattle.structure_laws.specs.Laws.{Laws}
-use Rattle.runner_parts.specs.declared.entries.Known.{Known}
-use Rattle.runner_parts.specs.declared.event.EventKind.{EventKind}
-use Rattle.runner_parts.specs.State.{PartState}
-use Rattle.runner_parts.specs.Tests.{knows, is_answered, is_between}
-use Rattle.runner_steps.specs.Outside.{entry_spot}
+use Rattle.machine_states.specs.runner_steps.specs.table_words.specs.Limits.{IsWithinLimits}
+use Rattle.machine_states.specs.runner_steps.specs.table_words.specs.declared.spot.Spot.{Spot}
+use Rattle.machine_states.specs.runner_steps.specs.table_words.specs.declared.spot.Spot.TheVariants as spots
+use Rattle.machine_states.specs.runner_steps.specs.table_words.specs.declared.access.Access.{Access}
+use Rattle.machine_states.specs.structure_laws.specs.Meaning.{Meaning}
+use Rattle.machine_states.specs.structure_laws.specs.Laws.{Laws}
+use Rattle.machine_states.specs.runner_steps.specs.runner_parts.specs.declared.entries.Known.{Known}
+use Rattle.machine_states.specs.runner_steps.specs.runner_parts.specs.declared.event.EventKind.{EventKind}
+use Rattle.machine_states.specs.runner_steps.specs.runner_parts.specs.State.{PartState}
+use Rattle.machine_states.specs.runner_steps.specs.runner_parts.specs.Tests.{knows, is_answered, is_between}
+use Rattle.machine_states.specs.runner_steps.specs.Outside.{entry_spot}
 use Rattle.machine_states.specs.Sight.{Sight, sight, part_or_first}
 use Rattle.machine_states.specs.World.{seat_of}
 use Rattle.machine_states.specs.Reached.{Reached}
 use Rattle.machine_states.proofs.Steps.{some_same}
-use Rattle.caller_facts.specs.request_facts.specs.reached_histories.specs.machine_invariant.specs.After.{AreAllowed}
-use Rattle.caller_facts.specs.request_facts.specs.reached_histories.specs.machine_facts.specs.Known.{KnownStand}
-use Rattle.caller_facts.specs.request_facts.specs.reached_histories.specs.machine_facts.proofs.Following.{facts_after}
+use Rattle.caller_facts.specs.version_words.specs.machine_invariant.specs.After.{AreAllowed}
+use Rattle.caller_facts.specs.section_runs.specs.machine_facts.specs.Known.{KnownStand}
+use Rattle.caller_facts.specs.section_runs.specs.machine_facts.proofs.Following.{facts_after}
 use Rattle.caller_facts.specs.request_facts.specs.reached_histories.specs.Requests.{or_none, requests_of}
 use Rattle.caller_facts.specs.request_facts.specs.reached_histories.specs.Kept.{link_of}
 use Rattle.caller_facts.specs.request_facts.specs.reached_histories.specs.Laws.{HasHistory}
@@ -36,9 +36,9 @@ use Rattle.caller_facts.specs.request_facts.specs.reached_histories.proofs.Histo
 use Rattle.caller_facts.specs.request_facts.specs.Laws.{HasEntry, IsKnown, IsToAsk}
 use Rattle.caller_facts.specs.request_facts.specs.Placed.{IsServedAs, IsUnserved}
 use Rattle.caller_facts.specs.request_facts.proofs.Standing.{callers_stand, answered_come_first, idle_seeks_none}
-use Rattle.version_words.specs.RunnerState.{RunnerState}
-use Rattle.version_words.specs.Events.{met_by, Makes}
-use Rattle.version_words.specs.ReachedWith.{is_told}
+use Rattle.caller_facts.specs.version_words.specs.RunnerState.{RunnerState}
+use Rattle.caller_facts.specs.version_words.specs.Events.{met_by, Makes}
+use Rattle.caller_facts.specs.version_words.specs.ReachedWith.{is_told}
 use Rattle.caller_facts.specs.try_lock.specs.Planning.{Planning}
 use Rattle.caller_facts.specs.try_lock.specs.Reached.{IsReached}
 use Rattle.caller_facts.specs.Knowing.{IsOwn}

@@ -2,37 +2,37 @@
 use Rattle.std.specs.Prelude.{◌==◌, ◌&&◌, is_none, nat_lt, Bool, true, false, slice_get, if◌then◌else◌}
 use Rattle.std.proofs.Common.{◌≡◌, ◌≢◌, ℕ, ◌-◌, ◌<◌, List, [], ◌∷◌, ◌++◌, length, refl, sym, ap, ◌∙◌, subst, arith, Some}
 use Rattle.std.proofs.lemmas.Option.{slice_get_within}
-use Rattle.small_lemmas.proofs.Numbers.{tested_equal, self_tested as same_test, less_tested}
-use Rattle.map_history.specs.declared.op.Request.{Request}
-use Rattle.body_terms.specs.Run.{written_once}
-use Rattle.body_terms.specs.Word.{is_spent}
-use Rattle.body_terms.specs.declared.thunk.Thunk.{Thunk}
-use Rattle.table_words.specs.declared.layout.Layout.{Layout}
-use Rattle.table_words.specs.Limits.{IsWithinLimits}
-use Rattle.table_words.specs.declared.spot.Spot.{Spot}
-use Rattle.table_words.specs.declared.spot.Spot.TheVariants as spots
-use Rattle.table_words.specs.declared.access.Access.{Access}
-use Rattle.table_words.specs.declared.access.Access.TheVariants.{Exchanges}
-use Rattle.table_words.specs.Access.{written}
-use Rattle.structure_laws.specs.Scene.{Readings}
-use Rattle.structure_laws.specs.Meaning.{Meaning}
-use Rattle.structure_laws.specs.Laws.{Laws}
-use Rattle.structure_laws.specs.Shape.{Shaped}
-use Rattle.runner_parts.specs.declared.entries.Look.{Look}
-use Rattle.runner_parts.specs.declared.entries.LookStage.TheVariants.{Replied}
-use Rattle.runner_parts.specs.declared.event.EventKind.TheVariants as kinds
-use Rattle.runner_parts.specs.State.{PartState, RecordsState}
-use Rattle.runner_parts.specs.Lists.{learned}
-use Rattle.runner_parts.specs.Tests.{knows, is_answered, is_between, is_next, is_walking}
-use Rattle.runner_steps.specs.InRun.{last_clock}
-use Rattle.runner_steps.specs.Sections.{reply_in}
-use Rattle.runner_steps.specs.Reads.{is_fit, is_again, has_come, only_reads, may_reply, reply_known, stamp_known, read_stamp_after}
+use Rattle.machine_states.specs.epoch_core.specs.small_lemmas.proofs.Numbers.{tested_equal, self_tested as same_test, less_tested}
+use Rattle.history_orders.specs.map_history.specs.declared.op.Request.{Request}
+use Rattle.machine_states.specs.runner_steps.specs.body_terms.specs.Run.{written_once}
+use Rattle.machine_states.specs.runner_steps.specs.body_terms.specs.Word.{is_spent}
+use Rattle.machine_states.specs.runner_steps.specs.body_terms.specs.declared.thunk.Thunk.{Thunk}
+use Rattle.machine_states.specs.runner_steps.specs.table_words.specs.declared.layout.Layout.{Layout}
+use Rattle.machine_states.specs.runner_steps.specs.table_words.specs.Limits.{IsWithinLimits}
+use Rattle.machine_states.specs.runner_steps.specs.table_words.specs.declared.spot.Spot.{Spot}
+use Rattle.machine_states.specs.runner_steps.specs.table_words.specs.declared.spot.Spot.TheVariants as spots
+use Rattle.machine_states.specs.runner_steps.specs.table_words.specs.declared.access.Access.{Access}
+use Rattle.machine_states.specs.runner_steps.specs.table_words.specs.declared.access.Access.TheVariants.{Exchanges}
+use Rattle.machine_states.specs.runner_steps.specs.table_words.specs.Access.{written}
+use Rattle.machine_states.specs.structure_laws.specs.Scene.{Readings}
+use Rattle.machine_states.specs.structure_laws.specs.Meaning.{Meaning}
+use Rattle.machine_states.specs.structure_laws.specs.Laws.{Laws}
+use Rattle.machine_states.specs.structure_laws.specs.Shape.{Shaped}
+use Rattle.machine_states.specs.runner_steps.specs.runner_parts.specs.declared.entries.Look.{Look}
+use Rattle.machine_states.specs.runner_steps.specs.runner_parts.specs.declared.entries.LookStage.TheVariants.{Replied}
+use Rattle.machine_states.specs.runner_steps.specs.runner_parts.specs.declared.event.EventKind.TheVariants as kinds
+use Rattle.machine_states.specs.runner_steps.specs.runner_parts.specs.State.{PartState, RecordsState}
+use Rattle.machine_states.specs.runner_steps.specs.runner_parts.specs.Lists.{learned}
+use Rattle.machine_states.specs.runner_steps.specs.runner_parts.specs.Tests.{knows, is_answered, is_between, is_next, is_walking}
+use Rattle.machine_states.specs.runner_steps.specs.InRun.{last_clock}
+use Rattle.machine_states.specs.runner_steps.specs.Sections.{reply_in}
+use Rattle.machine_states.specs.runner_steps.specs.Reads.{is_fit, is_again, has_come, only_reads, may_reply, reply_known, stamp_known, read_stamp_after}
 use Rattle.machine_states.specs.World.{World}
 use Rattle.machine_states.specs.Reached.{Reached}
 use Rattle.machine_states.specs.Sight.{sight, part_or_first}
 use Rattle.machine_states.proofs.Steps.{some_same}
-use Rattle.caller_facts.specs.request_facts.specs.reached_histories.specs.machine_invariant.specs.After.{AreAllowed}
-use Rattle.caller_facts.specs.commit_log.specs.next_steps.specs.Looks.{LooksHaveStamps}
+use Rattle.caller_facts.specs.version_words.specs.machine_invariant.specs.After.{AreAllowed}
+use Rattle.next_steps.specs.Looks.{LooksHaveStamps}
 use Rattle.caller_facts.specs.section_runs.proofs.Replies.{last_answer}
 use Rattle.caller_facts.specs.epoch_slots.proofs.Outside.{nodes_made, descriptors_made, known_made}
 use Rattle.caller_facts.specs.try_lock.specs.declared.planned.Planned.TheVariants as plans
@@ -40,8 +40,8 @@ use Rattle.caller_facts.specs.try_lock.specs.Planning.{Planning}
 use Rattle.caller_facts.specs.try_lock.specs.Reached.{IsReached}
 use Rattle.caller_facts.specs.try_lock.specs.Plans.{IsFit}
 use Rattle.caller_facts.specs.request_facts.specs.Placed.{IsUnserved}
-use Rattle.version_words.specs.RunnerState.{RunnerState}
-use Rattle.version_words.specs.Events.{met_by, Makes}
+use Rattle.caller_facts.specs.version_words.specs.RunnerState.{RunnerState}
+use Rattle.caller_facts.specs.version_words.specs.Events.{met_by, Makes}
 use Rattle.caller_facts.specs.Knowing.{IsOwn}
 use Rattle.caller_facts.proofs.Knowing.{own_on}
 use Rattle.caller_facts.proofs.Standing.{may_own, may_unknown, made_reached}

@@ -5,5 +5,5 @@ pub mod Reads
 pub mod Parts
 -- Passed on to the layers above, so that they needn't name these libraries themselves.
 pub use Rattle.caller_facts
-pub use Rattle.caller_facts.specs.lock_walks
-pub use Rattle.caller_facts.specs.request_facts
+pub use Rattle.history_orders
+pub use Rattle.caller_facts.specs.section_runs.specs.runner_gate

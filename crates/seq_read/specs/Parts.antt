@@ -1,15 +1,15 @@
 -- What the parts of a read do.
 use Rattle.std.specs.Prelude.{◌≡◌, ℕ, ◌+◌, ◌-◌, ◌≤◌, List, Bool, true, false, not, length, take}
 use Rattle.std.specs.List.{list_all}
-use Rattle.map_history.specs.declared.op.Request.{Request}
-use Rattle.body_terms.specs.Shape.{IsShaped, is_look}
-use Rattle.body_terms.specs.declared.step.Step.{Step}
-use Rattle.body_terms.specs.declared.thunk.Thunk.{Thunk}
-use Rattle.runner_gate.specs.Asks.{Asks, asked_on}
-use Rattle.structure_laws.specs.Scene.{Readings}
-use Rattle.structure_laws.specs.Meaning.{Meaning}
-use Rattle.version_words.specs.RunnerState.{RunnerState}
-use Rattle.caller_facts.specs.commit_log.specs.Asked.{IsAsked}
+use Rattle.history_orders.specs.map_history.specs.declared.op.Request.{Request}
+use Rattle.machine_states.specs.runner_steps.specs.body_terms.specs.Shape.{IsShaped, is_look}
+use Rattle.machine_states.specs.runner_steps.specs.body_terms.specs.declared.step.Step.{Step}
+use Rattle.machine_states.specs.runner_steps.specs.body_terms.specs.declared.thunk.Thunk.{Thunk}
+use Rattle.caller_facts.specs.section_runs.specs.runner_gate.specs.Asks.{Asks, asked_on}
+use Rattle.machine_states.specs.structure_laws.specs.Scene.{Readings}
+use Rattle.machine_states.specs.structure_laws.specs.Meaning.{Meaning}
+use Rattle.caller_facts.specs.version_words.specs.RunnerState.{RunnerState}
+use Rattle.caller_facts.specs.section_runs.specs.commit_log.specs.Asked.{IsAsked}
 use Rattle.caller_facts.specs.try_lock.specs.declared.planned.Planned.TheVariants as plans
 use Rattle.caller_facts.specs.try_lock.specs.Planning.{Planning}
 use Rattle.caller_facts.specs.try_lock.specs.Reached.{IsReached}

@@ -1,20 +1,20 @@
 -- Reads of requests without a lock: what each answer says.
 use Rattle.std.specs.Prelude.{◌≡◌, ◌≢◌, ℕ, ◌+◌, ◌*◌, ◌≤◌, Bool, true, false, not, None, length}
-use Rattle.map_history.specs.declared.op.Op.TheVariants.{Get}
-use Rattle.map_history.specs.declared.op.Request.{Request}
-use Rattle.map_history.specs.declared.reply.Reply.{Reply}
-use Rattle.map_history.specs.Words.{word_of}
+use Rattle.history_orders.specs.map_history.specs.declared.op.Op.TheVariants.{Get}
+use Rattle.history_orders.specs.map_history.specs.declared.op.Request.{Request}
+use Rattle.history_orders.specs.map_history.specs.declared.reply.Reply.{Reply}
+use Rattle.history_orders.specs.map_history.specs.Words.{word_of}
 use Rattle.history_orders.specs.Turns.{Follows}
-use Rattle.body_terms.specs.declared.thunk.Thunk.{Thunk}
-use Rattle.runner_gate.specs.Asks.{Asks, asked_on}
-use Rattle.structure_laws.specs.Scene.{Readings}
-use Rattle.structure_laws.specs.Meaning.{Meaning}
-use Rattle.structure_laws.specs.Cells.{slots}
-use Rattle.runner_parts.specs.declared.entries.Known.{Known}
-use Rattle.runner_parts.specs.Tests.{is_answered}
-use Rattle.runner_steps.specs.Sections.{reply_in}
+use Rattle.machine_states.specs.runner_steps.specs.body_terms.specs.declared.thunk.Thunk.{Thunk}
+use Rattle.caller_facts.specs.section_runs.specs.runner_gate.specs.Asks.{Asks, asked_on}
+use Rattle.machine_states.specs.structure_laws.specs.Scene.{Readings}
+use Rattle.machine_states.specs.structure_laws.specs.Meaning.{Meaning}
+use Rattle.machine_states.specs.structure_laws.specs.Cells.{slots}
+use Rattle.machine_states.specs.runner_steps.specs.runner_parts.specs.declared.entries.Known.{Known}
+use Rattle.machine_states.specs.runner_steps.specs.runner_parts.specs.Tests.{is_answered}
+use Rattle.machine_states.specs.runner_steps.specs.Sections.{reply_in}
 use Rattle.machine_states.specs.Sight.{sight}
-use Rattle.version_words.specs.RunnerState.{RunnerState}
+use Rattle.caller_facts.specs.version_words.specs.RunnerState.{RunnerState}
 use Rattle.caller_facts.specs.request_facts.specs.Laws.{HasEntry}
 use Rattle.caller_facts.specs.request_facts.specs.Placed.{IsServedAs}
 use Rattle.caller_facts.specs.epoch_slots.specs.Collects.{IsTidy}

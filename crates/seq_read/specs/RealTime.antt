@@ -1,11 +1,11 @@
 -- The order in time: a read's stamp, and what was answered as the read began.
 use Rattle.std.specs.Prelude.{◌≢◌, ℕ}
 use Rattle.history_orders.specs.Turns.{Follows}
-use Rattle.table_words.specs.declared.spot.Spot.TheVariants.{Stamp, Reply}
-use Rattle.structure_laws.specs.Meaning.{Meaning}
+use Rattle.machine_states.specs.runner_steps.specs.table_words.specs.declared.spot.Spot.TheVariants.{Stamp, Reply}
+use Rattle.machine_states.specs.structure_laws.specs.Meaning.{Meaning}
 use Rattle.machine_states.specs.Sight.{sight}
 use Rattle.caller_facts.specs.request_facts.specs.reached_histories.specs.RealTime.{LeadsTo}
-use Rattle.version_words.specs.RunnerState.{RunnerState}
+use Rattle.caller_facts.specs.version_words.specs.RunnerState.{RunnerState}
 use Rattle.caller_facts.specs.try_lock.specs.Reached.{IsReached}
 
 module _ {T : Type 0} (m : Meaning) where

@@ -1,20 +1,20 @@
 //! The loads of the cells that a body loads.
 ghost use Rattle.std.specs.Prelude.{◌≡◌, [], length};
-ghost use Rattle.map_history.specs.declared.op.Request.{Request};
-ghost use Rattle.body_terms.specs.declared.thunk.Thunk.{Thunk};
-ghost use Rattle.structure_laws.specs.Scene.{Readings};
-ghost use Rattle.version_words.specs.RunnerState.{RunnerState};
-ghost use Rattle.version_words.specs.TableState.{IsOf};
+ghost use Rattle.history_orders.specs.map_history.specs.declared.op.Request.{Request};
+ghost use Rattle.machine_states.specs.runner_steps.specs.body_terms.specs.declared.thunk.Thunk.{Thunk};
+ghost use Rattle.machine_states.specs.structure_laws.specs.Scene.{Readings};
+ghost use Rattle.caller_facts.specs.version_words.specs.RunnerState.{RunnerState};
+ghost use Rattle.caller_facts.specs.version_words.specs.TableState.{IsOf};
 ghost use Rattle.caller_facts.specs.try_lock.specs.Planning.{Planning};
 ghost use Rattle.caller_facts.specs.Counted.{IsSeen};
 ghost use Rattle.seq_read.specs.Parts.{MayLoad, HasLoadedCells};
 
 use arrayvec::ArrayVec;
-use body_terms::{Place, Step, StepKind, Steps};
-use caller_facts::lock_walks::try_lock::commit_log::passes;
-use runner_gate::Gate;
-use structure_laws::Structure;
-use version_words::{FlockTable, Runner};
+use caller_facts::lock_walks::version_words::{FlockTable, Runner};
+use caller_facts::runner_gate::Gate;
+use caller_facts::try_lock::commit_log::passes;
+use machine_states::runner_steps::body_terms::{Place, Step, StepKind, Steps};
+use machine_states::structure_laws::Structure;
 
 /// A cell that was loaded: its place, the register into which the body loads it, and the word that was found.
 #[derive(Clone, Copy, Debug, Default, PartialEq, Eq)]

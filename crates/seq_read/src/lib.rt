@@ -18,6 +18,4 @@ pub use answers::Read;
 pub use reading::read;
 
 // Passed on to the layers above, so that they needn't name these libraries themselves.
-pub use caller_facts;
-pub use caller_facts::lock_walks::{epoch_slots, try_lock};
-pub use caller_facts::{lock_walks, request_facts};
+pub use caller_facts::{lock_walks, runner_gate};

@@ -1,9 +1,9 @@
 //! One read of a request without a lock.
 ghost use Rattle.std.specs.Prelude.{◌≡◌, ℕ, ◌+◌, ◌≤◌, length};
-ghost use Rattle.structure_laws.specs.Scene.{Readings};
-ghost use Rattle.runner_steps.specs.Sections.{reply_in};
-ghost use Rattle.version_words.specs.RunnerState.{RunnerState};
-ghost use Rattle.version_words.specs.TableState.{IsOf};
+ghost use Rattle.machine_states.specs.structure_laws.specs.Scene.{Readings};
+ghost use Rattle.machine_states.specs.runner_steps.specs.Sections.{reply_in};
+ghost use Rattle.caller_facts.specs.version_words.specs.RunnerState.{RunnerState};
+ghost use Rattle.caller_facts.specs.version_words.specs.TableState.{IsOf};
 ghost use Rattle.caller_facts.specs.try_lock.specs.declared.planned.Planned.TheVariants as plans;
 ghost use Rattle.caller_facts.specs.Counted.{IsSeen};
 ghost use Rattle.caller_facts.specs.Asking.{MayAttempt};
@@ -18,15 +18,15 @@ use crate::confirming::{announce, load_clock, load_lock, write_reply, write_stam
 use crate::refusals::{lock_moved, plan_refused};
 use crate::wants::first_missed;
 use arrayvec::ArrayVec;
-use body_terms::{Body, Step, StepKind, Steps, Thunk};
 use caller_facts::goes_on;
 use caller_facts::lock_walks::Planner;
 use caller_facts::lock_walks::epoch_slots::{enter, exit};
-use caller_facts::lock_walks::try_lock::Planned;
-use map_history::{Reply, Request};
+use caller_facts::lock_walks::version_words::{FlockTable, RunRoom, Runner};
+use caller_facts::runner_gate::Gate;
+use caller_facts::try_lock::Planned;
+use history_orders::map_history::{Reply, Request};
+use machine_states::runner_steps::body_terms::{Body, Step, StepKind, Steps, Thunk};
 use next_steps::looks_are_small;
-use runner_gate::Gate;
-use version_words::{FlockTable, RunRoom, Runner};
 
 /// Writes both words of the request, whose lock had its word again behind the load of the clock, and leaves.
 fn answer<S: Planner, G: Gate, L>(

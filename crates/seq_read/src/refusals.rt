@@ -3,8 +3,8 @@ ghost use Rattle.std.specs.Prelude.{◌≡◌};
 ghost use Rattle.seq_read.specs.Course.{of_plan, of_lock};
 
 use crate::answers::Read;
-use body_terms::{Thunk, Word};
-use caller_facts::lock_walks::try_lock::Planned;
+use caller_facts::try_lock::Planned;
+use machine_states::runner_steps::body_terms::{Thunk, Word};
 
 /// A refused plan as a read's answer.
 pub fn plan_refused(planned: Planned) -> Read

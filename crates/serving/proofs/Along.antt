@@ -4,25 +4,25 @@ use Rattle.std.proofs.Common.{◌≡◌, ◌≢◌, ℕ, ◌+◌, ◌*◌, ◌<�
 use Rattle.std.proofs.lemmas.Bool.{cases_eq, eq-eqb}
 use Rattle.std.proofs.lemmas.Bool.Decides.{nat_tests}
 use Rattle.std.proofs.lemmas.Option.{slice_get_within}
-use Rattle.map_history.specs.declared.op.Request.{Request}
-use Rattle.map_history.specs.declared.reply.Reply.{Reply}
-use Rattle.map_history.specs.Requests.{AreInOrder}
-use Rattle.table_words.specs.Limits.{IsWithinLimits}
-use Rattle.structure_laws.specs.Meaning.{Meaning}
-use Rattle.structure_laws.specs.Laws.{Laws}
-use Rattle.runner_parts.specs.declared.entries.Known.{Known}
-use Rattle.runner_parts.specs.Tests.{is_answered, are_answered}
+use Rattle.machine_states.specs.runner_steps.specs.map_history.specs.declared.op.Request.{Request}
+use Rattle.machine_states.specs.runner_steps.specs.map_history.specs.declared.reply.Reply.{Reply}
+use Rattle.machine_states.specs.runner_steps.specs.map_history.specs.Requests.{AreInOrder}
+use Rattle.machine_states.specs.runner_steps.specs.table_words.specs.Limits.{IsWithinLimits}
+use Rattle.machine_states.specs.structure_laws.specs.Meaning.{Meaning}
+use Rattle.machine_states.specs.structure_laws.specs.Laws.{Laws}
+use Rattle.machine_states.specs.runner_steps.specs.runner_parts.specs.declared.entries.Known.{Known}
+use Rattle.machine_states.specs.runner_steps.specs.runner_parts.specs.Tests.{is_answered, are_answered}
 use Rattle.machine_states.proofs.Steps.{some_same, none_some}
-use Rattle.attempt_bounds.specs.machine_invariant.specs.After.{AreAllowed}
-use Rattle.attempt_bounds.specs.commit_log.proofs.Asked.{asked_on_more}
-use Rattle.version_words.specs.RunnerState.{RunnerState}
-use Rattle.version_words.specs.TableState.{TableState, IsOf}
-use Rattle.attempt_bounds.specs.epoch_slots.specs.Collects.{IsTidy}
-use Rattle.attempt_bounds.specs.epoch_slots.specs.declared.reserves.Short.{Short}
-use Rattle.attempt_bounds.specs.try_lock.specs.Planning.{Planning}
-use Rattle.attempt_bounds.specs.try_lock.specs.Reached.{IsReached}
-use Rattle.attempt_bounds.specs.request_facts.specs.Laws.{HasEntry}
-use Rattle.body_terms.specs.Counted.{counted_on}
+use Rattle.attempt_bounds.specs.version_words.specs.machine_invariant.specs.After.{AreAllowed}
+use Rattle.attempt_bounds.specs.attempts.specs.commit_log.proofs.Asked.{asked_on_more}
+use Rattle.attempt_bounds.specs.version_words.specs.RunnerState.{RunnerState}
+use Rattle.attempt_bounds.specs.version_words.specs.TableState.{TableState, IsOf}
+use Rattle.attempt_bounds.specs.attempts.specs.epoch_slots.specs.Collects.{IsTidy}
+use Rattle.attempt_bounds.specs.attempts.specs.epoch_slots.specs.declared.reserves.Short.{Short}
+use Rattle.attempt_bounds.specs.attempts.specs.try_lock.specs.Planning.{Planning}
+use Rattle.attempt_bounds.specs.attempts.specs.try_lock.specs.Reached.{IsReached}
+use Rattle.attempt_bounds.specs.attempts.specs.request_facts.specs.Laws.{HasEntry}
+use Rattle.machine_states.specs.runner_steps.specs.body_terms.specs.Counted.{counted_on}
 use Rattle.runner_gate.specs.Asks.{Asks, asked_on}
 use Rattle.attempt_bounds.specs.attempts.specs.Knowing.{KnowsMore, IsOwn}
 use Rattle.attempt_bounds.specs.attempts.specs.Course.{MayAttempt}

@@ -3,32 +3,32 @@ use Rattle.std.specs.Prelude.{◌==◌, ◌&&◌, ◌⊎◌, cond, nat_lt, Bool,
 use Rattle.std.proofs.Common.{◌≡◌, ℕ, ◌+◌, ◌-◌, ◌<◌, List, [], ◌∷◌, ◌++◌, length, refl, sym, ap, ◌∙◌, subst, ⊎_elim, inl, inr, arith, Some, None, Err}
 use Rattle.std.proofs.lemmas.Bool.{eq-eqb}
 use Rattle.std.proofs.lemmas.Bool.Decides.{nat_tests}
-use Rattle.small_lemmas.proofs.Lists.{get_last}
-use Rattle.map_history.specs.declared.op.Op.{Op}
-use Rattle.map_history.specs.declared.op.Request.{Request}
-use Rattle.body_terms.specs.Word.{value_of, version_of, pack, is_free, is_spent}
-use Rattle.body_terms.specs.declared.outcome.Outcome.{Outcome}
-use Rattle.body_terms.specs.declared.outcome.Outcome.TheVariants as outcomes
-use Rattle.body_terms.specs.declared.outcome.Refused.{Refused}
-use Rattle.body_terms.specs.declared.outcome.Refused.TheVariants as refusals
-use Rattle.body_terms.specs.declared.thunk.Thunk.{Thunk}
-use Rattle.table_words.specs.declared.layout.Layout.{Layout}
-use Rattle.structure_laws.specs.Cells.{slots}
-use Rattle.structure_laws.specs.Scene.{Readings}
-use Rattle.structure_laws.specs.Meaning.{Meaning}
-use Rattle.runner_parts.specs.declared.event.EventKind.TheVariants as kinds
-use Rattle.runner_parts.specs.State.{FinishedState, ReadsState}
-use Rattle.runner_parts.specs.Tests.{has_pair}
+use Rattle.machine_states.specs.epoch_core.specs.small_lemmas.proofs.Lists.{get_last}
+use Rattle.machine_states.specs.runner_steps.specs.map_history.specs.declared.op.Op.{Op}
+use Rattle.machine_states.specs.runner_steps.specs.map_history.specs.declared.op.Request.{Request}
+use Rattle.machine_states.specs.runner_steps.specs.body_terms.specs.Word.{value_of, version_of, pack, is_free, is_spent}
+use Rattle.machine_states.specs.runner_steps.specs.body_terms.specs.declared.outcome.Outcome.{Outcome}
+use Rattle.machine_states.specs.runner_steps.specs.body_terms.specs.declared.outcome.Outcome.TheVariants as outcomes
+use Rattle.machine_states.specs.runner_steps.specs.body_terms.specs.declared.outcome.Refused.{Refused}
+use Rattle.machine_states.specs.runner_steps.specs.body_terms.specs.declared.outcome.Refused.TheVariants as refusals
+use Rattle.machine_states.specs.runner_steps.specs.body_terms.specs.declared.thunk.Thunk.{Thunk}
+use Rattle.machine_states.specs.runner_steps.specs.table_words.specs.declared.layout.Layout.{Layout}
+use Rattle.machine_states.specs.structure_laws.specs.Cells.{slots}
+use Rattle.machine_states.specs.structure_laws.specs.Scene.{Readings}
+use Rattle.machine_states.specs.structure_laws.specs.Meaning.{Meaning}
+use Rattle.machine_states.specs.runner_steps.specs.runner_parts.specs.declared.event.EventKind.TheVariants as kinds
+use Rattle.machine_states.specs.runner_steps.specs.runner_parts.specs.State.{FinishedState, ReadsState}
+use Rattle.machine_states.specs.runner_steps.specs.runner_parts.specs.Tests.{has_pair}
 use Rattle.machine_states.proofs.Steps.{some_same, none_some}
-use Rattle.attempt_bounds.specs.lock_words.specs.Spent.{IsLate}
-use Rattle.version_words.specs.RunnerState.{RunnerState}
-use Rattle.attempt_bounds.specs.epoch_slots.specs.Entries.{Exits}
-use Rattle.attempt_bounds.specs.epoch_slots.proofs.Outside.{reads_made}
-use Rattle.attempt_bounds.specs.try_lock.specs.declared.planned.Planned.{Planned}
-use Rattle.attempt_bounds.specs.try_lock.specs.declared.planned.Planned.TheVariants as plans
-use Rattle.attempt_bounds.specs.try_lock.specs.Planning.{Planning}
-use Rattle.attempt_bounds.specs.try_lock.specs.Plans.{refused_at, refused_by_lock}
-use Rattle.attempt_bounds.specs.try_lock.specs.Publishes.{refused_by}
+use Rattle.attempt_bounds.specs.attempts.specs.lock_words.specs.Spent.{IsLate}
+use Rattle.attempt_bounds.specs.version_words.specs.RunnerState.{RunnerState}
+use Rattle.attempt_bounds.specs.attempts.specs.epoch_slots.specs.Entries.{Exits}
+use Rattle.attempt_bounds.specs.attempts.specs.epoch_slots.proofs.Outside.{reads_made}
+use Rattle.attempt_bounds.specs.attempts.specs.try_lock.specs.declared.planned.Planned.{Planned}
+use Rattle.attempt_bounds.specs.attempts.specs.try_lock.specs.declared.planned.Planned.TheVariants as plans
+use Rattle.attempt_bounds.specs.attempts.specs.try_lock.specs.Planning.{Planning}
+use Rattle.attempt_bounds.specs.attempts.specs.try_lock.specs.Plans.{refused_at, refused_by_lock}
+use Rattle.attempt_bounds.specs.attempts.specs.try_lock.specs.Publishes.{refused_by}
 use Rattle.attempt_bounds.specs.attempts.specs.Course.{of_plan, of_refusal, of_outcome, HasPlanned, HasTried, HasLeft}
 use Rattle.attempt_bounds.specs.attempts.specs.Attempts.{IsTurnedAway}
 use Rattle.attempt_bounds.specs.attempts.specs.declared.answers.Attempt.TheVariants as attempts

@@ -2,21 +2,21 @@
 use Rattle.std.specs.Prelude.{true, false, slice_get}
 use Rattle.std.proofs.Common.{◌≡◌, ℕ, List, refl, sym, ap, ◌∙◌}
 use Rattle.std.proofs.lemmas.Bool.{and_parts}
-use Rattle.table_words.specs.Limits.{IsWithinLimits}
-use Rattle.structure_laws.specs.Meaning.{Meaning}
-use Rattle.structure_laws.specs.Laws.{Laws}
-use Rattle.runner_parts.specs.declared.entries.Known.{Known}
-use Rattle.runner_parts.specs.State.{PartState}
-use Rattle.runner_parts.specs.Tests.{is_answered}
-use Rattle.runner_steps.specs.Outside.{entry_spot}
+use Rattle.machine_states.specs.runner_steps.specs.table_words.specs.Limits.{IsWithinLimits}
+use Rattle.machine_states.specs.structure_laws.specs.Meaning.{Meaning}
+use Rattle.machine_states.specs.structure_laws.specs.Laws.{Laws}
+use Rattle.machine_states.specs.runner_steps.specs.runner_parts.specs.declared.entries.Known.{Known}
+use Rattle.machine_states.specs.runner_steps.specs.runner_parts.specs.State.{PartState}
+use Rattle.machine_states.specs.runner_steps.specs.runner_parts.specs.Tests.{is_answered}
+use Rattle.machine_states.specs.runner_steps.specs.Outside.{entry_spot}
 use Rattle.machine_states.specs.Sight.{sight, part_or_first}
-use Rattle.attempt_bounds.specs.machine_invariant.specs.After.{AreAllowed}
-use Rattle.attempt_bounds.specs.machine_facts.specs.Known.{KnownStand}
-use Rattle.attempt_bounds.specs.machine_facts.proofs.Following.{facts_after}
-use Rattle.attempt_bounds.specs.reached_histories.proofs.First.{entry_of}
-use Rattle.version_words.specs.RunnerState.{RunnerState}
-use Rattle.attempt_bounds.specs.try_lock.specs.Reached.{IsReached}
-use Rattle.attempt_bounds.specs.request_facts.specs.Laws.{HasEntry}
+use Rattle.attempt_bounds.specs.version_words.specs.machine_invariant.specs.After.{AreAllowed}
+use Rattle.attempt_bounds.specs.one_worker.specs.machine_facts.specs.Known.{KnownStand}
+use Rattle.attempt_bounds.specs.one_worker.specs.machine_facts.proofs.Following.{facts_after}
+use Rattle.attempt_bounds.specs.one_worker.specs.reached_histories.proofs.First.{entry_of}
+use Rattle.attempt_bounds.specs.version_words.specs.RunnerState.{RunnerState}
+use Rattle.attempt_bounds.specs.attempts.specs.try_lock.specs.Reached.{IsReached}
+use Rattle.attempt_bounds.specs.attempts.specs.request_facts.specs.Laws.{HasEntry}
 use Rattle.attempt_bounds.specs.attempts.specs.Knowing.{IsFront}
 use Rattle.attempt_bounds.specs.attempts.proofs.Knowing.{front_entry, answered_on}
 

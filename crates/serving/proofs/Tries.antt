@@ -2,14 +2,14 @@
 use Rattle.std.specs.Prelude.{◌||◌, Bool, true, false, slice_get}
 use Rattle.std.proofs.Common.{◌≡◌, ℕ, zero, suc, ◌+◌, ◌≤◌, List, [], ◌∷◌, ◌++◌, refl, sym, ap, ◌∙◌, subst, arith, Some}
 use Rattle.std.proofs.lemmas.Bool.{true≢false}
-use Rattle.map_history.specs.declared.op.Request.{Request}
-use Rattle.body_terms.specs.Counted.{counted_on}
+use Rattle.machine_states.specs.runner_steps.specs.map_history.specs.declared.op.Request.{Request}
+use Rattle.machine_states.specs.runner_steps.specs.body_terms.specs.Counted.{counted_on}
 use Rattle.runner_gate.specs.Asks.{Asks, asked_on}
-use Rattle.structure_laws.specs.Meaning.{Meaning}
+use Rattle.machine_states.specs.structure_laws.specs.Meaning.{Meaning}
 use Rattle.machine_states.proofs.Steps.{some_same, none_some}
-use Rattle.attempt_bounds.specs.commit_log.proofs.Asked.{counted_more, asked_on_more}
-use Rattle.version_words.specs.RunnerState.{RunnerState}
-use Rattle.attempt_bounds.specs.try_lock.specs.Planning.{Planning}
+use Rattle.attempt_bounds.specs.attempts.specs.commit_log.proofs.Asked.{counted_more, asked_on_more}
+use Rattle.attempt_bounds.specs.version_words.specs.RunnerState.{RunnerState}
+use Rattle.attempt_bounds.specs.attempts.specs.try_lock.specs.Planning.{Planning}
 use Rattle.attempt_bounds.specs.attempts.specs.Course.{IsRefused}
 use Rattle.attempt_bounds.specs.attempts.specs.Attempts.{asks_more, has_met_held, is_stop_helping, IsAttempt, Answers, Stops, AtEntry, InPlan, BehindHold, InOwnRun, InHelpedRun}
 use Rattle.attempt_bounds.specs.attempts.specs.declared.answers.Attempt.{Attempt}

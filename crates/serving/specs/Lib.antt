@@ -1,8 +1,5 @@
 pub mod Serving
 -- Passed on to the layers above, so that they needn't name these libraries themselves.
-pub use Rattle.attempt_bounds.specs.lock_words
-pub use Rattle.attempt_bounds.specs.request_facts
-pub use Rattle.attempt_bounds.specs.resource_bounds
-pub use Rattle.attempt_bounds.specs.one_worker
-pub use Rattle.attempt_bounds.specs.attempts
 pub use Rattle.attempt_bounds
+pub use Rattle.attempt_bounds.specs.attempts
+pub use Rattle.attempt_bounds.specs.one_worker

@@ -13,4 +13,3 @@ pub use serves::serve;
 
 // Passed on to the layers above, so that they needn't name these libraries themselves.
 pub use attempt_bounds;
-pub use attempt_bounds::{lock_walks, lock_words, one_worker, request_facts, resource_bounds};

@@ -1,20 +1,20 @@
 //! One request, attempted until it is answered.
 ghost use Rattle.std.specs.Prelude.{◌≡◌, ◌≢◌};
-ghost use Rattle.fault_count.specs.Rose.{Rose};
-ghost use Rattle.version_words.specs.TableState.{IsOf};
+ghost use Rattle.runner_gate.specs.fault_count.specs.Rose.{Rose};
+ghost use Rattle.attempt_bounds.specs.version_words.specs.TableState.{IsOf};
 ghost use Rattle.attempt_bounds.specs.attempts.specs.Counted.{IsSeen};
 ghost use Rattle.attempt_bounds.specs.attempts.specs.Course.{MayAttempt};
 ghost use Rattle.attempt_bounds.specs.attempts.specs.declared.answers.Attempt.TheVariants as attempts;
 ghost use Rattle.serving.specs.Serving.{is_tried_again, Persists};
 
+use attempt_bounds::attempts::lock_walks::Planner;
 use attempt_bounds::attempts::{Attempt, attempt};
-use attempt_bounds::lock_walks::Planner;
-use body_terms::Steps;
-use map_history::Request;
+use attempt_bounds::version_words::{FlockTable, Runner};
+use machine_states::runner_steps::body_terms::Steps;
+use machine_states::runner_steps::map_history::Request;
 use runner_gate::Gate;
 use std::sync::Wait;
 use std::thread::yield_now;
-use version_words::{FlockTable, Runner};
 
 /// Whether a request is attempted again after this answer.
 fn is_again(answer: &Attempt, retry_short: bool) -> bool

@@ -1,22 +1,22 @@
 //! The requests of a worker, served in their order.
 ghost use Rattle.std.specs.Prelude.{◌≡◌, ◌≢◌};
-ghost use Rattle.fault_count.specs.Rose.{Rose};
-ghost use Rattle.version_words.specs.TableState.{IsOf};
+ghost use Rattle.runner_gate.specs.fault_count.specs.Rose.{Rose};
+ghost use Rattle.attempt_bounds.specs.version_words.specs.TableState.{IsOf};
 ghost use Rattle.attempt_bounds.specs.attempts.specs.Counted.{IsSeen};
 ghost use Rattle.serving.specs.declared.answers.Served.TheVariants as answers;
 ghost use Rattle.serving.specs.Serving.{stop_of, MayServe, Serves};
 
 use crate::answers::Served;
 use crate::persists::persist;
+use attempt_bounds::attempts::lock_walks::Planner;
 use attempt_bounds::attempts::{Attempt, goes_on};
 use attempt_bounds::attempts_spare_slots;
-use attempt_bounds::lock_walks::Planner;
-use body_terms::{StepKind, Steps};
-use map_history::Request;
+use attempt_bounds::version_words::{FlockTable, Runner};
+use machine_states::runner_steps::body_terms::{StepKind, Steps};
+use machine_states::runner_steps::map_history::Request;
 use runner_gate::Gate;
 use std::sync::Wait;
 use std::thread::Threads;
-use version_words::{FlockTable, Runner};
 
 /// What the serving stops with at this answer of a last attempt; none where the request is served.
 fn stop(answer: Attempt) -> Option<Served>

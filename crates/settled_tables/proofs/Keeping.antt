@@ -3,20 +3,20 @@ use Rattle.std.specs.Prelude.{◌==◌, ◌||◌, nat_lt, not, Bool, true, false
 use Rattle.std.proofs.Common.{◌≡◌, ℕ, zero, suc, ◌+◌, ◌*◌, ◌<◌, ◌≤◌, List, [], ◌∷◌, ◌++◌, length, refl, sym, ap, ◌∙◌, subst, arith, Option, Some, None, eq-eqb, ne_eqb, ◌≢◌}
 use mathlib.Core.Logic.{dite}
 use native.Mathlib.Decide.{ℕ_discrete}
-use Rattle.table_words.specs.declared.layout.Layout.{Layout}
-use Rattle.table_words.specs.declared.spot.Spot.TheVariants as spots
-use Rattle.table_words.specs.declared.access.Access.TheVariants.{Loads}
-use Rattle.structure_laws.specs.Meaning.{Meaning}
-use Rattle.runner_parts.specs.declared.event.EventKind.TheVariants as kinds
-use Rattle.runner_parts.specs.State.{RunState, PartState, RecordsState, NodesState}
-use Rattle.runner_parts.specs.Tests.{has, is_between}
-use Rattle.runner_steps.specs.After.{after, after_by, stepped, leaves, joins}
+use Rattle.machine_states.specs.runner_steps.specs.table_words.specs.declared.layout.Layout.{Layout}
+use Rattle.machine_states.specs.runner_steps.specs.table_words.specs.declared.spot.Spot.TheVariants as spots
+use Rattle.machine_states.specs.runner_steps.specs.table_words.specs.declared.access.Access.TheVariants.{Loads}
+use Rattle.machine_states.specs.structure_laws.specs.Meaning.{Meaning}
+use Rattle.machine_states.specs.runner_steps.specs.runner_parts.specs.declared.event.EventKind.TheVariants as kinds
+use Rattle.machine_states.specs.runner_steps.specs.runner_parts.specs.State.{RunState, PartState, RecordsState, NodesState}
+use Rattle.machine_states.specs.runner_steps.specs.runner_parts.specs.Tests.{has, is_between}
+use Rattle.machine_states.specs.runner_steps.specs.After.{after, after_by, stepped, leaves, joins}
 use Rattle.machine_states.specs.First.{keeper_part, falling}
-use Rattle.version_words.specs.RunnerState.{RunnerState}
-use Rattle.version_words.specs.Shown.{left_part}
-use Rattle.version_words.specs.TableState.{TableState, IsOf, first_keeper, HasJoinedAll}
-use Rattle.version_words.specs.Events.{HasSplit, joined_by}
-use Rattle.version_words.proofs.Stages.{then_split, then_keeper, then_joined, split_joined}
+use Rattle.closed_words.specs.version_words.specs.RunnerState.{RunnerState}
+use Rattle.closed_words.specs.version_words.specs.Shown.{left_part}
+use Rattle.closed_words.specs.version_words.specs.TableState.{TableState, IsOf, first_keeper, HasJoinedAll}
+use Rattle.closed_words.specs.version_words.specs.Events.{HasSplit, joined_by}
+use Rattle.closed_words.specs.version_words.proofs.Stages.{then_split, then_keeper, then_joined, split_joined}
 use Rattle.std.specs.Option.{IsSome}
 use Rattle.settling.specs.Settled.{MaySettle, Settles}
 use Rattle.machine_states.proofs.Marks.{Stays, stays}

@@ -1,23 +1,23 @@
 -- The words of a table that its keeper has settled, and what became of the sections of a run.
 use Rattle.std.proofs.Common.{◌≡◌, ℕ, suc, ◌<◌, Bool, refl, sym, ap, ◌∙◌, subst, eq-eqb, if◌then◌else◌, arith}
 use Rattle.std.specs.Prelude.{slice_get, IsSome, List}
-use Rattle.map_history.specs.declared.op.Request.{Request}
-use Rattle.body_terms.specs.Word.{value_of}
-use Rattle.table_words.specs.declared.layout.Layout.{Layout}
-use Rattle.table_words.specs.declared.spot.Spot.TheVariants.{Cell}
-use Rattle.table_words.specs.Limits.{IsWithinLimits}
-use Rattle.structure_laws.specs.Meaning.{Meaning}
-use Rattle.structure_laws.specs.Laws.{Laws}
-use Rattle.runner_steps.specs.Asks.{sizes_for}
-use Rattle.table_words.specs.Seen.{seen}
+use Rattle.machine_states.specs.runner_steps.specs.map_history.specs.declared.op.Request.{Request}
+use Rattle.machine_states.specs.runner_steps.specs.body_terms.specs.Word.{value_of}
+use Rattle.machine_states.specs.runner_steps.specs.table_words.specs.declared.layout.Layout.{Layout}
+use Rattle.machine_states.specs.runner_steps.specs.table_words.specs.declared.spot.Spot.TheVariants.{Cell}
+use Rattle.machine_states.specs.runner_steps.specs.table_words.specs.Limits.{IsWithinLimits}
+use Rattle.machine_states.specs.structure_laws.specs.Meaning.{Meaning}
+use Rattle.machine_states.specs.structure_laws.specs.Laws.{Laws}
+use Rattle.machine_states.specs.runner_steps.specs.Asks.{sizes_for}
+use Rattle.machine_states.specs.runner_steps.specs.table_words.specs.Seen.{seen}
 use Rattle.machine_states.specs.World.{seat_of}
 use Rattle.machine_states.specs.Reached.{Reached}
 use Rattle.machine_states.specs.Sight.{sight}
-use Rattle.machine_facts.proofs.Following.{facts_after}
-use Rattle.machine_invariant.specs.After.{AreAllowed}
-use Rattle.version_words.specs.RunnerState.{RunnerState}
-use Rattle.version_words.specs.Shown.{left_part}
-use Rattle.version_words.specs.TableState.{TableState, WordsState, IsOf, IsClosing, HasJoinedAll, word_of}
+use Rattle.closed_words.specs.reached_histories.specs.machine_facts.proofs.Following.{facts_after}
+use Rattle.closed_words.specs.version_words.specs.machine_invariant.specs.After.{AreAllowed}
+use Rattle.closed_words.specs.version_words.specs.RunnerState.{RunnerState}
+use Rattle.closed_words.specs.version_words.specs.Shown.{left_part}
+use Rattle.closed_words.specs.version_words.specs.TableState.{TableState, WordsState, IsOf, IsClosing, HasJoinedAll, word_of}
 use Rattle.closed_words.specs.Histories.{HoldsNoLock}
 use Rattle.settling.specs.Settled.{Settles, IsSettled}
 use Rattle.settled_tables.specs.Once.{SectionsCameOnce}

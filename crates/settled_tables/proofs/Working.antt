@@ -5,12 +5,12 @@ use Rattle.std.proofs.lemmas.List.{get_or_append_left, length-append}
 use Rattle.std.proofs.Math.Seq.{get_or-append_seam}
 use mathlib.Core.Logic.{dite}
 use native.Mathlib.Decide.{ℕ_discrete}
-use Rattle.structure_laws.specs.Meaning.{Meaning}
-use Rattle.version_words.specs.RunnerState.{RunnerState}
-use Rattle.version_words.specs.TableState.{TableState, IsOf}
-use Rattle.version_words.specs.Stages.{IsKeeper}
-use Rattle.version_words.specs.Events.{next_worker}
-use Rattle.version_words.proofs.Stages.{next_is_idle}
+use Rattle.machine_states.specs.structure_laws.specs.Meaning.{Meaning}
+use Rattle.closed_words.specs.version_words.specs.RunnerState.{RunnerState}
+use Rattle.closed_words.specs.version_words.specs.TableState.{TableState, IsOf}
+use Rattle.closed_words.specs.version_words.specs.Stages.{IsKeeper}
+use Rattle.closed_words.specs.version_words.specs.Events.{next_worker}
+use Rattle.closed_words.specs.version_words.proofs.Stages.{next_is_idle}
 use Rattle.settled_tables.specs.Seats.{IsNewWorker, AreNewWorkers, CameBack, AllCameBack, IsBack, AreBack, AreReports}
 
 -- a fact of each place, and of one more

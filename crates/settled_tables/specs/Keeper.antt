@@ -1,11 +1,11 @@
 -- The keeper of a table, which makes the workers and takes them back.
 use Rattle.std.specs.Prelude.{◌≡◌, ℕ, ◌<◌, [], true, false, None}
-use Rattle.structure_laws.specs.Meaning.{Meaning}
-use Rattle.epoch_core.specs.declared.stage.Stage.TheVariants as stages
-use Rattle.runner_parts.specs.Tests.{has}
+use Rattle.machine_states.specs.structure_laws.specs.Meaning.{Meaning}
+use Rattle.machine_states.specs.epoch_core.specs.declared.stage.Stage.TheVariants as stages
+use Rattle.machine_states.specs.runner_steps.specs.runner_parts.specs.Tests.{has}
 use Rattle.machine_states.specs.First.{keeper_part}
-use Rattle.version_words.specs.RunnerState.{RunnerState}
-use Rattle.version_words.specs.Stages.{IsAt, IsKeeper, HasJoined}
+use Rattle.closed_words.specs.version_words.specs.RunnerState.{RunnerState}
+use Rattle.closed_words.specs.version_words.specs.Stages.{IsAt, IsKeeper, HasJoined}
 
 -- an idle keeper that has split off so many workers and joined the first ones, so many; it has all its own node slots
 -- still

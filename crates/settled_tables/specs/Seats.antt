@@ -1,7 +1,7 @@
 -- The workers of a run: as they are given out, and as they come back.
 use Rattle.std.specs.Prelude.{◌≡◌, ℕ, ◌<◌, List, [], length, slice_index_or}
-use Rattle.version_words.specs.RunnerState.{RunnerState}
-use Rattle.version_words.specs.TableState.{TableState, IsOf}
+use Rattle.closed_words.specs.version_words.specs.RunnerState.{RunnerState}
+use Rattle.closed_words.specs.version_words.specs.TableState.{TableState, IsOf}
 use Rattle.settling.specs.epoch_slots.specs.Collects.{IsTidy}
 
 module _ {T : Type 0} (t : TableState T) where

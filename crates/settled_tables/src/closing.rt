@@ -1,6 +1,6 @@
 //! The end of a run: the workers are joined, and the table is settled and closed.
 ghost use Rattle.std.specs.Prelude.{◌≡◌, IfOk, vec_len};
-ghost use Rattle.version_words.specs.TableState.{IsOf};
+ghost use Rattle.closed_words.specs.version_words.specs.TableState.{IsOf};
 ghost use Rattle.closed_words.specs.Histories.{HoldsNoLock};
 ghost use Rattle.settling.specs.Settled.{MaySettle};
 ghost use Rattle.settled_tables.specs.Keeper.{IsIdleKeeper};
@@ -8,10 +8,10 @@ ghost use Rattle.settled_tables.specs.Once.{SectionsCameOnce};
 ghost use Rattle.settled_tables.specs.Seats.{AreBack, AreReports};
 
 use crate::workers::join_workers;
+use closed_words::version_words::{FlockTable, Runner, Words};
+use machine_states::structure_laws::Structure;
 use settling::settle;
 use std::alloc::{AllocError, Global};
-use structure_laws::Structure;
-use version_words::{FlockTable, Runner, Words};
 
 /// Settles a table whose workers have all been joined, wherever they stand, and closes it: no lock of its words is held.
 ///

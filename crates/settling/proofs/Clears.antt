@@ -4,44 +4,44 @@ use Rattle.std.proofs.Common.{◌≡◌, ◌≢◌, ℕ, suc, ◌+◌, ◌*◌, 
 use Rattle.std.specs.Prelude.{◌⊎◌}
 use Rattle.std.proofs.lemmas.Bool.{cases_lt, both_ways}
 use Rattle.std.proofs.lemmas.Bool.Decides.{nat_tests}
-use Rattle.body_terms.specs.Shape.{is_make}
-use Rattle.body_terms.specs.Word.{value_of, is_free}
-use Rattle.table_words.specs.Access.{written}
-use Rattle.table_words.specs.declared.access.Access.TheVariants.{Loads}
-use Rattle.table_words.specs.declared.spot.Spot.TheVariants as spots
-use Rattle.table_words.specs.Limits.{IsWithinLimits}
-use Rattle.table_words.proofs.Seen.{fits_is}
-use Rattle.structure_laws.specs.Meaning.{Meaning}
-use Rattle.structure_laws.specs.Laws.{Laws}
-use Rattle.runner_parts.specs.declared.entries.Left.{Left}
-use Rattle.runner_parts.specs.declared.entries.Published.{Published}
-use Rattle.runner_parts.specs.declared.event.EventKind.TheVariants as kinds
-use Rattle.epoch_core.specs.declared.stage.Stage.TheVariants as stages
-use Rattle.runner_parts.specs.Lists.{named_by}
-use Rattle.runner_parts.specs.State.{RunState, NodesState, ReadsState, PartState}
-use Rattle.runner_parts.specs.Tests.{has, is_walking, is_readable, is_between}
-use Rattle.runner_steps.specs.Outside.{when}
-use Rattle.runner_steps.specs.Asks.{ask_by, fitting, sizes_for}
-use Rattle.runner_steps.specs.AfterInRun.{over_if}
-use Rattle.runner_steps.specs.After.{after_by}
+use Rattle.machine_states.specs.runner_steps.specs.body_terms.specs.Shape.{is_make}
+use Rattle.machine_states.specs.runner_steps.specs.body_terms.specs.Word.{value_of, is_free}
+use Rattle.machine_states.specs.runner_steps.specs.table_words.specs.Access.{written}
+use Rattle.machine_states.specs.runner_steps.specs.table_words.specs.declared.access.Access.TheVariants.{Loads}
+use Rattle.machine_states.specs.runner_steps.specs.table_words.specs.declared.spot.Spot.TheVariants as spots
+use Rattle.machine_states.specs.runner_steps.specs.table_words.specs.Limits.{IsWithinLimits}
+use Rattle.machine_states.specs.runner_steps.specs.table_words.proofs.Seen.{fits_is}
+use Rattle.machine_states.specs.structure_laws.specs.Meaning.{Meaning}
+use Rattle.machine_states.specs.structure_laws.specs.Laws.{Laws}
+use Rattle.machine_states.specs.runner_steps.specs.runner_parts.specs.declared.entries.Left.{Left}
+use Rattle.machine_states.specs.runner_steps.specs.runner_parts.specs.declared.entries.Published.{Published}
+use Rattle.machine_states.specs.runner_steps.specs.runner_parts.specs.declared.event.EventKind.TheVariants as kinds
+use Rattle.machine_states.specs.epoch_core.specs.declared.stage.Stage.TheVariants as stages
+use Rattle.machine_states.specs.runner_steps.specs.runner_parts.specs.Lists.{named_by}
+use Rattle.machine_states.specs.runner_steps.specs.runner_parts.specs.State.{RunState, NodesState, ReadsState, PartState}
+use Rattle.machine_states.specs.runner_steps.specs.runner_parts.specs.Tests.{has, is_walking, is_readable, is_between}
+use Rattle.machine_states.specs.runner_steps.specs.Outside.{when}
+use Rattle.machine_states.specs.runner_steps.specs.Asks.{ask_by, fitting, sizes_for}
+use Rattle.machine_states.specs.runner_steps.specs.AfterInRun.{over_if}
+use Rattle.machine_states.specs.runner_steps.specs.After.{after_by}
 use Rattle.machine_states.specs.Sight.{Sight, sight, part_or_first}
 use Rattle.machine_states.specs.Reached.{Reached}
 use Rattle.machine_states.specs.World.{World, seat_of}
-use Rattle.map_history.specs.declared.op.Request.{Request}
-use Rattle.table_words.specs.declared.layout.Layout.{Layout}
+use Rattle.machine_states.specs.runner_steps.specs.map_history.specs.declared.op.Request.{Request}
+use Rattle.machine_states.specs.runner_steps.specs.table_words.specs.declared.layout.Layout.{Layout}
 use Rattle.machine_states.proofs.Steps.{some_same}
-use Rattle.machine_epochs.proofs.Places.{has_append}
-use Rattle.keeper_facts.specs.machine_invariant.specs.After.{AreAllowed}
+use Rattle.keeper_facts.specs.machine_epochs.proofs.Places.{has_append}
+use Rattle.reached_histories.specs.machine_facts.specs.machine_invariant.specs.After.{AreAllowed}
 use Rattle.keeper_facts.specs.runner_facts.specs.Keeper.{AllJoined}
 use Rattle.keeper_facts.specs.Freed.{HasLeft, IsCleared, IsFreed, IsAlone, StandsSeen, LocksTell}
 use Rattle.keeper_facts.proofs.Lists.{left_on}
 use Rattle.keeper_facts.proofs.Keeping.{after_keeps, noted_left}
-use Rattle.version_words.specs.RunnerState.{RunnerState}
-use Rattle.version_words.specs.TableState.{TableState, IsOf}
-use Rattle.version_words.specs.Events.{met_by, Makes}
-use Rattle.version_words.specs.Naming.{load_of}
-use Rattle.version_words.specs.Stages.{IsAt}
-use Rattle.version_words.proofs.Stages.{then_loaded_cell}
+use Rattle.try_lock.specs.commit_log.specs.version_words.specs.RunnerState.{RunnerState}
+use Rattle.try_lock.specs.commit_log.specs.version_words.specs.TableState.{TableState, IsOf}
+use Rattle.try_lock.specs.commit_log.specs.version_words.specs.Events.{met_by, Makes}
+use Rattle.try_lock.specs.commit_log.specs.version_words.specs.Naming.{load_of}
+use Rattle.try_lock.specs.commit_log.specs.version_words.specs.Stages.{IsAt}
+use Rattle.try_lock.specs.commit_log.specs.version_words.proofs.Stages.{then_loaded_cell}
 use Rattle.try_lock.specs.epoch_slots.specs.Entries.{KeepsOwn}
 use Rattle.try_lock.specs.epoch_slots.proofs.Outside.{reads_made, own_kept}
 use Rattle.try_lock.specs.section_runs.specs.Reached.{IsReached, run_of}
@@ -49,7 +49,7 @@ use Rattle.try_lock.specs.section_runs.specs.Ended.{EndsSo}
 use Rattle.try_lock.specs.section_runs.proofs.Going.{shaped}
 use Rattle.try_lock.specs.section_runs.proofs.Openeds.{stands_opened, opened_body}
 use Rattle.try_lock.specs.Reached.{MayHelp}
-use Rattle.keeper_facts.specs.machine_agreement.proofs.Releases.{get_more}
+use Rattle.reached_histories.specs.machine_facts.specs.machine_agreement.proofs.Releases.{get_more}
 use Rattle.settling.specs.Settled.{IsFront, LoadsLocks}
 use Rattle.settling.specs.Clearing.{cell_count, KeepsJoins, IsClearing, HasRun}
 use Rattle.settling.proofs.Growing.{front_same, front_on, Grows, grows_on, own_grows, grows_made, grows_ran, grows_opens, ran_walk}

@@ -3,26 +3,26 @@ use Rattle.std.specs.Prelude.{◌==◌, ◌||◌, Bool, slice_get, slice_index, 
 use Rattle.std.proofs.Common.{◌≡◌, ℕ, ◌+◌, ◌*◌, ◌<◌, ◌≤◌, List, [], ◌∷◌, length, ⊎_elim, sym, refl, ap, ◌∙◌, subst, arith, Some, None}
 use Rattle.std.proofs.lemmas.Bool.{cases_lt}
 use Rattle.std.proofs.lemmas.Bool.Decides.{nat_tests}
-use Rattle.body_terms.specs.Word.{value_of}
-use Rattle.table_words.specs.declared.spot.Spot.TheVariants.{Cell}
-use Rattle.table_words.specs.Limits.{IsWithinLimits}
-use Rattle.table_words.specs.Places.{address}
-use Rattle.runner_steps.specs.Asks.{sizes_for}
-use Rattle.structure_laws.specs.Meaning.{Meaning}
-use Rattle.structure_laws.specs.Laws.{Laws}
-use Rattle.runner_parts.specs.declared.event.EventKind.TheVariants as kinds
-use Rattle.runner_parts.specs.State.{NodesState, ReadsState, PartState}
-use Rattle.runner_parts.specs.Tests.{has}
+use Rattle.machine_states.specs.runner_steps.specs.body_terms.specs.Word.{value_of}
+use Rattle.machine_states.specs.runner_steps.specs.table_words.specs.declared.spot.Spot.TheVariants.{Cell}
+use Rattle.machine_states.specs.runner_steps.specs.table_words.specs.Limits.{IsWithinLimits}
+use Rattle.machine_states.specs.runner_steps.specs.table_words.specs.Places.{address}
+use Rattle.machine_states.specs.runner_steps.specs.Asks.{sizes_for}
+use Rattle.machine_states.specs.structure_laws.specs.Meaning.{Meaning}
+use Rattle.machine_states.specs.structure_laws.specs.Laws.{Laws}
+use Rattle.machine_states.specs.runner_steps.specs.runner_parts.specs.declared.event.EventKind.TheVariants as kinds
+use Rattle.machine_states.specs.runner_steps.specs.runner_parts.specs.State.{NodesState, ReadsState, PartState}
+use Rattle.machine_states.specs.runner_steps.specs.runner_parts.specs.Tests.{has}
 use Rattle.machine_states.specs.Reached.{Reached}
 use Rattle.machine_states.specs.Sight.{Sight, sight, part_or_first}
 use Rattle.machine_states.specs.World.{World, seat_of}
-use Rattle.keeper_facts.specs.machine_invariant.specs.After.{AreAllowed}
+use Rattle.reached_histories.specs.machine_facts.specs.machine_invariant.specs.After.{AreAllowed}
 use Rattle.keeper_facts.specs.runner_facts.specs.Keeper.{AllJoined}
 use Rattle.keeper_facts.specs.Freed.{IsCleared, IsFreed, IsAlone, LocksTell}
 use Rattle.reached_histories.specs.Laws.{HasHistory}
 use Rattle.reached_histories.proofs.Histories.{reached_have}
-use Rattle.version_words.specs.RunnerState.{RunnerState}
-use Rattle.version_words.specs.TableState.{TableState, IsOf}
+use Rattle.try_lock.specs.commit_log.specs.version_words.specs.RunnerState.{RunnerState}
+use Rattle.try_lock.specs.commit_log.specs.version_words.specs.TableState.{TableState, IsOf}
 use Rattle.try_lock.specs.epoch_slots.specs.Entries.{HasLeave, Enters, Exits}
 use Rattle.try_lock.specs.epoch_slots.proofs.Outside.{reads_made}
 use Rattle.settling.specs.Settled.{LoadsLocks, MaySettle, IsSettled, Settles}

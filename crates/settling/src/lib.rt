@@ -10,6 +10,4 @@ mod settles;
 pub use settles::settle;
 
 // Passed on to the layers above, so that they needn't name these libraries themselves.
-pub use keeper_facts;
-pub use keeper_facts::runner_facts;
-pub use runner_gate;
+pub use try_lock::section_runs::runner_gate;

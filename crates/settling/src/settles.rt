@@ -1,19 +1,19 @@
 //! The locks of a table whose workers have stopped are released.
 ghost use Rattle.std.specs.Prelude.{◌≡◌, ℕ, ◌+◌, ◌-◌, ◌<◌, true, length};
-ghost use Rattle.table_words.specs.Limits.{IsWithinLimits};
-ghost use Rattle.body_terms.specs.Word.{value_of};
-ghost use Rattle.version_words.specs.TableState.{IsOf};
+ghost use Rattle.machine_states.specs.runner_steps.specs.table_words.specs.Limits.{IsWithinLimits};
+ghost use Rattle.machine_states.specs.runner_steps.specs.body_terms.specs.Word.{value_of};
+ghost use Rattle.try_lock.specs.commit_log.specs.version_words.specs.TableState.{IsOf};
 ghost use Rattle.try_lock.specs.Reached.{MayHelp};
 ghost use Rattle.settling.specs.Settled.{MaySettle, Settles};
 ghost use Rattle.settling.specs.Clearing.{cell_count, KeepsJoins, IsClearing, HasRun};
 
-use body_terms::{Place, Steps, Word};
 use keeper_facts::what_the_keeper_saw_tells;
-use runner_gate::Free;
-use structure_laws::Structure;
+use machine_states::runner_steps::body_terms::{Place, Steps, Word};
+use machine_states::structure_laws::Structure;
+use try_lock::commit_log::version_words::{FlockTable, Runner};
 use try_lock::epoch_slots::{enter, exit};
 use try_lock::help;
-use version_words::{FlockTable, Runner};
+use try_lock::section_runs::runner_gate::Free;
 
 /// How many cells the table has.
 fn cells<S: Structure>(table: &FlockTable<S>) -> u32

@@ -4,12 +4,12 @@ use Rattle.std.specs.Prelude.{◌^◌, Option, Some}
 use Rattle.std.specs.FinMap.{get}
 use mathlib.Core.Logic.{dite}
 use native.Mathlib.Decide.{ℕ_discrete}
-use Rattle.map_history.specs.declared.op.Op.{Op}
-use Rattle.map_history.specs.AtKey.{Change, Keeps, Gets, Loses, left_by, left_at, change_at}
-use Rattle.map_history.specs.Keys.{key_of, IsOneKeyed}
-use Rattle.map_history.specs.Replay.{Pairs, map_after}
-use Rattle.map_history.proofs.Cells.{get-left, gets_given}
-use Rattle.body_terms.specs.Update.{upd}
+use Rattle.structure_laws.specs.map_history.specs.declared.op.Op.{Op}
+use Rattle.structure_laws.specs.map_history.specs.AtKey.{Change, Keeps, Gets, Loses, left_by, left_at, change_at}
+use Rattle.structure_laws.specs.map_history.specs.Keys.{key_of, IsOneKeyed}
+use Rattle.structure_laws.specs.map_history.specs.Replay.{Pairs, map_after}
+use Rattle.structure_laws.specs.map_history.proofs.Cells.{get-left, gets_given}
+use Rattle.structure_laws.specs.body_terms.specs.Update.{upd}
 use Rattle.structure_laws.specs.Sections.{IsAllowed}
 use Rattle.structure_laws.proofs.Changes.{upd_same, upd_other}
 

@@ -1,7 +1,7 @@
 -- What is stored in a key's flag and value is read as this.
 use Rattle.std.proofs.Common.{◌≡◌, ℕ, ◌<◌, Bool, true, false, cond, refl, ap, ◌∙◌, arith}
 use Rattle.std.specs.Prelude.{◌==◌, ◌^◌, Option, Some, None}
-use Rattle.body_terms.specs.Word.{value_of, next_word}
+use Rattle.structure_laws.specs.body_terms.specs.Word.{value_of, next_word}
 use Rattle.structure_laws.proofs.Changes.{value-next_word, value_small}
 use Rattle.structure_laws.proofs.Limits.{value-small}
 use Rattle.shared_laws.specs.Flagged.{held, flag_for, value_for}

@@ -10,8 +10,8 @@ use Rattle.std.proofs.lemmas.Cmp.{nat_cmp_total}
 use Rattle.std.proofs.lemmas.Bool.{and_from}
 use mathlib.Core.Logic.{dite}
 use native.Mathlib.Decide.{ℕ_discrete}
-use Rattle.small_lemmas.proofs.Numbers.{self_tested as self}
-use Rattle.map_history.specs.Replay.{Pairs}
+use Rattle.structure_laws.specs.table_words.specs.small_lemmas.proofs.Numbers.{self_tested as self}
+use Rattle.structure_laws.specs.map_history.specs.Replay.{Pairs}
 use Rattle.shared_laws.specs.Listing.{with_pair, listed}
 use Rattle.shared_laws.proofs.Numbers.{lt_true, lt_false}
 

@@ -6,13 +6,13 @@ use Rattle.std.proofs.lemmas.Bool.Decides.{nat_tests}
 use Rattle.std.proofs.lemmas.Bool.{true≢false}
 use mathlib.Core.Logic.{dite}
 use native.Mathlib.Decide.{ℕ_discrete}
-use Rattle.map_history.specs.declared.op.Op.{Op}
-use Rattle.map_history.specs.Replay.{Pairs}
-use Rattle.body_terms.specs.Update.{upd}
-use Rattle.body_terms.specs.declared.value.Init.{Init}
-use Rattle.body_terms.specs.declared.step.Step.TheVariants.{Take, Make, Retire}
-use Rattle.body_terms.specs.declared.thunk.Thunk.{Thunk}
-use Rattle.table_words.specs.declared.layout.Layout.{Layout}
+use Rattle.structure_laws.specs.map_history.specs.declared.op.Op.{Op}
+use Rattle.structure_laws.specs.map_history.specs.Replay.{Pairs}
+use Rattle.structure_laws.specs.body_terms.specs.Update.{upd}
+use Rattle.structure_laws.specs.body_terms.specs.declared.value.Init.{Init}
+use Rattle.structure_laws.specs.body_terms.specs.declared.step.Step.TheVariants.{Take, Make, Retire}
+use Rattle.structure_laws.specs.body_terms.specs.declared.thunk.Thunk.{Thunk}
+use Rattle.structure_laws.specs.table_words.specs.declared.layout.Layout.{Layout}
 use Rattle.structure_laws.specs.Scene.{Readings, Free, Live, Scene}
 use Rattle.structure_laws.specs.Meaning.{Meaning}
 use Rattle.structure_laws.specs.Shape.{HasStep, Shaped}

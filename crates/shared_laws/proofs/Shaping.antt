@@ -2,10 +2,10 @@
 use Rattle.std.proofs.Common.{◌≡◌, ℕ, zero, suc, ◌<◌, ◌≤◌, sym, subst, List, length, arith, ⊎_elim}
 use Rattle.std.specs.Prelude.{None}
 use Rattle.std.proofs.lemmas.Bool.{cases_eq}
-use Rattle.body_terms.specs.declared.step.Step.{Step}
-use Rattle.body_terms.specs.Shape.{IsShaped}
-use Rattle.body_terms.specs.Fault.{fault_at, end_fault}
-use Rattle.body_terms.proofs.ShapeLemmas.{shaped_without}
+use Rattle.structure_laws.specs.body_terms.specs.declared.step.Step.{Step}
+use Rattle.structure_laws.specs.body_terms.specs.Shape.{IsShaped}
+use Rattle.structure_laws.specs.body_terms.specs.Fault.{fault_at, end_fault}
+use Rattle.structure_laws.specs.body_terms.proofs.ShapeLemmas.{shaped_without}
 
 -- the first n steps have no fault, and nothing is missing at the end
 abbrev pub AreFaultless : List Step → ℕ → Type 0

@@ -2,11 +2,11 @@
 use Rattle.std.proofs.Common.{◌≡◌, Bool, true, false, refl, List, [], ◌∷◌, inl, inr}
 use Rattle.std.specs.Prelude.{◌||◌, ◌++◌, ℕ, Option, Some, None}
 use Rattle.std.specs.List.{list_any}
-use Rattle.map_history.specs.declared.op.Op.{Op}
-use Rattle.map_history.specs.declared.op.Op.TheVariants.{Get, Ins, Del, Put, Mov}
-use Rattle.map_history.specs.Words.{word_of}
+use Rattle.structure_laws.specs.map_history.specs.declared.op.Op.{Op}
+use Rattle.structure_laws.specs.map_history.specs.declared.op.Op.TheVariants.{Get, Ins, Del, Put, Mov}
+use Rattle.structure_laws.specs.map_history.specs.Words.{word_of}
 use Rattle.structure_laws.specs.Fitting.{Leaves}
-use Rattle.map_history.specs.AtKey.{reply_at, changes_at}
+use Rattle.structure_laws.specs.map_history.specs.AtKey.{reply_at, changes_at}
 
 -- where an operation leaves its key what it had, its reply says so
 pub reply_leaves : (had : Option ℕ) (op : Op) → changes_at had op ≡ false → Leaves op (word_of (reply_at had op))

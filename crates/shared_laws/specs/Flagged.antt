@@ -1,7 +1,7 @@
 -- A key's value in two words: a flag that is 1 where the key has one, and the value. Any other flag says that it has
 -- none.
 use Rattle.std.specs.Prelude.{ℕ, ◌==◌, cond, Option, None, Some}
-use Rattle.body_terms.specs.Word.{value_of}
+use Rattle.structure_laws.specs.body_terms.specs.Word.{value_of}
 
 -- what a key has, by the words of its flag and of its value
 abbrev pub held : ℕ → ℕ → Option ℕ

@@ -1,11 +1,11 @@
 //! What an operation does to its own key.
 ghost use Rattle.std.specs.Prelude.{◌≡◌, false};
 ghost use Rattle.std.specs.FinMap.{get};
-ghost use Rattle.map_history.specs.AtKey.{reply_at, left_at, changes_at};
-ghost use Rattle.map_history.specs.Keys.{key_of, IsOneKeyed};
-ghost use Rattle.map_history.specs.Replay.{Pairs, reply_of, map_after};
+ghost use Rattle.structure_laws.specs.map_history.specs.AtKey.{reply_at, left_at, changes_at};
+ghost use Rattle.structure_laws.specs.map_history.specs.Keys.{key_of, IsOneKeyed};
+ghost use Rattle.structure_laws.specs.map_history.specs.Replay.{Pairs, reply_of, map_after};
 
-use map_history::{Op, Reply};
+use structure_laws::map_history::{Op, Reply};
 
 /// The reply to an operation whose key had this value, or none: where the operation has no second key, the map's.
 pub fn reply_at(had: Option<u32>, op: Op) -> Reply

@@ -2,7 +2,7 @@
 ghost use Rattle.std.specs.Prelude.{◌≡◌};
 ghost use Rattle.shared_laws.specs.Flagged.{held, flag_for, value_for};
 
-use body_terms::Word;
+use structure_laws::body_terms::Word;
 
 /// What a key has, by the words of its flag and of its value.
 pub fn held(flag: Word, value: Word) -> Option<u32>

@@ -1,10 +1,10 @@
 //! Steps of a body, each on one line.
 ghost use Rattle.std.specs.Prelude.{◌≡◌};
-ghost use Rattle.body_terms.specs.Word.{value_of};
-ghost use Rattle.body_terms.specs.declared.value.Value.TheVariants.{Const};
-ghost use Rattle.body_terms.specs.declared.step.Step.TheVariants.{Load, Want, Store, Answer};
+ghost use Rattle.structure_laws.specs.body_terms.specs.Word.{value_of};
+ghost use Rattle.structure_laws.specs.body_terms.specs.declared.value.Value.TheVariants.{Const};
+ghost use Rattle.structure_laws.specs.body_terms.specs.declared.step.Step.TheVariants.{Load, Want, Store, Answer};
 
-use body_terms::{Place, Step, Value, Word};
+use structure_laws::body_terms::{Place, Step, Value, Word};
 
 /// Loads the cell at this place into a register.
 pub fn load(place: Place, into: u8) -> Step

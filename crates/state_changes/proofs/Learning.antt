@@ -1,9 +1,9 @@
 -- What a runner learns of a word changes nothing but what it knows.
 use Rattle.std.proofs.Common.{◌≡◌, ℕ, [], ◌∷◌, refl}
 use Rattle.std.specs.Prelude.{Bool, true, false, ◌++◌, ◌==◌, if◌then◌else◌}
-use Rattle.runner_parts.specs.declared.entries.Known.{Known}
-use Rattle.runner_parts.specs.State.{RecordsState}
-use Rattle.runner_parts.specs.Lists.{learned}
+use Rattle.runner_steps.specs.runner_parts.specs.declared.entries.Known.{Known}
+use Rattle.runner_steps.specs.runner_parts.specs.State.{RecordsState}
+use Rattle.runner_steps.specs.runner_parts.specs.Lists.{learned}
 
 learned_by : (zero : Bool) (s : RecordsState) (x : Known) → (if zero then s else record s { known = s.known ++ x ∷ [] })
     ≡ record s { known = (if zero then s else record s { known = s.known ++ x ∷ [] }).known }

@@ -1,7 +1,7 @@
 -- A part with some of its lists changed.
 use Rattle.std.specs.Prelude.{ℕ, Bool, ◌==◌, if◌then◌else◌}
-use Rattle.runner_parts.specs.State.{PartState}
-use Rattle.runner_parts.specs.Lists.{slot_made, slot_back}
+use Rattle.runner_steps.specs.runner_parts.specs.State.{PartState}
+use Rattle.runner_steps.specs.runner_parts.specs.Lists.{slot_made, slot_back}
 
 -- a Make's slot is live where the exchange won, and comes back otherwise
 abbrev pub slot_decided : PartState → ℕ → Bool → ℕ → PartState

@@ -1,7 +1,7 @@
 //! Copies of a runner's part.
 ghost use Rattle.std.specs.Prelude.{◌≡◌, IfOk};
 
-use runner_parts::{Descriptors, Finished, Nodes, Part, Reads, Records, Run};
+use runner_steps::runner_parts::{Descriptors, Finished, Nodes, Part, Reads, Records, Run};
 use std::alloc::{AllocError, Global};
 
 fn run_copy(alloc: Global, run: &Run) -> Result<Run, AllocError>

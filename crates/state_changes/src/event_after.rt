@@ -1,7 +1,7 @@
 //! The part after an event.
 ghost use Rattle.std.specs.Prelude.{◌≡◌, ◌<◌, length, OnOk};
-ghost use Rattle.table_words.specs.Limits.{IsWithinLimits};
-ghost use Rattle.table_words.specs.Access.{written, wins};
+ghost use Rattle.runner_steps.specs.table_words.specs.Limits.{IsWithinLimits};
+ghost use Rattle.runner_steps.specs.table_words.specs.Access.{written, wins};
 ghost use Rattle.runner_steps.specs.AfterInRun.{with_run};
 ghost use Rattle.runner_steps.specs.After.{line_after, stepped, counted, epoch_after, own_epoch, is_busy, is_moved, is_late_join, left_more, noted, after};
 ghost use Rattle.runner_steps.specs.Reads.{only_loads_after};
@@ -13,12 +13,12 @@ use crate::line::{
     retire_committed, stamp_agreed,
 };
 use crate::outside::outside_after;
-use body_terms::Micro;
 use runner_asks::{is_open_run, next_of};
-use runner_parts::{EventKind, Left, Part, Records, Run};
+use runner_steps::body_terms::Micro;
+use runner_steps::runner_parts::structure_laws::Structure;
+use runner_steps::runner_parts::{EventKind, Left, Part, Records, Run};
+use runner_steps::table_words::{Access, Layout, Spot};
 use std::alloc::{AllocError, Global};
-use structure_laws::Structure;
-use table_words::{Access, Layout, Spot};
 
 /// The part after an event of a run that stood before this step.
 fn line_after<S: Structure>(

@@ -1,17 +1,17 @@
 //! What an event of a run makes of the part.
 ghost use Rattle.std.specs.Prelude.{◌≡◌, ◌≤◌, ◌<◌, ◌^◌, length, OnOk, IfOk};
-ghost use Rattle.table_words.specs.Limits.{IsWithinLimits};
+ghost use Rattle.runner_steps.specs.table_words.specs.Limits.{IsWithinLimits};
 ghost use Rattle.runner_steps.specs.Sections.{settles, outcome_of, next_of};
 ghost use Rattle.runner_steps.specs.AfterInRun.{goes_on, agrees, opened_more, cell_loaded, cell_exchanged, number_loaded, word_committed, lock_committed, fill_loaded, fill_stored, make_committed, retire_committed, stamp_agreed, clock_raised, reply_agreed, done_set, finished_of, over_if, run_over, released_more, lock_released, place_of, is_of_lock, commit_after, retired_slot_of, reply_word_of, ended_more};
 ghost use Rattle.runner_steps.specs.After.{line_after, inside_after};
-ghost use Rattle.runner_parts.specs.State.{PartState};
+ghost use Rattle.runner_steps.specs.runner_parts.specs.State.{PartState};
 
-use body_terms::{Micro, Outcome, Place, Word, micro_at};
 use runner_asks::{is_end, leaves, reply_in, settled, thunk_of};
-use runner_parts::{EventKind, Finished, Part, Published, Run};
+use runner_steps::body_terms::{Micro, Outcome, Place, Word, micro_at};
+use runner_steps::runner_parts::structure_laws::Structure;
+use runner_steps::runner_parts::{EventKind, Finished, Part, Published, Run};
+use runner_steps::table_words::Layout;
 use std::alloc::{AllocError, Global};
-use structure_laws::Structure;
-use table_words::Layout;
 
 /// The run behind the checks that pass.
 fn settle<S: Structure>(run: &mut Run, structure: &S, layout: Layout)

@@ -1,17 +1,17 @@
 //! What a step of a run's line makes of the part.
 ghost use Rattle.std.specs.Prelude.{◌≡◌, ◌<◌, ◌+◌, ◌^◌, length, OnOk};
-ghost use Rattle.table_words.specs.Limits.{IsWithinLimits};
+ghost use Rattle.runner_steps.specs.table_words.specs.Limits.{IsWithinLimits};
 ghost use Rattle.state_changes.specs.Parts.{slot_decided};
 ghost use Rattle.runner_steps.specs.AfterInRun.{with_run, opened_more, cell_loaded, cell_exchanged, number_loaded, word_committed, lock_committed, fill_loaded, fill_stored, make_committed, retire_committed, stamp_agreed, clock_raised, reply_agreed, done_set, run_over, released_more, lock_released, commit_after};
 
 use crate::inside::{agrees, finished_of, goes_on, is_of_lock, over_if};
-use body_terms::{Micro, Place, Word};
 use runner_asks::{LAST_CLOCK, is_end, next_of, thunk_of};
-use runner_parts::{Part, Run};
 use runner_steps::agreed_on;
+use runner_steps::body_terms::{Micro, Place, Word};
+use runner_steps::runner_parts::structure_laws::Structure;
+use runner_steps::runner_parts::{Part, Run};
+use runner_steps::table_words::Layout;
 use std::alloc::{AllocError, Global};
-use structure_laws::Structure;
-use table_words::Layout;
 
 /// The opening: one more word.
 pub fn opened_more(part: &mut Part, mut run: Run, found: u64) -> Result<(), AllocError>

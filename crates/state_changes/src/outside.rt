@@ -1,19 +1,19 @@
 //! What an event outside a run makes of the part.
 ghost use Rattle.std.specs.Prelude.{◌≡◌, ◌≤◌, ◌<◌, ◌^◌, OnOk};
-ghost use Rattle.table_words.specs.Limits.{IsWithinLimits};
+ghost use Rattle.runner_steps.specs.table_words.specs.Limits.{IsWithinLimits};
 ghost use Rattle.runner_steps.specs.AfterOutside.{with_stage, entered, collected, scanned, scan_one_after, advance_after, split_after, read_after, entry_after, private_load_after, private_store_after, published_by, hold_after, open_after, retire_after};
-ghost use Rattle.runner_parts.specs.Lists.{no_reads};
+ghost use Rattle.runner_steps.specs.runner_parts.specs.Lists.{no_reads};
 ghost use Rattle.runner_steps.specs.Reads.{read_plan_after, read_clock_after, read_reply_after, read_stamped_after};
 ghost use Rattle.runner_steps.specs.After.{joins, outside_after};
 
-use body_terms::{Place, Thunk};
-use epoch_core::{LAST_EPOCH, Stage};
 use runner_asks::{LAST_CLOCK, reply_in};
-use runner_parts::{EventKind, Look, LookStage, Part, Published, Reads, Run};
+use runner_steps::body_terms::{Place, Thunk};
+use runner_steps::runner_parts::epoch_core::{LAST_EPOCH, Stage};
+use runner_steps::runner_parts::structure_laws::Structure;
+use runner_steps::runner_parts::{EventKind, Look, LookStage, Part, Published, Reads, Run};
+use runner_steps::table_words::Layout;
 use runner_steps::{agreed_on, slot_count};
 use std::alloc::{AllocError, Global};
-use structure_laws::Structure;
-use table_words::Layout;
 
 /// Nothing has been read yet.
 fn no_reads(alloc: Global) -> Reads

@@ -1,20 +1,20 @@
 -- A change of cells leaves what was read behind a free lock, where no place changes that a free lock guards.
 use Rattle.std.proofs.Common.{◌≡◌, ℕ, suc, ◌<◌, ◌≤◌, true, false, sym, ap, ◌∙◌, ⊎_elim, arith}
 use Rattle.std.specs.Prelude.{◌⊎◌}
-use Rattle.body_terms.specs.Update.{upd}
-use Rattle.body_terms.specs.Word.{version_of, next_word, is_free}
-use Rattle.body_terms.specs.declared.value.Value.{Value}
-use Rattle.body_terms.specs.declared.step.Step.TheVariants.{Load, Store}
-use Rattle.table_words.specs.declared.layout.Layout.{Layout}
-use Rattle.table_words.specs.Limits.{IsWithinLimits}
-use Rattle.structure_laws.specs.Scene.{Readings, Section, Scene, Free}
-use Rattle.structure_laws.specs.Meaning.{Meaning}
-use Rattle.structure_laws.specs.Sections.{value_in, Here, IsStep, Holds}
-use Rattle.structure_laws.specs.Cells.{IsSeen, IsOutside, cell_of}
-use Rattle.structure_laws.specs.Sound.{IsRead}
-use Rattle.structure_laws.specs.Lawful.{IsLawful}
-use Rattle.structure_laws.specs.Laws.{Laws}
-use Rattle.structure_laws.proofs.Changes.{upd_other}
+use Rattle.agreement_core.specs.body_terms.specs.Update.{upd}
+use Rattle.agreement_core.specs.body_terms.specs.Word.{version_of, next_word, is_free}
+use Rattle.agreement_core.specs.body_terms.specs.declared.value.Value.{Value}
+use Rattle.agreement_core.specs.body_terms.specs.declared.step.Step.TheVariants.{Load, Store}
+use Rattle.agreement_core.specs.table_words.specs.declared.layout.Layout.{Layout}
+use Rattle.agreement_core.specs.table_words.specs.Limits.{IsWithinLimits}
+use Rattle.agreement_core.specs.section_lines.specs.structure_laws.specs.Scene.{Readings, Section, Scene, Free}
+use Rattle.agreement_core.specs.section_lines.specs.structure_laws.specs.Meaning.{Meaning}
+use Rattle.agreement_core.specs.section_lines.specs.structure_laws.specs.Sections.{value_in, Here, IsStep, Holds}
+use Rattle.agreement_core.specs.section_lines.specs.structure_laws.specs.Cells.{IsSeen, IsOutside, cell_of}
+use Rattle.agreement_core.specs.section_lines.specs.structure_laws.specs.Sound.{IsRead}
+use Rattle.agreement_core.specs.section_lines.specs.structure_laws.specs.Lawful.{IsLawful}
+use Rattle.agreement_core.specs.section_lines.specs.structure_laws.specs.Laws.{Laws}
+use Rattle.agreement_core.specs.section_lines.specs.structure_laws.proofs.Changes.{upd_other}
 use Rattle.read_answers.specs.Looks.{ReadsStand}
 use Rattle.machine_scenes.proofs.Links.{gives, outside_used, true_false}
 

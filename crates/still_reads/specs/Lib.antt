@@ -1,1 +1,3 @@
 pub mod Standing
+-- Passed on to the layers above, so that they needn't name these libraries themselves.
+pub use Rattle.agreement_core

@@ -1,9 +1,9 @@
 //! The law of standing readings, on a contract.
-ghost use Rattle.table_words.specs.declared.layout.Layout.{Layout};
-ghost use Rattle.table_words.specs.Limits.{IsWithinLimits};
+ghost use Rattle.agreement_core.specs.table_words.specs.declared.layout.Layout.{Layout};
+ghost use Rattle.agreement_core.specs.table_words.specs.Limits.{IsWithinLimits};
 ghost use Rattle.still_reads.specs.Standing.{WalksBegin, StepsKeepWalks};
 
-use structure_laws::Structure;
+use agreement_core::section_lines::structure_laws::Structure;
 
 /// Over every structure: where an entered runner has read a lock free, and behind it a place that this lock guards,
 /// the place holds what was read as long as the lock holds that word. It is so at first, and each enabled step

@@ -4,7 +4,7 @@ use Rattle.std.specs.Prelude.{◌==◌, ◌&&◌, ◌-◌, Some, [], ◌∷◌, 
 use Rattle.std.proofs.lemmas.Bool.{true≢false}
 use mathlib.Core.Logic.{dite}
 use native.Mathlib.Decide.{ℕ_discrete}
-use Rattle.small_lemmas.proofs.Numbers.{zero_not_suc as zero_suc}
+use Rattle.table_words.specs.small_lemmas.proofs.Numbers.{zero_not_suc as zero_suc}
 use Rattle.body_terms.specs.Word.{value_of}
 use Rattle.body_terms.specs.declared.value.Value.{Value}
 use Rattle.body_terms.specs.declared.step.Step.TheVariants.{Want, Store}

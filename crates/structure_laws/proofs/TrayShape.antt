@@ -2,7 +2,7 @@
 use Rattle.std.proofs.Common.{◌≡◌, ℕ, zero, suc, ◌<◌, refl, subst, arith}
 use Rattle.std.proofs.lemmas.List.Elements.{All-nil, All-cons}
 use Rattle.std.specs.Prelude.{◌-◌, Some, List, [], ◌∷◌, All}
-use Rattle.small_lemmas.proofs.Lists.{some_same as some_inj}
+use Rattle.table_words.specs.small_lemmas.proofs.Lists.{some_same as some_inj}
 use Rattle.body_terms.specs.Word.{value_of}
 use Rattle.body_terms.specs.declared.value.Value.{Value}
 use Rattle.body_terms.specs.declared.value.Value.TheVariants.{Const, Of, Made}

@@ -14,3 +14,7 @@ pub mod Tray
 pub mod Planner
 pub mod Stand
 pub mod Ranks
+-- Passed on to the layers above, so that they needn't name these libraries themselves.
+pub use Rattle.body_terms
+pub use Rattle.map_history
+pub use Rattle.table_words

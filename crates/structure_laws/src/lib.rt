@@ -15,3 +15,8 @@ pub use laws::{tray_meets_the_laws, tray_moves_are_lawful};
 pub use ranks::ranks_fall;
 pub use structure::Structure;
 pub use tray::tray_links;
+
+// Passed on to the layers above, so that they needn't name these libraries themselves.
+pub use body_terms;
+pub use map_history;
+pub use table_words;

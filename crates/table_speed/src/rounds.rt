@@ -3,18 +3,18 @@
 //! Each kind's loop stands in a function of its own that is given the table, as in a thread. In one function with all
 //! that comes before and after, the loops' own counters would go through memory.
 ghost use Rattle.std.specs.Prelude.{◌≡◌, ◌<◌, length, None};
-ghost use Rattle.epoch_core.specs.declared.stage.Stage.TheVariants as stages;
-ghost use Rattle.table_words.specs.Limits.{IsWithinLimits};
-ghost use Rattle.version_words.specs.TableState.{IsOf};
-ghost use Rattle.version_words.specs.Stages.{IsAt, HasFree};
+ghost use Rattle.table_tests.specs.epoch_core.specs.declared.stage.Stage.TheVariants as stages;
+ghost use Rattle.table_tests.specs.table_words.specs.Limits.{IsWithinLimits};
+ghost use Rattle.table_tests.specs.version_words.specs.TableState.{IsOf};
+ghost use Rattle.table_tests.specs.version_words.specs.Stages.{IsAt, HasFree};
 
 use crate::kinds::Kind;
 use std::alloc::{AllocError, Global};
 use table_tests::interleave_core::Tray;
+use table_tests::version_words::{FlockTable, Runner};
 use table_tests::{
     collect, crew, enter, entry, exit, fetch, fetch_word, gather, look, new_table, put, slot_of,
 };
-use version_words::{FlockTable, Runner};
 
 /// Loads the stamp word of request 0, so many times, and adds up what was found.
 #[inline(never)]

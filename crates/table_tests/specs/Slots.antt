@@ -1,8 +1,8 @@
 -- How the walks number slots.
 use Rattle.std.specs.Prelude.{ℕ, ◌+◌}
-use Rattle.table_words.specs.declared.layout.Layout.{Layout}
-use Rattle.table_words.specs.Places.{slot_count}
-use Rattle.structure_laws.specs.Tray.{tray}
+use Rattle.machine_states.specs.runner_steps.specs.table_words.specs.declared.layout.Layout.{Layout}
+use Rattle.machine_states.specs.runner_steps.specs.table_words.specs.Places.{slot_count}
+use Rattle.machine_states.specs.structure_laws.specs.Tray.{tray}
 
 -- a descriptor among all slots: the node slots come first
 abbrev pub slot_of : Layout → ℕ → ℕ

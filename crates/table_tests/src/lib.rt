@@ -14,3 +14,4 @@ pub use walks::{
 
 // Passed on to the layers above, so that they needn't name these libraries themselves.
 pub use interleave_core;
+pub use version_words;

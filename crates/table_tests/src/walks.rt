@@ -1,24 +1,24 @@
 //! Steps in the order in which a runner makes them.
 ghost use Rattle.std.specs.Prelude.{◌≡◌, ◌<◌, ◌≤◌, ◌+◌, ◌&&◌, nat_lt, length, IfOk, None};
-ghost use Rattle.epoch_core.specs.declared.stage.Stage.TheVariants as stages;
-ghost use Rattle.epoch_core.specs.State.{last_epoch};
-ghost use Rattle.epoch_core.specs.Moves.{is_clear};
-ghost use Rattle.structure_laws.specs.Tray.{tray};
+ghost use Rattle.machine_states.specs.epoch_core.specs.declared.stage.Stage.TheVariants as stages;
+ghost use Rattle.machine_states.specs.epoch_core.specs.State.{last_epoch};
+ghost use Rattle.machine_states.specs.epoch_core.specs.Moves.{is_clear};
+ghost use Rattle.machine_states.specs.structure_laws.specs.Tray.{tray};
 ghost use Rattle.machine_states.specs.First.{worker_part};
 ghost use Rattle.version_words.specs.TableState.{IsOf};
 ghost use Rattle.version_words.specs.Events.{start_of};
-ghost use Rattle.table_words.specs.Limits.{IsWithinLimits};
-ghost use Rattle.table_words.specs.Places.{descriptor_count};
+ghost use Rattle.machine_states.specs.runner_steps.specs.table_words.specs.Limits.{IsWithinLimits};
+ghost use Rattle.machine_states.specs.runner_steps.specs.table_words.specs.Places.{descriptor_count};
 ghost use Rattle.table_tests.specs.Slots.{slot_of};
 ghost use Rattle.version_words.specs.Stages.{IsAt, IsKeeper, HasJoined, HasFree};
 
-use body_terms::{Place, Word};
-use epoch_core::LAST_EPOCH;
 use interleave_core::Tray;
-use map_history::{Op, Request};
-use runner_steps::slot_count;
+use machine_states::epoch_core::LAST_EPOCH;
+use machine_states::runner_steps::body_terms::{Place, Word};
+use machine_states::runner_steps::map_history::{Op, Request};
+use machine_states::runner_steps::slot_count;
+use machine_states::runner_steps::table_words::Layout;
 use std::alloc::{AllocError, Global};
-use table_words::Layout;
 use version_words::{FlockTable, Runner, Words};
 
 /// Enters, and gives the epoch of the entry.

@@ -7,33 +7,33 @@ use Rattle.std.proofs.lemmas.Bool.Decides.{nat_tests}
 use Rattle.std.proofs.lemmas.Nat.{mul-le}
 use Rattle.std.proofs.lemmas.Option.{slice_get-get_or}
 use Rattle.std.proofs.Math.Nat.{mod-one}
-use Rattle.map_history.specs.declared.op.Op.TheVariants.{Get}
-use Rattle.map_history.specs.declared.op.Request.{Request}
-use Rattle.map_history.specs.Replay.{Pairs}
-use Rattle.map_history.specs.Requests.{AreInOrder}
-use Rattle.history_orders.proofs.Replays.{map-oldest_first}
-use Rattle.history_orders.specs.Turns.{Follows}
+use Rattle.machine_states.specs.runner_steps.specs.map_history.specs.declared.op.Op.TheVariants.{Get}
+use Rattle.machine_states.specs.runner_steps.specs.map_history.specs.declared.op.Request.{Request}
+use Rattle.machine_states.specs.runner_steps.specs.map_history.specs.Replay.{Pairs}
+use Rattle.machine_states.specs.runner_steps.specs.map_history.specs.Requests.{AreInOrder}
+use Rattle.lone_reads.specs.seq_read.specs.history_orders.proofs.Replays.{map-oldest_first}
+use Rattle.lone_reads.specs.seq_read.specs.history_orders.specs.Turns.{Follows}
 use Rattle.map_sizes.specs.Sizes.{HaveFirstStamps, map_behind, peak}
 use Rattle.map_sizes.proofs.InOrder.{replayed}
 use Rattle.map_sizes.proofs.Peaks.{below_peak}
-use Rattle.body_terms.specs.Word.{version_of}
-use Rattle.table_words.specs.declared.spot.Spot.TheVariants.{Cell, Stamp}
-use Rattle.structure_laws.specs.Meaning.{Meaning}
-use Rattle.runner_parts.specs.State.{PartState}
-use Rattle.runner_parts.specs.Tests.{has}
-use Rattle.runner_steps.specs.After.{leaves}
+use Rattle.machine_states.specs.runner_steps.specs.body_terms.specs.Word.{version_of}
+use Rattle.machine_states.specs.runner_steps.specs.table_words.specs.declared.spot.Spot.TheVariants.{Cell, Stamp}
+use Rattle.machine_states.specs.structure_laws.specs.Meaning.{Meaning}
+use Rattle.machine_states.specs.runner_steps.specs.runner_parts.specs.State.{PartState}
+use Rattle.machine_states.specs.runner_steps.specs.runner_parts.specs.Tests.{has}
+use Rattle.machine_states.specs.runner_steps.specs.After.{leaves}
 use Rattle.machine_states.specs.First.{falling, keeper_part}
 use Rattle.machine_states.specs.Sight.{Sight, part_or_first}
 use Rattle.machine_states.proofs.Steps.{none_some}
-use Rattle.runner_parts.specs.Lists.{entry_count}
-use Rattle.closed_words.specs.reached_histories.specs.Requests.{or_none, requests_of}
-use Rattle.closed_words.specs.reached_histories.specs.Laws.{HasHistory}
+use Rattle.machine_states.specs.runner_steps.specs.runner_parts.specs.Lists.{entry_count}
+use Rattle.reached_facts.specs.request_facts.specs.reached_histories.specs.Requests.{or_none, requests_of}
+use Rattle.reached_facts.specs.request_facts.specs.reached_histories.specs.Laws.{HasHistory}
 use Rattle.version_words.specs.RunnerState.{RunnerState}
 use Rattle.version_words.specs.TableState.{TableState, WordsState, IsClosing, word_of}
-use Rattle.serving.specs.resource_bounds.specs.Versions.{VersionsAreCounted, run_count, open_count, runs_of, runs_below}
-use Rattle.serving.specs.resource_bounds.specs.InUse.{FewAreInUse, NoneIsHeld, entries_below}
-use Rattle.settling.specs.keeper_facts.specs.Freed.{IsFreed, IsPublished, LocksTell}
-use Rattle.settling.specs.runner_facts.specs.Keeper.{AllJoined}
+use Rattle.free_serving.specs.resource_bounds.specs.Versions.{VersionsAreCounted, run_count, open_count, runs_of, runs_below}
+use Rattle.free_serving.specs.resource_bounds.specs.InUse.{FewAreInUse, NoneIsHeld, entries_below}
+use Rattle.reached_facts.specs.keeper_facts.specs.Freed.{IsFreed, IsPublished, LocksTell}
+use Rattle.reached_facts.specs.keeper_facts.specs.runner_facts.specs.Keeper.{AllJoined}
 use Rattle.free_serving.specs.Left.{Rises}
 use Rattle.threaded_runs.specs.Own.{own_requests}
 use Rattle.threaded_runs.specs.Runs.{AreEntered, stamp_of}

@@ -6,11 +6,11 @@ use Rattle.std.proofs.Math.Nat.{le-min, min-le_left, min-le_right}
 use Rattle.std.proofs.lemmas.List.{take_more, take_all}
 use Rattle.std.proofs.lemmas.List.Sums.{sum_by-cons}
 use Rattle.std.proofs.lemmas.Bool.{true≢false}
-use Rattle.small_lemmas.proofs.Numbers.{last_or_before, self_tested}
-use Rattle.body_terms.specs.Counted.{counted_on}
-use Rattle.settling.specs.runner_gate.specs.Asks.{Asks}
-use Rattle.serving.specs.declared.answers.Served.{Served}
-use Rattle.serving.specs.declared.answers.Served.TheVariants as stops
+use Rattle.machine_states.specs.epoch_core.specs.small_lemmas.proofs.Numbers.{last_or_before, self_tested}
+use Rattle.machine_states.specs.runner_steps.specs.body_terms.specs.Counted.{counted_on}
+use Rattle.settled_tables.specs.settling.specs.runner_gate.specs.Asks.{Asks}
+use Rattle.free_serving.specs.serving.specs.declared.answers.Served.{Served}
+use Rattle.free_serving.specs.serving.specs.declared.answers.Served.TheVariants as stops
 use Rattle.free_serving.specs.Left.{least_asks}
 use Rattle.threaded_runs.specs.declared.job.Finished.{Finished}
 use Rattle.threaded_runs.specs.Asks.{halted_in}

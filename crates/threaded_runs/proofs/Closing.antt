@@ -5,55 +5,55 @@ use mathlib.Core.Logic.{dite}
 use native.Mathlib.Decide.{ℕ_discrete}
 use Rattle.std.proofs.lemmas.Bool.{cases_lt}
 use Rattle.std.proofs.lemmas.Option.{slice_get_within}
-use Rattle.small_lemmas.proofs.Bools.{from_both as true_false}
-use Rattle.map_history.specs.declared.op.Request.{Request}
-use Rattle.table_words.specs.declared.layout.Layout.{Layout}
-use Rattle.table_words.specs.declared.spot.Spot.{Spot}
-use Rattle.table_words.specs.declared.spot.Spot.TheVariants.{Cell, Stamp, DoneWord}
-use Rattle.table_words.specs.Seen.{seen}
-use Rattle.structure_laws.specs.Cells as cells
-use Rattle.structure_laws.specs.Meaning.{Meaning}
-use Rattle.runner_parts.specs.declared.entries.Known.{Known}
-use Rattle.runner_parts.specs.declared.entries.Published.{Published}
-use Rattle.runner_parts.specs.State.{PartState}
-use Rattle.runner_parts.specs.Tests.{has, has_pair, is_answered}
-use Rattle.runner_steps.specs.Asks.{sizes_for}
-use Rattle.runner_steps.specs.After.{leaves}
+use Rattle.machine_states.specs.epoch_core.specs.small_lemmas.proofs.Bools.{from_both as true_false}
+use Rattle.machine_states.specs.runner_steps.specs.map_history.specs.declared.op.Request.{Request}
+use Rattle.machine_states.specs.runner_steps.specs.table_words.specs.declared.layout.Layout.{Layout}
+use Rattle.machine_states.specs.runner_steps.specs.table_words.specs.declared.spot.Spot.{Spot}
+use Rattle.machine_states.specs.runner_steps.specs.table_words.specs.declared.spot.Spot.TheVariants.{Cell, Stamp, DoneWord}
+use Rattle.machine_states.specs.runner_steps.specs.table_words.specs.Seen.{seen}
+use Rattle.machine_states.specs.structure_laws.specs.Cells as cells
+use Rattle.machine_states.specs.structure_laws.specs.Meaning.{Meaning}
+use Rattle.machine_states.specs.runner_steps.specs.runner_parts.specs.declared.entries.Known.{Known}
+use Rattle.machine_states.specs.runner_steps.specs.runner_parts.specs.declared.entries.Published.{Published}
+use Rattle.machine_states.specs.runner_steps.specs.runner_parts.specs.State.{PartState}
+use Rattle.machine_states.specs.runner_steps.specs.runner_parts.specs.Tests.{has, has_pair, is_answered}
+use Rattle.machine_states.specs.runner_steps.specs.Asks.{sizes_for}
+use Rattle.machine_states.specs.runner_steps.specs.After.{leaves}
 use Rattle.machine_states.specs.Sight.{Sight, sight, part_or_first}
 use Rattle.machine_states.proofs.Steps.{some_same, none_some}
-use Rattle.closed_words.specs.reached_histories.specs.Requests.{requests_of, or_none}
-use Rattle.runner_parts.specs.Lists.{entry_count}
-use Rattle.closed_words.specs.machine_invariant.specs.Lengths.{ListsAreShort}
-use Rattle.settling.specs.runner_gate.specs.Asks.{Asks}
-use Rattle.settling.specs.runner_facts.specs.Own.{HasOwn, OwnStand}
-use Rattle.settling.specs.runner_facts.specs.Facts.{LimboIsDone, DescriptorsAreKept, HasWornCell, WornAreWorn, descriptors_of, published_count}
-use Rattle.serving.specs.lock_words.specs.Spent.{IsLate, IsPast, IsSpentAt, SpentStand}
-use Rattle.closed_words.specs.reached_histories.specs.Sections.{Knows, HasOpen}
-use Rattle.closed_words.specs.reached_histories.specs.Laws.{HasHistory}
-use Rattle.serving.specs.request_facts.specs.Laws.{CallersStand}
+use Rattle.reached_facts.specs.request_facts.specs.reached_histories.specs.Requests.{requests_of, or_none}
+use Rattle.machine_states.specs.runner_steps.specs.runner_parts.specs.Lists.{entry_count}
+use Rattle.version_words.specs.machine_invariant.specs.Lengths.{ListsAreShort}
+use Rattle.settled_tables.specs.settling.specs.runner_gate.specs.Asks.{Asks}
+use Rattle.reached_facts.specs.keeper_facts.specs.runner_facts.specs.Own.{HasOwn, OwnStand}
+use Rattle.reached_facts.specs.keeper_facts.specs.runner_facts.specs.Facts.{LimboIsDone, DescriptorsAreKept, HasWornCell, WornAreWorn, descriptors_of, published_count}
+use Rattle.free_serving.specs.lock_words.specs.Spent.{IsLate, IsPast, IsSpentAt, SpentStand}
+use Rattle.reached_facts.specs.request_facts.specs.reached_histories.specs.Sections.{Knows, HasOpen}
+use Rattle.reached_facts.specs.request_facts.specs.reached_histories.specs.Laws.{HasHistory}
+use Rattle.reached_facts.specs.request_facts.specs.Laws.{CallersStand}
 use Rattle.version_words.specs.RunnerState.{RunnerState}
 use Rattle.version_words.specs.Shown.{left_part}
 use Rattle.version_words.specs.TableState.{TableState, WordsState, IsOf, IsClosing, word_of}
-use Rattle.settling.specs.epoch_slots.specs.Collects.{IsTidy}
-use Rattle.settling.specs.epoch_slots.specs.Reserves.{counts_of}
-use Rattle.settling.specs.epoch_slots.specs.declared.reserves.Kind.{Kind}
-use Rattle.settling.specs.epoch_slots.specs.declared.reserves.Kind.TheVariants as slots
-use Rattle.settling.specs.epoch_slots.specs.declared.reserves.Short.{Short}
-use Rattle.settling.specs.try_lock.specs.Planning.{Planning}
-use Rattle.serving.specs.attempts.specs.Attempts.{IsFew}
-use Rattle.serving.specs.Serving.{WasHalted, StopsShort}
+use Rattle.settled_tables.specs.settling.specs.epoch_slots.specs.Collects.{IsTidy}
+use Rattle.settled_tables.specs.settling.specs.epoch_slots.specs.Reserves.{counts_of}
+use Rattle.settled_tables.specs.settling.specs.epoch_slots.specs.declared.reserves.Kind.{Kind}
+use Rattle.settled_tables.specs.settling.specs.epoch_slots.specs.declared.reserves.Kind.TheVariants as slots
+use Rattle.settled_tables.specs.settling.specs.epoch_slots.specs.declared.reserves.Short.{Short}
+use Rattle.settled_tables.specs.settling.specs.try_lock.specs.Planning.{Planning}
+use Rattle.free_serving.specs.serving.specs.attempts.specs.Attempts.{IsFew}
+use Rattle.free_serving.specs.serving.specs.Serving.{WasHalted, StopsShort}
 use Rattle.free_serving.specs.Services.{is_get}
 use Rattle.free_serving.specs.Left.{Rises, IsBefore, IsOdd, AreAskedWholly, WasReadInVain, Leaves, Ends}
-use Rattle.serving.specs.declared.answers.Served.{Served}
-use Rattle.serving.specs.declared.answers.Served.TheVariants as answers
-use Rattle.serving.specs.resource_bounds.specs.Makes.{added}
+use Rattle.free_serving.specs.serving.specs.declared.answers.Served.{Served}
+use Rattle.free_serving.specs.serving.specs.declared.answers.Served.TheVariants as answers
+use Rattle.free_serving.specs.resource_bounds.specs.Makes.{added}
 use Rattle.threaded_runs.specs.Runs.{stamp_of, AreEntered, AreWornOut, IsShortOf, HasServed}
 use Rattle.threaded_runs.specs.Counts.{halted}
 use Rattle.threaded_runs.proofs.Picked.{front_only}
 use Rattle.threaded_runs.proofs.Stopping.{IsKeptSpent, kept_spent}
 use mathlib.Core.Path.{fun_ext}
-use Rattle.body_terms.specs.Memory.{cell_of}
-use Rattle.body_terms.specs.Word.{version_of}
+use Rattle.machine_states.specs.runner_steps.specs.body_terms.specs.Memory.{cell_of}
+use Rattle.machine_states.specs.runner_steps.specs.body_terms.specs.Word.{version_of}
 use Rattle.machine_states.proofs.Sights.{some_none}
 
 -- what is above another one comes behind it

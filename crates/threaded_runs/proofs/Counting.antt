@@ -3,11 +3,11 @@ use Rattle.std.specs.Prelude.{◌^◌, ◌-◌, OnErr, Option, Result, Ok, Err}
 use Rattle.std.proofs.Common.{◌≡◌, ◌≢◌, ℕ, zero, suc, ◌+◌, ◌<◌, ◌≤◌, List, [], ◌∷◌, ◌++◌, length, take, get_or, refl, sym, ap, ◌∙◌, arith, zero-add}
 use Rattle.std.proofs.Math.Nat.{min-le_left}
 use Rattle.std.proofs.lemmas.List.{take_more, take_all, length-take}
-use Rattle.settling.specs.runner_gate.specs.Asks.{Asks}
-use Rattle.settling.specs.runner_gate.specs.Counts.{plus, halts_after, plans_after}
-use Rattle.settling.specs.runner_gate.specs.declared.counts.GatePlan.{GatePlan}
-use Rattle.serving.specs.declared.answers.Served.{Served}
-use Rattle.serving.specs.declared.answers.Served.TheVariants as answers
+use Rattle.settled_tables.specs.settling.specs.runner_gate.specs.Asks.{Asks}
+use Rattle.settled_tables.specs.settling.specs.runner_gate.specs.Counts.{plus, halts_after, plans_after}
+use Rattle.settled_tables.specs.settling.specs.runner_gate.specs.declared.counts.GatePlan.{GatePlan}
+use Rattle.free_serving.specs.serving.specs.declared.answers.Served.{Served}
+use Rattle.free_serving.specs.serving.specs.declared.answers.Served.TheVariants as answers
 use Rattle.threaded_runs.specs.declared.job.Finished.{Finished}
 use Rattle.threaded_runs.specs.Counts.{halted, halts_counted, plans_given, plans_from, returns_counted, GivesFront}
 use Rattle.threaded_runs.specs.Jobs.{asks_counted}

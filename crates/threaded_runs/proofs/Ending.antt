@@ -3,33 +3,33 @@ use Rattle.std.specs.Prelude.{◌%◌, ◌*◌, ◌-◌, ◌^◌, ◌==◌, ◌�
 use Rattle.std.proofs.Common.{◌≡◌, ◌≢◌, ℕ, suc, ◌+◌, ◌<◌, ◌≤◌, List, length, sym, ap, ◌∙◌, subst, arith, true, Option, Some, get_or, eq-eqb, if◌then◌else◌, ⊎_elim, inl, inr}
 use Rattle.std.proofs.lemmas.Option.{slice_get_within, get_or_from_slice_get}
 use Rattle.std.proofs.Math.Nat.{mod-lt}
-use Rattle.map_history.specs.declared.op.Request.{Request}
-use Rattle.map_history.specs.Requests.{AreInOrder}
-use Rattle.body_terms.specs.Word.{value_of}
-use Rattle.table_words.specs.declared.layout.Layout.{Layout}
-use Rattle.table_words.specs.declared.spot.Spot.TheVariants.{Cell, DoneWord}
-use Rattle.structure_laws.specs.Meaning.{Meaning}
-use Rattle.structure_laws.specs.Planner.{PlannerLaws}
+use Rattle.machine_states.specs.runner_steps.specs.map_history.specs.declared.op.Request.{Request}
+use Rattle.machine_states.specs.runner_steps.specs.map_history.specs.Requests.{AreInOrder}
+use Rattle.machine_states.specs.runner_steps.specs.body_terms.specs.Word.{value_of}
+use Rattle.machine_states.specs.runner_steps.specs.table_words.specs.declared.layout.Layout.{Layout}
+use Rattle.machine_states.specs.runner_steps.specs.table_words.specs.declared.spot.Spot.TheVariants.{Cell, DoneWord}
+use Rattle.machine_states.specs.structure_laws.specs.Meaning.{Meaning}
+use Rattle.machine_states.specs.structure_laws.specs.Planner.{PlannerLaws}
 use Rattle.machine_states.specs.World.{seat_of}
 use Rattle.machine_states.specs.Reached.{Reached}
-use Rattle.runner_parts.specs.Lists.{entry_count}
-use Rattle.runner_steps.specs.After.{leaves}
+use Rattle.machine_states.specs.runner_steps.specs.runner_parts.specs.Lists.{entry_count}
+use Rattle.machine_states.specs.runner_steps.specs.After.{leaves}
 use Rattle.machine_states.specs.Sight.{sight}
-use Rattle.settling.specs.runner_gate.specs.Asks.{Asks}
-use Rattle.serving.specs.resource_bounds.specs.Makes as makes
+use Rattle.settled_tables.specs.settling.specs.runner_gate.specs.Asks.{Asks}
+use Rattle.free_serving.specs.resource_bounds.specs.Makes as makes
 use Rattle.reached_facts.specs.Facts.{HasFacts, KeepsFacts}
 use Rattle.version_words.specs.RunnerState.{RunnerState}
 use Rattle.version_words.specs.Shown.{left_part}
 use Rattle.version_words.specs.TableState.{TableState, WordsState, IsOf, IsClosing, word_of}
-use Rattle.closed_words.specs.Histories.{HaveHistory, HoldsNoLock}
-use Rattle.settling.specs.try_lock.specs.Planning.{Planning}
-use Rattle.settling.specs.Settled.{Settles, IsSettled}
-use Rattle.settling.specs.epoch_slots.specs.declared.reserves.Kind.TheVariants as slots
-use Rattle.settling.specs.epoch_slots.specs.declared.reserves.Short.{Short}
+use Rattle.settled_tables.specs.closed_words.specs.Histories.{HaveHistory, HoldsNoLock}
+use Rattle.settled_tables.specs.settling.specs.try_lock.specs.Planning.{Planning}
+use Rattle.settled_tables.specs.settling.specs.Settled.{Settles, IsSettled}
+use Rattle.settled_tables.specs.settling.specs.epoch_slots.specs.declared.reserves.Kind.TheVariants as slots
+use Rattle.settled_tables.specs.settling.specs.epoch_slots.specs.declared.reserves.Short.{Short}
 use Rattle.free_serving.specs.Services.{is_get}
 use Rattle.free_serving.specs.Left.{least_asks, WasReadInVain}
-use Rattle.serving.specs.declared.answers.Served.{Served}
-use Rattle.serving.specs.declared.answers.Served.TheVariants as stops
+use Rattle.free_serving.specs.serving.specs.declared.answers.Served.{Served}
+use Rattle.free_serving.specs.serving.specs.declared.answers.Served.TheVariants as stops
 use Rattle.threaded_runs.specs.declared.job.Job.{Job}
 use Rattle.threaded_runs.specs.declared.job.Finished.{Finished}
 use Rattle.threaded_runs.specs.Own.{own_requests}

@@ -3,47 +3,47 @@ use Rattle.std.specs.Prelude.{◌*◌, Bool, slice_get, ◌==◌, not, count_by}
 use Rattle.std.proofs.Common.{◌≡◌, ◌≢◌, ℕ, ◌+◌, ◌^◌, ◌<◌, ◌≤◌, List, length, refl, sym, ap, ◌∙◌, subst, arith, ⊎_elim, inl, inr, true, false, Option, Some, get_or, ne_eqb}
 use Rattle.std.proofs.lemmas.Nat.{mul-le}
 use Rattle.std.proofs.lemmas.Option.{slice_get-get_or, get_or_from_slice_get}
-use Rattle.map_history.specs.declared.op.Request.{Request}
+use Rattle.machine_states.specs.runner_steps.specs.map_history.specs.declared.op.Request.{Request}
 use Rattle.map_sizes.specs.Sizes.{peak}
-use Rattle.body_terms.specs.Word.{version_of}
-use Rattle.table_words.specs.declared.layout.Layout.{Layout}
-use Rattle.table_words.specs.declared.spot.Spot.TheVariants.{Cell}
-use Rattle.table_words.specs.Limits.{IsWithinLimits}
-use Rattle.structure_laws.specs.Cells as cells
-use Rattle.structure_laws.specs.Meaning.{Meaning}
-use Rattle.runner_parts.specs.State.{PartState}
-use Rattle.runner_parts.specs.Tests.{has, is_answered}
-use Rattle.runner_steps.specs.After.{leaves}
+use Rattle.machine_states.specs.runner_steps.specs.body_terms.specs.Word.{version_of}
+use Rattle.machine_states.specs.runner_steps.specs.table_words.specs.declared.layout.Layout.{Layout}
+use Rattle.machine_states.specs.runner_steps.specs.table_words.specs.declared.spot.Spot.TheVariants.{Cell}
+use Rattle.machine_states.specs.runner_steps.specs.table_words.specs.Limits.{IsWithinLimits}
+use Rattle.machine_states.specs.structure_laws.specs.Cells as cells
+use Rattle.machine_states.specs.structure_laws.specs.Meaning.{Meaning}
+use Rattle.machine_states.specs.runner_steps.specs.runner_parts.specs.State.{PartState}
+use Rattle.machine_states.specs.runner_steps.specs.runner_parts.specs.Tests.{has, is_answered}
+use Rattle.machine_states.specs.runner_steps.specs.After.{leaves}
 use Rattle.machine_states.specs.First.{keeper_part}
-use Rattle.closed_words.specs.machine_invariant.specs.After.{AreAllowed}
-use Rattle.runner_parts.specs.Lists.{entry_count}
+use Rattle.version_words.specs.machine_invariant.specs.After.{AreAllowed}
+use Rattle.machine_states.specs.runner_steps.specs.runner_parts.specs.Lists.{entry_count}
 use Rattle.reached_facts.specs.Facts.{HasFacts}
 use Rattle.version_words.specs.RunnerState.{RunnerState}
 use Rattle.version_words.specs.Shown.{left_part}
 use Rattle.version_words.specs.TableState.{TableState, WordsState, IsOf, IsClosing, word_of}
-use Rattle.settling.specs.runner_gate.specs.Asks.{Asks}
-use Rattle.settling.specs.epoch_slots.specs.Collects.{IsTidy}
-use Rattle.settling.specs.epoch_slots.specs.Reserves.{counts_of}
-use Rattle.settling.specs.epoch_slots.specs.declared.reserves.Kind.TheVariants as slots
-use Rattle.settling.specs.epoch_slots.specs.declared.reserves.Short.{Short}
-use Rattle.settling.specs.try_lock.specs.Planning.{Planning}
-use Rattle.serving.specs.Serving.{is_crossed, most_asks}
+use Rattle.settled_tables.specs.settling.specs.runner_gate.specs.Asks.{Asks}
+use Rattle.settled_tables.specs.settling.specs.epoch_slots.specs.Collects.{IsTidy}
+use Rattle.settled_tables.specs.settling.specs.epoch_slots.specs.Reserves.{counts_of}
+use Rattle.settled_tables.specs.settling.specs.epoch_slots.specs.declared.reserves.Kind.TheVariants as slots
+use Rattle.settled_tables.specs.settling.specs.epoch_slots.specs.declared.reserves.Short.{Short}
+use Rattle.settled_tables.specs.settling.specs.try_lock.specs.Planning.{Planning}
+use Rattle.free_serving.specs.serving.specs.Serving.{is_crossed, most_asks}
 use Rattle.free_serving.specs.Services.{is_get, is_refusal}
 use Rattle.free_serving.specs.Left.{MostRuns, CameBetween, WasReadInVain, Ends}
-use Rattle.free_serving.specs.seq_read.specs.Course.{IsRefused}
-use Rattle.free_serving.specs.seq_read.specs.declared.answers.Read.{Read}
-use Rattle.free_serving.specs.seq_read.specs.declared.answers.Read.TheVariants as reads
+use Rattle.lone_reads.specs.seq_read.specs.Course.{IsRefused}
+use Rattle.lone_reads.specs.seq_read.specs.declared.answers.Read.{Read}
+use Rattle.lone_reads.specs.seq_read.specs.declared.answers.Read.TheVariants as reads
 use Rattle.lone_reads.specs.lone_plans.specs.Lone.{IsLone as IsLoneReader}
 use Rattle.lone_reads.specs.Lone.{LoneReadsAreServed, NobodyCameBetween as ReadMetNobody}
-use Rattle.serving.specs.attempts.specs.declared.answers.Attempt.{Attempt}
-use Rattle.serving.specs.attempts.specs.declared.answers.Attempt.TheVariants as attempts
-use Rattle.serving.specs.attempt_bounds.specs.Lone.{IsLone, LoneAttemptsAreServed, NobodyCameBetween}
-use Rattle.serving.specs.attempt_bounds.specs.Spared.{AttemptsSpareSlots}
-use Rattle.serving.specs.declared.answers.Served.{Served}
-use Rattle.serving.specs.declared.answers.Served.TheVariants as stops
-use Rattle.closed_words.specs.Histories.{HaveHistory}
-use Rattle.settling.specs.keeper_facts.specs.Freed.{IsFreed}
-use Rattle.settling.specs.Settled.{Settles}
+use Rattle.free_serving.specs.serving.specs.attempts.specs.declared.answers.Attempt.{Attempt}
+use Rattle.free_serving.specs.serving.specs.attempts.specs.declared.answers.Attempt.TheVariants as attempts
+use Rattle.free_serving.specs.serving.specs.attempt_bounds.specs.Lone.{IsLone, LoneAttemptsAreServed, NobodyCameBetween}
+use Rattle.free_serving.specs.serving.specs.attempt_bounds.specs.Spared.{AttemptsSpareSlots}
+use Rattle.free_serving.specs.serving.specs.declared.answers.Served.{Served}
+use Rattle.free_serving.specs.serving.specs.declared.answers.Served.TheVariants as stops
+use Rattle.settled_tables.specs.closed_words.specs.Histories.{HaveHistory}
+use Rattle.reached_facts.specs.keeper_facts.specs.Freed.{IsFreed}
+use Rattle.settled_tables.specs.settling.specs.Settled.{Settles}
 use Rattle.threaded_runs.specs.declared.job.Job.{Job}
 use Rattle.threaded_runs.specs.declared.job.Finished.{Finished}
 use Rattle.threaded_runs.specs.Own.{own_requests}

@@ -4,21 +4,21 @@ use Rattle.std.specs.List.{range_with_len}
 use Rattle.std.proofs.Common.{◌≡◌, ℕ, ◌<◌, List, length, sym, ap, ◌∙◌, subst, Some, None, option_map, eq-eqb, inr}
 use Rattle.std.proofs.lemmas.Option.{slice_get-map, slice_get_within, slice_get-get_or, get_or_from_slice_get}
 use Rattle.std.proofs.lemmas.List.FromFn.{get_or-range_with_len, length-range_with_len}
-use Rattle.small_lemmas.proofs.Numbers.{tested_equal as same_test, from_zero as from_none}
-use Rattle.map_history.specs.declared.op.Request.{Request}
-use Rattle.map_history.specs.Requests.{AreInOrder}
-use Rattle.structure_laws.specs.Meaning.{Meaning}
-use Rattle.epoch_core.specs.declared.stage.Stage.TheVariants as stages
-use Rattle.runner_parts.specs.Tests.{is_answered}
+use Rattle.machine_states.specs.epoch_core.specs.small_lemmas.proofs.Numbers.{tested_equal as same_test, from_zero as from_none}
+use Rattle.machine_states.specs.runner_steps.specs.map_history.specs.declared.op.Request.{Request}
+use Rattle.machine_states.specs.runner_steps.specs.map_history.specs.Requests.{AreInOrder}
+use Rattle.machine_states.specs.structure_laws.specs.Meaning.{Meaning}
+use Rattle.machine_states.specs.epoch_core.specs.declared.stage.Stage.TheVariants as stages
+use Rattle.machine_states.specs.runner_steps.specs.runner_parts.specs.Tests.{is_answered}
 use Rattle.machine_states.proofs.Steps.{some_same}
 use Rattle.version_words.specs.RunnerState.{RunnerState}
 use Rattle.version_words.specs.Stages.{IsAt, IsKeeper}
 use Rattle.version_words.specs.TableState.{TableState, IsOf}
 use Rattle.version_words.specs.Events.{next_worker}
 use Rattle.version_words.proofs.Stages.{next_is_idle}
-use Rattle.settling.specs.epoch_slots.specs.Collects.{IsTidy}
-use Rattle.settling.specs.try_lock.specs.Planning.{Planning}
-use Rattle.serving.specs.Serving.{MayServe}
+use Rattle.settled_tables.specs.settling.specs.epoch_slots.specs.Collects.{IsTidy}
+use Rattle.settled_tables.specs.settling.specs.try_lock.specs.Planning.{Planning}
+use Rattle.free_serving.specs.serving.specs.Serving.{MayServe}
 use Rattle.threaded_runs.specs.Own.{own_requests}
 use Rattle.threaded_runs.proofs.Picked.{picked, kept, before, count_before}
 

@@ -1,14 +1,14 @@
 -- One more job, and one more result.
 use Rattle.std.specs.Prelude.{Bool}
 use Rattle.std.proofs.Common.{◌≡◌, ℕ, ◌<◌, List, [], ◌∷◌, ◌++◌, length, get_or, subst, sym, ap, ◌∙◌, refl, arith, Option, None}
-use Rattle.structure_laws.specs.Meaning.{Meaning}
+use Rattle.machine_states.specs.structure_laws.specs.Meaning.{Meaning}
 use Rattle.version_words.specs.RunnerState.{RunnerState}
 use Rattle.version_words.specs.Shown.{left_part}
 use Rattle.version_words.specs.TableState.{TableState}
 use Rattle.version_words.specs.Events.{joined_by}
-use Rattle.settling.specs.try_lock.specs.Planning.{Planning}
-use Rattle.settling.specs.runner_gate.specs.Asks.{Asks, unasked_of}
-use Rattle.serving.specs.declared.answers.Served.{Served}
+use Rattle.settled_tables.specs.settling.specs.try_lock.specs.Planning.{Planning}
+use Rattle.settled_tables.specs.settling.specs.runner_gate.specs.Asks.{Asks, unasked_of}
+use Rattle.free_serving.specs.serving.specs.declared.answers.Served.{Served}
 use Rattle.threaded_runs.specs.declared.job.Job.{Job}
 use Rattle.threaded_runs.specs.declared.job.Finished.{Finished}
 use Rattle.threaded_runs.specs.Jobs.{IsSeated, AllSeated, AllUnhalted, AllGiven, AreBack, AllRun, IsKept, AllKept}

@@ -1,33 +1,33 @@
 -- A read that a lock with too few versions left refused: the machine reaches a state in which it stands so.
 use Rattle.std.specs.Prelude.{◌-◌, ◌+◌, ◌==◌, ◌&&◌, Bool, true, false, Option, if◌then◌else◌}
 use Rattle.std.proofs.Common.{◌≡◌, ℕ, List, [], ◌∷◌, ◌++◌, refl, sym, ap, ◌∙◌, subst, Some, None}
-use Rattle.map_history.specs.declared.op.Request.{Request}
-use Rattle.body_terms.specs.Word.{is_free, is_spent, pack, value_of, version_of}
-use Rattle.table_words.specs.declared.access.Access.{Access}
-use Rattle.table_words.specs.declared.access.Access.TheVariants.{Loads}
-use Rattle.table_words.specs.declared.layout.Layout.{Layout}
-use Rattle.table_words.specs.declared.spot.Spot.{Spot}
-use Rattle.table_words.specs.declared.spot.Spot.TheVariants.{Cell}
-use Rattle.structure_laws.specs.Cells.{slots}
-use Rattle.structure_laws.specs.Meaning.{Meaning}
-use Rattle.structure_laws.specs.Scene.{Readings}
-use Rattle.runner_parts.specs.State.{RunState}
-use Rattle.runner_parts.specs.declared.event.EventKind.TheVariants as kinds
-use Rattle.runner_steps.specs.Asks.{ask_by, sizes_for}
-use Rattle.runner_steps.specs.Sections.{is_open_run}
+use Rattle.machine_states.specs.runner_steps.specs.map_history.specs.declared.op.Request.{Request}
+use Rattle.machine_states.specs.runner_steps.specs.body_terms.specs.Word.{is_free, is_spent, pack, value_of, version_of}
+use Rattle.machine_states.specs.runner_steps.specs.table_words.specs.declared.access.Access.{Access}
+use Rattle.machine_states.specs.runner_steps.specs.table_words.specs.declared.access.Access.TheVariants.{Loads}
+use Rattle.machine_states.specs.runner_steps.specs.table_words.specs.declared.layout.Layout.{Layout}
+use Rattle.machine_states.specs.runner_steps.specs.table_words.specs.declared.spot.Spot.{Spot}
+use Rattle.machine_states.specs.runner_steps.specs.table_words.specs.declared.spot.Spot.TheVariants.{Cell}
+use Rattle.machine_states.specs.structure_laws.specs.Cells.{slots}
+use Rattle.machine_states.specs.structure_laws.specs.Meaning.{Meaning}
+use Rattle.machine_states.specs.structure_laws.specs.Scene.{Readings}
+use Rattle.machine_states.specs.runner_steps.specs.runner_parts.specs.State.{RunState}
+use Rattle.machine_states.specs.runner_steps.specs.runner_parts.specs.declared.event.EventKind.TheVariants as kinds
+use Rattle.machine_states.specs.runner_steps.specs.Asks.{ask_by, sizes_for}
+use Rattle.machine_states.specs.runner_steps.specs.Sections.{is_open_run}
 use Rattle.machine_states.proofs.Sights.{unless_gone, cond_none}
 use Rattle.machine_states.proofs.Steps.{some_same, none_some}
 use Rattle.machine_states.specs.Sight.{sight}
-use Rattle.machine_epochs.proofs.OutsideAsked.{read_asked}
+use Rattle.reached_facts.specs.keeper_facts.specs.machine_epochs.proofs.OutsideAsked.{read_asked}
 use Rattle.version_words.specs.Events.{Makes}
 use Rattle.version_words.specs.ReachedWith.{is_told}
 use Rattle.version_words.specs.RunnerState.{RunnerState}
-use Rattle.settling.specs.try_lock.specs.Planning.{Planning}
-use Rattle.settling.specs.try_lock.specs.declared.planned.Planned.{Planned}
-use Rattle.settling.specs.try_lock.specs.declared.planned.Planned.TheVariants as plans
-use Rattle.settling.specs.try_lock.specs.Plans as walks
-use Rattle.free_serving.specs.seq_read.specs.Course.{of_plan, HasPlanned, IsRefused, ByPlan, ByBody, ByCell, ByLock}
-use Rattle.free_serving.specs.seq_read.specs.declared.answers.Read.TheVariants as reads
+use Rattle.settled_tables.specs.settling.specs.try_lock.specs.Planning.{Planning}
+use Rattle.settled_tables.specs.settling.specs.try_lock.specs.declared.planned.Planned.{Planned}
+use Rattle.settled_tables.specs.settling.specs.try_lock.specs.declared.planned.Planned.TheVariants as plans
+use Rattle.settled_tables.specs.settling.specs.try_lock.specs.Plans as walks
+use Rattle.lone_reads.specs.seq_read.specs.Course.{of_plan, HasPlanned, IsRefused, ByPlan, ByBody, ByCell, ByLock}
+use Rattle.lone_reads.specs.seq_read.specs.declared.answers.Read.TheVariants as reads
 use Rattle.threaded_runs.specs.Lone.{ReachesSpent}
 
 -- by what a reading refuses a plan as Spent: its place is a lock, whose word is free and spent

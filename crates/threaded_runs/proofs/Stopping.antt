@@ -1,19 +1,19 @@
 -- What a worker keeps of the word at which it stopped, since too few versions were left behind it.
 use Rattle.std.specs.Prelude.{◌⊎◌, true, slice_get}
 use Rattle.std.proofs.Common.{◌≡◌, ℕ, ap, ◌∙◌, inl, inr, Some}
-use Rattle.map_history.specs.declared.op.Request.{Request}
-use Rattle.body_terms.specs.Word.{is_free}
-use Rattle.body_terms.specs.declared.outcome.Outcome.TheVariants as outcomes
-use Rattle.structure_laws.specs.Meaning.{Meaning}
-use Rattle.runner_parts.specs.State.{FinishedState}
-use Rattle.runner_parts.specs.Tests.{has_pair}
+use Rattle.machine_states.specs.runner_steps.specs.map_history.specs.declared.op.Request.{Request}
+use Rattle.machine_states.specs.runner_steps.specs.body_terms.specs.Word.{is_free}
+use Rattle.machine_states.specs.runner_steps.specs.body_terms.specs.declared.outcome.Outcome.TheVariants as outcomes
+use Rattle.machine_states.specs.structure_laws.specs.Meaning.{Meaning}
+use Rattle.machine_states.specs.runner_steps.specs.runner_parts.specs.State.{FinishedState}
+use Rattle.machine_states.specs.runner_steps.specs.runner_parts.specs.Tests.{has_pair}
 use Rattle.version_words.specs.RunnerState.{RunnerState}
-use Rattle.settling.specs.try_lock.specs.Planning.{Planning}
-use Rattle.serving.specs.attempts.specs.Course.{IsRefused}
-use Rattle.serving.specs.attempts.specs.Attempts.{IsTurnedAway}
-use Rattle.serving.specs.attempts.specs.declared.answers.Attempt.TheVariants as attempts
-use Rattle.serving.specs.lock_words.specs.Spent.{IsLate}
-use Rattle.serving.proofs.Spent.{spent_is_kept}
+use Rattle.settled_tables.specs.settling.specs.try_lock.specs.Planning.{Planning}
+use Rattle.free_serving.specs.serving.specs.attempts.specs.Course.{IsRefused}
+use Rattle.free_serving.specs.serving.specs.attempts.specs.Attempts.{IsTurnedAway}
+use Rattle.free_serving.specs.serving.specs.attempts.specs.declared.answers.Attempt.TheVariants as attempts
+use Rattle.free_serving.specs.lock_words.specs.Spent.{IsLate}
+use Rattle.free_serving.specs.serving.proofs.Spent.{spent_is_kept}
 
 module _ {T : Type 0} where
   -- the runner has read the word since it entered, it is a lock's and free, and fewer than two versions are left behind it; or a section that it has run to its end left by it

@@ -1,11 +1,11 @@
 -- How often the gates of a run are asked.
 use Rattle.std.specs.Prelude.{◌≡◌, ℕ, ◌+◌, ◌-◌, ◌*◌, ◌≤◌, Bool, List, [], ◌∷◌}
-use Rattle.structure_laws.specs.Cells as cells
-use Rattle.structure_laws.specs.Meaning.{Meaning}
-use Rattle.settling.specs.runner_gate.specs.Counts.{plus}
+use Rattle.machine_states.specs.structure_laws.specs.Cells as cells
+use Rattle.machine_states.specs.structure_laws.specs.Meaning.{Meaning}
+use Rattle.settled_tables.specs.settling.specs.runner_gate.specs.Counts.{plus}
 use Rattle.version_words.specs.TableState.{WordsState}
-use Rattle.serving.specs.Serving.{most_asks}
-use Rattle.serving.specs.declared.answers.Served.{Served}
+use Rattle.free_serving.specs.serving.specs.Serving.{most_asks}
+use Rattle.free_serving.specs.serving.specs.declared.answers.Served.{Served}
 use Rattle.free_serving.specs.Left.{least_asks}
 use Rattle.threaded_runs.specs.Counts.{halted}
 use Rattle.threaded_runs.specs.Runs.{served_in}

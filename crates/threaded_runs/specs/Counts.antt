@@ -1,9 +1,9 @@
 -- What gates count while a run gives them out and takes them back.
 use Rattle.std.specs.Prelude.{◌≡◌, ℕ, zero, suc, ◌+◌, List, [], ◌∷◌, Option, take}
-use Rattle.settling.specs.runner_gate.specs.Counts.{halts_after, plans_after, plus}
-use Rattle.settling.specs.runner_gate.specs.declared.counts.GatePlan.{GatePlan}
-use Rattle.serving.specs.declared.answers.Served.{Served}
-use Rattle.serving.specs.declared.answers.Served.TheVariants as answers
+use Rattle.settled_tables.specs.settling.specs.runner_gate.specs.Counts.{halts_after, plans_after, plus}
+use Rattle.settled_tables.specs.settling.specs.runner_gate.specs.declared.counts.GatePlan.{GatePlan}
+use Rattle.free_serving.specs.serving.specs.declared.answers.Served.{Served}
+use Rattle.free_serving.specs.serving.specs.declared.answers.Served.TheVariants as answers
 
 -- how often the gate of a worker with this answer halted, as far as it counts: 1 where it did, else 0
 abbrev pub halted : Served → ℕ

@@ -1,12 +1,12 @@
 -- Whose gates come back from a run, and what each has counted.
 use Rattle.std.specs.Prelude.{◌≡◌, ◌≢◌, ℕ, Bool, ◌-◌, ◌*◌, ◌^◌, ◌<◌, ◌≤◌, ◌==◌, min, not, count_by, List, [], ◌∷◌, length, Option, None, Some, slice_index_or}
-use Rattle.map_history.specs.declared.op.Request.{Request}
-use Rattle.structure_laws.specs.Meaning.{Meaning}
-use Rattle.settling.specs.runner_gate.specs.Asks.{Asks}
-use Rattle.settling.specs.runner_gate.specs.Counts.{plus}
+use Rattle.machine_states.specs.runner_steps.specs.map_history.specs.declared.op.Request.{Request}
+use Rattle.machine_states.specs.structure_laws.specs.Meaning.{Meaning}
+use Rattle.settled_tables.specs.settling.specs.runner_gate.specs.Asks.{Asks}
+use Rattle.settled_tables.specs.settling.specs.runner_gate.specs.Counts.{plus}
 use Rattle.version_words.specs.TableState.{WordsState}
-use Rattle.serving.specs.declared.answers.Served.{Served}
-use Rattle.serving.specs.declared.answers.Served.TheVariants as answers
+use Rattle.free_serving.specs.serving.specs.declared.answers.Served.{Served}
+use Rattle.free_serving.specs.serving.specs.declared.answers.Served.TheVariants as answers
 use Rattle.free_serving.specs.Left.{least_asks}
 use Rattle.threaded_runs.specs.Counts.{halted}
 use Rattle.threaded_runs.specs.Own.{own_requests}

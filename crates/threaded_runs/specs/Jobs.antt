@@ -1,16 +1,16 @@
 -- What a worker's thread is given, and what it gives back.
 use Rattle.std.specs.Prelude.{◌≡◌, ◌≢◌, ℕ, ◌<◌, Bool, List, [], ◌∷◌, length, Option, None, Some, slice_index_or}
-use Rattle.structure_laws.specs.Meaning.{Meaning}
-use Rattle.settling.specs.runner_gate.specs.Asks.{Asks, unasked_of}
-use Rattle.runner_steps.specs.After.{leaves}
+use Rattle.machine_states.specs.structure_laws.specs.Meaning.{Meaning}
+use Rattle.settled_tables.specs.settling.specs.runner_gate.specs.Asks.{Asks, unasked_of}
+use Rattle.machine_states.specs.runner_steps.specs.After.{leaves}
 use Rattle.version_words.specs.RunnerState.{RunnerState}
 use Rattle.version_words.specs.Shown.{left_part}
 use Rattle.version_words.specs.TableState.{TableState, IsOf}
-use Rattle.settling.specs.try_lock.specs.Planning.{Planning}
-use Rattle.serving.specs.attempts.specs.Counted.{IsSeen}
-use Rattle.serving.specs.Serving.{MayServe}
-use Rattle.serving.specs.declared.answers.Served.{Served}
-use Rattle.serving.specs.declared.answers.Served.TheVariants as answers
+use Rattle.settled_tables.specs.settling.specs.try_lock.specs.Planning.{Planning}
+use Rattle.free_serving.specs.serving.specs.attempts.specs.Counted.{IsSeen}
+use Rattle.free_serving.specs.serving.specs.Serving.{MayServe}
+use Rattle.free_serving.specs.serving.specs.declared.answers.Served.{Served}
+use Rattle.free_serving.specs.serving.specs.declared.answers.Served.TheVariants as answers
 use Rattle.free_serving.specs.Left.{Leaves}
 use Rattle.free_serving.specs.Freely.{ServesBy}
 use Rattle.threaded_runs.specs.declared.job.Job.{Job}

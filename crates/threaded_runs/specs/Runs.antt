@@ -1,20 +1,20 @@
 -- What a run of traces on a table leaves.
 use Rattle.std.specs.Prelude.{◌≡◌, ◌≢◌, ℕ, ◌+◌, ◌*◌, ◌<◌, ◌≤◌, ◌⊎◌, ◌==◌, Bool, false, not, List, length, count_by, Some, slice_get}
-use Rattle.map_history.specs.declared.op.Request.{Request}
-use Rattle.table_words.specs.declared.layout.Layout.{Layout}
-use Rattle.table_words.specs.declared.spot.Spot.TheVariants.{Stamp, Reply, DoneWord}
-use Rattle.structure_laws.specs.Cells as cells
-use Rattle.structure_laws.specs.Meaning.{Meaning}
+use Rattle.machine_states.specs.runner_steps.specs.map_history.specs.declared.op.Request.{Request}
+use Rattle.machine_states.specs.runner_steps.specs.table_words.specs.declared.layout.Layout.{Layout}
+use Rattle.machine_states.specs.runner_steps.specs.table_words.specs.declared.spot.Spot.TheVariants.{Stamp, Reply, DoneWord}
+use Rattle.machine_states.specs.structure_laws.specs.Cells as cells
+use Rattle.machine_states.specs.structure_laws.specs.Meaning.{Meaning}
 use Rattle.version_words.specs.TableState.{WordsState, word_of}
-use Rattle.closed_words.specs.Histories.{HoldsNoLock}
-use Rattle.settling.specs.runner_facts.specs.Facts.{HasWornCell}
-use Rattle.serving.specs.lock_words.specs.Spent.{IsPast, IsSpentAt}
-use Rattle.settling.specs.epoch_slots.specs.declared.reserves.Kind.TheVariants as kinds
-use Rattle.settling.specs.epoch_slots.specs.declared.reserves.Short.{Short}
-use Rattle.serving.specs.declared.answers.Served.{Served}
-use Rattle.serving.specs.declared.answers.Served.TheVariants as answers
+use Rattle.settled_tables.specs.closed_words.specs.Histories.{HoldsNoLock}
+use Rattle.reached_facts.specs.keeper_facts.specs.runner_facts.specs.Facts.{HasWornCell}
+use Rattle.free_serving.specs.lock_words.specs.Spent.{IsPast, IsSpentAt}
+use Rattle.settled_tables.specs.settling.specs.epoch_slots.specs.declared.reserves.Kind.TheVariants as kinds
+use Rattle.settled_tables.specs.settling.specs.epoch_slots.specs.declared.reserves.Short.{Short}
+use Rattle.free_serving.specs.serving.specs.declared.answers.Served.{Served}
+use Rattle.free_serving.specs.serving.specs.declared.answers.Served.TheVariants as answers
 use Rattle.free_serving.specs.Left.{Rises}
-use Rattle.serving.specs.resource_bounds.specs.Makes.{added, inserts}
+use Rattle.free_serving.specs.resource_bounds.specs.Makes.{added, inserts}
 use Rattle.threaded_runs.specs.Own.{own_requests}
 
 -- the words are of a table that was made with these

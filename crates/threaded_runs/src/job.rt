@@ -1,8 +1,8 @@
 //! What goes into a worker's thread, and what comes out of it.
 
-use map_history::Request;
-use serving::Served;
-use structure_laws::Structure;
+use free_serving::serving::Served;
+use machine_states::runner_steps::map_history::Request;
+use machine_states::structure_laws::Structure;
 use version_words::Runner;
 
 /// A worker with its gate and its requests.

@@ -13,7 +13,6 @@ mod table_run;
 pub use table_run::run_table;
 
 // Passed on to the layers above, so that they needn't name these libraries themselves.
-pub use closed_words;
-pub use free_serving;
-pub use serving;
-pub use settling::runner_gate;
+pub use free_serving::serving;
+pub use settled_tables::closed_words;
+pub use settled_tables::settling::runner_gate;

@@ -3,10 +3,10 @@ ghost use Rattle.std.specs.Prelude.{◌≡◌, IfOk, All, vec_len};
 ghost use Rattle.threaded_runs.specs.Jobs.{MayRun, HasRun, AllRun};
 
 use crate::job::{Finished, Job};
-use body_terms::Steps;
 use free_serving::serve_freely;
-use serving::lock_walks::Planner;
-use settling::runner_gate::Gate;
+use lone_reads::seq_read::lock_walks::Planner;
+use machine_states::runner_steps::body_terms::Steps;
+use settled_tables::settling::runner_gate::Gate;
 use std::alloc::AllocError;
 use std::sync::Wait;
 use std::thread;

@@ -1,7 +1,7 @@
 //! The whole run of a table.
 ghost use Rattle.std.specs.Prelude.{◌≡◌, IfOk, OnErr, All, [], true, length};
-ghost use Rattle.map_history.specs.Requests.{AreInOrder};
-ghost use Rattle.table_words.specs.Limits.{IsWithinLimits};
+ghost use Rattle.machine_states.specs.runner_steps.specs.map_history.specs.Requests.{AreInOrder};
+ghost use Rattle.machine_states.specs.runner_steps.specs.table_words.specs.Limits.{IsWithinLimits};
 ghost use Rattle.threaded_runs.specs.Counts.{halts_counted, plans_given, plans_from, returns_counted, GivesFront};
 ghost use Rattle.threaded_runs.specs.Asks.{AreAsked};
 ghost use Rattle.threaded_runs.specs.Gates.{GatesCameBack};
@@ -10,19 +10,19 @@ ghost use Rattle.threaded_runs.specs.Runs.{IsMadeWith, AreServed};
 
 use crate::running::run_jobs;
 use crate::seating::{gather, make_jobs};
-use closed_words::closed_words_have_a_history;
+use free_serving::serving::Served;
+use free_serving::serving::attempt_bounds::{attempts_spare_slots, lone_attempts_are_served};
 use lone_reads::lone_reads_are_served;
-use map_history::Request;
+use lone_reads::seq_read::lock_walks::Planner;
+use machine_states::runner_steps::map_history::Request;
+use machine_states::runner_steps::table_words::Layout;
 use reached_facts::table_keeps_its_facts;
-use serving::Served;
-use serving::attempt_bounds::{attempts_spare_slots, lone_attempts_are_served};
-use serving::lock_walks::Planner;
-use settling::runner_gate::Gates;
-use settling::settle;
+use settled_tables::closed_words::closed_words_have_a_history;
+use settled_tables::settling::runner_gate::Gates;
+use settled_tables::settling::settle;
 use std::alloc::{AllocError, Global};
 use std::sync::Wait;
 use std::thread::Threads;
-use table_words::Layout;
 use version_words::{FlockTable, Words};
 
 /// Runs all requests on one new table, with a thread for each worker where one can be made, and gives the words at the

@@ -1,24 +1,24 @@
 -- A transfer that answered was made.
 use Rattle.std.specs.Prelude.{Result, Ok, Err, IfOk}
 use Rattle.std.proofs.Common.{◌≡◌, ℕ, List, suc, ◌+◌, ◌*◌, sym, ap, ◌∙◌, subst, arith}
-use Rattle.map_history.specs.declared.op.Op.TheVariants.{Get}
-use Rattle.map_history.specs.declared.op.Request.{Request}
-use Rattle.body_terms.specs.declared.step.Step.{Step}
-use Rattle.body_terms.specs.declared.thunk.Thunk.{Thunk}
-use Rattle.runner_gate.specs.Asks.{Asks}
-use Rattle.structure_laws.specs.Scene.{Readings}
-use Rattle.structure_laws.specs.Meaning.{Meaning}
+use Rattle.agreement_core.specs.map_history.specs.declared.op.Op.TheVariants.{Get}
+use Rattle.agreement_core.specs.map_history.specs.declared.op.Request.{Request}
+use Rattle.agreement_core.specs.body_terms.specs.declared.step.Step.{Step}
+use Rattle.agreement_core.specs.body_terms.specs.declared.thunk.Thunk.{Thunk}
+use Rattle.settled_tables.specs.settling.specs.runner_gate.specs.Asks.{Asks}
+use Rattle.agreement_core.specs.section_lines.specs.structure_laws.specs.Scene.{Readings}
+use Rattle.agreement_core.specs.section_lines.specs.structure_laws.specs.Meaning.{Meaning}
 use Rattle.agreement_core.specs.History.{Change}
 use Rattle.runner_steps.specs.Sections.{reply_in}
-use Rattle.version_words.specs.RunnerState.{RunnerState}
-use Rattle.version_words.specs.TableState.{TableState}
-use Rattle.lock_walks.specs.Own.{own_thunk}
+use Rattle.settled_tables.specs.closed_words.specs.version_words.specs.RunnerState.{RunnerState}
+use Rattle.settled_tables.specs.closed_words.specs.version_words.specs.TableState.{TableState}
+use Rattle.lock_attempts.specs.attempts.specs.lock_walks.specs.Own.{own_thunk}
 use Rattle.accounts.specs.Walk.{begun, transfer_planning, transfer_way}
 use Rattle.accounts.specs.Made.{IsMade, HasHappened, Makes}
 use Rattle.accounts.specs.declared.table.Accounts.{Accounts}
 use Rattle.accounts.specs.declared.transfer.Transfer.{Transfer}
 use Rattle.accounts.specs.declared.walk.TransferWalk.{TransferWalk}
-use Rattle.attempts.specs.declared.answers.Attempt.{Attempt}
+use Rattle.lock_attempts.specs.attempts.specs.declared.answers.Attempt.{Attempt}
 use Rattle.lock_attempts.specs.Sections.{HasAnswered, changed_by}
 use Rattle.lock_attempts.specs.Again.{Persists}
 use Rattle.lock_attempts.specs.Tickets.{ticket}

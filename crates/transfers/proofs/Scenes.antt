@@ -1,11 +1,11 @@
 -- The table of the program, and its workers.
 use Rattle.std.specs.Prelude.{All, slice_index_or}
 use Rattle.std.proofs.Common.{◌≡◌, ℕ, ◌<◌, List, length, sym, ap, ◌∙◌, subst, arith}
-use Rattle.map_history.specs.declared.op.Request.{Request}
-use Rattle.table_words.specs.declared.layout.Layout.{Layout}
+use Rattle.agreement_core.specs.map_history.specs.declared.op.Request.{Request}
+use Rattle.agreement_core.specs.table_words.specs.declared.layout.Layout.{Layout}
 use Rattle.accounts.specs.declared.table.Accounts.{Accounts}
-use Rattle.version_words.specs.RunnerState.{RunnerState}
-use Rattle.version_words.specs.TableState.{TableState, IsNew, first_keeper}
+use Rattle.settled_tables.specs.closed_words.specs.version_words.specs.RunnerState.{RunnerState}
+use Rattle.settled_tables.specs.closed_words.specs.version_words.specs.TableState.{TableState, IsNew, first_keeper}
 use Rattle.lock_attempts.specs.Tickets.{tickets_for}
 use Rattle.settled_tables.specs.Seats.{IsNewWorker, AreNewWorkers, AllCameBack, AreReports}
 use Rattle.transfers.specs.Scene.{IsScene, MayWork}

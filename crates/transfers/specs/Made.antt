@@ -1,17 +1,17 @@
 -- What a worker made.
 use Rattle.std.specs.Prelude.{◌≡◌, ℕ, zero, suc, ◌+◌, ◌*◌, ◌<◌, List, length, slice_index_or}
-use Rattle.map_history.specs.declared.op.Op.TheVariants.{Get}
-use Rattle.map_history.specs.declared.op.Request.{Request}
-use Rattle.structure_laws.specs.Meaning.{Meaning}
-use Rattle.version_words.specs.RunnerState.{RunnerState}
-use Rattle.version_words.specs.TableState.{TableState}
-use Rattle.account_laws.specs.Accounts.{accounts_of}
-use Rattle.lock_walks.specs.Own.{own_thunk}
+use Rattle.agreement_core.specs.map_history.specs.declared.op.Op.TheVariants.{Get}
+use Rattle.agreement_core.specs.map_history.specs.declared.op.Request.{Request}
+use Rattle.agreement_core.specs.section_lines.specs.structure_laws.specs.Meaning.{Meaning}
+use Rattle.settled_tables.specs.closed_words.specs.version_words.specs.RunnerState.{RunnerState}
+use Rattle.settled_tables.specs.closed_words.specs.version_words.specs.TableState.{TableState}
+use Rattle.accounts.specs.account_laws.specs.Accounts.{accounts_of}
+use Rattle.lock_attempts.specs.attempts.specs.lock_walks.specs.Own.{own_thunk}
 use Rattle.accounts.specs.Walk.{begun, transfer_planning, transfer_way}
 use Rattle.accounts.specs.Made.{IsMade}
 use Rattle.accounts.specs.declared.table.Accounts.{Accounts}
 use Rattle.accounts.specs.declared.transfer.Transfer.{Transfer}
-use Rattle.attempts.specs.Knowing.{KnowsMore}
+use Rattle.lock_attempts.specs.attempts.specs.Knowing.{KnowsMore}
 use Rattle.lock_attempts.specs.Sections.{HasAnswered, changed_by}
 use Rattle.lock_attempts.specs.Tickets.{ticket}
 use Rattle.settled_tables.specs.Seats.{IsNewWorker, CameBack}

@@ -1,7 +1,7 @@
 -- The table of the program, and a worker of it.
 use Rattle.std.specs.Prelude.{◌≡◌, ◌<◌}
-use Rattle.version_words.specs.RunnerState.{RunnerState}
-use Rattle.version_words.specs.TableState.{TableState}
+use Rattle.settled_tables.specs.closed_words.specs.version_words.specs.RunnerState.{RunnerState}
+use Rattle.settled_tables.specs.closed_words.specs.version_words.specs.TableState.{TableState}
 use Rattle.accounts.specs.declared.table.Accounts.{Accounts}
 use Rattle.lock_attempts.specs.Tickets.{tickets_for}
 use Rattle.settled_tables.specs.Seats.{IsNewWorker}

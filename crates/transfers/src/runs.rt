@@ -7,12 +7,12 @@ use crate::stops::StopInside;
 use crate::works::{ACCOUNTS, EACH, OPENING, Report, WORKERS, work};
 use accounts::{Accounts, balances};
 use lock_attempts::make_tickets;
+use runner_steps::table_words::Layout;
+use settled_tables::closed_words::version_words::{FlockTable, Runner};
 use settled_tables::{close_table, open_table};
 use std::alloc::{AllocError, Global};
 use std::thread;
 use std::thread::Threads;
-use table_words::Layout;
-use version_words::{FlockTable, Runner};
 
 /// How many own transfers the first worker makes before it stops inside one.
 const BEFORE: u32 = 3;

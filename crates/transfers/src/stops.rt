@@ -1,8 +1,8 @@
 //! A gate that stops its worker for good between the two stores of a transfer.
 ghost use Rattle.std.specs.Prelude.{◌≡◌, None};
 
-use body_terms::StepKind;
-use runner_gate::{Gate, Pass};
+use runner_steps::body_terms::StepKind;
+use settled_tables::settling::runner_gate::{Gate, Pass};
 
 /// A gate that halts behind the first store of its worker's own section with a given number, counted from 0; never,
 /// where there is no number.

@@ -1,20 +1,20 @@
 //! What a worker does.
 ghost use Rattle.std.specs.Prelude.{◌≡◌, ◌≢◌, ◌+◌, ◌<◌, ◌≤◌, IfOk, IfErr, Err};
-ghost use Rattle.version_words.specs.TableState.{IsOf};
-ghost use Rattle.attempts.specs.Knowing.{KnowsMore};
-ghost use Rattle.attempts.specs.declared.answers.Attempt.TheVariants as answers;
+ghost use Rattle.settled_tables.specs.closed_words.specs.version_words.specs.TableState.{IsOf};
+ghost use Rattle.lock_attempts.specs.attempts.specs.Knowing.{KnowsMore};
+ghost use Rattle.lock_attempts.specs.attempts.specs.declared.answers.Attempt.TheVariants as answers;
 ghost use Rattle.lock_attempts.specs.Tickets.{ticket, HasTickets};
 ghost use Rattle.settled_tables.specs.Seats.{CameBack};
 ghost use Rattle.transfers.specs.Scene.{MayWork};
 ghost use Rattle.transfers.specs.Made.{HasMade, Reports};
 
 use accounts::{Accounts, Transfer};
-use body_terms::Steps;
 use lock_attempts::attempts::Attempt;
 use lock_attempts::{Tickets, spend_ticket, tickets_of};
-use map_history::Op;
-use runner_gate::Gate;
-use version_words::{FlockTable, Runner};
+use runner_steps::body_terms::Steps;
+use runner_steps::map_history::Op;
+use settled_tables::closed_words::version_words::{FlockTable, Runner};
+use settled_tables::settling::runner_gate::Gate;
 
 /// How many workers there are, and how many transfers each is to make.
 pub const WORKERS: u32 = 4;

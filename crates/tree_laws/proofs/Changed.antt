@@ -1,7 +1,7 @@
 -- The memory with one link of an inner node changed, and marks.
 use Rattle.std.specs.Prelude.{Bool, true, false}
 use Rattle.std.proofs.Common.{◌≡◌, ◌≢◌, ℕ, ◌<◌, sym, ap, ◌∙◌, subst, ⊎_elim, arith}
-use Rattle.body_terms.specs.Word.{value_of}
+use Rattle.structure_laws.specs.body_terms.specs.Word.{value_of}
 use Rattle.structure_laws.specs.Scene.{Cells}
 use Rattle.tree_bodies.specs.Tree.{key_cell, child_of}
 use Rattle.tree_laws.specs.Search.{Nodes, Covers, IsInner, IsLeaf, HasSentinels, with_child}

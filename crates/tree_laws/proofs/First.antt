@@ -3,9 +3,9 @@ use Rattle.std.proofs.Common.{◌≡◌, ◌≢◌, ℕ, zero, suc, ◌<◌, ◌
 use Rattle.std.specs.Prelude.{◌⊎◌, nat_lt, Some, None}
 use Rattle.std.specs.FinMap.{empty, get-empty}
 use Rattle.std.specs.Ordering.{nat_cmp}
-use Rattle.body_terms.specs.Word.{value_of, pack}
-use Rattle.table_words.specs.declared.layout.Layout.{Layout}
-use Rattle.table_words.specs.Places.{slot_count}
+use Rattle.structure_laws.specs.body_terms.specs.Word.{value_of, pack}
+use Rattle.structure_laws.specs.table_words.specs.declared.layout.Layout.{Layout}
+use Rattle.structure_laws.specs.table_words.specs.Places.{slot_count}
 use Rattle.structure_laws.specs.Scene.{Readings, Section, Free, Live, Retired, Scene}
 use Rattle.structure_laws.specs.Laws.{IsFirst}
 use Rattle.tree_laws.specs.Search.{Nodes, Covers, IsInner, IsLeaf, low, high, key_end, SearchTree, HasSentinels}

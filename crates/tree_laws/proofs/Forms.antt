@@ -1,13 +1,13 @@
 -- The steps of the tree's bodies, found by their kind.
 use Rattle.std.proofs.Common.{◌≡◌, ℕ, ◌+◌, arith}
 use Rattle.std.specs.Prelude.{◌*◌, ◌^◌, ◌⊎◌, Some, slice_get}
-use Rattle.section_body.specs.Bucket.{operand}
-use Rattle.body_terms.specs.declared.value.Value.{Value}
-use Rattle.body_terms.specs.declared.value.Value.TheVariants.{Const, Of, Made}
-use Rattle.body_terms.specs.declared.value.Init.{Init}
-use Rattle.body_terms.specs.declared.step.Step.{Step}
-use Rattle.body_terms.specs.declared.step.Step.TheVariants.{Load, Want, Fresh, Take, Make, Store, Retire, Answer}
-use Rattle.body_terms.specs.declared.thunk.Thunk.{Thunk}
+use Rattle.bucket_laws.specs.bucket_bodies.specs.section_body.specs.Bucket.{operand}
+use Rattle.structure_laws.specs.body_terms.specs.declared.value.Value.{Value}
+use Rattle.structure_laws.specs.body_terms.specs.declared.value.Value.TheVariants.{Const, Of, Made}
+use Rattle.structure_laws.specs.body_terms.specs.declared.value.Init.{Init}
+use Rattle.structure_laws.specs.body_terms.specs.declared.step.Step.{Step}
+use Rattle.structure_laws.specs.body_terms.specs.declared.step.Step.TheVariants.{Load, Want, Fresh, Take, Make, Store, Retire, Answer}
+use Rattle.structure_laws.specs.body_terms.specs.declared.thunk.Thunk.{Thunk}
 use Rattle.tree_bodies.specs.Tree.{lock_of, mark_of, leaf_init, inner_init, parent_in, sibling_of, old_leaf}
 use Rattle.tree_bodies.specs.Tree.{look_steps, insert_steps, delete_steps, replace_steps}
 

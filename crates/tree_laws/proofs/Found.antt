@@ -1,11 +1,11 @@
 -- A walk has found its key exactly where the leaf's key that it read is it.
 use Rattle.std.specs.Prelude.{◌==◌, nat_le, nat_lt, cond, Bool, true, false, Some, [], ◌∷◌, slice_get}
 use Rattle.std.proofs.Common.{◌≡◌, ℕ, suc, refl, sym, ap, ◌∙◌}
-use Rattle.small_lemmas.proofs.Bools.{false_not_true as false_true}
-use Rattle.small_lemmas.proofs.Lists.{same_number as some_eq}
-use Rattle.map_history.specs.declared.op.Op.{Op}
-use Rattle.map_history.specs.Keys.{key_of}
-use Rattle.body_terms.specs.Word.{value_of}
+use Rattle.structure_laws.specs.table_words.specs.small_lemmas.proofs.Bools.{false_not_true as false_true}
+use Rattle.structure_laws.specs.table_words.specs.small_lemmas.proofs.Lists.{same_number as some_eq}
+use Rattle.structure_laws.specs.map_history.specs.declared.op.Op.{Op}
+use Rattle.structure_laws.specs.map_history.specs.Keys.{key_of}
+use Rattle.structure_laws.specs.body_terms.specs.Word.{value_of}
 use Rattle.structure_laws.specs.Scene.{Readings}
 use Rattle.bucket_laws.specs.Walk.{Bounds, is_del, is_wanted}
 use Rattle.bucket_laws.proofs.Walks.{wanted_eq}

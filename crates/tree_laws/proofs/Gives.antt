@@ -2,19 +2,19 @@
 use Rattle.std.specs.Prelude.{◌==◌, ◌&&◌, ◌||◌, not, ◌⊎◌, ◌-◌, ◌%◌, ◌^◌, nat_lt, cond, Bool, true, false, Some, List, [], slice_get}
 use Rattle.std.proofs.Common.{◌≡◌, ◌≢◌, ℕ, suc, ◌+◌, ◌*◌, ◌<◌, ◌≤◌, refl, sym, ap, ◌∙◌, subst, inl, inr, ⊎_elim, arith}
 use Rattle.std.proofs.lemmas.Bool.{cases_eq, both_ways}
-use Rattle.small_lemmas.proofs.Numbers.{suc_equal as suc_eq}
-use Rattle.map_history.specs.Keys.{key_of, DependsOn, HaveNoCommonKey}
-use Rattle.map_history.proofs.Cells.{key_is}
-use Rattle.body_terms.specs.Word.{value_of, next_word}
-use Rattle.body_terms.specs.Update.{upd}
-use Rattle.section_body.specs.Bucket.{operand}
-use Rattle.body_terms.specs.declared.value.Value.{Value}
-use Rattle.body_terms.specs.declared.value.Value.TheVariants.{Const, Of, Made}
-use Rattle.body_terms.specs.declared.step.Step.{Step}
-use Rattle.body_terms.specs.declared.step.Step.TheVariants.{Load, Want, Fresh, Take, Store, Retire}
-use Rattle.body_terms.specs.declared.thunk.Thunk.{Thunk}
-use Rattle.table_words.specs.declared.layout.Layout.{Layout}
-use Rattle.table_words.specs.Limits.{IsWithinLimits}
+use Rattle.structure_laws.specs.table_words.specs.small_lemmas.proofs.Numbers.{suc_equal as suc_eq}
+use Rattle.structure_laws.specs.map_history.specs.Keys.{key_of, DependsOn, HaveNoCommonKey}
+use Rattle.structure_laws.specs.map_history.proofs.Cells.{key_is}
+use Rattle.structure_laws.specs.body_terms.specs.Word.{value_of, next_word}
+use Rattle.structure_laws.specs.body_terms.specs.Update.{upd}
+use Rattle.bucket_laws.specs.bucket_bodies.specs.section_body.specs.Bucket.{operand}
+use Rattle.structure_laws.specs.body_terms.specs.declared.value.Value.{Value}
+use Rattle.structure_laws.specs.body_terms.specs.declared.value.Value.TheVariants.{Const, Of, Made}
+use Rattle.structure_laws.specs.body_terms.specs.declared.step.Step.{Step}
+use Rattle.structure_laws.specs.body_terms.specs.declared.step.Step.TheVariants.{Load, Want, Fresh, Take, Store, Retire}
+use Rattle.structure_laws.specs.body_terms.specs.declared.thunk.Thunk.{Thunk}
+use Rattle.structure_laws.specs.table_words.specs.declared.layout.Layout.{Layout}
+use Rattle.structure_laws.specs.table_words.specs.Limits.{IsWithinLimits}
 use Rattle.structure_laws.specs.Scene.{Cells, Readings, Section, Free, Live, Retired, Scene}
 use Rattle.structure_laws.specs.Sections.{value_in, is_exit, Here, IsStep, Holds, Settled, Unstored}
 use Rattle.structure_laws.specs.Cells.{IsReader, IsCellOf, InUse, Links}

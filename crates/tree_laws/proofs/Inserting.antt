@@ -1,11 +1,11 @@
 -- An insertion that has made its nodes and not stored the link: its new inner node may take the place of the leaf.
 use Rattle.std.specs.Prelude.{◌==◌, not, nat_lt, cond, Bool, true, false}
 use Rattle.std.proofs.Common.{◌≡◌, ◌≢◌, ℕ, suc, ◌<◌, ◌≤◌, refl, sym, ap, ◌∙◌, subst, inl, arith}
-use Rattle.small_lemmas.proofs.Bools.{not_both as true_false}
-use Rattle.map_history.specs.Keys.{key_of}
-use Rattle.body_terms.specs.Word.{value_of}
-use Rattle.section_body.specs.Bucket.{operand}
-use Rattle.table_words.specs.declared.layout.Layout.{Layout}
+use Rattle.structure_laws.specs.table_words.specs.small_lemmas.proofs.Bools.{not_both as true_false}
+use Rattle.structure_laws.specs.map_history.specs.Keys.{key_of}
+use Rattle.structure_laws.specs.body_terms.specs.Word.{value_of}
+use Rattle.bucket_laws.specs.bucket_bodies.specs.section_body.specs.Bucket.{operand}
+use Rattle.structure_laws.specs.table_words.specs.declared.layout.Layout.{Layout}
 use Rattle.structure_laws.specs.Scene.{Section, Scene}
 use Rattle.structure_laws.specs.Sections.{Here}
 use Rattle.structure_laws.specs.Sound.{Sound}

@@ -4,7 +4,7 @@ use Rattle.std.specs.Prelude.{◌⊎◌, not, Option, Some}
 use Rattle.std.proofs.lemmas.Bool.{both_ways}
 use mathlib.Core.Logic.{dite}
 use native.Mathlib.Decide.{ℕ_discrete}
-use Rattle.body_terms.specs.Update.{upd}
+use Rattle.structure_laws.specs.body_terms.specs.Update.{upd}
 use Rattle.structure_laws.proofs.Changes.{upd_same, upd_other}
 use Rattle.tree_laws.specs.Search.{Nodes, Covers, IsInner, IsLeaf, low, high, key_end, AreApart, SearchTree, Contents, with_child, AreOrdered, IsInsertion, thrice, inserted, InsertionKeeps}
 use Rattle.tree_laws.proofs.Removal.{suc_eq, split, other_side}

@@ -1,11 +1,11 @@
 -- What the tree keeps, over a change of a scene that leaves the linked nodes and what they cover.
 use Rattle.std.specs.Prelude.{◌⊎◌, ◌%◌, cond, Bool, true, false, Some, slice_get}
 use Rattle.std.proofs.Common.{◌≡◌, ◌≢◌, ℕ, suc, ◌+◌, ◌*◌, ◌<◌, ◌≤◌, refl, sym, ◌∙◌, subst, inl, inr, ⊎_elim, arith}
-use Rattle.small_lemmas.proofs.Numbers.{suc_equal as suc_eq}
-use Rattle.map_history.specs.declared.op.Op.{Op}
-use Rattle.map_history.specs.Keys.{key_of}
-use Rattle.body_terms.specs.Word.{value_of}
-use Rattle.table_words.specs.declared.layout.Layout.{Layout}
+use Rattle.structure_laws.specs.table_words.specs.small_lemmas.proofs.Numbers.{suc_equal as suc_eq}
+use Rattle.structure_laws.specs.map_history.specs.declared.op.Op.{Op}
+use Rattle.structure_laws.specs.map_history.specs.Keys.{key_of}
+use Rattle.structure_laws.specs.body_terms.specs.Word.{value_of}
+use Rattle.structure_laws.specs.table_words.specs.declared.layout.Layout.{Layout}
 use Rattle.structure_laws.specs.Scene.{Readings, Section, Free, Live, Retired, Scene}
 use Rattle.structure_laws.specs.Cells.{IsSafe, IsOutside}
 use Rattle.structure_laws.specs.Sound.{IsRead, Sound}

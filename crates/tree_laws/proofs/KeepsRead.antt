@@ -3,12 +3,12 @@ use Rattle.std.specs.Prelude.{◌⊎◌, ◌==◌, ◌-◌, nat_lt, nat_le, cond
 use Rattle.std.proofs.Common.{◌≡◌, ◌≢◌, ℕ, zero, suc, ◌+◌, ◌*◌, ◌<◌, ◌≤◌, refl, sym, ap, ◌∙◌, subst, inl, inr, ⊎_elim, arith}
 use Rattle.std.proofs.lemmas.Bool.{cases_eq}
 use Rattle.std.proofs.lemmas.Option.{none-some}
-use Rattle.small_lemmas.proofs.Lists.{same_number as some_eq, get_last as push_last}
-use Rattle.small_lemmas.proofs.Numbers.{tested_not_less as not_less, tested_some as not_none}
-use Rattle.map_history.specs.declared.op.Op.{Op}
-use Rattle.map_history.specs.Keys.{key_of}
-use Rattle.body_terms.specs.Word.{value_of}
-use Rattle.table_words.specs.declared.layout.Layout.{Layout}
+use Rattle.structure_laws.specs.table_words.specs.small_lemmas.proofs.Lists.{same_number as some_eq, get_last as push_last}
+use Rattle.structure_laws.specs.table_words.specs.small_lemmas.proofs.Numbers.{tested_not_less as not_less, tested_some as not_none}
+use Rattle.structure_laws.specs.map_history.specs.declared.op.Op.{Op}
+use Rattle.structure_laws.specs.map_history.specs.Keys.{key_of}
+use Rattle.structure_laws.specs.body_terms.specs.Word.{value_of}
+use Rattle.structure_laws.specs.table_words.specs.declared.layout.Layout.{Layout}
 use Rattle.structure_laws.specs.Scene.{Readings, Free, Scene, with_reading}
 use Rattle.structure_laws.specs.Cells.{IsSafe, IsOutside, IsLoadable}
 use Rattle.structure_laws.specs.Sound.{IsRead}

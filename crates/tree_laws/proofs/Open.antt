@@ -1,17 +1,17 @@
 -- What holds of an open section on the tree: its numbers, and the nodes that its walk has found.
 use Rattle.std.specs.Prelude.{◌||◌, ◌&&◌, not, ◌^◌, cond, Bool, true, false, Some, List, slice_get, slice_index}
 use Rattle.std.proofs.Common.{◌≡◌, ◌≢◌, ℕ, suc, ◌+◌, ◌*◌, ◌<◌, ◌≤◌, refl, sym, ap, ◌∙◌, subst, inl, ⊎_elim, arith}
-use Rattle.small_lemmas.proofs.Numbers.{other_tested as eq_false, equal_tested as eq_true, less_tested as lt_test}
-use Rattle.map_history.specs.declared.op.Op.TheVariants.{Del, Put}
-use Rattle.map_history.specs.Keys.{key_of}
-use Rattle.body_terms.specs.Word.{value_of}
-use Rattle.section_body.specs.Bucket.{operand, is_small}
-use Rattle.body_terms.specs.declared.value.Value.{Value}
-use Rattle.body_terms.specs.declared.step.Step.{Step}
-use Rattle.body_terms.specs.declared.step.Step.TheVariants.{Load, Want, Store}
-use Rattle.table_words.specs.declared.layout.Layout.{Layout}
-use Rattle.table_words.specs.Limits.{IsWithinLimits}
-use Rattle.table_words.specs.Places.{slot_count}
+use Rattle.structure_laws.specs.table_words.specs.small_lemmas.proofs.Numbers.{other_tested as eq_false, equal_tested as eq_true, less_tested as lt_test}
+use Rattle.structure_laws.specs.map_history.specs.declared.op.Op.TheVariants.{Del, Put}
+use Rattle.structure_laws.specs.map_history.specs.Keys.{key_of}
+use Rattle.structure_laws.specs.body_terms.specs.Word.{value_of}
+use Rattle.bucket_laws.specs.bucket_bodies.specs.section_body.specs.Bucket.{operand, is_small}
+use Rattle.structure_laws.specs.body_terms.specs.declared.value.Value.{Value}
+use Rattle.structure_laws.specs.body_terms.specs.declared.step.Step.{Step}
+use Rattle.structure_laws.specs.body_terms.specs.declared.step.Step.TheVariants.{Load, Want, Store}
+use Rattle.structure_laws.specs.table_words.specs.declared.layout.Layout.{Layout}
+use Rattle.structure_laws.specs.table_words.specs.Limits.{IsWithinLimits}
+use Rattle.structure_laws.specs.table_words.specs.Places.{slot_count}
 use Rattle.structure_laws.specs.Scene.{Section, Free, Live, Retired, Scene}
 use Rattle.structure_laws.specs.Sections.{Here, IsStep}
 use Rattle.structure_laws.specs.Cells.{IsSafe}

@@ -4,17 +4,17 @@ use Rattle.std.specs.Prelude.{◌⊎◌, ◌^◌, Bool, true, false, Some, slice
 use Rattle.std.proofs.Common.{◌≡◌, ◌≢◌, ℕ, suc, ◌<◌, ◌≤◌, refl, sym, ap, ◌∙◌, subst, ⊎_elim, arith}
 use Rattle.std.proofs.lemmas.Bool.{cases_eq, both_ways}
 use Rattle.std.specs.FinMap.{get}
-use Rattle.map_history.specs.Keys.{key_of}
-use Rattle.map_history.specs.Replay.{Pairs, map_after}
-use Rattle.body_terms.specs.Word.{value_of}
-use Rattle.body_terms.specs.Update.{upd}
-use Rattle.section_body.specs.Bucket.{operand}
-use Rattle.body_terms.specs.declared.value.Value.TheVariants.{Made}
-use Rattle.body_terms.specs.declared.step.Step.{Step}
-use Rattle.body_terms.specs.declared.step.Step.TheVariants.{Load, Stamp, Store}
-use Rattle.table_words.specs.declared.layout.Layout.{Layout}
-use Rattle.table_words.specs.Limits.{IsWithinLimits}
-use Rattle.table_words.specs.Places.{slot_count}
+use Rattle.structure_laws.specs.map_history.specs.Keys.{key_of}
+use Rattle.structure_laws.specs.map_history.specs.Replay.{Pairs, map_after}
+use Rattle.structure_laws.specs.body_terms.specs.Word.{value_of}
+use Rattle.structure_laws.specs.body_terms.specs.Update.{upd}
+use Rattle.bucket_laws.specs.bucket_bodies.specs.section_body.specs.Bucket.{operand}
+use Rattle.structure_laws.specs.body_terms.specs.declared.value.Value.TheVariants.{Made}
+use Rattle.structure_laws.specs.body_terms.specs.declared.step.Step.{Step}
+use Rattle.structure_laws.specs.body_terms.specs.declared.step.Step.TheVariants.{Load, Stamp, Store}
+use Rattle.structure_laws.specs.table_words.specs.declared.layout.Layout.{Layout}
+use Rattle.structure_laws.specs.table_words.specs.Limits.{IsWithinLimits}
+use Rattle.structure_laws.specs.table_words.specs.Places.{slot_count}
 use Rattle.structure_laws.specs.Scene.{Cells, Section, Free, Live, Scene}
 use Rattle.structure_laws.specs.Sections.{IsStep}
 use Rattle.structure_laws.specs.InTurn.{StandsFor, AtStamp, AfterStores}

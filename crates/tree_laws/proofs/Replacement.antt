@@ -6,7 +6,7 @@ use Rattle.std.specs.Prelude.{◌⊎◌, Option, Some}
 use Rattle.std.proofs.lemmas.Bool.{both_ways}
 use mathlib.Core.Logic.{dite}
 use native.Mathlib.Decide.{ℕ_discrete}
-use Rattle.body_terms.specs.Update.{upd}
+use Rattle.structure_laws.specs.body_terms.specs.Update.{upd}
 use Rattle.structure_laws.proofs.Changes.{upd_same, upd_other}
 use Rattle.tree_laws.specs.Search.{Nodes, Covers, IsInner, IsLeaf, low, high, key_end, AreApart, SearchTree, Contents}
 use Rattle.tree_laws.specs.Search.{with_child, IsReplacement, replaced, ReplacementKeeps}

@@ -2,9 +2,9 @@
 use Rattle.std.specs.Prelude.{◌==◌, Bool, true, false}
 use Rattle.std.proofs.Common.{◌≡◌, ℕ, suc, ◌≤◌, refl, sym, ap, ◌∙◌, inl, inr, arith}
 use Rattle.std.proofs.lemmas.Bool.{both_ways}
-use Rattle.map_history.specs.Keys.{key_of}
-use Rattle.body_terms.specs.Word.{value_of}
-use Rattle.table_words.specs.declared.layout.Layout.{Layout}
+use Rattle.structure_laws.specs.map_history.specs.Keys.{key_of}
+use Rattle.structure_laws.specs.body_terms.specs.Word.{value_of}
+use Rattle.structure_laws.specs.table_words.specs.declared.layout.Layout.{Layout}
 use Rattle.structure_laws.specs.Scene.{Section, Scene}
 use Rattle.structure_laws.specs.Sections.{Here}
 use Rattle.structure_laws.specs.Sound.{Sound}

@@ -6,10 +6,10 @@ use Rattle.std.proofs.Common.{◌≡◌, ◌≢◌, ℕ, zero, suc, ◌≤◌, r
 use Rattle.std.proofs.lemmas.Cmp.{nat_cmp_total}
 use mathlib.Core.Logic.{dite}
 use native.Mathlib.Decide.{ℕ_discrete}
-use Rattle.small_lemmas.proofs.Numbers.{suc_equal as suc_eq, zero_not_suc as zero_suc}
-use Rattle.map_history.specs.Replay.{Pairs}
-use Rattle.table_words.specs.declared.layout.Layout.{Layout}
-use Rattle.table_words.specs.Places.{slot_count}
+use Rattle.structure_laws.specs.table_words.specs.small_lemmas.proofs.Numbers.{suc_equal as suc_eq, zero_not_suc as zero_suc}
+use Rattle.structure_laws.specs.map_history.specs.Replay.{Pairs}
+use Rattle.structure_laws.specs.table_words.specs.declared.layout.Layout.{Layout}
+use Rattle.structure_laws.specs.table_words.specs.Places.{slot_count}
 use Rattle.structure_laws.specs.Scene.{Section, Scene}
 use Rattle.structure_laws.specs.InTurn.{StandsFor}
 use Rattle.structure_laws.specs.Planner.{IsQuiet, AreInUse}

@@ -1,6 +1,6 @@
 -- The tree keeps what it keeps, by every move.
-use Rattle.table_words.specs.declared.layout.Layout.{Layout}
-use Rattle.table_words.specs.Limits.{IsWithinLimits}
+use Rattle.structure_laws.specs.table_words.specs.declared.layout.Layout.{Layout}
+use Rattle.structure_laws.specs.table_words.specs.Limits.{IsWithinLimits}
 use Rattle.structure_laws.specs.Keeps.{Keeps}
 use Rattle.tree_laws.specs.Leaves.{tree}
 use Rattle.tree_laws.proofs.KeepsCollect.{collect_kept}

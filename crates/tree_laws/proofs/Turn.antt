@@ -3,17 +3,17 @@ use Rattle.std.specs.Prelude.{◌==◌, ◌^◌, is_some, Bool, true, false, Opt
 use Rattle.std.proofs.Common.{◌≡◌, ℕ, ◌*◌, ◌<◌, ◌≤◌, refl, sym, ap, ◌∙◌, subst, inl, ⊎_elim, arith}
 use Rattle.std.proofs.lemmas.Bool.{cases_eq, both_ways}
 use Rattle.std.specs.FinMap.{get, contains_key}
-use Rattle.small_lemmas.proofs.Numbers.{equal_tested as eq_true}
-use Rattle.map_history.specs.declared.op.Op.{Op}
-use Rattle.map_history.specs.declared.op.Op.TheVariants.{Get, Ins, Del, Put, Mov}
-use Rattle.map_history.specs.declared.reply.Reply.TheVariants.{New, Dup, Gone, Absent}
-use Rattle.map_history.specs.Keys.{key_of}
-use Rattle.map_history.specs.Replay.{Pairs, found, replaced, reply_of}
-use Rattle.map_history.specs.Words.{word_of}
-use Rattle.body_terms.specs.declared.step.Step.TheVariants.{Stamp, Answer}
-use Rattle.body_terms.specs.declared.thunk.Thunk.{Thunk}
-use Rattle.table_words.specs.declared.layout.Layout.{Layout}
-use Rattle.table_words.specs.Limits.{IsWithinLimits}
+use Rattle.structure_laws.specs.table_words.specs.small_lemmas.proofs.Numbers.{equal_tested as eq_true}
+use Rattle.structure_laws.specs.map_history.specs.declared.op.Op.{Op}
+use Rattle.structure_laws.specs.map_history.specs.declared.op.Op.TheVariants.{Get, Ins, Del, Put, Mov}
+use Rattle.structure_laws.specs.map_history.specs.declared.reply.Reply.TheVariants.{New, Dup, Gone, Absent}
+use Rattle.structure_laws.specs.map_history.specs.Keys.{key_of}
+use Rattle.structure_laws.specs.map_history.specs.Replay.{Pairs, found, replaced, reply_of}
+use Rattle.structure_laws.specs.map_history.specs.Words.{word_of}
+use Rattle.structure_laws.specs.body_terms.specs.declared.step.Step.TheVariants.{Stamp, Answer}
+use Rattle.structure_laws.specs.body_terms.specs.declared.thunk.Thunk.{Thunk}
+use Rattle.structure_laws.specs.table_words.specs.declared.layout.Layout.{Layout}
+use Rattle.structure_laws.specs.table_words.specs.Limits.{IsWithinLimits}
 use Rattle.structure_laws.specs.Scene.{Section, Scene}
 use Rattle.structure_laws.specs.Sections.{IsStep}
 use Rattle.structure_laws.specs.InTurn.{StandsFor, AtStamp}

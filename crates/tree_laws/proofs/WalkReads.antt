@@ -3,12 +3,12 @@ use Rattle.std.proofs.Common.{◌≡◌, ℕ, zero, suc, ◌+◌, ◌*◌, ◌<�
 use Rattle.std.specs.Prelude.{◌==◌, ◌&&◌, ◌-◌, ◌%◌, ◌^◌, ◌⊎◌, nat_le, nat_lt, Some, [], ◌∷◌, slice_get}
 use Rattle.std.specs.List.{list_any}
 use Rattle.std.proofs.lemmas.Option.{none-some}
-use Rattle.small_lemmas.proofs.Bools.{or_first as or_left, or_second as or_right}
-use Rattle.small_lemmas.proofs.Lists.{same_number as some_eq}
-use Rattle.small_lemmas.proofs.Numbers.{less_tested as lt_test, tested_some as not_zero}
-use Rattle.map_history.specs.declared.op.Op.{Op}
-use Rattle.map_history.specs.Keys.{key_of}
-use Rattle.body_terms.specs.Word.{value_of}
+use Rattle.structure_laws.specs.table_words.specs.small_lemmas.proofs.Bools.{or_first as or_left, or_second as or_right}
+use Rattle.structure_laws.specs.table_words.specs.small_lemmas.proofs.Lists.{same_number as some_eq}
+use Rattle.structure_laws.specs.table_words.specs.small_lemmas.proofs.Numbers.{less_tested as lt_test, tested_some as not_zero}
+use Rattle.structure_laws.specs.map_history.specs.declared.op.Op.{Op}
+use Rattle.structure_laws.specs.map_history.specs.Keys.{key_of}
+use Rattle.structure_laws.specs.body_terms.specs.Word.{value_of}
 use Rattle.structure_laws.specs.Scene.{Readings}
 use Rattle.structure_laws.proofs.Changes.{equal_of, value_small}
 use Rattle.bucket_laws.specs.Walk.{Bounds, is_del, is_wanted}

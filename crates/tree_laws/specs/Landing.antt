@@ -1,7 +1,7 @@
 -- Where the walk of an open section has landed.
 use Rattle.std.specs.Prelude.{ℕ, ◌<◌, ◌≤◌, ◌≡◌, true}
-use Rattle.map_history.specs.Keys.{key_of}
-use Rattle.table_words.specs.declared.layout.Layout.{Layout}
+use Rattle.structure_laws.specs.map_history.specs.Keys.{key_of}
+use Rattle.structure_laws.specs.table_words.specs.declared.layout.Layout.{Layout}
 use Rattle.structure_laws.specs.Scene.{Section, Scene}
 use Rattle.structure_laws.specs.Sections.{Here}
 use Rattle.structure_laws.specs.Sound.{Sound}

@@ -1,7 +1,7 @@
 -- A search tree by sides: its linked nodes, each with the keys that its place covers. Of each fact both
 -- sides are one case.
 use Rattle.std.specs.Prelude.{ℕ, suc, ◌<◌, ◌≤◌, ◌≡◌, ◌≢◌, ◌⊎◌, Bool, true, false, cond, not, ◌&&◌, ◌==◌, Option, None, Some}
-use Rattle.body_terms.specs.Update.{upd}
+use Rattle.structure_laws.specs.body_terms.specs.Update.{upd}
 
 -- the values of the nodes' cells; true is the left side, and the right link of a leaf is its value
 pub record Nodes : Type 0 where

@@ -1,10 +1,10 @@
 -- The walk of a key from the root to a leaf, read off a list of readings, and the thunk that is the one for it.
 use Rattle.std.specs.Prelude.{ℕ, suc, ◌+◌, ◌*◌, ◌^◌, Bool, true, false, cond, not, ◌&&◌, ◌==◌, nat_lt, nat_le, List, [], ◌∷◌, Option, None, Some}
-use Rattle.map_history.specs.declared.op.Op.{Op}
-use Rattle.map_history.specs.declared.op.Op.TheVariants.{Get, Ins, Del, Put, Mov}
-use Rattle.map_history.specs.Keys.{key_of}
-use Rattle.body_terms.specs.Word.{value_of, is_free, is_spent}
-use Rattle.body_terms.specs.declared.thunk.Thunk.{Thunk}
+use Rattle.structure_laws.specs.map_history.specs.declared.op.Op.{Op}
+use Rattle.structure_laws.specs.map_history.specs.declared.op.Op.TheVariants.{Get, Ins, Del, Put, Mov}
+use Rattle.structure_laws.specs.map_history.specs.Keys.{key_of}
+use Rattle.structure_laws.specs.body_terms.specs.Word.{value_of, is_free, is_spent}
+use Rattle.structure_laws.specs.body_terms.specs.declared.thunk.Thunk.{Thunk}
 use Rattle.structure_laws.specs.Scene.{Readings}
 use Rattle.bucket_laws.specs.Walk.{Bounds, is_del, is_wanted, same_numbers, has_one_key}
 use Rattle.tree_bodies.specs.Tree.{lock_of, key_cell, left_of, right_of, mark_of, child_of, slot_in}

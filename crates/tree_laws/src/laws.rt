@@ -1,7 +1,7 @@
 //! The search tree meets the laws of a structure.
 ghost use Rattle.structure_laws.specs.Laws.{Laws};
 ghost use Rattle.structure_laws.specs.Planner.{PlannerLaws};
-ghost use Rattle.table_words.specs.declared.layout.Layout.{Layout};
+ghost use Rattle.structure_laws.specs.table_words.specs.declared.layout.Layout.{Layout};
 ghost use Rattle.tree_laws.specs.Landing.{LandingLaw};
 ghost use Rattle.tree_laws.specs.Leaves.{tree};
 ghost use Rattle.tree_laws.specs.Search.{InsertionLaw, RemovalLaw, ReplacementLaw, ViewLaw};

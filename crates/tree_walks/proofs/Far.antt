@@ -5,20 +5,20 @@ use Rattle.std.specs.List.{list_any}
 use Rattle.std.proofs.lemmas.Bool.Decides.{nat_tests}
 use Rattle.std.proofs.lemmas.Option.{none-some}
 use Rattle.std.proofs.lemmas.Bool.{and_from}
-use Rattle.small_lemmas.proofs.Bools.{from_false as false_true}
-use Rattle.small_lemmas.proofs.Lists.{same_number as some_eq, get_last as get_new}
-use Rattle.small_lemmas.proofs.Numbers.{tested_most as below}
-use Rattle.map_history.specs.declared.op.Op.{Op}
-use Rattle.map_history.specs.Keys.{key_of}
-use Rattle.section_body.specs.Bucket.{is_small}
-use Rattle.body_terms.specs.Word.{value_of}
-use Rattle.body_terms.proofs.ShapeLemmas.{any_found, found_any}
-use Rattle.table_words.specs.declared.layout.Layout.{Layout}
-use Rattle.table_words.specs.Limits.{IsWithinLimits}
-use Rattle.table_words.specs.Places.{slot_count}
-use Rattle.structure_laws.specs.Scene.{Readings}
-use Rattle.structure_laws.specs.Sections.{IsAllowed}
-use Rattle.structure_laws.proofs.Changes.{both_true, equal_of}
+use Rattle.runner_parts.specs.epoch_core.specs.small_lemmas.proofs.Bools.{from_false as false_true}
+use Rattle.runner_parts.specs.epoch_core.specs.small_lemmas.proofs.Lists.{same_number as some_eq, get_last as get_new}
+use Rattle.runner_parts.specs.epoch_core.specs.small_lemmas.proofs.Numbers.{tested_most as below}
+use Rattle.runner_parts.specs.structure_laws.specs.map_history.specs.declared.op.Op.{Op}
+use Rattle.runner_parts.specs.structure_laws.specs.map_history.specs.Keys.{key_of}
+use Rattle.tree_laws.specs.section_body.specs.Bucket.{is_small}
+use Rattle.runner_parts.specs.structure_laws.specs.body_terms.specs.Word.{value_of}
+use Rattle.runner_parts.specs.structure_laws.specs.body_terms.proofs.ShapeLemmas.{any_found, found_any}
+use Rattle.runner_parts.specs.structure_laws.specs.table_words.specs.declared.layout.Layout.{Layout}
+use Rattle.runner_parts.specs.structure_laws.specs.table_words.specs.Limits.{IsWithinLimits}
+use Rattle.runner_parts.specs.structure_laws.specs.table_words.specs.Places.{slot_count}
+use Rattle.runner_parts.specs.structure_laws.specs.Scene.{Readings}
+use Rattle.runner_parts.specs.structure_laws.specs.Sections.{IsAllowed}
+use Rattle.runner_parts.specs.structure_laws.proofs.Changes.{both_true, equal_of}
 use Rattle.tree_laws.specs.bucket_laws.specs.Walk.{Bounds, is_del}
 use Rattle.tree_laws.specs.tree_bodies.specs.Tree.{lock_of, key_cell, left_of, right_of, mark_of}
 use Rattle.tree_laws.specs.Walk.{Stage, AtRoot, AtLeft, AtKey, AtRight, AtValue, AtGrandLock, AtGrandMark, AtLock, AtMark, AtEnd, Refused, Walk, start, node_of, wanted_at, is_end, after_leaf, at_key, fed}

@@ -2,12 +2,12 @@
 use Rattle.std.proofs.Common.{◌≡◌, ℕ, suc, ◌≤◌, [], ◌∷◌, length, Bool, true, false, cond, refl, sym, ap, subst, ◌∙◌, arith, Some}
 use Rattle.std.specs.Prelude.{◌==◌, slice_get, take}
 use Rattle.std.specs.List.{list_all}
-use Rattle.small_lemmas.proofs.Numbers.{self_tested}
-use Rattle.map_history.specs.declared.op.Op.TheVariants.{Get}
-use Rattle.body_terms.specs.Shape.{is_look}
-use Rattle.body_terms.specs.declared.thunk.Thunk.{Thunk}
-use Rattle.structure_laws.specs.Scene.{Readings}
-use Rattle.structure_laws.proofs.Changes.{both_true, equal_of}
+use Rattle.runner_parts.specs.epoch_core.specs.small_lemmas.proofs.Numbers.{self_tested}
+use Rattle.runner_parts.specs.structure_laws.specs.map_history.specs.declared.op.Op.TheVariants.{Get}
+use Rattle.runner_parts.specs.structure_laws.specs.body_terms.specs.Shape.{is_look}
+use Rattle.runner_parts.specs.structure_laws.specs.body_terms.specs.declared.thunk.Thunk.{Thunk}
+use Rattle.runner_parts.specs.structure_laws.specs.Scene.{Readings}
+use Rattle.runner_parts.specs.structure_laws.proofs.Changes.{both_true, equal_of}
 use Rattle.tree_laws.specs.bucket_laws.specs.Walk.{is_wanted, has_one_key}
 use Rattle.tree_laws.specs.tree_bodies.specs.Tree.{Look, Empty, body_of, fits_look, tree_steps}
 use Rattle.tree_laws.specs.Walk.{is_end, walk}

@@ -3,14 +3,14 @@ use Rattle.std.proofs.Common.{◌≡◌, ℕ, suc, Bool, true, false, cond, refl
 use Rattle.std.specs.Prelude.{◌==◌, ◌&&◌, nat_le, nat_lt, slice_get}
 use Rattle.std.proofs.lemmas.Option.{none-some}
 use Rattle.std.proofs.lemmas.Bool.{and_from}
-use Rattle.small_lemmas.proofs.Bools.{from_false as false_true}
-use Rattle.small_lemmas.proofs.Lists.{same_number as some_eq}
-use Rattle.small_lemmas.proofs.Numbers.{self_tested as eq_test}
-use Rattle.map_history.specs.declared.op.Op.{Op}
-use Rattle.map_history.specs.Keys.{key_of}
-use Rattle.body_terms.specs.Word.{value_of}
-use Rattle.body_terms.proofs.ShapeLemmas.{found_any}
-use Rattle.structure_laws.specs.Scene.{Readings}
+use Rattle.runner_parts.specs.epoch_core.specs.small_lemmas.proofs.Bools.{from_false as false_true}
+use Rattle.runner_parts.specs.epoch_core.specs.small_lemmas.proofs.Lists.{same_number as some_eq}
+use Rattle.runner_parts.specs.epoch_core.specs.small_lemmas.proofs.Numbers.{self_tested as eq_test}
+use Rattle.runner_parts.specs.structure_laws.specs.map_history.specs.declared.op.Op.{Op}
+use Rattle.runner_parts.specs.structure_laws.specs.map_history.specs.Keys.{key_of}
+use Rattle.runner_parts.specs.structure_laws.specs.body_terms.specs.Word.{value_of}
+use Rattle.runner_parts.specs.structure_laws.specs.body_terms.proofs.ShapeLemmas.{found_any}
+use Rattle.runner_parts.specs.structure_laws.specs.Scene.{Readings}
 use Rattle.tree_laws.specs.bucket_laws.specs.Walk.{Bounds, is_del, is_wanted}
 use Rattle.tree_laws.specs.bucket_laws.proofs.Walks.{wanted_eq}
 use Rattle.tree_laws.specs.tree_bodies.specs.Tree.{lock_of, left_of}

@@ -1,13 +1,13 @@
 -- What a walk of the tree costs, and what the section of a `get` does.
 use Rattle.std.specs.Prelude.{◌≡◌, ℕ, ◌+◌, ◌*◌, ◌≤◌, true, length, take, slice_get, Some}
 use Rattle.std.specs.List.{list_all}
-use Rattle.map_history.specs.declared.op.Op.{Op}
-use Rattle.map_history.specs.declared.op.Op.TheVariants.{Get}
-use Rattle.body_terms.specs.Shape.{is_look}
-use Rattle.body_terms.specs.declared.thunk.Thunk.{Thunk}
-use Rattle.table_words.specs.declared.layout.Layout.{Layout}
-use Rattle.table_words.specs.Places.{slot_count}
-use Rattle.structure_laws.specs.Scene.{Readings}
+use Rattle.runner_parts.specs.structure_laws.specs.map_history.specs.declared.op.Op.{Op}
+use Rattle.runner_parts.specs.structure_laws.specs.map_history.specs.declared.op.Op.TheVariants.{Get}
+use Rattle.runner_parts.specs.structure_laws.specs.body_terms.specs.Shape.{is_look}
+use Rattle.runner_parts.specs.structure_laws.specs.body_terms.specs.declared.thunk.Thunk.{Thunk}
+use Rattle.runner_parts.specs.structure_laws.specs.table_words.specs.declared.layout.Layout.{Layout}
+use Rattle.runner_parts.specs.structure_laws.specs.table_words.specs.Places.{slot_count}
+use Rattle.runner_parts.specs.structure_laws.specs.Scene.{Readings}
 use Rattle.tree_laws.specs.Leaves.{tree}
 use Rattle.tree_walks.specs.Leading.{wanted_in}
 

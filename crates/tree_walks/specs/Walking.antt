@@ -1,9 +1,9 @@
 -- A walk as its code has it, and what it does.
 use Rattle.std.specs.Prelude.{ℕ, ◌+◌, ◌*◌, ◌-◌, ◌<◌, Bool, true, false, cond, not, ◌&&◌, ◌||◌, Option}
-use Rattle.map_history.specs.declared.op.Op.{Op}
-use Rattle.section_body.specs.Bucket.{is_small}
-use Rattle.body_terms.specs.declared.thunk.Thunk.{Thunk}
-use Rattle.structure_laws.specs.Scene.{Readings}
+use Rattle.runner_parts.specs.structure_laws.specs.map_history.specs.declared.op.Op.{Op}
+use Rattle.tree_laws.specs.section_body.specs.Bucket.{is_small}
+use Rattle.runner_parts.specs.structure_laws.specs.body_terms.specs.declared.thunk.Thunk.{Thunk}
+use Rattle.runner_parts.specs.structure_laws.specs.Scene.{Readings}
 use Rattle.tree_laws.specs.bucket_laws.specs.Walk.{Bounds}
 use Rattle.tree_laws.specs.Walk.{Walk, Step, start, is_end, form_for, operands_for, lock_for, word_for, wanted_at, fed, walk}
 use Rattle.tree_laws.specs.Walk as walks

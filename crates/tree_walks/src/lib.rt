@@ -17,4 +17,5 @@ pub use stage::{Link, Stage};
 pub use walk::TreeWalk;
 
 // Passed on to the layers above, so that they needn't name these libraries themselves.
+pub use runner_parts::structure_laws;
 pub use tree_laws::tree_bodies;

@@ -1,10 +1,10 @@
 //! What a walk loads next, and the links that it has followed.
 ghost use Rattle.std.specs.Prelude.{◌≡◌, ◌<◌};
-ghost use Rattle.body_terms.specs.Memory.{cell_of};
+ghost use Rattle.runner_parts.specs.structure_laws.specs.body_terms.specs.Memory.{cell_of};
 ghost use Rattle.tree_laws.specs.Walk.{first_step, step_place, step_to};
 ghost use Rattle.tree_walks.specs.Walking.{step_of};
 
-use body_terms::Word;
+use runner_parts::structure_laws::body_terms::Word;
 
 /// What the walk loads next; it is at its end, or was refused.
 #[derive(Clone, Copy, Debug, PartialEq, Eq)]

@@ -1,7 +1,7 @@
 //! The thunk for a whole walk.
 ghost use Rattle.std.specs.Prelude.{◌≡◌, ◌&&◌};
-ghost use Rattle.map_history.specs.declared.reply.Reply.TheVariants.{Was};
-ghost use Rattle.map_history.specs.Words.{word_of as reply_word};
+ghost use Rattle.runner_parts.specs.structure_laws.specs.map_history.specs.declared.reply.Reply.TheVariants.{Was};
+ghost use Rattle.runner_parts.specs.structure_laws.specs.map_history.specs.Words.{word_of as reply_word};
 ghost use Rattle.tree_laws.specs.bucket_laws.specs.Walk.{is_del, same_numbers};
 ghost use Rattle.tree_laws.specs.Walk.{form_for, word_for, operands_for, fits_walk};
 ghost use Rattle.tree_laws.specs.Walk.{look_operands, insert_operands, replace_operands, delete_operands};
@@ -9,8 +9,8 @@ ghost use Rattle.tree_walks.specs.Walking.{lock_by, thunk_by};
 
 use crate::stage::{Stage, cell};
 use crate::walk::TreeWalk;
-use body_terms::{Thunk, Word};
-use map_history::{Op, Reply};
+use runner_parts::structure_laws::body_terms::{Thunk, Word};
+use runner_parts::structure_laws::map_history::{Op, Reply};
 
 impl TreeWalk {
     /// Whether the section takes a leaf out.

@@ -1,12 +1,12 @@
 //! The walk of a key from the root to a leaf.
 ghost use Rattle.std.specs.Prelude.{◌≡◌, ◌<◌, ◌≤◌, ◌==◌, cond};
-ghost use Rattle.body_terms.specs.Word.{value_of};
+ghost use Rattle.runner_parts.specs.structure_laws.specs.body_terms.specs.Word.{value_of};
 ghost use Rattle.tree_laws.specs.Walk.{AtRoot, AtLeft, AtKey, Refused, after_link, after_leaf, followed, is_ready};
 ghost use Rattle.tree_walks.specs.Walking.{stage_of, is_refused_of, begun, fed_by, wanted_by};
 
 use crate::stage::{Link, Stage, cell};
-use body_terms::Word;
-use map_history::Op;
+use runner_parts::structure_laws::body_terms::Word;
+use runner_parts::structure_laws::map_history::Op;
 use std::marker::Model;
 
 /// How far the walk of an operation's key has come.

@@ -5,21 +5,21 @@ use Rattle.std.proofs.lemmas.Bool.{cases_lt}
 use Rattle.std.proofs.lemmas.Bool.Decides.{nat_tests}
 use Rattle.std.proofs.lemmas.List.{get_or_append_left}
 use Rattle.std.proofs.Math.Seq.{get_or-append_seam, get_or-append_right}
-use Rattle.body_terms.specs.declared.thunk.Thunk.{Thunk}
-use Rattle.table_words.specs.Places.{slot_count, descriptor_count}
-use Rattle.structure_laws.specs.Meaning.{Meaning}
-use Rattle.runner_parts.specs.declared.entries.Stored.{Stored}
-use Rattle.runner_parts.specs.declared.event.EventKind.{EventKind}
-use Rattle.runner_parts.specs.declared.event.EventKind.TheVariants as kinds
-use Rattle.epoch_core.specs.declared.stage.Stage.TheVariants as stages
-use Rattle.runner_parts.specs.State.{PartState, DescriptorsState}
-use Rattle.runner_parts.specs.Tests.{has, is_some_of, last_stored, are_stored, is_prepared, thunk_words}
-use Rattle.runner_parts.specs.Lists.{descriptor_stored, nodes_looked}
-use Rattle.runner_steps.specs.After.{outside_after}
-use Rattle.version_words.specs.RunnerState.{RunnerState}
-use Rattle.version_words.specs.Events.{IsEnabled, Makes}
-use Rattle.version_words.specs.Stages.{IsAt}
-use Rattle.version_words.proofs.Stages.{may_load_word, may_store_word, then_loaded_word, then_stored_word}
+use Rattle.machine_states.specs.runner_steps.specs.body_terms.specs.declared.thunk.Thunk.{Thunk}
+use Rattle.machine_states.specs.runner_steps.specs.table_words.specs.Places.{slot_count, descriptor_count}
+use Rattle.machine_states.specs.structure_laws.specs.Meaning.{Meaning}
+use Rattle.machine_states.specs.runner_steps.specs.runner_parts.specs.declared.entries.Stored.{Stored}
+use Rattle.machine_states.specs.runner_steps.specs.runner_parts.specs.declared.event.EventKind.{EventKind}
+use Rattle.machine_states.specs.runner_steps.specs.runner_parts.specs.declared.event.EventKind.TheVariants as kinds
+use Rattle.machine_states.specs.epoch_core.specs.declared.stage.Stage.TheVariants as stages
+use Rattle.machine_states.specs.runner_steps.specs.runner_parts.specs.State.{PartState, DescriptorsState}
+use Rattle.machine_states.specs.runner_steps.specs.runner_parts.specs.Tests.{has, is_some_of, last_stored, are_stored, is_prepared, thunk_words}
+use Rattle.machine_states.specs.runner_steps.specs.runner_parts.specs.Lists.{descriptor_stored, nodes_looked}
+use Rattle.machine_states.specs.runner_steps.specs.After.{outside_after}
+use Rattle.section_runs.specs.commit_log.specs.version_words.specs.RunnerState.{RunnerState}
+use Rattle.section_runs.specs.commit_log.specs.version_words.specs.Events.{IsEnabled, Makes}
+use Rattle.section_runs.specs.commit_log.specs.version_words.specs.Stages.{IsAt}
+use Rattle.section_runs.specs.commit_log.specs.version_words.proofs.Stages.{may_load_word, may_store_word, then_loaded_word, then_stored_word}
 use Rattle.epoch_slots.proofs.Outside.{nodes_made, descriptors_made, reads_made, known_made, finished_made}
 use Rattle.try_lock.specs.Prepares.{MaySet, KeepsElse, Stores, SetsWord, SetsWords, HasSet, IsReady}
 

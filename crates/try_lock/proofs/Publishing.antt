@@ -2,47 +2,47 @@
 use Rattle.std.proofs.Common.{◌≡◌, ℕ, zero, suc, ◌+◌, ◌-◌, ◌*◌, ◌<◌, ◌≤◌, List, [], ◌∷◌, ◌++◌, length, Bool, true, false, refl, sym, ap, subst, ◌∙◌, eq-eqb, le_of_eq, arith, Some, None, Ok, Err, replicate}
 use Rattle.std.specs.Prelude.{◌==◌, ◌&&◌, ◌||◌, nat_lt, slice_index, is_none, if◌then◌else◌, not}
 use Rattle.std.proofs.lemmas.List.{length-replicate}
-use Rattle.small_lemmas.proofs.Bools.{second_of as and_right}
-use Rattle.small_lemmas.proofs.Numbers.{less_tested as tests_below}
-use Rattle.map_history.specs.declared.op.Request.{Request}
-use Rattle.body_terms.specs.Word.{value_of, is_free, held_word}
-use Rattle.body_terms.specs.declared.outcome.Refused.{Refused}
-use Rattle.body_terms.specs.declared.thunk.Thunk.{Thunk}
-use Rattle.table_words.specs.declared.layout.Layout.{Layout}
-use Rattle.table_words.specs.declared.spot.Spot.{Spot}
-use Rattle.table_words.specs.declared.spot.Spot.TheVariants as spots
-use Rattle.table_words.specs.declared.access.Access.{Access}
-use Rattle.table_words.specs.declared.access.Access.TheVariants.{Exchanges}
-use Rattle.table_words.specs.Access.{written}
-use Rattle.table_words.specs.Seen.{put}
-use Rattle.table_words.specs.Limits.{IsWithinLimits}
-use Rattle.table_words.specs.Places.{slot_count, descriptor_count}
-use Rattle.structure_laws.specs.Meaning.{Meaning}
-use Rattle.structure_laws.specs.Laws.{Laws}
-use Rattle.runner_parts.specs.declared.event.EventKind.TheVariants as kinds
-use Rattle.epoch_core.specs.declared.stage.Stage.TheVariants as stages
-use Rattle.runner_parts.specs.State.{PartState}
-use Rattle.runner_parts.specs.Tests.{has, is_walking, is_open, last_stored, is_prepared, is_between}
-use Rattle.runner_parts.specs.Lists.{without, cell_read, holds_named, section_published, descriptor_taken}
-use Rattle.runner_steps.specs.Outside.{when, is_ready, is_publishable, is_due, descriptor_spot}
-use Rattle.runner_steps.specs.AfterOutside.{hold_after, published_by}
-use Rattle.runner_steps.specs.Asks.{asks}
+use Rattle.machine_states.specs.epoch_core.specs.small_lemmas.proofs.Bools.{second_of as and_right}
+use Rattle.machine_states.specs.epoch_core.specs.small_lemmas.proofs.Numbers.{less_tested as tests_below}
+use Rattle.machine_states.specs.runner_steps.specs.map_history.specs.declared.op.Request.{Request}
+use Rattle.machine_states.specs.runner_steps.specs.body_terms.specs.Word.{value_of, is_free, held_word}
+use Rattle.machine_states.specs.runner_steps.specs.body_terms.specs.declared.outcome.Refused.{Refused}
+use Rattle.machine_states.specs.runner_steps.specs.body_terms.specs.declared.thunk.Thunk.{Thunk}
+use Rattle.machine_states.specs.runner_steps.specs.table_words.specs.declared.layout.Layout.{Layout}
+use Rattle.machine_states.specs.runner_steps.specs.table_words.specs.declared.spot.Spot.{Spot}
+use Rattle.machine_states.specs.runner_steps.specs.table_words.specs.declared.spot.Spot.TheVariants as spots
+use Rattle.machine_states.specs.runner_steps.specs.table_words.specs.declared.access.Access.{Access}
+use Rattle.machine_states.specs.runner_steps.specs.table_words.specs.declared.access.Access.TheVariants.{Exchanges}
+use Rattle.machine_states.specs.runner_steps.specs.table_words.specs.Access.{written}
+use Rattle.machine_states.specs.runner_steps.specs.table_words.specs.Seen.{put}
+use Rattle.machine_states.specs.runner_steps.specs.table_words.specs.Limits.{IsWithinLimits}
+use Rattle.machine_states.specs.runner_steps.specs.table_words.specs.Places.{slot_count, descriptor_count}
+use Rattle.machine_states.specs.structure_laws.specs.Meaning.{Meaning}
+use Rattle.machine_states.specs.structure_laws.specs.Laws.{Laws}
+use Rattle.machine_states.specs.runner_steps.specs.runner_parts.specs.declared.event.EventKind.TheVariants as kinds
+use Rattle.machine_states.specs.epoch_core.specs.declared.stage.Stage.TheVariants as stages
+use Rattle.machine_states.specs.runner_steps.specs.runner_parts.specs.State.{PartState}
+use Rattle.machine_states.specs.runner_steps.specs.runner_parts.specs.Tests.{has, is_walking, is_open, last_stored, is_prepared, is_between}
+use Rattle.machine_states.specs.runner_steps.specs.runner_parts.specs.Lists.{without, cell_read, holds_named, section_published, descriptor_taken}
+use Rattle.machine_states.specs.runner_steps.specs.Outside.{when, is_ready, is_publishable, is_due, descriptor_spot}
+use Rattle.machine_states.specs.runner_steps.specs.AfterOutside.{hold_after, published_by}
+use Rattle.machine_states.specs.runner_steps.specs.Asks.{asks}
 use Rattle.machine_states.specs.Sight.{Sight, sight, part_or_first, Steps}
 use Rattle.machine_states.specs.Sight as states
 use Rattle.machine_states.proofs.Reached.{reached_all}
 use Rattle.machine_states.proofs.Steps.{some_same}
 use Rattle.machine_states.proofs.Sights.{happens_steps}
 use Rattle.machine_epochs.proofs.SectionKinds.{stored_index, replicate_index, log_spot}
-use Rattle.epoch_slots.specs.machine_invariant.specs.After.{AreAllowed}
+use Rattle.section_runs.specs.machine_facts.specs.machine_invariant.specs.After.{AreAllowed}
 use Rattle.section_runs.specs.machine_facts.specs.After.{AreFactsOfStep}
 use Rattle.section_runs.specs.machine_facts.proofs.Following.{step_facts_after}
-use Rattle.section_runs.specs.next_steps.specs.Numbers.{PartFits}
-use Rattle.section_runs.specs.next_steps.proofs.Numbers.{reached_numbers}
-use Rattle.version_words.specs.RunnerState.{RunnerState}
-use Rattle.version_words.specs.Events.{IsEnabled, Makes}
-use Rattle.version_words.specs.Stages.{IsAt}
-use Rattle.version_words.proofs.Holds.{holds_so}
-use Rattle.version_words.proofs.Stages.{enabled, made_at}
+use Rattle.section_runs.specs.commit_log.specs.next_steps.specs.Numbers.{PartFits}
+use Rattle.section_runs.specs.commit_log.specs.next_steps.proofs.Numbers.{reached_numbers}
+use Rattle.section_runs.specs.commit_log.specs.version_words.specs.RunnerState.{RunnerState}
+use Rattle.section_runs.specs.commit_log.specs.version_words.specs.Events.{IsEnabled, Makes}
+use Rattle.section_runs.specs.commit_log.specs.version_words.specs.Stages.{IsAt}
+use Rattle.section_runs.specs.commit_log.specs.version_words.proofs.Holds.{holds_so}
+use Rattle.section_runs.specs.commit_log.specs.version_words.proofs.Stages.{enabled, made_at}
 use Rattle.epoch_slots.proofs.Outside.{nodes_made, descriptors_made, reads_made, known_made, finished_made}
 use Rattle.try_lock.specs.declared.section.Section.{Section}
 use Rattle.try_lock.specs.Reached.{IsReached, IsSectionOf}

@@ -1,20 +1,20 @@
 -- The retirement of a section.
 use Rattle.std.proofs.Common.{◌≡◌, ℕ, ap, ◌∙◌, sym, subst, ◌≤◌, Option, Some}
 use Rattle.std.specs.Prelude.{◌&&◌}
-use Rattle.table_words.specs.declared.spot.Spot.TheVariants.{Epoch}
-use Rattle.table_words.specs.declared.access.Access.TheVariants.{Loads}
-use Rattle.structure_laws.specs.Meaning.{Meaning}
-use Rattle.runner_parts.specs.declared.event.EventKind.TheVariants as kinds
-use Rattle.runner_parts.specs.declared.entries.Published.{Published}
-use Rattle.runner_parts.specs.State.{RunState, PartState}
-use Rattle.runner_parts.specs.Tests.{is_walking, is_between}
-use Rattle.runner_parts.specs.Lists.{descriptor_retired}
-use Rattle.runner_steps.specs.Outside.{when, is_over}
-use Rattle.runner_steps.specs.AfterOutside.{retire_after}
-use Rattle.runner_steps.specs.After.{after_by}
-use Rattle.version_words.specs.RunnerState.{RunnerState}
-use Rattle.version_words.specs.Events.{IsEnabled, Makes}
-use Rattle.version_words.proofs.Stages.{enabled}
+use Rattle.machine_states.specs.runner_steps.specs.table_words.specs.declared.spot.Spot.TheVariants.{Epoch}
+use Rattle.machine_states.specs.runner_steps.specs.table_words.specs.declared.access.Access.TheVariants.{Loads}
+use Rattle.machine_states.specs.structure_laws.specs.Meaning.{Meaning}
+use Rattle.machine_states.specs.runner_steps.specs.runner_parts.specs.declared.event.EventKind.TheVariants as kinds
+use Rattle.machine_states.specs.runner_steps.specs.runner_parts.specs.declared.entries.Published.{Published}
+use Rattle.machine_states.specs.runner_steps.specs.runner_parts.specs.State.{RunState, PartState}
+use Rattle.machine_states.specs.runner_steps.specs.runner_parts.specs.Tests.{is_walking, is_between}
+use Rattle.machine_states.specs.runner_steps.specs.runner_parts.specs.Lists.{descriptor_retired}
+use Rattle.machine_states.specs.runner_steps.specs.Outside.{when, is_over}
+use Rattle.machine_states.specs.runner_steps.specs.AfterOutside.{retire_after}
+use Rattle.machine_states.specs.runner_steps.specs.After.{after_by}
+use Rattle.section_runs.specs.commit_log.specs.version_words.specs.RunnerState.{RunnerState}
+use Rattle.section_runs.specs.commit_log.specs.version_words.specs.Events.{IsEnabled, Makes}
+use Rattle.section_runs.specs.commit_log.specs.version_words.proofs.Stages.{enabled}
 use Rattle.epoch_slots.proofs.Outside.{nodes_made, descriptors_made, known_made, finished_made}
 use Rattle.try_lock.specs.Retires.{IsOver, HasRetired}
 

@@ -1,11 +1,11 @@
 -- What a closed table's words stand for.
 use Rattle.std.specs.Prelude.{◌≡◌, ℕ, true}
-use Rattle.map_history.specs.Replay.{Pairs}
-use Rattle.body_terms.specs.Word.{is_free}
-use Rattle.table_words.specs.declared.spot.Spot.TheVariants.{Cell}
-use Rattle.structure_laws.specs.Scene.{Cells}
-use Rattle.structure_laws.specs.Meaning.{Meaning}
-use Rattle.version_words.specs.TableState.{WordsState, HasWord, word_of}
+use Rattle.machine_states.specs.runner_steps.specs.map_history.specs.Replay.{Pairs}
+use Rattle.machine_states.specs.runner_steps.specs.body_terms.specs.Word.{is_free}
+use Rattle.machine_states.specs.runner_steps.specs.table_words.specs.declared.spot.Spot.TheVariants.{Cell}
+use Rattle.machine_states.specs.structure_laws.specs.Scene.{Cells}
+use Rattle.machine_states.specs.structure_laws.specs.Meaning.{Meaning}
+use Rattle.section_runs.specs.commit_log.specs.version_words.specs.TableState.{WordsState, HasWord, word_of}
 
 module _ {T : Type 0} (m : Meaning) where
   -- the cells are well formed, and their contents are the map; of places beyond the table nothing is said

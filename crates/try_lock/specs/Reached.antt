@@ -1,13 +1,13 @@
 -- A runner outside a run, in a state that the machine reaches, and what it has there.
 use Rattle.std.specs.Prelude.{◌≡◌, ℕ, ◌-◌, ◌≤◌, true, false, length, Option, Some}
-use Rattle.body_terms.specs.Word.{value_of, is_free, held_word}
-use Rattle.body_terms.specs.declared.thunk.Thunk.{Thunk}
-use Rattle.structure_laws.specs.Meaning.{Meaning}
-use Rattle.epoch_core.specs.declared.stage.Stage.TheVariants as stages
-use Rattle.runner_parts.specs.declared.entries.Published.{Published}
-use Rattle.runner_parts.specs.Tests.{has}
-use Rattle.version_words.specs.RunnerState.{RunnerState}
-use Rattle.version_words.specs.Stages.{IsAt}
+use Rattle.machine_states.specs.runner_steps.specs.body_terms.specs.Word.{value_of, is_free, held_word}
+use Rattle.machine_states.specs.runner_steps.specs.body_terms.specs.declared.thunk.Thunk.{Thunk}
+use Rattle.machine_states.specs.structure_laws.specs.Meaning.{Meaning}
+use Rattle.machine_states.specs.epoch_core.specs.declared.stage.Stage.TheVariants as stages
+use Rattle.machine_states.specs.runner_steps.specs.runner_parts.specs.declared.entries.Published.{Published}
+use Rattle.machine_states.specs.runner_steps.specs.runner_parts.specs.Tests.{has}
+use Rattle.section_runs.specs.commit_log.specs.version_words.specs.RunnerState.{RunnerState}
+use Rattle.section_runs.specs.commit_log.specs.version_words.specs.Stages.{IsAt}
 pub use Rattle.section_runs.specs.Reached.{IsReached}
 use Rattle.try_lock.specs.declared.section.Section.{Section}
 

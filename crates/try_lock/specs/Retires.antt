@@ -1,13 +1,13 @@
 -- Retirements of sections.
 use Rattle.std.specs.Prelude.{◌≡◌, ℕ, true, None, Some}
-use Rattle.structure_laws.specs.Meaning.{Meaning}
-use Rattle.runner_parts.specs.declared.event.EventKind.TheVariants as kinds
-use Rattle.runner_parts.specs.declared.entries.Published.{Published}
-use Rattle.epoch_core.specs.declared.stage.Stage.TheVariants as stages
-use Rattle.runner_parts.specs.Lists.{descriptor_retired}
-use Rattle.version_words.specs.RunnerState.{RunnerState}
-use Rattle.version_words.specs.Events.{Makes}
-use Rattle.version_words.specs.Stages.{IsAt}
+use Rattle.machine_states.specs.structure_laws.specs.Meaning.{Meaning}
+use Rattle.machine_states.specs.runner_steps.specs.runner_parts.specs.declared.event.EventKind.TheVariants as kinds
+use Rattle.machine_states.specs.runner_steps.specs.runner_parts.specs.declared.entries.Published.{Published}
+use Rattle.machine_states.specs.epoch_core.specs.declared.stage.Stage.TheVariants as stages
+use Rattle.machine_states.specs.runner_steps.specs.runner_parts.specs.Lists.{descriptor_retired}
+use Rattle.section_runs.specs.commit_log.specs.version_words.specs.RunnerState.{RunnerState}
+use Rattle.section_runs.specs.commit_log.specs.version_words.specs.Events.{Makes}
+use Rattle.section_runs.specs.commit_log.specs.version_words.specs.Stages.{IsAt}
 
 module _ {T : Type 0} where
   -- the runner is entered and in no run, and has run the section that it published with this descriptor to its end

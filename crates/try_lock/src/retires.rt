@@ -1,10 +1,10 @@
 //! The retirement of a section.
-ghost use Rattle.version_words.specs.TableState.{IsOf};
+ghost use Rattle.section_runs.specs.commit_log.specs.version_words.specs.TableState.{IsOf};
 ghost use Rattle.try_lock.specs.Retires.{IsOver, HasRetired};
 
 use crate::section::Section;
-use structure_laws::Structure;
-use version_words::{FlockTable, Runner};
+use machine_states::structure_laws::Structure;
+use section_runs::commit_log::version_words::{FlockTable, Runner};
 
 /// Retires the section: loads the epoch, and puts the section's descriptor in the own limbo list with it, in one atomic
 /// step.

@@ -1,21 +1,21 @@
 //! Runs of sections: the own one, and those that are met in their locks.
 ghost use Rattle.std.specs.Prelude.{◌≡◌, ℕ, ◌-◌, true, false};
-ghost use Rattle.body_terms.specs.Trail.{Agreed};
-ghost use Rattle.body_terms.specs.Word.{value_of};
-ghost use Rattle.body_terms.specs.declared.outcome.Outcome.{Outcome};
-ghost use Rattle.body_terms.specs.declared.thunk.Thunk.{Thunk};
-ghost use Rattle.version_words.specs.TableState.{IsOf};
+ghost use Rattle.machine_states.specs.runner_steps.specs.body_terms.specs.Trail.{Agreed};
+ghost use Rattle.machine_states.specs.runner_steps.specs.body_terms.specs.Word.{value_of};
+ghost use Rattle.machine_states.specs.runner_steps.specs.body_terms.specs.declared.outcome.Outcome.{Outcome};
+ghost use Rattle.machine_states.specs.runner_steps.specs.body_terms.specs.declared.thunk.Thunk.{Thunk};
+ghost use Rattle.section_runs.specs.commit_log.specs.version_words.specs.TableState.{IsOf};
 ghost use Rattle.section_runs.specs.commit_log.specs.Asked.{IsAsked};
 ghost use Rattle.section_runs.specs.declared.runs.RunEnd.TheVariants.{Done, Halted};
 ghost use Rattle.try_lock.specs.Reached.{MayRunSection, MayHelp};
 ghost use Rattle.try_lock.specs.Ends.{EndsSo, IsCutShort};
 
 use crate::section::Section;
-use body_terms::{Steps, Word};
-use runner_gate::Gate;
+use machine_states::runner_steps::body_terms::{Steps, Word};
+use machine_states::structure_laws::Structure;
+use section_runs::commit_log::version_words::{FlockTable, Runner};
+use section_runs::runner_gate::Gate;
 use section_runs::{RunEnd, run};
-use structure_laws::Structure;
-use version_words::{FlockTable, Runner};
 
 /// Runs the section that this runner published in this entry, whatever others do. Answers the outcome and the agreed
 /// words of its log, which are the same for each run of the section; the trail is late where the section was done as

@@ -1,16 +1,16 @@
 -- What a runner's code keeps of a run in progress.
 use Rattle.std.specs.Prelude.{◌≡◌, ℕ, Bool, true, false, ◌<◌, ◌%◌, ◌^◌, length, slice_index, Option, Some, None}
 use Rattle.std.specs.Option.{is_some}
-use Rattle.body_terms.specs.declared.micro.Micro.{Micro}
-use Rattle.body_terms.specs.declared.micro.Micro.TheVariants as micros
-use Rattle.body_terms.specs.Word.{held_word}
-use Rattle.body_terms.specs.Line.{micro_at}
-use Rattle.table_words.specs.declared.spot.Spot.{Spot}
-use Rattle.table_words.specs.declared.spot.Spot.TheVariants as spots
-use Rattle.structure_laws.specs.Meaning.{Meaning}
-use Rattle.runner_parts.specs.State.{RunState, PartState}
-use Rattle.runner_parts.specs.Tests.{has}
-use Rattle.runner_steps.specs.Sections.{is_open_run, line_of, next_of}
+use Rattle.machine_states.specs.runner_steps.specs.body_terms.specs.declared.micro.Micro.{Micro}
+use Rattle.machine_states.specs.runner_steps.specs.body_terms.specs.declared.micro.Micro.TheVariants as micros
+use Rattle.machine_states.specs.runner_steps.specs.body_terms.specs.Word.{held_word}
+use Rattle.machine_states.specs.runner_steps.specs.body_terms.specs.Line.{micro_at}
+use Rattle.machine_states.specs.runner_steps.specs.table_words.specs.declared.spot.Spot.{Spot}
+use Rattle.machine_states.specs.runner_steps.specs.table_words.specs.declared.spot.Spot.TheVariants as spots
+use Rattle.machine_states.specs.structure_laws.specs.Meaning.{Meaning}
+use Rattle.machine_states.specs.runner_steps.specs.runner_parts.specs.State.{RunState, PartState}
+use Rattle.machine_states.specs.runner_steps.specs.runner_parts.specs.Tests.{has}
+use Rattle.machine_states.specs.runner_steps.specs.Sections.{is_open_run, line_of, next_of}
 use Rattle.runner_block.specs.declared.place.RunPlace.{RunPlace}
 
 -- a word of its opening was loaded, and it has the run's descriptor, the request that its words name, how many words

@@ -1,11 +1,11 @@
 //! What the types of this crate say, as contracts.
-ghost use Rattle.table_words.specs.Limits.{IsWithinLimits};
+ghost use Rattle.machine_states.specs.runner_steps.specs.table_words.specs.Limits.{IsWithinLimits};
 ghost use Rattle.machine_invariant.specs.After.{AreAllowed};
 ghost use Rattle.version_words.specs.TableState.{AreShown};
 
 use crate::table::FlockTable;
 use crate::words::Words;
-use structure_laws::Structure;
+use machine_states::structure_laws::Structure;
 
 /// The words of a closed table are those of a state of the machine that enabled events lead to, in which each worker
 /// was joined. The layout is within the limits, and the requests are allowed.

@@ -26,9 +26,9 @@ mod view;
 mod words;
 
 pub use laws::{table_is_allowed, words_are_reached};
+pub use machine_states::runner_steps::held_word;
 pub use runner::Runner;
 pub use runner_block::RunRoom;
-pub use runner_steps::held_word;
 pub use table::FlockTable;
 pub use words::Words;
 

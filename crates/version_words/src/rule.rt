@@ -3,11 +3,11 @@
 use crate::bases::Bases;
 use crate::view::View;
 use atomic_table::TableRule;
-use body_terms::Thunk;
-use map_history::Request;
+use machine_states::runner_steps::body_terms::Thunk;
+use machine_states::runner_steps::map_history::Request;
+use machine_states::runner_steps::table_words::Layout;
+use machine_states::structure_laws::Structure;
 use std::marker::PhantomData;
-use structure_laws::Structure;
-use table_words::Layout;
 
 /// What a table is told once.
 #[derive(Drop)]

@@ -1,9 +1,9 @@
 //! What a seat knows.
 
-use map_history::Request;
-use runner_parts::Part;
+use machine_states::runner_steps::map_history::Request;
+use machine_states::runner_steps::runner_parts::Part;
+use machine_states::runner_steps::table_words::Layout;
 use std::collections::LinkedList;
-use table_words::Layout;
 
 /// What a seat knows: the table, the runner's number and its part, and of the keeper the parts of the workers that it
 /// joined. No value of it is made. A view that was spent at a join has no structure.

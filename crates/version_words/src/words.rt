@@ -1,15 +1,15 @@
 //! The words of a closed table.
 ghost use Rattle.std.specs.Prelude.{◌≡◌, ◌<◌, length, Some, None, if◌then◌else◌, ◌==◌};
-ghost use Rattle.table_words.specs.declared.spot.Spot.TheVariants as spots;
+ghost use Rattle.machine_states.specs.runner_steps.specs.table_words.specs.declared.spot.Spot.TheVariants as spots;
 ghost use Rattle.version_words.specs.TableState.{AreShown, word_of, HasWord, entry_of};
 
 use crate::rule::Setup;
 use atomic_table::Closed;
-use body_terms::{Place, Thunk, Word};
+use machine_states::runner_steps::body_terms::{Place, Thunk, Word};
+use machine_states::runner_steps::table_words::Spot;
+use machine_states::structure_laws::Structure;
 use std::alloc::Global;
 use std::marker::Model;
-use structure_laws::Structure;
-use table_words::Spot;
 
 /// The words of a closed table, with its structure, its layout and its requests. `FlockTable::close` alone makes them:
 /// the words are those of a state of the machine that enabled events lead to.

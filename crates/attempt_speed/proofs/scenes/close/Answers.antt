@@ -1,6 +1,6 @@
 use Rattle.std.proofs.Common.{ap, arith}
-use Rattle.table_words.specs.declared.layout.Layout.{Layout}
-use Rattle.version_words.proofs.Stages.{may_join}
+use Rattle.machine_states.specs.runner_steps.specs.table_words.specs.declared.layout.Layout.{Layout}
+use Rattle.serving.specs.attempt_bounds.specs.version_words.proofs.Stages.{may_join}
 use Rattle.attempt_speed.proofs.scenes.close.Goals as goal
 
 pub join_runner-keeper-requires-clause-next : goal.join_runner-keeper-requires-clause-next

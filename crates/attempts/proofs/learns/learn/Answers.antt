@@ -1,10 +1,10 @@
 use Rattle.std.proofs.Common.{◌<◌, length, true, false, sym, subst, ap, ◌∙◌, None, refl}
 use Rattle.std.proofs.lemmas.Option.{slice_get_within}
-use Rattle.table_words.specs.Limits.{IsWithinLimits}
+use Rattle.section_lines.specs.structure_laws.specs.table_words.specs.Limits.{IsWithinLimits}
 use Rattle.machine_states.proofs.Steps.{some_same, none_some}
-use Rattle.lock_words.specs.machine_invariant.specs.After.{AreAllowed}
+use Rattle.version_words.specs.machine_invariant.specs.After.{AreAllowed}
 use Rattle.version_words.proofs.Stages.{may_load_entry, then_knows}
-use Rattle.epoch_core.specs.declared.stage.Stage.TheVariants as stages
+use Rattle.machine_states.specs.epoch_core.specs.declared.stage.Stage.TheVariants as stages
 use Rattle.attempts.specs.declared.answers.Attempt.TheVariants as answers
 use Rattle.attempts.proofs.Learning.{is_known, same_word, has_learnt}
 use Rattle.attempts.proofs.learns.learn.Goals as goal

@@ -1,6 +1,6 @@
 use Rattle.std.proofs.Common.{Ok, Err, length, refl, sym, ◌∙◌, subst}
-use Rattle.table_words.specs.Limits.{IsWithinLimits}
-use Rattle.lock_words.specs.machine_invariant.specs.After.{AreAllowed}
+use Rattle.section_lines.specs.structure_laws.specs.table_words.specs.Limits.{IsWithinLimits}
+use Rattle.version_words.specs.machine_invariant.specs.After.{AreAllowed}
 use Rattle.lock_walks.specs.try_lock.specs.Publishes.{Publishes}
 use Rattle.attempts.specs.Counted.{IsSeen}
 use Rattle.attempts.specs.Rests.{MayLeave, HasTurned}

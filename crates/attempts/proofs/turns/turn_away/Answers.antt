@@ -2,7 +2,7 @@ use Rattle.std.proofs.Common.{subst, refl}
 use Rattle.machine_states.specs.World.{World}
 use Rattle.machine_states.specs.Reached.{Reached}
 use Rattle.machine_states.specs.Sight.{sight}
-use Rattle.lock_words.specs.runner_facts.specs.Names.{NamesStand}
+use Rattle.lock_walks.specs.runner_facts.specs.Names.{NamesStand}
 use Rattle.lock_words.specs.Taken.{TakenStand}
 use Rattle.attempts.specs.Rests.{HasTurned}
 use Rattle.attempts.proofs.Leaving.{turned_by_exit}

@@ -1,12 +1,12 @@
 use Rattle.std.proofs.Common.{◌≡◌, ℕ, true, refl, sym, subst, arith}
 use Rattle.std.specs.Prelude.{◌==◌}
 use Rattle.std.proofs.lemmas.Bool.Decides.{nat_tests}
-use Rattle.map_history.specs.Replay.{Pairs}
+use Rattle.direct_table.specs.map_history.specs.Replay.{Pairs}
 use Rattle.body_terms.specs.Word.{value_of, is_free}
 use Rattle.table_words.specs.declared.spot.Spot.TheVariants.{Cell}
 use Rattle.direct_table.specs.direct_laws.specs.Direct.{direct}
 use Rattle.direct_table.specs.declared.table.DirectTable.{DirectTable}
-use Rattle.version_words.specs.TableState.{word_of}
+use Rattle.threaded_runs.specs.closed_words.specs.version_words.specs.TableState.{word_of}
 use Rattle.direct_table.specs.try_lock.specs.Contents.{StandFor, NamesNone}
 use Rattle.direct_tests.proofs.runs.pairs_of.Goals as goal
 

@@ -1,8 +1,8 @@
 use Rattle.std.proofs.Common.{sym, ◌∙◌}
 use Rattle.std.specs.Prelude.{◌&&◌, is_none, nat_lt}
 use Rattle.std.proofs.lemmas.List.Sums.{AllPass-from_list_all}
-use Rattle.map_history.specs.declared.op.Request.{Request}
-use Rattle.map_history.specs.Keys.{key_of, other_key_of}
+use Rattle.direct_table.specs.map_history.specs.declared.op.Request.{Request}
+use Rattle.direct_table.specs.map_history.specs.Keys.{key_of, other_key_of}
 use Rattle.direct_tests.proofs.texts.are_served.Goals as goal
 
 pub returns : goal.returns

@@ -1,6 +1,6 @@
 use Rattle.std.proofs.Common.{◌∙◌, ap, sym, subst, arith, None}
-use Rattle.table_words.specs.declared.layout.Layout.{Layout}
-use Rattle.epoch_core.specs.declared.stage.Stage.TheVariants as stages
+use Rattle.machine_states.specs.runner_steps.specs.table_words.specs.declared.layout.Layout.{Layout}
+use Rattle.machine_states.specs.epoch_core.specs.declared.stage.Stage.TheVariants as stages
 use Rattle.version_words.specs.Stages.{IsAt}
 use Rattle.epoch_slots.specs.Collects.{EndsScan}
 use Rattle.epoch_slots.proofs.Scanning.{may_scan, may_go_on, ends_with, ends_without}

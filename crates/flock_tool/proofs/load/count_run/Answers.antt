@@ -1,5 +1,5 @@
 use Rattle.std.proofs.Common.{IfOk, subst, sym}
-use Rattle.load_counts.specs.closed_words.specs.Histories.{HoldsNoLock}
+use Rattle.threaded_runs.specs.closed_words.specs.Histories.{HoldsNoLock}
 use Rattle.flock_tool.specs.Loads.{IsCounted}
 use Rattle.flock_tool.specs.Runs.{words_in, meaning_of}
 use Rattle.flock_tool.specs.declared.ran.Ran.{Ran}

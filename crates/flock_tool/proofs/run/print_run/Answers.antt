@@ -1,5 +1,5 @@
 use Rattle.std.proofs.Common.{IfErr, IfOk, subst, sym}
-use Rattle.load_counts.specs.closed_words.specs.Histories.{HoldsNoLock}
+use Rattle.threaded_runs.specs.closed_words.specs.Histories.{HoldsNoLock}
 use Rattle.load_counts.specs.run_reports.specs.Reports.{Prints}
 use Rattle.flock_tool.specs.Runs.{words_in, meaning_of, StopsReport}
 use Rattle.flock_tool.specs.Streams.{stream}

@@ -1,6 +1,6 @@
 use Rattle.std.proofs.Common.{subst, sym}
-use Rattle.table_words.specs.Limits.{IsWithinLimits}
-use Rattle.load_counts.specs.machine_invariant.specs.After.{AreAllowed}
+use Rattle.machine_states.specs.runner_steps.specs.table_words.specs.Limits.{IsWithinLimits}
+use Rattle.version_words.specs.machine_invariant.specs.After.{AreAllowed}
 use Rattle.flock_tool.specs.Runs.{words_in}
 use Rattle.flock_tool.specs.declared.ran.Ran.{Ran}
 use Rattle.flock_tool.proofs.run.run_is_allowed.Goals as goal

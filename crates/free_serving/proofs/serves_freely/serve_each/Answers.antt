@@ -1,6 +1,6 @@
 use Rattle.std.proofs.Common.{◌≡◌, length, arith, refl, sym, ◌∙◌, subst}
 use Rattle.std.proofs.lemmas.Option.{slice_get-get_or}
-use Rattle.fault_count.specs.Rose.{Rose}
+use Rattle.seq_read.specs.runner_gate.specs.fault_count.specs.Rose.{Rose}
 use Rattle.serving.specs.attempts.specs.Counted.{IsSeen}
 use Rattle.free_serving.proofs.Along.{along_begins, so_far_begins, one_may, one_along, one_so_far, one_leaves, one_freely, all_freely, all_leaves}
 use Rattle.free_serving.proofs.serves_freely.serve_each.Goals as goal

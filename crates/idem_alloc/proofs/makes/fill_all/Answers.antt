@@ -1,5 +1,5 @@
 use Rattle.std.proofs.Common.{◌≡◌, ◌+◌, ◌*◌, true, arith, subst}
-use Rattle.runner_parts.specs.State.{RunState}
+use Rattle.runner_steps.specs.runner_parts.specs.State.{RunState}
 use Rattle.commit_log.proofs.Asked.{asked_more, asked_as}
 use Rattle.commit_log.proofs.Halting.{halted_more}
 use Rattle.commit_log.proofs.Running.{one_run}

@@ -1,6 +1,6 @@
 use Rattle.std.proofs.Common.{◌+◌, ◌^◌, ◌<◌, arith, ap, sym, subst, ◌∙◌, refl}
-use Rattle.body_terms.specs.Word.{version_of, next_word}
-use Rattle.runner_parts.specs.State.{RunState}
+use Rattle.runner_steps.specs.body_terms.specs.Word.{version_of, next_word}
+use Rattle.runner_steps.specs.runner_parts.specs.State.{RunState}
 use Rattle.commit_log.proofs.Halting.{halted_first, halted_more}
 use Rattle.commit_log.proofs.Running.{one_run, ran_one}
 use Rattle.idem_alloc.specs.Made.{HasFilled}

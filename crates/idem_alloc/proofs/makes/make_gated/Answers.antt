@@ -1,6 +1,6 @@
 use Rattle.std.proofs.Common.{ℕ, ◌-◌, List, length, arith, ap, sym, subst, ◌∙◌, Some, refl}
 use Rattle.std.specs.Prelude.{slice_index}
-use Rattle.runner_parts.specs.State.{RunState}
+use Rattle.runner_steps.specs.runner_parts.specs.State.{RunState}
 use Rattle.commit_log.proofs.Asked.{asked_more}
 use Rattle.commit_log.proofs.Halting.{halted_first, halted_more}
 use Rattle.commit_log.proofs.Running.{one_run}

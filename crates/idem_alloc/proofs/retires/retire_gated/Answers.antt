@@ -1,5 +1,5 @@
 use Rattle.std.proofs.Common.{arith, subst, refl}
-use Rattle.runner_parts.specs.State.{RunState}
+use Rattle.runner_steps.specs.runner_parts.specs.State.{RunState}
 use Rattle.commit_log.proofs.Halting.{halted_first, halted_more}
 use Rattle.commit_log.proofs.Running.{one_run, ran_one}
 use Rattle.idem_alloc.specs.Retired.{HasRetired}

@@ -1,6 +1,6 @@
 use Rattle.std.proofs.Common.{arith, sym, subst, refl}
-use Rattle.runner_parts.specs.State.{RunState}
-use Rattle.runner_steps.specs.AfterInRun.{goes_on}
+use Rattle.machine_states.specs.runner_steps.specs.runner_parts.specs.State.{RunState}
+use Rattle.machine_states.specs.runner_steps.specs.AfterInRun.{goes_on}
 use Rattle.commit_log.specs.Committed.{MayCommit}
 use Rattle.commit_log.proofs.Halting.{halted_first, halted_more}
 use Rattle.commit_log.proofs.Running.{one_run, ran_one}

@@ -1,4 +1,4 @@
-use Rattle.structure_laws.proofs.Moves.{moves}
+use Rattle.machine_states.specs.structure_laws.proofs.Moves.{moves}
 use Rattle.interleave_core.proofs.laws.moves_are_lawful.Goals as goal
 
 pub returns : goal.returns

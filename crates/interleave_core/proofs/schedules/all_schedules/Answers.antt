@@ -1,12 +1,12 @@
 use Rattle.std.proofs.Common.{take, get_or, length, refl, sym, ap, ◌∙◌, Err}
 use Rattle.std.proofs.lemmas.Option.{slice_get_read}
 use Rattle.std.proofs.lemmas.List.{take_more}
-use Rattle.runner_parts.specs.declared.event.Event.{Event}
+use Rattle.machine_states.specs.runner_steps.specs.runner_parts.specs.declared.event.Event.{Event}
 use Rattle.machine_states.specs.World.{happens}
 use Rattle.machine_states.proofs.Runs.{run_more}
 use Rattle.machine_epochs.proofs.Reached.{sound_after, descriptors_after}
-use Rattle.next_steps.specs.machine_invariant.proofs.After.{whole_after, log_words_after}
-use Rattle.next_steps.specs.machine_invariant.proofs.Rising.{rises_after}
+use Rattle.reached_histories.specs.machine_facts.specs.machine_invariant.proofs.After.{whole_after, log_words_after}
+use Rattle.reached_histories.specs.machine_facts.specs.machine_invariant.proofs.Rising.{rises_after}
 use Rattle.reached_histories.specs.machine_facts.proofs.Following.{facts_after, step_facts_after}
 use Rattle.reached_histories.proofs.Histories.{history_after}
 use Rattle.reached_histories.proofs.RealTime.{linearizable_after}

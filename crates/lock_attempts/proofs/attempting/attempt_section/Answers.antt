@@ -1,6 +1,6 @@
 use Rattle.std.proofs.Common.{refl, sym, subst}
-use Rattle.lock_walks.specs.epoch_slots.specs.Entries.{Enters}
-use Rattle.lock_walks.specs.Own.{own_thunk}
+use Rattle.attempts.specs.epoch_slots.specs.Entries.{Enters}
+use Rattle.attempts.specs.lock_walks.specs.Own.{own_thunk}
 use Rattle.attempts.specs.Attempts.{Attempts}
 use Rattle.attempts.specs.declared.answers.Attempt.TheVariants as answers
 use Rattle.attempts.specs.Counted.{IsCounted, IsSeen}

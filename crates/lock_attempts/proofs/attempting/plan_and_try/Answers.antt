@@ -1,7 +1,7 @@
 use Rattle.std.proofs.Common.{refl, sym, ap, ◌∙◌, subst}
 use Rattle.std.specs.Prelude.{slice_get}
-use Rattle.lock_walks.specs.try_lock.specs.Plans.{is_halted}
-use Rattle.lock_walks.specs.Own.{own_thunk}
+use Rattle.attempts.specs.try_lock.specs.Plans.{is_halted}
+use Rattle.attempts.specs.lock_walks.specs.Own.{own_thunk}
 use Rattle.attempts.specs.Attempts.{is_refusal}
 use Rattle.attempts.specs.Counted.{IsSeen}
 use Rattle.attempts.specs.Course.{HasPlanned}

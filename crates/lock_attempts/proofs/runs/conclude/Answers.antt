@@ -2,7 +2,7 @@ use Rattle.std.proofs.Common.{refl, sym, ap, ◌∙◌, subst}
 use Rattle.machine_states.specs.World.{World}
 use Rattle.machine_states.specs.Reached.{Reached}
 use Rattle.machine_states.specs.Sight.{sight}
-use Rattle.lock_words.specs.Stale.{StaleStand}
+use Rattle.attempts.specs.lock_words.specs.Stale.{StaleStand}
 use Rattle.attempts.specs.Counted.{IsSeen}
 use Rattle.attempts.specs.Attempts.{is_refusal}
 use Rattle.attempts.specs.Rests.{MayLeave, HasTurned}

@@ -1,5 +1,5 @@
 use Rattle.std.proofs.Common.{sym, subst, arith}
-use Rattle.lock_walks.specs.Own.{own_thunk}
+use Rattle.attempts.specs.lock_walks.specs.Own.{own_thunk}
 use Rattle.attempts.specs.Counted.{IsSeen}
 use Rattle.lock_attempts.proofs.Repeated.{IsTrying, trying_begins, trying_next, trying_ends}
 use Rattle.lock_attempts.proofs.serving.persist.Goals as goal

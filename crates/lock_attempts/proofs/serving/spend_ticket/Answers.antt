@@ -1,6 +1,6 @@
 use Rattle.std.proofs.Common.{subst, ap}
 use Rattle.std.specs.Prelude.{Err}
-use Rattle.lock_walks.specs.Own.{own_thunk}
+use Rattle.attempts.specs.lock_walks.specs.Own.{own_thunk}
 use Rattle.attempts.specs.Counted.{IsSeen}
 use Rattle.lock_attempts.specs.Again.{Persists}
 use Rattle.lock_attempts.specs.Tickets.{ticket}

@@ -1,9 +1,9 @@
 use Rattle.std.specs.Prelude.{Result, IfOk}
 use Rattle.std.proofs.Common.{◌≡◌, ℕ, ◌+◌, refl, sym, ap, ◌∙◌, subst, arith}
-use Rattle.map_history.specs.declared.op.Op.TheVariants.{Get}
-use Rattle.attempts.specs.declared.answers.Attempt.{Attempt}
-use Rattle.lock_walks.specs.Wants.{WantsWereRead}
-use Rattle.account_laws.specs.Accounts.{accounts_of}
+use Rattle.machine_states.specs.runner_steps.specs.map_history.specs.declared.op.Op.TheVariants.{Get}
+use Rattle.lock_attempts.specs.attempts.specs.declared.answers.Attempt.{Attempt}
+use Rattle.lock_attempts.specs.attempts.specs.lock_walks.specs.Wants.{WantsWereRead}
+use Rattle.accounts.specs.account_laws.specs.Accounts.{accounts_of}
 use Rattle.accounts.specs.declared.table.Accounts.{Accounts}
 use Rattle.lock_attempts.specs.declared.tickets.Tickets.{Tickets}
 use Rattle.lock_tests.proofs.bank.move_money.Goals as goal

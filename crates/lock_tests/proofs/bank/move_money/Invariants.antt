@@ -1,5 +1,5 @@
 use Rattle.std.proofs.Common.{◌≡◌, ◌+◌, ◌*◌}
-use Rattle.version_words.specs.TableState.{IsOf}
+use Rattle.settled_tables.specs.closed_words.specs.version_words.specs.TableState.{IsOf}
 use Rattle.lock_attempts.specs.Tickets.{HasTickets}
 use Rattle.lock_tests.proofs.bank.move_money.Given as goal
 

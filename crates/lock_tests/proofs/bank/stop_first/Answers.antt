@@ -1,5 +1,5 @@
 use Rattle.std.proofs.Common.{rules, ◌≡◌, ℕ, length, sym, ◌∙◌, subst}
-use Rattle.account_laws.specs.Accounts.{accounts_of}
+use Rattle.accounts.specs.account_laws.specs.Accounts.{accounts_of}
 use Rattle.settled_tables.specs.Keeper.{IsIdleKeeper}
 use Rattle.settled_tables.proofs.Working.{all_back}
 use Rattle.lock_tests.proofs.Banks.{by_table}

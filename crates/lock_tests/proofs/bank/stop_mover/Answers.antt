@@ -1,7 +1,7 @@
 use Rattle.std.proofs.Common.{rules, ◌≡◌, ℕ, ◌+◌, ◌<◌, ◌++◌, ◌∷◌, [], length, get_or, vec_items, vec_len, sym, subst, arith}
 use Rattle.std.specs.Vec.Iter.{into_iter_items, into_iter_len}
 use Rattle.accounts.specs.declared.table.Accounts.{Accounts}
-use Rattle.version_words.specs.RunnerState.{RunnerState}
+use Rattle.settled_tables.specs.closed_words.specs.version_words.specs.RunnerState.{RunnerState}
 use Rattle.settled_tables.specs.Seats.{CameBack}
 use Rattle.settled_tables.proofs.Working.{one_more, rest_behind}
 use Rattle.lock_tests.specs.Bank.{MayMove}

@@ -1,9 +1,9 @@
 use Rattle.std.proofs.Common.{refl, sym, subst}
-use Rattle.map_history.specs.Replay.{Pairs}
-use Rattle.table_words.specs.declared.spot.Spot.TheVariants.{Cell}
-use Rattle.version_words.specs.TableState.{word_of}
-use Rattle.attempts.specs.try_lock.specs.Contents.{StandFor}
-use Rattle.closed_words.specs.Histories.{HoldsNoLock}
+use Rattle.machine_states.specs.runner_steps.specs.map_history.specs.Replay.{Pairs}
+use Rattle.machine_states.specs.runner_steps.specs.table_words.specs.declared.spot.Spot.TheVariants.{Cell}
+use Rattle.settled_tables.specs.closed_words.specs.version_words.specs.TableState.{word_of}
+use Rattle.hash_table.specs.try_lock.specs.Contents.{StandFor}
+use Rattle.settled_tables.specs.closed_words.specs.Histories.{HoldsNoLock}
 use Rattle.lock_tests.proofs.closing.pairs_of.Goals as goal
 
 pub contents-requires-clause-stand : goal.contents-requires-clause-stand

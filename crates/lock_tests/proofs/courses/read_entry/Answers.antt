@@ -1,7 +1,7 @@
 use Rattle.std.proofs.Common.{◌<◌, length, true, false, sym, subst, ◌∙◌, None}
 use Rattle.std.specs.Prelude.{◌&&◌}
-use Rattle.epoch_core.specs.declared.stage.Stage.TheVariants as stages
-use Rattle.version_words.proofs.Stages.{may_load_entry, then_knows}
+use Rattle.machine_states.specs.epoch_core.specs.declared.stage.Stage.TheVariants as stages
+use Rattle.settled_tables.specs.closed_words.specs.version_words.proofs.Stages.{may_load_entry, then_knows}
 use Rattle.lock_tests.proofs.Serving.{loaded_tidy, loaded_others, loaded_knows, loaded_still}
 use Rattle.lock_tests.proofs.courses.read_entry.Goals as goal
 

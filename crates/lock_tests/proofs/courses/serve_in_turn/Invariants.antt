@@ -1,5 +1,5 @@
 use Rattle.std.proofs.Common.{◌≡◌}
-use Rattle.version_words.specs.TableState.{IsOf}
+use Rattle.settled_tables.specs.closed_words.specs.version_words.specs.TableState.{IsOf}
 use Rattle.lock_tests.specs.Asked.{HasServed, IsOnlyWorker}
 use Rattle.lock_tests.proofs.courses.serve_in_turn.Given as goal
 

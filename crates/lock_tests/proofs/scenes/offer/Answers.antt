@@ -1,5 +1,5 @@
 use Rattle.std.proofs.Common.{ap, sym, subst, ◌∙◌, refl, arith}
-use Rattle.structure_laws.specs.Tray.{tray}
+use Rattle.machine_states.specs.structure_laws.specs.Tray.{tray}
 use Rattle.lock_tests.specs.Workers.{MayRun}
 use Rattle.lock_tests.proofs.Offering.{may_publish, may_run, same_section}
 use Rattle.lock_tests.proofs.scenes.offer.Goals as goal

@@ -1,5 +1,5 @@
 use Rattle.std.specs.Prelude.{true, ◌+◌, ◌<◌, ◌^◌}
-use Rattle.version_words.specs.TableState.{IsOf}
+use Rattle.try_lock.specs.commit_log.specs.version_words.specs.TableState.{IsOf}
 use Rattle.lock_walks.specs.Led.{GoesOn}
 use Rattle.lock_walks.proofs.plans.end_walk.Given as goal
 

@@ -1,4 +1,4 @@
-use Rattle.version_words.specs.TableState.{IsOf}
+use Rattle.try_lock.specs.commit_log.specs.version_words.specs.TableState.{IsOf}
 use Rattle.std.specs.Prelude.{true}
 use Rattle.lock_walks.specs.Led.{GoesOn}
 use Rattle.lock_walks.proofs.plans.pass_nodes.Given as goal

@@ -1,7 +1,7 @@
 use Rattle.std.proofs.Common.{◌≡◌, inl, inr, refl, arith, ap, sym, subst, ◌∙◌, None}
-use Rattle.table_words.specs.declared.layout.Layout.{Layout}
-use Rattle.runner_parts.specs.State.{RunState}
-use Rattle.runner_steps.specs.AfterInRun.{goes_on, agrees}
+use Rattle.section_lines.specs.structure_laws.specs.table_words.specs.declared.layout.Layout.{Layout}
+use Rattle.machine_states.specs.runner_steps.specs.runner_parts.specs.State.{RunState}
+use Rattle.machine_states.specs.runner_steps.specs.AfterInRun.{goes_on, agrees}
 use Rattle.commit_log.specs.Committed.{MayCommit}
 use Rattle.commit_log.proofs.Asked.{asked_more}
 use Rattle.commit_log.proofs.Halting.{halted_first, halted_more}

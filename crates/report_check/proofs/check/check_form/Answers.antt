@@ -1,6 +1,6 @@
 use Rattle.std.proofs.Common.{◌≡◌, ◌≤◌, List, Option, ap, arith, is_some, length, subst, sym, ◌∙◌}
 use Rattle.std.proofs.lemmas.List.Sums.{count_by-le-length}
-use Rattle.map_history.specs.declared.op.Entry.{Entry}
+use Rattle.history_orders.specs.map_history.specs.declared.op.Entry.{Entry}
 use Rattle.history_orders.specs.Turns.{Turn}
 use Rattle.report_text.specs.Legal.{IsHistory, served_in}
 use Rattle.report_check.specs.Histories.{history_of}

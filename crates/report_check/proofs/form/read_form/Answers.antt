@@ -1,9 +1,9 @@
 use Rattle.std.proofs.Common.{◌≡◌, ◌+◌, ◌-◌, ◌++◌, ◌≤◌, ◌∷◌, [], List, None, Option, append_assoc, arith, drop, get_or, length, length-append, map, refl, subst, sym, ap, ◌∙◌}
 use Rattle.std.proofs.lemmas.List.{append-nil, drop_all, drop_more, get_or_default}
-use Rattle.map_history.specs.declared.op.Op.TheVariants.{Get}
-use Rattle.map_history.specs.declared.op.Request.{Request}
+use Rattle.history_orders.specs.map_history.specs.declared.op.Op.TheVariants.{Get}
+use Rattle.history_orders.specs.map_history.specs.declared.op.Request.{Request}
 use Rattle.report_text.specs.Report.Line.{answer_line}
-use Rattle.map_history.specs.declared.op.Entry.{Entry}
+use Rattle.history_orders.specs.map_history.specs.declared.op.Entry.{Entry}
 use Rattle.report_check.specs.Lines.{IsFirstBad, SayAll}
 use Rattle.report_check.specs.Rows.{unserved}
 use Rattle.report_check.specs.Said.{rows_said}

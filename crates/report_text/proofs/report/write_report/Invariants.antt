@@ -1,5 +1,5 @@
 use Rattle.std.proofs.Common.{ℕ, ◌≡◌, ◌+◌, ◌<◌, ◌≤◌, length, get_or}
-use Rattle.map_history.specs.declared.op.Request.{Request}
+use Rattle.history_orders.specs.map_history.specs.declared.op.Request.{Request}
 use Rattle.report_text.specs.Report.{rows_of, report_text}
 use Rattle.report_text.proofs.Lines.{left_at}
 use Rattle.report_text.proofs.Texts.{Underway}

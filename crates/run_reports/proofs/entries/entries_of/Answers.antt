@@ -1,8 +1,8 @@
 use Rattle.std.proofs.Common.{ℕ, Option, subst, sym, ap, ◌∙◌, arith}
 use Rattle.std.specs.Prelude.{slice_get}
-use Rattle.map_history.specs.declared.op.Entry.{Entry}
-use Rattle.table_words.specs.declared.spot.Spot.TheVariants as spots
-use Rattle.version_words.specs.TableState.{word_of}
+use Rattle.history_orders.specs.map_history.specs.declared.op.Entry.{Entry}
+use Rattle.structure_laws.specs.table_words.specs.declared.spot.Spot.TheVariants as spots
+use Rattle.closed_words.specs.version_words.specs.TableState.{word_of}
 use Rattle.run_reports.specs.Shown.{IsShown}
 use Rattle.run_reports.proofs.Reading.{each_pushed}
 use Rattle.run_reports.proofs.entries.entries_of.Goals as goal

@@ -1,5 +1,5 @@
 use Rattle.std.proofs.Common.{sym, ap, ◌∙◌}
-use Rattle.runner_parts.specs.declared.event.EventKind.{EventKind}
+use Rattle.runner_steps.specs.runner_parts.specs.declared.event.EventKind.{EventKind}
 use Rattle.runner_steps.specs.Asks.{outside_ask}
 use Rattle.runner_asks.proofs.enabled.outside_ask.Goals as goal
 

@@ -1,6 +1,6 @@
 use Rattle.std.proofs.Common.{◌≡◌, sym, ◌∙◌}
 use Rattle.std.specs.Prelude.{not, is_none}
-use Rattle.runner_parts.specs.Tests.{is_walking, is_between, is_open}
+use Rattle.runner_steps.specs.runner_parts.specs.Tests.{is_walking, is_between, is_open}
 use Rattle.runner_steps.specs.Outside.{is_due}
 use Rattle.runner_asks.proofs.Loads.{three_hold}
 use Rattle.runner_asks.proofs.outside.is_publishable.Goals as goal

@@ -1,7 +1,7 @@
 use Rattle.std.proofs.Common.{List, length, drop, sym, ap, ◌∙◌, arith}
 use Rattle.std.proofs.lemmas.List.{at_drop_all}
-use Rattle.body_terms.specs.Shape.{loaded_places}
-use Rattle.body_terms.specs.declared.step.Step.{Step}
+use Rattle.runner_steps.specs.body_terms.specs.Shape.{loaded_places}
+use Rattle.runner_steps.specs.body_terms.specs.declared.step.Step.{Step}
 use Rattle.runner_steps.specs.Reads.{are_of}
 use Rattle.runner_asks.proofs.Loads.{ends_at}
 use Rattle.runner_asks.proofs.reads.are_loads.Goals as goal

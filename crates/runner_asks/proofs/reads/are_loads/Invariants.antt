@@ -1,5 +1,5 @@
 use Rattle.std.proofs.Common.{◌≡◌, ◌≤◌, drop, length}
-use Rattle.body_terms.specs.Shape.{loaded_places}
+use Rattle.runner_steps.specs.body_terms.specs.Shape.{loaded_places}
 use Rattle.runner_steps.specs.Reads.{are_of}
 use Rattle.runner_asks.proofs.reads.are_loads.Given as goal
 

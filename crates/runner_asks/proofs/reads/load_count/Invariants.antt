@@ -1,5 +1,5 @@
 use Rattle.std.proofs.Common.{◌≡◌, ◌+◌, ◌≤◌, drop, length}
-use Rattle.body_terms.specs.Shape.{loaded_places}
+use Rattle.runner_steps.specs.body_terms.specs.Shape.{loaded_places}
 use Rattle.runner_asks.proofs.reads.load_count.Given as goal
 
 abbrev pub invariant-loop-step : goal.invariant-loop-step

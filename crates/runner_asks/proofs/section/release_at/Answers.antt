@@ -1,7 +1,7 @@
 use Rattle.std.proofs.Common.{◌≡◌, suc, ◌+◌, sym, ap, ◌∙◌, arith}
 use Rattle.std.specs.Prelude.{slice_index_or}
-use Rattle.body_terms.specs.Line.{line}
-use Rattle.body_terms.specs.declared.micro.Micro.TheVariants.{Release, End}
+use Rattle.runner_steps.specs.body_terms.specs.Line.{line}
+use Rattle.runner_steps.specs.body_terms.specs.declared.micro.Micro.TheVariants.{Release, End}
 use Rattle.runner_steps.specs.Sections.{lock_of}
 use Rattle.runner_asks.proofs.Lines.{release_first, release_later, release_none, rest}
 use Rattle.runner_asks.proofs.section.release_at.Goals as goal

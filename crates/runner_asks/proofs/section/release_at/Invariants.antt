@@ -1,7 +1,7 @@
 use Rattle.std.proofs.Common.{◌≡◌, ◌++◌, ◌∷◌, [], drop, take}
 use Rattle.std.specs.Prelude.{slice_index_or}
-use Rattle.body_terms.specs.Line.{line, releases}
-use Rattle.body_terms.specs.declared.micro.Micro.TheVariants.{End, Release}
+use Rattle.runner_steps.specs.body_terms.specs.Line.{line, releases}
+use Rattle.runner_steps.specs.body_terms.specs.declared.micro.Micro.TheVariants.{End, Release}
 use Rattle.runner_asks.proofs.section.release_at.Given as goal
 
 abbrev pub invariant-loop-i : goal.invariant-loop-i

@@ -1,9 +1,9 @@
 use Rattle.std.proofs.Common.{◌≤◌, List, length, sym, ap, subst, ◌∙◌, arith}
 use Rattle.std.specs.Prelude.{◌&&◌, is_none}
-use Rattle.body_terms.specs.Line.{line, is_check}
-use Rattle.body_terms.specs.Run.{leaves}
-use Rattle.body_terms.specs.declared.micro.Micro.{Micro}
-use Rattle.body_terms.specs.declared.step.Step.{Step}
+use Rattle.runner_steps.specs.body_terms.specs.Line.{line, is_check}
+use Rattle.runner_steps.specs.body_terms.specs.Run.{leaves}
+use Rattle.runner_steps.specs.body_terms.specs.declared.micro.Micro.{Micro}
+use Rattle.runner_steps.specs.body_terms.specs.declared.step.Step.{Step}
 use Rattle.runner_steps.specs.Sections.{setting_of}
 use Rattle.runner_asks.proofs.Lines.{settled_on, settled_here, settled_past, line_le}
 use Rattle.runner_asks.proofs.section.settled.Goals as goal

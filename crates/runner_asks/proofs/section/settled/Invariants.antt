@@ -1,6 +1,6 @@
 use Rattle.std.proofs.Common.{◌≡◌, ◌-◌}
-use Rattle.body_terms.specs.Line.{line}
-use Rattle.body_terms.specs.Run.{settled}
+use Rattle.runner_steps.specs.body_terms.specs.Line.{line}
+use Rattle.runner_steps.specs.body_terms.specs.Run.{settled}
 use Rattle.runner_steps.specs.Sections.{setting_of}
 use Rattle.runner_asks.proofs.section.settled.Given as goal
 

@@ -1,5 +1,5 @@
 use Rattle.std.proofs.Common.{get_or, sym, ap, ◌∙◌, arith}
-use Rattle.runner_parts.specs.Tests.{is_some_of}
+use Rattle.runner_steps.specs.runner_parts.specs.Tests.{is_some_of}
 use Rattle.runner_asks.proofs.Latest.{stored_next, stored_end, false_first, true_first}
 use Rattle.runner_asks.proofs.stores.are_stored.Goals as goal
 

@@ -1,5 +1,5 @@
 use Rattle.std.proofs.Common.{◌≡◌, ◌+◌, drop}
-use Rattle.runner_parts.specs.Tests.{are_stored}
+use Rattle.runner_steps.specs.runner_parts.specs.Tests.{are_stored}
 use Rattle.runner_asks.proofs.stores.are_stored.Given as goal
 
 abbrev pub invariant-loop-number : goal.invariant-loop-number

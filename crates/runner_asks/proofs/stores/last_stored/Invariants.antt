@@ -1,5 +1,5 @@
 use Rattle.std.proofs.Common.{◌≡◌, None, drop}
-use Rattle.runner_parts.specs.Tests.{last_stored}
+use Rattle.runner_steps.specs.runner_parts.specs.Tests.{last_stored}
 use Rattle.runner_asks.proofs.stores.last_stored.Given as goal
 
 abbrev pub invariant-loop-x : goal.invariant-loop-x

@@ -1,4 +1,4 @@
-use Rattle.body_terms.specs.Line.{line}
+use Rattle.structure_laws.specs.body_terms.specs.Line.{line}
 use Rattle.section_lines.proofs.Phases.{is_in_phases, one_answer}
 use Rattle.section_lines.proofs.Counted.{is_counted}
 use Rattle.section_lines.proofs.Runs.{agrees_with}

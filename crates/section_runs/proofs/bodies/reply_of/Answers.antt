@@ -1,4 +1,4 @@
-use Rattle.runner_steps.specs.Sections.{reply_in}
+use Rattle.idem_cell.specs.machine_states.specs.runner_steps.specs.Sections.{reply_in}
 use Rattle.section_runs.proofs.Replies.{reply_there, reply_found}
 use Rattle.section_runs.proofs.bodies.reply_of.Goals as goal
 

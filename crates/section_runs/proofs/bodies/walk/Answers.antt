@@ -1,24 +1,24 @@
 use Rattle.std.proofs.Common.{◌≡◌, suc, ◌+◌, List, length, take, arith, ap, sym, refl, subst, ◌∙◌}
 use Rattle.std.specs.Prelude.{sum_by}
-use Rattle.body_terms.specs.Cost.{step_cost}
-use Rattle.body_terms.specs.Line.{registers_before}
-use Rattle.body_terms.specs.Shape.{IsStep, IsShaped}
-use Rattle.body_terms.specs.declared.outcome.Outcome.{Outcome}
-use Rattle.body_terms.specs.declared.outcome.Outcome.TheVariants.{Answered}
-use Rattle.body_terms.specs.declared.step.Step.{Step}
-use Rattle.body_terms.proofs.LineLemmas.{read_step, registers_before_next}
-use Rattle.section_lines.specs.Rests.{taken_releases}
+use Rattle.idem_cell.specs.body_terms.specs.Cost.{step_cost}
+use Rattle.idem_cell.specs.body_terms.specs.Line.{registers_before}
+use Rattle.idem_cell.specs.body_terms.specs.Shape.{IsStep, IsShaped}
+use Rattle.idem_cell.specs.body_terms.specs.declared.outcome.Outcome.{Outcome}
+use Rattle.idem_cell.specs.body_terms.specs.declared.outcome.Outcome.TheVariants.{Answered}
+use Rattle.idem_cell.specs.body_terms.specs.declared.step.Step.{Step}
+use Rattle.idem_cell.specs.body_terms.proofs.LineLemmas.{read_step, registers_before_next}
+use Rattle.idem_cell.specs.section_lines.specs.Rests.{taken_releases}
 use Rattle.section_runs.specs.Reached.{run_of}
 use Rattle.section_runs.specs.Registers.{AreKept}
 use Rattle.section_runs.specs.Bodies.{NodesGone, body_of, IsBefore, HasWalked}
 use Rattle.section_runs.proofs.Staying.{ran_passed}
-use Rattle.runner_parts.specs.State.{RunState}
+use Rattle.idem_cell.specs.runner_parts.specs.State.{RunState}
 use Rattle.section_runs.proofs.Going.{run_is}
 use Rattle.section_runs.proofs.Using.{on_not_halted, left_not_halted}
 use Rattle.section_runs.proofs.Through.{through_more, halted_then, through_few}
 use Rattle.section_runs.proofs.Apart.{stood_apart, through_apart, halted_apart}
 use Rattle.section_runs.proofs.Walking.{none_before, sum_next, sum_most, sum_room, nodes_none, nodes_more, slot_left, same_none, same_more, body_same, walked_left, walked_all, walked_taken, takes_none, takes_more, is_over}
-use Rattle.runner_steps.specs.Sections.{reply_in, thunk_of}
+use Rattle.idem_cell.specs.machine_states.specs.runner_steps.specs.Sections.{reply_in, thunk_of}
 use Rattle.section_runs.proofs.bodies.walk.Goals as goal
 
 pub loop-n-init : goal.loop-n-init

@@ -1,6 +1,6 @@
 use Rattle.std.specs.Prelude.{take, count_by}
-use Rattle.body_terms.specs.Shape.{is_take}
-use Rattle.version_words.specs.TableState.{IsOf}
+use Rattle.idem_cell.specs.body_terms.specs.Shape.{is_take}
+use Rattle.idem_alloc.specs.commit_log.specs.version_words.specs.TableState.{IsOf}
 use Rattle.idem_alloc.specs.commit_log.specs.Halted.{IsThrough}
 use Rattle.section_runs.specs.Ends.{IsEnding, EndsOn}
 use Rattle.section_runs.proofs.ends.release_all.Given as goal

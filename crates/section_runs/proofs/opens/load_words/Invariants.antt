@@ -1,5 +1,5 @@
 use Rattle.std.specs.Prelude.{◌≡◌, true, take}
-use Rattle.version_words.specs.TableState.{IsOf}
+use Rattle.idem_alloc.specs.commit_log.specs.version_words.specs.TableState.{IsOf}
 use Rattle.idem_alloc.specs.commit_log.specs.Asked.{IsAsked}
 use Rattle.section_runs.specs.Opened.{IsOpening}
 use Rattle.section_runs.proofs.opens.load_words.Given as goal

@@ -2,7 +2,7 @@ use Rattle.std.proofs.Common.{◌≡◌, ℕ, ◌≤◌, List, length, take, sli
 use Rattle.std.proofs.lemmas.List.{take_all, take_more_set, length-set}
 use Rattle.std.specs.Prelude.{◌==◌, not, if◌then◌else◌}
 use Rattle.nested_lock.proofs.Reading.{index_last}
-use Rattle.runner_steps.specs.Sections.{thunk_of}
+use Rattle.idem_cell.specs.machine_states.specs.runner_steps.specs.Sections.{thunk_of}
 use Rattle.idem_alloc.specs.commit_log.proofs.Asked.{asked_more}
 use Rattle.section_runs.proofs.Opening.{may_end, opens_last, then_opened}
 use Rattle.section_runs.proofs.opens.open.Goals as goal

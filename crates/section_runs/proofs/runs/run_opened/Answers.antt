@@ -1,5 +1,5 @@
 use Rattle.std.proofs.Common.{◌+◌, Bool, sym, subst}
-use Rattle.version_words.specs.RunnerState.{RunnerState}
+use Rattle.idem_alloc.specs.commit_log.specs.version_words.specs.RunnerState.{RunnerState}
 use Rattle.section_runs.specs.Opened.{HasOpened}
 use Rattle.section_runs.specs.Ended.{EndsSo}
 use Rattle.section_runs.proofs.runs.run_opened.Goals as goal

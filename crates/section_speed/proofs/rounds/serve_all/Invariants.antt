@@ -1,4 +1,4 @@
-use Rattle.version_words.specs.TableState.{IsOf}
+use Rattle.try_lock.specs.commit_log.specs.version_words.specs.TableState.{IsOf}
 use Rattle.section_speed.specs.Workers.{IsBefore}
 use Rattle.section_speed.proofs.rounds.serve_all.Given as goal
 

@@ -1,7 +1,7 @@
 use Rattle.std.proofs.Common.{ap, arith}
-use Rattle.structure_laws.specs.Tray.{tray}
-use Rattle.table_words.specs.declared.layout.Layout.{Layout}
-use Rattle.version_words.proofs.Stages.{may_join}
+use Rattle.runner_steps.specs.runner_parts.specs.structure_laws.specs.Tray.{tray}
+use Rattle.runner_steps.specs.table_words.specs.declared.layout.Layout.{Layout}
+use Rattle.try_lock.specs.commit_log.specs.version_words.proofs.Stages.{may_join}
 use Rattle.section_speed.proofs.scenes.close.Goals as goal
 
 pub join_runner-keeper-requires-clause-next : goal.join_runner-keeper-requires-clause-next

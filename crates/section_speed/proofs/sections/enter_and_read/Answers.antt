@@ -1,6 +1,6 @@
 use Rattle.std.proofs.Common.{None, arith}
-use Rattle.structure_laws.specs.Tray.{tray}
-use Rattle.version_words.proofs.Stages.{may_load_fixed}
+use Rattle.runner_steps.specs.runner_parts.specs.structure_laws.specs.Tray.{tray}
+use Rattle.try_lock.specs.commit_log.specs.version_words.proofs.Stages.{may_load_fixed}
 use Rattle.section_speed.proofs.Serving.{then_read}
 use Rattle.section_speed.proofs.sections.enter_and_read.Goals as goal
 

@@ -1,4 +1,4 @@
-use Rattle.runner_steps.specs.Sections.{reply_in}
+use Rattle.machine_states.specs.runner_steps.specs.Sections.{reply_in}
 use Rattle.caller_facts.specs.section_runs.proofs.Replies.{reply_there, reply_found}
 use Rattle.seq_read.proofs.bodies.reply_of.Goals as goal
 

@@ -1,8 +1,8 @@
 use Rattle.std.proofs.Common.{◌∙◌, ◌∷◌, ◌++◌, [], sym, ap, subst, refl, arith, Some}
-use Rattle.table_words.specs.Limits.{IsWithinLimits}
-use Rattle.body_terms.proofs.LineLemmas.{read_step}
-use Rattle.caller_facts.specs.request_facts.specs.reached_histories.specs.machine_invariant.specs.After.{AreAllowed}
-use Rattle.caller_facts.specs.commit_log.specs.Asked.{IsAsked}
+use Rattle.machine_states.specs.runner_steps.specs.table_words.specs.Limits.{IsWithinLimits}
+use Rattle.machine_states.specs.runner_steps.specs.body_terms.proofs.LineLemmas.{read_step}
+use Rattle.caller_facts.specs.version_words.specs.machine_invariant.specs.After.{AreAllowed}
+use Rattle.caller_facts.specs.section_runs.specs.commit_log.specs.Asked.{IsAsked}
 use Rattle.caller_facts.specs.Counted.{IsSeen}
 use Rattle.seq_read.proofs.Loading.{cell_asked, next_cells, cut_cells, same_cells, all_cells}
 use Rattle.seq_read.proofs.cells.load_cells.Goals as goal

@@ -1,5 +1,5 @@
 use Rattle.std.proofs.Common.{◌≤◌, length}
-use Rattle.version_words.specs.TableState.{IsOf}
+use Rattle.caller_facts.specs.version_words.specs.TableState.{IsOf}
 use Rattle.seq_read.specs.Parts.{HasCells}
 use Rattle.seq_read.proofs.cells.load_cells.Given as goal
 

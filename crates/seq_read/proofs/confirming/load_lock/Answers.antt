@@ -1,8 +1,8 @@
 use Rattle.std.proofs.Common.{◌∙◌, sym, subst, refl}
-use Rattle.table_words.specs.Limits.{IsWithinLimits}
-use Rattle.caller_facts.specs.request_facts.specs.reached_histories.specs.machine_invariant.specs.After.{AreAllowed}
-use Rattle.version_words.specs.Events.{Makes}
-use Rattle.version_words.specs.Naming.{load_of}
+use Rattle.machine_states.specs.runner_steps.specs.table_words.specs.Limits.{IsWithinLimits}
+use Rattle.caller_facts.specs.version_words.specs.machine_invariant.specs.After.{AreAllowed}
+use Rattle.caller_facts.specs.version_words.specs.Events.{Makes}
+use Rattle.caller_facts.specs.version_words.specs.Naming.{load_of}
 use Rattle.seq_read.proofs.Courses.{clock_here}
 use Rattle.seq_read.proofs.Locking.{lock_asked}
 use Rattle.seq_read.proofs.confirming.load_lock.Goals as goal

@@ -1,8 +1,8 @@
 use Rattle.std.proofs.Common.{◌∙◌, sym, subst, refl}
-use Rattle.table_words.specs.Limits.{IsWithinLimits}
-use Rattle.caller_facts.specs.request_facts.specs.reached_histories.specs.machine_invariant.specs.After.{AreAllowed}
-use Rattle.runner_parts.specs.declared.event.EventKind.TheVariants as kinds
-use Rattle.version_words.specs.Events.{Makes}
+use Rattle.machine_states.specs.runner_steps.specs.table_words.specs.Limits.{IsWithinLimits}
+use Rattle.caller_facts.specs.version_words.specs.machine_invariant.specs.After.{AreAllowed}
+use Rattle.machine_states.specs.runner_steps.specs.runner_parts.specs.declared.event.EventKind.TheVariants as kinds
+use Rattle.caller_facts.specs.version_words.specs.Events.{Makes}
 use Rattle.seq_read.proofs.Courses.{replied_layout, replied_requests}
 use Rattle.seq_read.proofs.Writing.{LooksStand, stamp_asked, stamp_left, stamp_zero}
 use Rattle.seq_read.proofs.confirming.write_stamp.Goals as goal

@@ -1,8 +1,8 @@
 use Rattle.std.proofs.Common.{◌∙◌, sym, subst, refl}
-use Rattle.table_words.specs.Limits.{IsWithinLimits}
+use Rattle.machine_states.specs.runner_steps.specs.table_words.specs.Limits.{IsWithinLimits}
 use Rattle.machine_states.proofs.Steps.{some_same, none_some}
-use Rattle.caller_facts.specs.request_facts.specs.reached_histories.specs.machine_invariant.specs.After.{AreAllowed}
-use Rattle.caller_facts.specs.commit_log.specs.Asked.{IsAsked}
+use Rattle.caller_facts.specs.version_words.specs.machine_invariant.specs.After.{AreAllowed}
+use Rattle.caller_facts.specs.section_runs.specs.commit_log.specs.Asked.{IsAsked}
 use Rattle.caller_facts.specs.Counted.{IsSeen}
 use Rattle.seq_read.specs.Course.{locked_steps}
 use Rattle.seq_read.specs.Parts.{Rests}

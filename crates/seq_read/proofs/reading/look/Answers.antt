@@ -1,5 +1,5 @@
 use Rattle.std.proofs.Common.{sym, subst, length}
-use Rattle.version_words.specs.RunnerState.{RunnerState}
+use Rattle.caller_facts.specs.version_words.specs.RunnerState.{RunnerState}
 use Rattle.caller_facts.specs.try_lock.specs.declared.planned.Planned.TheVariants as plans
 use Rattle.caller_facts.specs.Counted.{IsSeen}
 use Rattle.seq_read.specs.Course.{HasPlanned}

@@ -1,10 +1,10 @@
 use Rattle.std.specs.Prelude.{not, position}
 use Rattle.std.specs.List.{list_any}
 use Rattle.std.proofs.Common.{◌∙◌, sym, ap, subst, refl}
-use Rattle.body_terms.specs.Shape.{IsShaped, is_look}
-use Rattle.table_words.specs.Limits.{IsWithinLimits}
-use Rattle.runner_steps.specs.Sections.{reply_in}
-use Rattle.caller_facts.specs.request_facts.specs.reached_histories.specs.machine_invariant.specs.After.{AreAllowed}
+use Rattle.machine_states.specs.runner_steps.specs.body_terms.specs.Shape.{IsShaped, is_look}
+use Rattle.machine_states.specs.runner_steps.specs.table_words.specs.Limits.{IsWithinLimits}
+use Rattle.machine_states.specs.runner_steps.specs.Sections.{reply_in}
+use Rattle.caller_facts.specs.version_words.specs.machine_invariant.specs.After.{AreAllowed}
 use Rattle.caller_facts.specs.Counted.{IsSeen}
 use Rattle.seq_read.specs.Wants.{readings_of, is_missed, IsMiss, IsAmong}
 use Rattle.seq_read.specs.Parts.{MayLoad, HasLoadedCells}

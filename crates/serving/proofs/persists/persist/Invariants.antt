@@ -1,4 +1,4 @@
-use Rattle.version_words.specs.TableState.{IsOf}
+use Rattle.attempt_bounds.specs.version_words.specs.TableState.{IsOf}
 use Rattle.serving.proofs.Trying.{IsTrying}
 use Rattle.serving.proofs.persists.persist.Given as goal
 

@@ -1,6 +1,6 @@
 use Rattle.std.proofs.Common.{◌≡◌, length, arith, refl, sym, ◌∙◌, subst}
 use Rattle.std.proofs.lemmas.Option.{slice_get-get_or}
-use Rattle.fault_count.specs.Rose.{Rose}
+use Rattle.runner_gate.specs.fault_count.specs.Rose.{Rose}
 use Rattle.attempt_bounds.specs.Spared.{AttemptsSpareSlots}
 use Rattle.serving.proofs.Along.{along_begins, may_next, so_far_begins, stopped_serves, goes_along, so_far_along, halted_behind, all_served, went_of, going_of}
 use Rattle.serving.proofs.serves.serve.Goals as goal

@@ -1,5 +1,5 @@
 use Rattle.std.proofs.Common.{◌≡◌}
-use Rattle.version_words.specs.TableState.{IsOf}
+use Rattle.attempt_bounds.specs.version_words.specs.TableState.{IsOf}
 use Rattle.serving.proofs.Along.{IsAlong, IsSoFar}
 use Rattle.serving.proofs.serves.serve.Given as goal
 

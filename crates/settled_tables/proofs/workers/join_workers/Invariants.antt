@@ -1,6 +1,6 @@
 use Rattle.std.proofs.Common.{◌≡◌, ℕ, ◌+◌, ◌<◌, vec_len, vec_items, get_or}
 use Rattle.std.specs.Vec.Iter.{into_iter_items, into_iter_len}
-use Rattle.version_words.specs.TableState.{IsOf}
+use Rattle.closed_words.specs.version_words.specs.TableState.{IsOf}
 use Rattle.settled_tables.specs.Keeper.{IsIdleKeeper}
 use Rattle.settled_tables.specs.Seats.{AreReports}
 use Rattle.settled_tables.proofs.workers.join_workers.Given as goal

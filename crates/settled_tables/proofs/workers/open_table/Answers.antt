@@ -1,5 +1,5 @@
 use Rattle.std.proofs.Common.{◌≡◌, subst, sym}
-use Rattle.version_words.specs.TableState.{first_keeper}
+use Rattle.closed_words.specs.version_words.specs.TableState.{first_keeper}
 use Rattle.settled_tables.proofs.Keeping.{first_is_idle}
 use Rattle.settled_tables.proofs.workers.open_table.Goals as goal
 

@@ -1,6 +1,6 @@
 use Rattle.std.proofs.Common.{◌<◌, ap, arith}
-use Rattle.table_words.specs.declared.layout.Layout.{Layout}
-use Rattle.version_words.proofs.Stages.{may_split}
+use Rattle.machine_states.specs.runner_steps.specs.table_words.specs.declared.layout.Layout.{Layout}
+use Rattle.closed_words.specs.version_words.proofs.Stages.{may_split}
 use Rattle.settled_tables.proofs.Keeping.{then_idle}
 use Rattle.settled_tables.proofs.Working.{is_new}
 use Rattle.settled_tables.proofs.workers.seat_worker.Goals as goal

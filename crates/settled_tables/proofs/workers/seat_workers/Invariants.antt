@@ -1,5 +1,5 @@
 use Rattle.std.proofs.Common.{◌≡◌, vec_len, vec_items}
-use Rattle.version_words.specs.TableState.{IsOf}
+use Rattle.closed_words.specs.version_words.specs.TableState.{IsOf}
 use Rattle.settled_tables.specs.Keeper.{IsIdleKeeper}
 use Rattle.settled_tables.specs.Seats.{AreNewWorkers}
 use Rattle.settled_tables.proofs.workers.seat_workers.Given as goal

@@ -1,5 +1,5 @@
 use Rattle.std.proofs.Common.{length}
-use Rattle.version_words.specs.TableState.{IsOf}
+use Rattle.try_lock.specs.commit_log.specs.version_words.specs.TableState.{IsOf}
 use Rattle.settling.specs.Clearing.{KeepsJoins, IsClearing}
 use Rattle.settling.proofs.settles.clear_locks.Given as goal
 

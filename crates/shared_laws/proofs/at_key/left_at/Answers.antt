@@ -1,7 +1,7 @@
 use Rattle.std.proofs.Common.{◌≡◌, ℕ, refl, sym, ◌∙◌, Option, Some, None}
-use Rattle.map_history.specs.declared.op.Op.TheVariants.{Del}
-use Rattle.map_history.specs.AtKey.{left_at}
-use Rattle.map_history.proofs.Cells.{left_own}
+use Rattle.structure_laws.specs.map_history.specs.declared.op.Op.TheVariants.{Del}
+use Rattle.structure_laws.specs.map_history.specs.AtKey.{left_at}
+use Rattle.structure_laws.specs.map_history.proofs.Cells.{left_own}
 use Rattle.shared_laws.proofs.at_key.left_at.Goals as goal
 
 pub returns-in-Ins-None-clause-map : goal.returns-in-Ins-None-clause-map

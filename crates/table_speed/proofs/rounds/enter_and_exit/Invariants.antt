@@ -1,7 +1,7 @@
 use Rattle.std.proofs.Common.{◌≡◌, None}
-use Rattle.epoch_core.specs.declared.stage.Stage.TheVariants as stages
-use Rattle.version_words.specs.TableState.{IsOf}
-use Rattle.version_words.specs.Stages.{IsAt}
+use Rattle.table_tests.specs.epoch_core.specs.declared.stage.Stage.TheVariants as stages
+use Rattle.table_tests.specs.version_words.specs.TableState.{IsOf}
+use Rattle.table_tests.specs.version_words.specs.Stages.{IsAt}
 use Rattle.table_speed.proofs.rounds.enter_and_exit.Given as goal
 
 abbrev pub invariant-loop : goal.invariant-loop

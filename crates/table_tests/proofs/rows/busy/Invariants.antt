@@ -1,5 +1,5 @@
 use Rattle.std.proofs.Common.{◌≡◌, None}
-use Rattle.epoch_core.specs.declared.stage.Stage.TheVariants as stages
+use Rattle.machine_states.specs.epoch_core.specs.declared.stage.Stage.TheVariants as stages
 use Rattle.version_words.specs.TableState.{IsOf}
 use Rattle.version_words.specs.Stages.{IsAt}
 use Rattle.table_tests.proofs.rows.busy.Given as goal

@@ -1,4 +1,4 @@
-use Rattle.structure_laws.specs.Tray.{tray}
+use Rattle.machine_states.specs.structure_laws.specs.Tray.{tray}
 use Rattle.std.proofs.Common.{None}
 use Rattle.version_words.proofs.Stages.{may_load_fixed, then_loaded_cell, same_number}
 use Rattle.table_tests.proofs.walks.look.Goals as goal

@@ -1,6 +1,6 @@
 use Rattle.std.proofs.Common.{rules, ◌≡◌, ◌<◌, ◌++◌, ◌∷◌, [], length, get_or, ap, ◌∙◌, vec_items}
 use Rattle.std.specs.Prelude.{None}
-use Rattle.settling.specs.runner_gate.specs.Counts.{planned_after, plans_after}
+use Rattle.settled_tables.specs.settling.specs.runner_gate.specs.Counts.{planned_after, plans_after}
 use Rattle.threaded_runs.proofs.Seats.{seated_more, unhalted_more, gates_more}
 use Rattle.threaded_runs.proofs.Counting.{all_plans, front_more, next_plan, on_err, plans_more}
 use Rattle.threaded_runs.proofs.seating.make_jobs.Goals as goal

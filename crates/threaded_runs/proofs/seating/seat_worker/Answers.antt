@@ -1,9 +1,9 @@
 use Rattle.std.specs.Prelude.{All}
 use Rattle.std.proofs.Common.{◌≡◌, ◌<◌, ◌∙◌, ap, sym, subst, arith, true, List, refl}
-use Rattle.map_history.specs.declared.op.Request.{Request}
-use Rattle.table_words.specs.declared.layout.Layout.{Layout}
+use Rattle.machine_states.specs.runner_steps.specs.map_history.specs.declared.op.Request.{Request}
+use Rattle.machine_states.specs.runner_steps.specs.table_words.specs.declared.layout.Layout.{Layout}
 use Rattle.version_words.proofs.Stages.{may_split}
-use Rattle.serving.specs.Serving.{MayServe}
+use Rattle.free_serving.specs.serving.specs.Serving.{MayServe}
 use Rattle.threaded_runs.specs.Own.{own_requests}
 use Rattle.settled_tables.proofs.Keeping.{then_idle}
 use Rattle.threaded_runs.proofs.Owning.{worker_may_serve}

@@ -1,8 +1,8 @@
 use Rattle.std.proofs.Common.{rules, ◌≡◌, ℕ, ◌<◌, length, subst, sym, ap, ◌∙◌, vec_len}
 use Rattle.machine_states.specs.First.{keeper_part}
-use Rattle.closed_words.specs.Histories.{HaveHistory}
+use Rattle.settled_tables.specs.closed_words.specs.Histories.{HaveHistory}
 use Rattle.version_words.specs.TableState.{first_keeper}
-use Rattle.serving.specs.attempt_bounds.specs.Lone.{LoneAttemptsAreServed}
+use Rattle.free_serving.specs.serving.specs.attempt_bounds.specs.Lone.{LoneAttemptsAreServed}
 use Rattle.threaded_runs.specs.Counts.{returns_counted}
 use Rattle.threaded_runs.specs.Jobs.{asks_counted}
 use Rattle.threaded_runs.specs.Asks.{AreAsked}
@@ -14,7 +14,7 @@ use Rattle.threaded_runs.proofs.Counting.{front_all, front_none, on_err}
 use Rattle.settled_tables.proofs.Keeping.{first_is_idle, has_all, may_settle, settled_all}
 use Rattle.threaded_runs.proofs.Seats.{are_back}
 use Rattle.threaded_runs.proofs.Ending.{IsLawful, all_served, asked_often, gates_came_back}
-use Rattle.serving.specs.attempt_bounds.specs.Spared.{AttemptsSpareSlots}
+use Rattle.free_serving.specs.serving.specs.attempt_bounds.specs.Spared.{AttemptsSpareSlots}
 use Rattle.threaded_runs.proofs.Lone.{IsFresh, served_alone, asked_alone, reads_alone}
 use Rattle.threaded_runs.proofs.table_run.run_table.Goals as goal
 

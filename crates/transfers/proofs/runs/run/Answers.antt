@@ -1,6 +1,6 @@
 use Rattle.std.proofs.Common.{rules, ◌≡◌, ℕ, length, refl, sym, ap, ◌∙◌, subst}
-use Rattle.table_words.specs.declared.layout.Layout.{Layout}
-use Rattle.account_laws.specs.Accounts.{accounts_of}
+use Rattle.agreement_core.specs.table_words.specs.declared.layout.Layout.{Layout}
+use Rattle.accounts.specs.account_laws.specs.Accounts.{accounts_of}
 use Rattle.lock_attempts.specs.Tickets.{tickets_for}
 use Rattle.settled_tables.specs.Keeper.{IsIdleKeeper}
 use Rattle.settled_tables.proofs.Working.{all_back}

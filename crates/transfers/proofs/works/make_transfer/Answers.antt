@@ -1,12 +1,12 @@
 use Rattle.std.proofs.Common.{ap, ◌∙◌, subst}
-use Rattle.map_history.specs.declared.op.Op.TheVariants.{Get}
-use Rattle.table_words.specs.declared.layout.Layout.{Layout}
-use Rattle.lock_walks.specs.Wants.{WantsWereRead}
-use Rattle.account_laws.specs.Accounts.{accounts_of}
+use Rattle.agreement_core.specs.map_history.specs.declared.op.Op.TheVariants.{Get}
+use Rattle.agreement_core.specs.table_words.specs.declared.layout.Layout.{Layout}
+use Rattle.lock_attempts.specs.attempts.specs.lock_walks.specs.Wants.{WantsWereRead}
+use Rattle.accounts.specs.account_laws.specs.Accounts.{accounts_of}
 use Rattle.accounts.specs.Walk.{begun}
 use Rattle.accounts.specs.Made.{Makes}
 use Rattle.accounts.specs.declared.table.Accounts.{Accounts}
-use Rattle.attempts.specs.Counted.{IsSeen}
+use Rattle.lock_attempts.specs.attempts.specs.Counted.{IsSeen}
 use Rattle.lock_attempts.specs.Tickets.{ticket}
 use Rattle.transfers.proofs.Making.{made_if}
 use Rattle.transfers.proofs.works.make_transfer.Goals as goal

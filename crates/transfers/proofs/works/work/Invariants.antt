@@ -1,5 +1,5 @@
 use Rattle.std.proofs.Common.{◌≡◌, ◌+◌, ◌*◌}
-use Rattle.version_words.specs.TableState.{IsOf}
+use Rattle.settled_tables.specs.closed_words.specs.version_words.specs.TableState.{IsOf}
 use Rattle.lock_attempts.specs.Tickets.{HasTickets}
 use Rattle.transfers.specs.Made.{HaveMade}
 use Rattle.transfers.proofs.works.work.Given as goal

@@ -1,5 +1,5 @@
 use Rattle.std.specs.Prelude.{◌*◌, replicate}
-use Rattle.version_words.specs.TableState.{IsOf}
+use Rattle.section_runs.specs.commit_log.specs.version_words.specs.TableState.{IsOf}
 use Rattle.try_lock.specs.Prepares.{HasSet}
 use Rattle.try_lock.proofs.publishes.clear_words.Given as goal
 

@@ -1,10 +1,10 @@
 use Rattle.std.proofs.Common.{◌≡◌, ◌-◌, length, true, false, sym, ap, subst, ◌∙◌, arith, refl}
 use Rattle.std.specs.Prelude.{◌==◌, slice_index}
 use Rattle.std.proofs.lemmas.Bool.Decides.{nat_tests}
-use Rattle.table_words.specs.declared.layout.Layout.{Layout}
-use Rattle.table_words.specs.Limits.{IsWithinLimits}
-use Rattle.epoch_slots.specs.machine_invariant.specs.After.{AreAllowed}
-use Rattle.version_words.proofs.Holds.{can_publish}
+use Rattle.machine_states.specs.runner_steps.specs.table_words.specs.declared.layout.Layout.{Layout}
+use Rattle.machine_states.specs.runner_steps.specs.table_words.specs.Limits.{IsWithinLimits}
+use Rattle.section_runs.specs.machine_facts.specs.machine_invariant.specs.After.{AreAllowed}
+use Rattle.section_runs.specs.commit_log.specs.version_words.proofs.Holds.{can_publish}
 use Rattle.try_lock.specs.Publishes.{refused_by}
 use Rattle.try_lock.proofs.Publishing.{last_is_free, may_prepare, may_hold, publishes_won, publishes_lost}
 use Rattle.try_lock.proofs.publishes.publish.Goals as goal

@@ -1,6 +1,6 @@
 use Rattle.std.proofs.Common.{sym, subst}
 use Rattle.lock_walks.specs.Way.{Leads}
-use Rattle.bucket_laws.specs.Buckets.{buckets_meaning}
+use Rattle.bucket_walks.specs.bucket_laws.specs.Buckets.{buckets_meaning}
 use Rattle.hash_table.specs.Planned.{bucket_way}
 use Rattle.hash_table.proofs.Leads.{leads}
 use Rattle.hash_table.proofs.plan.HashTablePlanner.walk.Goals as goal

@@ -1,8 +1,8 @@
 use Rattle.std.proofs.Common.{◌≡◌, ◌^◌, subst, arith}
 use Rattle.std.proofs.lemmas.List.Sorted.{IsPermutation-sym}
-use Rattle.section_body.specs.Bucket.{bucket_index}
-use Rattle.bucket_laws.specs.Buckets.{nodes}
-use Rattle.bucket_laws.proofs.TableLaws.{bucket_small}
+use Rattle.bucket_walks.specs.section_body.specs.Bucket.{bucket_index}
+use Rattle.bucket_walks.specs.bucket_laws.specs.Buckets.{nodes}
+use Rattle.bucket_walks.specs.bucket_laws.proofs.TableLaws.{bucket_small}
 use Rattle.hash_table.specs.Stands.{HasGathered}
 use Rattle.hash_table.proofs.Places.{few_buckets}
 use Rattle.hash_table.proofs.Ordering.{are_entries}

@@ -1,5 +1,5 @@
-use Rattle.map_history.specs.Replay.{Pairs}
-use Rattle.bucket_laws.specs.Buckets.{buckets_meaning}
+use Rattle.machine_states.specs.runner_steps.specs.map_history.specs.Replay.{Pairs}
+use Rattle.bucket_walks.specs.bucket_laws.specs.Buckets.{buckets_meaning}
 use Rattle.lock_walks.specs.try_lock.specs.Contents.{StandFor}
 use Rattle.hash_table.specs.Stands.{HasGathered}
 use Rattle.hash_table.proofs.table.HashTable.pairs.Given as goal

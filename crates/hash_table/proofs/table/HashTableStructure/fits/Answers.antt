@@ -1,6 +1,6 @@
 use Rattle.std.proofs.Common.{◌^◌, ap, ◌∙◌}
-use Rattle.section_body.specs.Bucket.{bucket_index}
-use Rattle.bucket_laws.specs.Walk.{fits_walk}
+use Rattle.bucket_walks.specs.section_body.specs.Bucket.{bucket_index}
+use Rattle.bucket_walks.specs.bucket_laws.specs.Walk.{fits_walk}
 use Rattle.lock_walks.specs.Followed.{followed}
 use Rattle.hash_table.specs.Walking.{Walking}
 use Rattle.hash_table.specs.Planned.{bucket_way}

@@ -1,5 +1,5 @@
 use Rattle.std.proofs.Common.{◌≡◌, [], subst, arith}
-use Rattle.table_words.specs.Places.{slot_count}
+use Rattle.tree_walks.specs.structure_laws.specs.table_words.specs.Places.{slot_count}
 use Rattle.leaf_tree.specs.Stands.{Gathers}
 use Rattle.leaf_tree.proofs.Gathering.{within, gathered, all_gathered}
 use Rattle.leaf_tree.proofs.Standing.{most_slots, no_items}

@@ -1,4 +1,4 @@
-use Rattle.map_history.specs.Replay.{Pairs}
+use Rattle.tree_walks.specs.structure_laws.specs.map_history.specs.Replay.{Pairs}
 use Rattle.tree_walks.specs.tree_laws.specs.Leaves.{tree}
 use Rattle.lock_walks.specs.try_lock.specs.Contents.{StandFor}
 use Rattle.leaf_tree.specs.Stands.{Gathers}

@@ -1,6 +1,6 @@
 use Rattle.std.proofs.Common.{refl, sym, subst, ap, ◌∙◌}
-use Rattle.runner_parts.specs.declared.event.EventKind.TheVariants.{Advance}
-use Rattle.runner_steps.specs.AfterOutside.{advance_after}
+use Rattle.machine_states.specs.runner_steps.specs.runner_parts.specs.declared.event.EventKind.TheVariants.{Advance}
+use Rattle.machine_states.specs.runner_steps.specs.AfterOutside.{advance_after}
 use Rattle.runner_block.specs.declared.block.Block.{Block}
 use Rattle.runner_block.specs.Kept.{with_part}
 use Rattle.version_words.specs.Kept.{IsKept}

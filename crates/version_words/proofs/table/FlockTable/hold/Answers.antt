@@ -1,8 +1,8 @@
 use Rattle.std.proofs.Common.{ap, sym, subst, ◌∙◌, ◌≤◌}
 use Rattle.std.specs.Prelude.{◌==◌}
-use Rattle.table_words.specs.Limits.{IsWithinLimits}
-use Rattle.runner_parts.specs.declared.event.EventKind.TheVariants.{Hold}
-use Rattle.epoch_core.specs.Lists.{times}
+use Rattle.machine_states.specs.runner_steps.specs.table_words.specs.Limits.{IsWithinLimits}
+use Rattle.machine_states.specs.runner_steps.specs.runner_parts.specs.declared.event.EventKind.TheVariants.{Hold}
+use Rattle.machine_states.specs.epoch_core.specs.Lists.{times}
 use Rattle.runner_block.specs.declared.block.Block.{Block}
 use Rattle.runner_block.specs.Kept.{held_in, with_part}
 use Rattle.version_words.specs.Kept.{IsKept}

@@ -1,7 +1,7 @@
 use Rattle.std.proofs.Common.{refl, sym, subst, ap, ◌∙◌}
-use Rattle.runner_parts.specs.declared.event.EventKind.{EventKind}
-use Rattle.runner_parts.specs.declared.event.EventKind.TheVariants.{ScanOne}
-use Rattle.runner_steps.specs.AfterOutside.{scan_one_after}
+use Rattle.machine_states.specs.runner_steps.specs.runner_parts.specs.declared.event.EventKind.{EventKind}
+use Rattle.machine_states.specs.runner_steps.specs.runner_parts.specs.declared.event.EventKind.TheVariants.{ScanOne}
+use Rattle.machine_states.specs.runner_steps.specs.AfterOutside.{scan_one_after}
 use Rattle.runner_block.specs.declared.block.Block.{Block}
 use Rattle.runner_block.specs.Kept.{with_part}
 use Rattle.version_words.specs.Kept.{IsKept}
