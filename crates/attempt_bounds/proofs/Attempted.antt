@@ -1,14 +1,14 @@
 -- How far an attempt takes the epoch on, and what it leaves in limbo.
 use Rattle.std.specs.Prelude.{false, true, replicate}
 use Rattle.std.proofs.Common.{◌≡◌, ℕ, ◌+◌, ◌*◌, ◌^◌, ◌<◌, ◌≤◌, List, [], ◌∷◌, ◌++◌, length, length-append, refl, ap, ◌∙◌, arith, None}
-use Rattle.machine_states.specs.runner_steps.specs.map_history.specs.declared.op.Request.{Request}
-use Rattle.machine_states.specs.runner_steps.specs.map_history.specs.declared.reply.Reply.{Reply}
-use Rattle.machine_states.specs.runner_steps.specs.table_words.specs.Places.{slot_count}
+use Rattle.machine_states.specs.map_history.specs.declared.op.Request.{Request}
+use Rattle.machine_states.specs.map_history.specs.declared.reply.Reply.{Reply}
+use Rattle.machine_states.specs.table_words.specs.Places.{slot_count}
 use Rattle.machine_states.specs.structure_laws.specs.Meaning.{Meaning}
-use Rattle.machine_states.specs.runner_steps.specs.runner_parts.specs.declared.event.EventKind.TheVariants as kinds
+use Rattle.machine_states.specs.runner_parts.specs.declared.event.EventKind.TheVariants as kinds
 use Rattle.machine_states.specs.epoch_core.specs.declared.stage.Stage.TheVariants as stages
-use Rattle.machine_states.specs.runner_steps.specs.runner_parts.specs.State.{FinishedState}
-use Rattle.machine_states.specs.runner_steps.specs.runner_parts.specs.Tests.{thunk_words}
+use Rattle.machine_states.specs.runner_parts.specs.State.{FinishedState}
+use Rattle.machine_states.specs.runner_parts.specs.Tests.{thunk_words}
 use Rattle.machine_states.specs.runner_steps.specs.After.{own_epoch}
 use Rattle.version_words.specs.RunnerState.{RunnerState}
 use Rattle.attempts.specs.epoch_slots.specs.declared.reserves.Kind.{Kind}

@@ -1,20 +1,20 @@
 -- A section of the one worker that leaves does so by a spent word.
 use Rattle.std.specs.Prelude.{Ok, if◌then◌else◌}
 use Rattle.std.proofs.Common.{◌≡◌, ℕ, zero, suc, List, [], ◌∷◌, ◌++◌, refl, sym, ap, ◌∙◌, subst, Option, Some, None}
-use Rattle.machine_states.specs.runner_steps.specs.map_history.specs.declared.op.Request.{Request}
-use Rattle.machine_states.specs.runner_steps.specs.body_terms.specs.Trail.{Agreed}
-use Rattle.machine_states.specs.runner_steps.specs.body_terms.specs.declared.micro.Micro.{Micro}
-use Rattle.machine_states.specs.runner_steps.specs.body_terms.specs.declared.micro.Micro.TheVariants as micros
-use Rattle.machine_states.specs.runner_steps.specs.body_terms.specs.declared.outcome.Outcome.{Outcome}
-use Rattle.machine_states.specs.runner_steps.specs.body_terms.specs.declared.outcome.Outcome.TheVariants as outcomes
-use Rattle.machine_states.specs.runner_steps.specs.body_terms.specs.declared.thunk.Thunk.{Thunk}
-use Rattle.machine_states.specs.runner_steps.specs.table_words.specs.declared.layout.Layout.{Layout}
-use Rattle.machine_states.specs.runner_steps.specs.table_words.specs.Limits.{IsWithinLimits}
+use Rattle.machine_states.specs.map_history.specs.declared.op.Request.{Request}
+use Rattle.machine_states.specs.body_terms.specs.Trail.{Agreed}
+use Rattle.machine_states.specs.body_terms.specs.declared.micro.Micro.{Micro}
+use Rattle.machine_states.specs.body_terms.specs.declared.micro.Micro.TheVariants as micros
+use Rattle.machine_states.specs.body_terms.specs.declared.outcome.Outcome.{Outcome}
+use Rattle.machine_states.specs.body_terms.specs.declared.outcome.Outcome.TheVariants as outcomes
+use Rattle.machine_states.specs.body_terms.specs.declared.thunk.Thunk.{Thunk}
+use Rattle.machine_states.specs.table_words.specs.declared.layout.Layout.{Layout}
+use Rattle.machine_states.specs.table_words.specs.Limits.{IsWithinLimits}
 use Rattle.machine_states.specs.structure_laws.specs.Meaning.{Meaning}
 use Rattle.machine_states.specs.structure_laws.specs.Laws.{Laws}
 use Rattle.machine_states.specs.structure_laws.specs.Planner.{PlannerLaws}
-use Rattle.machine_states.specs.runner_steps.specs.runner_parts.specs.declared.entries.Published.{Published}
-use Rattle.machine_states.specs.runner_steps.specs.runner_parts.specs.State.{RunState, FinishedState, ReadsState, PartState}
+use Rattle.machine_states.specs.runner_parts.specs.declared.entries.Published.{Published}
+use Rattle.machine_states.specs.runner_parts.specs.State.{RunState, FinishedState, ReadsState, PartState}
 use Rattle.machine_states.specs.runner_steps.specs.AfterInRun.{ended_more, over_if, finished_of}
 use Rattle.machine_states.specs.runner_steps.specs.Sections.{outcome_of}
 use Rattle.machine_states.specs.Sight.{Sight, sight, part_or_first}

@@ -4,8 +4,8 @@ use Rattle.std.specs.List.{filter}
 use Rattle.std.proofs.Common.{◌≡◌, ℕ, ◌+◌, ◌≤◌, List, [], ◌∷◌, length, refl, ap, ◌∙◌, arith}
 use Rattle.std.proofs.lemmas.Bool.Decides.{nat_tests}
 use Rattle.std.proofs.lemmas.List.Elements.{All-head, All-tail, All-filter}
-use Rattle.machine_states.specs.runner_steps.specs.runner_parts.specs.declared.entries.Retired.{Retired}
-use Rattle.machine_states.specs.runner_steps.specs.runner_parts.specs.Lists.{is_old}
+use Rattle.machine_states.specs.runner_parts.specs.declared.entries.Retired.{Retired}
+use Rattle.machine_states.specs.runner_parts.specs.Lists.{is_old}
 
 -- how many of these were retired with this epoch or a later one
 abbrev pub recent : ℕ → List Retired → ℕ

@@ -1,6 +1,6 @@
 -- So with one worker no attempt is refused but by a spent word.
 use Rattle.std.proofs.Common.{sym, subst, ⊎_elim}
-use Rattle.machine_states.specs.runner_steps.specs.map_history.specs.declared.op.Request.{Request}
+use Rattle.machine_states.specs.map_history.specs.declared.op.Request.{Request}
 use Rattle.machine_states.specs.structure_laws.specs.Meaning.{Meaning}
 use Rattle.machine_states.specs.structure_laws.specs.Laws.{Laws}
 use Rattle.machine_states.specs.structure_laws.specs.Planner.{PlannerLaws}

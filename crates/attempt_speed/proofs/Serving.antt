@@ -3,9 +3,9 @@ use Rattle.std.specs.Prelude.{All, slice_get, true}
 use Rattle.std.proofs.lemmas.Option.{slice_get_within, get_or_from_slice_get}
 use Rattle.std.proofs.Common.{◌≡◌, ℕ, ◌<◌, ◌%◌, List, take, sym, subst, ap, ◌∙◌, arith, Some, inr}
 use Rattle.std.proofs.Math.Nat.{mod-one}
-use Rattle.machine_states.specs.runner_steps.specs.map_history.specs.declared.op.Request.{Request}
-use Rattle.machine_states.specs.runner_steps.specs.table_words.specs.declared.layout.Layout.{Layout}
-use Rattle.machine_states.specs.runner_steps.specs.runner_parts.specs.Tests.{is_answered}
+use Rattle.machine_states.specs.map_history.specs.declared.op.Request.{Request}
+use Rattle.machine_states.specs.table_words.specs.declared.layout.Layout.{Layout}
+use Rattle.machine_states.specs.runner_parts.specs.Tests.{is_answered}
 use Rattle.serving.specs.attempt_bounds.specs.version_words.specs.RunnerState.{RunnerState}
 use Rattle.serving.specs.attempt_bounds.specs.version_words.specs.TableState.{TableState, IsOf}
 use Rattle.hash_table.specs.try_lock.specs.Planning.{Planning}

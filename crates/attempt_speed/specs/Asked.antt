@@ -1,9 +1,9 @@
 -- What is asked of the table: 1,000 keys are put in, and then come requests of one kind.
 use Rattle.std.specs.Prelude.{ℕ, ◌+◌, ◌-◌, ◌*◌, ◌/◌, ◌%◌, ◌==◌, List, if◌then◌else◌, map, nat_lt}
 use Rattle.std.specs.List.{range_with_len}
-use Rattle.machine_states.specs.runner_steps.specs.map_history.specs.declared.op.Op.{Op}
-use Rattle.machine_states.specs.runner_steps.specs.map_history.specs.declared.op.Op.TheVariants.{Get, Ins, Del}
-use Rattle.machine_states.specs.runner_steps.specs.map_history.specs.declared.op.Request.{Request}
+use Rattle.machine_states.specs.map_history.specs.declared.op.Op.{Op}
+use Rattle.machine_states.specs.map_history.specs.declared.op.Op.TheVariants.{Get, Ins, Del}
+use Rattle.machine_states.specs.map_history.specs.declared.op.Request.{Request}
 use Rattle.attempt_speed.specs.declared.kinds.Kind.{Kind}
 use Rattle.attempt_speed.specs.declared.kinds.Kind.TheVariants as kinds
 

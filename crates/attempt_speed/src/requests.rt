@@ -1,10 +1,10 @@
 //! What is asked of the table: 1,000 keys are put in, and then come requests of one kind.
 ghost use Rattle.std.specs.Prelude.{◌≡◌, ◌<◌, ◌≤◌, IfOk, length};
-ghost use Rattle.machine_states.specs.runner_steps.specs.map_history.specs.Requests.{AreInOrder};
+ghost use Rattle.machine_states.specs.map_history.specs.Requests.{AreInOrder};
 ghost use Rattle.attempt_speed.specs.Asked.{key_at, asked_by, request_at, requests_of};
 
 use crate::kinds::Kind;
-use machine_states::runner_steps::map_history::{Op, Request};
+use machine_states::map_history::{Op, Request};
 use std::alloc::{AllocError, Global};
 
 /// The most requests that a table has.

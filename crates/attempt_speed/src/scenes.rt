@@ -1,15 +1,15 @@
 //! A table with one worker, who serves all of its requests.
 ghost use Rattle.std.specs.Prelude.{◌≡◌, ◌≤◌, IfOk, length};
-ghost use Rattle.machine_states.specs.runner_steps.specs.map_history.specs.Requests.{AreInOrder};
-ghost use Rattle.machine_states.specs.runner_steps.specs.table_words.specs.Limits.{IsWithinLimits};
+ghost use Rattle.machine_states.specs.map_history.specs.Requests.{AreInOrder};
+ghost use Rattle.machine_states.specs.table_words.specs.Limits.{IsWithinLimits};
 ghost use Rattle.serving.specs.attempt_bounds.specs.version_words.specs.TableState.{IsOf};
 ghost use Rattle.serving.specs.attempt_bounds.specs.version_words.specs.Stages.{IsKeeper, HasJoined};
 ghost use Rattle.attempt_speed.specs.Scenes.{IsFresh};
 
 use hash_table::lock_walks::Planner;
 use hash_table::lock_walks::version_words::{FlockTable, Runner, Words};
-use machine_states::runner_steps::map_history::Request;
-use machine_states::runner_steps::table_words::Layout;
+use machine_states::map_history::Request;
+use machine_states::table_words::Layout;
 use std::alloc::{AllocError, Global};
 
 /// How many of the requests may add a pair.

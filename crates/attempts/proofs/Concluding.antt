@@ -2,24 +2,24 @@
 use Rattle.std.specs.Prelude.{true, false, slice_get}
 use Rattle.std.proofs.Common.{◌≡◌, ◌≢◌, ℕ, ◌-◌, ◌≤◌, List, length, refl, sym, ap, ◌∙◌, subst, arith, inr, Option, Some, None, [], ◌∷◌, ◌++◌, ◌+◌}
 use Rattle.std.proofs.lemmas.Bool.{true≢false}
-use Rattle.history_orders.specs.map_history.specs.declared.op.Request.{Request}
-use Rattle.history_orders.specs.map_history.specs.declared.reply.Reply.{Reply}
-use Rattle.section_lines.specs.structure_laws.specs.body_terms.specs.Trail.{Agreed}
-use Rattle.section_lines.specs.structure_laws.specs.body_terms.specs.Line.{line, micro_at}
-use Rattle.section_lines.specs.structure_laws.specs.body_terms.specs.Word.{value_of}
-use Rattle.section_lines.specs.structure_laws.specs.body_terms.specs.declared.outcome.Outcome.{Outcome}
-use Rattle.section_lines.specs.structure_laws.specs.body_terms.specs.declared.outcome.Outcome.TheVariants as outcomes
-use Rattle.section_lines.specs.structure_laws.specs.body_terms.specs.declared.thunk.Thunk.{Thunk}
-use Rattle.section_lines.specs.structure_laws.specs.table_words.specs.declared.layout.Layout.{Layout}
-use Rattle.section_lines.specs.structure_laws.specs.table_words.specs.Limits.{IsWithinLimits}
+use Rattle.machine_states.specs.map_history.specs.declared.op.Request.{Request}
+use Rattle.machine_states.specs.map_history.specs.declared.reply.Reply.{Reply}
+use Rattle.machine_states.specs.body_terms.specs.Trail.{Agreed}
+use Rattle.machine_states.specs.body_terms.specs.Line.{line, micro_at}
+use Rattle.machine_states.specs.body_terms.specs.Word.{value_of}
+use Rattle.machine_states.specs.body_terms.specs.declared.outcome.Outcome.{Outcome}
+use Rattle.machine_states.specs.body_terms.specs.declared.outcome.Outcome.TheVariants as outcomes
+use Rattle.machine_states.specs.body_terms.specs.declared.thunk.Thunk.{Thunk}
+use Rattle.machine_states.specs.table_words.specs.declared.layout.Layout.{Layout}
+use Rattle.machine_states.specs.table_words.specs.Limits.{IsWithinLimits}
 use Rattle.runner_gate.specs.Asks.{Asks}
-use Rattle.section_lines.specs.structure_laws.specs.Meaning.{Meaning}
-use Rattle.section_lines.specs.structure_laws.specs.Laws.{Laws}
-use Rattle.section_lines.specs.structure_laws.specs.Shape.{Shaped}
-use Rattle.machine_states.specs.runner_steps.specs.runner_parts.specs.declared.event.EventKind.TheVariants as kinds
-use Rattle.machine_states.specs.runner_steps.specs.runner_parts.specs.declared.entries.Published.{Published}
-use Rattle.machine_states.specs.runner_steps.specs.runner_parts.specs.State.{NodesState, PartState, ReadsState}
-use Rattle.machine_states.specs.runner_steps.specs.runner_parts.specs.Tests.{has, has_pair, is_answered}
+use Rattle.machine_states.specs.structure_laws.specs.Meaning.{Meaning}
+use Rattle.machine_states.specs.structure_laws.specs.Laws.{Laws}
+use Rattle.machine_states.specs.structure_laws.specs.Shape.{Shaped}
+use Rattle.machine_states.specs.runner_parts.specs.declared.event.EventKind.TheVariants as kinds
+use Rattle.machine_states.specs.runner_parts.specs.declared.entries.Published.{Published}
+use Rattle.machine_states.specs.runner_parts.specs.State.{NodesState, PartState, ReadsState}
+use Rattle.machine_states.specs.runner_parts.specs.Tests.{has, has_pair, is_answered}
 use Rattle.machine_states.specs.runner_steps.specs.AfterOutside.{retire_after}
 use Rattle.machine_states.specs.World.{World}
 use Rattle.machine_states.specs.Reached.{Reached}

@@ -2,7 +2,7 @@
 use Rattle.std.specs.Prelude.{Bool, true}
 use Rattle.std.proofs.Common.{◌≡◌, ℕ, ◌+◌, ◌≤◌, refl, ap, ◌∙◌, subst, arith}
 use Rattle.runner_gate.specs.fault_count.specs.Rose.{Rose}
-use Rattle.section_lines.specs.structure_laws.specs.body_terms.specs.Counted.{counted_on}
+use Rattle.machine_states.specs.body_terms.specs.Counted.{counted_on}
 use Rattle.runner_gate.specs.Asks.{Asks, asked_on}
 use Rattle.lock_walks.specs.try_lock.specs.commit_log.specs.Asked.{IsAsked}
 use Rattle.lock_walks.specs.try_lock.specs.commit_log.proofs.Asked.{counted_more, asked_on_more}

@@ -4,27 +4,27 @@ use Rattle.std.proofs.Common.{◌≡◌, ◌≢◌, ℕ, ◌+◌, List, [], ◌�
 use Rattle.std.proofs.lemmas.Bool.Decides.{nat_tests}
 use Rattle.section_lines.specs.small_lemmas.proofs.Bools.{both_of}
 use Rattle.section_lines.specs.small_lemmas.proofs.Numbers.{tested_equal}
-use Rattle.history_orders.specs.map_history.specs.declared.op.Op.{Op}
-use Rattle.section_lines.specs.structure_laws.specs.body_terms.specs.Line.{line, micro_at}
-use Rattle.section_lines.specs.structure_laws.specs.body_terms.specs.Run.{leaves, refusal, is_takable}
-use Rattle.section_lines.specs.structure_laws.specs.body_terms.specs.Word.{value_of, version_of, pack, held_word, is_free, is_spent}
-use Rattle.section_lines.specs.structure_laws.specs.body_terms.specs.declared.micro.Micro.{Micro}
-use Rattle.section_lines.specs.structure_laws.specs.body_terms.specs.declared.micro.Micro.TheVariants.{CheckWord, CheckFresh, CheckFree, CheckHeld}
-use Rattle.section_lines.specs.structure_laws.specs.body_terms.specs.declared.outcome.Outcome.{Outcome}
-use Rattle.section_lines.specs.structure_laws.specs.body_terms.specs.declared.outcome.Outcome.TheVariants as outcomes
-use Rattle.section_lines.specs.structure_laws.specs.body_terms.specs.declared.outcome.Refused.{Refused}
-use Rattle.section_lines.specs.structure_laws.specs.body_terms.specs.declared.outcome.Refused.TheVariants as refusals
-use Rattle.section_lines.specs.structure_laws.specs.body_terms.specs.declared.step.Step.TheVariants.{Take}
-use Rattle.section_lines.specs.structure_laws.specs.body_terms.specs.declared.thunk.Thunk.{Thunk}
+use Rattle.machine_states.specs.map_history.specs.declared.op.Op.{Op}
+use Rattle.machine_states.specs.body_terms.specs.Line.{line, micro_at}
+use Rattle.machine_states.specs.body_terms.specs.Run.{leaves, refusal, is_takable}
+use Rattle.machine_states.specs.body_terms.specs.Word.{value_of, version_of, pack, held_word, is_free, is_spent}
+use Rattle.machine_states.specs.body_terms.specs.declared.micro.Micro.{Micro}
+use Rattle.machine_states.specs.body_terms.specs.declared.micro.Micro.TheVariants.{CheckWord, CheckFresh, CheckFree, CheckHeld}
+use Rattle.machine_states.specs.body_terms.specs.declared.outcome.Outcome.{Outcome}
+use Rattle.machine_states.specs.body_terms.specs.declared.outcome.Outcome.TheVariants as outcomes
+use Rattle.machine_states.specs.body_terms.specs.declared.outcome.Refused.{Refused}
+use Rattle.machine_states.specs.body_terms.specs.declared.outcome.Refused.TheVariants as refusals
+use Rattle.machine_states.specs.body_terms.specs.declared.step.Step.TheVariants.{Take}
+use Rattle.machine_states.specs.body_terms.specs.declared.thunk.Thunk.{Thunk}
 use Rattle.section_lines.proofs.Sources.{of_take}
 use Rattle.section_lines.proofs.Wants.{wanted_at}
-use Rattle.section_lines.specs.structure_laws.specs.table_words.specs.declared.layout.Layout.{Layout}
-use Rattle.section_lines.specs.structure_laws.specs.table_words.specs.Limits.{IsWithinLimits}
-use Rattle.section_lines.specs.structure_laws.specs.Scene.{Readings}
-use Rattle.section_lines.specs.structure_laws.specs.Meaning.{Meaning}
-use Rattle.section_lines.specs.structure_laws.specs.Cells.{slots}
-use Rattle.section_lines.specs.structure_laws.specs.Sections.{IsAllowed}
-use Rattle.section_lines.specs.structure_laws.specs.Shape.{HasStep, Shaped}
+use Rattle.machine_states.specs.table_words.specs.declared.layout.Layout.{Layout}
+use Rattle.machine_states.specs.table_words.specs.Limits.{IsWithinLimits}
+use Rattle.machine_states.specs.structure_laws.specs.Scene.{Readings}
+use Rattle.machine_states.specs.structure_laws.specs.Meaning.{Meaning}
+use Rattle.machine_states.specs.structure_laws.specs.Cells.{slots}
+use Rattle.machine_states.specs.structure_laws.specs.Sections.{IsAllowed}
+use Rattle.machine_states.specs.structure_laws.specs.Shape.{HasStep, Shaped}
 use Rattle.machine_states.specs.runner_steps.specs.Sections.{setting_of}
 use Rattle.machine_states.proofs.Steps.{some_same, none_some}
 use Rattle.lock_walks.specs.try_lock.specs.declared.planned.Planned.{Planned}

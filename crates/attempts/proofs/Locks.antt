@@ -3,15 +3,15 @@ use Rattle.std.specs.Prelude.{slice_get, All}
 use Rattle.std.proofs.Common.{◌≡◌, ℕ, List, ap, ◌∙◌, subst, Some}
 use Rattle.std.proofs.lemmas.List.Elements.{All-get_or}
 use Rattle.std.proofs.lemmas.Option.{slice_get_within, get_or_from_slice_get}
-use Rattle.history_orders.specs.map_history.specs.declared.op.Request.{Request}
-use Rattle.section_lines.specs.structure_laws.specs.body_terms.specs.declared.thunk.Thunk.{Thunk}
-use Rattle.section_lines.specs.structure_laws.specs.table_words.specs.Limits.{IsWithinLimits}
-use Rattle.section_lines.specs.structure_laws.specs.Scene.{Readings}
-use Rattle.section_lines.specs.structure_laws.specs.Meaning.{Meaning}
-use Rattle.section_lines.specs.structure_laws.specs.Laws.{Laws}
-use Rattle.section_lines.specs.structure_laws.specs.Sections.{IsAllowed}
-use Rattle.section_lines.specs.structure_laws.specs.Shape.{Shaped}
-use Rattle.machine_states.specs.runner_steps.specs.runner_parts.specs.State.{PartState, ReadsState}
+use Rattle.machine_states.specs.map_history.specs.declared.op.Request.{Request}
+use Rattle.machine_states.specs.body_terms.specs.declared.thunk.Thunk.{Thunk}
+use Rattle.machine_states.specs.table_words.specs.Limits.{IsWithinLimits}
+use Rattle.machine_states.specs.structure_laws.specs.Scene.{Readings}
+use Rattle.machine_states.specs.structure_laws.specs.Meaning.{Meaning}
+use Rattle.machine_states.specs.structure_laws.specs.Laws.{Laws}
+use Rattle.machine_states.specs.structure_laws.specs.Sections.{IsAllowed}
+use Rattle.machine_states.specs.structure_laws.specs.Shape.{Shaped}
+use Rattle.machine_states.specs.runner_parts.specs.State.{PartState, ReadsState}
 use Rattle.machine_states.specs.Sight.{Sight, sight, part_or_first}
 use Rattle.version_words.specs.machine_invariant.specs.After.{AreAllowed}
 use Rattle.lock_walks.specs.runner_facts.proofs.Walks.{reached_shaped}

@@ -1,9 +1,9 @@
 -- The plan of an attempt.
 use Rattle.std.proofs.Common.{◌≡◌, ℕ, ◌≤◌, length, sym, ap, ◌∙◌, subst}
-use Rattle.history_orders.specs.map_history.specs.declared.op.Request.{Request}
+use Rattle.machine_states.specs.map_history.specs.declared.op.Request.{Request}
 use Rattle.runner_gate.specs.Asks.{Asks}
-use Rattle.section_lines.specs.structure_laws.specs.Meaning.{Meaning}
-use Rattle.machine_states.specs.runner_steps.specs.runner_parts.specs.State.{NodesState, DescriptorsState}
+use Rattle.machine_states.specs.structure_laws.specs.Meaning.{Meaning}
+use Rattle.machine_states.specs.runner_parts.specs.State.{NodesState, DescriptorsState}
 use Rattle.version_words.specs.RunnerState.{RunnerState}
 use Rattle.lock_walks.specs.try_lock.specs.declared.planned.Planned.{Planned}
 use Rattle.lock_walks.specs.try_lock.specs.Planning.{Planning}

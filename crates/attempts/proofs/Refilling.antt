@@ -2,7 +2,7 @@
 use Rattle.std.specs.Prelude.{◌==◌, ◌||◌, nat_lt, Bool, true, false}
 use Rattle.std.proofs.Common.{◌≡◌, ℕ, ◌<◌, length, refl, sym, ap, ◌∙◌, subst, arith, true≢false}
 use Rattle.std.proofs.lemmas.Bool.Decides.{nat_tests}
-use Rattle.section_lines.specs.structure_laws.specs.Meaning.{Meaning}
+use Rattle.machine_states.specs.structure_laws.specs.Meaning.{Meaning}
 use Rattle.version_words.specs.RunnerState.{RunnerState}
 use Rattle.lock_walks.specs.try_lock.specs.epoch_slots.specs.Collects.{IsTidy, Collects}
 use Rattle.lock_walks.specs.try_lock.specs.epoch_slots.specs.declared.reserves.Kind.{Kind}

@@ -4,18 +4,18 @@ use Rattle.std.proofs.Common.{◌≡◌, ◌≢◌, ℕ, ◌-◌, List, [], ◌�
 use Rattle.std.proofs.lemmas.List.Folds.{list_any-append}
 use Rattle.std.proofs.lemmas.Bool.Decides.{nat_tests}
 use Rattle.section_lines.specs.small_lemmas.proofs.Bools.{or_second as or_true}
-use Rattle.history_orders.specs.map_history.specs.declared.op.Op.{Op}
-use Rattle.section_lines.specs.structure_laws.specs.body_terms.specs.Run.{Setting, leaves, refusal, is_takable}
-use Rattle.section_lines.specs.structure_laws.specs.body_terms.specs.Word.{value_of, is_free, is_spent}
-use Rattle.section_lines.specs.structure_laws.specs.body_terms.specs.declared.micro.Micro.{Micro}
-use Rattle.section_lines.specs.structure_laws.specs.body_terms.specs.declared.micro.Micro.TheVariants as micros
-use Rattle.section_lines.specs.structure_laws.specs.body_terms.specs.declared.outcome.Outcome.{Outcome}
-use Rattle.section_lines.specs.structure_laws.specs.body_terms.specs.declared.outcome.Outcome.TheVariants as outcomes
-use Rattle.section_lines.specs.structure_laws.specs.table_words.specs.declared.layout.Layout.{Layout}
-use Rattle.section_lines.specs.structure_laws.specs.Scene.{Readings}
-use Rattle.section_lines.specs.structure_laws.specs.Meaning.{Meaning}
-use Rattle.machine_states.specs.runner_steps.specs.runner_parts.specs.Lists.{named_by}
-use Rattle.machine_states.specs.runner_steps.specs.runner_parts.specs.Tests.{has, has_pair}
+use Rattle.machine_states.specs.map_history.specs.declared.op.Op.{Op}
+use Rattle.machine_states.specs.body_terms.specs.Run.{Setting, leaves, refusal, is_takable}
+use Rattle.machine_states.specs.body_terms.specs.Word.{value_of, is_free, is_spent}
+use Rattle.machine_states.specs.body_terms.specs.declared.micro.Micro.{Micro}
+use Rattle.machine_states.specs.body_terms.specs.declared.micro.Micro.TheVariants as micros
+use Rattle.machine_states.specs.body_terms.specs.declared.outcome.Outcome.{Outcome}
+use Rattle.machine_states.specs.body_terms.specs.declared.outcome.Outcome.TheVariants as outcomes
+use Rattle.machine_states.specs.table_words.specs.declared.layout.Layout.{Layout}
+use Rattle.machine_states.specs.structure_laws.specs.Scene.{Readings}
+use Rattle.machine_states.specs.structure_laws.specs.Meaning.{Meaning}
+use Rattle.machine_states.specs.runner_parts.specs.Lists.{named_by}
+use Rattle.machine_states.specs.runner_parts.specs.Tests.{has, has_pair}
 use Rattle.machine_states.specs.runner_steps.specs.Sections.{setting_of}
 use Rattle.machine_states.proofs.Steps.{some_same, none_some}
 use Rattle.lock_walks.specs.runner_facts.proofs.Names.{pair_last}

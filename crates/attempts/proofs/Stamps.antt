@@ -3,19 +3,19 @@ use Rattle.std.specs.Prelude.{true, false, ◌||◌, ◌==◌, Bool, take, slice
 use Rattle.std.proofs.Common.{◌≡◌, ◌≢◌, ℕ, ◌<◌, ◌%◌, ◌++◌, length, refl, sym, ap, ◌∙◌, subst, inl, Some}
 use Rattle.std.proofs.Math.Seq.{take-append_seam}
 use Rattle.std.proofs.lemmas.Bool.{and_parts}
-use Rattle.history_orders.specs.map_history.specs.declared.op.Request.{Request}
-use Rattle.section_lines.specs.structure_laws.specs.body_terms.specs.Trail.{Agreed}
-use Rattle.section_lines.specs.structure_laws.specs.body_terms.specs.declared.outcome.Outcome.{Outcome}
-use Rattle.section_lines.specs.structure_laws.specs.body_terms.specs.declared.outcome.Outcome.TheVariants.{Answered}
-use Rattle.section_lines.specs.structure_laws.specs.body_terms.specs.declared.thunk.Thunk.{Thunk}
-use Rattle.section_lines.specs.structure_laws.specs.table_words.specs.Limits.{IsWithinLimits}
-use Rattle.section_lines.specs.structure_laws.specs.table_words.specs.declared.spot.Spot.TheVariants as spots
-use Rattle.section_lines.specs.structure_laws.specs.Meaning.{Meaning}
-use Rattle.section_lines.specs.structure_laws.specs.Laws.{Laws}
-use Rattle.machine_states.specs.runner_steps.specs.runner_parts.specs.declared.entries.Known.{Known}
-use Rattle.machine_states.specs.runner_steps.specs.runner_parts.specs.declared.entries.Published.{Published}
-use Rattle.machine_states.specs.runner_steps.specs.runner_parts.specs.State.{PartState}
-use Rattle.machine_states.specs.runner_steps.specs.runner_parts.specs.Tests.{knows, is_answered}
+use Rattle.machine_states.specs.map_history.specs.declared.op.Request.{Request}
+use Rattle.machine_states.specs.body_terms.specs.Trail.{Agreed}
+use Rattle.machine_states.specs.body_terms.specs.declared.outcome.Outcome.{Outcome}
+use Rattle.machine_states.specs.body_terms.specs.declared.outcome.Outcome.TheVariants.{Answered}
+use Rattle.machine_states.specs.body_terms.specs.declared.thunk.Thunk.{Thunk}
+use Rattle.machine_states.specs.table_words.specs.Limits.{IsWithinLimits}
+use Rattle.machine_states.specs.table_words.specs.declared.spot.Spot.TheVariants as spots
+use Rattle.machine_states.specs.structure_laws.specs.Meaning.{Meaning}
+use Rattle.machine_states.specs.structure_laws.specs.Laws.{Laws}
+use Rattle.machine_states.specs.runner_parts.specs.declared.entries.Known.{Known}
+use Rattle.machine_states.specs.runner_parts.specs.declared.entries.Published.{Published}
+use Rattle.machine_states.specs.runner_parts.specs.State.{PartState}
+use Rattle.machine_states.specs.runner_parts.specs.Tests.{knows, is_answered}
 use Rattle.machine_states.specs.runner_steps.specs.AfterInRun.{over_if}
 use Rattle.machine_states.specs.runner_steps.specs.AfterOutside.{published_by}
 use Rattle.machine_states.specs.runner_steps.specs.Outside.{entry_spot}

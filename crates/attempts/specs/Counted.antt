@@ -1,7 +1,7 @@
 -- How often a gate was asked, and how many steps were counted.
 use Rattle.std.specs.Prelude.{◌≡◌, ℕ, ◌+◌, ◌≤◌, Bool, true, false}
 use Rattle.runner_gate.specs.fault_count.specs.Rose.{Rose}
-use Rattle.section_lines.specs.structure_laws.specs.body_terms.specs.Counted.{counted_on}
+use Rattle.machine_states.specs.body_terms.specs.Counted.{counted_on}
 use Rattle.runner_gate.specs.Asks.{Asks, asked_on}
 
 -- so many steps were counted, and a gate was asked after each and so many times more. It let the runner go on

@@ -1,9 +1,9 @@
 -- What a run of a section told its runner.
 use Rattle.std.specs.Prelude.{◌≡◌, ◌≢◌, ℕ, ◌≤◌, ◌⊎◌, List, [], ◌++◌, length, slice_get, Some}
-use Rattle.section_lines.specs.structure_laws.specs.body_terms.specs.declared.micro.Micro.TheVariants.{StampExchange}
-use Rattle.section_lines.specs.structure_laws.specs.body_terms.specs.declared.thunk.Thunk.{Thunk}
-use Rattle.section_lines.specs.structure_laws.specs.Meaning.{Meaning}
-use Rattle.machine_states.specs.runner_steps.specs.runner_parts.specs.State.{RunState, PartState, FinishedState}
+use Rattle.machine_states.specs.body_terms.specs.declared.micro.Micro.TheVariants.{StampExchange}
+use Rattle.machine_states.specs.body_terms.specs.declared.thunk.Thunk.{Thunk}
+use Rattle.machine_states.specs.structure_laws.specs.Meaning.{Meaning}
+use Rattle.machine_states.specs.runner_parts.specs.State.{RunState, PartState, FinishedState}
 use Rattle.machine_states.specs.runner_steps.specs.AfterInRun.{over_if}
 use Rattle.machine_states.specs.runner_steps.specs.Sections.{thunk_of, next_of}
 use Rattle.machine_states.specs.World.{World, seat_of}

@@ -1,7 +1,7 @@
 -- The order in time: an attempt's stamp, and what was answered as the attempt began.
 use Rattle.std.specs.Prelude.{◌≢◌, ℕ, ◌<◌}
-use Rattle.section_lines.specs.structure_laws.specs.table_words.specs.declared.spot.Spot.TheVariants.{Stamp, Reply}
-use Rattle.section_lines.specs.structure_laws.specs.Meaning.{Meaning}
+use Rattle.machine_states.specs.table_words.specs.declared.spot.Spot.TheVariants.{Stamp, Reply}
+use Rattle.machine_states.specs.structure_laws.specs.Meaning.{Meaning}
 use Rattle.machine_states.specs.Sight.{sight}
 use Rattle.request_facts.specs.reached_histories.specs.RealTime.{LeadsTo}
 use Rattle.version_words.specs.RunnerState.{RunnerState}

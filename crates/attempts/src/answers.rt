@@ -1,8 +1,8 @@
 //! What an attempt of a request answers.
 
-use history_orders::map_history::Reply;
 use lock_walks::epoch_slots::Short;
-use section_lines::structure_laws::body_terms::{Place, Word};
+use machine_states::body_terms::{Place, Word};
+use machine_states::map_history::Reply;
 
 /// What one attempt of a request came to.
 #[derive(Clone, Copy, Debug, PartialEq, Eq)]

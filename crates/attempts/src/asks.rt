@@ -2,8 +2,8 @@
 ghost use Rattle.std.specs.Prelude.{ℕ};
 ghost use Rattle.attempts.specs.Counted.{IsCounted};
 
+use machine_states::body_terms::StepKind;
 use runner_gate::{Gate, Pass};
-use section_lines::structure_laws::body_terms::StepKind;
 
 /// Asks the gate once more, where no step is counted: whether the runner goes on.
 pub fn goes_on<G: Gate>(gate: &mut G, kind: StepKind) -> bool

@@ -1,6 +1,6 @@
 //! One attempt of a request.
 ghost use Rattle.std.specs.Prelude.{◌≡◌, false};
-ghost use Rattle.section_lines.specs.structure_laws.specs.Cells.{slots};
+ghost use Rattle.machine_states.specs.structure_laws.specs.Cells.{slots};
 ghost use Rattle.version_words.specs.RunnerState.{RunnerState};
 ghost use Rattle.version_words.specs.TableState.{IsOf};
 ghost use Rattle.attempts.specs.Counted.{IsSeen};
@@ -15,12 +15,12 @@ use crate::refusals::plan_refused;
 use crate::reserves::reserve_slots;
 use crate::tries::try_section;
 use crate::turns::turn_away;
-use history_orders::map_history::Request;
 use lock_walks::Planner;
 use lock_walks::epoch_slots::enter;
 use lock_walks::try_lock::Planned;
+use machine_states::body_terms::{StepKind, Steps};
+use machine_states::map_history::Request;
 use runner_gate::Gate;
-use section_lines::structure_laws::body_terms::{StepKind, Steps};
 use version_words::{FlockTable, Runner};
 
 /// Plans the request, behind the entry, and tries the section that was planned; or leaves where the plan was refused.

@@ -1,14 +1,14 @@
 //! How a runner answers by the words of a request that it knows.
 ghost use Rattle.std.specs.Prelude.{◌≡◌, ℕ};
-ghost use Rattle.history_orders.specs.map_history.specs.declared.reply.Reply.{Reply};
+ghost use Rattle.machine_states.specs.map_history.specs.declared.reply.Reply.{Reply};
 ghost use Rattle.version_words.specs.TableState.{IsOf};
 ghost use Rattle.attempts.specs.declared.answers.Attempt.TheVariants as answers;
 ghost use Rattle.attempts.specs.Rests.{MayLearn, HasLearnt};
 
 use crate::answers::Attempt;
-use history_orders::map_history::{Reply, Request};
 use lock_walks::Planner;
 use lock_walks::epoch_slots::exit;
+use machine_states::map_history::{Reply, Request};
 use version_words::{FlockTable, Runner};
 
 /// Leaves, and loads the stamp word and the reply word of a request that the runner knows: the answer is `Done`

@@ -5,7 +5,7 @@ ghost use Rattle.lock_walks.specs.try_lock.specs.epoch_slots.specs.Collects.{IsT
 ghost use Rattle.attempts.specs.Reclaims.{lacks_slots, has_much_in_limbo, CollectsWhere, Reclaims, IsRested};
 
 use lock_walks::epoch_slots::collect;
-use section_lines::structure_laws::Structure;
+use machine_states::structure_laws::Structure;
 use version_words::{FlockTable, Runner};
 
 /// Whether fewer slots are free than an attempt needs: two node slots and one descriptor.

@@ -4,7 +4,7 @@ ghost use Rattle.attempts.specs.Course.{of_plan, of_refusal, of_outcome};
 
 use crate::answers::Attempt;
 use lock_walks::try_lock::Planned;
-use section_lines::structure_laws::body_terms::{Outcome, Place, Refused};
+use machine_states::body_terms::{Outcome, Place, Refused};
 
 /// A refused plan as an attempt's answer.
 pub fn plan_refused(planned: Planned) -> Attempt

@@ -5,7 +5,7 @@ ghost use Rattle.attempts.specs.Course.{HasReserve};
 ghost use Rattle.attempts.specs.Attempts.{IsFew};
 
 use lock_walks::epoch_slots::{Kind, Short, reserve};
-use section_lines::structure_laws::Structure;
+use machine_states::structure_laws::Structure;
 use version_words::Runner;
 
 /// The runner, if two node slots and one descriptor are free; else the runner and the counts of the kind that

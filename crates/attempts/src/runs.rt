@@ -1,7 +1,7 @@
 //! An attempt's own section: it is run to its end and retired, and answered by.
 ghost use Rattle.std.specs.Prelude.{◌≡◌, ◌+◌, length, true, false, Ok};
-ghost use Rattle.section_lines.specs.structure_laws.specs.body_terms.specs.Trail.{Agreed};
-ghost use Rattle.section_lines.specs.structure_laws.specs.body_terms.specs.declared.thunk.Thunk.{Thunk};
+ghost use Rattle.machine_states.specs.body_terms.specs.Trail.{Agreed};
+ghost use Rattle.machine_states.specs.body_terms.specs.declared.thunk.Thunk.{Thunk};
 ghost use Rattle.version_words.specs.RunnerState.{RunnerState};
 ghost use Rattle.version_words.specs.TableState.{IsOf};
 ghost use Rattle.attempts.specs.Counted.{IsSeen};
@@ -14,12 +14,12 @@ use crate::asks::goes_on;
 use crate::learns::learn;
 use crate::refusals::section_left;
 use crate::turns::turn_away;
-use history_orders::map_history::Request;
 use lock_walks::Planner;
 use lock_walks::try_lock::{RunEnd, Section, retire_section, run_section};
 use lock_words::stale_words_differ;
+use machine_states::body_terms::{Outcome, StepKind, Steps};
+use machine_states::map_history::Request;
 use runner_gate::Gate;
-use section_lines::structure_laws::body_terms::{Outcome, StepKind, Steps};
 use version_words::{FlockTable, Runner};
 
 /// Retires the own section, which was run to its end with this outcome, and leaves: where it answered, with the words

@@ -1,6 +1,6 @@
 //! The publication of an attempt.
 ghost use Rattle.std.specs.Prelude.{◌≡◌, length, false};
-ghost use Rattle.section_lines.specs.structure_laws.specs.Scene.{Readings};
+ghost use Rattle.machine_states.specs.structure_laws.specs.Scene.{Readings};
 ghost use Rattle.version_words.specs.RunnerState.{RunnerState};
 ghost use Rattle.version_words.specs.TableState.{IsOf};
 ghost use Rattle.lock_walks.specs.try_lock.specs.declared.planned.Planned.TheVariants as plans;
@@ -13,11 +13,11 @@ use crate::answers::Attempt;
 use crate::refusals::lock_refused;
 use crate::runs::run_own;
 use crate::turns::turn_away;
-use history_orders::map_history::Request;
 use lock_walks::Planner;
 use lock_walks::try_lock::publish;
+use machine_states::body_terms::{Steps, Thunk};
+use machine_states::map_history::Request;
 use runner_gate::Gate;
-use section_lines::structure_laws::body_terms::{Steps, Thunk};
 use version_words::{FlockTable, Runner};
 
 /// Publishes the section of this thunk, which was just planned for the request, and runs it; or leaves where the lock

@@ -9,9 +9,9 @@ use lock_walks::epoch_slots::exit;
 use lock_walks::try_lock::{RunEnd, help};
 use lock_words::runner_facts::names_stand;
 use lock_words::taken_names_stand;
+use machine_states::body_terms::Steps;
+use machine_states::structure_laws::Structure;
 use runner_gate::Gate;
-use section_lines::structure_laws::Structure;
-use section_lines::structure_laws::body_terms::Steps;
 use version_words::{FlockTable, Runner};
 
 /// Leaves with this refusal, and answers it; where a lock was held, the section that its word names is run to its end

@@ -1,10 +1,10 @@
 -- Which request a runner may ask, and what stands where nobody has served it.
 use Rattle.std.specs.Prelude.{◌≡◌, ℕ, ◌-◌, [], true, false, slice_get, Some}
-use Rattle.machine_states.specs.runner_steps.specs.map_history.specs.declared.op.Request.{Request}
-use Rattle.machine_states.specs.runner_steps.specs.body_terms.specs.Word.{value_of, version_of, pack}
+use Rattle.machine_states.specs.map_history.specs.declared.op.Request.{Request}
+use Rattle.machine_states.specs.body_terms.specs.Word.{value_of, version_of, pack}
 use Rattle.machine_states.specs.structure_laws.specs.Scene.{Readings}
 use Rattle.machine_states.specs.structure_laws.specs.Meaning.{Meaning}
-use Rattle.machine_states.specs.runner_steps.specs.runner_parts.specs.Tests.{is_next, is_answered}
+use Rattle.machine_states.specs.runner_parts.specs.Tests.{is_next, is_answered}
 use Rattle.machine_states.specs.Sight.{sight}
 use Rattle.request_facts.specs.Placed.{IsUnserved}
 use Rattle.lock_walks.specs.version_words.specs.RunnerState.{RunnerState}

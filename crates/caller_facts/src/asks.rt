@@ -2,7 +2,7 @@
 ghost use Rattle.std.specs.Prelude.{ℕ};
 ghost use Rattle.caller_facts.specs.Counted.{IsCounted};
 
-use machine_states::runner_steps::body_terms::StepKind;
+use machine_states::body_terms::StepKind;
 use runner_gate::{Gate, Pass};
 
 /// Asks the gate once more, where no step is counted: whether the runner goes on.

@@ -1,6 +1,6 @@
 -- The history of the state that a closed table's words show.
 use Rattle.std.proofs.Common.{ℕ, List, subst}
-use Rattle.machine_states.specs.runner_steps.specs.table_words.specs.Limits.{IsWithinLimits}
+use Rattle.machine_states.specs.table_words.specs.Limits.{IsWithinLimits}
 use Rattle.machine_states.specs.structure_laws.specs.Meaning.{Meaning}
 use Rattle.machine_states.specs.structure_laws.specs.Laws.{Laws}
 use Rattle.machine_states.specs.Sight.{sight}

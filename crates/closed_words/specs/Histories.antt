@@ -1,13 +1,13 @@
 -- What the words of a closed table hold of the requests and of the map.
 use Rattle.std.specs.Prelude.{◌≡◌, ◌≢◌, ℕ, ◌<◌, true, List, Contains}
 use Rattle.std.specs.FinMap.{empty}
-use Rattle.history_orders.specs.map_history.specs.History.{IsLegalFrom}
-use Rattle.history_orders.specs.map_history.specs.Replay.{Pairs, map_after_all}
-use Rattle.history_orders.specs.map_history.specs.Words as replies
+use Rattle.machine_states.specs.map_history.specs.History.{IsLegalFrom}
+use Rattle.machine_states.specs.map_history.specs.Replay.{Pairs, map_after_all}
+use Rattle.machine_states.specs.map_history.specs.Words as replies
 use Rattle.history_orders.specs.Turns.{Follows}
 use Rattle.history_orders.specs.Stamped.{Stamped, oldest_first, ops_of, IsReplayed, IsHistoryOf}
-use Rattle.machine_states.specs.runner_steps.specs.body_terms.specs.Word.{value_of}
-use Rattle.machine_states.specs.runner_steps.specs.table_words.specs.declared.spot.Spot.TheVariants.{Cell, Stamp, Reply}
+use Rattle.machine_states.specs.body_terms.specs.Word.{value_of}
+use Rattle.machine_states.specs.table_words.specs.declared.spot.Spot.TheVariants.{Cell, Stamp, Reply}
 use Rattle.machine_states.specs.structure_laws.specs.Meaning.{Meaning}
 use Rattle.reached_histories.specs.history_core.specs.State.{Requests}
 use Rattle.reached_histories.specs.Requests.{requests_of}

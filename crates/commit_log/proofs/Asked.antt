@@ -1,7 +1,7 @@
 -- Asking on.
 use Rattle.std.proofs.Common.{◌≡◌, ℕ, zero, suc, min, ◌+◌, ◌-◌, ◌^◌, ◌≤◌, Bool, true, refl, subst, ap, ◌∙◌, arith}
 use Rattle.runner_gate.specs.fault_count.specs.Rose.{Rose}
-use Rattle.section_lines.specs.structure_laws.specs.body_terms.specs.Counted.{counted_on}
+use Rattle.machine_states.specs.body_terms.specs.Counted.{counted_on}
 use Rattle.runner_gate.specs.Asks.{Asks, asked_on}
 use Rattle.commit_log.specs.Asked.{IsAsked}
 

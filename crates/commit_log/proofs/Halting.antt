@@ -1,8 +1,8 @@
 -- A gate's halt behind one of several steps.
 use Rattle.std.proofs.Common.{ℕ, ◌+◌, ◌≤◌, true, false, arith}
-use Rattle.section_lines.specs.structure_laws.specs.Meaning.{Meaning}
-use Rattle.section_lines.specs.structure_laws.specs.body_terms.specs.declared.micro.Micro.{Micro}
-use Rattle.machine_states.specs.runner_steps.specs.runner_parts.specs.State.{RunState}
+use Rattle.machine_states.specs.structure_laws.specs.Meaning.{Meaning}
+use Rattle.machine_states.specs.body_terms.specs.declared.micro.Micro.{Micro}
+use Rattle.machine_states.specs.runner_parts.specs.State.{RunState}
 use Rattle.version_words.specs.RunnerState.{RunnerState}
 use Rattle.runner_gate.specs.Asks.{Asks}
 use Rattle.commit_log.specs.Asked.{IsAsked}

@@ -1,13 +1,13 @@
 -- Where a run stands behind a step of its line.
 use Rattle.std.proofs.Common.{◌≡◌, Bool, true, false, refl, ap, ◌∙◌, cond}
 use Rattle.std.specs.Prelude.{not, ◌&&◌, slice_index_or}
-use Rattle.section_lines.specs.structure_laws.specs.body_terms.specs.declared.micro.Micro.{Micro}
-use Rattle.section_lines.specs.structure_laws.specs.body_terms.specs.declared.micro.Micro.TheVariants.{End}
-use Rattle.section_lines.specs.structure_laws.specs.body_terms.specs.Line.{micro_at, is_check, is_end, is_event, ending}
+use Rattle.machine_states.specs.body_terms.specs.declared.micro.Micro.{Micro}
+use Rattle.machine_states.specs.body_terms.specs.declared.micro.Micro.TheVariants.{End}
+use Rattle.machine_states.specs.body_terms.specs.Line.{micro_at, is_check, is_end, is_event, ending}
 use Rattle.section_lines.proofs.Resting.{rests_at}
-use Rattle.section_lines.specs.structure_laws.specs.table_words.specs.declared.layout.Layout.{Layout}
-use Rattle.section_lines.specs.structure_laws.specs.Meaning.{Meaning}
-use Rattle.machine_states.specs.runner_steps.specs.runner_parts.specs.State.{RunState}
+use Rattle.machine_states.specs.table_words.specs.declared.layout.Layout.{Layout}
+use Rattle.machine_states.specs.structure_laws.specs.Meaning.{Meaning}
+use Rattle.machine_states.specs.runner_parts.specs.State.{RunState}
 use Rattle.machine_states.specs.runner_steps.specs.Sections.{thunk_of, line_of, next_of, setting_of, settles}
 
 no_check : (a b : Bool) → (not a && not b) ≡ true → a ≡ false

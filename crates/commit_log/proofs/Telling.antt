@@ -1,8 +1,8 @@
 -- Steps that are counted apart, and told in the end.
 use Rattle.std.proofs.Common.{◌≡◌, ℕ, zero, suc, ◌+◌, ◌-◌, ◌^◌, ◌≤◌, min, Bool, refl, sym, ap, ◌∙◌, arith}
-use Rattle.section_lines.specs.structure_laws.specs.body_terms.specs.Counted.{counted_on}
+use Rattle.machine_states.specs.body_terms.specs.Counted.{counted_on}
 use Rattle.runner_gate.specs.Asks.{Asks, asked_on}
-use Rattle.section_lines.specs.structure_laws.specs.body_terms.proofs.CountedLemmas.{counts}
+use Rattle.machine_states.specs.body_terms.proofs.CountedLemmas.{counts}
 use Rattle.commit_log.specs.Asked.{IsAsked}
 
 -- a count after some more, wherever it stood

@@ -1,7 +1,7 @@
 -- What comes between two steps of a run.
 use Rattle.std.specs.Prelude.{◌≡◌, ℕ, ◌≤◌, ◌-◌, ◌^◌, Bool, true, false, None}
 use Rattle.runner_gate.specs.fault_count.specs.Rose.{Rose}
-use Rattle.section_lines.specs.structure_laws.specs.body_terms.specs.Counted.{counted_on}
+use Rattle.machine_states.specs.body_terms.specs.Counted.{counted_on}
 use Rattle.runner_gate.specs.Asks.{Asks, asked_on}
 
 -- what counts nothing has these asks, as if their count stood at the last number of 64 bits

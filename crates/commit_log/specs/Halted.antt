@@ -1,6 +1,6 @@
 -- What a gate's halt leaves.
 use Rattle.std.specs.Prelude.{ℕ, ◌≤◌, true, false}
-use Rattle.section_lines.specs.structure_laws.specs.Meaning.{Meaning}
+use Rattle.machine_states.specs.structure_laws.specs.Meaning.{Meaning}
 use Rattle.version_words.specs.RunnerState.{RunnerState}
 use Rattle.runner_gate.specs.Asks.{Asks}
 use Rattle.commit_log.specs.Asked.{IsAsked}

@@ -3,8 +3,8 @@ ghost use Rattle.std.specs.Prelude.{◌≡◌, ℕ, Bool, true};
 ghost use Rattle.runner_gate.specs.Asks.{Asks};
 ghost use Rattle.commit_log.specs.Asked.{uncounted, IsAsked};
 
+use machine_states::body_terms::{StepKind, Steps};
 use runner_gate::{Gate, Pass};
-use section_lines::structure_laws::body_terms::{StepKind, Steps};
 
 /// What a runner asks in place of a gate that never halts: it lets the runner go on. It counts nothing, as if its count
 /// stood at the last number of 64 bits.

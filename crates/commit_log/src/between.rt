@@ -2,8 +2,8 @@
 ghost use Rattle.std.specs.Prelude.{◌≡◌, ℕ};
 ghost use Rattle.commit_log.specs.Asked.{IsAsked};
 
+use machine_states::body_terms::{StepKind, Steps};
 use runner_gate::{Gate, Pass};
-use section_lines::structure_laws::body_terms::{StepKind, Steps};
 
 /// Counts one more step, and asks the gate whether the runner goes on behind it.
 pub fn passes<G: Gate, L>(gate: &mut G, steps: &mut Steps<L>, kind: StepKind) -> bool

@@ -1,10 +1,10 @@
 //! The commit of a word that was loaded.
-ghost use Rattle.machine_states.specs.runner_steps.specs.runner_parts.specs.State.{RunState};
+ghost use Rattle.machine_states.specs.runner_parts.specs.State.{RunState};
 ghost use Rattle.version_words.specs.TableState.{IsOf};
 ghost use Rattle.commit_log.specs.Runs.{IsRunning};
 ghost use Rattle.commit_log.specs.Committed.{MayCommit, HasCommitted};
 
-use section_lines::structure_laws::Structure;
+use machine_states::structure_laws::Structure;
 use version_words::{FlockTable, Runner};
 
 /// Agrees on a word of the run's log: one exchange puts the proposal there, where no run of the section has put another

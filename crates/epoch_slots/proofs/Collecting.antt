@@ -2,13 +2,13 @@
 use Rattle.std.proofs.Common.{◌≡◌, ℕ, ◌+◌, ◌≤◌, List, [], ◌∷◌, ◌++◌, length, length-append, take, drop, Bool, true, false, refl, sym, ap, subst, ◌∙◌, cond, arith}
 use Rattle.std.specs.Prelude.{◌==◌, ◌&&◌, ◌||◌, nat_lt}
 use Rattle.std.specs.List.{filter}
-use Rattle.machine_states.specs.runner_steps.specs.table_words.specs.Limits.{IsWithinLimits}
+use Rattle.machine_states.specs.table_words.specs.Limits.{IsWithinLimits}
 use Rattle.machine_states.specs.structure_laws.specs.Meaning.{Meaning}
 use Rattle.machine_states.specs.structure_laws.specs.Laws.{Laws}
-use Rattle.machine_states.specs.runner_steps.specs.runner_parts.specs.declared.event.EventKind.TheVariants.{ScanOne}
-use Rattle.machine_states.specs.runner_steps.specs.runner_parts.specs.State.{PartState, NodesState}
-use Rattle.machine_states.specs.runner_steps.specs.runner_parts.specs.Tests.{has}
-use Rattle.machine_states.specs.runner_steps.specs.runner_parts.specs.Lists.{is_old, slots_of, nodes_collected, descriptors_collected}
+use Rattle.machine_states.specs.runner_parts.specs.declared.event.EventKind.TheVariants.{ScanOne}
+use Rattle.machine_states.specs.runner_parts.specs.State.{PartState, NodesState}
+use Rattle.machine_states.specs.runner_parts.specs.Tests.{has}
+use Rattle.machine_states.specs.runner_parts.specs.Lists.{is_old, slots_of, nodes_collected, descriptors_collected}
 use Rattle.machine_states.specs.epoch_core.specs.State.{last_epoch}
 use Rattle.machine_states.specs.epoch_core.specs.Moves.{is_clear}
 use Rattle.machine_states.specs.epoch_core.specs.Lists.{times}

@@ -1,12 +1,12 @@
 -- What a scan of the announcements finds, and what comes out of limbo.
 use Rattle.std.specs.Prelude.{◌≡◌, ℕ, ◌+◌, List, [], ◌∷◌, ◌++◌, Bool, true, false, not, ◌==◌, ◌&&◌, nat_lt, length, None, Some, slice_get}
 use Rattle.std.specs.List.{filter, list_any, list_all}
-use Rattle.machine_states.specs.runner_steps.specs.body_terms.specs.Word.{version_of}
+use Rattle.machine_states.specs.body_terms.specs.Word.{version_of}
 use Rattle.machine_states.specs.structure_laws.specs.Meaning.{Meaning}
-use Rattle.machine_states.specs.runner_steps.specs.runner_parts.specs.declared.event.EventKind.TheVariants as kinds
+use Rattle.machine_states.specs.runner_parts.specs.declared.event.EventKind.TheVariants as kinds
 use Rattle.machine_states.specs.epoch_core.specs.declared.stage.Stage.TheVariants as stages
-use Rattle.machine_states.specs.runner_steps.specs.runner_parts.specs.State.{NodesState}
-use Rattle.machine_states.specs.runner_steps.specs.runner_parts.specs.Lists.{is_old, slots_of, nodes_collected, descriptors_collected}
+use Rattle.machine_states.specs.runner_parts.specs.State.{NodesState}
+use Rattle.machine_states.specs.runner_parts.specs.Lists.{is_old, slots_of, nodes_collected, descriptors_collected}
 use Rattle.machine_states.specs.epoch_core.specs.State.{last_epoch}
 use Rattle.machine_states.specs.epoch_core.specs.Moves.{is_clear}
 use Rattle.version_words.specs.RunnerState.{RunnerState}

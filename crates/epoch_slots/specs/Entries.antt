@@ -1,9 +1,9 @@
 -- Entering and leaving.
 use Rattle.std.specs.Prelude.{◌≡◌, ℕ, None}
 use Rattle.machine_states.specs.structure_laws.specs.Meaning.{Meaning}
-use Rattle.machine_states.specs.runner_steps.specs.runner_parts.specs.declared.event.EventKind.TheVariants as kinds
+use Rattle.machine_states.specs.runner_parts.specs.declared.event.EventKind.TheVariants as kinds
 use Rattle.machine_states.specs.epoch_core.specs.declared.stage.Stage.TheVariants as stages
-use Rattle.machine_states.specs.runner_steps.specs.runner_parts.specs.Lists.{no_reads}
+use Rattle.machine_states.specs.runner_parts.specs.Lists.{no_reads}
 use Rattle.version_words.specs.RunnerState.{RunnerState}
 use Rattle.version_words.specs.Events.{Makes, IsMade}
 use Rattle.version_words.specs.Stages.{IsAt}

@@ -1,8 +1,8 @@
 //! The node slots that came out of limbo, looked at and given back.
 ghost use Rattle.std.specs.Prelude.{◌≡◌, ℕ, ◌<◌, [], true, length, None};
-ghost use Rattle.machine_states.specs.runner_steps.specs.table_words.specs.Places.{slot_count};
+ghost use Rattle.machine_states.specs.table_words.specs.Places.{slot_count};
 ghost use Rattle.machine_states.specs.epoch_core.specs.declared.stage.Stage.TheVariants as stages;
-ghost use Rattle.machine_states.specs.runner_steps.specs.runner_parts.specs.Tests.{has};
+ghost use Rattle.machine_states.specs.runner_parts.specs.Tests.{has};
 ghost use Rattle.version_words.specs.TableState.{IsOf};
 ghost use Rattle.version_words.specs.Stages.{IsAt};
 ghost use Rattle.epoch_slots.specs.Hands.{IsLookedAt, HandIsOwn, IsBack};

@@ -3,11 +3,11 @@ use Rattle.std.specs.Prelude.{◌⊎◌, not, is_some, slice_get}
 use Rattle.std.proofs.Common.{◌≡◌, ◌≢◌, ℕ, zero, suc, ◌+◌, ◌*◌, ◌<◌, ◌≤◌, Bool, true, false, cond, List, [], ◌∷◌, length, Option, None, Some, IfSome, IsSome, refl, sym, ap, ◌∙◌, ⊎_elim, inl, inr, subst, arith}
 use Rattle.std.proofs.lemmas.List.Sums.{sum_by-cons}
 use Rattle.std.proofs.lemmas.Option.{slice_get-get_or}
-use Rattle.machine_states.specs.runner_steps.specs.map_history.specs.declared.op.Entry.{Entry}
-use Rattle.machine_states.specs.runner_steps.specs.map_history.specs.declared.op.Request.{Request}
+use Rattle.machine_states.specs.map_history.specs.declared.op.Entry.{Entry}
+use Rattle.machine_states.specs.map_history.specs.declared.op.Request.{Request}
 use Rattle.threaded_runs.specs.map_sizes.specs.Sizes.{peak}
-use Rattle.machine_states.specs.runner_steps.specs.table_words.specs.declared.layout.Layout.{Layout}
-use Rattle.machine_states.specs.runner_steps.specs.table_words.specs.declared.spot.Spot.TheVariants.{Stamp}
+use Rattle.machine_states.specs.table_words.specs.declared.layout.Layout.{Layout}
+use Rattle.machine_states.specs.table_words.specs.declared.spot.Spot.TheVariants.{Stamp}
 use Rattle.machine_states.specs.structure_laws.specs.Meaning.{Meaning}
 use Rattle.threaded_runs.specs.free_serving.specs.resource_bounds.specs.Makes.{inserts}
 use Rattle.version_words.specs.TableState.{WordsState, word_of}

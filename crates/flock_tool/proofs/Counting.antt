@@ -1,6 +1,6 @@
 -- What comes of the counts of a run.
 use Rattle.std.proofs.Common.{◌≡◌, ◌≢◌, ℕ, Bool, true, false, List, Some, codes, length, refl, sym, ap, ◌∙◌, ⊎_elim, inl, inr, subst, arith}
-use Rattle.machine_states.specs.runner_steps.specs.table_words.specs.Limits.{IsWithinLimits}
+use Rattle.machine_states.specs.table_words.specs.Limits.{IsWithinLimits}
 use Rattle.load_counts.specs.run_reports.specs.report_text.specs.Sink.{Extends, ExtendsInPart}
 use Rattle.load_counts.specs.Counts.{counts_text}
 use Rattle.load_counts.specs.run_reports.specs.Reports.{unserved_in}

@@ -1,9 +1,9 @@
 -- Each request that is run has one key.
 use Rattle.std.proofs.Common.{◌≡◌, List, All, true, ap, arith}
 use Rattle.std.specs.Prelude.{is_none}
-use Rattle.machine_states.specs.runner_steps.specs.map_history.specs.declared.op.Request.{Request}
-use Rattle.machine_states.specs.runner_steps.specs.map_history.specs.Requests.{AreOfFormat1}
-use Rattle.machine_states.specs.runner_steps.specs.map_history.proofs.Cells.{format_1_one_keyed}
+use Rattle.machine_states.specs.map_history.specs.declared.op.Request.{Request}
+use Rattle.machine_states.specs.map_history.specs.Requests.{AreOfFormat1}
+use Rattle.machine_states.specs.map_history.proofs.Cells.{format_1_one_keyed}
 use Rattle.leaf_tree.specs.tree_laws.specs.bucket_laws.specs.Walk.{has_one_key}
 use Rattle.command_line.specs.trace_reader.specs.Formats.{AreOfFormat, IsFormat}
 use Rattle.command_line.specs.trace_reader.specs.declared.traces.Traces.{Traces}

@@ -1,7 +1,7 @@
 -- Requests in order, in at most as many traces as a table serves.
 use Rattle.std.proofs.Common.{ℕ, List, arith}
-use Rattle.machine_states.specs.runner_steps.specs.map_history.specs.declared.op.Request.{Request}
-use Rattle.machine_states.specs.runner_steps.specs.map_history.specs.Requests.{AreInOrder}
+use Rattle.machine_states.specs.map_history.specs.declared.op.Request.{Request}
+use Rattle.machine_states.specs.map_history.specs.Requests.{AreInOrder}
 
 pub in_any_order : (requests : List Request) (traces : ℕ) → AreInOrder requests traces → AreInOrder requests 64
 in_any_order requests traces order = record {

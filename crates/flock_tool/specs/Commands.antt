@@ -1,6 +1,6 @@
 -- What each command leaves, by its status.
 use Rattle.std.specs.Prelude.{◌≡◌, ◌≢◌, ◌↔◌, ◌⊎◌, ◌<◌, ◌≤◌, ℕ, List, [], Option, IfSome, IsSome, None, codes}
-use Rattle.machine_states.specs.runner_steps.specs.map_history.specs.declared.op.Entry.{Entry}
+use Rattle.machine_states.specs.map_history.specs.declared.op.Entry.{Entry}
 use Rattle.command_line.specs.trace_reader.specs.Answer.{StopsBefore}
 use Rattle.command_line.specs.trace_reader.specs.Text.{IsAccepted, IsFirstRefusal}
 use Rattle.command_line.specs.trace_reader.specs.declared.generator.Gen.{Gen}

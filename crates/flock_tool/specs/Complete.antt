@@ -1,7 +1,7 @@
 -- When a run can't end for want of slots or of versions.
 use Rattle.std.specs.Prelude.{◌≢◌, ℕ, ◌+◌, ◌*◌, ◌<◌, ◌≤◌, Bool, false, length}
-use Rattle.machine_states.specs.runner_steps.specs.body_terms.specs.Word.{version_of}
-use Rattle.machine_states.specs.runner_steps.specs.table_words.specs.declared.spot.Spot.TheVariants.{Cell, Stamp}
+use Rattle.machine_states.specs.body_terms.specs.Word.{version_of}
+use Rattle.machine_states.specs.table_words.specs.declared.spot.Spot.TheVariants.{Cell, Stamp}
 use Rattle.machine_states.specs.structure_laws.specs.Meaning.{Meaning}
 use Rattle.threaded_runs.specs.free_serving.specs.resource_bounds.specs.Makes.{inserts}
 use Rattle.version_words.specs.TableState.{WordsState, word_of}

@@ -1,9 +1,9 @@
 -- What a run of generated requests leaves.
 use Rattle.std.specs.Prelude.{◌≡◌, ◌≢◌, ◌⊎◌, ℕ, Bool, List, Option, Some, true, codes}
 use Rattle.std.specs.FinMap.{len}
-use Rattle.machine_states.specs.runner_steps.specs.map_history.specs.declared.op.Entry.{Entry}
-use Rattle.machine_states.specs.runner_steps.specs.map_history.specs.Replay.{Pairs}
-use Rattle.machine_states.specs.runner_steps.specs.map_history.specs.Requests.{AreInOrder}
+use Rattle.machine_states.specs.map_history.specs.declared.op.Entry.{Entry}
+use Rattle.machine_states.specs.map_history.specs.Replay.{Pairs}
+use Rattle.machine_states.specs.map_history.specs.Requests.{AreInOrder}
 use Rattle.machine_states.specs.structure_laws.specs.Meaning.{Meaning}
 use Rattle.command_line.specs.trace_reader.specs.Generator.{generated}
 use Rattle.command_line.specs.trace_reader.specs.declared.generator.Gen.{Gen}

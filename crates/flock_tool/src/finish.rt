@@ -7,7 +7,7 @@ ghost use Rattle.flock_tool.specs.Streams.{stream};
 use arrayvec::ArrayString;
 use hash_table::lock_walks::epoch_slots::{Kind, Short};
 use itoa::Buffer;
-use machine_states::runner_steps::body_terms::{Place, Word};
+use machine_states::body_terms::{Place, Word};
 use printed_traces::report_text::{Sink, write_all};
 use threaded_runs::serving::Served;
 

@@ -1,7 +1,7 @@
 // The command `load`.
 ghost use Rattle.std.specs.Prelude.{◌≡◌, ◌≤◌, IfOk, length, true};
-ghost use Rattle.machine_states.specs.runner_steps.specs.map_history.specs.Requests.{AreInOrder};
-ghost use Rattle.machine_states.specs.runner_steps.specs.table_words.specs.Limits.{IsWithinLimits};
+ghost use Rattle.machine_states.specs.map_history.specs.Requests.{AreInOrder};
+ghost use Rattle.machine_states.specs.table_words.specs.Limits.{IsWithinLimits};
 ghost use Rattle.threaded_runs.specs.closed_words.specs.Histories.{HoldsNoLock};
 ghost use Rattle.version_words.specs.machine_invariant.specs.After.{AreAllowed};
 ghost use Rattle.threaded_runs.specs.Runs.{AreServed};

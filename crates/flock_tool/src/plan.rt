@@ -1,7 +1,7 @@
 // What the options of a command and the text, or the generator, ask for.
 ghost use Rattle.std.specs.Prelude.{◌≡◌, ◌≤◌, ◌<◌, ◌^◌, length, Err, IfOk, IfErr, IfSome};
 ghost use Rattle.threaded_runs.specs.runner_gate.specs.fault_count.specs.Rose.{Rose};
-ghost use Rattle.machine_states.specs.runner_steps.specs.table_words.specs.Limits.{IsWithinLimits};
+ghost use Rattle.machine_states.specs.table_words.specs.Limits.{IsWithinLimits};
 ghost use Rattle.threaded_runs.specs.free_serving.specs.resource_bounds.specs.Makes.{inserts};
 ghost use Rattle.command_line.specs.trace_reader.specs.Answer.{StopsBefore};
 ghost use Rattle.command_line.specs.trace_reader.specs.declared.traces.TraceError.TheVariants.{ReadFault, TooManyRequests};
@@ -22,8 +22,8 @@ ghost use Rattle.flock_tool.specs.Plans.{
 use crate::status::Stop;
 use command_line::trace_reader::{MAX_REQUESTS, Source, TraceError, Traces, generate, read_traces};
 use command_line::{LoadOptions, RunOptions};
-use machine_states::runner_steps::map_history::Request;
-use machine_states::runner_steps::table_words::Layout;
+use machine_states::map_history::Request;
+use machine_states::table_words::Layout;
 use std::alloc::Global;
 
 /// The most node slots that the runners have together.

@@ -1,6 +1,6 @@
 // The command `run`, and its report.
 ghost use Rattle.std.specs.Prelude.{◌≡◌, ◌≢◌, ◌≤◌, None, length};
-ghost use Rattle.machine_states.specs.runner_steps.specs.map_history.specs.Requests.{AreInOrder};
+ghost use Rattle.machine_states.specs.map_history.specs.Requests.{AreInOrder};
 ghost use Rattle.threaded_runs.specs.Runs.{AreServed};
 ghost use Rattle.command_line.specs.Options.{AreInRange, are_free};
 ghost use Rattle.flock_tool.specs.Commands.{RunEnds};

@@ -1,10 +1,10 @@
 // The run itself, and its report.
 ghost use Rattle.std.specs.Prelude.{◌≡◌, ◌≤◌, All, IfOk, IfErr, OnErr, OnOk, [], not, true};
 ghost use Rattle.std.specs.FinMap.{len};
-ghost use Rattle.machine_states.specs.runner_steps.specs.map_history.specs.declared.op.Request.{Request};
-ghost use Rattle.machine_states.specs.runner_steps.specs.map_history.specs.Replay.{Pairs};
-ghost use Rattle.machine_states.specs.runner_steps.specs.map_history.specs.Requests.{AreInOrder};
-ghost use Rattle.machine_states.specs.runner_steps.specs.table_words.specs.Limits.{IsWithinLimits};
+ghost use Rattle.machine_states.specs.map_history.specs.declared.op.Request.{Request};
+ghost use Rattle.machine_states.specs.map_history.specs.Replay.{Pairs};
+ghost use Rattle.machine_states.specs.map_history.specs.Requests.{AreInOrder};
+ghost use Rattle.machine_states.specs.table_words.specs.Limits.{IsWithinLimits};
 ghost use Rattle.version_words.specs.machine_invariant.specs.After.{AreAllowed};
 ghost use Rattle.threaded_runs.specs.closed_words.specs.Histories.{HoldsNoLock};
 ghost use Rattle.leaf_tree.specs.tree_laws.specs.bucket_laws.specs.Walk.{has_one_key};

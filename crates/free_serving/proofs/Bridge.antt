@@ -1,6 +1,6 @@
 -- What reads and attempts say alike, each in its own words.
 use Rattle.std.proofs.Common.{ℕ, List}
-use Rattle.machine_states.specs.runner_steps.specs.map_history.specs.declared.op.Request.{Request}
+use Rattle.machine_states.specs.map_history.specs.declared.op.Request.{Request}
 use Rattle.version_words.specs.RunnerState.{RunnerState}
 use Rattle.seq_read.specs.caller_facts.specs.try_lock.specs.Planning.{Planning}
 use Rattle.seq_read.specs.caller_facts.specs.Knowing as of_reads

@@ -4,24 +4,24 @@ use Rattle.std.specs.Prelude.{◌*◌, count_by, sum_by, cond, Bool, true, false
 use Rattle.std.proofs.Common.{◌≡◌, ℕ, zero, suc, ◌+◌, ◌≤◌, List, [], ◌∷◌, length, refl, sym, ap, ◌∙◌, subst, inl, inr, arith, Some}
 use Rattle.std.proofs.lemmas.Bool.{true≢false, and_parts}
 use Rattle.std.proofs.lemmas.List.Sums.{sum_by-cons}
-use Rattle.machine_states.specs.runner_steps.specs.map_history.specs.declared.op.Op.{Op}
-use Rattle.machine_states.specs.runner_steps.specs.map_history.specs.declared.op.Op.TheVariants.{Get}
-use Rattle.machine_states.specs.runner_steps.specs.map_history.specs.declared.op.Request.{Request}
-use Rattle.machine_states.specs.runner_steps.specs.body_terms.specs.Cost.{cost_of, step_cost}
-use Rattle.machine_states.specs.runner_steps.specs.body_terms.specs.Shape.{is_look, is_take, IsShaped}
-use Rattle.machine_states.specs.runner_steps.specs.body_terms.specs.Trail.{Agreed}
-use Rattle.machine_states.specs.runner_steps.specs.body_terms.specs.declared.outcome.Outcome.{Outcome}
-use Rattle.machine_states.specs.runner_steps.specs.body_terms.specs.declared.step.Step.{Step}
-use Rattle.machine_states.specs.runner_steps.specs.body_terms.specs.declared.step.Step.TheVariants as kinds_of
-use Rattle.machine_states.specs.runner_steps.specs.body_terms.specs.declared.thunk.Thunk.{Thunk}
-use Rattle.machine_states.specs.runner_steps.specs.table_words.specs.Limits.{IsWithinLimits}
+use Rattle.machine_states.specs.map_history.specs.declared.op.Op.{Op}
+use Rattle.machine_states.specs.map_history.specs.declared.op.Op.TheVariants.{Get}
+use Rattle.machine_states.specs.map_history.specs.declared.op.Request.{Request}
+use Rattle.machine_states.specs.body_terms.specs.Cost.{cost_of, step_cost}
+use Rattle.machine_states.specs.body_terms.specs.Shape.{is_look, is_take, IsShaped}
+use Rattle.machine_states.specs.body_terms.specs.Trail.{Agreed}
+use Rattle.machine_states.specs.body_terms.specs.declared.outcome.Outcome.{Outcome}
+use Rattle.machine_states.specs.body_terms.specs.declared.step.Step.{Step}
+use Rattle.machine_states.specs.body_terms.specs.declared.step.Step.TheVariants as kinds_of
+use Rattle.machine_states.specs.body_terms.specs.declared.thunk.Thunk.{Thunk}
+use Rattle.machine_states.specs.table_words.specs.Limits.{IsWithinLimits}
 use Rattle.machine_states.specs.structure_laws.specs.Meaning.{Meaning}
 use Rattle.machine_states.specs.structure_laws.specs.Cells.{slots}
 use Rattle.machine_states.specs.structure_laws.specs.Laws.{Laws}
 use Rattle.machine_states.specs.structure_laws.specs.Scene.{Readings}
 use Rattle.machine_states.specs.structure_laws.specs.Sections.{IsAllowed}
-use Rattle.machine_states.specs.runner_steps.specs.runner_parts.specs.declared.entries.Published.{Published}
-use Rattle.machine_states.specs.runner_steps.specs.runner_parts.specs.State.{RunState, PartState}
+use Rattle.machine_states.specs.runner_parts.specs.declared.entries.Published.{Published}
+use Rattle.machine_states.specs.runner_parts.specs.State.{RunState, PartState}
 use Rattle.machine_states.specs.runner_steps.specs.Sections.{thunk_of}
 use Rattle.machine_states.specs.Sight.{Sight, sight, part_or_first}
 use Rattle.machine_epochs.specs.Slots.{thunk_in}

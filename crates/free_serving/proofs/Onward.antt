@@ -1,10 +1,10 @@
 -- Along a read what an uncrossed runner has seen of the epoch stays.
 use Rattle.std.proofs.Common.{◌≡◌, ℕ, length, refl, ap, arith, Some}
-use Rattle.machine_states.specs.runner_steps.specs.map_history.specs.declared.op.Request.{Request}
-use Rattle.machine_states.specs.runner_steps.specs.body_terms.specs.declared.thunk.Thunk.{Thunk}
+use Rattle.machine_states.specs.map_history.specs.declared.op.Request.{Request}
+use Rattle.machine_states.specs.body_terms.specs.declared.thunk.Thunk.{Thunk}
 use Rattle.machine_states.specs.structure_laws.specs.Meaning.{Meaning}
 use Rattle.machine_states.specs.structure_laws.specs.Scene.{Readings}
-use Rattle.machine_states.specs.runner_steps.specs.runner_parts.specs.declared.event.EventKind.TheVariants as kinds
+use Rattle.machine_states.specs.runner_parts.specs.declared.event.EventKind.TheVariants as kinds
 use Rattle.machine_states.specs.runner_steps.specs.After.{own_epoch}
 use Rattle.version_words.specs.RunnerState.{RunnerState}
 use Rattle.seq_read.specs.caller_facts.specs.try_lock.specs.Planning.{Planning}

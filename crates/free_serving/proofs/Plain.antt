@@ -1,7 +1,7 @@
 -- What is left where each request is served under its lock.
 use Rattle.std.specs.Prelude.{Bool, false}
 use Rattle.std.proofs.Common.{ℕ, ◌+◌, List, length, refl, inl, inr, ⊎_elim}
-use Rattle.machine_states.specs.runner_steps.specs.map_history.specs.declared.op.Request.{Request}
+use Rattle.machine_states.specs.map_history.specs.declared.op.Request.{Request}
 use Rattle.seq_read.specs.runner_gate.specs.Asks.{Asks}
 use Rattle.machine_states.specs.structure_laws.specs.Meaning.{Meaning}
 use Rattle.version_words.specs.RunnerState.{RunnerState}

@@ -1,7 +1,7 @@
 -- The serving of a list of requests in which a `get` may be read first, without its lock.
 use Rattle.std.specs.Prelude.{◌≡◌, ℕ, List, Bool, true, false}
-use Rattle.machine_states.specs.runner_steps.specs.map_history.specs.declared.op.Request.{Request}
-use Rattle.machine_states.specs.runner_steps.specs.body_terms.specs.Counted.{counted_on}
+use Rattle.machine_states.specs.map_history.specs.declared.op.Request.{Request}
+use Rattle.machine_states.specs.body_terms.specs.Counted.{counted_on}
 use Rattle.seq_read.specs.runner_gate.specs.Asks.{Asks, asked_on}
 use Rattle.machine_states.specs.structure_laws.specs.Meaning.{Meaning}
 use Rattle.version_words.specs.RunnerState.{RunnerState}

@@ -8,8 +8,8 @@ ghost use Rattle.serving.specs.declared.answers.Served.TheVariants as answers;
 ghost use Rattle.free_serving.specs.Services.{is_get as is_get_of};
 ghost use Rattle.free_serving.specs.One.{ServesOne};
 
-use machine_states::runner_steps::body_terms::{StepKind, Steps};
-use machine_states::runner_steps::map_history::{Op, Request};
+use machine_states::body_terms::{StepKind, Steps};
+use machine_states::map_history::{Op, Request};
 use seq_read::lock_walks::Planner;
 use seq_read::runner_gate::Gate;
 use seq_read::{Read, read};

@@ -9,8 +9,8 @@ ghost use Rattle.free_serving.specs.Freely.{ServesFreely, ServesBy};
 ghost use Rattle.free_serving.specs.Left.{Leaves};
 
 use crate::one::serve_one;
-use machine_states::runner_steps::body_terms::Steps;
-use machine_states::runner_steps::map_history::Request;
+use machine_states::body_terms::Steps;
+use machine_states::map_history::Request;
 use seq_read::lock_walks::Planner;
 use seq_read::runner_gate::Gate;
 use serving::{Served, serve};

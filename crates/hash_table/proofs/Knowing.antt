@@ -7,12 +7,12 @@ use Rattle.std.proofs.lemmas.Bool.{and_from}
 use Rattle.machine_states.specs.epoch_core.specs.small_lemmas.proofs.Bools.{or_second as or_right}
 use Rattle.machine_states.specs.epoch_core.specs.small_lemmas.proofs.Lists.{same_number as some_eq}
 use Rattle.machine_states.specs.epoch_core.specs.small_lemmas.proofs.Numbers.{equal_tested as eq_test, tested_other as is_not}
-use Rattle.machine_states.specs.runner_steps.specs.map_history.specs.declared.op.Op.{Op}
-use Rattle.machine_states.specs.runner_steps.specs.map_history.specs.Keys.{key_of}
-use Rattle.machine_states.specs.runner_steps.specs.body_terms.specs.Word.{value_of, is_free, is_spent}
+use Rattle.machine_states.specs.map_history.specs.declared.op.Op.{Op}
+use Rattle.machine_states.specs.map_history.specs.Keys.{key_of}
+use Rattle.machine_states.specs.body_terms.specs.Word.{value_of, is_free, is_spent}
 use Rattle.bucket_walks.specs.section_body.specs.Bucket.{bucket_lock, bucket_head}
 use Rattle.machine_states.specs.structure_laws.specs.Scene.{Readings}
-use Rattle.machine_states.specs.runner_steps.specs.runner_parts.specs.Tests.{has_pair}
+use Rattle.machine_states.specs.runner_parts.specs.Tests.{has_pair}
 use Rattle.bucket_walks.specs.bucket_laws.specs.Walk.{Stage, AtEdition, AtLink, AtKey, AtValue, AtNext, AtLock, AtEnd, Refused, Walk, start, is_del, is_wanted, Bounds, cell_at, wanted_at, fed, walk}
 use Rattle.bucket_walks.specs.bucket_laws.specs.Buckets.{is_link_place}
 use Rattle.bucket_walks.specs.bucket_laws.proofs.Places.{is_head_link, is_node_link}

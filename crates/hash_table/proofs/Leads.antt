@@ -5,15 +5,15 @@ use Rattle.std.specs.List.{list_any}
 use Rattle.std.proofs.lemmas.Option.{none-some}
 use Rattle.machine_states.specs.epoch_core.specs.small_lemmas.proofs.Lists.{same_number as some_eq}
 use Rattle.machine_states.specs.epoch_core.specs.small_lemmas.proofs.Numbers.{self_tested as self}
-use Rattle.machine_states.specs.runner_steps.specs.map_history.specs.declared.op.Op.{Op}
-use Rattle.machine_states.specs.runner_steps.specs.map_history.specs.declared.op.Op.TheVariants.{Get, Ins, Del, Put, Mov}
-use Rattle.machine_states.specs.runner_steps.specs.map_history.specs.Keys.{key_of}
-use Rattle.machine_states.specs.runner_steps.specs.body_terms.specs.Word.{value_of, is_free, is_spent}
+use Rattle.machine_states.specs.map_history.specs.declared.op.Op.{Op}
+use Rattle.machine_states.specs.map_history.specs.declared.op.Op.TheVariants.{Get, Ins, Del, Put, Mov}
+use Rattle.machine_states.specs.map_history.specs.Keys.{key_of}
+use Rattle.machine_states.specs.body_terms.specs.Word.{value_of, is_free, is_spent}
 use Rattle.bucket_walks.specs.section_body.specs.Bucket.{bucket_index, bucket_lock, bucket_edition}
-use Rattle.machine_states.specs.runner_steps.specs.table_words.specs.declared.layout.Layout.{Layout}
-use Rattle.machine_states.specs.runner_steps.specs.table_words.specs.Places.{slot_count}
+use Rattle.machine_states.specs.table_words.specs.declared.layout.Layout.{Layout}
+use Rattle.machine_states.specs.table_words.specs.Places.{slot_count}
 use Rattle.machine_states.specs.structure_laws.specs.Scene.{Readings}
-use Rattle.machine_states.specs.runner_steps.specs.runner_parts.specs.Tests.{is_readable}
+use Rattle.machine_states.specs.runner_parts.specs.Tests.{is_readable}
 use Rattle.bucket_walks.specs.bucket_laws.specs.Walk.{Stage, AtEdition, AtLink, AtKey, AtValue, AtNext, AtLock, AtEnd, Refused, Walk, is_del, has_one_key, is_end, same_numbers, Bounds, cell_at, wanted_at, fed, form_for, operands_for, fits_walk}
 use Rattle.bucket_walks.specs.bucket_laws.specs.Buckets.{buckets_meaning, table, bounds, is_link_place, LinksWithin}
 use Rattle.bucket_walks.specs.bucket_laws.proofs.Places.{third, slot_at, lt_true, lt_false, eq_true, eq_false}

@@ -14,7 +14,7 @@ use Rattle.std.proofs.lemmas.List.Sorted.{Contains-permutation, sorted_far, rank
 use Rattle.std.proofs.lemmas.Map.Keys.{IsDistinct-IsPermutation, IsDistinct-from_apart, apart_from_distinct}
 use Rattle.std.proofs.lemmas.Option.{slice_get_within, slice_get-get_or, get_or_from_slice_get, slice_get-map}
 use Rattle.machine_states.specs.epoch_core.specs.small_lemmas.proofs.Numbers.{tested_equal as equal_of, tested_other as differ_of}
-use Rattle.machine_states.specs.runner_steps.specs.map_history.specs.Replay.{Pairs}
+use Rattle.machine_states.specs.map_history.specs.Replay.{Pairs}
 use Rattle.machine_states.proofs.Steps.{some_same}
 use Rattle.bucket_walks.specs.bucket_laws.specs.Chain.{Nodes, Chains, Contents}
 use Rattle.hash_table.specs.Gathered.{pair_of, IsGathered}

@@ -1,8 +1,8 @@
 -- How the hash table plans.
 use Rattle.std.specs.Prelude.{ℕ, ◌^◌, ◌&&◌, false, nat_le}
-use Rattle.machine_states.specs.runner_steps.specs.map_history.specs.declared.op.Op.{Op}
+use Rattle.machine_states.specs.map_history.specs.declared.op.Op.{Op}
 use Rattle.bucket_walks.specs.section_body.specs.Bucket.{bucket_index}
-use Rattle.machine_states.specs.runner_steps.specs.table_words.specs.declared.layout.Layout.{Layout}
+use Rattle.machine_states.specs.table_words.specs.declared.layout.Layout.{Layout}
 use Rattle.machine_states.specs.structure_laws.specs.Scene.{Readings}
 use Rattle.bucket_walks.specs.bucket_laws.specs.Walk.{Walk, has_one_key}
 use Rattle.bucket_walks.specs.bucket_laws.specs.Buckets.{walk_of, bounds}

@@ -1,6 +1,6 @@
 -- What was gathered of the words of a closed table.
 use Rattle.std.specs.Prelude.{ℕ, ◌^◌, List}
-use Rattle.machine_states.specs.runner_steps.specs.map_history.specs.Replay.{Pairs}
+use Rattle.machine_states.specs.map_history.specs.Replay.{Pairs}
 use Rattle.bucket_walks.specs.section_body.specs.Bucket.{bucket_index}
 use Rattle.bucket_walks.specs.bucket_laws.specs.Buckets.{buckets_meaning, nodes}
 use Rattle.lock_walks.specs.version_words.specs.TableState.{WordsState}

@@ -1,9 +1,9 @@
 -- A walk as its code has it, and what it does.
 use Rattle.std.specs.Prelude.{ℕ, ◌^◌, ◌<◌, Bool, true, false, Option}
-use Rattle.machine_states.specs.runner_steps.specs.map_history.specs.declared.op.Op.{Op}
-use Rattle.machine_states.specs.runner_steps.specs.map_history.specs.Keys.{key_of}
+use Rattle.machine_states.specs.map_history.specs.declared.op.Op.{Op}
+use Rattle.machine_states.specs.map_history.specs.Keys.{key_of}
 use Rattle.bucket_walks.specs.section_body.specs.Bucket.{bucket_index, bucket_lock}
-use Rattle.machine_states.specs.runner_steps.specs.body_terms.specs.declared.thunk.Thunk.{Thunk}
+use Rattle.machine_states.specs.body_terms.specs.declared.thunk.Thunk.{Thunk}
 use Rattle.bucket_walks.specs.bucket_laws.specs.Walk.{Walk, Bounds, start, is_end, form_for, operands_for, wanted_at, fed}
 use Rattle.bucket_walks.specs.bucket_laws.specs.Walk as walks
 use Rattle.bucket_walks.specs.Left.{left_in}

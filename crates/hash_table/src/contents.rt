@@ -1,11 +1,11 @@
 //! The contents of a closed table.
 ghost use Rattle.std.specs.Prelude.{◌≡◌, ◌+◌, ◌*◌, ◌<◌, ◌^◌, IfOk, OnOk};
 ghost use Rattle.std.specs.FinMap.{entries};
-ghost use Rattle.machine_states.specs.runner_steps.specs.map_history.specs.Replay.{Pairs};
-ghost use Rattle.machine_states.specs.runner_steps.specs.body_terms.specs.Memory.{cell_of};
-ghost use Rattle.machine_states.specs.runner_steps.specs.body_terms.specs.Word.{value_of};
-ghost use Rattle.machine_states.specs.runner_steps.specs.table_words.specs.Places.{slot_count};
-ghost use Rattle.machine_states.specs.runner_steps.specs.table_words.specs.declared.spot.Spot.TheVariants.{Cell};
+ghost use Rattle.machine_states.specs.map_history.specs.Replay.{Pairs};
+ghost use Rattle.machine_states.specs.body_terms.specs.Memory.{cell_of};
+ghost use Rattle.machine_states.specs.body_terms.specs.Word.{value_of};
+ghost use Rattle.machine_states.specs.table_words.specs.Places.{slot_count};
+ghost use Rattle.machine_states.specs.table_words.specs.declared.spot.Spot.TheVariants.{Cell};
 ghost use Rattle.bucket_walks.specs.bucket_laws.specs.Buckets.{buckets_meaning};
 ghost use Rattle.lock_walks.specs.version_words.specs.TableState.{word_of};
 ghost use Rattle.lock_walks.specs.try_lock.specs.Contents.{StandFor};

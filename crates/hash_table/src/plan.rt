@@ -1,8 +1,8 @@
 //! Requests are planned on the hash table.
 ghost use Rattle.std.specs.Prelude.{◌≡◌, IfOk};
 ghost use Rattle.std.specs.FinMap.{entries};
-ghost use Rattle.machine_states.specs.runner_steps.specs.map_history.specs.Replay.{Pairs};
-ghost use Rattle.machine_states.specs.runner_steps.specs.map_history.specs.declared.op.Op.TheVariants.{Get};
+ghost use Rattle.machine_states.specs.map_history.specs.Replay.{Pairs};
+ghost use Rattle.machine_states.specs.map_history.specs.declared.op.Op.TheVariants.{Get};
 ghost use Rattle.bucket_walks.specs.bucket_laws.specs.Buckets.{buckets_meaning};
 ghost use Rattle.lock_walks.specs.try_lock.specs.Contents.{StandFor, NamesNone};
 ghost use Rattle.hash_table.specs.Planned.{bucket_planning, walk_in};
@@ -17,8 +17,8 @@ use crate::table::HashTable;
 use crate::walk::BucketWalk;
 use lock_walks::Planner;
 use lock_walks::version_words::Words;
-use machine_states::runner_steps::map_history::Op;
-use machine_states::runner_steps::table_words::Layout;
+use machine_states::map_history::Op;
+use machine_states::table_words::Layout;
 use std::alloc::{AllocError, Global};
 
 impl Planner for HashTable {

@@ -1,7 +1,7 @@
 //! The hash table as a structure.
 ghost use Rattle.std.specs.Prelude.{◌≡◌, ◌+◌, ◌*◌, ◌<◌, ◌≤◌, ◌^◌, true, refl};
 ghost use Rattle.bucket_walks.specs.section_body.specs.Bucket.{bucket_index};
-ghost use Rattle.machine_states.specs.runner_steps.specs.table_words.specs.Places.{slot_count};
+ghost use Rattle.machine_states.specs.table_words.specs.Places.{slot_count};
 ghost use Rattle.bucket_walks.specs.bucket_laws.specs.Buckets.{buckets_meaning, is_link_place};
 ghost use Rattle.bucket_walks.specs.bucket_laws.proofs.TableLaws.{buckets_laws};
 ghost use Rattle.hash_table.specs.Walking.{begun};
@@ -9,10 +9,10 @@ ghost use Rattle.hash_table.specs.Walking.{begun};
 use crate::walk::BucketWalk;
 use bucket_walks::bucket_laws::bucket_bodies::{table_body, table_body_in};
 use lock_walks::follow;
-use machine_states::runner_steps::body_terms::{Body, Place, Thunk, Word};
-use machine_states::runner_steps::map_history::Op;
-use machine_states::runner_steps::table_words::Layout;
+use machine_states::body_terms::{Body, Place, Thunk, Word};
+use machine_states::map_history::Op;
 use machine_states::structure_laws::Structure;
+use machine_states::table_words::Layout;
 
 /// A map in buckets, each with a lock, an edition and a head, from which the chain of its nodes begins. Every section
 /// that changes a chain stores the edition last, so its version counts the changes; and every body checks that the

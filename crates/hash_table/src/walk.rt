@@ -1,14 +1,14 @@
 //! The walk of a key through its bucket.
 ghost use Rattle.std.specs.Prelude.{◌≡◌, ◌+◌, ◌*◌, ◌<◌, ◌≤◌, ◌^◌, ◌==◌, nat_le, cond, [], ◌∷◌};
-ghost use Rattle.machine_states.specs.runner_steps.specs.map_history.specs.Keys.{key_of};
-ghost use Rattle.machine_states.specs.runner_steps.specs.map_history.specs.Words.{word_of};
+ghost use Rattle.machine_states.specs.map_history.specs.Keys.{key_of};
+ghost use Rattle.machine_states.specs.map_history.specs.Words.{word_of};
 ghost use Rattle.bucket_walks.specs.section_body.specs.Bucket.{bucket_index};
 ghost use Rattle.bucket_walks.specs.bucket_laws.specs.Walk.{AtLink, AtKey, AtNext, AtLock, Refused, operands_for, form_for, is_del, same_numbers, fits_walk};
 ghost use Rattle.hash_table.specs.Walking.{stage_of, is_refused_of, begun, fed_by, wanted_by, thunk_by};
 
 use bucket_walks::section_body::bucket_of;
-use machine_states::runner_steps::body_terms::{Thunk, Word};
-use machine_states::runner_steps::map_history::{Op, Reply};
+use machine_states::body_terms::{Thunk, Word};
+use machine_states::map_history::{Op, Reply};
 use std::marker::Model;
 
 /// What the walk loads next; it is at its end, or was refused.

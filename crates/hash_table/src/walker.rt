@@ -3,7 +3,7 @@ ghost use Rattle.hash_table.specs.Planned.{bucket_way};
 
 use crate::walk::BucketWalk;
 use lock_walks::Walker;
-use machine_states::runner_steps::body_terms::{Place, Thunk, Word};
+use machine_states::body_terms::{Place, Thunk, Word};
 
 impl Walker for BucketWalk {
     ghost way = { bucket_way };

@@ -1,10 +1,7 @@
 pub mod Loaded
 pub mod Stored
 -- Passed on to the layers above, so that they needn't name these libraries themselves.
-pub use Rattle.section_lines.specs.structure_laws.specs.body_terms
 pub use Rattle.machine_epochs
 pub use Rattle.machine_states
 pub use Rattle.runner_gate
-pub use Rattle.machine_states.specs.runner_steps.specs.runner_parts
 pub use Rattle.section_lines
-pub use Rattle.section_lines.specs.structure_laws.specs.table_words

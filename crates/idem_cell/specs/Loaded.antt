@@ -1,8 +1,8 @@
 -- Loads of cells in a run.
 use Rattle.std.specs.Prelude.{◌≡◌, ℕ, Bool}
-use Rattle.section_lines.specs.structure_laws.specs.body_terms.specs.declared.micro.Micro.TheVariants.{LoadCell}
-use Rattle.section_lines.specs.structure_laws.specs.Meaning.{Meaning}
-use Rattle.machine_states.specs.runner_steps.specs.runner_parts.specs.State.{RunState}
+use Rattle.machine_states.specs.body_terms.specs.declared.micro.Micro.TheVariants.{LoadCell}
+use Rattle.machine_states.specs.structure_laws.specs.Meaning.{Meaning}
+use Rattle.machine_states.specs.runner_parts.specs.State.{RunState}
 use Rattle.machine_states.specs.runner_steps.specs.Sections.{next_of}
 use Rattle.machine_states.specs.runner_steps.specs.AfterInRun.{goes_on, agrees}
 use Rattle.commit_log.specs.version_words.specs.RunnerState.{RunnerState}

@@ -1,13 +1,13 @@
 -- Stores to cells in a run.
 use Rattle.std.specs.Prelude.{◌≡◌, ◌≢◌, ℕ, slice_index}
-use Rattle.section_lines.specs.structure_laws.specs.body_terms.specs.declared.micro.Source.{Source}
-use Rattle.section_lines.specs.structure_laws.specs.body_terms.specs.declared.micro.Micro.TheVariants.{ExchangeCell}
-use Rattle.section_lines.specs.structure_laws.specs.body_terms.specs.Word.{next_word}
-use Rattle.section_lines.specs.structure_laws.specs.body_terms.specs.Run.{source_value}
-use Rattle.section_lines.specs.structure_laws.specs.table_words.specs.Access.{exchanged}
-use Rattle.section_lines.specs.structure_laws.specs.table_words.specs.declared.spot.Spot.TheVariants.{Cell}
-use Rattle.section_lines.specs.structure_laws.specs.Meaning.{Meaning}
-use Rattle.machine_states.specs.runner_steps.specs.runner_parts.specs.State.{RunState}
+use Rattle.machine_states.specs.body_terms.specs.declared.micro.Source.{Source}
+use Rattle.machine_states.specs.body_terms.specs.declared.micro.Micro.TheVariants.{ExchangeCell}
+use Rattle.machine_states.specs.body_terms.specs.Word.{next_word}
+use Rattle.machine_states.specs.body_terms.specs.Run.{source_value}
+use Rattle.machine_states.specs.table_words.specs.Access.{exchanged}
+use Rattle.machine_states.specs.table_words.specs.declared.spot.Spot.TheVariants.{Cell}
+use Rattle.machine_states.specs.structure_laws.specs.Meaning.{Meaning}
+use Rattle.machine_states.specs.runner_parts.specs.State.{RunState}
 use Rattle.machine_states.specs.runner_steps.specs.Sections.{next_of}
 use Rattle.machine_states.specs.runner_steps.specs.AfterInRun.{goes_on}
 use Rattle.commit_log.specs.version_words.specs.RunnerState.{RunnerState}

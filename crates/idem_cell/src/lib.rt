@@ -12,6 +12,6 @@ pub use loads::{load, load_gated};
 pub use stores::store;
 
 // Passed on to the layers above, so that they needn't name these libraries themselves.
+pub use machine_states::body_terms;
 pub use runner_gate;
 pub use section_lines;
-pub use section_lines::structure_laws::body_terms;

@@ -1,6 +1,6 @@
 //! The load of a cell.
 ghost use Rattle.std.specs.Prelude.{IfSome, IfNone, true};
-ghost use Rattle.machine_states.specs.runner_steps.specs.runner_parts.specs.State.{RunState};
+ghost use Rattle.machine_states.specs.runner_parts.specs.State.{RunState};
 ghost use Rattle.commit_log.specs.version_words.specs.TableState.{IsOf};
 ghost use Rattle.commit_log.specs.Runs.{IsRunning};
 ghost use Rattle.commit_log.specs.Asked.{IsAsked};
@@ -9,9 +9,9 @@ ghost use Rattle.idem_cell.specs.Loaded.{MayLoad, HasLoaded};
 
 use commit_log::version_words::{FlockTable, Runner};
 use commit_log::{Unasked, commit, passes};
+use machine_states::body_terms::{Place, StepKind, Steps, Word};
+use machine_states::structure_laws::Structure;
 use runner_gate::Gate;
-use section_lines::structure_laws::Structure;
-use section_lines::structure_laws::body_terms::{Place, StepKind, Steps, Word};
 
 /// Loads the cell and agrees on its word, in two steps. Answers the agreed word: the first one that a run of the
 /// section committed here, which may be older than the one in the cell.

@@ -1,12 +1,12 @@
 //! The store to a cell.
-ghost use Rattle.machine_states.specs.runner_steps.specs.runner_parts.specs.State.{RunState};
+ghost use Rattle.machine_states.specs.runner_parts.specs.State.{RunState};
 ghost use Rattle.commit_log.specs.version_words.specs.TableState.{IsOf};
 ghost use Rattle.commit_log.specs.Runs.{IsRunning};
 ghost use Rattle.idem_cell.specs.Stored.{MayStore, HasStored};
 
 use commit_log::version_words::{FlockTable, Runner};
-use section_lines::structure_laws::Structure;
-use section_lines::structure_laws::body_terms::{Place, Word};
+use machine_states::body_terms::{Place, Word};
+use machine_states::structure_laws::Structure;
 
 /// Stores the value in the cell: one exchange from the agreed word to the word with this value and the next version.
 /// Where another run of the section was first the cell has left the agreed word already, and the exchange changes

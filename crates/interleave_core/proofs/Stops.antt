@@ -1,10 +1,10 @@
 -- The first event of a list that isn't enabled.
 use Rattle.std.specs.Prelude.{slice_get}
 use Rattle.std.proofs.Common.{◌≡◌, ℕ, List, take, sym, subst, ◌∙◌, Some, None, Result, Err}
-use Rattle.machine_states.specs.runner_steps.specs.map_history.specs.declared.op.Request.{Request}
-use Rattle.machine_states.specs.runner_steps.specs.table_words.specs.declared.layout.Layout.{Layout}
+use Rattle.machine_states.specs.map_history.specs.declared.op.Request.{Request}
+use Rattle.machine_states.specs.table_words.specs.declared.layout.Layout.{Layout}
 use Rattle.machine_states.specs.structure_laws.specs.Meaning.{Meaning}
-use Rattle.machine_states.specs.runner_steps.specs.runner_parts.specs.declared.event.Event.{Event}
+use Rattle.machine_states.specs.runner_parts.specs.declared.event.Event.{Event}
 use Rattle.interleave_core.specs.declared.schedules.ScheduleError.{ScheduleError}
 use Rattle.interleave_core.specs.declared.schedules.ScheduleError.TheVariants.{NotEnabled}
 use Rattle.machine_states.specs.World.{World, happens, run}

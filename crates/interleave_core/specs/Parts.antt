@@ -1,8 +1,8 @@
 -- The slots of a runner.
 use Rattle.std.specs.Prelude.{ℕ, Bool, ◌||◌, ◌==◌}
 use Rattle.std.specs.List.{list_any}
-use Rattle.machine_states.specs.runner_steps.specs.runner_parts.specs.State.{NodesState, PartState}
-use Rattle.machine_states.specs.runner_steps.specs.runner_parts.specs.Tests.{has}
+use Rattle.machine_states.specs.runner_parts.specs.State.{NodesState, PartState}
+use Rattle.machine_states.specs.runner_parts.specs.Tests.{has}
 
 -- the slot is in one of these lists
 abbrev pub is_listed : NodesState → ℕ → Bool

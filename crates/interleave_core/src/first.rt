@@ -1,12 +1,12 @@
 //! What the runners are at in the first state.
 ghost use Rattle.std.specs.Prelude.{◌≡◌, ◌<◌, ◌+◌, ◌^◌, ◌∷◌, IfOk};
-ghost use Rattle.machine_states.specs.runner_steps.specs.table_words.specs.Limits.{IsWithinLimits};
+ghost use Rattle.machine_states.specs.table_words.specs.Limits.{IsWithinLimits};
 ghost use Rattle.machine_states.specs.First.{falling, first_part, keeper_part, worker_part, workers};
 
 use machine_states::epoch_core::Stage;
-use machine_states::runner_steps::runner_parts::{Descriptors, Nodes, Part, Reads, Records};
-use machine_states::runner_steps::table_words::Layout;
+use machine_states::runner_parts::{Descriptors, Nodes, Part, Reads, Records};
 use machine_states::structure_laws::Structure;
+use machine_states::table_words::Layout;
 use std::alloc::{AllocError, Global};
 
 /// As many numbers as said from this one on, in falling order.

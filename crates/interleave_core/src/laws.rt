@@ -1,11 +1,11 @@
 //! What is said of every event, and of every structure.
 ghost use Rattle.std.specs.Prelude.{◌≡◌, ℕ, List, None};
-ghost use Rattle.machine_states.specs.runner_steps.specs.map_history.specs.declared.op.Request.{Request};
-ghost use Rattle.machine_states.specs.runner_steps.specs.table_words.specs.declared.layout.Layout.{Layout};
-ghost use Rattle.machine_states.specs.runner_steps.specs.table_words.specs.Limits.{IsWithinLimits};
+ghost use Rattle.machine_states.specs.map_history.specs.declared.op.Request.{Request};
+ghost use Rattle.machine_states.specs.table_words.specs.declared.layout.Layout.{Layout};
+ghost use Rattle.machine_states.specs.table_words.specs.Limits.{IsWithinLimits};
 ghost use Rattle.machine_states.specs.structure_laws.specs.Lawful.{Moves};
-ghost use Rattle.machine_states.specs.runner_steps.specs.runner_parts.specs.declared.event.Event.{Event};
-ghost use Rattle.machine_states.specs.runner_steps.specs.runner_parts.specs.declared.event.EventKind.TheVariants.{Join};
+ghost use Rattle.machine_states.specs.runner_parts.specs.declared.event.Event.{Event};
+ghost use Rattle.machine_states.specs.runner_parts.specs.declared.event.EventKind.TheVariants.{Join};
 ghost use Rattle.interleave_core.specs.Local.{joined_by, IsLocal, JoinsTwo};
 
 use machine_states::structure_laws::Structure;

@@ -15,7 +15,7 @@ mod tray;
 pub use first::worker_part;
 pub use laws::{events_are_local, moves_are_lawful};
 pub use machine::{Machine, StepError};
-pub use machine_states::runner_steps::runner_parts::{Event, EventKind};
+pub use machine_states::runner_parts::{Event, EventKind};
 pub use machine_states::structure_laws::Structure;
 pub use schedules::{ScheduleError, all_schedules};
 pub use tray::Tray;

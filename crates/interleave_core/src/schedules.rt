@@ -1,7 +1,7 @@
 //! The machine after a list of events.
 ghost use Rattle.std.specs.Prelude.{◌≡◌, ◌≤◌, ℕ, Some, None, Err, IfOk, length, take, slice_get};
-ghost use Rattle.machine_states.specs.runner_steps.specs.map_history.specs.Requests.{AreInOrder};
-ghost use Rattle.machine_states.specs.runner_steps.specs.table_words.specs.Limits.{IsWithinLimits};
+ghost use Rattle.machine_states.specs.map_history.specs.Requests.{AreInOrder};
+ghost use Rattle.machine_states.specs.table_words.specs.Limits.{IsWithinLimits};
 ghost use Rattle.interleave_core.specs.declared.schedules.ScheduleError.TheVariants.{NotEnabled};
 ghost use Rattle.machine_states.specs.Schedules.{IsAfter};
 ghost use Rattle.machine_epochs.specs.Descriptors.{DescriptorsSoundAfter};
@@ -16,10 +16,10 @@ ghost use Rattle.interleave_core.specs.Enabled.{StopsNaming};
 ghost use Rattle.interleave_core.specs.NextSteps.{NextStepsAfter};
 
 use crate::machine::{Machine, StepError};
-use machine_states::runner_steps::map_history::Request;
-use machine_states::runner_steps::runner_parts::Event;
-use machine_states::runner_steps::table_words::Layout;
+use machine_states::map_history::Request;
+use machine_states::runner_parts::Event;
 use machine_states::structure_laws::Structure;
+use machine_states::table_words::Layout;
 use std::alloc::{AllocError, Global};
 
 /// Why there is no machine after these events.

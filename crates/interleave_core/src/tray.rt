@@ -1,13 +1,13 @@
 //! A structure for tests: a lock, a number and a link.
 ghost use Rattle.std.specs.Prelude.{◌≡◌, ◌<◌, refl, false, length};
 ghost use Rattle.machine_states.specs.structure_laws.specs.Tray.{tray, body_of, Number, Link, Unlink, Other};
-ghost use Rattle.machine_states.specs.runner_steps.specs.body_terms.specs.Word.{value_of};
+ghost use Rattle.machine_states.specs.body_terms.specs.Word.{value_of};
 ghost use Rattle.machine_states.specs.structure_laws.proofs.TrayLaws.{tray_laws};
 
-use machine_states::runner_steps::body_terms::{Body, Init, Place, Step, Thunk, Value, Word};
-use machine_states::runner_steps::map_history::Op;
-use machine_states::runner_steps::table_words::Layout;
+use machine_states::body_terms::{Body, Init, Place, Step, Thunk, Value, Word};
+use machine_states::map_history::Op;
 use machine_states::structure_laws::{Structure, tray_links};
+use machine_states::table_words::Layout;
 
 /// A structure for tests: place 0 is a lock, place 1 a number and place 2 a link. It serves no map operation.
 #[derive(Clone, Copy, Debug, PartialEq, Eq)]

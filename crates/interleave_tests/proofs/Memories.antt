@@ -1,10 +1,10 @@
 -- The memory of a plain run.
 use Rattle.std.specs.Prelude.{◌≢◌, ◌^◌, slice_index, slice_index_or}
 use Rattle.std.proofs.Common.{◌≡◌, ◌+◌, ◌*◌, ◌<◌, ◌≤◌, ℕ, zero, suc, List, [], ◌∷◌, length, refl, sym, subst, arith}
-use Rattle.machine_states.specs.runner_steps.specs.body_terms.specs.Word.{version_of}
-use Rattle.machine_states.specs.runner_steps.specs.body_terms.specs.declared.step.Step.{Step}
-use Rattle.machine_states.specs.runner_steps.specs.body_terms.specs.Memory.{PlainMemory}
-use Rattle.machine_states.specs.runner_steps.specs.body_terms.specs.Plain.{SlotsFit}
+use Rattle.machine_states.specs.body_terms.specs.Word.{version_of}
+use Rattle.machine_states.specs.body_terms.specs.declared.step.Step.{Step}
+use Rattle.machine_states.specs.body_terms.specs.Memory.{PlainMemory}
+use Rattle.machine_states.specs.body_terms.specs.Plain.{SlotsFit}
 use Rattle.machine_states.specs.structure_laws.specs.Tray.{body_of, Link}
 
 -- the words of three fixed cells and one node slot, with these words at the places 1 and 2

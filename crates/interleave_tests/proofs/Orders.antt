@@ -4,10 +4,10 @@ use Rattle.std.specs.Prelude.{◌&&◌, nat_lt, nat_le, slice_index_or, map}
 use Rattle.std.specs.List.{list_all, range_with_len}
 use Rattle.std.proofs.lemmas.Bool.{and_parts}
 use Rattle.machine_states.specs.epoch_core.specs.small_lemmas.proofs.Numbers.{tested_less as below, tested_most as most}
-use Rattle.machine_states.specs.runner_steps.specs.map_history.specs.declared.op.Request.{Request}
-use Rattle.machine_states.specs.runner_steps.specs.map_history.specs.Keys.{key_of, is_format_1}
-use Rattle.machine_states.specs.runner_steps.specs.map_history.proofs.Cells.{format_1_one_keyed, key_is}
-use Rattle.machine_states.specs.runner_steps.specs.map_history.specs.Requests.{AreInOrder}
+use Rattle.machine_states.specs.map_history.specs.declared.op.Request.{Request}
+use Rattle.machine_states.specs.map_history.specs.Keys.{key_of, is_format_1}
+use Rattle.machine_states.specs.map_history.proofs.Cells.{format_1_one_keyed, key_is}
+use Rattle.machine_states.specs.map_history.specs.Requests.{AreInOrder}
 
 -- a test passes at each place
 all_of : (p : Request → Bool) (xs : List Request) → list_all p xs ≡ true → (k : ℕ) (d : Request) → k < length xs → p (slice_index_or xs k d) ≡ true

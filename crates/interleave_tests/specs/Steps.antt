@@ -1,7 +1,7 @@
 -- What an event of the machine over the test structure does.
 use Rattle.std.specs.Prelude.{◌≡◌, ℕ, Some}
 use Rattle.machine_states.specs.structure_laws.specs.Tray.{tray}
-use Rattle.machine_states.specs.runner_steps.specs.runner_parts.specs.declared.event.EventKind.{EventKind}
+use Rattle.machine_states.specs.runner_parts.specs.declared.event.EventKind.{EventKind}
 use Rattle.machine_states.specs.First.{IsFirst}
 use Rattle.machine_states.specs.World.{happens}
 use Rattle.interleave_core.specs.Machine.{MachineState}

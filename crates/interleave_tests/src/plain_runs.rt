@@ -1,10 +1,10 @@
 //! The plain runs of the test structure's sections.
 ghost use Rattle.std.specs.Prelude.{◌≡◌, ◌≢◌};
-ghost use Rattle.machine_states.specs.runner_steps.specs.body_terms.specs.Word.{value_of};
+ghost use Rattle.machine_states.specs.body_terms.specs.Word.{value_of};
 ghost use Rattle.machine_states.specs.structure_laws.specs.Tray.{body_of, Number, Link, Unlink};
 
 use interleave_core::{Structure, Tray};
-use machine_states::runner_steps::body_terms::{Body, Outcome, Thunk, Trail, Word};
+use machine_states::body_terms::{Body, Outcome, Thunk, Trail, Word};
 use section_body::{Memory, plain};
 use std::alloc::{AllocError, Global};
 

@@ -1,16 +1,16 @@
 //! Random schedules of two workers and the keeper, against the plain runs of the sections that they
 //! publish.
 ghost use Rattle.std.specs.Prelude.{◌≡◌, ◌≤◌, length};
-ghost use Rattle.machine_states.specs.runner_steps.specs.map_history.specs.Requests.{AreInOrder};
-ghost use Rattle.machine_states.specs.runner_steps.specs.map_history.specs.declared.op.Op.TheVariants.{Get};
+ghost use Rattle.machine_states.specs.map_history.specs.Requests.{AreInOrder};
+ghost use Rattle.machine_states.specs.map_history.specs.declared.op.Op.TheVariants.{Get};
 
 use crate::plain_runs::{PlainRun, plain_run};
 use crate::two_workers::{OWN, SECTIONS, TwoWorkers};
 use interleave_core::runner_asks::last_of;
 use interleave_core::{EventKind, StepError};
-use machine_states::runner_steps::body_terms::{Outcome, Thunk, Word};
-use machine_states::runner_steps::map_history::{Op, Request};
-use machine_states::runner_steps::runner_parts::{Finished, Part, thunk_words};
+use machine_states::body_terms::{Outcome, Thunk, Word};
+use machine_states::map_history::{Op, Request};
+use machine_states::runner_parts::{Finished, Part, thunk_words};
 use std::alloc::{AllocError, Global};
 
 /// The first descriptor, behind the node slots of two workers and six of the keeper.

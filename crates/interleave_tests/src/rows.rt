@@ -1,13 +1,13 @@
 //! Worked rows.
 ghost use Rattle.std.specs.Prelude.{◌≤◌};
-ghost use Rattle.machine_states.specs.runner_steps.specs.map_history.specs.Requests.{AreInOrder};
-ghost use Rattle.machine_states.specs.runner_steps.specs.table_words.specs.Limits.{IsWithinLimits};
+ghost use Rattle.machine_states.specs.map_history.specs.Requests.{AreInOrder};
+ghost use Rattle.machine_states.specs.table_words.specs.Limits.{IsWithinLimits};
 
 use interleave_core::{Event, EventKind, Machine, ScheduleError, StepError, Tray, all_schedules};
-use machine_states::runner_steps::body_terms::{Outcome, Thunk, Word};
-use machine_states::runner_steps::map_history::{Op, Request};
-use machine_states::runner_steps::runner_parts::{Part, thunk_words};
-use machine_states::runner_steps::table_words::Layout;
+use machine_states::body_terms::{Outcome, Thunk, Word};
+use machine_states::map_history::{Op, Request};
+use machine_states::runner_parts::{Part, thunk_words};
+use machine_states::table_words::Layout;
 use std::alloc::AllocError;
 
 /// The first word of a cell: value 0, version 1.

@@ -1,17 +1,17 @@
 //! The machine with two workers and the keeper.
 ghost use Rattle.std.specs.Prelude.{◌≡◌, ◌≤◌, ◌<◌, IfOk, OnErr, OnOk, Some, true};
-ghost use Rattle.machine_states.specs.runner_steps.specs.map_history.specs.Requests.{AreInOrder};
-ghost use Rattle.machine_states.specs.runner_steps.specs.table_words.specs.declared.spot.Spot.TheVariants.{Cell, LogWord};
+ghost use Rattle.machine_states.specs.map_history.specs.Requests.{AreInOrder};
+ghost use Rattle.machine_states.specs.table_words.specs.declared.spot.Spot.TheVariants.{Cell, LogWord};
 ghost use Rattle.machine_states.specs.structure_laws.specs.Tray.{tray};
 ghost use Rattle.interleave_core.specs.Local.{part_of};
 ghost use Rattle.interleave_core.specs.Machine.{word_of};
 ghost use Rattle.interleave_tests.specs.Steps.{Makes, StandsFirst};
 
 use interleave_core::{Event, EventKind, Machine, StepError, Tray};
-use machine_states::runner_steps::body_terms::{Place, Word};
-use machine_states::runner_steps::map_history::Request;
-use machine_states::runner_steps::runner_parts::Part;
-use machine_states::runner_steps::table_words::Layout;
+use machine_states::body_terms::{Place, Word};
+use machine_states::map_history::Request;
+use machine_states::runner_parts::Part;
+use machine_states::table_words::Layout;
 use std::alloc::{AllocError, Global};
 
 /// How many node slots and descriptors each worker has, and how many requests.

@@ -6,10 +6,10 @@ use Rattle.std.specs.Prelude.{◌⊎◌}
 use Rattle.std.proofs.lemmas.Bool.{cases_eq}
 use Rattle.std.proofs.lemmas.Bool.Decides.{nat_tests}
 use Rattle.std.proofs.lemmas.Option.{none-some}
-use Rattle.agreement_core.specs.table_words.specs.declared.spot.Spot.{Spot}
-use Rattle.agreement_core.specs.table_words.specs.declared.spot.Spot.TheVariants.{Cell}
-use Rattle.machine_states.specs.runner_steps.specs.runner_parts.specs.declared.entries.Left.{Left}
-use Rattle.machine_states.specs.runner_steps.specs.runner_parts.specs.Tests.{has}
+use Rattle.machine_states.specs.table_words.specs.declared.spot.Spot.{Spot}
+use Rattle.machine_states.specs.table_words.specs.declared.spot.Spot.TheVariants.{Cell}
+use Rattle.machine_states.specs.runner_parts.specs.declared.entries.Left.{Left}
+use Rattle.machine_states.specs.runner_parts.specs.Tests.{has}
 use Rattle.runner_facts.specs.machine_facts.specs.machine_agreement.proofs.Releases.{get_more}
 use Rattle.runner_facts.specs.Keeper.{IsLastLeft}
 use Rattle.keeper_facts.specs.Freed.{HasLeft, AreApart}

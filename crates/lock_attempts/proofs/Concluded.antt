@@ -2,16 +2,16 @@
 use Rattle.std.specs.Prelude.{cond, nat_lt, [], Bool, true, false, Result, Ok, Err}
 use Rattle.std.proofs.Common.{◌≡◌, ◌≢◌, ℕ, ◌+◌, length, refl, sym, ap, ◌∙◌, subst, ⊎_elim, arith, Option, Some, None}
 use Rattle.std.proofs.lemmas.Bool.{true≢false}
-use Rattle.agreement_core.specs.section_lines.specs.small_lemmas.proofs.Numbers.{tested_equal}
-use Rattle.agreement_core.specs.map_history.specs.declared.op.Request.{Request}
-use Rattle.agreement_core.specs.body_terms.specs.Line.{is_check, is_end}
-use Rattle.agreement_core.specs.body_terms.specs.Trail.{Agreed}
-use Rattle.agreement_core.specs.body_terms.specs.declared.micro.Micro.{Micro}
-use Rattle.agreement_core.specs.body_terms.specs.declared.micro.Micro.TheVariants.{CheckWord, ExchangeCell}
-use Rattle.agreement_core.specs.body_terms.specs.declared.outcome.Outcome.{Outcome}
-use Rattle.agreement_core.specs.body_terms.specs.declared.outcome.Outcome.TheVariants as outcomes
-use Rattle.agreement_core.specs.body_terms.specs.declared.thunk.Thunk.{Thunk}
-use Rattle.agreement_core.specs.table_words.specs.Limits.{IsWithinLimits}
+use Rattle.machine_states.specs.epoch_core.specs.small_lemmas.proofs.Numbers.{tested_equal}
+use Rattle.machine_states.specs.map_history.specs.declared.op.Request.{Request}
+use Rattle.machine_states.specs.body_terms.specs.Line.{is_check, is_end}
+use Rattle.machine_states.specs.body_terms.specs.Trail.{Agreed}
+use Rattle.machine_states.specs.body_terms.specs.declared.micro.Micro.{Micro}
+use Rattle.machine_states.specs.body_terms.specs.declared.micro.Micro.TheVariants.{CheckWord, ExchangeCell}
+use Rattle.machine_states.specs.body_terms.specs.declared.outcome.Outcome.{Outcome}
+use Rattle.machine_states.specs.body_terms.specs.declared.outcome.Outcome.TheVariants as outcomes
+use Rattle.machine_states.specs.body_terms.specs.declared.thunk.Thunk.{Thunk}
+use Rattle.machine_states.specs.table_words.specs.Limits.{IsWithinLimits}
 use Rattle.runner_gate.specs.Asks.{Asks}
 use Rattle.machine_states.specs.structure_laws.specs.Scene.{Readings}
 use Rattle.machine_states.specs.structure_laws.specs.Meaning.{Meaning}
@@ -23,7 +23,7 @@ use Rattle.agreement_core.specs.History.{change_of, moves_of}
 use Rattle.agreement_core.specs.State as agreement
 use Rattle.agreement_core.proofs.Lasting.{before_end}
 use Rattle.agreement_core.proofs.Noting.{is_exchange, no_change, below}
-use Rattle.machine_states.specs.runner_steps.specs.runner_parts.specs.Tests.{is_answered}
+use Rattle.machine_states.specs.runner_parts.specs.Tests.{is_answered}
 use Rattle.machine_states.specs.runner_steps.specs.Sections.{reply_in}
 use Rattle.machine_states.specs.Sight.{Sight, sight}
 use Rattle.version_words.specs.machine_invariant.specs.machine_agreement.specs.Joined.{IsJoinedToAgreement}

@@ -6,14 +6,14 @@ use Rattle.std.proofs.lemmas.Bool.Decides.{nat_tests}
 use Rattle.std.proofs.lemmas.List.FromFn.{get_or-map-range_with_len, length-map-range_with_len}
 use Rattle.std.proofs.lemmas.Nat.{div_below, div-mul-add, mod-mul-add, le-div, row_fits, div-add-mod'}
 use Rattle.std.proofs.lemmas.Option.{slice_get-get_or}
-use Rattle.agreement_core.specs.section_lines.specs.small_lemmas.proofs.Numbers.{tested_equal}
-use Rattle.agreement_core.specs.map_history.specs.declared.op.Op.TheVariants.{Get}
-use Rattle.agreement_core.specs.map_history.specs.declared.op.Request.{Request}
-use Rattle.agreement_core.specs.map_history.specs.Requests.{AreInOrder}
-use Rattle.agreement_core.specs.map_history.specs.Keys.{DependsOn}
-use Rattle.machine_states.specs.runner_steps.specs.runner_parts.specs.declared.entries.Known.{Known}
-use Rattle.machine_states.specs.runner_steps.specs.runner_parts.specs.Tests.{is_answered, are_answered}
-use Rattle.agreement_core.specs.table_words.specs.declared.layout.Layout.{Layout}
+use Rattle.machine_states.specs.epoch_core.specs.small_lemmas.proofs.Numbers.{tested_equal}
+use Rattle.machine_states.specs.map_history.specs.declared.op.Op.TheVariants.{Get}
+use Rattle.machine_states.specs.map_history.specs.declared.op.Request.{Request}
+use Rattle.machine_states.specs.map_history.specs.Requests.{AreInOrder}
+use Rattle.machine_states.specs.map_history.specs.Keys.{DependsOn}
+use Rattle.machine_states.specs.runner_parts.specs.declared.entries.Known.{Known}
+use Rattle.machine_states.specs.runner_parts.specs.Tests.{is_answered, are_answered}
+use Rattle.machine_states.specs.table_words.specs.declared.layout.Layout.{Layout}
 use Rattle.version_words.specs.RunnerState.{RunnerState}
 use Rattle.version_words.specs.TableState.{TableState, IsOf}
 use Rattle.attempts.specs.epoch_slots.specs.Collects.{IsTidy}

@@ -2,13 +2,13 @@
 use Rattle.std.specs.Prelude.{◌==◌, ◌&&◌, ◌||◌, not, nat_lt, ◌%◌, Bool, true, false, slice_get, Result, Ok, Err}
 use Rattle.std.specs.List.{list_all}
 use Rattle.std.proofs.Common.{◌≡◌, ℕ, zero, suc, ◌+◌, ◌≤◌, List, [], ◌∷◌, refl, sym, ap, ◌∙◌, subst, arith}
-use Rattle.agreement_core.specs.map_history.specs.declared.op.Request.{Request}
-use Rattle.agreement_core.specs.body_terms.specs.declared.thunk.Thunk.{Thunk}
+use Rattle.machine_states.specs.map_history.specs.declared.op.Request.{Request}
+use Rattle.machine_states.specs.body_terms.specs.declared.thunk.Thunk.{Thunk}
 use Rattle.runner_gate.specs.Asks.{Asks}
 use Rattle.machine_states.specs.structure_laws.specs.Scene.{Readings}
 use Rattle.machine_states.specs.structure_laws.specs.Meaning.{Meaning}
-use Rattle.machine_states.specs.runner_steps.specs.runner_parts.specs.declared.entries.Known.{Known}
-use Rattle.machine_states.specs.runner_steps.specs.runner_parts.specs.Tests.{is_answered, are_answered}
+use Rattle.machine_states.specs.runner_parts.specs.declared.entries.Known.{Known}
+use Rattle.machine_states.specs.runner_parts.specs.Tests.{is_answered, are_answered}
 use Rattle.version_words.specs.RunnerState.{RunnerState}
 use Rattle.version_words.specs.TableState.{TableState, IsOf}
 use Rattle.attempts.specs.epoch_slots.specs.Collects.{IsTidy}

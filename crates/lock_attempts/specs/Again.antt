@@ -1,7 +1,7 @@
 -- A section that is attempted again where it was refused.
 use Rattle.std.specs.Prelude.{◌≡◌, ℕ, zero, suc, ◌≤◌, Bool, true, false, Result, Ok, Err}
-use Rattle.agreement_core.specs.map_history.specs.declared.op.Request.{Request}
-use Rattle.agreement_core.specs.body_terms.specs.declared.thunk.Thunk.{Thunk}
+use Rattle.machine_states.specs.map_history.specs.declared.op.Request.{Request}
+use Rattle.machine_states.specs.body_terms.specs.declared.thunk.Thunk.{Thunk}
 use Rattle.runner_gate.specs.Asks.{Asks}
 use Rattle.machine_states.specs.structure_laws.specs.Scene.{Readings}
 use Rattle.machine_states.specs.structure_laws.specs.Meaning.{Meaning}

@@ -1,19 +1,19 @@
 -- Attempts of sections, where a request is a ticket for one section: what each answer says.
 use Rattle.std.specs.Prelude.{◌≡◌, ℕ, ◌+◌, ◌≤◌, Bool, true, false, List, [], ◌∷◌, length, Result, Ok, Err}
-use Rattle.agreement_core.specs.map_history.specs.declared.op.Request.{Request}
-use Rattle.agreement_core.specs.body_terms.specs.Trail.{Agreed}
-use Rattle.agreement_core.specs.body_terms.specs.declared.micro.Source.{Source}
-use Rattle.agreement_core.specs.body_terms.specs.declared.micro.Micro.TheVariants.{CheckWord, ExchangeCell}
-use Rattle.agreement_core.specs.body_terms.specs.declared.outcome.Outcome.TheVariants.{Answered}
-use Rattle.agreement_core.specs.body_terms.specs.declared.thunk.Thunk.{Thunk}
-use Rattle.agreement_core.specs.table_words.specs.declared.spot.Spot.TheVariants.{Stamp, Reply}
+use Rattle.machine_states.specs.map_history.specs.declared.op.Request.{Request}
+use Rattle.machine_states.specs.body_terms.specs.Trail.{Agreed}
+use Rattle.machine_states.specs.body_terms.specs.declared.micro.Source.{Source}
+use Rattle.machine_states.specs.body_terms.specs.declared.micro.Micro.TheVariants.{CheckWord, ExchangeCell}
+use Rattle.machine_states.specs.body_terms.specs.declared.outcome.Outcome.TheVariants.{Answered}
+use Rattle.machine_states.specs.body_terms.specs.declared.thunk.Thunk.{Thunk}
+use Rattle.machine_states.specs.table_words.specs.declared.spot.Spot.TheVariants.{Stamp, Reply}
 use Rattle.runner_gate.specs.Asks.{Asks}
 use Rattle.machine_states.specs.structure_laws.specs.Scene.{Readings}
 use Rattle.machine_states.specs.structure_laws.specs.Meaning.{Meaning}
 use Rattle.machine_states.specs.structure_laws.specs.Cells.{slots}
 use Rattle.agreement_core.specs.Checks.{stored_word}
 use Rattle.agreement_core.specs.History.{Change, change_of}
-use Rattle.machine_states.specs.runner_steps.specs.runner_parts.specs.Tests.{is_answered}
+use Rattle.machine_states.specs.runner_parts.specs.Tests.{is_answered}
 use Rattle.machine_states.specs.runner_steps.specs.Sections.{reply_in}
 use Rattle.machine_states.specs.Sight.{Sight, sight}
 use Rattle.version_words.specs.machine_invariant.specs.Along.{Components}

@@ -1,9 +1,9 @@
 -- Tickets: requests of one section each, and those of a worker that aren't used yet.
 use Rattle.std.specs.Prelude.{◌≡◌, ℕ, ◌*◌, ◌/◌, ◌%◌, ◌<◌, ◌≤◌, true, false, List, map, Some, slice_get}
 use Rattle.std.specs.List.{range_with_len}
-use Rattle.agreement_core.specs.map_history.specs.declared.op.Op.TheVariants.{Get}
-use Rattle.agreement_core.specs.map_history.specs.declared.op.Request.{Request}
-use Rattle.machine_states.specs.runner_steps.specs.runner_parts.specs.Tests.{is_answered, are_answered}
+use Rattle.machine_states.specs.map_history.specs.declared.op.Op.TheVariants.{Get}
+use Rattle.machine_states.specs.map_history.specs.declared.op.Request.{Request}
+use Rattle.machine_states.specs.runner_parts.specs.Tests.{is_answered, are_answered}
 use Rattle.version_words.specs.RunnerState.{RunnerState}
 use Rattle.attempts.specs.epoch_slots.specs.Collects.{IsTidy}
 use Rattle.lock_attempts.specs.declared.tickets.Tickets.{Tickets}

@@ -1,8 +1,8 @@
 //! The run of an own section, and what is answered by it.
 ghost use Rattle.std.specs.Prelude.{◌≡◌, ◌+◌, length, true, false, Ok};
-ghost use Rattle.agreement_core.specs.map_history.specs.declared.op.Request.{Request};
-ghost use Rattle.agreement_core.specs.body_terms.specs.Trail.{Agreed};
-ghost use Rattle.agreement_core.specs.body_terms.specs.declared.thunk.Thunk.{Thunk};
+ghost use Rattle.machine_states.specs.map_history.specs.declared.op.Request.{Request};
+ghost use Rattle.machine_states.specs.body_terms.specs.Trail.{Agreed};
+ghost use Rattle.machine_states.specs.body_terms.specs.declared.thunk.Thunk.{Thunk};
 ghost use Rattle.machine_states.specs.structure_laws.specs.Scene.{Readings};
 ghost use Rattle.version_words.specs.RunnerState.{RunnerState};
 ghost use Rattle.version_words.specs.TableState.{IsOf};
@@ -17,7 +17,7 @@ use attempts::epoch_slots::exit;
 use attempts::lock_walks::try_lock::{RunEnd, Section, retire_section, run_section};
 use attempts::lock_words::stale_words_differ;
 use attempts::{Attempt, goes_on, section_left, turn_away};
-use machine_states::runner_steps::body_terms::{Outcome, StepKind, Steps};
+use machine_states::body_terms::{Outcome, StepKind, Steps};
 use machine_states::structure_laws::Structure;
 use runner_gate::Gate;
 use version_words::{FlockTable, Runner};

@@ -1,6 +1,6 @@
 //! The section of a ticket, again where it was refused.
 ghost use Rattle.std.specs.Prelude.{◌≡◌, ◌≢◌, ◌+◌, ◌<◌, IfOk, IfErr, Err, true};
-ghost use Rattle.agreement_core.specs.map_history.specs.declared.op.Op.TheVariants.{Get};
+ghost use Rattle.machine_states.specs.map_history.specs.declared.op.Op.TheVariants.{Get};
 ghost use Rattle.version_words.specs.TableState.{IsOf};
 ghost use Rattle.attempts.specs.lock_walks.specs.Way.{Leads};
 ghost use Rattle.attempts.specs.lock_walks.specs.Own.{own_thunk};
@@ -15,8 +15,8 @@ use crate::attempting::attempt_section;
 use crate::tickets::Tickets;
 use attempts::Attempt;
 use attempts::lock_walks::Walker;
-use machine_states::runner_steps::body_terms::Steps;
-use machine_states::runner_steps::map_history::{Op, Request};
+use machine_states::body_terms::Steps;
+use machine_states::map_history::{Op, Request};
 use machine_states::structure_laws::Structure;
 use runner_gate::Gate;
 use version_words::{FlockTable, Runner};

@@ -1,11 +1,11 @@
 //! Tickets: requests of one section each.
 ghost use Rattle.std.specs.Prelude.{◌≡◌, ◌+◌, ◌-◌, ◌*◌, ◌<◌, ◌≤◌, IfOk, []};
-ghost use Rattle.agreement_core.specs.map_history.specs.Requests.{AreInOrder};
+ghost use Rattle.machine_states.specs.map_history.specs.Requests.{AreInOrder};
 ghost use Rattle.version_words.specs.TableState.{IsOf};
 ghost use Rattle.attempts.specs.epoch_slots.specs.Collects.{IsTidy};
 ghost use Rattle.lock_attempts.specs.Tickets.{tickets_for, HasTickets};
 
-use machine_states::runner_steps::map_history::{Op, Request};
+use machine_states::map_history::{Op, Request};
 use machine_states::structure_laws::Structure;
 use std::alloc::{AllocError, Global};
 use version_words::{FlockTable, Runner};

@@ -1,7 +1,7 @@
 //! The publication of a planned section.
 ghost use Rattle.std.specs.Prelude.{◌≡◌, length, false};
-ghost use Rattle.agreement_core.specs.map_history.specs.declared.op.Request.{Request};
-ghost use Rattle.agreement_core.specs.body_terms.specs.declared.thunk.Thunk.{Thunk};
+ghost use Rattle.machine_states.specs.map_history.specs.declared.op.Request.{Request};
+ghost use Rattle.machine_states.specs.body_terms.specs.declared.thunk.Thunk.{Thunk};
 ghost use Rattle.machine_states.specs.structure_laws.specs.Scene.{Readings};
 ghost use Rattle.version_words.specs.RunnerState.{RunnerState};
 ghost use Rattle.version_words.specs.TableState.{IsOf};
@@ -16,7 +16,7 @@ ghost use Rattle.lock_attempts.specs.Parts.{SectionRests};
 use crate::runs::run_own;
 use attempts::lock_walks::try_lock::publish;
 use attempts::{Attempt, lock_refused, turn_away};
-use machine_states::runner_steps::body_terms::{Steps, Thunk};
+use machine_states::body_terms::{Steps, Thunk};
 use machine_states::structure_laws::Structure;
 use runner_gate::Gate;
 use version_words::{FlockTable, Runner};

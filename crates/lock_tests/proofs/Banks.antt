@@ -1,8 +1,8 @@
 -- A new bank, and its workers.
 use Rattle.std.specs.Prelude.{All, slice_index_or}
 use Rattle.std.proofs.Common.{◌≡◌, ℕ, ◌*◌, ◌<◌, ◌≤◌, List, length, sym, ap, ◌∙◌, subst, arith}
-use Rattle.machine_states.specs.runner_steps.specs.map_history.specs.declared.op.Request.{Request}
-use Rattle.machine_states.specs.runner_steps.specs.table_words.specs.declared.layout.Layout.{Layout}
+use Rattle.machine_states.specs.map_history.specs.declared.op.Request.{Request}
+use Rattle.machine_states.specs.table_words.specs.declared.layout.Layout.{Layout}
 use Rattle.accounts.specs.declared.table.Accounts.{Accounts}
 use Rattle.settled_tables.specs.closed_words.specs.version_words.specs.RunnerState.{RunnerState}
 use Rattle.settled_tables.specs.closed_words.specs.version_words.specs.TableState.{TableState, IsNew}

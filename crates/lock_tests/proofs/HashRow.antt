@@ -1,13 +1,13 @@
 -- The requests of two workers.
 use Rattle.std.proofs.Common.{◌≡◌, ◌≢◌, ℕ, zero, suc, ◌<◌, ◌≤◌, List, [], true, refl, sym, ap, subst, ◌∙◌, arith, Some}
 use Rattle.std.specs.Prelude.{◌==◌, ◌&&◌, ◌%◌, slice_get, slice_index_or}
-use Rattle.machine_states.specs.runner_steps.specs.map_history.specs.declared.op.Request.{Request}
-use Rattle.machine_states.specs.runner_steps.specs.map_history.specs.declared.op.Op.{Op}
-use Rattle.machine_states.specs.runner_steps.specs.map_history.specs.Keys.{key_of, other_key_of, DependsOn}
-use Rattle.machine_states.specs.runner_steps.specs.map_history.proofs.Cells.{key_is}
-use Rattle.machine_states.specs.runner_steps.specs.map_history.specs.Requests.{AreInOrder}
-use Rattle.machine_states.specs.runner_steps.specs.table_words.specs.declared.layout.Layout.{Layout}
-use Rattle.machine_states.specs.runner_steps.specs.runner_parts.specs.Tests.{is_next}
+use Rattle.machine_states.specs.map_history.specs.declared.op.Request.{Request}
+use Rattle.machine_states.specs.map_history.specs.declared.op.Op.{Op}
+use Rattle.machine_states.specs.map_history.specs.Keys.{key_of, other_key_of, DependsOn}
+use Rattle.machine_states.specs.map_history.proofs.Cells.{key_is}
+use Rattle.machine_states.specs.map_history.specs.Requests.{AreInOrder}
+use Rattle.machine_states.specs.table_words.specs.declared.layout.Layout.{Layout}
+use Rattle.machine_states.specs.runner_parts.specs.Tests.{is_next}
 use Rattle.lock_tests.proofs.Numbered.{none_of}
 use Rattle.settled_tables.specs.closed_words.specs.version_words.specs.RunnerState.{RunnerState}
 use Rattle.leaf_tree.specs.tree_laws.specs.bucket_laws.specs.Walk.{has_one_key}

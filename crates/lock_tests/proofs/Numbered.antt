@@ -7,12 +7,12 @@ use Rattle.std.proofs.lemmas.Nat.{mod_below}
 use Rattle.std.proofs.lemmas.Option.{slice_get-map, slice_get_within, slice_get-get_or}
 use Rattle.machine_states.specs.epoch_core.specs.small_lemmas.proofs.Numbers.{from_zero as from_none}
 use Rattle.machine_states.proofs.Steps.{some_same}
-use Rattle.machine_states.specs.runner_steps.specs.map_history.specs.declared.op.Op.{Op}
-use Rattle.machine_states.specs.runner_steps.specs.map_history.specs.declared.op.Op.TheVariants.{Get}
-use Rattle.machine_states.specs.runner_steps.specs.map_history.specs.declared.op.Request.{Request}
-use Rattle.machine_states.specs.runner_steps.specs.map_history.specs.Keys.{key_of, other_key_of}
-use Rattle.machine_states.specs.runner_steps.specs.map_history.specs.Requests.{AreInOrder}
-use Rattle.machine_states.specs.runner_steps.specs.map_history.proofs.Cells.{key_is}
+use Rattle.machine_states.specs.map_history.specs.declared.op.Op.{Op}
+use Rattle.machine_states.specs.map_history.specs.declared.op.Op.TheVariants.{Get}
+use Rattle.machine_states.specs.map_history.specs.declared.op.Request.{Request}
+use Rattle.machine_states.specs.map_history.specs.Keys.{key_of, other_key_of}
+use Rattle.machine_states.specs.map_history.specs.Requests.{AreInOrder}
+use Rattle.machine_states.specs.map_history.proofs.Cells.{key_is}
 use Rattle.leaf_tree.specs.tree_laws.specs.bucket_laws.specs.Walk.{has_one_key}
 use Rattle.lock_tests.specs.Asked.{request_at, trace_of}
 

@@ -1,13 +1,13 @@
 -- What a plan of the worker's next request gives to the publication of its section, and this to its run.
 use Rattle.std.proofs.Common.{◌≡◌, ℕ, ◌≤◌, ◌++◌, length, true, sym, ap, subst, ◌∙◌, Some, None}
 use Rattle.std.specs.Prelude.{◌&&◌, not, slice_get}
-use Rattle.machine_states.specs.runner_steps.specs.map_history.specs.declared.op.Request.{Request}
-use Rattle.machine_states.specs.runner_steps.specs.body_terms.specs.Word.{is_spent}
-use Rattle.machine_states.specs.runner_steps.specs.body_terms.specs.declared.thunk.Thunk.{Thunk}
+use Rattle.machine_states.specs.map_history.specs.declared.op.Request.{Request}
+use Rattle.machine_states.specs.body_terms.specs.Word.{is_spent}
+use Rattle.machine_states.specs.body_terms.specs.declared.thunk.Thunk.{Thunk}
 use Rattle.settled_tables.specs.settling.specs.runner_gate.specs.Asks.{Asks}
 use Rattle.machine_states.specs.structure_laws.specs.Meaning.{Meaning}
-use Rattle.machine_states.specs.runner_steps.specs.runner_parts.specs.State.{DescriptorsState, NodesState, ReadsState}
-use Rattle.machine_states.specs.runner_steps.specs.runner_parts.specs.Tests.{has_pair, is_next, serves}
+use Rattle.machine_states.specs.runner_parts.specs.State.{DescriptorsState, NodesState, ReadsState}
+use Rattle.machine_states.specs.runner_parts.specs.Tests.{has_pair, is_next, serves}
 use Rattle.settled_tables.specs.closed_words.specs.version_words.specs.RunnerState.{RunnerState}
 use Rattle.hash_table.specs.try_lock.specs.epoch_slots.specs.Entries.{Enters}
 use Rattle.hash_table.specs.try_lock.specs.declared.planned.Planned.{Planned}

@@ -2,12 +2,12 @@
 use Rattle.std.proofs.Common.{◌≡◌, ◌≢◌, ℕ, zero, suc, ◌≤◌, Bool, true, false, refl, ap, ◌∙◌, arith, Option, None, inl, inr}
 use Rattle.std.specs.Prelude.{◌==◌, ◌||◌}
 use Rattle.std.proofs.lemmas.Bool.Decides.{nat_tests}
-use Rattle.machine_states.specs.runner_steps.specs.body_terms.specs.Trail.{Agreed}
-use Rattle.machine_states.specs.runner_steps.specs.body_terms.specs.Word.{is_free}
-use Rattle.machine_states.specs.runner_steps.specs.body_terms.specs.declared.outcome.Outcome.{Outcome}
-use Rattle.machine_states.specs.runner_steps.specs.body_terms.specs.declared.thunk.Thunk.{Thunk}
+use Rattle.machine_states.specs.body_terms.specs.Trail.{Agreed}
+use Rattle.machine_states.specs.body_terms.specs.Word.{is_free}
+use Rattle.machine_states.specs.body_terms.specs.declared.outcome.Outcome.{Outcome}
+use Rattle.machine_states.specs.body_terms.specs.declared.thunk.Thunk.{Thunk}
 use Rattle.machine_states.specs.structure_laws.specs.Meaning.{Meaning}
-use Rattle.machine_states.specs.runner_steps.specs.runner_parts.specs.declared.entries.Published.{Published}
+use Rattle.machine_states.specs.runner_parts.specs.declared.entries.Published.{Published}
 use Rattle.machine_states.specs.runner_steps.specs.AfterInRun.{over_if}
 use Rattle.settled_tables.specs.closed_words.specs.version_words.specs.RunnerState.{RunnerState}
 use Rattle.hash_table.specs.try_lock.specs.commit_log.specs.Runs.{Ran}
@@ -20,7 +20,7 @@ use Rattle.hash_table.specs.try_lock.specs.Reached.{MayRunSection, MayHelp}
 use Rattle.hash_table.specs.try_lock.specs.Ends.{EndsSo, IsCutShort}
 use Rattle.hash_table.specs.try_lock.specs.Retires.{IsOver, HasRetired}
 use Rattle.lock_tests.specs.Workers.{HasRead, IsEmptyHanded}
-use Rattle.machine_states.specs.runner_steps.specs.runner_parts.specs.Tests.{is_between}
+use Rattle.machine_states.specs.runner_parts.specs.Tests.{is_between}
 
 same_over : (d e : ℕ) (over : Bool) → d ≡ e → (over || d == e) ≡ true
 same_over d e true same = refl

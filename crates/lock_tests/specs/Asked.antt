@@ -1,11 +1,11 @@
 -- Requests: which one a worker may plan and publish, and which it has served.
 use Rattle.std.specs.Prelude.{◌≡◌, ◌≢◌, ℕ, ◌<◌, ◌≤◌, ◌%◌, List, map, length, true, false, Some, slice_get, slice_index_or}
 use Rattle.std.specs.List.{range_with_len}
-use Rattle.machine_states.specs.runner_steps.specs.map_history.specs.declared.op.Op.{Op}
-use Rattle.machine_states.specs.runner_steps.specs.map_history.specs.declared.op.Op.TheVariants.{Get}
-use Rattle.machine_states.specs.runner_steps.specs.map_history.specs.declared.op.Request.{Request}
-use Rattle.machine_states.specs.runner_steps.specs.runner_parts.specs.declared.entries.Known.{Known}
-use Rattle.machine_states.specs.runner_steps.specs.runner_parts.specs.Tests.{is_answered, is_next}
+use Rattle.machine_states.specs.map_history.specs.declared.op.Op.{Op}
+use Rattle.machine_states.specs.map_history.specs.declared.op.Op.TheVariants.{Get}
+use Rattle.machine_states.specs.map_history.specs.declared.op.Request.{Request}
+use Rattle.machine_states.specs.runner_parts.specs.declared.entries.Known.{Known}
+use Rattle.machine_states.specs.runner_parts.specs.Tests.{is_answered, is_next}
 use Rattle.settled_tables.specs.closed_words.specs.version_words.specs.RunnerState.{RunnerState}
 use Rattle.hash_table.specs.try_lock.specs.epoch_slots.specs.Collects.{IsTidy}
 use Rattle.lock_tests.specs.Workers.{HasReserve}

@@ -1,7 +1,7 @@
 -- A hash table of one bucket with two workers, and one request for each.
 use Rattle.std.specs.Prelude.{◌≡◌, ℕ, zero, suc, List, [], ◌∷◌}
-use Rattle.machine_states.specs.runner_steps.specs.map_history.specs.declared.op.Op.{Op}
-use Rattle.machine_states.specs.runner_steps.specs.map_history.specs.declared.op.Request.{Request}
+use Rattle.machine_states.specs.map_history.specs.declared.op.Op.{Op}
+use Rattle.machine_states.specs.map_history.specs.declared.op.Request.{Request}
 use Rattle.settled_tables.specs.closed_words.specs.version_words.specs.TableState.{TableState}
 use Rattle.hash_table.specs.declared.table.HashTable.{HashTable}
 

@@ -1,7 +1,7 @@
 -- A table with two workers.
 use Rattle.std.specs.Prelude.{◌≡◌, List, [], ◌∷◌}
-use Rattle.machine_states.specs.runner_steps.specs.map_history.specs.declared.op.Op.TheVariants.{Get}
-use Rattle.machine_states.specs.runner_steps.specs.map_history.specs.declared.op.Request.{Request}
+use Rattle.machine_states.specs.map_history.specs.declared.op.Op.TheVariants.{Get}
+use Rattle.machine_states.specs.map_history.specs.declared.op.Request.{Request}
 use Rattle.settled_tables.specs.closed_words.specs.version_words.specs.TableState.{TableState}
 
 -- one request for each of two workers

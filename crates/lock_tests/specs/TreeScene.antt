@@ -1,6 +1,6 @@
 -- A tree with one worker and these requests.
 use Rattle.std.specs.Prelude.{◌≡◌, ℕ, List}
-use Rattle.machine_states.specs.runner_steps.specs.map_history.specs.declared.op.Request.{Request}
+use Rattle.machine_states.specs.map_history.specs.declared.op.Request.{Request}
 use Rattle.settled_tables.specs.closed_words.specs.version_words.specs.TableState.{TableState}
 use Rattle.leaf_tree.specs.declared.tree.LeafTree.{LeafTree}
 

@@ -1,6 +1,6 @@
 //! Two workers, and their requests.
 ghost use Rattle.std.specs.Prelude.{◌≡◌, ◌+◌, ◌<◌, IfOk};
-ghost use Rattle.machine_states.specs.runner_steps.specs.map_history.specs.declared.op.Op.TheVariants.{Get, Ins, Del};
+ghost use Rattle.machine_states.specs.map_history.specs.declared.op.Op.TheVariants.{Get, Ins, Del};
 ghost use Rattle.settled_tables.specs.closed_words.specs.version_words.specs.TableState.{IsOf};
 ghost use Rattle.settled_tables.specs.closed_words.specs.version_words.specs.Stages.{IsKeeper};
 ghost use Rattle.lock_tests.specs.AttemptScene.{IsScene, IsFresh, ServesThem};
@@ -8,9 +8,9 @@ ghost use Rattle.lock_tests.specs.AttemptScene.{IsScene, IsFresh, ServesThem};
 use hash_table::lock_walks::Planner;
 use hash_table::lock_walks::version_words::{FlockTable, Runner};
 use lock_attempts::attempts::{Attempt, attempt};
-use machine_states::runner_steps::body_terms::Steps;
-use machine_states::runner_steps::map_history::{Op, Request};
-use machine_states::runner_steps::table_words::Layout;
+use machine_states::body_terms::Steps;
+use machine_states::map_history::{Op, Request};
+use machine_states::table_words::Layout;
 use settled_tables::settling::runner_gate::{Free, Gate};
 use std::alloc::{AllocError, Global};
 

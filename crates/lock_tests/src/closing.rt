@@ -1,9 +1,9 @@
 //! What the words of a closed table hold.
 ghost use Rattle.std.specs.Prelude.{◌≡◌, ◌≤◌, ◌<◌, ◌&&◌, ◌==◌, not, true, IfOk};
 ghost use Rattle.std.specs.FinMap.{entries};
-ghost use Rattle.machine_states.specs.runner_steps.specs.map_history.specs.Replay.{Pairs};
-ghost use Rattle.machine_states.specs.runner_steps.specs.body_terms.specs.Word.{value_of};
-ghost use Rattle.machine_states.specs.runner_steps.specs.table_words.specs.declared.spot.Spot.TheVariants.{Cell};
+ghost use Rattle.machine_states.specs.map_history.specs.Replay.{Pairs};
+ghost use Rattle.machine_states.specs.body_terms.specs.Word.{value_of};
+ghost use Rattle.machine_states.specs.table_words.specs.declared.spot.Spot.TheVariants.{Cell};
 ghost use Rattle.settled_tables.specs.closed_words.specs.version_words.specs.TableState.{word_of};
 ghost use Rattle.hash_table.specs.try_lock.specs.Contents.{StandFor};
 ghost use Rattle.settled_tables.specs.closed_words.specs.Histories.{HoldsNoLock};
@@ -11,7 +11,7 @@ ghost use Rattle.lock_tests.specs.Closing.{cells_of};
 
 use hash_table::lock_walks::Planner;
 use hash_table::lock_walks::version_words::Words;
-use machine_states::runner_steps::body_terms::Place;
+use machine_states::body_terms::Place;
 use machine_states::structure_laws::Structure;
 use settled_tables::closed_words::closed_words_have_a_history;
 use std::alloc::{AllocError, Global};

@@ -1,7 +1,7 @@
 //! A worker's requests from plan to answer.
 ghost use Rattle.std.specs.Prelude.{◌≡◌, ◌+◌, ◌<◌, length, true, All, Some, IfOk, IfSome, slice_get};
-ghost use Rattle.machine_states.specs.runner_steps.specs.map_history.specs.declared.op.Request.{Request};
-ghost use Rattle.machine_states.specs.runner_steps.specs.runner_parts.specs.Tests.{is_answered};
+ghost use Rattle.machine_states.specs.map_history.specs.declared.op.Request.{Request};
+ghost use Rattle.machine_states.specs.runner_parts.specs.Tests.{is_answered};
 ghost use Rattle.settled_tables.specs.closed_words.specs.version_words.specs.TableState.{IsOf};
 ghost use Rattle.hash_table.specs.try_lock.specs.epoch_slots.specs.Collects.{IsTidy};
 ghost use Rattle.hash_table.specs.try_lock.specs.declared.section.Section.{Section};
@@ -18,8 +18,8 @@ use hash_table::lock_walks::section_runs::RunEnd;
 use hash_table::lock_walks::try_lock::{Planned, publish};
 use hash_table::lock_walks::version_words::{FlockTable, Runner};
 use lock_attempts::attempts::reserve_slots;
-use machine_states::runner_steps::body_terms::Steps;
-use machine_states::runner_steps::map_history::Request;
+use machine_states::body_terms::Steps;
+use machine_states::map_history::Request;
 use machine_states::structure_laws::Structure;
 use settled_tables::settling::runner_gate::Free;
 use std::alloc::{AllocError, Global};

@@ -1,14 +1,14 @@
 //! Tests.
 ghost use Rattle.std.specs.Prelude.{◌≡◌, ◌≤◌, true, IfOk};
 ghost use Rattle.leaf_tree.specs.tree_laws.specs.bucket_laws.specs.Walk.{has_one_key};
-ghost use Rattle.machine_states.specs.runner_steps.specs.map_history.specs.Keys.{key_of};
+ghost use Rattle.machine_states.specs.map_history.specs.Keys.{key_of};
 
 use crate::hash_scene::{new_table, pairs_of, plan_and_publish};
 use crate::scripts::scripted;
 use crate::turns::{Offer, Turn, read_lock, run_own, side_by_side};
 use crate::workers::{crew, gather};
-use machine_states::runner_steps::body_terms::{Outcome, StepKind};
-use machine_states::runner_steps::map_history::Op;
+use machine_states::body_terms::{Outcome, StepKind};
+use machine_states::map_history::Op;
 use settled_tables::settling::runner_gate::Free;
 use std::alloc::{AllocError, Global};
 use std::thread::Threads;

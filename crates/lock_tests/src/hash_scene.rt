@@ -1,8 +1,8 @@
 //! Two workers on a hash table of one bucket, from a plan to the contents.
 ghost use Rattle.std.specs.Prelude.{◌≡◌, ◌<◌, ◌≤◌, true, IfOk};
 ghost use Rattle.std.specs.FinMap.{entries};
-ghost use Rattle.machine_states.specs.runner_steps.specs.map_history.specs.Keys.{key_of};
-ghost use Rattle.machine_states.specs.runner_steps.specs.map_history.specs.Replay.{Pairs};
+ghost use Rattle.machine_states.specs.map_history.specs.Keys.{key_of};
+ghost use Rattle.machine_states.specs.map_history.specs.Replay.{Pairs};
 ghost use Rattle.leaf_tree.specs.tree_laws.specs.bucket_laws.specs.Buckets.{buckets_meaning};
 ghost use Rattle.leaf_tree.specs.tree_laws.specs.bucket_laws.specs.Walk.{has_one_key};
 ghost use Rattle.settled_tables.specs.closed_words.specs.version_words.specs.TableState.{IsOf};
@@ -17,8 +17,8 @@ use crate::turns::Offer;
 use crate::{closing, courses};
 use hash_table::HashTable;
 use hash_table::lock_walks::version_words::{FlockTable, Runner, Words};
-use machine_states::runner_steps::map_history::{Op, Request};
-use machine_states::runner_steps::table_words::Layout;
+use machine_states::map_history::{Op, Request};
+use machine_states::table_words::Layout;
 use std::alloc::{AllocError, Global};
 
 /// The request of the worker with this number, where these are the operations of both.

@@ -1,7 +1,7 @@
 //! Tests.
 ghost use Rattle.std.specs.Prelude.{◌≡◌, IfOk};
-ghost use Rattle.machine_states.specs.runner_steps.specs.body_terms.specs.Trail.{Agreed};
-ghost use Rattle.machine_states.specs.runner_steps.specs.body_terms.specs.declared.outcome.Outcome.{Outcome};
+ghost use Rattle.machine_states.specs.body_terms.specs.Trail.{Agreed};
+ghost use Rattle.machine_states.specs.body_terms.specs.declared.outcome.Outcome.{Outcome};
 ghost use Rattle.hash_table.specs.try_lock.specs.section_runs.specs.declared.runs.RunEnd.TheVariants.{Done};
 ghost use Rattle.hash_table.specs.try_lock.specs.epoch_slots.specs.Collects.{IsTidy};
 ghost use Rattle.settled_tables.specs.closed_words.specs.version_words.specs.TableState.{IsOf};
@@ -17,7 +17,7 @@ use hash_table::lock_walks::section_runs::RunEnd;
 use hash_table::lock_walks::try_lock::Section;
 use hash_table::lock_walks::version_words::{FlockTable, Runner, Words};
 use interleave_core::Tray;
-use machine_states::runner_steps::body_terms::{Outcome, Refused, StepKind, Word};
+use machine_states::body_terms::{Outcome, Refused, StepKind, Word};
 use settled_tables::settling::runner_gate::{Free, Gate, HaltAt};
 use std::alloc::{AllocError, Global};
 use std::thread::Threads;

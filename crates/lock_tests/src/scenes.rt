@@ -14,9 +14,9 @@ use hash_table::lock_walks::epoch_slots::{enter, exit};
 use hash_table::lock_walks::try_lock::publish;
 use hash_table::lock_walks::version_words::{FlockTable, Runner};
 use interleave_core::Tray;
-use machine_states::runner_steps::body_terms::{Thunk, Word};
-use machine_states::runner_steps::map_history::{Op, Request};
-use machine_states::runner_steps::table_words::Layout;
+use machine_states::body_terms::{Thunk, Word};
+use machine_states::map_history::{Op, Request};
+use machine_states::table_words::Layout;
 use std::alloc::{AllocError, Global};
 
 /// A table with two node slots and one descriptor for each of two workers, and one request for each.

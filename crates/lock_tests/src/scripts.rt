@@ -1,6 +1,6 @@
 //! Scripts for two workers.
 
-use machine_states::runner_steps::body_terms::StepKind;
+use machine_states::body_terms::StepKind;
 use settled_tables::settling::runner_gate::{Gates, Pause, Scripted, ScriptedGates};
 use std::alloc::{AllocError, Global};
 

@@ -1,12 +1,12 @@
 //! The requests of one trace.
 ghost use Rattle.std.specs.Prelude.{◌≡◌, ◌<◌, ◌≤◌, true, All, IfOk, length};
-ghost use Rattle.machine_states.specs.runner_steps.specs.map_history.specs.declared.op.Request.{Request as Asked};
-ghost use Rattle.machine_states.specs.runner_steps.specs.map_history.specs.Keys.{key_of};
-ghost use Rattle.machine_states.specs.runner_steps.specs.map_history.specs.Requests.{AreInOrder};
+ghost use Rattle.machine_states.specs.map_history.specs.declared.op.Request.{Request as Asked};
+ghost use Rattle.machine_states.specs.map_history.specs.Keys.{key_of};
+ghost use Rattle.machine_states.specs.map_history.specs.Requests.{AreInOrder};
 ghost use Rattle.leaf_tree.specs.tree_laws.specs.bucket_laws.specs.Walk.{has_one_key};
 ghost use Rattle.lock_tests.specs.Asked.{trace_of};
 
-use machine_states::runner_steps::map_history::{Op, Request};
+use machine_states::map_history::{Op, Request};
 use std::alloc::{AllocError, Global};
 
 /// So many requests of one trace, which take these operations, each with one key, in turn.

@@ -3,8 +3,8 @@
 use crate::courses::{Course, Served};
 use crate::tree_scene::{Row, serve_trace};
 use hash_table::lock_walks::epoch_slots::{Kind, Short};
-use machine_states::runner_steps::body_terms::{Outcome, Word};
-use machine_states::runner_steps::map_history::Op;
+use machine_states::body_terms::{Outcome, Word};
+use machine_states::map_history::Op;
 use std::alloc::AllocError;
 
 /// The reply words of an added pair, of a key that was there, of a pair that was taken out, and of an absent key.

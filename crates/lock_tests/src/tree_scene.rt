@@ -1,8 +1,8 @@
 //! One worker on a search tree, from its first plan to the contents.
 ghost use Rattle.std.specs.Prelude.{◌≡◌, ◌<◌, ◌≤◌, true, All, IfOk, length};
-ghost use Rattle.machine_states.specs.runner_steps.specs.map_history.specs.Keys.{key_of};
+ghost use Rattle.machine_states.specs.map_history.specs.Keys.{key_of};
 ghost use Rattle.leaf_tree.specs.tree_laws.specs.bucket_laws.specs.Walk.{has_one_key};
-ghost use Rattle.machine_states.specs.runner_steps.specs.map_history.specs.Requests.{AreInOrder};
+ghost use Rattle.machine_states.specs.map_history.specs.Requests.{AreInOrder};
 ghost use Rattle.settled_tables.specs.closed_words.specs.version_words.specs.TableState.{IsOf};
 ghost use Rattle.settled_tables.specs.closed_words.specs.version_words.specs.Stages.{IsKeeper, HasJoined};
 ghost use Rattle.lock_tests.specs.TreeScene.{IsScene};
@@ -13,8 +13,8 @@ use crate::traces::one_trace;
 use crate::workers::{gather_one, split};
 use hash_table::lock_walks::version_words::{FlockTable, Runner, Words};
 use leaf_tree::LeafTree;
-use machine_states::runner_steps::map_history::{Op, Request};
-use machine_states::runner_steps::table_words::Layout;
+use machine_states::map_history::{Op, Request};
+use machine_states::table_words::Layout;
 use std::alloc::{AllocError, Global};
 
 /// What is left of a row: what came of each request, how many of the worker's node slots are free and how many in

@@ -1,7 +1,7 @@
 //! Runs of a section by its publisher and by another worker, in turn or on two threads.
 ghost use Rattle.std.specs.Prelude.{◌≡◌, ◌<◌, ℕ, true};
-ghost use Rattle.machine_states.specs.runner_steps.specs.body_terms.specs.Trail.{Agreed};
-ghost use Rattle.machine_states.specs.runner_steps.specs.body_terms.specs.declared.outcome.Outcome.{Outcome as Ending};
+ghost use Rattle.machine_states.specs.body_terms.specs.Trail.{Agreed};
+ghost use Rattle.machine_states.specs.body_terms.specs.declared.outcome.Outcome.{Outcome as Ending};
 ghost use Rattle.hash_table.specs.try_lock.specs.section_runs.specs.declared.runs.RunEnd.TheVariants.{Done};
 ghost use Rattle.hash_table.specs.try_lock.specs.epoch_slots.specs.Collects.{IsTidy};
 ghost use Rattle.settled_tables.specs.closed_words.specs.version_words.specs.TableState.{IsOf};
@@ -12,7 +12,7 @@ use hash_table::lock_walks::epoch_slots::{enter, exit};
 use hash_table::lock_walks::section_runs::RunEnd;
 use hash_table::lock_walks::try_lock::{Section, help, retire_section, run_section};
 use hash_table::lock_walks::version_words::{FlockTable, Runner};
-use machine_states::runner_steps::body_terms::{Outcome, Place, Refused, Steps, Word};
+use machine_states::body_terms::{Outcome, Place, Refused, Steps, Word};
 use machine_states::structure_laws::Structure;
 use settled_tables::settling::runner_gate::Gate;
 use std::thread;

@@ -3,22 +3,22 @@ use Rattle.std.proofs.Common.{◌≡◌, ℕ, ◌+◌, ◌*◌, ◌^◌, ◌<◌
 use Rattle.std.specs.Prelude.{is_some}
 use mathlib.Core.Logic.{dite}
 use native.Mathlib.Decide.{ℕ_discrete}
-use Rattle.machine_states.specs.runner_steps.specs.map_history.specs.declared.op.Op.{Op}
-use Rattle.machine_states.specs.runner_steps.specs.map_history.specs.declared.op.Request.{Request}
-use Rattle.machine_states.specs.runner_steps.specs.table_words.specs.declared.layout.Layout.{Layout}
-use Rattle.machine_states.specs.runner_steps.specs.table_words.specs.declared.spot.Spot.TheVariants as spots
-use Rattle.machine_states.specs.runner_steps.specs.table_words.specs.declared.access.Access.TheVariants.{Loads}
-use Rattle.machine_states.specs.runner_steps.specs.table_words.specs.Limits.{IsWithinLimits}
+use Rattle.machine_states.specs.map_history.specs.declared.op.Op.{Op}
+use Rattle.machine_states.specs.map_history.specs.declared.op.Request.{Request}
+use Rattle.machine_states.specs.table_words.specs.declared.layout.Layout.{Layout}
+use Rattle.machine_states.specs.table_words.specs.declared.spot.Spot.TheVariants as spots
+use Rattle.machine_states.specs.table_words.specs.declared.access.Access.TheVariants.{Loads}
+use Rattle.machine_states.specs.table_words.specs.Limits.{IsWithinLimits}
 use Rattle.try_lock.specs.section_runs.specs.runner_gate.specs.Asks.{Asks}
 use Rattle.machine_states.specs.structure_laws.specs.Scene.{Readings}
 use Rattle.machine_states.specs.structure_laws.specs.Meaning.{Meaning}
 use Rattle.machine_states.specs.structure_laws.specs.Laws.{Laws}
 use Rattle.machine_states.specs.structure_laws.specs.Cells.{slots}
 use Rattle.machine_states.specs.structure_laws.specs.Sections.{IsAllowed}
-use Rattle.machine_states.specs.runner_steps.specs.runner_parts.specs.declared.entries.Published.{Published}
+use Rattle.machine_states.specs.runner_parts.specs.declared.entries.Published.{Published}
 use Rattle.machine_states.specs.epoch_core.specs.declared.stage.Stage.TheVariants as stages
-use Rattle.machine_states.specs.runner_steps.specs.runner_parts.specs.State.{PartState, ReadsState}
-use Rattle.machine_states.specs.runner_steps.specs.runner_parts.specs.Tests.{is_readable}
+use Rattle.machine_states.specs.runner_parts.specs.State.{PartState, ReadsState}
+use Rattle.machine_states.specs.runner_parts.specs.Tests.{is_readable}
 use Rattle.machine_states.specs.World.{World}
 use Rattle.machine_states.specs.Reached.{Reached}
 use Rattle.machine_states.specs.Sight.{sight, part_or_first}

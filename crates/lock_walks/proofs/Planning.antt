@@ -1,16 +1,16 @@
 -- What is answered where a walker has led.
 use Rattle.std.proofs.Common.{◌≡◌, ℕ, ◌+◌, ◌*◌, ◌≤◌, [], ◌∷◌, ◌++◌, length, Bool, true, false, refl, sym, ap, subst, ◌∙◌, arith, Option, Some, None}
 use Rattle.std.specs.Prelude.{◌-◌, ◌==◌, ◌&&◌, is_some, not, if◌then◌else◌}
-use Rattle.machine_states.specs.runner_steps.specs.map_history.specs.declared.op.Op.{Op}
-use Rattle.machine_states.specs.runner_steps.specs.map_history.specs.declared.op.Request.{Request}
-use Rattle.machine_states.specs.runner_steps.specs.body_terms.specs.Word.{value_of, version_of, pack, is_free, is_spent}
-use Rattle.machine_states.specs.runner_steps.specs.body_terms.specs.declared.thunk.Thunk.{Thunk}
-use Rattle.machine_states.specs.runner_steps.specs.table_words.specs.declared.layout.Layout.{Layout}
+use Rattle.machine_states.specs.map_history.specs.declared.op.Op.{Op}
+use Rattle.machine_states.specs.map_history.specs.declared.op.Request.{Request}
+use Rattle.machine_states.specs.body_terms.specs.Word.{value_of, version_of, pack, is_free, is_spent}
+use Rattle.machine_states.specs.body_terms.specs.declared.thunk.Thunk.{Thunk}
+use Rattle.machine_states.specs.table_words.specs.declared.layout.Layout.{Layout}
 use Rattle.try_lock.specs.section_runs.specs.runner_gate.specs.Asks.{Asks}
 use Rattle.machine_states.specs.structure_laws.specs.Scene.{Readings}
 use Rattle.machine_states.specs.structure_laws.specs.Meaning.{Meaning}
 use Rattle.machine_states.specs.structure_laws.specs.Cells.{slots}
-use Rattle.machine_states.specs.runner_steps.specs.runner_parts.specs.State.{ReadsState}
+use Rattle.machine_states.specs.runner_parts.specs.State.{ReadsState}
 use Rattle.try_lock.specs.commit_log.specs.version_words.specs.RunnerState.{RunnerState}
 use Rattle.try_lock.specs.commit_log.specs.version_words.specs.TableState.{TableState, IsOf}
 use Rattle.try_lock.specs.commit_log.specs.Asked.{IsAsked}

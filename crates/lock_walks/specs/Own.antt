@@ -1,6 +1,6 @@
 -- A plan answers the thunk of its own walk.
 use Rattle.std.specs.Prelude.{◌≡◌, ℕ}
-use Rattle.machine_states.specs.runner_steps.specs.body_terms.specs.declared.thunk.Thunk.{Thunk}
+use Rattle.machine_states.specs.body_terms.specs.declared.thunk.Thunk.{Thunk}
 use Rattle.machine_states.specs.structure_laws.specs.Scene.{Readings}
 use Rattle.try_lock.specs.declared.planned.Planned.{Planned}
 use Rattle.try_lock.specs.declared.planned.Planned.TheVariants as answers

@@ -1,7 +1,7 @@
 -- How many slots a section retires at most.
 use Rattle.std.specs.Prelude.{◌≤◌, count_by}
-use Rattle.machine_states.specs.runner_steps.specs.body_terms.specs.Shape.{is_retire}
-use Rattle.machine_states.specs.runner_steps.specs.body_terms.specs.declared.thunk.Thunk.{Thunk}
+use Rattle.machine_states.specs.body_terms.specs.Shape.{is_retire}
+use Rattle.machine_states.specs.body_terms.specs.declared.thunk.Thunk.{Thunk}
 use Rattle.machine_states.specs.structure_laws.specs.Meaning.{Meaning}
 
 -- no body has more than two Retires

@@ -1,8 +1,8 @@
 //! What a structure offers to those who plan requests on it.
 ghost use Rattle.std.specs.Prelude.{◌≡◌, true, Some, IfOk, slice_get};
 ghost use Rattle.std.specs.FinMap.{entries};
-ghost use Rattle.machine_states.specs.runner_steps.specs.map_history.specs.Replay.{Pairs};
-ghost use Rattle.machine_states.specs.runner_steps.specs.table_words.specs.Limits.{IsWithinLimits};
+ghost use Rattle.machine_states.specs.map_history.specs.Replay.{Pairs};
+ghost use Rattle.machine_states.specs.table_words.specs.Limits.{IsWithinLimits};
 ghost use Rattle.machine_states.specs.structure_laws.specs.Planner.{PlannerLaws};
 ghost use Rattle.machine_states.specs.structure_laws.specs.Sections.{IsAllowed};
 ghost use Rattle.try_lock.specs.commit_log.specs.version_words.specs.TableState.{IsOf};
@@ -16,10 +16,10 @@ ghost use Rattle.lock_walks.specs.Gets.{GetsAreLight};
 
 use crate::plans::plan_by;
 use crate::walker::Walker;
-use machine_states::runner_steps::body_terms::Steps;
-use machine_states::runner_steps::map_history::{Op, Request};
-use machine_states::runner_steps::table_words::Layout;
+use machine_states::body_terms::Steps;
+use machine_states::map_history::{Op, Request};
 use machine_states::structure_laws::Structure;
+use machine_states::table_words::Layout;
 use std::alloc::{AllocError, Global};
 use try_lock::Planned;
 use try_lock::commit_log::version_words::{FlockTable, Runner, Words};

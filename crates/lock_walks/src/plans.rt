@@ -1,7 +1,7 @@
 //! The loads of a plan, and its answer.
 ghost use Rattle.std.specs.Prelude.{◌≡◌, ◌+◌, ◌<◌, ℕ, true, is_some, Some};
-ghost use Rattle.machine_states.specs.runner_steps.specs.map_history.specs.declared.op.Op.{Op};
-ghost use Rattle.machine_states.specs.runner_steps.specs.table_words.specs.Limits.{IsWithinLimits};
+ghost use Rattle.machine_states.specs.map_history.specs.declared.op.Op.{Op};
+ghost use Rattle.machine_states.specs.table_words.specs.Limits.{IsWithinLimits};
 ghost use Rattle.machine_states.specs.structure_laws.specs.Scene.{Readings};
 ghost use Rattle.machine_states.specs.structure_laws.specs.Cells.{slots};
 ghost use Rattle.machine_states.specs.structure_laws.specs.Sections.{IsAllowed};
@@ -12,10 +12,10 @@ ghost use Rattle.lock_walks.specs.Own.{IsOwn};
 ghost use Rattle.lock_walks.specs.Led.{HasLed, Start, IsOnWay, GoesOn, GoesThrough};
 
 use crate::walker::Walker;
-use machine_states::runner_steps::body_terms::{Place, StepKind, Steps, Word};
-use machine_states::runner_steps::map_history::Request;
-use machine_states::runner_steps::table_words::Layout;
+use machine_states::body_terms::{Place, StepKind, Steps, Word};
+use machine_states::map_history::Request;
 use machine_states::structure_laws::Structure;
+use machine_states::table_words::Layout;
 use runner_facts::walks_stand;
 use try_lock::Planned;
 use try_lock::commit_log::version_words::{FlockTable, Runner};

@@ -3,7 +3,7 @@ ghost use Rattle.std.specs.Prelude.{◌≡◌};
 ghost use Rattle.lock_walks.specs.Way.{Way};
 ghost use Rattle.lock_walks.specs.Followed.{is_next, followed};
 
-use machine_states::runner_steps::body_terms::{Place, Thunk, Word};
+use machine_states::body_terms::{Place, Thunk, Word};
 
 /// How far the walk of an operation has come. It wants one place after the other, and goes on by the word that stood
 /// there.

@@ -1,12 +1,12 @@
 -- The word by which a run leaves was read at its place.
 use Rattle.std.specs.Prelude.{slice_index, false, true}
 use Rattle.std.proofs.Common.{◌≡◌, ℕ, suc, ◌<◌, length, sym, ap, ◌∙◌, subst, ⊎_elim, inl, inr, arith, Some}
-use Rattle.agreement_core.specs.body_terms.specs.Word.{version_of}
-use Rattle.agreement_core.specs.body_terms.specs.Line.{micro_at, is_commit}
-use Rattle.agreement_core.specs.body_terms.specs.declared.micro.Micro.TheVariants.{CheckFresh, Commit, NestedCommit, OutcomeCommit}
-use Rattle.agreement_core.specs.table_words.specs.declared.layout.Layout.{Layout}
+use Rattle.machine_states.specs.body_terms.specs.Word.{version_of}
+use Rattle.machine_states.specs.body_terms.specs.Line.{micro_at, is_commit}
+use Rattle.machine_states.specs.body_terms.specs.declared.micro.Micro.TheVariants.{CheckFresh, Commit, NestedCommit, OutcomeCommit}
+use Rattle.machine_states.specs.table_words.specs.declared.layout.Layout.{Layout}
 use Rattle.machine_states.specs.structure_laws.specs.Meaning.{Meaning}
-use Rattle.machine_states.specs.runner_steps.specs.runner_parts.specs.State.{RunState}
+use Rattle.machine_states.specs.runner_parts.specs.State.{RunState}
 use Rattle.machine_states.specs.runner_steps.specs.Sections.{line_of}
 use Rattle.agreement_core.specs.section_lines.specs.Line.{IsLine}
 use Rattle.agreement_core.specs.State.{AgreementState, Section}

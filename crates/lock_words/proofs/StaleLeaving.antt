@@ -2,13 +2,13 @@
 use Rattle.std.specs.Prelude.{◌==◌, ◌&&◌, ◌⊎◌, cond, not, Bool, true, false, slice_index}
 use Rattle.std.proofs.Common.{◌≡◌, ◌≢◌, ℕ, List, refl, sym, ap, ◌∙◌, inl, inr, arith, Option, Some, None}
 use Rattle.std.proofs.lemmas.Bool.Decides.{nat_tests}
-use Rattle.agreement_core.specs.body_terms.specs.Run.{leaves, refusal, is_takable}
-use Rattle.agreement_core.specs.body_terms.specs.Word.{held_word, is_free, is_spent}
-use Rattle.agreement_core.specs.body_terms.specs.declared.outcome.Outcome.{Outcome}
-use Rattle.agreement_core.specs.body_terms.specs.declared.outcome.Outcome.TheVariants.{Busy, Stale, Spent}
-use Rattle.agreement_core.specs.body_terms.specs.declared.micro.Micro.{Micro}
-use Rattle.agreement_core.specs.body_terms.specs.declared.micro.Micro.TheVariants.{CheckWord, CheckFresh, CheckFree, CheckHeld}
-use Rattle.agreement_core.specs.table_words.specs.declared.layout.Layout.{Layout}
+use Rattle.machine_states.specs.body_terms.specs.Run.{leaves, refusal, is_takable}
+use Rattle.machine_states.specs.body_terms.specs.Word.{held_word, is_free, is_spent}
+use Rattle.machine_states.specs.body_terms.specs.declared.outcome.Outcome.{Outcome}
+use Rattle.machine_states.specs.body_terms.specs.declared.outcome.Outcome.TheVariants.{Busy, Stale, Spent}
+use Rattle.machine_states.specs.body_terms.specs.declared.micro.Micro.{Micro}
+use Rattle.machine_states.specs.body_terms.specs.declared.micro.Micro.TheVariants.{CheckWord, CheckFresh, CheckFree, CheckHeld}
+use Rattle.machine_states.specs.table_words.specs.declared.layout.Layout.{Layout}
 use Rattle.machine_states.specs.runner_steps.specs.Sections.{setting_of, outcome_or}
 use Rattle.machine_states.proofs.Steps.{some_same, none_some}
 

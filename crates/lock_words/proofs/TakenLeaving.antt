@@ -1,16 +1,16 @@
 -- The word by which a section leaves that finds a lock held is one that it has agreed on for a Take.
 use Rattle.std.specs.Prelude.{◌==◌, ◌⊎◌, cond, Bool, true, false, slice_index}
 use Rattle.std.proofs.Common.{◌≡◌, ℕ, suc, ◌<◌, List, length, sym, ap, ◌∙◌, subst, ⊎_elim, inl, inr, arith, Option, Some, None}
-use Rattle.agreement_core.specs.body_terms.specs.Line.{micro_at, is_commit}
-use Rattle.agreement_core.specs.body_terms.specs.Run.{leaves, refusal, is_takable}
-use Rattle.agreement_core.specs.body_terms.specs.Word.{version_of, held_word, is_free, is_spent}
-use Rattle.agreement_core.specs.body_terms.specs.declared.outcome.Outcome.{Outcome}
-use Rattle.agreement_core.specs.body_terms.specs.declared.outcome.Outcome.TheVariants.{Busy, Stale, Spent}
-use Rattle.agreement_core.specs.body_terms.specs.declared.micro.Micro.{Micro}
-use Rattle.agreement_core.specs.body_terms.specs.declared.micro.Micro.TheVariants.{CheckWord, CheckFresh, CheckFree, CheckHeld}
-use Rattle.agreement_core.specs.table_words.specs.declared.layout.Layout.{Layout}
+use Rattle.machine_states.specs.body_terms.specs.Line.{micro_at, is_commit}
+use Rattle.machine_states.specs.body_terms.specs.Run.{leaves, refusal, is_takable}
+use Rattle.machine_states.specs.body_terms.specs.Word.{version_of, held_word, is_free, is_spent}
+use Rattle.machine_states.specs.body_terms.specs.declared.outcome.Outcome.{Outcome}
+use Rattle.machine_states.specs.body_terms.specs.declared.outcome.Outcome.TheVariants.{Busy, Stale, Spent}
+use Rattle.machine_states.specs.body_terms.specs.declared.micro.Micro.{Micro}
+use Rattle.machine_states.specs.body_terms.specs.declared.micro.Micro.TheVariants.{CheckWord, CheckFresh, CheckFree, CheckHeld}
+use Rattle.machine_states.specs.table_words.specs.declared.layout.Layout.{Layout}
 use Rattle.machine_states.specs.structure_laws.specs.Meaning.{Meaning}
-use Rattle.machine_states.specs.runner_steps.specs.runner_parts.specs.State.{RunState}
+use Rattle.machine_states.specs.runner_parts.specs.State.{RunState}
 use Rattle.machine_states.specs.runner_steps.specs.Sections.{setting_of, outcome_or, line_of}
 use Rattle.agreement_core.specs.State.{AgreementState, Section}
 use Rattle.machine_states.specs.Sight.{Sight}

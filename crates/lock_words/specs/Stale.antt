@@ -1,7 +1,7 @@
 -- Sections that left since they found another word than the expected one, as runners keep them.
 use Rattle.std.specs.Prelude.{◌≡◌, ◌≢◌, ℕ, Some, slice_get}
-use Rattle.agreement_core.specs.body_terms.specs.declared.outcome.Outcome.TheVariants.{Stale}
-use Rattle.machine_states.specs.runner_steps.specs.runner_parts.specs.State.{FinishedState}
+use Rattle.machine_states.specs.body_terms.specs.declared.outcome.Outcome.TheVariants.{Stale}
+use Rattle.machine_states.specs.runner_parts.specs.State.{FinishedState}
 use Rattle.machine_states.specs.Sight.{Sight}
 
 -- where a runner keeps of a section that it ran to its end that it left so, the words differ

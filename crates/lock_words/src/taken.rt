@@ -1,8 +1,8 @@
 //! What the words of Takes name, on a contract.
 ghost use Rattle.std.specs.Prelude.{List};
-ghost use Rattle.agreement_core.specs.map_history.specs.declared.op.Request.{Request};
-ghost use Rattle.agreement_core.specs.table_words.specs.Limits.{IsWithinLimits};
-ghost use Rattle.agreement_core.specs.table_words.specs.declared.layout.Layout.{Layout};
+ghost use Rattle.machine_states.specs.map_history.specs.declared.op.Request.{Request};
+ghost use Rattle.machine_states.specs.table_words.specs.Limits.{IsWithinLimits};
+ghost use Rattle.machine_states.specs.table_words.specs.declared.layout.Layout.{Layout};
 ghost use Rattle.machine_states.specs.World.{World};
 ghost use Rattle.machine_states.specs.Reached.{Reached};
 ghost use Rattle.machine_states.specs.Sight.{sight};

@@ -4,12 +4,12 @@ use Rattle.std.proofs.Common.{◌≡◌, ◌≢◌, ℕ, zero, suc, ◌+◌, Lis
 use Rattle.std.specs.Prelude.{◌⊎◌}
 use Rattle.std.proofs.lemmas.Bool.{cases_eq}
 use Rattle.std.proofs.lemmas.Bool.Decides.{nat_tests}
-use Rattle.agreement_core.specs.body_terms.specs.Run.{written_once}
-use Rattle.agreement_core.specs.table_words.specs.declared.spot.Spot.{Spot}
-use Rattle.agreement_core.specs.table_words.specs.declared.spot.Spot.TheVariants as spots
-use Rattle.agreement_core.specs.body_terms.specs.Update.{upd}
-use Rattle.machine_states.specs.runner_steps.specs.runner_parts.specs.State.{RunState}
-use Rattle.machine_states.specs.runner_steps.specs.runner_parts.specs.Tests.{has_pair}
+use Rattle.machine_states.specs.body_terms.specs.Run.{written_once}
+use Rattle.machine_states.specs.table_words.specs.declared.spot.Spot.{Spot}
+use Rattle.machine_states.specs.table_words.specs.declared.spot.Spot.TheVariants as spots
+use Rattle.machine_states.specs.body_terms.specs.Update.{upd}
+use Rattle.machine_states.specs.runner_parts.specs.State.{RunState}
+use Rattle.machine_states.specs.runner_parts.specs.Tests.{has_pair}
 use Rattle.agreement_core.specs.State.{Shared, Section, Run, AgreementState, section_of}
 use Rattle.agreement_core.specs.Update.{upd2}
 use Rattle.agreement_core.specs.Checks.{came}

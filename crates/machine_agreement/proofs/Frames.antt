@@ -1,14 +1,14 @@
 -- What an event of one run leaves as it is.
 use Rattle.std.specs.Prelude.{Bool, true, slice_index, slice_get}
 use Rattle.std.proofs.Common.{◌≡◌, ◌≢◌, ℕ, ◌<◌, List, length, sym, ap, ◌∙◌, subst, arith, Option, Some, None}
-use Rattle.agreement_core.specs.body_terms.specs.declared.micro.Micro.{Micro}
-use Rattle.agreement_core.specs.body_terms.specs.declared.thunk.Thunk.{Thunk}
-use Rattle.agreement_core.specs.table_words.specs.declared.layout.Layout.{Layout}
-use Rattle.agreement_core.specs.table_words.specs.declared.spot.Spot.{Spot}
-use Rattle.agreement_core.specs.table_words.specs.declared.spot.Spot.TheVariants as spots
+use Rattle.machine_states.specs.body_terms.specs.declared.micro.Micro.{Micro}
+use Rattle.machine_states.specs.body_terms.specs.declared.thunk.Thunk.{Thunk}
+use Rattle.machine_states.specs.table_words.specs.declared.layout.Layout.{Layout}
+use Rattle.machine_states.specs.table_words.specs.declared.spot.Spot.{Spot}
+use Rattle.machine_states.specs.table_words.specs.declared.spot.Spot.TheVariants as spots
 use Rattle.machine_states.specs.structure_laws.specs.Meaning.{Meaning}
-use Rattle.machine_states.specs.runner_steps.specs.runner_parts.specs.State.{RunState, PartState}
-use Rattle.machine_states.specs.runner_steps.specs.runner_parts.specs.Tests.{has_pair}
+use Rattle.machine_states.specs.runner_parts.specs.State.{RunState, PartState}
+use Rattle.machine_states.specs.runner_parts.specs.Tests.{has_pair}
 use Rattle.machine_states.specs.runner_steps.specs.Sections.{thunk_of, line_of, settles}
 use Rattle.agreement_core.specs.State.{Section, Run, Finished, AgreementState}
 use Rattle.machine_scenes.specs.Shown.{IsOfThunk}

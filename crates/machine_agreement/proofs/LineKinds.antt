@@ -2,22 +2,22 @@
 use Rattle.std.specs.Prelude.{◌==◌, Bool, true, false, cond, if◌then◌else◌}
 use Rattle.std.proofs.Common.{◌≡◌, ◌≢◌, ℕ, ◌+◌, List, [], ◌∷◌, ◌++◌, length, sym, refl, ap, ◌∙◌, subst, arith, Some}
 use Rattle.std.proofs.lemmas.Bool.Decides.{nat_tests}
-use Rattle.agreement_core.specs.map_history.specs.declared.op.Request.{Request}
-use Rattle.agreement_core.specs.body_terms.specs.declared.micro.Micro.{Micro}
-use Rattle.agreement_core.specs.body_terms.specs.Line.{is_event}
-use Rattle.agreement_core.specs.body_terms.specs.Run.{written_once}
-use Rattle.agreement_core.specs.table_words.specs.declared.layout.Layout.{Layout}
-use Rattle.agreement_core.specs.table_words.specs.declared.spot.Spot.{Spot}
-use Rattle.agreement_core.specs.table_words.specs.declared.spot.Spot.TheVariants as spots
-use Rattle.agreement_core.specs.table_words.specs.declared.access.Access.{Access}
-use Rattle.agreement_core.specs.table_words.specs.declared.access.Access.TheVariants.{Loads, Exchanges}
-use Rattle.agreement_core.specs.table_words.specs.Access.{written}
-use Rattle.agreement_core.specs.table_words.specs.Seen.{upd, put}
+use Rattle.machine_states.specs.map_history.specs.declared.op.Request.{Request}
+use Rattle.machine_states.specs.body_terms.specs.declared.micro.Micro.{Micro}
+use Rattle.machine_states.specs.body_terms.specs.Line.{is_event}
+use Rattle.machine_states.specs.body_terms.specs.Run.{written_once}
+use Rattle.machine_states.specs.table_words.specs.declared.layout.Layout.{Layout}
+use Rattle.machine_states.specs.table_words.specs.declared.spot.Spot.{Spot}
+use Rattle.machine_states.specs.table_words.specs.declared.spot.Spot.TheVariants as spots
+use Rattle.machine_states.specs.table_words.specs.declared.access.Access.{Access}
+use Rattle.machine_states.specs.table_words.specs.declared.access.Access.TheVariants.{Loads, Exchanges}
+use Rattle.machine_states.specs.table_words.specs.Access.{written}
+use Rattle.machine_states.specs.table_words.specs.Seen.{upd, put}
 use Rattle.machine_states.specs.structure_laws.specs.Meaning.{Meaning}
-use Rattle.machine_states.specs.runner_steps.specs.runner_parts.specs.declared.event.EventKind.{EventKind}
-use Rattle.machine_states.specs.runner_steps.specs.runner_parts.specs.declared.event.EventKind.TheVariants as kinds
-use Rattle.machine_states.specs.runner_steps.specs.runner_parts.specs.State.{RunState, RecordsState, PartState}
-use Rattle.machine_states.specs.runner_steps.specs.runner_parts.specs.Tests.{has_pair}
+use Rattle.machine_states.specs.runner_parts.specs.declared.event.EventKind.{EventKind}
+use Rattle.machine_states.specs.runner_parts.specs.declared.event.EventKind.TheVariants as kinds
+use Rattle.machine_states.specs.runner_parts.specs.State.{RunState, RecordsState, PartState}
+use Rattle.machine_states.specs.runner_parts.specs.Tests.{has_pair}
 use Rattle.machine_states.specs.runner_steps.specs.Sections.{is_open_run, next_of}
 use Rattle.machine_states.specs.runner_steps.specs.AfterInRun.{opened_more}
 use Rattle.machine_states.specs.runner_steps.specs.After.{after, after_by, line_after, noted}

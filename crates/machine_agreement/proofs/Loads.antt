@@ -1,21 +1,21 @@
 -- The loads and the commits of a run's line, each kind of step joined.
 use Rattle.std.specs.Prelude.{Bool, true, false, if◌then◌else◌}
 use Rattle.std.proofs.Common.{◌≡◌, ℕ, suc, ◌+◌, List, [], ◌∷◌, ◌++◌, refl, ap, subst, arith, inl, inr, ⊎_elim, Some, None}
-use Rattle.agreement_core.specs.map_history.specs.declared.op.Request.{Request}
-use Rattle.agreement_core.specs.body_terms.specs.declared.micro.Micro.{Micro}
-use Rattle.agreement_core.specs.body_terms.specs.declared.micro.Micro.TheVariants as micros
-use Rattle.agreement_core.specs.body_terms.specs.Line.{is_event}
-use Rattle.agreement_core.specs.body_terms.specs.Run.{written_once}
-use Rattle.agreement_core.specs.table_words.specs.declared.layout.Layout.{Layout}
-use Rattle.agreement_core.specs.table_words.specs.declared.spot.Spot.{Spot}
-use Rattle.agreement_core.specs.table_words.specs.declared.spot.Spot.TheVariants as spots
-use Rattle.agreement_core.specs.table_words.specs.declared.access.Access.{Access}
+use Rattle.machine_states.specs.map_history.specs.declared.op.Request.{Request}
+use Rattle.machine_states.specs.body_terms.specs.declared.micro.Micro.{Micro}
+use Rattle.machine_states.specs.body_terms.specs.declared.micro.Micro.TheVariants as micros
+use Rattle.machine_states.specs.body_terms.specs.Line.{is_event}
+use Rattle.machine_states.specs.body_terms.specs.Run.{written_once}
+use Rattle.machine_states.specs.table_words.specs.declared.layout.Layout.{Layout}
+use Rattle.machine_states.specs.table_words.specs.declared.spot.Spot.{Spot}
+use Rattle.machine_states.specs.table_words.specs.declared.spot.Spot.TheVariants as spots
+use Rattle.machine_states.specs.table_words.specs.declared.access.Access.{Access}
 use Rattle.machine_states.specs.structure_laws.specs.Meaning.{Meaning}
-use Rattle.machine_states.specs.runner_steps.specs.runner_parts.specs.declared.event.EventKind.{EventKind}
-use Rattle.machine_states.specs.runner_steps.specs.runner_parts.specs.declared.event.EventKind.TheVariants as kinds
-use Rattle.machine_states.specs.runner_steps.specs.runner_parts.specs.State.{RunState, ReadsState, PartState}
-use Rattle.machine_states.specs.runner_steps.specs.runner_parts.specs.Tests.{has}
-use Rattle.machine_states.specs.runner_steps.specs.runner_parts.specs.Lists.{lock_agreed, holds_named}
+use Rattle.machine_states.specs.runner_parts.specs.declared.event.EventKind.{EventKind}
+use Rattle.machine_states.specs.runner_parts.specs.declared.event.EventKind.TheVariants as kinds
+use Rattle.machine_states.specs.runner_parts.specs.State.{RunState, ReadsState, PartState}
+use Rattle.machine_states.specs.runner_parts.specs.Tests.{has}
+use Rattle.machine_states.specs.runner_parts.specs.Lists.{lock_agreed, holds_named}
 use Rattle.machine_states.specs.runner_steps.specs.Sections.{is_open_run, next_of}
 use Rattle.machine_states.specs.runner_steps.specs.Asks.{asks}
 use Rattle.machine_states.specs.runner_steps.specs.AfterInRun.{make_committed}

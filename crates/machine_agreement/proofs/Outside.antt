@@ -1,18 +1,18 @@
 -- The steps outside a run's line, joined.
 use Rattle.std.specs.Prelude.{◌==◌, cond, Bool, true, slice_get}
 use Rattle.std.proofs.Common.{◌≡◌, ◌≢◌, ℕ, [], ◌∷◌, ◌++◌, length, sym, refl, ap, ◌∙◌, subst, Some, None}
-use Rattle.agreement_core.specs.body_terms.specs.Run.{written_once}
-use Rattle.agreement_core.specs.table_words.specs.declared.layout.Layout.{Layout}
-use Rattle.agreement_core.specs.table_words.specs.declared.spot.Spot.{Spot}
-use Rattle.agreement_core.specs.table_words.specs.declared.spot.Spot.TheVariants as spots
-use Rattle.agreement_core.specs.table_words.specs.declared.access.Access.{Access}
-use Rattle.agreement_core.specs.table_words.specs.Seen.{put}
-use Rattle.agreement_core.specs.table_words.specs.Seen as table
+use Rattle.machine_states.specs.body_terms.specs.Run.{written_once}
+use Rattle.machine_states.specs.table_words.specs.declared.layout.Layout.{Layout}
+use Rattle.machine_states.specs.table_words.specs.declared.spot.Spot.{Spot}
+use Rattle.machine_states.specs.table_words.specs.declared.spot.Spot.TheVariants as spots
+use Rattle.machine_states.specs.table_words.specs.declared.access.Access.{Access}
+use Rattle.machine_states.specs.table_words.specs.Seen.{put}
+use Rattle.machine_states.specs.table_words.specs.Seen as table
 use Rattle.machine_states.specs.structure_laws.specs.Meaning.{Meaning}
-use Rattle.machine_states.specs.runner_steps.specs.runner_parts.specs.declared.event.EventKind.{EventKind}
-use Rattle.machine_states.specs.runner_steps.specs.runner_parts.specs.declared.entries.Published.{Published}
-use Rattle.machine_states.specs.runner_steps.specs.runner_parts.specs.State.{PartState}
-use Rattle.machine_states.specs.runner_steps.specs.runner_parts.specs.Tests.{has_pair}
+use Rattle.machine_states.specs.runner_parts.specs.declared.event.EventKind.{EventKind}
+use Rattle.machine_states.specs.runner_parts.specs.declared.entries.Published.{Published}
+use Rattle.machine_states.specs.runner_parts.specs.State.{PartState}
+use Rattle.machine_states.specs.runner_parts.specs.Tests.{has_pair}
 use Rattle.machine_states.specs.runner_steps.specs.After.{after, after_by, outside_after}
 use Rattle.agreement_core.specs.State.{Shared, Section, Run, Finished, AgreementState}
 use Rattle.agreement_core.specs.Events as events

@@ -3,15 +3,15 @@ use Rattle.std.proofs.Common.{◌≡◌, ◌≢◌, ℕ, zero, suc, ◌+◌, ◌
 use Rattle.std.specs.Prelude.{Bool, cond, ◌&&◌, slice_index, is_none, replicate, not, ◌==◌, nat_le}
 use Rattle.std.proofs.lemmas.List.{get_or-drop}
 use Rattle.std.proofs.lemmas.Bool.Decides.{nat_tests}
-use Rattle.agreement_core.specs.body_terms.specs.declared.micro.Micro.{Micro}
-use Rattle.agreement_core.specs.body_terms.specs.declared.micro.Micro.TheVariants as micros
-use Rattle.agreement_core.specs.body_terms.specs.Line.{is_check, micro_at}
-use Rattle.agreement_core.specs.body_terms.specs.Word.{version_of, is_free, is_spent, held_word}
-use Rattle.agreement_core.specs.body_terms.specs.Run.{Setting, leaves, passed_checks, settled}
-use Rattle.agreement_core.specs.table_words.specs.declared.layout.Layout.{Layout}
+use Rattle.machine_states.specs.body_terms.specs.declared.micro.Micro.{Micro}
+use Rattle.machine_states.specs.body_terms.specs.declared.micro.Micro.TheVariants as micros
+use Rattle.machine_states.specs.body_terms.specs.Line.{is_check, micro_at}
+use Rattle.machine_states.specs.body_terms.specs.Word.{version_of, is_free, is_spent, held_word}
+use Rattle.machine_states.specs.body_terms.specs.Run.{Setting, leaves, passed_checks, settled}
+use Rattle.machine_states.specs.table_words.specs.declared.layout.Layout.{Layout}
 use Rattle.machine_states.specs.structure_laws.specs.Meaning.{Meaning}
 use Rattle.machine_states.specs.runner_steps.specs.Sections.{setting_of, line_of, settles}
-use Rattle.machine_states.specs.runner_steps.specs.runner_parts.specs.State.{RunState}
+use Rattle.machine_states.specs.runner_parts.specs.State.{RunState}
 use Rattle.agreement_core.specs.State.{CellRules, Section, Run, AgreementState, section_of}
 use Rattle.agreement_core.specs.Checks.{passes, came}
 use Rattle.agreement_core.specs.Events.{Pass, after}

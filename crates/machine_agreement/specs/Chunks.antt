@@ -1,20 +1,20 @@
 -- Which events of agreement a step of the machine is, by its kind.
 use Rattle.std.specs.Prelude.{◌≡◌, ◌≢◌, ◌⊎◌, ℕ, suc, ◌-◌, ◌==◌, nat_lt, List, [], ◌∷◌, map, Bool, true, false, Option, Some, None, if◌then◌else◌}
 use Rattle.std.specs.List.{filter}
-use Rattle.agreement_core.specs.body_terms.specs.declared.micro.Micro.TheVariants as micros
-use Rattle.agreement_core.specs.body_terms.specs.declared.micro.Source.{Source}
-use Rattle.agreement_core.specs.body_terms.specs.declared.thunk.Thunk.{Thunk}
-use Rattle.agreement_core.specs.body_terms.specs.Line.{line, micro_at, committed, is_end}
-use Rattle.agreement_core.specs.body_terms.specs.Memory.{cell_of}
-use Rattle.agreement_core.specs.table_words.specs.declared.layout.Layout.{Layout}
-use Rattle.agreement_core.specs.table_words.specs.Places.{slot_count}
+use Rattle.machine_states.specs.body_terms.specs.declared.micro.Micro.TheVariants as micros
+use Rattle.machine_states.specs.body_terms.specs.declared.micro.Source.{Source}
+use Rattle.machine_states.specs.body_terms.specs.declared.thunk.Thunk.{Thunk}
+use Rattle.machine_states.specs.body_terms.specs.Line.{line, micro_at, committed, is_end}
+use Rattle.machine_states.specs.body_terms.specs.Memory.{cell_of}
+use Rattle.machine_states.specs.table_words.specs.declared.layout.Layout.{Layout}
+use Rattle.machine_states.specs.table_words.specs.Places.{slot_count}
 use Rattle.machine_states.specs.structure_laws.specs.Meaning.{Meaning}
-use Rattle.machine_states.specs.runner_steps.specs.runner_parts.specs.declared.event.EventKind.{EventKind}
-use Rattle.machine_states.specs.runner_steps.specs.runner_parts.specs.declared.event.EventKind.TheVariants as kinds
-use Rattle.machine_states.specs.runner_steps.specs.runner_parts.specs.declared.entries.Look.{Look}
-use Rattle.machine_states.specs.runner_steps.specs.runner_parts.specs.declared.entries.Published.{Published}
-use Rattle.machine_states.specs.runner_steps.specs.runner_parts.specs.State.{RunState, PartState}
-use Rattle.machine_states.specs.runner_steps.specs.runner_parts.specs.Lists.{is_old, slots_of}
+use Rattle.machine_states.specs.runner_parts.specs.declared.event.EventKind.{EventKind}
+use Rattle.machine_states.specs.runner_parts.specs.declared.event.EventKind.TheVariants as kinds
+use Rattle.machine_states.specs.runner_parts.specs.declared.entries.Look.{Look}
+use Rattle.machine_states.specs.runner_parts.specs.declared.entries.Published.{Published}
+use Rattle.machine_states.specs.runner_parts.specs.State.{RunState, PartState}
+use Rattle.machine_states.specs.runner_parts.specs.Lists.{is_old, slots_of}
 use Rattle.machine_states.specs.runner_steps.specs.Sections.{is_open_run, next_of, reply_in}
 use Rattle.machine_states.specs.runner_steps.specs.Reads.{read_stamp_after}
 use Rattle.machine_states.specs.runner_steps.specs.AfterInRun.{ended_more}

@@ -1,8 +1,8 @@
 //! The law of the join, on a contract.
 ghost use Rattle.std.specs.Prelude.{List};
-ghost use Rattle.agreement_core.specs.map_history.specs.declared.op.Request.{Request};
-ghost use Rattle.agreement_core.specs.table_words.specs.Limits.{IsWithinLimits};
-ghost use Rattle.agreement_core.specs.table_words.specs.declared.layout.Layout.{Layout};
+ghost use Rattle.machine_states.specs.map_history.specs.declared.op.Request.{Request};
+ghost use Rattle.machine_states.specs.table_words.specs.Limits.{IsWithinLimits};
+ghost use Rattle.machine_states.specs.table_words.specs.declared.layout.Layout.{Layout};
 ghost use Rattle.machine_agreement.specs.Goes.{StepsAreEvents, StartsJoined};
 
 use machine_states::structure_laws::Structure;

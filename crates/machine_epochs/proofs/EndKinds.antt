@@ -3,28 +3,28 @@ use Rattle.std.specs.Prelude.{cond, Bool, true, false, slice_index}
 use Rattle.std.proofs.Common.{◌≡◌, ℕ, zero, suc, ◌<◌, List, [], ◌∷◌, ◌++◌, length, refl, sym, ap, ◌∙◌, subst, arith, length-append, ⊎_elim, Option, Some, None}
 use Rattle.std.proofs.lemmas.Bool.{cases_eq}
 use Rattle.std.proofs.lemmas.Option.{none-some}
-use Rattle.section_lines.specs.structure_laws.specs.map_history.specs.declared.op.Request.{Request}
-use Rattle.section_lines.specs.structure_laws.specs.body_terms.specs.declared.micro.Micro.{Micro}
-use Rattle.section_lines.specs.structure_laws.specs.body_terms.specs.declared.micro.Micro.TheVariants as micros
-use Rattle.section_lines.specs.structure_laws.specs.body_terms.specs.Line.{is_end}
-use Rattle.section_lines.specs.structure_laws.specs.table_words.specs.declared.layout.Layout.{Layout}
-use Rattle.section_lines.specs.structure_laws.specs.table_words.specs.declared.spot.Spot.{Spot}
-use Rattle.section_lines.specs.structure_laws.specs.table_words.specs.declared.spot.Spot.TheVariants.{Epoch, Announcement, Cell, ThunkWord, DoneWord, LogWord}
-use Rattle.section_lines.specs.structure_laws.specs.table_words.specs.declared.access.Access.{Access}
-use Rattle.section_lines.specs.structure_laws.specs.table_words.specs.declared.access.Access.TheVariants.{Exchanges}
-use Rattle.section_lines.specs.structure_laws.specs.table_words.specs.Access.{exchanged, written}
-use Rattle.section_lines.specs.structure_laws.specs.table_words.specs.Places.{Fits}
-use Rattle.section_lines.specs.structure_laws.specs.table_words.specs.Seen.{put}
-use Rattle.section_lines.specs.structure_laws.specs.Meaning.{Meaning}
-use Rattle.machine_states.specs.runner_steps.specs.runner_parts.specs.declared.event.EventKind.TheVariants as kinds
-use Rattle.machine_states.specs.runner_steps.specs.runner_parts.specs.declared.entries.Published.{Published}
-use Rattle.machine_states.specs.runner_steps.specs.runner_parts.specs.State.{RunState, PartState, ReadsState, RecordsState}
-use Rattle.machine_states.specs.runner_steps.specs.runner_parts.specs.Tests.{has}
+use Rattle.machine_states.specs.map_history.specs.declared.op.Request.{Request}
+use Rattle.machine_states.specs.body_terms.specs.declared.micro.Micro.{Micro}
+use Rattle.machine_states.specs.body_terms.specs.declared.micro.Micro.TheVariants as micros
+use Rattle.machine_states.specs.body_terms.specs.Line.{is_end}
+use Rattle.machine_states.specs.table_words.specs.declared.layout.Layout.{Layout}
+use Rattle.machine_states.specs.table_words.specs.declared.spot.Spot.{Spot}
+use Rattle.machine_states.specs.table_words.specs.declared.spot.Spot.TheVariants.{Epoch, Announcement, Cell, ThunkWord, DoneWord, LogWord}
+use Rattle.machine_states.specs.table_words.specs.declared.access.Access.{Access}
+use Rattle.machine_states.specs.table_words.specs.declared.access.Access.TheVariants.{Exchanges}
+use Rattle.machine_states.specs.table_words.specs.Access.{exchanged, written}
+use Rattle.machine_states.specs.table_words.specs.Places.{Fits}
+use Rattle.machine_states.specs.table_words.specs.Seen.{put}
+use Rattle.machine_states.specs.structure_laws.specs.Meaning.{Meaning}
+use Rattle.machine_states.specs.runner_parts.specs.declared.event.EventKind.TheVariants as kinds
+use Rattle.machine_states.specs.runner_parts.specs.declared.entries.Published.{Published}
+use Rattle.machine_states.specs.runner_parts.specs.State.{RunState, PartState, ReadsState, RecordsState}
+use Rattle.machine_states.specs.runner_parts.specs.Tests.{has}
 use Rattle.machine_states.specs.runner_steps.specs.Outside.{descriptor_spot}
 use Rattle.machine_states.specs.runner_steps.specs.Sections.{is_open_run, next_of}
 use Rattle.machine_states.specs.runner_steps.specs.Asks.{sizes_for}
 use Rattle.machine_states.specs.runner_steps.specs.InRun.{open_more_ask, load_done_ask, set_done_ask, release_ask}
-use Rattle.machine_states.specs.runner_steps.specs.runner_parts.specs.Lists.{cell_read}
+use Rattle.machine_states.specs.runner_parts.specs.Lists.{cell_read}
 use Rattle.machine_states.specs.runner_steps.specs.AfterInRun.{over_if, ended_more, opened_more}
 use Rattle.machine_states.specs.epoch_core.specs.State.{EpochState, no_retire}
 use Rattle.machine_states.specs.epoch_core.specs.Events.{slot_of}

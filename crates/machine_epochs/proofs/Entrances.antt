@@ -1,15 +1,15 @@
 -- The kinds of step that change the epoch, an announcement or a stage, as events of the component.
 use Rattle.std.specs.Prelude.{◌==◌, ◌&&◌, cond, Bool, true, false}
 use Rattle.std.proofs.Common.{◌≡◌, ℕ, suc, ◌+◌, ◌<◌, ◌≤◌, refl, sym, ap, ◌∙◌}
-use Rattle.section_lines.specs.structure_laws.specs.table_words.specs.declared.layout.Layout.{Layout}
-use Rattle.section_lines.specs.structure_laws.specs.table_words.specs.declared.spot.Spot.{Spot}
-use Rattle.section_lines.specs.structure_laws.specs.table_words.specs.declared.spot.Spot.TheVariants.{Epoch, Announcement}
-use Rattle.section_lines.specs.structure_laws.specs.table_words.specs.Access.{exchanged}
-use Rattle.section_lines.specs.structure_laws.specs.table_words.specs.Seen.{upd, put}
-use Rattle.section_lines.specs.structure_laws.specs.Meaning.{Meaning}
+use Rattle.machine_states.specs.table_words.specs.declared.layout.Layout.{Layout}
+use Rattle.machine_states.specs.table_words.specs.declared.spot.Spot.{Spot}
+use Rattle.machine_states.specs.table_words.specs.declared.spot.Spot.TheVariants.{Epoch, Announcement}
+use Rattle.machine_states.specs.table_words.specs.Access.{exchanged}
+use Rattle.machine_states.specs.table_words.specs.Seen.{upd, put}
+use Rattle.machine_states.specs.structure_laws.specs.Meaning.{Meaning}
 use Rattle.machine_states.specs.epoch_core.specs.declared.stage.Stage.{Stage}
 use Rattle.machine_states.specs.epoch_core.specs.declared.stage.Stage.TheVariants.{Idle, Loaded, Announced, Entered, Scanning}
-use Rattle.machine_states.specs.runner_steps.specs.runner_parts.specs.State.{PartState}
+use Rattle.machine_states.specs.runner_parts.specs.State.{PartState}
 use Rattle.machine_states.specs.epoch_core.specs.Moves.{is_clear, is_over, advanced}
 use Rattle.machine_states.specs.epoch_core.specs.State.{Counts, EpochState, last_epoch, is_entered}
 use Rattle.machine_states.specs.epoch_core.specs.Events as events

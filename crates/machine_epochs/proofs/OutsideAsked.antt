@@ -5,22 +5,22 @@ use Rattle.std.proofs.lemmas.Bool.Decides.{nat_tests}
 use Rattle.std.proofs.lemmas.Bool.{and_parts}
 use Rattle.section_lines.specs.small_lemmas.proofs.Bools.{negated as not_so}
 use Rattle.section_lines.specs.small_lemmas.proofs.Numbers.{tested_less as lt_test, tested_equal as same_test}
-use Rattle.section_lines.specs.structure_laws.specs.map_history.specs.declared.op.Request.{Request}
-use Rattle.section_lines.specs.structure_laws.specs.body_terms.specs.declared.thunk.Thunk.{Thunk}
-use Rattle.section_lines.specs.structure_laws.specs.body_terms.specs.Word.{held_word, is_free, is_spent}
-use Rattle.section_lines.specs.structure_laws.specs.table_words.specs.declared.layout.Layout.{Layout}
-use Rattle.section_lines.specs.structure_laws.specs.table_words.specs.declared.spot.Spot.{Spot}
-use Rattle.section_lines.specs.structure_laws.specs.table_words.specs.declared.spot.Spot.TheVariants.{Seat, Epoch, Announcement, Cell, ThunkWord}
-use Rattle.section_lines.specs.structure_laws.specs.table_words.specs.Places.{slot_count, descriptor_count}
-use Rattle.section_lines.specs.structure_laws.specs.table_words.specs.declared.access.Access.{Access}
-use Rattle.section_lines.specs.structure_laws.specs.table_words.specs.declared.access.Access.TheVariants.{Loads, Stores, Exchanges}
-use Rattle.section_lines.specs.structure_laws.specs.Meaning.{Meaning}
-use Rattle.machine_states.specs.runner_steps.specs.runner_parts.specs.declared.entries.Published.{Published}
+use Rattle.machine_states.specs.map_history.specs.declared.op.Request.{Request}
+use Rattle.machine_states.specs.body_terms.specs.declared.thunk.Thunk.{Thunk}
+use Rattle.machine_states.specs.body_terms.specs.Word.{held_word, is_free, is_spent}
+use Rattle.machine_states.specs.table_words.specs.declared.layout.Layout.{Layout}
+use Rattle.machine_states.specs.table_words.specs.declared.spot.Spot.{Spot}
+use Rattle.machine_states.specs.table_words.specs.declared.spot.Spot.TheVariants.{Seat, Epoch, Announcement, Cell, ThunkWord}
+use Rattle.machine_states.specs.table_words.specs.Places.{slot_count, descriptor_count}
+use Rattle.machine_states.specs.table_words.specs.declared.access.Access.{Access}
+use Rattle.machine_states.specs.table_words.specs.declared.access.Access.TheVariants.{Loads, Stores, Exchanges}
+use Rattle.machine_states.specs.structure_laws.specs.Meaning.{Meaning}
+use Rattle.machine_states.specs.runner_parts.specs.declared.entries.Published.{Published}
 use Rattle.machine_states.specs.epoch_core.specs.declared.stage.Stage.{Stage}
 use Rattle.machine_states.specs.epoch_core.specs.declared.stage.Stage.TheVariants.{Idle, Loaded, Announced, Entered, Scanning}
-use Rattle.machine_states.specs.runner_steps.specs.runner_parts.specs.State.{RunState, PartState}
-use Rattle.machine_states.specs.runner_steps.specs.runner_parts.specs.Tests.{has, is_walking, is_prepared, is_between}
-use Rattle.machine_states.specs.runner_steps.specs.runner_parts.specs.Tests as tests
+use Rattle.machine_states.specs.runner_parts.specs.State.{RunState, PartState}
+use Rattle.machine_states.specs.runner_parts.specs.Tests.{has, is_walking, is_prepared, is_between}
+use Rattle.machine_states.specs.runner_parts.specs.Tests as tests
 use Rattle.machine_states.specs.runner_steps.specs.Outside.{when, enter_load_ask, announce_ask, enter_again_by, enter_again_ask, idle_ask, scan_one_ask, advance_ask, split_ask, entry_spot, entry_ask, read_ask, private_load_ask, descriptor_spot, private_store_ask, hold_ask, open_ask, is_over, retire_ask}
 use Rattle.machine_states.specs.epoch_core.specs.State.{last_epoch}
 use Rattle.machine_states.proofs.Steps.{some_same}

@@ -2,28 +2,28 @@
 use Rattle.std.specs.Prelude.{◌==◌, ◌&&◌, ◌||◌, cond, if◌then◌else◌, Bool, true, false, nat_lt, slice_index}
 use Rattle.std.proofs.Common.{◌≡◌, ℕ, zero, suc, ◌+◌, ◌-◌, ◌<◌, ◌≤◌, List, [], ◌∷◌, ◌++◌, length, refl, sym, ap, ◌∙◌, subst, arith, Option, Some, None}
 use Rattle.std.proofs.lemmas.Bool.Decides.{nat_tests}
-use Rattle.section_lines.specs.structure_laws.specs.map_history.specs.declared.op.Request.{Request}
-use Rattle.section_lines.specs.structure_laws.specs.body_terms.specs.declared.thunk.Thunk.{Thunk}
-use Rattle.section_lines.specs.structure_laws.specs.table_words.specs.declared.layout.Layout.{Layout}
-use Rattle.section_lines.specs.structure_laws.specs.table_words.specs.declared.spot.Spot.{Spot}
-use Rattle.section_lines.specs.structure_laws.specs.table_words.specs.declared.spot.Spot.TheVariants.{Seat, Clock, Announcement, Cell, ThunkWord}
-use Rattle.section_lines.specs.structure_laws.specs.table_words.specs.declared.access.Access.{Access}
-use Rattle.section_lines.specs.structure_laws.specs.table_words.specs.declared.access.Access.TheVariants.{Loads}
-use Rattle.section_lines.specs.structure_laws.specs.table_words.specs.Places.{slot_count}
-use Rattle.section_lines.specs.structure_laws.specs.table_words.specs.Access.{written}
-use Rattle.section_lines.specs.structure_laws.specs.table_words.specs.Seen.{upd, put}
-use Rattle.section_lines.specs.structure_laws.specs.Meaning.{Meaning}
-use Rattle.machine_states.specs.runner_steps.specs.runner_parts.specs.declared.event.EventKind.{EventKind}
-use Rattle.machine_states.specs.runner_steps.specs.runner_parts.specs.declared.event.EventKind.TheVariants as kinds
+use Rattle.machine_states.specs.map_history.specs.declared.op.Request.{Request}
+use Rattle.machine_states.specs.body_terms.specs.declared.thunk.Thunk.{Thunk}
+use Rattle.machine_states.specs.table_words.specs.declared.layout.Layout.{Layout}
+use Rattle.machine_states.specs.table_words.specs.declared.spot.Spot.{Spot}
+use Rattle.machine_states.specs.table_words.specs.declared.spot.Spot.TheVariants.{Seat, Clock, Announcement, Cell, ThunkWord}
+use Rattle.machine_states.specs.table_words.specs.declared.access.Access.{Access}
+use Rattle.machine_states.specs.table_words.specs.declared.access.Access.TheVariants.{Loads}
+use Rattle.machine_states.specs.table_words.specs.Places.{slot_count}
+use Rattle.machine_states.specs.table_words.specs.Access.{written}
+use Rattle.machine_states.specs.table_words.specs.Seen.{upd, put}
+use Rattle.machine_states.specs.structure_laws.specs.Meaning.{Meaning}
+use Rattle.machine_states.specs.runner_parts.specs.declared.event.EventKind.{EventKind}
+use Rattle.machine_states.specs.runner_parts.specs.declared.event.EventKind.TheVariants as kinds
 use Rattle.machine_states.specs.epoch_core.specs.declared.stage.Stage.TheVariants.{Entered}
-use Rattle.machine_states.specs.runner_steps.specs.runner_parts.specs.declared.entries.Look.{Look}
-use Rattle.machine_states.specs.runner_steps.specs.runner_parts.specs.declared.entries.LookStage.TheVariants.{Replied, Stamped}
-use Rattle.machine_states.specs.runner_steps.specs.runner_parts.specs.declared.entries.Tested.{Tested}
-use Rattle.machine_states.specs.runner_steps.specs.runner_parts.specs.State.{RunState, PartState, NodesState, ReadsState, RecordsState}
-use Rattle.machine_states.specs.runner_steps.specs.runner_parts.specs.Tests.{has}
+use Rattle.machine_states.specs.runner_parts.specs.declared.entries.Look.{Look}
+use Rattle.machine_states.specs.runner_parts.specs.declared.entries.LookStage.TheVariants.{Replied, Stamped}
+use Rattle.machine_states.specs.runner_parts.specs.declared.entries.Tested.{Tested}
+use Rattle.machine_states.specs.runner_parts.specs.State.{RunState, PartState, NodesState, ReadsState, RecordsState}
+use Rattle.machine_states.specs.runner_parts.specs.Tests.{has}
 use Rattle.machine_states.specs.runner_steps.specs.Outside.{split_ask, entry_ask, read_ask, open_ask}
 use Rattle.machine_states.specs.runner_steps.specs.Reads.{read_plan_ask, read_clock_ask, read_reply_ask, read_stamp_ask, plan_by, looked_by, come_to}
-use Rattle.machine_states.specs.runner_steps.specs.runner_parts.specs.Lists as lists
+use Rattle.machine_states.specs.runner_parts.specs.Lists as lists
 use Rattle.machine_states.specs.runner_steps.specs.AfterOutside as outside
 use Rattle.machine_states.specs.runner_steps.specs.After.{outside_after}
 use Rattle.machine_states.specs.epoch_core.specs.declared.location.Location.TheVariants.{Hand}

@@ -1,12 +1,12 @@
 -- What stands at a place of a line commits what the body's roles say.
 use Rattle.std.specs.Prelude.{slice_index_or}
 use Rattle.std.proofs.Common.{◌≡◌, ℕ, zero, suc, ◌+◌, ◌-◌, ◌<◌, ◌≤◌, List, [], ◌∷◌, ◌++◌, length, take, refl, sym, ap, ◌∙◌, subst, arith, add-zero}
-use Rattle.section_lines.specs.structure_laws.specs.body_terms.specs.declared.step.Step.{Step}
-use Rattle.section_lines.specs.structure_laws.specs.body_terms.specs.declared.step.Step.TheVariants.{Load, Want, Fresh, Take, Make, Stamp, Store, Retire, Answer}
-use Rattle.section_lines.specs.structure_laws.specs.body_terms.specs.declared.micro.Micro.{Micro}
-use Rattle.section_lines.specs.structure_laws.specs.body_terms.specs.declared.micro.Micro.TheVariants as micros
-use Rattle.section_lines.specs.structure_laws.specs.body_terms.specs.Line.{Registers, no_registers, registers_after, registers_through, line, micro_at}
-use Rattle.section_lines.specs.structure_laws.specs.body_terms.specs.Shape.{IsStep}
+use Rattle.machine_states.specs.body_terms.specs.declared.step.Step.{Step}
+use Rattle.machine_states.specs.body_terms.specs.declared.step.Step.TheVariants.{Load, Want, Fresh, Take, Make, Stamp, Store, Retire, Answer}
+use Rattle.machine_states.specs.body_terms.specs.declared.micro.Micro.{Micro}
+use Rattle.machine_states.specs.body_terms.specs.declared.micro.Micro.TheVariants as micros
+use Rattle.machine_states.specs.body_terms.specs.Line.{Registers, no_registers, registers_after, registers_through, line, micro_at}
+use Rattle.machine_states.specs.body_terms.specs.Shape.{IsStep}
 use Rattle.section_lines.proofs.Sources.{of_load, of_take, of_make, of_retire}
 use Rattle.machine_states.specs.epoch_core.specs.State.{Role, Agrees, Makes, Retires}
 use Rattle.machine_epochs.specs.Roles.{step_roles, body_roles, role_at}

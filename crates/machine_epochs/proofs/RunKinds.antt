@@ -1,26 +1,26 @@
 -- The kinds of step by which a run goes on and no slot and no log word changes.
 use Rattle.std.specs.Prelude.{cond, Bool, true, false, slice_index}
 use Rattle.std.proofs.Common.{◌≡◌, ◌≢◌, ℕ, ◌+◌, ◌<◌, ◌≤◌, List, length, refl, sym, ap, ◌∙◌, subst, arith, Some, None}
-use Rattle.section_lines.specs.structure_laws.specs.body_terms.specs.declared.micro.Micro.{Micro}
-use Rattle.section_lines.specs.structure_laws.specs.body_terms.specs.declared.micro.Micro.TheVariants as micros
-use Rattle.section_lines.specs.structure_laws.specs.body_terms.specs.Line.{micro_at}
-use Rattle.section_lines.specs.structure_laws.specs.body_terms.specs.Run.{settled, written_once}
-use Rattle.section_lines.specs.structure_laws.specs.table_words.specs.declared.layout.Layout.{Layout}
-use Rattle.section_lines.specs.structure_laws.specs.table_words.specs.declared.spot.Spot.{Spot}
-use Rattle.section_lines.specs.structure_laws.specs.table_words.specs.declared.spot.Spot.TheVariants.{Epoch, Announcement, Cell, Clock, Stamp, Reply, ThunkWord, LogWord}
-use Rattle.section_lines.specs.structure_laws.specs.table_words.specs.declared.access.Access.{Access}
-use Rattle.section_lines.specs.structure_laws.specs.table_words.specs.declared.access.Access.TheVariants.{Loads}
-use Rattle.section_lines.specs.structure_laws.specs.table_words.specs.Access.{written}
-use Rattle.section_lines.specs.structure_laws.specs.table_words.specs.Seen.{upd, put}
-use Rattle.section_lines.specs.structure_laws.specs.Meaning.{Meaning}
-use Rattle.machine_states.specs.runner_steps.specs.runner_parts.specs.declared.event.EventKind.{EventKind}
-use Rattle.machine_states.specs.runner_steps.specs.runner_parts.specs.declared.event.EventKind.TheVariants as kinds
-use Rattle.machine_states.specs.runner_steps.specs.runner_parts.specs.State.{RunState, PartState, DescriptorsState, ReadsState, RecordsState}
+use Rattle.machine_states.specs.body_terms.specs.declared.micro.Micro.{Micro}
+use Rattle.machine_states.specs.body_terms.specs.declared.micro.Micro.TheVariants as micros
+use Rattle.machine_states.specs.body_terms.specs.Line.{micro_at}
+use Rattle.machine_states.specs.body_terms.specs.Run.{settled, written_once}
+use Rattle.machine_states.specs.table_words.specs.declared.layout.Layout.{Layout}
+use Rattle.machine_states.specs.table_words.specs.declared.spot.Spot.{Spot}
+use Rattle.machine_states.specs.table_words.specs.declared.spot.Spot.TheVariants.{Epoch, Announcement, Cell, Clock, Stamp, Reply, ThunkWord, LogWord}
+use Rattle.machine_states.specs.table_words.specs.declared.access.Access.{Access}
+use Rattle.machine_states.specs.table_words.specs.declared.access.Access.TheVariants.{Loads}
+use Rattle.machine_states.specs.table_words.specs.Access.{written}
+use Rattle.machine_states.specs.table_words.specs.Seen.{upd, put}
+use Rattle.machine_states.specs.structure_laws.specs.Meaning.{Meaning}
+use Rattle.machine_states.specs.runner_parts.specs.declared.event.EventKind.{EventKind}
+use Rattle.machine_states.specs.runner_parts.specs.declared.event.EventKind.TheVariants as kinds
+use Rattle.machine_states.specs.runner_parts.specs.State.{RunState, PartState, DescriptorsState, ReadsState, RecordsState}
 use Rattle.machine_states.specs.runner_steps.specs.Sections.{thunk_of, is_open_run, line_of, next_of, setting_of}
 use Rattle.machine_states.specs.runner_steps.specs.InRun.{load_cell_ask, exchange_cell_ask, nested_load_ask, nested_hold_ask, outcome_load_ask, clock_load_ask, stamp_exchange_ask, clock_raise_ask, reply_exchange_ask, stamp_after}
 use Rattle.machine_states.specs.runner_steps.specs.Outside.{descriptor_spot}
-use Rattle.machine_states.specs.runner_steps.specs.runner_parts.specs.Tests.{has, last_stored}
-use Rattle.machine_states.specs.runner_steps.specs.runner_parts.specs.Lists.{cell_read, learned}
+use Rattle.machine_states.specs.runner_parts.specs.Tests.{has, last_stored}
+use Rattle.machine_states.specs.runner_parts.specs.Lists.{cell_read, learned}
 use Rattle.machine_states.specs.runner_steps.specs.AfterInRun as runs
 use Rattle.machine_states.specs.runner_steps.specs.After.{line_after}
 use Rattle.machine_states.specs.epoch_core.specs.declared.location.Location.TheVariants.{Live, Hand}
@@ -32,7 +32,7 @@ use Rattle.machine_states.specs.epoch_core.specs.History.{is_out}
 use Rattle.machine_states.specs.epoch_core.specs.Lists.{Lists, listed_all}
 use Rattle.machine_states.specs.Sight.{Sight}
 use Rattle.machine_states.proofs.Steps.{some_same}
-use Rattle.section_lines.specs.structure_laws.specs.body_terms.specs.declared.thunk.Thunk.{Thunk}
+use Rattle.machine_states.specs.body_terms.specs.declared.thunk.Thunk.{Thunk}
 use Rattle.machine_epochs.specs.Entries.{counts_of}
 use Rattle.machine_epochs.specs.Roles.{role_at}
 use Rattle.machine_epochs.specs.Slots.{lists_of, retiring_of}

@@ -1,11 +1,11 @@
 -- The epoch, the announcements and the runners' entries, in every state that the machine reaches.
 use Rattle.std.specs.Prelude.{◌≡◌, ℕ, ◌+◌, ◌^◌, ◌<◌, ◌≤◌, Bool, true, false, List}
-use Rattle.section_lines.specs.structure_laws.specs.map_history.specs.declared.op.Request.{Request}
-use Rattle.section_lines.specs.structure_laws.specs.table_words.specs.declared.layout.Layout.{Layout}
-use Rattle.section_lines.specs.structure_laws.specs.table_words.specs.declared.spot.Spot.TheVariants.{Epoch, Announcement}
-use Rattle.section_lines.specs.structure_laws.specs.Meaning.{Meaning}
+use Rattle.machine_states.specs.map_history.specs.declared.op.Request.{Request}
+use Rattle.machine_states.specs.table_words.specs.declared.layout.Layout.{Layout}
+use Rattle.machine_states.specs.table_words.specs.declared.spot.Spot.TheVariants.{Epoch, Announcement}
+use Rattle.machine_states.specs.structure_laws.specs.Meaning.{Meaning}
 use Rattle.machine_states.specs.epoch_core.specs.declared.stage.Stage.TheVariants.{Idle, Loaded, Announced, Entered, Scanning}
-use Rattle.machine_states.specs.runner_steps.specs.runner_parts.specs.declared.event.Event.{Event}
+use Rattle.machine_states.specs.runner_parts.specs.declared.event.Event.{Event}
 use Rattle.machine_states.specs.World.{World}
 use Rattle.machine_states.specs.Schedules.{IsAfter}
 use Rattle.machine_states.specs.Sight.{Sight, sight}

@@ -1,8 +1,8 @@
 -- Where the slots are at first.
 use Rattle.std.specs.Prelude.{ℕ, ◌-◌, ◌*◌, ◌/◌, nat_lt, cond}
-use Rattle.section_lines.specs.structure_laws.specs.table_words.specs.declared.layout.Layout.{Layout}
-use Rattle.section_lines.specs.structure_laws.specs.table_words.specs.Places.{slot_count}
-use Rattle.section_lines.specs.structure_laws.specs.Meaning.{Meaning}
+use Rattle.machine_states.specs.table_words.specs.declared.layout.Layout.{Layout}
+use Rattle.machine_states.specs.table_words.specs.Places.{slot_count}
+use Rattle.machine_states.specs.structure_laws.specs.Meaning.{Meaning}
 use Rattle.machine_states.specs.epoch_core.specs.declared.location.Location.{Location}
 use Rattle.machine_states.specs.epoch_core.specs.declared.location.Location.TheVariants.{Fixed, Free}
 

@@ -1,12 +1,12 @@
 -- The machine's state and the component's state of epochs and slots, joined.
 use Rattle.std.specs.Prelude.{ℕ, ◌<◌, ◌≤◌, ◌≡◌, true, length, slice_index, None, Some}
-use Rattle.section_lines.specs.structure_laws.specs.table_words.specs.declared.layout.Layout.{Layout}
-use Rattle.section_lines.specs.structure_laws.specs.table_words.specs.declared.spot.Spot.{Spot}
-use Rattle.section_lines.specs.structure_laws.specs.table_words.specs.declared.spot.Spot.TheVariants.{ThunkWord, LogWord}
-use Rattle.section_lines.specs.structure_laws.specs.Meaning.{Meaning}
-use Rattle.machine_states.specs.runner_steps.specs.runner_parts.specs.declared.entries.Published.{Published}
-use Rattle.machine_states.specs.runner_steps.specs.runner_parts.specs.State.{RunState, PartState}
-use Rattle.machine_states.specs.runner_steps.specs.runner_parts.specs.Tests.{has, last_stored}
+use Rattle.machine_states.specs.table_words.specs.declared.layout.Layout.{Layout}
+use Rattle.machine_states.specs.table_words.specs.declared.spot.Spot.{Spot}
+use Rattle.machine_states.specs.table_words.specs.declared.spot.Spot.TheVariants.{ThunkWord, LogWord}
+use Rattle.machine_states.specs.structure_laws.specs.Meaning.{Meaning}
+use Rattle.machine_states.specs.runner_parts.specs.declared.entries.Published.{Published}
+use Rattle.machine_states.specs.runner_parts.specs.State.{RunState, PartState}
+use Rattle.machine_states.specs.runner_parts.specs.Tests.{has, last_stored}
 use Rattle.machine_states.specs.runner_steps.specs.Outside.{descriptor_spot}
 use Rattle.machine_states.specs.epoch_core.specs.declared.location.Location.TheVariants.{Live, Hand}
 use Rattle.machine_states.specs.epoch_core.specs.State.{EpochState, is_entered}

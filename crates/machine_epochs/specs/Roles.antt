@@ -1,7 +1,7 @@
 -- What a section commits at each place of its log.
 use Rattle.std.specs.Prelude.{ℕ, List, [], ◌∷◌, ◌++◌, slice_index_or}
-use Rattle.section_lines.specs.structure_laws.specs.body_terms.specs.declared.step.Step.{Step}
-use Rattle.section_lines.specs.structure_laws.specs.body_terms.specs.declared.step.Step.TheVariants.{Load, Take, Make, Retire}
+use Rattle.machine_states.specs.body_terms.specs.declared.step.Step.{Step}
+use Rattle.machine_states.specs.body_terms.specs.declared.step.Step.TheVariants.{Load, Take, Make, Retire}
 use Rattle.machine_states.specs.epoch_core.specs.State.{Role, Agrees, Makes, Retires}
 
 -- the words that a step commits, in order

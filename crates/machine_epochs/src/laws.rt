@@ -1,8 +1,8 @@
 //! The laws of the machine's states, each on a contract.
 ghost use Rattle.std.specs.Prelude.{List};
-ghost use Rattle.section_lines.specs.structure_laws.specs.map_history.specs.declared.op.Request.{Request};
-ghost use Rattle.section_lines.specs.structure_laws.specs.table_words.specs.declared.layout.Layout.{Layout};
-ghost use Rattle.machine_states.specs.runner_steps.specs.runner_parts.specs.declared.event.Event.{Event};
+ghost use Rattle.machine_states.specs.map_history.specs.declared.op.Request.{Request};
+ghost use Rattle.machine_states.specs.table_words.specs.declared.layout.Layout.{Layout};
+ghost use Rattle.machine_states.specs.runner_parts.specs.declared.event.Event.{Event};
 ghost use Rattle.machine_states.specs.World.{World};
 ghost use Rattle.machine_epochs.specs.Epochs.{SoundAfter};
 ghost use Rattle.machine_states.specs.Reached.{Reached};
@@ -10,7 +10,7 @@ ghost use Rattle.machine_epochs.specs.Collects.{ScansCollect};
 ghost use Rattle.machine_epochs.specs.Descriptors.{DescriptorsSoundAfter};
 ghost use Rattle.machine_epochs.specs.Goes.{StepsAreEvents, StartsJoined};
 
-use section_lines::structure_laws::Structure;
+use machine_states::structure_laws::Structure;
 
 /// After every list of enabled events an announced epoch is at most the epoch, a runner that entered with g
 /// is at g or g + 1, and where a scanner found an announcement idle or of its epoch and that is still the

@@ -3,23 +3,23 @@ use Rattle.std.proofs.Common.{◌≡◌, ◌≢◌, ℕ, zero, suc, true, cond, 
 use Rattle.std.specs.Prelude.{count_by}
 use mathlib.Core.Path.{fun_ext}
 use Rattle.std.proofs.lemmas.List.Sums.{sum_by-cons}
-use Rattle.agreement_core.specs.body_terms.specs.Line.{line, micro_at, is_check, is_end}
-use Rattle.agreement_core.specs.body_terms.specs.Plain.{first_values}
-use Rattle.agreement_core.specs.body_terms.specs.Run.{Setting, Run, leaves}
-use Rattle.agreement_core.specs.body_terms.specs.Shape.{IsStep, IsShaped, is_answer}
-use Rattle.agreement_core.specs.body_terms.specs.declared.outcome.Outcome.{Outcome}
-use Rattle.agreement_core.specs.body_terms.specs.declared.outcome.Outcome.TheVariants.{Answered}
-use Rattle.agreement_core.specs.body_terms.specs.declared.step.Step.{Step}
-use Rattle.agreement_core.specs.body_terms.specs.declared.step.Step.TheVariants.{Load, Want, Fresh, Take, Make, Stamp, Store, Retire, Answer}
-use Rattle.agreement_core.specs.body_terms.specs.declared.micro.Micro.{Micro}
-use Rattle.agreement_core.specs.body_terms.specs.declared.micro.Micro.TheVariants as micros
-use Rattle.agreement_core.specs.body_terms.proofs.SoundLemmas.{counted}
+use Rattle.machine_states.specs.body_terms.specs.Line.{line, micro_at, is_check, is_end}
+use Rattle.machine_states.specs.body_terms.specs.Plain.{first_values}
+use Rattle.machine_states.specs.body_terms.specs.Run.{Setting, Run, leaves}
+use Rattle.machine_states.specs.body_terms.specs.Shape.{IsStep, IsShaped, is_answer}
+use Rattle.machine_states.specs.body_terms.specs.declared.outcome.Outcome.{Outcome}
+use Rattle.machine_states.specs.body_terms.specs.declared.outcome.Outcome.TheVariants.{Answered}
+use Rattle.machine_states.specs.body_terms.specs.declared.step.Step.{Step}
+use Rattle.machine_states.specs.body_terms.specs.declared.step.Step.TheVariants.{Load, Want, Fresh, Take, Make, Stamp, Store, Retire, Answer}
+use Rattle.machine_states.specs.body_terms.specs.declared.micro.Micro.{Micro}
+use Rattle.machine_states.specs.body_terms.specs.declared.micro.Micro.TheVariants as micros
+use Rattle.machine_states.specs.body_terms.proofs.SoundLemmas.{counted}
 use Rattle.agreement_core.specs.section_lines.proofs.Sources.{of_answer}
 use Rattle.agreement_core.specs.section_lines.specs.Runs.{agreed}
-use Rattle.agreement_core.specs.table_words.specs.declared.layout.Layout.{Layout}
-use Rattle.agreement_core.specs.table_words.specs.declared.spot.Spot.TheVariants.{DoneWord}
+use Rattle.machine_states.specs.table_words.specs.declared.layout.Layout.{Layout}
+use Rattle.machine_states.specs.table_words.specs.declared.spot.Spot.TheVariants.{DoneWord}
 use Rattle.machine_states.specs.structure_laws.specs.Meaning.{Meaning}
-use Rattle.machine_states.specs.runner_steps.specs.runner_parts.specs.State.{FinishedState}
+use Rattle.machine_states.specs.runner_parts.specs.State.{FinishedState}
 use Rattle.machine_states.specs.runner_steps.specs.Sections.{setting_of, outcome_or, reply_in}
 use Rattle.agreement_core.specs.State.{Section, AgreementState}
 use Rattle.agreement_core.specs.History.{HasAnswered, HasLeft}

@@ -1,7 +1,7 @@
 -- What lists of events of agreement leave.
 use Rattle.std.specs.Prelude.{map}
 use Rattle.std.proofs.Common.{◌≡◌, ◌≢◌, ℕ, ◌<◌, ◌≤◌, Bool, true, false, List, [], ◌∷◌, refl, sym, ◌∙◌, subst, ⊎_elim, arith}
-use Rattle.agreement_core.specs.body_terms.specs.Update.{upd}
+use Rattle.machine_states.specs.body_terms.specs.Update.{upd}
 use Rattle.agreement_core.specs.State.{CellRules, Section, AgreementState}
 use Rattle.agreement_core.specs.Events.{Event, Publish, Free, Enabled, after}
 use Rattle.agreement_core.specs.Schedules.{AllEnabled, after_all}

@@ -1,6 +1,6 @@
 -- The stamp and reply words that runners know.
 use Rattle.std.specs.Prelude.{◌≡◌, ◌≢◌, ℕ, slice_get, Some}
-use Rattle.machine_states.specs.runner_steps.specs.runner_parts.specs.declared.entries.Known.{Known}
+use Rattle.machine_states.specs.runner_parts.specs.declared.entries.Known.{Known}
 use Rattle.machine_states.specs.runner_steps.specs.Outside.{entry_spot}
 use Rattle.machine_states.specs.Sight.{Sight}
 

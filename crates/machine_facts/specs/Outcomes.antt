@@ -1,11 +1,11 @@
 -- The outcomes of the runs that came to their end.
 use Rattle.std.specs.Prelude.{◌≡◌, ◌≢◌, ℕ, true, slice_get, Some}
-use Rattle.agreement_core.specs.body_terms.specs.Line.{line}
-use Rattle.agreement_core.specs.body_terms.specs.Run.{Run, ran}
-use Rattle.agreement_core.specs.body_terms.specs.declared.outcome.Outcome.TheVariants.{Answered}
-use Rattle.agreement_core.specs.table_words.specs.declared.layout.Layout.{Layout}
+use Rattle.machine_states.specs.body_terms.specs.Line.{line}
+use Rattle.machine_states.specs.body_terms.specs.Run.{Run, ran}
+use Rattle.machine_states.specs.body_terms.specs.declared.outcome.Outcome.TheVariants.{Answered}
+use Rattle.machine_states.specs.table_words.specs.declared.layout.Layout.{Layout}
 use Rattle.machine_states.specs.structure_laws.specs.Meaning.{Meaning}
-use Rattle.machine_states.specs.runner_steps.specs.runner_parts.specs.State.{FinishedState}
+use Rattle.machine_states.specs.runner_parts.specs.State.{FinishedState}
 use Rattle.machine_states.specs.runner_steps.specs.Sections.{reply_in}
 use Rattle.agreement_core.specs.State.{AgreementState}
 use Rattle.agreement_core.specs.PlainRuns.{chosen, IsOver}

@@ -1,10 +1,10 @@
 -- What is known of a state of the machine that its events reach, beside states and histories of the
 -- components.
 use Rattle.std.specs.Prelude.{◌≡◌, ℕ, ◌<◌, ◌≤◌, true, Some, None}
-use Rattle.agreement_core.specs.table_words.specs.declared.layout.Layout.{Layout}
-use Rattle.agreement_core.specs.table_words.specs.declared.spot.Spot.TheVariants.{DoneWord}
+use Rattle.machine_states.specs.table_words.specs.declared.layout.Layout.{Layout}
+use Rattle.machine_states.specs.table_words.specs.declared.spot.Spot.TheVariants.{DoneWord}
 use Rattle.machine_states.specs.structure_laws.specs.Meaning.{Meaning}
-use Rattle.machine_states.specs.runner_steps.specs.runner_parts.specs.Tests.{has, last_stored}
+use Rattle.machine_states.specs.runner_parts.specs.Tests.{has, last_stored}
 use Rattle.machine_states.specs.runner_steps.specs.Outside.{descriptor_spot}
 use Rattle.machine_states.specs.epoch_core.specs.declared.location.Location.TheVariants.{Fixed}
 use Rattle.machine_states.specs.Sight.{Sight}

@@ -1,8 +1,8 @@
 //! What is known of the machine's states and steps, each on a contract.
 ghost use Rattle.std.specs.Prelude.{List};
-ghost use Rattle.agreement_core.specs.map_history.specs.declared.op.Request.{Request};
-ghost use Rattle.agreement_core.specs.table_words.specs.declared.layout.Layout.{Layout};
-ghost use Rattle.machine_states.specs.runner_steps.specs.runner_parts.specs.declared.event.Event.{Event};
+ghost use Rattle.machine_states.specs.map_history.specs.declared.op.Request.{Request};
+ghost use Rattle.machine_states.specs.table_words.specs.declared.layout.Layout.{Layout};
+ghost use Rattle.machine_states.specs.runner_parts.specs.declared.event.Event.{Event};
 ghost use Rattle.machine_states.specs.World.{World};
 ghost use Rattle.machine_facts.specs.After.{FactsAfter, StepFactsAfter};
 ghost use Rattle.machine_facts.specs.Got.{ReachedGotLocksAreHeld};

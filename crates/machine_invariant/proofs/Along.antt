@@ -1,7 +1,7 @@
 -- The histories stay exact while the components go along with the machine.
 use Rattle.std.proofs.Common.{List, [], ◌∷◌, sym, subst}
-use Rattle.agreement_core.specs.map_history.specs.declared.op.Request.{Request}
-use Rattle.agreement_core.specs.table_words.specs.declared.layout.Layout.{Layout}
+use Rattle.machine_states.specs.map_history.specs.declared.op.Request.{Request}
+use Rattle.machine_states.specs.table_words.specs.declared.layout.Layout.{Layout}
 use Rattle.machine_states.specs.structure_laws.specs.Meaning.{Meaning}
 use Rattle.machine_states.specs.structure_laws.specs.Laws.{FirstMemory}
 use Rattle.machine_states.specs.epoch_core.specs.Events as epoch_events
@@ -15,7 +15,7 @@ use Rattle.agreement_core.proofs.Keeping as agreement_keeping
 use Rattle.agreement_core.proofs.Recording as agreement_recording
 use Rattle.machine_states.specs.Sight.{Sight, sight}
 use Rattle.machine_agreement.proofs.FirstJoined.{first_joined}
-use Rattle.agreement_core.specs.table_words.specs.Limits.{IsWithinLimits}
+use Rattle.machine_states.specs.table_words.specs.Limits.{IsWithinLimits}
 use Rattle.machine_agreement.specs.machine_epochs.specs.Entries.{counts_of}
 use Rattle.machine_agreement.specs.machine_epochs.proofs.FirstJoin.{first_is}
 use Rattle.machine_agreement.specs.machine_scenes.specs.Shown.{rules_of}

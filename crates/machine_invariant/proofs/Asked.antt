@@ -1,17 +1,17 @@
 -- What is known of a step by its runner's part: what it asks for, which events of the components it is, and what its run knows.
 use Rattle.std.proofs.Common.{◌≡◌, ℕ, true, List, refl, sym, ap, ◌∙◌, subst, Option, Some}
-use Rattle.agreement_core.specs.map_history.specs.declared.op.Request.{Request}
-use Rattle.agreement_core.specs.body_terms.specs.declared.micro.Source.{Source}
-use Rattle.agreement_core.specs.body_terms.specs.declared.micro.Source.TheVariants.{Fixed, Agreed}
-use Rattle.agreement_core.specs.body_terms.specs.Run.{source_value}
-use Rattle.agreement_core.specs.body_terms.specs.Word.{value_of}
-use Rattle.agreement_core.specs.table_words.specs.declared.layout.Layout.{Layout}
-use Rattle.agreement_core.specs.table_words.specs.declared.spot.Spot.{Spot}
-use Rattle.agreement_core.specs.table_words.specs.declared.access.Access.{Access}
+use Rattle.machine_states.specs.map_history.specs.declared.op.Request.{Request}
+use Rattle.machine_states.specs.body_terms.specs.declared.micro.Source.{Source}
+use Rattle.machine_states.specs.body_terms.specs.declared.micro.Source.TheVariants.{Fixed, Agreed}
+use Rattle.machine_states.specs.body_terms.specs.Run.{source_value}
+use Rattle.machine_states.specs.body_terms.specs.Word.{value_of}
+use Rattle.machine_states.specs.table_words.specs.declared.layout.Layout.{Layout}
+use Rattle.machine_states.specs.table_words.specs.declared.spot.Spot.{Spot}
+use Rattle.machine_states.specs.table_words.specs.declared.access.Access.{Access}
 use Rattle.machine_states.specs.structure_laws.specs.Meaning.{Meaning}
-use Rattle.machine_states.specs.runner_steps.specs.runner_parts.specs.declared.event.EventKind.{EventKind}
+use Rattle.machine_states.specs.runner_parts.specs.declared.event.EventKind.{EventKind}
 use Rattle.machine_states.specs.epoch_core.specs.declared.stage.Stage.TheVariants.{Entered}
-use Rattle.machine_states.specs.runner_steps.specs.runner_parts.specs.State.{RunState, PartState}
+use Rattle.machine_states.specs.runner_parts.specs.State.{RunState, PartState}
 use Rattle.machine_states.specs.runner_steps.specs.Sections.{is_open_run, next_of}
 use Rattle.machine_states.specs.runner_steps.specs.Asks.{asks, ask_by}
 use Rattle.agreement_core.specs.State.{Run, AgreementState}

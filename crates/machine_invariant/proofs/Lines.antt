@@ -1,15 +1,15 @@
 -- Two bodies with one line have one plain run.
 use Rattle.std.proofs.Common.{◌≡◌, ℕ, suc, ◌<◌, List, [], ◌∷◌, length, Some, refl, sym, ap, ◌∙◌, subst, arith}
 use Rattle.std.specs.Prelude.{take}
-use Rattle.agreement_core.specs.body_terms.specs.Line.{line, micro_at, committed}
-use Rattle.agreement_core.specs.body_terms.specs.Run.{Setting, Run, leaves, ran}
-use Rattle.agreement_core.specs.body_terms.specs.Shape as shape
-use Rattle.agreement_core.specs.body_terms.specs.declared.step.Step.{Step}
-use Rattle.agreement_core.specs.body_terms.specs.declared.step.Step.TheVariants.{Load, Want, Fresh, Take, Make, Stamp, Store, Retire, Answer}
-use Rattle.agreement_core.specs.body_terms.specs.declared.outcome.Outcome.{Outcome}
-use Rattle.agreement_core.specs.body_terms.specs.declared.outcome.Outcome.TheVariants.{Answered}
-use Rattle.agreement_core.specs.body_terms.specs.declared.micro.Micro.{Micro}
-use Rattle.agreement_core.specs.body_terms.specs.declared.micro.Micro.TheVariants.{End}
+use Rattle.machine_states.specs.body_terms.specs.Line.{line, micro_at, committed}
+use Rattle.machine_states.specs.body_terms.specs.Run.{Setting, Run, leaves, ran}
+use Rattle.machine_states.specs.body_terms.specs.Shape as shape
+use Rattle.machine_states.specs.body_terms.specs.declared.step.Step.{Step}
+use Rattle.machine_states.specs.body_terms.specs.declared.step.Step.TheVariants.{Load, Want, Fresh, Take, Make, Stamp, Store, Retire, Answer}
+use Rattle.machine_states.specs.body_terms.specs.declared.outcome.Outcome.{Outcome}
+use Rattle.machine_states.specs.body_terms.specs.declared.outcome.Outcome.TheVariants.{Answered}
+use Rattle.machine_states.specs.body_terms.specs.declared.micro.Micro.{Micro}
+use Rattle.machine_states.specs.body_terms.specs.declared.micro.Micro.TheVariants.{End}
 use Rattle.agreement_core.specs.section_lines.specs.Line.{phase}
 use Rattle.agreement_core.specs.section_lines.specs.Runs.{agreed}
 use Rattle.agreement_core.specs.section_lines.proofs.Places.{stands, part_at}

@@ -1,15 +1,15 @@
 -- A run's descriptor isn't free again, so its section's log words and its done word are what the components allow, and its trail goes as far as
 -- agreement says.
 use Rattle.std.proofs.Common.{◌≡◌, ℕ, ◌≤◌, true, length, Some, sym, ap, ◌∙◌, subst}
-use Rattle.agreement_core.specs.body_terms.specs.Line.{line, micro_at, committed}
-use Rattle.agreement_core.specs.body_terms.specs.declared.micro.Micro.{Micro}
-use Rattle.agreement_core.specs.body_terms.specs.declared.thunk.Thunk.{Thunk}
-use Rattle.agreement_core.specs.body_terms.specs.declared.micro.Micro.TheVariants.{Commit, NestedCommit, OutcomeCommit, MakeCommit, RetireCommit}
+use Rattle.machine_states.specs.body_terms.specs.Line.{line, micro_at, committed}
+use Rattle.machine_states.specs.body_terms.specs.declared.micro.Micro.{Micro}
+use Rattle.machine_states.specs.body_terms.specs.declared.thunk.Thunk.{Thunk}
+use Rattle.machine_states.specs.body_terms.specs.declared.micro.Micro.TheVariants.{Commit, NestedCommit, OutcomeCommit, MakeCommit, RetireCommit}
 use Rattle.agreement_core.specs.section_lines.specs.Line.{IsCounted}
-use Rattle.agreement_core.specs.table_words.specs.declared.layout.Layout.{Layout}
-use Rattle.agreement_core.specs.table_words.specs.declared.spot.Spot.TheVariants.{LogWord}
+use Rattle.machine_states.specs.table_words.specs.declared.layout.Layout.{Layout}
+use Rattle.machine_states.specs.table_words.specs.declared.spot.Spot.TheVariants.{LogWord}
 use Rattle.machine_states.specs.structure_laws.specs.Meaning.{Meaning}
-use Rattle.machine_states.specs.runner_steps.specs.runner_parts.specs.State.{RunState}
+use Rattle.machine_states.specs.runner_parts.specs.State.{RunState}
 use Rattle.machine_states.specs.runner_steps.specs.Sections.{thunk_of, line_of}
 use Rattle.machine_states.specs.epoch_core.specs.State.{Role, Retires}
 use Rattle.machine_states.specs.epoch_core.specs.Sound.{IsLogged}

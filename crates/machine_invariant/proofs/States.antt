@@ -1,6 +1,6 @@
 -- The whole invariant gives all that is known of a state.
 use Rattle.std.proofs.Common.{◌≡◌, sym, subst, ℕ, ◌∙◌, ap, true, Some}
-use Rattle.agreement_core.specs.table_words.specs.declared.layout.Layout.{Layout}
+use Rattle.machine_states.specs.table_words.specs.declared.layout.Layout.{Layout}
 use Rattle.machine_states.specs.structure_laws.specs.Meaning.{Meaning}
 use Rattle.machine_states.specs.epoch_core.specs.State.{EpochState}
 use Rattle.machine_states.specs.epoch_core.specs.History as epoch_history
@@ -13,7 +13,7 @@ use Rattle.machine_invariant.specs.Along.{Components}
 use Rattle.machine_invariant.specs.States.{StateIsSound}
 use Rattle.machine_invariant.proofs.Slots.{slots_sound}
 use Rattle.machine_invariant.proofs.Sections.{sections_sound}
-use Rattle.machine_states.specs.runner_steps.specs.runner_parts.specs.declared.entries.Published.{Published}
+use Rattle.machine_states.specs.runner_parts.specs.declared.entries.Published.{Published}
 use Rattle.machine_invariant.specs.Trails.{PublishedStand}
 use Rattle.machine_states.proofs.Steps.{some_same}
 use Rattle.machine_states.specs.epoch_core.specs.History.{is_out}

@@ -1,9 +1,9 @@
 -- What the components say of descriptors still belongs together after steps that concern other things.
 use Rattle.std.proofs.Common.{◌≡◌, ℕ, true, sym, ap, ◌∙◌, List, [], ◌∷◌}
-use Rattle.agreement_core.specs.table_words.specs.declared.layout.Layout.{Layout}
+use Rattle.machine_states.specs.table_words.specs.declared.layout.Layout.{Layout}
 use Rattle.machine_states.specs.structure_laws.specs.Meaning.{Meaning}
-use Rattle.machine_states.specs.runner_steps.specs.runner_parts.specs.State.{PartState}
-use Rattle.machine_states.specs.runner_steps.specs.runner_parts.specs.Tests.{has}
+use Rattle.machine_states.specs.runner_parts.specs.State.{PartState}
+use Rattle.machine_states.specs.runner_parts.specs.Tests.{has}
 use Rattle.agreement_core.specs.State.{AgreementState}
 use Rattle.machine_states.specs.epoch_core.specs.State.{Counts, EpochState, is_entered}
 use Rattle.machine_states.specs.epoch_core.specs.Events as epochs
@@ -21,7 +21,7 @@ use Rattle.machine_invariant.specs.Named.{AreNamed}
 use Rattle.machine_invariant.specs.Whole.{IsHeldFor, HasPublished, AreTied}
 use Rattle.machine_invariant.proofs.Named.{named_more}
 use Rattle.machine_invariant.proofs.Runs.{AllAre}
-use Rattle.agreement_core.specs.body_terms.specs.declared.thunk.Thunk.{Thunk}
+use Rattle.machine_states.specs.body_terms.specs.declared.thunk.Thunk.{Thunk}
 
 module _ (m : Meaning) (l : Layout) where
   abbrev c : Counts

@@ -3,14 +3,14 @@ use Rattle.std.proofs.Common.{◌≡◌, ℕ, suc, ◌<◌, ◌≤◌, true, Lis
 use Rattle.std.specs.Prelude.{◌⊎◌, slice_index, slice_get}
 use Rattle.std.proofs.lemmas.Option.{slice_get_within}
 use Rattle.std.proofs.lemmas.Grind.{same_number_lists}
-use Rattle.agreement_core.specs.body_terms.specs.Plain.{first_values}
-use Rattle.agreement_core.specs.body_terms.specs.Word.{value_of, version_of, held_word}
-use Rattle.agreement_core.specs.body_terms.proofs.ValueLemmas.{length-first_values, get_or-first_values}
-use Rattle.agreement_core.specs.table_words.specs.declared.layout.Layout.{Layout}
-use Rattle.agreement_core.specs.table_words.specs.declared.spot.Spot.TheVariants.{Cell}
+use Rattle.machine_states.specs.body_terms.specs.Plain.{first_values}
+use Rattle.machine_states.specs.body_terms.specs.Word.{value_of, version_of, held_word}
+use Rattle.machine_states.specs.body_terms.proofs.ValueLemmas.{length-first_values, get_or-first_values}
+use Rattle.machine_states.specs.table_words.specs.declared.layout.Layout.{Layout}
+use Rattle.machine_states.specs.table_words.specs.declared.spot.Spot.TheVariants.{Cell}
 use Rattle.machine_states.specs.structure_laws.specs.Meaning.{Meaning}
-use Rattle.machine_states.specs.runner_steps.specs.runner_parts.specs.declared.entries.Published.{Published}
-use Rattle.machine_states.specs.runner_steps.specs.runner_parts.specs.State.{RunState, FinishedState}
+use Rattle.machine_states.specs.runner_parts.specs.declared.entries.Published.{Published}
+use Rattle.machine_states.specs.runner_parts.specs.State.{RunState, FinishedState}
 use Rattle.agreement_core.specs.State.{AgreementState}
 use Rattle.agreement_core.specs.Sound.{IsOf}
 use Rattle.agreement_core.specs.Trails.{RunsAgree, HoldsNothing}

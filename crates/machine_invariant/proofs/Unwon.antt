@@ -1,10 +1,10 @@
 -- A section that left at a check has committed no Make and no Retire.
 use Rattle.std.proofs.Common.{◌≡◌, ℕ, zero, suc, ◌<◌, ◌≤◌, Bool, true, false, cond, List, [], ◌∷◌, length, refl, ap, ◌∙◌, ⊎_elim, arith}
 use Rattle.std.proofs.lemmas.Bool.{cases_lt}
-use Rattle.agreement_core.specs.body_terms.specs.Line.{line, micro_at, is_commit}
-use Rattle.agreement_core.specs.body_terms.specs.declared.step.Step.{Step}
-use Rattle.agreement_core.specs.body_terms.specs.declared.micro.Micro.{Micro}
-use Rattle.agreement_core.specs.body_terms.specs.declared.micro.Micro.TheVariants.{Commit, NestedCommit, OutcomeCommit, MakeCommit, RetireCommit}
+use Rattle.machine_states.specs.body_terms.specs.Line.{line, micro_at, is_commit}
+use Rattle.machine_states.specs.body_terms.specs.declared.step.Step.{Step}
+use Rattle.machine_states.specs.body_terms.specs.declared.micro.Micro.{Micro}
+use Rattle.machine_states.specs.body_terms.specs.declared.micro.Micro.TheVariants.{Commit, NestedCommit, OutcomeCommit, MakeCommit, RetireCommit}
 use Rattle.agreement_core.specs.section_lines.specs.Line.{phase, IsCounted}
 use Rattle.machine_states.specs.epoch_core.specs.State.{Agrees}
 use Rattle.machine_states.specs.epoch_core.specs.History.{is_makes, is_retires, agreed_slot, agreed_count}

@@ -1,11 +1,11 @@
 -- What holds of the sections in a state of the machine, by the state of agreement that belongs to it.
 use Rattle.std.specs.Prelude.{◌≡◌, ◌≢◌, ℕ, ◌-◌, ◌<◌, ◌⊎◌, true, [], ◌∷◌}
-use Rattle.agreement_core.specs.body_terms.specs.Line.{is_check, is_end}
-use Rattle.agreement_core.specs.body_terms.specs.Run.{Run}
-use Rattle.agreement_core.specs.body_terms.specs.declared.micro.Source.{Source}
-use Rattle.agreement_core.specs.body_terms.specs.declared.micro.Micro.TheVariants.{ExchangeCell, MakeCommit, RetireCommit}
-use Rattle.agreement_core.specs.table_words.specs.declared.layout.Layout.{Layout}
-use Rattle.agreement_core.specs.table_words.specs.declared.spot.Spot.TheVariants.{Stamp, Reply, DoneWord}
+use Rattle.machine_states.specs.body_terms.specs.Line.{is_check, is_end}
+use Rattle.machine_states.specs.body_terms.specs.Run.{Run}
+use Rattle.machine_states.specs.body_terms.specs.declared.micro.Source.{Source}
+use Rattle.machine_states.specs.body_terms.specs.declared.micro.Micro.TheVariants.{ExchangeCell, MakeCommit, RetireCommit}
+use Rattle.machine_states.specs.table_words.specs.declared.layout.Layout.{Layout}
+use Rattle.machine_states.specs.table_words.specs.declared.spot.Spot.TheVariants.{Stamp, Reply, DoneWord}
 use Rattle.machine_states.specs.structure_laws.specs.Meaning.{Meaning}
 use Rattle.machine_states.specs.epoch_core.specs.History as epochs
 use Rattle.agreement_core.specs.State.{AgreementState}

@@ -1,6 +1,6 @@
 -- A state of the machine, with all that is known of its slots and of its sections.
 use Rattle.std.specs.Prelude.{◌≡◌, ℕ, ◌+◌, true}
-use Rattle.agreement_core.specs.table_words.specs.declared.layout.Layout.{Layout}
+use Rattle.machine_states.specs.table_words.specs.declared.layout.Layout.{Layout}
 use Rattle.machine_states.specs.structure_laws.specs.Meaning.{Meaning}
 use Rattle.machine_states.specs.epoch_core.specs.declared.location.Location.TheVariants.{Live}
 use Rattle.machine_states.specs.epoch_core.specs.History as epoch_history

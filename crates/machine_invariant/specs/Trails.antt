@@ -1,17 +1,17 @@
 -- Agreement in the machine's own words: the log words, the runs' trails, and what is kept of runs that came
 -- to their end.
 use Rattle.std.specs.Prelude.{◌≡◌, ◌≢◌, ℕ, suc, ◌<◌, ◌≤◌, ◌⊎◌, true, length, slice_get, Some}
-use Rattle.agreement_core.specs.body_terms.specs.Line.{line, committed, micro_at}
-use Rattle.agreement_core.specs.body_terms.specs.Plain.{first_values}
-use Rattle.agreement_core.specs.body_terms.specs.Word.{value_of, version_of, held_word}
-use Rattle.agreement_core.specs.body_terms.specs.declared.thunk.Thunk.{Thunk}
-use Rattle.agreement_core.specs.body_terms.specs.declared.micro.Micro.{Micro}
-use Rattle.agreement_core.specs.body_terms.specs.declared.micro.Micro.TheVariants.{NestedHold}
-use Rattle.agreement_core.specs.table_words.specs.declared.spot.Spot.TheVariants.{Cell, DoneWord, LogWord}
+use Rattle.machine_states.specs.body_terms.specs.Line.{line, committed, micro_at}
+use Rattle.machine_states.specs.body_terms.specs.Plain.{first_values}
+use Rattle.machine_states.specs.body_terms.specs.Word.{value_of, version_of, held_word}
+use Rattle.machine_states.specs.body_terms.specs.declared.thunk.Thunk.{Thunk}
+use Rattle.machine_states.specs.body_terms.specs.declared.micro.Micro.{Micro}
+use Rattle.machine_states.specs.body_terms.specs.declared.micro.Micro.TheVariants.{NestedHold}
+use Rattle.machine_states.specs.table_words.specs.declared.spot.Spot.TheVariants.{Cell, DoneWord, LogWord}
 use Rattle.machine_states.specs.structure_laws.specs.Meaning.{Meaning}
-use Rattle.machine_states.specs.runner_steps.specs.runner_parts.specs.declared.entries.Published.{Published}
-use Rattle.machine_states.specs.runner_steps.specs.runner_parts.specs.State.{RunState, FinishedState}
-use Rattle.machine_states.specs.runner_steps.specs.runner_parts.specs.Tests.{has_pair}
+use Rattle.machine_states.specs.runner_parts.specs.declared.entries.Published.{Published}
+use Rattle.machine_states.specs.runner_parts.specs.State.{RunState, FinishedState}
+use Rattle.machine_states.specs.runner_parts.specs.Tests.{has_pair}
 use Rattle.agreement_core.specs.State.{AgreementState}
 use Rattle.machine_states.specs.Sight.{Sight}
 use Rattle.machine_agreement.specs.machine_epochs.specs.Slots.{thunk_in}

@@ -1,9 +1,9 @@
 -- The two halves of a Take together.
 use Rattle.std.proofs.Common.{◌≡◌, ℕ, false, refl, Option, Some, None}
 use Rattle.std.specs.Prelude.{Result, Ok, Err, IfSome, IfNone, is_err}
-use Rattle.section_lines.specs.structure_laws.specs.body_terms.specs.declared.outcome.Refused.{Refused}
-use Rattle.section_lines.specs.structure_laws.specs.Meaning.{Meaning}
-use Rattle.machine_states.specs.runner_steps.specs.runner_parts.specs.State.{RunState}
+use Rattle.machine_states.specs.body_terms.specs.declared.outcome.Refused.{Refused}
+use Rattle.machine_states.specs.structure_laws.specs.Meaning.{Meaning}
+use Rattle.machine_states.specs.runner_parts.specs.State.{RunState}
 use Rattle.commit_log.specs.version_words.specs.RunnerState.{RunnerState}
 use Rattle.commit_log.specs.Runs.{Ran}
 use Rattle.commit_log.proofs.Running.{ran_one, ran_more}

@@ -1,19 +1,19 @@
 -- The first half of a Take in a run.
 use Rattle.std.proofs.Common.{◌≡◌, ℕ, suc, ◌+◌, ◌<◌, List, [], ◌∷◌, ◌++◌, length, Bool, refl, ap, subst, ◌∙◌, arith, slice_index, Some, None}
-use Rattle.section_lines.specs.structure_laws.specs.body_terms.specs.declared.step.Step.TheVariants.{Take}
-use Rattle.section_lines.specs.structure_laws.specs.body_terms.specs.declared.micro.Micro.TheVariants.{NestedLoad, NestedCommit, CheckFree, NestedHold}
-use Rattle.section_lines.specs.structure_laws.specs.body_terms.specs.Line.{begins, micro_at, micros, is_check, registers_before}
-use Rattle.section_lines.specs.structure_laws.specs.body_terms.specs.Run.{leaves, settled}
-use Rattle.section_lines.specs.structure_laws.specs.body_terms.proofs.LineLemmas.{micro_within}
+use Rattle.machine_states.specs.body_terms.specs.declared.step.Step.TheVariants.{Take}
+use Rattle.machine_states.specs.body_terms.specs.declared.micro.Micro.TheVariants.{NestedLoad, NestedCommit, CheckFree, NestedHold}
+use Rattle.machine_states.specs.body_terms.specs.Line.{begins, micro_at, micros, is_check, registers_before}
+use Rattle.machine_states.specs.body_terms.specs.Run.{leaves, settled}
+use Rattle.machine_states.specs.body_terms.proofs.LineLemmas.{micro_within}
 use Rattle.section_lines.proofs.Resting.{rests_at}
-use Rattle.section_lines.specs.structure_laws.specs.table_words.specs.declared.layout.Layout.{Layout}
-use Rattle.section_lines.specs.structure_laws.specs.table_words.specs.declared.spot.Spot.TheVariants.{Cell}
-use Rattle.section_lines.specs.structure_laws.specs.table_words.specs.declared.access.Access.TheVariants.{Loads}
-use Rattle.section_lines.specs.structure_laws.specs.table_words.specs.Limits.{IsWithinLimits}
-use Rattle.section_lines.specs.structure_laws.specs.Meaning.{Meaning}
-use Rattle.section_lines.specs.structure_laws.specs.Laws.{Laws}
-use Rattle.machine_states.specs.runner_steps.specs.runner_parts.specs.declared.event.EventKind.TheVariants as kinds
-use Rattle.machine_states.specs.runner_steps.specs.runner_parts.specs.State.{RunState}
+use Rattle.machine_states.specs.table_words.specs.declared.layout.Layout.{Layout}
+use Rattle.machine_states.specs.table_words.specs.declared.spot.Spot.TheVariants.{Cell}
+use Rattle.machine_states.specs.table_words.specs.declared.access.Access.TheVariants.{Loads}
+use Rattle.machine_states.specs.table_words.specs.Limits.{IsWithinLimits}
+use Rattle.machine_states.specs.structure_laws.specs.Meaning.{Meaning}
+use Rattle.machine_states.specs.structure_laws.specs.Laws.{Laws}
+use Rattle.machine_states.specs.runner_parts.specs.declared.event.EventKind.TheVariants as kinds
+use Rattle.machine_states.specs.runner_parts.specs.State.{RunState}
 use Rattle.machine_states.specs.runner_steps.specs.Sections.{thunk_of, line_of, next_of, setting_of}
 use Rattle.machine_states.specs.runner_steps.specs.AfterInRun.{goes_on, agrees}
 use Rattle.machine_facts.specs.machine_invariant.specs.After.{AreAllowed}

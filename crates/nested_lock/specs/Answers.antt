@@ -1,10 +1,10 @@
 -- How a Take ends, by the words that were agreed on.
 use Rattle.std.specs.Prelude.{ℕ, ◌==◌, ◌&&◌, not, cond, Result, Ok, Err, Option, Some, None}
-use Rattle.section_lines.specs.structure_laws.specs.body_terms.specs.Word.{is_free, is_spent, held_word}
-use Rattle.section_lines.specs.structure_laws.specs.body_terms.specs.declared.outcome.Refused.{Refused}
-use Rattle.section_lines.specs.structure_laws.specs.body_terms.specs.declared.outcome.Refused.TheVariants as refusals
-use Rattle.section_lines.specs.structure_laws.specs.body_terms.specs.declared.outcome.Outcome.{Outcome}
-use Rattle.section_lines.specs.structure_laws.specs.body_terms.specs.declared.outcome.Outcome.TheVariants as outcomes
+use Rattle.machine_states.specs.body_terms.specs.Word.{is_free, is_spent, held_word}
+use Rattle.machine_states.specs.body_terms.specs.declared.outcome.Refused.{Refused}
+use Rattle.machine_states.specs.body_terms.specs.declared.outcome.Refused.TheVariants as refusals
+use Rattle.machine_states.specs.body_terms.specs.declared.outcome.Outcome.{Outcome}
+use Rattle.machine_states.specs.body_terms.specs.declared.outcome.Outcome.TheVariants as outcomes
 
 -- why a lock with this expected word isn't got, by the word that was read: it names a descriptor, is free and has no
 -- version left, or isn't the expected one

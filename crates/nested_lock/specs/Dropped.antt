@@ -1,11 +1,11 @@
 -- Releases of locks in a run.
 use Rattle.std.specs.Prelude.{◌≡◌, ◌≢◌, ℕ, true}
-use Rattle.section_lines.specs.structure_laws.specs.body_terms.specs.declared.micro.Micro.TheVariants.{Release}
-use Rattle.section_lines.specs.structure_laws.specs.body_terms.specs.Word.{is_free, held_word, next_word}
-use Rattle.section_lines.specs.structure_laws.specs.table_words.specs.Access.{exchanged}
-use Rattle.section_lines.specs.structure_laws.specs.table_words.specs.declared.spot.Spot.TheVariants.{Cell}
-use Rattle.section_lines.specs.structure_laws.specs.Meaning.{Meaning}
-use Rattle.machine_states.specs.runner_steps.specs.runner_parts.specs.State.{RunState}
+use Rattle.machine_states.specs.body_terms.specs.declared.micro.Micro.TheVariants.{Release}
+use Rattle.machine_states.specs.body_terms.specs.Word.{is_free, held_word, next_word}
+use Rattle.machine_states.specs.table_words.specs.Access.{exchanged}
+use Rattle.machine_states.specs.table_words.specs.declared.spot.Spot.TheVariants.{Cell}
+use Rattle.machine_states.specs.structure_laws.specs.Meaning.{Meaning}
+use Rattle.machine_states.specs.runner_parts.specs.State.{RunState}
 use Rattle.machine_states.specs.runner_steps.specs.Sections.{next_of}
 use Rattle.commit_log.specs.version_words.specs.RunnerState.{RunnerState}
 use Rattle.commit_log.specs.version_words.specs.ReachedWith.{ReachedWith}

@@ -1,9 +1,9 @@
 //! How a Take ends, by an agreed word.
 ghost use Rattle.std.specs.Prelude.{◌≡◌, ◌<◌, ◌^◌, ◌+◌, ◌-◌, ℕ, Some};
-ghost use Rattle.section_lines.specs.structure_laws.specs.body_terms.specs.Word.{version_of};
+ghost use Rattle.machine_states.specs.body_terms.specs.Word.{version_of};
 ghost use Rattle.nested_lock.specs.Answers.{refused_by, left_by, first_outcome, second_outcome, outcome_at, outcome_by};
 
-use section_lines::structure_laws::body_terms::{Refused, Word};
+use machine_states::body_terms::{Refused, Word};
 
 /// Why a lock isn't got, by the word that was read in place of the expected one: Busy where it names a descriptor,
 /// Spent where it is free and has too few versions left to be taken and released, Stale otherwise.

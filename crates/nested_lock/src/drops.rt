@@ -1,12 +1,12 @@
 //! The release of a lock.
-ghost use Rattle.machine_states.specs.runner_steps.specs.runner_parts.specs.State.{RunState};
+ghost use Rattle.machine_states.specs.runner_parts.specs.State.{RunState};
 ghost use Rattle.commit_log.specs.version_words.specs.TableState.{IsOf};
 ghost use Rattle.commit_log.specs.Runs.{IsRunning};
 ghost use Rattle.nested_lock.specs.Dropped.{MayDrop, HasDropped};
 
 use commit_log::version_words::{FlockTable, Runner};
-use section_lines::structure_laws::Structure;
-use section_lines::structure_laws::body_terms::{Place, Word};
+use machine_states::body_terms::{Place, Word};
+use machine_states::structure_laws::Structure;
 
 /// Releases a lock that the run's section holds with this word: one exchange to the free word with the next version.
 /// Where another run of the section was first the lock has left the held word already, and the exchange changes

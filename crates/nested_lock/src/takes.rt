@@ -1,6 +1,6 @@
 //! The Take of a further lock.
 ghost use Rattle.std.specs.Prelude.{◌≡◌, ℕ, IfSome, IfNone, Some, true};
-ghost use Rattle.machine_states.specs.runner_steps.specs.runner_parts.specs.State.{RunState};
+ghost use Rattle.machine_states.specs.runner_parts.specs.State.{RunState};
 ghost use Rattle.commit_log.specs.version_words.specs.TableState.{IsOf};
 ghost use Rattle.commit_log.specs.Runs.{IsRunning};
 ghost use Rattle.commit_log.specs.Asked.{IsAsked};
@@ -10,9 +10,9 @@ ghost use Rattle.nested_lock.specs.Taken.{MayTake, MayHold, HasTaken, HasHeld, T
 use crate::answers::{first_answer, second_answer};
 use commit_log::version_words::{FlockTable, Runner};
 use commit_log::{Unasked, commit, passes};
+use machine_states::body_terms::{Place, Refused, StepKind, Steps, Word};
+use machine_states::structure_laws::Structure;
 use runner_gate::Gate;
-use section_lines::structure_laws::Structure;
-use section_lines::structure_laws::body_terms::{Place, Refused, StepKind, Steps, Word};
 
 /// How a Take ended, and the words of its lock that were agreed on.
 #[derive(Clone, Copy, Debug, PartialEq, Eq)]

@@ -1,27 +1,27 @@
 -- A run in progress has a step that comes next.
 use Rattle.std.specs.Prelude.{◌==◌, ◌&&◌, not, nat_lt, nat_le, cond, slice_index_or, Bool, true, false, if◌then◌else◌}
 use Rattle.std.proofs.Common.{◌≡◌, ℕ, zero, suc, ◌+◌, ◌≤◌, List, [], ◌∷◌, ◌++◌, length, length-append, take, sym, refl, ap, ◌∙◌, subst, arith, Option, Some, None}
-use Rattle.agreement_core.specs.map_history.specs.declared.op.Request.{Request}
-use Rattle.agreement_core.specs.body_terms.specs.declared.micro.Micro.{Micro}
-use Rattle.agreement_core.specs.body_terms.specs.declared.micro.Micro.TheVariants as micros
-use Rattle.agreement_core.specs.body_terms.specs.declared.thunk.Thunk.{Thunk}
-use Rattle.agreement_core.specs.body_terms.specs.Line.{is_event, is_end, micro_at, releases, ending}
-use Rattle.agreement_core.specs.table_words.specs.declared.layout.Layout.{Layout}
-use Rattle.agreement_core.specs.table_words.specs.declared.spot.Spot.{Spot}
-use Rattle.agreement_core.specs.table_words.specs.declared.access.Access.{Access}
-use Rattle.agreement_core.specs.table_words.specs.Limits.{IsWithinLimits}
-use Rattle.agreement_core.specs.table_words.specs.Places.{slot_count}
+use Rattle.machine_states.specs.map_history.specs.declared.op.Request.{Request}
+use Rattle.machine_states.specs.body_terms.specs.declared.micro.Micro.{Micro}
+use Rattle.machine_states.specs.body_terms.specs.declared.micro.Micro.TheVariants as micros
+use Rattle.machine_states.specs.body_terms.specs.declared.thunk.Thunk.{Thunk}
+use Rattle.machine_states.specs.body_terms.specs.Line.{is_event, is_end, micro_at, releases, ending}
+use Rattle.machine_states.specs.table_words.specs.declared.layout.Layout.{Layout}
+use Rattle.machine_states.specs.table_words.specs.declared.spot.Spot.{Spot}
+use Rattle.machine_states.specs.table_words.specs.declared.access.Access.{Access}
+use Rattle.machine_states.specs.table_words.specs.Limits.{IsWithinLimits}
+use Rattle.machine_states.specs.table_words.specs.Places.{slot_count}
 use Rattle.machine_states.specs.structure_laws.specs.Meaning.{Meaning}
 use Rattle.machine_states.specs.structure_laws.specs.Laws.{Laws}
 use Rattle.machine_states.specs.epoch_core.specs.Moves.{is_clear}
 use Rattle.machine_states.specs.epoch_core.specs.declared.stage.Stage.{Stage}
 use Rattle.machine_states.specs.epoch_core.specs.declared.stage.Stage.TheVariants as stages
-use Rattle.machine_states.specs.runner_steps.specs.runner_parts.specs.declared.entries.Published.{Published}
-use Rattle.machine_states.specs.runner_steps.specs.runner_parts.specs.declared.event.EventKind.{EventKind}
-use Rattle.machine_states.specs.runner_steps.specs.runner_parts.specs.declared.event.EventKind.TheVariants as kinds
-use Rattle.machine_states.specs.runner_steps.specs.runner_parts.specs.State.{RunState, PartState}
+use Rattle.machine_states.specs.runner_parts.specs.declared.entries.Published.{Published}
+use Rattle.machine_states.specs.runner_parts.specs.declared.event.EventKind.{EventKind}
+use Rattle.machine_states.specs.runner_parts.specs.declared.event.EventKind.TheVariants as kinds
+use Rattle.machine_states.specs.runner_parts.specs.State.{RunState, PartState}
 use Rattle.machine_states.specs.runner_steps.specs.Sections.{thunk_of, is_open_run, line_of, next_of}
-use Rattle.machine_states.specs.runner_steps.specs.runner_parts.specs.Lists.{cell_read}
+use Rattle.machine_states.specs.runner_parts.specs.Lists.{cell_read}
 use Rattle.machine_states.specs.epoch_core.specs.State.{last_epoch}
 use Rattle.machine_states.specs.runner_steps.specs.InRun.{last_clock}
 use Rattle.machine_states.specs.runner_steps.specs.Asks.{ask_by, opening_ask, line_ask}

@@ -2,23 +2,23 @@
 use Rattle.std.specs.Prelude.{◌⊎◌, ◌*◌, ◌&&◌, cond, slice_index_or, Bool, true, false, is_none}
 use Rattle.std.proofs.Common.{◌≡◌, ℕ, zero, suc, ◌+◌, ◌<◌, ◌≤◌, List, inl, inr, ⊎_elim, sym, refl, ap, ◌∙◌, subst, arith, add-one, Some, None}
 use Rattle.std.proofs.lemmas.Bool.{cases_lt}
-use Rattle.agreement_core.specs.body_terms.specs.declared.micro.Micro.{Micro}
-use Rattle.agreement_core.specs.body_terms.specs.declared.micro.Micro.TheVariants as micros
-use Rattle.agreement_core.specs.body_terms.specs.declared.micro.Source.{Source}
-use Rattle.agreement_core.specs.body_terms.specs.declared.step.Step.{Step}
-use Rattle.agreement_core.specs.body_terms.specs.Line.{is_check, is_commit, is_event, line, micro_at, registers_before, ending, committed}
-use Rattle.agreement_core.specs.body_terms.specs.Run.{Setting, settled, leaves}
+use Rattle.machine_states.specs.body_terms.specs.declared.micro.Micro.{Micro}
+use Rattle.machine_states.specs.body_terms.specs.declared.micro.Micro.TheVariants as micros
+use Rattle.machine_states.specs.body_terms.specs.declared.micro.Source.{Source}
+use Rattle.machine_states.specs.body_terms.specs.declared.step.Step.{Step}
+use Rattle.machine_states.specs.body_terms.specs.Line.{is_check, is_commit, is_event, line, micro_at, registers_before, ending, committed}
+use Rattle.machine_states.specs.body_terms.specs.Run.{Setting, settled, leaves}
 use Rattle.agreement_core.specs.section_lines.proofs.Sources.{part_there, of_make}
-use Rattle.agreement_core.specs.body_terms.specs.Shape.{IsShaped}
+use Rattle.machine_states.specs.body_terms.specs.Shape.{IsShaped}
 use Rattle.agreement_core.specs.section_lines.proofs.Ordered.{fills, fill_of, few_loads, is_ordered}
 use Rattle.agreement_core.specs.section_lines.proofs.Counted.{is_counted}
-use Rattle.agreement_core.specs.table_words.specs.declared.layout.Layout.{Layout}
-use Rattle.agreement_core.specs.table_words.specs.declared.spot.Spot.{Spot}
-use Rattle.agreement_core.specs.table_words.specs.declared.access.Access.{Access}
+use Rattle.machine_states.specs.table_words.specs.declared.layout.Layout.{Layout}
+use Rattle.machine_states.specs.table_words.specs.declared.spot.Spot.{Spot}
+use Rattle.machine_states.specs.table_words.specs.declared.access.Access.{Access}
 use Rattle.machine_states.specs.structure_laws.specs.Meaning.{Meaning}
-use Rattle.machine_states.specs.runner_steps.specs.runner_parts.specs.declared.event.EventKind.{EventKind}
-use Rattle.machine_states.specs.runner_steps.specs.runner_parts.specs.declared.event.EventKind.TheVariants as kinds
-use Rattle.machine_states.specs.runner_steps.specs.runner_parts.specs.State.{RunState}
+use Rattle.machine_states.specs.runner_parts.specs.declared.event.EventKind.{EventKind}
+use Rattle.machine_states.specs.runner_parts.specs.declared.event.EventKind.TheVariants as kinds
+use Rattle.machine_states.specs.runner_parts.specs.State.{RunState}
 use Rattle.machine_states.specs.runner_steps.specs.Sections.{thunk_of, line_of, next_of}
 use Rattle.machine_states.specs.runner_steps.specs.Asks.{line_ask}
 use Rattle.machine_states.proofs.Sights.{some_none}

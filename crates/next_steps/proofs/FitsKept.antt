@@ -5,22 +5,22 @@ use Rattle.std.proofs.lemmas.Bool.Decides.{nat_tests}
 use Rattle.std.proofs.lemmas.Bool.{cases_eq}
 use Rattle.std.proofs.lemmas.Option.{slice_get_within}
 use Rattle.std.proofs.lemmas.Grind.{common_steps}
-use Rattle.agreement_core.specs.map_history.specs.declared.op.Request.{Request}
-use Rattle.agreement_core.specs.body_terms.specs.declared.thunk.Thunk.{Thunk}
-use Rattle.agreement_core.specs.table_words.specs.declared.layout.Layout.{Layout}
-use Rattle.agreement_core.specs.table_words.specs.declared.spot.Spot.{Spot}
-use Rattle.agreement_core.specs.table_words.specs.declared.spot.Spot.TheVariants as spots
-use Rattle.agreement_core.specs.table_words.specs.declared.access.Access.{Access}
-use Rattle.agreement_core.specs.table_words.specs.Access.{written}
-use Rattle.agreement_core.specs.table_words.specs.Seen.{put}
-use Rattle.agreement_core.specs.table_words.specs.Places.{slot_count, descriptor_count}
-use Rattle.agreement_core.specs.table_words.specs.Limits.{IsWithinLimits}
+use Rattle.machine_states.specs.map_history.specs.declared.op.Request.{Request}
+use Rattle.machine_states.specs.body_terms.specs.declared.thunk.Thunk.{Thunk}
+use Rattle.machine_states.specs.table_words.specs.declared.layout.Layout.{Layout}
+use Rattle.machine_states.specs.table_words.specs.declared.spot.Spot.{Spot}
+use Rattle.machine_states.specs.table_words.specs.declared.spot.Spot.TheVariants as spots
+use Rattle.machine_states.specs.table_words.specs.declared.access.Access.{Access}
+use Rattle.machine_states.specs.table_words.specs.Access.{written}
+use Rattle.machine_states.specs.table_words.specs.Seen.{put}
+use Rattle.machine_states.specs.table_words.specs.Places.{slot_count, descriptor_count}
+use Rattle.machine_states.specs.table_words.specs.Limits.{IsWithinLimits}
 use Rattle.machine_states.specs.structure_laws.specs.Meaning.{Meaning}
 use Rattle.machine_states.specs.structure_laws.specs.Laws.{Laws}
-use Rattle.machine_states.specs.runner_steps.specs.runner_parts.specs.declared.event.EventKind.{EventKind}
-use Rattle.machine_states.specs.runner_steps.specs.runner_parts.specs.declared.event.EventKind.TheVariants as kinds
-use Rattle.machine_states.specs.runner_steps.specs.runner_parts.specs.State.{RunState, PartState}
-use Rattle.machine_states.specs.runner_steps.specs.runner_parts.specs.Tests.{has, thunk_words}
+use Rattle.machine_states.specs.runner_parts.specs.declared.event.EventKind.{EventKind}
+use Rattle.machine_states.specs.runner_parts.specs.declared.event.EventKind.TheVariants as kinds
+use Rattle.machine_states.specs.runner_parts.specs.State.{RunState, PartState}
+use Rattle.machine_states.specs.runner_parts.specs.Tests.{has, thunk_words}
 use Rattle.machine_states.specs.runner_steps.specs.Sections.{thunk_of}
 use Rattle.machine_states.specs.runner_steps.specs.Asks.{ask_by}
 use Rattle.machine_states.specs.runner_steps.specs.AfterOutside as outside

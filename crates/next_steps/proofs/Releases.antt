@@ -1,19 +1,19 @@
 -- Which locks a run releases at its end, and how many exchanges that end has.
 use Rattle.std.specs.Prelude.{◌⊎◌, slice_index_or, true, false}
 use Rattle.std.proofs.Common.{◌≡◌, ℕ, zero, suc, ◌<◌, ◌≤◌, List, [], ◌∷◌, length, take, inl, inr, ⊎_elim, sym, refl, ap, ◌∙◌, subst, arith, Some}
-use Rattle.agreement_core.specs.map_history.specs.declared.op.Request.{Request}
-use Rattle.agreement_core.specs.body_terms.specs.declared.micro.Micro.{Micro}
-use Rattle.agreement_core.specs.body_terms.specs.declared.micro.Micro.TheVariants as micros
-use Rattle.agreement_core.specs.body_terms.specs.declared.thunk.Thunk.{Thunk}
-use Rattle.agreement_core.specs.body_terms.specs.Line.{is_check, line, micro_at, releases, ending}
-use Rattle.agreement_core.specs.body_terms.specs.Word.{is_free, is_spent}
+use Rattle.machine_states.specs.map_history.specs.declared.op.Request.{Request}
+use Rattle.machine_states.specs.body_terms.specs.declared.micro.Micro.{Micro}
+use Rattle.machine_states.specs.body_terms.specs.declared.micro.Micro.TheVariants as micros
+use Rattle.machine_states.specs.body_terms.specs.declared.thunk.Thunk.{Thunk}
+use Rattle.machine_states.specs.body_terms.specs.Line.{is_check, line, micro_at, releases, ending}
+use Rattle.machine_states.specs.body_terms.specs.Word.{is_free, is_spent}
 use Rattle.agreement_core.specs.section_lines.proofs.Sources.{of_take}
 use Rattle.agreement_core.specs.section_lines.proofs.Ordered.{is_ordered}
-use Rattle.agreement_core.specs.table_words.specs.declared.layout.Layout.{Layout}
+use Rattle.machine_states.specs.table_words.specs.declared.layout.Layout.{Layout}
 use Rattle.machine_states.specs.structure_laws.specs.Scene.{Readings}
 use Rattle.machine_states.specs.structure_laws.specs.Meaning.{Meaning}
 use Rattle.machine_states.specs.structure_laws.specs.Shape.{Shaped}
-use Rattle.machine_states.specs.runner_steps.specs.runner_parts.specs.State.{RunState}
+use Rattle.machine_states.specs.runner_parts.specs.State.{RunState}
 use Rattle.machine_states.specs.runner_steps.specs.Sections.{thunk_of, is_open_run, line_of, next_of}
 use Rattle.machine_states.specs.Sight.{Sight}
 use Rattle.machine_invariant.specs.machine_agreement.proofs.RunPlaces.{of_thunk}

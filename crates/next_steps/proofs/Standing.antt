@@ -3,20 +3,20 @@ use Rattle.std.specs.Prelude.{◌==◌, ◌⊎◌, nat_lt, cond, slice_index, Bo
 use Rattle.std.proofs.Common.{◌≡◌, ◌≢◌, ℕ, ◌<◌, List, ⊎_elim, sym, refl, ap, ◌∙◌, subst, arith, Some, None}
 use Rattle.std.proofs.lemmas.Bool.Decides.{nat_tests}
 use Rattle.std.proofs.lemmas.Bool.{cases_eq, cases_lt}
-use Rattle.agreement_core.specs.map_history.specs.declared.op.Request.{Request}
-use Rattle.agreement_core.specs.body_terms.specs.declared.micro.Micro.TheVariants as micros
-use Rattle.agreement_core.specs.body_terms.specs.declared.thunk.Thunk.{Thunk}
-use Rattle.agreement_core.specs.body_terms.specs.Memory.{cell_of}
-use Rattle.agreement_core.specs.body_terms.specs.Run.{source_value}
-use Rattle.agreement_core.specs.body_terms.specs.Word.{value_of, next_word, held_word}
-use Rattle.agreement_core.specs.table_words.specs.declared.layout.Layout.{Layout}
-use Rattle.agreement_core.specs.table_words.specs.declared.spot.Spot.{Spot}
-use Rattle.agreement_core.specs.table_words.specs.declared.spot.Spot.TheVariants as spots
-use Rattle.agreement_core.specs.table_words.specs.declared.access.Access.{Access}
-use Rattle.agreement_core.specs.table_words.specs.declared.access.Access.TheVariants.{Exchanges}
-use Rattle.agreement_core.specs.table_words.specs.Access.{written, exchanged}
-use Rattle.agreement_core.specs.table_words.specs.Limits.{IsWithinLimits}
-use Rattle.agreement_core.specs.table_words.specs.Seen.{put}
+use Rattle.machine_states.specs.map_history.specs.declared.op.Request.{Request}
+use Rattle.machine_states.specs.body_terms.specs.declared.micro.Micro.TheVariants as micros
+use Rattle.machine_states.specs.body_terms.specs.declared.thunk.Thunk.{Thunk}
+use Rattle.machine_states.specs.body_terms.specs.Memory.{cell_of}
+use Rattle.machine_states.specs.body_terms.specs.Run.{source_value}
+use Rattle.machine_states.specs.body_terms.specs.Word.{value_of, next_word, held_word}
+use Rattle.machine_states.specs.table_words.specs.declared.layout.Layout.{Layout}
+use Rattle.machine_states.specs.table_words.specs.declared.spot.Spot.{Spot}
+use Rattle.machine_states.specs.table_words.specs.declared.spot.Spot.TheVariants as spots
+use Rattle.machine_states.specs.table_words.specs.declared.access.Access.{Access}
+use Rattle.machine_states.specs.table_words.specs.declared.access.Access.TheVariants.{Exchanges}
+use Rattle.machine_states.specs.table_words.specs.Access.{written, exchanged}
+use Rattle.machine_states.specs.table_words.specs.Limits.{IsWithinLimits}
+use Rattle.machine_states.specs.table_words.specs.Seen.{put}
 use Rattle.machine_states.specs.structure_laws.specs.Scene.{Free, Status}
 use Rattle.machine_states.specs.structure_laws.specs.Meaning.{Meaning}
 use Rattle.machine_states.specs.structure_laws.specs.Laws.{Laws}
@@ -24,10 +24,10 @@ use Rattle.machine_states.specs.structure_laws.specs.Cells.{IsKnown}
 use Rattle.machine_states.specs.structure_laws.proofs.Changes.{upd_same}
 use Rattle.machine_invariant.specs.After.{AreAllowed}
 use Rattle.machine_invariant.proofs.Keeping.{IsStep}
-use Rattle.machine_states.specs.runner_steps.specs.runner_parts.specs.declared.event.EventKind.{EventKind}
-use Rattle.machine_states.specs.runner_steps.specs.runner_parts.specs.declared.event.EventKind.TheVariants as kinds
-use Rattle.machine_states.specs.runner_steps.specs.runner_parts.specs.State.{PartState}
-use Rattle.machine_states.specs.runner_steps.specs.runner_parts.specs.Tests.{has}
+use Rattle.machine_states.specs.runner_parts.specs.declared.event.EventKind.{EventKind}
+use Rattle.machine_states.specs.runner_parts.specs.declared.event.EventKind.TheVariants as kinds
+use Rattle.machine_states.specs.runner_parts.specs.State.{PartState}
+use Rattle.machine_states.specs.runner_parts.specs.Tests.{has}
 use Rattle.machine_states.specs.runner_steps.specs.Sections.{next_of}
 use Rattle.agreement_core.specs.Checks as checks
 use Rattle.agreement_core.specs.Events as agreement

@@ -3,10 +3,10 @@ use Rattle.std.specs.Prelude.{◌==◌, ◌||◌, ◌-◌, not, cond, slice_inde
 use Rattle.std.proofs.Common.{◌⊎◌, inl, inr, ◌≡◌, ◌≢◌, ℕ, ◌<◌, List, [], ◌∷◌, ◌++◌, length, sym, refl, ap, ◌∙◌, arith, Some, None}
 use Rattle.std.proofs.lemmas.Bool.Decides.{nat_tests}
 use Rattle.std.proofs.lemmas.List.Folds.{list_any_at}
-use Rattle.agreement_core.specs.section_lines.specs.small_lemmas.proofs.Numbers.{equal_tested as equal_test, other_tested as differ_test}
-use Rattle.machine_states.specs.runner_steps.specs.runner_parts.specs.declared.entries.Tested.{Tested}
-use Rattle.machine_states.specs.runner_steps.specs.runner_parts.specs.Tests.{has}
-use Rattle.machine_states.specs.runner_steps.specs.runner_parts.specs.Lists.{without, test_of, tests_without}
+use Rattle.machine_states.specs.epoch_core.specs.small_lemmas.proofs.Numbers.{equal_tested as equal_test, other_tested as differ_test}
+use Rattle.machine_states.specs.runner_parts.specs.declared.entries.Tested.{Tested}
+use Rattle.machine_states.specs.runner_parts.specs.Tests.{has}
+use Rattle.machine_states.specs.runner_parts.specs.Lists.{without, test_of, tests_without}
 use Rattle.machine_states.specs.runner_steps.specs.InRun.{last_of, is_slot}
 use Rattle.machine_invariant.specs.machine_agreement.specs.machine_epochs.proofs.Places.{has_append}
 

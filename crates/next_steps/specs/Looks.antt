@@ -1,7 +1,7 @@
 -- The clocks that were loaded for reads without a lock.
 use Rattle.std.specs.Prelude.{ℕ, ◌<◌, ◌≤◌, ◌≡◌, Some}
-use Rattle.agreement_core.specs.table_words.specs.declared.spot.Spot.TheVariants.{Clock}
-use Rattle.machine_states.specs.runner_steps.specs.runner_parts.specs.declared.entries.Look.{Look}
+use Rattle.machine_states.specs.table_words.specs.declared.spot.Spot.TheVariants.{Clock}
+use Rattle.machine_states.specs.runner_parts.specs.declared.entries.Look.{Look}
 use Rattle.machine_states.specs.runner_steps.specs.InRun.{last_clock}
 use Rattle.machine_states.specs.Sight.{Sight}
 

@@ -1,13 +1,13 @@
 -- The numbers that the runners keep are the table's.
 use Rattle.std.specs.Prelude.{ℕ, ◌<◌, ◌≡◌, true, Some}
-use Rattle.agreement_core.specs.table_words.specs.Places.{slot_count, descriptor_count}
-use Rattle.agreement_core.specs.table_words.specs.declared.layout.Layout.{Layout}
+use Rattle.machine_states.specs.table_words.specs.Places.{slot_count, descriptor_count}
+use Rattle.machine_states.specs.table_words.specs.declared.layout.Layout.{Layout}
 use Rattle.machine_states.specs.structure_laws.specs.Meaning.{Meaning}
-use Rattle.machine_states.specs.runner_steps.specs.runner_parts.specs.declared.entries.Published.{Published}
+use Rattle.machine_states.specs.runner_parts.specs.declared.entries.Published.{Published}
 use Rattle.machine_states.specs.epoch_core.specs.declared.stage.Stage.TheVariants.{Entered}
-use Rattle.machine_states.specs.runner_steps.specs.runner_parts.specs.Lists.{slots_of}
-use Rattle.machine_states.specs.runner_steps.specs.runner_parts.specs.State.{PartState}
-use Rattle.machine_states.specs.runner_steps.specs.runner_parts.specs.Tests.{has, has_pair}
+use Rattle.machine_states.specs.runner_parts.specs.Lists.{slots_of}
+use Rattle.machine_states.specs.runner_parts.specs.State.{PartState}
+use Rattle.machine_states.specs.runner_parts.specs.Tests.{has, has_pair}
 use Rattle.machine_states.specs.Sight.{Sight}
 use Rattle.next_steps.specs.Rooms.{cell_count}
 

@@ -1,18 +1,18 @@
 -- Which event a run makes next.
 use Rattle.std.specs.Prelude.{ℕ, zero, ◌+◌, ◌/◌, slice_index, Bool, true, is_some, nat_lt, length, Option, Some, None, if◌then◌else◌}
-use Rattle.agreement_core.specs.body_terms.specs.declared.micro.Micro.{Micro}
-use Rattle.agreement_core.specs.body_terms.specs.declared.micro.Micro.TheVariants as micros
-use Rattle.agreement_core.specs.body_terms.specs.Memory.{cell_of}
-use Rattle.agreement_core.specs.body_terms.specs.Word.{next_word, held_word}
-use Rattle.agreement_core.specs.body_terms.specs.Run.{source_value}
-use Rattle.agreement_core.specs.table_words.specs.declared.spot.Spot.{Spot}
-use Rattle.agreement_core.specs.table_words.specs.declared.spot.Spot.TheVariants.{Epoch, Clock, Stamp, Reply, Cell, ThunkWord, DoneWord, LogWord}
-use Rattle.agreement_core.specs.table_words.specs.declared.access.Access.{Access}
-use Rattle.agreement_core.specs.table_words.specs.declared.access.Access.TheVariants.{Loads, Stores, Exchanges, Raises}
+use Rattle.machine_states.specs.body_terms.specs.declared.micro.Micro.{Micro}
+use Rattle.machine_states.specs.body_terms.specs.declared.micro.Micro.TheVariants as micros
+use Rattle.machine_states.specs.body_terms.specs.Memory.{cell_of}
+use Rattle.machine_states.specs.body_terms.specs.Word.{next_word, held_word}
+use Rattle.machine_states.specs.body_terms.specs.Run.{source_value}
+use Rattle.machine_states.specs.table_words.specs.declared.spot.Spot.{Spot}
+use Rattle.machine_states.specs.table_words.specs.declared.spot.Spot.TheVariants.{Epoch, Clock, Stamp, Reply, Cell, ThunkWord, DoneWord, LogWord}
+use Rattle.machine_states.specs.table_words.specs.declared.access.Access.{Access}
+use Rattle.machine_states.specs.table_words.specs.declared.access.Access.TheVariants.{Loads, Stores, Exchanges, Raises}
 use Rattle.machine_states.specs.structure_laws.specs.Meaning.{Meaning}
-use Rattle.machine_states.specs.runner_steps.specs.runner_parts.specs.declared.event.EventKind.{EventKind}
-use Rattle.machine_states.specs.runner_steps.specs.runner_parts.specs.declared.event.EventKind.TheVariants as kinds
-use Rattle.machine_states.specs.runner_steps.specs.runner_parts.specs.State.{RunState, PartState}
+use Rattle.machine_states.specs.runner_parts.specs.declared.event.EventKind.{EventKind}
+use Rattle.machine_states.specs.runner_parts.specs.declared.event.EventKind.TheVariants as kinds
+use Rattle.machine_states.specs.runner_parts.specs.State.{RunState, PartState}
 use Rattle.machine_states.specs.runner_steps.specs.Sections.{thunk_of, is_open_run, next_of}
 use Rattle.machine_states.specs.runner_steps.specs.InRun.{make_slot, stamp_after}
 

@@ -1,8 +1,8 @@
 -- Where the steps of a line stand to one another.
 use Rattle.std.proofs.Common.{◌≡◌, ℕ, suc, List, refl, arith}
-use Rattle.agreement_core.specs.body_terms.specs.declared.micro.Micro.TheVariants.{CheckFree, NestedHold}
-use Rattle.agreement_core.specs.body_terms.specs.declared.step.Step.{Step}
-use Rattle.agreement_core.specs.body_terms.specs.Line.{line, micro_at}
+use Rattle.machine_states.specs.body_terms.specs.declared.micro.Micro.TheVariants.{CheckFree, NestedHold}
+use Rattle.machine_states.specs.body_terms.specs.declared.step.Step.{Step}
+use Rattle.machine_states.specs.body_terms.specs.Line.{line, micro_at}
 use Rattle.agreement_core.specs.section_lines.proofs.Sources.{of_take, part_there}
 
 module _ (body : List Step) where

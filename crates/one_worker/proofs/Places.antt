@@ -1,8 +1,8 @@
 -- A place that an entered worker's walk knows is in no slot that is in a hand, free or worn.
 use Rattle.std.specs.Prelude.{◌⊎◌, cond, Bool, true, false, slice_get}
 use Rattle.std.proofs.Common.{◌≡◌, ℕ, ◌+◌, ◌*◌, ◌<◌, ◌≤◌, List, refl, sym, ap, ◌∙◌, subst, ⊎_elim, arith, Some, None}
-use Rattle.agreement_core.specs.map_history.specs.declared.op.Request.{Request}
-use Rattle.agreement_core.specs.table_words.specs.declared.layout.Layout.{Layout}
+use Rattle.machine_states.specs.map_history.specs.declared.op.Request.{Request}
+use Rattle.machine_states.specs.table_words.specs.declared.layout.Layout.{Layout}
 use Rattle.machine_states.specs.structure_laws.specs.Meaning.{Meaning}
 use Rattle.machine_states.specs.structure_laws.specs.Scene.{Scene, Status, Free, Live, Retired}
 use Rattle.machine_states.specs.structure_laws.specs.Sound.{IsRead}

@@ -1,11 +1,11 @@
 -- How the sections of the one worker end.
 use Rattle.std.specs.Prelude.{ℕ, ◌≡◌, [], ◌∷◌, length, Some}
-use Rattle.agreement_core.specs.body_terms.specs.declared.outcome.Outcome.{Outcome}
-use Rattle.agreement_core.specs.body_terms.specs.declared.outcome.Outcome.TheVariants.{Answered, Busy, Stale, Spent}
-use Rattle.agreement_core.specs.table_words.specs.declared.layout.Layout.{Layout}
+use Rattle.machine_states.specs.body_terms.specs.declared.outcome.Outcome.{Outcome}
+use Rattle.machine_states.specs.body_terms.specs.declared.outcome.Outcome.TheVariants.{Answered, Busy, Stale, Spent}
+use Rattle.machine_states.specs.table_words.specs.declared.layout.Layout.{Layout}
 use Rattle.machine_states.specs.structure_laws.specs.Meaning.{Meaning}
-use Rattle.machine_states.specs.runner_steps.specs.runner_parts.specs.declared.entries.Published.{Published}
-use Rattle.machine_states.specs.runner_steps.specs.runner_parts.specs.State.{RunState}
+use Rattle.machine_states.specs.runner_parts.specs.declared.entries.Published.{Published}
+use Rattle.machine_states.specs.runner_parts.specs.State.{RunState}
 use Rattle.machine_states.specs.runner_steps.specs.Sections.{outcome_of}
 use Rattle.machine_states.specs.Sight.{Sight}
 

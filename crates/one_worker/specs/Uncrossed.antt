@@ -1,7 +1,7 @@
 -- Who moves the epoch where there is one worker, and whom its scans meet.
 use Rattle.std.specs.Prelude.{◌≡◌, true, false}
-use Rattle.agreement_core.specs.table_words.specs.declared.layout.Layout.{Layout}
-use Rattle.agreement_core.specs.table_words.specs.declared.spot.Spot.TheVariants.{Epoch, Announcement}
+use Rattle.machine_states.specs.table_words.specs.declared.layout.Layout.{Layout}
+use Rattle.machine_states.specs.table_words.specs.declared.spot.Spot.TheVariants.{Epoch, Announcement}
 use Rattle.machine_states.specs.epoch_core.specs.declared.stage.Stage.TheVariants.{Idle}
 use Rattle.machine_states.specs.runner_steps.specs.After.{own_epoch}
 use Rattle.machine_states.specs.Sight.{Sight}

@@ -3,18 +3,18 @@ use Rattle.std.specs.Prelude.{◌==◌, ◌&&◌, not, nat_le, true, false}
 use Rattle.std.proofs.Common.{◌≡◌, ◌≢◌, ℕ, ◌<◌, ◌≤◌, sym, ap, ◌∙◌, subst, ⊎_elim, arith, Some}
 use Rattle.std.proofs.lemmas.Bool.{cases_lt, and_parts}
 use Rattle.std.proofs.lemmas.Bool.Decides.{nat_tests}
-use Rattle.machine_states.specs.runner_steps.specs.body_terms.specs.Line.{micro_at}
+use Rattle.machine_states.specs.body_terms.specs.Line.{micro_at}
 use Rattle.still_reads.specs.agreement_core.specs.section_lines.specs.Line.{IsStamped}
-use Rattle.machine_states.specs.runner_steps.specs.table_words.specs.declared.layout.Layout.{Layout}
+use Rattle.machine_states.specs.table_words.specs.declared.layout.Layout.{Layout}
 use Rattle.machine_states.specs.structure_laws.specs.Meaning.{Meaning}
-use Rattle.machine_states.specs.runner_steps.specs.runner_parts.specs.State.{RunState}
-use Rattle.machine_states.specs.runner_steps.specs.runner_parts.specs.Tests.{knows, is_answered}
+use Rattle.machine_states.specs.runner_parts.specs.State.{RunState}
+use Rattle.machine_states.specs.runner_parts.specs.Tests.{knows, is_answered}
 use Rattle.machine_states.specs.runner_steps.specs.Sections.{thunk_of, line_of, is_open_run}
 use Rattle.still_reads.specs.agreement_core.specs.State.{AgreementState, Section}
 use Rattle.machine_history.specs.history_core.specs.State.{Requests, HistoryState}
 use Rattle.machine_history.specs.history_core.specs.Sound.{IsSound}
 use Rattle.machine_states.specs.Sight.{Sight}
-use Rattle.machine_epochs.proofs.RunPlaces.{open_run}
+use Rattle.machine_facts.specs.machine_agreement.specs.machine_epochs.proofs.RunPlaces.{open_run}
 use Rattle.machine_facts.specs.machine_agreement.proofs.RunPlaces.{run_here, used_here, of_thunk, code_here}
 use Rattle.machine_facts.specs.machine_invariant.specs.Whole.{Beside, states_of, IsWhole}
 use Rattle.machine_history.specs.Tied.{rank, SectionIsTied, AreTied}

@@ -2,16 +2,16 @@
 use Rattle.std.specs.Prelude.{◌==◌, ◌&&◌, ◌||◌, cond, not, Bool, true, false, slice_get}
 use Rattle.std.proofs.Common.{◌≡◌, ◌≢◌, ℕ, suc, List, [], ◌∷◌, refl, sym, ap, ◌∙◌, subst, arith, Some}
 use Rattle.std.proofs.lemmas.Bool.Decides.{nat_tests}
-use Rattle.history_orders.specs.map_history.specs.declared.op.Request.{Request}
-use Rattle.machine_states.specs.runner_steps.specs.table_words.specs.declared.layout.Layout.{Layout}
+use Rattle.machine_states.specs.map_history.specs.declared.op.Request.{Request}
+use Rattle.machine_states.specs.table_words.specs.declared.layout.Layout.{Layout}
 use Rattle.machine_states.specs.structure_laws.specs.Meaning.{Meaning}
-use Rattle.machine_states.specs.runner_steps.specs.runner_parts.specs.declared.entries.Known.{Known}
-use Rattle.machine_states.specs.runner_steps.specs.runner_parts.specs.State.{PartState}
-use Rattle.machine_states.specs.runner_steps.specs.runner_parts.specs.Tests.{knows, is_answered}
+use Rattle.machine_states.specs.runner_parts.specs.declared.entries.Known.{Known}
+use Rattle.machine_states.specs.runner_parts.specs.State.{PartState}
+use Rattle.machine_states.specs.runner_parts.specs.Tests.{knows, is_answered}
 use Rattle.machine_states.specs.runner_steps.specs.Outside.{entry_spot}
 use Rattle.machine_states.specs.Sight.{Sight, sight}
 use Rattle.machine_states.proofs.FirstSights.{first_parts}
-use Rattle.machine_epochs.proofs.FirstJoin.{each_part}
+use Rattle.machine_facts.specs.machine_agreement.specs.machine_epochs.proofs.FirstJoin.{each_part}
 use Rattle.machine_facts.specs.Known.{KnownStand}
 use Rattle.reached_histories.specs.Kept.{link_of}
 use Rattle.reached_histories.specs.Supplies.{FirstIsKept}

@@ -2,18 +2,18 @@
 use Rattle.std.specs.Prelude.{◌⊎◌, ◌==◌, ◌||◌, cond, Bool, true, false, []}
 use Rattle.std.proofs.Common.{◌≡◌, ◌≢◌, ℕ, List, ◌∷◌, refl, sym, ap, ◌∙◌, ⊎_elim, arith}
 use Rattle.std.proofs.lemmas.Bool.Decides.{nat_tests}
-use Rattle.history_orders.specs.map_history.specs.declared.op.Request.{Request}
-use Rattle.machine_states.specs.runner_steps.specs.table_words.specs.declared.layout.Layout.{Layout}
-use Rattle.machine_states.specs.runner_steps.specs.table_words.specs.Limits.{IsWithinLimits}
+use Rattle.machine_states.specs.map_history.specs.declared.op.Request.{Request}
+use Rattle.machine_states.specs.table_words.specs.declared.layout.Layout.{Layout}
+use Rattle.machine_states.specs.table_words.specs.Limits.{IsWithinLimits}
 use Rattle.machine_states.specs.structure_laws.specs.Meaning.{Meaning}
 use Rattle.machine_states.specs.structure_laws.specs.Laws.{Laws}
-use Rattle.machine_states.specs.runner_steps.specs.runner_parts.specs.Tests.{has}
+use Rattle.machine_states.specs.runner_parts.specs.Tests.{has}
 use Rattle.machine_states.specs.epoch_core.specs.State.{Counts}
 use Rattle.machine_history.specs.history_core.specs.State.{Requests, HistoryState}
 use Rattle.machine_history.specs.history_core.specs.Events as history
 use Rattle.machine_history.specs.history_core.specs.Schedules.{after_all}
 use Rattle.machine_states.specs.Sight.{Sight}
-use Rattle.machine_epochs.specs.Entries.{counts_of}
+use Rattle.machine_facts.specs.machine_agreement.specs.machine_epochs.specs.Entries.{counts_of}
 use Rattle.machine_facts.specs.machine_agreement.specs.machine_scenes.specs.Shown.{States}
 use Rattle.machine_history.specs.Steps.{Over, Learn}
 use Rattle.machine_history.specs.Laws.{IsJoined}

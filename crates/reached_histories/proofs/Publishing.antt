@@ -2,22 +2,22 @@
 use Rattle.std.proofs.Common.{◌≡◌, ℕ, false, List, refl, ap, subst, Option, Some}
 use Rattle.std.proofs.lemmas.Option.{slice_get_within, get_or_from_slice_get}
 use Rattle.std.proofs.lemmas.List.Elements.{All-get_or}
-use Rattle.history_orders.specs.map_history.specs.declared.op.Request.{Request}
-use Rattle.machine_states.specs.runner_steps.specs.body_terms.specs.declared.thunk.Thunk.{Thunk}
+use Rattle.machine_states.specs.map_history.specs.declared.op.Request.{Request}
+use Rattle.machine_states.specs.body_terms.specs.declared.thunk.Thunk.{Thunk}
 use Rattle.still_reads.specs.agreement_core.specs.section_lines.specs.Line.{IsStamped}
-use Rattle.machine_states.specs.runner_steps.specs.body_terms.specs.Line.{line, micro_at}
-use Rattle.machine_states.specs.runner_steps.specs.table_words.specs.declared.layout.Layout.{Layout}
-use Rattle.machine_states.specs.runner_steps.specs.table_words.specs.declared.spot.Spot.{Spot}
-use Rattle.machine_states.specs.runner_steps.specs.table_words.specs.declared.access.Access.{Access}
+use Rattle.machine_states.specs.body_terms.specs.Line.{line, micro_at}
+use Rattle.machine_states.specs.table_words.specs.declared.layout.Layout.{Layout}
+use Rattle.machine_states.specs.table_words.specs.declared.spot.Spot.{Spot}
+use Rattle.machine_states.specs.table_words.specs.declared.access.Access.{Access}
 use Rattle.machine_states.specs.structure_laws.specs.Meaning.{Meaning}
 use Rattle.machine_states.specs.structure_laws.specs.Sections.{IsAllowed}
-use Rattle.machine_states.specs.runner_steps.specs.runner_parts.specs.declared.event.EventKind.TheVariants.{Hold}
+use Rattle.machine_states.specs.runner_parts.specs.declared.event.EventKind.TheVariants.{Hold}
 use Rattle.machine_states.specs.runner_steps.specs.Asks.{asks}
 use Rattle.still_reads.specs.agreement_core.specs.Events as agreement
 use Rattle.machine_history.specs.history_core.specs.State.{HistoryState, is_replied}
 use Rattle.machine_states.specs.Sight.{Sight}
 use Rattle.machine_states.proofs.Sights.{unless_gone}
-use Rattle.machine_epochs.proofs.OutsideAsked as outside
+use Rattle.machine_facts.specs.machine_agreement.specs.machine_epochs.proofs.OutsideAsked as outside
 use Rattle.machine_facts.specs.machine_agreement.specs.machine_scenes.specs.Shown.{rules_of}
 use Rattle.machine_facts.specs.machine_agreement.specs.Chunks.{publication}
 use Rattle.machine_facts.specs.machine_invariant.specs.After.{AreAllowed}

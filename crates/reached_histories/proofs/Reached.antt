@@ -1,12 +1,12 @@
 -- Every state that the machine reaches stands beside joint states that are joined with a history.
 use Rattle.std.proofs.Common.{◌≡◌, ◌∙◌, ℕ, List, le_of_eq, refl, sym, ap, subst, Some, None}
-use Rattle.history_orders.specs.map_history.specs.declared.op.Request.{Request}
-use Rattle.machine_states.specs.runner_steps.specs.table_words.specs.declared.layout.Layout.{Layout}
-use Rattle.machine_states.specs.runner_steps.specs.table_words.specs.Limits.{IsWithinLimits}
+use Rattle.machine_states.specs.map_history.specs.declared.op.Request.{Request}
+use Rattle.machine_states.specs.table_words.specs.declared.layout.Layout.{Layout}
+use Rattle.machine_states.specs.table_words.specs.Limits.{IsWithinLimits}
 use Rattle.machine_states.specs.structure_laws.specs.Meaning.{Meaning}
 use Rattle.machine_states.specs.structure_laws.specs.Laws.{Laws}
-use Rattle.machine_states.specs.runner_steps.specs.runner_parts.specs.declared.event.Event.{Event}
-use Rattle.machine_states.specs.runner_steps.specs.runner_parts.specs.State.{PartState}
+use Rattle.machine_states.specs.runner_parts.specs.declared.event.Event.{Event}
+use Rattle.machine_states.specs.runner_parts.specs.State.{PartState}
 use Rattle.machine_history.specs.history_core.specs.Schedules.{first_state}
 use Rattle.machine_states.specs.World.{World, happens}
 use Rattle.machine_states.specs.First.{IsFirst}
@@ -15,9 +15,9 @@ use Rattle.machine_states.specs.Sight.{sight}
 use Rattle.machine_states.proofs.Reached.{first_reached, more_reached, reached_has, reached_all}
 use Rattle.machine_states.proofs.FirstSights.{first_parts}
 use Rattle.machine_states.proofs.Sights.{happens_steps, some_none}
-use Rattle.machine_epochs.specs.Entries.{counts_of}
-use Rattle.machine_epochs.specs.Firsts.{first_place}
-use Rattle.machine_epochs.proofs.FirstJoin.{each_part}
+use Rattle.machine_facts.specs.machine_agreement.specs.machine_epochs.specs.Entries.{counts_of}
+use Rattle.machine_facts.specs.machine_agreement.specs.machine_epochs.specs.Firsts.{first_place}
+use Rattle.machine_facts.specs.machine_agreement.specs.machine_epochs.proofs.FirstJoin.{each_part}
 use Rattle.machine_facts.specs.machine_agreement.specs.machine_scenes.specs.Shown.{States}
 use Rattle.machine_history.specs.Laws.{IsJoined}
 use Rattle.machine_history.proofs.Joining.{first_joined}

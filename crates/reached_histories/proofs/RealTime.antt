@@ -3,14 +3,14 @@ use Rattle.std.specs.Prelude.{◌⊎◌, Bool, true, false, take}
 use Rattle.std.proofs.Common.{◌≡◌, ℕ, le_of_eq, zero, suc, List, [], ◌∷◌, Option, None, inl, inr, refl, sym, ap, ◌∙◌, subst, ⊎_elim, Some}
 use Rattle.std.proofs.lemmas.Bool.{cases_eq}
 use Rattle.std.proofs.lemmas.List.{append-nil}
-use Rattle.machine_states.specs.runner_steps.specs.body_terms.specs.Update.{upd}
+use Rattle.machine_states.specs.body_terms.specs.Update.{upd}
 use Rattle.machine_states.specs.structure_laws.proofs.Changes.{upd_same, upd_other}
 use Rattle.machine_states.specs.epoch_core.specs.declared.stage.Stage.{Stage}
 use Rattle.machine_states.specs.epoch_core.specs.declared.stage.Stage.TheVariants as stages
-use Rattle.machine_states.specs.runner_steps.specs.runner_parts.specs.declared.entries.Look.{Look}
-use Rattle.machine_states.specs.runner_steps.specs.runner_parts.specs.State.{PartState}
-use Rattle.machine_states.specs.runner_steps.specs.runner_parts.specs.Tests.{is_looked, is_replied, is_between}
-use Rattle.machine_epochs.specs.Entries.{counts_of}
+use Rattle.machine_states.specs.runner_parts.specs.declared.entries.Look.{Look}
+use Rattle.machine_states.specs.runner_parts.specs.State.{PartState}
+use Rattle.machine_states.specs.runner_parts.specs.Tests.{is_looked, is_replied, is_between}
+use Rattle.machine_facts.specs.machine_agreement.specs.machine_epochs.specs.Entries.{counts_of}
 use Rattle.machine_history.specs.history_core.specs.RealTime.{IsUnseen}
 use Rattle.machine_history.specs.Steps.{Forget}
 use Rattle.machine_history.proofs.Joining.{steps_keep}
@@ -18,16 +18,16 @@ use Rattle.machine_facts.specs.machine_invariant.specs.Whole.{states_of}
 use Rattle.reached_histories.proofs.Quietly.{with_history}
 use Rattle.reached_histories.proofs.LooksKept.{GoesOnSo, one_new}
 use Rattle.reached_histories.proofs.Steps.{Stands}
-use Rattle.history_orders.specs.map_history.specs.declared.op.Request.{Request}
-use Rattle.machine_states.specs.runner_steps.specs.table_words.specs.declared.layout.Layout.{Layout}
-use Rattle.machine_states.specs.runner_steps.specs.table_words.specs.Limits.{IsWithinLimits}
+use Rattle.machine_states.specs.map_history.specs.declared.op.Request.{Request}
+use Rattle.machine_states.specs.table_words.specs.declared.layout.Layout.{Layout}
+use Rattle.machine_states.specs.table_words.specs.Limits.{IsWithinLimits}
 use Rattle.machine_states.specs.structure_laws.specs.Meaning.{Meaning}
 use Rattle.machine_states.specs.structure_laws.specs.Laws.{Laws}
-use Rattle.machine_states.specs.runner_steps.specs.runner_parts.specs.declared.event.Event.{Event}
+use Rattle.machine_states.specs.runner_parts.specs.declared.event.Event.{Event}
 use Rattle.machine_history.specs.history_core.specs.State.{Requests, Seen, HistoryState}
 use Rattle.machine_history.specs.history_core.specs.State as history_states
 use Rattle.history_orders.specs.Turns.{Follows}
-use Rattle.machine_states.specs.runner_steps.specs.table_words.specs.declared.spot.Spot.TheVariants.{Stamp}
+use Rattle.machine_states.specs.table_words.specs.declared.spot.Spot.TheVariants.{Stamp}
 use Rattle.machine_history.specs.history_core.proofs.RealTime.{Passes, passes_nowhere, passes_more, unasked_since, follows_low, replied_low, half_of}
 use Rattle.machine_states.specs.World.{World, happens, then_run, run}
 use Rattle.machine_states.specs.Reached.{Reached}

@@ -1,24 +1,24 @@
 -- The history of the stamped requests in a state of the machine.
 use Rattle.std.specs.Prelude.{◌≡◌, ◌≢◌, ◌⊎◌, ℕ, ◌<◌, ◌/◌, ◌%◌, ◌≤◌, true, Some, List, slice_get, Contains}
 use Rattle.std.specs.FinMap.{empty}
-use Rattle.history_orders.specs.map_history.specs.declared.op.Request.{Request}
-use Rattle.history_orders.specs.map_history.specs.History.{IsLegalFrom}
-use Rattle.history_orders.specs.map_history.specs.Replay.{Pairs, map_after_all}
-use Rattle.history_orders.specs.map_history.specs.Words.{word_of}
+use Rattle.machine_states.specs.map_history.specs.declared.op.Request.{Request}
+use Rattle.machine_states.specs.map_history.specs.History.{IsLegalFrom}
+use Rattle.machine_states.specs.map_history.specs.Replay.{Pairs, map_after_all}
+use Rattle.machine_states.specs.map_history.specs.Words.{word_of}
 use Rattle.history_orders.specs.Turns.{Follows}
 use Rattle.history_orders.specs.Stamped.{Stamped, oldest_first, ops_of, IsReplayed, IsHistoryOf}
-use Rattle.machine_states.specs.runner_steps.specs.body_terms.specs.Word.{value_of}
-use Rattle.machine_states.specs.runner_steps.specs.body_terms.specs.declared.micro.Source.{Source}
-use Rattle.machine_states.specs.runner_steps.specs.body_terms.specs.declared.micro.Micro.TheVariants.{StampExchange, ReplyExchange, ExchangeCell}
-use Rattle.machine_states.specs.runner_steps.specs.table_words.specs.declared.layout.Layout.{Layout}
-use Rattle.machine_states.specs.runner_steps.specs.table_words.specs.declared.spot.Spot.TheVariants.{Cell, Clock, Stamp, Reply, DoneWord}
+use Rattle.machine_states.specs.body_terms.specs.Word.{value_of}
+use Rattle.machine_states.specs.body_terms.specs.declared.micro.Source.{Source}
+use Rattle.machine_states.specs.body_terms.specs.declared.micro.Micro.TheVariants.{StampExchange, ReplyExchange, ExchangeCell}
+use Rattle.machine_states.specs.table_words.specs.declared.layout.Layout.{Layout}
+use Rattle.machine_states.specs.table_words.specs.declared.spot.Spot.TheVariants.{Cell, Clock, Stamp, Reply, DoneWord}
 use Rattle.machine_states.specs.structure_laws.specs.Meaning.{Meaning}
-use Rattle.machine_states.specs.runner_steps.specs.runner_parts.specs.declared.entries.Published.{Published}
-use Rattle.machine_states.specs.runner_steps.specs.runner_parts.specs.State.{RunState}
+use Rattle.machine_states.specs.runner_parts.specs.declared.entries.Published.{Published}
+use Rattle.machine_states.specs.runner_parts.specs.State.{RunState}
 use Rattle.machine_states.specs.runner_steps.specs.Sections.{is_open_run, next_of}
 use Rattle.machine_history.specs.history_core.specs.State.{Requests}
 use Rattle.machine_states.specs.Sight.{Sight}
-use Rattle.machine_epochs.specs.Entries.{counts_of}
+use Rattle.machine_facts.specs.machine_agreement.specs.machine_epochs.specs.Entries.{counts_of}
 use Rattle.machine_history.specs.Memory.{MemoryStands}
 use Rattle.machine_facts.specs.machine_invariant.specs.Sections.{IsAnswered}
 use Rattle.machine_facts.specs.machine_invariant.specs.Trails.{thunk_at, step_at}

@@ -1,7 +1,7 @@
 -- What runners keep, as the history's state has it.
 use Rattle.std.specs.Prelude.{ℕ, suc, ◌≡◌, cond, Option, Some, None}
-use Rattle.machine_states.specs.runner_steps.specs.runner_parts.specs.declared.entries.Published.{Published}
-use Rattle.machine_states.specs.runner_steps.specs.runner_parts.specs.Tests.{is_answered}
+use Rattle.machine_states.specs.runner_parts.specs.declared.entries.Published.{Published}
+use Rattle.machine_states.specs.runner_parts.specs.Tests.{is_answered}
 use Rattle.machine_history.specs.history_core.specs.State.{HistoryState}
 use Rattle.machine_states.specs.Sight.{Sight}
 

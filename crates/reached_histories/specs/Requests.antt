@@ -1,8 +1,8 @@
 -- The requests of a list, as the history has them.
 use Rattle.std.specs.Prelude.{ℕ, ◌%◌, List, Option, Some, None, slice_get}
-use Rattle.history_orders.specs.map_history.specs.declared.op.Op.TheVariants.{Get}
-use Rattle.history_orders.specs.map_history.specs.declared.op.Request.{Request}
-use Rattle.machine_states.specs.runner_steps.specs.table_words.specs.declared.layout.Layout.{Layout}
+use Rattle.machine_states.specs.map_history.specs.declared.op.Op.TheVariants.{Get}
+use Rattle.machine_states.specs.map_history.specs.declared.op.Request.{Request}
+use Rattle.machine_states.specs.table_words.specs.declared.layout.Layout.{Layout}
 use Rattle.machine_states.specs.structure_laws.specs.Meaning.{Meaning}
 use Rattle.machine_history.specs.history_core.specs.State.{Requests}
 

@@ -1,17 +1,17 @@
 -- What the machine's states supply to the history's events, by what runners keep.
 use Rattle.std.specs.Prelude.{ℕ, suc, ◌<◌, ◌≤◌, ◌≡◌, ◌≢◌, true, false, List, Some}
-use Rattle.history_orders.specs.map_history.specs.declared.op.Request.{Request}
-use Rattle.history_orders.specs.map_history.specs.Requests.{AreInOrder}
-use Rattle.machine_states.specs.runner_steps.specs.body_terms.specs.declared.thunk.Thunk.{Thunk}
-use Rattle.machine_states.specs.runner_steps.specs.table_words.specs.declared.layout.Layout.{Layout}
-use Rattle.machine_states.specs.runner_steps.specs.table_words.specs.declared.spot.Spot.{Spot}
-use Rattle.machine_states.specs.runner_steps.specs.table_words.specs.declared.access.Access.{Access}
-use Rattle.machine_states.specs.runner_steps.specs.table_words.specs.Places.{descriptor_count}
+use Rattle.machine_states.specs.map_history.specs.declared.op.Request.{Request}
+use Rattle.machine_states.specs.map_history.specs.Requests.{AreInOrder}
+use Rattle.machine_states.specs.body_terms.specs.declared.thunk.Thunk.{Thunk}
+use Rattle.machine_states.specs.table_words.specs.declared.layout.Layout.{Layout}
+use Rattle.machine_states.specs.table_words.specs.declared.spot.Spot.{Spot}
+use Rattle.machine_states.specs.table_words.specs.declared.access.Access.{Access}
+use Rattle.machine_states.specs.table_words.specs.Places.{descriptor_count}
 use Rattle.machine_states.specs.structure_laws.specs.Meaning.{Meaning}
-use Rattle.machine_states.specs.runner_steps.specs.runner_parts.specs.declared.event.EventKind.TheVariants.{Hold}
-use Rattle.machine_states.specs.runner_steps.specs.runner_parts.specs.Lists.{slots_of}
-use Rattle.machine_states.specs.runner_steps.specs.runner_parts.specs.Tests.{has, is_answered}
-use Rattle.machine_states.specs.runner_steps.specs.runner_parts.specs.State.{RunState}
+use Rattle.machine_states.specs.runner_parts.specs.declared.event.EventKind.TheVariants.{Hold}
+use Rattle.machine_states.specs.runner_parts.specs.Lists.{slots_of}
+use Rattle.machine_states.specs.runner_parts.specs.Tests.{has, is_answered}
+use Rattle.machine_states.specs.runner_parts.specs.State.{RunState}
 use Rattle.machine_states.specs.runner_steps.specs.Sections.{is_open_run}
 use Rattle.machine_states.specs.runner_steps.specs.Asks.{asks}
 use Rattle.machine_history.specs.history_core.specs.State.{Requests, HistoryState}

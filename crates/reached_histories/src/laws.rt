@@ -1,7 +1,7 @@
 //! The law of this crate, on a contract.
 ghost use Rattle.std.specs.Prelude.{List};
-ghost use Rattle.history_orders.specs.map_history.specs.declared.op.Request.{Request};
-ghost use Rattle.machine_states.specs.runner_steps.specs.table_words.specs.declared.layout.Layout.{Layout};
+ghost use Rattle.machine_states.specs.map_history.specs.declared.op.Request.{Request};
+ghost use Rattle.machine_states.specs.table_words.specs.declared.layout.Layout.{Layout};
 ghost use Rattle.reached_histories.specs.Laws.{ReachedHaveHistories};
 ghost use Rattle.reached_histories.specs.RealTime.{ReachedAreLinearizable};
 

@@ -1,7 +1,7 @@
 //! What the machine's states supply to the history's events, each on a contract.
 ghost use Rattle.std.specs.Prelude.{List};
-ghost use Rattle.history_orders.specs.map_history.specs.declared.op.Request.{Request};
-ghost use Rattle.machine_states.specs.runner_steps.specs.table_words.specs.declared.layout.Layout.{Layout};
+ghost use Rattle.machine_states.specs.map_history.specs.declared.op.Request.{Request};
+ghost use Rattle.machine_states.specs.table_words.specs.declared.layout.Layout.{Layout};
 ghost use Rattle.reached_histories.specs.Supplies.{FirstIsKept, HoldsAreDue, OperationsAreAsked, FreesAreOver, AnsweredAreLearned, EndsAreOver};
 ghost use Rattle.reached_histories.specs.Keeping.{StepsAreKept, EndsAreOwn, PublicationsAreKept};
 ghost use Rattle.reached_histories.specs.Publishing.{PublicationsMayCome};

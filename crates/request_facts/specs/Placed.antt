@@ -1,10 +1,10 @@
 -- A request in the one history of a state.
 use Rattle.std.specs.Prelude.{◌≡◌, ℕ, List}
-use Rattle.history_orders.specs.map_history.specs.declared.op.Request.{Request}
-use Rattle.history_orders.specs.map_history.specs.declared.reply.Reply.{Reply}
-use Rattle.history_orders.specs.map_history.specs.Words.{word_of, IsReply}
-use Rattle.agreement_core.specs.table_words.specs.declared.layout.Layout.{Layout}
-use Rattle.agreement_core.specs.table_words.specs.declared.spot.Spot.TheVariants.{Stamp, Reply as ReplyWord}
+use Rattle.machine_states.specs.map_history.specs.declared.op.Request.{Request}
+use Rattle.machine_states.specs.map_history.specs.declared.reply.Reply.{Reply}
+use Rattle.machine_states.specs.map_history.specs.Words.{word_of, IsReply}
+use Rattle.machine_states.specs.table_words.specs.declared.layout.Layout.{Layout}
+use Rattle.machine_states.specs.table_words.specs.declared.spot.Spot.TheVariants.{Stamp, Reply as ReplyWord}
 use Rattle.machine_states.specs.structure_laws.specs.Meaning.{Meaning}
 use Rattle.machine_states.specs.Sight.{Sight}
 use Rattle.reached_histories.specs.History.{IsPlaced}

@@ -1,7 +1,7 @@
 //! The law, on a contract.
 ghost use Rattle.std.specs.Prelude.{List};
-ghost use Rattle.history_orders.specs.map_history.specs.declared.op.Request.{Request};
-ghost use Rattle.agreement_core.specs.table_words.specs.declared.layout.Layout.{Layout};
+ghost use Rattle.machine_states.specs.map_history.specs.declared.op.Request.{Request};
+ghost use Rattle.machine_states.specs.table_words.specs.declared.layout.Layout.{Layout};
 ghost use Rattle.request_facts.specs.Laws.{ReachedCallersStand, AnsweredComeFirst};
 
 use machine_states::structure_laws::Structure;

@@ -5,14 +5,14 @@ use Rattle.std.proofs.Common.{◌≡◌, ℕ, suc, ◌+◌, ◌<◌, ◌≤◌, 
 use Rattle.std.proofs.lemmas.Bool.{cases_lt}
 use Rattle.std.proofs.lemmas.Bool.Decides.{nat_tests}
 use Rattle.std.proofs.lemmas.Option.{slice_get_past}
-use Rattle.agreement_core.specs.section_lines.specs.small_lemmas.proofs.Numbers.{less_tested as less}
-use Rattle.history_orders.specs.map_history.specs.declared.op.Request.{Request}
-use Rattle.agreement_core.specs.table_words.specs.declared.layout.Layout.{Layout}
-use Rattle.agreement_core.specs.table_words.specs.Limits.{IsWithinLimits}
+use Rattle.machine_states.specs.epoch_core.specs.small_lemmas.proofs.Numbers.{less_tested as less}
+use Rattle.machine_states.specs.map_history.specs.declared.op.Request.{Request}
+use Rattle.machine_states.specs.table_words.specs.declared.layout.Layout.{Layout}
+use Rattle.machine_states.specs.table_words.specs.Limits.{IsWithinLimits}
 use Rattle.machine_states.specs.structure_laws.specs.Meaning.{Meaning}
 use Rattle.machine_states.specs.structure_laws.specs.Scene.{Scene, Free}
 use Rattle.machine_states.specs.structure_laws.specs.Planner.{PlannerLaws, AreInUse}
-use Rattle.machine_states.specs.runner_steps.specs.runner_parts.specs.State.{PartState}
+use Rattle.machine_states.specs.runner_parts.specs.State.{PartState}
 use Rattle.machine_states.specs.epoch_core.specs.declared.location.Location.{Location}
 use Rattle.machine_states.specs.epoch_core.specs.declared.location.Location.TheVariants as locations
 use Rattle.machine_states.specs.epoch_core.specs.Lists.{times, in_hand, in_free, in_worn, in_limbo}

@@ -3,17 +3,17 @@ use Rattle.std.specs.Prelude.{cond, All, Bool, true, false, slice_get}
 use Rattle.std.proofs.Common.{◌≡◌, ◌≢◌, ℕ, zero, suc, ◌+◌, ◌≤◌, List, [], ◌∷◌, length, refl, sym, ap, ◌∙◌, subst, arith, Option, Some, None}
 use Rattle.std.proofs.lemmas.List.Sums.{sum_by-cons}
 use Rattle.std.proofs.lemmas.Option.{slice_get_within, slice_get_read, get_or_from_slice_get}
-use Rattle.history_orders.specs.map_history.specs.declared.op.Request.{Request}
-use Rattle.history_orders.specs.map_history.specs.Keys.{GivesSmall, may_add}
-use Rattle.history_orders.specs.map_history.specs.Replay.{Pairs, reply_of}
-use Rattle.history_orders.specs.map_history.specs.Words.{word_of, IsReply, adds_by}
-use Rattle.history_orders.specs.map_history.proofs.Words.{adds_some, adds_for}
+use Rattle.machine_states.specs.map_history.specs.declared.op.Request.{Request}
+use Rattle.machine_states.specs.map_history.specs.Keys.{GivesSmall, may_add}
+use Rattle.machine_states.specs.map_history.specs.Replay.{Pairs, reply_of}
+use Rattle.machine_states.specs.map_history.specs.Words.{word_of, IsReply, adds_by}
+use Rattle.machine_states.specs.map_history.proofs.Words.{adds_some, adds_for}
 use Rattle.history_orders.specs.Stamped.{Stamped, map_of, map_before, IsReplayed}
 use Rattle.history_orders.proofs.Replies.{AreSmall, replies_small, turn_small}
-use Rattle.agreement_core.specs.table_words.specs.declared.layout.Layout.{Layout}
-use Rattle.agreement_core.specs.table_words.specs.declared.spot.Spot.{Spot}
-use Rattle.agreement_core.specs.table_words.specs.declared.spot.Spot.TheVariants as spots
-use Rattle.agreement_core.specs.table_words.specs.Limits.{IsWithinLimits}
+use Rattle.machine_states.specs.table_words.specs.declared.layout.Layout.{Layout}
+use Rattle.machine_states.specs.table_words.specs.declared.spot.Spot.{Spot}
+use Rattle.machine_states.specs.table_words.specs.declared.spot.Spot.TheVariants as spots
+use Rattle.machine_states.specs.table_words.specs.Limits.{IsWithinLimits}
 use Rattle.machine_states.specs.structure_laws.specs.Meaning.{Meaning}
 use Rattle.machine_states.specs.structure_laws.specs.Laws.{Laws}
 use Rattle.machine_states.specs.structure_laws.specs.Sections.{IsAllowed}

@@ -2,12 +2,12 @@
 use Rattle.std.specs.Prelude.{cond, count_by}
 use Rattle.std.proofs.Common.{◌≡◌, ◌≢◌, ℕ, zero, suc, ◌+◌, ◌≤◌, List, [], ◌∷◌, ◌++◌, refl, ap, ◌∙◌, subst, arith}
 use Rattle.std.proofs.lemmas.List.Sums.{sum_by-cons}
-use Rattle.agreement_core.specs.body_terms.specs.declared.step.Step.{Step}
-use Rattle.agreement_core.specs.body_terms.specs.declared.step.Step.TheVariants.{Load, Want, Fresh, Take, Make, Stamp, Store, Retire, Answer}
-use Rattle.agreement_core.specs.body_terms.specs.declared.micro.Micro.{Micro}
-use Rattle.agreement_core.specs.body_terms.specs.declared.micro.Micro.TheVariants.{MakeCommit}
-use Rattle.agreement_core.specs.body_terms.specs.Line.{Registers, registers_after, micros, line_from, micro_at}
-use Rattle.agreement_core.specs.body_terms.specs.Shape.{is_make}
+use Rattle.machine_states.specs.body_terms.specs.declared.step.Step.{Step}
+use Rattle.machine_states.specs.body_terms.specs.declared.step.Step.TheVariants.{Load, Want, Fresh, Take, Make, Stamp, Store, Retire, Answer}
+use Rattle.machine_states.specs.body_terms.specs.declared.micro.Micro.{Micro}
+use Rattle.machine_states.specs.body_terms.specs.declared.micro.Micro.TheVariants.{MakeCommit}
+use Rattle.machine_states.specs.body_terms.specs.Line.{Registers, registers_after, micros, line_from, micro_at}
+use Rattle.machine_states.specs.body_terms.specs.Shape.{is_make}
 
 -- 1 where the word isn't 0
 abbrev some_word : ℕ → ℕ

@@ -4,9 +4,9 @@ use Rattle.std.proofs.Common.{◌≡◌, ℕ, zero, suc, ◌+◌, ◌<◌, ◌�
 use Rattle.std.proofs.lemmas.Bool.{cases_eq}
 use Rattle.std.proofs.lemmas.Bool.Decides.{nat_tests}
 use Rattle.std.proofs.lemmas.List.{length-map}
-use Rattle.machine_states.specs.runner_steps.specs.runner_parts.specs.declared.entries.Retired.{Retired}
-use Rattle.machine_states.specs.runner_steps.specs.runner_parts.specs.State.{NodesState, PartState}
-use Rattle.machine_states.specs.runner_steps.specs.runner_parts.specs.Lists.{slots_of, entry_count}
+use Rattle.machine_states.specs.runner_parts.specs.declared.entries.Retired.{Retired}
+use Rattle.machine_states.specs.runner_parts.specs.State.{NodesState, PartState}
+use Rattle.machine_states.specs.runner_parts.specs.Lists.{slots_of, entry_count}
 use Rattle.machine_states.specs.epoch_core.specs.Lists.{times, times_retired}
 use Rattle.machine_states.specs.epoch_core.proofs.Times.{times-append}
 use Rattle.machine_epochs.specs.Descriptors.{times_limbo}

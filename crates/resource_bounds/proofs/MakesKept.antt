@@ -2,33 +2,33 @@
 use Rattle.std.specs.Prelude.{◌⊎◌, count_by, true, false, if◌then◌else◌}
 use Rattle.std.proofs.Common.{◌≡◌, ◌≢◌, ℕ, zero, suc, ◌+◌, ◌<◌, ◌≤◌, List, length, refl, sym, ap, ◌∙◌, subst, ⊎_elim, inl, inr, arith, Option, Some, None}
 use Rattle.std.proofs.lemmas.Bool.{cases_eq, and_parts}
-use Rattle.agreement_core.specs.section_lines.specs.small_lemmas.proofs.Numbers.{chosen_here as one_here}
-use Rattle.history_orders.specs.map_history.specs.declared.op.Request.{Request}
-use Rattle.history_orders.specs.map_history.specs.Words.{adds_by}
-use Rattle.history_orders.specs.map_history.proofs.Words.{adds_some}
-use Rattle.agreement_core.specs.body_terms.specs.Line.{line, micro_at, is_commit, no_registers}
-use Rattle.agreement_core.specs.body_terms.specs.Shape.{is_make}
-use Rattle.agreement_core.specs.body_terms.specs.declared.thunk.Thunk.{Thunk}
-use Rattle.agreement_core.specs.body_terms.specs.declared.step.Step.TheVariants.{Answer}
-use Rattle.agreement_core.specs.body_terms.specs.declared.micro.Micro.TheVariants as micros
-use Rattle.agreement_core.specs.table_words.specs.declared.layout.Layout.{Layout}
-use Rattle.agreement_core.specs.table_words.specs.declared.spot.Spot.{Spot}
-use Rattle.agreement_core.specs.table_words.specs.declared.spot.Spot.TheVariants as spots
-use Rattle.agreement_core.specs.table_words.specs.declared.access.Access.{Access}
-use Rattle.agreement_core.specs.table_words.specs.declared.access.Access.TheVariants.{Exchanges}
-use Rattle.agreement_core.specs.table_words.specs.Access.{written}
-use Rattle.agreement_core.specs.table_words.specs.Seen.{upd, put}
-use Rattle.agreement_core.specs.table_words.specs.Limits.{IsWithinLimits}
+use Rattle.machine_states.specs.epoch_core.specs.small_lemmas.proofs.Numbers.{chosen_here as one_here}
+use Rattle.machine_states.specs.map_history.specs.declared.op.Request.{Request}
+use Rattle.machine_states.specs.map_history.specs.Words.{adds_by}
+use Rattle.machine_states.specs.map_history.proofs.Words.{adds_some}
+use Rattle.machine_states.specs.body_terms.specs.Line.{line, micro_at, is_commit, no_registers}
+use Rattle.machine_states.specs.body_terms.specs.Shape.{is_make}
+use Rattle.machine_states.specs.body_terms.specs.declared.thunk.Thunk.{Thunk}
+use Rattle.machine_states.specs.body_terms.specs.declared.step.Step.TheVariants.{Answer}
+use Rattle.machine_states.specs.body_terms.specs.declared.micro.Micro.TheVariants as micros
+use Rattle.machine_states.specs.table_words.specs.declared.layout.Layout.{Layout}
+use Rattle.machine_states.specs.table_words.specs.declared.spot.Spot.{Spot}
+use Rattle.machine_states.specs.table_words.specs.declared.spot.Spot.TheVariants as spots
+use Rattle.machine_states.specs.table_words.specs.declared.access.Access.{Access}
+use Rattle.machine_states.specs.table_words.specs.declared.access.Access.TheVariants.{Exchanges}
+use Rattle.machine_states.specs.table_words.specs.Access.{written}
+use Rattle.machine_states.specs.table_words.specs.Seen.{upd, put}
+use Rattle.machine_states.specs.table_words.specs.Limits.{IsWithinLimits}
 use Rattle.machine_states.specs.structure_laws.specs.Meaning.{Meaning}
 use Rattle.machine_states.specs.structure_laws.specs.Laws.{Laws}
 use Rattle.machine_states.specs.structure_laws.specs.Planner.{PlannerLawsOver}
 use Rattle.machine_states.specs.structure_laws.specs.Shape.{HasStep}
-use Rattle.machine_states.specs.runner_steps.specs.runner_parts.specs.declared.entries.Published.{Published}
-use Rattle.machine_states.specs.runner_steps.specs.runner_parts.specs.declared.event.Event.{Event}
-use Rattle.machine_states.specs.runner_steps.specs.runner_parts.specs.declared.event.EventKind.{EventKind}
-use Rattle.machine_states.specs.runner_steps.specs.runner_parts.specs.declared.event.EventKind.TheVariants as kinds
-use Rattle.machine_states.specs.runner_steps.specs.runner_parts.specs.State.{RunState, PartState}
-use Rattle.machine_states.specs.runner_steps.specs.runner_parts.specs.Tests.{is_walking}
+use Rattle.machine_states.specs.runner_parts.specs.declared.entries.Published.{Published}
+use Rattle.machine_states.specs.runner_parts.specs.declared.event.Event.{Event}
+use Rattle.machine_states.specs.runner_parts.specs.declared.event.EventKind.{EventKind}
+use Rattle.machine_states.specs.runner_parts.specs.declared.event.EventKind.TheVariants as kinds
+use Rattle.machine_states.specs.runner_parts.specs.State.{RunState, PartState}
+use Rattle.machine_states.specs.runner_parts.specs.Tests.{is_walking}
 use Rattle.machine_states.specs.runner_steps.specs.Asks.{ask_by, line_ask, opening_ask, outside_ask}
 use Rattle.machine_states.specs.runner_steps.specs.Outside.{is_over}
 use Rattle.machine_states.specs.runner_steps.specs.Sections.{next_of}
@@ -49,7 +49,7 @@ use Rattle.reached_histories.specs.machine_facts.specs.States.{FactsStand}
 use Rattle.reached_histories.specs.machine_facts.specs.After.{AreFactsOfStep}
 use Rattle.reached_histories.specs.machine_facts.specs.machine_invariant.specs.Along.{Components}
 use Rattle.reached_histories.specs.machine_facts.specs.machine_invariant.specs.After.{AreAllowed}
-use Rattle.machine_states.specs.runner_steps.specs.runner_parts.specs.Lists.{entry_count}
+use Rattle.machine_states.specs.runner_parts.specs.Lists.{entry_count}
 use Rattle.reached_histories.specs.machine_facts.specs.machine_invariant.specs.Slots.{times_among}
 use Rattle.reached_histories.specs.Requests.{requests_of}
 use Rattle.next_steps.proofs.Parts.{IsBlind, each_part}

@@ -2,10 +2,10 @@
 use Rattle.std.specs.Prelude.{◌⊎◌, Bool, true, false, cond}
 use Rattle.std.proofs.Common.{◌≡◌, ℕ, zero, suc, ◌+◌, ◌*◌, ◌<◌, ◌≤◌, refl, sym, subst, ⊎_elim, arith}
 use Rattle.std.proofs.lemmas.Bool.{cases_eq}
-use Rattle.history_orders.specs.map_history.specs.Words.{adds_by}
-use Rattle.agreement_core.specs.table_words.specs.declared.spot.Spot.{Spot}
-use Rattle.agreement_core.specs.table_words.specs.declared.spot.Spot.TheVariants.{Reply}
-use Rattle.agreement_core.specs.table_words.specs.Seen.{upd}
+use Rattle.machine_states.specs.map_history.specs.Words.{adds_by}
+use Rattle.machine_states.specs.table_words.specs.declared.spot.Spot.{Spot}
+use Rattle.machine_states.specs.table_words.specs.declared.spot.Spot.TheVariants.{Reply}
+use Rattle.machine_states.specs.table_words.specs.Seen.{upd}
 use Rattle.machine_states.proofs.Updates.{upd_here, upd_else}
 use Rattle.resource_bounds.specs.Makes.{added}
 

@@ -2,20 +2,20 @@
 use Rattle.std.specs.Prelude.{◌==◌, ◌-◌, ◌*◌, ◌%◌, ◌&&◌, ◌||◌, not, nat_lt, nat_le, cond, Bool, true, false, if◌then◌else◌}
 use Rattle.std.proofs.Common.{◌≡◌, ℕ, ◌+◌, ◌<◌, ◌≤◌, List, [], ◌∷◌, ◌++◌, length, length-append, refl, ap, ◌∙◌, arith, Option, Some, None}
 use Rattle.std.proofs.lemmas.Bool.Decides.{nat_tests}
-use Rattle.agreement_core.specs.body_terms.specs.Line.{line, micro_at, is_end}
-use Rattle.agreement_core.specs.body_terms.specs.declared.micro.Micro.{Micro}
-use Rattle.agreement_core.specs.body_terms.specs.declared.thunk.Thunk.{Thunk}
-use Rattle.agreement_core.specs.table_words.specs.declared.layout.Layout.{Layout}
-use Rattle.agreement_core.specs.table_words.specs.Places.{slot_count}
+use Rattle.machine_states.specs.body_terms.specs.Line.{line, micro_at, is_end}
+use Rattle.machine_states.specs.body_terms.specs.declared.micro.Micro.{Micro}
+use Rattle.machine_states.specs.body_terms.specs.declared.thunk.Thunk.{Thunk}
+use Rattle.machine_states.specs.table_words.specs.declared.layout.Layout.{Layout}
+use Rattle.machine_states.specs.table_words.specs.Places.{slot_count}
 use Rattle.machine_states.specs.structure_laws.specs.Meaning.{Meaning}
 use Rattle.machine_states.specs.epoch_core.specs.Moves.{is_clear}
-use Rattle.machine_states.specs.runner_steps.specs.runner_parts.specs.declared.entries.Published.{Published}
+use Rattle.machine_states.specs.runner_parts.specs.declared.entries.Published.{Published}
 use Rattle.machine_states.specs.epoch_core.specs.declared.stage.Stage.{Stage}
 use Rattle.machine_states.specs.epoch_core.specs.declared.stage.Stage.TheVariants as stages
-use Rattle.machine_states.specs.runner_steps.specs.runner_parts.specs.declared.event.EventKind.{EventKind}
-use Rattle.machine_states.specs.runner_steps.specs.runner_parts.specs.declared.event.EventKind.TheVariants as kinds
-use Rattle.machine_states.specs.runner_steps.specs.runner_parts.specs.State.{RunState, FinishedState, PartState}
-use Rattle.machine_states.specs.runner_steps.specs.runner_parts.specs.Lists as lists
+use Rattle.machine_states.specs.runner_parts.specs.declared.event.EventKind.{EventKind}
+use Rattle.machine_states.specs.runner_parts.specs.declared.event.EventKind.TheVariants as kinds
+use Rattle.machine_states.specs.runner_parts.specs.State.{RunState, FinishedState, PartState}
+use Rattle.machine_states.specs.runner_parts.specs.Lists as lists
 use Rattle.machine_states.specs.runner_steps.specs.Sections.{thunk_of, line_of, next_of}
 use Rattle.machine_states.specs.runner_steps.specs.Outside.{is_over}
 use Rattle.machine_states.specs.epoch_core.specs.State.{last_epoch}

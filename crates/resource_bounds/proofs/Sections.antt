@@ -2,27 +2,27 @@
 use Rattle.std.specs.Prelude.{◌==◌, ◌⊎◌, not, cond, Bool, true, false, Contains}
 use Rattle.std.proofs.Common.{◌≡◌, ◌≢◌, ℕ, zero, suc, ◌<◌, ◌≤◌, List, refl, sym, ap, ◌∙◌, subst, ⊎_elim, arith, Option, Some, None}
 use Rattle.std.proofs.lemmas.Bool.Decides.{nat_tests}
-use Rattle.agreement_core.specs.section_lines.specs.small_lemmas.proofs.Bools.{from_both as true_not_false}
-use Rattle.history_orders.specs.map_history.specs.declared.op.Op.{Op}
-use Rattle.history_orders.specs.map_history.specs.declared.op.Op.TheVariants.{Get, Ins, Del, Put, Mov}
-use Rattle.history_orders.specs.map_history.specs.declared.op.Request.{Request}
-use Rattle.history_orders.specs.map_history.specs.Words.{adds_by}
-use Rattle.history_orders.specs.map_history.proofs.Words.{new_adds, was_adds, moved_adds}
+use Rattle.machine_states.specs.epoch_core.specs.small_lemmas.proofs.Bools.{from_both as true_not_false}
+use Rattle.machine_states.specs.map_history.specs.declared.op.Op.{Op}
+use Rattle.machine_states.specs.map_history.specs.declared.op.Op.TheVariants.{Get, Ins, Del, Put, Mov}
+use Rattle.machine_states.specs.map_history.specs.declared.op.Request.{Request}
+use Rattle.machine_states.specs.map_history.specs.Words.{adds_by}
+use Rattle.machine_states.specs.map_history.proofs.Words.{new_adds, was_adds, moved_adds}
 use Rattle.history_orders.specs.Stamped.{Stamped}
-use Rattle.agreement_core.specs.body_terms.specs.Line.{line, micro_at}
-use Rattle.agreement_core.specs.body_terms.specs.declared.thunk.Thunk.{Thunk}
-use Rattle.agreement_core.specs.body_terms.specs.declared.step.Step.TheVariants.{Make, Answer}
-use Rattle.agreement_core.specs.body_terms.specs.declared.micro.Micro.{Micro}
-use Rattle.agreement_core.specs.body_terms.specs.declared.micro.Micro.TheVariants as micros
+use Rattle.machine_states.specs.body_terms.specs.Line.{line, micro_at}
+use Rattle.machine_states.specs.body_terms.specs.declared.thunk.Thunk.{Thunk}
+use Rattle.machine_states.specs.body_terms.specs.declared.step.Step.TheVariants.{Make, Answer}
+use Rattle.machine_states.specs.body_terms.specs.declared.micro.Micro.{Micro}
+use Rattle.machine_states.specs.body_terms.specs.declared.micro.Micro.TheVariants as micros
 use Rattle.agreement_core.specs.section_lines.specs.Line.{IsLine, phase}
 use Rattle.agreement_core.specs.section_lines.proofs.Sources.{of_make, of_answer}
-use Rattle.agreement_core.specs.table_words.specs.declared.layout.Layout.{Layout}
-use Rattle.agreement_core.specs.table_words.specs.declared.spot.Spot.TheVariants as spots
+use Rattle.machine_states.specs.table_words.specs.declared.layout.Layout.{Layout}
+use Rattle.machine_states.specs.table_words.specs.declared.spot.Spot.TheVariants as spots
 use Rattle.machine_states.specs.structure_laws.specs.Meaning.{Meaning}
 use Rattle.machine_states.specs.structure_laws.specs.Scene as scenes
 use Rattle.machine_states.specs.structure_laws.specs.Planner.{Adds, PlannerLawsOver}
 use Rattle.machine_states.specs.structure_laws.specs.Shape.{HasStep}
-use Rattle.machine_states.specs.runner_steps.specs.runner_parts.specs.declared.entries.Published.{Published}
+use Rattle.machine_states.specs.runner_parts.specs.declared.entries.Published.{Published}
 use Rattle.agreement_core.specs.State.{CellRules, Section, AgreementState}
 use Rattle.agreement_core.specs.Checks.{is_stop}
 use Rattle.reached_histories.specs.history_core.specs.State.{Requests, HistoryState, has_replied}

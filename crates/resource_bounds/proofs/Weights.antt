@@ -3,15 +3,15 @@ use Rattle.std.specs.Prelude.{◌==◌, cond, count_by, Bool, true, false}
 use Rattle.std.proofs.Common.{◌≡◌, ℕ, zero, suc, ◌+◌, ◌<◌, ◌≤◌, List, [], ◌∷◌, ◌++◌, refl, ap, arith}
 use Rattle.std.proofs.lemmas.Bool.Decides.{nat_tests}
 use Rattle.std.proofs.lemmas.List.Sums.{sum_by-cons}
-use Rattle.agreement_core.specs.section_lines.specs.small_lemmas.proofs.Numbers.{one_at_most as flag, tested_equal as same_number}
-use Rattle.agreement_core.specs.body_terms.specs.declared.step.Step.{Step}
-use Rattle.agreement_core.specs.body_terms.specs.declared.step.Step.TheVariants.{Load, Want, Fresh, Take, Make, Stamp, Store, Retire, Answer}
-use Rattle.agreement_core.specs.body_terms.specs.declared.micro.Source.{Source}
-use Rattle.agreement_core.specs.body_terms.specs.declared.micro.Micro.{Micro}
-use Rattle.agreement_core.specs.body_terms.specs.declared.micro.Micro.TheVariants as micros_of
-use Rattle.agreement_core.specs.body_terms.specs.declared.micro.Micro.TheVariants.{NestedHold, ExchangeCell, PrivateStore}
-use Rattle.agreement_core.specs.body_terms.specs.Line.{Registers, registers_after, micros, line_from, micro_at}
-use Rattle.agreement_core.specs.body_terms.specs.Shape.{is_make}
+use Rattle.machine_states.specs.epoch_core.specs.small_lemmas.proofs.Numbers.{one_at_most as flag, tested_equal as same_number}
+use Rattle.machine_states.specs.body_terms.specs.declared.step.Step.{Step}
+use Rattle.machine_states.specs.body_terms.specs.declared.step.Step.TheVariants.{Load, Want, Fresh, Take, Make, Stamp, Store, Retire, Answer}
+use Rattle.machine_states.specs.body_terms.specs.declared.micro.Source.{Source}
+use Rattle.machine_states.specs.body_terms.specs.declared.micro.Micro.{Micro}
+use Rattle.machine_states.specs.body_terms.specs.declared.micro.Micro.TheVariants as micros_of
+use Rattle.machine_states.specs.body_terms.specs.declared.micro.Micro.TheVariants.{NestedHold, ExchangeCell, PrivateStore}
+use Rattle.machine_states.specs.body_terms.specs.Line.{Registers, registers_after, micros, line_from, micro_at}
+use Rattle.machine_states.specs.body_terms.specs.Shape.{is_make}
 
 -- 1 where the step takes this lock, stores to this cell, or fills this cell of a Make's slot
 abbrev pub takes_one : ℕ → Micro → ℕ

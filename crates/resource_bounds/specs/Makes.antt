@@ -1,15 +1,15 @@
 -- How many node slots a worker still has, and how many requests added a pair.
 use Rattle.std.specs.Prelude.{◌≡◌, ℕ, zero, suc, ◌+◌, ◌*◌, ◌<◌, ◌≤◌, cond, true, List, length, count_by}
-use Rattle.history_orders.specs.map_history.specs.declared.op.Request.{Request}
-use Rattle.history_orders.specs.map_history.specs.Keys.{may_add}
-use Rattle.history_orders.specs.map_history.specs.Words.{adds_by}
-use Rattle.agreement_core.specs.body_terms.specs.Word.{value_of}
-use Rattle.agreement_core.specs.table_words.specs.declared.layout.Layout.{Layout}
-use Rattle.agreement_core.specs.table_words.specs.declared.spot.Spot.{Spot}
-use Rattle.agreement_core.specs.table_words.specs.declared.spot.Spot.TheVariants.{Reply, Cell}
+use Rattle.machine_states.specs.map_history.specs.declared.op.Request.{Request}
+use Rattle.machine_states.specs.map_history.specs.Keys.{may_add}
+use Rattle.machine_states.specs.map_history.specs.Words.{adds_by}
+use Rattle.machine_states.specs.body_terms.specs.Word.{value_of}
+use Rattle.machine_states.specs.table_words.specs.declared.layout.Layout.{Layout}
+use Rattle.machine_states.specs.table_words.specs.declared.spot.Spot.{Spot}
+use Rattle.machine_states.specs.table_words.specs.declared.spot.Spot.TheVariants.{Reply, Cell}
 use Rattle.machine_states.specs.structure_laws.specs.Meaning.{Meaning}
 use Rattle.machine_states.specs.Sight.{Sight}
-use Rattle.machine_states.specs.runner_steps.specs.runner_parts.specs.Lists.{entry_count}
+use Rattle.machine_states.specs.runner_parts.specs.Lists.{entry_count}
 
 -- how many of the first requests have a reply that says that a pair was added, or put in the place of another
 abbrev pub added : (Spot → ℕ) → ℕ → ℕ

@@ -1,8 +1,8 @@
 //! The law of this crate, on a contract.
 ghost use Rattle.std.specs.Prelude.{ℕ, List};
-ghost use Rattle.history_orders.specs.map_history.specs.declared.op.Request.{Request};
-ghost use Rattle.agreement_core.specs.table_words.specs.Limits.{IsWithinLimits};
-ghost use Rattle.agreement_core.specs.table_words.specs.declared.layout.Layout.{Layout};
+ghost use Rattle.machine_states.specs.map_history.specs.declared.op.Request.{Request};
+ghost use Rattle.machine_states.specs.table_words.specs.Limits.{IsWithinLimits};
+ghost use Rattle.machine_states.specs.table_words.specs.declared.layout.Layout.{Layout};
 ghost use Rattle.machine_states.specs.structure_laws.specs.Planner.{PlannerLaws};
 ghost use Rattle.machine_states.specs.World.{World};
 ghost use Rattle.machine_states.specs.Reached.{Reached};

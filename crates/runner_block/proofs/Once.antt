@@ -1,8 +1,8 @@
 -- Numbers and tests that stand at most once in a list.
 use Rattle.std.proofs.Common.{◌≡◌, ℕ, ◌+◌, ◌≤◌, List, [], ◌∷◌, ◌++◌, Bool, true, false, refl, sym, ap, ◌∙◌, cond, eq-eqb, length, get_or, set, arith}
 use Rattle.std.specs.Prelude.{◌==◌, not}
-use Rattle.machine_states.specs.runner_steps.specs.runner_parts.specs.Lists.{without, tests_without}
-use Rattle.machine_states.specs.runner_steps.specs.runner_parts.specs.declared.entries.Tested.{Tested}
+use Rattle.machine_states.specs.runner_parts.specs.Lists.{without, tests_without}
+use Rattle.machine_states.specs.runner_parts.specs.declared.entries.Tested.{Tested}
 use Rattle.machine_states.specs.epoch_core.specs.Lists.{times}
 
 -- how often it stands there, by whether it is the first

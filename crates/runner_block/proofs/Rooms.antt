@@ -6,11 +6,11 @@ use Rattle.std.proofs.lemmas.Bool.Decides.{nat_tests}
 use Rattle.std.proofs.lemmas.List.{length-map}
 use Rattle.std.proofs.lemmas.Map.Steps.{length-le_from_distinct_below}
 use lib.Dec.{eqb}
-use Rattle.machine_states.specs.runner_steps.specs.runner_parts.specs.declared.entries.Tested.{Tested}
-use Rattle.machine_states.specs.runner_steps.specs.runner_parts.specs.Tests.{has}
-use Rattle.machine_states.specs.runner_steps.specs.runner_parts.specs.declared.entries.Retired.{Retired}
-use Rattle.machine_states.specs.runner_steps.specs.runner_parts.specs.State.{NodesState}
-use Rattle.machine_states.specs.runner_steps.specs.runner_parts.specs.Lists.{without, tests_without, slots_of}
+use Rattle.machine_states.specs.runner_parts.specs.declared.entries.Tested.{Tested}
+use Rattle.machine_states.specs.runner_parts.specs.Tests.{has}
+use Rattle.machine_states.specs.runner_parts.specs.declared.entries.Retired.{Retired}
+use Rattle.machine_states.specs.runner_parts.specs.State.{NodesState}
+use Rattle.machine_states.specs.runner_parts.specs.Lists.{without, tests_without, slots_of}
 use Rattle.machine_states.specs.First.{falling}
 use Rattle.std.proofs.lemmas.List.Folds.{list_any-append}
 use Rattle.runner_block.specs.Room.{AreTested, AreBelow, NodesFit}

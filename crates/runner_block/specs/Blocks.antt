@@ -1,8 +1,8 @@
 -- How a runner's block changes.
 use Rattle.std.specs.Prelude.{ℕ, ◌+◌, Bool, true, false, ◌==◌, ◌||◌, nat_lt, if◌then◌else◌}
-use Rattle.machine_states.specs.runner_steps.specs.body_terms.specs.Word.{version_of}
-use Rattle.machine_states.specs.runner_steps.specs.table_words.specs.declared.layout.Layout.{Layout}
-use Rattle.machine_states.specs.runner_steps.specs.runner_parts.specs.Lists.{nodes_looked, slot_taken, slot_made, slot_back, slot_retired}
+use Rattle.machine_states.specs.body_terms.specs.Word.{version_of}
+use Rattle.machine_states.specs.table_words.specs.declared.layout.Layout.{Layout}
+use Rattle.machine_states.specs.runner_parts.specs.Lists.{nodes_looked, slot_taken, slot_made, slot_back, slot_retired}
 use Rattle.machine_states.specs.runner_steps.specs.AfterOutside.{retire_after}
 use Rattle.runner_block.specs.declared.block.Block.{Block}
 use Rattle.runner_block.specs.Kept.{with_part, with_nodes}

@@ -1,11 +1,11 @@
 -- What a runner's code keeps of its part.
 use Rattle.std.specs.Prelude.{ℕ, [], Bool, Option, Some, None, false, if◌then◌else◌}
-use Rattle.machine_states.specs.runner_steps.specs.body_terms.specs.declared.thunk.Thunk.{Thunk}
+use Rattle.machine_states.specs.body_terms.specs.declared.thunk.Thunk.{Thunk}
 use Rattle.machine_states.specs.epoch_core.specs.declared.stage.Stage.{Stage}
 use Rattle.machine_states.specs.epoch_core.specs.declared.stage.Stage.TheVariants as stages
-use Rattle.machine_states.specs.runner_steps.specs.runner_parts.specs.declared.entries.Published.{Published}
-use Rattle.machine_states.specs.runner_steps.specs.runner_parts.specs.State.{PartState, NodesState}
-use Rattle.machine_states.specs.runner_steps.specs.runner_parts.specs.Lists.{without}
+use Rattle.machine_states.specs.runner_parts.specs.declared.entries.Published.{Published}
+use Rattle.machine_states.specs.runner_parts.specs.State.{PartState, NodesState}
+use Rattle.machine_states.specs.runner_parts.specs.Lists.{without}
 
 -- what a runner's code keeps of its part, and for how many node slots its lists have room
 pub record KeptState : Type 0 where

@@ -1,6 +1,6 @@
 -- What a runner's block asks before a private load.
 use Rattle.std.specs.Prelude.{◌≡◌, ℕ, ◌≤◌, true, false}
-use Rattle.machine_states.specs.runner_steps.specs.runner_parts.specs.Tests.{has}
+use Rattle.machine_states.specs.runner_parts.specs.Tests.{has}
 use Rattle.machine_states.specs.epoch_core.specs.Lists.{times}
 use Rattle.runner_block.specs.declared.block.Block.{Block}
 

@@ -1,11 +1,11 @@
 -- A runner's lists as its code keeps them, with reserved room.
 use Rattle.std.specs.Prelude.{◌≡◌, ℕ, ◌<◌, ◌≤◌, ◌^◌, List, [], ◌∷◌, ◌++◌, true, false, ◌==◌, not, Option, Some, None}
 use Rattle.std.specs.List.{filter, list_any}
-use Rattle.machine_states.specs.runner_steps.specs.runner_parts.specs.declared.entries.Retired.{Retired}
-use Rattle.machine_states.specs.runner_steps.specs.runner_parts.specs.declared.entries.Tested.{Tested}
-use Rattle.machine_states.specs.runner_steps.specs.runner_parts.specs.State.{NodesState}
-use Rattle.machine_states.specs.runner_steps.specs.runner_parts.specs.Tests.{has}
-use Rattle.machine_states.specs.runner_steps.specs.runner_parts.specs.Lists.{without, is_old, slots_of, entry_count}
+use Rattle.machine_states.specs.runner_parts.specs.declared.entries.Retired.{Retired}
+use Rattle.machine_states.specs.runner_parts.specs.declared.entries.Tested.{Tested}
+use Rattle.machine_states.specs.runner_parts.specs.State.{NodesState}
+use Rattle.machine_states.specs.runner_parts.specs.Tests.{has}
+use Rattle.machine_states.specs.runner_parts.specs.Lists.{without, is_old, slots_of, entry_count}
 
 -- the lists of own node slots, and for how many slots each has room
 pub record NodesKept : Type 0 where

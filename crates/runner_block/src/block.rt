@@ -1,15 +1,15 @@
 //! What a runner's code keeps, in one block of memory.
 ghost use Rattle.std.specs.Prelude.{◌≡◌, ◌<◌, true, false};
-ghost use Rattle.machine_states.specs.runner_steps.specs.runner_parts.specs.Tests.{has};
+ghost use Rattle.machine_states.specs.runner_parts.specs.Tests.{has};
 ghost use Rattle.runner_block.specs.Blocks.{block_looked, block_stored, block_made, block_slot_retired, block_retired};
 ghost use Rattle.runner_block.specs.Room.{AreFew};
-ghost use Rattle.machine_states.specs.runner_steps.specs.runner_parts.specs.Lists.{slot_retired};
+ghost use Rattle.machine_states.specs.runner_parts.specs.Lists.{slot_retired};
 ghost use Rattle.runner_block.specs.Looks.{MayTake};
 
 use crate::kept::Kept;
 use crate::place::RunPlace;
-use machine_states::runner_steps::body_terms::Word;
-use machine_states::runner_steps::table_words::Layout;
+use machine_states::body_terms::Word;
+use machine_states::table_words::Layout;
 
 /// The stage and the lists, and of a run in progress its place.
 #[derive(Drop)]

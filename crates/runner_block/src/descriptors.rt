@@ -1,12 +1,12 @@
 //! The own descriptors, as a runner's code keeps them.
 ghost use Rattle.std.specs.Prelude.{◌≡◌, ◌+◌, ◌<◌, ◌≤◌, ◌^◌, IfOk, length, true, None};
-ghost use Rattle.machine_states.specs.runner_steps.specs.runner_parts.specs.Tests.{has};
+ghost use Rattle.machine_states.specs.runner_parts.specs.Tests.{has};
 ghost use Rattle.machine_states.specs.epoch_core.specs.Lists.{times};
 ghost use Rattle.machine_states.specs.First.{falling};
 ghost use Rattle.runner_block.specs.Room.{first_descriptors, sections_collected, section_held, section_retired};
 
 use crate::reserved::{falling, take_out, wait_over};
-use machine_states::runner_steps::runner_parts::Retired;
+use machine_states::runner_parts::Retired;
 use std::alloc::{AllocError, Global};
 use std::marker::Model;
 

@@ -1,10 +1,10 @@
 //! What a runner's code keeps of its part, in one block of memory.
 ghost use Rattle.std.specs.Prelude.{◌≡◌, ◌+◌, ◌<◌, ◌≤◌, ◌^◌, ℕ, IfOk, length, true, None, if◌then◌else◌};
-ghost use Rattle.machine_states.specs.runner_steps.specs.runner_parts.specs.declared.event.EventKind.TheVariants as kinds;
-ghost use Rattle.machine_states.specs.runner_steps.specs.runner_parts.specs.Tests.{has};
+ghost use Rattle.machine_states.specs.runner_parts.specs.declared.event.EventKind.TheVariants as kinds;
+ghost use Rattle.machine_states.specs.runner_parts.specs.Tests.{has};
 ghost use Rattle.machine_states.specs.epoch_core.specs.Lists.{times};
 ghost use Rattle.machine_states.specs.runner_steps.specs.AfterOutside.{with_stage, collected, scan_one_after, advance_after, split_after, retire_after};
-ghost use Rattle.machine_states.specs.runner_steps.specs.runner_parts.specs.Lists.{slot_taken, slot_made, slot_back, slot_retired, nodes_looked};
+ghost use Rattle.machine_states.specs.runner_parts.specs.Lists.{slot_taken, slot_made, slot_back, slot_retired, nodes_looked};
 ghost use Rattle.runner_block.specs.Scans.{scan_of};
 ghost use Rattle.runner_block.specs.Kept.{loaded_of, scanned_of, held_in, with_part, with_nodes};
 ghost use Rattle.runner_block.specs.Room.{AreFew};
@@ -13,9 +13,9 @@ ghost use Rattle.machine_states.specs.First.{falling, first_part};
 use crate::descriptors::DescriptorLists;
 use crate::nodes::NodeLists;
 use crate::stage_fields::StageFields;
+use machine_states::body_terms::{Body, Trail};
 use machine_states::epoch_core::{LAST_EPOCH, Stage};
-use machine_states::runner_steps::body_terms::{Body, Trail};
-use machine_states::runner_steps::table_words::Layout;
+use machine_states::table_words::Layout;
 use std::alloc::{AllocError, Global};
 use std::marker::Model;
 
@@ -53,7 +53,7 @@ pub struct Kept {
 
 impl Model for Kept {
     ghost use Rattle.std.specs.Prelude.{None, [], false};
-    ghost use Rattle.machine_states.specs.runner_steps.specs.runner_parts.specs.Lists.{no_reads};
+    ghost use Rattle.machine_states.specs.runner_parts.specs.Lists.{no_reads};
     ghost use Rattle.runner_block.specs.Kept.{KeptState, published_as};
 
     ghost Value = { KeptState };

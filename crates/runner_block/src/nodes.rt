@@ -1,15 +1,15 @@
 //! The own node slots, as a runner's code keeps them.
 ghost use Rattle.std.specs.Prelude.{◌≡◌, ◌+◌, ◌-◌, ◌<◌, ◌≤◌, ◌^◌, IfOk, length, true, if◌then◌else◌};
-ghost use Rattle.machine_states.specs.runner_steps.specs.runner_parts.specs.Lists.{nodes_collected, slot_taken, slot_made, slot_back, slot_retired, slot_tested, nodes_looked, one_more};
-ghost use Rattle.machine_states.specs.runner_steps.specs.runner_parts.specs.Tests.{has};
+ghost use Rattle.machine_states.specs.runner_parts.specs.Lists.{nodes_collected, slot_taken, slot_made, slot_back, slot_retired, slot_tested, nodes_looked, one_more};
+ghost use Rattle.machine_states.specs.runner_parts.specs.Tests.{has};
 ghost use Rattle.machine_states.specs.epoch_core.specs.Lists.{times};
 ghost use Rattle.machine_states.specs.First.{falling};
 ghost use Rattle.runner_block.specs.Room.{AreFew, first_nodes, nodes_are};
 
 use crate::reserved::{falling, forget, has, remove, renew, take_out, test_of, wait_over};
-use machine_states::runner_steps::body_terms::Word;
-use machine_states::runner_steps::runner_parts::{Retired, Tested};
-use machine_states::runner_steps::table_words::Layout;
+use machine_states::body_terms::Word;
+use machine_states::runner_parts::{Retired, Tested};
+use machine_states::table_words::Layout;
 use std::alloc::{AllocError, Global};
 use std::marker::Model;
 

@@ -2,7 +2,7 @@
 ghost use Rattle.std.specs.Prelude.{◌≡◌};
 ghost use Rattle.runner_block.specs.Places.{opened_place};
 
-use machine_states::runner_steps::body_terms::Word;
+use machine_states::body_terms::Word;
 
 /// The run's descriptor, the request that its words name, and how many words were agreed on.
 #[derive(Clone, Copy)]

@@ -2,12 +2,12 @@
 ghost use Rattle.std.specs.Prelude.{◌≡◌, ◌+◌, ◌<◌, ◌≤◌, ◌^◌, [], ◌∷◌, ◌++◌, IfOk, vec_len, length, not};
 ghost use Rattle.std.specs.List.{filter};
 ghost use Rattle.std.specs.Vec.{vec_capacity};
-ghost use Rattle.machine_states.specs.runner_steps.specs.runner_parts.specs.Lists.{is_old, slots_of, without, test_of, tests_without};
-ghost use Rattle.machine_states.specs.runner_steps.specs.runner_parts.specs.Tests.{has};
+ghost use Rattle.machine_states.specs.runner_parts.specs.Lists.{is_old, slots_of, without, test_of, tests_without};
+ghost use Rattle.machine_states.specs.runner_parts.specs.Tests.{has};
 ghost use Rattle.machine_states.specs.epoch_core.specs.Lists.{times};
 ghost use Rattle.machine_states.specs.First.{falling};
 
-use machine_states::runner_steps::runner_parts::{Retired, Tested};
+use machine_states::runner_parts::{Retired, Tested};
 use std::alloc::{AllocError, Global};
 
 /// Whether a slot was retired long enough ago to be used again: two epochs before this one.

@@ -2,10 +2,10 @@
 use Rattle.std.specs.Prelude.{◌&&◌, cond, Bool, true, false, slice_index_or, drop, is_none}
 use Rattle.std.proofs.Common.{◌≡◌, ℕ, zero, suc, ◌+◌, ◌<◌, List, [], ◌∷◌, refl, sym, ap, ◌∙◌, ⊎_elim, arith}
 use Rattle.std.proofs.lemmas.Bool.{cases_lt}
-use Rattle.section_lines.specs.structure_laws.specs.body_terms.specs.declared.micro.Micro.{Micro}
-use Rattle.section_lines.specs.structure_laws.specs.body_terms.specs.declared.micro.Micro.TheVariants.{End}
-use Rattle.section_lines.specs.structure_laws.specs.body_terms.specs.Line.{micro_at, is_check, is_commit}
-use Rattle.section_lines.specs.structure_laws.specs.body_terms.specs.Run.{Setting, leaves, passed_checks, settled}
+use Rattle.machine_states.specs.body_terms.specs.declared.micro.Micro.{Micro}
+use Rattle.machine_states.specs.body_terms.specs.declared.micro.Micro.TheVariants.{End}
+use Rattle.machine_states.specs.body_terms.specs.Line.{micro_at, is_check, is_commit}
+use Rattle.machine_states.specs.body_terms.specs.Run.{Setting, leaves, passed_checks, settled}
 use Rattle.section_lines.specs.Line.{IsLine}
 
 -- two commits to one place in the log are one

@@ -1,15 +1,15 @@
 -- The readings of an entered runner are as walks may take them, and what fits them is shaped.
 use Rattle.std.specs.Prelude.{cond}
 use Rattle.std.proofs.Common.{List, Bool, ap, Some, None}
-use Rattle.section_lines.specs.structure_laws.specs.map_history.specs.declared.op.Request.{Request}
-use Rattle.section_lines.specs.structure_laws.specs.table_words.specs.declared.layout.Layout.{Layout}
-use Rattle.section_lines.specs.structure_laws.specs.table_words.specs.Limits.{IsWithinLimits}
-use Rattle.section_lines.specs.structure_laws.specs.Meaning.{Meaning}
-use Rattle.section_lines.specs.structure_laws.specs.Laws.{Laws}
+use Rattle.machine_states.specs.map_history.specs.declared.op.Request.{Request}
+use Rattle.machine_states.specs.table_words.specs.declared.layout.Layout.{Layout}
+use Rattle.machine_states.specs.table_words.specs.Limits.{IsWithinLimits}
+use Rattle.machine_states.specs.structure_laws.specs.Meaning.{Meaning}
+use Rattle.machine_states.specs.structure_laws.specs.Laws.{Laws}
 use Rattle.machine_states.specs.World.{World}
 use Rattle.machine_states.specs.Reached.{Reached}
 use Rattle.machine_states.specs.Sight.{Sight, sight}
-use Rattle.machine_epochs.specs.Entries.{counts_of}
+use Rattle.machine_facts.specs.machine_agreement.specs.machine_epochs.specs.Entries.{counts_of}
 use Rattle.machine_facts.specs.machine_agreement.specs.machine_scenes.specs.Shown.{scene_of}
 use Rattle.machine_facts.specs.machine_agreement.specs.machine_scenes.proofs.Links.{gives}
 use Rattle.machine_facts.specs.machine_invariant.specs.After.{AreAllowed}

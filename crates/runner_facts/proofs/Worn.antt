@@ -3,33 +3,33 @@ use Rattle.std.specs.Prelude.{◌==◌, ◌||◌, ◌&&◌, ◌-◌, not, cond, 
 use Rattle.std.proofs.Common.{◌≡◌, ℕ, ◌+◌, ◌<◌, ◌≤◌, List, [], ◌∷◌, ◌++◌, ⊎_elim, sym, refl, ap, ◌∙◌, subst, arith, Option, Some, None}
 use Rattle.std.proofs.lemmas.Bool.Decides.{nat_tests}
 use Rattle.std.proofs.lemmas.Bool.{cases_eq}
-use Rattle.section_lines.specs.structure_laws.specs.map_history.specs.declared.op.Request.{Request}
-use Rattle.section_lines.specs.structure_laws.specs.body_terms.specs.Line.{is_end}
-use Rattle.section_lines.specs.structure_laws.specs.body_terms.specs.Memory.{cell_of}
-use Rattle.section_lines.specs.structure_laws.specs.body_terms.specs.Run.{written_once}
-use Rattle.section_lines.specs.structure_laws.specs.body_terms.specs.Word.{version_of}
-use Rattle.section_lines.specs.structure_laws.specs.body_terms.specs.declared.micro.Micro.{Micro}
-use Rattle.section_lines.specs.structure_laws.specs.table_words.specs.declared.layout.Layout.{Layout}
-use Rattle.section_lines.specs.structure_laws.specs.table_words.specs.declared.spot.Spot.{Spot}
-use Rattle.section_lines.specs.structure_laws.specs.table_words.specs.declared.spot.Spot.TheVariants.{Cell}
-use Rattle.section_lines.specs.structure_laws.specs.table_words.specs.declared.access.Access.{Access}
-use Rattle.section_lines.specs.structure_laws.specs.table_words.specs.declared.access.Access.TheVariants.{Loads, Stores}
-use Rattle.section_lines.specs.structure_laws.specs.table_words.specs.Access.{written}
-use Rattle.section_lines.specs.structure_laws.specs.table_words.specs.Limits.{IsWithinLimits}
-use Rattle.section_lines.specs.structure_laws.specs.table_words.specs.Places.{slot_count}
-use Rattle.section_lines.specs.structure_laws.specs.table_words.specs.Seen.{put}
-use Rattle.section_lines.specs.structure_laws.specs.Meaning.{Meaning}
-use Rattle.section_lines.specs.structure_laws.specs.Laws.{Laws}
+use Rattle.machine_states.specs.map_history.specs.declared.op.Request.{Request}
+use Rattle.machine_states.specs.body_terms.specs.Line.{is_end}
+use Rattle.machine_states.specs.body_terms.specs.Memory.{cell_of}
+use Rattle.machine_states.specs.body_terms.specs.Run.{written_once}
+use Rattle.machine_states.specs.body_terms.specs.Word.{version_of}
+use Rattle.machine_states.specs.body_terms.specs.declared.micro.Micro.{Micro}
+use Rattle.machine_states.specs.table_words.specs.declared.layout.Layout.{Layout}
+use Rattle.machine_states.specs.table_words.specs.declared.spot.Spot.{Spot}
+use Rattle.machine_states.specs.table_words.specs.declared.spot.Spot.TheVariants.{Cell}
+use Rattle.machine_states.specs.table_words.specs.declared.access.Access.{Access}
+use Rattle.machine_states.specs.table_words.specs.declared.access.Access.TheVariants.{Loads, Stores}
+use Rattle.machine_states.specs.table_words.specs.Access.{written}
+use Rattle.machine_states.specs.table_words.specs.Limits.{IsWithinLimits}
+use Rattle.machine_states.specs.table_words.specs.Places.{slot_count}
+use Rattle.machine_states.specs.table_words.specs.Seen.{put}
+use Rattle.machine_states.specs.structure_laws.specs.Meaning.{Meaning}
+use Rattle.machine_states.specs.structure_laws.specs.Laws.{Laws}
 use Rattle.machine_states.specs.epoch_core.specs.Moves.{is_clear}
-use Rattle.machine_states.specs.runner_steps.specs.runner_parts.specs.declared.entries.Published.{Published}
-use Rattle.machine_states.specs.runner_steps.specs.runner_parts.specs.declared.entries.Tested.{Tested}
+use Rattle.machine_states.specs.runner_parts.specs.declared.entries.Published.{Published}
+use Rattle.machine_states.specs.runner_parts.specs.declared.entries.Tested.{Tested}
 use Rattle.machine_states.specs.epoch_core.specs.declared.stage.Stage.{Stage}
 use Rattle.machine_states.specs.epoch_core.specs.declared.stage.Stage.TheVariants as stages
-use Rattle.machine_states.specs.runner_steps.specs.runner_parts.specs.declared.event.EventKind.{EventKind}
-use Rattle.machine_states.specs.runner_steps.specs.runner_parts.specs.declared.event.EventKind.TheVariants as kinds
-use Rattle.machine_states.specs.runner_steps.specs.runner_parts.specs.State.{RunState, NodesState, PartState}
-use Rattle.machine_states.specs.runner_steps.specs.runner_parts.specs.Lists.{test_of, tests_without, slot_back, slot_tested, one_more, nodes_looked, slot_made, slot_retired, descriptor_stored}
-use Rattle.machine_states.specs.runner_steps.specs.runner_parts.specs.Tests.{has, is_resting}
+use Rattle.machine_states.specs.runner_parts.specs.declared.event.EventKind.{EventKind}
+use Rattle.machine_states.specs.runner_parts.specs.declared.event.EventKind.TheVariants as kinds
+use Rattle.machine_states.specs.runner_parts.specs.State.{RunState, NodesState, PartState}
+use Rattle.machine_states.specs.runner_parts.specs.Lists.{test_of, tests_without, slot_back, slot_tested, one_more, nodes_looked, slot_made, slot_retired, descriptor_stored}
+use Rattle.machine_states.specs.runner_parts.specs.Tests.{has, is_resting}
 use Rattle.machine_states.specs.runner_steps.specs.Asks.{ask_by, line_ask, opening_ask, outside_ask}
 use Rattle.machine_states.specs.runner_steps.specs.Sections.{is_open_run, next_of}
 use Rattle.machine_states.specs.runner_steps.specs.Outside.{private_load_ask, when, descriptor_spot}
@@ -45,7 +45,7 @@ use Rattle.machine_states.specs.Sight.{Sight, sight}
 use Rattle.machine_states.proofs.FirstSights.{first_parts}
 use Rattle.machine_states.proofs.Sights.{if_some, some_none, unless_gone, joins}
 use Rattle.machine_states.proofs.Steps.{some_same}
-use Rattle.machine_epochs.proofs.FirstJoin as FirstJoin
+use Rattle.machine_facts.specs.machine_agreement.specs.machine_epochs.proofs.FirstJoin as FirstJoin
 use Rattle.machine_facts.specs.machine_agreement.proofs.LineAsked.{fill_store_asked}
 use Rattle.machine_facts.specs.machine_invariant.specs.After.{AreAllowed}
 use Rattle.machine_facts.specs.machine_invariant.specs.Rising.{CellsRise}

@@ -1,14 +1,14 @@
 -- What the words of locks name that entered runners have read.
 use Rattle.std.specs.Prelude.{ℕ, suc, ◌≡◌, ◌⊎◌, true, false}
-use Rattle.section_lines.specs.structure_laws.specs.body_terms.specs.Line.{line, micro_at}
-use Rattle.section_lines.specs.structure_laws.specs.body_terms.specs.Word.{value_of, held_word}
-use Rattle.section_lines.specs.structure_laws.specs.body_terms.specs.declared.micro.Micro.TheVariants.{NestedHold}
-use Rattle.section_lines.specs.structure_laws.specs.table_words.specs.declared.spot.Spot.{Spot}
-use Rattle.section_lines.specs.structure_laws.specs.Meaning.{Meaning}
+use Rattle.machine_states.specs.body_terms.specs.Line.{line, micro_at}
+use Rattle.machine_states.specs.body_terms.specs.Word.{value_of, held_word}
+use Rattle.machine_states.specs.body_terms.specs.declared.micro.Micro.TheVariants.{NestedHold}
+use Rattle.machine_states.specs.table_words.specs.declared.spot.Spot.{Spot}
+use Rattle.machine_states.specs.structure_laws.specs.Meaning.{Meaning}
 use Rattle.machine_states.specs.epoch_core.specs.declared.stage.Stage.TheVariants.{Entered}
-use Rattle.machine_states.specs.runner_steps.specs.runner_parts.specs.Tests.{has, has_pair}
+use Rattle.machine_states.specs.runner_parts.specs.Tests.{has, has_pair}
 use Rattle.machine_states.specs.Sight.{Sight}
-use Rattle.machine_epochs.specs.Slots.{thunk_in}
+use Rattle.machine_facts.specs.machine_agreement.specs.machine_epochs.specs.Slots.{thunk_in}
 
 -- the section whose thunk stands in this descriptor's words has this lock with this held word: its
 -- outer lock, or that of one of its Takes

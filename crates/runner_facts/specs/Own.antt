@@ -1,10 +1,10 @@
 -- Where a worker's own descriptors are.
 use Rattle.std.specs.Prelude.{◌≡◌, ℕ, ◌+◌, ◌*◌, ◌<◌, ◌≤◌, ◌⊎◌, true, Some}
-use Rattle.section_lines.specs.structure_laws.specs.table_words.specs.declared.layout.Layout.{Layout}
-use Rattle.machine_states.specs.runner_steps.specs.runner_parts.specs.declared.entries.Published.{Published}
-use Rattle.machine_states.specs.runner_steps.specs.runner_parts.specs.Lists.{slots_of}
-use Rattle.machine_states.specs.runner_steps.specs.runner_parts.specs.State.{PartState}
-use Rattle.machine_states.specs.runner_steps.specs.runner_parts.specs.Tests.{has}
+use Rattle.machine_states.specs.table_words.specs.declared.layout.Layout.{Layout}
+use Rattle.machine_states.specs.runner_parts.specs.declared.entries.Published.{Published}
+use Rattle.machine_states.specs.runner_parts.specs.Lists.{slots_of}
+use Rattle.machine_states.specs.runner_parts.specs.State.{PartState}
+use Rattle.machine_states.specs.runner_parts.specs.Tests.{has}
 use Rattle.machine_states.specs.Sight.{Sight}
 
 -- the descriptor is free, in limbo or published

@@ -1,8 +1,8 @@
 //! What is known of the runners' parts, each on a contract.
 ghost use Rattle.std.specs.Prelude.{List};
-ghost use Rattle.section_lines.specs.structure_laws.specs.map_history.specs.declared.op.Request.{Request};
-ghost use Rattle.section_lines.specs.structure_laws.specs.table_words.specs.Limits.{IsWithinLimits};
-ghost use Rattle.section_lines.specs.structure_laws.specs.table_words.specs.declared.layout.Layout.{Layout};
+ghost use Rattle.machine_states.specs.map_history.specs.declared.op.Request.{Request};
+ghost use Rattle.machine_states.specs.table_words.specs.Limits.{IsWithinLimits};
+ghost use Rattle.machine_states.specs.table_words.specs.declared.layout.Layout.{Layout};
 ghost use Rattle.machine_states.specs.World.{World};
 ghost use Rattle.machine_states.specs.Reached.{Reached};
 ghost use Rattle.machine_states.specs.Sight.{sight};
@@ -11,7 +11,7 @@ ghost use Rattle.runner_facts.specs.Keeper.{KeeperStands};
 ghost use Rattle.runner_facts.specs.Names.{NamesStand};
 ghost use Rattle.runner_facts.specs.Facts.{DescriptorsAreKept, FittingAreShaped, JoinedAreGone, LimboIsDone, WalksStand, WornAreWorn};
 
-use section_lines::structure_laws::Structure;
+use machine_states::structure_laws::Structure;
 
 /// In every state that the machine reaches, the readings of an entered runner are as the structure's walks may take
 /// them, whatever the cells hold by now, for each operation within the limits.

@@ -1,7 +1,7 @@
 -- Steps that are counted apart, and added up behind.
 use Rattle.std.proofs.Common.{◌≡◌, ℕ, ◌+◌, ◌-◌, ◌^◌, ◌≤◌, min, Bool, true, false, sym, ap, subst, ◌∙◌, arith}
-use Rattle.idem_cell.specs.body_terms.specs.Counted.{counted_on}
-use Rattle.idem_cell.specs.body_terms.proofs.CountedLemmas.{counts}
+use Rattle.idem_cell.specs.machine_states.specs.body_terms.specs.Counted.{counted_on}
+use Rattle.idem_cell.specs.machine_states.specs.body_terms.proofs.CountedLemmas.{counts}
 use Rattle.idem_cell.specs.runner_gate.specs.Asks.{Asks}
 use Rattle.idem_cell.specs.machine_states.specs.structure_laws.specs.Meaning.{Meaning}
 use Rattle.idem_alloc.specs.commit_log.specs.version_words.specs.RunnerState.{RunnerState}

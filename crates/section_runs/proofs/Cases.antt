@@ -2,21 +2,21 @@
 use Rattle.std.proofs.Common.{◌≡◌, ℕ, suc, ◌+◌, ◌-◌, ◌<◌, ◌≤◌, List, [], ◌∷◌, ◌++◌, length, length-append, Bool, true, false, refl, sym, ap, ◌∙◌, subst, arith, Some, None, zero, eq-eqb}
 use Rattle.std.specs.Prelude.{◌==◌, cond, if◌then◌else◌, not, slice_index, slice_index_or}
 use Rattle.std.proofs.lemmas.Bool.Decides.{nat_tests}
-use Rattle.idem_cell.specs.body_terms.specs.declared.micro.Micro.{Micro}
-use Rattle.idem_cell.specs.body_terms.specs.declared.micro.Micro.TheVariants as micros
-use Rattle.idem_cell.specs.body_terms.specs.declared.step.Step.TheVariants.{Load, Make, Store, Retire}
-use Rattle.idem_cell.specs.body_terms.specs.declared.value.Init.{Init}
-use Rattle.idem_cell.specs.body_terms.specs.declared.value.Value.{Value}
-use Rattle.idem_cell.specs.body_terms.specs.declared.value.Value.TheVariants.{Const}
-use Rattle.idem_cell.specs.body_terms.specs.Line.{registers_before, source_of}
-use Rattle.idem_cell.specs.body_terms.specs.Run.{source_value}
-use Rattle.idem_cell.specs.table_words.specs.declared.layout.Layout.{Layout}
-use Rattle.idem_cell.specs.table_words.specs.Limits.{IsWithinLimits}
+use Rattle.idem_cell.specs.machine_states.specs.body_terms.specs.declared.micro.Micro.{Micro}
+use Rattle.idem_cell.specs.machine_states.specs.body_terms.specs.declared.micro.Micro.TheVariants as micros
+use Rattle.idem_cell.specs.machine_states.specs.body_terms.specs.declared.step.Step.TheVariants.{Load, Make, Store, Retire}
+use Rattle.idem_cell.specs.machine_states.specs.body_terms.specs.declared.value.Init.{Init}
+use Rattle.idem_cell.specs.machine_states.specs.body_terms.specs.declared.value.Value.{Value}
+use Rattle.idem_cell.specs.machine_states.specs.body_terms.specs.declared.value.Value.TheVariants.{Const}
+use Rattle.idem_cell.specs.machine_states.specs.body_terms.specs.Line.{registers_before, source_of}
+use Rattle.idem_cell.specs.machine_states.specs.body_terms.specs.Run.{source_value}
+use Rattle.idem_cell.specs.machine_states.specs.table_words.specs.declared.layout.Layout.{Layout}
+use Rattle.idem_cell.specs.machine_states.specs.table_words.specs.Limits.{IsWithinLimits}
 use Rattle.idem_cell.specs.machine_states.specs.structure_laws.specs.Meaning.{Meaning}
 use Rattle.idem_cell.specs.machine_states.specs.structure_laws.specs.Laws.{Laws}
-use Rattle.idem_cell.specs.runner_parts.specs.State.{RunState, NodesState, PartState}
-use Rattle.idem_cell.specs.runner_parts.specs.Tests.{has}
-use Rattle.idem_cell.specs.runner_parts.specs.Lists.{without, tests_without, slot_taken, slot_made, slot_back}
+use Rattle.idem_cell.specs.machine_states.specs.runner_parts.specs.State.{RunState, NodesState, PartState}
+use Rattle.idem_cell.specs.machine_states.specs.runner_parts.specs.Tests.{has}
+use Rattle.idem_cell.specs.machine_states.specs.runner_parts.specs.Lists.{without, tests_without, slot_taken, slot_made, slot_back}
 use Rattle.idem_cell.specs.machine_states.specs.runner_steps.specs.InRun.{last_of}
 use Rattle.idem_cell.specs.machine_states.specs.runner_steps.specs.Sections.{settles}
 use Rattle.idem_cell.specs.machine_states.specs.runner_steps.specs.AfterInRun.{goes_on}

@@ -1,21 +1,21 @@
 -- A whole run, put together.
 use Rattle.std.proofs.Common.{◌≡◌, ◌≢◌, ℕ, ◌+◌, ◌-◌, ◌≤◌, List, [], ◌∷◌, ◌++◌, Bool, true, refl, sym, ap, ◌∙◌, subst, arith, Option, Some, None}
 use Rattle.std.specs.Prelude.{if◌then◌else◌}
-use Rattle.idem_cell.specs.body_terms.specs.Cost.{cost_of}
-use Rattle.idem_cell.specs.body_terms.specs.Line.{line, micro_at}
-use Rattle.idem_cell.specs.body_terms.specs.Run.{leaves}
-use Rattle.idem_cell.specs.body_terms.specs.Trail.{Agreed}
-use Rattle.idem_cell.specs.body_terms.specs.Word.{value_of}
-use Rattle.idem_cell.specs.body_terms.specs.declared.outcome.Outcome.{Outcome}
-use Rattle.idem_cell.specs.body_terms.specs.declared.outcome.Outcome.TheVariants as outcomes
-use Rattle.idem_cell.specs.body_terms.specs.declared.step.Step.{Step}
-use Rattle.idem_cell.specs.body_terms.specs.declared.thunk.Thunk.{Thunk}
-use Rattle.idem_cell.specs.table_words.specs.Limits.{IsWithinLimits}
-use Rattle.idem_cell.specs.table_words.specs.declared.layout.Layout.{Layout}
+use Rattle.idem_cell.specs.machine_states.specs.body_terms.specs.Cost.{cost_of}
+use Rattle.idem_cell.specs.machine_states.specs.body_terms.specs.Line.{line, micro_at}
+use Rattle.idem_cell.specs.machine_states.specs.body_terms.specs.Run.{leaves}
+use Rattle.idem_cell.specs.machine_states.specs.body_terms.specs.Trail.{Agreed}
+use Rattle.idem_cell.specs.machine_states.specs.body_terms.specs.Word.{value_of}
+use Rattle.idem_cell.specs.machine_states.specs.body_terms.specs.declared.outcome.Outcome.{Outcome}
+use Rattle.idem_cell.specs.machine_states.specs.body_terms.specs.declared.outcome.Outcome.TheVariants as outcomes
+use Rattle.idem_cell.specs.machine_states.specs.body_terms.specs.declared.step.Step.{Step}
+use Rattle.idem_cell.specs.machine_states.specs.body_terms.specs.declared.thunk.Thunk.{Thunk}
+use Rattle.idem_cell.specs.machine_states.specs.table_words.specs.Limits.{IsWithinLimits}
+use Rattle.idem_cell.specs.machine_states.specs.table_words.specs.declared.layout.Layout.{Layout}
 use Rattle.idem_cell.specs.machine_states.specs.structure_laws.specs.Meaning.{Meaning}
 use Rattle.idem_cell.specs.machine_states.specs.structure_laws.specs.Laws.{Laws}
-use Rattle.idem_cell.specs.runner_parts.specs.State.{RunState, FinishedState, NodesState, ReadsState}
-use Rattle.idem_cell.specs.runner_parts.specs.Tests.{has, is_answered}
+use Rattle.idem_cell.specs.machine_states.specs.runner_parts.specs.State.{RunState, FinishedState, NodesState, ReadsState}
+use Rattle.idem_cell.specs.machine_states.specs.runner_parts.specs.Tests.{has, is_answered}
 use Rattle.idem_cell.specs.machine_states.specs.runner_steps.specs.AfterInRun.{ended_more, over_if, finished_of}
 use Rattle.idem_cell.specs.machine_states.specs.runner_steps.specs.Sections.{thunk_of, outcome_of, outcome_or, setting_of, settles, is_late}
 use Rattle.nested_lock.specs.machine_facts.specs.machine_invariant.specs.After.{AreAllowed}

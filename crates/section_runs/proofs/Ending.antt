@@ -2,23 +2,23 @@
 use Rattle.std.proofs.Common.{◌≡◌, ℕ, zero, suc, ◌+◌, ◌≤◌, ◌<◌, List, [], ◌∷◌, ◌++◌, length, take, true, false, refl, sym, ap, ◌∙◌, subst, arith, Option, Some, None}
 use Rattle.std.specs.Prelude.{cond, count_by, slice_index_or, if◌then◌else◌}
 use Rattle.std.proofs.lemmas.List.Sums.{sum_by-cons}
-use Rattle.idem_cell.specs.body_terms.specs.declared.micro.Micro.{Micro}
-use Rattle.idem_cell.specs.body_terms.specs.declared.micro.Micro.TheVariants as micros
-use Rattle.idem_cell.specs.body_terms.specs.declared.outcome.Outcome.{Outcome}
-use Rattle.idem_cell.specs.body_terms.specs.declared.step.Step.{Step}
-use Rattle.idem_cell.specs.body_terms.specs.declared.step.Step.TheVariants.{Load, Want, Fresh, Take, Make, Stamp, Store, Retire, Answer}
-use Rattle.idem_cell.specs.body_terms.specs.Line.{micro_at, is_event, is_end, releases, ending}
-use Rattle.idem_cell.specs.body_terms.specs.Shape.{IsStep, is_take}
-use Rattle.idem_cell.specs.body_terms.specs.Word.{next_word}
-use Rattle.idem_cell.specs.body_terms.proofs.LineLemmas.{take_next}
+use Rattle.idem_cell.specs.machine_states.specs.body_terms.specs.declared.micro.Micro.{Micro}
+use Rattle.idem_cell.specs.machine_states.specs.body_terms.specs.declared.micro.Micro.TheVariants as micros
+use Rattle.idem_cell.specs.machine_states.specs.body_terms.specs.declared.outcome.Outcome.{Outcome}
+use Rattle.idem_cell.specs.machine_states.specs.body_terms.specs.declared.step.Step.{Step}
+use Rattle.idem_cell.specs.machine_states.specs.body_terms.specs.declared.step.Step.TheVariants.{Load, Want, Fresh, Take, Make, Stamp, Store, Retire, Answer}
+use Rattle.idem_cell.specs.machine_states.specs.body_terms.specs.Line.{micro_at, is_event, is_end, releases, ending}
+use Rattle.idem_cell.specs.machine_states.specs.body_terms.specs.Shape.{IsStep, is_take}
+use Rattle.idem_cell.specs.machine_states.specs.body_terms.specs.Word.{next_word}
+use Rattle.idem_cell.specs.machine_states.specs.body_terms.proofs.LineLemmas.{take_next}
 use Rattle.idem_cell.specs.section_lines.specs.Rests.{taken_releases}
-use Rattle.idem_cell.specs.table_words.specs.Limits.{IsWithinLimits}
-use Rattle.idem_cell.specs.table_words.specs.declared.spot.Spot.TheVariants as spots
-use Rattle.idem_cell.specs.table_words.specs.declared.access.Access.TheVariants.{Exchanges}
+use Rattle.idem_cell.specs.machine_states.specs.table_words.specs.Limits.{IsWithinLimits}
+use Rattle.idem_cell.specs.machine_states.specs.table_words.specs.declared.spot.Spot.TheVariants as spots
+use Rattle.idem_cell.specs.machine_states.specs.table_words.specs.declared.access.Access.TheVariants.{Exchanges}
 use Rattle.idem_cell.specs.machine_states.specs.structure_laws.specs.Meaning.{Meaning}
 use Rattle.idem_cell.specs.machine_states.specs.structure_laws.specs.Laws.{Laws}
-use Rattle.idem_cell.specs.runner_parts.specs.declared.event.EventKind.TheVariants as kinds
-use Rattle.idem_cell.specs.runner_parts.specs.State.{RunState}
+use Rattle.idem_cell.specs.machine_states.specs.runner_parts.specs.declared.event.EventKind.TheVariants as kinds
+use Rattle.idem_cell.specs.machine_states.specs.runner_parts.specs.State.{RunState}
 use Rattle.idem_cell.specs.machine_states.specs.runner_steps.specs.AfterInRun.{ended_more}
 use Rattle.idem_cell.specs.machine_states.specs.runner_steps.specs.Sections.{thunk_of, line_of, next_of}
 use Rattle.idem_cell.specs.machine_states.proofs.Steps.{some_same}

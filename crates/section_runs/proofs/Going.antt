@@ -1,21 +1,21 @@
 -- A run goes on from one step of its body to the next one.
 use Rattle.std.proofs.Common.{◌≡◌, ℕ, suc, ◌+◌, ◌<◌, ◌≤◌, List, [], ◌++◌, length, length-append, true, false, refl, sym, ap, ◌∙◌, subst, arith, None}
 use Rattle.idem_cell.specs.section_lines.specs.small_lemmas.proofs.Lists.{append_none}
-use Rattle.idem_cell.specs.body_terms.specs.declared.micro.Micro.{Micro}
-use Rattle.idem_cell.specs.body_terms.specs.declared.step.Step.{Step}
-use Rattle.idem_cell.specs.body_terms.specs.Line.{Registers, begins, line, micros, micro_at, micro_count, log_words, is_event, registers_before}
-use Rattle.idem_cell.specs.body_terms.specs.Run.{settled}
-use Rattle.idem_cell.specs.body_terms.specs.Shape.{IsStep, IsShaped}
-use Rattle.idem_cell.specs.body_terms.proofs.LineLemmas.{micro_within, begins_next, registers_before_next, count_after}
-use Rattle.idem_cell.specs.body_terms.proofs.RegisterLemmas.{count_le}
+use Rattle.idem_cell.specs.machine_states.specs.body_terms.specs.declared.micro.Micro.{Micro}
+use Rattle.idem_cell.specs.machine_states.specs.body_terms.specs.declared.step.Step.{Step}
+use Rattle.idem_cell.specs.machine_states.specs.body_terms.specs.Line.{Registers, begins, line, micros, micro_at, micro_count, log_words, is_event, registers_before}
+use Rattle.idem_cell.specs.machine_states.specs.body_terms.specs.Run.{settled}
+use Rattle.idem_cell.specs.machine_states.specs.body_terms.specs.Shape.{IsStep, IsShaped}
+use Rattle.idem_cell.specs.machine_states.specs.body_terms.proofs.LineLemmas.{micro_within, begins_next, registers_before_next, count_after}
+use Rattle.idem_cell.specs.machine_states.specs.body_terms.proofs.RegisterLemmas.{count_le}
 use Rattle.idem_cell.specs.section_lines.specs.Rests.{is_test, rests}
 use Rattle.idem_cell.specs.section_lines.proofs.Places.{step_inside}
 use Rattle.idem_cell.specs.section_lines.proofs.Progress.{some_micros}
 use Rattle.idem_cell.specs.section_lines.proofs.Resting.{run_rests}
-use Rattle.idem_cell.specs.table_words.specs.Limits.{IsWithinLimits}
+use Rattle.idem_cell.specs.machine_states.specs.table_words.specs.Limits.{IsWithinLimits}
 use Rattle.idem_cell.specs.machine_states.specs.structure_laws.specs.Meaning.{Meaning}
 use Rattle.idem_cell.specs.machine_states.specs.structure_laws.specs.Laws.{Laws}
-use Rattle.idem_cell.specs.runner_parts.specs.State.{RunState, NodesState}
+use Rattle.idem_cell.specs.machine_states.specs.runner_parts.specs.State.{RunState, NodesState}
 use Rattle.idem_cell.specs.machine_states.specs.runner_steps.specs.Sections.{thunk_of, line_of, next_of, setting_of, settles}
 use Rattle.nested_lock.specs.machine_facts.specs.machine_invariant.specs.After.{AreAllowed}
 use Rattle.idem_alloc.specs.commit_log.specs.next_steps.proofs.Stages.{in_table}

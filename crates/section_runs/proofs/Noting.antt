@@ -1,9 +1,9 @@
 -- The registers that are kept, behind a step.
 use Rattle.std.proofs.Common.{◌≡◌, [], refl, sym, subst, ◌∙◌}
-use Rattle.idem_cell.specs.body_terms.specs.Line.{Registers, registers_after}
-use Rattle.idem_cell.specs.body_terms.specs.Shape.{set_registers}
-use Rattle.idem_cell.specs.body_terms.specs.declared.step.Step.{Step}
-use Rattle.idem_cell.specs.body_terms.specs.declared.step.Step.TheVariants.{Load, Want, Fresh, Take, Make, Stamp, Store, Retire, Answer}
+use Rattle.idem_cell.specs.machine_states.specs.body_terms.specs.Line.{Registers, registers_after}
+use Rattle.idem_cell.specs.machine_states.specs.body_terms.specs.Shape.{set_registers}
+use Rattle.idem_cell.specs.machine_states.specs.body_terms.specs.declared.step.Step.{Step}
+use Rattle.idem_cell.specs.machine_states.specs.body_terms.specs.declared.step.Step.TheVariants.{Load, Want, Fresh, Take, Make, Stamp, Store, Retire, Answer}
 use Rattle.section_runs.specs.Registers.{AreKept}
 use Rattle.section_runs.specs.declared.registers.Places.{Places}
 

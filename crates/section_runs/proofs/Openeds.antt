@@ -1,18 +1,18 @@
 -- A run that was just opened stands before the first step of its body.
 use Rattle.std.proofs.Common.{◌≡◌, ℕ, ◌+◌, ◌≤◌, List, [], ◌∷◌, length, Bool, true, false, refl, sym, ap, ◌∙◌, arith}
 use Rattle.std.specs.Prelude.{count_by}
-use Rattle.idem_cell.specs.body_terms.specs.Cost.{cost_of}
-use Rattle.idem_cell.specs.body_terms.specs.Line.{line, begins, registers_before}
-use Rattle.idem_cell.specs.body_terms.specs.Run.{settled}
-use Rattle.idem_cell.specs.body_terms.specs.Shape.{IsShaped, is_make}
-use Rattle.idem_cell.specs.body_terms.specs.Trail.{Agreed}
-use Rattle.idem_cell.specs.body_terms.specs.declared.outcome.Outcome.{Outcome}
-use Rattle.idem_cell.specs.body_terms.specs.declared.step.Step.{Step}
-use Rattle.idem_cell.specs.body_terms.specs.declared.thunk.Thunk.{Thunk}
+use Rattle.idem_cell.specs.machine_states.specs.body_terms.specs.Cost.{cost_of}
+use Rattle.idem_cell.specs.machine_states.specs.body_terms.specs.Line.{line, begins, registers_before}
+use Rattle.idem_cell.specs.machine_states.specs.body_terms.specs.Run.{settled}
+use Rattle.idem_cell.specs.machine_states.specs.body_terms.specs.Shape.{IsShaped, is_make}
+use Rattle.idem_cell.specs.machine_states.specs.body_terms.specs.Trail.{Agreed}
+use Rattle.idem_cell.specs.machine_states.specs.body_terms.specs.declared.outcome.Outcome.{Outcome}
+use Rattle.idem_cell.specs.machine_states.specs.body_terms.specs.declared.step.Step.{Step}
+use Rattle.idem_cell.specs.machine_states.specs.body_terms.specs.declared.thunk.Thunk.{Thunk}
 use Rattle.idem_cell.specs.section_lines.proofs.Phases.{is_in_phases}
 use Rattle.idem_cell.specs.section_lines.proofs.Resting.{rests_at}
 use Rattle.idem_cell.specs.machine_states.specs.structure_laws.specs.Meaning.{Meaning}
-use Rattle.idem_cell.specs.runner_parts.specs.State.{RunState}
+use Rattle.idem_cell.specs.machine_states.specs.runner_parts.specs.State.{RunState}
 use Rattle.idem_cell.specs.machine_states.specs.runner_steps.specs.Sections.{thunk_of, setting_of}
 use Rattle.idem_alloc.specs.commit_log.specs.version_words.specs.RunnerState.{RunnerState}
 use Rattle.section_runs.specs.Reached.{run_or, run_of, MayBegin}

@@ -2,19 +2,19 @@
 use Rattle.std.proofs.Common.{◌≡◌, ℕ, zero, suc, ◌+◌, ◌<◌, List, [], ◌∷◌, ◌++◌, length, length-append, Bool, true, false, refl, sym, ap, ◌∙◌, subst, arith, Option, Some, None}
 use Rattle.std.specs.Prelude.{◌==◌, ◌&&◌, nat_lt, if◌then◌else◌}
 use Rattle.std.proofs.lemmas.Bool.Decides.{nat_tests}
-use Rattle.idem_cell.specs.body_terms.specs.declared.thunk.Thunk.{Thunk}
-use Rattle.idem_cell.specs.table_words.specs.declared.sizes.Sizes.{Sizes}
-use Rattle.idem_cell.specs.table_words.proofs.Seen.{fits_is}
-use Rattle.idem_cell.specs.table_words.specs.Limits.{IsWithinLimits}
-use Rattle.idem_cell.specs.table_words.specs.Places.{descriptor_count}
-use Rattle.idem_cell.specs.table_words.specs.declared.access.Access.TheVariants.{Loads}
-use Rattle.idem_cell.specs.table_words.specs.declared.spot.Spot.TheVariants as spots
+use Rattle.idem_cell.specs.machine_states.specs.body_terms.specs.declared.thunk.Thunk.{Thunk}
+use Rattle.idem_cell.specs.machine_states.specs.table_words.specs.declared.sizes.Sizes.{Sizes}
+use Rattle.idem_cell.specs.machine_states.specs.table_words.proofs.Seen.{fits_is}
+use Rattle.idem_cell.specs.machine_states.specs.table_words.specs.Limits.{IsWithinLimits}
+use Rattle.idem_cell.specs.machine_states.specs.table_words.specs.Places.{descriptor_count}
+use Rattle.idem_cell.specs.machine_states.specs.table_words.specs.declared.access.Access.TheVariants.{Loads}
+use Rattle.idem_cell.specs.machine_states.specs.table_words.specs.declared.spot.Spot.TheVariants as spots
 use Rattle.idem_cell.specs.machine_states.specs.structure_laws.specs.Meaning.{Meaning}
 use Rattle.idem_cell.specs.machine_states.specs.structure_laws.specs.Laws.{Laws}
-use Rattle.idem_cell.specs.runner_parts.specs.declared.event.EventKind.{EventKind}
-use Rattle.idem_cell.specs.runner_parts.specs.declared.event.EventKind.TheVariants as kinds
-use Rattle.idem_cell.specs.runner_parts.specs.State.{RunState, PartState}
-use Rattle.idem_cell.specs.runner_parts.specs.Tests.{has, is_walking}
+use Rattle.idem_cell.specs.machine_states.specs.runner_parts.specs.declared.event.EventKind.{EventKind}
+use Rattle.idem_cell.specs.machine_states.specs.runner_parts.specs.declared.event.EventKind.TheVariants as kinds
+use Rattle.idem_cell.specs.machine_states.specs.runner_parts.specs.State.{RunState, PartState}
+use Rattle.idem_cell.specs.machine_states.specs.runner_parts.specs.Tests.{has, is_walking}
 use Rattle.idem_cell.specs.machine_states.specs.runner_steps.specs.Outside.{when}
 use Rattle.idem_cell.specs.machine_states.specs.runner_steps.specs.Asks.{ask_by, fitting, sizes_for}
 use Rattle.idem_cell.specs.machine_states.specs.runner_steps.specs.Sections.{thunk_of, is_late, next_of}

@@ -2,18 +2,18 @@
 use Rattle.std.proofs.Common.{◌≡◌, ℕ, zero, suc, List, [], ◌∷◌, ◌++◌, Bool, true, false, refl, sym, ap, ◌∙◌, subst, Option, Some, None}
 use Rattle.std.specs.Prelude.{◌==◌, nat_lt, slice_get, if◌then◌else◌}
 use Rattle.idem_cell.specs.section_lines.specs.small_lemmas.proofs.Lists.{append_none}
-use Rattle.idem_cell.specs.body_terms.specs.declared.micro.Micro.{Micro}
-use Rattle.idem_cell.specs.body_terms.specs.declared.micro.Micro.TheVariants as micros
-use Rattle.idem_cell.specs.body_terms.specs.Line.{is_end}
-use Rattle.idem_cell.specs.body_terms.specs.Run.{written_once}
-use Rattle.idem_cell.specs.table_words.specs.declared.layout.Layout.{Layout}
-use Rattle.idem_cell.specs.table_words.specs.declared.spot.Spot.{Spot}
-use Rattle.idem_cell.specs.table_words.specs.declared.access.Access.{Access}
+use Rattle.idem_cell.specs.machine_states.specs.body_terms.specs.declared.micro.Micro.{Micro}
+use Rattle.idem_cell.specs.machine_states.specs.body_terms.specs.declared.micro.Micro.TheVariants as micros
+use Rattle.idem_cell.specs.machine_states.specs.body_terms.specs.Line.{is_end}
+use Rattle.idem_cell.specs.machine_states.specs.body_terms.specs.Run.{written_once}
+use Rattle.idem_cell.specs.machine_states.specs.table_words.specs.declared.layout.Layout.{Layout}
+use Rattle.idem_cell.specs.machine_states.specs.table_words.specs.declared.spot.Spot.{Spot}
+use Rattle.idem_cell.specs.machine_states.specs.table_words.specs.declared.access.Access.{Access}
 use Rattle.idem_cell.specs.machine_states.specs.structure_laws.specs.Meaning.{Meaning}
-use Rattle.idem_cell.specs.runner_parts.specs.declared.event.EventKind.{EventKind}
-use Rattle.idem_cell.specs.runner_parts.specs.declared.entries.Known.{Known}
-use Rattle.idem_cell.specs.runner_parts.specs.State.{RunState, RecordsState, PartState}
-use Rattle.idem_cell.specs.runner_parts.specs.Lists.{learned, cell_read}
+use Rattle.idem_cell.specs.machine_states.specs.runner_parts.specs.declared.event.EventKind.{EventKind}
+use Rattle.idem_cell.specs.machine_states.specs.runner_parts.specs.declared.entries.Known.{Known}
+use Rattle.idem_cell.specs.machine_states.specs.runner_parts.specs.State.{RunState, RecordsState, PartState}
+use Rattle.idem_cell.specs.machine_states.specs.runner_parts.specs.Lists.{learned, cell_read}
 use Rattle.idem_cell.specs.machine_states.specs.runner_steps.specs.InRun.{make_slot, last_clock, stamp_after}
 use Rattle.idem_cell.specs.machine_states.specs.runner_steps.specs.Sections.{thunk_of, next_of}
 use Rattle.idem_cell.specs.machine_states.specs.runner_steps.specs.AfterInRun as inside

@@ -3,11 +3,11 @@ use Rattle.std.proofs.Common.{◌≡◌, ℕ, zero, suc, ◌-◌, ◌≤◌, ◌
 use Rattle.std.specs.Prelude.{◌⊎◌, slice_index_or}
 use Rattle.std.proofs.lemmas.Option.{slice_get-get_or}
 use Rattle.idem_cell.specs.section_lines.specs.small_lemmas.proofs.Bools.{not_true}
-use Rattle.idem_cell.specs.body_terms.specs.declared.step.Step.{Step}
-use Rattle.idem_cell.specs.body_terms.specs.declared.step.Step.TheVariants.{Load, Want, Fresh, Take, Make, Stamp, Store, Retire, Answer}
-use Rattle.idem_cell.specs.body_terms.specs.Shape.{IsStep, IsShaped, is_answer}
-use Rattle.idem_cell.specs.body_terms.specs.Shape as shape
-use Rattle.idem_cell.specs.body_terms.proofs.RegisterLemmas.{step_at}
+use Rattle.idem_cell.specs.machine_states.specs.body_terms.specs.declared.step.Step.{Step}
+use Rattle.idem_cell.specs.machine_states.specs.body_terms.specs.declared.step.Step.TheVariants.{Load, Want, Fresh, Take, Make, Stamp, Store, Retire, Answer}
+use Rattle.idem_cell.specs.machine_states.specs.body_terms.specs.Shape.{IsStep, IsShaped, is_answer}
+use Rattle.idem_cell.specs.machine_states.specs.body_terms.specs.Shape as shape
+use Rattle.idem_cell.specs.machine_states.specs.body_terms.proofs.RegisterLemmas.{step_at}
 use Rattle.idem_cell.specs.section_lines.proofs.Phases.{sole}
 use Rattle.idem_cell.specs.section_lines.proofs.Places.{step_inside}
 use Rattle.idem_cell.specs.machine_states.proofs.Steps.{some_same}

@@ -1,22 +1,22 @@
 -- The Stamp and the Answer of a body.
 use Rattle.std.proofs.Common.{◌≡◌, ℕ, ◌+◌, ◌*◌, ◌/◌, ◌<◌, ◌^◌, [], refl, sym, ap, ◌∙◌, arith, Option, Some}
 use Rattle.idem_cell.specs.section_lines.specs.small_lemmas.proofs.Numbers.{tested_less as low}
-use Rattle.idem_cell.specs.body_terms.specs.declared.micro.Micro.TheVariants as micros
-use Rattle.idem_cell.specs.body_terms.specs.declared.step.Step.TheVariants.{Stamp, Answer}
-use Rattle.idem_cell.specs.body_terms.specs.Line.{micro_at, registers_before}
-use Rattle.idem_cell.specs.body_terms.specs.Line as lines
-use Rattle.idem_cell.specs.body_terms.specs.Run.{written_once}
-use Rattle.idem_cell.specs.table_words.specs.Access.{written}
-use Rattle.idem_cell.specs.table_words.specs.Limits.{IsWithinLimits}
-use Rattle.idem_cell.specs.table_words.specs.declared.layout.Layout.{Layout}
-use Rattle.idem_cell.specs.table_words.specs.declared.spot.Spot.{Spot}
-use Rattle.idem_cell.specs.table_words.specs.declared.spot.Spot.TheVariants as spots
-use Rattle.idem_cell.specs.table_words.specs.declared.access.Access.{Access}
-use Rattle.idem_cell.specs.table_words.specs.declared.access.Access.TheVariants.{Loads, Exchanges, Raises}
+use Rattle.idem_cell.specs.machine_states.specs.body_terms.specs.declared.micro.Micro.TheVariants as micros
+use Rattle.idem_cell.specs.machine_states.specs.body_terms.specs.declared.step.Step.TheVariants.{Stamp, Answer}
+use Rattle.idem_cell.specs.machine_states.specs.body_terms.specs.Line.{micro_at, registers_before}
+use Rattle.idem_cell.specs.machine_states.specs.body_terms.specs.Line as lines
+use Rattle.idem_cell.specs.machine_states.specs.body_terms.specs.Run.{written_once}
+use Rattle.idem_cell.specs.machine_states.specs.table_words.specs.Access.{written}
+use Rattle.idem_cell.specs.machine_states.specs.table_words.specs.Limits.{IsWithinLimits}
+use Rattle.idem_cell.specs.machine_states.specs.table_words.specs.declared.layout.Layout.{Layout}
+use Rattle.idem_cell.specs.machine_states.specs.table_words.specs.declared.spot.Spot.{Spot}
+use Rattle.idem_cell.specs.machine_states.specs.table_words.specs.declared.spot.Spot.TheVariants as spots
+use Rattle.idem_cell.specs.machine_states.specs.table_words.specs.declared.access.Access.{Access}
+use Rattle.idem_cell.specs.machine_states.specs.table_words.specs.declared.access.Access.TheVariants.{Loads, Exchanges, Raises}
 use Rattle.idem_cell.specs.machine_states.specs.structure_laws.specs.Meaning.{Meaning}
 use Rattle.idem_cell.specs.machine_states.specs.structure_laws.specs.Laws.{Laws}
-use Rattle.idem_cell.specs.runner_parts.specs.declared.event.EventKind.TheVariants as kinds
-use Rattle.idem_cell.specs.runner_parts.specs.State.{RunState}
+use Rattle.idem_cell.specs.machine_states.specs.runner_parts.specs.declared.event.EventKind.TheVariants as kinds
+use Rattle.idem_cell.specs.machine_states.specs.runner_parts.specs.State.{RunState}
 use Rattle.idem_cell.specs.machine_states.specs.runner_steps.specs.InRun.{last_clock, stamp_after}
 use Rattle.idem_cell.specs.machine_states.specs.runner_steps.specs.Sections.{thunk_of, line_of, next_of}
 use Rattle.idem_cell.specs.machine_states.specs.runner_steps.specs.AfterInRun.{goes_on}

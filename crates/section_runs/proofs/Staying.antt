@@ -1,20 +1,20 @@
 -- What no step of a run changes but the last one, and how its steps are counted.
 use Rattle.std.proofs.Common.{◌≡◌, ℕ, zero, suc, ◌+◌, List, [], ◌∷◌, ◌++◌, Bool, true, false, refl, sym, ap, ◌∙◌, subst, arith, Some, None, append_assoc}
 use Rattle.std.specs.Prelude.{◌||◌, slice_get, if◌then◌else◌}
-use Rattle.idem_cell.specs.body_terms.specs.declared.micro.Micro.{Micro}
-use Rattle.idem_cell.specs.body_terms.specs.declared.micro.Micro.TheVariants as micros
-use Rattle.idem_cell.specs.body_terms.specs.Line.{is_end}
-use Rattle.idem_cell.specs.body_terms.specs.Run.{written_once}
-use Rattle.idem_cell.specs.table_words.specs.declared.layout.Layout.{Layout}
-use Rattle.idem_cell.specs.table_words.specs.declared.access.Access.{Access}
-use Rattle.idem_cell.specs.table_words.specs.declared.spot.Spot.{Spot}
-use Rattle.idem_cell.specs.table_words.specs.Limits.{IsWithinLimits}
+use Rattle.idem_cell.specs.machine_states.specs.body_terms.specs.declared.micro.Micro.{Micro}
+use Rattle.idem_cell.specs.machine_states.specs.body_terms.specs.declared.micro.Micro.TheVariants as micros
+use Rattle.idem_cell.specs.machine_states.specs.body_terms.specs.Line.{is_end}
+use Rattle.idem_cell.specs.machine_states.specs.body_terms.specs.Run.{written_once}
+use Rattle.idem_cell.specs.machine_states.specs.table_words.specs.declared.layout.Layout.{Layout}
+use Rattle.idem_cell.specs.machine_states.specs.table_words.specs.declared.access.Access.{Access}
+use Rattle.idem_cell.specs.machine_states.specs.table_words.specs.declared.spot.Spot.{Spot}
+use Rattle.idem_cell.specs.machine_states.specs.table_words.specs.Limits.{IsWithinLimits}
 use Rattle.idem_cell.specs.machine_states.specs.structure_laws.specs.Meaning.{Meaning}
 use Rattle.idem_cell.specs.machine_states.specs.structure_laws.specs.Laws.{Laws}
-use Rattle.idem_cell.specs.runner_parts.specs.declared.entries.Known.{Known}
-use Rattle.idem_cell.specs.runner_parts.specs.State.{RunState, ReadsState, PartState}
-use Rattle.idem_cell.specs.runner_parts.specs.Lists.{named_by, lock_agreed, holds_named}
-use Rattle.idem_cell.specs.runner_parts.specs.Tests.{has}
+use Rattle.idem_cell.specs.machine_states.specs.runner_parts.specs.declared.entries.Known.{Known}
+use Rattle.idem_cell.specs.machine_states.specs.runner_parts.specs.State.{RunState, ReadsState, PartState}
+use Rattle.idem_cell.specs.machine_states.specs.runner_parts.specs.Lists.{named_by, lock_agreed, holds_named}
+use Rattle.idem_cell.specs.machine_states.specs.runner_parts.specs.Tests.{has}
 use Rattle.idem_cell.specs.machine_states.specs.runner_steps.specs.Sections.{thunk_of, is_open_run, next_of}
 use Rattle.idem_cell.specs.machine_states.specs.runner_steps.specs.AfterInRun.{ended_more, over_if, finished_of}
 use Rattle.idem_cell.specs.machine_states.specs.runner_steps.specs.After.{line_after, after, counted}

@@ -1,23 +1,23 @@
 -- A Take, by its answer.
 use Rattle.std.proofs.Common.{◌≡◌, ℕ, suc, ◌+◌, ◌-◌, ◌<◌, List, [], ◌∷◌, ◌++◌, length-append, append_assoc, Bool, true, false, eq-eqb, refl, sym, ap, ◌∙◌, subst, arith, ⊎_elim, Option, Some, None}
 use Rattle.std.specs.Prelude.{◌==◌, ◌||◌, ◌&&◌, not, cond, if◌then◌else◌, slice_index, take, is_err}
-use Rattle.idem_cell.specs.body_terms.specs.declared.micro.Micro.{Micro}
-use Rattle.idem_cell.specs.body_terms.specs.declared.micro.Micro.TheVariants as micros
-use Rattle.idem_cell.specs.body_terms.specs.declared.outcome.Outcome.{Outcome}
-use Rattle.idem_cell.specs.body_terms.specs.declared.outcome.Outcome.TheVariants as outcomes
-use Rattle.idem_cell.specs.body_terms.specs.declared.step.Step.TheVariants.{Take}
-use Rattle.idem_cell.specs.body_terms.specs.Line.{begins, line, micros, micro_at, is_check, is_event, registers_before, releases}
-use Rattle.idem_cell.specs.body_terms.specs.Run.{Setting, leaves, settled}
-use Rattle.idem_cell.specs.body_terms.specs.Shape.{IsStep}
-use Rattle.idem_cell.specs.body_terms.specs.Word.{value_of, is_free, is_spent, held_word}
-use Rattle.idem_cell.specs.body_terms.proofs.LineLemmas.{begins_next}
+use Rattle.idem_cell.specs.machine_states.specs.body_terms.specs.declared.micro.Micro.{Micro}
+use Rattle.idem_cell.specs.machine_states.specs.body_terms.specs.declared.micro.Micro.TheVariants as micros
+use Rattle.idem_cell.specs.machine_states.specs.body_terms.specs.declared.outcome.Outcome.{Outcome}
+use Rattle.idem_cell.specs.machine_states.specs.body_terms.specs.declared.outcome.Outcome.TheVariants as outcomes
+use Rattle.idem_cell.specs.machine_states.specs.body_terms.specs.declared.step.Step.TheVariants.{Take}
+use Rattle.idem_cell.specs.machine_states.specs.body_terms.specs.Line.{begins, line, micros, micro_at, is_check, is_event, registers_before, releases}
+use Rattle.idem_cell.specs.machine_states.specs.body_terms.specs.Run.{Setting, leaves, settled}
+use Rattle.idem_cell.specs.machine_states.specs.body_terms.specs.Shape.{IsStep}
+use Rattle.idem_cell.specs.machine_states.specs.body_terms.specs.Word.{value_of, is_free, is_spent, held_word}
+use Rattle.idem_cell.specs.machine_states.specs.body_terms.proofs.LineLemmas.{begins_next}
 use Rattle.idem_cell.specs.section_lines.specs.Rests.{taken_releases}
 use Rattle.idem_cell.specs.section_lines.proofs.Resting.{run_rests, rests_at}
-use Rattle.idem_cell.specs.table_words.specs.declared.layout.Layout.{Layout}
+use Rattle.idem_cell.specs.machine_states.specs.table_words.specs.declared.layout.Layout.{Layout}
 use Rattle.idem_cell.specs.machine_states.specs.structure_laws.specs.Meaning.{Meaning}
-use Rattle.idem_cell.specs.runner_parts.specs.State.{RunState, ReadsState}
-use Rattle.idem_cell.specs.runner_parts.specs.Lists.{lock_agreed, holds_named}
-use Rattle.idem_cell.specs.runner_parts.specs.Tests.{has}
+use Rattle.idem_cell.specs.machine_states.specs.runner_parts.specs.State.{RunState, ReadsState}
+use Rattle.idem_cell.specs.machine_states.specs.runner_parts.specs.Lists.{lock_agreed, holds_named}
+use Rattle.idem_cell.specs.machine_states.specs.runner_parts.specs.Tests.{has}
 use Rattle.idem_cell.specs.machine_states.specs.runner_steps.specs.Sections.{thunk_of, line_of, setting_of, settles, outcome_or, reply_in}
 use Rattle.idem_cell.specs.machine_states.specs.runner_steps.specs.AfterInRun.{goes_on, agrees}
 use Rattle.idem_cell.specs.machine_epochs.proofs.Places.{has_append}

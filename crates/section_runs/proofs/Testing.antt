@@ -1,19 +1,19 @@
 -- A Want or a Fresh: no step is made, and the run goes on or leaves by an agreed word.
 use Rattle.std.proofs.Common.{◌≡◌, ℕ, suc, ◌+◌, true, false, refl, ap, ◌∙◌, arith, Option, Some, None}
 use Rattle.std.specs.Prelude.{take}
-use Rattle.idem_cell.specs.body_terms.specs.declared.outcome.Outcome.{Outcome}
-use Rattle.idem_cell.specs.body_terms.specs.declared.step.Step.{Step}
-use Rattle.idem_cell.specs.body_terms.specs.declared.step.Step.TheVariants.{Want, Fresh}
-use Rattle.idem_cell.specs.body_terms.specs.Line.{Registers, micros, micro_at, begins, log_words, is_event, registers_before, releases}
-use Rattle.idem_cell.specs.body_terms.specs.Run.{Setting, leaves}
-use Rattle.idem_cell.specs.body_terms.specs.Shape.{IsStep}
-use Rattle.idem_cell.specs.body_terms.proofs.LineLemmas.{micro_within, registers_before_next, count_after}
+use Rattle.idem_cell.specs.machine_states.specs.body_terms.specs.declared.outcome.Outcome.{Outcome}
+use Rattle.idem_cell.specs.machine_states.specs.body_terms.specs.declared.step.Step.{Step}
+use Rattle.idem_cell.specs.machine_states.specs.body_terms.specs.declared.step.Step.TheVariants.{Want, Fresh}
+use Rattle.idem_cell.specs.machine_states.specs.body_terms.specs.Line.{Registers, micros, micro_at, begins, log_words, is_event, registers_before, releases}
+use Rattle.idem_cell.specs.machine_states.specs.body_terms.specs.Run.{Setting, leaves}
+use Rattle.idem_cell.specs.machine_states.specs.body_terms.specs.Shape.{IsStep}
+use Rattle.idem_cell.specs.machine_states.specs.body_terms.proofs.LineLemmas.{micro_within, registers_before_next, count_after}
 use Rattle.idem_cell.specs.runner_gate.specs.Asks.{Asks}
 use Rattle.idem_cell.specs.section_lines.specs.Rests.{is_test}
 use Rattle.idem_cell.specs.section_lines.proofs.Progress.{some_micros}
 use Rattle.idem_cell.specs.section_lines.proofs.Resting.{run_rests}
 use Rattle.idem_cell.specs.machine_states.specs.structure_laws.specs.Meaning.{Meaning}
-use Rattle.idem_cell.specs.runner_parts.specs.State.{RunState}
+use Rattle.idem_cell.specs.machine_states.specs.runner_parts.specs.State.{RunState}
 use Rattle.idem_cell.specs.machine_states.specs.runner_steps.specs.Sections.{line_of, setting_of, outcome_or, reply_in}
 use Rattle.idem_alloc.specs.commit_log.specs.version_words.specs.RunnerState.{RunnerState}
 use Rattle.idem_alloc.specs.commit_log.specs.Halted.{IsThrough}

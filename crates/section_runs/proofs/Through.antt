@@ -3,7 +3,7 @@ use Rattle.std.proofs.Common.{◌≡◌, ℕ, ◌+◌, ◌≤◌, Bool, true, fa
 use Rattle.std.specs.Prelude.{IfSome, IfNone}
 use Rattle.idem_cell.specs.runner_gate.specs.Asks.{Asks}
 use Rattle.idem_cell.specs.machine_states.specs.structure_laws.specs.Meaning.{Meaning}
-use Rattle.idem_cell.specs.runner_parts.specs.State.{RunState}
+use Rattle.idem_cell.specs.machine_states.specs.runner_parts.specs.State.{RunState}
 use Rattle.idem_alloc.specs.commit_log.specs.version_words.specs.RunnerState.{RunnerState}
 use Rattle.idem_alloc.specs.commit_log.specs.Asked.{IsAsked}
 use Rattle.idem_alloc.specs.commit_log.specs.Halted.{IsThrough, IsHalted}

@@ -4,26 +4,26 @@ use Rattle.std.proofs.Common.{◌≡◌, ◌≢◌, ℕ, ◌+◌, ◌-◌, ◌<�
 use Rattle.std.proofs.lemmas.Bool.{and_parts}
 use Rattle.std.proofs.lemmas.List.Folds.{list_any-append}
 use Rattle.idem_cell.specs.section_lines.specs.small_lemmas.proofs.Bools.{or_first as or_true}
-use Rattle.idem_cell.specs.body_terms.specs.declared.micro.Micro.{Micro}
-use Rattle.idem_cell.specs.body_terms.specs.declared.micro.Micro.TheVariants as micros
-use Rattle.idem_cell.specs.body_terms.specs.declared.outcome.Outcome.{Outcome}
-use Rattle.idem_cell.specs.body_terms.specs.declared.outcome.Outcome.TheVariants as outcomes
-use Rattle.idem_cell.specs.body_terms.specs.declared.step.Step.{Step}
-use Rattle.idem_cell.specs.body_terms.specs.declared.step.Step.TheVariants.{Stamp, Answer}
-use Rattle.idem_cell.specs.body_terms.specs.Line.{line, micro_at, is_check, is_event, begins}
-use Rattle.idem_cell.specs.body_terms.specs.Run.{Setting, leaves, refusal}
-use Rattle.idem_cell.specs.body_terms.specs.Shape.{IsShaped, IsStep}
-use Rattle.idem_cell.specs.body_terms.specs.Shape as shape
-use Rattle.idem_cell.specs.body_terms.specs.Word.{is_free, is_spent}
+use Rattle.idem_cell.specs.machine_states.specs.body_terms.specs.declared.micro.Micro.{Micro}
+use Rattle.idem_cell.specs.machine_states.specs.body_terms.specs.declared.micro.Micro.TheVariants as micros
+use Rattle.idem_cell.specs.machine_states.specs.body_terms.specs.declared.outcome.Outcome.{Outcome}
+use Rattle.idem_cell.specs.machine_states.specs.body_terms.specs.declared.outcome.Outcome.TheVariants as outcomes
+use Rattle.idem_cell.specs.machine_states.specs.body_terms.specs.declared.step.Step.{Step}
+use Rattle.idem_cell.specs.machine_states.specs.body_terms.specs.declared.step.Step.TheVariants.{Stamp, Answer}
+use Rattle.idem_cell.specs.machine_states.specs.body_terms.specs.Line.{line, micro_at, is_check, is_event, begins}
+use Rattle.idem_cell.specs.machine_states.specs.body_terms.specs.Run.{Setting, leaves, refusal}
+use Rattle.idem_cell.specs.machine_states.specs.body_terms.specs.Shape.{IsShaped, IsStep}
+use Rattle.idem_cell.specs.machine_states.specs.body_terms.specs.Shape as shape
+use Rattle.idem_cell.specs.machine_states.specs.body_terms.specs.Word.{is_free, is_spent}
 use Rattle.idem_cell.specs.section_lines.specs.Line.{phase}
 use Rattle.idem_cell.specs.section_lines.proofs.Phases.{sole, is_the_stamp, is_in_phases}
 use Rattle.idem_cell.specs.section_lines.proofs.Places.{stands_there}
-use Rattle.idem_cell.specs.table_words.specs.Limits.{IsWithinLimits}
+use Rattle.idem_cell.specs.machine_states.specs.table_words.specs.Limits.{IsWithinLimits}
 use Rattle.idem_cell.specs.machine_states.specs.structure_laws.specs.Meaning.{Meaning}
 use Rattle.idem_cell.specs.machine_states.specs.structure_laws.specs.Laws.{Laws}
-use Rattle.idem_cell.specs.runner_parts.specs.declared.entries.Known.{Known}
-use Rattle.idem_cell.specs.runner_parts.specs.State.{RunState, PartState}
-use Rattle.idem_cell.specs.runner_parts.specs.Tests.{knows, is_answered}
+use Rattle.idem_cell.specs.machine_states.specs.runner_parts.specs.declared.entries.Known.{Known}
+use Rattle.idem_cell.specs.machine_states.specs.runner_parts.specs.State.{RunState, PartState}
+use Rattle.idem_cell.specs.machine_states.specs.runner_parts.specs.Tests.{knows, is_answered}
 use Rattle.idem_cell.specs.machine_states.specs.runner_steps.specs.AfterInRun.{ended_more}
 use Rattle.idem_cell.specs.machine_states.specs.runner_steps.specs.Sections.{thunk_of, line_of, setting_of, outcome_of, outcome_or, reply_in, settles}
 use Rattle.idem_cell.specs.machine_states.specs.Sight.{sight, part_or_first}

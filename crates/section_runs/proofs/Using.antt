@@ -1,17 +1,17 @@
 -- The registers that a step uses are kept, and their words are agreed.
 use Rattle.std.proofs.Common.{◌≡◌, ◌≢◌, ℕ, zero, suc, ◌<◌, ◌≤◌, List, [], ◌∷◌, length, Bool, true, false, refl, sym, ap, ◌∙◌, subst, arith, ⊎_elim, Some}
 use Rattle.std.specs.Prelude.{◌⊎◌, cond, slice_index, slice_index_or, Result, Ok, Err, is_err}
-use Rattle.idem_cell.specs.body_terms.specs.Act.{IsLogged}
-use Rattle.idem_cell.specs.body_terms.specs.Line.{registers_before}
-use Rattle.idem_cell.specs.body_terms.specs.Shape.{IsStep, IsShaped, SetBefore, used_values}
-use Rattle.idem_cell.specs.body_terms.specs.declared.outcome.Outcome.{Outcome}
-use Rattle.idem_cell.specs.body_terms.specs.declared.outcome.Outcome.TheVariants as outcomes
-use Rattle.idem_cell.specs.body_terms.specs.declared.outcome.Refused.{Refused}
-use Rattle.idem_cell.specs.body_terms.specs.declared.step.Step.{Step}
-use Rattle.idem_cell.specs.body_terms.specs.declared.step.Step.TheVariants.{Load, Make}
-use Rattle.idem_cell.specs.body_terms.specs.declared.value.Value.{Value}
-use Rattle.idem_cell.specs.body_terms.specs.declared.value.Value.TheVariants.{Const, Of, Made}
-use Rattle.idem_cell.specs.body_terms.proofs.RegisterLemmas.{logged}
+use Rattle.idem_cell.specs.machine_states.specs.body_terms.specs.Act.{IsLogged}
+use Rattle.idem_cell.specs.machine_states.specs.body_terms.specs.Line.{registers_before}
+use Rattle.idem_cell.specs.machine_states.specs.body_terms.specs.Shape.{IsStep, IsShaped, SetBefore, used_values}
+use Rattle.idem_cell.specs.machine_states.specs.body_terms.specs.declared.outcome.Outcome.{Outcome}
+use Rattle.idem_cell.specs.machine_states.specs.body_terms.specs.declared.outcome.Outcome.TheVariants as outcomes
+use Rattle.idem_cell.specs.machine_states.specs.body_terms.specs.declared.outcome.Refused.{Refused}
+use Rattle.idem_cell.specs.machine_states.specs.body_terms.specs.declared.step.Step.{Step}
+use Rattle.idem_cell.specs.machine_states.specs.body_terms.specs.declared.step.Step.TheVariants.{Load, Make}
+use Rattle.idem_cell.specs.machine_states.specs.body_terms.specs.declared.value.Value.{Value}
+use Rattle.idem_cell.specs.machine_states.specs.body_terms.specs.declared.value.Value.TheVariants.{Const, Of, Made}
+use Rattle.idem_cell.specs.machine_states.specs.body_terms.proofs.RegisterLemmas.{logged}
 use Rattle.idem_cell.specs.section_lines.proofs.Places.{step_inside}
 use Rattle.nested_lock.specs.Answers.{outcome_at}
 use Rattle.section_runs.specs.Registers.{IsSmall}

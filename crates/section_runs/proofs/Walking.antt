@@ -3,25 +3,25 @@ use Rattle.std.proofs.Common.{◌≡◌, ℕ, zero, suc, ◌+◌, ◌-◌, ◌�
 use Rattle.std.specs.Prelude.{cond, count_by, sum_by}
 use Rattle.std.proofs.lemmas.List.Sums.{sum_by-cons}
 use Rattle.idem_cell.specs.section_lines.specs.small_lemmas.proofs.Lists.{append_none}
-use Rattle.idem_cell.specs.body_terms.specs.declared.micro.Micro.{Micro}
-use Rattle.idem_cell.specs.body_terms.specs.declared.micro.Micro.TheVariants as micros
-use Rattle.idem_cell.specs.body_terms.specs.declared.outcome.Outcome.{Outcome}
-use Rattle.idem_cell.specs.body_terms.specs.declared.outcome.Outcome.TheVariants as outcomes
-use Rattle.idem_cell.specs.body_terms.specs.declared.step.Step.{Step}
-use Rattle.idem_cell.specs.body_terms.specs.declared.step.Step.TheVariants.{Load, Want, Fresh, Take, Make, Stamp, Store, Retire, Answer}
-use Rattle.idem_cell.specs.body_terms.specs.Line.{no_registers, line, micro_at, is_event, releases, registers_before}
-use Rattle.idem_cell.specs.body_terms.specs.Shape.{IsStep, IsShaped, phase, is_make, is_retire, is_take}
-use Rattle.idem_cell.specs.body_terms.specs.Word.{value_of}
-use Rattle.idem_cell.specs.body_terms.proofs.LineLemmas.{take_next, take_all, past_line}
+use Rattle.idem_cell.specs.machine_states.specs.body_terms.specs.declared.micro.Micro.{Micro}
+use Rattle.idem_cell.specs.machine_states.specs.body_terms.specs.declared.micro.Micro.TheVariants as micros
+use Rattle.idem_cell.specs.machine_states.specs.body_terms.specs.declared.outcome.Outcome.{Outcome}
+use Rattle.idem_cell.specs.machine_states.specs.body_terms.specs.declared.outcome.Outcome.TheVariants as outcomes
+use Rattle.idem_cell.specs.machine_states.specs.body_terms.specs.declared.step.Step.{Step}
+use Rattle.idem_cell.specs.machine_states.specs.body_terms.specs.declared.step.Step.TheVariants.{Load, Want, Fresh, Take, Make, Stamp, Store, Retire, Answer}
+use Rattle.idem_cell.specs.machine_states.specs.body_terms.specs.Line.{no_registers, line, micro_at, is_event, releases, registers_before}
+use Rattle.idem_cell.specs.machine_states.specs.body_terms.specs.Shape.{IsStep, IsShaped, phase, is_make, is_retire, is_take}
+use Rattle.idem_cell.specs.machine_states.specs.body_terms.specs.Word.{value_of}
+use Rattle.idem_cell.specs.machine_states.specs.body_terms.proofs.LineLemmas.{take_next, take_all, past_line}
 use Rattle.idem_cell.specs.section_lines.specs.Rests.{taken_releases}
 use Rattle.idem_cell.specs.section_lines.specs.Rests as resting
 use Rattle.idem_cell.specs.section_lines.proofs.Places.{step_inside}
 use Rattle.idem_cell.specs.section_lines.proofs.Resting.{run_rests}
 use Rattle.idem_cell.specs.machine_states.specs.structure_laws.specs.Meaning.{Meaning}
-use Rattle.idem_cell.specs.runner_parts.specs.State.{NodesState}
-use Rattle.idem_cell.specs.runner_parts.specs.Tests.{has}
+use Rattle.idem_cell.specs.machine_states.specs.runner_parts.specs.State.{NodesState}
+use Rattle.idem_cell.specs.machine_states.specs.runner_parts.specs.Tests.{has}
 use Rattle.idem_cell.specs.machine_states.specs.runner_steps.specs.Sections.{thunk_of, setting_of, outcome_or, reply_in}
-use Rattle.idem_cell.specs.body_terms.specs.Run.{leaves}
+use Rattle.idem_cell.specs.machine_states.specs.body_terms.specs.Run.{leaves}
 use Rattle.idem_alloc.specs.commit_log.specs.version_words.specs.RunnerState.{RunnerState}
 use Rattle.section_runs.specs.Reached.{run_of}
 use Rattle.section_runs.specs.Bodies.{NodesStepped, NodesGone, body_of, IsBefore, IsSameRun, IsOver, HasWalked}

@@ -1,15 +1,15 @@
 -- What came of a step, by what its call gave.
 use Rattle.std.proofs.Common.{◌≡◌, ◌≢◌, ℕ, Bool, true, false, refl, sym, ap, ◌∙◌, subst, Option, Some, None}
 use Rattle.std.specs.Prelude.{◌==◌, cond}
-use Rattle.idem_cell.specs.body_terms.specs.Cost.{step_cost}
-use Rattle.idem_cell.specs.body_terms.specs.Line.{micros, micro_at, registers_before}
-use Rattle.idem_cell.specs.body_terms.specs.Run.{leaves}
-use Rattle.idem_cell.specs.body_terms.specs.Shape.{IsStep, phase}
-use Rattle.idem_cell.specs.body_terms.specs.Word.{version_of}
-use Rattle.idem_cell.specs.body_terms.specs.Trail.{Agreed}
-use Rattle.idem_cell.specs.body_terms.specs.declared.outcome.Outcome.{Outcome}
-use Rattle.idem_cell.specs.body_terms.specs.declared.outcome.Outcome.TheVariants.{Answered, Busy, Stale, Spent}
-use Rattle.idem_cell.specs.body_terms.specs.declared.step.Step.{Step}
+use Rattle.idem_cell.specs.machine_states.specs.body_terms.specs.Cost.{step_cost}
+use Rattle.idem_cell.specs.machine_states.specs.body_terms.specs.Line.{micros, micro_at, registers_before}
+use Rattle.idem_cell.specs.machine_states.specs.body_terms.specs.Run.{leaves}
+use Rattle.idem_cell.specs.machine_states.specs.body_terms.specs.Shape.{IsStep, phase}
+use Rattle.idem_cell.specs.machine_states.specs.body_terms.specs.Word.{version_of}
+use Rattle.idem_cell.specs.machine_states.specs.body_terms.specs.Trail.{Agreed}
+use Rattle.idem_cell.specs.machine_states.specs.body_terms.specs.declared.outcome.Outcome.{Outcome}
+use Rattle.idem_cell.specs.machine_states.specs.body_terms.specs.declared.outcome.Outcome.TheVariants.{Answered, Busy, Stale, Spent}
+use Rattle.idem_cell.specs.machine_states.specs.body_terms.specs.declared.step.Step.{Step}
 use Rattle.idem_cell.specs.runner_gate.specs.Asks.{Asks}
 use Rattle.idem_cell.specs.machine_states.specs.structure_laws.specs.Meaning.{Meaning}
 use Rattle.idem_cell.specs.section_lines.specs.Rests.{is_test}

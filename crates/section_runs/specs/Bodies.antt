@@ -1,16 +1,16 @@
 -- How a run goes through the steps of its body.
 use Rattle.std.specs.Prelude.{◌≡◌, ◌≢◌, ℕ, suc, ◌+◌, ◌≤◌, ◌<◌, ◌-◌, cond, List, [], ◌++◌, count_by, take, length, true, false, None}
-use Rattle.idem_cell.specs.body_terms.specs.Line.{micro_at, is_event, registers_before, releases}
-use Rattle.idem_cell.specs.body_terms.specs.Shape.{IsStep, phase, is_make, is_retire}
-use Rattle.idem_cell.specs.body_terms.specs.Word.{value_of}
-use Rattle.idem_cell.specs.body_terms.specs.declared.outcome.Outcome.{Outcome}
-use Rattle.idem_cell.specs.body_terms.specs.declared.outcome.Outcome.TheVariants.{Answered, Busy}
-use Rattle.idem_cell.specs.body_terms.specs.declared.step.Step.{Step}
+use Rattle.idem_cell.specs.machine_states.specs.body_terms.specs.Line.{micro_at, is_event, registers_before, releases}
+use Rattle.idem_cell.specs.machine_states.specs.body_terms.specs.Shape.{IsStep, phase, is_make, is_retire}
+use Rattle.idem_cell.specs.machine_states.specs.body_terms.specs.Word.{value_of}
+use Rattle.idem_cell.specs.machine_states.specs.body_terms.specs.declared.outcome.Outcome.{Outcome}
+use Rattle.idem_cell.specs.machine_states.specs.body_terms.specs.declared.outcome.Outcome.TheVariants.{Answered, Busy}
+use Rattle.idem_cell.specs.machine_states.specs.body_terms.specs.declared.step.Step.{Step}
 use Rattle.idem_cell.specs.section_lines.specs.Rests.{rests, taken_releases}
 use Rattle.idem_cell.specs.machine_states.specs.structure_laws.specs.Meaning.{Meaning}
-use Rattle.idem_cell.specs.runner_parts.specs.declared.entries.Retired.{Retired}
-use Rattle.idem_cell.specs.runner_parts.specs.State.{RunState, NodesState}
-use Rattle.idem_cell.specs.runner_parts.specs.Tests.{has}
+use Rattle.idem_cell.specs.machine_states.specs.runner_parts.specs.declared.entries.Retired.{Retired}
+use Rattle.idem_cell.specs.machine_states.specs.runner_parts.specs.State.{RunState, NodesState}
+use Rattle.idem_cell.specs.machine_states.specs.runner_parts.specs.Tests.{has}
 use Rattle.idem_cell.specs.machine_states.specs.runner_steps.specs.Sections.{thunk_of, setting_of, outcome_of, line_of}
 use Rattle.idem_alloc.specs.commit_log.specs.version_words.specs.RunnerState.{RunnerState}
 use Rattle.idem_alloc.specs.commit_log.specs.Runs.{IsRunning}

@@ -1,22 +1,22 @@
 -- How a run of a section ended.
 use Rattle.std.specs.Prelude.{◌≡◌, ◌≢◌, ℕ, suc, ◌+◌, ◌-◌, ◌≤◌, ◌⊎◌, List, [], ◌∷◌, ◌++◌, Bool, true, count_by, sum_by, length, Some, None}
-use Rattle.idem_cell.specs.body_terms.specs.Cost.{cost_of, step_cost}
-use Rattle.idem_cell.specs.body_terms.specs.Line.{line, micro_at}
-use Rattle.idem_cell.specs.body_terms.specs.Plain.{first_values}
-use Rattle.idem_cell.specs.body_terms.specs.Shape.{is_make, is_retire, is_take}
-use Rattle.idem_cell.specs.body_terms.specs.Run.{leaves}
-use Rattle.idem_cell.specs.body_terms.specs.Trail.{Agreed}
-use Rattle.idem_cell.specs.body_terms.specs.Word.{value_of}
-use Rattle.idem_cell.specs.body_terms.specs.declared.outcome.Outcome.{Outcome}
-use Rattle.idem_cell.specs.body_terms.specs.declared.outcome.Outcome.TheVariants.{Answered, Busy}
-use Rattle.idem_cell.specs.body_terms.specs.declared.step.Step.{Step}
-use Rattle.idem_cell.specs.body_terms.specs.declared.thunk.Thunk.{Thunk}
-use Rattle.idem_cell.specs.table_words.specs.declared.spot.Spot.TheVariants.{Cell, DoneWord, LogWord}
+use Rattle.idem_cell.specs.machine_states.specs.body_terms.specs.Cost.{cost_of, step_cost}
+use Rattle.idem_cell.specs.machine_states.specs.body_terms.specs.Line.{line, micro_at}
+use Rattle.idem_cell.specs.machine_states.specs.body_terms.specs.Plain.{first_values}
+use Rattle.idem_cell.specs.machine_states.specs.body_terms.specs.Shape.{is_make, is_retire, is_take}
+use Rattle.idem_cell.specs.machine_states.specs.body_terms.specs.Run.{leaves}
+use Rattle.idem_cell.specs.machine_states.specs.body_terms.specs.Trail.{Agreed}
+use Rattle.idem_cell.specs.machine_states.specs.body_terms.specs.Word.{value_of}
+use Rattle.idem_cell.specs.machine_states.specs.body_terms.specs.declared.outcome.Outcome.{Outcome}
+use Rattle.idem_cell.specs.machine_states.specs.body_terms.specs.declared.outcome.Outcome.TheVariants.{Answered, Busy}
+use Rattle.idem_cell.specs.machine_states.specs.body_terms.specs.declared.step.Step.{Step}
+use Rattle.idem_cell.specs.machine_states.specs.body_terms.specs.declared.thunk.Thunk.{Thunk}
+use Rattle.idem_cell.specs.machine_states.specs.table_words.specs.declared.spot.Spot.TheVariants.{Cell, DoneWord, LogWord}
 use Rattle.idem_cell.specs.runner_gate.specs.Asks.{Asks}
 use Rattle.idem_cell.specs.machine_states.specs.structure_laws.specs.Meaning.{Meaning}
-use Rattle.idem_cell.specs.runner_parts.specs.declared.entries.Retired.{Retired}
-use Rattle.idem_cell.specs.runner_parts.specs.State.{NodesState, FinishedState}
-use Rattle.idem_cell.specs.runner_parts.specs.Tests.{has, is_answered}
+use Rattle.idem_cell.specs.machine_states.specs.runner_parts.specs.declared.entries.Retired.{Retired}
+use Rattle.idem_cell.specs.machine_states.specs.runner_parts.specs.State.{NodesState, FinishedState}
+use Rattle.idem_cell.specs.machine_states.specs.runner_parts.specs.Tests.{has, is_answered}
 use Rattle.idem_cell.specs.machine_states.specs.runner_steps.specs.AfterInRun.{over_if}
 use Rattle.idem_cell.specs.machine_states.specs.runner_steps.specs.Sections.{setting_of}
 use Rattle.idem_cell.specs.machine_states.specs.Sight.{Sight, sight}

@@ -1,12 +1,12 @@
 -- The end of a run.
 use Rattle.std.specs.Prelude.{◌≡◌, ℕ, ◌+◌, ◌≤◌, count_by, take, true, false}
-use Rattle.idem_cell.specs.body_terms.specs.declared.micro.Micro.TheVariants.{Release}
-use Rattle.idem_cell.specs.body_terms.specs.Line.{micro_at, is_event, is_end, releases}
-use Rattle.idem_cell.specs.body_terms.specs.Shape.{is_take}
+use Rattle.idem_cell.specs.machine_states.specs.body_terms.specs.declared.micro.Micro.TheVariants.{Release}
+use Rattle.idem_cell.specs.machine_states.specs.body_terms.specs.Line.{micro_at, is_event, is_end, releases}
+use Rattle.idem_cell.specs.machine_states.specs.body_terms.specs.Shape.{is_take}
 use Rattle.idem_cell.specs.runner_gate.specs.Asks.{Asks}
 use Rattle.idem_cell.specs.section_lines.specs.Rests.{taken_releases}
 use Rattle.idem_cell.specs.machine_states.specs.structure_laws.specs.Meaning.{Meaning}
-use Rattle.idem_cell.specs.runner_parts.specs.State.{RunState}
+use Rattle.idem_cell.specs.machine_states.specs.runner_parts.specs.State.{RunState}
 use Rattle.idem_cell.specs.machine_states.specs.runner_steps.specs.AfterInRun.{ended_more}
 use Rattle.idem_cell.specs.machine_states.specs.runner_steps.specs.Sections.{thunk_of, line_of, next_of}
 use Rattle.idem_alloc.specs.commit_log.specs.version_words.specs.RunnerState.{RunnerState}

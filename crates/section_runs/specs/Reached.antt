@@ -2,9 +2,9 @@
 use Rattle.std.specs.Prelude.{◌≡◌, ℕ, zero, suc, true, false, [], slice_get, Option, Some, None}
 use Rattle.idem_cell.specs.machine_states.specs.structure_laws.specs.Meaning.{Meaning}
 use Rattle.idem_cell.specs.machine_states.specs.epoch_core.specs.declared.stage.Stage.TheVariants as stages
-use Rattle.idem_cell.specs.runner_parts.specs.declared.entries.Published.{Published}
-use Rattle.idem_cell.specs.runner_parts.specs.State.{RunState}
-use Rattle.idem_cell.specs.runner_parts.specs.Tests.{has}
+use Rattle.idem_cell.specs.machine_states.specs.runner_parts.specs.declared.entries.Published.{Published}
+use Rattle.idem_cell.specs.machine_states.specs.runner_parts.specs.State.{RunState}
+use Rattle.idem_cell.specs.machine_states.specs.runner_parts.specs.Tests.{has}
 use Rattle.idem_cell.specs.machine_states.specs.runner_steps.specs.After.{counted}
 use Rattle.idem_cell.specs.machine_states.specs.World.{World, seat_of}
 use Rattle.idem_cell.specs.machine_states.specs.Reached.{Reached}

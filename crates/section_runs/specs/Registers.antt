@@ -1,10 +1,10 @@
 -- What a run's code keeps of the registers.
 use Rattle.std.specs.Prelude.{◌≡◌, ℕ, ◌≤◌, All, length, slice_index}
-use Rattle.idem_cell.specs.body_terms.specs.Line.{Registers}
-use Rattle.idem_cell.specs.body_terms.specs.Shape.{set_registers}
-use Rattle.idem_cell.specs.body_terms.specs.declared.step.Step.{Step}
-use Rattle.idem_cell.specs.body_terms.specs.declared.value.Value.{Value}
-use Rattle.idem_cell.specs.body_terms.specs.declared.value.Value.TheVariants.{Const, Of, Made}
+use Rattle.idem_cell.specs.machine_states.specs.body_terms.specs.Line.{Registers}
+use Rattle.idem_cell.specs.machine_states.specs.body_terms.specs.Shape.{set_registers}
+use Rattle.idem_cell.specs.machine_states.specs.body_terms.specs.declared.step.Step.{Step}
+use Rattle.idem_cell.specs.machine_states.specs.body_terms.specs.declared.value.Value.{Value}
+use Rattle.idem_cell.specs.machine_states.specs.body_terms.specs.declared.value.Value.TheVariants.{Const, Of, Made}
 use Rattle.section_runs.specs.declared.registers.Places.{Places}
 
 -- the place of each register and the place of its word in the log are kept

@@ -1,6 +1,6 @@
 -- The words that a Take agrees on, and how it ends a run.
 use Rattle.std.specs.Prelude.{ℕ, List, [], ◌∷◌, Option, Some, None, Result, Ok, Err}
-use Rattle.idem_cell.specs.body_terms.specs.declared.outcome.Refused.{Refused}
+use Rattle.idem_cell.specs.machine_states.specs.body_terms.specs.declared.outcome.Refused.{Refused}
 use Rattle.nested_lock.specs.Answers.{outcome_by}
 use Rattle.nested_lock.specs.declared.takes.TakeEnd.{TakeEnd}
 use Rattle.section_runs.specs.declared.passed.Passed.{Passed}

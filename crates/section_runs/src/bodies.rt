@@ -1,8 +1,8 @@
 //! The steps of a run's body, one after the other.
 ghost use Rattle.std.specs.Prelude.{◌≡◌, ◌≢◌, ℕ, ◌+◌, ◌<◌, ◌≤◌, cond, length, count_by, sum_by};
-ghost use Rattle.idem_cell.specs.body_terms.specs.Cost.{step_cost};
-ghost use Rattle.idem_cell.specs.body_terms.specs.Shape.{IsShaped, is_make, is_take};
-ghost use Rattle.idem_cell.specs.body_terms.specs.declared.outcome.Outcome.{Outcome as Ending};
+ghost use Rattle.idem_cell.specs.machine_states.specs.body_terms.specs.Cost.{step_cost};
+ghost use Rattle.idem_cell.specs.machine_states.specs.body_terms.specs.Shape.{IsShaped, is_make, is_take};
+ghost use Rattle.idem_cell.specs.machine_states.specs.body_terms.specs.declared.outcome.Outcome.{Outcome as Ending};
 ghost use Rattle.idem_cell.specs.machine_states.specs.runner_steps.specs.Sections.{reply_in};
 ghost use Rattle.idem_alloc.specs.commit_log.specs.version_words.specs.TableState.{IsOf};
 ghost use Rattle.idem_alloc.specs.commit_log.specs.Halted.{IsThrough, IsHalted};

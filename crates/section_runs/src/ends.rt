@@ -1,7 +1,7 @@
 //! The end of a run: its section is done, and its locks are released.
 ghost use Rattle.std.specs.Prelude.{◌≡◌, ℕ, ◌+◌, ◌≤◌, ◌<◌, cond, true, false, length, take, count_by};
-ghost use Rattle.idem_cell.specs.body_terms.specs.Shape.{IsStep, is_take};
-ghost use Rattle.idem_cell.specs.body_terms.specs.declared.outcome.Outcome.{Outcome};
+ghost use Rattle.idem_cell.specs.machine_states.specs.body_terms.specs.Shape.{IsStep, is_take};
+ghost use Rattle.idem_cell.specs.machine_states.specs.body_terms.specs.declared.outcome.Outcome.{Outcome};
 ghost use Rattle.idem_cell.specs.machine_states.specs.runner_steps.specs.Sections.{thunk_of};
 ghost use Rattle.idem_alloc.specs.commit_log.specs.version_words.specs.TableState.{IsOf};
 ghost use Rattle.idem_alloc.specs.commit_log.specs.Asked.{IsAsked};

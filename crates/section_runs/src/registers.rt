@@ -1,7 +1,7 @@
 //! What a run's code keeps of the registers of its body.
 ghost use Rattle.std.specs.Prelude.{◌≡◌, ◌≤◌};
-ghost use Rattle.idem_cell.specs.body_terms.specs.Line.{Registers, no_registers, registers_after};
-ghost use Rattle.idem_cell.specs.body_terms.specs.Shape.{set_registers};
+ghost use Rattle.idem_cell.specs.machine_states.specs.body_terms.specs.Line.{Registers, no_registers, registers_after};
+ghost use Rattle.idem_cell.specs.machine_states.specs.body_terms.specs.Shape.{set_registers};
 ghost use Rattle.section_runs.specs.Registers.{AreKept, IsWithin};
 
 use idem_cell::body_terms::{Place, Step};

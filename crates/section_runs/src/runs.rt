@@ -1,8 +1,8 @@
 //! A whole run of a section.
 ghost use Rattle.std.specs.Prelude.{◌≡◌, ℕ, ◌≤◌, [], true, false, length};
-ghost use Rattle.idem_cell.specs.body_terms.specs.Trail.{Agreed};
-ghost use Rattle.idem_cell.specs.body_terms.specs.declared.outcome.Outcome.{Outcome as Ending};
-ghost use Rattle.idem_cell.specs.body_terms.specs.declared.thunk.Thunk.{Thunk as Words};
+ghost use Rattle.idem_cell.specs.machine_states.specs.body_terms.specs.Trail.{Agreed};
+ghost use Rattle.idem_cell.specs.machine_states.specs.body_terms.specs.declared.outcome.Outcome.{Outcome as Ending};
+ghost use Rattle.idem_cell.specs.machine_states.specs.body_terms.specs.declared.thunk.Thunk.{Thunk as Words};
 ghost use Rattle.idem_alloc.specs.commit_log.specs.version_words.specs.TableState.{IsOf};
 ghost use Rattle.idem_alloc.specs.commit_log.specs.Asked.{IsAsked};
 ghost use Rattle.section_runs.specs.Reached.{MayBegin};

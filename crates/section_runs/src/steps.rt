@@ -1,9 +1,9 @@
 //! One step of a run's body.
 ghost use Rattle.std.specs.Prelude.{◌≡◌, ◌≢◌, ℕ, ◌≤◌, true, false, length, cond};
-ghost use Rattle.idem_cell.specs.body_terms.specs.Line.{Registers, registers_after};
-ghost use Rattle.idem_cell.specs.body_terms.specs.Shape.{is_make};
-ghost use Rattle.idem_cell.specs.body_terms.specs.declared.outcome.Outcome.{Outcome};
-ghost use Rattle.idem_cell.specs.body_terms.specs.declared.step.Step.TheVariants as kinds;
+ghost use Rattle.idem_cell.specs.machine_states.specs.body_terms.specs.Line.{Registers, registers_after};
+ghost use Rattle.idem_cell.specs.machine_states.specs.body_terms.specs.Shape.{is_make};
+ghost use Rattle.idem_cell.specs.machine_states.specs.body_terms.specs.declared.outcome.Outcome.{Outcome};
+ghost use Rattle.idem_cell.specs.machine_states.specs.body_terms.specs.declared.step.Step.TheVariants as kinds;
 ghost use Rattle.idem_alloc.specs.commit_log.specs.version_words.specs.TableState.{IsOf};
 ghost use Rattle.idem_alloc.specs.commit_log.specs.Halted.{IsThrough, IsHalted};
 ghost use Rattle.section_runs.specs.Reached.{run_of};

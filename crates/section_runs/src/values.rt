@@ -1,11 +1,11 @@
 //! Values and checks, by the words that were agreed on.
 ghost use Rattle.std.specs.Prelude.{◌≡◌, ℕ, ◌+◌, ◌≤◌, ◌++◌, ◌==◌, cond, length, slice_index};
-ghost use Rattle.idem_cell.specs.body_terms.specs.Act.{IsLogged};
-ghost use Rattle.idem_cell.specs.body_terms.specs.Line.{Registers, source_of};
-ghost use Rattle.idem_cell.specs.body_terms.specs.Run.{source_value};
-ghost use Rattle.idem_cell.specs.body_terms.specs.Word.{version_of};
-ghost use Rattle.idem_cell.specs.body_terms.specs.declared.value.Value.TheVariants.{Of};
-ghost use Rattle.idem_cell.specs.body_terms.specs.declared.outcome.Outcome.TheVariants.{Stale, Spent};
+ghost use Rattle.idem_cell.specs.machine_states.specs.body_terms.specs.Act.{IsLogged};
+ghost use Rattle.idem_cell.specs.machine_states.specs.body_terms.specs.Line.{Registers, source_of};
+ghost use Rattle.idem_cell.specs.machine_states.specs.body_terms.specs.Run.{source_value};
+ghost use Rattle.idem_cell.specs.machine_states.specs.body_terms.specs.Word.{version_of};
+ghost use Rattle.idem_cell.specs.machine_states.specs.body_terms.specs.declared.value.Value.TheVariants.{Of};
+ghost use Rattle.idem_cell.specs.machine_states.specs.body_terms.specs.declared.outcome.Outcome.TheVariants.{Stale, Spent};
 ghost use Rattle.nested_lock.specs.Answers.{outcome_by};
 ghost use Rattle.section_runs.specs.Registers.{AreKept, IsSmall};
 ghost use Rattle.section_runs.specs.Takes.{passed_by, words_of};

@@ -3,17 +3,17 @@ use Rattle.std.specs.Prelude.{◌==◌, not, Bool, true, false, if◌then◌else
 use Rattle.std.proofs.Common.{◌≡◌, ◌≢◌, ℕ, ◌+◌, ◌*◌, refl, sym, ◌∙◌, subst, arith, Some}
 use Rattle.machine_states.specs.epoch_core.specs.small_lemmas.proofs.Numbers.{tested_equal, tested_other}
 use Rattle.machine_states.specs.epoch_core.specs.small_lemmas.proofs.Bools.{negated}
-use Rattle.history_orders.specs.map_history.specs.declared.op.Request.{Request}
-use Rattle.history_orders.specs.map_history.specs.declared.reply.Reply.{Reply}
-use Rattle.history_orders.specs.map_history.specs.Words.{word_of, IsReply}
-use Rattle.machine_states.specs.runner_steps.specs.body_terms.specs.Word.{is_free}
-use Rattle.machine_states.specs.runner_steps.specs.body_terms.specs.declared.thunk.Thunk.{Thunk}
-use Rattle.machine_states.specs.runner_steps.specs.table_words.specs.Limits.{IsWithinLimits}
+use Rattle.machine_states.specs.map_history.specs.declared.op.Request.{Request}
+use Rattle.machine_states.specs.map_history.specs.declared.reply.Reply.{Reply}
+use Rattle.machine_states.specs.map_history.specs.Words.{word_of, IsReply}
+use Rattle.machine_states.specs.body_terms.specs.Word.{is_free}
+use Rattle.machine_states.specs.body_terms.specs.declared.thunk.Thunk.{Thunk}
+use Rattle.machine_states.specs.table_words.specs.Limits.{IsWithinLimits}
 use Rattle.caller_facts.specs.section_runs.specs.runner_gate.specs.Asks.{Asks}
 use Rattle.machine_states.specs.structure_laws.specs.Scene.{Readings}
 use Rattle.machine_states.specs.structure_laws.specs.Meaning.{Meaning}
 use Rattle.machine_states.specs.structure_laws.specs.Laws.{Laws}
-use Rattle.machine_states.specs.runner_steps.specs.runner_parts.specs.declared.event.EventKind.TheVariants as kinds
+use Rattle.machine_states.specs.runner_parts.specs.declared.event.EventKind.TheVariants as kinds
 use Rattle.machine_states.specs.runner_steps.specs.Sections.{reply_in}
 use Rattle.caller_facts.specs.version_words.specs.machine_invariant.specs.After.{AreAllowed}
 use Rattle.caller_facts.specs.version_words.specs.RunnerState.{RunnerState}

@@ -2,23 +2,23 @@
 use Rattle.std.specs.Prelude.{true, false, take}
 use Rattle.std.proofs.Common.{◌≡◌, ℕ, ◌+◌, ◌*◌, ◌≤◌, [], ◌∷◌, ◌++◌, length, refl, sym, ap, ◌∙◌, subst, Option, Some, None}
 use Rattle.std.specs.List.{list_all}
-use Rattle.history_orders.specs.map_history.specs.declared.op.Request.{Request}
-use Rattle.machine_states.specs.runner_steps.specs.body_terms.specs.Shape.{is_look, loaded_places}
-use Rattle.machine_states.specs.runner_steps.specs.body_terms.specs.declared.thunk.Thunk.{Thunk}
-use Rattle.machine_states.specs.runner_steps.specs.table_words.specs.declared.layout.Layout.{Layout}
+use Rattle.machine_states.specs.map_history.specs.declared.op.Request.{Request}
+use Rattle.machine_states.specs.body_terms.specs.Shape.{is_look, loaded_places}
+use Rattle.machine_states.specs.body_terms.specs.declared.thunk.Thunk.{Thunk}
+use Rattle.machine_states.specs.table_words.specs.declared.layout.Layout.{Layout}
 use Rattle.caller_facts.specs.section_runs.specs.runner_gate.specs.Asks.{Asks}
 use Rattle.machine_states.specs.structure_laws.specs.Scene.{Readings}
 use Rattle.machine_states.specs.structure_laws.specs.Meaning.{Meaning}
 use Rattle.machine_states.specs.structure_laws.specs.Cells.{slots}
 use Rattle.machine_states.specs.epoch_core.specs.declared.stage.Stage.TheVariants as stages
-use Rattle.machine_states.specs.runner_steps.specs.runner_parts.specs.declared.entries.Look.{Look}
-use Rattle.machine_states.specs.runner_steps.specs.runner_parts.specs.declared.entries.LookStage.TheVariants.{Looked, Replied, Stamped}
-use Rattle.machine_states.specs.runner_steps.specs.runner_parts.specs.declared.event.EventKind.{EventKind}
-use Rattle.machine_states.specs.runner_steps.specs.runner_parts.specs.declared.event.EventKind.TheVariants as kinds
-use Rattle.machine_states.specs.runner_steps.specs.runner_parts.specs.State.{ReadsState}
+use Rattle.machine_states.specs.runner_parts.specs.declared.entries.Look.{Look}
+use Rattle.machine_states.specs.runner_parts.specs.declared.entries.LookStage.TheVariants.{Looked, Replied, Stamped}
+use Rattle.machine_states.specs.runner_parts.specs.declared.event.EventKind.{EventKind}
+use Rattle.machine_states.specs.runner_parts.specs.declared.event.EventKind.TheVariants as kinds
+use Rattle.machine_states.specs.runner_parts.specs.State.{ReadsState}
 use Rattle.machine_states.specs.runner_steps.specs.Reads.{are_of, plan_by, only_loads_after}
 use Rattle.machine_states.specs.runner_steps.specs.After.{after_by}
-use Rattle.machine_states.specs.runner_steps.specs.runner_parts.specs.State.{RunState}
+use Rattle.machine_states.specs.runner_parts.specs.State.{RunState}
 use Rattle.caller_facts.specs.version_words.specs.RunnerState.{RunnerState}
 use Rattle.caller_facts.specs.version_words.specs.TableState.{TableState, IsOf}
 use Rattle.caller_facts.specs.version_words.specs.Events.{Makes}

@@ -7,11 +7,11 @@ use Rattle.std.proofs.lemmas.Bool.Decides.{nat_tests}
 use Rattle.std.proofs.lemmas.List.Quantifiers.{position-Some}
 use Rattle.std.proofs.lemmas.Option.{slice_get-get_or, get_or_from_slice_get}
 use Rattle.machine_states.specs.epoch_core.specs.small_lemmas.proofs.Numbers.{tested_equal as same_of}
-use Rattle.machine_states.specs.runner_steps.specs.body_terms.specs.Shape.{IsStep, is_look, loaded_places}
-use Rattle.machine_states.specs.runner_steps.specs.body_terms.specs.declared.step.Step.{Step}
-use Rattle.machine_states.specs.runner_steps.specs.body_terms.specs.declared.step.Step.TheVariants.{Load, Want, Fresh, Take, Make, Stamp, Store, Retire, Answer}
+use Rattle.machine_states.specs.body_terms.specs.Shape.{IsStep, is_look, loaded_places}
+use Rattle.machine_states.specs.body_terms.specs.declared.step.Step.{Step}
+use Rattle.machine_states.specs.body_terms.specs.declared.step.Step.TheVariants.{Load, Want, Fresh, Take, Make, Stamp, Store, Retire, Answer}
 use Rattle.machine_states.specs.structure_laws.specs.Scene.{Readings}
-use Rattle.machine_states.specs.runner_steps.specs.runner_parts.specs.Tests.{has_pair}
+use Rattle.machine_states.specs.runner_parts.specs.Tests.{has_pair}
 use Rattle.machine_states.specs.runner_steps.specs.Reads.{are_of, is_found, is_met, finds}
 use Rattle.seq_read.specs.Wants.{IsFirstChange, IsUnmet, loads_in, readings_of, cells_of, AreFirst, is_other, is_missed, IsMiss, IsAmong}
 use Rattle.seq_read.specs.declared.cells.Loaded.{Loaded}

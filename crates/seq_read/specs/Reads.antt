@@ -1,17 +1,17 @@
 -- Reads of requests without a lock: what each answer says.
 use Rattle.std.specs.Prelude.{◌≡◌, ◌≢◌, ℕ, ◌+◌, ◌*◌, ◌≤◌, Bool, true, false, not, None, length}
-use Rattle.history_orders.specs.map_history.specs.declared.op.Op.TheVariants.{Get}
-use Rattle.history_orders.specs.map_history.specs.declared.op.Request.{Request}
-use Rattle.history_orders.specs.map_history.specs.declared.reply.Reply.{Reply}
-use Rattle.history_orders.specs.map_history.specs.Words.{word_of}
+use Rattle.machine_states.specs.map_history.specs.declared.op.Op.TheVariants.{Get}
+use Rattle.machine_states.specs.map_history.specs.declared.op.Request.{Request}
+use Rattle.machine_states.specs.map_history.specs.declared.reply.Reply.{Reply}
+use Rattle.machine_states.specs.map_history.specs.Words.{word_of}
 use Rattle.history_orders.specs.Turns.{Follows}
-use Rattle.machine_states.specs.runner_steps.specs.body_terms.specs.declared.thunk.Thunk.{Thunk}
+use Rattle.machine_states.specs.body_terms.specs.declared.thunk.Thunk.{Thunk}
 use Rattle.caller_facts.specs.section_runs.specs.runner_gate.specs.Asks.{Asks, asked_on}
 use Rattle.machine_states.specs.structure_laws.specs.Scene.{Readings}
 use Rattle.machine_states.specs.structure_laws.specs.Meaning.{Meaning}
 use Rattle.machine_states.specs.structure_laws.specs.Cells.{slots}
-use Rattle.machine_states.specs.runner_steps.specs.runner_parts.specs.declared.entries.Known.{Known}
-use Rattle.machine_states.specs.runner_steps.specs.runner_parts.specs.Tests.{is_answered}
+use Rattle.machine_states.specs.runner_parts.specs.declared.entries.Known.{Known}
+use Rattle.machine_states.specs.runner_parts.specs.Tests.{is_answered}
 use Rattle.machine_states.specs.runner_steps.specs.Sections.{reply_in}
 use Rattle.machine_states.specs.Sight.{sight}
 use Rattle.caller_facts.specs.version_words.specs.RunnerState.{RunnerState}

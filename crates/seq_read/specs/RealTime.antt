@@ -1,7 +1,7 @@
 -- The order in time: a read's stamp, and what was answered as the read began.
 use Rattle.std.specs.Prelude.{◌≢◌, ℕ}
 use Rattle.history_orders.specs.Turns.{Follows}
-use Rattle.machine_states.specs.runner_steps.specs.table_words.specs.declared.spot.Spot.TheVariants.{Stamp, Reply}
+use Rattle.machine_states.specs.table_words.specs.declared.spot.Spot.TheVariants.{Stamp, Reply}
 use Rattle.machine_states.specs.structure_laws.specs.Meaning.{Meaning}
 use Rattle.machine_states.specs.Sight.{sight}
 use Rattle.caller_facts.specs.request_facts.specs.reached_histories.specs.RealTime.{LeadsTo}

@@ -1,9 +1,9 @@
 -- What a read finds in the cells that a body loads.
 use Rattle.std.specs.Prelude.{◌≡◌, ◌≢◌, ℕ, ◌<◌, List, [], ◌∷◌, Bool, true, false, not, ◌==◌, ◌&&◌, map, take, length, slice_get, Some}
 use Rattle.std.specs.List.{list_any}
-use Rattle.machine_states.specs.runner_steps.specs.body_terms.specs.Shape.{IsStep, is_look}
-use Rattle.machine_states.specs.runner_steps.specs.body_terms.specs.declared.step.Step.{Step}
-use Rattle.machine_states.specs.runner_steps.specs.body_terms.specs.declared.step.Step.TheVariants.{Load, Want}
+use Rattle.machine_states.specs.body_terms.specs.Shape.{IsStep, is_look}
+use Rattle.machine_states.specs.body_terms.specs.declared.step.Step.{Step}
+use Rattle.machine_states.specs.body_terms.specs.declared.step.Step.TheVariants.{Load, Want}
 use Rattle.machine_states.specs.structure_laws.specs.Scene.{Readings}
 use Rattle.caller_facts.specs.Asking.{WasRead}
 use Rattle.seq_read.specs.declared.cells.Loaded.{Loaded}

@@ -1,7 +1,7 @@
 //! What a read of a request answers.
 
-use history_orders::map_history::Reply;
-use machine_states::runner_steps::body_terms::{Place, Word};
+use machine_states::body_terms::{Place, Word};
+use machine_states::map_history::Reply;
 
 /// What one read of a request without a lock came to.
 #[derive(Clone, Copy, Debug, PartialEq, Eq)]

@@ -1,9 +1,9 @@
 //! What a read asks of a body.
 ghost use Rattle.std.specs.Prelude.{◌≡◌, position, not};
-ghost use Rattle.machine_states.specs.runner_steps.specs.body_terms.specs.Shape.{is_look, IsShaped};
+ghost use Rattle.machine_states.specs.body_terms.specs.Shape.{is_look, IsShaped};
 ghost use Rattle.machine_states.specs.runner_steps.specs.Sections.{reply_in};
 
-use machine_states::runner_steps::body_terms::Step;
+use machine_states::body_terms::Step;
 
 /// Whether this step changes nothing: it loads a cell, tests what was loaded, or is the stamp or the answer.
 fn looks(step: &Step) -> bool

@@ -1,7 +1,7 @@
 //! The loads of the cells that a body loads.
 ghost use Rattle.std.specs.Prelude.{◌≡◌, [], length};
-ghost use Rattle.history_orders.specs.map_history.specs.declared.op.Request.{Request};
-ghost use Rattle.machine_states.specs.runner_steps.specs.body_terms.specs.declared.thunk.Thunk.{Thunk};
+ghost use Rattle.machine_states.specs.map_history.specs.declared.op.Request.{Request};
+ghost use Rattle.machine_states.specs.body_terms.specs.declared.thunk.Thunk.{Thunk};
 ghost use Rattle.machine_states.specs.structure_laws.specs.Scene.{Readings};
 ghost use Rattle.caller_facts.specs.version_words.specs.RunnerState.{RunnerState};
 ghost use Rattle.caller_facts.specs.version_words.specs.TableState.{IsOf};
@@ -13,7 +13,7 @@ use arrayvec::ArrayVec;
 use caller_facts::lock_walks::version_words::{FlockTable, Runner};
 use caller_facts::runner_gate::Gate;
 use caller_facts::try_lock::commit_log::passes;
-use machine_states::runner_steps::body_terms::{Place, Step, StepKind, Steps};
+use machine_states::body_terms::{Place, Step, StepKind, Steps};
 use machine_states::structure_laws::Structure;
 
 /// A cell that was loaded: its place, the register into which the body loads it, and the word that was found.

@@ -1,8 +1,8 @@
 //! What confirms that the cells held at one time what was loaded, and the two words that the read writes then.
 ghost use Rattle.std.specs.Prelude.{◌≡◌, ℕ, Some};
-ghost use Rattle.history_orders.specs.map_history.specs.declared.op.Request.{Request};
+ghost use Rattle.machine_states.specs.map_history.specs.declared.op.Request.{Request};
 ghost use Rattle.machine_states.specs.structure_laws.specs.Scene.{Readings};
-ghost use Rattle.machine_states.specs.runner_steps.specs.runner_parts.specs.declared.event.EventKind.TheVariants as kinds;
+ghost use Rattle.machine_states.specs.runner_parts.specs.declared.event.EventKind.TheVariants as kinds;
 ghost use Rattle.machine_states.specs.runner_steps.specs.Reads.{read_stamp_after};
 ghost use Rattle.machine_states.specs.runner_steps.specs.Sections.{reply_in};
 ghost use Rattle.caller_facts.specs.version_words.specs.RunnerState.{RunnerState};
@@ -15,7 +15,7 @@ ghost use Rattle.seq_read.specs.Course.{HasFound, HasAnnounced, HasClock, HasLoc
 use caller_facts::lock_walks::version_words::{FlockTable, Runner};
 use caller_facts::runner_gate::Gate;
 use caller_facts::try_lock::commit_log::passes;
-use machine_states::runner_steps::body_terms::{StepKind, Steps, Thunk, Word};
+use machine_states::body_terms::{StepKind, Steps, Thunk, Word};
 use machine_states::structure_laws::Structure;
 use next_steps::looks_are_small;
 

@@ -24,8 +24,8 @@ use caller_facts::lock_walks::epoch_slots::{enter, exit};
 use caller_facts::lock_walks::version_words::{FlockTable, RunRoom, Runner};
 use caller_facts::runner_gate::Gate;
 use caller_facts::try_lock::Planned;
-use history_orders::map_history::{Reply, Request};
-use machine_states::runner_steps::body_terms::{Body, Step, StepKind, Steps, Thunk};
+use machine_states::body_terms::{Body, Step, StepKind, Steps, Thunk};
+use machine_states::map_history::{Reply, Request};
 use next_steps::looks_are_small;
 
 /// Writes both words of the request, whose lock had its word again behind the load of the clock, and leaves.

@@ -4,7 +4,7 @@ ghost use Rattle.seq_read.specs.Course.{of_plan, of_lock};
 
 use crate::answers::Read;
 use caller_facts::try_lock::Planned;
-use machine_states::runner_steps::body_terms::{Thunk, Word};
+use machine_states::body_terms::{Thunk, Word};
 
 /// A refused plan as a read's answer.
 pub fn plan_refused(planned: Planned) -> Read

@@ -1,11 +1,11 @@
 //! What a body wants of the cells that it loads.
 ghost use Rattle.std.specs.Prelude.{◌≡◌, Some, None, false, position, IfSome};
 ghost use Rattle.std.specs.List.{list_any};
-ghost use Rattle.machine_states.specs.runner_steps.specs.body_terms.specs.declared.step.Step.{Step as Action};
+ghost use Rattle.machine_states.specs.body_terms.specs.declared.step.Step.{Step as Action};
 ghost use Rattle.seq_read.specs.Wants.{is_other, is_missed, IsMiss, IsAmong};
 
 use crate::cells::Loaded;
-use machine_states::runner_steps::body_terms::{Place, Step, Word};
+use machine_states::body_terms::{Place, Step, Word};
 
 /// A word that a body wants, and another one that was found at its place.
 #[derive(Clone, Copy, Debug, PartialEq, Eq)]

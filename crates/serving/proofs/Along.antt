@@ -4,14 +4,14 @@ use Rattle.std.proofs.Common.{◌≡◌, ◌≢◌, ℕ, ◌+◌, ◌*◌, ◌<�
 use Rattle.std.proofs.lemmas.Bool.{cases_eq, eq-eqb}
 use Rattle.std.proofs.lemmas.Bool.Decides.{nat_tests}
 use Rattle.std.proofs.lemmas.Option.{slice_get_within}
-use Rattle.machine_states.specs.runner_steps.specs.map_history.specs.declared.op.Request.{Request}
-use Rattle.machine_states.specs.runner_steps.specs.map_history.specs.declared.reply.Reply.{Reply}
-use Rattle.machine_states.specs.runner_steps.specs.map_history.specs.Requests.{AreInOrder}
-use Rattle.machine_states.specs.runner_steps.specs.table_words.specs.Limits.{IsWithinLimits}
+use Rattle.machine_states.specs.map_history.specs.declared.op.Request.{Request}
+use Rattle.machine_states.specs.map_history.specs.declared.reply.Reply.{Reply}
+use Rattle.machine_states.specs.map_history.specs.Requests.{AreInOrder}
+use Rattle.machine_states.specs.table_words.specs.Limits.{IsWithinLimits}
 use Rattle.machine_states.specs.structure_laws.specs.Meaning.{Meaning}
 use Rattle.machine_states.specs.structure_laws.specs.Laws.{Laws}
-use Rattle.machine_states.specs.runner_steps.specs.runner_parts.specs.declared.entries.Known.{Known}
-use Rattle.machine_states.specs.runner_steps.specs.runner_parts.specs.Tests.{is_answered, are_answered}
+use Rattle.machine_states.specs.runner_parts.specs.declared.entries.Known.{Known}
+use Rattle.machine_states.specs.runner_parts.specs.Tests.{is_answered, are_answered}
 use Rattle.machine_states.proofs.Steps.{some_same, none_some}
 use Rattle.attempt_bounds.specs.version_words.specs.machine_invariant.specs.After.{AreAllowed}
 use Rattle.attempt_bounds.specs.attempts.specs.commit_log.proofs.Asked.{asked_on_more}
@@ -22,7 +22,7 @@ use Rattle.attempt_bounds.specs.attempts.specs.epoch_slots.specs.declared.reserv
 use Rattle.attempt_bounds.specs.attempts.specs.try_lock.specs.Planning.{Planning}
 use Rattle.attempt_bounds.specs.attempts.specs.try_lock.specs.Reached.{IsReached}
 use Rattle.attempt_bounds.specs.attempts.specs.request_facts.specs.Laws.{HasEntry}
-use Rattle.machine_states.specs.runner_steps.specs.body_terms.specs.Counted.{counted_on}
+use Rattle.machine_states.specs.body_terms.specs.Counted.{counted_on}
 use Rattle.runner_gate.specs.Asks.{Asks, asked_on}
 use Rattle.attempt_bounds.specs.attempts.specs.Knowing.{KnowsMore, IsOwn}
 use Rattle.attempt_bounds.specs.attempts.specs.Course.{MayAttempt}

@@ -2,12 +2,12 @@
 use Rattle.std.specs.Prelude.{true, false, slice_get}
 use Rattle.std.proofs.Common.{◌≡◌, ℕ, List, refl, sym, ap, ◌∙◌}
 use Rattle.std.proofs.lemmas.Bool.{and_parts}
-use Rattle.machine_states.specs.runner_steps.specs.table_words.specs.Limits.{IsWithinLimits}
+use Rattle.machine_states.specs.table_words.specs.Limits.{IsWithinLimits}
 use Rattle.machine_states.specs.structure_laws.specs.Meaning.{Meaning}
 use Rattle.machine_states.specs.structure_laws.specs.Laws.{Laws}
-use Rattle.machine_states.specs.runner_steps.specs.runner_parts.specs.declared.entries.Known.{Known}
-use Rattle.machine_states.specs.runner_steps.specs.runner_parts.specs.State.{PartState}
-use Rattle.machine_states.specs.runner_steps.specs.runner_parts.specs.Tests.{is_answered}
+use Rattle.machine_states.specs.runner_parts.specs.declared.entries.Known.{Known}
+use Rattle.machine_states.specs.runner_parts.specs.State.{PartState}
+use Rattle.machine_states.specs.runner_parts.specs.Tests.{is_answered}
 use Rattle.machine_states.specs.runner_steps.specs.Outside.{entry_spot}
 use Rattle.machine_states.specs.Sight.{sight, part_or_first}
 use Rattle.attempt_bounds.specs.version_words.specs.machine_invariant.specs.After.{AreAllowed}

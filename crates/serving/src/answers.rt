@@ -1,7 +1,7 @@
 //! What the serving of a list of requests answers.
 
 use attempt_bounds::attempts::epoch_slots::Short;
-use machine_states::runner_steps::body_terms::{Place, Word};
+use machine_states::body_terms::{Place, Word};
 
 /// What the serving of a list of requests came to. Where it stopped, it stopped at the request behind those that are
 /// served, and the others behind that one weren't attempted.

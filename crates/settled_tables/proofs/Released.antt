@@ -1,15 +1,15 @@
 -- The words of a table that its keeper has settled, and what became of the sections of a run.
 use Rattle.std.proofs.Common.{◌≡◌, ℕ, suc, ◌<◌, Bool, refl, sym, ap, ◌∙◌, subst, eq-eqb, if◌then◌else◌, arith}
 use Rattle.std.specs.Prelude.{slice_get, IsSome, List}
-use Rattle.machine_states.specs.runner_steps.specs.map_history.specs.declared.op.Request.{Request}
-use Rattle.machine_states.specs.runner_steps.specs.body_terms.specs.Word.{value_of}
-use Rattle.machine_states.specs.runner_steps.specs.table_words.specs.declared.layout.Layout.{Layout}
-use Rattle.machine_states.specs.runner_steps.specs.table_words.specs.declared.spot.Spot.TheVariants.{Cell}
-use Rattle.machine_states.specs.runner_steps.specs.table_words.specs.Limits.{IsWithinLimits}
+use Rattle.machine_states.specs.map_history.specs.declared.op.Request.{Request}
+use Rattle.machine_states.specs.body_terms.specs.Word.{value_of}
+use Rattle.machine_states.specs.table_words.specs.declared.layout.Layout.{Layout}
+use Rattle.machine_states.specs.table_words.specs.declared.spot.Spot.TheVariants.{Cell}
+use Rattle.machine_states.specs.table_words.specs.Limits.{IsWithinLimits}
 use Rattle.machine_states.specs.structure_laws.specs.Meaning.{Meaning}
 use Rattle.machine_states.specs.structure_laws.specs.Laws.{Laws}
 use Rattle.machine_states.specs.runner_steps.specs.Asks.{sizes_for}
-use Rattle.machine_states.specs.runner_steps.specs.table_words.specs.Seen.{seen}
+use Rattle.machine_states.specs.table_words.specs.Seen.{seen}
 use Rattle.machine_states.specs.World.{seat_of}
 use Rattle.machine_states.specs.Reached.{Reached}
 use Rattle.machine_states.specs.Sight.{sight}

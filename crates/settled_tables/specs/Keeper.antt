@@ -2,7 +2,7 @@
 use Rattle.std.specs.Prelude.{◌≡◌, ℕ, ◌<◌, [], true, false, None}
 use Rattle.machine_states.specs.structure_laws.specs.Meaning.{Meaning}
 use Rattle.machine_states.specs.epoch_core.specs.declared.stage.Stage.TheVariants as stages
-use Rattle.machine_states.specs.runner_steps.specs.runner_parts.specs.Tests.{has}
+use Rattle.machine_states.specs.runner_parts.specs.Tests.{has}
 use Rattle.machine_states.specs.First.{keeper_part}
 use Rattle.closed_words.specs.version_words.specs.RunnerState.{RunnerState}
 use Rattle.closed_words.specs.version_words.specs.Stages.{IsAt, IsKeeper, HasJoined}

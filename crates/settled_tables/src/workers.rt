@@ -1,15 +1,15 @@
 //! The workers of a run, given out before it and taken back behind it.
 ghost use Rattle.std.specs.Prelude.{◌≡◌, ◌+◌, ◌<◌, IfOk, vec_len};
-ghost use Rattle.machine_states.specs.runner_steps.specs.map_history.specs.Requests.{AreInOrder};
-ghost use Rattle.machine_states.specs.runner_steps.specs.table_words.specs.Limits.{IsWithinLimits};
+ghost use Rattle.machine_states.specs.map_history.specs.Requests.{AreInOrder};
+ghost use Rattle.machine_states.specs.table_words.specs.Limits.{IsWithinLimits};
 ghost use Rattle.closed_words.specs.version_words.specs.TableState.{IsOf, IsNew};
 ghost use Rattle.settled_tables.specs.Keeper.{IsIdleKeeper};
 ghost use Rattle.settled_tables.specs.Seats.{IsNewWorker, AreNewWorkers, AreBack, AreReports};
 
 use closed_words::version_words::{FlockTable, Runner};
-use machine_states::runner_steps::map_history::Request;
-use machine_states::runner_steps::table_words::Layout;
+use machine_states::map_history::Request;
 use machine_states::structure_laws::Structure;
+use machine_states::table_words::Layout;
 use std::alloc::{AllocError, Global};
 
 /// The keeper, and the next worker. The Err is want of memory.

@@ -1,24 +1,24 @@
 -- Along the keeper's way it keeps whom it has joined, and the record of what its steps left grows.
 use Rattle.std.specs.Prelude.{◌==◌, ◌||◌, Bool, true, false, if◌then◌else◌}
 use Rattle.std.proofs.Common.{◌≡◌, ℕ, zero, suc, List, [], ◌∷◌, ◌++◌, append-nil, append_assoc, refl, sym, ap, ◌∙◌, subst}
-use Rattle.machine_states.specs.runner_steps.specs.body_terms.specs.declared.micro.Micro.{Micro}
-use Rattle.machine_states.specs.runner_steps.specs.body_terms.specs.declared.micro.Micro.TheVariants as micros
-use Rattle.machine_states.specs.runner_steps.specs.table_words.specs.declared.layout.Layout.{Layout}
-use Rattle.machine_states.specs.runner_steps.specs.table_words.specs.declared.spot.Spot.{Spot}
-use Rattle.machine_states.specs.runner_steps.specs.table_words.specs.declared.access.Access.{Access}
-use Rattle.machine_states.specs.runner_steps.specs.table_words.specs.Access.{written}
+use Rattle.machine_states.specs.body_terms.specs.declared.micro.Micro.{Micro}
+use Rattle.machine_states.specs.body_terms.specs.declared.micro.Micro.TheVariants as micros
+use Rattle.machine_states.specs.table_words.specs.declared.layout.Layout.{Layout}
+use Rattle.machine_states.specs.table_words.specs.declared.spot.Spot.{Spot}
+use Rattle.machine_states.specs.table_words.specs.declared.access.Access.{Access}
+use Rattle.machine_states.specs.table_words.specs.Access.{written}
 use Rattle.machine_states.specs.structure_laws.specs.Meaning.{Meaning}
-use Rattle.machine_states.specs.runner_steps.specs.runner_parts.specs.declared.entries.Left.{Left}
-use Rattle.machine_states.specs.runner_steps.specs.runner_parts.specs.declared.event.EventKind.{EventKind}
-use Rattle.machine_states.specs.runner_steps.specs.runner_parts.specs.declared.event.EventKind.TheVariants as kinds
-use Rattle.machine_states.specs.runner_steps.specs.runner_parts.specs.State.{RunState, ReadsState, RecordsState, PartState}
+use Rattle.machine_states.specs.runner_parts.specs.declared.entries.Left.{Left}
+use Rattle.machine_states.specs.runner_parts.specs.declared.event.EventKind.{EventKind}
+use Rattle.machine_states.specs.runner_parts.specs.declared.event.EventKind.TheVariants as kinds
+use Rattle.machine_states.specs.runner_parts.specs.State.{RunState, ReadsState, RecordsState, PartState}
 use Rattle.machine_states.specs.runner_steps.specs.After.{after_by, left_more, is_late_join, noted}
 use Rattle.machine_states.specs.World.{is_join}
 use Rattle.keeper_facts.specs.runner_facts.specs.next_steps.specs.Steps.{kind_at}
 use Rattle.keeper_facts.specs.runner_facts.specs.next_steps.specs.Stages.{reads_behind}
-use Rattle.machine_states.specs.runner_steps.specs.body_terms.specs.Run.{written_once}
-use Rattle.machine_states.specs.runner_steps.specs.runner_parts.specs.Lists.{holds_named, lock_agreed}
-use Rattle.machine_states.specs.runner_steps.specs.runner_parts.specs.Tests.{has}
+use Rattle.machine_states.specs.body_terms.specs.Run.{written_once}
+use Rattle.machine_states.specs.runner_parts.specs.Lists.{holds_named, lock_agreed}
+use Rattle.machine_states.specs.runner_parts.specs.Tests.{has}
 use Rattle.keeper_facts.proofs.Keeping.{after_keeps, noted_joined}
 use Rattle.machine_states.proofs.Marks.{stays}
 use Rattle.try_lock.specs.commit_log.specs.version_words.specs.RunnerState.{RunnerState}

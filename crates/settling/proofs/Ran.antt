@@ -1,8 +1,8 @@
 -- A run under a gate that never halts comes to its end.
 use Rattle.std.proofs.Common.{◌≡◌, refl, arith}
 use Rattle.fault_count.specs.Rose.{Rose}
-use Rattle.machine_states.specs.runner_steps.specs.body_terms.specs.Trail.{Agreed}
-use Rattle.machine_states.specs.runner_steps.specs.body_terms.specs.declared.outcome.Outcome.{Outcome}
+use Rattle.machine_states.specs.body_terms.specs.Trail.{Agreed}
+use Rattle.machine_states.specs.body_terms.specs.declared.outcome.Outcome.{Outcome}
 use Rattle.try_lock.specs.section_runs.specs.declared.runs.RunEnd.{RunEnd}
 use Rattle.try_lock.specs.section_runs.specs.declared.runs.RunEnd.TheVariants.{Done, Halted}
 

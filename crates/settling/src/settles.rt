@@ -1,14 +1,14 @@
 //! The locks of a table whose workers have stopped are released.
 ghost use Rattle.std.specs.Prelude.{◌≡◌, ℕ, ◌+◌, ◌-◌, ◌<◌, true, length};
-ghost use Rattle.machine_states.specs.runner_steps.specs.table_words.specs.Limits.{IsWithinLimits};
-ghost use Rattle.machine_states.specs.runner_steps.specs.body_terms.specs.Word.{value_of};
+ghost use Rattle.machine_states.specs.table_words.specs.Limits.{IsWithinLimits};
+ghost use Rattle.machine_states.specs.body_terms.specs.Word.{value_of};
 ghost use Rattle.try_lock.specs.commit_log.specs.version_words.specs.TableState.{IsOf};
 ghost use Rattle.try_lock.specs.Reached.{MayHelp};
 ghost use Rattle.settling.specs.Settled.{MaySettle, Settles};
 ghost use Rattle.settling.specs.Clearing.{cell_count, KeepsJoins, IsClearing, HasRun};
 
 use keeper_facts::what_the_keeper_saw_tells;
-use machine_states::runner_steps::body_terms::{Place, Steps, Word};
+use machine_states::body_terms::{Place, Steps, Word};
 use machine_states::structure_laws::Structure;
 use try_lock::commit_log::version_words::{FlockTable, Runner};
 use try_lock::epoch_slots::{enter, exit};

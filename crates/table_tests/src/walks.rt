@@ -7,17 +7,17 @@ ghost use Rattle.machine_states.specs.structure_laws.specs.Tray.{tray};
 ghost use Rattle.machine_states.specs.First.{worker_part};
 ghost use Rattle.version_words.specs.TableState.{IsOf};
 ghost use Rattle.version_words.specs.Events.{start_of};
-ghost use Rattle.machine_states.specs.runner_steps.specs.table_words.specs.Limits.{IsWithinLimits};
-ghost use Rattle.machine_states.specs.runner_steps.specs.table_words.specs.Places.{descriptor_count};
+ghost use Rattle.machine_states.specs.table_words.specs.Limits.{IsWithinLimits};
+ghost use Rattle.machine_states.specs.table_words.specs.Places.{descriptor_count};
 ghost use Rattle.table_tests.specs.Slots.{slot_of};
 ghost use Rattle.version_words.specs.Stages.{IsAt, IsKeeper, HasJoined, HasFree};
 
 use interleave_core::Tray;
+use machine_states::body_terms::{Place, Word};
 use machine_states::epoch_core::LAST_EPOCH;
-use machine_states::runner_steps::body_terms::{Place, Word};
-use machine_states::runner_steps::map_history::{Op, Request};
+use machine_states::map_history::{Op, Request};
 use machine_states::runner_steps::slot_count;
-use machine_states::runner_steps::table_words::Layout;
+use machine_states::table_words::Layout;
 use std::alloc::{AllocError, Global};
 use version_words::{FlockTable, Runner, Words};
 

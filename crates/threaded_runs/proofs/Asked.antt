@@ -7,7 +7,7 @@ use Rattle.std.proofs.lemmas.List.{take_more, take_all}
 use Rattle.std.proofs.lemmas.List.Sums.{sum_by-cons}
 use Rattle.std.proofs.lemmas.Bool.{true≢false}
 use Rattle.machine_states.specs.epoch_core.specs.small_lemmas.proofs.Numbers.{last_or_before, self_tested}
-use Rattle.machine_states.specs.runner_steps.specs.body_terms.specs.Counted.{counted_on}
+use Rattle.machine_states.specs.body_terms.specs.Counted.{counted_on}
 use Rattle.settled_tables.specs.settling.specs.runner_gate.specs.Asks.{Asks}
 use Rattle.free_serving.specs.serving.specs.declared.answers.Served.{Served}
 use Rattle.free_serving.specs.serving.specs.declared.answers.Served.TheVariants as stops

@@ -6,23 +6,23 @@ use native.Mathlib.Decide.{ℕ_discrete}
 use Rattle.std.proofs.lemmas.Bool.{cases_lt}
 use Rattle.std.proofs.lemmas.Option.{slice_get_within}
 use Rattle.machine_states.specs.epoch_core.specs.small_lemmas.proofs.Bools.{from_both as true_false}
-use Rattle.machine_states.specs.runner_steps.specs.map_history.specs.declared.op.Request.{Request}
-use Rattle.machine_states.specs.runner_steps.specs.table_words.specs.declared.layout.Layout.{Layout}
-use Rattle.machine_states.specs.runner_steps.specs.table_words.specs.declared.spot.Spot.{Spot}
-use Rattle.machine_states.specs.runner_steps.specs.table_words.specs.declared.spot.Spot.TheVariants.{Cell, Stamp, DoneWord}
-use Rattle.machine_states.specs.runner_steps.specs.table_words.specs.Seen.{seen}
+use Rattle.machine_states.specs.map_history.specs.declared.op.Request.{Request}
+use Rattle.machine_states.specs.table_words.specs.declared.layout.Layout.{Layout}
+use Rattle.machine_states.specs.table_words.specs.declared.spot.Spot.{Spot}
+use Rattle.machine_states.specs.table_words.specs.declared.spot.Spot.TheVariants.{Cell, Stamp, DoneWord}
+use Rattle.machine_states.specs.table_words.specs.Seen.{seen}
 use Rattle.machine_states.specs.structure_laws.specs.Cells as cells
 use Rattle.machine_states.specs.structure_laws.specs.Meaning.{Meaning}
-use Rattle.machine_states.specs.runner_steps.specs.runner_parts.specs.declared.entries.Known.{Known}
-use Rattle.machine_states.specs.runner_steps.specs.runner_parts.specs.declared.entries.Published.{Published}
-use Rattle.machine_states.specs.runner_steps.specs.runner_parts.specs.State.{PartState}
-use Rattle.machine_states.specs.runner_steps.specs.runner_parts.specs.Tests.{has, has_pair, is_answered}
+use Rattle.machine_states.specs.runner_parts.specs.declared.entries.Known.{Known}
+use Rattle.machine_states.specs.runner_parts.specs.declared.entries.Published.{Published}
+use Rattle.machine_states.specs.runner_parts.specs.State.{PartState}
+use Rattle.machine_states.specs.runner_parts.specs.Tests.{has, has_pair, is_answered}
 use Rattle.machine_states.specs.runner_steps.specs.Asks.{sizes_for}
 use Rattle.machine_states.specs.runner_steps.specs.After.{leaves}
 use Rattle.machine_states.specs.Sight.{Sight, sight, part_or_first}
 use Rattle.machine_states.proofs.Steps.{some_same, none_some}
 use Rattle.reached_facts.specs.request_facts.specs.reached_histories.specs.Requests.{requests_of, or_none}
-use Rattle.machine_states.specs.runner_steps.specs.runner_parts.specs.Lists.{entry_count}
+use Rattle.machine_states.specs.runner_parts.specs.Lists.{entry_count}
 use Rattle.version_words.specs.machine_invariant.specs.Lengths.{ListsAreShort}
 use Rattle.settled_tables.specs.settling.specs.runner_gate.specs.Asks.{Asks}
 use Rattle.reached_facts.specs.keeper_facts.specs.runner_facts.specs.Own.{HasOwn, OwnStand}
@@ -52,8 +52,8 @@ use Rattle.threaded_runs.specs.Counts.{halted}
 use Rattle.threaded_runs.proofs.Picked.{front_only}
 use Rattle.threaded_runs.proofs.Stopping.{IsKeptSpent, kept_spent}
 use mathlib.Core.Path.{fun_ext}
-use Rattle.machine_states.specs.runner_steps.specs.body_terms.specs.Memory.{cell_of}
-use Rattle.machine_states.specs.runner_steps.specs.body_terms.specs.Word.{version_of}
+use Rattle.machine_states.specs.body_terms.specs.Memory.{cell_of}
+use Rattle.machine_states.specs.body_terms.specs.Word.{version_of}
 use Rattle.machine_states.proofs.Sights.{some_none}
 
 -- what is above another one comes behind it

@@ -1,12 +1,12 @@
 -- What a worker keeps of the word at which it stopped, since too few versions were left behind it.
 use Rattle.std.specs.Prelude.{◌⊎◌, true, slice_get}
 use Rattle.std.proofs.Common.{◌≡◌, ℕ, ap, ◌∙◌, inl, inr, Some}
-use Rattle.machine_states.specs.runner_steps.specs.map_history.specs.declared.op.Request.{Request}
-use Rattle.machine_states.specs.runner_steps.specs.body_terms.specs.Word.{is_free}
-use Rattle.machine_states.specs.runner_steps.specs.body_terms.specs.declared.outcome.Outcome.TheVariants as outcomes
+use Rattle.machine_states.specs.map_history.specs.declared.op.Request.{Request}
+use Rattle.machine_states.specs.body_terms.specs.Word.{is_free}
+use Rattle.machine_states.specs.body_terms.specs.declared.outcome.Outcome.TheVariants as outcomes
 use Rattle.machine_states.specs.structure_laws.specs.Meaning.{Meaning}
-use Rattle.machine_states.specs.runner_steps.specs.runner_parts.specs.State.{FinishedState}
-use Rattle.machine_states.specs.runner_steps.specs.runner_parts.specs.Tests.{has_pair}
+use Rattle.machine_states.specs.runner_parts.specs.State.{FinishedState}
+use Rattle.machine_states.specs.runner_parts.specs.Tests.{has_pair}
 use Rattle.version_words.specs.RunnerState.{RunnerState}
 use Rattle.settled_tables.specs.settling.specs.try_lock.specs.Planning.{Planning}
 use Rattle.free_serving.specs.serving.specs.attempts.specs.Course.{IsRefused}

@@ -1,6 +1,6 @@
 -- Whose gates come back from a run, and what each has counted.
 use Rattle.std.specs.Prelude.{◌≡◌, ◌≢◌, ℕ, Bool, ◌-◌, ◌*◌, ◌^◌, ◌<◌, ◌≤◌, ◌==◌, min, not, count_by, List, [], ◌∷◌, length, Option, None, Some, slice_index_or}
-use Rattle.machine_states.specs.runner_steps.specs.map_history.specs.declared.op.Request.{Request}
+use Rattle.machine_states.specs.map_history.specs.declared.op.Request.{Request}
 use Rattle.machine_states.specs.structure_laws.specs.Meaning.{Meaning}
 use Rattle.settled_tables.specs.settling.specs.runner_gate.specs.Asks.{Asks}
 use Rattle.settled_tables.specs.settling.specs.runner_gate.specs.Counts.{plus}

@@ -1,11 +1,11 @@
 -- What a run leaves where there is one worker.
 use Rattle.std.specs.Prelude.{◌≡◌, ◌≢◌, ℕ, ◌+◌, ◌*◌, ◌%◌, ◌≤◌, ◌⊎◌, Bool, true, List, length, Some, slice_get}
-use Rattle.machine_states.specs.runner_steps.specs.map_history.specs.declared.op.Op.TheVariants.{Get}
-use Rattle.machine_states.specs.runner_steps.specs.map_history.specs.declared.op.Request.{Request}
+use Rattle.machine_states.specs.map_history.specs.declared.op.Op.TheVariants.{Get}
+use Rattle.machine_states.specs.map_history.specs.declared.op.Request.{Request}
 use Rattle.map_sizes.specs.Sizes.{peak}
-use Rattle.machine_states.specs.runner_steps.specs.body_terms.specs.Word.{version_of, is_free, is_spent}
-use Rattle.machine_states.specs.runner_steps.specs.table_words.specs.declared.layout.Layout.{Layout}
-use Rattle.machine_states.specs.runner_steps.specs.table_words.specs.declared.spot.Spot.TheVariants.{Cell}
+use Rattle.machine_states.specs.body_terms.specs.Word.{version_of, is_free, is_spent}
+use Rattle.machine_states.specs.table_words.specs.declared.layout.Layout.{Layout}
+use Rattle.machine_states.specs.table_words.specs.declared.spot.Spot.TheVariants.{Cell}
 use Rattle.machine_states.specs.structure_laws.specs.Meaning.{Meaning}
 use Rattle.machine_states.specs.World.{World}
 use Rattle.machine_states.specs.Reached.{Reached}

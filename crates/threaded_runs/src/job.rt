@@ -1,7 +1,7 @@
 //! What goes into a worker's thread, and what comes out of it.
 
 use free_serving::serving::Served;
-use machine_states::runner_steps::map_history::Request;
+use machine_states::map_history::Request;
 use machine_states::structure_laws::Structure;
 use version_words::Runner;
 

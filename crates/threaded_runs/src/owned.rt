@@ -2,7 +2,7 @@
 ghost use Rattle.std.specs.Prelude.{◌≡◌, ◌<◌, IfOk};
 ghost use Rattle.threaded_runs.specs.Own.{own_requests};
 
-use machine_states::runner_steps::map_history::Request;
+use machine_states::map_history::Request;
 use std::alloc::{AllocError, Global};
 
 /// The requests of the worker with this number among so many, in a list of their own.

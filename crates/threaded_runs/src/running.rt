@@ -5,7 +5,7 @@ ghost use Rattle.threaded_runs.specs.Jobs.{MayRun, HasRun, AllRun};
 use crate::job::{Finished, Job};
 use free_serving::serve_freely;
 use lone_reads::seq_read::lock_walks::Planner;
-use machine_states::runner_steps::body_terms::Steps;
+use machine_states::body_terms::Steps;
 use settled_tables::settling::runner_gate::Gate;
 use std::alloc::AllocError;
 use std::sync::Wait;

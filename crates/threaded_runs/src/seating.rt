@@ -1,6 +1,6 @@
 //! The workers and their gates, given out before the run and taken back behind it.
 ghost use Rattle.std.specs.Prelude.{◌≡◌, ◌+◌, ◌<◌, ◌≤◌, IfOk, OnErr, All, List, [], true, length, vec_len};
-ghost use Rattle.machine_states.specs.runner_steps.specs.map_history.specs.Requests.{AreInOrder};
+ghost use Rattle.machine_states.specs.map_history.specs.Requests.{AreInOrder};
 ghost use Rattle.version_words.specs.TableState.{IsOf};
 ghost use Rattle.settled_tables.specs.Keeper.{IsIdleKeeper};
 ghost use Rattle.threaded_runs.specs.Counts.{halts_counted, plans_given, plans_from, returns_counted, GivesFront};
@@ -10,7 +10,7 @@ use crate::job::{Finished, Job};
 use crate::owned::requests_of;
 use free_serving::serving::Served;
 use lone_reads::seq_read::lock_walks::Planner;
-use machine_states::runner_steps::map_history::Request;
+use machine_states::map_history::Request;
 use settled_tables::settling::runner_gate::{Gate, Gates};
 use std::alloc::{AllocError, Global};
 use version_words::{FlockTable, Runner};

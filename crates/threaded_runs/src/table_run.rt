@@ -1,7 +1,7 @@
 //! The whole run of a table.
 ghost use Rattle.std.specs.Prelude.{◌≡◌, IfOk, OnErr, All, [], true, length};
-ghost use Rattle.machine_states.specs.runner_steps.specs.map_history.specs.Requests.{AreInOrder};
-ghost use Rattle.machine_states.specs.runner_steps.specs.table_words.specs.Limits.{IsWithinLimits};
+ghost use Rattle.machine_states.specs.map_history.specs.Requests.{AreInOrder};
+ghost use Rattle.machine_states.specs.table_words.specs.Limits.{IsWithinLimits};
 ghost use Rattle.threaded_runs.specs.Counts.{halts_counted, plans_given, plans_from, returns_counted, GivesFront};
 ghost use Rattle.threaded_runs.specs.Asks.{AreAsked};
 ghost use Rattle.threaded_runs.specs.Gates.{GatesCameBack};
@@ -14,8 +14,8 @@ use free_serving::serving::Served;
 use free_serving::serving::attempt_bounds::{attempts_spare_slots, lone_attempts_are_served};
 use lone_reads::lone_reads_are_served;
 use lone_reads::seq_read::lock_walks::Planner;
-use machine_states::runner_steps::map_history::Request;
-use machine_states::runner_steps::table_words::Layout;
+use machine_states::map_history::Request;
+use machine_states::table_words::Layout;
 use reached_facts::table_keeps_its_facts;
 use settled_tables::closed_words::closed_words_have_a_history;
 use settled_tables::settling::runner_gate::Gates;

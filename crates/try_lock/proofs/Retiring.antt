@@ -1,14 +1,14 @@
 -- The retirement of a section.
 use Rattle.std.proofs.Common.{◌≡◌, ℕ, ap, ◌∙◌, sym, subst, ◌≤◌, Option, Some}
 use Rattle.std.specs.Prelude.{◌&&◌}
-use Rattle.machine_states.specs.runner_steps.specs.table_words.specs.declared.spot.Spot.TheVariants.{Epoch}
-use Rattle.machine_states.specs.runner_steps.specs.table_words.specs.declared.access.Access.TheVariants.{Loads}
+use Rattle.machine_states.specs.table_words.specs.declared.spot.Spot.TheVariants.{Epoch}
+use Rattle.machine_states.specs.table_words.specs.declared.access.Access.TheVariants.{Loads}
 use Rattle.machine_states.specs.structure_laws.specs.Meaning.{Meaning}
-use Rattle.machine_states.specs.runner_steps.specs.runner_parts.specs.declared.event.EventKind.TheVariants as kinds
-use Rattle.machine_states.specs.runner_steps.specs.runner_parts.specs.declared.entries.Published.{Published}
-use Rattle.machine_states.specs.runner_steps.specs.runner_parts.specs.State.{RunState, PartState}
-use Rattle.machine_states.specs.runner_steps.specs.runner_parts.specs.Tests.{is_walking, is_between}
-use Rattle.machine_states.specs.runner_steps.specs.runner_parts.specs.Lists.{descriptor_retired}
+use Rattle.machine_states.specs.runner_parts.specs.declared.event.EventKind.TheVariants as kinds
+use Rattle.machine_states.specs.runner_parts.specs.declared.entries.Published.{Published}
+use Rattle.machine_states.specs.runner_parts.specs.State.{RunState, PartState}
+use Rattle.machine_states.specs.runner_parts.specs.Tests.{is_walking, is_between}
+use Rattle.machine_states.specs.runner_parts.specs.Lists.{descriptor_retired}
 use Rattle.machine_states.specs.runner_steps.specs.Outside.{when, is_over}
 use Rattle.machine_states.specs.runner_steps.specs.AfterOutside.{retire_after}
 use Rattle.machine_states.specs.runner_steps.specs.After.{after_by}

@@ -1,8 +1,8 @@
 -- What a closed table's words stand for.
 use Rattle.std.specs.Prelude.{◌≡◌, ℕ, true}
-use Rattle.machine_states.specs.runner_steps.specs.map_history.specs.Replay.{Pairs}
-use Rattle.machine_states.specs.runner_steps.specs.body_terms.specs.Word.{is_free}
-use Rattle.machine_states.specs.runner_steps.specs.table_words.specs.declared.spot.Spot.TheVariants.{Cell}
+use Rattle.machine_states.specs.map_history.specs.Replay.{Pairs}
+use Rattle.machine_states.specs.body_terms.specs.Word.{is_free}
+use Rattle.machine_states.specs.table_words.specs.declared.spot.Spot.TheVariants.{Cell}
 use Rattle.machine_states.specs.structure_laws.specs.Scene.{Cells}
 use Rattle.machine_states.specs.structure_laws.specs.Meaning.{Meaning}
 use Rattle.section_runs.specs.commit_log.specs.version_words.specs.TableState.{WordsState, HasWord, word_of}

@@ -1,7 +1,7 @@
 -- What a structure means to those who plan requests on it, beside its meaning as a structure.
 use Rattle.std.specs.Prelude.{ℕ, Bool, Option}
-use Rattle.machine_states.specs.runner_steps.specs.map_history.specs.declared.op.Op.{Op}
-use Rattle.machine_states.specs.runner_steps.specs.table_words.specs.declared.layout.Layout.{Layout}
+use Rattle.machine_states.specs.map_history.specs.declared.op.Op.{Op}
+use Rattle.machine_states.specs.table_words.specs.declared.layout.Layout.{Layout}
 use Rattle.machine_states.specs.structure_laws.specs.Scene.{Readings}
 
 pub record Planning : Type 0 where

@@ -1,11 +1,11 @@
 -- Words of an own free descriptor.
 use Rattle.std.specs.Prelude.{◌≡◌, ℕ, ◌+◌, ◌<◌, List, [], ◌∷◌, ◌++◌, replicate, Bool, true, false, ◌==◌, length, slice_index, None, Some}
-use Rattle.machine_states.specs.runner_steps.specs.body_terms.specs.declared.thunk.Thunk.{Thunk}
-use Rattle.machine_states.specs.runner_steps.specs.table_words.specs.Places.{slot_count}
+use Rattle.machine_states.specs.body_terms.specs.declared.thunk.Thunk.{Thunk}
+use Rattle.machine_states.specs.table_words.specs.Places.{slot_count}
 use Rattle.machine_states.specs.structure_laws.specs.Meaning.{Meaning}
-use Rattle.machine_states.specs.runner_steps.specs.runner_parts.specs.declared.event.EventKind.TheVariants as kinds
+use Rattle.machine_states.specs.runner_parts.specs.declared.event.EventKind.TheVariants as kinds
 use Rattle.machine_states.specs.epoch_core.specs.declared.stage.Stage.TheVariants as stages
-use Rattle.machine_states.specs.runner_steps.specs.runner_parts.specs.Tests.{last_stored, thunk_words, is_prepared}
+use Rattle.machine_states.specs.runner_parts.specs.Tests.{last_stored, thunk_words, is_prepared}
 use Rattle.section_runs.specs.commit_log.specs.version_words.specs.RunnerState.{RunnerState}
 use Rattle.section_runs.specs.commit_log.specs.version_words.specs.Events.{Makes, IsMade}
 use Rattle.section_runs.specs.commit_log.specs.version_words.specs.Stages.{IsAt, HasFree}

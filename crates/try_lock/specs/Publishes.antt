@@ -1,15 +1,15 @@
 -- Publications.
 use Rattle.std.specs.Prelude.{◌≡◌, ℕ, ◌+◌, ◌-◌, ◌<◌, ◌≤◌, ◌++◌, true, false, ◌==◌, length, replicate, Result, IfOk, IfErr, Some, None}
-use Rattle.machine_states.specs.runner_steps.specs.body_terms.specs.Word.{value_of, is_free}
-use Rattle.machine_states.specs.runner_steps.specs.body_terms.specs.declared.outcome.Refused.{Refused}
-use Rattle.machine_states.specs.runner_steps.specs.body_terms.specs.declared.thunk.Thunk.{Thunk}
-use Rattle.machine_states.specs.runner_steps.specs.table_words.specs.declared.spot.Spot.TheVariants.{DoneWord, LogWord}
-use Rattle.machine_states.specs.runner_steps.specs.table_words.specs.Places.{slot_count}
+use Rattle.machine_states.specs.body_terms.specs.Word.{value_of, is_free}
+use Rattle.machine_states.specs.body_terms.specs.declared.outcome.Refused.{Refused}
+use Rattle.machine_states.specs.body_terms.specs.declared.thunk.Thunk.{Thunk}
+use Rattle.machine_states.specs.table_words.specs.declared.spot.Spot.TheVariants.{DoneWord, LogWord}
+use Rattle.machine_states.specs.table_words.specs.Places.{slot_count}
 use Rattle.machine_states.specs.structure_laws.specs.Meaning.{Meaning}
-use Rattle.machine_states.specs.runner_steps.specs.runner_parts.specs.declared.event.EventKind.TheVariants as kinds
+use Rattle.machine_states.specs.runner_parts.specs.declared.event.EventKind.TheVariants as kinds
 use Rattle.machine_states.specs.epoch_core.specs.declared.stage.Stage.TheVariants as stages
-use Rattle.machine_states.specs.runner_steps.specs.runner_parts.specs.Lists.{without, cell_read, holds_named, section_published}
-use Rattle.machine_states.specs.runner_steps.specs.runner_parts.specs.Tests.{has, is_open, thunk_words}
+use Rattle.machine_states.specs.runner_parts.specs.Lists.{without, cell_read, holds_named, section_published}
+use Rattle.machine_states.specs.runner_parts.specs.Tests.{has, is_open, thunk_words}
 use Rattle.machine_states.specs.runner_steps.specs.Outside.{is_due}
 use Rattle.machine_states.specs.runner_steps.specs.AfterOutside.{published_by}
 use Rattle.machine_states.specs.Sight.{Sight, sight}

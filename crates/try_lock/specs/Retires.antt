@@ -1,10 +1,10 @@
 -- Retirements of sections.
 use Rattle.std.specs.Prelude.{◌≡◌, ℕ, true, None, Some}
 use Rattle.machine_states.specs.structure_laws.specs.Meaning.{Meaning}
-use Rattle.machine_states.specs.runner_steps.specs.runner_parts.specs.declared.event.EventKind.TheVariants as kinds
-use Rattle.machine_states.specs.runner_steps.specs.runner_parts.specs.declared.entries.Published.{Published}
+use Rattle.machine_states.specs.runner_parts.specs.declared.event.EventKind.TheVariants as kinds
+use Rattle.machine_states.specs.runner_parts.specs.declared.entries.Published.{Published}
 use Rattle.machine_states.specs.epoch_core.specs.declared.stage.Stage.TheVariants as stages
-use Rattle.machine_states.specs.runner_steps.specs.runner_parts.specs.Lists.{descriptor_retired}
+use Rattle.machine_states.specs.runner_parts.specs.Lists.{descriptor_retired}
 use Rattle.section_runs.specs.commit_log.specs.version_words.specs.RunnerState.{RunnerState}
 use Rattle.section_runs.specs.commit_log.specs.version_words.specs.Events.{Makes}
 use Rattle.section_runs.specs.commit_log.specs.version_words.specs.Stages.{IsAt}

@@ -1,6 +1,6 @@
 //! What a plan answers.
 
-use machine_states::runner_steps::body_terms::{Place, Thunk, Word};
+use machine_states::body_terms::{Place, Thunk, Word};
 
 /// What a structure planned for a request.
 #[derive(Clone, Copy, Debug, PartialEq, Eq)]

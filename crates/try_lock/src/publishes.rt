@@ -1,14 +1,14 @@
 //! The publication of a section.
 ghost use Rattle.std.specs.Prelude.{◌≡◌, ◌+◌, ◌<◌, ◌≤◌, length, replicate, slice_index};
-ghost use Rattle.machine_states.specs.runner_steps.specs.table_words.specs.Places.{slot_count};
+ghost use Rattle.machine_states.specs.table_words.specs.Places.{slot_count};
 ghost use Rattle.section_runs.specs.commit_log.specs.version_words.specs.TableState.{IsOf};
 ghost use Rattle.section_runs.specs.commit_log.specs.version_words.specs.Events.{start_of};
 ghost use Rattle.try_lock.specs.Prepares.{MaySet, SetsWord, HasSet, IsReady};
 ghost use Rattle.try_lock.specs.Publishes.{MayPublish, Publishes};
 
 use crate::section::Section;
-use machine_states::runner_steps::body_terms::{Refused, Thunk};
-use machine_states::runner_steps::runner_parts::thunk_words;
+use machine_states::body_terms::{Refused, Thunk};
+use machine_states::runner_parts::thunk_words;
 use machine_states::structure_laws::Structure;
 use section_runs::commit_log::version_words::{FlockTable, Runner, held_word};
 use section_runs::nested_lock::refused;

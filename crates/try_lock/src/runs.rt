@@ -1,9 +1,9 @@
 //! Runs of sections: the own one, and those that are met in their locks.
 ghost use Rattle.std.specs.Prelude.{◌≡◌, ℕ, ◌-◌, true, false};
-ghost use Rattle.machine_states.specs.runner_steps.specs.body_terms.specs.Trail.{Agreed};
-ghost use Rattle.machine_states.specs.runner_steps.specs.body_terms.specs.Word.{value_of};
-ghost use Rattle.machine_states.specs.runner_steps.specs.body_terms.specs.declared.outcome.Outcome.{Outcome};
-ghost use Rattle.machine_states.specs.runner_steps.specs.body_terms.specs.declared.thunk.Thunk.{Thunk};
+ghost use Rattle.machine_states.specs.body_terms.specs.Trail.{Agreed};
+ghost use Rattle.machine_states.specs.body_terms.specs.Word.{value_of};
+ghost use Rattle.machine_states.specs.body_terms.specs.declared.outcome.Outcome.{Outcome};
+ghost use Rattle.machine_states.specs.body_terms.specs.declared.thunk.Thunk.{Thunk};
 ghost use Rattle.section_runs.specs.commit_log.specs.version_words.specs.TableState.{IsOf};
 ghost use Rattle.section_runs.specs.commit_log.specs.Asked.{IsAsked};
 ghost use Rattle.section_runs.specs.declared.runs.RunEnd.TheVariants.{Done, Halted};
@@ -11,7 +11,7 @@ ghost use Rattle.try_lock.specs.Reached.{MayRunSection, MayHelp};
 ghost use Rattle.try_lock.specs.Ends.{EndsSo, IsCutShort};
 
 use crate::section::Section;
-use machine_states::runner_steps::body_terms::{Steps, Word};
+use machine_states::body_terms::{Steps, Word};
 use machine_states::structure_laws::Structure;
 use section_runs::commit_log::version_words::{FlockTable, Runner};
 use section_runs::runner_gate::Gate;

@@ -1,6 +1,6 @@
 //! A published section.
 
-use machine_states::runner_steps::body_terms::{Place, Word};
+use machine_states::body_terms::{Place, Word};
 
 /// A section that its runner published and hasn't retired.
 #[derive(Clone, Copy, Debug, PartialEq, Eq)]

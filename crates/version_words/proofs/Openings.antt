@@ -6,23 +6,23 @@ use Rattle.std.proofs.lemmas.Option.{none-some}
 use Rattle.std.proofs.lemmas.Bool.{true≢false}
 use Rattle.atomic_table.specs.Table.{Me}
 use Rattle.atomic_table.specs.Seated.{TableId}
-use Rattle.machine_states.specs.runner_steps.specs.body_terms.specs.declared.thunk.Thunk.{Thunk}
-use Rattle.machine_states.specs.runner_steps.specs.table_words.specs.declared.layout.Layout.{Layout}
-use Rattle.machine_states.specs.runner_steps.specs.table_words.specs.declared.spot.Spot.{Spot}
-use Rattle.machine_states.specs.runner_steps.specs.table_words.specs.declared.spot.Spot.TheVariants as spots
-use Rattle.machine_states.specs.runner_steps.specs.table_words.specs.declared.access.Access.{Access}
-use Rattle.machine_states.specs.runner_steps.specs.table_words.specs.declared.access.Access.TheVariants.{Loads}
-use Rattle.machine_states.specs.runner_steps.specs.table_words.specs.declared.sizes.Sizes.{Sizes}
-use Rattle.machine_states.specs.runner_steps.specs.table_words.specs.Access.{written}
-use Rattle.machine_states.specs.runner_steps.specs.table_words.specs.Limits.{IsWithinLimits}
-use Rattle.machine_states.specs.runner_steps.specs.table_words.specs.Places.{address, descriptor_at}
+use Rattle.machine_states.specs.body_terms.specs.declared.thunk.Thunk.{Thunk}
+use Rattle.machine_states.specs.table_words.specs.declared.layout.Layout.{Layout}
+use Rattle.machine_states.specs.table_words.specs.declared.spot.Spot.{Spot}
+use Rattle.machine_states.specs.table_words.specs.declared.spot.Spot.TheVariants as spots
+use Rattle.machine_states.specs.table_words.specs.declared.access.Access.{Access}
+use Rattle.machine_states.specs.table_words.specs.declared.access.Access.TheVariants.{Loads}
+use Rattle.machine_states.specs.table_words.specs.declared.sizes.Sizes.{Sizes}
+use Rattle.machine_states.specs.table_words.specs.Access.{written}
+use Rattle.machine_states.specs.table_words.specs.Limits.{IsWithinLimits}
+use Rattle.machine_states.specs.table_words.specs.Places.{address, descriptor_at}
 use Rattle.machine_states.specs.structure_laws.specs.Meaning.{Meaning}
 use Rattle.machine_states.specs.structure_laws.specs.Laws.{Laws}
-use Rattle.machine_states.specs.runner_steps.specs.runner_parts.specs.declared.event.EventKind.TheVariants as kinds
-use Rattle.machine_states.specs.runner_steps.specs.runner_parts.specs.State.{RunState, PartState}
+use Rattle.machine_states.specs.runner_parts.specs.declared.event.EventKind.TheVariants as kinds
+use Rattle.machine_states.specs.runner_parts.specs.State.{RunState, PartState}
 use Rattle.machine_states.specs.runner_steps.specs.Sections.{is_open_run, next_of}
 use Rattle.machine_states.specs.runner_steps.specs.InRun.{open_more_ask, load_done_ask}
-use Rattle.machine_states.specs.runner_steps.specs.runner_parts.specs.Tests.{has}
+use Rattle.machine_states.specs.runner_parts.specs.Tests.{has}
 use Rattle.machine_states.specs.runner_steps.specs.Asks.{ask_by, line_ask, sizes_for}
 use Rattle.machine_states.specs.runner_steps.specs.AfterOutside.{opened}
 use Rattle.machine_states.specs.runner_steps.specs.AfterInRun.{opened_more}

@@ -1,14 +1,14 @@
 -- What is shown of a step.
 use Rattle.std.proofs.Common.{◌≡◌, ℕ, false, ap, sym, ◌∙◌, List}
-use Rattle.machine_states.specs.runner_steps.specs.map_history.specs.declared.op.Request.{Request}
-use Rattle.machine_states.specs.runner_steps.specs.table_words.specs.declared.layout.Layout.{Layout}
-use Rattle.machine_states.specs.runner_steps.specs.table_words.specs.declared.spot.Spot.{Spot}
-use Rattle.machine_states.specs.runner_steps.specs.table_words.specs.declared.access.Access.{Access}
-use Rattle.machine_states.specs.runner_steps.specs.table_words.specs.declared.access.Access.TheVariants.{Stores}
-use Rattle.machine_states.specs.runner_steps.specs.table_words.specs.Access.{written}
+use Rattle.machine_states.specs.map_history.specs.declared.op.Request.{Request}
+use Rattle.machine_states.specs.table_words.specs.declared.layout.Layout.{Layout}
+use Rattle.machine_states.specs.table_words.specs.declared.spot.Spot.{Spot}
+use Rattle.machine_states.specs.table_words.specs.declared.access.Access.{Access}
+use Rattle.machine_states.specs.table_words.specs.declared.access.Access.TheVariants.{Stores}
+use Rattle.machine_states.specs.table_words.specs.Access.{written}
 use Rattle.machine_states.specs.structure_laws.specs.Meaning.{Meaning}
-use Rattle.machine_states.specs.runner_steps.specs.runner_parts.specs.declared.event.EventKind.{EventKind}
-use Rattle.machine_states.specs.runner_steps.specs.runner_parts.specs.State.{PartState}
+use Rattle.machine_states.specs.runner_parts.specs.declared.event.EventKind.{EventKind}
+use Rattle.machine_states.specs.runner_parts.specs.State.{PartState}
 use Rattle.version_words.specs.ReachedWith.{ReachedWith, ReachedBy, is_told}
 
 module _ (m : Meaning) (l : Layout) (rs : List Request) (r : ℕ) (kind : EventKind) (old new : PartState) (met : Spot × Access) (found : ℕ) (shown : ReachedBy m l rs r kind old new met found) where

@@ -11,20 +11,20 @@ use Rattle.machine_states.specs.epoch_core.specs.small_lemmas.proofs.Bools.{fals
 use Rattle.machine_states.specs.epoch_core.specs.small_lemmas.proofs.Lists.{some_is_none as some_spent}
 use Rattle.atomic_table.specs.Table.{State, Me, Step, keeps, Allows}
 use Rattle.atomic_table.proofs.Lists.{at_set, set_else}
-use Rattle.machine_states.specs.runner_steps.specs.map_history.specs.declared.op.Request.{Request}
-use Rattle.machine_states.specs.runner_steps.specs.body_terms.specs.declared.thunk.Thunk.{Thunk}
-use Rattle.machine_states.specs.runner_steps.specs.table_words.specs.declared.layout.Layout.{Layout}
-use Rattle.machine_states.specs.runner_steps.specs.table_words.specs.declared.spot.Spot.{Spot}
-use Rattle.machine_states.specs.runner_steps.specs.table_words.specs.declared.access.Access.{Access}
-use Rattle.machine_states.specs.runner_steps.specs.table_words.specs.declared.access.Access.TheVariants.{Stores}
-use Rattle.machine_states.specs.runner_steps.specs.table_words.specs.Access.{written}
-use Rattle.machine_states.specs.runner_steps.specs.table_words.specs.Places.{address}
-use Rattle.machine_states.specs.runner_steps.specs.table_words.proofs.Seen.{within, seen_here}
+use Rattle.machine_states.specs.map_history.specs.declared.op.Request.{Request}
+use Rattle.machine_states.specs.body_terms.specs.declared.thunk.Thunk.{Thunk}
+use Rattle.machine_states.specs.table_words.specs.declared.layout.Layout.{Layout}
+use Rattle.machine_states.specs.table_words.specs.declared.spot.Spot.{Spot}
+use Rattle.machine_states.specs.table_words.specs.declared.access.Access.{Access}
+use Rattle.machine_states.specs.table_words.specs.declared.access.Access.TheVariants.{Stores}
+use Rattle.machine_states.specs.table_words.specs.Access.{written}
+use Rattle.machine_states.specs.table_words.specs.Places.{address}
+use Rattle.machine_states.specs.table_words.proofs.Seen.{within, seen_here}
 use Rattle.machine_states.specs.structure_laws.specs.Meaning.{Meaning}
-use Rattle.machine_states.specs.runner_steps.specs.runner_parts.specs.declared.event.EventKind.{EventKind}
-use Rattle.machine_states.specs.runner_steps.specs.runner_parts.specs.declared.event.EventKind.TheVariants as kinds
-use Rattle.machine_states.specs.runner_steps.specs.runner_parts.specs.declared.event.Event.{Event}
-use Rattle.machine_states.specs.runner_steps.specs.runner_parts.specs.State.{PartState}
+use Rattle.machine_states.specs.runner_parts.specs.declared.event.EventKind.{EventKind}
+use Rattle.machine_states.specs.runner_parts.specs.declared.event.EventKind.TheVariants as kinds
+use Rattle.machine_states.specs.runner_parts.specs.declared.event.Event.{Event}
+use Rattle.machine_states.specs.runner_parts.specs.State.{PartState}
 use Rattle.machine_states.specs.runner_steps.specs.Asks.{asks, sizes_for}
 use Rattle.machine_states.specs.runner_steps.specs.After.{after}
 use Rattle.machine_states.specs.World.{World, seat_of, is_join, settled_part, put_part, happens}

@@ -2,16 +2,16 @@
 use Rattle.std.specs.Prelude.{◌==◌, ◌&&◌, not, nat_lt, nat_le}
 use Rattle.std.proofs.Common.{◌≡◌, ℕ, ◌+◌, [], Bool, true, false, refl, ap, ◌∙◌, Option, None, if◌then◌else◌, sym}
 use Rattle.machine_states.specs.epoch_core.specs.small_lemmas.proofs.Bools.{false_not_true as false_true}
-use Rattle.machine_states.specs.runner_steps.specs.table_words.specs.declared.layout.Layout.{Layout}
-use Rattle.machine_states.specs.runner_steps.specs.table_words.specs.declared.spot.Spot.{Spot}
-use Rattle.machine_states.specs.runner_steps.specs.table_words.specs.declared.access.Access.{Access}
+use Rattle.machine_states.specs.table_words.specs.declared.layout.Layout.{Layout}
+use Rattle.machine_states.specs.table_words.specs.declared.spot.Spot.{Spot}
+use Rattle.machine_states.specs.table_words.specs.declared.access.Access.{Access}
 use Rattle.machine_states.specs.structure_laws.specs.Meaning.{Meaning}
 use Rattle.machine_states.specs.epoch_core.specs.Moves.{is_clear}
-use Rattle.machine_states.specs.runner_steps.specs.runner_parts.specs.declared.event.EventKind.{EventKind}
-use Rattle.machine_states.specs.runner_steps.specs.runner_parts.specs.declared.event.EventKind.TheVariants as kinds
+use Rattle.machine_states.specs.runner_parts.specs.declared.event.EventKind.{EventKind}
+use Rattle.machine_states.specs.runner_parts.specs.declared.event.EventKind.TheVariants as kinds
 use Rattle.machine_states.specs.epoch_core.specs.declared.stage.Stage.{Stage}
 use Rattle.machine_states.specs.epoch_core.specs.declared.stage.Stage.TheVariants as stages
-use Rattle.machine_states.specs.runner_steps.specs.runner_parts.specs.State.{RunState, PartState}
+use Rattle.machine_states.specs.runner_parts.specs.State.{RunState, PartState}
 use Rattle.machine_states.specs.epoch_core.specs.State.{last_epoch}
 use Rattle.machine_states.specs.runner_steps.specs.AfterOutside.{with_stage, collected, scanned, scan_one_after, advance_after}
 use Rattle.machine_states.specs.runner_steps.specs.After.{outside_after, after_by, stepped, after}
@@ -19,7 +19,7 @@ use Rattle.version_words.specs.RunnerState.{RunnerState, told_part}
 use Rattle.version_words.specs.Events.{Makes}
 use Rattle.version_words.proofs.Asked.{is_outer, in_no_run}
 use Rattle.version_words.proofs.Splits.{notes}
-use Rattle.machine_states.specs.runner_steps.specs.table_words.specs.Places.{slot_count}
+use Rattle.machine_states.specs.table_words.specs.Places.{slot_count}
 
 module _ (m : Meaning) (l : Layout) (r : ℕ) (k : EventKind) (spot : Spot) (access : Access) (p : PartState) (found : ℕ) where
   pub told : told_part (after m l r k spot access p found) ≡ told_part (stepped m l k p found)

@@ -1,7 +1,7 @@
 -- Where the groups of a table's words begin.
 use Rattle.std.specs.Prelude.{◌≡◌, ℕ, ◌<◌, ◌^◌}
-use Rattle.machine_states.specs.runner_steps.specs.table_words.specs.declared.sizes.Sizes.{Sizes}
-use Rattle.machine_states.specs.runner_steps.specs.table_words.specs.Places.{entries_at, cells_at, descriptor_at}
+use Rattle.machine_states.specs.table_words.specs.declared.sizes.Sizes.{Sizes}
+use Rattle.machine_states.specs.table_words.specs.Places.{entries_at, cells_at, descriptor_at}
 
 -- the entries, the cells and the descriptors of a table of these sizes begin there; each size has 32 bits, so an
 -- address fits its type

@@ -1,8 +1,8 @@
 -- What a runner's type says of its fields, and how its block changes.
 use Rattle.std.specs.Prelude.{◌≡◌, ℕ, [], Some}
 use Rattle.atomic_table.specs.Table.{Me}
-use Rattle.machine_states.specs.runner_steps.specs.body_terms.specs.declared.thunk.Thunk.{Thunk}
-use Rattle.machine_states.specs.runner_steps.specs.table_words.specs.Places.{slot_count}
+use Rattle.machine_states.specs.body_terms.specs.declared.thunk.Thunk.{Thunk}
+use Rattle.machine_states.specs.table_words.specs.Places.{slot_count}
 use Rattle.machine_states.specs.structure_laws.specs.Meaning.{Meaning}
 use Rattle.version_words.specs.declared.view.View.{View}
 use Rattle.runner_block.specs.declared.block.Block.{Block}

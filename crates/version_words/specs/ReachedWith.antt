@@ -1,15 +1,15 @@
 -- A state that the machine reaches, as one runner sees it, and a step by which it reaches one.
 use Rattle.std.specs.Prelude.{◌≡◌, ℕ, Bool, true, false, List, slice_get, Some}
-use Rattle.machine_states.specs.runner_steps.specs.map_history.specs.declared.op.Request.{Request}
-use Rattle.machine_states.specs.runner_steps.specs.table_words.specs.declared.layout.Layout.{Layout}
-use Rattle.machine_states.specs.runner_steps.specs.table_words.specs.declared.spot.Spot.{Spot}
-use Rattle.machine_states.specs.runner_steps.specs.table_words.specs.declared.access.Access.{Access}
-use Rattle.machine_states.specs.runner_steps.specs.table_words.specs.declared.access.Access.TheVariants.{Stores}
-use Rattle.machine_states.specs.runner_steps.specs.table_words.specs.Access.{written}
-use Rattle.machine_states.specs.runner_steps.specs.table_words.specs.Seen.{seen}
+use Rattle.machine_states.specs.map_history.specs.declared.op.Request.{Request}
+use Rattle.machine_states.specs.table_words.specs.declared.layout.Layout.{Layout}
+use Rattle.machine_states.specs.table_words.specs.declared.spot.Spot.{Spot}
+use Rattle.machine_states.specs.table_words.specs.declared.access.Access.{Access}
+use Rattle.machine_states.specs.table_words.specs.declared.access.Access.TheVariants.{Stores}
+use Rattle.machine_states.specs.table_words.specs.Access.{written}
+use Rattle.machine_states.specs.table_words.specs.Seen.{seen}
 use Rattle.machine_states.specs.structure_laws.specs.Meaning.{Meaning}
-use Rattle.machine_states.specs.runner_steps.specs.runner_parts.specs.declared.event.EventKind.{EventKind}
-use Rattle.machine_states.specs.runner_steps.specs.runner_parts.specs.State.{PartState}
+use Rattle.machine_states.specs.runner_parts.specs.declared.event.EventKind.{EventKind}
+use Rattle.machine_states.specs.runner_parts.specs.State.{PartState}
 use Rattle.machine_states.specs.runner_steps.specs.Asks.{sizes_for}
 use Rattle.machine_states.specs.World.{World, seat_of, happens}
 use Rattle.machine_states.specs.Reached.{Reached}

@@ -2,16 +2,16 @@
 use Rattle.std.specs.Prelude.{◌≡◌, ℕ, ◌<◌, ◌^◌, suc, true, List, Option, Some, slice_get, [], None, ◌==◌, if◌then◌else◌}
 use Rattle.std.specs.Option.{IsSome}
 use Rattle.atomic_table.specs.Seated.{TableId}
-use Rattle.machine_states.specs.runner_steps.specs.map_history.specs.declared.op.Op.{Op}
-use Rattle.machine_states.specs.runner_steps.specs.map_history.specs.declared.op.Request.{Request}
-use Rattle.machine_states.specs.runner_steps.specs.map_history.specs.Keys.{value_given}
-use Rattle.machine_states.specs.runner_steps.specs.table_words.specs.declared.layout.Layout.{Layout}
-use Rattle.machine_states.specs.runner_steps.specs.table_words.specs.Limits.{IsWithinLimits}
-use Rattle.machine_states.specs.runner_steps.specs.table_words.specs.declared.spot.Spot.{Spot}
-use Rattle.machine_states.specs.runner_steps.specs.table_words.specs.Places.{size, slot_count, Fits}
-use Rattle.machine_states.specs.runner_steps.specs.table_words.specs.Seen.{seen}
+use Rattle.machine_states.specs.map_history.specs.declared.op.Op.{Op}
+use Rattle.machine_states.specs.map_history.specs.declared.op.Request.{Request}
+use Rattle.machine_states.specs.map_history.specs.Keys.{value_given}
+use Rattle.machine_states.specs.table_words.specs.declared.layout.Layout.{Layout}
+use Rattle.machine_states.specs.table_words.specs.Limits.{IsWithinLimits}
+use Rattle.machine_states.specs.table_words.specs.declared.spot.Spot.{Spot}
+use Rattle.machine_states.specs.table_words.specs.Places.{size, slot_count, Fits}
+use Rattle.machine_states.specs.table_words.specs.Seen.{seen}
 use Rattle.machine_states.specs.structure_laws.specs.Meaning.{Meaning}
-use Rattle.machine_states.specs.runner_steps.specs.runner_parts.specs.State.{PartState}
+use Rattle.machine_states.specs.runner_parts.specs.State.{PartState}
 use Rattle.machine_states.specs.runner_steps.specs.Asks.{sizes_for}
 use Rattle.machine_states.specs.World.{World}
 use Rattle.machine_states.specs.First.{keeper_part}

@@ -1,8 +1,8 @@
 //! A table's sizes, with the addresses at which its groups of words begin.
 ghost use Rattle.std.specs.Prelude.{◌≡◌};
-ghost use Rattle.machine_states.specs.runner_steps.specs.table_words.specs.Places.{address, Fits};
+ghost use Rattle.machine_states.specs.table_words.specs.Places.{address, Fits};
 
-use machine_states::runner_steps::table_words::{Sizes, Spot};
+use machine_states::table_words::{Sizes, Spot};
 use std::marker::Model;
 
 /// How many words fill a line of 128 bytes, as `Spot::address` has it.
@@ -19,7 +19,7 @@ pub struct Bases {
 }
 
 impl Model for Bases {
-    ghost use Rattle.machine_states.specs.runner_steps.specs.table_words.specs.declared.sizes.Sizes.{Sizes};
+    ghost use Rattle.machine_states.specs.table_words.specs.declared.sizes.Sizes.{Sizes};
     ghost use Rattle.version_words.specs.Bases.{AreBases};
 
     ghost Value = { Sizes };
@@ -67,7 +67,7 @@ impl Bases {
 
 impl Bases {
     ghost use Rattle.std.specs.Prelude.{◌≡◌, ◌+◌};
-    ghost use Rattle.machine_states.specs.runner_steps.specs.table_words.specs.Places.{descriptor_at};
+    ghost use Rattle.machine_states.specs.table_words.specs.Places.{descriptor_at};
 
     /// Where the words of this descriptor begin.
     #[inline(always)]

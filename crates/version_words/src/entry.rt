@@ -1,6 +1,6 @@
 //! Steps by which a runner enters and leaves.
 ghost use Rattle.std.specs.Prelude.{◌≡◌, ℕ};
-ghost use Rattle.machine_states.specs.runner_steps.specs.runner_parts.specs.declared.event.EventKind.TheVariants as kinds;
+ghost use Rattle.machine_states.specs.runner_parts.specs.declared.event.EventKind.TheVariants as kinds;
 ghost use Rattle.version_words.specs.TableState.{IsOf};
 ghost use Rattle.version_words.specs.Events.{IsEnabled, Makes};
 
@@ -8,8 +8,8 @@ use crate::plays;
 use crate::runner::Runner;
 use crate::table::FlockTable;
 use machine_states::epoch_core::Stage;
-use machine_states::runner_steps::table_words::Spot;
 use machine_states::structure_laws::Structure;
+use machine_states::table_words::Spot;
 
 impl<S: Structure> FlockTable<S> {
     /// The epoch, at the start of an entry.

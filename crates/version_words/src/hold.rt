@@ -1,16 +1,16 @@
 //! The step that publishes a section.
 ghost use Rattle.std.specs.Prelude.{◌≡◌, ◌==◌};
-ghost use Rattle.machine_states.specs.runner_steps.specs.runner_parts.specs.declared.event.EventKind.TheVariants as kinds;
+ghost use Rattle.machine_states.specs.runner_parts.specs.declared.event.EventKind.TheVariants as kinds;
 ghost use Rattle.version_words.specs.TableState.{IsOf};
 ghost use Rattle.version_words.specs.Events.{IsEnabled, Makes};
 
 use crate::plays;
 use crate::runner::Runner;
 use crate::table::FlockTable;
-use machine_states::runner_steps::body_terms::{Thunk, Word};
+use machine_states::body_terms::{Thunk, Word};
 use machine_states::runner_steps::held_word;
-use machine_states::runner_steps::table_words::Spot;
 use machine_states::structure_laws::Structure;
+use machine_states::table_words::Spot;
 
 impl<S: Structure> FlockTable<S> {
     /// The thunk's lock goes from the free word that was read to the one that names this descriptor, if it still holds

@@ -1,5 +1,5 @@
 //! What the types of this crate say, as contracts.
-ghost use Rattle.machine_states.specs.runner_steps.specs.table_words.specs.Limits.{IsWithinLimits};
+ghost use Rattle.machine_states.specs.table_words.specs.Limits.{IsWithinLimits};
 ghost use Rattle.machine_invariant.specs.After.{AreAllowed};
 ghost use Rattle.version_words.specs.TableState.{AreShown};
 

@@ -1,7 +1,7 @@
 //! The commits of a Make and of a Retire, and the load of the epoch for a retirement.
 ghost use Rattle.std.specs.Prelude.{◌≡◌, ◌==◌, ◌<◌, ◌^◌, ◌+◌, Some, true, if◌then◌else◌};
-ghost use Rattle.machine_states.specs.runner_steps.specs.table_words.specs.declared.access.Access.TheVariants.{Exchanges};
-ghost use Rattle.machine_states.specs.runner_steps.specs.runner_parts.specs.declared.event.EventKind.TheVariants as kinds;
+ghost use Rattle.machine_states.specs.table_words.specs.declared.access.Access.TheVariants.{Exchanges};
+ghost use Rattle.machine_states.specs.runner_parts.specs.declared.event.EventKind.TheVariants as kinds;
 ghost use Rattle.version_words.specs.Place.{next_log};
 ghost use Rattle.version_words.specs.TableState.{IsOf};
 ghost use Rattle.version_words.specs.Events.{met_by, IsEnabled, Makes};
@@ -9,8 +9,8 @@ ghost use Rattle.version_words.specs.Events.{met_by, IsEnabled, Makes};
 use crate::plays;
 use crate::runner::Runner;
 use crate::table::FlockTable;
-use machine_states::runner_steps::table_words::Spot;
 use machine_states::structure_laws::Structure;
+use machine_states::table_words::Spot;
 
 /// The slot that is agreed on after an exchange that was to agree on this one and found this log word.
 fn agreed_slot(found: u64, slot: u32) -> u32

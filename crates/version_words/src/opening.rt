@@ -1,8 +1,8 @@
 //! Steps that open a run.
 ghost use Rattle.std.specs.Prelude.{◌≡◌, Some, if◌then◌else◌};
-ghost use Rattle.machine_states.specs.runner_steps.specs.table_words.specs.declared.spot.Spot.TheVariants as spots;
-ghost use Rattle.machine_states.specs.runner_steps.specs.table_words.specs.declared.access.Access.TheVariants.{Loads};
-ghost use Rattle.machine_states.specs.runner_steps.specs.runner_parts.specs.declared.event.EventKind.TheVariants as kinds;
+ghost use Rattle.machine_states.specs.table_words.specs.declared.spot.Spot.TheVariants as spots;
+ghost use Rattle.machine_states.specs.table_words.specs.declared.access.Access.TheVariants.{Loads};
+ghost use Rattle.machine_states.specs.runner_parts.specs.declared.event.EventKind.TheVariants as kinds;
 ghost use Rattle.version_words.specs.Naming.{open_of};
 ghost use Rattle.version_words.specs.Place.{opened_of, own_done};
 ghost use Rattle.version_words.specs.TableState.{IsOf};
@@ -11,8 +11,8 @@ ghost use Rattle.version_words.specs.Events.{met_by, Makes, start_of};
 use crate::plays;
 use crate::runner::Runner;
 use crate::table::FlockTable;
-use machine_states::runner_steps::table_words::Spot;
 use machine_states::structure_laws::Structure;
+use machine_states::table_words::Spot;
 
 impl<S: Structure> FlockTable<S> {
     /// The next thunk word of the run's descriptor, whose words begin at this start; outside a run the first one of a

@@ -5,7 +5,7 @@
 //! number of the word that the step met.
 use crate::view::View;
 use atomic_table::{Join, Play, Split};
-use machine_states::runner_steps::body_terms::Thunk;
+use machine_states::body_terms::Thunk;
 use machine_states::structure_laws::Structure;
 use std::marker::PhantomData;
 
@@ -30,7 +30,7 @@ impl<S: Structure, E: Named> Play<Thunk, View<S>> for Makes<S, E> {
 pub struct EnterLoad;
 
 impl Named for EnterLoad {
-    ghost use Rattle.machine_states.specs.runner_steps.specs.runner_parts.specs.declared.event.EventKind.TheVariants as kinds;
+    ghost use Rattle.machine_states.specs.runner_parts.specs.declared.event.EventKind.TheVariants as kinds;
 
     ghost naming = { λ m layout requests part step. kinds.EnterLoad };
 }
@@ -38,7 +38,7 @@ impl Named for EnterLoad {
 pub struct Announce;
 
 impl Named for Announce {
-    ghost use Rattle.machine_states.specs.runner_steps.specs.runner_parts.specs.declared.event.EventKind.TheVariants as kinds;
+    ghost use Rattle.machine_states.specs.runner_parts.specs.declared.event.EventKind.TheVariants as kinds;
 
     ghost naming = { λ m layout requests part step. kinds.Announce };
 }
@@ -46,7 +46,7 @@ impl Named for Announce {
 pub struct EnterAgain;
 
 impl Named for EnterAgain {
-    ghost use Rattle.machine_states.specs.runner_steps.specs.runner_parts.specs.declared.event.EventKind.TheVariants as kinds;
+    ghost use Rattle.machine_states.specs.runner_parts.specs.declared.event.EventKind.TheVariants as kinds;
 
     ghost naming = { λ m layout requests part step. kinds.EnterAgain };
 }
@@ -54,7 +54,7 @@ impl Named for EnterAgain {
 pub struct Idle;
 
 impl Named for Idle {
-    ghost use Rattle.machine_states.specs.runner_steps.specs.runner_parts.specs.declared.event.EventKind.TheVariants as kinds;
+    ghost use Rattle.machine_states.specs.runner_parts.specs.declared.event.EventKind.TheVariants as kinds;
 
     ghost naming = { λ m layout requests part step. kinds.Idle };
 }
@@ -62,7 +62,7 @@ impl Named for Idle {
 pub struct ScanEpoch;
 
 impl Named for ScanEpoch {
-    ghost use Rattle.machine_states.specs.runner_steps.specs.runner_parts.specs.declared.event.EventKind.TheVariants as kinds;
+    ghost use Rattle.machine_states.specs.runner_parts.specs.declared.event.EventKind.TheVariants as kinds;
 
     ghost naming = { λ m layout requests part step. kinds.ScanEpoch };
 }
@@ -70,7 +70,7 @@ impl Named for ScanEpoch {
 pub struct Advance;
 
 impl Named for Advance {
-    ghost use Rattle.machine_states.specs.runner_steps.specs.runner_parts.specs.declared.event.EventKind.TheVariants as kinds;
+    ghost use Rattle.machine_states.specs.runner_parts.specs.declared.event.EventKind.TheVariants as kinds;
 
     ghost naming = { λ m layout requests part step. kinds.Advance };
 }
@@ -78,7 +78,7 @@ impl Named for Advance {
 pub struct Commit;
 
 impl Named for Commit {
-    ghost use Rattle.machine_states.specs.runner_steps.specs.runner_parts.specs.declared.event.EventKind.TheVariants as kinds;
+    ghost use Rattle.machine_states.specs.runner_parts.specs.declared.event.EventKind.TheVariants as kinds;
 
     ghost naming = { λ m layout requests part step. kinds.Commit };
 }
@@ -86,7 +86,7 @@ impl Named for Commit {
 pub struct ExchangeCell;
 
 impl Named for ExchangeCell {
-    ghost use Rattle.machine_states.specs.runner_steps.specs.runner_parts.specs.declared.event.EventKind.TheVariants as kinds;
+    ghost use Rattle.machine_states.specs.runner_parts.specs.declared.event.EventKind.TheVariants as kinds;
 
     ghost naming = { λ m layout requests part step. kinds.ExchangeCell };
 }
@@ -94,7 +94,7 @@ impl Named for ExchangeCell {
 pub struct SetDone;
 
 impl Named for SetDone {
-    ghost use Rattle.machine_states.specs.runner_steps.specs.runner_parts.specs.declared.event.EventKind.TheVariants as kinds;
+    ghost use Rattle.machine_states.specs.runner_parts.specs.declared.event.EventKind.TheVariants as kinds;
 
     ghost naming = { λ m layout requests part step. kinds.SetDone };
 }
@@ -102,7 +102,7 @@ impl Named for SetDone {
 pub struct Release;
 
 impl Named for Release {
-    ghost use Rattle.machine_states.specs.runner_steps.specs.runner_parts.specs.declared.event.EventKind.TheVariants as kinds;
+    ghost use Rattle.machine_states.specs.runner_parts.specs.declared.event.EventKind.TheVariants as kinds;
 
     ghost naming = { λ m layout requests part step. kinds.Release };
 }
@@ -110,7 +110,7 @@ impl Named for Release {
 pub struct ClockLoad;
 
 impl Named for ClockLoad {
-    ghost use Rattle.machine_states.specs.runner_steps.specs.runner_parts.specs.declared.event.EventKind.TheVariants as kinds;
+    ghost use Rattle.machine_states.specs.runner_parts.specs.declared.event.EventKind.TheVariants as kinds;
 
     ghost naming = { λ m layout requests part step. kinds.ClockLoad };
 }
@@ -118,7 +118,7 @@ impl Named for ClockLoad {
 pub struct StampExchange;
 
 impl Named for StampExchange {
-    ghost use Rattle.machine_states.specs.runner_steps.specs.runner_parts.specs.declared.event.EventKind.TheVariants as kinds;
+    ghost use Rattle.machine_states.specs.runner_parts.specs.declared.event.EventKind.TheVariants as kinds;
 
     ghost naming = { λ m layout requests part step. kinds.StampExchange };
 }
@@ -126,7 +126,7 @@ impl Named for StampExchange {
 pub struct ClockRaise;
 
 impl Named for ClockRaise {
-    ghost use Rattle.machine_states.specs.runner_steps.specs.runner_parts.specs.declared.event.EventKind.TheVariants as kinds;
+    ghost use Rattle.machine_states.specs.runner_parts.specs.declared.event.EventKind.TheVariants as kinds;
 
     ghost naming = { λ m layout requests part step. kinds.ClockRaise };
 }
@@ -134,7 +134,7 @@ impl Named for ClockRaise {
 pub struct ReplyExchange;
 
 impl Named for ReplyExchange {
-    ghost use Rattle.machine_states.specs.runner_steps.specs.runner_parts.specs.declared.event.EventKind.TheVariants as kinds;
+    ghost use Rattle.machine_states.specs.runner_parts.specs.declared.event.EventKind.TheVariants as kinds;
 
     ghost naming = { λ m layout requests part step. kinds.ReplyExchange };
 }
@@ -142,7 +142,7 @@ impl Named for ReplyExchange {
 pub struct NestedLoad;
 
 impl Named for NestedLoad {
-    ghost use Rattle.machine_states.specs.runner_steps.specs.runner_parts.specs.declared.event.EventKind.TheVariants as kinds;
+    ghost use Rattle.machine_states.specs.runner_parts.specs.declared.event.EventKind.TheVariants as kinds;
 
     ghost naming = { λ m layout requests part step. kinds.NestedLoad };
 }
@@ -150,7 +150,7 @@ impl Named for NestedLoad {
 pub struct NestedHold;
 
 impl Named for NestedHold {
-    ghost use Rattle.machine_states.specs.runner_steps.specs.runner_parts.specs.declared.event.EventKind.TheVariants as kinds;
+    ghost use Rattle.machine_states.specs.runner_parts.specs.declared.event.EventKind.TheVariants as kinds;
 
     ghost naming = { λ m layout requests part step. kinds.NestedHold };
 }
@@ -158,7 +158,7 @@ impl Named for NestedHold {
 pub struct OutcomeLoad;
 
 impl Named for OutcomeLoad {
-    ghost use Rattle.machine_states.specs.runner_steps.specs.runner_parts.specs.declared.event.EventKind.TheVariants as kinds;
+    ghost use Rattle.machine_states.specs.runner_parts.specs.declared.event.EventKind.TheVariants as kinds;
 
     ghost naming = { λ m layout requests part step. kinds.OutcomeLoad };
 }
@@ -166,7 +166,7 @@ impl Named for OutcomeLoad {
 pub struct OutcomeCommit;
 
 impl Named for OutcomeCommit {
-    ghost use Rattle.machine_states.specs.runner_steps.specs.runner_parts.specs.declared.event.EventKind.TheVariants as kinds;
+    ghost use Rattle.machine_states.specs.runner_parts.specs.declared.event.EventKind.TheVariants as kinds;
 
     ghost naming = { λ m layout requests part step. kinds.OutcomeCommit };
 }
@@ -174,7 +174,7 @@ impl Named for OutcomeCommit {
 pub struct LoadDone;
 
 impl Named for LoadDone {
-    ghost use Rattle.machine_states.specs.runner_steps.specs.runner_parts.specs.declared.event.EventKind.TheVariants as kinds;
+    ghost use Rattle.machine_states.specs.runner_parts.specs.declared.event.EventKind.TheVariants as kinds;
 
     ghost naming = { λ m layout requests part step. kinds.LoadDone };
 }
@@ -185,7 +185,7 @@ pub struct LoadThunk;
 
 impl Named for LoadThunk {
     ghost use Rattle.std.specs.Prelude.{◌+◌, ◌-◌, ◌/◌, length};
-    ghost use Rattle.machine_states.specs.runner_steps.specs.table_words.specs.Places.{descriptor_at};
+    ghost use Rattle.machine_states.specs.table_words.specs.Places.{descriptor_at};
     ghost use Rattle.machine_states.specs.runner_steps.specs.Asks.{sizes_for};
     ghost use Rattle.version_words.specs.Naming.{open_of};
 
@@ -198,7 +198,7 @@ pub struct LoadCell;
 
 impl Named for LoadCell {
     ghost use Rattle.std.specs.Prelude.{◌-◌};
-    ghost use Rattle.machine_states.specs.runner_steps.specs.table_words.specs.Places.{cells_at};
+    ghost use Rattle.machine_states.specs.table_words.specs.Places.{cells_at};
     ghost use Rattle.machine_states.specs.runner_steps.specs.Asks.{sizes_for};
     ghost use Rattle.version_words.specs.Naming.{load_of};
 
@@ -211,7 +211,7 @@ pub struct Hold;
 
 impl Named for Hold {
     ghost use Rattle.std.specs.Prelude.{◌-◌};
-    ghost use Rattle.machine_states.specs.runner_steps.specs.body_terms.specs.Word.{value_of};
+    ghost use Rattle.machine_states.specs.body_terms.specs.Word.{value_of};
     ghost use Rattle.version_words.specs.Naming.{hold_of};
 
     ghost naming = { λ m layout requests part step. hold_of step.said (value_of step.second - 1) };
@@ -221,7 +221,7 @@ impl Named for Hold {
 pub struct PrivateStore;
 
 impl Named for PrivateStore {
-    ghost use Rattle.machine_states.specs.runner_steps.specs.runner_parts.specs.declared.event.EventKind.TheVariants as kinds;
+    ghost use Rattle.machine_states.specs.runner_parts.specs.declared.event.EventKind.TheVariants as kinds;
     ghost use Rattle.version_words.specs.Private.{slot_at, word_at};
 
     ghost naming = { λ m layout requests part step.
@@ -233,7 +233,7 @@ impl Named for PrivateStore {
 pub struct PrivateLoad;
 
 impl Named for PrivateLoad {
-    ghost use Rattle.machine_states.specs.runner_steps.specs.runner_parts.specs.declared.event.EventKind.TheVariants as kinds;
+    ghost use Rattle.machine_states.specs.runner_parts.specs.declared.event.EventKind.TheVariants as kinds;
     ghost use Rattle.version_words.specs.Private.{slot_at, word_at};
 
     ghost naming = { λ m layout requests part step.
@@ -243,7 +243,7 @@ impl Named for PrivateLoad {
 pub struct MakeCommit;
 
 impl Named for MakeCommit {
-    ghost use Rattle.machine_states.specs.runner_steps.specs.runner_parts.specs.declared.event.EventKind.TheVariants as kinds;
+    ghost use Rattle.machine_states.specs.runner_parts.specs.declared.event.EventKind.TheVariants as kinds;
 
     ghost naming = { λ m layout requests part step. kinds.MakeCommit };
 }
@@ -251,7 +251,7 @@ impl Named for MakeCommit {
 pub struct RetireCommit;
 
 impl Named for RetireCommit {
-    ghost use Rattle.machine_states.specs.runner_steps.specs.runner_parts.specs.declared.event.EventKind.TheVariants as kinds;
+    ghost use Rattle.machine_states.specs.runner_parts.specs.declared.event.EventKind.TheVariants as kinds;
 
     ghost naming = { λ m layout requests part step. kinds.RetireCommit };
 }
@@ -259,7 +259,7 @@ impl Named for RetireCommit {
 pub struct EpochForRetire;
 
 impl Named for EpochForRetire {
-    ghost use Rattle.machine_states.specs.runner_steps.specs.runner_parts.specs.declared.event.EventKind.TheVariants as kinds;
+    ghost use Rattle.machine_states.specs.runner_parts.specs.declared.event.EventKind.TheVariants as kinds;
 
     ghost naming = { λ m layout requests part step. kinds.EpochForRetire };
 }
@@ -278,7 +278,7 @@ pub struct LoadEntry;
 
 impl Named for LoadEntry {
     ghost use Rattle.std.specs.Prelude.{◌-◌};
-    ghost use Rattle.machine_states.specs.runner_steps.specs.table_words.specs.Places.{entries_at};
+    ghost use Rattle.machine_states.specs.table_words.specs.Places.{entries_at};
     ghost use Rattle.machine_states.specs.runner_steps.specs.Asks.{sizes_for};
     ghost use Rattle.version_words.specs.Naming.{entry_of};
 
@@ -298,7 +298,7 @@ impl Named for ReadPlan {
 pub struct ReadClock;
 
 impl Named for ReadClock {
-    ghost use Rattle.machine_states.specs.runner_steps.specs.runner_parts.specs.declared.event.EventKind.TheVariants as kinds;
+    ghost use Rattle.machine_states.specs.runner_parts.specs.declared.event.EventKind.TheVariants as kinds;
 
     ghost naming = { λ m layout requests part step. kinds.ReadClock };
 }
@@ -306,7 +306,7 @@ impl Named for ReadClock {
 pub struct ReadReply;
 
 impl Named for ReadReply {
-    ghost use Rattle.machine_states.specs.runner_steps.specs.runner_parts.specs.declared.event.EventKind.TheVariants as kinds;
+    ghost use Rattle.machine_states.specs.runner_parts.specs.declared.event.EventKind.TheVariants as kinds;
 
     ghost naming = { λ m layout requests part step. kinds.ReadReply };
 }
@@ -314,7 +314,7 @@ impl Named for ReadReply {
 pub struct ReadStamp;
 
 impl Named for ReadStamp {
-    ghost use Rattle.machine_states.specs.runner_steps.specs.runner_parts.specs.declared.event.EventKind.TheVariants as kinds;
+    ghost use Rattle.machine_states.specs.runner_parts.specs.declared.event.EventKind.TheVariants as kinds;
 
     ghost naming = { λ m layout requests part step. kinds.ReadStamp };
 }

@@ -1,7 +1,7 @@
 //! Steps on the words of own slots.
 ghost use Rattle.std.specs.Prelude.{◌≡◌, ◌+◌, ℕ};
-ghost use Rattle.machine_states.specs.runner_steps.specs.table_words.specs.Places.{slot_count};
-ghost use Rattle.machine_states.specs.runner_steps.specs.runner_parts.specs.declared.event.EventKind.TheVariants as kinds;
+ghost use Rattle.machine_states.specs.table_words.specs.Places.{slot_count};
+ghost use Rattle.machine_states.specs.runner_parts.specs.declared.event.EventKind.TheVariants as kinds;
 ghost use Rattle.version_words.specs.Private.{IsWithin, private_spot};
 ghost use Rattle.version_words.specs.TableState.{IsOf};
 ghost use Rattle.version_words.specs.Events.{IsEnabled, Makes, start_of};
@@ -10,8 +10,8 @@ use crate::plays;
 use crate::runner::Runner;
 use crate::table::FlockTable;
 use machine_states::runner_steps::descriptor_spot;
-use machine_states::runner_steps::table_words::Spot;
 use machine_states::structure_laws::Structure;
+use machine_states::table_words::Spot;
 
 impl<S: Structure> FlockTable<S> {
     /// A word of a slot: a cell of a node slot, or a word of a descriptor.

@@ -1,18 +1,18 @@
 //! Steps of a read without a lock.
 ghost use Rattle.std.specs.Prelude.{◌≡◌, Some};
-ghost use Rattle.machine_states.specs.runner_steps.specs.table_words.specs.declared.spot.Spot.TheVariants as spots;
-ghost use Rattle.machine_states.specs.runner_steps.specs.table_words.specs.declared.access.Access.TheVariants.{Loads, Exchanges};
-ghost use Rattle.machine_states.specs.runner_steps.specs.runner_parts.specs.declared.event.EventKind.TheVariants as kinds;
+ghost use Rattle.machine_states.specs.table_words.specs.declared.spot.Spot.TheVariants as spots;
+ghost use Rattle.machine_states.specs.table_words.specs.declared.access.Access.TheVariants.{Loads, Exchanges};
+ghost use Rattle.machine_states.specs.runner_parts.specs.declared.event.EventKind.TheVariants as kinds;
 ghost use Rattle.version_words.specs.TableState.{IsOf};
 ghost use Rattle.version_words.specs.Events.{met_by, IsMade, Makes, Leaves};
 
 use crate::plays;
 use crate::runner::Runner;
 use crate::table::FlockTable;
+use machine_states::body_terms::Thunk;
 use machine_states::runner_steps::agreed_on;
-use machine_states::runner_steps::body_terms::Thunk;
-use machine_states::runner_steps::table_words::Spot;
 use machine_states::structure_laws::Structure;
+use machine_states::table_words::Spot;
 
 impl<S: Structure> FlockTable<S> {
     /// A read is announced with its thunk, by an exchange that leaves the own announcement as it is.

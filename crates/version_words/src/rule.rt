@@ -3,10 +3,10 @@
 use crate::bases::Bases;
 use crate::view::View;
 use atomic_table::TableRule;
-use machine_states::runner_steps::body_terms::Thunk;
-use machine_states::runner_steps::map_history::Request;
-use machine_states::runner_steps::table_words::Layout;
+use machine_states::body_terms::Thunk;
+use machine_states::map_history::Request;
 use machine_states::structure_laws::Structure;
+use machine_states::table_words::Layout;
 use std::marker::PhantomData;
 
 /// What a table is told once.

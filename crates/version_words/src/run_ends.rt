@@ -1,10 +1,10 @@
 //! Steps of a run on the words of its descriptor, of its request and of its locks.
 ghost use Rattle.std.specs.Prelude.{◌≡◌, ◌<◌, ◌-◌, ◌^◌, ◌%◌, Some, Bool, slice_index};
-ghost use Rattle.machine_states.specs.runner_steps.specs.body_terms.specs.Word.{version_of, held_word, next_word};
-ghost use Rattle.machine_states.specs.runner_steps.specs.body_terms.specs.Run.{written_once};
-ghost use Rattle.machine_states.specs.runner_steps.specs.table_words.specs.declared.spot.Spot.TheVariants as spots;
-ghost use Rattle.machine_states.specs.runner_steps.specs.table_words.specs.declared.access.Access.TheVariants.{Loads, Exchanges};
-ghost use Rattle.machine_states.specs.runner_steps.specs.runner_parts.specs.declared.event.EventKind.TheVariants as kinds;
+ghost use Rattle.machine_states.specs.body_terms.specs.Word.{version_of, held_word, next_word};
+ghost use Rattle.machine_states.specs.body_terms.specs.Run.{written_once};
+ghost use Rattle.machine_states.specs.table_words.specs.declared.spot.Spot.TheVariants as spots;
+ghost use Rattle.machine_states.specs.table_words.specs.declared.access.Access.TheVariants.{Loads, Exchanges};
+ghost use Rattle.machine_states.specs.runner_parts.specs.declared.event.EventKind.TheVariants as kinds;
 ghost use Rattle.version_words.specs.Place.{next_log, own_done, own_stamp, own_reply, held_by_run};
 ghost use Rattle.version_words.specs.TableState.{IsOf};
 ghost use Rattle.version_words.specs.Events.{met_by, IsMade, Leaves, Commits};
@@ -12,10 +12,10 @@ ghost use Rattle.version_words.specs.Events.{met_by, IsMade, Leaves, Commits};
 use crate::plays;
 use crate::runner::Runner;
 use crate::table::FlockTable;
-use machine_states::runner_steps::body_terms::{Place, Word};
-use machine_states::runner_steps::table_words::Spot;
+use machine_states::body_terms::{Place, Word};
 use machine_states::runner_steps::{agreed_on, held_word};
 use machine_states::structure_laws::Structure;
+use machine_states::table_words::Spot;
 
 impl<S: Structure> FlockTable<S> {
     /// The next log word: this word is agreed on, where it is still empty. The answer is the agreed word, and whether

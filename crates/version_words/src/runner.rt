@@ -1,12 +1,12 @@
 //! A seat with what its thread keeps.
 ghost use Rattle.std.specs.Prelude.{◌≡◌, ◌<◌, ◌^◌, length, Some};
-ghost use Rattle.machine_states.specs.runner_steps.specs.runner_parts.specs.State.{RunState};
+ghost use Rattle.machine_states.specs.runner_parts.specs.State.{RunState};
 ghost use Rattle.version_words.specs.RunnerState.{entered_of};
 
 use crate::view::View;
 use atomic_table::Seat;
+use machine_states::body_terms::Thunk;
 use machine_states::epoch_core::Stage;
-use machine_states::runner_steps::body_terms::Thunk;
 use machine_states::structure_laws::Structure;
 use runner_block::{Block, RunRoom};
 use std::alloc::Global;

@@ -1,8 +1,8 @@
 //! Steps of a run on words that runners share, and loads of cells.
 ghost use Rattle.std.specs.Prelude.{◌≡◌, ◌<◌, Some, Bool};
-ghost use Rattle.machine_states.specs.runner_steps.specs.table_words.specs.declared.spot.Spot.TheVariants as spots;
-ghost use Rattle.machine_states.specs.runner_steps.specs.table_words.specs.declared.access.Access.TheVariants.{Loads, Exchanges, Raises};
-ghost use Rattle.machine_states.specs.runner_steps.specs.runner_parts.specs.declared.event.EventKind.TheVariants as kinds;
+ghost use Rattle.machine_states.specs.table_words.specs.declared.spot.Spot.TheVariants as spots;
+ghost use Rattle.machine_states.specs.table_words.specs.declared.access.Access.TheVariants.{Loads, Exchanges, Raises};
+ghost use Rattle.machine_states.specs.runner_parts.specs.declared.event.EventKind.TheVariants as kinds;
 ghost use Rattle.version_words.specs.Naming.{load_of};
 ghost use Rattle.version_words.specs.TableState.{IsOf};
 ghost use Rattle.version_words.specs.Events.{met_by, IsEnabled, Makes, IsMade};
@@ -10,9 +10,9 @@ ghost use Rattle.version_words.specs.Events.{met_by, IsEnabled, Makes, IsMade};
 use crate::plays;
 use crate::runner::Runner;
 use crate::table::FlockTable;
-use machine_states::runner_steps::body_terms::{Place, Word};
-use machine_states::runner_steps::table_words::Spot;
+use machine_states::body_terms::{Place, Word};
 use machine_states::structure_laws::Structure;
+use machine_states::table_words::Spot;
 
 impl<S: Structure> FlockTable<S> {
     /// The word of this cell: outside a run one that the runner may read, in a run the one that comes next.

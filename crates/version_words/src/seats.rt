@@ -1,10 +1,10 @@
 //! How runners are made and joined, and how a table begins and ends.
 ghost use Rattle.std.specs.Prelude.{◌≡◌, ◌≤◌, ◌<◌, IfOk, IfErr, length, All};
-ghost use Rattle.machine_states.specs.runner_steps.specs.map_history.specs.declared.op.Request.{Request};
-ghost use Rattle.machine_states.specs.runner_steps.specs.map_history.specs.Requests.{AreInOrder};
-ghost use Rattle.machine_states.specs.runner_steps.specs.table_words.specs.Limits.{IsWithinLimits};
-ghost use Rattle.machine_states.specs.runner_steps.specs.table_words.specs.Places.{slot_count};
-ghost use Rattle.machine_states.specs.runner_steps.specs.runner_parts.specs.declared.event.EventKind.TheVariants as kinds;
+ghost use Rattle.machine_states.specs.map_history.specs.declared.op.Request.{Request};
+ghost use Rattle.machine_states.specs.map_history.specs.Requests.{AreInOrder};
+ghost use Rattle.machine_states.specs.table_words.specs.Limits.{IsWithinLimits};
+ghost use Rattle.machine_states.specs.table_words.specs.Places.{slot_count};
+ghost use Rattle.machine_states.specs.runner_parts.specs.declared.event.EventKind.TheVariants as kinds;
 ghost use Rattle.machine_states.specs.First.{keeper_part, worker_part};
 ghost use Rattle.runner_block.specs.Places.{IsAtRest};
 ghost use Rattle.version_words.specs.TableState.{IsOf, IsNew, HasSmallValue, first_keeper, HasJoinedAll, IsClosing};
@@ -18,10 +18,10 @@ use crate::table::FlockTable;
 use crate::words::Words;
 use atomic_table::Table;
 use machine_states::first_words;
-use machine_states::runner_steps::map_history::{Op, Request};
-use machine_states::runner_steps::table_words::Layout;
+use machine_states::map_history::{Op, Request};
 use machine_states::runner_steps::{sizes_for, slot_count};
 use machine_states::structure_laws::Structure;
+use machine_states::table_words::Layout;
 use runner_block::{Block, Kept, RunPlace, Share};
 use std::alloc::{AllocError, Global};
 

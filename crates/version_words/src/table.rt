@@ -1,7 +1,7 @@
 //! The shared table.
 ghost use Rattle.std.specs.Prelude.{◌≡◌, ℕ, ◌==◌, false};
-ghost use Rattle.machine_states.specs.runner_steps.specs.table_words.specs.declared.access.Access.TheVariants.{Loads, Stores, Exchanges, Raises};
-ghost use Rattle.machine_states.specs.runner_steps.specs.table_words.specs.Access.{written};
+ghost use Rattle.machine_states.specs.table_words.specs.declared.access.Access.TheVariants.{Loads, Stores, Exchanges, Raises};
+ghost use Rattle.machine_states.specs.table_words.specs.Access.{written};
 ghost use Rattle.version_words.specs.Naming.{is_seat};
 ghost use Rattle.version_words.specs.TableState.{IsOf};
 ghost use Rattle.version_words.specs.Events.{Makes, Tries, Leaves, Commits, IsNamed, IsBlind, event_by, step_at, address_of, start_of, nothing, announcing, seen_seat};
@@ -10,9 +10,9 @@ use crate::plays::{self, Named};
 use crate::rule::{Setup, Shows};
 use crate::view::View;
 use atomic_table::{Seat, Table};
-use machine_states::runner_steps::body_terms::Thunk;
-use machine_states::runner_steps::table_words::Spot;
+use machine_states::body_terms::Thunk;
 use machine_states::structure_laws::Structure;
+use machine_states::table_words::Spot;
 use std::alloc::Global;
 use std::marker::Model;
 

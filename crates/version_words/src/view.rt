@@ -1,8 +1,8 @@
 //! What a seat knows.
 
-use machine_states::runner_steps::map_history::Request;
-use machine_states::runner_steps::runner_parts::Part;
-use machine_states::runner_steps::table_words::Layout;
+use machine_states::map_history::Request;
+use machine_states::runner_parts::Part;
+use machine_states::table_words::Layout;
 use std::collections::LinkedList;
 
 /// What a seat knows: the table, the runner's number and its part, and of the keeper the parts of the workers that it

@@ -1,13 +1,13 @@
 //! The words of a closed table.
 ghost use Rattle.std.specs.Prelude.{◌≡◌, ◌<◌, length, Some, None, if◌then◌else◌, ◌==◌};
-ghost use Rattle.machine_states.specs.runner_steps.specs.table_words.specs.declared.spot.Spot.TheVariants as spots;
+ghost use Rattle.machine_states.specs.table_words.specs.declared.spot.Spot.TheVariants as spots;
 ghost use Rattle.version_words.specs.TableState.{AreShown, word_of, HasWord, entry_of};
 
 use crate::rule::Setup;
 use atomic_table::Closed;
-use machine_states::runner_steps::body_terms::{Place, Thunk, Word};
-use machine_states::runner_steps::table_words::Spot;
+use machine_states::body_terms::{Place, Thunk, Word};
 use machine_states::structure_laws::Structure;
+use machine_states::table_words::Spot;
 use std::alloc::Global;
 use std::marker::Model;
 

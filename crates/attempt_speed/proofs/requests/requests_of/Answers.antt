@@ -1,7 +1,7 @@
 use Rattle.std.proofs.Common.{◌++◌, ◌∷◌, [], ◌∙◌, ap, arith, length, map, subst, sym}
 use Rattle.std.specs.List.{range_with_len}
 use Rattle.std.proofs.lemmas.List.FromFn.{map-range_with_len_more, length-map-range_with_len}
-use Rattle.machine_states.specs.runner_steps.specs.map_history.specs.Requests.{AreInOrder}
+use Rattle.machine_states.specs.map_history.specs.Requests.{AreInOrder}
 use Rattle.attempt_speed.specs.Asked.{request_at}
 use Rattle.attempt_speed.proofs.Asked.{requests_in_order}
 use Rattle.attempt_speed.proofs.requests.requests_of.Goals as goal

@@ -1,6 +1,6 @@
 use Rattle.std.proofs.Common.{◌≡◌, ◌∙◌, ap, sym, subst, take, true, List}
 use Rattle.std.specs.Prelude.{All}
-use Rattle.machine_states.specs.runner_steps.specs.map_history.specs.declared.op.Request.{Request}
+use Rattle.machine_states.specs.map_history.specs.declared.op.Request.{Request}
 use Rattle.attempt_speed.specs.Asked.{requests_of}
 use Rattle.serving.specs.Serving.{MayServe}
 use Rattle.attempt_speed.proofs.Serving.{may_serve}

@@ -1,6 +1,6 @@
 use Rattle.std.proofs.Common.{◌<◌, length, true, false, sym, subst, ap, ◌∙◌, None, refl}
 use Rattle.std.proofs.lemmas.Option.{slice_get_within}
-use Rattle.section_lines.specs.structure_laws.specs.table_words.specs.Limits.{IsWithinLimits}
+use Rattle.machine_states.specs.table_words.specs.Limits.{IsWithinLimits}
 use Rattle.machine_states.proofs.Steps.{some_same, none_some}
 use Rattle.version_words.specs.machine_invariant.specs.After.{AreAllowed}
 use Rattle.version_words.proofs.Stages.{may_load_entry, then_knows}

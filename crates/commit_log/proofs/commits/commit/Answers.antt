@@ -1,5 +1,5 @@
 use Rattle.std.proofs.Common.{subst, refl}
-use Rattle.machine_states.specs.runner_steps.specs.runner_parts.specs.State.{RunState}
+use Rattle.machine_states.specs.runner_parts.specs.State.{RunState}
 use Rattle.commit_log.specs.Committed.{HasCommitted}
 use Rattle.commit_log.proofs.Running.{one_run}
 use Rattle.commit_log.proofs.Committing.{may_commit, then_committed}

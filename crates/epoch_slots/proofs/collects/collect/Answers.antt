@@ -1,6 +1,6 @@
 use Rattle.std.proofs.Common.{sym, subst, ap, refl}
-use Rattle.machine_states.specs.runner_steps.specs.table_words.specs.declared.layout.Layout.{Layout}
-use Rattle.machine_states.specs.runner_steps.specs.table_words.specs.Limits.{IsWithinLimits}
+use Rattle.machine_states.specs.table_words.specs.declared.layout.Layout.{Layout}
+use Rattle.machine_states.specs.table_words.specs.Limits.{IsWithinLimits}
 use Rattle.version_words.specs.machine_invariant.specs.After.{AreAllowed}
 use Rattle.epoch_slots.proofs.Collecting.{hand_is_own, has_collected}
 use Rattle.epoch_slots.proofs.collects.collect.Goals as goal

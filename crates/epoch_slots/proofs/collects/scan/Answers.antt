@@ -1,5 +1,5 @@
 use Rattle.std.proofs.Common.{◌+◌, Bool, sym, subst, ap, arith}
-use Rattle.machine_states.specs.runner_steps.specs.table_words.specs.declared.layout.Layout.{Layout}
+use Rattle.machine_states.specs.table_words.specs.declared.layout.Layout.{Layout}
 use Rattle.version_words.proofs.Stages.{may_scan_epoch}
 use Rattle.epoch_slots.specs.Collects.{HasScanned}
 use Rattle.epoch_slots.proofs.Scanning.{may_scan, has_scanned_more}

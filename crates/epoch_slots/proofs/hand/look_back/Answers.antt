@@ -1,5 +1,5 @@
 use Rattle.std.proofs.Common.{ℕ, ◌<◌, length, get_or, List, sym, subst, ap, ◌∙◌}
-use Rattle.machine_states.specs.runner_steps.specs.table_words.specs.Places.{slot_count}
+use Rattle.machine_states.specs.table_words.specs.Places.{slot_count}
 use Rattle.epoch_slots.specs.Hands.{IsLookedAt}
 use Rattle.epoch_slots.proofs.Looking.{in_front, is_own, back_on}
 use Rattle.epoch_slots.proofs.hand.look_back.Goals as goal

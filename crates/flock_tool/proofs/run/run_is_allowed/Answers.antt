@@ -1,5 +1,5 @@
 use Rattle.std.proofs.Common.{subst, sym}
-use Rattle.machine_states.specs.runner_steps.specs.table_words.specs.Limits.{IsWithinLimits}
+use Rattle.machine_states.specs.table_words.specs.Limits.{IsWithinLimits}
 use Rattle.version_words.specs.machine_invariant.specs.After.{AreAllowed}
 use Rattle.flock_tool.specs.Runs.{words_in}
 use Rattle.flock_tool.specs.declared.ran.Ran.{Ran}

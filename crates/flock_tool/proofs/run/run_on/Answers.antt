@@ -1,6 +1,6 @@
 use Rattle.std.specs.Prelude.{slice_get}
 use Rattle.std.proofs.Common.{length, refl, sym, subst, ap, ◌∙◌}
-use Rattle.machine_states.specs.runner_steps.specs.map_history.specs.Requests.{AreInOrder}
+use Rattle.machine_states.specs.map_history.specs.Requests.{AreInOrder}
 use Rattle.flock_tool.proofs.Giving.{has_run_on, if_ok, on_err, on_err_then, unplanned_front}
 use Rattle.flock_tool.proofs.Traced.{in_any_order}
 use Rattle.flock_tool.proofs.run.run_on.Goals as goal

@@ -1,5 +1,5 @@
 use Rattle.std.proofs.Common.{arith, sym, subst, refl}
-use Rattle.machine_states.specs.runner_steps.specs.runner_parts.specs.State.{RunState}
+use Rattle.machine_states.specs.runner_parts.specs.State.{RunState}
 use Rattle.machine_states.specs.runner_steps.specs.AfterInRun.{goes_on}
 use Rattle.commit_log.specs.Committed.{MayCommit}
 use Rattle.commit_log.proofs.Halting.{halted_first, halted_more}

@@ -1,9 +1,9 @@
 use Rattle.std.proofs.Common.{◌≡◌, sym, subst, Some, refl}
-use Rattle.section_lines.specs.structure_laws.specs.table_words.specs.declared.spot.Spot.TheVariants.{Cell}
-use Rattle.section_lines.specs.structure_laws.specs.table_words.specs.declared.access.Access.TheVariants.{Exchanges}
-use Rattle.machine_states.specs.runner_steps.specs.runner_parts.specs.declared.event.EventKind.TheVariants as kinds
+use Rattle.machine_states.specs.table_words.specs.declared.spot.Spot.TheVariants.{Cell}
+use Rattle.machine_states.specs.table_words.specs.declared.access.Access.TheVariants.{Exchanges}
+use Rattle.machine_states.specs.runner_parts.specs.declared.event.EventKind.TheVariants as kinds
 use Rattle.commit_log.specs.version_words.specs.Events.{met_by}
-use Rattle.machine_states.specs.runner_steps.specs.runner_parts.specs.State.{RunState}
+use Rattle.machine_states.specs.runner_parts.specs.State.{RunState}
 use Rattle.commit_log.proofs.Running.{one_run}
 use Rattle.idem_cell.specs.Stored.{HasStored}
 use Rattle.idem_cell.proofs.Storing.{may_store, few_versions, then_stored}

@@ -1,7 +1,7 @@
 use Rattle.std.proofs.Common.{take, get_or, length, refl, sym, ap, ◌∙◌, Err}
 use Rattle.std.proofs.lemmas.Option.{slice_get_read}
 use Rattle.std.proofs.lemmas.List.{take_more}
-use Rattle.machine_states.specs.runner_steps.specs.runner_parts.specs.declared.event.Event.{Event}
+use Rattle.machine_states.specs.runner_parts.specs.declared.event.Event.{Event}
 use Rattle.machine_states.specs.World.{happens}
 use Rattle.machine_states.proofs.Runs.{run_more}
 use Rattle.machine_epochs.proofs.Reached.{sound_after, descriptors_after}

@@ -1,7 +1,7 @@
 use Rattle.std.proofs.Common.{◌+◌, ◌*◌, ◌/◌, ◌++◌, ◌∷◌, [], ◌∙◌, ap, arith, map, subst, sym}
 use Rattle.std.specs.List.{range_with_len}
 use Rattle.std.proofs.lemmas.List.FromFn.{map-range_with_len_more}
-use Rattle.agreement_core.specs.map_history.specs.Requests.{AreInOrder}
+use Rattle.machine_states.specs.map_history.specs.Requests.{AreInOrder}
 use Rattle.lock_attempts.specs.Tickets.{ticket}
 use Rattle.lock_attempts.proofs.Numbering.{in_order}
 use Rattle.lock_attempts.proofs.tickets.make_tickets.Goals as goal

@@ -1,5 +1,5 @@
 use Rattle.std.proofs.Common.{Ok, Err, length, refl, sym, ap, ◌∙◌, subst}
-use Rattle.agreement_core.specs.table_words.specs.Limits.{IsWithinLimits}
+use Rattle.machine_states.specs.table_words.specs.Limits.{IsWithinLimits}
 use Rattle.version_words.specs.machine_invariant.specs.After.{AreAllowed}
 use Rattle.attempts.specs.try_lock.specs.Publishes.{Publishes}
 use Rattle.attempts.specs.Counted.{IsSeen}

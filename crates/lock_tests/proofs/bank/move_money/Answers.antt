@@ -1,6 +1,6 @@
 use Rattle.std.specs.Prelude.{Result, IfOk}
 use Rattle.std.proofs.Common.{◌≡◌, ℕ, ◌+◌, refl, sym, ap, ◌∙◌, subst, arith}
-use Rattle.machine_states.specs.runner_steps.specs.map_history.specs.declared.op.Op.TheVariants.{Get}
+use Rattle.machine_states.specs.map_history.specs.declared.op.Op.TheVariants.{Get}
 use Rattle.lock_attempts.specs.attempts.specs.declared.answers.Attempt.{Attempt}
 use Rattle.lock_attempts.specs.attempts.specs.lock_walks.specs.Wants.{WantsWereRead}
 use Rattle.accounts.specs.account_laws.specs.Accounts.{accounts_of}

@@ -1,6 +1,6 @@
 use Rattle.std.proofs.Common.{refl, sym, subst}
-use Rattle.machine_states.specs.runner_steps.specs.map_history.specs.Replay.{Pairs}
-use Rattle.machine_states.specs.runner_steps.specs.table_words.specs.declared.spot.Spot.TheVariants.{Cell}
+use Rattle.machine_states.specs.map_history.specs.Replay.{Pairs}
+use Rattle.machine_states.specs.table_words.specs.declared.spot.Spot.TheVariants.{Cell}
 use Rattle.settled_tables.specs.closed_words.specs.version_words.specs.TableState.{word_of}
 use Rattle.hash_table.specs.try_lock.specs.Contents.{StandFor}
 use Rattle.settled_tables.specs.closed_words.specs.Histories.{HoldsNoLock}

@@ -1,6 +1,6 @@
 use Rattle.std.proofs.Common.{◌≡◌, true, ap, subst, ◌∙◌}
 use Rattle.std.specs.Prelude.{IfSome}
-use Rattle.machine_states.specs.runner_steps.specs.runner_parts.specs.Tests.{is_answered}
+use Rattle.machine_states.specs.runner_parts.specs.Tests.{is_answered}
 use Rattle.lock_tests.proofs.Serving.{served_one}
 use Rattle.lock_tests.proofs.courses.serve_due.Goals as goal
 

@@ -1,8 +1,8 @@
 use Rattle.std.proofs.Common.{◌+◌, ap, sym, subst, ◌∙◌, refl}
 use Rattle.std.specs.Prelude.{slice_get}
 use Rattle.std.proofs.lemmas.Option.{slice_get-get_or}
-use Rattle.machine_states.specs.runner_steps.specs.map_history.specs.Requests.{AreInOrder}
-use Rattle.machine_states.specs.runner_steps.specs.table_words.specs.declared.layout.Layout.{Layout}
+use Rattle.machine_states.specs.map_history.specs.Requests.{AreInOrder}
+use Rattle.machine_states.specs.table_words.specs.declared.layout.Layout.{Layout}
 use Rattle.lock_tests.specs.Asked.{HasServed}
 use Rattle.lock_tests.proofs.Numbered.{numbered}
 use Rattle.lock_tests.proofs.courses.serve_in_turn.Goals as goal

@@ -1,6 +1,6 @@
 use Rattle.std.proofs.Common.{ap, sym, subst, ◌∙◌}
 use Rattle.std.specs.Prelude.{slice_get}
-use Rattle.machine_states.specs.runner_steps.specs.table_words.specs.declared.layout.Layout.{Layout}
+use Rattle.machine_states.specs.table_words.specs.declared.layout.Layout.{Layout}
 use Rattle.lock_tests.specs.Asked.{IsDue}
 use Rattle.lock_tests.proofs.Serving.{served_on, is_due_next}
 use Rattle.lock_tests.proofs.courses.serve_next.Goals as goal

@@ -1,5 +1,5 @@
 use Rattle.std.proofs.Common.{◌-◌, ◌∙◌}
-use Rattle.machine_states.specs.runner_steps.specs.body_terms.specs.Word.{value_of}
+use Rattle.machine_states.specs.body_terms.specs.Word.{value_of}
 use Rattle.lock_tests.proofs.Turning.{helped_number, is_named, may_help}
 use Rattle.lock_tests.proofs.turns.help_held.Goals as goal
 

@@ -1,6 +1,6 @@
 use Rattle.std.proofs.Common.{ap, subst, ◌∙◌}
 use Rattle.hash_table.specs.try_lock.specs.section_runs.specs.Opened.{Learns}
-use Rattle.machine_states.specs.runner_steps.specs.runner_parts.specs.Tests.{is_answered}
+use Rattle.machine_states.specs.runner_parts.specs.Tests.{is_answered}
 use Rattle.lock_tests.proofs.Turning.{cut_number, may_retire, left_tidy}
 use Rattle.lock_tests.proofs.Serving.{learns_others}
 use Rattle.lock_tests.proofs.turns.run_own.Goals as goal

@@ -1,6 +1,6 @@
 use Rattle.std.proofs.Common.{◌-◌, ap, subst, ◌∙◌, refl}
-use Rattle.section_lines.specs.structure_laws.specs.body_terms.specs.Word.{pack}
-use Rattle.machine_states.specs.runner_steps.specs.runner_parts.specs.State.{RunState}
+use Rattle.machine_states.specs.body_terms.specs.Word.{pack}
+use Rattle.machine_states.specs.runner_parts.specs.State.{RunState}
 use Rattle.commit_log.proofs.Running.{one_run}
 use Rattle.nested_lock.specs.Dropped.{HasDropped}
 use Rattle.nested_lock.proofs.Dropping.{may_drop, then_dropped}

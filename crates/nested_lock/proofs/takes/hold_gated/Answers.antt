@@ -1,6 +1,6 @@
 use Rattle.std.proofs.Common.{◌<◌, ◌-◌, ◌^◌, arith, true, refl, sym, ap, subst, ◌∙◌}
-use Rattle.section_lines.specs.structure_laws.specs.table_words.specs.declared.layout.Layout.{Layout}
-use Rattle.machine_states.specs.runner_steps.specs.runner_parts.specs.State.{RunState}
+use Rattle.machine_states.specs.table_words.specs.declared.layout.Layout.{Layout}
+use Rattle.machine_states.specs.runner_parts.specs.State.{RunState}
 use Rattle.commit_log.proofs.Asked.{asked_more}
 use Rattle.commit_log.proofs.Halting.{halted_first, halted_more}
 use Rattle.commit_log.proofs.Running.{one_run, ran_one}

@@ -1,7 +1,7 @@
 use Rattle.std.proofs.Common.{◌≡◌, ◌+◌, ◌++◌, ◌≤◌, vec_len, take}
 use Rattle.std.specs.List.{filter}
 use Rattle.std.specs.Vec.{vec_capacity}
-use Rattle.machine_states.specs.runner_steps.specs.runner_parts.specs.Lists.{is_old, slots_of}
+use Rattle.machine_states.specs.runner_parts.specs.Lists.{is_old, slots_of}
 use Rattle.runner_block.proofs.reserved.add_old.Given as goal
 
 abbrev pub invariant-loop-retired : goal.invariant-loop-retired

@@ -1,6 +1,6 @@
 use Rattle.std.proofs.Common.{◌≡◌, ◌≤◌, ◌<◌, ◌-◌, ℕ, Option, Some, sym, ap, subst, ◌∙◌, ◌++◌, ◌∷◌, [], get_or}
 use Rattle.std.specs.Option.{option_to_list}
-use Rattle.machine_states.specs.runner_steps.specs.runner_parts.specs.Lists.{without}
+use Rattle.machine_states.specs.runner_parts.specs.Lists.{without}
 use Rattle.machine_states.specs.epoch_core.specs.Lists.{times}
 use Rattle.runner_block.proofs.Once.{last_gone}
 use Rattle.runner_block.proofs.reserved.take_out.Goals as goal

@@ -1,5 +1,5 @@
 use Rattle.std.proofs.Common.{◌≡◌, drop}
-use Rattle.machine_states.specs.runner_steps.specs.runner_parts.specs.Lists.{test_of}
+use Rattle.machine_states.specs.runner_parts.specs.Lists.{test_of}
 use Rattle.runner_block.proofs.reserved.test_of.Given as goal
 
 abbrev pub invariant-loop-test : goal.invariant-loop-test

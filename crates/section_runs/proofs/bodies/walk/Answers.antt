@@ -1,18 +1,18 @@
 use Rattle.std.proofs.Common.{◌≡◌, suc, ◌+◌, List, length, take, arith, ap, sym, refl, subst, ◌∙◌}
 use Rattle.std.specs.Prelude.{sum_by}
-use Rattle.idem_cell.specs.body_terms.specs.Cost.{step_cost}
-use Rattle.idem_cell.specs.body_terms.specs.Line.{registers_before}
-use Rattle.idem_cell.specs.body_terms.specs.Shape.{IsStep, IsShaped}
-use Rattle.idem_cell.specs.body_terms.specs.declared.outcome.Outcome.{Outcome}
-use Rattle.idem_cell.specs.body_terms.specs.declared.outcome.Outcome.TheVariants.{Answered}
-use Rattle.idem_cell.specs.body_terms.specs.declared.step.Step.{Step}
-use Rattle.idem_cell.specs.body_terms.proofs.LineLemmas.{read_step, registers_before_next}
+use Rattle.idem_cell.specs.machine_states.specs.body_terms.specs.Cost.{step_cost}
+use Rattle.idem_cell.specs.machine_states.specs.body_terms.specs.Line.{registers_before}
+use Rattle.idem_cell.specs.machine_states.specs.body_terms.specs.Shape.{IsStep, IsShaped}
+use Rattle.idem_cell.specs.machine_states.specs.body_terms.specs.declared.outcome.Outcome.{Outcome}
+use Rattle.idem_cell.specs.machine_states.specs.body_terms.specs.declared.outcome.Outcome.TheVariants.{Answered}
+use Rattle.idem_cell.specs.machine_states.specs.body_terms.specs.declared.step.Step.{Step}
+use Rattle.idem_cell.specs.machine_states.specs.body_terms.proofs.LineLemmas.{read_step, registers_before_next}
 use Rattle.idem_cell.specs.section_lines.specs.Rests.{taken_releases}
 use Rattle.section_runs.specs.Reached.{run_of}
 use Rattle.section_runs.specs.Registers.{AreKept}
 use Rattle.section_runs.specs.Bodies.{NodesGone, body_of, IsBefore, HasWalked}
 use Rattle.section_runs.proofs.Staying.{ran_passed}
-use Rattle.idem_cell.specs.runner_parts.specs.State.{RunState}
+use Rattle.idem_cell.specs.machine_states.specs.runner_parts.specs.State.{RunState}
 use Rattle.section_runs.proofs.Going.{run_is}
 use Rattle.section_runs.proofs.Using.{on_not_halted, left_not_halted}
 use Rattle.section_runs.proofs.Through.{through_more, halted_then, through_few}

@@ -1,6 +1,6 @@
 use Rattle.std.specs.Prelude.{◌≡◌, take, sum_by}
-use Rattle.idem_cell.specs.body_terms.specs.Cost.{step_cost}
-use Rattle.idem_cell.specs.body_terms.specs.Line.{registers_before}
+use Rattle.idem_cell.specs.machine_states.specs.body_terms.specs.Cost.{step_cost}
+use Rattle.idem_cell.specs.machine_states.specs.body_terms.specs.Line.{registers_before}
 use Rattle.idem_alloc.specs.commit_log.specs.version_words.specs.TableState.{IsOf}
 use Rattle.idem_alloc.specs.commit_log.specs.Halted.{IsThrough}
 use Rattle.section_runs.specs.Reached.{run_of}

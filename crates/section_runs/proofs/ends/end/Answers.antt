@@ -1,6 +1,6 @@
 use Rattle.std.proofs.Common.{◌+◌, arith, sym, ◌∙◌, true}
 use Rattle.std.specs.Prelude.{count_by}
-use Rattle.idem_cell.specs.body_terms.specs.Shape.{is_take}
+use Rattle.idem_cell.specs.machine_states.specs.body_terms.specs.Shape.{is_take}
 use Rattle.idem_alloc.specs.commit_log.proofs.Asked.{asked_more}
 use Rattle.idem_alloc.specs.commit_log.proofs.Running.{ran_one}
 use Rattle.section_runs.proofs.Through.{halted_by, asked_if, through_more, halted_then, halted_few}

@@ -1,8 +1,8 @@
 use Rattle.std.proofs.Common.{◌≡◌, suc, ◌+◌, ◌<◌, List, length, take, arith, ap, sym, subst, ◌∙◌}
 use Rattle.std.specs.Prelude.{count_by}
-use Rattle.idem_cell.specs.body_terms.specs.Shape.{IsStep, is_take}
-use Rattle.idem_cell.specs.body_terms.specs.declared.step.Step.{Step}
-use Rattle.idem_cell.specs.body_terms.proofs.LineLemmas.{read_step}
+use Rattle.idem_cell.specs.machine_states.specs.body_terms.specs.Shape.{IsStep, is_take}
+use Rattle.idem_cell.specs.machine_states.specs.body_terms.specs.declared.step.Step.{Step}
+use Rattle.idem_cell.specs.machine_states.specs.body_terms.proofs.LineLemmas.{read_step}
 use Rattle.section_runs.specs.Ends.{IsEnding}
 use Rattle.section_runs.proofs.Through.{through_more, halted_then, through_few}
 use Rattle.section_runs.proofs.Walking.{sum_next, sum_most, sum_room}

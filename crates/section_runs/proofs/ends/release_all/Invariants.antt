@@ -1,5 +1,5 @@
 use Rattle.std.specs.Prelude.{take, count_by}
-use Rattle.idem_cell.specs.body_terms.specs.Shape.{is_take}
+use Rattle.idem_cell.specs.machine_states.specs.body_terms.specs.Shape.{is_take}
 use Rattle.idem_alloc.specs.commit_log.specs.version_words.specs.TableState.{IsOf}
 use Rattle.idem_alloc.specs.commit_log.specs.Halted.{IsThrough}
 use Rattle.section_runs.specs.Ends.{IsEnding, EndsOn}

@@ -1,7 +1,7 @@
 use Rattle.std.proofs.Common.{◌≡◌, ℕ, arith, ap, ◌∙◌, Some, refl}
 use Rattle.std.specs.Prelude.{cond}
-use Rattle.idem_cell.specs.body_terms.specs.Shape.{IsStep, is_take}
-use Rattle.idem_cell.specs.body_terms.specs.declared.step.Step.{Step}
+use Rattle.idem_cell.specs.machine_states.specs.body_terms.specs.Shape.{IsStep, is_take}
+use Rattle.idem_cell.specs.machine_states.specs.body_terms.specs.declared.step.Step.{Step}
 use Rattle.idem_alloc.specs.commit_log.proofs.Running.{ran_one}
 use Rattle.section_runs.specs.Bodies.{body_of}
 use Rattle.section_runs.proofs.Through.{through_by, halted_by, asked_if}

@@ -1,5 +1,5 @@
 use Rattle.std.proofs.Common.{◌+◌, ◌≤◌, length, arith, sym, refl, subst, true, false, inl, inr}
-use Rattle.idem_cell.specs.runner_parts.specs.State.{NodesState}
+use Rattle.idem_cell.specs.machine_states.specs.runner_parts.specs.State.{NodesState}
 use Rattle.idem_alloc.specs.commit_log.proofs.Asked.{asked_more}
 use Rattle.section_runs.proofs.Through.{some_of, none_of}
 use Rattle.section_runs.proofs.Openeds.{stands_opened, cost_rest}

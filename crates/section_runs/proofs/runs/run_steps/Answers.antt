@@ -1,10 +1,10 @@
 use Rattle.std.proofs.Common.{◌≡◌, ◌+◌, ◌≤◌, length, arith, ap, sym, subst, ◌∙◌, true, refl}
 use Rattle.std.specs.Prelude.{count_by, sum_by}
-use Rattle.idem_cell.specs.body_terms.specs.Cost.{cost_of, step_cost}
-use Rattle.idem_cell.specs.body_terms.specs.Shape.{IsShaped, is_take}
-use Rattle.idem_cell.specs.body_terms.specs.Trail.{Agreed}
-use Rattle.idem_cell.specs.body_terms.specs.declared.outcome.Outcome.{Outcome}
-use Rattle.idem_cell.specs.body_terms.specs.declared.thunk.Thunk.{Thunk}
+use Rattle.idem_cell.specs.machine_states.specs.body_terms.specs.Cost.{cost_of, step_cost}
+use Rattle.idem_cell.specs.machine_states.specs.body_terms.specs.Shape.{IsShaped, is_take}
+use Rattle.idem_cell.specs.machine_states.specs.body_terms.specs.Trail.{Agreed}
+use Rattle.idem_cell.specs.machine_states.specs.body_terms.specs.declared.outcome.Outcome.{Outcome}
+use Rattle.idem_cell.specs.machine_states.specs.body_terms.specs.declared.thunk.Thunk.{Thunk}
 use Rattle.idem_cell.specs.machine_states.specs.runner_steps.specs.Sections.{thunk_of}
 use Rattle.idem_alloc.specs.commit_log.proofs.Asked.{asked_more}
 use Rattle.section_runs.specs.Reached.{run_of}

@@ -1,17 +1,17 @@
 use Rattle.std.proofs.Common.{length, arith, ap, sym, subst, ◌∙◌, refl}
-use Rattle.idem_cell.specs.body_terms.specs.declared.step.Step.TheVariants as kinds
+use Rattle.idem_cell.specs.machine_states.specs.body_terms.specs.declared.step.Step.TheVariants as kinds
 use Rattle.section_runs.specs.Reached.{run_of}
 use Rattle.section_runs.proofs.Going.{log_room}
 use Rattle.section_runs.proofs.Through.{some_of, made_ran, through_by}
-use Rattle.idem_cell.specs.body_terms.specs.declared.value.Value.TheVariants.{Const}
+use Rattle.idem_cell.specs.machine_states.specs.body_terms.specs.declared.value.Value.TheVariants.{Const}
 use Rattle.std.specs.Prelude.{slice_index_or}
-use Rattle.idem_cell.specs.body_terms.specs.Line.{registers_before, source_of}
-use Rattle.idem_cell.specs.body_terms.specs.Run.{source_value}
-use Rattle.idem_cell.specs.body_terms.specs.Act.{IsLogged}
+use Rattle.idem_cell.specs.machine_states.specs.body_terms.specs.Line.{registers_before, source_of}
+use Rattle.idem_cell.specs.machine_states.specs.body_terms.specs.Run.{source_value}
+use Rattle.idem_cell.specs.machine_states.specs.body_terms.specs.Act.{IsLogged}
 use Rattle.section_runs.specs.Bodies.{body_of}
 use Rattle.section_runs.proofs.Going.{shaped}
 use Rattle.section_runs.proofs.Using.{used_at, five}
-use Rattle.idem_cell.specs.table_words.specs.Limits.{IsWithinLimits}
+use Rattle.idem_cell.specs.machine_states.specs.table_words.specs.Limits.{IsWithinLimits}
 use Rattle.nested_lock.specs.machine_facts.specs.machine_invariant.specs.After.{AreAllowed}
 use Rattle.section_runs.proofs.Cases.{may_make, make_goes, lists_once}
 use Rattle.section_runs.proofs.steps.make_step.Goals as goal

@@ -1,5 +1,5 @@
 use Rattle.std.proofs.Common.{length, arith, ap, refl}
-use Rattle.idem_cell.specs.body_terms.specs.declared.step.Step.TheVariants as kinds
+use Rattle.idem_cell.specs.machine_states.specs.body_terms.specs.declared.step.Step.TheVariants as kinds
 use Rattle.section_runs.specs.Reached.{run_of}
 use Rattle.section_runs.proofs.Going.{log_room}
 use Rattle.section_runs.proofs.Through.{retired_ran, through_by}

@@ -1,14 +1,14 @@
 use Rattle.std.proofs.Common.{length, ap, sym, refl, subst, ◌∙◌, None, Some, cond}
 use Rattle.std.specs.Prelude.{◌==◌, slice_index}
-use Rattle.idem_cell.specs.body_terms.specs.Act.{IsLogged}
-use Rattle.idem_cell.specs.body_terms.specs.Line.{registers_before}
-use Rattle.idem_cell.specs.body_terms.specs.Word.{version_of}
-use Rattle.idem_cell.specs.body_terms.specs.declared.outcome.Outcome.TheVariants.{Stale, Spent}
-use Rattle.idem_cell.specs.body_terms.specs.declared.value.Value.TheVariants.{Of}
-use Rattle.idem_cell.specs.body_terms.specs.Shape.{is_make}
-use Rattle.idem_cell.specs.table_words.specs.declared.layout.Layout.{Layout}
-use Rattle.idem_cell.specs.body_terms.specs.declared.step.Step.{Step}
-use Rattle.idem_cell.specs.body_terms.specs.declared.step.Step.TheVariants as kinds
+use Rattle.idem_cell.specs.machine_states.specs.body_terms.specs.Act.{IsLogged}
+use Rattle.idem_cell.specs.machine_states.specs.body_terms.specs.Line.{registers_before}
+use Rattle.idem_cell.specs.machine_states.specs.body_terms.specs.Word.{version_of}
+use Rattle.idem_cell.specs.machine_states.specs.body_terms.specs.declared.outcome.Outcome.TheVariants.{Stale, Spent}
+use Rattle.idem_cell.specs.machine_states.specs.body_terms.specs.declared.value.Value.TheVariants.{Of}
+use Rattle.idem_cell.specs.machine_states.specs.body_terms.specs.Shape.{is_make}
+use Rattle.idem_cell.specs.machine_states.specs.table_words.specs.declared.layout.Layout.{Layout}
+use Rattle.idem_cell.specs.machine_states.specs.body_terms.specs.declared.step.Step.{Step}
+use Rattle.idem_cell.specs.machine_states.specs.body_terms.specs.declared.step.Step.TheVariants as kinds
 use Rattle.section_runs.specs.Reached.{run_of}
 use Rattle.section_runs.specs.Bodies.{body_of}
 use Rattle.section_runs.specs.declared.passed.Passed.TheVariants.{On, Left}

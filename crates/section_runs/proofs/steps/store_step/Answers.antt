@@ -1,10 +1,10 @@
 use Rattle.std.proofs.Common.{length, arith, ap, sym, subst, ◌∙◌, refl}
-use Rattle.idem_cell.specs.body_terms.specs.declared.step.Step.TheVariants as kinds
+use Rattle.idem_cell.specs.machine_states.specs.body_terms.specs.declared.step.Step.TheVariants as kinds
 use Rattle.section_runs.specs.Reached.{run_of}
 use Rattle.std.specs.Prelude.{slice_index}
-use Rattle.idem_cell.specs.body_terms.specs.Line.{registers_before, source_of}
-use Rattle.idem_cell.specs.body_terms.specs.Run.{source_value}
-use Rattle.idem_cell.specs.body_terms.specs.Act.{IsLogged}
+use Rattle.idem_cell.specs.machine_states.specs.body_terms.specs.Line.{registers_before, source_of}
+use Rattle.idem_cell.specs.machine_states.specs.body_terms.specs.Run.{source_value}
+use Rattle.idem_cell.specs.machine_states.specs.body_terms.specs.Act.{IsLogged}
 use Rattle.section_runs.specs.Bodies.{body_of}
 use Rattle.section_runs.proofs.Going.{shaped}
 use Rattle.section_runs.proofs.Using.{used_at}

@@ -1,8 +1,8 @@
 use Rattle.std.specs.Prelude.{not, position}
 use Rattle.std.specs.List.{list_any}
 use Rattle.std.proofs.Common.{◌∙◌, sym, ap, subst, refl}
-use Rattle.machine_states.specs.runner_steps.specs.body_terms.specs.Shape.{IsShaped, is_look}
-use Rattle.machine_states.specs.runner_steps.specs.table_words.specs.Limits.{IsWithinLimits}
+use Rattle.machine_states.specs.body_terms.specs.Shape.{IsShaped, is_look}
+use Rattle.machine_states.specs.table_words.specs.Limits.{IsWithinLimits}
 use Rattle.machine_states.specs.runner_steps.specs.Sections.{reply_in}
 use Rattle.caller_facts.specs.version_words.specs.machine_invariant.specs.After.{AreAllowed}
 use Rattle.caller_facts.specs.Counted.{IsSeen}

@@ -1,8 +1,8 @@
 use Rattle.std.specs.Prelude.{not, slice_get}
 use Rattle.std.proofs.Common.{◌∙◌, length, sym, ap, subst, refl, None}
-use Rattle.machine_states.specs.runner_steps.specs.table_words.specs.Limits.{IsWithinLimits}
+use Rattle.machine_states.specs.table_words.specs.Limits.{IsWithinLimits}
 use Rattle.caller_facts.specs.version_words.specs.machine_invariant.specs.After.{AreAllowed}
-use Rattle.machine_states.specs.runner_steps.specs.runner_parts.specs.State.{ReadsState}
+use Rattle.machine_states.specs.runner_parts.specs.State.{ReadsState}
 use Rattle.caller_facts.specs.section_runs.specs.commit_log.specs.Asked.{IsAsked}
 use Rattle.caller_facts.specs.try_lock.specs.Plans.{HasPlanned as PlanIs, is_halted}
 use Rattle.caller_facts.specs.Counted.{IsCounted, IsSeen}

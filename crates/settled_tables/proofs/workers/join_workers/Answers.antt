@@ -1,6 +1,6 @@
 use Rattle.std.proofs.Common.{rules, ◌≡◌, ℕ, ◌+◌, ◌<◌, ◌++◌, ◌∷◌, [], length, get_or, vec_items, vec_len, ap, sym, subst, arith, refl}
 use Rattle.std.specs.Vec.Iter.{into_iter_items, into_iter_len}
-use Rattle.machine_states.specs.runner_steps.specs.table_words.specs.declared.layout.Layout.{Layout}
+use Rattle.machine_states.specs.table_words.specs.declared.layout.Layout.{Layout}
 use Rattle.closed_words.specs.version_words.specs.RunnerState.{RunnerState}
 use Rattle.closed_words.specs.version_words.proofs.Stages.{may_join}
 use Rattle.settled_tables.specs.Keeper.{IsIdleKeeper}

@@ -1,5 +1,5 @@
 use Rattle.std.proofs.Common.{◌<◌, ap, arith}
-use Rattle.machine_states.specs.runner_steps.specs.table_words.specs.declared.layout.Layout.{Layout}
+use Rattle.machine_states.specs.table_words.specs.declared.layout.Layout.{Layout}
 use Rattle.closed_words.specs.version_words.proofs.Stages.{may_split}
 use Rattle.settled_tables.proofs.Keeping.{then_idle}
 use Rattle.settled_tables.proofs.Working.{is_new}

@@ -1,5 +1,5 @@
 use Rattle.std.proofs.Common.{◌-◌, refl}
-use Rattle.machine_states.specs.runner_steps.specs.body_terms.specs.Word.{value_of}
+use Rattle.machine_states.specs.body_terms.specs.Word.{value_of}
 use Rattle.settling.specs.Clearing.{HasRun}
 use Rattle.settling.proofs.Ran.{not_rose, at_end}
 use Rattle.settling.proofs.settles.run_named.Goals as goal

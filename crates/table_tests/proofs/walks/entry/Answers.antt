@@ -1,7 +1,7 @@
 use Rattle.std.proofs.Common.{◌<◌, None, false, sym, subst, length}
 use Rattle.machine_states.specs.structure_laws.specs.Tray.{tray}
 use Rattle.std.proofs.Common.{List}
-use Rattle.machine_states.specs.runner_steps.specs.map_history.specs.declared.op.Request.{Request}
+use Rattle.machine_states.specs.map_history.specs.declared.op.Request.{Request}
 use Rattle.version_words.proofs.Stages.{may_load_entry}
 use Rattle.table_tests.proofs.walks.entry.Goals as goal
 

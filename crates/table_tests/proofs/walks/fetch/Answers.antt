@@ -1,8 +1,8 @@
 use Rattle.std.proofs.Common.{ℕ, None, refl, sym, ap, subst, ◌∙◌}
 use Rattle.machine_states.specs.structure_laws.specs.Tray.{tray}
-use Rattle.machine_states.specs.runner_steps.specs.table_words.specs.declared.layout.Layout.{Layout}
+use Rattle.machine_states.specs.table_words.specs.declared.layout.Layout.{Layout}
 use Rattle.table_tests.specs.Slots.{slot_of}
-use Rattle.machine_states.specs.runner_steps.specs.runner_parts.specs.declared.event.EventKind.TheVariants.{PrivateLoad}
+use Rattle.machine_states.specs.runner_parts.specs.declared.event.EventKind.TheVariants.{PrivateLoad}
 use Rattle.machine_states.specs.epoch_core.specs.declared.stage.Stage.TheVariants as stages
 use Rattle.version_words.specs.Events.{IsEnabled}
 use Rattle.version_words.proofs.Stages.{may_load_word}

@@ -1,6 +1,6 @@
 use Rattle.std.proofs.Common.{ap, arith}
 use Rattle.machine_states.specs.structure_laws.specs.Tray.{tray}
-use Rattle.machine_states.specs.runner_steps.specs.table_words.specs.declared.layout.Layout.{Layout}
+use Rattle.machine_states.specs.table_words.specs.declared.layout.Layout.{Layout}
 use Rattle.version_words.proofs.Stages.{may_join, then_keeper, then_joined}
 use Rattle.table_tests.proofs.walks.join.Goals as goal
 

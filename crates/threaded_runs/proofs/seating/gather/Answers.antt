@@ -1,6 +1,6 @@
 use Rattle.std.proofs.Common.{rules, ◌≡◌, ℕ, ◌+◌, ◌<◌, ◌++◌, ◌∷◌, [], length, take, get_or, vec_items, vec_len, ◌∙◌, ap, sym, subst, arith}
 use Rattle.std.specs.Vec.Iter.{into_iter_items, into_iter_len}
-use Rattle.machine_states.specs.runner_steps.specs.table_words.specs.declared.layout.Layout.{Layout}
+use Rattle.machine_states.specs.table_words.specs.declared.layout.Layout.{Layout}
 use Rattle.version_words.proofs.Stages.{may_join}
 use Rattle.settled_tables.specs.settling.specs.runner_gate.specs.Counts.{plus, halts_after}
 use Rattle.threaded_runs.specs.declared.job.Finished.{Finished}

@@ -1,8 +1,8 @@
 use Rattle.std.proofs.Common.{◌≡◌, ◌-◌, length, true, false, sym, ap, subst, ◌∙◌, arith, refl}
 use Rattle.std.specs.Prelude.{◌==◌, slice_index}
 use Rattle.std.proofs.lemmas.Bool.Decides.{nat_tests}
-use Rattle.machine_states.specs.runner_steps.specs.table_words.specs.declared.layout.Layout.{Layout}
-use Rattle.machine_states.specs.runner_steps.specs.table_words.specs.Limits.{IsWithinLimits}
+use Rattle.machine_states.specs.table_words.specs.declared.layout.Layout.{Layout}
+use Rattle.machine_states.specs.table_words.specs.Limits.{IsWithinLimits}
 use Rattle.section_runs.specs.machine_facts.specs.machine_invariant.specs.After.{AreAllowed}
 use Rattle.section_runs.specs.commit_log.specs.version_words.proofs.Holds.{can_publish}
 use Rattle.try_lock.specs.Publishes.{refused_by}

@@ -1,6 +1,6 @@
 use Rattle.std.proofs.Common.{◌+◌, sym, ap, subst}
-use Rattle.machine_states.specs.runner_steps.specs.table_words.specs.Places.{slot_count}
-use Rattle.machine_states.specs.runner_steps.specs.runner_parts.specs.declared.event.EventKind.TheVariants.{PrivateLoad, PrivateStore}
+use Rattle.machine_states.specs.table_words.specs.Places.{slot_count}
+use Rattle.machine_states.specs.runner_parts.specs.declared.event.EventKind.TheVariants.{PrivateLoad, PrivateStore}
 use Rattle.section_runs.specs.commit_log.specs.version_words.specs.Events.{IsEnabled, Makes}
 use Rattle.try_lock.proofs.Preparing.{may_load, may_store, set_already, set_stored}
 use Rattle.try_lock.proofs.publishes.set_word.Goals as goal

@@ -1,7 +1,7 @@
 use Rattle.std.proofs.Common.{◌≡◌, ◌+◌, suc, take, get_or, sym, ap, subst, ◌∙◌, arith}
 use Rattle.std.proofs.Math.Seq.{take-suc}
 use Rattle.std.proofs.lemmas.List.{length-take-le}
-use Rattle.machine_states.specs.runner_steps.specs.table_words.specs.Places.{slot_count}
+use Rattle.machine_states.specs.table_words.specs.Places.{slot_count}
 use Rattle.try_lock.specs.Prepares.{SetsWord, HasSet}
 use Rattle.try_lock.proofs.Preparing.{may_set, set_more}
 use Rattle.try_lock.proofs.publishes.set_words.Goals as goal

@@ -1,4 +1,4 @@
-use Rattle.machine_states.specs.runner_steps.specs.map_history.specs.declared.op.Op.TheVariants.{Get}
+use Rattle.machine_states.specs.map_history.specs.declared.op.Op.TheVariants.{Get}
 use Rattle.version_words.proofs.Bounds.{one_more}
 use Rattle.version_words.proofs.seats.values_fit.Goals as goal
 

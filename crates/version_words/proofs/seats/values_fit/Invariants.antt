@@ -1,5 +1,5 @@
 use Rattle.std.proofs.Common.{ℕ, ◌<◌, get_or}
-use Rattle.machine_states.specs.runner_steps.specs.map_history.specs.declared.op.Request.{Request}
+use Rattle.machine_states.specs.map_history.specs.declared.op.Request.{Request}
 use Rattle.version_words.specs.TableState.{HasSmallValue}
 use Rattle.version_words.proofs.seats.values_fit.Given as goal
 

@@ -1,4 +1,4 @@
-use Rattle.machine_states.specs.runner_steps.specs.map_history.specs.Replay.{Pairs}
+use Rattle.machine_states.specs.map_history.specs.Replay.{Pairs}
 use Rattle.bucket_walks.specs.bucket_laws.specs.Buckets.{buckets_meaning}
 use Rattle.lock_walks.specs.try_lock.specs.Contents.{StandFor}
 use Rattle.hash_table.specs.Stands.{Gathers}

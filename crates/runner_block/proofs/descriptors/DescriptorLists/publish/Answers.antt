@@ -1,5 +1,5 @@
 use Rattle.std.proofs.Common.{sym, ap, ◌∙◌, length, arith}
-use Rattle.machine_states.specs.runner_steps.specs.runner_parts.specs.Tests.{has}
+use Rattle.machine_states.specs.runner_parts.specs.Tests.{has}
 use Rattle.runner_block.specs.Room.{owed}
 use Rattle.runner_block.proofs.Rooms.{without_fewer}
 use Rattle.runner_block.proofs.descriptors.DescriptorLists.publish.Goals as goal

@@ -1,9 +1,9 @@
 use Rattle.std.proofs.Common.{refl, sym, subst, arith}
 use Rattle.runner_block.specs.Room.{AreBelow}
 use Rattle.std.specs.Prelude.{not}
-use Rattle.machine_states.specs.runner_steps.specs.runner_parts.specs.Lists.{is_old, slots_of}
+use Rattle.machine_states.specs.runner_parts.specs.Lists.{is_old, slots_of}
 use Rattle.std.proofs.Common.{List}
-use Rattle.machine_states.specs.runner_steps.specs.runner_parts.specs.declared.entries.Retired.{Retired}
+use Rattle.machine_states.specs.runner_parts.specs.declared.entries.Retired.{Retired}
 use Rattle.runner_block.proofs.Rooms.{refit, below_append, below_filter}
 use Rattle.runner_block.proofs.nodes.NodeLists.collect.Goals as goal
 

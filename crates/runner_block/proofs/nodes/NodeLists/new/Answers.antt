@@ -1,6 +1,6 @@
 use Rattle.std.proofs.Common.{List, sym, ap, subst, length, arith}
-use Rattle.machine_states.specs.runner_steps.specs.runner_parts.specs.declared.entries.Retired.{Retired}
-use Rattle.machine_states.specs.runner_steps.specs.runner_parts.specs.Lists.{slots_of}
+use Rattle.machine_states.specs.runner_parts.specs.declared.entries.Retired.{Retired}
+use Rattle.machine_states.specs.runner_parts.specs.Lists.{slots_of}
 use Rattle.runner_block.specs.Room.{AreTested, AreBelow}
 use Rattle.runner_block.proofs.Rooms.{below_none, below_falling, length_falling}
 use Rattle.runner_block.proofs.nodes.NodeLists.new.Goals as goal

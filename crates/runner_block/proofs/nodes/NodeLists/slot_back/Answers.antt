@@ -1,5 +1,5 @@
 use Rattle.std.proofs.Common.{refl, sym, ap, subst, ◌∙◌, length, arith, ◌∷◌, []}
-use Rattle.machine_states.specs.runner_steps.specs.runner_parts.specs.Tests.{has}
+use Rattle.machine_states.specs.runner_parts.specs.Tests.{has}
 use Rattle.runner_block.specs.Room.{AreTested, AreBelow}
 use Rattle.runner_block.proofs.Rooms.{without_fewer, tested_without, refit, below_without, below_append, below_one}
 use Rattle.runner_block.proofs.nodes.NodeLists.slot_back.Goals as goal

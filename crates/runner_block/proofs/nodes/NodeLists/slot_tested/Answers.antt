@@ -1,5 +1,5 @@
 use Rattle.std.proofs.Common.{refl, sym, ap, subst, ◌∙◌, arith}
-use Rattle.machine_states.specs.runner_steps.specs.runner_parts.specs.Tests.{has}
+use Rattle.machine_states.specs.runner_parts.specs.Tests.{has}
 use Rattle.runner_block.specs.Room.{AreTested}
 use Rattle.runner_block.proofs.Rooms.{one_more_fits, tested_anew, refit}
 use Rattle.runner_block.proofs.nodes.NodeLists.slot_tested.Goals as goal

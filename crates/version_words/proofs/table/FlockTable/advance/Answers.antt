@@ -1,5 +1,5 @@
 use Rattle.std.proofs.Common.{refl, sym, subst, ap, ◌∙◌}
-use Rattle.machine_states.specs.runner_steps.specs.runner_parts.specs.declared.event.EventKind.TheVariants.{Advance}
+use Rattle.machine_states.specs.runner_parts.specs.declared.event.EventKind.TheVariants.{Advance}
 use Rattle.machine_states.specs.runner_steps.specs.AfterOutside.{advance_after}
 use Rattle.runner_block.specs.declared.block.Block.{Block}
 use Rattle.runner_block.specs.Kept.{with_part}

@@ -1,5 +1,5 @@
 use Rattle.std.proofs.Common.{refl, ap, ◌∙◌}
-use Rattle.machine_states.specs.runner_steps.specs.runner_parts.specs.declared.event.EventKind.TheVariants.{ClockLoad}
+use Rattle.machine_states.specs.runner_parts.specs.declared.event.EventKind.TheVariants.{ClockLoad}
 use Rattle.version_words.proofs.Inside.{quiet_kept}
 use Rattle.version_words.proofs.table.FlockTable.clock_load.Goals as goal
 

@@ -1,5 +1,5 @@
 use Rattle.std.proofs.Common.{refl, sym, subst, ap, ◌∙◌}
-use Rattle.machine_states.specs.runner_steps.specs.runner_parts.specs.declared.event.EventKind.TheVariants.{EnterLoad}
+use Rattle.machine_states.specs.runner_parts.specs.declared.event.EventKind.TheVariants.{EnterLoad}
 use Rattle.machine_states.specs.epoch_core.specs.declared.stage.Stage.TheVariants as stages
 use Rattle.machine_states.specs.runner_steps.specs.AfterOutside.{with_stage}
 use Rattle.runner_block.specs.declared.block.Block.{Block}

@@ -1,5 +1,5 @@
 use Rattle.std.proofs.Common.{ap, sym, subst, ◌∙◌}
-use Rattle.machine_states.specs.runner_steps.specs.runner_parts.specs.declared.event.EventKind.TheVariants.{EpochForRetire}
+use Rattle.machine_states.specs.runner_parts.specs.declared.event.EventKind.TheVariants.{EpochForRetire}
 use Rattle.runner_block.specs.declared.block.Block.{Block}
 use Rattle.runner_block.specs.Blocks.{block_retired}
 use Rattle.version_words.specs.Kept.{IsKept}

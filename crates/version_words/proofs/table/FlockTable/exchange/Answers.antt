@@ -1,5 +1,5 @@
 use Rattle.std.proofs.Common.{refl}
-use Rattle.machine_states.specs.runner_steps.specs.table_words.specs.declared.access.Access.TheVariants.{Exchanges}
+use Rattle.machine_states.specs.table_words.specs.declared.access.Access.TheVariants.{Exchanges}
 use Rattle.version_words.specs.Events.{nothing}
 use Rattle.version_words.proofs.Calls.{spot_fits, change_owes, own_still, event_made, event_tried, event_committed, slots_still}
 use Rattle.version_words.proofs.table.FlockTable.exchange.Goals as goal

@@ -1,4 +1,4 @@
-use Rattle.machine_states.specs.runner_steps.specs.table_words.specs.declared.access.Access.TheVariants.{Exchanges}
+use Rattle.machine_states.specs.table_words.specs.declared.access.Access.TheVariants.{Exchanges}
 use Rattle.version_words.specs.Events.{announcing}
 use Rattle.version_words.proofs.Calls.{spot_fits, change_owes, own_still, event_made, slots_still}
 use Rattle.version_words.proofs.table.FlockTable.exchange_with.Goals as goal

@@ -1,7 +1,7 @@
 use Rattle.version_words.proofs.SeatCalls.{joins_owe}
 use Rattle.version_words.proofs.table.FlockTable.join_runner.Goals as goal
 use Rattle.std.proofs.Common.{ap, sym, subst, ◌∙◌}
-use Rattle.machine_states.specs.runner_steps.specs.runner_parts.specs.declared.event.EventKind.TheVariants.{Join}
+use Rattle.machine_states.specs.runner_parts.specs.declared.event.EventKind.TheVariants.{Join}
 use Rattle.version_words.specs.Events.{IsEnabled}
 use Rattle.version_words.proofs.Keeps.{join_kept}
 

@@ -1,5 +1,5 @@
 use Rattle.std.proofs.Common.{refl}
-use Rattle.machine_states.specs.runner_steps.specs.table_words.specs.declared.access.Access.TheVariants.{Loads}
+use Rattle.machine_states.specs.table_words.specs.declared.access.Access.TheVariants.{Loads}
 use Rattle.version_words.specs.Events.{nothing}
 use Rattle.version_words.proofs.Calls.{at_built, step_owes, own_still, event_made, slots_still}
 use Rattle.version_words.proofs.table.FlockTable.load_at.Goals as goal

@@ -1,7 +1,7 @@
 use Rattle.std.proofs.Common.{ℕ, true, ap, sym, subst, ◌∙◌, if◌then◌else◌}
 use Rattle.std.specs.Prelude.{◌==◌, not}
-use Rattle.machine_states.specs.runner_steps.specs.table_words.specs.Limits.{IsWithinLimits}
-use Rattle.machine_states.specs.runner_steps.specs.runner_parts.specs.declared.event.EventKind.TheVariants.{LoadDone}
+use Rattle.machine_states.specs.table_words.specs.Limits.{IsWithinLimits}
+use Rattle.machine_states.specs.runner_parts.specs.declared.event.EventKind.TheVariants.{LoadDone}
 use Rattle.machine_invariant.specs.After.{AreAllowed}
 use Rattle.runner_block.specs.declared.block.Block.{Block}
 use Rattle.version_words.specs.Kept.{IsKept}

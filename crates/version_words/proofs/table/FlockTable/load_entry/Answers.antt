@@ -1,5 +1,5 @@
 use Rattle.std.proofs.Common.{◌≡◌, refl, sym, subst, ◌∙◌}
-use Rattle.machine_states.specs.runner_steps.specs.runner_parts.specs.declared.event.EventKind.TheVariants.{LoadEntry}
+use Rattle.machine_states.specs.runner_parts.specs.declared.event.EventKind.TheVariants.{LoadEntry}
 use Rattle.version_words.specs.TableState.{IsOf}
 use Rattle.version_words.specs.Events.{Makes, seen_seat}
 use Rattle.version_words.proofs.Keeps.{idle_kept}

@@ -1,9 +1,9 @@
 use Rattle.std.proofs.Common.{◌≡◌, ℕ, ◌<◌, Some, ap, sym, subst, ◌∙◌, ◌+◌, if◌then◌else◌}
 use Rattle.std.specs.Prelude.{◌==◌}
-use Rattle.machine_states.specs.runner_steps.specs.table_words.specs.Limits.{IsWithinLimits}
-use Rattle.machine_states.specs.runner_steps.specs.table_words.specs.declared.access.Access.TheVariants.{Exchanges}
-use Rattle.machine_states.specs.runner_steps.specs.runner_parts.specs.declared.event.EventKind.TheVariants.{MakeCommit}
-use Rattle.machine_states.specs.runner_steps.specs.runner_parts.specs.Tests.{has}
+use Rattle.machine_states.specs.table_words.specs.Limits.{IsWithinLimits}
+use Rattle.machine_states.specs.table_words.specs.declared.access.Access.TheVariants.{Exchanges}
+use Rattle.machine_states.specs.runner_parts.specs.declared.event.EventKind.TheVariants.{MakeCommit}
+use Rattle.machine_states.specs.runner_parts.specs.Tests.{has}
 use Rattle.machine_invariant.specs.After.{AreAllowed}
 use Rattle.runner_block.specs.declared.block.Block.{Block}
 use Rattle.version_words.specs.Place.{next_log}

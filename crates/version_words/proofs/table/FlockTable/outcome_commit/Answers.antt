@@ -1,7 +1,7 @@
 use Rattle.std.proofs.Common.{refl, sym, subst, ap, ◌+◌, ◌∙◌, arith}
-use Rattle.machine_states.specs.runner_steps.specs.runner_parts.specs.declared.event.EventKind.TheVariants.{OutcomeCommit}
+use Rattle.machine_states.specs.runner_parts.specs.declared.event.EventKind.TheVariants.{OutcomeCommit}
 use Rattle.runner_block.specs.declared.block.Block.{Block}
-use Rattle.machine_states.specs.runner_steps.specs.table_words.specs.declared.access.Access.TheVariants.{Exchanges}
+use Rattle.machine_states.specs.table_words.specs.declared.access.Access.TheVariants.{Exchanges}
 use Rattle.version_words.specs.Place.{next_log}
 use Rattle.version_words.specs.Kept.{IsKept}
 use Rattle.version_words.proofs.Inside.{has_run, log_low, commit_kept}

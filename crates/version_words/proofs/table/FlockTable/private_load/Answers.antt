@@ -1,7 +1,7 @@
 use Rattle.std.proofs.Common.{ap, sym, subst, ◌∙◌}
-use Rattle.machine_states.specs.runner_steps.specs.runner_parts.specs.declared.event.EventKind.TheVariants.{PrivateLoad}
-use Rattle.machine_states.specs.runner_steps.specs.table_words.specs.Limits.{IsWithinLimits}
-use Rattle.machine_states.specs.runner_steps.specs.table_words.specs.Places.{slot_count}
+use Rattle.machine_states.specs.runner_parts.specs.declared.event.EventKind.TheVariants.{PrivateLoad}
+use Rattle.machine_states.specs.table_words.specs.Limits.{IsWithinLimits}
+use Rattle.machine_states.specs.table_words.specs.Places.{slot_count}
 use Rattle.machine_invariant.specs.After.{AreAllowed}
 use Rattle.version_words.specs.TableState.{IsOf}
 use Rattle.runner_block.specs.declared.block.Block.{Block}

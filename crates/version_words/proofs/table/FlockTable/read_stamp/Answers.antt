@@ -1,5 +1,5 @@
 use Rattle.std.proofs.Common.{refl, ap, ◌∙◌}
-use Rattle.machine_states.specs.runner_steps.specs.runner_parts.specs.declared.event.EventKind.TheVariants.{ReadStamp}
+use Rattle.machine_states.specs.runner_parts.specs.declared.event.EventKind.TheVariants.{ReadStamp}
 use Rattle.version_words.proofs.Keeps.{idle_kept}
 use Rattle.version_words.proofs.table.FlockTable.read_stamp.Goals as goal
 

@@ -1,7 +1,7 @@
 use Rattle.version_words.proofs.SeatCalls.{splits_owe}
 use Rattle.version_words.proofs.table.FlockTable.runner.Goals as goal
 use Rattle.std.proofs.Common.{ap, sym, subst, ◌∙◌}
-use Rattle.machine_states.specs.runner_steps.specs.runner_parts.specs.declared.event.EventKind.TheVariants.{Split}
+use Rattle.machine_states.specs.runner_parts.specs.declared.event.EventKind.TheVariants.{Split}
 use Rattle.machine_states.specs.runner_steps.specs.AfterOutside.{split_after}
 use Rattle.runner_block.specs.declared.block.Block.{Block}
 use Rattle.runner_block.specs.Kept.{with_part}

@@ -1,5 +1,5 @@
 use Rattle.std.proofs.Common.{refl, sym, subst, ap, ◌∙◌, false}
-use Rattle.machine_states.specs.runner_steps.specs.runner_parts.specs.declared.event.EventKind.TheVariants.{SetDone}
+use Rattle.machine_states.specs.runner_parts.specs.declared.event.EventKind.TheVariants.{SetDone}
 use Rattle.runner_block.specs.declared.block.Block.{Block}
 use Rattle.version_words.specs.Kept.{IsKept}
 use Rattle.version_words.proofs.Inside.{ender_kept}

@@ -1,4 +1,4 @@
-use Rattle.machine_states.specs.runner_steps.specs.table_words.specs.declared.access.Access.TheVariants.{Stores}
+use Rattle.machine_states.specs.table_words.specs.declared.access.Access.TheVariants.{Stores}
 use Rattle.version_words.specs.Events.{nothing}
 use Rattle.version_words.proofs.Calls.{spot_fits, at_seen}
 use Rattle.version_words.proofs.table.FlockTable.store.Goals as goal

@@ -1,5 +1,5 @@
 use Rattle.std.proofs.Common.{refl}
-use Rattle.machine_states.specs.runner_steps.specs.table_words.specs.declared.access.Access.TheVariants.{Stores}
+use Rattle.machine_states.specs.table_words.specs.declared.access.Access.TheVariants.{Stores}
 use Rattle.version_words.specs.Events.{nothing}
 use Rattle.version_words.proofs.Calls.{at_built, store_owes, own_still, event_stored, slots_still}
 use Rattle.version_words.proofs.table.FlockTable.store_at.Goals as goal

@@ -1,9 +1,9 @@
 use Rattle.std.proofs.Common.{sym, ap, ◌∙◌}
 use Rattle.std.specs.Prelude.{slice_index}
 use Rattle.std.specs.Slots.{slots_items}
-use Rattle.machine_states.specs.runner_steps.specs.table_words.specs.declared.sizes.Sizes.{Sizes}
-use Rattle.machine_states.specs.runner_steps.specs.table_words.specs.Places.{address, Fits}
-use Rattle.machine_states.specs.runner_steps.specs.table_words.proofs.Seen.{seen_here}
+use Rattle.machine_states.specs.table_words.specs.declared.sizes.Sizes.{Sizes}
+use Rattle.machine_states.specs.table_words.specs.Places.{address, Fits}
+use Rattle.machine_states.specs.table_words.proofs.Seen.{seen_here}
 use Rattle.machine_states.specs.runner_steps.specs.Asks.{sizes_for}
 use Rattle.version_words.proofs.Lists.{read}
 use Rattle.version_words.proofs.words.Words.word.Goals as goal
