@@ -15,3 +15,5 @@ pub mod Entering
 pub mod Along
 pub mod Looked
 pub mod Walking
+pub mod Testing
+pub mod Telling

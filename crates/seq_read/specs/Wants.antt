@@ -1,5 +1,5 @@
 -- What a read finds in the cells that a body loads.
-use Rattle.std.specs.Prelude.{◌≡◌, ◌≢◌, ℕ, ◌<◌, List, [], ◌∷◌, Bool, true, false, not, ◌==◌, ◌&&◌, map, take, length, slice_get, Some}
+use Rattle.std.specs.Prelude.{◌≡◌, ◌≢◌, ℕ, ◌<◌, List, [], ◌∷◌, Bool, true, false, not, ◌==◌, ◌&&◌, map, take, length, slice_get, Option, Some, None, IfSome}
 use Rattle.std.specs.List.{list_any}
 use Rattle.machine_states.specs.body_terms.specs.Shape.{IsStep, is_look}
 use Rattle.machine_states.specs.body_terms.specs.declared.step.Step.{Step}
@@ -7,6 +7,7 @@ use Rattle.machine_states.specs.body_terms.specs.declared.step.Step.TheVariants.
 use Rattle.machine_states.specs.structure_laws.specs.Scene.{Readings}
 use Rattle.caller_facts.specs.Asking.{WasRead}
 use Rattle.seq_read.specs.declared.cells.Loaded.{Loaded}
+use Rattle.seq_read.specs.declared.wants.Missed.{Missed}
 
 -- this step of the body is the first that changes something: it is no Load, Want, Stamp or Answer
 pub record IsFirstChange (body : List Step) (at : ℕ) : Type 0 where
@@ -67,3 +68,8 @@ pub record IsMiss (xs : List Loaded) (step : Step) (place expected read : ℕ) :
 -- the step of one of these
 abbrev pub IsAmong : List Step → Step → Type 0
 IsAmong steps step = (i : ℕ) × IsStep steps i step
+
+-- what these steps missed in these cells, if they missed anything
+pub record IsTested (steps : List Step) (xs : List Loaded) (missed : Option Missed) : Type 0 where
+  pub some : IfSome missed (λ x. (step : Step) × IsAmong steps step × IsMiss xs step x.place x.expected x.read)
+  pub none : missed ≡ None → list_any (is_missed xs) steps ≡ false

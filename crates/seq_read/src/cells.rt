@@ -1,5 +1,5 @@
 //! The loads of the cells that a body loads.
-ghost use Rattle.std.specs.Prelude.{◌≡◌, [], length};
+ghost use Rattle.std.specs.Prelude.{List};
 ghost use Rattle.machine_states.specs.map_history.specs.declared.op.Request.{Request};
 ghost use Rattle.machine_states.specs.body_terms.specs.declared.thunk.Thunk.{Thunk};
 ghost use Rattle.machine_states.specs.structure_laws.specs.Scene.{Readings};
@@ -7,9 +7,11 @@ ghost use Rattle.caller_facts.specs.version_words.specs.RunnerState.{RunnerState
 ghost use Rattle.caller_facts.specs.version_words.specs.TableState.{IsOf};
 ghost use Rattle.caller_facts.specs.try_lock.specs.Planning.{Planning};
 ghost use Rattle.caller_facts.specs.Counted.{IsSeen};
+ghost use Rattle.seq_read.specs.declared.cells.Loaded.{Loaded as Cell};
+ghost use Rattle.seq_read.specs.Wants.{IsTested};
 ghost use Rattle.seq_read.specs.Parts.{MayLoad, HasLoadedCells};
 
-use arrayvec::ArrayVec;
+use crate::wants::{Missed, missed_with};
 use caller_facts::lock_walks::version_words::{FlockTable, Runner};
 use caller_facts::runner_gate::Gate;
 use caller_facts::try_lock::commit_log::passes;
@@ -24,43 +26,45 @@ pub struct Loaded {
     pub word: u64,
 }
 
-/// Loads the cells that these steps load, in their order; the gate is asked behind each load. Answers whether it let
-/// the runner go on.
+/// Loads the cells that these steps load, in their order; the gate is asked behind each load. Answers what was missed
+/// first, if anything was, and whether the gate let the runner go on.
 ///
-/// The steps are those of the body of a thunk that was planned since the runner entered. No memory is taken.
+/// The steps are those of the body of a thunk that was planned since the runner entered. Each cell is tested as it is
+/// loaded, and none is kept, since to clear a place for them took longer than all loads of a read. No memory is taken.
 pub fn load_cells<S: Structure, G: Gate, L>(
     table: &FlockTable<S>,
     runner: Runner<S>,
     body: &[Step],
-    loaded: &mut ArrayVec<Loaded, 40>,
     gate: &mut G,
     steps: &mut Steps<L>,
-) -> (Runner<S>, bool)
+) -> (Runner<S>, Option<Missed>, bool)
     requires own { IsOf table.now runner }
     requires may { (planning : Planning) × (request : Request) × (thunk : Thunk) × (readings : Readings)
         × (old : RunnerState S)
         × MayLoad (S.meaning table.now.structure) planning request body.now thunk readings old runner }
-    requires none { loaded.old.items ≡ [] }
     ensures own { IsOf table.now result.0 }
-    ensures loaded { HasLoadedCells (S.meaning table.now.structure) body.now loaded.new.items result.1 runner result.0
+    ensures loaded { (xs : List Cell) × IsTested body.now xs result.1
+        × HasLoadedCells (S.meaning table.now.structure) body.now xs result.2 runner result.0
         (IsSeen G.halts G.asks)
         (G.halts gate.old) (G.halts gate.new) (G.asks gate.old) (G.asks gate.new) steps.old.count steps.new.count }
 {
     let mut runner = runner;
+    let mut missed = None;
     for n in 0..body.len() {
         let step = &body[n];
         if let Step::Load { place, into } = *step {
             let (at, found) = table.load_cell(runner, place);
             runner = at;
-            loaded.push(Loaded {
+            let cell = Loaded {
                 place,
                 into,
                 word: found.bits(),
-            });
+            };
+            missed = missed_with(missed, body, &cell);
             if !passes(gate, steps, StepKind::Walk) {
-                return (runner, false);
+                return (runner, missed, false);
             }
         }
     }
-    (runner, true)
+    (runner, missed, true)
 }

@@ -16,14 +16,13 @@ use crate::bodies::{first_change, reply_of};
 use crate::cells::load_cells;
 use crate::confirming::{announce, load_clock, load_lock, write_reply, write_stamp};
 use crate::refusals::{lock_moved, plan_refused};
-use crate::wants::first_missed;
-use arrayvec::ArrayVec;
 use caller_facts::goes_on;
 use caller_facts::lock_walks::Planner;
 use caller_facts::lock_walks::epoch_slots::{enter, exit};
 use caller_facts::lock_walks::version_words::{FlockTable, RunRoom, Runner};
 use caller_facts::runner_gate::Gate;
 use caller_facts::try_lock::Planned;
+use caller_facts::try_lock::commit_log::{Unasked, tell};
 use machine_states::body_terms::{Body, Step, StepKind, Steps, Thunk};
 use machine_states::map_history::{Reply, Request};
 use next_steps::looks_are_small;
@@ -144,12 +143,11 @@ fn look_at<S: Planner, G: Gate, L>(
     if let Some(at) = first_change(body) {
         return (exit(table, runner), Read::Locked { at: at as u32 });
     }
-    let mut loaded = ArrayVec::new();
-    let (runner, going) = load_cells(table, runner, body, &mut loaded, gate, steps);
+    let (runner, missed, going) = load_cells(table, runner, body, gate, steps);
     if !going {
         return (runner, Read::Halted);
     }
-    if let Some(missed) = first_missed(body, loaded.as_slice()) {
+    if let Some(missed) = missed {
         let stale = Read::Stale {
             place: missed.place,
             expected: missed.expected,
@@ -158,6 +156,39 @@ fn look_at<S: Planner, G: Gate, L>(
         return (exit(table, runner), stale);
     }
     confirm(table, runner, request, thunk, reply_of(body), gate, steps)
+}
+
+/// As `look_at`. The asks of a gate that never halts are counted apart, and it is told them in the end.
+fn look_asked<S: Planner, G: Gate, L>(
+    table: &FlockTable<S>,
+    runner: Runner<S>,
+    request: &Request,
+    thunk: &Thunk,
+    body: &[Step],
+    gate: &mut G,
+    steps: &mut Steps<L>,
+) -> (Runner<S>, Read)
+    requires own { IsOf table.now runner }
+    requires planned { (readings : Readings) × (old : RunnerState S)
+        × HasPlanned (S.meaning table.now.structure) (S.planning table.now.structure) request.now readings
+        (plans.Thunk thunk.now) old runner }
+    requires body { body.now ≡ (S.meaning table.now.structure).body thunk.now }
+    requires few { length body.now ≤ 40 }
+    ensures own { IsOf table.now result.0 }
+    ensures rests { (readings : Readings) (old : RunnerState S)
+        → HasPlanned (S.meaning table.now.structure) (S.planning table.now.structure) request.now readings
+        (plans.Thunk thunk.now) old runner
+        → Rests (S.meaning table.now.structure) (S.planning table.now.structure) request.now (length readings)
+        result.1 old result.0 (IsSeen G.halts G.asks)
+        (G.halts gate.old) (G.halts gate.new) (G.asks gate.old) (G.asks gate.new) steps.old.count steps.new.count }
+{
+    if !gate.is_free() {
+        return look_at(table, runner, request, thunk, body, gate, steps);
+    }
+    let mut made = Steps::<L>::new();
+    let (runner, answer) = look_at(table, runner, request, thunk, body, &mut Unasked, &mut made);
+    tell(gate, steps, &made);
+    (runner, answer)
 }
 
 /// As `look`, where the room that the runner keeps is out: the read makes a body. It is a call of its own, since a caller
@@ -185,7 +216,7 @@ fn look_anew<S: Planner, G: Gate, L>(
 {
     let mut body = Body::empty();
     table.structure().body_in(thunk, &mut body);
-    look_at(
+    look_asked(
         table,
         runner,
         request,
@@ -225,7 +256,7 @@ fn look<S: Planner, G: Gate, L>(
     let body = &mut bodies[(thunk.form % 4) as usize];
     table.structure().body_in(thunk, body);
     let line = body.steps.as_slice();
-    let (mut runner, answer) = look_at(table, runner, request, thunk, line, gate, steps);
+    let (mut runner, answer) = look_asked(table, runner, request, thunk, line, gate, steps);
     runner.keep_room(room);
     (runner, answer)
 }

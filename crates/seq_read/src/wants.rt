@@ -1,8 +1,9 @@
-//! What a body wants of the cells that it loads.
-ghost use Rattle.std.specs.Prelude.{◌≡◌, Some, None, false, position, IfSome};
+//! What a body wants of a cell that it loads.
+ghost use Rattle.std.specs.Prelude.{◌≡◌, None, [], ◌∷◌, ◌++◌, false, List, position, IfSome};
 ghost use Rattle.std.specs.List.{list_any};
 ghost use Rattle.machine_states.specs.body_terms.specs.declared.step.Step.{Step as Action};
-ghost use Rattle.seq_read.specs.Wants.{is_other, is_missed, IsMiss, IsAmong};
+ghost use Rattle.seq_read.specs.declared.cells.Loaded.{Loaded as Cell};
+ghost use Rattle.seq_read.specs.Wants.{is_missed, IsMiss, IsAmong, IsTested};
 
 use crate::cells::Loaded;
 use machine_states::body_terms::{Place, Step, Word};
@@ -15,67 +16,60 @@ pub struct Missed {
     pub read: Word,
 }
 
-/// Where another word than this one was loaded into this register first, if one was.
-fn find_other(loaded: &[Loaded], reg: u8, word: Word) -> Option<usize>
-    ensures { result ≡ position (is_other reg word) loaded.now }
-{
-    loaded
-        .iter()
-        .position(|x| x.into == reg && x.word != word.bits())
-}
-
-/// Whether another word than this one was loaded into this register.
-fn has_other(loaded: &[Loaded], reg: u8, word: Word) -> bool
-    ensures { result ≡ list_any (is_other reg word) loaded.now }
-{
-    loaded
-        .iter()
-        .any(|x| x.into == reg && x.word != word.bits())
-}
-
-/// Whether this step is a Want of a register into which another word was loaded.
-fn is_missed(loaded: &[Loaded], step: &Step) -> bool
-    ensures { result ≡ is_missed loaded.now step.now }
+/// Whether this step is a Want of the cell's register, for another word than was found.
+fn is_missed(cell: &Loaded, step: &Step) -> bool
+    ensures { result ≡ is_missed (cell.now ∷ []) step.now }
 {
     match *step {
-        Step::Want { reg, word } => has_other(loaded, reg, word),
+        Step::Want { reg, word } => cell.into == reg && cell.word != word.bits(),
         _ => false,
     }
 }
 
-/// What this step wanted, where another word was found.
-fn missed_by(loaded: &[Loaded], step: &Step) -> Option<Missed>
-    ensures some { IfSome result (λ x. IsMiss loaded.now step.now x.place x.expected x.read) }
-    ensures none { result ≡ None → is_missed loaded.now step.now ≡ false }
+/// What this step wanted of the cell, where another word was found.
+fn missed_by(cell: &Loaded, step: &Step) -> Option<Missed>
+    ensures some { IfSome result (λ x. IsMiss (cell.now ∷ []) step.now x.place x.expected x.read) }
+    ensures none { result ≡ None → is_missed (cell.now ∷ []) step.now ≡ false }
 {
     let Step::Want { reg, word } = *step else {
         return None;
     };
-    match find_other(loaded, reg, word) {
-        Some(at) => Some(Missed {
-            place: loaded[at].place,
+    if cell.into == reg && cell.word != word.bits() {
+        Some(Missed {
+            place: cell.place,
             expected: word,
-            read: Word::from_bits(loaded[at].word),
-        }),
+            read: Word::from_bits(cell.word),
+        })
+    } else {
+        None
+    }
+}
+
+/// Where the first of these steps stands that wanted another word of the cell than was found, if one did.
+fn find_missed(steps: &[Step], cell: &Loaded) -> Option<usize>
+    ensures { result ≡ position (is_missed (cell.now ∷ [])) steps.now }
+{
+    steps.iter().position(|step| is_missed(cell, step))
+}
+
+/// What the first of these steps wanted of the cell for which another word was found, if there is one.
+fn first_missed(steps: &[Step], cell: &Loaded) -> Option<Missed>
+    ensures some { IfSome result (λ x. (step : Action) × IsAmong steps.now step
+        × IsMiss (cell.now ∷ []) step x.place x.expected x.read) }
+    ensures none { result ≡ None → list_any (is_missed (cell.now ∷ [])) steps.now ≡ false }
+{
+    match find_missed(steps, cell) {
+        Some(at) => missed_by(cell, &steps[at]),
         None => None,
     }
 }
 
-/// Where the first of these steps stands that wanted another word than was found, if one did.
-fn find_missed(steps: &[Step], loaded: &[Loaded]) -> Option<usize>
-    ensures { result ≡ position (is_missed loaded.now) steps.now }
+/// What these steps missed, with one more cell.
+pub fn missed_with(missed: Option<Missed>, steps: &[Step], cell: &Loaded) -> Option<Missed>
+    ensures { (xs : List Cell) → IsTested steps.now xs missed → IsTested steps.now (xs ++ cell.now ∷ []) result }
 {
-    steps.iter().position(|step| is_missed(loaded, step))
-}
-
-/// What the first of these steps wanted for which another word was found, if there is one.
-pub fn first_missed(steps: &[Step], loaded: &[Loaded]) -> Option<Missed>
-    ensures some { IfSome result (λ x. (step : Action) × IsAmong steps.now step
-        × IsMiss loaded.now step x.place x.expected x.read) }
-    ensures none { result ≡ None → list_any (is_missed loaded.now) steps.now ≡ false }
-{
-    match find_missed(steps, loaded) {
-        Some(at) => missed_by(loaded, &steps[at]),
-        None => None,
+    match missed {
+        Some(first) => Some(first),
+        None => first_missed(steps, cell),
     }
 }

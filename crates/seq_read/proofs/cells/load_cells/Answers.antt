@@ -5,8 +5,26 @@ use Rattle.caller_facts.specs.version_words.specs.machine_invariant.specs.After.
 use Rattle.caller_facts.specs.section_runs.specs.commit_log.specs.Asked.{IsAsked}
 use Rattle.caller_facts.specs.Counted.{IsSeen}
 use Rattle.seq_read.proofs.Loading.{cell_asked, next_cells, cut_cells, same_cells, all_cells}
+use Rattle.caller_facts.specs.section_runs.specs.commit_log.proofs.Asked.{asked_none}
+use Rattle.seq_read.proofs.Testing.{untested}
+use Rattle.seq_read.proofs.Walking.{walked_none}
 use Rattle.seq_read.proofs.cells.load_cells.Goals as goal
 use Rattle.seq_read.proofs.cells.load_cells.Goals.{in-Load+else-not-passes, in_default}
+
+pub loop-n-init : goal.loop-n-init
+loop-n-init g c = record {
+  own = c.requires.own;
+  cells = (
+    [],
+    untested c.args.body.now,
+    record {
+      cells = refl;
+      loads = walked_none (g.S.Structure.meaning c.args.table.now.structure) c.args.runner;
+      reached = c.requires.may.5.plans.reached;
+      asked = asked_none _ _ _;
+    },
+  );
+}
 
 pub load_cell-at-requires-clause-next : goal.load_cell-at-requires-clause-next
 load_cell-at-requires-clause-next g c κs within =
@@ -15,7 +33,7 @@ load_cell-at-requires-clause-next g c κs within =
     let e = c.requires.may in
     let limits = subst IsWithinLimits (sym c.requires.own.layout ∙ e.5.plans.reading.still.layout) (c.requires.own.limits _ refl) in
     let allowed = subst AreAllowed (sym c.requires.own.requests ∙ e.5.plans.reading.still.requests) (c.requires.own.allowed _ refl) in
-    cell_asked m (met.laws c.args.table.now.structure) e.0 e.1 e.4 limits allowed c.args.body.now e.2 e.3 c.args.runner e.5 c.loop-n.n c.loop-n.loaded.items c.loop-n.runner _ _ _ _ _ _ c.loop-n.invariant.cells c.in-Load.place c.in-Load.into (read_step c.args.body.now c.loop-n.n c.index-body-n.result c.loop-n-test.true c.index-body-n.is ∙ ap Some c.in-Load.is)
+    cell_asked m (met.laws c.args.table.now.structure) e.0 e.1 e.4 limits allowed c.args.body.now e.2 e.3 c.args.runner e.5 c.loop-n.n c.loop-n.invariant.cells.0 c.loop-n.runner _ _ _ _ _ _ c.loop-n.invariant.cells.2 c.in-Load.place c.in-Load.into (read_step c.args.body.now c.loop-n.n c.index-body-n.result c.loop-n-test.true c.index-body-n.is ∙ ap Some c.in-Load.is)
 
 pub returns-then-not-passes-clause-loaded : goal.returns-then-not-passes-clause-loaded
 returns-then-not-passes-clause-loaded g c =
@@ -23,10 +41,13 @@ returns-then-not-passes-clause-loaded g c =
     let m = g.S.Structure.meaning c.args.table.now.structure in
     let e = c.requires.may in
     let limits = subst IsWithinLimits (sym c.requires.own.layout ∙ e.5.plans.reading.still.layout) (c.requires.own.limits _ refl) in
-    let allowed = subst AreAllowed (sym c.requires.own.requests ∙ e.5.plans.reading.still.requests) (c.requires.own.allowed _ refl) in
-    cut_cells m (met.laws c.args.table.now.structure) e.0 e.1 e.4 limits allowed c.args.body.now e.2 e.3 c.args.runner e.5 c.loop-n.n c.loop-n.loaded.items c.loop-n.runner _ _ _ _ _ _ c.loop-n.invariant.cells c.in-Load.place c.in-Load.into (read_step c.args.body.now c.loop-n.n c.index-body-n.result c.loop-n-test.true c.index-body-n.is ∙ ap Some c.in-Load.is)
-    c.load_cell-at.result.0 c.load_cell-at.result.1 c.load_cell-at.ensures.event c.push.new.self.items (c.push.ensures.items ∙ ap (λ k. c.loop-n.loaded.items ++ record { place = c.in-Load.place; into = c.in-Load.into; word = k } ∷ []) c.bits.ensures.number) _ _ _ (IsSeen g.G.Gate.halts g.G.Gate.asks) (c.loop-n.gate, refl, refl)
-    (subst (λ b. IsAsked 1 b (g.G.Gate.halts c.loop-n.gate) (g.G.Gate.halts c.passes.new.gate) (g.G.Gate.asks c.loop-n.gate) (g.G.Gate.asks c.passes.new.gate) c.loop-n.steps.count c.passes.new.steps.count) c.if-not-passes.true c.passes.ensures)
+    let allowed = subst AreAllowed (sym c.requires.own.requests ∙ e.5.plans.reading.still.requests) (c.requires.own.allowed _ refl) in (
+      c.loop-n.invariant.cells.0 ++ record { place = c.in-Load.place; into = c.in-Load.into; word = c.bits.result } ∷ [],
+      c.missed_with-missed.ensures c.loop-n.invariant.cells.0 c.loop-n.invariant.cells.1,
+      cut_cells m (met.laws c.args.table.now.structure) e.0 e.1 e.4 limits allowed c.args.body.now e.2 e.3 c.args.runner e.5 c.loop-n.n c.loop-n.invariant.cells.0 c.loop-n.runner _ _ _ _ _ _ c.loop-n.invariant.cells.2 c.in-Load.place c.in-Load.into (read_step c.args.body.now c.loop-n.n c.index-body-n.result c.loop-n-test.true c.index-body-n.is ∙ ap Some c.in-Load.is)
+          c.load_cell-at.result.0 c.load_cell-at.result.1 c.load_cell-at.ensures.event (c.loop-n.invariant.cells.0 ++ record { place = c.in-Load.place; into = c.in-Load.into; word = c.bits.result } ∷ []) (ap (λ k. c.loop-n.invariant.cells.0 ++ record { place = c.in-Load.place; into = c.in-Load.into; word = k } ∷ []) c.bits.ensures.number) _ _ _ (IsSeen g.G.Gate.halts g.G.Gate.asks) (c.loop-n.gate, refl, refl)
+          (subst (λ b. IsAsked 1 b (g.G.Gate.halts c.loop-n.gate) (g.G.Gate.halts c.passes.new.gate) (g.G.Gate.asks c.loop-n.gate) (g.G.Gate.asks c.passes.new.gate) c.loop-n.steps.count c.passes.new.steps.count) c.if-not-passes.true c.passes.ensures),
+    )
 
 pub loop-n-preserved : goal.loop-n-preserved
 loop-n-preserved g c =
@@ -36,21 +57,31 @@ loop-n-preserved g c =
     let limits = subst IsWithinLimits (sym c.requires.own.layout ∙ e.5.plans.reading.still.layout) (c.requires.own.limits _ refl) in
     let allowed = subst AreAllowed (sym c.requires.own.requests ∙ e.5.plans.reading.still.requests) (c.requires.own.allowed _ refl) in
     elim c.match-step.branch [
-      | in-Load+else-not-passes w ↦ rw w.loaded-is (rw w.gate-is (rw w.steps-is (rw w.runner-is (record {
+      | in-Load+else-not-passes w ↦ rw w.missed-is (rw w.gate-is (rw w.steps-is (rw w.runner-is (record {
         own = w.load_cell-at.ensures.own;
-        cells = next_cells m (met.laws c.args.table.now.structure) e.0 e.1 e.4 limits allowed c.args.body.now e.2 e.3 c.args.runner e.5 c.loop-n.n c.loop-n.loaded.items c.loop-n.runner _ _ _ _ _ _ c.loop-n.invariant.cells w.in-Load.place w.in-Load.into (read_step c.args.body.now c.loop-n.n c.index-body-n.result c.loop-n-test.true c.index-body-n.is ∙ ap Some w.in-Load.is)
-            w.load_cell-at.result.0 w.load_cell-at.result.1 w.load_cell-at.ensures.event w.push.new.self.items (w.push.ensures.items ∙ ap (λ k. c.loop-n.loaded.items ++ record { place = w.in-Load.place; into = w.in-Load.into; word = k } ∷ []) w.bits.ensures.number) _ _ _
-            (subst (λ b. IsAsked 1 b (g.G.Gate.halts c.loop-n.gate) (g.G.Gate.halts w.passes.new.gate) (g.G.Gate.asks c.loop-n.gate) (g.G.Gate.asks w.passes.new.gate) c.loop-n.steps.count w.passes.new.steps.count) w.if-not-passes.false w.passes.ensures);
-        few = let few = c.loop-n.invariant.few in let len = w.push.ensures.len in omega (arith, few, len);
+        cells = (
+          c.loop-n.invariant.cells.0 ++ record { place = w.in-Load.place; into = w.in-Load.into; word = w.bits.result } ∷ [],
+          w.missed_with-missed.ensures c.loop-n.invariant.cells.0 c.loop-n.invariant.cells.1,
+          next_cells m (met.laws c.args.table.now.structure) e.0 e.1 e.4 limits allowed c.args.body.now e.2 e.3 c.args.runner e.5 c.loop-n.n c.loop-n.invariant.cells.0 c.loop-n.runner _ _ _ _ _ _ c.loop-n.invariant.cells.2 w.in-Load.place w.in-Load.into (read_step c.args.body.now c.loop-n.n c.index-body-n.result c.loop-n-test.true c.index-body-n.is ∙ ap Some w.in-Load.is)
+              w.load_cell-at.result.0 w.load_cell-at.result.1 w.load_cell-at.ensures.event (c.loop-n.invariant.cells.0 ++ record { place = w.in-Load.place; into = w.in-Load.into; word = w.bits.result } ∷ []) (ap (λ k. c.loop-n.invariant.cells.0 ++ record { place = w.in-Load.place; into = w.in-Load.into; word = k } ∷ []) w.bits.ensures.number) _ _ _
+              (subst (λ b. IsAsked 1 b (g.G.Gate.halts c.loop-n.gate) (g.G.Gate.halts w.passes.new.gate) (g.G.Gate.asks c.loop-n.gate) (g.G.Gate.asks w.passes.new.gate) c.loop-n.steps.count w.passes.new.steps.count) w.if-not-passes.false w.passes.ensures),
+        );
       }))))
-      | in_default w ↦ rw w.loaded-is (rw w.gate-is (rw w.steps-is (rw w.runner-is (record {
+      | in_default w ↦ rw w.missed-is (rw w.gate-is (rw w.steps-is (rw w.runner-is (record {
         own = c.loop-n.invariant.own;
-        cells = same_cells m c.args.body.now c.loop-n.n c.loop-n.loaded.items c.args.runner c.loop-n.runner _ _ _ _ _ _ c.loop-n.invariant.cells c.index-body-n.result
-            (read_step c.args.body.now c.loop-n.n c.index-body-n.result c.loop-n-test.true c.index-body-n.is) w.in_default.not-Load;
-        few = let few = c.loop-n.invariant.few in omega (arith, few);
+        cells = (
+          c.loop-n.invariant.cells.0,
+          c.loop-n.invariant.cells.1,
+          same_cells m c.args.body.now c.loop-n.n c.loop-n.invariant.cells.0 c.args.runner c.loop-n.runner _ _ _ _ _ _ c.loop-n.invariant.cells.2 c.index-body-n.result
+              (read_step c.args.body.now c.loop-n.n c.index-body-n.result c.loop-n-test.true c.index-body-n.is) w.in_default.not-Load,
+        );
       }))))
     ]
 
 pub returns-clause-loaded : goal.returns-clause-loaded
-returns-clause-loaded g c = all_cells (g.S.Structure.meaning c.args.table.now.structure) c.args.body.now c.loop-n.n c.loop-n.loaded.items c.args.runner c.loop-n.runner _ _ _ _ _ _
-    c.loop-n.invariant.cells (let past = c.loop-n-test.false in omega (arith, past)) (IsSeen g.G.Gate.halts g.G.Gate.asks)
+returns-clause-loaded g c = (
+  c.loop-n.invariant.cells.0,
+  c.loop-n.invariant.cells.1,
+  all_cells (g.S.Structure.meaning c.args.table.now.structure) c.args.body.now c.loop-n.n c.loop-n.invariant.cells.0 c.args.runner c.loop-n.runner _ _ _ _ _ _
+      c.loop-n.invariant.cells.2 (let past = c.loop-n-test.false in omega (arith, past)) (IsSeen g.G.Gate.halts g.G.Gate.asks),
+)

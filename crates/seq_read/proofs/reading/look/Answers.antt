@@ -20,8 +20,8 @@ returns-in_default-clause-rests g c = λ readings old is.
     c.look_anew.ensures.rests readings old
     (subst (λ (r : RunnerState g.row.S.Denot). HasPlanned (g.S.Structure.meaning c.args.table.now.structure) (g.S.Planner.planning c.args.table.now.structure) c.args.request.now readings (plans.Thunk c.args.thunk.now) old r) (sym c.take_room.ensures) is)
 
-pub look_at-runner-requires-clause-planned : goal.look_at-runner-requires-clause-planned
-look_at-runner-requires-clause-planned g c κs within =
+pub look_asked-runner-requires-clause-planned : goal.look_asked-runner-requires-clause-planned
+look_asked-runner-requires-clause-planned g c κs within =
     let e = c.requires.planned in (
       e.0,
       e.1,
@@ -30,7 +30,7 @@ look_at-runner-requires-clause-planned g c κs within =
 
 pub returns-clause-rests : goal.returns-clause-rests
 returns-clause-rests g c = λ readings old is.
-    subst (λ (r : RunnerState g.row.S.Denot). Rests (g.S.Structure.meaning c.args.table.now.structure) (g.S.Planner.planning c.args.table.now.structure) c.args.request.now (length readings) c.look_at-runner.result.1 old r (IsSeen g.G.Gate.halts g.G.Gate.asks)
-    (g.G.Gate.halts c.args.gate.now) (g.G.Gate.halts c.look_at-runner.new.gate) (g.G.Gate.asks c.args.gate.now) (g.G.Gate.asks c.look_at-runner.new.gate) c.args.steps.now.count c.look_at-runner.new.steps.count) (sym c.keep_room.ensures)
-    (c.look_at-runner.ensures.rests readings old
+    subst (λ (r : RunnerState g.row.S.Denot). Rests (g.S.Structure.meaning c.args.table.now.structure) (g.S.Planner.planning c.args.table.now.structure) c.args.request.now (length readings) c.look_asked-runner.result.1 old r (IsSeen g.G.Gate.halts g.G.Gate.asks)
+    (g.G.Gate.halts c.args.gate.now) (g.G.Gate.halts c.look_asked-runner.new.gate) (g.G.Gate.asks c.args.gate.now) (g.G.Gate.asks c.look_asked-runner.new.gate) c.args.steps.now.count c.look_asked-runner.new.steps.count) (sym c.keep_room.ensures)
+    (c.look_asked-runner.ensures.rests readings old
     (subst (λ (r : RunnerState g.row.S.Denot). HasPlanned (g.S.Structure.meaning c.args.table.now.structure) (g.S.Planner.planning c.args.table.now.structure) c.args.request.now readings (plans.Thunk c.args.thunk.now) old r) (sym c.take_room.ensures) is))

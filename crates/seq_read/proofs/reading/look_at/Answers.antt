@@ -6,9 +6,10 @@ use Rattle.machine_states.specs.table_words.specs.Limits.{IsWithinLimits}
 use Rattle.machine_states.specs.runner_steps.specs.Sections.{reply_in}
 use Rattle.caller_facts.specs.version_words.specs.machine_invariant.specs.After.{AreAllowed}
 use Rattle.caller_facts.specs.Counted.{IsSeen}
-use Rattle.seq_read.specs.Wants.{readings_of, is_missed, IsMiss, IsAmong}
+use Rattle.seq_read.specs.Wants.{readings_of, is_missed, IsAmong}
 use Rattle.seq_read.specs.Parts.{MayLoad, HasLoadedCells}
 use Rattle.seq_read.proofs.Looked.{body_rests, may_load_so, loaded, cells_cut, cell_rests, found_so, found_rests}
+use Rattle.seq_read.proofs.Testing.{missed_is}
 use Rattle.seq_read.proofs.reading.look_at.Goals as goal
 
 pub exit-requires-clause-entered : goal.exit-requires-clause-entered
@@ -42,27 +43,27 @@ returns-then-not-going-clause-rests g c =
     let met = g.met.S.Structure g.world.𝓛 g.world.𝓜 g.world.𝓡 ((λ s allowed. allowed), (λ patient. patient), (λ alone. alone), (λ cuts. cuts)) in
     let m = g.S.Structure.meaning c.args.table.now.structure in
     λ readings old is.
-    cells_cut m (met.laws c.args.table.now.structure) (g.S.Planner.planning c.args.table.now.structure) c.args.request.now old (subst IsWithinLimits (sym c.requires.own.layout ∙ is.reading.still.layout) (c.requires.own.limits _ refl)) (subst AreAllowed (sym c.requires.own.requests ∙ is.reading.still.requests) (c.requires.own.allowed _ refl)) c.args.thunk.now readings c.args.runner is (IsSeen g.G.Gate.halts g.G.Gate.asks) (ap (position (λ step. not (is_look step))) (sym c.requires.body) ∙ (sym c.first_change.ensures ∙ c.in_default.is)) c.load_cells-runner.new.loaded.items c.load_cells-runner.result.1 c.load_cells-runner.result.0 (g.G.Gate.halts c.args.gate.now) (g.G.Gate.halts c.load_cells-runner.new.gate) (g.G.Gate.asks c.args.gate.now) (g.G.Gate.asks c.load_cells-runner.new.gate) c.args.steps.now.count c.load_cells-runner.new.steps.count (subst (λ b. HasLoadedCells m b c.load_cells-runner.new.loaded.items c.load_cells-runner.result.1 c.args.runner c.load_cells-runner.result.0 (IsSeen g.G.Gate.halts g.G.Gate.asks) (g.G.Gate.halts c.args.gate.now) (g.G.Gate.halts c.load_cells-runner.new.gate) (g.G.Gate.asks c.args.gate.now) (g.G.Gate.asks c.load_cells-runner.new.gate) c.args.steps.now.count c.load_cells-runner.new.steps.count) c.requires.body c.load_cells-runner.ensures.loaded) c.if-not-going.true
+    cells_cut m (met.laws c.args.table.now.structure) (g.S.Planner.planning c.args.table.now.structure) c.args.request.now old (subst IsWithinLimits (sym c.requires.own.layout ∙ is.reading.still.layout) (c.requires.own.limits _ refl)) (subst AreAllowed (sym c.requires.own.requests ∙ is.reading.still.requests) (c.requires.own.allowed _ refl)) c.args.thunk.now readings c.args.runner is (IsSeen g.G.Gate.halts g.G.Gate.asks) (ap (position (λ step. not (is_look step))) (sym c.requires.body) ∙ (sym c.first_change.ensures ∙ c.in_default.is)) c.load_cells-runner.ensures.loaded.0 c.load_cells-runner.result.2 c.load_cells-runner.result.0 (g.G.Gate.halts c.args.gate.now) (g.G.Gate.halts c.load_cells-runner.new.gate) (g.G.Gate.asks c.args.gate.now) (g.G.Gate.asks c.load_cells-runner.new.gate) c.args.steps.now.count c.load_cells-runner.new.steps.count (subst (λ b. HasLoadedCells m b c.load_cells-runner.ensures.loaded.0 c.load_cells-runner.result.2 c.args.runner c.load_cells-runner.result.0 (IsSeen g.G.Gate.halts g.G.Gate.asks) (g.G.Gate.halts c.args.gate.now) (g.G.Gate.halts c.load_cells-runner.new.gate) (g.G.Gate.asks c.args.gate.now) (g.G.Gate.asks c.load_cells-runner.new.gate) c.args.steps.now.count c.load_cells-runner.new.steps.count) c.requires.body c.load_cells-runner.ensures.loaded.2) c.if-not-going.true
 
-pub exit-requires-in-Some-first_missed-clause-entered : goal.exit-requires-in-Some-first_missed-clause-entered
-exit-requires-in-Some-first_missed-clause-entered g c κs within =
+pub exit-requires-in-Some-missed-clause-entered : goal.exit-requires-in-Some-missed-clause-entered
+exit-requires-in-Some-missed-clause-entered g c κs within =
     let met = g.met.S.Structure g.world.𝓛 g.world.𝓜 g.world.𝓡 ((λ s allowed. allowed), (λ patient. patient), (λ alone. alone), (λ cuts. cuts)) in
     let m = g.S.Structure.meaning c.args.table.now.structure in
     let e = c.requires.planned in
-    let was = loaded m (met.laws c.args.table.now.structure) (g.S.Planner.planning c.args.table.now.structure) c.args.request.now e.1 (subst IsWithinLimits (sym c.requires.own.layout ∙ e.2.reading.still.layout) (c.requires.own.limits _ refl)) (subst AreAllowed (sym c.requires.own.requests ∙ e.2.reading.still.requests) (c.requires.own.allowed _ refl)) c.args.thunk.now e.0 c.args.runner e.2 (IsSeen g.G.Gate.halts g.G.Gate.asks) (ap (position (λ step. not (is_look step))) (sym c.requires.body) ∙ (sym c.first_change.ensures ∙ c.in_default.is)) c.load_cells-runner.new.loaded.items c.load_cells-runner.result.1 c.load_cells-runner.result.0 (g.G.Gate.halts c.args.gate.now) (g.G.Gate.halts c.load_cells-runner.new.gate) (g.G.Gate.asks c.args.gate.now) (g.G.Gate.asks c.load_cells-runner.new.gate) c.args.steps.now.count c.load_cells-runner.new.steps.count (subst (λ b. HasLoadedCells m b c.load_cells-runner.new.loaded.items c.load_cells-runner.result.1 c.args.runner c.load_cells-runner.result.0 (IsSeen g.G.Gate.halts g.G.Gate.asks) (g.G.Gate.halts c.args.gate.now) (g.G.Gate.halts c.load_cells-runner.new.gate) (g.G.Gate.asks c.args.gate.now) (g.G.Gate.asks c.load_cells-runner.new.gate) c.args.steps.now.count c.load_cells-runner.new.steps.count) c.requires.body c.load_cells-runner.ensures.loaded) in
+    let was = loaded m (met.laws c.args.table.now.structure) (g.S.Planner.planning c.args.table.now.structure) c.args.request.now e.1 (subst IsWithinLimits (sym c.requires.own.layout ∙ e.2.reading.still.layout) (c.requires.own.limits _ refl)) (subst AreAllowed (sym c.requires.own.requests ∙ e.2.reading.still.requests) (c.requires.own.allowed _ refl)) c.args.thunk.now e.0 c.args.runner e.2 (IsSeen g.G.Gate.halts g.G.Gate.asks) (ap (position (λ step. not (is_look step))) (sym c.requires.body) ∙ (sym c.first_change.ensures ∙ c.in_default.is)) c.load_cells-runner.ensures.loaded.0 c.load_cells-runner.result.2 c.load_cells-runner.result.0 (g.G.Gate.halts c.args.gate.now) (g.G.Gate.halts c.load_cells-runner.new.gate) (g.G.Gate.asks c.args.gate.now) (g.G.Gate.asks c.load_cells-runner.new.gate) c.args.steps.now.count c.load_cells-runner.new.steps.count (subst (λ b. HasLoadedCells m b c.load_cells-runner.ensures.loaded.0 c.load_cells-runner.result.2 c.args.runner c.load_cells-runner.result.0 (IsSeen g.G.Gate.halts g.G.Gate.asks) (g.G.Gate.halts c.args.gate.now) (g.G.Gate.halts c.load_cells-runner.new.gate) (g.G.Gate.asks c.args.gate.now) (g.G.Gate.asks c.load_cells-runner.new.gate) c.args.steps.now.count c.load_cells-runner.new.steps.count) c.requires.body c.load_cells-runner.ensures.loaded.2) in
     record { epoch = was.reading.epoch; at = was.reading.at }
 
-pub returns-in-Some-first_missed-clause-rests : goal.returns-in-Some-first_missed-clause-rests
-returns-in-Some-first_missed-clause-rests g c =
+pub returns-in-Some-missed-clause-rests : goal.returns-in-Some-missed-clause-rests
+returns-in-Some-missed-clause-rests g c =
     let met = g.met.S.Structure g.world.𝓛 g.world.𝓜 g.world.𝓡 ((λ s allowed. allowed), (λ patient. patient), (λ alone. alone), (λ cuts. cuts)) in
     let m = g.S.Structure.meaning c.args.table.now.structure in
     λ readings old is.
-    let miss = c.in-Some-first_missed.ensures.some in
-    cell_rests m (met.laws c.args.table.now.structure) (g.S.Planner.planning c.args.table.now.structure) c.args.request.now old (subst IsWithinLimits (sym c.requires.own.layout ∙ is.reading.still.layout) (c.requires.own.limits _ refl)) (subst AreAllowed (sym c.requires.own.requests ∙ is.reading.still.requests) (c.requires.own.allowed _ refl)) c.args.thunk.now readings c.args.runner is (IsSeen g.G.Gate.halts g.G.Gate.asks) (ap (position (λ step. not (is_look step))) (sym c.requires.body) ∙ (sym c.first_change.ensures ∙ c.in_default.is)) c.load_cells-runner.new.loaded.items c.load_cells-runner.result.1 c.load_cells-runner.result.0 (g.G.Gate.halts c.args.gate.now) (g.G.Gate.halts c.load_cells-runner.new.gate) (g.G.Gate.asks c.args.gate.now) (g.G.Gate.asks c.load_cells-runner.new.gate) c.args.steps.now.count c.load_cells-runner.new.steps.count (subst (λ b. HasLoadedCells m b c.load_cells-runner.new.loaded.items c.load_cells-runner.result.1 c.args.runner c.load_cells-runner.result.0 (IsSeen g.G.Gate.halts g.G.Gate.asks) (g.G.Gate.halts c.args.gate.now) (g.G.Gate.halts c.load_cells-runner.new.gate) (g.G.Gate.asks c.args.gate.now) (g.G.Gate.asks c.load_cells-runner.new.gate) c.args.steps.now.count c.load_cells-runner.new.steps.count) c.requires.body c.load_cells-runner.ensures.loaded) c.if-not-going.false miss.0
+    let miss = missed_is c.args.body.now c.load_cells-runner.ensures.loaded.0 c.load_cells-runner.result.1 c.in-Some-missed.missed c.in-Some-missed.is c.load_cells-runner.ensures.loaded.1 in
+    cell_rests m (met.laws c.args.table.now.structure) (g.S.Planner.planning c.args.table.now.structure) c.args.request.now old (subst IsWithinLimits (sym c.requires.own.layout ∙ is.reading.still.layout) (c.requires.own.limits _ refl)) (subst AreAllowed (sym c.requires.own.requests ∙ is.reading.still.requests) (c.requires.own.allowed _ refl)) c.args.thunk.now readings c.args.runner is (IsSeen g.G.Gate.halts g.G.Gate.asks) (ap (position (λ step. not (is_look step))) (sym c.requires.body) ∙ (sym c.first_change.ensures ∙ c.in_default.is)) c.load_cells-runner.ensures.loaded.0 c.load_cells-runner.result.2 c.load_cells-runner.result.0 (g.G.Gate.halts c.args.gate.now) (g.G.Gate.halts c.load_cells-runner.new.gate) (g.G.Gate.asks c.args.gate.now) (g.G.Gate.asks c.load_cells-runner.new.gate) c.args.steps.now.count c.load_cells-runner.new.steps.count (subst (λ b. HasLoadedCells m b c.load_cells-runner.ensures.loaded.0 c.load_cells-runner.result.2 c.args.runner c.load_cells-runner.result.0 (IsSeen g.G.Gate.halts g.G.Gate.asks) (g.G.Gate.halts c.args.gate.now) (g.G.Gate.halts c.load_cells-runner.new.gate) (g.G.Gate.asks c.args.gate.now) (g.G.Gate.asks c.load_cells-runner.new.gate) c.args.steps.now.count c.load_cells-runner.new.steps.count) c.requires.body c.load_cells-runner.ensures.loaded.2) c.if-not-going.false miss.0
     (subst (λ b. IsAmong b miss.0) c.requires.body miss.1)
-    c.in-Some-first_missed.missed.place c.in-Some-first_missed.missed.expected c.in-Some-first_missed.missed.read
-    (subst (λ xs. IsMiss xs miss.0 c.in-Some-first_missed.missed.place c.in-Some-first_missed.missed.expected c.in-Some-first_missed.missed.read) c.as_slice.ensures.value miss.2)
-    c.exit-in-Some-first_missed.result c.exit-in-Some-first_missed.ensures.exits
+    c.in-Some-missed.missed.place c.in-Some-missed.missed.expected c.in-Some-missed.missed.read
+    miss.2
+    c.exit-in-Some-missed.result c.exit-in-Some-missed.ensures.exits
 
 pub reply_of-requires : goal.reply_of-requires
 reply_of-requires g c =
@@ -76,10 +77,10 @@ confirm-requires-clause-found g c κs within =
     let met = g.met.S.Structure g.world.𝓛 g.world.𝓜 g.world.𝓡 ((λ s allowed. allowed), (λ patient. patient), (λ alone. alone), (λ cuts. cuts)) in
     let m = g.S.Structure.meaning c.args.table.now.structure in
     let e = c.requires.planned in (
-      readings_of c.load_cells-runner.new.loaded.items,
+      readings_of c.load_cells-runner.ensures.loaded.0,
       e.1,
-      found_so m (met.laws c.args.table.now.structure) (g.S.Planner.planning c.args.table.now.structure) c.args.request.now e.1 (subst IsWithinLimits (sym c.requires.own.layout ∙ e.2.reading.still.layout) (c.requires.own.limits _ refl)) (subst AreAllowed (sym c.requires.own.requests ∙ e.2.reading.still.requests) (c.requires.own.allowed _ refl)) c.args.thunk.now e.0 c.args.runner e.2 (IsSeen g.G.Gate.halts g.G.Gate.asks) (ap (position (λ step. not (is_look step))) (sym c.requires.body) ∙ (sym c.first_change.ensures ∙ c.in_default.is)) c.load_cells-runner.new.loaded.items c.load_cells-runner.result.1 c.load_cells-runner.result.0 (g.G.Gate.halts c.args.gate.now) (g.G.Gate.halts c.load_cells-runner.new.gate) (g.G.Gate.asks c.args.gate.now) (g.G.Gate.asks c.load_cells-runner.new.gate) c.args.steps.now.count c.load_cells-runner.new.steps.count (subst (λ b. HasLoadedCells m b c.load_cells-runner.new.loaded.items c.load_cells-runner.result.1 c.args.runner c.load_cells-runner.result.0 (IsSeen g.G.Gate.halts g.G.Gate.asks) (g.G.Gate.halts c.args.gate.now) (g.G.Gate.halts c.load_cells-runner.new.gate) (g.G.Gate.asks c.args.gate.now) (g.G.Gate.asks c.load_cells-runner.new.gate) c.args.steps.now.count c.load_cells-runner.new.steps.count) c.requires.body c.load_cells-runner.ensures.loaded) c.if-not-going.false
-          (ap (list_any (is_missed c.load_cells-runner.new.loaded.items)) (sym c.requires.body) ∙ (ap (λ xs. list_any (is_missed xs) c.args.body.now) (sym c.as_slice.ensures.value) ∙ c.first_missed.ensures.none c.in_default-first_missed.is)),
+      found_so m (met.laws c.args.table.now.structure) (g.S.Planner.planning c.args.table.now.structure) c.args.request.now e.1 (subst IsWithinLimits (sym c.requires.own.layout ∙ e.2.reading.still.layout) (c.requires.own.limits _ refl)) (subst AreAllowed (sym c.requires.own.requests ∙ e.2.reading.still.requests) (c.requires.own.allowed _ refl)) c.args.thunk.now e.0 c.args.runner e.2 (IsSeen g.G.Gate.halts g.G.Gate.asks) (ap (position (λ step. not (is_look step))) (sym c.requires.body) ∙ (sym c.first_change.ensures ∙ c.in_default.is)) c.load_cells-runner.ensures.loaded.0 c.load_cells-runner.result.2 c.load_cells-runner.result.0 (g.G.Gate.halts c.args.gate.now) (g.G.Gate.halts c.load_cells-runner.new.gate) (g.G.Gate.asks c.args.gate.now) (g.G.Gate.asks c.load_cells-runner.new.gate) c.args.steps.now.count c.load_cells-runner.new.steps.count (subst (λ b. HasLoadedCells m b c.load_cells-runner.ensures.loaded.0 c.load_cells-runner.result.2 c.args.runner c.load_cells-runner.result.0 (IsSeen g.G.Gate.halts g.G.Gate.asks) (g.G.Gate.halts c.args.gate.now) (g.G.Gate.halts c.load_cells-runner.new.gate) (g.G.Gate.asks c.args.gate.now) (g.G.Gate.asks c.load_cells-runner.new.gate) c.args.steps.now.count c.load_cells-runner.new.steps.count) c.requires.body c.load_cells-runner.ensures.loaded.2) c.if-not-going.false
+          (ap (list_any (is_missed c.load_cells-runner.ensures.loaded.0)) (sym c.requires.body) ∙ c.load_cells-runner.ensures.loaded.1.none c.in_default-missed.is),
     )
 
 pub confirm-requires-clause-reply : goal.confirm-requires-clause-reply
@@ -91,8 +92,8 @@ returns-clause-rests g c =
     let met = g.met.S.Structure g.world.𝓛 g.world.𝓜 g.world.𝓡 ((λ s allowed. allowed), (λ patient. patient), (λ alone. alone), (λ cuts. cuts)) in
     let m = g.S.Structure.meaning c.args.table.now.structure in
     λ readings old is.
-    found_rests m (met.laws c.args.table.now.structure) (g.S.Planner.planning c.args.table.now.structure) c.args.request.now old (subst IsWithinLimits (sym c.requires.own.layout ∙ is.reading.still.layout) (c.requires.own.limits _ refl)) (subst AreAllowed (sym c.requires.own.requests ∙ is.reading.still.requests) (c.requires.own.allowed _ refl)) c.args.thunk.now readings c.args.runner is (IsSeen g.G.Gate.halts g.G.Gate.asks) (ap (position (λ step. not (is_look step))) (sym c.requires.body) ∙ (sym c.first_change.ensures ∙ c.in_default.is)) c.load_cells-runner.new.loaded.items c.load_cells-runner.result.1 c.load_cells-runner.result.0 (g.G.Gate.halts c.args.gate.now) (g.G.Gate.halts c.load_cells-runner.new.gate) (g.G.Gate.asks c.args.gate.now) (g.G.Gate.asks c.load_cells-runner.new.gate) c.args.steps.now.count c.load_cells-runner.new.steps.count (subst (λ b. HasLoadedCells m b c.load_cells-runner.new.loaded.items c.load_cells-runner.result.1 c.args.runner c.load_cells-runner.result.0 (IsSeen g.G.Gate.halts g.G.Gate.asks) (g.G.Gate.halts c.args.gate.now) (g.G.Gate.halts c.load_cells-runner.new.gate) (g.G.Gate.asks c.args.gate.now) (g.G.Gate.asks c.load_cells-runner.new.gate) c.args.steps.now.count c.load_cells-runner.new.steps.count) c.requires.body c.load_cells-runner.ensures.loaded) c.if-not-going.false
-    (ap (list_any (is_missed c.load_cells-runner.new.loaded.items)) (sym c.requires.body) ∙ (ap (λ xs. list_any (is_missed xs) c.args.body.now) (sym c.as_slice.ensures.value) ∙ c.first_missed.ensures.none c.in_default-first_missed.is))
+    found_rests m (met.laws c.args.table.now.structure) (g.S.Planner.planning c.args.table.now.structure) c.args.request.now old (subst IsWithinLimits (sym c.requires.own.layout ∙ is.reading.still.layout) (c.requires.own.limits _ refl)) (subst AreAllowed (sym c.requires.own.requests ∙ is.reading.still.requests) (c.requires.own.allowed _ refl)) c.args.thunk.now readings c.args.runner is (IsSeen g.G.Gate.halts g.G.Gate.asks) (ap (position (λ step. not (is_look step))) (sym c.requires.body) ∙ (sym c.first_change.ensures ∙ c.in_default.is)) c.load_cells-runner.ensures.loaded.0 c.load_cells-runner.result.2 c.load_cells-runner.result.0 (g.G.Gate.halts c.args.gate.now) (g.G.Gate.halts c.load_cells-runner.new.gate) (g.G.Gate.asks c.args.gate.now) (g.G.Gate.asks c.load_cells-runner.new.gate) c.args.steps.now.count c.load_cells-runner.new.steps.count (subst (λ b. HasLoadedCells m b c.load_cells-runner.ensures.loaded.0 c.load_cells-runner.result.2 c.args.runner c.load_cells-runner.result.0 (IsSeen g.G.Gate.halts g.G.Gate.asks) (g.G.Gate.halts c.args.gate.now) (g.G.Gate.halts c.load_cells-runner.new.gate) (g.G.Gate.asks c.args.gate.now) (g.G.Gate.asks c.load_cells-runner.new.gate) c.args.steps.now.count c.load_cells-runner.new.steps.count) c.requires.body c.load_cells-runner.ensures.loaded.2) c.if-not-going.false
+    (ap (list_any (is_missed c.load_cells-runner.ensures.loaded.0)) (sym c.requires.body) ∙ c.load_cells-runner.ensures.loaded.1.none c.in_default-missed.is)
     c.confirm.result.1 c.confirm.result.0 _ _ _
-    (c.confirm.ensures.rests (readings_of c.load_cells-runner.new.loaded.items) old (found_so m (met.laws c.args.table.now.structure) (g.S.Planner.planning c.args.table.now.structure) c.args.request.now old (subst IsWithinLimits (sym c.requires.own.layout ∙ is.reading.still.layout) (c.requires.own.limits _ refl)) (subst AreAllowed (sym c.requires.own.requests ∙ is.reading.still.requests) (c.requires.own.allowed _ refl)) c.args.thunk.now readings c.args.runner is (IsSeen g.G.Gate.halts g.G.Gate.asks) (ap (position (λ step. not (is_look step))) (sym c.requires.body) ∙ (sym c.first_change.ensures ∙ c.in_default.is)) c.load_cells-runner.new.loaded.items c.load_cells-runner.result.1 c.load_cells-runner.result.0 (g.G.Gate.halts c.args.gate.now) (g.G.Gate.halts c.load_cells-runner.new.gate) (g.G.Gate.asks c.args.gate.now) (g.G.Gate.asks c.load_cells-runner.new.gate) c.args.steps.now.count c.load_cells-runner.new.steps.count (subst (λ b. HasLoadedCells m b c.load_cells-runner.new.loaded.items c.load_cells-runner.result.1 c.args.runner c.load_cells-runner.result.0 (IsSeen g.G.Gate.halts g.G.Gate.asks) (g.G.Gate.halts c.args.gate.now) (g.G.Gate.halts c.load_cells-runner.new.gate) (g.G.Gate.asks c.args.gate.now) (g.G.Gate.asks c.load_cells-runner.new.gate) c.args.steps.now.count c.load_cells-runner.new.steps.count) c.requires.body c.load_cells-runner.ensures.loaded) c.if-not-going.false
-    (ap (list_any (is_missed c.load_cells-runner.new.loaded.items)) (sym c.requires.body) ∙ (ap (λ xs. list_any (is_missed xs) c.args.body.now) (sym c.as_slice.ensures.value) ∙ c.first_missed.ensures.none c.in_default-first_missed.is))))
+    (c.confirm.ensures.rests (readings_of c.load_cells-runner.ensures.loaded.0) old (found_so m (met.laws c.args.table.now.structure) (g.S.Planner.planning c.args.table.now.structure) c.args.request.now old (subst IsWithinLimits (sym c.requires.own.layout ∙ is.reading.still.layout) (c.requires.own.limits _ refl)) (subst AreAllowed (sym c.requires.own.requests ∙ is.reading.still.requests) (c.requires.own.allowed _ refl)) c.args.thunk.now readings c.args.runner is (IsSeen g.G.Gate.halts g.G.Gate.asks) (ap (position (λ step. not (is_look step))) (sym c.requires.body) ∙ (sym c.first_change.ensures ∙ c.in_default.is)) c.load_cells-runner.ensures.loaded.0 c.load_cells-runner.result.2 c.load_cells-runner.result.0 (g.G.Gate.halts c.args.gate.now) (g.G.Gate.halts c.load_cells-runner.new.gate) (g.G.Gate.asks c.args.gate.now) (g.G.Gate.asks c.load_cells-runner.new.gate) c.args.steps.now.count c.load_cells-runner.new.steps.count (subst (λ b. HasLoadedCells m b c.load_cells-runner.ensures.loaded.0 c.load_cells-runner.result.2 c.args.runner c.load_cells-runner.result.0 (IsSeen g.G.Gate.halts g.G.Gate.asks) (g.G.Gate.halts c.args.gate.now) (g.G.Gate.halts c.load_cells-runner.new.gate) (g.G.Gate.asks c.args.gate.now) (g.G.Gate.asks c.load_cells-runner.new.gate) c.args.steps.now.count c.load_cells-runner.new.steps.count) c.requires.body c.load_cells-runner.ensures.loaded.2) c.if-not-going.false
+    (ap (list_any (is_missed c.load_cells-runner.ensures.loaded.0)) (sym c.requires.body) ∙ c.load_cells-runner.ensures.loaded.1.none c.in_default-missed.is)))
