@@ -1,0 +1,4 @@
+mod Steps
+pub mod Leading
+pub mod Gets
+mod Far
