@@ -19,8 +19,8 @@ use Rattle.machine_states.specs.runner_parts.specs.Tests.{has_pair}
 use Rattle.machine_states.specs.runner_steps.specs.Sections.{thunk_of, line_of, setting_of, settles}
 use Rattle.machine_states.specs.runner_steps.specs.After.{line_after}
 use Rattle.lock_words.specs.machine_epochs.proofs.RunPlaces.{is_of_end, next_in_line}
-use Rattle.version_words.specs.machine_invariant.specs.machine_agreement.proofs.LineKinds.{after_line}
-use Rattle.version_words.specs.machine_invariant.specs.After.{AreAllowed}
+use Rattle.machine_facts.specs.machine_agreement.proofs.LineKinds.{after_line}
+use Rattle.machine_facts.specs.machine_invariant.specs.After.{AreAllowed}
 use Rattle.machine_states.specs.World.{seat_of}
 use Rattle.machine_states.specs.Reached.{Reached}
 use Rattle.machine_states.proofs.Steps.{some_same, none_some}

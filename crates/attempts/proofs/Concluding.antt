@@ -24,7 +24,7 @@ use Rattle.machine_states.specs.runner_steps.specs.AfterOutside.{retire_after}
 use Rattle.machine_states.specs.World.{World}
 use Rattle.machine_states.specs.Reached.{Reached}
 use Rattle.machine_states.specs.Sight.{sight, part_or_first}
-use Rattle.version_words.specs.machine_invariant.specs.After.{AreAllowed}
+use Rattle.machine_facts.specs.machine_invariant.specs.After.{AreAllowed}
 use Rattle.lock_walks.specs.runner_facts.proofs.Names.{pair_last}
 use Rattle.lock_words.specs.Stale.{StaleStand}
 use Rattle.version_words.specs.RunnerState.{RunnerState}

@@ -11,7 +11,7 @@ use Rattle.machine_states.specs.structure_laws.proofs.Costs.{shaped_cost}
 use Rattle.machine_states.specs.runner_parts.specs.State.{RunState, PartState}
 use Rattle.machine_states.specs.runner_steps.specs.Sections.{thunk_of}
 use Rattle.machine_states.specs.Sight.{part_or_first}
-use Rattle.version_words.specs.machine_invariant.specs.After.{AreAllowed}
+use Rattle.machine_facts.specs.machine_invariant.specs.After.{AreAllowed}
 use Rattle.lock_walks.specs.runner_facts.specs.next_steps.proofs.Enabled.{reached_enabled}
 use Rattle.version_words.specs.RunnerState.{RunnerState}
 use Rattle.version_words.specs.TableState.{TableState, IsOf}

@@ -1,10 +1,10 @@
 -- How far an attempt came, and what it may do there.
-use Rattle.std.specs.Prelude.{◌==◌, ◌&&◌, ◌||◌, not, cond, Bool, true, false, slice_get, Ok, Err}
-use Rattle.std.proofs.Common.{◌≡◌, ℕ, [], ◌∷◌, ◌++◌, inl, refl, sym, ap, ◌∙◌, subst, Some, None}
+use Rattle.std.specs.Prelude.{◌==◌, ◌&&◌, not, cond, Bool, true, false, slice_get, Ok, Err, if◌then◌else◌}
+use Rattle.std.proofs.Common.{◌≡◌, ℕ, ◌-◌, ◌<◌, ◌≤◌, [], ◌∷◌, ◌++◌, length, inl, refl, sym, ap, ◌∙◌, subst, Option, Some, None}
 use Rattle.section_lines.specs.small_lemmas.proofs.Numbers.{self_tested as same_test}
 use Rattle.machine_states.specs.map_history.specs.declared.op.Request.{Request}
 use Rattle.machine_states.specs.body_terms.specs.Trail.{Agreed}
-use Rattle.machine_states.specs.body_terms.specs.Word.{is_free, is_spent}
+use Rattle.machine_states.specs.body_terms.specs.Word.{value_of, is_free, is_spent}
 use Rattle.machine_states.specs.body_terms.specs.declared.outcome.Outcome.{Outcome}
 use Rattle.machine_states.specs.body_terms.specs.declared.outcome.Refused.{Refused}
 use Rattle.machine_states.specs.body_terms.specs.declared.outcome.Refused.TheVariants as refusals
@@ -13,14 +13,18 @@ use Rattle.machine_states.specs.structure_laws.specs.Scene.{Readings}
 use Rattle.machine_states.specs.structure_laws.specs.Meaning.{Meaning}
 use Rattle.machine_states.specs.runner_parts.specs.declared.entries.Published.{Published}
 use Rattle.machine_states.specs.epoch_core.specs.declared.stage.Stage.TheVariants as stages
+use Rattle.machine_states.specs.table_words.specs.Places.{descriptor_count}
+use Rattle.machine_states.specs.runner_parts.specs.declared.event.EventKind.TheVariants as kinds
 use Rattle.machine_states.specs.runner_parts.specs.Lists.{no_reads}
-use Rattle.machine_states.specs.runner_parts.specs.State.{ReadsState}
+use Rattle.machine_states.specs.runner_steps.specs.AfterInRun.{kept_unless}
+use Rattle.machine_states.specs.runner_parts.specs.State.{NodesState, ReadsState}
 use Rattle.machine_states.specs.runner_parts.specs.Tests.{has_pair, is_next, is_open, serves}
 use Rattle.machine_states.specs.runner_steps.specs.Outside.{is_due}
 use Rattle.machine_states.specs.runner_steps.specs.AfterOutside.{published_by}
 use Rattle.lock_walks.specs.runner_facts.proofs.Names.{pair_last}
 use Rattle.version_words.specs.RunnerState.{RunnerState}
 use Rattle.version_words.specs.Stages.{IsAt}
+use Rattle.version_words.specs.Events.{Makes}
 use Rattle.lock_walks.specs.try_lock.specs.epoch_slots.specs.Entries.{HasLeave}
 use Rattle.lock_walks.specs.try_lock.specs.declared.section.Section.{Section}
 use Rattle.lock_walks.specs.try_lock.specs.declared.planned.Planned.{Planned}
@@ -28,26 +32,32 @@ use Rattle.lock_walks.specs.try_lock.specs.declared.planned.Planned.TheVariants 
 use Rattle.lock_walks.specs.try_lock.specs.Planning.{Planning}
 use Rattle.lock_walks.specs.try_lock.specs.Plans.{reads_walked}
 use Rattle.lock_walks.specs.try_lock.specs.Publishes.{MayPublish, IsPublished, IsRefused}
-use Rattle.lock_walks.specs.try_lock.specs.Reached.{MayRunSection, MayHelp}
-use Rattle.lock_walks.specs.try_lock.specs.Retires.{IsOver}
+use Rattle.lock_walks.specs.try_lock.specs.Reached.{MayRunSection}
+use Rattle.lock_walks.specs.try_lock.proofs.Guarding.{guard_keeps, guard_reads}
+use Rattle.lock_walks.specs.runner_facts.specs.next_steps.specs.Rooms.{cell_count}
 use Rattle.attempts.specs.Course.{of_refusal, HasPlanned, HasTried, HasEnded}
-use Rattle.attempts.specs.Rests.{MayLeave}
+use Rattle.attempts.specs.Rests.{MayLeave, MayLetGo}
 use Rattle.attempts.specs.declared.answers.Attempt.TheVariants as answers
 use Rattle.attempts.proofs.Leaving.{ended_at}
+use Rattle.attempts.proofs.LettingGo.{gone_leave, gone_hand}
 
-over_test : (n k : ℕ) → k ≡ n → (false || (n == k)) ≡ true
-over_test n k e = subst (λ j. (n == j) ≡ true) (sym e) (same_test n)
+over_none : (y : Published) (d : ℕ) → y.descriptor ≡ d → kept_unless (Some y) d ≡ None
+over_none y d e = ap (λ b. if b then None else Some y) (subst (λ j. (y.descriptor == j) ≡ true) e (same_test y.descriptor))
 
 module _ {T : Type 0} (m : Meaning) (planning : Planning) (request : Request) (old : RunnerState T) where
   module _ (readings : Readings) (answer : Planned) (r : RunnerState T) (is : HasPlanned m planning request readings answer old r) where
     pub planned_at : IsAt r (stages.Entered is.enters.enters.epoch) None
     planned_at = is.walked.at is.enters.enters.epoch None is.enters.enters.at
 
-    pub planned_reads : r.part.reads ≡ reads_walked m no_reads readings
-    planned_reads = is.walked.reads ∙ ap (λ (s : ReadsState). reads_walked m s readings) is.enters.enters.reads
+    pub planned_reads : r.part.reads ≡ reads_walked no_reads readings
+    planned_reads = is.walked.reads ∙ ap (λ (s : ReadsState). reads_walked s readings) is.enters.enters.reads
 
     pub planned_leave : HasLeave r
-    planned_leave = record { epoch = is.enters.enters.epoch; at = planned_at }
+    planned_leave = record {
+      epoch = is.enters.enters.epoch;
+      at = planned_at;
+      unguarded = is.walked.guarded ∙ (ap (λ g. g.named) is.enters.enters.guards ∙ is.enters.reclaims.rested.tidy.unguarded);
+    }
 
   module _ (readings : Readings) (thunk : Thunk) (r : RunnerState T) (is : HasPlanned m planning request readings (plans.Thunk thunk) old r) where
     open_test : (a b c : Bool) → a ≡ true → b ≡ false → c ≡ true → (a && (not b && c)) ≡ true
@@ -127,40 +137,44 @@ module _ {T : Type 0} (m : Meaning) (planning : Planning) (request : Request) (o
         ∙ (ap (λ p. has_pair (is.planned.part.reads.cells ++ (thunk.lock, is.publishes.found) ∷ []) p is.publishes.found) h.2
         ∙ pair_last is.planned.part.reads.cells thunk.lock is.publishes.found))
 
-    -- whose outer lock is a lock
-    pub refused_may_leave : m.is_lock thunk.lock ≡ true → MayLeave m (of_refusal thunk.lock refused) r
-    refused_may_leave lock = record {
-      leave = record { epoch = is.plans.enters.enters.epoch; at = at };
-      hand = is.hand;
-      help = λ place word named.
-          let h = cause place word named in
-          subst (MayHelp m r) (sym h.1) (record {
-            epoch = is.plans.enters.enters.epoch;
-            published = None;
-            at = at;
-            names = h.0;
-            holds = lost.names h.0;
-            reserve = is.nodes;
-            reached = is.publishes.reached;
-          });
-      met = λ place word named. inl (lock_read place word named, ap m.is_lock (cause place word named).2 ∙ lock);
-    }
-      where
-        at : IsAt r (stages.Entered is.plans.enters.enters.epoch) None
-        at = lost.at is.plans.enters.enters.epoch (planned_at is.readings (plans.Thunk thunk) is.planned is.plans)
+    pub at_refused : IsAt r (stages.Entered is.plans.enters.enters.epoch) None
+    at_refused = lost.at is.plans.enters.enters.epoch (planned_at is.readings (plans.Thunk thunk) is.planned is.plans)
+
+    pub refused_go : MayLetGo r
+    refused_go = record { epoch = is.plans.enters.enters.epoch; at = at_refused }
+
+    -- whose outer lock is a lock, in a place of the table; and the word that it had names a descriptor of the table
+    module _ (found : ℕ) (u : RunnerState T) (goes : Makes m (kinds.Guard None) found r u) where
+      pub refused_may_leave : m.is_lock thunk.lock ≡ true → thunk.lock < cell_count m u.layout
+          → (is_free is.publishes.found ≡ false → value_of is.publishes.found - 1 < descriptor_count u.layout) → MayLeave m (of_refusal thunk.lock refused) u
+      refused_may_leave lock within few =
+          let kept = guard_keeps m None found r u goes at_refused.resting in
+          let leave = gone_leave m found r u goes refused_go in
+          record {
+            leave = leave;
+            hand = gone_hand m found r u goes refused_go is.hand;
+            reserve = subst (λ (n : NodesState). 2 ≤ length n.free) (sym kept.nodes) is.nodes;
+            watch = λ place word named.
+                let h = cause place word named in record {
+                  epoch = leave.epoch;
+                  at = leave.at;
+                  lock = ap m.is_lock h.2 ∙ lock;
+                  within = subst (λ p. p < cell_count m u.layout) (sym h.2) within;
+                  names = ap is_free h.1 ∙ h.0;
+                  few = subst (λ w. value_of w - 1 < descriptor_count u.layout) (sym h.1) (few h.0);
+                };
+            met = λ place word named. inl (ap (λ (s : ReadsState). has_pair s.cells place word) (guard_reads m None found r u goes at_refused.resting) ∙ lock_read place word named);
+          }
 
   -- the section was run to its end
   module _ (section : Section) (thunk : Thunk) (outcome : Outcome) (trail : Agreed) (r : RunnerState T)
       (is : HasEnded m planning request section thunk outcome trail old r) where
-    abbrev y : Published
-    y = record (x thunk section is.published is.tries) { over = false || (is.tries.publishes.descriptor == section.descriptor) }
+    -- it has no published section then
+    pub ended_here : IsAt r (stages.Entered is.tries.plans.enters.enters.epoch) None
+    ended_here = subst (λ (o : Option Published). IsAt r (stages.Entered is.tries.plans.enters.enters.epoch) o)
+        (over_none (x thunk section is.published is.tries) section.descriptor (sym (published thunk section is.published is.tries).own))
+        (ended_at m section.descriptor thunk outcome trail is.made is.published r is.ends is.tries.plans.enters.enters.epoch
+        (Some (x thunk section is.published is.tries)) (tried_at thunk section is.published is.tries))
 
-    pub ended_over : IsOver r section.descriptor
-    ended_over = record {
-      epoch = is.tries.plans.enters.enters.epoch;
-      published = y;
-      at = ended_at m section.descriptor thunk outcome trail is.made is.published r is.ends is.tries.plans.enters.enters.epoch
-          (Some (x thunk section is.published is.tries)) (tried_at thunk section is.published is.tries);
-      own = sym (published thunk section is.published is.tries).own;
-      over = over_test is.tries.publishes.descriptor section.descriptor (published thunk section is.published is.tries).own;
-    }
+    pub ended_go : MayLetGo r
+    ended_go = record { epoch = is.tries.plans.enters.enters.epoch; at = ended_here }

@@ -15,10 +15,10 @@ use Rattle.machine_states.specs.runner_parts.specs.declared.entries.Published.{P
 use Rattle.machine_states.specs.runner_parts.specs.State.{PartState}
 use Rattle.machine_states.specs.Sight.{Sight, sight, part_or_first}
 use Rattle.lock_words.specs.machine_epochs.specs.Slots.{thunk_in}
-use Rattle.version_words.specs.machine_invariant.specs.machine_agreement.proofs.RunPlaces.{opened_thunk}
-use Rattle.version_words.specs.machine_invariant.specs.After.{AreAllowed}
-use Rattle.request_facts.specs.reached_histories.specs.machine_facts.specs.After.{AreFactsAfter}
-use Rattle.request_facts.specs.reached_histories.specs.machine_facts.proofs.Following.{facts_after}
+use Rattle.machine_facts.specs.machine_agreement.proofs.RunPlaces.{opened_thunk}
+use Rattle.machine_facts.specs.machine_invariant.specs.After.{AreAllowed}
+use Rattle.machine_facts.specs.After.{AreFactsAfter}
+use Rattle.machine_facts.proofs.Following.{facts_after}
 use Rattle.version_words.specs.RunnerState.{RunnerState}
 use Rattle.version_words.specs.TableState.{TableState, IsOf}
 use Rattle.lock_walks.specs.try_lock.specs.commit_log.specs.Asked.{IsAsked}
@@ -29,7 +29,7 @@ use Rattle.attempts.specs.Knowing.{LearnsNoOther}
 use Rattle.attempts.specs.Learned.{StoodAtStamp, IsCut}
 use Rattle.attempts.specs.Course.{HasTried, HasEnded}
 use Rattle.attempts.specs.Counted.{IsCounted}
-use Rattle.attempts.specs.Attempts.{is_halted, helped_of, most_of_run, IsBrief, InOwnRun, IsHalted}
+use Rattle.attempts.specs.Attempts.{is_halted, has_helped, most_of_run, IsBrief, InOwnRun, IsHalted}
 use Rattle.attempts.specs.Rests.{Rests}
 use Rattle.attempts.specs.declared.answers.Attempt.{Attempt}
 use Rattle.attempts.specs.declared.answers.Attempt.TheVariants as answers
@@ -197,9 +197,9 @@ module _ {T : Type 0} (m : Meaning) (laws : Laws m) (t : TableState T) (limits :
       );
       entered = rests.entered;
       runs = λ going.
-          let more = rests.runs going ∙ ap (λ k. length ran.part.records.finished + (k + helped_of got)) (no_more rests.published) in
+          let more = rests.runs going ∙ ap (λ k. length ran.part.records.finished + (k + (if has_helped m planning request got old new rests.answers then 1 else 0))) (no_more rests.published) in
           let own = own_run in
-          let all : length new.part.records.finished ≡ length here.part.records.finished + (1 + helped_of got) = omega (arith, more, own) in all;
+          let all : length new.part.records.finished ≡ length here.part.records.finished + (1 + (if has_helped m planning request got old new rests.answers then 1 else 0)) = omega (arith, more, own) in all;
       few_runs =
           let few : length new.part.records.finished ≤ length ran.part.records.finished + 1 = rests.few_runs in
           let own = own_run in

@@ -11,7 +11,7 @@ use Rattle.machine_states.specs.runner_parts.specs.declared.entries.Known.{Known
 use Rattle.machine_states.specs.runner_parts.specs.State.{PartState}
 use Rattle.machine_states.specs.runner_parts.specs.Tests.{is_answered}
 use Rattle.machine_states.specs.Sight.{sight, part_or_first}
-use Rattle.version_words.specs.machine_invariant.specs.After.{AreAllowed}
+use Rattle.machine_facts.specs.machine_invariant.specs.After.{AreAllowed}
 use Rattle.request_facts.specs.reached_histories.specs.Requests.{or_none, requests_of}
 use Rattle.request_facts.specs.reached_histories.specs.Kept.{link_of}
 use Rattle.version_words.specs.RunnerState.{RunnerState}

@@ -18,7 +18,7 @@ use Rattle.machine_states.specs.runner_parts.specs.declared.entries.Known.{Known
 use Rattle.machine_states.specs.runner_parts.specs.State.{RunState, FinishedState}
 use Rattle.machine_states.specs.runner_steps.specs.AfterInRun.{ended_more}
 use Rattle.machine_states.specs.runner_steps.specs.Sections.{thunk_of, line_of, setting_of, outcome_of, outcome_or}
-use Rattle.version_words.specs.machine_invariant.specs.After.{AreAllowed}
+use Rattle.machine_facts.specs.machine_invariant.specs.After.{AreAllowed}
 use Rattle.version_words.specs.RunnerState.{RunnerState}
 use Rattle.version_words.specs.TableState.{TableState, IsOf}
 use Rattle.lock_walks.specs.try_lock.specs.commit_log.specs.Runs.{Stepped}

@@ -23,7 +23,7 @@ use Rattle.machine_states.specs.runner_steps.specs.Outside.{when, entry_spot}
 use Rattle.machine_states.specs.runner_steps.specs.Asks.{ask_by, fitting, sizes_for}
 use Rattle.machine_states.specs.Sight.{sight, part_or_first}
 use Rattle.machine_states.proofs.Steps.{some_same, none_some}
-use Rattle.version_words.specs.machine_invariant.specs.After.{AreAllowed}
+use Rattle.machine_facts.specs.machine_invariant.specs.After.{AreAllowed}
 use Rattle.version_words.specs.RunnerState.{RunnerState}
 use Rattle.version_words.specs.Events.{Makes}
 use Rattle.version_words.specs.ReachedWith.{is_told}
@@ -32,8 +32,8 @@ use Rattle.version_words.proofs.Stages.{then_knows}
 use Rattle.lock_walks.specs.try_lock.specs.epoch_slots.specs.Collects.{IsTidy}
 use Rattle.lock_walks.specs.try_lock.specs.epoch_slots.specs.Entries.{Exits}
 use Rattle.lock_walks.specs.try_lock.specs.epoch_slots.proofs.Outside.{nodes_made, known_made, finished_made}
-use Rattle.request_facts.specs.reached_histories.specs.machine_facts.specs.Known.{KnownStand}
-use Rattle.request_facts.specs.reached_histories.specs.machine_facts.proofs.Following.{facts_after}
+use Rattle.machine_facts.specs.Known.{KnownStand}
+use Rattle.machine_facts.proofs.Following.{facts_after}
 use Rattle.request_facts.specs.Placed.{IsServedAs}
 use Rattle.request_facts.specs.Laws.{HasEntry, IsKnown}
 use Rattle.request_facts.proofs.Standing.{callers_stand}
@@ -142,6 +142,8 @@ module _ {T : Type 0} (m : Meaning) (laws : Laws m) (map : m.is_map ≡ true) (r
     at = exits.at;
     hand = ap (λ s. s.hand) exits.keeps.nodes ∙ may.hand.hand;
     tests = ap (λ s. s.tests) exits.keeps.nodes ∙ may.hand.tests;
+    looked = ap (λ g. g.looked) exits.guards ∙ may.hand.looked;
+    unguarded = ap (λ g. g.named) exits.guards ∙ may.leave.unguarded;
   }
 
   tidy_one : IsTidy r1

@@ -1,8 +1,10 @@
 pub mod Knowing
 pub mod Helping
+pub mod LettingGo
 pub mod Reaching
 pub mod Refilling
 pub mod Leaving
+pub mod Held
 pub mod Learning
 pub mod Counting
 pub mod Courses

@@ -6,18 +6,16 @@ use Rattle.std.proofs.lemmas.Bool.{and_parts}
 use Rattle.machine_states.specs.body_terms.specs.declared.micro.Micro.{Micro}
 use Rattle.machine_states.specs.body_terms.specs.declared.micro.Micro.TheVariants as micros
 use Rattle.machine_states.specs.body_terms.specs.Line.{micro_at, is_check, is_end}
-use Rattle.machine_states.specs.body_terms.specs.Run.{written_once}
 use Rattle.machine_states.specs.table_words.specs.declared.layout.Layout.{Layout}
 use Rattle.machine_states.specs.structure_laws.specs.Meaning.{Meaning}
-use Rattle.machine_states.specs.runner_parts.specs.Lists.{lock_agreed, holds_named}
-use Rattle.machine_states.specs.runner_parts.specs.State.{RunState, PartState, RecordsState, ReadsState}
-use Rattle.machine_states.specs.runner_parts.specs.Tests.{has, has_pair}
+use Rattle.machine_states.specs.runner_parts.specs.State.{RunState, PartState, RecordsState}
+use Rattle.machine_states.specs.runner_parts.specs.Tests.{has_pair}
 use Rattle.machine_states.specs.runner_steps.specs.InRun.{make_slot}
 use Rattle.machine_states.specs.runner_steps.specs.Sections.{line_of, next_of, settles}
 use Rattle.machine_states.specs.runner_steps.specs.AfterInRun as inside
 use Rattle.machine_states.specs.runner_steps.specs.AfterInRun.{ended_more}
 use Rattle.machine_states.specs.runner_steps.specs.After.{line_after}
-use Rattle.version_words.specs.machine_invariant.specs.machine_agreement.proofs.Passes.{ahead, settled_rests}
+use Rattle.machine_facts.specs.machine_agreement.proofs.Passes.{ahead, settled_rests}
 use Rattle.machine_states.proofs.Steps.{some_same, none_some}
 use Rattle.lock_walks.specs.runner_facts.specs.next_steps.specs.Steps.{slot_in, kind_at}
 use Rattle.lock_walks.specs.runner_facts.specs.next_steps.specs.Stages.{filling_slot, run_behind, reads_behind}
@@ -196,23 +194,12 @@ module _ (m : Meaning) (l : Layout) (p : PartState) (q : RunState) (found : ℕ)
   cells_more : (xs ys : List (ℕ × ℕ)) (a b : ℕ) → has_pair xs a b ≡ true → has_pair (xs ++ ys) a b ≡ true
   cells_more xs ys a b e = list_any-append (λ x. x.0 == a && x.1 == b) xs ys ∙ ap (λ c. c || has_pair ys a b) e
 
-  agreed_cells : (s : ReadsState) (descriptor word : ℕ) → (lock_agreed s descriptor word).cells ≡ s.cells
-  agreed_cells s descriptor word = by (has s.published descriptor)
-    where
-      by : (b : Bool) → (if b then holds_named s word else s).cells ≡ s.cells
-      by true = refl
-      by false = refl
-
   pub cells_stay : (micro : Micro) (a b : ℕ) → has_pair p.reads.cells a b ≡ true
       → has_pair (reads_behind p q micro found).cells a b ≡ true
   cells_stay (micros.LoadCell place log) a b e = cells_more p.reads.cells ((place, found) ∷ []) a b e
   cells_stay (micros.NestedLoad place log) a b e = cells_more p.reads.cells ((place, found) ∷ []) a b e
-  cells_stay (micros.NestedCommit place log) a b e =
-      ap (λ xs. has_pair xs a b) (agreed_cells p.reads q.descriptor (written_once found q.word)) ∙ e
   cells_stay (micros.NestedHold place word) a b e = cells_more p.reads.cells ((place, found) ∷ []) a b e
   cells_stay (micros.OutcomeLoad place log) a b e = cells_more p.reads.cells ((place, found) ∷ []) a b e
-  cells_stay (micros.OutcomeCommit place log) a b e =
-      ap (λ xs. has_pair xs a b) (agreed_cells p.reads q.descriptor (written_once found q.word)) ∙ e
   cells_stay (micros.ExchangeCell place log value) a b e = cells_more p.reads.cells ((place, found) ∷ []) a b e
   cells_stay (micros.Release place word) a b e = cells_more p.reads.cells ((place, found) ∷ []) a b e
   cells_stay _ a b e = e

@@ -32,6 +32,7 @@ planned_of m planning request old r enters answer new halts halts' asks asks' st
   hand = record {
     hand = ap (λ (n : NodesState). n.hand) is.walked.keeps.nodes ∙ enters.hand.hand;
     tests = ap (λ (n : NodesState). n.tests) is.walked.keeps.nodes ∙ enters.hand.tests;
+    looked = is.walked.looked ∙ enters.hand.looked;
   };
   has = record {
     nodes = subst (λ (n : NodesState). 2 ≤ length n.free) (sym is.walked.keeps.nodes) enters.has.nodes;

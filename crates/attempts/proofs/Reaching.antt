@@ -1,12 +1,13 @@
--- The states that the machine reaches as a runner enters, leaves and collects.
+-- The states that the machine reaches as a runner enters, leaves, collects and sweeps.
 use Rattle.std.specs.Prelude.{Bool, true, false}
-use Rattle.std.proofs.Common.{ℕ, ◌+◌, List, [], ◌∷◌, sym, subst}
+use Rattle.std.proofs.Common.{◌≡◌, ℕ, ◌+◌, List, [], ◌∷◌, length, sym, subst, arith}
 use Rattle.machine_states.specs.structure_laws.specs.Meaning.{Meaning}
 use Rattle.machine_states.specs.runner_parts.specs.declared.event.EventKind.{EventKind}
 use Rattle.version_words.specs.RunnerState.{RunnerState}
 use Rattle.version_words.specs.Events.{Makes}
 use Rattle.lock_walks.specs.try_lock.specs.epoch_slots.specs.Collects.{Scans, Looks, AreTested, Advances, Collects}
 use Rattle.lock_walks.specs.try_lock.specs.epoch_slots.specs.Entries.{Enters, Exits}
+use Rattle.lock_walks.specs.try_lock.specs.epoch_slots.specs.Sweeps.{Sweeps, HasSwept}
 use Rattle.lock_walks.specs.try_lock.specs.Reached.{IsReached}
 
 module _ {T : Type 0} (m : Meaning) where
@@ -42,3 +43,15 @@ module _ {T : Type 0} (m : Meaning) where
       tested_reached _ c.wears c.over new
       (advances_reached c.epoch c.reached _ c.scanned c.over
       (scans_reached 0 c.found c.begun c.scanned (made_reached _ c.epoch old c.begun c.load) c.scans) c.advances) c.tested
+
+  sweeps_reached : (next : ℕ) (found : List ℕ) (r r' : RunnerState T) → IsReached m r → Sweeps m next found r r' → IsReached m r'
+  sweeps_reached next [] r r' here same = subst (IsReached m) (sym same) here
+  sweeps_reached next (f ∷ found) r r' here sweeps = sweeps_reached (next + 1) found sweeps.0 r' (made_reached _ f r sweeps.0 sweeps.1) sweeps.2
+
+  -- a sweep reads the keeper's guard word at least
+  pub swept_reached : (old new : RunnerState T) → HasSwept m old new → IsReached m new
+  swept_reached old new swept = by swept.found swept.each swept.sweeps
+    where
+      by : (found : List ℕ) → length found ≡ old.layout.runners + 1 → Sweeps m 0 found old new → IsReached m new
+      by [] each sweeps = absurd (omega (arith, each))
+      by (f ∷ found) each sweeps = sweeps_reached 1 found sweeps.0 new (made_reached _ f old sweeps.0 sweeps.1) sweeps.2

@@ -11,9 +11,9 @@ use Rattle.machine_states.specs.structure_laws.specs.Laws.{Laws}
 use Rattle.machine_states.specs.runner_parts.specs.State.{PartState}
 use Rattle.machine_states.specs.runner_parts.specs.Tests.{is_answered}
 use Rattle.machine_states.specs.Sight.{sight, part_or_first}
-use Rattle.version_words.specs.machine_invariant.specs.After.{AreAllowed}
-use Rattle.request_facts.specs.reached_histories.specs.machine_facts.specs.Known.{KnownStand}
-use Rattle.request_facts.specs.reached_histories.specs.machine_facts.proofs.Following.{facts_after}
+use Rattle.machine_facts.specs.machine_invariant.specs.After.{AreAllowed}
+use Rattle.machine_facts.specs.Known.{KnownStand}
+use Rattle.machine_facts.proofs.Following.{facts_after}
 use Rattle.request_facts.specs.reached_histories.specs.Requests.{or_none}
 use Rattle.request_facts.specs.reached_histories.specs.Kept.{link_of}
 use Rattle.version_words.specs.RunnerState.{RunnerState}

@@ -1,31 +1,28 @@
--- A runner that collects where it has to.
-use Rattle.std.specs.Prelude.{◌==◌, ◌||◌, nat_lt, Bool, true, false}
+-- A runner that collects and sweeps where it has to.
+use Rattle.std.specs.Prelude.{◌==◌, nat_lt, Bool, true, false}
 use Rattle.std.proofs.Common.{◌≡◌, ℕ, ◌<◌, length, refl, sym, ap, ◌∙◌, subst, arith, true≢false}
 use Rattle.std.proofs.lemmas.Bool.Decides.{nat_tests}
 use Rattle.machine_states.specs.structure_laws.specs.Meaning.{Meaning}
+use Rattle.machine_states.specs.runner_parts.specs.State.{GuardsState}
 use Rattle.version_words.specs.RunnerState.{RunnerState}
 use Rattle.lock_walks.specs.try_lock.specs.epoch_slots.specs.Collects.{IsTidy, Collects}
+use Rattle.lock_walks.specs.try_lock.specs.epoch_slots.specs.Sweeps.{HasSwept}
 use Rattle.lock_walks.specs.try_lock.specs.epoch_slots.specs.declared.reserves.Kind.{Kind}
 use Rattle.lock_walks.specs.try_lock.specs.epoch_slots.specs.declared.reserves.Kind.TheVariants as kinds
 use Rattle.lock_walks.specs.try_lock.specs.Reached.{IsReached}
 use Rattle.attempts.specs.Attempts.{IsFew}
-use Rattle.attempts.specs.Reclaims.{lacks_slots, IsRested, CollectsWhere, Reclaims}
-use Rattle.attempts.proofs.Reaching.{collects_reached}
-
-few_nodes : (n : ℕ) (b : Bool) → n < 2 → (nat_lt n 2 || b) ≡ true
-few_nodes n b few = ap (λ t. t || b) (below n few)
-  where
-    below : (k : ℕ) → k < 2 → nat_lt k 2 ≡ true
-    below k low = grind (arith, nat_tests)
-
-no_descriptor : (n : ℕ) (b : Bool) → n ≡ 0 → (b || n == 0) ≡ true
-no_descriptor n true none = refl
-no_descriptor n false none = ap (λ k. k == 0) none
+use Rattle.attempts.specs.Reclaims.{lacks_slots, lacks_descriptor, IsRested, CollectsWhere, SweepsWhere, Reclaims}
+use Rattle.attempts.proofs.Reaching.{collects_reached, swept_reached}
 
 module _ {T : Type 0} where
-  pub few_lacks : (r : RunnerState T) (kind : Kind) → IsFew r kind → lacks_slots r ≡ true
-  few_lacks r kinds.Node few = few_nodes (length r.part.nodes.free) (length r.part.descriptors.free == 0) few
-  few_lacks r kinds.Descriptor few = no_descriptor (length r.part.descriptors.free) (nat_lt (length r.part.nodes.free) 2) few.1
+  few_lacks : (r : RunnerState T) → length r.part.nodes.free < 2 → lacks_slots r ≡ true
+  few_lacks r few = below (length r.part.nodes.free) few
+    where
+      below : (k : ℕ) → k < 2 → nat_lt k 2 ≡ true
+      below k low = grind (arith, nat_tests)
+
+  none_lacks : (r : RunnerState T) → length r.part.descriptors.free ≡ 0 → lacks_descriptor r ≡ true
+  none_lacks r none = ap (λ k. k == 0) none
 
   pub same_rested : (old new : RunnerState T) → IsTidy old → new ≡ old → IsRested old new
   same_rested old new tidy same = subst (IsRested old) (sym same) (record { tidy = tidy; number = refl; known = refl; finished = refl })
@@ -48,10 +45,38 @@ module _ {T : Type 0} where
     pub collected_rested : (old new : RunnerState T) → Collects m old new → IsRested old new
     collected_rested old new c = record { tidy = c.tidy; number = c.number; known = c.known; finished = c.finished }
 
-    -- where slots lack the last thing that was done was a scan
+    pub sweeps_due : (due : Bool) (old new : RunnerState T) → due ≡ true → HasSwept m old new → SweepsWhere m due old new
+    sweeps_due due old new e swept = subst (λ b. SweepsWhere m b old new) (sym e) swept
+
+    pub no_sweep : (due : Bool) (old : RunnerState T) → due ≡ false → SweepsWhere m due old old
+    no_sweep due old e = subst (λ b. SweepsWhere m b old old) (sym e) refl
+
+    pub swept_rested : (old new : RunnerState T) → IsTidy old → HasSwept m old new → IsRested old new
+    swept_rested old new tidy swept = record {
+      tidy = record {
+        at = swept.ready.at;
+        hand = ap (λ n. n.hand) swept.keeps.nodes ∙ tidy.hand;
+        tests = ap (λ n. n.tests) swept.keeps.nodes ∙ tidy.tests;
+        looked = swept.ready.looked;
+        unguarded = ap (λ (g : GuardsState). g.named) swept.guards ∙ tidy.unguarded;
+      };
+      number = swept.keeps.number;
+      known = swept.keeps.known;
+      finished = swept.keeps.finished;
+    }
+
+    -- where slots lack the last thing that was done was a scan, or a sweep
     pub short_reached : (old new : RunnerState T) (kind : Kind) → IsFew new kind → Reclaims m old new → IsReached m new
-    short_reached old new kind few r = by (lacks_slots r.second) refl r.thrice
+    short_reached old new kind few r = swept (lacks_descriptor r.third) refl r.sweeps
       where
-        by : (b : Bool) → lacks_slots r.second ≡ b → CollectsWhere m b r.second new → IsReached m new
-        by true e collects = collects_reached m r.second new collects
-        by false e same = absurd (true≢false (sym (few_lacks new kind few) ∙ (ap lacks_slots same ∙ e)))
+        scanned : (b : Bool) → lacks_slots r.second ≡ b → CollectsWhere m b r.second r.third → lacks_slots r.third ≡ true → IsReached m r.third
+        scanned true e collects lacks = collects_reached m r.second r.third collects
+        scanned false e same lacks = absurd (true≢false (sym lacks ∙ (ap lacks_slots same ∙ e)))
+
+        still : (k : Kind) → IsFew new k → new ≡ r.third → lacks_descriptor r.third ≡ false → IsReached m new
+        still kinds.Node few same full = subst (IsReached m) (sym same) (scanned (lacks_slots r.second) refl r.thrice (ap lacks_slots (sym same) ∙ few_lacks new few))
+        still kinds.Descriptor few same full = absurd (true≢false (sym (none_lacks new few.1) ∙ (ap lacks_descriptor same ∙ full)))
+
+        swept : (b : Bool) → lacks_descriptor r.third ≡ b → SweepsWhere m b r.third new → IsReached m new
+        swept true e sweeps = swept_reached m r.third new sweeps
+        swept false e same = still kind few same e

@@ -1,12 +1,10 @@
 -- What refused a plan, or made a section leave, as an answer of an attempt.
-use Rattle.std.specs.Prelude.{◌==◌, ◌||◌, cond, Bool, true, false, slice_index, if◌then◌else◌}
-use Rattle.std.proofs.Common.{◌≡◌, ◌≢◌, ℕ, ◌-◌, List, [], ◌∷◌, ◌++◌, refl, sym, ap, ◌∙◌, subst, arith, Option, Some, None}
-use Rattle.std.proofs.lemmas.List.Folds.{list_any-append}
-use Rattle.std.proofs.lemmas.Bool.Decides.{nat_tests}
-use Rattle.section_lines.specs.small_lemmas.proofs.Bools.{or_second as or_true}
+use Rattle.std.specs.Prelude.{cond, Bool, true, false, slice_index}
+use Rattle.std.proofs.Common.{◌≡◌, ◌≢◌, ℕ, List, [], ◌∷◌, ◌++◌, refl, sym, ap, ◌∙◌, subst, Option, Some, None}
+use Rattle.section_lines.specs.small_lemmas.proofs.Bools.
 use Rattle.machine_states.specs.map_history.specs.declared.op.Op.{Op}
 use Rattle.machine_states.specs.body_terms.specs.Run.{Setting, leaves, refusal, is_takable}
-use Rattle.machine_states.specs.body_terms.specs.Word.{value_of, is_free, is_spent}
+use Rattle.machine_states.specs.body_terms.specs.Word.{is_free, is_spent}
 use Rattle.machine_states.specs.body_terms.specs.declared.micro.Micro.{Micro}
 use Rattle.machine_states.specs.body_terms.specs.declared.micro.Micro.TheVariants as micros
 use Rattle.machine_states.specs.body_terms.specs.declared.outcome.Outcome.{Outcome}
@@ -14,8 +12,7 @@ use Rattle.machine_states.specs.body_terms.specs.declared.outcome.Outcome.TheVar
 use Rattle.machine_states.specs.table_words.specs.declared.layout.Layout.{Layout}
 use Rattle.machine_states.specs.structure_laws.specs.Scene.{Readings}
 use Rattle.machine_states.specs.structure_laws.specs.Meaning.{Meaning}
-use Rattle.machine_states.specs.runner_parts.specs.Lists.{named_by}
-use Rattle.machine_states.specs.runner_parts.specs.Tests.{has, has_pair}
+use Rattle.machine_states.specs.runner_parts.specs.Tests.{has_pair}
 use Rattle.machine_states.specs.runner_steps.specs.Sections.{setting_of}
 use Rattle.machine_states.proofs.Steps.{some_same, none_some}
 use Rattle.lock_walks.specs.runner_facts.proofs.Names.{pair_last}
@@ -123,25 +120,6 @@ busy_plan (plans.Far loads) place word e = absurd (let z = e in cc)
 busy_plan (plans.Thunk thunk) place word e = absurd (let z = e in cc)
 busy_plan plans.Halted place word e = absurd (let z = e in cc)
 
--- the words of locks among readings
-append_on : (xs ys zs : List ℕ) → (xs ++ ys) ++ zs ≡ xs ++ (ys ++ zs)
-append_on [] ys zs = refl
-append_on (x ∷ xs) ys zs = ap (λ ws. x ∷ ws) (append_on xs ys zs)
-
-names_append : (m : Meaning) (xs ys : Readings) → plan.names_read m (xs ++ ys) ≡ plan.names_read m xs ++ plan.names_read m ys
-names_append m [] ys = refl
-names_append m (x ∷ xs) ys = ap (λ ns. (if m.is_lock x.0 then named_by x.1 else []) ++ ns) (names_append m xs ys)
-    ∙ sym (append_on (if m.is_lock x.0 then named_by x.1 else []) (plan.names_read m xs) (plan.names_read m ys))
-
-same_test : (n : ℕ) → ((n == n) || false) ≡ true
-same_test n = grind (arith, nat_tests)
-
-named_has : (word : ℕ) (free lock : Bool) → free ≡ false → lock ≡ true
-    → has ((if lock then (if free then [] else (value_of word - 1) ∷ []) else []) ++ []) (value_of word - 1) ≡ true
-named_has word false true e f = same_test (value_of word - 1)
-named_has word true lock e f = absurd (let z = e in cc)
-named_has word false false e f = absurd (let z = f in cc)
-
 module _ (m : Meaning) (planning : Planning) (l : Layout) (op : Op) (place word : ℕ) where
   module _ (p w : ℕ) where
     by_free : (free spent : Bool) → is_free w ≡ free
@@ -168,18 +146,13 @@ module _ (m : Meaning) (planning : Planning) (l : Layout) (op : Op) (place word 
         (h.0, h.1, is, h.2)
     by_lock false rest none is e = absurd (none e)
 
-  -- a plan that found a lock held read a word there that names a descriptor, which the runner holds since
+  -- a plan that found a lock held read a word there that names a descriptor
   pub plan_busy : (readings : Readings) → plan.IsRefused m planning l op readings (plans.Busy place word)
-      → (is_free word ≡ false) × (has (plan.names_read m readings) (value_of word - 1) ≡ true) × (has_pair readings place word ≡ true) × (m.is_lock place ≡ true)
+      → (is_free word ≡ false) × (has_pair readings place word ≡ true) × (m.is_lock place ≡ true)
   plan_busy readings is =
       let h = by_lock is.place is.word (m.is_lock is.place) _
       (by_rest is.place is.word _ _ _ _) refl is.cause in (
         h.0,
-        ap (λ rs. has (plan.names_read m rs) (value_of word - 1)) is.last
-            ∙ (ap (λ ns. has ns (value_of word - 1)) (names_append m is.before ((is.place, is.word) ∷ []))
-            ∙ (list_any-append (λ y. y == value_of word - 1) (plan.names_read m is.before) (plan.names_read m ((is.place, is.word) ∷ []))
-            ∙ or_true _ _ (subst (λ n. has (plan.names_read m ((is.place, is.word) ∷ [])) (value_of n - 1) ≡ true) (sym h.1)
-            (named_has is.word (is_free is.word) (m.is_lock is.place) (subst (λ n. is_free n ≡ false) h.1 h.0) h.2)))),
         ap (λ rs. has_pair rs place word) is.last
             ∙ (ap (λ w. has_pair (is.before ++ (is.place, is.word) ∷ []) place w) h.1
             ∙ (ap (λ p. has_pair (is.before ++ (is.place, is.word) ∷ []) p is.word) h.3 ∙ pair_last is.before is.place is.word)),

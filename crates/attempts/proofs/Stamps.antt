@@ -16,13 +16,13 @@ use Rattle.machine_states.specs.runner_parts.specs.declared.entries.Known.{Known
 use Rattle.machine_states.specs.runner_parts.specs.declared.entries.Published.{Published}
 use Rattle.machine_states.specs.runner_parts.specs.State.{PartState}
 use Rattle.machine_states.specs.runner_parts.specs.Tests.{knows, is_answered}
-use Rattle.machine_states.specs.runner_steps.specs.AfterInRun.{over_if}
+use Rattle.machine_states.specs.runner_steps.specs.AfterInRun.{kept_unless}
 use Rattle.machine_states.specs.runner_steps.specs.AfterOutside.{published_by}
 use Rattle.machine_states.specs.runner_steps.specs.Outside.{entry_spot}
 use Rattle.machine_states.specs.Sight.{Sight, sight, part_or_first}
-use Rattle.version_words.specs.machine_invariant.specs.After.{AreAllowed}
-use Rattle.request_facts.specs.reached_histories.specs.machine_facts.specs.Known.{KnownStand}
-use Rattle.request_facts.specs.reached_histories.specs.machine_facts.proofs.Following.{facts_after}
+use Rattle.machine_facts.specs.machine_invariant.specs.After.{AreAllowed}
+use Rattle.machine_facts.specs.Known.{KnownStand}
+use Rattle.machine_facts.proofs.Following.{facts_after}
 use Rattle.request_facts.specs.reached_histories.proofs.First as first
 use Rattle.request_facts.specs.reached_histories.proofs.First.{entry_of}
 use Rattle.request_facts.specs.reached_histories.specs.History.{IsPlaced}
@@ -67,7 +67,7 @@ module _ {T : Type 0} (m : Meaning) (laws : Laws m) (t : TableState T) (limits :
   y = record x { over = x.over || x.descriptor == section.descriptor }
 
   published : (s.part ran.number).published ≡ Some y
-  published = ap (λ (p : PartState). p.published) seen ∙ (ended.ends.published ∙ ap (λ o. over_if o section.descriptor) ended.tries.publishes.published.published)
+  published = ap (λ (p : PartState). p.published) seen ∙ (ended.ends.published ∙ ap (λ o. kept_unless o section.descriptor) ended.tries.publishes.published.published)
 
   -- what was known as the section was published
   known_then : take y.known (s.part ran.number).records.known ≡ old.part.records.known

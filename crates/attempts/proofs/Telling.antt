@@ -11,12 +11,12 @@ use Rattle.machine_states.specs.structure_laws.specs.Meaning.{Meaning}
 use Rattle.machine_states.specs.structure_laws.specs.Laws.{Laws}
 use Rattle.machine_states.specs.runner_parts.specs.State.{RunState, FinishedState, ReadsState}
 use Rattle.machine_states.specs.runner_parts.specs.Tests.{has_pair}
-use Rattle.machine_states.specs.runner_steps.specs.AfterInRun.{ended_more, over_if, finished_of}
+use Rattle.machine_states.specs.runner_steps.specs.AfterInRun.{ended_more, kept_unless, finished_of}
 use Rattle.machine_states.specs.runner_steps.specs.Sections.{thunk_of, outcome_of}
 use Rattle.machine_states.specs.Sight.{sight}
 use Rattle.machine_states.proofs.Steps.{none_some}
-use Rattle.version_words.specs.machine_invariant.specs.After.{AreAllowed}
-use Rattle.version_words.specs.machine_invariant.specs.Sections.{IsAnswered, IsLeft}
+use Rattle.machine_facts.specs.machine_invariant.specs.After.{AreAllowed}
+use Rattle.machine_facts.specs.machine_invariant.specs.Sections.{IsAnswered, IsLeft}
 use Rattle.version_words.specs.RunnerState.{RunnerState}
 use Rattle.version_words.specs.TableState.{TableState, IsOf}
 use Rattle.lock_walks.specs.try_lock.specs.commit_log.specs.Runs.{Ran, Stepped}
@@ -123,7 +123,7 @@ module _ {T : Type 0} (m : Meaning) (laws : Laws m) (t : TableState T) (limits :
 
     -- what became of the section that the runner has published, and of the runs that it brought to their end
     pub record IsKept : Type 0 where
-      pub published : (new.part.published ≡ old.part.published) ⊎ (new.part.published ≡ over_if old.part.published d)
+      pub published : (new.part.published ≡ old.part.published) ⊎ (new.part.published ≡ kept_unless old.part.published d)
       pub more : List FinishedState
       pub finished : new.part.records.finished ≡ old.part.records.finished ++ more
       pub few : length more ≤ 1
@@ -152,8 +152,8 @@ module _ {T : Type 0} (m : Meaning) (laws : Laws m) (t : TableState T) (limits :
             let kept = finished_of m last.before.layout (ended_more last.run) in
             record {
               published = inr (release.behind.published
-                  ∙ (ap (λ b. if b then over_if last.before.part.published last.run.descriptor else last.before.part.published) over.over
-                  ∙ (λ i. over_if (along.published i) (along.descriptor i))));
+                  ∙ (ap (λ b. if b then kept_unless last.before.part.published last.run.descriptor else last.before.part.published) over.over
+                  ∙ (λ i. kept_unless (along.published i) (along.descriptor i))));
               more = kept ∷ [];
               finished = release.behind.finished
                   ∙ (ap (λ b. if b then last.before.part.records.finished ++ kept ∷ [] else last.before.part.records.finished) over.over

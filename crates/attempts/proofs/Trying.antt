@@ -12,7 +12,7 @@ use Rattle.machine_states.specs.structure_laws.specs.Meaning.{Meaning}
 use Rattle.machine_states.specs.runner_parts.specs.declared.entries.Published.{Published}
 use Rattle.machine_states.specs.runner_parts.specs.State.{NodesState}
 use Rattle.machine_states.specs.runner_parts.specs.Tests.{is_answered}
-use Rattle.machine_states.specs.runner_steps.specs.AfterInRun.{over_if}
+use Rattle.machine_states.specs.runner_steps.specs.AfterInRun.{kept_unless}
 use Rattle.machine_states.specs.runner_steps.specs.AfterOutside.{published_by}
 use Rattle.machine_states.proofs.Steps.{some_same, none_some}
 use Rattle.version_words.specs.RunnerState.{RunnerState}
@@ -22,7 +22,7 @@ use Rattle.lock_walks.specs.try_lock.specs.Planning.{Planning}
 use Rattle.lock_walks.specs.try_lock.specs.Publishes.{Publishes}
 use Rattle.attempts.specs.Knowing.{IsStill, IsOwn}
 use Rattle.attempts.specs.Course.{of_refusal, MayAttempt, HasPlanned, HasTried}
-use Rattle.attempts.specs.Attempts.{is_refusal, helped_of, IsBrief, BehindHold, IsHalted}
+use Rattle.attempts.specs.Attempts.{is_refusal, has_helped, IsBrief, BehindHold, IsHalted}
 use Rattle.attempts.specs.Counted.{IsCounted}
 use Rattle.attempts.specs.Rests.{Rests}
 use Rattle.attempts.specs.declared.answers.Attempt.{Attempt}
@@ -49,6 +49,7 @@ tried_of m planning request old readings thunk r is answer new publishes layout 
   hand = record {
     hand = ap (λ (n : NodesState). n.hand) publishes.nodes ∙ is.hand.hand;
     tests = ap (λ (n : NodesState). n.tests) publishes.nodes ∙ is.hand.tests;
+    looked = publishes.looked ∙ is.hand.looked;
   };
   nodes = subst (λ (n : NodesState). 2 ≤ length n.free) (sym publishes.nodes) is.has.nodes;
 }
@@ -85,7 +86,7 @@ rests_from_still m planning request held before most answer old here mid new See
   asked = rests.asked;
   let_go = rests.let_go;
   entered = rests.entered;
-  runs = λ going. runs_from_still m planning request answer old here mid new still ((if rests.published && not held then 1 else 0) + helped_of answer) (rests.runs going);
+  runs = λ going. runs_from_still m planning request answer old here mid new still ((if rests.published && not held then 1 else 0) + (if has_helped m planning request answer old new rests.answers then 1 else 0)) (rests.runs going);
   few_runs = few_from_still m planning request answer old here mid new still (if held then 1 else 2) rests.few_runs;
   brief = λ none. brief_from_still m planning request answer old here mid new still most (if held then 0 else 1) rests.made most rests.made (λ low. low) (rests.brief none);
 }
@@ -152,20 +153,20 @@ module _ {T : Type 0} (m : Meaning) (planning : Planning) (request : Request) (o
 
   -- or in its run
   module _ (d : ℕ) (new : RunnerState T) where
-    over_thunk : (o : Option Published) (x : Published) → over_if o d ≡ Some x → ((y : Published) → o ≡ Some y → y.thunk.request ≡ request.number)
+    over_thunk : (o : Option Published) (x : Published) → kept_unless o d ≡ Some x → ((y : Published) → o ≡ Some y → y.thunk.request ≡ request.number)
         → x.thunk.request ≡ request.number
     over_thunk None x e each = absurd (none_some x (sym e))
     over_thunk (Some y) x e each = ap (λ (z : Published). z.thunk.request) (sym (some_same _ x e)) ∙ each y refl
 
-    pub cut_published : (new.part.published ≡ here.part.published) ⊎ (new.part.published ≡ over_if here.part.published d)
+    pub cut_published : (new.part.published ≡ here.part.published) ⊎ (new.part.published ≡ kept_unless here.part.published d)
         → (x : Published) → new.part.published ≡ Some x → x.thunk.request ≡ request.number
     cut_published (inl same) x is = published_for x (sym same ∙ is)
     cut_published (inr over) x is = over_thunk here.part.published x (sym over ∙ is) published_for
 
-    over_some : (o : Option Published) (x : Published) → o ≡ Some x → over_if o d ≡ None → ⊥
+    over_some : (o : Option Published) (x : Published) → o ≡ Some x → kept_unless o d ≡ None → ⊥
     over_some None x e none = none_some x (sym e)
     over_some (Some y) x e none = none_some _ none
 
-    pub cut_is_published : (new.part.published ≡ here.part.published) ⊎ (new.part.published ≡ over_if here.part.published d) → new.part.published ≡ None → ⊥
+    pub cut_is_published : (new.part.published ≡ here.part.published) ⊎ (new.part.published ≡ kept_unless here.part.published d) → new.part.published ≡ None → ⊥
     cut_is_published (inl same) none = is_published (sym same ∙ none)
     cut_is_published (inr over) none = over_some here.part.published _ (tried_at m planning request old thunk section here tried).published (sym over ∙ none)

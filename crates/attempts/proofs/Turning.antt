@@ -13,18 +13,19 @@ use Rattle.machine_states.specs.runner_parts.specs.declared.entries.Published.{P
 use Rattle.machine_states.specs.runner_parts.specs.State.{PartState}
 use Rattle.machine_states.specs.runner_parts.specs.Tests.{is_between, is_answered, are_answered}
 use Rattle.machine_states.specs.Sight.{sight, part_or_first}
-use Rattle.version_words.specs.machine_invariant.specs.After.{AreAllowed}
+use Rattle.machine_facts.specs.machine_invariant.specs.After.{AreAllowed}
 use Rattle.request_facts.specs.reached_histories.specs.Requests.{or_none}
 use Rattle.request_facts.specs.reached_histories.specs.Kept.{link_of}
 use Rattle.version_words.specs.RunnerState.{RunnerState}
 use Rattle.lock_walks.specs.try_lock.specs.Planning.{Planning}
 use Rattle.lock_walks.specs.try_lock.specs.Reached.{IsReached}
 use Rattle.lock_walks.specs.try_lock.specs.Ends.{IsCutShort}
+use Rattle.lock_walks.specs.try_lock.specs.Watches.{Watched}
 use Rattle.request_facts.proofs.Standing.{callers_stand}
 use Rattle.attempts.specs.Knowing.{IsOwn}
 use Rattle.attempts.specs.Course.{MayAttempt, IsRefused, refused_steps, is_refused_late}
 use Rattle.attempts.specs.Counted.{IsCounted}
-use Rattle.attempts.specs.Attempts.{is_halted, is_short, is_refusal, helped_of, IsBrief, leaving_steps, IsTurnedAway, InHelpedRun, IsHalted, IsUntouched, Answers, steps_of, has_published, has_met_held, asks_before}
+use Rattle.attempts.specs.Attempts.{is_halted, is_short, is_refusal, IsBrief, leaving_steps, leaving_helps, has_helped, IsTurnedAway, InHelpedRun, IsHalted, IsUntouched, Answers, steps_of, has_published, has_met_held, asks_before}
 use Rattle.attempts.specs.Rests.{HasTurned, Rests}
 use Rattle.attempts.specs.declared.answers.Attempt.{Attempt}
 use Rattle.attempts.specs.declared.answers.Attempt.TheVariants as answers
@@ -100,6 +101,8 @@ module _ {T : Type 0} (m : Meaning) (laws : Laws m) (planning : Planning) (reque
     pub let_go : is_halted a ≡ true → (more : ℕ)
         × ((if held then 2 else 1) + before + more ≡ asks_before m planning request a old new answers) × Seen halts (asked_on asks more)
     pub brief : has_met_held m planning request a old new answers ≡ false → IsBrief most (if held then 0 else 1) turned.made here new
+    pub runs : is_halted a ≡ false → length new.part.records.finished
+        ≡ length here.part.records.finished + ((if held && not held then 1 else 0) + (if has_helped m planning request a old new answers then 1 else 0))
 
   -- it left with its refusal
   abbrev away : is_halted got ≡ false → IsTurnedAway m planning request answer old new
@@ -121,16 +124,24 @@ module _ {T : Type 0} (m : Meaning) (laws : Laws m) (planning : Planning) (reque
   no_halt : {A : Type 0} → false ≡ true → A
   no_halt e = absurd (true≢false (sym e))
 
+  none_more_of : (b : Bool) → ◌≡◌ {A = ℕ} (if b && not b then 1 else 0) 0
+  none_more_of true = refl
+  none_more_of false = refl
+
+  with_none : (k : ℕ) → length new.part.records.finished ≡ length here.part.records.finished + k → length new.part.records.finished ≡ length here.part.records.finished + ((if held && not held then 1 else 0) + k)
+  with_none k runs = let none = none_more_of held in omega (arith, runs, none)
+
   refused_told : (most : ℕ) (a : Attempt) → is_refusal a ≡ true → (is : IsTurnedAway m planning request a old new)
       → before ≡ refused_steps m planning request a old is.cut is.cause → turned.made ≡ leaving_steps m a is.cut new is.leaves
       → held ≡ is_refused_late m planning request a old is.cut is.cause
-      → length new.part.records.finished ≡ length here.part.records.finished + helped_of a → IsTold most a
+      → length new.part.records.finished ≡ length here.part.records.finished + (if leaving_helps m a is.cut new is.leaves then 1 else 0) → IsTold most a
   refused_told most (answers.Busy place word) e is before made late runs = record {
     answers = is;
     made_is = λ i. before i + made i;
     published_is = late;
     let_go = λ z. no_halt z;
     brief = λ z. absurd (true≢false z);
+    runs = λ z. with_none _ runs;
   }
   refused_told most (answers.Stale place expected read) e is before made late runs = record {
     answers = is;
@@ -138,6 +149,7 @@ module _ {T : Type 0} (m : Meaning) (laws : Laws m) (planning : Planning) (reque
     published_is = late;
     let_go = λ z. no_halt z;
     brief = λ z. brief_of held most made runs;
+    runs = λ z. with_none _ runs;
   }
   refused_told most (answers.Far loads) e is before made late runs = record {
     answers = is;
@@ -145,6 +157,7 @@ module _ {T : Type 0} (m : Meaning) (laws : Laws m) (planning : Planning) (reque
     published_is = late;
     let_go = λ z. no_halt z;
     brief = λ z. brief_of held most made runs;
+    runs = λ z. with_none _ runs;
   }
   refused_told most (answers.Spent place word) e is before made late runs = record {
     answers = is;
@@ -152,6 +165,7 @@ module _ {T : Type 0} (m : Meaning) (laws : Laws m) (planning : Planning) (reque
     published_is = late;
     let_go = λ z. no_halt z;
     brief = λ z. brief_of held most made runs;
+    runs = λ z. with_none _ runs;
   }
   refused_told most (answers.Done reply stamp) e is before made late runs = no_halt e
   refused_told most (answers.Short short) e is before made late runs = no_halt e
@@ -160,7 +174,7 @@ module _ {T : Type 0} (m : Meaning) (laws : Laws m) (planning : Planning) (reque
   going_told : (most : ℕ) → is_halted got ≡ false → IsTold most got
   going_told most going = subst (IsTold most) (sym (turned.same going))
       (refused_told most answer refusal (away going) before_is (turned.made_is going) held_is
-      (turned.runs going ∙ ap (λ a. length here.part.records.finished + helped_of a) (turned.same going)))
+      (turned.runs going))
 
   -- this answer's cause, and what is counted of it
   abbrev ByAnswer : Attempt → Type 0
@@ -169,7 +183,7 @@ module _ {T : Type 0} (m : Meaning) (laws : Laws m) (planning : Planning) (reque
 
   -- or a gate halted it as it helped
   module _ (halted : is_halted got ≡ true) where
-    at : (place : ℕ) × (word : ℕ) × (answer ≡ answers.Busy place word) × IsCutShort m (value_of word - 1) turned.made here new
+    at : (place : ℕ) × (word : ℕ) × (answer ≡ answers.Busy place word) × (watching : RunnerState T) × Watched m place word true here watching × IsCutShort m (value_of word - 1) turned.made watching new
     at = turned.short halted
 
     by : ByAnswer (answers.Busy at.0 at.1)
@@ -180,7 +194,7 @@ module _ {T : Type 0} (m : Meaning) (laws : Laws m) (planning : Planning) (reque
 
     abbrev was_halted : IsHalted m planning request old new
     was_halted = record {
-      at = InHelpedRun (record { place = at.0; word = at.1; cut = here; cause = by.0; made = turned.made; short = at.3 });
+      at = InHelpedRun (record { place = at.0; word = at.1; cut = here; cause = by.0; watching = at.3; watches = at.4; made = turned.made; short = at.5 });
       published = λ x is. absurd (some_none x (sym is ∙ turned.halted halted));
       unknown = λ none. unknown_still;
       reached = turned.reached;
@@ -196,6 +210,7 @@ module _ {T : Type 0} (m : Meaning) (laws : Laws m) (planning : Planning) (reque
       published_is = by.2;
       let_go = λ e. (0, none_more ((if held then 2 else 1) + before) ∙ (λ i. (if by.2 i then 2 else 1) + by.1 i), seen);
       brief = λ e. absurd (true≢false e);
+      runs = λ e. no_halt (sym e);
     }
 
   told : (most : ℕ) → IsTold most got
@@ -233,7 +248,7 @@ module _ {T : Type 0} (m : Meaning) (laws : Laws m) (planning : Planning) (reque
             (counted_steps turned.made (not (is_halted got)) halts halts' asks asks' steps steps' turned.asked);
         let_go = t.let_go;
         entered = long (is_halted got) refl;
-        runs = λ going. let more = turned.runs going in let none = no_more held in omega (arith, more, none);
+        runs = t.runs;
         few_runs = few_by held;
         brief = t.brief;
       }

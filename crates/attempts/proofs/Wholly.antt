@@ -1,10 +1,10 @@
 -- An attempt as a whole: its entry, its plan, and what follows.
 use Rattle.std.specs.Prelude.{◌&&◌, not, Bool, true, false, if◌then◌else◌, Ok, Err}
-use Rattle.std.proofs.Common.{◌≡◌, ◌≢◌, ℕ, ◌+◌, ◌*◌, ◌-◌, ◌≤◌, length, refl, sym, ap, ◌∙◌, subst, arith, inl, inr, None, Some}
+use Rattle.std.proofs.Common.{◌≡◌, ◌≢◌, ℕ, ◌+◌, ◌*◌, ◌≤◌, length, refl, sym, ap, ◌∙◌, subst, arith, inl, inr, None, Some}
 use Rattle.std.proofs.lemmas.Bool.{true≢false}
 use Rattle.section_lines.specs.small_lemmas.proofs.Numbers.{from_zero as from_none}
 use Rattle.machine_states.specs.map_history.specs.declared.op.Request.{Request}
-use Rattle.machine_states.specs.body_terms.specs.Word.{value_of}
+use Rattle.machine_states.specs.body_terms.specs.Word.{is_free}
 use Rattle.machine_states.specs.body_terms.specs.declared.outcome.Refused.{Refused}
 use Rattle.machine_states.specs.body_terms.specs.declared.thunk.Thunk.{Thunk}
 use Rattle.machine_states.specs.table_words.specs.declared.layout.Layout.{Layout}
@@ -16,15 +16,19 @@ use Rattle.machine_states.specs.structure_laws.specs.Cells.{slots}
 use Rattle.machine_states.specs.structure_laws.specs.Laws.{Laws}
 use Rattle.machine_states.specs.structure_laws.proofs.Pairs.{pair_read}
 use Rattle.machine_states.specs.epoch_core.specs.declared.stage.Stage.TheVariants as stages
-use Rattle.machine_states.specs.runner_parts.specs.Tests.{has, has_pair, is_answered}
+use Rattle.machine_states.specs.runner_parts.specs.Tests.{has_pair, is_answered}
 use Rattle.machine_states.specs.runner_parts.specs.State.{NodesState, DescriptorsState, ReadsState}
 use Rattle.machine_states.proofs.Steps.{none_some}
-use Rattle.version_words.specs.machine_invariant.specs.After.{AreAllowed}
+use Rattle.machine_facts.specs.machine_invariant.specs.After.{AreAllowed}
 use Rattle.version_words.specs.RunnerState.{RunnerState}
 use Rattle.version_words.specs.TableState.{TableState, IsOf}
 use Rattle.version_words.specs.Stages.{IsAt}
+use Rattle.version_words.specs.Events.{IsMade}
+use Rattle.machine_states.specs.runner_parts.specs.declared.event.EventKind.TheVariants as kinds
+use Rattle.lock_walks.specs.runner_facts.proofs.Names.{pair_last}
+use Rattle.lock_walks.specs.try_lock.specs.Reached.{IsReached}
 use Rattle.attempts.specs.Reclaims.{Reclaims}
-use Rattle.lock_walks.specs.try_lock.specs.epoch_slots.specs.Entries.{Enters}
+use Rattle.lock_walks.specs.try_lock.specs.epoch_slots.specs.Entries.{Enters, KeepsOwn}
 use Rattle.lock_walks.specs.try_lock.specs.epoch_slots.specs.Reserves.{counts_of}
 use Rattle.lock_walks.specs.try_lock.specs.epoch_slots.specs.declared.reserves.Short.{Short}
 use Rattle.lock_walks.specs.try_lock.specs.commit_log.specs.Asked.{IsAsked}
@@ -38,15 +42,17 @@ use Rattle.lock_walks.specs.try_lock.specs.Publishes.{Publishes}
 use Rattle.attempts.specs.Knowing.{IsStill}
 use Rattle.attempts.specs.Course.{of_plan, of_refusal, MayAttempt, HasReserve, HasEntered, HasPlanned, HasTried, WasRead, PlanIsRefused, LockIsRefused}
 use Rattle.attempts.specs.Counted.{IsCounted}
-use Rattle.attempts.specs.Attempts.{is_halted, is_short, asks_more, runs_of, helped_of, most_of_run, most_of_attempt, IsBrief, IsFew, IsShort, AtEntry, InPlan, IsHalted, Answers, has_published, Attempts}
+use Rattle.attempts.specs.Attempts.{is_halted, is_short, asks_more, runs_of, has_helped, most_of_run, most_of_attempt, IsBrief, IsFew, IsShort, AtEntry, InPlan, IsHalted, Answers, has_published, Attempts}
 use Rattle.attempts.specs.Rests.{MayLeave, HasTurned, Rests}
 use Rattle.attempts.specs.declared.answers.Attempt.{Attempt}
 use Rattle.attempts.specs.declared.answers.Attempt.TheVariants as answers
 use Rattle.attempts.proofs.Knowing.{knows_same, knows_on, no_other_same, no_other_on}
-use Rattle.attempts.proofs.Reaching.{enters_reached}
+use Rattle.attempts.proofs.Reaching.{enters_reached, made_reached}
 use Rattle.attempts.proofs.Refilling.{short_reached}
 use Rattle.attempts.proofs.Counting.{counted_steps, asked_then, steps_then, seen_then}
-use Rattle.attempts.proofs.Courses.{planned_at, planned_reads, planned_leave}
+use Rattle.attempts.proofs.Held.{read_within, read_few}
+use Rattle.lock_walks.specs.try_lock.proofs.Guarding.{guard_keeps, guard_reads}
+use Rattle.attempts.proofs.Courses.{at_refused, refused_may_leave, planned_at, planned_reads, planned_leave}
 use Rattle.attempts.proofs.Turning.{untouched, turned_rests}
 use Rattle.attempts.proofs.Trying.{tried_of, own_here, unknown_here, refusal_of_lock, runs_from_still, few_from_still, brief_from_still}
 use Rattle.attempts.proofs.Planning.{planned_of}
@@ -94,7 +100,7 @@ rests_after m planning request before n most answer old here mid new Seen halts 
     seen_then Seen halts halts1 asks asks1 n last.0 (asked.went refl) asked.asked last.2,
   );
   entered = rests.entered;
-  runs = λ on. runs_from_still m planning request answer old here mid new still ((if rests.published && not false then 1 else 0) + helped_of answer) (rests.runs on);
+  runs = λ on. runs_from_still m planning request answer old here mid new still ((if rests.published && not false then 1 else 0) + (if has_helped m planning request answer old new rests.answers then 1 else 0)) (rests.runs on);
   few_runs = few_from_still m planning request answer old here mid new still 2 rests.few_runs;
   brief = λ none. brief_from_still m planning request answer old here mid new still most 1 rests.made (n + most) (n + rests.made) (λ low. omega (arith, low)) (rests.brief none);
 }
@@ -123,14 +129,34 @@ rests_within m planning request held before most more answer old here new Seen h
 
 -- the lock refused the publication
 module _ {T : Type 0} (m : Meaning) (laws : Laws m) (t : TableState T) (limits : IsWithinLimits t.layout) (allowed : AreAllowed t.requests)
-    (planning : Planning) (request : Request) (thunk : Thunk) (refused : Refused) (old r mid : RunnerState T) (own_mid : IsOf t mid)
+    (planning : Planning) (request : Request) (thunk : Thunk) (refused : Refused) (old r mid u : RunnerState T) (own_mid : IsOf t mid) (own_u : IsOf t u)
     (readings : Readings) (planned : HasPlanned m planning request readings (plans.Thunk thunk) old r)
-    (publishes : Publishes m thunk (Err refused) r mid) (layout : mid.layout ≡ r.layout) (requests : mid.requests ≡ r.requests) where
+    (publishes : Publishes m thunk (Err refused) r mid) (layout : mid.layout ≡ r.layout) (requests : mid.requests ≡ r.requests)
+    (goes : IsMade m (kinds.Guard None) mid u) where
   abbrev pub lost : HasTried m planning request thunk (Err refused) old mid
   lost = tried_of m planning request old readings thunk r planned (Err refused) mid publishes layout requests
 
-  still_lost : IsStill r mid
-  still_lost = record { layout = layout; requests = requests; number = publishes.number; known = publishes.known; finished = publishes.finished }
+  -- it lets the guard go
+  kept : KeepsOwn mid u
+  kept = guard_keeps m None goes.found mid u goes.event (at_refused m planning request old thunk refused mid lost).resting
+
+  still_gone : IsStill mid u
+  still_gone = record { layout = own_u.layout ∙ sym own_mid.layout; requests = own_u.requests ∙ sym own_mid.requests; number = kept.number; known = kept.known; finished = kept.finished }
+
+  then_still : (a b c : RunnerState T) → IsStill a b → IsStill b c → IsStill a c
+  then_still a b c one two = record { layout = two.layout ∙ one.layout; requests = two.requests ∙ one.requests; number = two.number ∙ one.number; known = two.known ∙ one.known; finished = two.finished ∙ one.finished }
+
+  still_lost : IsStill r u
+  still_lost = then_still r mid u (record { layout = layout; requests = requests; number = publishes.number; known = publishes.known; finished = publishes.finished }) still_gone
+
+  still_old : IsStill old u
+  still_old = then_still old mid u lost.still still_gone
+
+  limits_u : IsWithinLimits u.layout
+  limits_u = subst IsWithinLimits (sym own_u.layout) limits
+
+  allowed_u : AreAllowed u.requests
+  allowed_u = subst AreAllowed (sym own_u.requests) allowed
 
   -- the lock is one
   outer_lock : m.is_lock thunk.lock ≡ true
@@ -144,20 +170,33 @@ module _ {T : Type 0} (m : Meaning) (laws : Laws m) (t : TableState T) (limits :
       let k = pair_read readings thunk.lock thunk.word planned.answers.read in
       ((k.0, k.1 ∙ (λ i. Some (sym h.0 i, sym h.1 i))), h.2)
 
-  abbrev lost_cause : LockIsRefused m planning request (of_refusal thunk.lock refused) old mid
-  lost_cause = record { thunk = thunk; refusal = refused; tries = lost; same = refl; lock = outer_lock; stale = lost_stale }
+  abbrev lost_cause : LockIsRefused m planning request (of_refusal thunk.lock refused) old u
+  lost_cause = record { thunk = thunk; refusal = refused; guarded = mid; tries = lost; lets_go = goes; same = refl; lock = outer_lock; stale = lost_stale }
+
+  here : IsReached m u
+  here = made_reached m (kinds.Guard None) goes.found mid u goes.event
+
+  -- the exchange read the lock
+  found_read : has_pair u.part.reads.cells thunk.lock publishes.found ≡ true
+  found_read = ap (λ (s : ReadsState). has_pair s.cells thunk.lock publishes.found) (guard_reads m None goes.found mid u goes.event (at_refused m planning request old thunk refused mid lost).resting)
+      ∙ (ap (λ xs. has_pair xs thunk.lock publishes.found) publishes.read ∙ pair_last r.part.reads.cells thunk.lock publishes.found)
+
+  pub lost_may_leave : MayLeave m (of_refusal thunk.lock refused) u
+  lost_may_leave = refused_may_leave m planning request old thunk refused mid lost goes.found u goes.event outer_lock
+      (read_within m laws u limits_u allowed_u here thunk.lock publishes.found found_read)
+      (λ names. read_few m laws u limits_u allowed_u here thunk.lock publishes.found found_read outer_lock names)
 
   pub lost_rests : (got : Attempt) (new : RunnerState T) → IsOf t new → (Seen : ℕ → Asks → Type 0) (halts halts' : ℕ) (asks asks' : Asks) (steps steps' : ℕ)
-      → Seen halts asks → HasTurned m (of_refusal thunk.lock refused) got mid new halts halts' asks asks' steps steps'
+      → Seen halts asks → HasTurned m (of_refusal thunk.lock refused) got u new halts halts' asks asks' steps steps'
       → Rests m planning request false (length readings) most_of_run got old r new Seen halts halts' asks asks' steps steps'
   lost_rests got new own_new Seen halts halts' asks asks' steps steps' seen turned =
-      rests_after m planning request (length readings) 0 most_of_run got old r mid new Seen halts halts halts' asks asks asks' steps steps steps' still_lost (asked_none halts asks steps)
+      rests_after m planning request (length readings) 0 most_of_run got old r u new Seen halts halts halts' asks asks asks' steps steps steps' still_lost (asked_none halts asks steps)
       (length readings) (no_steps (length readings))
-      (turned_rests m laws planning request old mid new (of_refusal thunk.lock refused) got (refusal_of_lock thunk.lock refused)
+      (turned_rests m laws planning request old u new (of_refusal thunk.lock refused) got (refusal_of_lock thunk.lock refused)
       (inr (inl lost_cause)) false (length readings) refl refl
-      (own_here planning request old planned.enters.may mid lost.still) (unknown_here planning request old planned.enters.may mid lost.still)
+      (own_here planning request old planned.enters.may u still_old) (unknown_here planning request old planned.enters.may u still_old)
       (subst IsWithinLimits (sym own_new.layout) limits) (subst AreAllowed (sym own_new.requests) allowed)
-      (own_new.layout ∙ sym own_mid.layout) (own_new.requests ∙ sym own_mid.requests) Seen halts halts' asks asks' steps steps' seen turned most_of_run)
+      (own_new.layout ∙ sym own_u.layout) (own_new.requests ∙ sym own_u.requests) Seen halts halts' asks asks' steps steps' seen turned most_of_run)
 
 -- the section was published: the rest from the plan on
 pub tried_rests : {T : Type 0} (m : Meaning) (planning : Planning) (request : Request) (thunk : Thunk) (section : Section) (before : ℕ) (old r mid new : RunnerState T)
@@ -266,22 +305,30 @@ module _ {T : Type 0} (m : Meaning) (laws : Laws m) (t : TableState T) (limits :
     plan_may_leave = record {
       leave = planned_leave m planning request old planned.readings answer r course;
       hand = course.hand;
-      help = λ place word named.
-          let h = plan_busy m planning old.layout request.op place word planned.readings (by_busy answer place word (busy_plan answer place word named) course.answers) in
-          let at = planned_at m planning request old planned.readings answer r course in
-          record {
+      reserve = course.has.nodes;
+      watch = λ place word named.
+          let h = busy place word named in
+          let at = planned_at m planning request old planned.readings answer r course in record {
             epoch = course.enters.enters.epoch;
-            published = None;
             at = at;
+            lock = h.2;
+            within = read_within m laws r limits_r allowed_r course.reached place word h.1;
             names = h.0;
-            holds = ap (λ (s : ReadsState). has s.held (value_of word - 1)) (planned_reads m planning request old planned.readings answer r course) ∙ h.1;
-            reserve = course.has.nodes;
-            reached = course.reached;
+            few = read_few m laws r limits_r allowed_r course.reached place word h.1 h.2 h.0;
           };
-      met = λ place word named.
-          let h = plan_busy m planning old.layout request.op place word planned.readings (by_busy answer place word (busy_plan answer place word named) course.answers) in
-          inl (ap (λ (s : ReadsState). has_pair s.cells place word) (planned_reads m planning request old planned.readings answer r course) ∙ h.2, h.3);
+      met = λ place word named. inl (busy place word named).1;
     }
+      where
+        limits_r : IsWithinLimits r.layout
+        limits_r = subst IsWithinLimits (sym own_r.layout) limits
+
+        allowed_r : AreAllowed r.requests
+        allowed_r = subst AreAllowed (sym own_r.requests) allowed
+
+        busy : (place word : ℕ) → of_plan answer ≡ answers.Busy place word → (is_free word ≡ false) × (has_pair r.part.reads.cells place word ≡ true) × (m.is_lock place ≡ true)
+        busy place word named =
+            let h = plan_busy m planning old.layout request.op place word planned.readings (by_busy answer place word (busy_plan answer place word named) course.answers) in
+            (h.0, ap (λ (s : ReadsState). has_pair s.cells place word) (planned_reads m planning request old planned.readings answer r course) ∙ h.1, h.2)
 
     abbrev cause : PlanIsRefused m planning request (of_plan answer) old r
     cause = record {
@@ -371,6 +418,7 @@ module _ {T : Type 0} (m : Meaning) (laws : Laws m) (t : TableState T) (limits :
       hand = record {
         hand = ap (λ (n : NodesState). n.hand) enters.keeps.nodes ∙ reclaims.rested.tidy.hand;
         tests = ap (λ (n : NodesState). n.tests) enters.keeps.nodes ∙ reclaims.rested.tidy.tests;
+        looked = ap (λ g. g.looked) enters.guards;
       };
       has = record {
         nodes = subst (λ (n : NodesState). 2 ≤ length n.free) (sym enters.keeps.nodes) reserve.nodes;
@@ -426,7 +474,8 @@ module _ {T : Type 0} (m : Meaning) (laws : Laws m) (t : TableState T) (limits :
     more_of (answers.Short short) b e = absurd (true≢false e)
 
     runs_are : (a : Attempt) (b : Bool) (new : RunnerState T) → is_short a ≡ false → (is : Answers m planning request a old new)
-        → b ≡ has_published m planning request a old new is → (if b && not false then 1 else 0) + helped_of a ≡ runs_of a b
+        → b ≡ has_published m planning request a old new is → (if b && not false then 1 else 0) + (if has_helped m planning request a old new is then 1 else 0)
+        ≡ runs_of a b (has_helped m planning request a old new is)
     runs_are (answers.Busy place word) true new e is so = refl
     runs_are (answers.Busy place word) false new e is so = refl
     runs_are (answers.Stale place expected read) true new e is so = refl

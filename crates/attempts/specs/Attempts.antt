@@ -1,5 +1,6 @@
 -- Attempts of requests: what may be attempted, and what each answer says.
-use Rattle.std.specs.Prelude.{◌≡◌, ℕ, ◌+◌, ◌*◌, ◌-◌, ◌<◌, ◌≤◌, Bool, true, false, not, Ok, Some, None, length, if◌then◌else◌}
+use mathlib.Core.Logic.{inl, inr}
+use Rattle.std.specs.Prelude.{◌≡◌, ◌⊎◌, ℕ, ◌+◌, ◌*◌, ◌-◌, ◌<◌, ◌≤◌, Bool, true, false, not, Ok, Some, None, length, if◌then◌else◌}
 use Rattle.machine_states.specs.map_history.specs.declared.op.Request.{Request}
 use Rattle.machine_states.specs.map_history.specs.declared.reply.Reply.{Reply}
 use Rattle.machine_states.specs.map_history.specs.Words.{word_of}
@@ -28,13 +29,14 @@ use Rattle.lock_walks.specs.try_lock.specs.declared.section.Section.{Section}
 use Rattle.lock_walks.specs.try_lock.specs.Planning.{Planning}
 use Rattle.lock_walks.specs.try_lock.specs.Reached.{IsReached}
 use Rattle.lock_walks.specs.try_lock.specs.Ends.{IsCutShort}
+use Rattle.lock_walks.specs.try_lock.specs.Watches.{Watched}
 use Rattle.attempts.specs.Knowing.{KnowsMore, LearnsNoOther}
 use Rattle.attempts.specs.Counted.{IsCounted}
 use Rattle.attempts.specs.RealTime.{IsAboveAnswered}
 use Rattle.attempts.specs.Reclaims.{Reclaims}
 use Rattle.request_facts.specs.Laws.{HasEntry}
 use Rattle.request_facts.specs.Placed.{IsServedAs, IsUnserved}
-use Rattle.attempts.specs.Course.{HasEntered, HasPlanned, HasTried, HasRun, IsRefused, refused_steps, is_refused_late, LeavesAndLoads, HasHelped, IsOfHelped}
+use Rattle.attempts.specs.Course.{HasEntered, HasPlanned, HasTried, HasRun, IsRefused, refused_steps, is_refused_late, LeavesAndLoads, HasHelped, WasHelped, IsOfHelped}
 use Rattle.attempts.specs.declared.answers.Attempt.{Attempt}
 use Rattle.attempts.specs.declared.answers.Attempt.TheVariants as answers
 
@@ -59,17 +61,12 @@ abbrev pub asks_more : Attempt → Bool → ℕ
 asks_more (answers.Short short) published = 0
 asks_more _ published = if published then 2 else 1
 
--- how many sections that held a lock the runner runs to their end before it leaves with this answer
-abbrev pub helped_of : Attempt → ℕ
-helped_of (answers.Busy place word) = 1
-helped_of _ = 0
-
 -- how many runs an attempt with this answer brings to their end: that of its own section, where one was
--- published, and that of the section which held a lock
-abbrev pub runs_of : Attempt → Bool → ℕ
-runs_of (answers.Short short) published = 0
-runs_of (answers.Done reply stamp) published = 1
-runs_of answer published = (if published then 1 else 0) + helped_of answer
+-- published, and that of the section which held a lock, where it was helped
+abbrev pub runs_of : Attempt → Bool → Bool → ℕ
+runs_of (answers.Short short) published helped = 0
+runs_of (answers.Done reply stamp) published helped = 1
+runs_of answer published helped = (if published then 1 else 0) + (if helped then 1 else 0)
 
 -- the loads of a plan and the steps of a run are at most so many, where there are so many node slots
 abbrev pub most_of_attempt : ℕ → ℕ
@@ -94,7 +91,7 @@ module _ {T : Type 0} where
       pub reached : IsReached m r
       pub unserved : IsUnserved m r.layout r.requests (sight m r.layout r.requests reached.world) number
 
-    -- after three scans in a row too few slots were free
+    -- after three scans in a row too few node slots were free, or after a sweep no descriptor
     pub record IsShort (short : Short) (number : ℕ) (old new : RunnerState T) : Type 0 where
       pub reclaims : Reclaims m old new
       pub few : IsFew new short.kind
@@ -103,19 +100,37 @@ module _ {T : Type 0} where
 
     -- the runner ran the section that this lock's word named to its end, and left. It is the section of
     -- which the word was a lock's word
-    pub record HasMadeWay (place word : ℕ) (cut new : RunnerState T) : Type 0 where
-      pub helps : HasHelped m word cut new
+    pub record HasRunIt (place word : ℕ) (cut new : RunnerState T) : Type 0 where
+      pub helps : HasHelped m place word cut new
       pub of_lock : IsOfHelped m place word cut new helps
 
-    -- the runner leaves, where a lock was held with the section helped to its end
+    -- so it did, or it found that section done
+    abbrev pub HasMadeWay : ℕ → ℕ → RunnerState T → RunnerState T → Type 0
+    HasMadeWay place word cut new = HasRunIt place word cut new ⊎ WasHelped m place word cut new
+
+    -- in so many counted steps
+    abbrev pub way_steps : (place word : ℕ) (cut new : RunnerState T) → HasMadeWay place word cut new → ℕ
+    way_steps place word cut new (inl ran) = ran.helps.made
+    way_steps place word cut new (inr was) = 0
+
+    abbrev pub is_helped : (place word : ℕ) (cut new : RunnerState T) → HasMadeWay place word cut new → Bool
+    is_helped place word cut new (inl ran) = true
+    is_helped place word cut new (inr was) = false
+
+    -- the runner leaves, where a lock was held with its section at its end
     abbrev pub Leaves : Attempt → RunnerState T → RunnerState T → Type 0
     Leaves (answers.Busy place word) cut new = HasMadeWay place word cut new
     Leaves _ cut new = Exits m cut new
 
     -- in so many counted steps
     abbrev pub leaving_steps : (answer : Attempt) (cut new : RunnerState T) → Leaves answer cut new → ℕ
-    leaving_steps (answers.Busy place word) cut new way = way.helps.made
+    leaving_steps (answers.Busy place word) cut new way = way_steps place word cut new way
     leaving_steps _ cut new exits = 0
+
+    -- whether it helped
+    abbrev pub leaving_helps : (answer : Attempt) (cut new : RunnerState T) → Leaves answer cut new → Bool
+    leaving_helps (answers.Busy place word) cut new way = is_helped place word cut new way
+    leaving_helps _ cut new exits = false
 
     module _ (planning : Planning) (request : Request) where
       -- the request was refused, and the runner left; nobody has served the request
@@ -135,10 +150,10 @@ module _ {T : Type 0} where
       pub record IsServed (reply : Reply) (stamp : ℕ) (old new : RunnerState T) : Type 0 where
         pub thunk : Thunk
         pub trail : Agreed
-        pub retired : RunnerState T
+        pub unguarded : RunnerState T
         pub answer : ℕ
-        pub run : HasRun m planning request thunk (Answered answer) trail old retired
-        pub leaves : LeavesAndLoads m request.number retired new
+        pub run : HasRun m planning request thunk (Answered answer) trail old unguarded
+        pub leaves : LeavesAndLoads m request.number unguarded new
         pub knows_stamp : HasEntry new.part.records.known
             (record { request = request.number; reply = false; number = stamp })
         pub knows_reply : HasEntry new.part.records.known
@@ -159,8 +174,10 @@ module _ {T : Type 0} where
         pub word : ℕ
         pub cut : RunnerState T
         pub cause : IsRefused m planning request (answers.Busy place word) old cut
+        pub watching : RunnerState T
+        pub watches : Watched m place word true cut watching
         pub made : ℕ
-        pub short : IsCutShort m (value_of word - 1) made cut new
+        pub short : IsCutShort m (value_of word - 1) made watching new
 
       -- where a gate halted the runner: nothing was made since
       pub data Stops (old new : RunnerState T) : Type 0 where
@@ -216,7 +233,7 @@ module _ {T : Type 0} where
       pub record IsHalted (old new : RunnerState T) : Type 0 where
         pub at : Stops old new
         pub published : (x : Published) → new.part.published ≡ Some x → x.thunk.request ≡ request.number
-        -- where it has published none, or has retired it, the request isn't answered
+        -- where it has published none, or none that it hasn't run to its end, the request isn't answered
         pub unknown : new.part.published ≡ None → is_answered new.part.records.known request.number ≡ false
         pub reached : IsReached m new
 
@@ -241,6 +258,13 @@ module _ {T : Type 0} where
       has_published answers.Halted old new is = is_stop_late old new is.at
       has_published answer old new is = is_refused_late m planning request answer old is.cut is.cause
 
+      -- whether a section that held a lock was helped to its end
+      abbrev pub has_helped : (answer : Attempt) (old new : RunnerState T) → Answers answer old new → Bool
+      has_helped (answers.Done reply stamp) old new is = false
+      has_helped (answers.Short short) old new is = false
+      has_helped answers.Halted old new is = false
+      has_helped answer old new is = leaving_helps answer is.cut new is.leaves
+
       -- whether a lock was held: the plan was refused by it, or the publication, or the section left since it found
       -- it so
       abbrev pub has_met_held : (answer : Attempt) (old new : RunnerState T) → Answers answer old new → Bool
@@ -262,7 +286,8 @@ module _ {T : Type 0} where
         pub no_other : LearnsNoOther request.number old new
         -- so many runs came to their end, where no gate halted the runner; never more than two
         pub runs : is_halted answer ≡ false
-            → length new.part.records.finished ≡ length old.part.records.finished + runs_of answer published
+            → length new.part.records.finished
+            ≡ length old.part.records.finished + runs_of answer published (has_helped answer old new answers)
         pub few_runs : length new.part.records.finished ≤ length old.part.records.finished + 2
         -- where it met no lock that was held, it ran at most its own section
         pub brief : has_met_held answer old new answers ≡ false

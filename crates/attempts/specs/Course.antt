@@ -1,6 +1,6 @@
 -- The course of an attempt: how far it came, and what ended it.
 use mathlib.Core.Logic.{inl, inr}
-use Rattle.std.specs.Prelude.{◌≡◌, ◌≢◌, ℕ, ◌+◌, ◌-◌, ◌≤◌, ◌⊎◌, [], Bool, true, false, length, slice_get, Result, Ok, Err, Some}
+use Rattle.std.specs.Prelude.{◌≡◌, ◌≢◌, ℕ, ◌+◌, ◌-◌, ◌≤◌, ◌⊎◌, [], Bool, true, false, length, slice_get, Result, Ok, Err, Some, None}
 use Rattle.machine_states.specs.map_history.specs.declared.op.Request.{Request}
 use Rattle.machine_states.specs.body_terms.specs.Trail.{Agreed}
 use Rattle.machine_states.specs.body_terms.specs.Word.{value_of, version_of, pack, is_free}
@@ -12,12 +12,13 @@ use Rattle.machine_states.specs.body_terms.specs.declared.thunk.Thunk.{Thunk}
 use Rattle.machine_states.specs.structure_laws.specs.Scene.{Readings}
 use Rattle.machine_states.specs.structure_laws.specs.Meaning.{Meaning}
 use Rattle.machine_states.specs.Sight.{sight}
-use Rattle.version_words.specs.machine_invariant.specs.Sections.{IsLeft}
+use Rattle.machine_facts.specs.machine_invariant.specs.Sections.{IsLeft}
 use Rattle.machine_states.specs.runner_parts.specs.declared.event.EventKind.TheVariants as kinds
 use Rattle.machine_states.specs.runner_parts.specs.Tests.{is_next, is_answered}
 use Rattle.lock_walks.specs.runner_facts.specs.Names.{HasLock}
+use Rattle.machine_facts.specs.Watched.{WasDone}
 use Rattle.version_words.specs.RunnerState.{RunnerState}
-use Rattle.version_words.specs.Events.{Makes}
+use Rattle.version_words.specs.Events.{Makes, IsMade}
 use Rattle.lock_walks.specs.try_lock.specs.epoch_slots.specs.Collects.{IsTidy}
 use Rattle.lock_walks.specs.try_lock.specs.epoch_slots.specs.Entries.{Enters, Exits}
 use Rattle.lock_walks.specs.try_lock.specs.declared.section.Section.{Section}
@@ -28,7 +29,7 @@ use Rattle.lock_walks.specs.try_lock.specs.Reached.{IsReached}
 use Rattle.lock_walks.specs.try_lock.specs.Plans.{Answers, IsWalk, HasWalked}
 use Rattle.lock_walks.specs.try_lock.specs.Publishes.{Publishes}
 use Rattle.lock_walks.specs.try_lock.specs.Ends.{EndsSo}
-use Rattle.lock_walks.specs.try_lock.specs.Retires.{HasRetired}
+use Rattle.lock_walks.specs.try_lock.specs.Watches.{Watched}
 use Rattle.attempts.specs.Knowing.{IsStill}
 use Rattle.attempts.specs.Reclaims.{Reclaims}
 use Rattle.attempts.specs.declared.answers.Attempt.{Attempt}
@@ -82,10 +83,11 @@ module _ {T : Type 0} where
     pub nodes : 2 ≤ length r.part.nodes.free
     pub descriptors : 1 ≤ length r.part.descriptors.free
 
-  -- no slot is in the hand or half looked at
+  -- no slot is in the hand or half looked at, and no sweep is in progress
   pub record IsEmptyHanded (r : RunnerState T) : Type 0 where
     pub hand : r.part.nodes.hand ≡ []
     pub tests : r.part.nodes.tests ≡ []
+    pub looked : r.part.guards.looked ≡ []
 
 module _ {T : Type 0} (m : Meaning) (planning : Planning) (request : Request) where
   -- the runner collected where that was due, had a reserve of two node slots and one descriptor, and entered
@@ -129,12 +131,12 @@ module _ {T : Type 0} (m : Meaning) (planning : Planning) (request : Request) wh
     pub tries : HasTried thunk (Ok section) old published
     pub ends : EndsSo m section.descriptor thunk outcome trail made published new
 
-  -- and retired
+  -- and let the guard go
   pub record HasRun (thunk : Thunk) (outcome : Outcome) (trail : Agreed) (old new : RunnerState T) : Type 0 where
     pub section : Section
     pub ran : RunnerState T
     pub ended : HasEnded section thunk outcome trail old ran
-    pub retires : HasRetired m section.descriptor ran new
+    pub lets_go : IsMade m (kinds.Guard None) ran new
 
   -- the section left without an effect
   pub record HasLeft (thunk : Thunk) (outcome : Outcome) (old new : RunnerState T) : Type 0 where
@@ -156,7 +158,9 @@ module _ {T : Type 0} (m : Meaning) (planning : Planning) (request : Request) wh
   pub record LockIsRefused (answer : Attempt) (old new : RunnerState T) : Type 0 where
     pub thunk : Thunk
     pub refusal : Refused
-    pub tries : HasTried thunk (Err refusal) old new
+    pub guarded : RunnerState T
+    pub tries : HasTried thunk (Err refusal) old guarded
+    pub lets_go : IsMade m (kinds.Guard None) guarded new
     pub same : answer ≡ of_refusal thunk.lock refusal
     pub lock : m.is_lock thunk.lock ≡ true
     -- the plan had read another word of the lock
@@ -201,21 +205,37 @@ module _ {T : Type 0} (m : Meaning) where
     pub loads_stamp : Makes m (kinds.LoadEntry number false) stamp idle stamped
     pub loads_reply : Makes m (kinds.LoadEntry number true) reply stamped new
 
-  -- the runner ran the section that this word names to its end, and left: the section is done, and where it
-  -- answered, the runner knows both words of its request
-  pub record HasHelped (word : ℕ) (old new : RunnerState T) : Type 0 where
+  -- the guard was let go, and the runner left
+  pub record HasGone (old new : RunnerState T) : Type 0 where
+    pub unguarded : RunnerState T
+    pub lets_go : IsMade m (kinds.Guard None) old unguarded
+    pub exits : Exits m unguarded new
+
+  -- the runner watched this lock, which had the word still, ran the section that the word names to its end, and left: the
+  -- section is done, and where it answered, the runner knows both words of its request
+  pub record HasHelped (place word : ℕ) (old new : RunnerState T) : Type 0 where
     pub names : is_free word ≡ false
+    pub watching : RunnerState T
+    pub watches : Watched m place word true old watching
     pub thunk : Thunk
     pub outcome : Outcome
     pub trail : Agreed
     pub made : ℕ
     pub helped : RunnerState T
-    pub ends : EndsSo m (value_of word - 1) thunk outcome trail made old helped
-    pub exits : Exits m helped new
+    pub ends : EndsSo m (value_of word - 1) thunk outcome trail made watching helped
+    pub leaves : HasGone helped new
     pub told : (answer : ℕ) → outcome ≡ outcomes.Answered answer
         → is_answered new.part.records.known thunk.request ≡ true
 
+  -- or the lock had another word by then: the section was done while the lock had this one; and the runner left
+  pub record WasHelped (place word : ℕ) (old new : RunnerState T) : Type 0 where
+    pub names : is_free word ≡ false
+    pub watching : RunnerState T
+    pub watches : Watched m place word false old watching
+    pub done : WasDone m watching.layout watching.requests watches.reached.world place word (value_of word - 1)
+    pub leaves : HasGone watching new
+
   -- the word is that of a lock of the section that was helped
-  abbrev pub IsOfHelped : (place word : ℕ) → (old new : RunnerState T) → HasHelped word old new → Type 0
+  abbrev pub IsOfHelped : (place word : ℕ) → (old new : RunnerState T) → HasHelped place word old new → Type 0
   IsOfHelped place word old new h = HasLock m
       (sight m h.helped.layout h.helped.requests h.ends.reached.world).word (value_of word - 1) place word

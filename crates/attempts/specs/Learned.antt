@@ -4,7 +4,7 @@ use Rattle.machine_states.specs.body_terms.specs.declared.micro.Micro.TheVariant
 use Rattle.machine_states.specs.body_terms.specs.declared.thunk.Thunk.{Thunk}
 use Rattle.machine_states.specs.structure_laws.specs.Meaning.{Meaning}
 use Rattle.machine_states.specs.runner_parts.specs.State.{RunState, PartState, FinishedState}
-use Rattle.machine_states.specs.runner_steps.specs.AfterInRun.{over_if}
+use Rattle.machine_states.specs.runner_steps.specs.AfterInRun.{kept_unless}
 use Rattle.machine_states.specs.runner_steps.specs.Sections.{thunk_of, next_of}
 use Rattle.machine_states.specs.World.{World, seat_of}
 use Rattle.machine_states.specs.Reached.{Reached}
@@ -40,7 +40,7 @@ module _ {T : Type 0} (m : Meaning) where
   -- end or not
   pub record IsCut (d : ℕ) (old new : RunnerState T) : Type 0 where
     pub number : new.number ≡ old.number
-    pub published : (new.part.published ≡ old.part.published) ⊎ (new.part.published ≡ over_if old.part.published d)
+    pub published : (new.part.published ≡ old.part.published) ⊎ (new.part.published ≡ kept_unless old.part.published d)
     pub thunk : Thunk
     pub learned : HasLearned d thunk old new
     pub more : List FinishedState

@@ -1,13 +1,18 @@
 -- How a runner comes by free slots before it enters.
-use Rattle.std.specs.Prelude.{◌≡◌, ◌*◌, ◌&&◌, ◌||◌, ◌==◌, Bool, true, false, nat_lt, nat_le, length}
+use Rattle.std.specs.Prelude.{◌≡◌, ◌*◌, ◌&&◌, ◌==◌, Bool, true, false, nat_lt, nat_le, length}
 use Rattle.machine_states.specs.structure_laws.specs.Meaning.{Meaning}
 use Rattle.version_words.specs.RunnerState.{RunnerState}
 use Rattle.lock_walks.specs.try_lock.specs.epoch_slots.specs.Collects.{IsTidy, Collects}
+use Rattle.lock_walks.specs.try_lock.specs.epoch_slots.specs.Sweeps.{HasSwept}
 
 module _ {T : Type 0} where
-  -- fewer slots are free than an attempt needs: two node slots and one descriptor
+  -- fewer node slots are free than an attempt needs
   abbrev pub lacks_slots : RunnerState T → Bool
-  lacks_slots r = nat_lt (length r.part.nodes.free) 2 || length r.part.descriptors.free == 0
+  lacks_slots r = nat_lt (length r.part.nodes.free) 2
+
+  -- no descriptor is free
+  abbrev pub lacks_descriptor : RunnerState T → Bool
+  lacks_descriptor r = length r.part.descriptors.free == 0
 
   -- of as many node slots as the layout gives each worker a quarter or more are in the own limbo
   abbrev pub has_much_in_limbo : RunnerState T → Bool
@@ -26,14 +31,22 @@ module _ {T : Type 0} where
     CollectsWhere true old new = Collects m old new
     CollectsWhere false old new = new ≡ old
 
-    -- one scan where much is in limbo, and then up to three in a row, as long as slots lack. So where slots still lack
-    -- three scans were made one behind the other
+    -- one sweep of the guard words, exactly where no descriptor is free
+    abbrev pub SweepsWhere : Bool → RunnerState T → RunnerState T → Type 0
+    SweepsWhere true old new = HasSwept m old new
+    SweepsWhere false old new = new ≡ old
+
+    -- one scan where much is in limbo, and then up to three in a row, as long as node slots lack; then one sweep where no
+    -- descriptor is free. So where node slots still lack three scans were made one behind the other, and where a
+    -- descriptor lacks each own one in limbo is named by the guard word of another runner
     pub record Reclaims (old new : RunnerState T) : Type 0 where
-      pub swept : RunnerState T
+      pub collected : RunnerState T
       pub first : RunnerState T
       pub second : RunnerState T
-      pub sweeps : CollectsWhere (has_much_in_limbo old) old swept
-      pub once : CollectsWhere (lacks_slots swept) swept first
+      pub third : RunnerState T
+      pub collects : CollectsWhere (has_much_in_limbo old) old collected
+      pub once : CollectsWhere (lacks_slots collected) collected first
       pub twice : CollectsWhere (lacks_slots first) first second
-      pub thrice : CollectsWhere (lacks_slots second) second new
+      pub thrice : CollectsWhere (lacks_slots second) second third
+      pub sweeps : SweepsWhere (lacks_descriptor third) third new
       pub rested : IsRested old new

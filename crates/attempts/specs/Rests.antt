@@ -8,12 +8,15 @@ use Rattle.runner_gate.specs.Asks.{Asks, asked_on}
 use Rattle.machine_states.specs.structure_laws.specs.Meaning.{Meaning}
 use Rattle.machine_states.specs.runner_parts.specs.Tests.{is_answered, has_pair}
 use Rattle.machine_states.specs.Sight.{sight}
+use Rattle.machine_states.specs.epoch_core.specs.declared.stage.Stage.TheVariants as stages
 use Rattle.version_words.specs.RunnerState.{RunnerState}
+use Rattle.version_words.specs.Stages.{IsAt}
 use Rattle.lock_walks.specs.try_lock.specs.epoch_slots.specs.Collects.{IsTidy}
 use Rattle.lock_walks.specs.try_lock.specs.epoch_slots.specs.Entries.{HasLeave}
 use Rattle.lock_walks.specs.try_lock.specs.commit_log.specs.Asked.{IsAsked}
 use Rattle.lock_walks.specs.try_lock.specs.Planning.{Planning}
-use Rattle.lock_walks.specs.try_lock.specs.Reached.{IsReached, MayHelp}
+use Rattle.lock_walks.specs.try_lock.specs.Reached.{IsReached}
+use Rattle.lock_walks.specs.try_lock.specs.Watches.{MayWatch, Watched}
 use Rattle.lock_walks.specs.try_lock.specs.Ends.{IsCutShort}
 use Rattle.lock_words.specs.Taken.{HasLeftBy}
 use Rattle.request_facts.specs.Laws.{HasEntry}
@@ -21,21 +24,26 @@ use Rattle.request_facts.specs.Placed.{IsServedAs}
 use Rattle.attempts.specs.Knowing.{KnowsMore, IsOwn, LearnsNoOther}
 use Rattle.attempts.specs.Counted.{IsCounted}
 use Rattle.attempts.specs.Course.{IsEmptyHanded, LeavesAndLoads}
-use Rattle.attempts.specs.Attempts.{is_halted, is_short, helped_of, IsBrief, Leaves, leaving_steps, Answers, steps_of, has_published, has_met_held, asks_before}
+use Rattle.attempts.specs.Attempts.{is_halted, is_short, IsBrief, Leaves, leaving_steps, leaving_helps, has_helped, Answers, steps_of, has_published, has_met_held, asks_before}
 use Rattle.attempts.specs.declared.answers.Attempt.{Attempt}
 use Rattle.attempts.specs.declared.answers.Attempt.TheVariants as answers
 
 module _ {T : Type 0} (m : Meaning) where
-  -- the runner may leave with this answer: it is entered, in no run, with an empty hand and nothing to
-  -- retire, and may help a section that
-  -- the answer names
+  -- the runner may leave with this answer: it is entered, in no run, with an empty hand, no published section and no
+  -- guard, and may watch a lock that the answer names, and help
   pub record MayLeave (answer : Attempt) (r : RunnerState T) : Type 0 where
     pub leave : HasLeave r
     pub hand : IsEmptyHanded r
-    pub help : (place word : ℕ) → answer ≡ answers.Busy place word → MayHelp m r word
+    pub watch : (place word : ℕ) → answer ≡ answers.Busy place word → MayWatch m place word r
+    pub reserve : 2 ≤ length r.part.nodes.free
     -- it has read the word of this lock since it entered, or its own section left by it
     pub met : (place word : ℕ) → answer ≡ answers.Busy place word
-        → ((has_pair r.part.reads.cells place word ≡ true) × (m.is_lock place ≡ true)) ⊎ HasLeftBy r.part place word
+        → (has_pair r.part.reads.cells place word ≡ true) ⊎ HasLeftBy r.part place word
+
+  -- the runner may let its guard go and leave: it is entered, in no run, and has no published section
+  pub record MayLetGo (r : RunnerState T) : Type 0 where
+    pub epoch : ℕ
+    pub at : IsAt r (stages.Entered epoch) None
 
   -- the runner came to know no request of its own
   abbrev pub LearnsNoOwn : RunnerState T → RunnerState T → Type 0
@@ -53,14 +61,15 @@ module _ {T : Type 0} (m : Meaning) where
     pub halted : is_halted got ≡ true → new.part.published ≡ None
     -- halted, it had made so many steps of the run of the section that the answer names
     pub short : is_halted got ≡ true → (place : ℕ) × (word : ℕ) × (answer ≡ answers.Busy place word)
-        × IsCutShort m (value_of word - 1) made old new
+        × (watching : RunnerState T) × Watched m place word true old watching
+        × IsCutShort m (value_of word - 1) made watching new
     pub leaves : is_halted got ≡ false → Leaves m answer old new
     pub made_is : (going : is_halted got ≡ false) → made ≡ leaving_steps m answer old new (leaves going)
     pub same : is_halted got ≡ false → got ≡ answer
     pub tidy : is_halted got ≡ false → IsTidy new
     -- how many runs came to their end
-    pub runs : is_halted got ≡ false
-        → length new.part.records.finished ≡ length old.part.records.finished + helped_of got
+    pub runs : (going : is_halted got ≡ false) → length new.part.records.finished
+        ≡ length old.part.records.finished + (if leaving_helps m answer old new (leaves going) then 1 else 0)
     pub few_runs : length new.part.records.finished ≤ length old.part.records.finished + 1
 
   -- the runner may learn the words of this request: it knows both
@@ -110,7 +119,8 @@ module _ {T : Type 0} (m : Meaning) where
       pub entered : is_short answer ≡ false
       pub runs : is_halted answer ≡ false
           → length new.part.records.finished
-          ≡ length here.part.records.finished + ((if published && not held then 1 else 0) + helped_of answer)
+          ≡ length here.part.records.finished + ((if published && not held then 1 else 0)
+          + (if has_helped m planning request answer old new answers then 1 else 0))
       pub few_runs : length new.part.records.finished
           ≤ length here.part.records.finished + (if held then 1 else 2)
       pub brief : has_met_held m planning request answer old new answers ≡ false

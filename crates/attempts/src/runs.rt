@@ -1,4 +1,4 @@
-//! An attempt's own section: it is run to its end and retired, and answered by.
+//! An attempt's own section: it is run to its end, and answered by.
 ghost use Rattle.std.specs.Prelude.{◌≡◌, ◌+◌, length, true, false, Ok};
 ghost use Rattle.machine_states.specs.body_terms.specs.Trail.{Agreed};
 ghost use Rattle.machine_states.specs.body_terms.specs.declared.thunk.Thunk.{Thunk};
@@ -15,14 +15,14 @@ use crate::learns::learn;
 use crate::refusals::section_left;
 use crate::turns::turn_away;
 use lock_walks::Planner;
-use lock_walks::try_lock::{RunEnd, Section, retire_section, run_section};
+use lock_walks::try_lock::{RunEnd, Section, run_section};
 use lock_words::stale_words_differ;
 use machine_states::body_terms::{Outcome, StepKind, Steps};
 use machine_states::map_history::Request;
 use runner_gate::Gate;
 use version_words::{FlockTable, Runner};
 
-/// Retires the own section, which was run to its end with this outcome, and leaves: where it answered, with the words
+/// Lets the guard of the own section go, which was run to its end with this outcome, and leaves: where it answered, with the words
 /// of the request, else with the refusal by which it left.
 pub fn conclude<S: Planner, G: Gate, L>(
     table: &FlockTable<S>,
@@ -46,7 +46,8 @@ pub fn conclude<S: Planner, G: Gate, L>(
         (IsSeen G.halts G.asks)
         (G.halts gate.old) (G.halts gate.new) (G.asks gate.old) (G.asks gate.new) steps.old.count steps.new.count }
 {
-    let runner = retire_section(table, runner, section);
+    let _ = section;
+    let runner = table.guard(runner, None);
     if let Outcome::Answered(_) = outcome {
         learn(table, runner, request)
     } else {

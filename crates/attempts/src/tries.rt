@@ -45,12 +45,15 @@ pub fn try_section<S: Planner, G: Gate, L>(
     let (runner, published) = publish(table, runner, thunk);
     match published {
         Ok(section) => run_own(table, runner, request, section, gate, steps),
-        Err(refused) => turn_away(
-            table,
-            runner,
-            lock_refused(thunk.lock, refused),
-            gate,
-            steps,
-        ),
+        Err(refused) => {
+            let runner = table.guard(runner, None);
+            turn_away(
+                table,
+                runner,
+                lock_refused(thunk.lock, refused),
+                gate,
+                steps,
+            )
+        }
     }
 }

@@ -112,6 +112,8 @@ is_outside_kind (kinds.Hold thunk d) = true
 is_outside_kind (kinds.Join worker) = true
 is_outside_kind (kinds.LoadEntry request reply) = true
 is_outside_kind (kinds.ReadPlan thunk) = true
+is_outside_kind (kinds.Guard d) = true
+is_outside_kind (kinds.LoadGuard n) = true
 is_outside_kind _ = false
 
 module _ (m : Meaning) (l : Layout) (rs : List Request) (r : ℕ) (p : PartState) where
@@ -147,6 +149,8 @@ module _ (m : Meaning) (l : Layout) (rs : List Request) (r : ℕ) (p : PartState
   not_inside (kinds.Join worker) q free x h e = nothing (is_open_run q) x e
   not_inside (kinds.LoadEntry request reply) q free x h e = nothing (is_open_run q) x e
   not_inside (kinds.ReadPlan thunk) q free x h e = nothing (is_open_run q) x e
+  not_inside (kinds.Guard d) q free x h e = nothing (is_open_run q) x e
+  not_inside (kinds.LoadGuard n) q free x h e = nothing (is_open_run q) x e
   not_inside _ q free x h e = absurd (not_both false h refl)
 
   outside_by : (k : EventKind) (o : Option RunState) (x : Spot × Access) → is_outside_kind k ≡ true → ask_by m l rs r k p o ≡ Some x → outside_ask m l rs r k p ≡ Some x

@@ -33,6 +33,8 @@ plain_only kinds.Release k' e = the_same kinds.Release k' e
 plain_only kinds.ClockLoad k' e = absurd (absent k' e)
 plain_only (kinds.ReadPlan thunk) k' e = absurd (absent k' e)
 plain_only kinds.ReadClock k' e = absurd (absent k' e)
+plain_only (kinds.Guard d) k' e = absurd (absent k' e)
+plain_only (kinds.LoadGuard n) k' e = absurd (absent k' e)
 plain_only kinds.StampExchange k' e = the_same kinds.StampExchange k' e
 plain_only kinds.ClockRaise k' e = the_same kinds.ClockRaise k' e
 plain_only kinds.ReplyExchange k' e = the_same kinds.ReplyExchange k' e
@@ -46,19 +48,21 @@ plain_only kinds.ReadReply k' e = the_same kinds.ReadReply k' e
 plain_only kinds.ReadStamp k' e = the_same kinds.ReadStamp k' e
 
 -- the kinds whose events carry arguments
-pub argued : (k : EventKind) → plain_kind (kind_number k) ≡ None → kind_number k ≢ 5 → kind_number k ≢ 9 → kind_number k ≢ 11 → kind_number k ≢ 12 → kind_number k ≢ 16 → kind_number k ≢ 18 → kind_number k ≢ 21 → kind_number k ≢ 25 → kind_number k ≢ 26 → kind_number k ≢ 39 → ⊥
-argued (kinds.ScanOne n) e n5 n9 n11 n12 n16 n18 n21 n25 n26 n39 = n5 refl
-argued (kinds.LoadCell place) e n5 n9 n11 n12 n16 n18 n21 n25 n26 n39 = n9 refl
-argued (kinds.PrivateLoad slot word) e n5 n9 n11 n12 n16 n18 n21 n25 n26 n39 = n11 refl
-argued (kinds.PrivateStore slot word number) e n5 n9 n11 n12 n16 n18 n21 n25 n26 n39 = n12 refl
-argued (kinds.LoadThunk d) e n5 n9 n11 n12 n16 n18 n21 n25 n26 n39 = n16 refl
-argued (kinds.Hold thunk d) e n5 n9 n11 n12 n16 n18 n21 n25 n26 n39 = n18 refl
-argued kinds.ClockLoad e n5 n9 n11 n12 n16 n18 n21 n25 n26 n39 = n21 refl
-argued kinds.ReadClock e n5 n9 n11 n12 n16 n18 n21 n25 n26 n39 = n21 refl
-argued (kinds.Join worker) e n5 n9 n11 n12 n16 n18 n21 n25 n26 n39 = n25 refl
-argued (kinds.LoadEntry request reply) e n5 n9 n11 n12 n16 n18 n21 n25 n26 n39 = n26 refl
-argued (kinds.ReadPlan thunk) e n5 n9 n11 n12 n16 n18 n21 n25 n26 n39 = n39 refl
-argued _ e n5 n9 n11 n12 n16 n18 n21 n25 n26 n39 = present _ e
+pub argued : (k : EventKind) → plain_kind (kind_number k) ≡ None → kind_number k ≢ 5 → kind_number k ≢ 9 → kind_number k ≢ 11 → kind_number k ≢ 12 → kind_number k ≢ 16 → kind_number k ≢ 18 → kind_number k ≢ 21 → kind_number k ≢ 25 → kind_number k ≢ 26 → kind_number k ≢ 37 → kind_number k ≢ 38 → kind_number k ≢ 39 → ⊥
+argued (kinds.ScanOne n) e n5 n9 n11 n12 n16 n18 n21 n25 n26 n37 n38 n39 = n5 refl
+argued (kinds.LoadCell place) e n5 n9 n11 n12 n16 n18 n21 n25 n26 n37 n38 n39 = n9 refl
+argued (kinds.PrivateLoad slot word) e n5 n9 n11 n12 n16 n18 n21 n25 n26 n37 n38 n39 = n11 refl
+argued (kinds.PrivateStore slot word number) e n5 n9 n11 n12 n16 n18 n21 n25 n26 n37 n38 n39 = n12 refl
+argued (kinds.LoadThunk d) e n5 n9 n11 n12 n16 n18 n21 n25 n26 n37 n38 n39 = n16 refl
+argued (kinds.Hold thunk d) e n5 n9 n11 n12 n16 n18 n21 n25 n26 n37 n38 n39 = n18 refl
+argued kinds.ClockLoad e n5 n9 n11 n12 n16 n18 n21 n25 n26 n37 n38 n39 = n21 refl
+argued kinds.ReadClock e n5 n9 n11 n12 n16 n18 n21 n25 n26 n37 n38 n39 = n21 refl
+argued (kinds.Join worker) e n5 n9 n11 n12 n16 n18 n21 n25 n26 n37 n38 n39 = n25 refl
+argued (kinds.LoadEntry request reply) e n5 n9 n11 n12 n16 n18 n21 n25 n26 n37 n38 n39 = n26 refl
+argued (kinds.ReadPlan thunk) e n5 n9 n11 n12 n16 n18 n21 n25 n26 n37 n38 n39 = n39 refl
+argued (kinds.Guard d) e n5 n9 n11 n12 n16 n18 n21 n25 n26 n37 n38 n39 = n37 refl
+argued (kinds.LoadGuard n) e n5 n9 n11 n12 n16 n18 n21 n25 n26 n37 n38 n39 = n38 refl
+argued _ e n5 n9 n11 n12 n16 n18 n21 n25 n26 n37 n38 n39 = present _ e
 
 pub given_plain : (k k' : EventKind) → plain_kind (kind_number k) ≡ Some k' → IsGiven k
 given_plain (kinds.Hold thunk d) k' e = absurd (absent k' e)
@@ -104,6 +108,14 @@ module _ (P : EventKind → Type 0) where
   only_plan each (kinds.ReadPlan thunk) e = each thunk
   only_plan each _ e = absurd (omega (arith, e))
 
+  pub only_guard : ((d : Option ℕ) → P (kinds.Guard d)) → (k : EventKind) → kind_number k ≡ 37 → P k
+  only_guard each (kinds.Guard d) e = each d
+  only_guard each _ e = absurd (omega (arith, e))
+
+  pub only_sweep : ((n : ℕ) → P (kinds.LoadGuard n)) → (k : EventKind) → kind_number k ≡ 38 → P k
+  only_sweep each (kinds.LoadGuard n) e = each n
+  only_sweep each _ e = absurd (omega (arith, e))
+
   pub only_entry : ((request : ℕ) (reply : Bool) → P (kinds.LoadEntry request reply)) → (k : EventKind) → kind_number k ≡ 26 → P k
   only_entry each (kinds.LoadEntry request reply) e = each request reply
   only_entry each _ e = absurd (omega (arith, e))
@@ -144,3 +156,5 @@ few_kinds (kinds.ReadPlan thunk) = omega arith
 few_kinds kinds.ReadClock = omega arith
 few_kinds kinds.ReadReply = omega arith
 few_kinds kinds.ReadStamp = omega arith
+few_kinds (kinds.Guard d) = omega arith
+few_kinds (kinds.LoadGuard n) = omega arith

@@ -92,7 +92,8 @@ module _ (m : Meaning) (l : Layout) (rs : List Request) (r : ℕ) (p : PartState
         let is = when_asks (is_ready l p d t && is_publishable m l rs r t p) (spots.Cell t.lock) (Exchanges t.word (held_word d t.word)) a.ask (asked_outside m l rs r p (kinds.Hold t d) a refl) in
         let test = both (is_ready l p d t) (is_publishable m l rs r t p) is.0 in
         let ready = both (has p.descriptors.free d) _ (both (nat_lt d (descriptor_count l)) _ test.0).1 in
-        let prepared = both _ (is_prepared p.descriptors.stored d t) ready.1 in
+        let named = both (is_some_of p.guards.named d) _ ready.1 in
+        let prepared = both _ (is_prepared p.descriptors.stored d t) named.1 in
         let walking = both (is_walking p.stage p.run) _ test.1 in
         let unpublished = both (is_none p.published) _ walking.1 in
         let settled = both (not (is_between p.reads.look)) _ unpublished.1 in

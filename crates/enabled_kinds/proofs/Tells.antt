@@ -1,14 +1,15 @@
 -- What the tests tell of the kinds whose events carry arguments.
 use Rattle.std.specs.Prelude.{Bool, true, false, ◌==◌, ◌&&◌, ◌||◌, nat_lt, nat_le, is_none}
 use Rattle.std.specs.List.{list_any}
-use Rattle.std.proofs.Common.{◌≡◌, ◌<◌, ℕ, List, length, ⊎_elim, sym, refl, ap, ◌∙◌, Option, Some, None, arith}
+use Rattle.std.proofs.Common.{◌≡◌, ◌<◌, ◌≤◌, ℕ, List, length, ⊎_elim, sym, refl, ap, ◌∙◌, Option, Some, None, arith}
+use Rattle.std.proofs.lemmas.Bool.Decides.{nat_tests}
 use Rattle.runner_steps.specs.map_history.specs.declared.op.Request.{Request}
 use Rattle.runner_steps.specs.body_terms.specs.declared.thunk.Thunk.{Thunk}
 use Rattle.runner_steps.specs.table_words.specs.declared.layout.Layout.{Layout}
 use Rattle.runner_steps.specs.table_words.specs.declared.spot.Spot.{Spot}
-use Rattle.runner_steps.specs.table_words.specs.declared.spot.Spot.TheVariants.{Announcement}
+use Rattle.runner_steps.specs.table_words.specs.declared.spot.Spot.TheVariants.{Announcement, Guard}
 use Rattle.runner_steps.specs.table_words.specs.declared.access.Access.{Access}
-use Rattle.runner_steps.specs.table_words.specs.declared.access.Access.TheVariants.{Loads, Exchanges}
+use Rattle.runner_steps.specs.table_words.specs.declared.access.Access.TheVariants.{Loads, Stores, Exchanges}
 use Rattle.runner_steps.specs.table_words.specs.Places.{fits}
 use Rattle.runner_steps.specs.runner_parts.specs.structure_laws.specs.Meaning.{Meaning}
 use Rattle.runner_steps.specs.runner_parts.specs.declared.event.EventKind.{EventKind}
@@ -16,14 +17,18 @@ use Rattle.runner_steps.specs.runner_parts.specs.declared.event.EventKind.TheVar
 use Rattle.runner_steps.specs.runner_parts.specs.epoch_core.specs.declared.stage.Stage.{Stage}
 use Rattle.runner_steps.specs.runner_parts.specs.epoch_core.specs.declared.stage.Stage.TheVariants as stages
 use Rattle.runner_steps.specs.runner_parts.specs.State.{RunState, PartState}
-use Rattle.runner_steps.specs.runner_parts.specs.Tests.{has, is_walking, is_outside}
-use Rattle.runner_steps.specs.Outside.{scan_one_ask, entry_spot}
+use Rattle.runner_steps.specs.runner_parts.specs.Tests.{has, is_walking, is_outside, is_some_of}
+use Rattle.runner_steps.specs.Outside.{scan_one_ask, entry_spot, is_sure_of}
+use Rattle.runner_steps.specs.Guards.{load_guard_by}
 use Rattle.runner_steps.specs.Asks.{sizes_for, ask_by}
 use Rattle.enabled_kinds.specs.Kinds.{kind_number, plain_kind, IsGiven}
 use Rattle.enabled_kinds.specs.May.{is_enabled, is_enabled_if, May, Tells}
-use Rattle.enabled_kinds.specs.Tried.{no_thunk}
+use Rattle.enabled_kinds.specs.Tried.{begun, no_thunk}
 use Rattle.enabled_kinds.proofs.Asked.{absent, not_both, not_true, both, either, neither, equal, some_passes, none_passes, when_asks, asks_when, below, is_below, resting_asks, asked, enabled, asked_outside}
-use Rattle.enabled_kinds.proofs.Numbers.{plain_only, only_scan, only_cell, only_thunk, only_clock, only_plan, only_join, only_entry}
+use Rattle.enabled_kinds.proofs.Numbers.{plain_only, only_scan, only_cell, only_thunk, only_clock, only_plan, only_guard, only_sweep, only_join, only_entry}
+
+most : (a b : ℕ) → nat_le a b ≡ true → a ≤ b
+most a b e = grind (arith, nat_tests)
 
 module _ (m : Meaning) (l : Layout) (rs : List Request) (r : ℕ) (p : PartState) where
   abbrev can : EventKind → Bool
@@ -78,22 +83,33 @@ module _ (m : Meaning) (l : Layout) (rs : List Request) (r : ℕ) (p : PartState
     missed = λ h. let no = neither (can (kinds.LoadCell None)) walk h in only_cell (λ k. IsGiven k → can k ≡ false) (λ place given. cell_missed walk place no.0 (missed no.1));
   }
 
-  thunk_held : (d : ℕ) → can (kinds.LoadThunk (Some d)) ≡ true → has p.reads.held d ≡ true
-  thunk_held d e =
+  -- a run begins with the descriptor that the guard word names
+  thunk_named : (d : ℕ) → can (kinds.LoadThunk (Some d)) ≡ true → p.guards.named ≡ Some d
+  thunk_named d e =
       let a = asked m l rs r p (kinds.LoadThunk (Some d)) e in
-      (both (is_walking p.stage p.run) (has p.reads.held d) (when_asks _ _ _ a.ask (asked_outside m l rs r p (kinds.LoadThunk (Some d)) a refl)).0).1
+      let sure = both (is_walking p.stage p.run) (is_sure_of p.guards d) (when_asks _ _ _ a.ask (asked_outside m l rs r p (kinds.LoadThunk (Some d)) a refl)).0 in
+      names p.guards.named (both p.guards.sure (is_some_of p.guards.named d) sure.1).1
+    where
+      names : (o : Option ℕ) → is_some_of o d ≡ true → o ≡ Some d
+      names None e = absurd (not_both false e refl)
+      names (Some n) e = ap (λ (x : ℕ). Some x) (equal n d e)
 
-  thunk_missed : (d : Option ℕ) → can (kinds.LoadThunk None) ≡ false → list_any (λ d. can (kinds.LoadThunk (Some d))) p.reads.held ≡ false → can (kinds.LoadThunk d) ≡ false
-  thunk_missed None none each = none
-  thunk_missed (Some d) none each = not_true (can (kinds.LoadThunk (Some d))) (λ e. not_both _ e (none_passes (λ d. can (kinds.LoadThunk (Some d))) p.reads.held d each (thunk_held d e)))
+  thunk_missed : (d : Option ℕ) → can (kinds.LoadThunk None) ≡ false → is_enabled_if m l rs r p (begun p.guards.named) ≡ false → can (kinds.LoadThunk d) ≡ false
+  thunk_missed None none out = none
+  thunk_missed (Some d) none out = not_true (can (kinds.LoadThunk (Some d))) (λ e.
+      not_both _ e (sym (ap (λ (o : Option ℕ). is_enabled_if m l rs r p (begun o)) (thunk_named d e)) ∙ out))
 
-  pub thunk_tells : Tells m l rs r p 16 (can (kinds.LoadThunk None) || list_any (λ d. can (kinds.LoadThunk (Some d))) p.reads.held)
+  pub thunk_tells : Tells m l rs r p 16 (can (kinds.LoadThunk None) || is_enabled_if m l rs r p (begun p.guards.named))
   thunk_tells =
-      let some = list_any (λ d. can (kinds.LoadThunk (Some d))) p.reads.held in
+      let some = is_enabled_if m l rs r p (begun p.guards.named) in
       record {
-        found = λ h. ⊎_elim (λ here. one (kinds.LoadThunk None) tt here) (λ there. let x = some_passes (λ d. can (kinds.LoadThunk (Some d))) p.reads.held there in one (kinds.LoadThunk (Some x.0)) tt x.1) (either (can (kinds.LoadThunk None)) some h);
+        found = λ h. ⊎_elim (λ here. one (kinds.LoadThunk None) tt here) (λ there. begins p.guards.named there) (either (can (kinds.LoadThunk None)) some h);
         missed = λ h. let no = neither (can (kinds.LoadThunk None)) some h in only_thunk (λ k. IsGiven k → can k ≡ false) (λ d given. thunk_missed d no.0 no.1);
       }
+    where
+      begins : (o : Option ℕ) → is_enabled_if m l rs r p (begun o) ≡ true → May m l rs r p 16
+      begins None e = absurd (not_both false e refl)
+      begins (Some d) e = one (kinds.LoadThunk (Some d)) tt e
 
   join_inside : (worker : ℕ) → can (kinds.Join worker) ≡ true → worker < l.runners
   join_inside worker e =
@@ -149,6 +165,50 @@ module _ (m : Meaning) (l : Layout) (rs : List Request) (r : ℕ) (p : PartState
   plan_tells = record {
     found = λ h. one (kinds.ReadPlan no_thunk) refl h;
     missed = λ h. only_plan (λ k. IsGiven k → can k ≡ false) (λ thunk given. plan_any thunk h);
+  }
+
+  -- a guard word may be cleared where it may name something
+  clears : (walks none numbered : Bool) → (walks && (none && numbered)) ≡ true → (walks && (none && true)) ≡ true
+  clears true true numbered e = refl
+  clears true false numbered e = absurd (not_both false e refl)
+  clears false none numbered e = absurd (not_both false e refl)
+
+  guard_first : (d : Option ℕ) → can (kinds.Guard d) ≡ true → can (kinds.Guard None) ≡ true
+  guard_first d e =
+      let a = asked m l rs r p (kinds.Guard d) e in
+      let is = when_asks _ _ _ a.ask (asked_outside m l rs r p (kinds.Guard d) a refl) in
+      let fit = ap (λ (x : Spot × Access). fits (sizes_for m l rs) x.0) is.1 ∙ a.fitting in
+      let passes = clears (is_walking p.stage p.run) (is_none p.published) _ is.0 in
+      let out = outside_run p.run p.stage (both (is_walking p.stage p.run) _ is.0).0 in
+      enabled m l rs r p (kinds.Guard None) (Guard r, Stores 0) a.stays
+      (ap (ask_by m l rs r (kinds.Guard None) p) out ∙ asks_when _ (Guard r) (Stores 0) passes) fit
+
+  guard_any : (d : Option ℕ) → can (kinds.Guard None) ≡ false → can (kinds.Guard d) ≡ false
+  guard_any d none = not_true (can (kinds.Guard d)) (λ e. not_both _ (guard_first d e) none)
+
+  pub guard_tells : Tells m l rs r p 37 (can (kinds.Guard None))
+  guard_tells = record {
+    found = λ h. one (kinds.Guard None) tt h;
+    missed = λ h. only_guard (λ k. IsGiven k → can k ≡ false) (λ d given. guard_any d h);
+  }
+
+  -- a sweep reads the words of the table's runners
+  sweep_low : (st : Stage) (looked n : ℕ) (x : Spot × Access) → load_guard_by l n looked st ≡ Some x → n ≤ l.runners
+  sweep_low stages.Idle looked n x e = most n l.runners (both (n == looked) (nat_le n l.runners) (when_asks _ _ _ x e).0).1
+  sweep_low (stages.Loaded g) looked n x e = absurd (absent x e)
+  sweep_low stages.Announced looked n x e = absurd (absent x e)
+  sweep_low (stages.Entered g) looked n x e = absurd (absent x e)
+  sweep_low (stages.Scanning g next clear) looked n x e = absurd (absent x e)
+
+  sweep_any : (n : ℕ) → ((n' : ℕ) → n' ≤ l.runners → can (kinds.LoadGuard n') ≡ false) → can (kinds.LoadGuard n) ≡ false
+  sweep_any n none = not_true (can (kinds.LoadGuard n)) (λ e.
+      let a = asked m l rs r p (kinds.LoadGuard n) e in
+      not_both _ e (none n (sweep_low p.stage (length p.guards.looked) n a.ask (asked_outside m l rs r p (kinds.LoadGuard n) a refl))))
+
+  pub sweep_tells : (b : Bool) → (b ≡ true → (n : ℕ) × (can (kinds.LoadGuard n) ≡ true)) → (b ≡ false → (n : ℕ) → n ≤ l.runners → can (kinds.LoadGuard n) ≡ false) → Tells m l rs r p 38 b
+  sweep_tells b found missed = record {
+    found = λ h. let x = found h in one (kinds.LoadGuard x.0) tt x.1;
+    missed = λ h. only_sweep (λ k. IsGiven k → can k ≡ false) (λ n given. sweep_any n (missed h));
   }
 
   entry_below : (request : ℕ) (reply : Bool) → fits (sizes_for m l rs) (entry_spot request reply) ≡ true → fits (sizes_for m l rs) (entry_spot 0 false) ≡ true

@@ -39,6 +39,8 @@ kind_number kinds.OutcomeCommit = 30
 kind_number kinds.ReadClock = 21
 kind_number kinds.ReadReply = 35
 kind_number kinds.ReadStamp = 36
+kind_number (kinds.Guard descriptor) = 37
+kind_number (kinds.LoadGuard runner) = 38
 kind_number (kinds.ReadPlan thunk) = 39
 
 -- the event of the kind with this number, where its events carry no argument

@@ -15,6 +15,11 @@ use Rattle.runner_steps.specs.runner_parts.specs.Tests.{last_stored}
 use Rattle.runner_steps.specs.Sections.{is_open_run, next_of}
 use Rattle.runner_steps.specs.InRun.{make_slot, can_raise}
 
+-- a run begins with the descriptor that the guard word names
+abbrev pub begun : Option ℕ → Option EventKind
+begun None = None
+begun (Some d) = Some (kinds.LoadThunk (Some d))
+
 -- the private load of the cell at which a Make is, in this slot
 abbrev pub load_at : Option ℕ → Micro → Option EventKind
 load_at (Some slot) (micros.PrivateLoad cell log) = Some (kinds.PrivateLoad slot cell)

@@ -7,8 +7,8 @@ ghost use Rattle.runner_steps.specs.Asks.{sizes_for};
 ghost use Rattle.runner_steps.specs.runner_parts.specs.declared.event.EventKind.TheVariants as kinds;
 ghost use Rattle.runner_steps.specs.runner_parts.specs.epoch_core.specs.declared.stage.Stage.TheVariants.{Scanning};
 ghost use Rattle.runner_steps.specs.runner_parts.specs.Tests.{last_stored};
-ghost use Rattle.enabled_kinds.specs.May.{is_enabled};
-ghost use Rattle.enabled_kinds.specs.Tried.{stored_thunk, or_zero, no_thunk};
+ghost use Rattle.enabled_kinds.specs.May.{is_enabled, is_enabled_if};
+ghost use Rattle.enabled_kinds.specs.Tried.{begun, stored_thunk, or_zero, no_thunk};
 
 use runner_asks::{asks, last_stored, thunk_of};
 use runner_steps::body_terms::{Thunk, Word};
@@ -218,7 +218,7 @@ pub fn may_prepare<S: Structure>(
     false
 }
 
-/// Whether it may begin a run, with a descriptor that it holds.
+/// Whether it may begin a run, with the descriptor that its guard word names.
 pub fn may_begin<S: Structure>(
     part: &Part,
     structure: &S,
@@ -228,17 +228,16 @@ pub fn may_begin<S: Structure>(
 ) -> bool
     requires limits { IsWithinLimits layout }
     requires few { length requests.now ≤ 131072 }
-    ensures { result ≡ list_any (λ d.
-        is_enabled (S.meaning structure.now) layout requests.now runner part.now (kinds.LoadThunk (Some d)))
-        part.now.reads.held }
+    ensures { result ≡ is_enabled_if (S.meaning structure.now) layout requests.now runner part.now
+        (begun part.now.guards.named) }
 {
-    for descriptor in &part.reads.held {
-        let kind = EventKind::LoadThunk(Some(*descriptor));
-        if may(part, structure, layout, requests, runner, kind) {
-            return true;
+    match part.guards.named {
+        None => false,
+        Some(descriptor) => {
+            let kind = EventKind::LoadThunk(Some(descriptor));
+            may(part, structure, layout, requests, runner, kind)
         }
     }
-    false
 }
 
 /// The thunk that was stored last into the words of this descriptor.
@@ -324,6 +323,31 @@ pub fn may_announce_read<S: Structure>(
 {
     let kind = EventKind::ReadPlan(no_thunk());
     may(part, structure, layout, requests, runner, kind)
+}
+
+/// Whether a sweep may read a guard word.
+pub fn may_look_guard<S: Structure>(
+    part: &Part,
+    structure: &S,
+    layout: Layout,
+    requests: &[Request],
+    runner: u32,
+) -> bool
+    requires limits { IsWithinLimits layout }
+    requires few { length requests.now ≤ 131072 }
+    ensures found { result ≡ true
+        → (n : ℕ)
+        × (is_enabled (S.meaning structure.now) layout requests.now runner part.now (kinds.LoadGuard n) ≡ true) }
+    ensures missed { result ≡ false → (n : ℕ) → n ≤ layout.runners
+        → is_enabled (S.meaning structure.now) layout requests.now runner part.now (kinds.LoadGuard n) ≡ false }
+{
+    for number in 0..layout.runners + 1 {
+        let kind = EventKind::LoadGuard(number);
+        if may(part, structure, layout, requests, runner, kind) {
+            return true;
+        }
+    }
+    false
 }
 
 /// Whether the keeper may join a worker.

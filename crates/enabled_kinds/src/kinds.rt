@@ -5,8 +5,8 @@ ghost use Rattle.runner_steps.specs.table_words.specs.Limits.{IsWithinLimits};
 ghost use Rattle.enabled_kinds.specs.May.{Tells, AreEnabled, is_enabled_if};
 
 use crate::arguments::{
-    may, may_announce_read, may_begin, may_join, may_look_free, may_look_hand, may_prepare,
-    may_publish, may_reread, may_scan, may_walk,
+    may, may_announce_read, may_begin, may_join, may_look_free, may_look_guard, may_look_hand,
+    may_prepare, may_publish, may_reread, may_scan, may_walk,
 };
 use crate::makes::{made_load, made_store};
 use crate::plain::plain_kind;
@@ -180,6 +180,11 @@ fn may_make<S: Structure>(
             };
             may(part, structure, layout, requests, runner, first)
         }
+        37 => {
+            let cleared = EventKind::Guard(None);
+            may(part, structure, layout, requests, runner, cleared)
+        }
+        38 => may_look_guard(part, structure, layout, requests, runner),
         39 => may_announce_read(part, structure, layout, requests, runner),
         _ => may_if(
             part,

@@ -2,12 +2,13 @@
 use Rattle.std.proofs.Common.{◌≡◌, ℕ, suc, Bool, true, false, List, [], ◌∷◌, length, arith}
 use Rattle.epoch_core.specs.declared.location.Location.{Location}
 use Rattle.epoch_core.specs.State.{Counts, Role, EpochState}
-use Rattle.epoch_core.specs.Events.{Event, EnterLoad, Announce, EnterAgain, Exit, ScanEpoch, ScanOne, ScanLast, Advance, Test, TakeSlot, MakeCommit, RetireEpoch, RetireCommit, WordCommit, StoreLog, Reach, Publish, RetireDescriptor, Enabled, after, slot_of}
+use Rattle.epoch_core.specs.Events.{Event, EnterLoad, Announce, EnterAgain, Exit, ScanEpoch, ScanOne, ScanLast, Advance, Test, TakeSlot, MakeCommit, RetireEpoch, RetireCommit, WordCommit, StoreLog, Reach, Publish, RetireDescriptor, Unguard, Sweep, Enabled, after, slot_of, is_among}
 use Rattle.epoch_core.specs.Sound.{IsSound}
 use Rattle.epoch_core.specs.Schedules.{IsFirst, first_state, AllEnabled, after_all}
 use Rattle.epoch_core.specs.History.{History, no_history, noted, noted_all, IsExact, is_out}
 use Rattle.epoch_core.proofs.Keeping.{keeps}
 use Rattle.epoch_core.proofs.NodeSlots.{out_before}
+use Rattle.epoch_core.proofs.Sweeping.{swept_out}
 use Rattle.std.proofs.Common.{cond}
 use Rattle.epoch_core.specs.Update.{upd2}
 use Rattle.epoch_core.specs.Moves.{written_once}
@@ -294,6 +295,37 @@ exact_retire_descriptor c w h r d ok sound old =
       retired_once = grind arith;
     }
 
+exact_unguard : (c : Counts) (w : EpochState) (h : History) (r : ℕ) → Enabled c w (Unguard r) → IsSound c w → IsExact c w h → IsExact c (after c w (Unguard r)) (noted w h (Unguard r))
+exact_unguard c w h r ok sound old =
+    record {
+      numbered = old.numbered;
+      named = old.named;
+      apart = old.apart;
+      unborn_made = old.unborn_made;
+      unborn_retired = old.unborn_retired;
+      made = old.made;
+      retired = old.retired;
+      made_once = old.made_once;
+      retired_once = old.retired_once;
+    }
+
+exact_sweep : (c : Counts) (w : EpochState) (h : History) (r : ℕ) (ds : ℕ → Bool) → Enabled c w (Sweep r ds) → IsSound c w → IsExact c w h → IsExact c (after c w (Sweep r ds)) (noted w h (Sweep r ds))
+exact_sweep c w h r ds ok sound old =
+    record {
+      numbered = old.numbered;
+      named = λ d out. old.named d (before d out);
+      apart = old.apart;
+      unborn_made = old.unborn_made;
+      unborn_retired = old.unborn_retired;
+      made = λ d k out. old.made d k (before d out);
+      retired = λ d k out. old.retired d k (before d out);
+      made_once = old.made_once;
+      retired_once = old.retired_once;
+    }
+  where
+    before : (d : ℕ) → is_out ((after c w (Sweep r ds)).location (slot_of c d)) ≡ true → is_out (w.location (slot_of c d)) ≡ true
+    before d out = swept_out (is_among c ds (slot_of c d)) r (w.location (slot_of c d)) out
+
 pub exact : (c : Counts) (w : EpochState) (h : History) (e : Event) → Enabled c w e → IsSound c w → IsExact c w h → IsExact c (after c w e) (noted w h e)
 exact c w h (EnterLoad r) ok sound old = exact_enter_load c w h r ok sound old
 exact c w h (Announce r e) ok sound old = exact_announce c w h r e ok sound old
@@ -313,6 +345,8 @@ exact c w h (StoreLog r d k v) ok sound old = exact_store_log c w h r d k v ok s
 exact c w h (Reach r s) ok sound old = exact_reach c w h r s ok sound old
 exact c w h (Publish r d roles) ok sound old = exact_publish c w h r d roles ok sound old
 exact c w h (RetireDescriptor r d) ok sound old = exact_retire_descriptor c w h r d ok sound old
+exact c w h (Unguard r) ok sound old = exact_unguard c w h r ok sound old
+exact c w h (Sweep r ds) ok sound old = exact_sweep c w h r ds ok sound old
 
 -- the first state, with no history
 pub exact_first : (c : Counts) (location : ℕ → Location) → IsFirst c location → IsExact c (first_state location) no_history

@@ -5,13 +5,14 @@ use Rattle.std.specs.Prelude.{◌⊎◌, nat_lt}
 use Rattle.epoch_core.specs.declared.location.Location.{Location}
 use Rattle.epoch_core.specs.declared.location.Location.TheVariants.{Fixed, Live, Hand, Free, Worn, Limbo}
 use Rattle.epoch_core.specs.Update.{upd2}
-use Rattle.epoch_core.specs.Moves.{collected, tested}
+use Rattle.epoch_core.specs.Moves.{collected, swept, tested}
 use Rattle.epoch_core.specs.State.{Counts, Role, Retires, EpochState}
-use Rattle.epoch_core.specs.Events.{Event, ScanLast, Advance, Test, TakeSlot, MakeCommit, RetireCommit, Publish, RetireDescriptor, Enabled, after, slot_of}
+use Rattle.epoch_core.specs.Events.{Event, ScanLast, Advance, Test, TakeSlot, MakeCommit, RetireCommit, Publish, RetireDescriptor, Sweep, Enabled, after, slot_of, is_among}
 use Rattle.epoch_core.specs.Sound.{IsSound}
 use Rattle.epoch_core.specs.History.{History, with_won, noted, IsExact, is_out, is_retires, agreed_count}
 use Rattle.epoch_core.specs.Freed.{IsMade, IsRetired, SlotsMove, FreedStay}
 use Rattle.epoch_core.proofs.Lasting.{kept_out}
+use Rattle.epoch_core.proofs.Sweeping.{swept_not, swept_out, unfreed, not_among}
 
 none_one : {A : Type 0} → (xs : List ℕ) (x : ℕ) → xs ≡ [] → xs ≡ x ∷ [] → A
 none_one xs x none one = absurd (cc)
@@ -223,6 +224,11 @@ module _ (c : Counts) (w : EpochState) (h : History) where
           let role : w.role x.descriptor i ≡ Retires x.slot = ap (w.role x.descriptor) here.1 ∙ sound.retire_role r ok in
           (x.descriptor, x.slot, r, sym here.0, role, live won.0, (let z = won.0 in let same = won.1 in grind arith))
 
+  -- what isn't in limbo stays where it is
+  swept_else : (r : ℕ) (ds : ℕ → Bool) (s : ℕ) → ((y q : ℕ) → w.location s ≡ Limbo q y → ⊥)
+      → (after c w (Sweep r ds)).location s ≡ w.location s
+  swept_else r ds s none = unfreed (is_among c ds s) r (w.location s) (λ y e at. none y r at)
+
   pub moves : (e : Event) → Enabled c w e → IsSound c w → IsExact c w h → SlotsMove c w (after c w e) h (noted w h e)
   moves (Test r s b) ok sound exact = test_moves r s b ok
   moves (TakeSlot r s) ok sound exact = take_moves r s ok
@@ -232,6 +238,9 @@ module _ (c : Counts) (w : EpochState) (h : History) where
   moves (Advance r x n) ok sound exact = collect_moves (Advance r x n) r (x + 1) (λ s. (nat_lt s c.nodes, refl)) refl refl
   moves (Publish r d roles) ok sound exact = still_moves (Publish r d roles) (λ s at. grind arith) (λ s lt. grind arith) (λ s r' at. grind arith) refl refl
   moves (RetireDescriptor r d) ok sound exact = still_moves (RetireDescriptor r d) (λ s at. grind arith) (λ s lt. grind arith) (λ s r' at. grind arith) refl refl
+  moves (Sweep r ds) ok sound exact = still_moves (Sweep r ds) (λ s at. swept_else r ds s (λ y q e. absurd (let no = sym at ∙ e in cc)) ∙ at)
+      (λ s lt. swept_not (is_among c ds s) r (w.location s) (not_among c ds s lt))
+      (λ s q at. swept_else r ds s (λ y q' e. absurd (let no = sym at ∙ e in cc)) ∙ at) refl refl
   moves e ok sound exact = still_moves e (λ s at. at) (λ s lt. refl) (λ s r at. at) refl refl
 
   -- a descriptor is where it was, or was out and is out, or was in limbo
@@ -307,6 +316,14 @@ module _ (c : Counts) (w : EpochState) (h : History) where
     late = λ d' out. inl (grind arith);
   }
 
+  swept_late : (b : Bool) (r : ℕ) (x : Location) → is_out x ≡ true → (is_out (swept b r x) ≡ true) ⊎ ((q y : ℕ) × (x ≡ Limbo q y))
+  swept_late b r Fixed is = inl refl
+  swept_late b r Live is = inl refl
+  swept_late b r (Limbo q y) is = inr (q, y, refl)
+  swept_late b r (Hand q) is = absurd (cc)
+  swept_late b r (Free q) is = absurd (cc)
+  swept_late b r (Worn q) is = absurd (cc)
+
   pub freed_stay : (e : Event) → Enabled c w e → IsSound c w → FreedStay c w (after c w e) h (noted w h e)
   freed_stay (Test r s b) ok sound = test_stays r s b ok sound
   freed_stay (TakeSlot r s) ok sound = take_stays r s ok
@@ -320,4 +337,7 @@ module _ (c : Counts) (w : EpochState) (h : History) where
   freed_stay (Advance r x n) ok sound = quiet_stays (Advance r x n) refl
       (λ d out. collected_before (nat_lt (slot_of c d) c.nodes) r (x + 1) (w.location (slot_of c d)) out)
       (λ d out. collected_out (nat_lt (slot_of c d) c.nodes) r (x + 1) (w.location (slot_of c d)) out)
+  freed_stay (Sweep r ds) ok sound = quiet_stays (Sweep r ds) refl
+      (λ d out. swept_out (is_among c ds (slot_of c d)) r (w.location (slot_of c d)) out)
+      (λ d out. swept_late (is_among c ds (slot_of c d)) r (w.location (slot_of c d)) out)
   freed_stay e ok sound = quiet_stays e refl (λ d out. out) (λ d out. inl out)

@@ -2,13 +2,14 @@
 use Rattle.std.proofs.Common.{ℕ, List, [], ◌∷◌}
 use Rattle.epoch_core.specs.declared.location.Location.{Location}
 use Rattle.epoch_core.specs.State.{Counts, EpochState}
-use Rattle.epoch_core.specs.Events.{Event, EnterLoad, Announce, EnterAgain, Exit, ScanEpoch, ScanOne, ScanLast, Advance, Test, TakeSlot, MakeCommit, RetireEpoch, RetireCommit, WordCommit, StoreLog, Reach, Publish, RetireDescriptor, Enabled, after}
+use Rattle.epoch_core.specs.Events.{Event, EnterLoad, Announce, EnterAgain, Exit, ScanEpoch, ScanOne, ScanLast, Advance, Test, TakeSlot, MakeCommit, RetireEpoch, RetireCommit, WordCommit, StoreLog, Reach, Publish, RetireDescriptor, Unguard, Sweep, Enabled, after}
 use Rattle.epoch_core.specs.Sound.{IsSound}
 use Rattle.epoch_core.specs.Schedules.{IsFirst, first_state, AllEnabled, after_all}
 use Rattle.epoch_core.proofs.Entering.{enter_load, announce, enter_again, exit}
 use Rattle.epoch_core.proofs.Scanning.{scan_epoch, scan_one, scan_last, advance}
 use Rattle.epoch_core.proofs.NodeSlots.{test, take_slot, make_commit, retire_epoch, retire_commit}
 use Rattle.epoch_core.proofs.Sections.{word_commit, store_log, reach, publish, retire_descriptor}
+use Rattle.epoch_core.proofs.Sweeping.{unguard, sweep}
 use Rattle.std.proofs.Common.{arith}
 
 pub keeps : (c : Counts) (w : EpochState) (e : Event) → Enabled c w e → IsSound c w → IsSound c (after c w e)
@@ -30,6 +31,8 @@ keeps c w (StoreLog r d k v) ok old = store_log c w r d k v ok old
 keeps c w (Reach r s) ok old = reach c w r s ok old
 keeps c w (Publish r d roles) ok old = publish c w r d roles ok old
 keeps c w (RetireDescriptor r d) ok old = retire_descriptor c w r d ok old
+keeps c w (Unguard r) ok old = unguard c w r ok old
+keeps c w (Sweep r ds) ok old = sweep c w r ds ok old
 
 -- the first state meets it
 pub first : (c : Counts) (location : ℕ → Location) → IsFirst c location → IsSound c (first_state location)

@@ -4,7 +4,7 @@ use Rattle.std.specs.Prelude.{◌⊎◌}
 use Rattle.epoch_core.specs.declared.location.Location.{Location}
 use Rattle.epoch_core.specs.Moves.{tested}
 use Rattle.epoch_core.specs.State.{Counts, EpochState, IsKept}
-use Rattle.epoch_core.specs.Events.{Event, EnterLoad, Announce, EnterAgain, Exit, ScanEpoch, ScanOne, ScanLast, Advance, Test, TakeSlot, MakeCommit, RetireEpoch, RetireCommit, WordCommit, StoreLog, Reach, Publish, RetireDescriptor, Enabled, slot_of}
+use Rattle.epoch_core.specs.Events.{Event, EnterLoad, Announce, EnterAgain, Exit, ScanEpoch, ScanOne, ScanLast, Advance, Test, TakeSlot, MakeCommit, RetireEpoch, RetireCommit, WordCommit, StoreLog, Reach, Publish, RetireDescriptor, Unguard, Sweep, Enabled, slot_of}
 use Rattle.epoch_core.specs.Sound.{IsSound}
 use Rattle.epoch_core.specs.Commits.{MakeGoesOn, RetireGoesOn}
 use Rattle.epoch_core.specs.History.{History, noted, IsExact, Lasts, is_out}
@@ -70,3 +70,5 @@ lasts c w h (StoreLog r d k v) ok sound old = record { made = λ n k some. refl;
 lasts c w h (Reach r s) ok sound old = record { made = λ n k some. refl; retired = λ n k some. refl }
 lasts c w h (Publish r d roles) ok sound old = record { made = λ n k some. refl; retired = λ n k some. refl }
 lasts c w h (RetireDescriptor r d) ok sound old = record { made = λ n k some. refl; retired = λ n k some. refl }
+lasts c w h (Unguard r) ok sound old = record { made = λ n k some. refl; retired = λ n k some. refl }
+lasts c w h (Sweep r ds) ok sound old = record { made = λ n k some. refl; retired = λ n k some. refl }

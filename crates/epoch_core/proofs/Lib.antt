@@ -2,6 +2,7 @@ pub mod Entering
 pub mod Scanning
 pub mod NodeSlots
 pub mod Sections
+pub mod Sweeping
 pub mod Keeping
 pub mod Reusing
 pub mod Exactly

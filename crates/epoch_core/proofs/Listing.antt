@@ -1,30 +1,27 @@
 -- The lists of each runner stay tied to where the slots are.
 use Rattle.std.proofs.Common.{◌≡◌, ◌≢◌, ℕ, ◌+◌, ◌<◌, Bool, true, false, List, [], ◌∷◌, ◌++◌, refl, sym, ap, ◌∙◌, subst, arith}
-use Rattle.std.specs.Prelude.{nat_lt}
+use Rattle.std.specs.Prelude.{nat_lt, not, cond}
+use Rattle.std.specs.List.{filter}
 use Rattle.std.proofs.lemmas.Bool.Decides.{nat_tests}
 use mathlib.Core.Logic.{dite}
 use native.Mathlib.Decide.{ℕ_discrete}
 use Rattle.epoch_core.specs.declared.location.Location.{Location}
-use Rattle.epoch_core.specs.declared.location.Location.TheVariants.{Live, Hand, Free, Limbo}
+use Rattle.epoch_core.specs.declared.location.Location.TheVariants.{Fixed, Live, Hand, Free, Worn, Limbo}
 use Rattle.epoch_core.specs.Update.{upd}
-use Rattle.epoch_core.specs.Moves.{collected, tested, made, retired}
+use Rattle.epoch_core.specs.Moves.{collected, swept, tested, made, retired}
 use Rattle.epoch_core.specs.State.{Counts, EpochState}
-use Rattle.epoch_core.specs.Events.{Event, EnterLoad, Announce, EnterAgain, Exit, ScanEpoch, ScanOne, ScanLast, Advance, Test, TakeSlot, MakeCommit, RetireEpoch, RetireCommit, WordCommit, StoreLog, Reach, Publish, RetireDescriptor, Enabled, after, slot_of, after_collect}
+use Rattle.epoch_core.specs.Events.{Event, EnterLoad, Announce, EnterAgain, Exit, ScanEpoch, ScanOne, ScanLast, Advance, Test, TakeSlot, MakeCommit, RetireEpoch, RetireCommit, WordCommit, StoreLog, Reach, Publish, RetireDescriptor, Unguard, Sweep, Enabled, after, slot_of, after_collect, is_among}
 use Rattle.epoch_core.specs.Sound.{IsSound}
 use Rattle.epoch_core.specs.Schedules.{AllEnabled, after_all}
-use Rattle.epoch_core.specs.Lists.{Lists, IsListed, listed, listed_all, collect_lists, tested_lists, made_lists, retired_lists, without, old_slots, times, times_retired, in_hand, in_free, in_worn, in_limbo}
-use Rattle.epoch_core.proofs.Times.{times-append, times_retired-append, times-without, times_retired-young, times-old_none}
-use Rattle.epoch_core.proofs.Collecting.{leaving, leaving_free, free_kept, worn_kept, limbo_young, hand_of_others, free_of_others, limbo_of_others}
+use Rattle.epoch_core.specs.Lists.{Lists, IsListed, listed, listed_all, collect_lists, tested_lists, made_lists, retired_lists, swept_lists, without, old_slots, times, times_retired, in_hand, in_free, in_worn, in_limbo, in_any_limbo}
+use Rattle.epoch_core.proofs.Times.{times-append, times-filter, times_retired-append, times-without, times_retired-young, times-old_none}
+use Rattle.epoch_core.proofs.Collecting.{leaving, free_kept, worn_kept, limbo_young, descriptor_kept, hand_of_others, limbo_of_others}
+use Rattle.epoch_core.proofs.Sweeping.{swept_not, not_among, among_is}
 use Rattle.epoch_core.proofs.Keeping.{keeps}
 
 -- a node slot after a collect
 node_moved : (c : Counts) (location : ℕ → Location) (r e s : ℕ) → s < c.nodes → after_collect c location r e s ≡ collected true r e (location s)
 node_moved c location r e s lt = let node : nat_lt s c.nodes ≡ true = grind (arith, nat_tests) in ap (λ (b : Bool). collected b r e (location s)) node
-
--- a descriptor after a collect
-descriptor_moved : (c : Counts) (location : ℕ → Location) (r e d : ℕ) → after_collect c location r e (slot_of c d) ≡ collected false r e (location (slot_of c d))
-descriptor_moved c location r e d =
-    let node : nat_lt (slot_of c d) c.nodes ≡ false = grind (arith, nat_tests) in ap (λ (b : Bool). collected b r e (location (slot_of c d))) node
 
 -- the lists after a collect
 collects : (c : Counts) (w : EpochState) (l : ℕ → Lists) (r e : ℕ) → IsListed c w l → IsListed c (record w { location = after_collect c w.location r e }) (upd l r (collect_lists e (l r)))
@@ -47,29 +44,13 @@ collects c w l r e old =
           let moved = node_moved c w.location r e s lt in
           dite (ℕ_discrete r1 r)
           (λ own.
-          let e1 = ap (in_limbo r y) moved in let e2 = limbo_young true r e y (w.location s) in
+          let e1 = ap (in_limbo r y) moved in let e2 = limbo_young r e y (w.location s) in
           let e3 = times_retired-young s y e ((l r).limbo) in let e4 = old.limbo r s y lt in
           let P : ℕ → Type 0 = λ q. times_retired s y (l' q).limbo ≡ in_limbo q y (place s) in
           let here : P r = grind arith in subst P (sym own) here)
           (λ other. let e1 = ap (in_limbo r1 y) moved in let e2 = limbo_of_others true r r1 e y (w.location s) other in let e4 = old.limbo r1 s y lt in grind arith);
-      free_descriptors = λ r1 d lt.
-          let moved = descriptor_moved c w.location r e d in
-          dite (ℕ_discrete r1 r)
-          (λ own.
-          let e1 = ap (in_free r) moved in let e2 = leaving_free r e d (w.location (slot_of c d)) ((l r).limbo_descriptors) (λ y. old.limbo_descriptors r d y lt) in
-          let e3 = times-append d ((l r).free_descriptors) (old_slots e ((l r).limbo_descriptors)) in let e4 = old.free_descriptors r d lt in
-          let P : ℕ → Type 0 = λ q. times d (l' q).free_descriptors ≡ in_free q (place (slot_of c d)) in
-          let here : P r = grind arith in subst P (sym own) here)
-          (λ other. let e1 = ap (in_free r1) moved in let e2 = free_of_others false r r1 e (w.location (slot_of c d)) other in let e4 = old.free_descriptors r1 d lt in grind arith);
-      limbo_descriptors = λ r1 d y lt.
-          let moved = descriptor_moved c w.location r e d in
-          dite (ℕ_discrete r1 r)
-          (λ own.
-          let e1 = ap (in_limbo r y) moved in let e2 = limbo_young false r e y (w.location (slot_of c d)) in
-          let e3 = times_retired-young d y e ((l r).limbo_descriptors) in let e4 = old.limbo_descriptors r d y lt in
-          let P : ℕ → Type 0 = λ q. times_retired d y (l' q).limbo_descriptors ≡ in_limbo q y (place (slot_of c d)) in
-          let here : P r = grind arith in subst P (sym own) here)
-          (λ other. let e1 = ap (in_limbo r1 y) moved in let e2 = limbo_of_others false r r1 e y (w.location (slot_of c d)) other in let e4 = old.limbo_descriptors r1 d y lt in grind arith);
+      free_descriptors = λ r1 d lt. let e1 = ap (in_free r1) (descriptor_kept c w.location r e d) in let e4 = old.free_descriptors r1 d lt in grind arith;
+      limbo_descriptors = λ r1 d lt. let e1 = ap (in_any_limbo r1) (descriptor_kept c w.location r e d) in let e4 = old.limbo_descriptors r1 d lt in grind arith;
       hand_nodes = λ r1 s ge.
           let e3 = times-append s ((l r1).hand) (old_slots e ((l r1).limbo)) in let e4 = old.hand_nodes r1 s ge in
           let e5 = times-old_none s e ((l r1).limbo) (λ y. old.limbo_nodes r1 s y ge) in grind arith;
@@ -88,7 +69,7 @@ tests c w l r s true at node old =
       worn = λ r1 t lt. let before = old.worn r1 t lt in let more = times-append t ((l r1).worn) (s ∷ []) in grind arith;
       limbo = λ r1 t y1 lt. let before = old.limbo r1 t y1 lt in grind arith;
       free_descriptors = λ r1 d1 lt. let before = old.free_descriptors r1 d1 lt in grind arith;
-      limbo_descriptors = λ r1 d1 y1 lt. let before = old.limbo_descriptors r1 d1 y1 lt in grind arith;
+      limbo_descriptors = λ r1 d1 lt. let before = old.limbo_descriptors r1 d1 lt in grind arith;
       hand_nodes = λ r1 t ge. let before = old.hand_nodes r1 t ge in let gone = times-without t s ((l r1).hand) in grind arith;
       free_nodes = λ r1 t ge. let before = old.free_nodes r1 t ge in grind arith;
       worn_nodes = λ r1 t ge. let before = old.worn_nodes r1 t ge in let more = times-append t ((l r1).worn) (s ∷ []) in grind arith;
@@ -101,7 +82,7 @@ tests c w l r s false at node old =
       worn = λ r1 t lt. let before = old.worn r1 t lt in grind arith;
       limbo = λ r1 t y1 lt. let before = old.limbo r1 t y1 lt in grind arith;
       free_descriptors = λ r1 d1 lt. let before = old.free_descriptors r1 d1 lt in grind arith;
-      limbo_descriptors = λ r1 d1 y1 lt. let before = old.limbo_descriptors r1 d1 y1 lt in grind arith;
+      limbo_descriptors = λ r1 d1 lt. let before = old.limbo_descriptors r1 d1 lt in grind arith;
       hand_nodes = λ r1 t ge. let before = old.hand_nodes r1 t ge in let gone = times-without t s ((l r1).hand) in grind arith;
       free_nodes = λ r1 t ge. let before = old.free_nodes r1 t ge in let more = times-append t ((l r1).free) (s ∷ []) in grind arith;
       worn_nodes = λ r1 t ge. let before = old.worn_nodes r1 t ge in grind arith;
@@ -118,7 +99,7 @@ becomes_live c w l r s at node old =
       worn = λ r1 t lt. let before = old.worn r1 t lt in grind arith;
       limbo = λ r1 t y1 lt. let before = old.limbo r1 t y1 lt in grind arith;
       free_descriptors = λ r1 d1 lt. let before = old.free_descriptors r1 d1 lt in grind arith;
-      limbo_descriptors = λ r1 d1 y1 lt. let before = old.limbo_descriptors r1 d1 y1 lt in grind arith;
+      limbo_descriptors = λ r1 d1 lt. let before = old.limbo_descriptors r1 d1 lt in grind arith;
       hand_nodes = λ r1 t ge. let before = old.hand_nodes r1 t ge in let gone = times-without t s ((l r1).hand) in grind arith;
       free_nodes = λ r1 t ge. let before = old.free_nodes r1 t ge in grind arith;
       worn_nodes = λ r1 t ge. let before = old.worn_nodes r1 t ge in grind arith;
@@ -135,7 +116,7 @@ takes c w l r s at node old =
       worn = λ r1 t lt. let before = old.worn r1 t lt in grind arith;
       limbo = λ r1 t y1 lt. let before = old.limbo r1 t y1 lt in grind arith;
       free_descriptors = λ r1 d1 lt. let before = old.free_descriptors r1 d1 lt in grind arith;
-      limbo_descriptors = λ r1 d1 y1 lt. let before = old.limbo_descriptors r1 d1 y1 lt in grind arith;
+      limbo_descriptors = λ r1 d1 lt. let before = old.limbo_descriptors r1 d1 lt in grind arith;
       hand_nodes = λ r1 t ge. let before = old.hand_nodes r1 t ge in let more = times-append t ((l r1).hand) (s ∷ []) in grind arith;
       free_nodes = λ r1 t ge. let before = old.free_nodes r1 t ge in let gone = times-without t s ((l r1).free) in grind arith;
       worn_nodes = λ r1 t ge. let before = old.worn_nodes r1 t ge in grind arith;
@@ -152,7 +133,7 @@ retires c w l r s y at node old =
       worn = λ r1 t lt. let before = old.worn r1 t lt in grind arith;
       limbo = λ r1 t y1 lt. let before = old.limbo r1 t y1 lt in let more = times_retired-append t y1 ((l r1).limbo) (record { slot = s; epoch = y } ∷ []) in grind arith;
       free_descriptors = λ r1 d1 lt. let before = old.free_descriptors r1 d1 lt in grind arith;
-      limbo_descriptors = λ r1 d1 y1 lt. let before = old.limbo_descriptors r1 d1 y1 lt in grind arith;
+      limbo_descriptors = λ r1 d1 lt. let before = old.limbo_descriptors r1 d1 lt in grind arith;
       hand_nodes = λ r1 t ge. let before = old.hand_nodes r1 t ge in grind arith;
       free_nodes = λ r1 t ge. let before = old.free_nodes r1 t ge in grind arith;
       worn_nodes = λ r1 t ge. let before = old.worn_nodes r1 t ge in grind arith;
@@ -169,7 +150,7 @@ publishes c w l r d at old =
       worn = λ r1 t lt. let before = old.worn r1 t lt in grind arith;
       limbo = λ r1 t y1 lt. let before = old.limbo r1 t y1 lt in grind arith;
       free_descriptors = λ r1 d1 lt. let before = old.free_descriptors r1 d1 lt in let gone = times-without d1 d ((l r1).free_descriptors) in grind arith;
-      limbo_descriptors = λ r1 d1 y1 lt. let before = old.limbo_descriptors r1 d1 y1 lt in grind arith;
+      limbo_descriptors = λ r1 d1 lt. let before = old.limbo_descriptors r1 d1 lt in grind arith;
       hand_nodes = λ r1 t ge. let before = old.hand_nodes r1 t ge in grind arith;
       free_nodes = λ r1 t ge. let before = old.free_nodes r1 t ge in grind arith;
       worn_nodes = λ r1 t ge. let before = old.worn_nodes r1 t ge in grind arith;
@@ -178,7 +159,7 @@ publishes c w l r d at old =
 
 -- a published descriptor goes into limbo
 retires_descriptor : (c : Counts) (w : EpochState) (l : ℕ → Lists) (r d y : ℕ) → w.location (slot_of c d) ≡ Live → IsListed c w l
-    → IsListed c (record w { location = upd w.location (slot_of c d) (Limbo r y) }) (upd l r (record (l r) { limbo_descriptors = (l r).limbo_descriptors ++ record { slot = d; epoch = y } ∷ [] }))
+    → IsListed c (record w { location = upd w.location (slot_of c d) (Limbo r y) }) (upd l r (record (l r) { limbo_descriptors = (l r).limbo_descriptors ++ d ∷ [] }))
 retires_descriptor c w l r d y at old =
     record {
       hand = λ r1 t lt. let before = old.hand r1 t lt in grind arith;
@@ -186,20 +167,97 @@ retires_descriptor c w l r d y at old =
       worn = λ r1 t lt. let before = old.worn r1 t lt in grind arith;
       limbo = λ r1 t y1 lt. let before = old.limbo r1 t y1 lt in grind arith;
       free_descriptors = λ r1 d1 lt. let before = old.free_descriptors r1 d1 lt in grind arith;
-      limbo_descriptors = λ r1 d1 y1 lt.
-          let before = old.limbo_descriptors r1 d1 y1 lt in let more = times_retired-append d1 y1 ((l r1).limbo_descriptors) (record { slot = d; epoch = y } ∷ []) in
+      limbo_descriptors = λ r1 d1 lt.
+          let before = old.limbo_descriptors r1 d1 lt in let more = times-append d1 ((l r1).limbo_descriptors) (d ∷ []) in
           dite (ℕ_discrete d1 d)
           (λ own.
-          let live : w.location (slot_of c d1) ≡ Live = grind arith in let none = ap (in_limbo r1 y1) live in
-          let there : upd w.location (slot_of c d) (Limbo r y) (slot_of c d1) ≡ Limbo r y = grind arith in let one = ap (in_limbo r1 y1) there in grind arith)
+          let live : w.location (slot_of c d1) ≡ Live = grind arith in let none = ap (in_any_limbo r1) live in
+          let there : upd w.location (slot_of c d) (Limbo r y) (slot_of c d1) ≡ Limbo r y = grind arith in let one = ap (in_any_limbo r1) there in grind arith)
           (λ other.
           let same : upd w.location (slot_of c d) (Limbo r y) (slot_of c d1) ≡ w.location (slot_of c d1) = grind arith in
-          let stays = ap (in_limbo r1 y1) same in grind arith);
+          let stays = ap (in_any_limbo r1) same in grind arith);
       hand_nodes = λ r1 t ge. let before = old.hand_nodes r1 t ge in grind arith;
       free_nodes = λ r1 t ge. let before = old.free_nodes r1 t ge in grind arith;
       worn_nodes = λ r1 t ge. let before = old.worn_nodes r1 t ge in grind arith;
       limbo_nodes = λ r1 t y1 ge. let before = old.limbo_nodes r1 t y1 ge in grind arith;
     }
+
+-- where a descriptor is after this runner's sweep
+free_then : (b : Bool) (r : ℕ) (x : Location) → in_free r (swept b r x) ≡ in_free r x + cond b (in_any_limbo r x) 0
+free_then b r Fixed = grind arith
+free_then b r Live = grind arith
+free_then b r (Hand r') = grind arith
+free_then b r (Free r') = grind arith
+free_then b r (Worn r') = grind arith
+free_then b r (Limbo r' y) = grind arith
+
+limbo_then : (b : Bool) (r : ℕ) (x : Location) → in_any_limbo r (swept b r x) ≡ cond (not b) (in_any_limbo r x) 0
+limbo_then b r Fixed = grind arith
+limbo_then b r Live = grind arith
+limbo_then b r (Hand r') = grind arith
+limbo_then b r (Free r') = grind arith
+limbo_then b r (Worn r') = grind arith
+limbo_then b r (Limbo r' y) = grind arith
+
+-- and after the sweep of another one
+free_else : (b : Bool) (r q : ℕ) (x : Location) → q ≢ r → in_free q (swept b r x) ≡ in_free q x
+free_else b r q Fixed ne = refl
+free_else b r q Live ne = refl
+free_else b r q (Hand r') ne = refl
+free_else b r q (Free r') ne = refl
+free_else b r q (Worn r') ne = refl
+free_else b r q (Limbo r' y) ne = grind arith
+
+limbo_else : (b : Bool) (r q : ℕ) (x : Location) → q ≢ r → in_any_limbo q (swept b r x) ≡ in_any_limbo q x
+limbo_else b r q Fixed ne = refl
+limbo_else b r q Live ne = refl
+limbo_else b r q (Hand r') ne = refl
+limbo_else b r q (Free r') ne = refl
+limbo_else b r q (Worn r') ne = refl
+limbo_else b r q (Limbo r' y) ne = grind arith
+
+-- the lists after a sweep
+sweeps : (c : Counts) (w : EpochState) (l : ℕ → Lists) (r : ℕ) (ds : ℕ → Bool) → IsListed c w l
+    → IsListed c (after c w (Sweep r ds)) (upd l r (swept_lists ds (l r)))
+sweeps c w l r ds old =
+    let l' = upd l r (swept_lists ds (l r)) in
+    record {
+      hand = λ q s lt. let e = ap (in_hand q) (node s lt) in let before = old.hand q s lt in grind arith;
+      free = λ q s lt. let e = ap (in_free q) (node s lt) in let before = old.free q s lt in grind arith;
+      worn = λ q s lt. let e = ap (in_worn q) (node s lt) in let before = old.worn q s lt in grind arith;
+      limbo = λ q s y lt. let e = ap (in_limbo q y) (node s lt) in let before = old.limbo q s y lt in grind arith;
+      free_descriptors = λ q d lt.
+          let e = ap (in_free q) (place d) in
+          dite (ℕ_discrete q r)
+          (λ own.
+          let e' = ap (in_free r) (place d) in
+          let e1 = times-append d ((l r).free_descriptors) (filter ds ((l r).limbo_descriptors)) in let e2 = times-filter d ds ((l r).limbo_descriptors) in
+          let e3 = old.free_descriptors r d lt in let e4 = old.limbo_descriptors r d lt in
+          let e5 = free_then (ds d) r (w.location (slot_of c d)) in
+          let P : ℕ → Type 0 = λ i. times d (l' i).free_descriptors ≡ in_free i ((after c w (Sweep r ds)).location (slot_of c d)) in
+          let here : P r = grind arith in subst P (sym own) here)
+          (λ other. let e5 = free_else (ds d) r q (w.location (slot_of c d)) other in let e3 = old.free_descriptors q d lt in grind arith);
+      limbo_descriptors = λ q d lt.
+          let e = ap (in_any_limbo q) (place d) in
+          dite (ℕ_discrete q r)
+          (λ own.
+          let e' = ap (in_any_limbo r) (place d) in
+          let e2 = times-filter d (λ i. not (ds i)) ((l r).limbo_descriptors) in let e4 = old.limbo_descriptors r d lt in
+          let e5 = limbo_then (ds d) r (w.location (slot_of c d)) in
+          let P : ℕ → Type 0 = λ i. times d (l' i).limbo_descriptors ≡ in_any_limbo i ((after c w (Sweep r ds)).location (slot_of c d)) in
+          let here : P r = grind arith in subst P (sym own) here)
+          (λ other. let e5 = limbo_else (ds d) r q (w.location (slot_of c d)) other in let e3 = old.limbo_descriptors q d lt in grind arith);
+      hand_nodes = λ q s ge. let before = old.hand_nodes q s ge in grind arith;
+      free_nodes = λ q s ge. let before = old.free_nodes q s ge in grind arith;
+      worn_nodes = λ q s ge. let before = old.worn_nodes q s ge in grind arith;
+      limbo_nodes = λ q s y ge. let before = old.limbo_nodes q s y ge in grind arith;
+    }
+  where
+    node : (s : ℕ) → s < c.nodes → (after c w (Sweep r ds)).location s ≡ w.location s
+    node s lt = swept_not (is_among c ds s) r (w.location s) (not_among c ds s lt)
+
+    place : (d : ℕ) → (after c w (Sweep r ds)).location (slot_of c d) ≡ swept (ds d) r (w.location (slot_of c d))
+    place d = ap (λ (b : Bool). swept b r (w.location (slot_of c d))) (among_is c ds d)
 
 -- events that move no slot
 stays : (c : Counts) (w w' : EpochState) (l : ℕ → Lists) → ((s : ℕ) → w'.location s ≡ w.location s) → IsListed c w l → IsListed c w' l
@@ -210,7 +268,7 @@ stays c w w' l same old =
       worn = λ r1 t lt. old.worn r1 t lt ∙ sym (ap (in_worn r1) (same t));
       limbo = λ r1 t y1 lt. old.limbo r1 t y1 lt ∙ sym (ap (in_limbo r1 y1) (same t));
       free_descriptors = λ r1 d1 lt. old.free_descriptors r1 d1 lt ∙ sym (ap (in_free r1) (same (slot_of c d1)));
-      limbo_descriptors = λ r1 d1 y1 lt. old.limbo_descriptors r1 d1 y1 lt ∙ sym (ap (in_limbo r1 y1) (same (slot_of c d1)));
+      limbo_descriptors = λ r1 d1 lt. old.limbo_descriptors r1 d1 lt ∙ sym (ap (in_any_limbo r1) (same (slot_of c d1)));
       hand_nodes = λ r1 t ge. old.hand_nodes r1 t ge;
       free_nodes = λ r1 t ge. old.free_nodes r1 t ge;
       worn_nodes = λ r1 t ge. old.worn_nodes r1 t ge;
@@ -226,7 +284,7 @@ same_lists c w w' l l' same lists old = let moved = stays c w w' l same old in
       worn = λ r1 t lt. ap (λ (x : Lists). times t x.worn) (lists r1) ∙ moved.worn r1 t lt;
       limbo = λ r1 t y1 lt. ap (λ (x : Lists). times_retired t y1 x.limbo) (lists r1) ∙ moved.limbo r1 t y1 lt;
       free_descriptors = λ r1 d1 lt. ap (λ (x : Lists). times d1 x.free_descriptors) (lists r1) ∙ moved.free_descriptors r1 d1 lt;
-      limbo_descriptors = λ r1 d1 y1 lt. ap (λ (x : Lists). times_retired d1 y1 x.limbo_descriptors) (lists r1) ∙ moved.limbo_descriptors r1 d1 y1 lt;
+      limbo_descriptors = λ r1 d1 lt. ap (λ (x : Lists). times d1 x.limbo_descriptors) (lists r1) ∙ moved.limbo_descriptors r1 d1 lt;
       hand_nodes = λ r1 t ge. ap (λ (x : Lists). times t x.hand) (lists r1) ∙ moved.hand_nodes r1 t ge;
       free_nodes = λ r1 t ge. ap (λ (x : Lists). times t x.free) (lists r1) ∙ moved.free_nodes r1 t ge;
       worn_nodes = λ r1 t ge. ap (λ (x : Lists). times t x.worn) (lists r1) ∙ moved.worn_nodes r1 t ge;
@@ -306,6 +364,8 @@ lists_follow c w l (StoreLog r d k v) ok sound old = stays c w (after c w (Store
 lists_follow c w l (Reach r s) ok sound old = stays c w (after c w (Reach r s)) l (λ s. refl) old
 lists_follow c w l (Publish r d roles) ok sound old = stays c _ (after c w (Publish r d roles)) _ (λ t. refl) (publishes c w l r d ok.1 old)
 lists_follow c w l (RetireDescriptor r d) ok sound old = stays c _ (after c w (RetireDescriptor r d)) _ (λ t. refl) (retires_descriptor c w l r d w.epoch ok.1 old)
+lists_follow c w l (Unguard r) ok sound old = stays c w (after c w (Unguard r)) l (λ s. refl) old
+lists_follow c w l (Sweep r ds) ok sound old = sweeps c w l r ds old
 
 pub lists_follow_all : (c : Counts) (w : EpochState) (l : ℕ → Lists) (es : List Event) → AllEnabled c w es → IsSound c w → IsListed c w l → IsListed c (after_all c w es) (listed_all c w l es)
 lists_follow_all c w l [] ok sound old = old

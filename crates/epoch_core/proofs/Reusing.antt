@@ -1,13 +1,18 @@
 -- What the invariant says of slots that are held.
-use Rattle.std.proofs.Common.{◌≡◌, ℕ, ◌+◌, ◌<◌, ◌≤◌, Bool, true, false, arith}
+use Rattle.std.specs.Prelude.{nat_lt}
+use Rattle.std.proofs.Common.{◌≡◌, ◌≢◌, ℕ, ◌+◌, ◌<◌, ◌≤◌, Bool, true, false, refl, sym, ap, ◌∙◌, arith}
 use Rattle.epoch_core.specs.declared.location.Location.{Location}
 use Rattle.epoch_core.specs.declared.location.Location.TheVariants.{Fixed, Live, Hand, Free, Worn, Limbo}
 use Rattle.epoch_core.specs.State.{Counts, EpochState, is_entered, entry_of, IsKept}
-use Rattle.epoch_core.specs.Events.{Event, EnterLoad, Announce, EnterAgain, Exit, ScanEpoch, ScanOne, ScanLast, Advance, Test, TakeSlot, MakeCommit, RetireEpoch, RetireCommit, WordCommit, StoreLog, Reach, Publish, RetireDescriptor, after}
+use Rattle.epoch_core.specs.Events.{Event, EnterLoad, Announce, EnterAgain, Exit, ScanEpoch, ScanOne, ScanLast, Advance, Test, TakeSlot, MakeCommit, RetireEpoch, RetireCommit, WordCommit, StoreLog, Reach, Publish, RetireDescriptor, Unguard, Sweep, after, slot_of, is_among}
 use Rattle.epoch_core.specs.Sound.{IsSound}
-use Rattle.epoch_core.specs.Reuse.{HeldAreSafe, MayLeave, LeavesLate, LeavesNothingOld}
-use Rattle.epoch_core.specs.Moves.{collected}
+use Rattle.epoch_core.specs.Reuse.{HeldAreSafe, MayLeave, LeavesLate, LeavesUnheld, LeavesNothingOld}
+use mathlib.Core.Logic.{dite}
+use native.Mathlib.Decide.{ℕ_discrete}
+use Rattle.epoch_core.specs.Moves.{collected, swept}
 use Rattle.epoch_core.specs.Follows.{MayFollow, is_in_use}
+use Rattle.epoch_core.proofs.Sweeping.{swept_not, not_among, among_is}
+use Rattle.epoch_core.proofs.Collecting.{descriptor_kept}
 use Rattle.std.proofs.lemmas.Bool.Decides.{nat_tests}
 
 pub held_are_safe : (c : Counts) (w : EpochState) → IsSound c w → HeldAreSafe w
@@ -29,17 +34,20 @@ may_leave c w e sound s r y at later passed =
     }
 
 -- what is in the own limbo after a collect isn't old
-collected_young : (node : Bool) (r e y : ℕ) (x : Location) → collected node r e x ≡ Limbo r y → e < y + 2
-collected_young node r e y Fixed at = cc
-collected_young node r e y Live at = cc
-collected_young node r e y (Hand r') at = cc
-collected_young node r e y (Free r') at = cc
-collected_young node r e y (Worn r') at = cc
-collected_young true r e y (Limbo r' y') at = grind (arith, nat_tests)
-collected_young false r e y (Limbo r' y') at = grind (arith, nat_tests)
+collected_young : (r e y : ℕ) (x : Location) → collected true r e x ≡ Limbo r y → e < y + 2
+collected_young r e y Fixed at = cc
+collected_young r e y Live at = cc
+collected_young r e y (Hand r') at = cc
+collected_young r e y (Free r') at = cc
+collected_young r e y (Worn r') at = cc
+collected_young r e y (Limbo r' y') at = grind (arith, nat_tests)
 
 pub leaves_nothing_old : (c : Counts) → LeavesNothingOld c
-leaves_nothing_old c w r x n b s y = (λ at. collected_young _ r x y (w.location s) at, λ at. collected_young _ r (x + 1) y (w.location s) at)
+leaves_nothing_old c w r x n b s y lt =
+    let node : nat_lt s c.nodes ≡ true = grind (arith, nat_tests) in (
+      λ at. collected_young r x y (w.location s) (sym (ap (λ (i : Bool). collected i r x (w.location s)) node) ∙ at),
+      λ at. collected_young r (x + 1) y (w.location s) (sym (ap (λ (i : Bool). collected i r (x + 1) (w.location s)) node) ∙ at),
+    )
 
 -- a slot in use may be held by anybody
 in_use_kept : (x : Location) (g : ℕ) → is_in_use x ≡ true → IsKept x g
@@ -73,23 +81,53 @@ may_follow c w sound =
     }
 
 pub leaves_late : (c : Counts) → LeavesLate c
-leaves_late c w (EnterLoad q) sound ok s r y at left = absurd (left (grind arith))
-leaves_late c w (Announce q e) sound ok s r y at left = absurd (left (grind arith))
-leaves_late c w (EnterAgain q) sound ok s r y at left = absurd (left (grind arith))
-leaves_late c w (Exit q) sound ok s r y at left = absurd (left (grind arith))
-leaves_late c w (ScanEpoch q) sound ok s r y at left = absurd (left (grind arith))
-leaves_late c w (ScanOne q x n b) sound ok s r y at left = absurd (left (grind arith))
-leaves_late c w (ScanLast q x n b) sound ok s r y at left =
+leaves_late c w (EnterLoad q) sound ok s r y lt at left = absurd (left (grind arith))
+leaves_late c w (Announce q e) sound ok s r y lt at left = absurd (left (grind arith))
+leaves_late c w (EnterAgain q) sound ok s r y lt at left = absurd (left (grind arith))
+leaves_late c w (Exit q) sound ok s r y lt at left = absurd (left (grind arith))
+leaves_late c w (ScanEpoch q) sound ok s r y lt at left = absurd (left (grind arith))
+leaves_late c w (ScanOne q x n b) sound ok s r y lt at left = absurd (left (grind arith))
+leaves_late c w (ScanLast q x n b) sound ok s r y lt at left =
     may_leave c w (ScanLast q x n b) sound s r y at (λ r' isin. let least = sound.entered_least r' isin in grind arith) (grind arith)
-leaves_late c w (Advance q x n) sound ok s r y at left =
+leaves_late c w (Advance q x n) sound ok s r y lt at left =
     may_leave c w (Advance q x n) sound s r y at (λ r' isin. let least = sound.entered_least r' isin in grind arith) (grind arith)
-leaves_late c w (Test q t b) sound ok s r y at left = absurd (left (grind arith))
-leaves_late c w (TakeSlot q t) sound ok s r y at left = absurd (left (grind arith))
-leaves_late c w (MakeCommit q d k t b) sound ok s r y at left = absurd (left (grind arith))
-leaves_late c w (RetireEpoch q d k t) sound ok s r y at left = absurd (left (grind arith))
-leaves_late c w (RetireCommit q) sound ok s r y at left = absurd (left (grind arith))
-leaves_late c w (WordCommit q d k v) sound ok s r y at left = absurd (left (grind arith))
-leaves_late c w (StoreLog q d k v) sound ok s r y at left = absurd (left (grind arith))
-leaves_late c w (Reach q t) sound ok s r y at left = absurd (left (grind arith))
-leaves_late c w (Publish q d roles) sound ok s r y at left = absurd (left (grind arith))
-leaves_late c w (RetireDescriptor q d) sound ok s r y at left = absurd (left (grind arith))
+leaves_late c w (Test q t b) sound ok s r y lt at left = absurd (left (grind arith))
+leaves_late c w (TakeSlot q t) sound ok s r y lt at left = absurd (left (grind arith))
+leaves_late c w (MakeCommit q d k t b) sound ok s r y lt at left = absurd (left (grind arith))
+leaves_late c w (RetireEpoch q d k t) sound ok s r y lt at left = absurd (left (grind arith))
+leaves_late c w (RetireCommit q) sound ok s r y lt at left = absurd (left (grind arith))
+leaves_late c w (WordCommit q d k v) sound ok s r y lt at left = absurd (left (grind arith))
+leaves_late c w (StoreLog q d k v) sound ok s r y lt at left = absurd (left (grind arith))
+leaves_late c w (Reach q t) sound ok s r y lt at left = absurd (left (grind arith))
+leaves_late c w (Publish q d roles) sound ok s r y lt at left = absurd (left (grind arith))
+leaves_late c w (RetireDescriptor q d) sound ok s r y lt at left = absurd (left (grind arith))
+leaves_late c w (Unguard q) sound ok s r y lt at left = absurd (left at)
+leaves_late c w (Sweep q ds) sound ok s r y lt at left = absurd (left (swept_not (is_among c ds s) q (w.location s) (not_among c ds s lt) ∙ at))
+
+-- an event that leaves every descriptor in limbo there
+stays_there : (c : Counts) (w : EpochState) (e : Event) (d r y : ℕ) → w.location (slot_of c d) ≡ Limbo r y
+    → (after c w e).location (slot_of c d) ≡ w.location (slot_of c d) → (after c w e).location (slot_of c d) ≢ Limbo r y → (q : ℕ) → w.holds q (slot_of c d) ≡ false
+stays_there c w e d r y at same left q = absurd (left (same ∙ at))
+
+pub leaves_unheld : (c : Counts) → LeavesUnheld c
+leaves_unheld c w (ScanLast q x n b) sound ok d r y at left = stays_there c w (ScanLast q x n b) d r y at (descriptor_kept c w.location q x d) left
+leaves_unheld c w (Advance q x n) sound ok d r y at left = stays_there c w (Advance q x n) d r y at (descriptor_kept c w.location q (x + 1) d) left
+leaves_unheld c w (Test q t b) sound ok d r y at left = let node = sound.for_nodes t (grind arith) in stays_there c w (Test q t b) d r y at (grind arith) left
+leaves_unheld c w (TakeSlot q t) sound ok d r y at left = stays_there c w (TakeSlot q t) d r y at (grind arith) left
+leaves_unheld c w (MakeCommit q d' k t b) sound ok d r y at left =
+    let node = sound.for_nodes t (grind arith) in stays_there c w (MakeCommit q d' k t b) d r y at (grind arith) left
+leaves_unheld c w (RetireCommit q) sound ok d r y at left =
+    let node = sound.retire_node q ok in stays_there c w (RetireCommit q) d r y at (grind arith) left
+leaves_unheld c w (Publish q d' roles) sound ok d r y at left = absurd (left (grind arith))
+leaves_unheld c w (RetireDescriptor q d') sound ok d r y at left = absurd (left (grind arith))
+leaves_unheld c w (Sweep q ds) sound ok d r y at left = λ p. by (ds d) refl p
+  where
+    here : (b : Bool) → ds d ≡ b → (after c w (Sweep q ds)).location (slot_of c d) ≡ swept b q (Limbo r y)
+    here b e = ap (λ (i : Bool). swept i q (w.location (slot_of c d))) (among_is c ds d ∙ e) ∙ ap (swept b q) at
+
+    by : (b : Bool) → ds d ≡ b → (p : ℕ) → w.holds p (slot_of c d) ≡ false
+    by true e p = dite (ℕ_discrete r q)
+        (λ own. ok d e y p (at ∙ ap (λ n. Limbo n y) own))
+        (λ other. absurd (left (here true e ∙ (let same : swept true q (Limbo r y) ≡ Limbo r y = grind arith in same))))
+    by false e p = absurd (left (here false e ∙ swept_not false q (Limbo r y) refl))
+leaves_unheld c w e sound ok d r y at left = stays_there c w e d r y at refl left

@@ -28,7 +28,7 @@ starts c =
             worn = λ r s lt. grind arith;
             limbo = λ r s y lt. grind arith;
             free_descriptors = λ r d lt. let once = times-below d c.descriptors lt in grind arith;
-            limbo_descriptors = λ r d y lt. grind arith;
+            limbo_descriptors = λ r d lt. grind arith;
             hand_nodes = λ r s ge. grind arith;
             free_nodes = λ r s ge. let none = times-above s c.nodes ge in grind arith;
             worn_nodes = λ r s ge. grind arith;

@@ -1,6 +1,7 @@
 -- How often a number stands in a list that changes.
 use Rattle.std.proofs.Common.{◌≡◌, ℕ, ◌+◌, cond, List, [], ◌∷◌, ◌++◌, refl, arith}
-use Rattle.std.specs.Prelude.{◌==◌}
+use Rattle.std.specs.Prelude.{◌==◌, Bool}
+use Rattle.std.specs.List.{filter}
 use mathlib.Core.Logic.{dite}
 use native.Mathlib.Decide.{ℕ_discrete}
 use Rattle.epoch_core.specs.Moves.{is_old}
@@ -37,3 +38,8 @@ times-old_one s y0 e (x ∷ xs) one =
     (λ same. let here = one x.epoch in
     let rest = times-old_none s e xs (λ y. let h = one y in grind arith) in grind arith)
     (λ other. let rest = times-old_one s y0 e xs (λ y. let h = one y in grind arith) in grind arith)
+
+-- of a list that is filtered by a test
+pub times-filter : (s : ℕ) (test : ℕ → Bool) (xs : List ℕ) → times s (filter test xs) ≡ cond (test s) (times s xs) 0
+times-filter s test [] = grind arith
+times-filter s test (x ∷ xs) = let rest = times-filter s test xs in grind arith

@@ -1,11 +1,11 @@
 -- The events of epochs and slots, when each may come, and the state after it.
-use Rattle.std.specs.Prelude.{ℕ, suc, ◌+◌, ◌<◌, ◌≤◌, ◌≡◌, Bool, true, false, ◌&&◌, ◌||◌, nat_lt}
+use Rattle.std.specs.Prelude.{ℕ, suc, ◌+◌, ◌<◌, ◌≤◌, ◌≡◌, Bool, true, false, ◌&&◌, ◌||◌, ◌-◌, nat_lt, nat_le}
 use Rattle.epoch_core.specs.declared.stage.Stage.TheVariants.{Idle, Loaded, Announced, Entered, Scanning}
 use Rattle.epoch_core.specs.declared.location.Location.{Location}
 use Rattle.epoch_core.specs.declared.location.Location.TheVariants.{Live, Hand, Free, Limbo}
 use Rattle.epoch_core.specs.Update.{upd, upd2, upd_row}
 use Rattle.epoch_core.specs.State.{Counts, Role, Agrees, Makes, Retires, EpochState, last_epoch, is_entered, IsPending, MayHold, no_retire}
-use Rattle.epoch_core.specs.Moves.{is_clear, is_over, advanced, tested, collected, written_once, made, retired}
+use Rattle.epoch_core.specs.Moves.{is_clear, is_over, advanced, tested, collected, swept, written_once, made, retired}
 
 -- what may happen; `r` is the runner, `d` a descriptor, `index` a place in its log
 pub data Event : Type 0 where
@@ -35,6 +35,9 @@ pub data Event : Type 0 where
   -- a section is published in an own free descriptor; a published descriptor is retired
   Publish : (r d : ℕ) (roles : ℕ → Role) → Event
   RetireDescriptor : (r d : ℕ) → Event
+  -- a runner holds no descriptor any more; at the end of its sweep those of these that are in its limbo are free
+  Unguard : (r : ℕ) → Event
+  Sweep : (r : ℕ) (descriptors : ℕ → Bool) → Event
 
 module _ (c : Counts) where
   -- the slot number of a descriptor
@@ -44,6 +47,10 @@ module _ (c : Counts) where
   -- the slots after this runner has collected for this epoch
   abbrev pub after_collect : (ℕ → Location) → ℕ → ℕ → ℕ → Location
   after_collect location r epoch s = collected (nat_lt s c.nodes) r epoch (location s)
+
+  -- this slot is one of these descriptors
+  abbrev pub is_among : (ℕ → Bool) → ℕ → Bool
+  is_among descriptors s = nat_le c.nodes s && descriptors (s - c.nodes)
 
   -- the state after an event
   abbrev pub after : EpochState → Event → EpochState
@@ -87,6 +94,12 @@ module _ (c : Counts) where
     role = upd_row w.role d roles;
   }
   after w (RetireDescriptor r d) = record w { location = upd w.location (slot_of d) (Limbo r w.epoch) }
+  after w (Unguard r) = record w { holds = upd_row w.holds r (λ s. w.holds r s && nat_lt s c.nodes) }
+  after w (Sweep r descriptors) = record w { location = λ s. swept (is_among descriptors s) r (w.location s) }
+
+  -- nobody holds this descriptor, if it is in this runner's limbo
+  abbrev pub MayFree : EpochState → ℕ → ℕ → Type 0
+  MayFree w r d = (y q : ℕ) → w.location (slot_of d) ≡ Limbo r y → w.holds q (slot_of d) ≡ false
 
   -- when an event may come; what it asks for beside the runner's stage is what the machine supplies
   abbrev pub Enabled : EpochState → Event → Type 0
@@ -115,3 +128,5 @@ module _ (c : Counts) where
   Enabled w (Publish r d roles) =
       (is_entered (w.stage r) ≡ true) × (w.location (slot_of d) ≡ Free r) × ((k : ℕ) → w.log d k ≡ 0)
   Enabled w (RetireDescriptor r d) = (is_entered (w.stage r) ≡ true) × (w.location (slot_of d) ≡ Live)
+  Enabled w (Unguard r) = (w.retire r).loaded ≡ false
+  Enabled w (Sweep r descriptors) = (d : ℕ) → descriptors d ≡ true → MayFree w r d

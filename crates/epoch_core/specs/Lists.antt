@@ -7,7 +7,7 @@ use Rattle.epoch_core.specs.declared.location.Location.TheVariants.{Fixed, Live,
 use Rattle.epoch_core.specs.Update.{upd}
 use Rattle.epoch_core.specs.Moves.{is_old}
 use Rattle.epoch_core.specs.State.{Counts, EpochState}
-use Rattle.epoch_core.specs.Events.{Event, ScanLast, Advance, Test, TakeSlot, MakeCommit, RetireCommit, Publish, RetireDescriptor, after, slot_of}
+use Rattle.epoch_core.specs.Events.{Event, ScanLast, Advance, Test, TakeSlot, MakeCommit, RetireCommit, Publish, RetireDescriptor, Sweep, after, slot_of}
 
 -- a slot in limbo, with the epoch of its retirement
 pub record Entry : Type 0 where
@@ -21,7 +21,7 @@ pub record Lists : Type 0 where
   pub worn : List ℕ
   pub limbo : List Entry
   pub free_descriptors : List ℕ
-  pub limbo_descriptors : List Entry
+  pub limbo_descriptors : List ℕ
 
 -- the list without this number
 abbrev pub without : List ℕ → ℕ → List ℕ
@@ -40,8 +40,13 @@ abbrev pub collect_lists : ℕ → Lists → Lists
 collect_lists epoch l = record l {
   hand = l.hand ++ old_slots epoch l.limbo;
   limbo = young epoch l.limbo;
-  free_descriptors = l.free_descriptors ++ old_slots epoch l.limbo_descriptors;
-  limbo_descriptors = young epoch l.limbo_descriptors;
+}
+
+-- after a sweep that frees the descriptors which pass the test
+abbrev pub swept_lists : (ℕ → Bool) → Lists → Lists
+swept_lists test l = record l {
+  free_descriptors = l.free_descriptors ++ filter test l.limbo_descriptors;
+  limbo_descriptors = filter (λ d. not (test d)) l.limbo_descriptors;
 }
 
 -- a slot in the hand comes back to the free list, or to the worn list
@@ -69,7 +74,8 @@ listed w l (RetireCommit r) =
     let x = w.retire r in upd l r (retired_lists (w.log x.descriptor x.index) x.slot x.epoch (l r))
 listed w l (Publish r d roles) = upd l r (record (l r) { free_descriptors = without (l r).free_descriptors d })
 listed w l (RetireDescriptor r d) =
-    upd l r (record (l r) { limbo_descriptors = (l r).limbo_descriptors ++ record { slot = d; epoch = w.epoch } ∷ [] })
+    upd l r (record (l r) { limbo_descriptors = (l r).limbo_descriptors ++ d ∷ [] })
+listed w l (Sweep r descriptors) = upd l r (swept_lists descriptors (l r))
 listed w l _ = l
 
 -- how often a number stands in a list
@@ -118,6 +124,15 @@ in_limbo r y (Hand r') = 0
 in_limbo r y (Free r') = 0
 in_limbo r y (Worn r') = 0
 
+-- the same, with whatever epoch
+abbrev pub in_any_limbo : ℕ → Location → ℕ
+in_any_limbo r (Limbo r' y') = cond (r' == r) 1 0
+in_any_limbo r Fixed = 0
+in_any_limbo r Live = 0
+in_any_limbo r (Hand r') = 0
+in_any_limbo r (Free r') = 0
+in_any_limbo r (Worn r') = 0
+
 module _ (c : Counts) where
   -- each node slot and each descriptor stands once in the list that its location names, and in no other; a
   -- runner's lists of node slots have node slots alone
@@ -128,8 +143,8 @@ module _ (c : Counts) where
     pub limbo : (r s y : ℕ) → s < c.nodes → times_retired s y (l r).limbo ≡ in_limbo r y (w.location s)
     pub free_descriptors : (r d : ℕ) → d < c.descriptors
         → times d (l r).free_descriptors ≡ in_free r (w.location (slot_of c d))
-    pub limbo_descriptors : (r d y : ℕ) → d < c.descriptors
-        → times_retired d y (l r).limbo_descriptors ≡ in_limbo r y (w.location (slot_of c d))
+    pub limbo_descriptors : (r d : ℕ) → d < c.descriptors
+        → times d (l r).limbo_descriptors ≡ in_any_limbo r (w.location (slot_of c d))
     pub hand_nodes : (r s : ℕ) → c.nodes ≤ s → times s (l r).hand ≡ 0
     pub free_nodes : (r s : ℕ) → c.nodes ≤ s → times s (l r).free ≡ 0
     pub worn_nodes : (r s : ℕ) → c.nodes ≤ s → times s (l r).worn ≡ 0

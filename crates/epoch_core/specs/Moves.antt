@@ -20,25 +20,29 @@ advanced found epoch = cond (found == epoch) (epoch + 1) found
 abbrev pub is_old : ℕ → ℕ → Bool
 is_old retired epoch = nat_le (retired + 2) epoch
 
--- a slot is in the hand to be tested for worn cells, or is free
-abbrev pub back : Bool → ℕ → Location
-back true r = Hand r
-back false r = Free r
-
 -- a tested slot is free again, or worn
 abbrev pub tested : Bool → ℕ → Location
 tested true r = Worn r
 tested false r = Free r
 
--- where a slot is after this runner has collected for this epoch: node slots go to the hand, descriptors to
--- the free list
+-- where a slot is after this runner has collected for this epoch: a node slot goes to the hand, to be tested for worn
+-- cells; a descriptor stays
 abbrev pub collected : Bool → ℕ → ℕ → Location → Location
-collected node r epoch (Limbo r' y) = cond (r' == r && is_old y epoch) (back node r) (Limbo r' y)
+collected node r epoch (Limbo r' y) = cond (node && (r' == r && is_old y epoch)) (Hand r) (Limbo r' y)
 collected node r epoch Fixed = Fixed
 collected node r epoch Live = Live
 collected node r epoch (Hand r') = Hand r'
 collected node r epoch (Free r') = Free r'
 collected node r epoch (Worn r') = Worn r'
+
+-- where a slot is after this runner's sweep, if that frees it where it is in the runner's limbo
+abbrev pub swept : Bool → ℕ → Location → Location
+swept frees r (Limbo r' y) = cond (r' == r && frees) (Free r) (Limbo r' y)
+swept frees r Fixed = Fixed
+swept frees r Live = Live
+swept frees r (Hand r') = Hand r'
+swept frees r (Free r') = Free r'
+swept frees r (Worn r') = Worn r'
 
 -- a log word is written once: the word that stood there, or else the proposal
 abbrev pub written_once : ℕ → ℕ → ℕ

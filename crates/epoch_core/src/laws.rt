@@ -9,7 +9,7 @@ ghost use Rattle.epoch_core.specs.Lists.{Lists, IsListed, listed_all};
 ghost use Rattle.epoch_core.specs.Starts.{Starts};
 ghost use Rattle.epoch_core.specs.Round.{ComesRound};
 ghost use Rattle.epoch_core.specs.Frame.{IsSame};
-ghost use Rattle.epoch_core.specs.Reuse.{HeldAreSafe, LeavesLate, LeavesNothingOld};
+ghost use Rattle.epoch_core.specs.Reuse.{HeldAreSafe, LeavesLate, LeavesUnheld, LeavesNothingOld};
 ghost use Rattle.epoch_core.specs.Follows.{MayFollow};
 ghost use Rattle.epoch_core.specs.Commits.{MakeGoesOn, RetireGoesOn};
 ghost use Rattle.epoch_core.specs.History.{History, no_history, noted, noted_all, IsExact, Lasts};
@@ -57,10 +57,12 @@ pub fn held_slots_are_safe()
         → AllEnabled c (first_state location) es → HeldAreSafe (after_all c (first_state location) es) }
 {}
 
-/// A retired slot leaves limbo only when two epochs have passed, nobody holds it, and whoever is entered
-/// came later. The end of a scan takes every such slot from the runner's own limbo.
+/// A retired node slot leaves limbo only when two epochs have passed, nobody holds it, and whoever is entered
+/// came later; a descriptor only where nobody holds it. The end of a scan takes every such node slot from the
+/// runner's own limbo.
 pub fn slots_leave_limbo_late()
     ensures late { (c : Counts) → LeavesLate c }
+    ensures unheld { (c : Counts) → LeavesUnheld c }
     ensures all_old { (c : Counts) → LeavesNothingOld c }
 {}
 

@@ -23,8 +23,8 @@ pub enum Location {
 impl Location {
     ghost use Rattle.epoch_core.specs.Moves.{collected, made, retired};
 
-    /// Where the slot is after this runner has collected for this epoch. What was retired two epochs before
-    /// it leaves the runner's own limbo: a node slot to the hand, a descriptor to the free list.
+    /// Where the slot is after this runner has collected for this epoch. A node slot that was retired two epochs before
+    /// it leaves the runner's own limbo, to the hand; a descriptor stays.
     pub fn collected(self, is_node: bool, runner: u32, epoch: u64) -> Location
         ensures { result ≡ collected is_node runner epoch self }
     {
@@ -32,13 +32,7 @@ impl Location {
             Location::Limbo {
                 runner: owner,
                 epoch: retired,
-            } if owner == runner && is_old(retired, epoch) => {
-                if is_node {
-                    Location::Hand(runner)
-                } else {
-                    Location::Free(runner)
-                }
-            }
+            } if is_node && owner == runner && is_old(retired, epoch) => Location::Hand(runner),
             other => other,
         }
     }

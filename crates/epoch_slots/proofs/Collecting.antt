@@ -8,7 +8,7 @@ use Rattle.machine_states.specs.structure_laws.specs.Laws.{Laws}
 use Rattle.machine_states.specs.runner_parts.specs.declared.event.EventKind.TheVariants.{ScanOne}
 use Rattle.machine_states.specs.runner_parts.specs.State.{PartState, NodesState}
 use Rattle.machine_states.specs.runner_parts.specs.Tests.{has}
-use Rattle.machine_states.specs.runner_parts.specs.Lists.{is_old, slots_of, nodes_collected, descriptors_collected}
+use Rattle.machine_states.specs.runner_parts.specs.Lists.{is_old, slots_of, nodes_collected}
 use Rattle.machine_states.specs.epoch_core.specs.State.{last_epoch}
 use Rattle.machine_states.specs.epoch_core.specs.Moves.{is_clear}
 use Rattle.machine_states.specs.epoch_core.specs.Lists.{times}
@@ -94,7 +94,8 @@ module _ {T : Type 0} (m : Meaning) (runners epoch : ℕ) (clear : Bool) (old a 
             (ap (λ still. still && is_clear epoch ends.found) scanned.told ∙ sym (clear_more epoch scanned.found ends.found)) ends.advances;
         tested = subst (λ xs. AreTested m xs back.wears b c) (all ∙ hand_out) back.tested;
         nodes = nodes;
-        descriptors = back.rest.descriptors ∙ (ends.descriptors ∙ ap (descriptors_collected ends.reached) scanned.keeps.descriptors);
+        descriptors = back.rest.descriptors ∙ (ends.descriptors ∙ scanned.keeps.descriptors);
+        guards = back.rest.guards ∙ (ends.guards ∙ scanned.guards);
         tidy = record { at = back.at; hand = ap (λ (n : NodesState). n.hand) nodes; tests = ap (λ (n : NodesState). n.tests) nodes };
         number = back.rest.number ∙ (ends.number ∙ scanned.keeps.number);
         known = back.rest.known ∙ (ends.known ∙ scanned.keeps.known);

@@ -2,3 +2,4 @@ pub mod Outside
 mod Scanning
 mod Looking
 mod Collecting
+mod Sweeping

@@ -27,7 +27,7 @@ use Rattle.version_words.specs.Stages.{IsAt}
 use Rattle.version_words.proofs.Stages.{enabled, then_loaded_word}
 use Rattle.epoch_slots.specs.Collects.{unworn, worn_out, Looks, IsTested, AreTested}
 use Rattle.epoch_slots.specs.Hands.{looked, given_back, IsLookedAt, HandIsOwn, IsBack}
-use Rattle.epoch_slots.proofs.Outside.{nodes_made, descriptors_made, known_made, finished_made}
+use Rattle.epoch_slots.proofs.Outside.{nodes_made, descriptors_made, guards_made, known_made, finished_made}
 
 -- one test that is kept
 test_here : (slot cells : ℕ) (worn : Bool) → test_of (record { slot = slot; cells = cells; worn = worn } ∷ []) slot ≡ record { slot = slot; cells = cells; worn = worn }
@@ -127,7 +127,7 @@ module _ {T : Type 0} (m : Meaning) where
     looks = refl;
     nodes = refl;
     at = at;
-    rest = record { number = refl; layout = refl; descriptors = refl; known = refl; finished = refl };
+    rest = record { number = refl; layout = refl; descriptors = refl; guards = refl; known = refl; finished = refl };
   }
 
   module _ (old r : RunnerState T) (slot cell : ℕ) (so : IsLookedAt m slot cell old r) (few : cell < 5) (hand : has old.part.nodes.hand slot ≡ true) (none : old.part.nodes.tests ≡ []) where
@@ -175,6 +175,7 @@ module _ {T : Type 0} (m : Meaning) where
             number = ap (λ (y : RunnerState T). y.number) made.made ∙ so.rest.number;
             layout = ap (λ (y : RunnerState T). y.layout) made.made ∙ so.rest.layout;
             descriptors = descriptors_made m (kinds.PrivateLoad slot cell) word r r' made resting ∙ (ap (λ (p : PartState). p.descriptors) part ∙ so.rest.descriptors);
+            guards = guards_made m (kinds.PrivateLoad slot cell) word r r' made resting ∙ (ap (λ (p : PartState). p.guards) part ∙ so.rest.guards);
             known = known_made m (kinds.PrivateLoad slot cell) word r r' made resting ∙ (ap (λ (p : PartState). p.records.known) part ∙ so.rest.known);
             finished = finished_made m (kinds.PrivateLoad slot cell) word r r' made resting ∙ (ap (λ (p : PartState). p.records.finished) part ∙ so.rest.finished);
           };
@@ -289,7 +290,7 @@ module _ {T : Type 0} (m : Meaning) where
     tested = (refl, refl);
     nodes = (λ i. record (r.part.nodes) { free = sym (append-nil r.part.nodes.free) i; worn = sym (append-nil r.part.nodes.worn) i });
     at = at;
-    rest = record { number = refl; layout = refl; descriptors = refl; known = refl; finished = refl };
+    rest = record { number = refl; layout = refl; descriptors = refl; guards = refl; known = refl; finished = refl };
   }
 
   module _ (old r : RunnerState T) (count : ℕ) (so : IsBack m count old r) (few : count < length old.part.nodes.hand) (none : old.part.nodes.tests ≡ []) (own : HandIsOwn m old) where
@@ -334,6 +335,7 @@ module _ {T : Type 0} (m : Meaning) where
             number = one.rest.number ∙ so.rest.number;
             layout = one.rest.layout ∙ so.rest.layout;
             descriptors = one.rest.descriptors ∙ so.rest.descriptors;
+            guards = one.rest.guards ∙ so.rest.guards;
             known = one.rest.known ∙ so.rest.known;
             finished = one.rest.finished ∙ so.rest.finished;
           };

@@ -19,6 +19,9 @@ module _ {T : Type 0} (m : Meaning) (k : EventKind) (found : ℕ) (r r' : Runner
   descriptors_made = ap (λ (y : RunnerState T). y.part.descriptors) made.made
       ∙ ap (λ (o : Option RunState). (after_by m r.layout k r.part o found).descriptors) resting
 
+  pub guards_made : r'.part.guards ≡ next.guards
+  guards_made = ap (λ (y : RunnerState T). y.part.guards) made.made ∙ ap (λ (o : Option RunState). (after_by m r.layout k r.part o found).guards) resting
+
   pub reads_made : r'.part.reads ≡ next.reads
   reads_made = ap (λ (y : RunnerState T). y.part.reads) made.made ∙ ap (λ (o : Option RunState). (after_by m r.layout k r.part o found).reads) resting
 

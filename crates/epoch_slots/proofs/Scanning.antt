@@ -11,16 +11,16 @@ use Rattle.machine_states.specs.runner_parts.specs.declared.event.EventKind.TheV
 use Rattle.machine_states.specs.epoch_core.specs.declared.stage.Stage.{Stage}
 use Rattle.machine_states.specs.epoch_core.specs.declared.stage.Stage.TheVariants as stages
 use Rattle.machine_states.specs.runner_parts.specs.State.{PartState}
-use Rattle.machine_states.specs.runner_parts.specs.Lists.{nodes_collected, descriptors_collected}
+use Rattle.machine_states.specs.runner_parts.specs.Lists.{nodes_collected}
 use Rattle.machine_states.specs.epoch_core.specs.State.{last_epoch}
 use Rattle.machine_states.specs.runner_steps.specs.AfterOutside.{collected, with_stage, scan_one_after, advance_after}
 use Rattle.version_words.specs.RunnerState.{RunnerState}
 use Rattle.version_words.specs.TableState.{TableState, IsOf}
 use Rattle.version_words.specs.Events.{IsEnabled, Makes, Tries}
 use Rattle.version_words.specs.Stages.{IsAt}
-use Rattle.version_words.proofs.Stages.{may_scan_one, may_advance, then_scanned, then_advanced, scanned_on, scanned_over, scanned_more}
+use Rattle.version_words.proofs.Stages.{may_scan_one, may_advance, then_scanning, then_scanned, then_advanced, scanned_on, scanned_over, scanned_more}
 use Rattle.epoch_slots.specs.Collects.{Scans, Advances, HasScanned, EndsScan}
-use Rattle.epoch_slots.proofs.Outside.{nodes_made, descriptors_made, known_made, finished_made, own_kept, own_kept_on}
+use Rattle.epoch_slots.proofs.Outside.{nodes_made, descriptors_made, guards_made, known_made, finished_made, own_kept, own_kept_on}
 
 -- what one more announcement makes of a part
 module _ (l : Layout) (p : PartState) (epoch next : ℕ) (clear : Bool) (found : ℕ) where
@@ -63,6 +63,20 @@ module _ {T : Type 0} (m : Meaning) where
   scans_more (x ∷ found) next word r s r' (y, one, rest) made =
       (y, one, scans_more found (next + 1) word y s r' rest (subst (λ n. Makes m (kinds.ScanOne n) word s r') (let e : next + suc (length found) ≡ next + 1 + length found = omega arith in e) made))
 
+  -- the epoch alone was loaded
+  pub has_begun : (epoch : ℕ) (r r' : RunnerState T) → Makes m kinds.ScanEpoch epoch r r' → IsAt r stages.Idle None → HasScanned m 0 epoch true r r'
+  has_begun epoch r r' made at = record {
+    begun = r';
+    found = [];
+    load = made;
+    scans = refl;
+    each = refl;
+    told = refl;
+    at = then_scanning m epoch r r' None made at;
+    guards = guards_made m kinds.ScanEpoch epoch r r' made at.resting;
+    keeps = own_kept m kinds.ScanEpoch epoch r r' made at.resting refl refl refl;
+  }
+
   module _ (t : TableState T) (old r : RunnerState T) (own : IsOf t r) (epoch next : ℕ) (clear : Bool) where
     as_wide : r.layout.runners ≡ t.layout.runners
     as_wide = ap (λ (l : Layout). l.runners) own.layout
@@ -85,6 +99,7 @@ module _ {T : Type 0} (m : Meaning) where
             each = length-append so.found (found ∷ []) ∙ (let e = so.each in omega (arith, e));
             told = ap (λ b. b && is_clear epoch found) so.told ∙ sym (clear_more epoch so.found found);
             at = subst (λ (y : Stage). IsAt r' y None) (scanned_more r.layout epoch next clear found low) (then_scanned m found r r' None epoch next clear made so.at (omega (arith, low)));
+            guards = guards_made m (kinds.ScanOne next) found r r' made so.at.resting ∙ (ap (λ (p : PartState). p.guards) part ∙ so.guards);
             keeps = own_kept_on old r r' so.keeps (own_kept m (kinds.ScanOne next) found r r' made so.at.resting
                 (ap (λ (p : PartState). p.nodes) part) (ap (λ (p : PartState). p.descriptors) part) (ap (λ (p : PartState). p.records) part));
           }
@@ -105,6 +120,7 @@ module _ {T : Type 0} (m : Meaning) where
               advances = subst (λ b. Advances m epoch b epoch r' r') (sym over) (refl, refl);
               nodes = nodes_made m (kinds.ScanOne next) found r r' made at.resting ∙ ap (λ (p : PartState). p.nodes) part;
               descriptors = descriptors_made m (kinds.ScanOne next) found r r' made at.resting ∙ ap (λ (p : PartState). p.descriptors) part;
+              guards = guards_made m (kinds.ScanOne next) found r r' made at.resting ∙ ap (λ (p : PartState). p.guards) part;
               at = subst (λ (y : Stage). IsAt r' y None) (scanned_over r.layout epoch next clear found here over) (then_scanned m found r r' None epoch next clear made at (omega (arith, here)));
               number = ap (λ (y : RunnerState T). y.number) made.made;
               known = known_made m (kinds.ScanOne next) found r r' made at.resting ∙ ap (λ (p : PartState). p.records.known) part;
@@ -138,7 +154,9 @@ module _ {T : Type 0} (m : Meaning) where
                 nodes = nodes_made m kinds.Advance tried.found r' r'' tried.event past.resting ∙ (ap (λ (p : PartState). p.nodes) over
                     ∙ ap (nodes_collected (epoch + 1)) (nodes_made m (kinds.ScanOne next) found r r' made at.resting ∙ ap (λ (p : PartState). p.nodes) part));
                 descriptors = descriptors_made m kinds.Advance tried.found r' r'' tried.event past.resting ∙ (ap (λ (p : PartState). p.descriptors) over
-                    ∙ ap (descriptors_collected (epoch + 1)) (descriptors_made m (kinds.ScanOne next) found r r' made at.resting ∙ ap (λ (p : PartState). p.descriptors) part));
+                    ∙ (descriptors_made m (kinds.ScanOne next) found r r' made at.resting ∙ ap (λ (p : PartState). p.descriptors) part));
+                guards = guards_made m kinds.Advance tried.found r' r'' tried.event past.resting ∙ (ap (λ (p : PartState). p.guards) over
+                    ∙ (guards_made m (kinds.ScanOne next) found r r' made at.resting ∙ ap (λ (p : PartState). p.guards) part));
                 at = then_advanced m tried.found r' r'' None epoch (next + 1) tried.event past low;
                 number = ap (λ (y : RunnerState T). y.number) tried.event.made ∙ ap (λ (y : RunnerState T). y.number) made.made;
                 known = known_made m kinds.Advance tried.found r' r'' tried.event past.resting ∙ (ap (λ (p : PartState). p.records.known) over

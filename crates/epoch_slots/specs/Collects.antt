@@ -6,7 +6,7 @@ use Rattle.machine_states.specs.structure_laws.specs.Meaning.{Meaning}
 use Rattle.machine_states.specs.runner_parts.specs.declared.event.EventKind.TheVariants as kinds
 use Rattle.machine_states.specs.epoch_core.specs.declared.stage.Stage.TheVariants as stages
 use Rattle.machine_states.specs.runner_parts.specs.State.{NodesState}
-use Rattle.machine_states.specs.runner_parts.specs.Lists.{is_old, slots_of, nodes_collected, descriptors_collected}
+use Rattle.machine_states.specs.runner_parts.specs.Lists.{is_old, slots_of, nodes_collected}
 use Rattle.machine_states.specs.epoch_core.specs.State.{last_epoch}
 use Rattle.machine_states.specs.epoch_core.specs.Moves.{is_clear}
 use Rattle.version_words.specs.RunnerState.{RunnerState}
@@ -91,10 +91,11 @@ module _ {T : Type 0} where
       pub each : length found ≡ runners
       pub told : clear ≡ list_all (is_clear epoch) found
       pub at : IsAt new (stages.Scanning epoch runners clear) None
+      pub guards : new.part.guards ≡ old.part.guards
       pub keeps : KeepsOwn old new
 
-    -- the last announcement is loaded, and the advance tried where it may be: what was retired two epochs
-    -- before the one reached leaves limbo
+    -- the last announcement is loaded, and the advance tried where it may be: the node slots that were retired two
+    -- epochs before the one reached leave limbo
     pub record EndsScan (last epoch : ℕ) (clear : Bool) (old new : RunnerState T) : Type 0 where
       pub found : ℕ
       pub reached : ℕ
@@ -102,7 +103,8 @@ module _ {T : Type 0} where
       pub scan : Makes m (kinds.ScanOne last) found old scanned
       pub advances : Advances epoch ((clear && is_clear epoch found) && nat_lt epoch last_epoch) reached scanned new
       pub nodes : new.part.nodes ≡ nodes_collected reached old.part.nodes
-      pub descriptors : new.part.descriptors ≡ descriptors_collected reached old.part.descriptors
+      pub descriptors : new.part.descriptors ≡ old.part.descriptors
+      pub guards : new.part.guards ≡ old.part.guards
       pub at : IsAt new stages.Idle None
       pub number : new.number ≡ old.number
       pub known : new.part.records.known ≡ old.part.records.known
@@ -110,8 +112,8 @@ module _ {T : Type 0} where
       pub shown : IsShown new
 
     -- one scan: the epoch is loaded, then every announcement; where each was idle or the epoch, and that
-    -- isn't the last one, one exchange takes the epoch on; what was retired two epochs before the one
-    -- reached leaves limbo, nothing else does, and each node slot that leaves is tested
+    -- isn't the last one, one exchange takes the epoch on; the node slots that were retired two epochs before
+    -- the one reached leave limbo, nothing else does, and each of them is tested
     pub record Collects (old new : RunnerState T) : Type 0 where
       pub epoch : ℕ
       pub found : List ℕ
@@ -126,7 +128,8 @@ module _ {T : Type 0} where
       pub advances : Advances epoch (list_all (is_clear epoch) found && nat_lt epoch last_epoch) reached scanned over
       pub tested : AreTested (slots_of (filter (is_old reached) old.part.nodes.limbo)) wears over new
       pub nodes : new.part.nodes ≡ come_back reached old.part.nodes wears
-      pub descriptors : new.part.descriptors ≡ descriptors_collected reached old.part.descriptors
+      pub descriptors : new.part.descriptors ≡ old.part.descriptors
+      pub guards : new.part.guards ≡ old.part.guards
       pub tidy : IsTidy new
       pub number : new.number ≡ old.number
       pub known : new.part.records.known ≡ old.part.records.known

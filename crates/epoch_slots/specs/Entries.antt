@@ -1,9 +1,9 @@
 -- Entering and leaving.
-use Rattle.std.specs.Prelude.{◌≡◌, ℕ, None}
+use Rattle.std.specs.Prelude.{◌≡◌, ℕ, [], None}
 use Rattle.machine_states.specs.structure_laws.specs.Meaning.{Meaning}
 use Rattle.machine_states.specs.runner_parts.specs.declared.event.EventKind.TheVariants as kinds
 use Rattle.machine_states.specs.epoch_core.specs.declared.stage.Stage.TheVariants as stages
-use Rattle.machine_states.specs.runner_parts.specs.Lists.{no_reads}
+use Rattle.machine_states.specs.runner_parts.specs.Lists.{no_reads, with_looked}
 use Rattle.version_words.specs.RunnerState.{RunnerState}
 use Rattle.version_words.specs.Events.{Makes, IsMade}
 use Rattle.version_words.specs.Stages.{IsAt}
@@ -17,13 +17,15 @@ module _ {T : Type 0} where
     pub known : new.part.records.known ≡ old.part.records.known
     pub finished : new.part.records.finished ≡ old.part.records.finished
 
-  -- the runner is entered, in no run, and has no section left to retire
+  -- the runner is entered, in no run, has no section left to run to its end, and its guard word names nothing
   pub record HasLeave (r : RunnerState T) : Type 0 where
     pub epoch : ℕ
     pub at : IsAt r (stages.Entered epoch) None
+    pub unguarded : r.part.guards.named ≡ None
 
   module _ (m : Meaning) where
-    -- an epoch is loaded and announced; the runner is entered with the one that is loaded then
+    -- an epoch is loaded and announced; the runner is entered with the one that is loaded then, and a sweep in progress
+    -- counts for nothing
     pub record Enters (old new : RunnerState T) : Type 0 where
       pub announced : ℕ
       pub epoch : ℕ
@@ -34,10 +36,12 @@ module _ {T : Type 0} where
       pub again : Makes m kinds.EnterAgain epoch waiting new
       pub at : IsAt new (stages.Entered epoch) None
       pub reads : new.part.reads ≡ no_reads
+      pub guards : new.part.guards ≡ with_looked old.part.guards []
       pub keeps : KeepsOwn old new
 
     -- the runner announces that it is idle
     pub record Exits (old new : RunnerState T) : Type 0 where
       pub announce : IsMade m kinds.Idle old new
       pub at : IsAt new stages.Idle None
+      pub guards : new.part.guards ≡ old.part.guards
       pub keeps : KeepsOwn old new

@@ -30,6 +30,7 @@ module _ {T : Type 0} where
     pub number : new.number ≡ old.number
     pub layout : new.layout ≡ old.layout
     pub descriptors : new.part.descriptors ≡ old.part.descriptors
+    pub guards : new.part.guards ≡ old.part.guards
     pub known : new.part.records.known ≡ old.part.records.known
     pub finished : new.part.records.finished ≡ old.part.records.finished
 

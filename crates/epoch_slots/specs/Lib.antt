@@ -2,3 +2,4 @@ pub mod Entries
 pub mod Reserves
 pub mod Collects
 pub mod Hands
+pub mod Sweeps

@@ -1,4 +1,4 @@
-//! The scan of the announcements, and what comes out of limbo.
+//! The scan of the announcements, and the node slots that come out of limbo.
 ghost use Rattle.std.specs.Prelude.{◌≡◌, ◌+◌, ◌<◌, ◌≤◌, ◌&&◌, nat_lt, length, None};
 ghost use Rattle.machine_states.specs.epoch_core.specs.declared.stage.Stage.TheVariants as stages;
 ghost use Rattle.machine_states.specs.epoch_core.specs.State.{last_epoch};
@@ -46,8 +46,8 @@ fn scan<S: Structure>(table: &FlockTable<S>, runner: Runner<S>) -> (Runner<S>, u
     (runner, epoch, clear)
 }
 
-/// Loads the last announcement, the keeper's, and tries the advance where it may. What has waited long
-/// enough is in the hand then, the descriptors among it in the free list.
+/// Loads the last announcement, the keeper's, and tries the advance where it may. The node slots that have waited long
+/// enough are in the hand then.
 fn finish<S: Structure>(
     table: &FlockTable<S>,
     runner: Runner<S>,
@@ -67,10 +67,10 @@ fn finish<S: Structure>(
     }
 }
 
-/// One scan of the announcements, and one try to take the epoch on, where every announcement was idle or
-/// the epoch. What was retired two epochs before the one that the scan reached leaves limbo, and nothing
-/// else does: descriptors go to the free list, and of a node slot the five cells are loaded, by which it
-/// goes to the free list or, where one is at the greatest version, to the worn list, in limbo's order.
+/// One scan of the announcements, and one try to take the epoch on, where every announcement was idle or the epoch. The
+/// node slots that were retired two epochs before the one that the scan reached leave limbo, and nothing else does: of
+/// each the five cells are loaded, by which it goes to the free list or, where one is at the greatest version, to the
+/// worn list, in limbo's order.
 ///
 /// The runner has to be idle with an empty hand. There is no refusal, and no memory is taken. It makes 2
 /// steps and one for each runner, one more where the advance is tried, and five for each node slot that

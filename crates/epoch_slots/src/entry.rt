@@ -27,8 +27,9 @@ pub fn enter<S: Structure>(table: &FlockTable<S>, runner: Runner<S>) -> Runner<S
 
 /// Leaves: announces that the runner is idle, in one atomic step.
 ///
-/// The runner has to be entered, in no run, and without a published section that it hasn't retired. There
-/// is no refusal, and no memory is taken.
+/// The runner has to be entered, in no run, and without a published section that it hasn't run to its end, and its
+/// guard word has to name nothing: so an idle runner keeps no descriptor from its owner. There is no refusal, and no
+/// memory is taken.
 pub fn exit<S: Structure>(table: &FlockTable<S>, runner: Runner<S>) -> Runner<S>
     requires own { IsOf table.now runner }
     requires entered { HasLeave runner }

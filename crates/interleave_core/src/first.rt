@@ -4,7 +4,7 @@ ghost use Rattle.machine_states.specs.table_words.specs.Limits.{IsWithinLimits};
 ghost use Rattle.machine_states.specs.First.{falling, first_part, keeper_part, worker_part, workers};
 
 use machine_states::epoch_core::Stage;
-use machine_states::runner_parts::{Descriptors, Nodes, Part, Reads, Records};
+use machine_states::runner_parts::{Descriptors, Guards, Nodes, Part, Reads, Records};
 use machine_states::structure_laws::Structure;
 use machine_states::table_words::Layout;
 use std::alloc::{AllocError, Global};
@@ -40,6 +40,11 @@ fn first_part(alloc: Global, nodes: Vec<u32>, descriptors: Vec<u32>) -> Part
             free: descriptors,
             stored: Vec::new(alloc),
             limbo: Vec::new(alloc),
+        },
+        guards: Guards {
+            named: None,
+            sure: false,
+            looked: Vec::new(alloc),
         },
         reads: Reads {
             walk: Vec::new(alloc),

@@ -4,7 +4,7 @@ ghost use Rattle.machine_states.specs.map_history.specs.Requests.{AreInOrder};
 ghost use Rattle.machine_states.specs.table_words.specs.Limits.{IsWithinLimits};
 ghost use Rattle.machine_states.specs.table_words.specs.Places.{size, address, Fits};
 ghost use Rattle.machine_states.specs.runner_steps.specs.After.{after, knows_also};
-ghost use Rattle.machine_states.specs.World.{happens, seat_of, settled_part, put_part};
+ghost use Rattle.machine_states.specs.World.{happens, left_by, seat_of, settled_part, put_part};
 ghost use Rattle.std.specs.List.{list_any};
 ghost use Rattle.machine_states.specs.runner_parts.specs.State.{PartState};
 ghost use Rattle.machine_states.specs.runner_parts.specs.Tests.{has};
@@ -143,18 +143,32 @@ fn settled_part(kind: &EventKind, next: Part, parts: &[Part]) -> Result<Part, Al
     }
 }
 
+/// The stepping runner's part in its place.
+fn set_part(parts: &mut Vec<Part>, seat: usize, next: Part)
+    requires { seat < vec_len parts.old }
+    ensures { parts.new.items ≡ slice_set parts.old.items seat next }
+{
+    parts[seat] = next;
+}
+
+/// The worker in this place, if there is one, makes no further step.
+fn leave_at(parts: &mut Vec<Part>, place: usize)
+    ensures { parts.new.items ≡ left_by parts.old.items place (slice_get parts.old.items place) }
+{
+    if place < parts.len() {
+        parts[place].gone = true;
+    }
+}
+
 /// The parts after an event, with the stepping runner's part in its place; a worker that was joined makes
 /// no further step.
 fn put_part(parts: &mut Vec<Part>, kind: &EventKind, seat: usize, next: Part)
     requires { seat < vec_len parts.old }
     ensures { parts.new.items ≡ put_part parts.old.items kind.now seat next }
 {
-    parts[seat] = next;
+    set_part(parts, seat, next);
     if let EventKind::Join(worker) = kind {
-        let joined = *worker as usize + 1;
-        if joined < parts.len() {
-            parts[joined].gone = true;
-        }
+        leave_at(parts, *worker as usize + 1);
     }
 }
 

@@ -10,6 +10,7 @@ use Rattle.machine_states.specs.table_words.specs.declared.spot.Spot.TheVariants
 use Rattle.machine_states.specs.table_words.specs.Places.{slot_count}
 use Rattle.machine_states.specs.map_history.specs.declared.op.Request.{Request}
 use Rattle.machine_states.specs.structure_laws.specs.Meaning.{Meaning}
+use Rattle.machine_states.specs.runner_parts.specs.declared.entries.Published.{Published}
 use Rattle.machine_states.specs.runner_parts.specs.declared.event.EventKind.{EventKind}
 use Rattle.machine_states.specs.runner_parts.specs.declared.event.EventKind.TheVariants as kinds
 use Rattle.machine_states.specs.runner_parts.specs.State.{RunState, PartState}
@@ -28,11 +29,10 @@ use Rattle.agreement_core.proofs.Lines.{exchange_unlocked}
 use Rattle.machine_states.specs.Sight.{Sight}
 use Rattle.machine_scenes.specs.Shown.{rules_of}
 use Rattle.runner_facts.specs.machine_facts.specs.machine_agreement.specs.Chunks as sections
-use Rattle.runner_facts.specs.machine_facts.specs.machine_agreement.specs.Supplied.{collects}
 use Rattle.runner_facts.specs.machine_facts.specs.machine_agreement.specs.Joined.{IsJoinedToAgreement, ShowsRun}
 use Rattle.runner_facts.specs.machine_facts.specs.machine_invariant.specs.Along.{Components, components_after, AreEventsOf}
 use Rattle.runner_facts.specs.machine_facts.specs.machine_invariant.proofs.Runs.{AllAre, passes_are, append_are}
-use Rattle.runner_facts.specs.machine_facts.proofs.Chunks.{collected_frees}
+use Rattle.runner_facts.specs.machine_facts.proofs.Chunks.{swept_frees}
 
 -- the word is as before, or free
 abbrev pub IsFreer : ℕ → ℕ → Type 0
@@ -133,31 +133,40 @@ module _ (m : Meaning) (l : Layout) (w : AgreementState) (r : ℕ) where
   is_nested_hold kinds.NestedHold = true
   is_nested_hold _ = false
 
-  line_un : (kind : EventKind) → is_nested_hold kind ≡ false → (q : RunState) (found : ℕ) (heads : List Event)
-      → sections.IsLineChunk m l w r kind q found heads → Un heads
-  line_un kinds.Commit is q found heads chunk =
+  -- the retirement of the own section holds nothing
+  retires_un : (o : Option Published) (d : ℕ) → Un (sections.retires_own o d)
+  retires_un None d = tt
+  retires_un (Some x) d = by (x.descriptor == d)
+    where
+      by : (b : Bool) → Un (if b then agreement.RetireDescriptor d ∷ [] else [])
+      by true = (refl, tt)
+      by false = tt
+
+  line_un : (kind : EventKind) → is_nested_hold kind ≡ false → (p : PartState) (q : RunState) (found : ℕ) (heads : List Event)
+      → sections.IsLineChunk m l w r kind p q found heads → Un heads
+  line_un kinds.Commit is p q found heads chunk =
       ⊎_elim (λ h. subst Un (sym h.1) (refl, tt)) (λ h. subst Un (sym h.1) (refl, tt)) chunk.2
-  line_un (kinds.LoadCell None) is q found heads chunk = subst Un (sym chunk.3) (refl, tt)
-  line_un kinds.ExchangeCell is q found heads chunk = subst Un (sym chunk.4) (refl, (refl, tt))
-  line_un (kinds.PrivateLoad slot cell) is q found heads chunk = subst Un (sym chunk.2) (refl, tt)
-  line_un (kinds.PrivateStore slot cell number) is q found heads chunk = subst Un (sym chunk.4) (refl, tt)
-  line_un kinds.MakeCommit is q found heads chunk = subst Un (sym chunk.4) (refl, tt)
-  line_un kinds.RetireCommit is q found heads chunk = subst Un (sym chunk.3) (refl, tt)
-  line_un kinds.EpochForRetire is q found heads chunk = subst Un (sym chunk.3) (refl, tt)
-  line_un kinds.NestedLoad is q found heads chunk = subst Un (sym chunk.3) (refl, tt)
-  line_un kinds.OutcomeLoad is q found heads chunk = subst Un (sym chunk.3) (refl, tt)
-  line_un kinds.ClockLoad is q found heads chunk = subst Un (sym chunk.1) (refl, tt)
-  line_un kinds.StampExchange is q found heads chunk = subst Un (sym chunk.1) (refl, tt)
-  line_un kinds.ClockRaise is q found heads chunk = subst Un (sym chunk.1) (refl, tt)
-  line_un kinds.ReplyExchange is q found heads chunk = subst Un (sym chunk.2) (refl, tt)
-  line_un kinds.NestedHold is q found heads chunk = absurd (let z = is in cc)
-  line_un kinds.OutcomeCommit is q found heads chunk = subst Un (sym chunk.3) (refl, tt)
-  line_un kinds.SetDone is q found heads chunk = subst Un (sym chunk.1) (refl, tt)
-  line_un kinds.Release is q found heads chunk = ⊎_elim
+  line_un (kinds.LoadCell None) is p q found heads chunk = subst Un (sym chunk.3) (refl, tt)
+  line_un kinds.ExchangeCell is p q found heads chunk = subst Un (sym chunk.4) (refl, (refl, tt))
+  line_un (kinds.PrivateLoad slot cell) is p q found heads chunk = subst Un (sym chunk.2) (refl, tt)
+  line_un (kinds.PrivateStore slot cell number) is p q found heads chunk = subst Un (sym chunk.4) (refl, tt)
+  line_un kinds.MakeCommit is p q found heads chunk = subst Un (sym chunk.4) (refl, tt)
+  line_un kinds.RetireCommit is p q found heads chunk = subst Un (sym chunk.3) (refl, tt)
+  line_un kinds.EpochForRetire is p q found heads chunk = subst Un (sym chunk.3) (refl, tt)
+  line_un kinds.NestedLoad is p q found heads chunk = subst Un (sym chunk.3) (refl, tt)
+  line_un kinds.OutcomeLoad is p q found heads chunk = subst Un (sym chunk.3) (refl, tt)
+  line_un kinds.ClockLoad is p q found heads chunk = subst Un (sym chunk.1) (refl, tt)
+  line_un kinds.StampExchange is p q found heads chunk = subst Un (sym chunk.1) (refl, tt)
+  line_un kinds.ClockRaise is p q found heads chunk = subst Un (sym chunk.1) (refl, tt)
+  line_un kinds.ReplyExchange is p q found heads chunk = subst Un (sym chunk.2) (refl, tt)
+  line_un kinds.NestedHold is p q found heads chunk = absurd (let z = is in cc)
+  line_un kinds.OutcomeCommit is p q found heads chunk = subst Un (sym chunk.3) (refl, tt)
+  line_un kinds.SetDone is p q found heads chunk = subst Un (sym chunk.1) (refl, tt)
+  line_un kinds.Release is p q found heads chunk = ⊎_elim
       (λ h. subst Un (sym h.1) (refl, (refl, tt)))
-      (λ h. subst Un (sym h.1) (refl, (refl, (refl, tt))))
+      (λ h. subst Un (sym h.1) (refl, (refl, (refl, retires_un p.published q.descriptor))))
       chunk.3
-  line_un _ is q found heads chunk = subst Un (sym chunk) tt
+  line_un _ is p q found heads chunk = subst Un (sym chunk) tt
 
   stored_un : (d word number : ℕ) → Un (sections.stored d word number)
   stored_un d word number = by (nat_lt word 12) (word == 12)
@@ -171,8 +180,8 @@ module _ (m : Meaning) (l : Layout) (w : AgreementState) (r : ℕ) where
   frees_un [] = tt
   frees_un (d ∷ ds) = (refl, frees_un ds)
 
-  collected_un : (o : Option ℕ) (p : PartState) → Un (sections.collected o p)
-  collected_un o p = let some = collected_frees m l w r o p in subst Un (sym some.1) (frees_un some.0)
+  swept_un : (p : PartState) (found : ℕ) → Un (sections.swept l p found)
+  swept_un p found = let some = swept_frees m l w r p found in subst Un (sym some.1) (frees_un some.0)
 
   abbrev pub is_hold : EventKind → Bool
   is_hold (kinds.Hold t d) = true
@@ -180,13 +189,11 @@ module _ (m : Meaning) (l : Layout) (w : AgreementState) (r : ℕ) where
 
   outside_un : (kind : EventKind) → is_hold kind ≡ false → (p : PartState) (found : ℕ) (heads : List Event)
       → sections.IsOutsideChunk m l w r kind p found heads → Un heads
-  outside_un (kinds.ScanOne n) is p found heads chunk = subst Un (sym chunk) (collected_un (collects l (kinds.ScanOne n) p.stage found) p)
-  outside_un kinds.Advance is p found heads chunk = subst Un (sym chunk) (collected_un (collects l kinds.Advance p.stage found) p)
+  outside_un (kinds.LoadGuard n) is p found heads chunk = subst Un (sym chunk) (swept_un p found)
   outside_un (kinds.LoadCell (Some place)) is p found heads chunk = subst Un (sym chunk) (refl, tt)
   outside_un (kinds.PrivateStore slot word number) is p found heads chunk =
       subst Un (sym chunk.1) (stored_un (slot - slot_count l m.fixed_slots) word number)
   outside_un (kinds.Hold t d) is p found heads chunk = absurd (let z = is in cc)
-  outside_un kinds.EpochForRetire is p found heads chunk = subst Un (sym chunk.2) (refl, tt)
   outside_un (kinds.LoadThunk (Some d)) is p found heads chunk = subst Un (sym chunk) (refl, tt)
   outside_un kinds.ReadReply is p found heads chunk = subst Un (sym chunk.2) (refl, tt)
   outside_un kinds.ReadStamp is p found heads chunk = subst Un (sym chunk.2) (refl, tt)
@@ -236,16 +243,16 @@ module _ (m : Meaning) (l : Layout) (rs : List Request) (k : Components) (s s' :
       (hold_names c w1 r place word ok.1.0 sound1 p)
 
   line_by : (kind' : EventKind) → kind ≡ kind' → (q : RunState) → (s.part r).run ≡ Some q
-      → sections.IsLineChunk m l k.agreement r kind' q (s.word are.ask.0) are.heads → Changed
+      → sections.IsLineChunk m l k.agreement r kind' (s.part r) q (s.word are.ask.0) are.heads → Changed
   line_by kinds.NestedHold is q runs chunk = holding q runs chunk.0 chunk.1 chunk.3
-  line_by kind' is q runs chunk = still (line_un m l k.agreement r kind' refl q (s.word are.ask.0) are.heads chunk)
+  line_by kind' is q runs chunk = still (line_un m l k.agreement r kind' refl (s.part r) q (s.word are.ask.0) are.heads chunk)
 
   -- by a step that is no publication a lock's word stays, becomes free, or comes to name the section of the run
   pub lock_changes : is_hold m l k.agreement r kind ≡ false → Changed
   lock_changes is = by (s.part r).run refl are.in_sections
     where
       inside : (q : RunState) → (s.part r).run ≡ Some q → (b : Bool)
-          → sections.IsInsideChunk m l k.agreement r b kind q (s.word are.ask.0) are.heads → Changed
+          → sections.IsInsideChunk m l k.agreement r b kind (s.part r) q (s.word are.ask.0) are.heads → Changed
       inside q runs true chunk = line_by kind refl q runs chunk
       inside q runs false chunk = still (subst (AllAre is_unholding) (sym chunk) tt)
 

@@ -56,7 +56,7 @@ module _ (m : Meaning) (l : Layout) (p : PartState) (found : ℕ) where
     make_keeps (Some t) = refl
 
     line_keeps : (kind : EventKind) (micro : Micro) → Keeps (line_after m l kind p q micro found)
-    line_keeps kinds.Commit micro = either (inside.is_of_lock micro) _ _ refl refl
+    line_keeps kinds.Commit micro = refl
     line_keeps (kinds.PrivateLoad slot word) micro = fill_keeps slot q.made
     line_keeps kinds.MakeCommit micro = make_keeps q.made
     line_keeps kinds.Release micro = either (is_end (next_of m (inside.ended_more q))) _ _ refl refl
@@ -76,10 +76,6 @@ module _ (m : Meaning) (l : Layout) (p : PartState) (found : ℕ) where
   advance_keeps (stages.Scanning x next clear) = either (nat_lt x last_epoch) _ _ refl refl
   advance_keeps _ = refl
 
-  retire_keeps : (o : Option Published) → Keeps (outside.retire_after p o found)
-  retire_keeps None = refl
-  retire_keeps (Some x) = refl
-
   outside_keeps : (kind : EventKind) → is_join kind ≡ false → Keeps (outside_after m l kind p found)
   outside_keeps (kinds.ScanOne n) other = scan_keeps p.stage
   outside_keeps kinds.Advance other = advance_keeps p.stage
@@ -88,7 +84,6 @@ module _ (m : Meaning) (l : Layout) (p : PartState) (found : ℕ) where
   outside_keeps (kinds.LoadEntry request reply) other = learned_keeps p.records request reply found
   outside_keeps (kinds.PrivateLoad slot word) other = either (nat_lt slot (slot_count l m.fixed_slots)) _ _ refl refl
   outside_keeps (kinds.Hold t d) other = either (found == t.word) _ _ refl refl
-  outside_keeps kinds.EpochForRetire other = retire_keeps p.published
   outside_keeps (kinds.LoadCell (Some place)) other = refl
   outside_keeps (kinds.LoadThunk (Some d)) other = refl
   outside_keeps _ other = refl

@@ -52,7 +52,7 @@ module _ (m : Meaning) (l : Layout) (p : PartState) (q : RunState) (runs : p.run
   is_release _ = false
 
   line_on : (kind : EventKind) → is_release kind ≡ false → (micro : Micro) → GoesOn (line_after m l kind p q micro found)
-  line_on kinds.Commit is micro = either (inside.is_of_lock micro) _ _ (on _ _ refl refl) (on _ _ refl refl)
+  line_on kinds.Commit is micro = on _ _ refl refl
   line_on (kinds.LoadCell place) is micro = on _ _ refl refl
   line_on kinds.ExchangeCell is micro = on _ _ refl refl
   line_on (kinds.PrivateLoad slot word) is micro = fill_on slot q.made

@@ -185,7 +185,7 @@ module _ (m : Meaning) (laws : Laws m) (l : Layout) (limits : IsWithinLimits l) 
     -- one that names a section stays, or a run of that section releases it
     pub stays : (p d : ℕ) → m.is_lock p ≡ true → value_of (s.word (Cell p)) ≡ suc d → (s'.word (Cell p) ≡ s.word (Cell p)) ⊎ IsIn (s.part l.runners) d
     stays p d lock names = ⊎_elim inl
-        (λ (release : IsRelease (s.part e.runner) e.kind d). inr (subst (λ n. IsIn (s.part n) d) is
+        (λ (release : IsRelease (s.part e.runner) e.kind s.word d). inr (subst (λ n. IsIn (s.part n) d) is
         (record { run = release.run; runs = release.runs; of_section = release.of_section })))
         (facts.leads.locks p d lock names)
 

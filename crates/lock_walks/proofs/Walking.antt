@@ -11,8 +11,8 @@ use Rattle.machine_states.specs.structure_laws.specs.Meaning.{Meaning}
 use Rattle.machine_states.specs.runner_parts.specs.declared.event.EventKind.TheVariants as kinds
 use Rattle.machine_states.specs.runner_parts.specs.declared.entries.Published.{Published}
 use Rattle.machine_states.specs.epoch_core.specs.declared.stage.Stage.TheVariants as stages
-use Rattle.machine_states.specs.runner_parts.specs.Lists.{named_by, walked}
-use Rattle.machine_states.specs.runner_parts.specs.State.{RunState, ReadsState}
+use Rattle.machine_states.specs.runner_parts.specs.Lists.{walked}
+use Rattle.machine_states.specs.runner_parts.specs.State.{RunState, GuardsState, ReadsState}
 use Rattle.machine_states.specs.runner_parts.specs.Tests.{is_walking, is_readable}
 use Rattle.machine_states.specs.runner_steps.specs.Outside.{when}
 use Rattle.machine_states.specs.runner_steps.specs.Asks.{ask_by, fitting, sizes_for}
@@ -21,9 +21,10 @@ use Rattle.try_lock.specs.commit_log.specs.version_words.specs.Events.{met_by, M
 use Rattle.try_lock.specs.commit_log.specs.version_words.specs.Naming.{load_of}
 use Rattle.try_lock.specs.commit_log.specs.version_words.specs.Stages.{IsAt}
 use Rattle.try_lock.specs.commit_log.specs.version_words.proofs.Stages.{then_loaded_cell}
-use Rattle.try_lock.specs.epoch_slots.proofs.Outside.{reads_made, own_kept, own_kept_on}
+use Rattle.try_lock.specs.epoch_slots.proofs.Outside.{guards_made, reads_made, own_kept, own_kept_on}
+use Rattle.try_lock.proofs.Watching.{same_named, same_looked}
 use Rattle.try_lock.specs.Plans as plans
-use Rattle.try_lock.specs.Plans.{names_read, reads_walked, HasWalked}
+use Rattle.try_lock.specs.Plans.{reads_walked, HasWalked}
 
 module _ {T : Type 0} (m : Meaning) where
   -- an entered runner may load a place that its readings give
@@ -42,31 +43,21 @@ module _ {T : Type 0} (m : Meaning) where
   loads_more [] place word old r r' same made = (r', subst (λ y. Makes m (kinds.LoadCell (Some place)) word y r') same made, refl)
   loads_more (x ∷ readings) place word old r r' (y, one, rest) made = (y, one, loads_more readings place word y r r' rest made)
 
-module _ (m : Meaning) where
-  names_more : (readings : Readings) (place word : ℕ) → names_read m (readings ++ (place, word) ∷ []) ≡ names_read m readings ++ (if m.is_lock place then named_by word else [])
-  names_more [] place word = append-nil (if m.is_lock place then named_by word else [])
-  names_more (x ∷ readings) place word = ap (λ ns. (if m.is_lock x.0 then named_by x.1 else []) ++ ns) (names_more readings place word)
-      ∙ sym (append_assoc (if m.is_lock x.0 then named_by x.1 else []) (names_read m readings) (if m.is_lock place then named_by word else []))
-
-  reads_more : (reads : ReadsState) (readings : Readings) (place word : ℕ)
-      → walked (reads_walked m reads readings) (m.is_lock place) place word ≡ reads_walked m reads (readings ++ (place, word) ∷ [])
-  reads_more reads readings place word = (λ i. record {
-    walk = append_assoc reads.walk readings ((place, word) ∷ []) i;
-    cells = append_assoc reads.cells readings ((place, word) ∷ []) i;
-    held = names i;
-    published = reads.published;
-    look = reads.look;
-  })
-    where
-      names : (reads.held ++ names_read m readings) ++ (if m.is_lock place then named_by word else []) ≡ reads.held ++ names_read m (readings ++ (place, word) ∷ [])
-      names = append_assoc reads.held (names_read m readings) (if m.is_lock place then named_by word else []) ∙ ap (λ ns. reads.held ++ ns) (sym (names_more readings place word))
+reads_more : (reads : ReadsState) (readings : Readings) (place word : ℕ) → walked (reads_walked reads readings) place word ≡ reads_walked reads (readings ++ (place, word) ∷ [])
+reads_more reads readings place word = (λ i. record {
+  walk = append_assoc reads.walk readings ((place, word) ∷ []) i;
+  cells = append_assoc reads.cells readings ((place, word) ∷ []) i;
+  look = reads.look;
+})
 
 module _ {T : Type 0} (m : Meaning) where
   pub walked_none : (r : RunnerState T) → HasWalked m [] r r
   walked_none r = record {
     loads = refl;
     at = λ epoch section is. is;
-    reads = (λ i. record { walk = none r.part.reads.walk i; cells = none r.part.reads.cells i; held = none r.part.reads.held i; published = r.part.reads.published; look = r.part.reads.look });
+    reads = (λ i. record { walk = none r.part.reads.walk i; cells = none r.part.reads.cells i; look = r.part.reads.look });
+    guarded = refl;
+    looked = refl;
     keeps = record { number = refl; nodes = refl; descriptors = refl; known = refl; finished = refl };
     same = refl;
   }
@@ -82,7 +73,9 @@ module _ {T : Type 0} (m : Meaning) where
         loads = loads_more m readings place word old r r' so.loads made;
         at = λ e s before. then_loaded_cell m word e place r r' s loaded (so.at e s before);
         reads = reads_made m (kinds.LoadCell (Some place)) word r r' made is.resting
-            ∙ (ap (λ (s : ReadsState). walked s (m.is_lock place) place word) so.reads ∙ reads_more m old.part.reads readings place word);
+            ∙ (ap (λ (s : ReadsState). walked s place word) so.reads ∙ reads_more old.part.reads readings place word);
+        guarded = ap (λ (g : GuardsState). g.named) (guards_made m (kinds.LoadCell (Some place)) word r r' made is.resting) ∙ (same_named r.part.guards (m.is_lock place) word ∙ so.guarded);
+        looked = ap (λ (g : GuardsState). g.looked) (guards_made m (kinds.LoadCell (Some place)) word r r' made is.resting) ∙ (same_looked r.part.guards (m.is_lock place) word ∙ so.looked);
         keeps = own_kept_on old r r' so.keeps (own_kept m (kinds.LoadCell (Some place)) word r r' made is.resting
             refl refl refl);
         same = made.made ∙ ((λ i. record r { part = sym (ap (λ (y : RunnerState T). y.part) made.made) i }) ∙ (λ i. record (so.same i) { part = r'.part }));

@@ -70,24 +70,6 @@ module _ (m : Meaning) (l : Layout) (b : Beside) (s : Sight) (whole : IsWhole m 
   unfree_of d used r = by_bool (has (s.part r).descriptors.free d) (λ free.
       let out = sym used ∙ (whole.tied.used d ∙ ap is_out (free_descriptor m l b.epochs s whole.slots r d (whole.tied.within d used) free)) in cc)
 
-  -- the outer lock is past the free word with which the section took it
-  pub outer_past : (d : ℕ) → a.used d ≡ true → version_of (thunk_in s.word d).word < version_of (s.word (Cell (thunk_in s.word d).lock))
-  outer_past d used =
-      let is = whole.sections.thunks d used in
-      subst (λ n. version_of n < version_of (s.word (Cell (thunk_in s.word d).lock))) is.word
-      (subst (λ n. version_of (a.section d).word < version_of n) (ap a.shared.cells is.lock ∙ whole.sections.words.cells (thunk_in s.word d).lock)
-      (whole.sections.sound.sections d used).section.in_locks.outer_past)
-
-  -- so it is where a run of the section came to its end
-  pub finished_past : (r i : ℕ) (f : FinishedState) → slice_get (s.part r).records.finished i ≡ Some f
-      → version_of f.word < version_of (s.word (Cell f.lock))
-  finished_past r i f at =
-      let is = (whole.sections.tied r).finished i f at in
-      let low : i < a.finishes r = subst (λ n. i < n) (sym (whole.sections.tied r).finishes) (slice_get_within (s.part r).records.finished i f at) in
-      subst (λ n. version_of n < version_of (s.word (Cell f.lock))) is.word
-      (subst (λ n. version_of (a.finished r i).word < version_of n) (ap a.shared.cells is.lock ∙ whole.sections.words.cells f.lock)
-      (whole.sections.sound.finished.past r i low))
-
   module _ (d : ℕ) (used : a.used d ≡ true) where
     pub line_of_section : IsLine m.is_lock l.version_max (a.section d).lock (a.section d).code (a.section d).slot
     line_of_section = (whole.sections.sound.sections d used).published.line

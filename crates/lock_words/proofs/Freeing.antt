@@ -4,6 +4,8 @@ use Rattle.std.specs.List.{filter}
 use Rattle.std.proofs.Common.{◌⊎◌, inl, inr, ◌≡◌, ◌≢◌, ℕ, ◌+◌, List, refl, sym, ap, ◌∙◌, subst, ⊎_elim, Option, Some, None}
 use Rattle.std.proofs.lemmas.Bool.{cases_eq}
 use Rattle.machine_states.specs.map_history.specs.declared.op.Request.{Request}
+use Rattle.machine_states.specs.body_terms.specs.Line.{is_end}
+use Rattle.machine_states.specs.body_terms.specs.declared.micro.Micro.{Micro}
 use Rattle.machine_states.specs.body_terms.specs.declared.thunk.Thunk.{Thunk}
 use Rattle.machine_states.specs.table_words.specs.declared.layout.Layout.{Layout}
 use Rattle.machine_states.specs.table_words.specs.declared.spot.Spot.{Spot}
@@ -14,18 +16,23 @@ use Rattle.machine_states.specs.table_words.specs.Places.{slot_count}
 use Rattle.machine_states.specs.table_words.specs.Seen.{put}
 use Rattle.machine_states.specs.structure_laws.specs.Meaning.{Meaning}
 use Rattle.machine_states.specs.epoch_core.specs.Moves.{is_clear}
+use Rattle.machine_states.specs.guard_core.specs.Moves.{is_unnamed}
 use Rattle.machine_states.specs.runner_parts.specs.declared.entries.Published.{Published}
 use Rattle.machine_states.specs.epoch_core.specs.declared.stage.Stage.{Stage}
 use Rattle.machine_states.specs.epoch_core.specs.declared.stage.Stage.TheVariants as stages
 use Rattle.machine_states.specs.runner_parts.specs.declared.event.EventKind.{EventKind}
 use Rattle.machine_states.specs.runner_parts.specs.declared.event.EventKind.TheVariants as kinds
-use Rattle.machine_states.specs.runner_parts.specs.Lists.{is_old, slots_of}
-use Rattle.machine_states.specs.runner_parts.specs.State.{RunState, DescriptorsState, PartState}
+use Rattle.machine_states.specs.runner_parts.specs.Lists.{descriptor_retired, descriptors_swept}
+use Rattle.machine_states.specs.runner_parts.specs.State.{RunState, DescriptorsState, GuardsState, PartState}
 use Rattle.machine_states.specs.runner_parts.specs.Tests.{has}
 use Rattle.machine_states.specs.runner_steps.specs.Asks.{ask_by, outside_ask}
 use Rattle.machine_states.specs.epoch_core.specs.State.{last_epoch}
+use Rattle.machine_states.specs.runner_steps.specs.AfterInRun as inside
 use Rattle.machine_states.specs.runner_steps.specs.AfterOutside as outside
-use Rattle.machine_states.specs.runner_steps.specs.After.{outside_after, after_by}
+use Rattle.machine_states.specs.runner_steps.specs.After.{line_after, inside_after, outside_after, after_by}
+use Rattle.machine_states.specs.runner_steps.specs.Guards.{is_last_guard}
+use Rattle.machine_states.specs.runner_steps.specs.InRun.{last_clock}
+use Rattle.machine_states.specs.runner_steps.specs.Sections.{is_open_run, next_of}
 use Rattle.machine_states.specs.Sight.{Sight}
 use Rattle.machine_states.proofs.Sights.{unless_gone, joins}
 use Rattle.machine_epochs.proofs.OutsideAsked.{hold_asked}
@@ -34,7 +41,59 @@ use Rattle.runner_facts.specs.machine_facts.specs.machine_invariant.proofs.Prepa
 use Rattle.runner_facts.specs.machine_facts.specs.machine_invariant.proofs.Keeping.{IsStep}
 use Rattle.runner_facts.specs.next_steps.proofs.Parts.{each_part}
 use Rattle.runner_facts.specs.next_steps.proofs.Tests.{without_not}
-use Rattle.runner_facts.proofs.Names.{inside_runs}
+
+-- a step of a run leaves the free list as it is
+module _ (m : Meaning) (l : Layout) (p : PartState) (found : ℕ) (q : RunState) where
+  record Leaves (p' : PartState) : Type 0 where
+    free : p'.descriptors.free ≡ p.descriptors.free
+
+  leaves : (p' : PartState) → p'.descriptors.free ≡ p.descriptors.free → Leaves p'
+  leaves p' e = record { free = e }
+
+  leaves_either : (b : Bool) (y z : PartState) → Leaves y → Leaves z → Leaves (if b then y else z)
+  leaves_either true y z one two = one
+  leaves_either false y z one two = two
+
+  fill_leaves : (slot : ℕ) (made : Option ℕ) → Leaves (inside.fill_loaded m l slot p q made found)
+  fill_leaves slot None = leaves _ refl
+  fill_leaves slot (Some t) = leaves _ refl
+
+  make_leaves : (made : Option ℕ) → Leaves (inside.make_committed m l p q made found)
+  make_leaves None = leaves _ refl
+  make_leaves (Some t) = leaves _ refl
+
+  -- the own section that a run ended goes into limbo
+  retired : (o : Option Published) → (inside.retired_if p.descriptors o q.descriptor).free ≡ p.descriptors.free
+  retired None = refl
+  retired (Some x) = by (x.descriptor == q.descriptor)
+    where
+      by : (b : Bool) → (if b then descriptor_retired p.descriptors q.descriptor else p.descriptors).free ≡ p.descriptors.free
+      by true = refl
+      by false = refl
+
+  line_leaves : (kind : EventKind) (micro : Micro) → Leaves (line_after m l kind p q micro found)
+  line_leaves (kinds.PrivateLoad slot word) micro = fill_leaves slot q.made
+  line_leaves kinds.MakeCommit micro = make_leaves q.made
+  line_leaves kinds.Release micro = leaves_either (is_end (next_of m (inside.ended_more q))) _ _ (leaves _ (retired p.published)) (leaves _ refl)
+  line_leaves kinds.StampExchange micro = leaves_either (nat_lt q.word last_clock) _ _ (leaves _ refl) (leaves _ refl)
+  line_leaves kinds.Commit micro = leaves _ refl
+  line_leaves (kinds.LoadCell place) micro = leaves _ refl
+  line_leaves kinds.ExchangeCell micro = leaves _ refl
+  line_leaves (kinds.PrivateStore slot word number) micro = leaves _ refl
+  line_leaves kinds.RetireCommit micro = leaves _ refl
+  line_leaves kinds.EpochForRetire micro = leaves _ refl
+  line_leaves kinds.SetDone micro = leaves _ refl
+  line_leaves kinds.ClockLoad micro = leaves _ refl
+  line_leaves kinds.ClockRaise micro = leaves _ refl
+  line_leaves kinds.ReplyExchange micro = leaves _ refl
+  line_leaves kinds.NestedLoad micro = leaves _ refl
+  line_leaves kinds.NestedHold micro = leaves _ refl
+  line_leaves kinds.OutcomeLoad micro = leaves _ refl
+  line_leaves kinds.OutcomeCommit micro = leaves _ refl
+  line_leaves _ micro = leaves _ refl
+
+  inside_leaves : (kind : EventKind) → Leaves (inside_after m l kind p q found)
+  inside_leaves kind = leaves_either (is_open_run q) _ _ (line_leaves kind (next_of m q)) (leaves _ refl)
 
 -- a step outside a run that publishes no section in this descriptor
 module _ (d : ℕ) (m : Meaning) (l : Layout) (p : PartState) (found : ℕ) (free : has p.descriptors.free d ≡ true) where
@@ -54,10 +113,15 @@ module _ (d : ℕ) (m : Meaning) (l : Layout) (p : PartState) (found : ℕ) (fre
   either false y z one two = two
 
   collected : (epoch : ℕ) → Stays (outside.collected p epoch)
-  collected epoch = record {
-    is = has_append p.descriptors.free (slots_of (filter (is_old epoch) p.descriptors.limbo)) d
-        ∙ ap (λ b. b || has (slots_of (filter (is_old epoch) p.descriptors.limbo)) d) free;
+  collected epoch = same _ refl
+
+  swept : (last : Bool) (words : List ℕ) (guards : GuardsState)
+      → Stays (record p { descriptors = (if last then descriptors_swept words p.descriptors else p.descriptors); guards = guards })
+  swept true words guards = record {
+    is = has_append p.descriptors.free (filter (is_unnamed words) p.descriptors.limbo) d
+        ∙ ap (λ b. b || has (filter (is_unnamed words) p.descriptors.limbo) d) free;
   }
+  swept false words guards = same _ refl
 
   scan : (stage : Stage) → Stays (outside.scan_one_after l p stage found)
   scan (stages.Scanning x next clear) = either (nat_le next l.runners) _ _
@@ -68,10 +132,6 @@ module _ (d : ℕ) (m : Meaning) (l : Layout) (p : PartState) (found : ℕ) (fre
   advance : (stage : Stage) → Stays (outside.advance_after p stage)
   advance (stages.Scanning x next clear) = either (nat_lt x last_epoch) _ _ (collected (x + 1)) (same _ refl)
   advance _ = same _ refl
-
-  retire : (o : Option Published) → Stays (outside.retire_after p o found)
-  retire None = same _ refl
-  retire (Some x) = same _ refl
 
   hold : (t : Thunk) (d' : ℕ) → d ≢ d' → Stays (outside.hold_after t d' p found)
   hold t d' ne = either (found == t.word) _ _ (record { is = without_not p.descriptors.free d' d ne ∙ free }) (same _ refl)
@@ -92,7 +152,7 @@ module _ (d : ℕ) (m : Meaning) (l : Layout) (p : PartState) (found : ℕ) (fre
   outside_stays (kinds.PrivateStore slot word number) h = same _ refl
   outside_stays (kinds.Hold t d') h = hold t d' h
   outside_stays (kinds.LoadThunk (Some d')) h = same _ refl
-  outside_stays kinds.EpochForRetire h = retire p.published
+  outside_stays (kinds.LoadGuard n) h = swept (is_last_guard l p.guards.looked) _ _
   outside_stays _ h = same _ refl
 
   -- each other step does so
@@ -129,7 +189,7 @@ module _ (m : Meaning) (l : Layout) (rs : List Request) (s s' : Sight) (r : ℕ)
   Leads p' = (has p'.descriptors.free d ≡ true) ⊎ IsEmpty
 
   own : has p.descriptors.free d ≡ true → (o : Option RunState) → ask_by m l rs r kind p o ≡ Some x → Leads (after_by m l kind p o found)
-  own free (Some q) e = inl (ap (λ (y : DescriptorsState). has y.free d) (inside_runs m l p found x q rs r kind e).descriptors ∙ free)
+  own free (Some q) e = inl (ap (λ (xs : List ℕ). has xs d) (inside_leaves m l p found q kind).free ∙ free)
   own free None e = ⊎_elim
       (λ others. inl (outside_stays d m l p found free kind others).is)
       (λ hold. inr (published hold.0 (subst (λ k. outside_ask m l rs r k p ≡ Some x) hold.1 e)))

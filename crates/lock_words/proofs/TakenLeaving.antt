@@ -1,6 +1,6 @@
 -- The word by which a section leaves that finds a lock held is one that it has agreed on for a Take.
 use Rattle.std.specs.Prelude.{◌==◌, ◌⊎◌, cond, Bool, true, false, slice_index}
-use Rattle.std.proofs.Common.{◌≡◌, ℕ, suc, ◌<◌, List, length, sym, ap, ◌∙◌, subst, ⊎_elim, inl, inr, arith, Option, Some, None}
+use Rattle.std.proofs.Common.{◌≡◌, ℕ, suc, ◌<◌, List, length, refl, sym, ap, ◌∙◌, subst, ⊎_elim, inl, inr, arith, Option, Some, None}
 use Rattle.machine_states.specs.body_terms.specs.Line.{micro_at, is_commit}
 use Rattle.machine_states.specs.body_terms.specs.Run.{leaves, refusal, is_takable}
 use Rattle.machine_states.specs.body_terms.specs.Word.{version_of, held_word, is_free, is_spent}
@@ -29,6 +29,7 @@ IsCheckOf micro place log = ((w : ℕ) × (micro ≡ CheckFree place log w)) ⊎
 
 record LeavesAt (trail : List ℕ) (micro : Micro) (place word : ℕ) : Type 0 where
   log : ℕ
+  held : is_free word ≡ false
   is : slice_index trail log ≡ word
   check : IsCheckOf micro place log
 
@@ -39,14 +40,15 @@ module _ (l : Layout) (d : ℕ) (trail : List ℕ) (place word : ℕ) where
   abbrev Leaves : Micro → Type 0
   Leaves micro = leaves (setting_of l d) trail micro ≡ Some (Busy place word)
 
-  refused : (p expected read : ℕ) → refusal (setting_of l d) p expected read ≡ Busy place word → (p ≡ place) × (read ≡ word)
-  refused p expected read = by (is_free read) (is_spent l.version_max read)
+  refused : (p expected read : ℕ) → refusal (setting_of l d) p expected read ≡ Busy place word
+      → (p ≡ place) × (read ≡ word) × (is_free word ≡ false)
+  refused p expected read = by (is_free read) refl (is_spent l.version_max read)
     where
-      by : (free late : Bool) → cond free (cond late (Spent p read) (Stale p expected read)) (Busy p read) ≡ Busy place word
-          → (p ≡ place) × (read ≡ word)
-      by true true e = absurd (let z = e in cc)
-      by true false e = absurd (let z = e in cc)
-      by false late e = busy_same p place read word e
+      by : (free : Bool) → is_free read ≡ free → (late : Bool) → cond free (cond late (Spent p read) (Stale p expected read)) (Busy p read) ≡ Busy place word
+          → (p ≡ place) × (read ≡ word) × (is_free word ≡ false)
+      by true is true e = absurd (let z = e in cc)
+      by true is false e = absurd (let z = e in cc)
+      by false is late e = let same = busy_same p place read word e in (same.0, same.1, ap is_free (sym same.1) ∙ is)
 
   by_free : (p log w : ℕ) → Leaves (CheckFree p log w) → LeavesAt trail (CheckFree p log w) place word
   by_free p log w = by (is_takable (setting_of l d) w (slice_index trail log))
@@ -56,6 +58,7 @@ module _ (l : Layout) (d : ℕ) (trail : List ℕ) (place word : ℕ) where
       by true e = absurd (none_some _ (sym e))
       by false e = let same = refused p w (slice_index trail log) (some_same _ _ e) in record {
         log = log;
+        held = same.2;
         is = same.1;
         check = inl (w, ap (λ q. CheckFree q log w) same.0);
       }
@@ -68,6 +71,7 @@ module _ (l : Layout) (d : ℕ) (trail : List ℕ) (place word : ℕ) where
       by true e = absurd (none_some _ (sym e))
       by false e = let same = refused p w (slice_index trail log) (some_same _ _ e) in record {
         log = log;
+        held = same.2;
         is = same.1;
         check = inr (w, ap (λ q. CheckHeld q log w) same.0);
       }
@@ -128,17 +132,19 @@ module _ (m : Meaning) (l : Layout) (b : Beside) (s : Sight) (whole : IsWhole m 
 
   pub left_agreed : (reply place word : ℕ)
       → outcome_or (leaves (setting_of l q.descriptor) q.trail (micro_at (line_of m q) q.at)) reply ≡ Busy place word
-      → IsAgreed m s q.descriptor place word
+      → IsAgreed m s q.descriptor place word × (is_free word ≡ false)
   left_agreed reply place word e =
       let left = leaves_at l q.descriptor q.trail place word (micro_at (line_of m q) q.at)
-      (not_reply (leaves (setting_of l q.descriptor) q.trail (micro_at (line_of m q) q.at)) reply place word e) in
-      ⊎_elim
-      (λ free.
-      let before = section_line.ordered.free_before q.at place left.log free.0 (code q.at ∙ free.1) in
-      agreed_at before.0 place left.log word (let at = before.1 in omega (arith, at)) (inl before.2) (ap is_commit before.2)
-      (section_line.counted.nested_log before.0 place left.log before.2) left.is)
-      (λ held.
-      let before = section_line.ordered.held_before q.at place left.log held.0 (code q.at ∙ held.1) in
-      agreed_at (suc (suc before.0)) place left.log word (let at = before.1 in omega (arith, at)) (inr before.3) (ap is_commit before.3)
-      (section_line.counted.outcome_log (suc (suc before.0)) place left.log before.3) left.is)
-      left.check
+      (not_reply (leaves (setting_of l q.descriptor) q.trail (micro_at (line_of m q) q.at)) reply place word e) in (
+        ⊎_elim
+            (λ free.
+            let before = section_line.ordered.free_before q.at place left.log free.0 (code q.at ∙ free.1) in
+            agreed_at before.0 place left.log word (let at = before.1 in omega (arith, at)) (inl before.2) (ap is_commit before.2)
+            (section_line.counted.nested_log before.0 place left.log before.2) left.is)
+            (λ held.
+            let before = section_line.ordered.held_before q.at place left.log held.0 (code q.at ∙ held.1) in
+            agreed_at (suc (suc before.0)) place left.log word (let at = before.1 in omega (arith, at)) (inr before.3) (ap is_commit before.3)
+            (section_line.counted.outcome_log (suc (suc before.0)) place left.log before.3) left.is)
+            left.check,
+        left.held,
+      )

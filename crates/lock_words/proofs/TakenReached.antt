@@ -1,44 +1,73 @@
 -- So it is in every reached state.
-use Rattle.std.specs.Prelude.{false}
-use Rattle.std.proofs.Common.{◌≡◌, ℕ, List, refl, sym, subst}
+use Rattle.std.specs.Prelude.{slice_get}
+use Rattle.std.proofs.Common.{◌≡◌, ℕ, suc, List, [], refl, sym, ap, ◌∙◌, subst, ⊎_elim, le_of_eq, arith, Some, None}
 use Rattle.machine_states.specs.map_history.specs.declared.op.Request.{Request}
+use Rattle.machine_states.specs.body_terms.specs.Word.{value_of}
 use Rattle.machine_states.specs.table_words.specs.declared.layout.Layout.{Layout}
 use Rattle.machine_states.specs.table_words.specs.Limits.{IsWithinLimits}
 use Rattle.machine_states.specs.structure_laws.specs.Meaning.{Meaning}
 use Rattle.machine_states.specs.structure_laws.specs.Laws.{Laws}
-use Rattle.machine_states.specs.runner_parts.specs.State.{PartState}
-use Rattle.machine_states.specs.runner_parts.specs.Tests.{has_pair}
+use Rattle.machine_states.specs.runner_parts.specs.declared.event.Event.{Event}
+use Rattle.machine_states.specs.runner_parts.specs.State.{FinishedState, PartState}
 use Rattle.machine_states.specs.First.{IsFirst}
-use Rattle.machine_states.specs.World.{World}
+use Rattle.machine_states.specs.World.{World, happens}
 use Rattle.machine_states.specs.Reached.{Reached}
 use Rattle.machine_states.specs.Sight.{sight}
-use Rattle.machine_states.proofs.FirstSights.{first_parts}
+use Rattle.machine_states.proofs.FirstSights.{first_parts, unlogged}
+use Rattle.machine_states.proofs.Reached.{first_reached, more_reached, reached_has, reached_all}
+use Rattle.machine_states.proofs.Sights.{happens_steps}
+use Rattle.machine_states.proofs.Steps.{none_some}
 use Rattle.machine_epochs.proofs.FirstJoin as FirstJoin
 use Rattle.runner_facts.specs.machine_facts.specs.machine_invariant.specs.After.{AreAllowed}
-use Rattle.runner_facts.specs.machine_facts.specs.machine_invariant.proofs.Basics.{not_both}
-use Rattle.runner_facts.specs.machine_facts.specs.machine_invariant.proofs.Keeping.{reached_keeps}
+use Rattle.runner_facts.specs.machine_facts.specs.machine_invariant.proofs.After.{reached_whole}
 use Rattle.lock_words.specs.Taken.{TakenStand}
-use Rattle.lock_words.proofs.TakenKept.{AllSay, all_say}
+use Rattle.lock_words.proofs.TakenKept.{AllHeld, all_held}
 
 module _ (m : Meaning) (laws : Laws m) (l : Layout) (limits : IsWithinLimits l) (rs : List Request) (allowed : AreAllowed rs) where
-  -- at first nothing was read
-  unread : (w : World) → IsFirst m l rs w → (r place word : ℕ) → has_pair ((sight m l rs w).part r).reads.cells place word ≡ false
-  unread w start r place word = subst (λ (p : PartState). has_pair p.reads.cells place word ≡ false) (sym (first_parts m l w.parts start.parts r))
-      (FirstJoin.each_part m l (λ p. has_pair p.reads.cells place word ≡ false) refl (λ k. refl) refl r)
+  -- a reached state of which it holds
+  record Has (w : World) : Type 0 where
+    reached : Reached m l rs w
+    held : AllHeld m l rs w
 
-  first_say : (w : World) → IsFirst m l rs w → AllSay m l (sight m l rs w)
-  first_say w start = record {
-    taken = λ r d place word named since taken names. not_both since.read (unread w start r _ _);
-    met = λ r place word named h. not_both h.by.read (unread w start r _ _);
+  -- at first nobody is in a run, no log has a word, and nothing is kept
+  first_has : (w : World) → IsFirst m l rs w → Has w
+  first_has w start = record {
+    reached = first_reached m l rs w start;
+    held = record {
+      taken = λ d place word named few unfree taken names. ⊎_elim
+          (λ agreed. absurd (none_named word named (sym agreed.agreed ∙ unlogged m l rs w start d agreed.log) names))
+          (λ loaded. absurd (none_some loaded.run (sym loaded.runs ∙ in_no_run loaded.runner))) taken;
+      met = λ r place word h. absurd (none_some h.finished (sym h.kept ∙ ap (λ (xs : List FinishedState). slice_get xs h.at) (nothing_kept r)));
+    };
   }
+    where
+      none_named : (word named : ℕ) → word ≡ 0 → value_of word ≡ suc named → ⊥
+      none_named word named zero names = let none : value_of 0 ≡ suc named = subst (λ w. value_of w ≡ suc named) zero names in absurd (omega arith)
 
-  pub reached_taken : (w : World) → Reached m l rs w → TakenStand m l (sight m l rs w)
-  reached_taken w reached =
-      let all = reached_keeps m laws l limits rs allowed (AllSay m l) first_say
-      (λ s s' r kind st old. all_say m laws l limits rs s s' r kind st old) w reached in
-      record {
-        taken = λ r d place word named since taken names. (all.taken r d place word named since taken names).lock;
-        taken_unfree = λ r d place word named since taken names r'. ((all.taken r d place word named since taken names).kept r').free;
-        met = λ r place word named h. (all.met r place word named h).lock;
-        met_unfree = λ r place word named h r'. ((all.met r place word named h).kept r').free;
+      in_no_run : (r : ℕ) → ((sight m l rs w).part r).run ≡ None
+      in_no_run r = subst (λ (p : PartState). p.run ≡ None) (sym (first_parts m l w.parts start.parts r))
+          (FirstJoin.each_part m l (λ p. p.run ≡ None) refl (λ k. refl) refl r)
+
+      nothing_kept : (r : ℕ) → ((sight m l rs w).part r).records.finished ≡ []
+      nothing_kept r = subst (λ (p : PartState). p.records.finished ≡ []) (sym (first_parts m l w.parts start.parts r))
+          (FirstJoin.each_part m l (λ p. p.records.finished ≡ []) refl (λ k. refl) refl r)
+
+  -- one more enabled event
+  next_has : (w v : World) (e : Event) → Has w → happens m l rs w e ≡ Some v → Has v
+  next_has w v e old goes =
+      let reached = more_reached m l rs w v e old.reached goes in
+      let all = reached_all m l rs w old.reached in
+      let a = reached_whole m laws l rs old.reached.events w limits allowed old.reached.after in
+      let b = reached_whole m laws l rs reached.events v limits allowed reached.after in record {
+        reached = reached;
+        held = all_held m laws l limits rs allowed w v e old.reached goes (record {
+          step = (happens_steps m l rs w v e (record { words = le_of_eq (sym all.words); parts = all.parts }) goes).0;
+          beside = a.0;
+          whole = a.1;
+          beside' = b.0;
+          whole' = b.1;
+        }) old.held;
       }
+
+  pub reached_taken : (w : World) → Reached m l rs w → TakenStand m l rs w
+  reached_taken w reached = record { met = (reached_has m l rs Has first_has next_has w reached).held.met }

@@ -1,21 +1,21 @@
--- What the words name that are agreed or loaded for Takes, and those by which sections left.
-use Rattle.std.specs.Prelude.{◌≡◌, ℕ, suc, ◌<◌, ◌⊎◌, true, false, length, slice_get, Some}
+-- The words that are agreed or loaded for Takes, and what is known of those by which sections left.
+use Rattle.std.specs.Prelude.{◌≡◌, ℕ, suc, ◌<◌, ◌⊎◌, true, List, length, slice_get, Some}
+use Rattle.machine_states.specs.map_history.specs.declared.op.Request.{Request}
 use Rattle.machine_states.specs.body_terms.specs.Line.{line, micro_at}
 use Rattle.machine_states.specs.body_terms.specs.Word.{value_of}
 use Rattle.machine_states.specs.body_terms.specs.declared.micro.Micro.{Micro}
 use Rattle.machine_states.specs.body_terms.specs.declared.micro.Micro.TheVariants.{NestedCommit, OutcomeCommit}
 use Rattle.machine_states.specs.body_terms.specs.declared.outcome.Outcome.TheVariants.{Busy}
 use Rattle.machine_states.specs.table_words.specs.declared.layout.Layout.{Layout}
-use Rattle.machine_states.specs.table_words.specs.declared.spot.Spot.TheVariants.{LogWord}
+use Rattle.machine_states.specs.table_words.specs.declared.spot.Spot.TheVariants.{Cell, LogWord}
 use Rattle.machine_states.specs.table_words.specs.Places.{descriptor_count}
 use Rattle.machine_states.specs.structure_laws.specs.Meaning.{Meaning}
-use Rattle.machine_states.specs.epoch_core.specs.declared.stage.Stage.TheVariants.{Entered}
 use Rattle.machine_states.specs.runner_parts.specs.State.{RunState, FinishedState, PartState}
-use Rattle.machine_states.specs.runner_parts.specs.Tests.{has, has_pair}
 use Rattle.machine_states.specs.runner_steps.specs.Sections.{line_of}
-use Rattle.machine_states.specs.Sight.{Sight}
+use Rattle.machine_states.specs.World.{World}
+use Rattle.machine_states.specs.Sight.{Sight, sight}
 use Rattle.machine_epochs.specs.Slots.{thunk_in}
-use Rattle.runner_facts.specs.Names.{HasLock}
+use Rattle.runner_facts.specs.machine_facts.specs.Watched.{WasDone}
 
 -- a step that commits the word of a Take's lock at this place, to this place of the log
 abbrev pub CommitsLock : Micro → ℕ → ℕ → Type 0
@@ -43,38 +43,22 @@ module _ (m : Meaning) (s : Sight) (d place word : ℕ) where
   abbrev pub IsTaken : Type 0
   IsTaken = IsAgreed ⊎ IsLoaded
 
--- the runner is entered, the descriptor is in nobody's free list, and since the runner entered it has read
--- the outer lock's free word of the section in it. So that section was published since then, by this runner
--- or another one
-pub record IsSince (l : Layout) (s : Sight) (r d : ℕ) : Type 0 where
-  pub entry : ℕ
-  pub entered : (s.part r).stage ≡ Entered entry
-  pub few : d < descriptor_count l
-  pub unfree : (r' : ℕ) → has (s.part r').descriptors.free d ≡ false
-  pub read : has_pair (s.part r).reads.cells (thunk_in s.word d).lock (thunk_in s.word d).word ≡ true
-
--- a runner ran such a section to its end, also where its descriptor is free again; and as it keeps it, the
--- section left since this lock was held, with this word
+-- a runner ran a section to its end, and as it keeps it, the section left since this lock was held, with this word
 pub record HasLeftBy (p : PartState) (place word : ℕ) : Type 0 where
   pub at : ℕ
   pub finished : FinishedState
   pub kept : slice_get p.records.finished at ≡ Some finished
-  pub read : has_pair p.reads.cells finished.lock finished.word ≡ true
   pub left : finished.outcome ≡ Busy place word
 
--- so an entered runner keeps it, and the word names this descriptor
-pub record HasMet (s : Sight) (r place word named : ℕ) : Type 0 where
-  pub entry : ℕ
-  pub entered : (s.part r).stage ≡ Entered entry
-  pub by : HasLeftBy (s.part r) place word
-  pub names : value_of word ≡ suc named
+module _ (m : Meaning) (l : Layout) (requests : List Request) (w : World) where
+  -- the lock at this place has had this word, which named this descriptor: it has the word still, or the section that
+  -- held it was done
+  pub record WasHeld (place word d : ℕ) : Type 0 where
+    pub lock : m.is_lock place ≡ true
+    pub few : d < descriptor_count l
+    pub stands : ((sight m l requests w).word (Cell place) ≡ word) ⊎ WasDone m l requests w place word d
 
--- the section that the word named is still in the descriptor, which is in nobody's free list
-pub record TakenStand (m : Meaning) (l : Layout) (s : Sight) : Type 0 where
-  pub taken : (r d place word named : ℕ) → IsSince l s r d → IsTaken m s d place word
-      → value_of word ≡ suc named → HasLock m s.word named place word
-  pub taken_unfree : (r d place word named : ℕ) → IsSince l s r d → IsTaken m s d place word
-      → value_of word ≡ suc named → (r' : ℕ) → has (s.part r').descriptors.free named ≡ false
-  pub met : (r place word named : ℕ) → HasMet s r place word named → HasLock m s.word named place word
-  pub met_unfree : (r place word named : ℕ) → HasMet s r place word named
-      → (r' : ℕ) → has (s.part r').descriptors.free named ≡ false
+  -- so it is with each word by which a section left since it found a lock held, as a runner keeps it
+  pub record TakenStand : Type 0 where
+    pub met : (r place word : ℕ) → HasLeftBy ((sight m l requests w).part r) place word
+        → (d : ℕ) × (value_of word ≡ suc d) × WasHeld place word d

@@ -1,7 +1,7 @@
 //! What stands of words that sections and walks met at locks and cells, in every state that the machine reaches.
 //!
-//! The definitions stand in specs: `Spent` has the words behind which too few versions are left, `Taken` what the words
-//! name that sections meet at the locks of their Takes, `Stale` that a section which left since it found another word
+//! The definitions stand in specs: `Spent` has the words behind which too few versions are left, `Taken` the words by
+//! which sections leave that find the lock of a Take held, `Stale` that a section which left since it found another word
 //! than the expected one found another one. `laws`, `taken` and `stale` have the laws on contracts.
 #![tactic(auto)]
 

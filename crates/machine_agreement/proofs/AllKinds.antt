@@ -54,11 +54,11 @@ module _ (m : Meaning) (l : Layout) (rs : List Request) (w : AgreementState) (s 
   module _ (q : RunState) (at : p.run ≡ Some q) where
     -- the same in the words of its line
     abbrev LineTo : EventKind → Spot × Access → Type 0
-    LineTo kind x = (heads : List Event) × IsLineChunk m l w r kind q (s.word x.0) heads × Goes m l r heads w (sight_after m l s r kind x)
+    LineTo kind x = (heads : List Event) × IsLineChunk m l w r kind p q (s.word x.0) heads × Goes m l r heads w (sight_after m l s r kind x)
 
-    inside_to : (kind : EventKind) (x : Spot × Access) (b : Bool) (heads : List Event) → is_open_run q ≡ b → IsInsideChunk m l w r b kind q (s.word x.0) heads → Goes m l r heads w (sight_after m l s r kind x) → To kind x
+    inside_to : (kind : EventKind) (x : Spot × Access) (b : Bool) (heads : List Event) → is_open_run q ≡ b → IsInsideChunk m l w r b kind p q (s.word x.0) heads → Goes m l r heads w (sight_after m l s r kind x) → To kind x
     inside_to kind x b heads is chunk goes =
-        (heads, subst (λ o. IsChunk m l w r kind p o (s.word x.0) heads) (sym at) (subst (λ c. IsInsideChunk m l w r c kind q (s.word x.0) heads) (sym is) chunk), goes)
+        (heads, subst (λ o. IsChunk m l w r kind p o (s.word x.0) heads) (sym at) (subst (λ c. IsInsideChunk m l w r c kind p q (s.word x.0) heads) (sym is) chunk), goes)
 
     line_goes : (kind : EventKind) (x : Spot × Access) → is_open_run q ≡ true → AgreementIsSupplied m l w s r kind (s.word x.0) → asks m l rs r kind p ≡ Some x → line_ask m l kind p.nodes.free q (next_of m q) ≡ Some x → LineTo kind x
     line_goes kinds.Commit x open_q u e k = loads.commit m l rs w s old r q at open_q x e
@@ -70,7 +70,7 @@ module _ (m : Meaning) (l : Layout) (rs : List Request) (w : AgreementState) (s 
     line_goes kinds.RetireCommit x open_q u e k = loads.retire_commit m l rs w s old r q at open_q x e
     line_goes kinds.EpochForRetire x open_q u e k = loads.epoch_load m l rs w s old r q at open_q x e
     line_goes kinds.SetDone x open_q u e k = ends.set_done m l rs w s old r q at open_q x e
-    line_goes kinds.Release x open_q u e k = releases.release m l rs w s old r q at open_q x e
+    line_goes kinds.Release x open_q u e k = releases.release m l rs w s old r q at open_q x u.live e
     line_goes kinds.ClockLoad x open_q u e k = loads.clock_load m l rs w s old r q at open_q x e
     line_goes kinds.StampExchange x open_q u e k = stores.stamp_exchange m l rs w s old r q at open_q x e
     line_goes kinds.ClockRaise x open_q u e k = stores.clock_raise m l rs w s old r q at open_q x e
@@ -129,8 +129,8 @@ module _ (m : Meaning) (l : Layout) (rs : List Request) (w : AgreementState) (s 
     outside_goes kinds.EnterAgain x j u e = outside.enter_again m l rs w s old r none x e
     outside_goes kinds.Idle x j u e = outside.exit m l rs w s old r none x e
     outside_goes kinds.ScanEpoch x j u e = outside.scan_epoch m l rs w s old r none x e
-    outside_goes (kinds.ScanOne n) x j u e = outside.scan_one m l rs w s old r none n x e (λ epoch d is old_one. u.idle epoch d none is old_one)
-    outside_goes kinds.Advance x j u e = outside.advance m l rs w s old r none x e (λ epoch d is old_one. u.idle epoch d none is old_one)
+    outside_goes (kinds.ScanOne n) x j u e = outside.scan_one m l rs w s old r none n x e
+    outside_goes kinds.Advance x j u e = outside.advance m l rs w s old r none x e
     outside_goes kinds.Split x j u e = outside.split m l rs w s old r none x e
     outside_goes (kinds.Join worker) x j u e = absurd (let y = j in cc)
     outside_goes (kinds.LoadCell (Some place)) x j u e = outside.load_cell m l rs w s old r none place x e
@@ -140,11 +140,12 @@ module _ (m : Meaning) (l : Layout) (rs : List Request) (w : AgreementState) (s 
     outside_goes (kinds.Hold thunk d) x j u e = let h = asked_outside.hold_asked m l rs r thunk d p x e in
         outside.hold_kind m l rs w s old r none thunk d x e u.unused (λ same. u.publishes thunk d refl none (ap (λ (y : Spot × Access). s.word y.0) (sym h.is) ∙ same))
     outside_goes (kinds.LoadThunk (Some d)) x j u e = outside.load_thunk m l rs w s old r none d x e (u.used d refl)
-    outside_goes kinds.EpochForRetire x j u e = outside.retire_descriptor m l rs w s old r none x e u.live
     outside_goes (kinds.ReadPlan thunk) x j u e = outside.read_plan m l rs w s old r none thunk x e
     outside_goes kinds.ReadClock x j u e = outside.read_clock m l rs w s old r none x e
     outside_goes kinds.ReadReply x j u e = outside.read_reply m l rs w s old r none x e
     outside_goes kinds.ReadStamp x j u e = outside.read_stamp m l rs w s old r none x e
+    outside_goes (kinds.Guard d) x j u e = outside.guard m l rs w s old r none d x e
+    outside_goes (kinds.LoadGuard n) x j u e = outside.load_guard m l rs w s old r none n x e (λ last d is. u.idle n d refl last is)
     outside_goes _ x j u e = some_none x e
 
     -- a join: the keeper takes over what the worker knew, and the worker makes no further step
@@ -162,7 +163,6 @@ module _ (m : Meaning) (l : Layout) (rs : List Request) (w : AgreementState) (s 
             let one = quiet_joined m l w s old r word' known (load_same m l s.word spots.Seat)
             (record {
               run = ap (λ (y : PartState). y.run) same;
-              published = λ y e. ap (λ (z : PartState). z.published) (sym same) ∙ e;
               finished = ap (λ (z : PartState). z.records.finished) same ∙ noted_finished l r (kinds.Join worker) spots.Seat Loads (s.word spots.Seat) ((joins_after p worker).records);
               read = λ a b e. subst (λ (z : PartState). has_pair z.reads.cells a b ≡ true) same e;
             }) in
@@ -172,7 +172,6 @@ module _ (m : Meaning) (l : Layout) (rs : List Request) (w : AgreementState) (s 
             (record { cells = λ i. refl; clock = refl; stamp = λ i. refl; reply = λ i. refl; thunks = λ d j. refl; done = λ d. refl; log = λ d k. refl })
             (record {
               run = ap (λ (y : PartState). y.run) (sym here);
-              published = λ y e. ap (λ (z : PartState). z.published) here ∙ e;
               finished = ap (λ (y : PartState). y.records.finished) (sym here);
               read = λ a b e. subst (λ (z : PartState). has_pair z.reads.cells a b ≡ true) (sym here) e;
             }) in

@@ -122,7 +122,7 @@ module _ (m : Meaning) (l : Layout) where
               (tied_own m l w w2 s.word word' r (s.part r) p' q q1 step2 is own descriptor opened going all (run_settled m l q1 w1 r run1 going code1) (settled_rests m l q1)
               (λ place found has. ap (λ (x : Shared). x.seen place found) further.shared ∙ read place found has) thunks (old.tied r))
               (λ i ne. tied_stays m l w w2 s.word word' i (s.part i) (step2.others i ne) (ap (λ (f : ℕ → ℕ). f i) step2.finishes) (λ k. ap (λ (f : ℕ → ℕ → Finished). f i k) step2.finished)
-              (λ d done. ap (λ (f : ℕ → Bool). f d) step2.over ∙ done) step2.seen thunks (old.tied i));
+              step2.seen thunks (old.tied i));
         };
       }
 
@@ -131,7 +131,6 @@ module _ (m : Meaning) (l : Layout) where
     pub others : (i : ℕ) → i ≢ r → w'.run i ≡ w.run i
     pub finishes : (i : ℕ) → i ≢ r → w'.finishes i ≡ w.finishes i
     pub finished : (i k : ℕ) → i ≢ r → w'.finished i k ≡ w.finished i k
-    pub over : (d : ℕ) → w.over d ≡ true → w'.over d ≡ true
     pub seen : (p word : ℕ) → w.shared.seen p word ≡ true → w'.shared.seen p word ≡ true
 
   -- the events of a runner's step, which lead the component from w to w1
@@ -144,7 +143,7 @@ module _ (m : Meaning) (l : Layout) where
     sections = sections;
     thunks = thunks;
     tied = upd_split s.part r p' (λ i p. IsTied m l w1 word' i p) own
-        (λ i ne. tied_stays m l w w1 s.word word' i (s.part i) (step.others i ne) (step.finishes i ne) (λ k. step.finished i k ne) step.over step.seen stay (old.tied i));
+        (λ i ne. tied_stays m l w w1 s.word word' i (s.part i) (step.others i ne) (step.finishes i ne) (λ k. step.finished i k ne) step.seen stay (old.tied i));
   }
 
   pub plain_goes : (heads : List Event) (w w1 : AgreementState) (s : Sight) (r : ℕ) (word' : Spot → ℕ) (p' : PartState) → IsJoinedToAgreement m l w s → LeadBy heads w w1 → IsOtherStep w w1 r

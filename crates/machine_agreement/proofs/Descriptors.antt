@@ -43,12 +43,11 @@ module _ (m : Meaning) (l : Layout) (w : AgreementState) (s : Sight) (old : IsJo
 
   -- a runner's part whose records and lists alone changed is tied as before
   same_tied : (w' : AgreementState) (word' : Spot → ℕ) (i : ℕ) (p p' : PartState) → w'.run i ≡ w.run i → w'.finishes i ≡ w.finishes i → ((k : ℕ) → w'.finished i k ≡ w.finished i k)
-      → ((x : Published) → p'.published ≡ Some x → x.over ≡ true → w.over x.descriptor ≡ true → w'.over x.descriptor ≡ true)
-      → p'.run ≡ p.run → ((x : Published) → p'.published ≡ Some x → (x.over ≡ true) → p.published ≡ Some x) → p'.records.finished ≡ p.records.finished
+      → p'.run ≡ p.run → p'.records.finished ≡ p.records.finished
       → ((a b : ℕ) → has_pair p'.reads.cells a b ≡ true → w'.shared.seen a b ≡ true)
       → ((q : RunState) (j : ℕ) → p.run ≡ Some q → word' (spots.ThunkWord q.descriptor j) ≡ s.word (spots.ThunkWord q.descriptor j))
       → IsTied m l w s.word i p → IsTied m l w' word' i p'
-  same_tied w' word' i p p' run finishes finished over runs published records read stay tied = record {
+  same_tied w' word' i p p' run finishes finished runs records read stay tied = record {
     run = subst (ShowsRun (w'.run i)) (sym runs) (subst (λ (y : Run). ShowsRun y p.run) (sym run) tied.run);
     opened = λ q j e low more. tied.opened q j (sym runs ∙ e) low more ∙ sym (stay q j (sym runs ∙ e));
     begins = λ q e. tied.begins q (sym runs ∙ e);
@@ -57,7 +56,6 @@ module _ (m : Meaning) (l : Layout) (w : AgreementState) (s : Sight) (old : IsJo
     read = read;
     finishes = finishes ∙ (tied.finishes ∙ ap length (sym records));
     finished = λ k f e. subst (λ (y : Finished). IsFinishOf y f) (sym (finished k)) (tied.finished k f (ap (λ xs. slice_get xs k) (sym records) ∙ e));
-    over = λ x e done. over x e done (tied.over x (published x e done) done);
   }
 
   -- a runner in a run is in that of a published descriptor
@@ -82,9 +80,9 @@ module _ (m : Meaning) (l : Layout) (w : AgreementState) (s : Sight) (old : IsJo
           sections = λ k. record { log = (old.sections k).log; done = (old.sections k).done };
           thunks = λ k used. subst (IsOfThunk m (w.section k)) (sym (same_thunk_at word' k (λ i. other k i (λ same. let both = sym used ∙ (ap w.used same ∙ unused) in absurd (cc))))) (old.thunks k used);
           tied = upd_split s.part r p' (λ i p. IsTied m l w word' i p)
-              (same_tied w word' r (s.part r) p' refl refl (λ k. refl) (λ x e done o. o) run (λ x e done. sym published ∙ e) records
+              (same_tied w word' r (s.part r) p' refl refl (λ k. refl) run records
               (λ a b has. (old.tied r).read a b (subst (λ y. has_pair y.cells a b ≡ true) reads_same has)) (λ q i e. other q.descriptor i (not_unused r d q unused e)) (old.tied r))
-              (λ i ne. same_tied w word' i (s.part i) (s.part i) refl refl (λ k. refl) (λ x e done o. o) refl (λ x e done. e) refl (old.tied i).read (λ q k e. other q.descriptor k (not_unused i d q unused e)) (old.tied i));
+              (λ i ne. same_tied w word' i (s.part i) (s.part i) refl refl (λ k. refl) refl refl (old.tied i).read (λ q k e. other q.descriptor k (not_unused i d q unused e)) (old.tied i));
         };
       }
     where
@@ -95,11 +93,11 @@ module _ (m : Meaning) (l : Layout) (w : AgreementState) (s : Sight) (old : IsJo
       same_thunk_at word' k same = λ i. let v : ℕ → ℕ = λ j. same j i in thunk_of (v 0 ∷ v 1 ∷ v 2 ∷ v 3 ∷ v 4 ∷ v 5 ∷ v 6 ∷ v 7 ∷ v 8 ∷ v 9 ∷ v 10 ∷ v 11 ∷ [])
 
   -- what a step needs that changes a descriptor's words or its place alone
-  changed_goes : (heads : List events.Event) (w1 : AgreementState) (word' : Spot → ℕ) (p' : PartState) → LeadBy m l heads w w1 → w1.run ≡ w.run → w1.finishes ≡ w.finishes → w1.finished ≡ w.finished → w1.over ≡ w.over → w1.shared ≡ w.shared
-      → p'.run ≡ (s.part r).run → ((x : Published) → p'.published ≡ Some x → x.over ≡ true → (s.part r).published ≡ Some x) → p'.records.finished ≡ (s.part r).records.finished → p'.reads ≡ (s.part r).reads
+  changed_goes : (heads : List events.Event) (w1 : AgreementState) (word' : Spot → ℕ) (p' : PartState) → LeadBy m l heads w w1 → w1.run ≡ w.run → w1.finishes ≡ w.finishes → w1.finished ≡ w.finished → w1.shared ≡ w.shared
+      → p'.run ≡ (s.part r).run → p'.records.finished ≡ (s.part r).records.finished → p'.reads ≡ (s.part r).reads
       → ShowsWords w.shared word' → ((d : ℕ) → ShowsSection (w1.section d) word' d) → ((d : ℕ) → w1.used d ≡ true → IsOfThunk m (w1.section d) (thunk_in word' d)) → ThunksStay s.word word'
       → Goes m l r heads w (record { word = word'; part = table.upd s.part r p' })
-  changed_goes heads w1 word' p' leads run finishes finished over shared runs published records reads_same words sections thunks stay = record {
+  changed_goes heads w1 word' p' leads run finishes finished shared runs records reads_same words sections thunks stay = record {
     next = w1;
     leads = leads_alone m l r heads w w1 leads;
     joined = record {
@@ -108,9 +106,9 @@ module _ (m : Meaning) (l : Layout) (w : AgreementState) (s : Sight) (old : IsJo
       sections = sections;
       thunks = thunks;
       tied = upd_split s.part r p' (λ i p. IsTied m l w1 word' i p)
-          (same_tied w1 word' r (s.part r) p' (ap (λ (f : ℕ → Run). f r) run) (ap (λ (f : ℕ → ℕ). f r) finishes) (λ k. ap (λ (f : ℕ → ℕ → Finished). f r k) finished) (λ x e done o. ap (λ (f : ℕ → Bool). f x.descriptor) over ∙ o) runs published records
+          (same_tied w1 word' r (s.part r) p' (ap (λ (f : ℕ → Run). f r) run) (ap (λ (f : ℕ → ℕ). f r) finishes) (λ k. ap (λ (f : ℕ → ℕ → Finished). f r k) finished) runs records
           (λ a b has. ap (λ (x : Shared). x.seen a b) shared ∙ (old.tied r).read a b (subst (λ y. has_pair y.cells a b ≡ true) reads_same has)) (λ q j e. stay q.descriptor j) (old.tied r))
-          (λ i ne. same_tied w1 word' i (s.part i) (s.part i) (ap (λ (f : ℕ → Run). f i) run) (ap (λ (f : ℕ → ℕ). f i) finishes) (λ k. ap (λ (f : ℕ → ℕ → Finished). f i k) finished) (λ x e done o. ap (λ (f : ℕ → Bool). f x.descriptor) over ∙ o) refl (λ x e done. e) refl
+          (λ i ne. same_tied w1 word' i (s.part i) (s.part i) (ap (λ (f : ℕ → Run). f i) run) (ap (λ (f : ℕ → ℕ). f i) finishes) (λ k. ap (λ (f : ℕ → ℕ → Finished). f i k) finished) refl refl
           (λ a b has. ap (λ (x : Shared). x.seen a b) shared ∙ (old.tied i).read a b has) (λ q j e. stay q.descriptor j) (old.tied i));
     };
   }
@@ -120,8 +118,8 @@ module _ (m : Meaning) (l : Layout) (w : AgreementState) (s : Sight) (old : IsJo
       → Goes m l r (events.StoreDone d number ∷ []) w (record { word = put s.word (spots.DoneWord d) number; part = table.upd s.part r p' })
   done_stored d number p' unused run published records reads_same =
       let w1 = events.after w (events.StoreDone d number) in
-      changed_goes (events.StoreDone d number ∷ []) w1 (put s.word (spots.DoneWord d) number) p' (record { enabled = (unused, tt); there = refl }) refl refl refl refl refl
-      run (λ x e done. sym published ∙ e) records reads_same (let x = old.words in record { cells = x.cells; clock = x.clock; stamp = x.stamp; reply = x.reply })
+      changed_goes (events.StoreDone d number ∷ []) w1 (put s.word (spots.DoneWord d) number) p' (record { enabled = (unused, tt); there = refl }) refl refl refl refl
+      run records reads_same (let x = old.words in record { cells = x.cells; clock = x.clock; stamp = x.stamp; reply = x.reply })
       (upd_split w.section d (record (w.section d) { done = number }) (λ i y. ShowsSection y (put s.word (spots.DoneWord d) number) i)
       (record { log = (old.sections d).log; done = sym (ap (λ b. cond b number (s.word (spots.DoneWord d))) (at d)) })
       (λ i ne. record { log = (old.sections i).log; done = (old.sections i).done ∙ sym (ap (λ b. cond b number (s.word (spots.DoneWord i))) (other i d ne)) }))
@@ -140,8 +138,8 @@ module _ (m : Meaning) (l : Layout) (w : AgreementState) (s : Sight) (old : IsJo
   log_stored d k number p' unused run published records reads_same =
       let w1 = events.after w (events.StoreLog d k number) in
       let x1 : Section = record (w.section d) { log = upd ((w.section d).log) k number } in
-      changed_goes (events.StoreLog d k number ∷ []) w1 (put s.word (spots.LogWord d k) number) p' (record { enabled = (unused, tt); there = refl }) refl refl refl refl refl
-      run (λ x e done. sym published ∙ e) records reads_same (let x = old.words in record { cells = x.cells; clock = x.clock; stamp = x.stamp; reply = x.reply })
+      changed_goes (events.StoreLog d k number ∷ []) w1 (put s.word (spots.LogWord d k) number) p' (record { enabled = (unused, tt); there = refl }) refl refl refl refl
+      run records reads_same (let x = old.words in record { cells = x.cells; clock = x.clock; stamp = x.stamp; reply = x.reply })
       (upd_split w.section d x1 (λ i y. ShowsSection y (put s.word (spots.LogWord d k) number) i)
       (record { done = (old.sections d).done; log = λ j. ap (cond (j == k) number) ((old.sections d).log j) ∙ sym (ap (λ b. cond b (cond (j == k) number (s.word (spots.LogWord d j))) (s.word (spots.LogWord d j))) (at d)) })
       (λ i ne. record { done = (old.sections i).done; log = λ j. (old.sections i).log j ∙ sym (ap (λ b. cond b (cond (j == k) number (s.word (spots.LogWord i j))) (s.word (spots.LogWord i j))) (other i d ne)) }))
@@ -155,21 +153,6 @@ module _ (m : Meaning) (l : Layout) (w : AgreementState) (s : Sight) (old : IsJo
       other : (i n : ℕ) → i ≢ n → (i == n) ≡ false
       other i n ne = grind (arith, nat_tests)
 
-  -- the published descriptor is retired
-  pub retired : (d : ℕ) (p' : PartState) (word' : Spot → ℕ) → SameWords m l s.word word' → w.live d ≡ true → w.over d ≡ true → p'.run ≡ (s.part r).run → p'.published ≡ None → p'.records.finished ≡ (s.part r).records.finished
-      → p'.reads ≡ (s.part r).reads → Goes m l r (events.RetireDescriptor d ∷ []) w (record { word = word'; part = table.upd s.part r p' })
-  retired d p' word' words live over run published records reads_same =
-      let w1 = events.after w (events.RetireDescriptor d) in
-      changed_goes (events.RetireDescriptor d ∷ []) w1 word' p' (record { enabled = ((live, over), tt); there = refl }) refl refl refl refl refl
-      run (λ x e done. absurd (let none = sym published ∙ e in cc)) records reads_same (shows word' words) (λ i. shown word' words i)
-      (thunks_kept m l w w1 s word' old refl (λ i. record { lock = refl; word = refl; request = refl; code = refl; slot = refl }) words.thunks) words.thunks
-    where
-      shows : (word' : Spot → ℕ) → SameWords m l s.word word' → ShowsWords w.shared word'
-      shows word' same = let x = old.words in record { cells = λ p. x.cells p ∙ sym (same.cells p); clock = x.clock ∙ sym same.clock; stamp = λ q. x.stamp q ∙ sym (same.stamp q); reply = λ q. x.reply q ∙ sym (same.reply q) }
-
-      shown : (word' : Spot → ℕ) → SameWords m l s.word word' → (i : ℕ) → ShowsSection (w.section i) word' i
-      shown word' same i = let x = old.sections i in record { log = λ k. x.log k ∙ sym (same.log i k); done = x.done ∙ sym (same.done i) }
-
   -- a run begins with the first word of a published descriptor
   pub run_begins : (d : ℕ) (p' : PartState) → (s.part r).run ≡ None → w.used d ≡ true → p'.run ≡ Some (opened d (s.word (spots.ThunkWord d 0))) → p'.published ≡ (s.part r).published
       → p'.records.finished ≡ (s.part r).records.finished → p'.reads ≡ (s.part r).reads → (word' : Spot → ℕ) → SameWords m l s.word word' → Goes m l r (events.Open r d ∷ []) w (record { word = word'; part = table.upd s.part r p' })
@@ -179,7 +162,7 @@ module _ (m : Meaning) (l : Layout) (w : AgreementState) (s : Sight) (old : IsJo
       let fresh : w1.run r ≡ begun d = upd_here w.run r (begun d) in
       plain_goes m l (events.Open r d ∷ []) w w1 s r word' p' old
       (record { there = refl; enabled = ((subst (ShowsRun (w.run r)) none (old.tied r).run, used), tt) })
-      (record { others = λ i ne. upd_else w.run r (begun d) i ne; finishes = λ i ne. refl; finished = λ i k ne. refl; over = λ k e. e; seen = λ a b e. e })
+      (record { others = λ i ne. upd_else w.run r (begun d) i ne; finishes = λ i ne. refl; finished = λ i k ne. refl; seen = λ a b e. e })
       (let x = old.words in record { cells = λ i. x.cells i ∙ sym (words.cells i); clock = x.clock ∙ sym words.clock; stamp = λ i. x.stamp i ∙ sym (words.stamp i); reply = λ i. x.reply i ∙ sym (words.reply i) })
       (λ i. record { log = λ k. (old.sections i).log k ∙ sym (words.log i k); done = (old.sections i).done ∙ sym (words.done i) })
       (thunks_kept m l w w1 s word' old refl (λ i. record { lock = refl; word = refl; request = refl; code = refl; slot = refl }) words.thunks) words.thunks
@@ -192,7 +175,6 @@ module _ (m : Meaning) (l : Layout) (w : AgreementState) (s : Sight) (old : IsJo
         read = λ a b has. (old.tied r).read a b (subst (λ y. has_pair y.cells a b ≡ true) reads_same has);
         finishes = (old.tied r).finishes ∙ ap length (sym records);
         finished = λ i f e. (old.tied r).finished i f (ap (λ xs. slice_get xs i) (sym records) ∙ e);
-        over = λ x e done. (old.tied r).over x (sym published ∙ e) done;
       })
     where
       first_word : (q : RunState) (j : ℕ) → opened d (s.word (spots.ThunkWord d 0)) ≡ q → j < length q.opened → word' (spots.ThunkWord d 0) ≡ s.word (spots.ThunkWord d 0) → slice_index q.opened j ≡ word' (spots.ThunkWord q.descriptor j)
@@ -213,7 +195,7 @@ module _ (m : Meaning) (l : Layout) (w : AgreementState) (s : Sight) (old : IsJo
       let q1 : RunState = record q { opened = q.opened ++ found ∷ [] } in
       let here : IsRunOf (w.run r) q = places.run_here m l w s old r q is in
       plain_goes m l [] w w s r word' p' old (lead_none m l w)
-      (record { others = λ i ne. refl; finishes = λ i ne. refl; finished = λ i k ne. refl; over = λ k e. e; seen = λ a b e. e })
+      (record { others = λ i ne. refl; finishes = λ i ne. refl; finished = λ i k ne. refl; seen = λ a b e. e })
       (let x = old.words in record { cells = λ i. x.cells i ∙ sym (words.cells i); clock = x.clock ∙ sym words.clock; stamp = λ i. x.stamp i ∙ sym (words.stamp i); reply = λ i. x.reply i ∙ sym (words.reply i) })
       (λ i. record { log = λ k. (old.sections i).log k ∙ sym (words.log i k); done = (old.sections i).done ∙ sym (words.done i) })
       (thunks_kept m l w w s word' old refl (λ i. record { lock = refl; word = refl; request = refl; code = refl; slot = refl }) words.thunks) words.thunks
@@ -227,7 +209,6 @@ module _ (m : Meaning) (l : Layout) (w : AgreementState) (s : Sight) (old : IsJo
         read = λ a b has. (old.tied r).read a b (subst (λ y. has_pair y.cells a b ≡ true) reads_same has);
         finishes = (old.tied r).finishes ∙ ap length (sym records);
         finished = λ i f e. (old.tied r).finished i f (ap (λ xs. slice_get xs i) (sym records) ∙ e);
-        over = λ x e done. (old.tied r).over x (sym published ∙ e) done;
       })
     where
       last_or_before : (xs : List ℕ) (y j : ℕ) → j < length (xs ++ y ∷ []) → ((j < length xs) × (slice_index (xs ++ y ∷ []) j ≡ slice_index xs j)) ⊎ ((j ≡ length xs) × (slice_index (xs ++ y ∷ []) j ≡ y))
@@ -275,8 +256,7 @@ module _ (m : Meaning) (l : Layout) (w : AgreementState) (s : Sight) (old : IsJo
   -- a section is published: the outer lock stood free with the thunk's word, and names the descriptor from now on
   module _ (d : ℕ) (t : Thunk) (p' : PartState) (none : (s.part r).run ≡ None) (unused : w.used d ≡ false) (found : s.word (spots.Cell t.lock) ≡ t.word) (words_of : thunk_in s.word d ≡ t)
       (line_of_t : IsPublishable c d t.lock t.word (micro_at (line (m.body t))) (committed (line (m.body t)))) (undone : s.word (spots.DoneWord d) ≡ 0) (unlogged : (k : ℕ) → s.word (spots.LogWord d k) ≡ 0)
-      (apart : (i : ℕ) (x : Published) → i ≢ r → (s.part i).published ≡ Some x → x.descriptor ≢ d)
-      (run : p'.run ≡ None) (published : (x : Published) → p'.published ≡ Some x → x.over ≡ false) (records : p'.records.finished ≡ (s.part r).records.finished)
+      (run : p'.run ≡ None) (records : p'.records.finished ≡ (s.part r).records.finished)
       (cells : p'.reads.cells ≡ (s.part r).reads.cells ++ (t.lock, s.word (spots.Cell t.lock)) ∷ []) where
     abbrev word' : Spot → ℕ
     word' = put s.word (spots.Cell t.lock) (held_word d t.word)
@@ -299,9 +279,6 @@ module _ (m : Meaning) (l : Layout) (w : AgreementState) (s : Sight) (old : IsJo
       enabled = (tt, ((unused, old.words.cells t.lock ∙ found, line_of_t, (old.sections d).done ∙ undone, λ k. (old.sections d).log k ∙ unlogged k), tt));
     }
 
-    over_else : (x : Published) → x.descriptor ≢ d → w.over x.descriptor ≡ true → w1.over x.descriptor ≡ true
-    over_else x ne e = upd_else w.over d false x.descriptor ne ∙ e
-
     pub publishes : Goes m l r (events.Read t.lock ∷ publish ∷ []) w (record { word = word'; part = table.upd s.part r p' })
     publishes = record {
       next = w1;
@@ -317,9 +294,9 @@ module _ (m : Meaning) (l : Layout) (w : AgreementState) (s : Sight) (old : IsJo
             (λ ne. subst (λ (y : Section). IsOfThunk m y (thunk_in word' i)) (sym (upd_else w.section d section1 i ne)) (old.thunks i (sym (upd_else w.used d true i ne) ∙ used)))
             (cases_eq i d);
         tied = upd_split s.part r p' (λ i p. IsTied m l w1 word' i p)
-            (same_tied w1 word' r (s.part r) p' refl refl (λ k. refl) (λ x e done o. absurd (let no = sym (published x e) ∙ done in cc)) (run ∙ sym none) (λ x e done. absurd (let no = sym (published x e) ∙ done in cc)) records
+            (same_tied w1 word' r (s.part r) p' refl refl (λ k. refl) (run ∙ sym none) records
             (reads_more w t.lock (s.word (spots.Cell t.lock)) (s.part r).reads.cells p'.reads.cells (old.words.cells t.lock) cells (λ a b has. (old.tied r).read a b has)) (λ q j e. refl) (old.tied r))
-            (λ i ne. same_tied w1 word' i (s.part i) (s.part i) refl refl (λ k. refl) (λ x e done o. over_else x (apart i x ne e) o) refl (λ x e done. e) refl
+            (λ i ne. same_tied w1 word' i (s.part i) (s.part i) refl refl (λ k. refl) refl refl
             (λ a b has. (reads_own w r t.lock).seen a b ((old.tied i).read a b has)) (λ q j e. refl) (old.tied i));
       };
     }

@@ -52,7 +52,7 @@ module _ (m : Meaning) (l : Layout) (rs : List Request) (w : AgreementState) (s 
 
   -- the step leads to a joined state, by the events of its kind
   abbrev After : EventKind → Spot × Access → Type 0
-  After kind x = (heads : List events.Event) × IsLineChunk m l w r kind q (s.word x.0) heads × Goes m l r heads w (sight_after m l s r kind x)
+  After kind x = (heads : List events.Event) × IsLineChunk m l w r kind (s.part r) q (s.word x.0) heads × Goes m l r heads w (sight_after m l s r kind x)
 
   run_here : IsRunOf (w.run r) q
   run_here = places.run_here m l w s old r q is
@@ -141,7 +141,7 @@ module _ (m : Meaning) (l : Layout) (rs : List Request) (w : AgreementState) (s 
             subst (λ (p : PartState). Goes m l r (events.SetDone r ∷ []) w (record { word = word'; part = table.upd s.part r p })) (sym (after_line m l r kinds.SetDone x (s.part r) found q micros.SetDone is opened next))
                 (plain_goes m l (events.SetDone r ∷ []) w w1 s r word' (noting l r kinds.SetDone (spots.DoneWord q.descriptor) (Exchanges 0 1) found (done_set (s.part r) q)) old
                 (one m l rs w s old r q is opened (events.SetDone r) (run_here.running, run_here.ended ∙ ap (nat_le 1) going, stops none))
-                (record { others = λ i ne. upd_else w.run r _ i ne; finishes = λ i ne. refl; finished = λ i k ne. refl; over = λ d e. e; seen = λ p word e. e })
+                (record { others = λ i ne. upd_else w.run r _ i ne; finishes = λ i ne. refl; finished = λ i k ne. refl; seen = λ p word e. e })
                 (let y = old.words in record { cells = y.cells; clock = y.clock; stamp = y.stamp; reply = y.reply })
                 (done_sections (exchanged found 0 1) (ap (λ d. written_once ((w.section d).done) 1) run_here.descriptor ∙ ap (λ n. written_once n 1) (old.sections q.descriptor).done))
                 (thunks_kept m l w w1 s word' old refl text (λ d j. refl)) (λ d j. refl)
@@ -154,6 +154,5 @@ module _ (m : Meaning) (l : Layout) (rs : List Request) (w : AgreementState) (s 
                   read = (old.tied r).read;
                   finishes = (old.tied r).finishes ∙ ap length (sym (noted_finished l r kinds.SetDone (spots.DoneWord q.descriptor) (Exchanges 0 1) found (s.part r).records));
                   finished = λ i f e. (old.tied r).finished i f (ap (λ xs. slice_get xs i) (sym (noted_finished l r kinds.SetDone (spots.DoneWord q.descriptor) (Exchanges 0 1) found (s.part r).records)) ∙ e);
-                  over = (old.tied r).over;
                 })),
           )

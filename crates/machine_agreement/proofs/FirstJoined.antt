@@ -51,7 +51,6 @@ module _ (m : Meaning) (l : Layout) (rs : List Request) (w : World) (start : IsF
     read = λ a b has. absurd (let none = has in cc);
     finishes = refl;
     finished = λ i f e. absurd (let none = e in cc);
-    over = λ x e done. absurd (let none = e in cc);
   }
 
   part_tied : (cells : ℕ → ℕ) (r : ℕ) → IsTied m l (first_state cells) s.word r (s.part r)

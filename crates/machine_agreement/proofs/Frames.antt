@@ -46,9 +46,9 @@ same_thunk m x y t same is = record {
 module _ (m : Meaning) (l : Layout) where
   -- a runner to whom nothing happens: its run, the words that it has loaded, and what it has read are as before
   pub tied_stays : (w w' : AgreementState) (word word' : Spot → ℕ) (r : ℕ) (p : PartState) → w'.run r ≡ w.run r → w'.finishes r ≡ w.finishes r → ((i : ℕ) → w'.finished r i ≡ w.finished r i)
-      → ((d : ℕ) → w.over d ≡ true → w'.over d ≡ true) → ((place found : ℕ) → w.shared.seen place found ≡ true → w'.shared.seen place found ≡ true)
+      → ((place found : ℕ) → w.shared.seen place found ≡ true → w'.shared.seen place found ≡ true)
       → ((d j : ℕ) → word' (spots.ThunkWord d j) ≡ word (spots.ThunkWord d j)) → IsTied m l w word r p → IsTied m l w' word' r p
-  tied_stays w w' word word' r p run finishes finished over seen thunk tied = record {
+  tied_stays w w' word word' r p run finishes finished seen thunk tied = record {
     run = shows p.run tied.run;
     opened = λ q j is low more. tied.opened q j is low more ∙ sym (thunk q.descriptor j);
     begins = tied.begins;
@@ -57,7 +57,6 @@ module _ (m : Meaning) (l : Layout) where
     read = λ place found is. seen place found (tied.read place found is);
     finishes = finishes ∙ tied.finishes;
     finished = λ i f is. subst (λ (x : Finished). IsFinishOf x f) (sym (finished i)) (tied.finished i f is);
-    over = λ x is e. over x.descriptor (tied.over x is e);
   }
     where
       shows : (o : Option RunState) → ShowsRun (w.run r) o → ShowsRun (w'.run r) o
@@ -88,7 +87,6 @@ module _ (m : Meaning) (l : Layout) where
     read = read;
     finishes = ap (λ (f : ℕ → ℕ). f r) step.finishes ∙ (tied.finishes ∙ ap length (sym own.finished));
     finished = λ i f e. subst (λ (x : Finished). IsFinishOf x f) (ap (λ (g : ℕ → ℕ → Finished). g r i) (sym step.finished)) (tied.finished i f (ap (λ xs. slice_get xs i) (sym own.finished) ∙ e));
-    over = λ x e done. ap (λ (f : ℕ → Bool). f x.descriptor) step.over ∙ tied.over x (sym own.published ∙ e) done;
   }
     where
       is_next : (k : RunState) → p'.run ≡ Some k → k ≡ settles m l q'

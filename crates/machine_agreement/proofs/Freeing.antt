@@ -37,7 +37,7 @@ module _ (m : Meaning) (l : Layout) (s : Sight) where
           words = old.words;
           sections = old.sections;
           thunks = λ i used. old.thunks i (still (w.used) d i used);
-          tied = λ r. let t = old.tied r in record { run = t.run; opened = t.opened; begins = t.begins; rests = t.rests; released = t.released; read = t.read; finishes = t.finishes; finished = t.finished; over = t.over };
+          tied = λ r. let t = old.tied r in record { run = t.run; opened = t.opened; begins = t.begins; rests = t.rests; released = t.released; read = t.read; finishes = t.finishes; finished = t.finished };
         };
         used = λ i. one_less w.used d i;
         live = refl;

@@ -13,9 +13,7 @@ use Rattle.machine_states.specs.table_words.specs.declared.access.Access.{Access
 use Rattle.machine_states.specs.structure_laws.specs.Meaning.{Meaning}
 use Rattle.machine_states.specs.runner_parts.specs.declared.event.EventKind.{EventKind}
 use Rattle.machine_states.specs.runner_parts.specs.declared.event.EventKind.TheVariants as kinds
-use Rattle.machine_states.specs.runner_parts.specs.State.{RunState, ReadsState, PartState}
-use Rattle.machine_states.specs.runner_parts.specs.Tests.{has}
-use Rattle.machine_states.specs.runner_parts.specs.Lists.{lock_agreed, holds_named}
+use Rattle.machine_states.specs.runner_parts.specs.State.{RunState, PartState}
 use Rattle.machine_states.specs.runner_steps.specs.Sections.{is_open_run, next_of}
 use Rattle.machine_states.specs.runner_steps.specs.Asks.{asks}
 use Rattle.machine_states.specs.runner_steps.specs.AfterInRun.{make_committed}
@@ -35,7 +33,7 @@ use Rattle.machine_agreement.proofs.LineKinds.{load_goes, number_goes, commit_go
 module _ (m : Meaning) (l : Layout) (rs : List Request) (w : AgreementState) (s : Sight) (old : IsJoinedToAgreement m l w s) (r : ℕ) (q : RunState) (is : (s.part r).run ≡ Some q) (opened : is_open_run q ≡ true) where
   -- the step leads to a joined state, by the events of its kind
   abbrev After : EventKind → Spot × Access → Type 0
-  After kind x = (heads : List events.Event) × IsLineChunk m l w r kind q (s.word x.0) heads × Goes m l r heads w (sight_after m l s r kind x)
+  After kind x = (heads : List events.Event) × IsLineChunk m l w r kind (s.part r) q (s.word x.0) heads × Goes m l r heads w (sight_after m l s r kind x)
 
   before : (micro : Micro) → is_of_end micro ≡ false → is_event micro ≡ true → next_of m q ≡ micro → IsBefore w r micro
   before micro inner event next = places.before m l w s old r q is (all m l rs w s old r q is opened) micro inner event next
@@ -94,13 +92,6 @@ module _ (m : Meaning) (l : Layout) (rs : List Request) (w : AgreementState) (s 
   own_word : (w.run r).word ≡ q.word
   own_word = (places.run_here m l w s old r q is).word
 
-  lock_cells : (reads : ReadsState) (d word : ℕ) → (lock_agreed reads d word).cells ≡ reads.cells
-  lock_cells reads d word = by (has reads.published d)
-    where
-      by : (b : Bool) → (if b then holds_named reads word else reads).cells ≡ reads.cells
-      by true = refl
-      by false = refl
-
   pub commit : (x : Spot × Access) → asks m l rs r kinds.Commit (s.part r) ≡ Some x → After kinds.Commit x
   commit x e =
       let h = asked.commit_asked q x (next_of m q) (asked.line_asked m l rs r kinds.Commit (s.part r) q x e is opened) in
@@ -117,8 +108,7 @@ module _ (m : Meaning) (l : Layout) (rs : List Request) (w : AgreementState) (s 
         (h.0, h.1, inr (lock, refl)),
         commit_goes m l rs w s old r q is opened kinds.Commit h.1 ((w.run r).word) q.word (micros.NestedCommit h.0 h.1) (events.NestedCommit r h.0 h.1) lock refl refl refl own_word
             (before (micros.NestedCommit h.0 h.1) refl refl lock)
-            (record q { at = q.at + 1; trail = q.trail ++ written_once (s.word (spots.LogWord q.descriptor h.1)) q.word ∷ [] }) refl refl refl refl refl refl (record { run = refl; published = refl; finished = refl })
-            (lock_cells (s.part r).reads q.descriptor (written_once (s.word (spots.LogWord q.descriptor h.1)) q.word)),
+            (record q { at = q.at + 1; trail = q.trail ++ written_once (s.word (spots.LogWord q.descriptor h.1)) q.word ∷ [] }) refl refl refl refl refl refl (record { run = refl; published = refl; finished = refl }) refl,
       )) h.2)
 
   pub outcome_commit : (x : Spot × Access) → asks m l rs r kinds.OutcomeCommit (s.part r) ≡ Some x → After kinds.OutcomeCommit x
@@ -129,8 +119,7 @@ module _ (m : Meaning) (l : Layout) (rs : List Request) (w : AgreementState) (s 
         (h.0, h.1, h.2, refl),
         commit_goes m l rs w s old r q is opened kinds.OutcomeCommit h.1 ((w.run r).word) q.word (micros.OutcomeCommit h.0 h.1) (events.OutcomeCommit r h.0 h.1) h.2 refl refl refl own_word
             (before (micros.OutcomeCommit h.0 h.1) refl refl h.2)
-            (record q { at = q.at + 1; trail = q.trail ++ written_once (s.word (spots.LogWord q.descriptor h.1)) q.word ∷ [] }) refl refl refl refl refl refl (record { run = refl; published = refl; finished = refl })
-            (lock_cells (s.part r).reads q.descriptor (written_once (s.word (spots.LogWord q.descriptor h.1)) q.word)),
+            (record q { at = q.at + 1; trail = q.trail ++ written_once (s.word (spots.LogWord q.descriptor h.1)) q.word ∷ [] }) refl refl refl refl refl refl (record { run = refl; published = refl; finished = refl }) refl,
       )
 
   pub retire_commit : (x : Spot × Access) → asks m l rs r kinds.RetireCommit (s.part r) ≡ Some x → After kinds.RetireCommit x

@@ -33,7 +33,7 @@ module _ (m : Meaning) (l : Layout) where
   after_outside r kind x p found none = ap (noting l r kind x.0 x.1 found) (ap (λ o. after_by m l kind p o found) none)
 
   other_none : (w : AgreementState) (r : ℕ) → IsOtherStep m l w w r
-  other_none w r = record { others = λ i ne. refl; finishes = λ i ne. refl; finished = λ i k ne. refl; over = λ d e. e; seen = λ p word e. e }
+  other_none w r = record { others = λ i ne. refl; finishes = λ i ne. refl; finished = λ i k ne. refl; seen = λ p word e. e }
 
   pub lead_none : (w : AgreementState) → LeadBy m l [] w w
   lead_none w = record { enabled = tt; there = refl }
@@ -41,7 +41,6 @@ module _ (m : Meaning) (l : Layout) where
   -- what a part keeps that the component sees
   pub record IsSamePart (p p' : PartState) : Type 0 where
     pub run : p'.run ≡ p.run
-    pub published : (x : Published) → p'.published ≡ Some x → p.published ≡ Some x
     pub finished : p'.records.finished ≡ p.records.finished
     pub read : (place found : ℕ) → has_pair p'.reads.cells place found ≡ true → has_pair p.reads.cells place found ≡ true
 
@@ -67,10 +66,10 @@ module _ (m : Meaning) (l : Layout) where
   section_same x word word' d same old = record { log = λ k. old.log k ∙ sym (same.log d k); done = old.done ∙ sym (same.done d) }
 
   -- a part that keeps what the component sees is tied as before, with what else it has read
-  tied_same : (w w' : AgreementState) (word : Spot → ℕ) (r : ℕ) (p p' : PartState) → w'.run ≡ w.run → w'.finishes ≡ w.finishes → w'.finished ≡ w.finished → w'.over ≡ w.over
-      → p'.run ≡ p.run → ((x : Published) → p'.published ≡ Some x → p.published ≡ Some x) → p'.records.finished ≡ p.records.finished
+  tied_same : (w w' : AgreementState) (word : Spot → ℕ) (r : ℕ) (p p' : PartState) → w'.run ≡ w.run → w'.finishes ≡ w.finishes → w'.finished ≡ w.finished
+      → p'.run ≡ p.run → p'.records.finished ≡ p.records.finished
       → ((place found : ℕ) → has_pair p'.reads.cells place found ≡ true → w'.shared.seen place found ≡ true) → IsTied m l w word r p → IsTied m l w' word r p'
-  tied_same w w' word r p p' runs finishes finished over run published kept read tied = record {
+  tied_same w w' word r p p' runs finishes finished run kept read tied = record {
     run = subst (λ (f : ℕ → Run). ShowsRun (f r) p'.run) (sym runs) (subst (ShowsRun (w.run r)) (sym run) tied.run);
     opened = λ q j e. tied.opened q j (sym run ∙ e);
     begins = λ q e. tied.begins q (sym run ∙ e);
@@ -79,12 +78,11 @@ module _ (m : Meaning) (l : Layout) where
     read = read;
     finishes = ap (λ (f : ℕ → ℕ). f r) finishes ∙ (tied.finishes ∙ ap length (sym kept));
     finished = λ i f e. subst (λ (y : Finished). IsFinishOf y f) (ap (λ (g : ℕ → ℕ → Finished). g r i) (sym finished)) (tied.finished i f (ap (λ xs. slice_get xs i) (sym kept) ∙ e));
-    over = λ x e done. ap (λ (f : ℕ → Bool). f x.descriptor) over ∙ tied.over x (published x e) done;
   }
 
   -- the same with other words of which the component's thunks are as before
   pub tied_word : (w : AgreementState) (word word' : Spot → ℕ) (r : ℕ) (p : PartState) → ThunksStay word word' → IsTied m l w word r p → IsTied m l w word' r p
-  tied_word w word word' r p stay tied = tied_stays m l w w word word' r p refl refl (λ i. refl) (λ d e. e) (λ a b e. e) stay tied
+  tied_word w word word' r p stay tied = tied_stays m l w w word word' r p refl refl (λ i. refl) (λ a b e. e) stay tied
 
   module _ (w : AgreementState) (s : Sight) (old : IsJoinedToAgreement m l w s) (r : ℕ) where
     -- a step that the component doesn't see
@@ -92,7 +90,7 @@ module _ (m : Meaning) (l : Layout) where
     quiet_joined word' p' words same = plain_joined m l [] w w s r word' p' old (lead_none w) (other_none w r) (shows_same w.shared s.word word' words old.words)
         (λ d. section_same (w.section d) s.word word' d words (old.sections d))
         (thunks_kept m l w w s word' old refl (λ d. record { lock = refl; word = refl; request = refl; code = refl; slot = refl }) words.thunks) words.thunks
-        (tied_word w s.word word' r p' words.thunks (tied_same w w s.word r (s.part r) p' refl refl refl refl same.run same.published same.finished (λ a b has. (old.tied r).read a b (same.read a b has)) (old.tied r)))
+        (tied_word w s.word word' r p' words.thunks (tied_same w w s.word r (s.part r) p' refl refl refl same.run same.finished (λ a b has. (old.tied r).read a b (same.read a b has)) (old.tied r)))
 
     pub quiet_goes : (word' : Spot → ℕ) (p' : PartState) → SameWords s.word word' → IsSamePart (s.part r) p' → Goes m l r [] w (record { word = word'; part = table.upd s.part r p' })
     quiet_goes word' p' words same = record { next = w; leads = leads_alone m l r [] w w (lead_none w); joined = quiet_joined word' p' words same }
@@ -105,7 +103,7 @@ module _ (m : Meaning) (l : Layout) where
         let w1 = events.after w (events.ReadReply n reply) in
         let x = old.words in
         plain_goes m l (events.ReadReply n reply ∷ []) w w1 s r word' p' old (record { enabled = (some, tt); there = refl })
-        (record { others = λ i ne. refl; finishes = λ i ne. refl; finished = λ i k ne. refl; over = λ d e. e; seen = λ a b e. e })
+        (record { others = λ i ne. refl; finishes = λ i ne. refl; finished = λ i k ne. refl; seen = λ a b e. e })
         (record {
           cells = x.cells;
           clock = x.clock;
@@ -115,7 +113,7 @@ module _ (m : Meaning) (l : Layout) where
         })
         (λ d. record { log = (old.sections d).log; done = (old.sections d).done })
         (thunks_kept m l w w1 s word' old refl (λ d. record { lock = refl; word = refl; request = refl; code = refl; slot = refl }) (λ d j. refl)) (λ d j. refl)
-        (tied_word w1 s.word word' r p' (λ d j. refl) (tied_same w w1 s.word r (s.part r) p' refl refl refl refl same.run same.published same.finished
+        (tied_word w1 s.word word' r p' (λ d j. refl) (tied_same w w1 s.word r (s.part r) p' refl refl refl same.run same.finished
         (λ a b has. (old.tied r).read a b (same.read a b has)) (old.tied r)))
 
     pub stamp_goes : (n stamp : ℕ) → stamp ≢ 0 → (p' : PartState) → IsSamePart (s.part r) p'
@@ -125,7 +123,7 @@ module _ (m : Meaning) (l : Layout) where
         let w1 = events.after w (events.ReadStamp n stamp) in
         let x = old.words in
         plain_goes m l (events.ReadStamp n stamp ∷ []) w w1 s r word' p' old (record { enabled = (some, tt); there = refl })
-        (record { others = λ i ne. refl; finishes = λ i ne. refl; finished = λ i k ne. refl; over = λ d e. e; seen = λ a b e. e })
+        (record { others = λ i ne. refl; finishes = λ i ne. refl; finished = λ i k ne. refl; seen = λ a b e. e })
         (record {
           cells = x.cells;
           clock = x.clock;
@@ -135,19 +133,19 @@ module _ (m : Meaning) (l : Layout) where
         })
         (λ d. record { log = (old.sections d).log; done = (old.sections d).done })
         (thunks_kept m l w w1 s word' old refl (λ d. record { lock = refl; word = refl; request = refl; code = refl; slot = refl }) (λ d j. refl)) (λ d j. refl)
-        (tied_word w1 s.word word' r p' (λ d j. refl) (tied_same w w1 s.word r (s.part r) p' refl refl refl refl same.run same.published same.finished
+        (tied_word w1 s.word word' r p' (λ d j. refl) (tied_same w w1 s.word r (s.part r) p' refl refl refl same.run same.finished
         (λ a b has. (old.tied r).read a b (same.read a b has)) (old.tied r)))
 
     -- a cell is read
-    pub read_goes : (place : ℕ) (p' : PartState) → p'.run ≡ (s.part r).run → ((x : Published) → p'.published ≡ Some x → (s.part r).published ≡ Some x) → p'.records.finished ≡ (s.part r).records.finished
+    pub read_goes : (place : ℕ) (p' : PartState) → p'.run ≡ (s.part r).run → p'.records.finished ≡ (s.part r).records.finished
         → p'.reads.cells ≡ (s.part r).reads.cells ++ (place, s.word (spots.Cell place)) ∷ [] → (word' : Spot → ℕ) → SameWords s.word word'
         → Goes m l r (events.Read place ∷ []) w (record { word = word'; part = table.upd s.part r p' })
-    read_goes place p' run published finished cells word' words =
+    read_goes place p' run finished cells word' words =
         let w1 = reads w place in
         plain_goes m l (events.Read place ∷ []) w w1 s r word' p' old (record { enabled = (tt, tt); there = refl })
-        (record { others = λ i ne. refl; finishes = λ i ne. refl; finished = λ i k ne. refl; over = λ d e. e; seen = (reads_own w r place).seen })
+        (record { others = λ i ne. refl; finishes = λ i ne. refl; finished = λ i k ne. refl; seen = (reads_own w r place).seen })
         (let x = shows_same w.shared s.word word' words old.words in record { cells = x.cells; clock = x.clock; stamp = x.stamp; reply = x.reply })
         (λ d. section_same (w.section d) s.word word' d words (old.sections d))
         (thunks_kept m l w w1 s word' old refl (λ d. record { lock = refl; word = refl; request = refl; code = refl; slot = refl }) words.thunks) words.thunks
-        (tied_word w1 s.word word' r p' words.thunks (tied_same w w1 s.word r (s.part r) p' refl refl refl refl run published finished
+        (tied_word w1 s.word word' r p' words.thunks (tied_same w w1 s.word r (s.part r) p' refl refl refl run finished
         (reads_more w place (s.word (spots.Cell place)) (s.part r).reads.cells p'.reads.cells (old.words.cells place) cells (λ a b has. (old.tied r).read a b has)) (old.tied r)))

@@ -1,6 +1,5 @@
 -- The kinds of step outside a run, joined.
 use Rattle.std.specs.Prelude.{◌==◌, ◌&&◌, not, Bool, true, false, nat_le, nat_lt, if◌then◌else◌}
-use Rattle.std.specs.List.{filter}
 use Rattle.std.proofs.Common.{◌≡◌, ◌≢◌, ℕ, ◌+◌, ◌-◌, ◌<◌, ◌≤◌, List, [], ◌∷◌, ◌++◌, sym, refl, ap, ◌∙◌, subst, arith, inl, inr, Option, Some, None}
 use Rattle.std.proofs.lemmas.Bool.Decides.{nat_tests}
 use Rattle.machine_states.specs.map_history.specs.declared.op.Request.{Request}
@@ -26,7 +25,8 @@ use Rattle.machine_states.specs.runner_parts.specs.declared.entries.LookStage.Th
 use Rattle.machine_states.specs.runner_parts.specs.declared.entries.Published.{Published}
 use Rattle.machine_states.specs.runner_parts.specs.State.{RecordsState, NodesState, DescriptorsState, PartState}
 use Rattle.machine_states.specs.runner_parts.specs.Tests.{has}
-use Rattle.machine_states.specs.runner_steps.specs.Outside.{descriptor_spot, retire_ask, is_over}
+use Rattle.machine_states.specs.runner_steps.specs.Outside.{descriptor_spot, is_sure_of}
+use Rattle.machine_states.specs.runner_steps.specs.Guards.{is_last_guard}
 use Rattle.machine_states.specs.epoch_core.specs.State.{last_epoch}
 use Rattle.machine_states.specs.runner_steps.specs.Sections.{reply_in}
 use Rattle.machine_states.specs.runner_steps.specs.Reads.{read_stamp_after, plan_by, looked_by, come_to, reply_known, stamp_known}
@@ -37,12 +37,11 @@ use Rattle.machine_states.specs.runner_steps.specs.After.{outside_after, noted}
 use Rattle.agreement_core.specs.State.{AgreementState}
 use Rattle.agreement_core.specs.Events as events
 use Rattle.machine_states.specs.Sight.{Sight}
-use Rattle.machine_states.proofs.Sights.{if_some}
 use Rattle.machine_epochs.proofs.OutsideAsked as asked
 use Rattle.machine_epochs.proofs.ReadsAsked as reads_asked
 use Rattle.machine_agreement.specs.Joined.{IsJoinedToAgreement}
-use Rattle.machine_agreement.specs.Supplied.{IsIdle, MayPublish, collects, scan_collects, advance_collects}
-use Rattle.machine_agreement.specs.Chunks.{publication, stored, collected, IsOutsideChunk}
+use Rattle.machine_agreement.specs.Supplied.{IsIdle, MayPublish}
+use Rattle.machine_agreement.specs.Chunks.{publication, stored, frees, unnamed, IsOutsideChunk}
 use Rattle.machine_agreement.specs.Goes.{Goes}
 use Rattle.machine_agreement.proofs.Assembly.{leads_alone}
 use Rattle.machine_agreement.proofs.LineKinds.{noting, noted_finished}
@@ -54,7 +53,7 @@ use Rattle.machine_states.specs.runner_steps.specs.AfterOutside.{published_by}
 -- a part that differs in what the component doesn't see
 pub same_part : (m : Meaning) (l : Layout) (p : PartState) (stage : Stage) (nodes : NodesState) (descriptors : DescriptorsState) (records : RecordsState) → records.finished ≡ p.records.finished
     → IsSamePart m l p (record p { stage = stage; nodes = nodes; descriptors = descriptors; records = records })
-same_part m l p stage nodes descriptors records finished = record { run = refl; published = λ x e. e; finished = finished; read = λ a b e. e }
+same_part m l p stage nodes descriptors records finished = record { run = refl; finished = finished; read = λ a b e. e }
 
 -- what is noted of a step, of records whose ends are as before
 ends : (l : Layout) (r : ℕ) (kind : EventKind) (spot : Spot) (access : Access) (n : ℕ) (records before : RecordsState) → records.finished ≡ before.finished → (noted l r kind spot access n records).finished ≡ before.finished
@@ -74,8 +73,8 @@ split_part m l r p spot access n = by (nat_lt p.records.splits l.runners)
     abbrev_of b = if b then record p { records = record (p.records) { splits = p.records.splits + 1 } } else p
 
     by : (b : Bool) → IsSamePart m l p (noting l r kinds.Split spot access n (if b then record p { records = record (p.records) { splits = p.records.splits + 1 } } else p))
-    by true = record { run = refl; published = λ x e. e; finished = noted_finished l r kinds.Split spot access n (record (p.records) { splits = p.records.splits + 1 }); read = λ a b e. e }
-    by false = record { run = refl; published = λ x e. e; finished = noted_finished l r kinds.Split spot access n p.records; read = λ a b e. e }
+    by true = record { run = refl; finished = noted_finished l r kinds.Split spot access n (record (p.records) { splits = p.records.splits + 1 }); read = λ a b e. e }
+    by false = record { run = refl; finished = noted_finished l r kinds.Split spot access n p.records; read = λ a b e. e }
 
 learned_finished : (records : RecordsState) (request : ℕ) (reply : Bool) (n : ℕ) → (lists.learned records request reply n).finished ≡ records.finished
 learned_finished records request reply n = by (n == 0)
@@ -83,18 +82,6 @@ learned_finished records request reply n = by (n == 0)
     by : (b : Bool) → (if b then records else record records { known = records.known ++ record { request = request; reply = reply; number = n } ∷ [] }).finished ≡ records.finished
     by true = refl
     by false = refl
-
--- a section that is retired was run to its end
-retire_over : (p : PartState) (x : Spot × Access) → retire_ask p ≡ Some x → is_over p.published ≡ true
-retire_over p x e = second _ _ (if_some _ _ x e).0
-  where
-    second : (a b : Bool) → (a && b) ≡ true → b ≡ true
-    second true b e = e
-    second false b e = cc
-
-over_of : (o : Option Published) (y : Published) → is_over o ≡ true → o ≡ Some y → y.over ≡ true
-over_of None y over e = cc
-over_of (Some x) y over e = let same : x ≡ y = cc in ap (λ (z : Published). z.over) (sym same) ∙ over
 
 module _ (m : Meaning) (l : Layout) (rs : List Request) (w : AgreementState) (s : Sight) (old : IsJoinedToAgreement m l w s) (r : ℕ) (none : (s.part r).run ≡ None) where
   abbrev p : PartState
@@ -133,7 +120,7 @@ module _ (m : Meaning) (l : Layout) (rs : List Request) (w : AgreementState) (s 
 
   pub enter_again : (x : Spot × Access) → outside_ask m l rs r kinds.EnterAgain p ≡ Some x → To kinds.EnterAgain x
   enter_again x e = let h = asked.enter_again_asked p x e in quiet kinds.EnterAgain x refl (loads spots.Epoch x h.1)
-      (record { run = refl; published = λ y e. e; finished = noted_finished l r kinds.EnterAgain x.0 x.1 (s.word x.0) p.records; read = λ a b e. absurd (let no = e in cc) })
+      (record { run = refl; finished = noted_finished l r kinds.EnterAgain x.0 x.1 (s.word x.0) p.records; read = λ a b e. absurd (let no = e in cc) })
 
   pub exit : (x : Spot × Access) → outside_ask m l rs r kinds.Idle p ≡ Some x → To kinds.Idle x
   exit x e = let h = asked.idle_asked r p x e in
@@ -154,7 +141,7 @@ module _ (m : Meaning) (l : Layout) (rs : List Request) (w : AgreementState) (s 
   look_part : (kind : EventKind) (x : Spot × Access) (look : Option Look) (records : RecordsState) → records.finished ≡ p.records.finished
       → IsSamePart m l p (noting l r kind x.0 x.1 (s.word x.0) (record p { reads = record (p.reads) { look = look }; records = records }))
   look_part kind x look records e =
-      record { run = refl; published = λ y h. h; finished = ends l r kind x.0 x.1 (s.word x.0) records p.records e; read = λ a b h. h }
+      record { run = refl; finished = ends l r kind x.0 x.1 (s.word x.0) records p.records e; read = λ a b h. h }
 
   pub read_plan : (thunk : Thunk) (x : Spot × Access) → outside_ask m l rs r (kinds.ReadPlan thunk) p ≡ Some x → To (kinds.ReadPlan thunk) x
   read_plan thunk x e = quiet (kinds.ReadPlan thunk) x refl
@@ -209,32 +196,18 @@ module _ (m : Meaning) (l : Layout) (rs : List Request) (w : AgreementState) (s 
       subst (To (kinds.LoadCell (Some place))) h.2 (
         events.Read place ∷ [],
         refl,
-        read_goes m l w s old r place _ refl (λ y e. e) (noted_finished l r (kinds.LoadCell (Some place)) (spots.Cell place) Loads (s.word (spots.Cell place)) p.records) refl
+        read_goes m l w s old r place _ refl (noted_finished l r (kinds.LoadCell (Some place)) (spots.Cell place) Loads (s.word (spots.Cell place)) p.records) refl
             (word_of (spots.Cell place, Loads)) (load_same m l s.word (spots.Cell place)),
       )
 
   -- a runner in no run begins one with the first word of a published descriptor
-  pub load_thunk : (d : ℕ) (x : Spot × Access) → outside_ask m l rs r (kinds.LoadThunk (Some d)) p ≡ Some x → (has p.reads.held d ≡ true → w.used d ≡ true) → To (kinds.LoadThunk (Some d)) x
+  pub load_thunk : (d : ℕ) (x : Spot × Access) → outside_ask m l rs r (kinds.LoadThunk (Some d)) p ≡ Some x → (is_sure_of p.guards d ≡ true → w.used d ≡ true) → To (kinds.LoadThunk (Some d)) x
   load_thunk d x e used = let h = asked.open_asked d p x e in
       subst (To (kinds.LoadThunk (Some d))) h.3 (
         events.Open r d ∷ [],
         refl,
         descriptors.run_begins m l w s old r d _ none (used h.2) refl refl (noted_finished l r (kinds.LoadThunk (Some d)) (spots.ThunkWord d 0) Loads (s.word (spots.ThunkWord d 0)) p.records) refl
             (word_of (spots.ThunkWord d 0, Loads)) (load_same m l s.word (spots.ThunkWord d 0)),
-      )
-
-  -- the own section's descriptor is retired
-  pub retire_descriptor : (x : Spot × Access) → outside_ask m l rs r kinds.EpochForRetire p ≡ Some x → ((y : Published) → p.published ≡ Some y → w.live y.descriptor ≡ true) → To kinds.EpochForRetire x
-  retire_descriptor x e live =
-      let h = asked.retire_asked p x e in
-      let found = s.word spots.Epoch in
-      let after : outside_after m l kinds.EpochForRetire p found ≡ outside.retire_after p (Some h.1) found = ap (λ o. outside.retire_after p o found) h.3 in
-      subst (To kinds.EpochForRetire) h.4 (
-        events.RetireDescriptor h.1.descriptor ∷ [],
-        (h.1, h.3, refl),
-        subst (λ (q : PartState). Goes m l r (events.RetireDescriptor h.1.descriptor ∷ []) w (record { word = word_of (spots.Epoch, Loads); part = table.upd s.part r (noting l r kinds.EpochForRetire spots.Epoch Loads found q) })) (sym after)
-            (descriptors.retired m l w s old r h.1.descriptor _ (word_of (spots.Epoch, Loads)) (load_same m l s.word spots.Epoch) (live h.1 h.3)
-            ((old.tied r).over h.1 h.3 (over_of p.published h.1 (retire_over p x e) h.3)) refl refl (noted_finished l r kinds.EpochForRetire spots.Epoch Loads found p.records) refl),
       )
 
   -- a private store into a word of an own free descriptor
@@ -271,12 +244,14 @@ module _ (m : Meaning) (l : Layout) (rs : List Request) (w : AgreementState) (s 
         let after : outside.hold_after t d p found ≡ record p {
           published = Some (published_by t d p);
           descriptors = lists.descriptor_taken p.descriptors d;
-          reads = lists.section_published (lists.cell_read p.reads t.lock found) d;
+          guards = lists.published_seen p.guards d;
+          reads = lists.cell_read p.reads t.lock found;
         } = ap (λ b. if b then record p {
           published = Some (published_by t d p);
           descriptors = lists.descriptor_taken p.descriptors d;
-          reads = lists.section_published (lists.cell_read p.reads t.lock found) d;
-        } else record p { reads = lists.holds_named (lists.cell_read p.reads t.lock found) found }) e in
+          guards = lists.published_seen p.guards d;
+          reads = lists.cell_read p.reads t.lock found;
+        } else record p { reads = lists.cell_read p.reads t.lock found }) e in
         let new : written (Exchanges t.word (held_word d t.word)) found ≡ held_word d t.word = ap (λ b. if b then held_word d t.word else found) e in (
           events.Read t.lock ∷ publication m d t ∷ [],
           inl (same, refl),
@@ -286,10 +261,11 @@ module _ (m : Meaning) (l : Layout) (rs : List Request) (w : AgreementState) (s 
                 part = table.upd s.part r (noting l r (kinds.Hold t d) (spots.Cell t.lock) (Exchanges t.word (held_word d t.word)) found (record p {
                   published = Some (published_by t d p);
                   descriptors = lists.descriptor_taken p.descriptors d;
-                  reads = lists.section_published (lists.cell_read p.reads t.lock found) d;
+                  guards = lists.published_seen p.guards d;
+                  reads = lists.cell_read p.reads t.lock found;
                 }));
               })) (sym new)
-              (descriptors.publishes m l w s old r d t _ none unused same may.words may.publishable may.undone may.unlogged may.apart none (λ y e. ap (λ (z : Published). z.over) (let both : published_by t d p ≡ y = cc in sym both))
+              (descriptors.publishes m l w s old r d t _ none unused same may.words may.publishable may.undone may.unlogged none
               (noted_finished l r (kinds.Hold t d) (spots.Cell t.lock) (Exchanges t.word (held_word d t.word)) found p.records) refl)),
         )
       where
@@ -298,17 +274,18 @@ module _ (m : Meaning) (l : Layout) (rs : List Request) (w : AgreementState) (s 
 
     lost : (found == t.word) ≡ false → To (kinds.Hold t d) hold
     lost e =
-        let after : outside.hold_after t d p found ≡ record p { reads = lists.holds_named (lists.cell_read p.reads t.lock found) found }
+        let after : outside.hold_after t d p found ≡ record p { reads = lists.cell_read p.reads t.lock found }
         = ap (λ b. if b then record p {
           published = Some (published_by t d p);
           descriptors = lists.descriptor_taken p.descriptors d;
-          reads = lists.section_published (lists.cell_read p.reads t.lock found) d;
-        } else record p { reads = lists.holds_named (lists.cell_read p.reads t.lock found) found }) e in
+          guards = lists.published_seen p.guards d;
+          reads = lists.cell_read p.reads t.lock found;
+        } else record p { reads = lists.cell_read p.reads t.lock found }) e in
         let same : written (Exchanges t.word (held_word d t.word)) found ≡ found = ap (λ b. if b then held_word d t.word else found) e in (
           events.Read t.lock ∷ [],
           inr (differ found t.word e, refl),
           subst (λ (q : PartState). Goes m l r (events.Read t.lock ∷ []) w (record { word = word_of hold; part = table.upd s.part r (noting l r (kinds.Hold t d) (spots.Cell t.lock) (Exchanges t.word (held_word d t.word)) found q) })) (sym after)
-              (read_goes m l w s old r t.lock _ refl (λ y e. e) (noted_finished l r (kinds.Hold t d) (spots.Cell t.lock) (Exchanges t.word (held_word d t.word)) found p.records) refl (word_of hold)
+              (read_goes m l w s old r t.lock _ refl (noted_finished l r (kinds.Hold t d) (spots.Cell t.lock) (Exchanges t.word (held_word d t.word)) found p.records) refl (word_of hold)
               (subst (λ n. SameWords m l s.word (put s.word (spots.Cell t.lock) n)) (sym same) (load_same m l s.word (spots.Cell t.lock)))),
         )
       where
@@ -325,55 +302,83 @@ module _ (m : Meaning) (l : Layout) (rs : List Request) (w : AgreementState) (s 
       let h = asked.hold_asked m l rs r t d p x e in
       subst (To (kinds.Hold t d)) h.is (hold_goes t d (unused d h.free) supplied (s.word (spots.Cell t.lock) == t.word) refl)
 
-  -- a scan goes on, or is over and the descriptors that have waited long enough are free
-  collect_goes : (kind : EventKind) (x : Spot × Access) (epoch : ℕ) → SameWords m l s.word (word_of x)
-      → ((d : ℕ) → has (lists.slots_of (filter (lists.is_old epoch) p.descriptors.limbo)) d ≡ true → IsIdle w d)
-      → Goes m l r (collected (Some epoch) p) w (record { word = word_of x; part = table.upd s.part r (noting l r kind x.0 x.1 (s.word x.0) (outside.collected p epoch)) })
-  collect_goes kind x epoch words idle =
-      let free = freed m l s (lists.slots_of (filter (lists.is_old epoch) p.descriptors.limbo)) w old idle in
-      let joined = quiet_joined m l free.next s free.joined r (word_of x) (noting l r kind x.0 x.1 (s.word x.0) (outside.collected p epoch)) words
-      (same_part m l p stages.Idle (lists.nodes_collected epoch p.nodes) (lists.descriptors_collected epoch p.descriptors) (noted l r kind x.0 x.1 (s.word x.0) p.records) (noted_finished l r kind x.0 x.1 (s.word x.0) p.records)) in
-      record { next = free.next; leads = leads_alone m l r (collected (Some epoch) p) w free.next free.leads; joined = joined }
-
-  pub scan_one : (n : ℕ) (x : Spot × Access) → outside_ask m l rs r (kinds.ScanOne n) p ≡ Some x
-      → ((epoch d : ℕ) → collects l (kinds.ScanOne n) p.stage (s.word x.0) ≡ Some epoch → has (lists.slots_of (filter (lists.is_old epoch) p.descriptors.limbo)) d ≡ true → IsIdle w d) → To (kinds.ScanOne n) x
-  scan_one n x e idle =
+  -- a scan goes on, or is over
+  pub scan_one : (n : ℕ) (x : Spot × Access) → outside_ask m l rs r (kinds.ScanOne n) p ≡ Some x → To (kinds.ScanOne n) x
+  scan_one n x e =
       let h = asked.scan_one_asked l n p.stage x e in
-      let found = s.word x.0 in
-      let clear = h.1 && is_clear h.0 found in
-      let after : outside.scan_one_after l p p.stage found ≡ outside.scanned l p h.0 n clear
-      = ap (λ q. outside.scan_one_after l p q found) h.2 ∙ ap (λ b. if b then outside.scanned l p h.0 n clear else p) (at_most n l.runners h.3) in
-      let collect : collects l (kinds.ScanOne n) p.stage found ≡ (if n == l.runners && not (clear && nat_lt h.0 last_epoch) then Some h.0 else None) = ap (λ q. scan_collects l found q) h.2 in
-      let over = n == l.runners && not (clear && nat_lt h.0 last_epoch) in (
-        collected (if over then Some h.0 else None) p,
-        ap (λ o. collected o p) (sym collect),
-        subst (λ (q : PartState). Goes m l r (collected (if over then Some h.0 else None) p) w (record { word = word_of x; part = table.upd s.part r (noting l r (kinds.ScanOne n) x.0 x.1 found q) })) (sym after)
-            (over_or_on n x (loads (spots.Announcement n) x h.4) h.0 clear (n == l.runners && not (clear && nat_lt h.0 last_epoch)) (λ is d old. idle h.0 d (collect ∙ ap (λ b. if b then Some h.0 else None) is) old)),
-      )
+      quiet (kinds.ScanOne n) x refl (loads (spots.Announcement n) x h.4) (by_stage p.stage)
     where
-      at_most : (n k : ℕ) → n ≤ k → nat_le n k ≡ true
-      at_most n k low = grind (arith, nat_tests)
+      Same : PartState → Type 0
+      Same q = IsSamePart m l p (noting l r (kinds.ScanOne n) x.0 x.1 (s.word x.0) q)
 
-      over_or_on : (n : ℕ) (x : Spot × Access) → SameWords m l s.word (word_of x) → (epoch : ℕ) (clear b : Bool)
-          → (b ≡ true → (d : ℕ) → has (lists.slots_of (filter (lists.is_old epoch) p.descriptors.limbo)) d ≡ true → IsIdle w d)
-          → Goes m l r (collected (if b then Some epoch else None) p) w (record { word = word_of x; part = table.upd s.part r (noting l r (kinds.ScanOne n) x.0 x.1 (s.word x.0) (if b then outside.collected p epoch else outside.with_stage p (stages.Scanning epoch (n + 1) clear))) })
-      over_or_on n x words epoch clear true idle = collect_goes (kinds.ScanOne n) x epoch words (idle refl)
-      over_or_on n x words epoch clear false idle = quiet_goes m l w s old r (word_of x) _ words (noted_part (kinds.ScanOne n) x (stages.Scanning epoch (n + 1) clear) p.nodes p.records refl)
+      stayed : Same p
+      stayed = noted_part (kinds.ScanOne n) x p.stage p.nodes p.records refl
 
-  pub advance : (x : Spot × Access) → outside_ask m l rs r kinds.Advance p ≡ Some x
-      → ((epoch d : ℕ) → collects l kinds.Advance p.stage (s.word x.0) ≡ Some epoch → has (lists.slots_of (filter (lists.is_old epoch) p.descriptors.limbo)) d ≡ true → IsIdle w d) → To kinds.Advance x
-  advance x e idle =
+      by_test : (epoch next : ℕ) (clear b b' : Bool) → Same (if b then (if b' then outside.collected p epoch else outside.with_stage p (stages.Scanning epoch next clear)) else p)
+      by_test epoch next clear true true = noted_part (kinds.ScanOne n) x stages.Idle (lists.nodes_collected epoch p.nodes) p.records refl
+      by_test epoch next clear true false = noted_part (kinds.ScanOne n) x (stages.Scanning epoch next clear) p.nodes p.records refl
+      by_test epoch next clear false b' = stayed
+
+      by_stage : (q : Stage) → Same (outside.scan_one_after l p q (s.word x.0))
+      by_stage (stages.Scanning epoch next clear) = by_test epoch (next + 1) (clear && is_clear epoch (s.word x.0)) (nat_le next l.runners) (next == l.runners && not ((clear && is_clear epoch (s.word x.0)) && nat_lt epoch last_epoch))
+      by_stage stages.Idle = stayed
+      by_stage (stages.Loaded g) = stayed
+      by_stage stages.Announced = stayed
+      by_stage (stages.Entered g) = stayed
+
+  pub advance : (x : Spot × Access) → outside_ask m l rs r kinds.Advance p ≡ Some x → To kinds.Advance x
+  advance x e =
       let h = asked.advance_asked l p.stage x e in
-      let tried : nat_lt h.0 last_epoch ≡ true = below h.0 last_epoch h.4 in
-      let after : outside.advance_after p p.stage ≡ outside.collected p (h.0 + 1)
-      = ap (λ q. outside.advance_after p q) h.2 ∙ ap (λ b. if b then outside.collected p (h.0 + 1) else p) tried in
-      let collect : advance_collects p.stage ≡ Some (h.0 + 1) = ap advance_collects h.2 ∙ ap (λ b. if b then Some (h.0 + 1) else None) tried in (
-        collected (Some (h.0 + 1)) p,
-        ap (λ o. collected o p) (sym collect),
-        subst (λ (q : PartState). Goes m l r (collected (Some (h.0 + 1)) p) w (record { word = word_of x; part = table.upd s.part r (noting l r kinds.Advance x.0 x.1 (s.word x.0) q) })) (sym after)
-            (collect_goes kinds.Advance x (h.0 + 1) (subst (λ (y : Spot × Access). SameWords m l s.word (word_of y)) h.5
-            (record { cells = λ i. refl; clock = refl; stamp = λ i. refl; reply = λ i. refl; thunks = λ d j. refl; done = λ d. refl; log = λ d k. refl })) (λ d old. idle (h.0 + 1) d collect old)),
-      )
+      quiet kinds.Advance x refl (subst (λ (y : Spot × Access). SameWords m l s.word (word_of y)) h.5
+      (record { cells = λ i. refl; clock = refl; stamp = λ i. refl; reply = λ i. refl; thunks = λ d j. refl; done = λ d. refl; log = λ d k. refl })) (by_stage p.stage)
     where
-      below : (a b : ℕ) → a < b → nat_lt a b ≡ true
-      below a b low = grind (arith, nat_tests)
+      Same : PartState → Type 0
+      Same q = IsSamePart m l p (noting l r kinds.Advance x.0 x.1 (s.word x.0) q)
+
+      stayed : Same p
+      stayed = noted_part kinds.Advance x p.stage p.nodes p.records refl
+
+      by_test : (epoch : ℕ) (b : Bool) → Same (if b then outside.collected p epoch else p)
+      by_test epoch true = noted_part kinds.Advance x stages.Idle (lists.nodes_collected epoch p.nodes) p.records refl
+      by_test epoch false = stayed
+
+      by_stage : (q : Stage) → Same (outside.advance_after p q)
+      by_stage (stages.Scanning epoch next clear) = by_test (epoch + 1) (nat_lt epoch last_epoch)
+      by_stage stages.Idle = stayed
+      by_stage (stages.Loaded g) = stayed
+      by_stage stages.Announced = stayed
+      by_stage (stages.Entered g) = stayed
+
+  -- a guard word moves, or is read
+  pub guard : (d : Option ℕ) (x : Spot × Access) → outside_ask m l rs r (kinds.Guard d) p ≡ Some x → To (kinds.Guard d) x
+  guard d x e = let h = asked.guard_asked l r d p x e in
+      quiet (kinds.Guard d) x refl (subst (λ (y : Spot × Access). SameWords m l s.word (word_of y)) h.is
+      (record { cells = λ i. refl; clock = refl; stamp = λ i. refl; reply = λ i. refl; thunks = λ d j. refl; done = λ d. refl; log = λ d k. refl }))
+      (record { run = refl; finished = noted_finished l r (kinds.Guard d) x.0 x.1 (s.word x.0) p.records; read = λ a b h. h })
+
+  -- the part after one more guard word was read
+  abbrev swept_part : Bool → List ℕ → PartState
+  swept_part b words = record p {
+    descriptors = (if b then lists.descriptors_swept words p.descriptors else p.descriptors);
+    guards = lists.with_looked p.guards (if b then [] else words);
+  }
+
+  pub load_guard : (n : ℕ) (x : Spot × Access) → outside_ask m l rs r (kinds.LoadGuard n) p ≡ Some x
+      → (is_last_guard l p.guards.looked ≡ true → (d : ℕ) → has (unnamed (p.guards.looked ++ s.word x.0 ∷ []) p) d ≡ true → IsIdle w d) → To (kinds.LoadGuard n) x
+  load_guard n x e idle =
+      let h = asked.load_guard_asked l n p x e in
+      (_, refl, sweeps_by (is_last_guard l p.guards.looked) (loads (spots.Guard n) x h.is) idle)
+    where
+      same : (b : Bool) → IsSamePart m l p (noting l r (kinds.LoadGuard n) x.0 x.1 (s.word x.0) (swept_part b (p.guards.looked ++ s.word x.0 ∷ [])))
+      same b = record { run = refl; finished = noted_finished l r (kinds.LoadGuard n) x.0 x.1 (s.word x.0) p.records; read = λ a b h. h }
+
+      sweeps_by : (b : Bool) → SameWords m l s.word (word_of x) → (b ≡ true → (d : ℕ) → has (unnamed (p.guards.looked ++ s.word x.0 ∷ []) p) d ≡ true → IsIdle w d)
+          → Goes m l r (if b then frees (unnamed (p.guards.looked ++ s.word x.0 ∷ []) p) else []) w (record { word = word_of x; part = table.upd s.part r (noting l r (kinds.LoadGuard n) x.0 x.1 (s.word x.0) (swept_part b (p.guards.looked ++ s.word x.0 ∷ []))) })
+      sweeps_by true seen idle =
+          let free = freed m l s (unnamed (p.guards.looked ++ s.word x.0 ∷ []) p) w old (idle refl) in
+          record {
+            next = free.next;
+            leads = leads_alone m l r (frees (unnamed (p.guards.looked ++ s.word x.0 ∷ []) p)) w free.next free.leads;
+            joined = quiet_joined m l free.next s free.joined r (word_of x) _ seen (same true);
+          }
+      sweeps_by false seen idle = quiet_goes m l w s old r (word_of x) _ seen (same false)

@@ -1,5 +1,5 @@
 -- The releases at the end of a run, and what is kept of it, joined.
-use Rattle.std.specs.Prelude.{◌==◌, ◌||◌, Bool, true, false, nat_le, slice_index, slice_index_or, slice_get, cond, if◌then◌else◌}
+use Rattle.std.specs.Prelude.{◌==◌, Bool, true, false, nat_le, slice_index, slice_index_or, slice_get, cond, if◌then◌else◌}
 use Rattle.std.specs.List.{list_any}
 use Rattle.std.proofs.Common.{◌≡◌, ◌≢◌, ℕ, zero, suc, ◌+◌, ◌-◌, ◌<◌, ◌≤◌, List, [], ◌∷◌, ◌++◌, length, take, sym, refl, ap, ◌∙◌, subst, arith, inl, inr, ⊎_elim, length-append, Option, Some, None}
 use Rattle.std.specs.Prelude.{◌⊎◌}
@@ -22,13 +22,13 @@ use Rattle.machine_states.specs.table_words.specs.Seen as table
 use Rattle.machine_states.specs.structure_laws.specs.Meaning.{Meaning}
 use Rattle.machine_states.specs.runner_parts.specs.declared.event.EventKind.{EventKind}
 use Rattle.machine_states.specs.runner_parts.specs.declared.event.EventKind.TheVariants as kinds
-use Rattle.machine_states.specs.runner_parts.specs.State.{RunState, PartState}
+use Rattle.machine_states.specs.runner_parts.specs.State.{RunState, DescriptorsState, PartState}
 use Rattle.machine_states.specs.runner_parts.specs.Tests.{has_pair}
-use Rattle.machine_states.specs.runner_parts.specs.Lists.{cell_read}
+use Rattle.machine_states.specs.runner_parts.specs.Lists.{cell_read, descriptor_retired}
 use Rattle.machine_states.specs.runner_parts.specs.declared.entries.Published.{Published}
 use Rattle.machine_states.specs.runner_steps.specs.Sections.{thunk_of, is_open_run, next_of, line_of, settles}
 use Rattle.machine_states.specs.runner_steps.specs.Asks.{asks}
-use Rattle.machine_states.specs.runner_steps.specs.AfterInRun.{place_of, ended_more, run_over, over_if, finished_of}
+use Rattle.machine_states.specs.runner_steps.specs.AfterInRun.{place_of, ended_more, run_over, kept_unless, retired_if, finished_of}
 use Rattle.agreement_core.specs.State.{CellRules, Section, Run, Finished, AgreementState, section_of}
 use Rattle.agreement_core.specs.Checks.{exchanged}
 use Rattle.agreement_core.specs.Events as events
@@ -42,7 +42,8 @@ use Rattle.machine_agreement.proofs.RunPlaces as places
 use Rattle.machine_agreement.proofs.LineAsked as asked
 use Rattle.machine_agreement.proofs.Frames.{HasSameText}
 use Rattle.machine_agreement.proofs.Components.{reads_own, reads_more}
-use Rattle.machine_agreement.specs.Chunks.{IsLineChunk}
+use Rattle.machine_states.specs.epoch_core.specs.small_lemmas.proofs.Numbers.{tested_equal as same_descriptor}
+use Rattle.machine_agreement.specs.Chunks.{retires_own, IsLineChunk}
 use Rattle.machine_agreement.specs.Goes.{Goes}
 use Rattle.machine_agreement.proofs.Assembly.{LeadBy, IsOtherStep, lead_more, plain_goes, thunks_kept}
 use Rattle.machine_agreement.proofs.Endings.{TakesIn, tail_of, release_taken, past_all, all_released, released_more}
@@ -65,30 +66,13 @@ two_before f r n v k ne = grind (arith, nat_tests)
 two_here : (f : ℕ → ℕ → Finished) (r n : ℕ) (v : Finished) (k : ℕ) → k ≡ n → upd2 f r n v r k ≡ v
 two_here f r n v k e = grind (arith, nat_tests)
 
--- the published section after a run of this descriptor came to its end
-over_by : (o : Option Published) (d : ℕ) (x : Published) → over_if o d ≡ Some x → x.over ≡ true → (y : Published) × (o ≡ Some y) × (y.descriptor ≡ x.descriptor) × ((y.over ≡ true) ⊎ (x.descriptor ≡ d))
-over_by None d x e over = cc
-over_by (Some y) d x e over =
-    let same : record y { over = y.over || y.descriptor == d } ≡ x = cc in
-    (y, refl, ap (λ (z : Published). z.descriptor) same, by y.over (y.descriptor == d) refl (ap (λ (z : Published). z.over) same ∙ over) (ap (λ (z : Published). z.descriptor) same))
-  where
-    either : (a : Bool) (b : Bool) → (a || b) ≡ true → (a ≡ true) ⊎ (b ≡ true)
-    either true b e = inl refl
-    either false b e = inr e
-
-    equal : (a b : ℕ) → (a == b) ≡ true → a ≡ b
-    equal a b e = grind (arith, nat_tests)
-
-    by : (a b : Bool) → b ≡ (y.descriptor == d) → (a || b) ≡ true → y.descriptor ≡ x.descriptor → (a ≡ true) ⊎ (x.descriptor ≡ d)
-    by a b is e same = ⊎_elim (λ l. inl l) (λ r. inr (sym same ∙ equal y.descriptor d (sym is ∙ r))) (either a b e)
-
 module _ (m : Meaning) (l : Layout) (rs : List Request) (w : AgreementState) (s : Sight) (old : IsJoinedToAgreement m l w s) (r : ℕ) (q : RunState) (is : (s.part r).run ≡ Some q) (opened : is_open_run q ≡ true) where
   abbrev c : CellRules
   c = rules_of m l
 
   -- the step leads to a joined state, by the events of its kind
   abbrev After : EventKind → Spot × Access → Type 0
-  After kind x = (heads : List events.Event) × IsLineChunk m l w r kind q (s.word x.0) heads × Goes m l r heads w (sight_after m l s r kind x)
+  After kind x = (heads : List events.Event) × IsLineChunk m l w r kind (s.part r) q (s.word x.0) heads × Goes m l r heads w (sight_after m l s r kind x)
 
   run_here : IsRunOf (w.run r) q
   run_here = places.run_here m l w s old r q is
@@ -194,7 +178,7 @@ module _ (m : Meaning) (l : Layout) (rs : List Request) (w : AgreementState) (s 
     }
 
     other : IsOtherStep m l w w1 r
-    other = record { others = λ i ne. upd_else w.run r _ i ne; finishes = λ i ne. refl; finished = λ i k ne. refl; over = λ d e. e; seen = (reads_own w r p).seen }
+    other = record { others = λ i ne. upd_else w.run r _ i ne; finishes = λ i ne. refl; finished = λ i k ne. refl; seen = (reads_own w r p).seen }
 
     new_word : exchanged (w.shared.cells p) (held_word ((w.run r).descriptor) word) (next_word (held_word ((w.run r).descriptor) word) 0) ≡ new
     new_word = ap (λ n. exchanged n (held_word ((w.run r).descriptor) word) (next_word (held_word ((w.run r).descriptor) word) 0)) (old.words.cells p)
@@ -247,7 +231,6 @@ module _ (m : Meaning) (l : Layout) (rs : List Request) (w : AgreementState) (s 
       read = read;
       finishes = (old.tied r).finishes ∙ ap length (sym (noted_finished l r kinds.Release (spots.Cell p) (Exchanges held (next_word held 0)) found (s.part r).records));
       finished = λ i f e. (old.tied r).finished i f (ap (λ xs. slice_get xs i) (sym (noted_finished l r kinds.Release (spots.Cell p) (Exchanges held (next_word held 0)) found (s.part r).records)) ∙ e);
-      over = (old.tied r).over;
     }
 
     -- the run is over
@@ -276,9 +259,6 @@ module _ (m : Meaning) (l : Layout) (rs : List Request) (w : AgreementState) (s 
           some : (n : ℕ) → nat_le 1 (n + 1) ≡ true
           some n = grind (arith, nat_tests)
 
-      keep : (f : ℕ → Bool) (d i : ℕ) → f i ≡ true → upd f d true i ≡ true
-      keep f d i e = grind (arith, nat_tests)
-
       over_here : (f : ℕ → Bool) (d i : ℕ) → i ≡ d → upd f d true i ≡ true
       over_here f d i e = grind (arith, nat_tests)
 
@@ -287,7 +267,6 @@ module _ (m : Meaning) (l : Layout) (rs : List Request) (w : AgreementState) (s 
         others = λ i ne. upd_else w1.run r _ i ne ∙ upd_else w.run r _ i ne;
         finishes = λ i ne. upd_else w.finishes r _ i ne;
         finished = λ i k ne. two_other w.finished r (w.finishes r) _ i k ne;
-        over = λ d e. keep w.over ((w1.run r).descriptor) d e;
         seen = (reads_own w r p).seen;
       }
 
@@ -305,8 +284,8 @@ module _ (m : Meaning) (l : Layout) (rs : List Request) (w : AgreementState) (s 
             trail = run0.trail;
           }
 
-      over_tied : IsTied m l w2 word' r (noted_of (run_over m l read_part q1))
-      over_tied =
+      over_tied : (published : Option Published) (descriptors : DescriptorsState) → IsTied m l w2 word' r (noted_of (record (run_over m l read_part q1) { published = published; descriptors = descriptors }))
+      over_tied published descriptors =
           let finished = noted_finished l r kinds.Release (spots.Cell p) (Exchanges held (next_word held 0)) found (run_over m l read_part q1).records in
           record {
             run = ap (λ (y : Run). y.running) (upd_here w1.run r _);
@@ -320,37 +299,79 @@ module _ (m : Meaning) (l : Layout) (rs : List Request) (w : AgreementState) (s 
                 (λ before. subst (λ (y : Finished). IsFinishOf y f) (sym (two_before w.finished r (w.finishes r) kept i (λ same. let long = (old.tied r).finishes in let low = before.0 in absurd (omega arith)))) ((old.tied r).finished i f before.1))
                 (λ now. subst (λ (y : Finished). IsFinishOf y f) (sym (two_here w.finished r (w.finishes r) kept i (now.0 ∙ sym (old.tied r).finishes))) (subst (IsFinishOf kept) now.1 finish_here))
                 (get_more (s.part r).records.finished (finished_of m l q1) f i (ap (λ xs. slice_get xs i) (sym finished) ∙ e));
-            over = λ y e over. let o = over_by (s.part r).published q.descriptor y e over in ⊎_elim
-                (λ before. keep w.over ((w1.run r).descriptor) y.descriptor (ap w.over (sym o.2) ∙ (old.tied r).over o.0 o.1 before))
-                (λ now. over_here w.over ((w1.run r).descriptor) y.descriptor (now ∙ sym run0.descriptor)) o.3;
           }
         where
           more_long : {A : Type 0} (xs : List A) (y : A) → suc (length xs) ≡ length (xs ++ y ∷ [])
           more_long xs y = let n = length-append xs (y ∷ []) in omega arith
 
+    -- the own section is retired with it, where this was its run
+    module _ (live : (y : Published) → (s.part r).published ≡ Some y → w.live y.descriptor ≡ true) (end : is_end (next_of m q1) ≡ true) where
+      -- the part then, where this is what it had published
+      abbrev over_part : Option Published → PartState
+      over_part o = noted_of (record (run_over m l read_part q1) { published = kept_unless o q.descriptor; descriptors = retired_if (s.part r).descriptors o q.descriptor })
+
+      abbrev w3 : AgreementState
+      w3 = events.after (w2 end) (events.RetireDescriptor q.descriptor)
+
+      finishes_only : (published : Option Published) (descriptors : DescriptorsState)
+          → Goes m l r (heads ++ events.Finish r ∷ []) w (record { word = word'; part = table.upd s.part r (noted_of (record (run_over m l read_part q1) { published = published; descriptors = descriptors })) })
+      finishes_only published descriptors = plain_goes m l (heads ++ events.Finish r ∷ []) w (w2 end) s r word' _ old (leads2 end) (other2 end)
+          (record { cells = words.cells; clock = words.clock; stamp = words.stamp; reply = words.reply }) sections (thunks_kept m l w (w2 end) s word' old refl same_text (λ d j. refl)) (λ d j. refl) (over_tied end published descriptors)
+
+      retires_too : (y : Published) → (s.part r).published ≡ Some y → y.descriptor ≡ q.descriptor → (published : Option Published) (descriptors : DescriptorsState)
+          → Goes m l r (heads ++ events.Finish r ∷ events.RetireDescriptor q.descriptor ∷ []) w (record { word = word'; part = table.upd s.part r (noted_of (record (run_over m l read_part q1) { published = published; descriptors = descriptors })) })
+      retires_too y at own published descriptors =
+          let t = over_tied end published descriptors in
+          let o = other2 end in
+          plain_goes m l (heads ++ events.Finish r ∷ events.RetireDescriptor q.descriptor ∷ []) w w3 s r word' _ old
+          (lead_more m l (heads ++ events.Finish r ∷ []) (events.RetireDescriptor q.descriptor ∷ []) w (w2 end) w3 (leads2 end)
+          (record { there = refl; enabled = ((ap w.live (sym own) ∙ live y at, over_here end w1.over ((w1.run r).descriptor) q.descriptor (sym run0.descriptor)), tt) }))
+          (record { others = o.others; finishes = o.finishes; finished = o.finished; seen = o.seen })
+          (record { cells = words.cells; clock = words.clock; stamp = words.stamp; reply = words.reply }) sections (thunks_kept m l w w3 s word' old refl same_text (λ d j. refl)) (λ d j. refl)
+          (record { run = t.run; opened = t.opened; begins = t.begins; rests = t.rests; released = t.released; read = t.read; finishes = t.finishes; finished = t.finished })
+
+      over_goes : Goes m l r (heads ++ events.Finish r ∷ retires_own (s.part r).published q.descriptor) w (record { word = word'; part = table.upd s.part r (over_part (s.part r).published) })
+      over_goes = by_published (s.part r).published refl
+        where
+          by_test : (y : Published) → (s.part r).published ≡ Some y → (b : Bool) → (y.descriptor == q.descriptor) ≡ b
+              → Goes m l r (heads ++ events.Finish r ∷ (if b then events.RetireDescriptor q.descriptor ∷ [] else [])) w (record {
+                word = word';
+                part = table.upd s.part r (noted_of (record (run_over m l read_part q1) {
+                  published = (if b then None else Some y);
+                  descriptors = (if b then descriptor_retired (s.part r).descriptors q.descriptor else (s.part r).descriptors);
+                }));
+              })
+          by_test y at true e = retires_too y at (same_descriptor _ _ e) _ _
+          by_test y at false e = finishes_only _ _
+
+          by_published : (o : Option Published) → (s.part r).published ≡ o
+              → Goes m l r (heads ++ events.Finish r ∷ retires_own o q.descriptor) w (record { word = word'; part = table.upd s.part r (over_part o) })
+          by_published None at = finishes_only _ _
+          by_published (Some y) at = by_test y at (y.descriptor == q.descriptor) refl
+
     -- and the run is over where this was the last of its releases
     abbrev heads_by : Bool → List events.Event
-    heads_by b = if b then heads ++ events.Finish r ∷ [] else heads
+    heads_by b = if b then heads ++ events.Finish r ∷ retires_own (s.part r).published q.descriptor else heads
 
-    release_by : (b : Bool) → is_end (next_of m q1) ≡ b → Goes m l r (heads_by b) w (record { word = word'; part = table.upd s.part r (noted_of (if b then run_over m l read_part q1 else record read_part { run = Some q1 })) })
-    release_by false e = plain_goes m l heads w w1 s r word' (noted_of (record read_part { run = Some q1 })) old leads other words sections (thunks_kept m l w w1 s word' old refl same_text (λ d j. refl)) (λ d j. refl) goes_on_tied
-    release_by true e = plain_goes m l (heads ++ events.Finish r ∷ []) w (w2 e) s r word' (noted_of (run_over m l read_part q1)) old (leads2 e) (other2 e)
-        (record { cells = words.cells; clock = words.clock; stamp = words.stamp; reply = words.reply }) sections (thunks_kept m l w (w2 e) s word' old refl same_text (λ d j. refl)) (λ d j. refl) (over_tied e)
+    release_by : ((y : Published) → (s.part r).published ≡ Some y → w.live y.descriptor ≡ true) → (b : Bool) → is_end (next_of m q1) ≡ b
+        → Goes m l r (heads_by b) w (record { word = word'; part = table.upd s.part r (noted_of (if b then run_over m l read_part q1 else record read_part { run = Some q1 })) })
+    release_by live false e = plain_goes m l heads w w1 s r word' (noted_of (record read_part { run = Some q1 })) old leads other words sections (thunks_kept m l w w1 s word' old refl same_text (λ d j. refl)) (λ d j. refl) goes_on_tied
+    release_by live true e = over_goes live e
 
     over_or_on : (b : Bool) → is_end (next_of m q1) ≡ b
-        → ((is_end (next_of m q1) ≡ false) × (heads_by b ≡ heads)) ⊎ ((is_end (next_of m q1) ≡ true) × (heads_by b ≡ events.Read p ∷ events.Release r p word ∷ events.Finish r ∷ []))
+        → ((is_end (next_of m q1) ≡ false) × (heads_by b ≡ heads)) ⊎ ((is_end (next_of m q1) ≡ true) × (heads_by b ≡ events.Read p ∷ events.Release r p word ∷ events.Finish r ∷ retires_own (s.part r).published q.descriptor))
     over_or_on false e = inl (e, refl)
     over_or_on true e = inr (e, refl)
 
-    release_goes : After kinds.Release x
-    release_goes = (
+    release_goes : ((y : Published) → (s.part r).published ≡ Some y → w.live y.descriptor ≡ true) → After kinds.Release x
+    release_goes live = (
       heads_by (is_end (next_of m q1)),
       (p, word, next, over_or_on (is_end (next_of m q1)) refl),
       subst (λ (y : PartState). Goes m l r (heads_by (is_end (next_of m q1))) w (record { word = word'; part = table.upd s.part r y }))
-          (sym (after_line m l r kinds.Release x (s.part r) found q (micros.Release p word) is opened next)) (release_by (is_end (next_of m q1)) refl),
+          (sym (after_line m l r kinds.Release x (s.part r) found q (micros.Release p word) is opened next)) (release_by live (is_end (next_of m q1)) refl),
     )
 
-  pub release : (x : Spot × Access) → asks m l rs r kinds.Release (s.part r) ≡ Some x → After kinds.Release x
-  release x e =
+  pub release : (x : Spot × Access) → ((y : Published) → (s.part r).published ≡ Some y → w.live y.descriptor ≡ true) → asks m l rs r kinds.Release (s.part r) ≡ Some x → After kinds.Release x
+  release x live e =
       let h = asked.release_asked q x l (next_of m q) (asked.line_asked m l rs r kinds.Release (s.part r) q x e is opened) in
-      subst (After kinds.Release) h.3 (release_goes h.0 h.1 h.2)
+      subst (After kinds.Release) h.3 (release_goes h.0 h.1 h.2 live)

@@ -1,5 +1,5 @@
 -- Which events of agreement a step of the machine is, by its kind.
-use Rattle.std.specs.Prelude.{◌≡◌, ◌≢◌, ◌⊎◌, ℕ, suc, ◌-◌, ◌==◌, nat_lt, List, [], ◌∷◌, map, Bool, true, false, Option, Some, None, if◌then◌else◌}
+use Rattle.std.specs.Prelude.{◌≡◌, ◌≢◌, ◌⊎◌, ℕ, suc, ◌-◌, ◌==◌, nat_lt, List, [], ◌∷◌, ◌++◌, map, Bool, true, false, Option, Some, None, if◌then◌else◌}
 use Rattle.std.specs.List.{filter}
 use Rattle.machine_states.specs.body_terms.specs.declared.micro.Micro.TheVariants as micros
 use Rattle.machine_states.specs.body_terms.specs.declared.micro.Source.{Source}
@@ -14,14 +14,14 @@ use Rattle.machine_states.specs.runner_parts.specs.declared.event.EventKind.TheV
 use Rattle.machine_states.specs.runner_parts.specs.declared.entries.Look.{Look}
 use Rattle.machine_states.specs.runner_parts.specs.declared.entries.Published.{Published}
 use Rattle.machine_states.specs.runner_parts.specs.State.{RunState, PartState}
-use Rattle.machine_states.specs.runner_parts.specs.Lists.{is_old, slots_of}
+use Rattle.machine_states.specs.guard_core.specs.Moves.{is_unnamed}
+use Rattle.machine_states.specs.runner_steps.specs.Guards.{is_last_guard}
 use Rattle.machine_states.specs.runner_steps.specs.Sections.{is_open_run, next_of, reply_in}
 use Rattle.machine_states.specs.runner_steps.specs.Reads.{read_stamp_after}
 use Rattle.machine_states.specs.runner_steps.specs.AfterInRun.{ended_more}
 use Rattle.agreement_core.specs.State.{AgreementState}
 use Rattle.agreement_core.specs.Events.{Event}
 use Rattle.agreement_core.specs.Events as events
-use Rattle.machine_agreement.specs.Supplied.{collects}
 
 -- the publication of this thunk at this descriptor
 abbrev pub publication : Meaning → ℕ → Thunk → Event
@@ -36,10 +36,20 @@ stored d word number = if nat_lt word 12 then [] else (
 abbrev pub frees : List ℕ → List Event
 frees ds = map events.Free ds
 
--- the descriptors that leave limbo become free, where a scan ends that collects for an epoch
-abbrev pub collected : Option ℕ → PartState → List Event
-collected None p = []
-collected (Some epoch) p = frees (slots_of (filter (is_old epoch) p.descriptors.limbo))
+-- the runner's retired descriptors that none of these guard words names
+abbrev pub unnamed : List ℕ → PartState → List ℕ
+unnamed words p = filter (is_unnamed words) p.descriptors.limbo
+
+-- at the end of its sweep they are free
+abbrev pub swept : Layout → PartState → ℕ → List Event
+swept l p found =
+    if is_last_guard l p.guards.looked then frees (unnamed (p.guards.looked ++ found ∷ []) p) else []
+
+-- with the end of its run the own published section is retired
+abbrev pub retires_own : Option Published → ℕ → List Event
+retires_own None descriptor = []
+retires_own (Some x) descriptor =
+    if x.descriptor == descriptor then events.RetireDescriptor descriptor ∷ [] else []
 
 module _ (m : Meaning) (l : Layout) (w : AgreementState) (r : ℕ) where
   -- the events of a runner's step in no run, which found this word
@@ -48,10 +58,7 @@ module _ (m : Meaning) (l : Layout) (w : AgreementState) (r : ℕ) where
   IsOutsideChunk (kinds.Hold t d) p found heads =
       ((found ≡ t.word) × (heads ≡ events.Read t.lock ∷ publication m d t ∷ []))
       ⊎ ((found ≢ t.word) × (heads ≡ events.Read t.lock ∷ []))
-  IsOutsideChunk kinds.EpochForRetire p found heads = (x : Published) × (p.published ≡ Some x)
-      × (heads ≡ events.RetireDescriptor x.descriptor ∷ [])
-  IsOutsideChunk (kinds.ScanOne n) p found heads = heads ≡ collected (collects l (kinds.ScanOne n) p.stage found) p
-  IsOutsideChunk kinds.Advance p found heads = heads ≡ collected (collects l kinds.Advance p.stage found) p
+  IsOutsideChunk (kinds.LoadGuard n) p found heads = heads ≡ swept l p found
   IsOutsideChunk (kinds.LoadCell (Some place)) p found heads = heads ≡ events.Read place ∷ []
   IsOutsideChunk (kinds.LoadThunk (Some d)) p found heads = heads ≡ events.Open r d ∷ []
   IsOutsideChunk (kinds.PrivateStore slot word number) p found heads =
@@ -66,55 +73,55 @@ module _ (m : Meaning) (l : Layout) (w : AgreementState) (r : ℕ) where
 
   -- the events of a step of a run's line, which found this word: by the step of the line before which the
   -- run stands; a cell that is exchanged is read too
-  abbrev pub IsLineChunk : EventKind → RunState → ℕ → List Event → Type 0
-  IsLineChunk kinds.Commit q found heads = (place log : ℕ)
+  abbrev pub IsLineChunk : EventKind → PartState → RunState → ℕ → List Event → Type 0
+  IsLineChunk kinds.Commit p q found heads = (place log : ℕ)
       × (((next_of m q ≡ micros.Commit place log) × (heads ≡ events.Commit r place log ∷ []))
       ⊎ ((next_of m q ≡ micros.NestedCommit place log) × (heads ≡ events.NestedCommit r place log ∷ [])))
-  IsLineChunk (kinds.LoadCell None) q found heads = (place log : ℕ) × (next_of m q ≡ micros.LoadCell place log)
+  IsLineChunk (kinds.LoadCell None) p q found heads = (place log : ℕ) × (next_of m q ≡ micros.LoadCell place log)
       × (heads ≡ events.LoadCell r place log ∷ [])
-  IsLineChunk kinds.ExchangeCell q found heads =
+  IsLineChunk kinds.ExchangeCell p q found heads =
       (place log : ℕ) × (value : Source) × (next_of m q ≡ micros.ExchangeCell place log value)
       × (heads ≡ events.Read place ∷ events.ExchangeCell r place log value ∷ [])
-  IsLineChunk (kinds.PrivateLoad slot cell) q found heads = (log : ℕ) × (next_of m q ≡ micros.PrivateLoad cell log)
+  IsLineChunk (kinds.PrivateLoad slot cell) p q found heads = (log : ℕ) × (next_of m q ≡ micros.PrivateLoad cell log)
       × (heads ≡ events.PrivateLoad r cell log (cell_of m.fixed_cells slot cell) ∷ [])
-  IsLineChunk (kinds.PrivateStore slot cell number) q found heads = (log : ℕ) × (value : Source)
+  IsLineChunk (kinds.PrivateStore slot cell number) p q found heads = (log : ℕ) × (value : Source)
       × (next_of m q ≡ micros.PrivateStore cell log value) × (q.made ≡ Some slot)
       × (heads ≡ events.PrivateStore r cell log value (cell_of m.fixed_cells slot cell) number ∷ [])
-  IsLineChunk kinds.MakeCommit q found heads =
+  IsLineChunk kinds.MakeCommit p q found heads =
       (log slot : ℕ) × (next_of m q ≡ micros.MakeCommit log) × (q.made ≡ Some slot)
       × (heads ≡ events.MakeCommit r log (suc slot) ∷ [])
-  IsLineChunk kinds.EpochForRetire q found heads = (slot log : ℕ) × (next_of m q ≡ micros.EpochForRetire slot log)
+  IsLineChunk kinds.EpochForRetire p q found heads = (slot log : ℕ) × (next_of m q ≡ micros.EpochForRetire slot log)
       × (heads ≡ events.EpochForRetire r slot log found ∷ [])
-  IsLineChunk kinds.RetireCommit q found heads = (slot log : ℕ) × (next_of m q ≡ micros.RetireCommit slot log)
+  IsLineChunk kinds.RetireCommit p q found heads = (slot log : ℕ) × (next_of m q ≡ micros.RetireCommit slot log)
       × (heads ≡ events.RetireCommit r slot log ∷ [])
-  IsLineChunk kinds.ClockLoad q found heads = (next_of m q ≡ micros.ClockLoad) × (heads ≡ events.ClockLoad r ∷ [])
-  IsLineChunk kinds.StampExchange q found heads =
+  IsLineChunk kinds.ClockLoad p q found heads = (next_of m q ≡ micros.ClockLoad) × (heads ≡ events.ClockLoad r ∷ [])
+  IsLineChunk kinds.StampExchange p q found heads =
       (next_of m q ≡ micros.StampExchange) × (heads ≡ events.StampExchange r ∷ [])
-  IsLineChunk kinds.ClockRaise q found heads = (next_of m q ≡ micros.ClockRaise) × (heads ≡ events.ClockRaise r ∷ [])
-  IsLineChunk kinds.ReplyExchange q found heads = (reply : ℕ) × (next_of m q ≡ micros.ReplyExchange reply)
+  IsLineChunk kinds.ClockRaise p q found heads = (next_of m q ≡ micros.ClockRaise) × (heads ≡ events.ClockRaise r ∷ [])
+  IsLineChunk kinds.ReplyExchange p q found heads = (reply : ℕ) × (next_of m q ≡ micros.ReplyExchange reply)
       × (heads ≡ events.ReplyExchange r reply ∷ [])
-  IsLineChunk kinds.NestedLoad q found heads = (place log : ℕ) × (next_of m q ≡ micros.NestedLoad place log)
+  IsLineChunk kinds.NestedLoad p q found heads = (place log : ℕ) × (next_of m q ≡ micros.NestedLoad place log)
       × (heads ≡ events.NestedLoad r place log ∷ [])
-  IsLineChunk kinds.NestedHold q found heads = (place word : ℕ) × (next_of m q ≡ micros.NestedHold place word)
+  IsLineChunk kinds.NestedHold p q found heads = (place word : ℕ) × (next_of m q ≡ micros.NestedHold place word)
       × (heads ≡ events.Read place ∷ events.NestedHold r place word ∷ [])
-  IsLineChunk kinds.OutcomeLoad q found heads = (place log : ℕ) × (next_of m q ≡ micros.OutcomeLoad place log)
+  IsLineChunk kinds.OutcomeLoad p q found heads = (place log : ℕ) × (next_of m q ≡ micros.OutcomeLoad place log)
       × (heads ≡ events.OutcomeLoad r place log ∷ [])
-  IsLineChunk kinds.OutcomeCommit q found heads = (place log : ℕ) × (next_of m q ≡ micros.OutcomeCommit place log)
+  IsLineChunk kinds.OutcomeCommit p q found heads = (place log : ℕ) × (next_of m q ≡ micros.OutcomeCommit place log)
       × (heads ≡ events.OutcomeCommit r place log ∷ [])
-  IsLineChunk kinds.SetDone q found heads = (next_of m q ≡ micros.SetDone) × (heads ≡ events.SetDone r ∷ [])
-  -- the run is over with the last of its releases
-  IsLineChunk kinds.Release q found heads = (place word : ℕ) × (next_of m q ≡ micros.Release place word)
+  IsLineChunk kinds.SetDone p q found heads = (next_of m q ≡ micros.SetDone) × (heads ≡ events.SetDone r ∷ [])
+  -- the run is over with the last of its releases, and the own section with it
+  IsLineChunk kinds.Release p q found heads = (place word : ℕ) × (next_of m q ≡ micros.Release place word)
       × (((is_end (next_of m (ended_more q)) ≡ false) × (heads ≡ events.Read place ∷ events.Release r place word ∷ []))
       ⊎ ((is_end (next_of m (ended_more q)) ≡ true)
-      × (heads ≡ events.Read place ∷ events.Release r place word ∷ events.Finish r ∷ [])))
-  IsLineChunk _ q found heads = heads ≡ []
+      × (heads ≡ events.Read place ∷ events.Release r place word ∷ events.Finish r ∷ retires_own p.published q.descriptor)))
+  IsLineChunk _ p q found heads = heads ≡ []
 
   -- the events of a step in a run: none where the run has still to load words of its thunk, or its done word
-  abbrev pub IsInsideChunk : Bool → EventKind → RunState → ℕ → List Event → Type 0
-  IsInsideChunk true kind q found heads = IsLineChunk kind q found heads
-  IsInsideChunk false kind q found heads = heads ≡ []
+  abbrev pub IsInsideChunk : Bool → EventKind → PartState → RunState → ℕ → List Event → Type 0
+  IsInsideChunk true kind p q found heads = IsLineChunk kind p q found heads
+  IsInsideChunk false kind p q found heads = heads ≡ []
 
   -- the events of this runner's step of this kind, which found this word, but for the checks that pass behind them
   abbrev pub IsChunk : EventKind → PartState → Option RunState → ℕ → List Event → Type 0
   IsChunk kind p None found heads = IsOutsideChunk kind p found heads
-  IsChunk kind p (Some q) found heads = IsInsideChunk (is_open_run q) kind q found heads
+  IsChunk kind p (Some q) found heads = IsInsideChunk (is_open_run q) kind p q found heads

@@ -7,7 +7,6 @@ use Rattle.machine_states.specs.table_words.specs.declared.layout.Layout.{Layout
 use Rattle.machine_states.specs.table_words.specs.declared.spot.Spot.{Spot}
 use Rattle.machine_states.specs.table_words.specs.declared.spot.Spot.TheVariants.{Clock, Stamp, Reply, Cell, ThunkWord, DoneWord, LogWord}
 use Rattle.machine_states.specs.structure_laws.specs.Meaning.{Meaning}
-use Rattle.machine_states.specs.runner_parts.specs.declared.entries.Published.{Published}
 use Rattle.machine_states.specs.runner_parts.specs.State.{RunState, FinishedState, PartState}
 use Rattle.machine_states.specs.runner_parts.specs.Tests.{has_pair}
 use Rattle.machine_states.specs.runner_steps.specs.Sections.{thunk_of, line_of, settles}
@@ -83,8 +82,6 @@ module _ (m : Meaning) (l : Layout) where
     pub read : (place found : ℕ) → has_pair p.reads.cells place found ≡ true → w.shared.seen place found ≡ true
     pub finishes : w.finishes r ≡ length p.records.finished
     pub finished : (i : ℕ) (f : FinishedState) → slice_get p.records.finished i ≡ Some f → IsFinishOf (w.finished r i) f
-    -- the own section that it has brought to its end
-    pub over : (x : Published) → p.published ≡ Some x → x.over ≡ true → w.over x.descriptor ≡ true
 
   -- the component's state belongs to the machine's: it meets its invariant, and has the machine's words and runs
   pub record IsJoinedToAgreement (w : AgreementState) (s : Sight) : Type 0 where

@@ -1,5 +1,5 @@
 -- What the join of sections needs of epochs and slots and of the structure's laws, step by step.
-use Rattle.std.specs.Prelude.{◌≡◌, ◌≢◌, ℕ, true, false, Some, None}
+use Rattle.std.specs.Prelude.{◌≡◌, ◌≢◌, ℕ, true, false, [], ◌∷◌, ◌++◌, Some, None}
 use Rattle.std.specs.List.{filter}
 use Rattle.machine_states.specs.body_terms.specs.declared.micro.Micro.TheVariants.{LoadCell}
 use Rattle.machine_states.specs.body_terms.specs.declared.thunk.Thunk.{Thunk}
@@ -13,13 +13,14 @@ use Rattle.machine_states.specs.runner_parts.specs.declared.event.EventKind.TheV
 use Rattle.machine_states.specs.runner_parts.specs.declared.entries.Published.{Published}
 use Rattle.machine_states.specs.runner_parts.specs.State.{RunState}
 use Rattle.machine_states.specs.runner_parts.specs.Tests.{has}
-use Rattle.machine_states.specs.runner_parts.specs.Lists.{is_old, slots_of}
+use Rattle.machine_states.specs.guard_core.specs.Moves.{is_unnamed}
+use Rattle.machine_states.specs.runner_steps.specs.Guards.{is_last_guard}
+use Rattle.machine_states.specs.runner_steps.specs.Outside.{is_sure_of}
 use Rattle.machine_states.specs.runner_steps.specs.Sections.{is_open_run, next_of}
 use Rattle.agreement_core.specs.State.{AgreementState, section_of}
 use Rattle.agreement_core.specs.Events.{IsAlone, IsPrivateStore, IsPublishable}
 use Rattle.machine_states.specs.Sight.{Sight}
 use Rattle.machine_epochs.specs.Slots.{thunk_in}
-pub use Rattle.machine_epochs.specs.ScanEnds.{scan_collects, advance_collects, collects}
 use Rattle.machine_scenes.specs.Shown.{rules_of}
 
 -- a retired descriptor that nobody runs
@@ -35,8 +36,6 @@ pub record MayPublish (m : Meaning) (l : Layout) (w : AgreementState) (s : Sight
   pub unlogged : (k : ℕ) → s.word (LogWord d k) ≡ 0
   pub publishable : IsPublishable (rules_of m l) d t.lock t.word (micro_at (line (m.body t)))
       (committed (line (m.body t)))
-  -- no other runner has published it
-  pub apart : (i : ℕ) (x : Published) → i ≢ r → (s.part i).published ≡ Some x → x.descriptor ≢ d
 
 module _ (m : Meaning) (l : Layout) where
   -- what is needed for an event of this runner that found this word
@@ -49,13 +48,15 @@ module _ (m : Meaning) (l : Layout) where
     pub private : (q : RunState) (slot cell number : ℕ) → (s.part r).run ≡ Some q
         → kind ≡ kinds.PrivateStore slot cell number
         → IsPrivateStore (rules_of m l) w (cell_of m.fixed_cells slot cell) number
-    -- an own free descriptor isn't published; the own published one isn't retired; a held one is published
+    -- an own free descriptor isn't published; the own published one isn't retired; that of which the runner is sure
+    -- is published
     pub unused : (d : ℕ) → has (s.part r).descriptors.free d ≡ true → w.used d ≡ false
     pub live : (x : Published) → (s.part r).published ≡ Some x → w.live x.descriptor ≡ true
-    pub used : (d : ℕ) → kind ≡ kinds.LoadThunk (Some d) → has (s.part r).reads.held d ≡ true → w.used d ≡ true
+    pub used : (d : ℕ) → kind ≡ kinds.LoadThunk (Some d) → is_sure_of (s.part r).guards d ≡ true → w.used d ≡ true
     -- a section that is published now
     pub publishes : (t : Thunk) (d : ℕ) → kind ≡ kinds.Hold t d → (s.part r).run ≡ None → found ≡ t.word
         → MayPublish m l w s r t d
     -- the descriptors that leave limbo
-    pub idle : (epoch d : ℕ) → (s.part r).run ≡ None → collects l kind (s.part r).stage found ≡ Some epoch
-        → has (slots_of (filter (is_old epoch) (s.part r).descriptors.limbo)) d ≡ true → IsIdle w d
+    pub idle : (n d : ℕ) → kind ≡ kinds.LoadGuard n → is_last_guard l (s.part r).guards.looked ≡ true
+        → has (filter (is_unnamed ((s.part r).guards.looked ++ found ∷ [])) (s.part r).descriptors.limbo) d ≡ true
+        → IsIdle w d

@@ -39,6 +39,7 @@ use Rattle.machine_epochs.proofs.CommitKinds as commits
 use Rattle.machine_epochs.proofs.SlotKinds as slots
 use Rattle.machine_epochs.proofs.RetireKinds as retires
 use Rattle.machine_epochs.proofs.EndKinds as ends
+use Rattle.machine_epochs.proofs.GuardKinds as guarding
 
 module _ (m : Meaning) (l : Layout) (rs : List Request) (w : EpochState) (s : Sight) (old : IsJoinedToEpochs m l w s) (r : ℕ) (some : r ≤ l.runners) (x : Spot × Access) (fits : Fits (sizes_for m l rs) x.0) where
   abbrev p : PartState
@@ -72,7 +73,7 @@ module _ (m : Meaning) (l : Layout) (rs : List Request) (w : EpochState) (s : Si
     module _ (is_open : is_open_run q ≡ true) where
       line_goes : (kind : EventKind) → EpochsAreSupplied m l w s r kind x.0 → line_ask m l kind p.nodes.free q (next_of m q) ≡ Some x
           → To (IsLineChunk m l r kind p q (next_of m q) found) kind (line_after m l kind p q (next_of m q) found)
-      line_goes kinds.Commit u e = commits.commit m l w s old r q at is_open rs _ (next_of m q) refl x fits e (λ t. may_by kinds.Commit u (Some q) at t)
+      line_goes kinds.Commit u e = commits.commit m l w s old r q at is_open rs _ (next_of m q) refl x fits e
       line_goes (kinds.LoadCell None) u e = runs.load_cell m l w s old r q at is_open _ (next_of m q) refl x e
       line_goes kinds.ExchangeCell u e = runs.exchange_cell m l w s old r q at is_open _ (next_of m q) refl x e
       line_goes (kinds.PrivateLoad slot word) u e = slots.fill_load m l w s old r q at is_open _ (next_of m q) refl x slot word e
@@ -89,7 +90,7 @@ module _ (m : Meaning) (l : Layout) (rs : List Request) (w : EpochState) (s : Si
       line_goes kinds.NestedLoad u e = runs.nested_load m l w s old r q at is_open _ (next_of m q) refl x e
       line_goes kinds.NestedHold u e = runs.nested_hold m l w s old r q at is_open _ (next_of m q) refl x e
       line_goes kinds.OutcomeLoad u e = runs.outcome_load m l w s old r q at is_open _ (next_of m q) refl x e
-      line_goes kinds.OutcomeCommit u e = commits.outcome_commit m l w s old r q at is_open rs _ (next_of m q) refl x fits e (λ t. may_by kinds.OutcomeCommit u (Some q) at t)
+      line_goes kinds.OutcomeCommit u e = commits.outcome_commit m l w s old r q at is_open rs _ (next_of m q) refl x fits e
       line_goes _ u e = some_none x e
 
     opening_goes : (kind : EventKind) → opening_ask kind q ≡ Some x → To (λ es. es ≡ []) kind (opened_more p q found)
@@ -123,13 +124,14 @@ module _ (m : Meaning) (l : Layout) (rs : List Request) (w : EpochState) (s : Si
     outside_goes (kinds.LoadEntry request reply) j u e = outside.load_entry m l w s old r none _ request reply x e
     outside_goes (kinds.PrivateLoad slot word) j u e = stores.private_load m l w s old r none rs _ slot word x fits e
     outside_goes (kinds.PrivateStore slot word number) j u e = stores.private_store m l w s old r none rs _ slot word number x fits e
-    outside_goes (kinds.Hold thunk d) j u e = sections.hold m l w s old r none _ x rs thunk d (λ t. may_by (kinds.Hold thunk d) u None none t) e
+    outside_goes (kinds.Hold thunk d) j u e = sections.hold m l w s old r none _ x rs thunk d e
     outside_goes (kinds.LoadThunk (Some d)) j u e = outside.load_thunk m l w s old r none _ d x e
-    outside_goes kinds.EpochForRetire j u e = sections.retire_descriptor m l w s old r none _ x e
     outside_goes (kinds.ReadPlan thunk) j u e = outside.read_plan m l w s old r none _ thunk x e
     outside_goes kinds.ReadClock j u e = outside.read_clock m l w s old r none _ x e
     outside_goes kinds.ReadReply j u e = outside.read_reply m l w s old r none rs _ x e
     outside_goes kinds.ReadStamp j u e = outside.read_stamp m l w s old r none _ x e
+    outside_goes (kinds.Guard d) j u e = guarding.guard m l w s old r none _ d x e
+    outside_goes (kinds.LoadGuard n) j u e = guarding.load_guard m l w s old r none _ n x (λ d q. u.swept n d q refl) e
     outside_goes _ j u e = some_none x e
 
 -- a join changes the keeper's records, and the worker makes no further step
@@ -146,6 +148,7 @@ module _ (m : Meaning) (l : Layout) (w : EpochState) (s : Sight) (old : IsJoined
   keeper_tied : IsTied m l w seat r keeper
   keeper_tied = copied m l w seat r (s.part r) (s.part r).nodes records (s.part r).gone (still_tied m l w w s.word seat r (s.part r) (record {
     holds = λ t h. h;
+    alone = λ d h. h;
     words = λ d j h. refl;
     hand = λ t h. h;
     retire = refl;

@@ -39,7 +39,7 @@ young e xs = All-weaker (λ (x : Retired). not (lists.is_old e x) ≡ true) (λ 
     is_young y e h = grind (arith, nat_tests)
 
 nothing_old : (p : PartState) (e : ℕ) (records : RecordsState) → HasNothingOld e (record (outside.collected p e) { records = records })
-nothing_old p e records = record { nodes = young e p.nodes.limbo; descriptors = young e p.descriptors.limbo }
+nothing_old p e records = record { nodes = young e p.nodes.limbo }
 
 not_idle : {B : Type 0} {x n : ℕ} {b : Bool} → Scanning x n b ≡ Idle → B
 not_idle e = absurd (let y = e in cc)

@@ -1,5 +1,5 @@
 -- The commits of words.
-use Rattle.std.specs.Prelude.{◌==◌, ◌&&◌, ◌||◌, cond, Bool, true, false}
+use Rattle.std.specs.Prelude.{◌==◌, ◌||◌, cond, Bool, true, false}
 use Rattle.std.proofs.Common.{◌≡◌, ◌≢◌, ℕ, ◌<◌, ◌≤◌, List, [], ◌∷◌, ◌++◌, refl, sym, ap, ◌∙◌, subst, arith, Some, ⊎_elim, inl, inr}
 use Rattle.std.proofs.lemmas.Bool.Decides.{nat_tests}
 use Rattle.machine_states.specs.map_history.specs.declared.op.Request.{Request}
@@ -18,40 +18,42 @@ use Rattle.machine_states.specs.table_words.specs.Seen.{put}
 use Rattle.machine_states.specs.structure_laws.specs.Meaning.{Meaning}
 use Rattle.machine_states.specs.runner_parts.specs.declared.event.EventKind.{EventKind}
 use Rattle.machine_states.specs.runner_parts.specs.declared.event.EventKind.TheVariants as kinds
-use Rattle.machine_states.specs.runner_parts.specs.State.{RunState, PartState, ReadsState, RecordsState}
+use Rattle.machine_states.specs.runner_parts.specs.State.{RunState, PartState, RecordsState}
 use Rattle.machine_states.specs.runner_steps.specs.Sections.{thunk_of, is_open_run, next_of}
 use Rattle.machine_states.specs.runner_parts.specs.Tests.{has}
-use Rattle.machine_states.specs.runner_parts.specs.Lists.{named_by, lock_agreed, holds_named}
 use Rattle.machine_states.specs.runner_steps.specs.Asks.{sizes_for}
 use Rattle.machine_states.specs.runner_steps.specs.InRun.{commit_ask, outcome_commit_ask}
 use Rattle.machine_states.specs.runner_steps.specs.AfterInRun as runs
 use Rattle.machine_states.specs.epoch_core.specs.Update.{upd2, upd_row}
-use Rattle.machine_states.specs.epoch_core.specs.State.{EpochState, Role, Agrees, MayHold}
+use Rattle.machine_states.specs.epoch_core.specs.State.{EpochState, Role, Agrees}
 use Rattle.machine_states.specs.epoch_core.specs.Events.{slot_of}
 use Rattle.machine_states.specs.epoch_core.specs.Events as events
 use Rattle.machine_states.specs.Sight.{Sight}
 use Rattle.machine_epochs.specs.Entries.{counts_of}
 use Rattle.machine_epochs.specs.Joined.{IsJoinedToEpochs}
-use Rattle.machine_epochs.specs.Supplied.{names_slot, comes_agreed, comes_inside}
 use Rattle.machine_epochs.specs.Roles.{role_at}
 use Rattle.machine_epochs.specs.Slots.{lists_of}
 use Rattle.machine_states.proofs.Updates.{map_same}
 use Rattle.machine_epochs.proofs.InsideAsked as asked
 use Rattle.machine_epochs.proofs.Roles as roles
 use Rattle.machine_epochs.proofs.RunPlaces.{is_of_end, next_in_line, open_run}
-use Rattle.machine_epochs.proofs.Places.{has_append, names_it, apart, log_elsewhere, run_entered, run_role}
+use Rattle.machine_epochs.proofs.Places.{apart, log_elsewhere, run_role}
 use Rattle.machine_epochs.proofs.Joining.{Goes, next}
-use Rattle.machine_epochs.proofs.Reaching.{may_hold, unreached}
 use Rattle.machine_epochs.proofs.RunKinds.{is_of_retire, run_goes, still, Leads, for_step}
 
 pub row_else : (f : ℕ → ℕ → Bool) (r i t : ℕ) (row : ℕ → Bool) → i ≢ r → f i t ≡ true → upd_row f r row i t ≡ true
 row_else f r i t row ne h = grind (arith, nat_tests)
 
-pub row_more : (r : ℕ) (a b : Bool) → a ≡ true → cond (r == r) (a || b) a ≡ true
-row_more r a b h = grind (arith, nat_tests)
-
 pub row_named : (r : ℕ) (had comes holds : Bool) → (had ≡ true → holds ≡ true) → (had || comes) ≡ true → cond (r == r) (holds || comes) holds ≡ true
 row_named r had comes holds h e = grind (arith, nat_tests)
+
+-- another runner's row is as it was
+pub row_only : (f : ℕ → ℕ → Bool) (r i t : ℕ) (row : ℕ → Bool) → i ≢ r → upd_row f r row i t ≡ true → f i t ≡ true
+row_only f r i t row ne h = grind (arith, nat_tests)
+
+-- what stands in the own row stood there, or has come
+pub row_back : (r : ℕ) (holds comes had : Bool) → (holds ≡ true → had ≡ true) → cond (r == r) (holds || comes) holds ≡ true → (had || comes) ≡ true
+row_back r holds comes had h e = grind (arith, nat_tests)
 
 past_log : (b : Bool) (k k' v x : ℕ) → k < 64 → 64 ≤ k' → x ≡ 0 → cond b (cond (k' == k) v x) x ≡ 0
 past_log b k k' v x low high e = grind (arith, nat_tests)
@@ -76,29 +78,27 @@ module _ (m : Meaning) (l : Layout) (w : EpochState) (s : Sight) (old : IsJoined
 
     -- a commit of a word by which the runner comes to hold these slots
     module _ (micro : Micro) (ahead : next_of m q ≡ micro) (inner : is_of_end micro ≡ false) (other : is_of_retire micro ≡ false)
-        (k : ℕ) (role : w.role d k ≡ Agrees) (few : d < (counts_of m l).descriptors) (low : k < 64)
-        (comes : ℕ → Bool) (may : (t : ℕ) → comes t ≡ true → w.holds r t ≡ false → MayHold w r t) where
+        (k : ℕ) (role : w.role d k ≡ Agrees) (few : d < (counts_of m l).descriptors) (low : k < 64) where
       abbrev f : Spot → ℕ
       f = put s.word (LogWord d k) (exchanged (s.word (LogWord d k)) 0 q.word)
 
-      pub commits : (reads : ReadsState) (records : RecordsState) → reads.walk ≡ p.reads.walk → ((i : ℕ) → has reads.held i ≡ true → (has p.reads.held i || comes (slot_of (counts_of m l) i)) ≡ true)
-          → Goes m l (events.Reach r comes ∷ events.WordCommit r d k q.word ∷ []) w (next m l w s old r f (record p { run = Some (runs.agrees m l q (written_once (s.word (LogWord d k)) q.word)); reads = reads; records = records }))
-      commits reads records walk named =
-          run_goes m l w s old r q at is_open (events.Reach r comes ∷ events.WordCommit r d k q.word ∷ [])
-          ((run_entered m l w s old r q at (open_run q is_open), λ t h. may_hold (counts_of m l) w old.sound r t (may t h)), ((row_more r _ _ held, role), tt))
+      pub commits : (records : RecordsState)
+          → Goes m l (events.WordCommit r d k q.word ∷ []) w (next m l w s old r f (record p { run = Some (runs.agrees m l q (written_once (s.word (LogWord d k)) q.word)); records = records }))
+      commits records =
+          run_goes m l w s old r q at is_open (events.WordCommit r d k q.word ∷ []) ((held, role), tt)
           f (runs.agrees m l q (written_once (s.word (LogWord d k)) q.word)) _
           (record {
-            holds = λ t h. row_more r (w.holds r t) (comes t) h;
+            holds = λ t h. h;
+            alone = λ i h. h;
             entered = λ h. h;
             live = λ i h. h;
             thunk = λ i j. refl;
             stored = λ i j free. log_elsewhere s.word d k _ i j (apart m l w s old r r d i held few free);
             on_run = record { descriptor = refl; opened = refl };
             made = λ t e. (old.tied r).run_made q t at e;
-            moved = record { stage = refl; published = refl; descriptors = refl; walk = walk };
+            moved = record { stage = refl; published = refl; descriptors = refl; guards = refl; walk = refl };
             here = refl;
             retire = still m l w s old r q at is_open micro ahead inner other (runs.agrees m l q (written_once (s.word (LogWord d k)) q.word)) (record { descriptor = refl; opened = refl }) (q.trail ++ written_once (s.word (LogWord d k)) q.word ∷ []) refl;
-            named = λ i isin is_named. row_named r (has p.reads.held i) (comes (slot_of (counts_of m l) i)) (w.holds r (slot_of (counts_of m l) i)) (λ h. (old.tied r).named i isin h) (named i is_named);
           })
           (record {
             epoch = refl;
@@ -112,7 +112,8 @@ module _ (m : Meaning) (l : Layout) (w : EpochState) (s : Sight) (old : IsJoined
             past = λ i j high. log_past d k _ i j low high;
           })
           (λ i ne. record {
-            holds = λ t h. row_else w.holds r i t (λ u. w.holds r u || comes u) ne h;
+            holds = λ t h. h;
+            alone = λ i' h. h;
             words = λ i' j h. refl;
             hand = λ t h. h;
             retire = refl;
@@ -121,29 +122,6 @@ module _ (m : Meaning) (l : Layout) (w : EpochState) (s : Sight) (old : IsJoined
             stored = λ i' j free. log_elsewhere s.word d k _ i' j (apart m l w s old r i d i' held few free);
           })
           (sym (map_same lists_of s.part r _ refl))
-
-    lock_walk : (agreed : ℕ) → (lock_agreed p.reads d agreed).walk ≡ p.reads.walk
-    lock_walk agreed = by_test (has p.reads.published d)
-      where
-        by_test : (b : Bool) → (cond b (holds_named p.reads agreed) p.reads).walk ≡ p.reads.walk
-        by_test true = refl
-        by_test false = refl
-
-    -- what a runner names after it agreed on a lock's word
-    pub agreed_named : (agreed i : ℕ) → has (lock_agreed p.reads d agreed).held i ≡ true
-        → (has p.reads.held i || (has p.reads.published d && names_slot (counts_of m l) agreed (slot_of (counts_of m l) i))) ≡ true
-    agreed_named agreed i e = by_test (has p.reads.published d) e
-      where
-        by_test : (b : Bool) → has (cond b (holds_named p.reads agreed) p.reads).held i ≡ true → (has p.reads.held i || (b && names_slot (counts_of m l) agreed (slot_of (counts_of m l) i))) ≡ true
-        by_test true e = sym (has_append p.reads.held (named_by agreed) i ∙ ap (λ b. has p.reads.held i || b) (names_it (counts_of m l) agreed i)) ∙ e
-        by_test false e = left (has p.reads.held i) e
-          where
-            left : (a : Bool) → a ≡ true → (a || false) ≡ true
-            left a e = grind arith
-
-    -- what the runner comes to hold by the step, it may hold
-    abbrev May : EventKind → Micro → Spot × Access → Type 0
-    May kind micro x = (t : ℕ) → comes_inside (counts_of m l) kind micro p q (s.word x.0) t ≡ true → w.holds r t ≡ false → MayHold w r t
 
     module _ (rs : List Request) (records : RecordsState) (micro : Micro) (ahead : next_of m q ≡ micro) (x : Spot × Access) (fits : Fits (sizes_for m l rs) x.0) where
       for_log : (proposal log : ℕ) → (LogWord d log, Exchanges 0 proposal) ≡ x → (d < (counts_of m l).descriptors) × (log < 64)
@@ -159,37 +137,29 @@ module _ (m : Meaning) (l : Layout) (w : EpochState) (s : Sight) (old : IsJoined
       word_goes place log e is = let few = for_log q.word log is in
           for_step m l w s old r q at is_open kinds.Commit records micro x (micros.Commit place log) (LogWord d log, Exchanges 0 q.word) e is (
             _,
-            (place, log, inl (refl, refl)),
-            unreached m l w r (λ t. false) (λ t. refl) (commits (micros.Commit place log) (ahead ∙ e) refl refl log (role_of log Agrees (roles.load_role (m.body (thunk_of q.opened)) q.at place log (code_is (micros.Commit place log) e refl))) few.0 few.1
-                (λ t. false) (λ t h no'. absurd (let y = h in cc)) p.reads records refl (λ i h. left h)),
+            (place, log, inl refl, refl),
+            commits (micros.Commit place log) (ahead ∙ e) refl refl log (role_of log Agrees (roles.load_role (m.body (thunk_of q.opened)) q.at place log (code_is (micros.Commit place log) e refl))) few.0 few.1 records,
           )
-        where
-          left : {a : Bool} → a ≡ true → (a || false) ≡ true
-          left e = grind arith
 
-      lock_goes : (place log : ℕ) → micro ≡ micros.NestedCommit place log → (LogWord d log, Exchanges 0 q.word) ≡ x → May kinds.Commit micro x → Leads m l w s old r q at is_open kinds.Commit records micro x
-      lock_goes place log e is may = let few = for_log q.word log is in
+      lock_goes : (place log : ℕ) → micro ≡ micros.NestedCommit place log → (LogWord d log, Exchanges 0 q.word) ≡ x → Leads m l w s old r q at is_open kinds.Commit records micro x
+      lock_goes place log e is = let few = for_log q.word log is in
           for_step m l w s old r q at is_open kinds.Commit records micro x (micros.NestedCommit place log) (LogWord d log, Exchanges 0 q.word) e is (
             _,
-            (place, log, inr (refl, refl)),
-            commits (micros.NestedCommit place log) (ahead ∙ e) refl refl log (role_of log Agrees (roles.nested_role (m.body (thunk_of q.opened)) q.at place log (code_is (micros.NestedCommit place log) e refl))) few.0 few.1
-                (comes_agreed (counts_of m l) p q (s.word (LogWord d log))) (subst (λ (μ : Micro). May kinds.Commit μ (LogWord d log, Exchanges 0 q.word)) e (subst (May kinds.Commit micro) (sym is) may))
-                (lock_agreed p.reads d (written_once (s.word (LogWord d log)) q.word)) records (lock_walk _) (agreed_named _),
+            (place, log, inr refl, refl),
+            commits (micros.NestedCommit place log) (ahead ∙ e) refl refl log (role_of log Agrees (roles.nested_role (m.body (thunk_of q.opened)) q.at place log (code_is (micros.NestedCommit place log) e refl))) few.0 few.1 records,
           )
 
-      pub commit : commit_ask q micro ≡ Some x → May kinds.Commit micro x → Leads m l w s old r q at is_open kinds.Commit records micro x
-      commit e may = let h = asked.commit_asked q x micro e in
-          ⊎_elim (λ word. word_goes h.step.0 h.log word h.is) (λ lock. lock_goes h.step.0 h.log lock h.is may) h.step.1
+      pub commit : commit_ask q micro ≡ Some x → Leads m l w s old r q at is_open kinds.Commit records micro x
+      commit e = let h = asked.commit_asked q x micro e in
+          ⊎_elim (λ word. word_goes h.step.0 h.log word h.is) (λ lock. lock_goes h.step.0 h.log lock h.is) h.step.1
 
-      pub outcome_commit : outcome_commit_ask q micro ≡ Some x → May kinds.OutcomeCommit micro x → Leads m l w s old r q at is_open kinds.OutcomeCommit records micro x
-      outcome_commit e may =
+      pub outcome_commit : outcome_commit_ask q micro ≡ Some x → Leads m l w s old r q at is_open kinds.OutcomeCommit records micro x
+      outcome_commit e =
           let h = asked.outcome_commit_asked q x micro e in
           let μ : Micro = micros.OutcomeCommit h.step.0 h.log in
           let few = for_log q.word h.log h.is in
           for_step m l w s old r q at is_open kinds.OutcomeCommit records micro x μ (LogWord d h.log, Exchanges 0 q.word) h.step.1 h.is (
             _,
             (h.step.0, h.log, refl, refl),
-            commits μ (ahead ∙ h.step.1) refl refl h.log (role_of h.log Agrees (roles.outcome_role (m.body (thunk_of q.opened)) q.at h.step.0 h.log (code_is μ h.step.1 refl))) few.0 few.1
-                (comes_agreed (counts_of m l) p q (s.word (LogWord d h.log))) (subst (λ (a : Micro). May kinds.OutcomeCommit a (LogWord d h.log, Exchanges 0 q.word)) h.step.1 (subst (May kinds.OutcomeCommit micro) (sym h.is) may))
-                (lock_agreed p.reads d (written_once (s.word (LogWord d h.log)) q.word)) records (lock_walk _) (agreed_named _),
+            commits μ (ahead ∙ h.step.1) refl refl h.log (role_of h.log Agrees (roles.outcome_role (m.body (thunk_of q.opened)) q.at h.step.0 h.log (code_is μ h.step.1 refl))) few.0 few.1 records,
           )

@@ -6,7 +6,7 @@ use Rattle.machine_states.specs.body_terms.specs.declared.micro.Micro.{Micro}
 use Rattle.machine_states.specs.body_terms.specs.declared.micro.Micro.TheVariants as micros
 use Rattle.machine_states.specs.table_words.specs.declared.layout.Layout.{Layout}
 use Rattle.machine_states.specs.table_words.specs.declared.spot.Spot.{Spot}
-use Rattle.machine_states.specs.table_words.specs.declared.spot.Spot.TheVariants.{Seat, Epoch, Clock, Announcement, Stamp, Reply, Cell, ThunkWord, DoneWord, LogWord}
+use Rattle.machine_states.specs.table_words.specs.declared.spot.Spot.TheVariants.{Seat, Epoch, Clock, Announcement, Guard, Stamp, Reply, Cell, ThunkWord, DoneWord, LogWord}
 use Rattle.machine_states.specs.table_words.specs.declared.access.Access.{Access}
 use Rattle.machine_states.specs.table_words.specs.declared.access.Access.TheVariants.{Loads, Exchanges}
 use Rattle.machine_states.specs.table_words.specs.Access.{written}
@@ -15,14 +15,15 @@ use Rattle.machine_states.specs.structure_laws.specs.Meaning.{Meaning}
 use Rattle.machine_states.specs.runner_parts.specs.declared.event.EventKind.{EventKind}
 use Rattle.machine_states.specs.runner_parts.specs.declared.event.EventKind.TheVariants as kinds
 use Rattle.machine_states.specs.runner_parts.specs.declared.entries.Look.{Look}
-use Rattle.machine_states.specs.runner_parts.specs.declared.entries.Published.{Published}
 use Rattle.machine_states.specs.runner_parts.specs.State.{RunState, PartState}
 use Rattle.machine_states.specs.runner_steps.specs.Sections.{is_open_run, next_of}
 use Rattle.machine_states.specs.runner_steps.specs.Outside.{when}
 use Rattle.machine_states.specs.runner_steps.specs.Reads.{read_clock_ask, read_reply_ask, read_stamp_ask}
 use Rattle.machine_states.specs.runner_steps.specs.InRun.{commit_ask, load_cell_ask, exchange_cell_ask, fill_load_ask, fill_store_ask, make_commit_ask, make_commit_to, retire_commit_ask, epoch_for_retire_ask, clock_load_ask, stamp_exchange_ask, clock_raise_ask, reply_exchange_ask, nested_load_ask, nested_hold_ask, outcome_load_ask, outcome_commit_ask, set_done_ask, release_ask}
 use Rattle.machine_states.specs.runner_steps.specs.Asks.{outside_ask, line_ask, opening_ask, ask_by}
-use Rattle.machine_states.specs.runner_steps.specs.AfterOutside.{retire_after}
+use Rattle.machine_states.specs.runner_steps.specs.Guards.{load_guard_by}
+use Rattle.machine_states.specs.epoch_core.specs.declared.stage.Stage.{Stage}
+use Rattle.machine_states.specs.epoch_core.specs.declared.stage.Stage.TheVariants.{Idle, Loaded, Announced, Entered, Scanning}
 use Rattle.machine_states.specs.runner_steps.specs.AfterInRun.{fill_loaded, make_committed}
 use Rattle.machine_states.specs.runner_steps.specs.After.{outside_after, line_after, inside_after, after_by}
 use Rattle.machine_states.proofs.Sights.{if_some, some_none}
@@ -55,6 +56,7 @@ quiet_word Epoch access e = absurd (let x = e in cc)
 quiet_word (Announcement r) access e = absurd (let x = e in cc)
 quiet_word Seat access e = λ f. (refl, λ r. refl)
 quiet_word Clock access e = λ f. (refl, λ r. refl)
+quiet_word (Guard r) access e = λ f. (refl, λ r. refl)
 quiet_word (Stamp q) access e = λ f. (refl, λ r. refl)
 quiet_word (Reply q) access e = λ f. (refl, λ r. refl)
 quiet_word (Cell p) access e = λ f. (refl, λ r. refl)
@@ -102,6 +104,13 @@ module _ (m : Meaning) (l : Layout) (rs : List Request) where
   quiet_stamp p None x e = some_none x e
   quiet_stamp p (Some look) x e = when_word _ _ _ x refl e
 
+  quiet_guard : (n looked : ℕ) (st : Stage) (x : Spot × Access) → load_guard_by l n looked st ≡ Some x → Quiet x
+  quiet_guard n looked Idle x e = when_load _ _ x e
+  quiet_guard n looked (Loaded g) x e = some_none x e
+  quiet_guard n looked Announced x e = some_none x e
+  quiet_guard n looked (Entered g) x e = some_none x e
+  quiet_guard n looked (Scanning y next clear) x e = some_none x e
+
   quiet_outside : (r : ℕ) (kind : EventKind) (p : PartState) (x : Spot × Access) → is_entry kind ≡ false → outside_ask m l rs r kind p ≡ Some x → Quiet x
   quiet_outside r kinds.EnterLoad p x k e = absurd (let y = k in cc)
   quiet_outside r kinds.Announce p x k e = absurd (let y = k in cc)
@@ -118,11 +127,12 @@ module _ (m : Meaning) (l : Layout) (rs : List Request) where
   quiet_outside r (kinds.PrivateStore slot word number) p x k e = when_word _ _ _ x (in_descriptor _ _ _ _) e
   quiet_outside r (kinds.Hold thunk d) p x k e = when_word _ _ _ x refl e
   quiet_outside r (kinds.LoadThunk (Some d)) p x k e = when_load _ _ x e
-  quiet_outside r kinds.EpochForRetire p x k e = when_load _ _ x e
   quiet_outside r (kinds.ReadPlan thunk) p x k e = when_kept _ _ x e
   quiet_outside r kinds.ReadClock p x k e = quiet_clock p p.reads.look x e
   quiet_outside r kinds.ReadReply p x k e = quiet_reply r p p.reads.look x e
   quiet_outside r kinds.ReadStamp p x k e = quiet_stamp p p.reads.look x e
+  quiet_outside r (kinds.Guard d) p x k e = when_word _ _ _ x refl e
+  quiet_outside r (kinds.LoadGuard n) p x k e = quiet_guard n _ p.stage x e
   quiet_outside r _ p x k e = some_none x e
 
 module _ (l : Layout) (q : RunState) (x : Spot × Access) where
@@ -245,10 +255,6 @@ either_stage false p p' p'' e e' = e'
 
 -- the stage stays
 module _ (m : Meaning) (l : Layout) where
-  retired_stage : (p : PartState) (o : Option Published) (found : ℕ) → (retire_after p o found).stage ≡ p.stage
-  retired_stage p None found = refl
-  retired_stage p (Some x) found = refl
-
   outside_stage : (kind : EventKind) (p : PartState) (found : ℕ) → is_entry kind ≡ false → (outside_after m l kind p found).stage ≡ p.stage
   outside_stage kinds.EnterLoad p found k = absurd (let y = k in cc)
   outside_stage kinds.Announce p found k = absurd (let y = k in cc)
@@ -265,7 +271,6 @@ module _ (m : Meaning) (l : Layout) where
   outside_stage (kinds.PrivateStore slot word number) p found k = refl
   outside_stage (kinds.Hold thunk d) p found k = either_stage _ p _ _ refl refl
   outside_stage (kinds.LoadThunk (Some d)) p found k = refl
-  outside_stage kinds.EpochForRetire p found k = retired_stage p p.published found
   outside_stage _ p found k = refl
 
   module _ (p : PartState) (q : RunState) (found : ℕ) where
@@ -278,7 +283,7 @@ module _ (m : Meaning) (l : Layout) where
     made_stage (Some s) = refl
 
     line_stage : (kind : EventKind) (micro : Micro) → (line_after m l kind p q micro found).stage ≡ p.stage
-    line_stage kinds.Commit micro = either_stage _ p _ _ refl refl
+    line_stage kinds.Commit micro = refl
     line_stage (kinds.LoadCell place) micro = refl
     line_stage kinds.ExchangeCell micro = refl
     line_stage (kinds.PrivateLoad slot word) micro = filled_stage slot q.made

@@ -1,6 +1,6 @@
 -- The kinds of step at a run's start and at its end.
-use Rattle.std.specs.Prelude.{cond, Bool, true, false, slice_index}
-use Rattle.std.proofs.Common.{◌≡◌, ℕ, zero, suc, ◌<◌, List, [], ◌∷◌, ◌++◌, length, refl, sym, ap, ◌∙◌, subst, arith, length-append, ⊎_elim, Option, Some, None}
+use Rattle.std.specs.Prelude.{◌==◌, cond, Bool, true, false, slice_index}
+use Rattle.std.proofs.Common.{◌≡◌, ◌≢◌, ℕ, zero, suc, ◌<◌, List, [], ◌∷◌, ◌++◌, length, refl, sym, ap, ◌∙◌, subst, arith, length-append, ⊎_elim, Option, Some, None}
 use Rattle.std.proofs.lemmas.Bool.{cases_eq}
 use Rattle.std.proofs.lemmas.Option.{none-some}
 use Rattle.machine_states.specs.map_history.specs.declared.op.Request.{Request}
@@ -14,36 +14,39 @@ use Rattle.machine_states.specs.table_words.specs.declared.access.Access.{Access
 use Rattle.machine_states.specs.table_words.specs.declared.access.Access.TheVariants.{Exchanges}
 use Rattle.machine_states.specs.table_words.specs.Access.{exchanged, written}
 use Rattle.machine_states.specs.table_words.specs.Places.{Fits}
-use Rattle.machine_states.specs.table_words.specs.Seen.{put}
+use Rattle.machine_states.specs.table_words.specs.Seen.{upd, put}
 use Rattle.machine_states.specs.structure_laws.specs.Meaning.{Meaning}
 use Rattle.machine_states.specs.runner_parts.specs.declared.event.EventKind.TheVariants as kinds
 use Rattle.machine_states.specs.runner_parts.specs.declared.entries.Published.{Published}
-use Rattle.machine_states.specs.runner_parts.specs.State.{RunState, PartState, ReadsState, RecordsState}
-use Rattle.machine_states.specs.runner_parts.specs.Tests.{has}
-use Rattle.machine_states.specs.runner_steps.specs.Outside.{descriptor_spot}
+use Rattle.machine_states.specs.runner_parts.specs.State.{RunState, PartState, DescriptorsState, ReadsState, RecordsState}
+use Rattle.machine_states.specs.runner_parts.specs.declared.entries.Stored.{Stored}
+use Rattle.machine_states.specs.runner_parts.specs.Tests.{has, last_stored}
+use Rattle.machine_states.specs.runner_steps.specs.Outside.{descriptor_spot, is_sure_of}
 use Rattle.machine_states.specs.runner_steps.specs.Sections.{is_open_run, next_of}
 use Rattle.machine_states.specs.runner_steps.specs.Asks.{sizes_for}
 use Rattle.machine_states.specs.runner_steps.specs.InRun.{open_more_ask, load_done_ask, set_done_ask, release_ask}
-use Rattle.machine_states.specs.runner_parts.specs.Lists.{cell_read}
-use Rattle.machine_states.specs.runner_steps.specs.AfterInRun.{over_if, ended_more, opened_more}
-use Rattle.machine_states.specs.epoch_core.specs.State.{EpochState, no_retire}
-use Rattle.machine_states.specs.epoch_core.specs.Events.{slot_of}
+use Rattle.machine_states.specs.runner_parts.specs.Lists.{cell_read, descriptor_retired}
+use Rattle.machine_states.specs.runner_steps.specs.AfterInRun.{kept_unless, retired_if, ended_more, opened_more}
+use Rattle.section_lines.specs.small_lemmas.proofs.Numbers.{tested_equal as same_slot}
+use Rattle.machine_states.specs.epoch_core.specs.declared.location.Location.{Location}
+use Rattle.machine_states.specs.epoch_core.specs.declared.location.Location.TheVariants.{Live, Hand, Limbo}
+use Rattle.machine_states.specs.epoch_core.specs.State.{EpochState, no_retire, is_entered}
+use Rattle.machine_states.specs.epoch_core.specs.Events.{slot_of, after}
+use Rattle.machine_states.specs.epoch_core.specs.Events as events
+use Rattle.machine_states.specs.epoch_core.specs.History.{is_out}
 use Rattle.machine_states.specs.Sight.{Sight}
 use Rattle.machine_states.proofs.Steps.{some_same}
-use Rattle.machine_states.proofs.Updates.{map_same}
+use Rattle.machine_states.proofs.Updates.{map_same, map_upd}
 use Rattle.machine_epochs.specs.Entries.{counts_of}
-use Rattle.machine_epochs.specs.Joined.{IsJoinedToEpochs}
+use Rattle.machine_epochs.specs.Joined.{IsTied, IsJoinedToEpochs}
 use Rattle.machine_epochs.specs.Slots.{lists_of, retiring_of}
+use Rattle.machine_epochs.specs.Chunks.{retires_own}
 use Rattle.machine_epochs.proofs.InsideAsked as asked
 use Rattle.machine_epochs.proofs.RunPlaces.{is_of_end, begins_unretired, ends_unretired}
 use Rattle.machine_epochs.proofs.Places.{apart, done_elsewhere}
-use Rattle.machine_epochs.proofs.Joining.{IsSameBut, but_cell, but_load, descriptor_same, StaysAt, next, as_published, stays}
+use Rattle.machine_epochs.proofs.Joining.{IsSameBut, but_cell, but_load, descriptor_same, Goes, GoesBy, StaysAt, next, as_published, once, stages_stay, stays, goes_with}
 use Rattle.machine_epochs.proofs.RunKinds.{run_goes, Leads, for_step}
-
--- what was published when a run was over, was published before
-over_back : (o : Option Published) (d : ℕ) (x : Published) → over_if o d ≡ Some x → (y : Published) × (o ≡ Some y) × (y.descriptor ≡ x.descriptor)
-over_back None d x e = absurd (none-some _ e)
-over_back (Some y) d x e = (y, refl, ap (λ (z : Published). z.descriptor) (some_same _ _ e))
+use Rattle.machine_epochs.proofs.SlotKinds.{other_place, kept_place, live_hand, slot_apart}
 
 index_old : (xs : List ℕ) (x j : ℕ) → j < length xs → slice_index (xs ++ x ∷ []) j ≡ slice_index xs j
 index_old [] x j h = absurd (omega arith)
@@ -83,7 +86,11 @@ module _ (m : Meaning) (l : Layout) (w : EpochState) (s : Sight) (old : IsJoined
           run_made = λ q2 u e made. t.run_made q u at (ap (λ (a : RunState). a.made) (is q2 e) ∙ made);
           retire = t.retire ∙ (ap (retiring_of m) at ∙ (begins_unretired m q starts ∙ sym (begins_unretired m opened starts)));
           published = t.published;
-          named = t.named;
+          run_sure = λ q2 e. ap (λ (a : RunState). is_sure_of p.guards a.descriptor) (sym (is q2 e)) ∙ t.run_sure q at;
+          published_sure = t.published_sure;
+          numbered = t.numbered;
+          sure = t.sure;
+          sure_alone = t.sure_alone;
           reached = t.reached;
           stored_free = t.stored_free;
           stored = λ d j n free last. descriptor_same f s.word same d j ∙ t.stored d j n free last;
@@ -123,23 +130,23 @@ module _ (m : Meaning) (l : Layout) (w : EpochState) (s : Sight) (old : IsJoined
     -- the run goes on with its end
     goes_on : (f : Spot → ℕ) → ((d j : ℕ) → f (ThunkWord d j) ≡ s.word (ThunkWord d j)) → ((i d j : ℕ) → has (s.part i).descriptors.free d ≡ true → f (descriptor_spot d j) ≡ s.word (descriptor_spot d j))
         → f Epoch ≡ s.word Epoch → ((i : ℕ) → f (Announcement i) ≡ s.word (Announcement i)) → ((d k : ℕ) → f (LogWord d k) ≡ s.word (LogWord d k))
-        → (reads : ReadsState) → reads.held ≡ now.reads.held → reads.walk ≡ now.reads.walk → StaysAt m l w (next m l w s old r f (ended reads))
-    goes_on f thunk stored epoch announced log reads same_held walk = (
+        → (reads : ReadsState) → reads.walk ≡ now.reads.walk → StaysAt m l w (next m l w s old r f (ended reads))
+    goes_on f thunk stored epoch announced log reads walk = (
       [],
       refl,
       run_goes m l w s old r q at is_open [] tt f (ended_more q) (ended reads)
           (record {
             holds = λ t h. h;
+            alone = λ d h. h;
             entered = λ h. h;
             live = λ d h. h;
             thunk = thunk;
             stored = λ d j h. stored r d j h;
             on_run = record { descriptor = refl; opened = refl };
             made = λ t e. (old.tied r).run_made q t at e;
-            moved = record { stage = refl; published = refl; descriptors = refl; walk = walk };
+            moved = record { stage = refl; published = refl; descriptors = refl; guards = refl; walk = walk };
             here = refl;
             retire = unretired ∙ sym (ends_unretired m q μ here ends (ended_more q));
-            named = λ d isin is_named. (old.tied r).named d isin (ap (λ (xs : List ℕ). has xs d) (sym same_held) ∙ is_named);
           })
           (record {
             epoch = refl;
@@ -154,6 +161,7 @@ module _ (m : Meaning) (l : Layout) (w : EpochState) (s : Sight) (old : IsJoined
           })
           (λ i ne. record {
             holds = λ t h. h;
+            alone = λ d h. h;
             words = λ d j h. thunk d j;
             hand = λ t h. h;
             retire = refl;
@@ -165,25 +173,110 @@ module _ (m : Meaning) (l : Layout) (w : EpochState) (s : Sight) (old : IsJoined
     )
 
     -- the run is over
-    is_over : (f : Spot → ℕ) → IsSameBut f s.word → (reads : ReadsState) → reads.held ≡ now.reads.held → reads.walk ≡ now.reads.walk
-        → StaysAt m l w (next m l w s old r f (record now { run = None; published = over_if now.published q.descriptor; reads = reads; records = records }))
-    is_over f same reads same_held walk =
-        stays m l w s old r f over same refl refl (over_back now.published q.descriptor) (record {
-          run_held = λ q2 e. absurd (none-some _ e);
-          run_opened = λ q2 j e low low'. absurd (none-some _ e);
-          run_begins = λ q2 e few. absurd (none-some _ e);
-          run_made = λ q2 t e made. absurd (none-some _ e);
-          retire = unretired;
-          published = λ y e. let b = over_back now.published q.descriptor y e in
-              ap (λ d. w.location (slot_of (counts_of m l) d)) (sym b.2) ∙ (old.tied r).published b.0 b.1;
-          named = λ d isin is_named. (old.tied r).named d isin (ap (λ (xs : List ℕ). has xs d) (sym same_held) ∙ is_named);
-          reached = λ t isin node is_there. (old.tied r).reached t isin node (ap (λ (xs : List (ℕ × ℕ)). m.reaches xs t) (sym walk) ∙ is_there);
-          stored_free = (old.tied r).stored_free;
-          stored = λ d j n free last. descriptor_same f s.word same d j ∙ (old.tied r).stored d j n free last;
-        })
-      where
-        over : PartState
-        over = record now { run = None; published = over_if now.published q.descriptor; reads = reads; records = records }
+    module _ (place v : ℕ) (reads : ReadsState) (walk : reads.walk ≡ now.reads.walk) where
+      abbrev words : Spot → ℕ
+      words = put s.word (Cell place) v
+
+      same : IsSameBut words s.word
+      same = but_cell s.word place v
+
+      -- the part then, where these are its descriptors and this is what it has published
+      abbrev over : DescriptorsState → Option Published → PartState
+      over descriptors published = record now { run = None; published = published; descriptors = descriptors; reads = reads; records = records }
+
+      -- what was tied to the run is over, and nothing else
+      over_tied : (w' : EpochState) (descriptors : DescriptorsState) (published : Option Published)
+          → (λ (v : EpochState). v.holds) w' ≡ w.holds → ((i : ℕ) → w'.stage i ≡ w.stage i) → w'.retire r ≡ no_retire
+          → descriptors.free ≡ now.descriptors.free → descriptors.stored ≡ now.descriptors.stored
+          → ((y : Published) → published ≡ Some y → (now.published ≡ Some y) × (w'.location (slot_of (counts_of m l) y.descriptor) ≡ Live))
+          → IsTied m l w' words r (over descriptors published)
+      over_tied w' descriptors published holds stage retire free stored kept = record {
+        run_held = λ q2 e. absurd (none-some _ e);
+        run_opened = λ q2 j e low low'. absurd (none-some _ e);
+        run_begins = λ q2 e few. absurd (none-some _ e);
+        run_made = λ q2 t e made. absurd (none-some _ e);
+        retire = retire;
+        published = λ y e. (kept y e).1;
+        run_sure = λ q2 e. absurd (none-some _ e);
+        published_sure = λ y e. (old.tied r).published_sure y (kept y e).0;
+        numbered = (old.tied r).numbered;
+        sure = λ d is. ap (λ (h : ℕ → ℕ → Bool). h r (slot_of (counts_of m l) d)) holds ∙ (old.tied r).sure d is;
+        sure_alone = λ d h. (old.tied r).sure_alone d (ap (λ (g : ℕ → ℕ → Bool). g r (slot_of (counts_of m l) d)) (sym holds) ∙ h);
+        reached = λ t isin node is_there. ap (λ (h : ℕ → ℕ → Bool). h r t) holds
+            ∙ (old.tied r).reached t (ap is_entered (sym (stage r)) ∙ isin) node (ap (λ (xs : List (ℕ × ℕ)). m.reaches xs t) (sym walk) ∙ is_there);
+        stored_free = λ d j n last. ap (λ (xs : List ℕ). has xs d) free ∙ (old.tied r).stored_free d j n (ap (λ (xs : List Stored). last_stored xs d j None) (sym stored) ∙ last);
+        stored = λ d j n is_free last. descriptor_same words s.word same d j
+            ∙ (old.tied r).stored d j n (ap (λ (xs : List ℕ). has xs d) (sym free) ∙ is_free) (ap (λ (xs : List Stored). last_stored xs d j None) (sym stored) ∙ last);
+      }
+
+      -- the own published section, if any, is another one
+      stays_over : (o : Option Published) → now.published ≡ o → StaysAt m l w (next m l w s old r words (over now.descriptors o))
+      stays_over o is =
+          stays m l w s old r words (over now.descriptors o) same refl refl (as_published m l w s old r (over now.descriptors o) (sym is))
+          (over_tied w now.descriptors o refl (λ i. refl) unretired refl refl (λ y e. (is ∙ e, (old.tied r).published y (is ∙ e))))
+
+      -- it is this one, and its descriptor goes into limbo
+      module _ (y : Published) (is_published : now.published ≡ Some y) (own : y.descriptor ≡ q.descriptor) where
+        abbrev place_then : Location
+        place_then = Limbo r w.epoch
+
+        abbrev slot : ℕ
+        slot = slot_of (counts_of m l) q.descriptor
+
+        at_live : w.location slot ≡ Live
+        at_live = ap (λ d. w.location (slot_of (counts_of m l) d)) (sym own) ∙ (old.tied r).published y is_published
+
+        -- no other runner has published it
+        others_live : (i : ℕ) → i ≢ r → (z : Published) → (s.part i).published ≡ Some z → w.location (slot_of (counts_of m l) z.descriptor) ≡ Live
+            → upd w.location slot place_then (slot_of (counts_of m l) z.descriptor) ≡ Live
+        others_live i ne z e live = other_place w.location slot (slot_of (counts_of m l) z.descriptor) place_then
+            (slot_apart (counts_of m l).nodes q.descriptor z.descriptor (λ alike. ne (old.published_once i r z y e is_published (alike ∙ sym own)))) ∙ live
+
+        out_before : (t : ℕ) → is_out (upd w.location slot place_then t) ≡ true → is_out (w.location t) ≡ true
+        out_before t out = ⊎_elim
+            (λ alike. ap is_out (ap w.location alike ∙ at_live))
+            (λ other. ap is_out (sym (other_place w.location slot t place_then other)) ∙ out)
+            (cases_eq t slot)
+
+        abbrev gone : PartState
+        gone = over (descriptor_retired now.descriptors q.descriptor) None
+
+        retires : Goes m l (events.RetireDescriptor r q.descriptor ∷ []) w (next m l w s old r words gone)
+        retires =
+            goes_with m l w s old r (events.RetireDescriptor r q.descriptor ∷ []) ((old.sound.holder r _ held, at_live), tt) words gone
+            (sym (map_upd lists_of s.part r gone))
+            (record { epoch = old.entries.epoch; announced = old.entries.announced; stage = stages_stay m l w s old r words gone refl })
+            old.log old.past
+            (λ d k out. old.roles d k (out_before (slot_of (counts_of m l) d) out))
+            (once m l w s old r gone (λ z e. absurd (none-some _ e)))
+            (over_tied (after (counts_of m l) w (events.RetireDescriptor r q.descriptor)) (descriptor_retired now.descriptors q.descriptor) None
+            refl (λ i. refl) unretired refl refl (λ z e. absurd (none-some _ e)))
+            (λ i ne. record {
+              holds = λ t h. h;
+              alone = λ d h. h;
+              words = λ d j h. refl;
+              hand = λ t h. kept_place w.location slot t place_then Live (Hand i) at_live (live_hand i) h;
+              retire = refl;
+              live = λ z e h. others_live i ne z e h;
+              entered = λ h. h;
+              stored = λ d j h. descriptor_same words s.word same d j;
+            })
+
+      -- either way
+      pub is_over : GoesBy m l (λ es. es ≡ retires_own r now.published q.descriptor) w
+          (next m l w s old r words (over (retired_if now.descriptors now.published q.descriptor) (kept_unless now.published q.descriptor)))
+      is_over = by_published now.published refl
+        where
+          by_test : (y : Published) → now.published ≡ Some y → (b : Bool) → (y.descriptor == q.descriptor) ≡ b
+              → GoesBy m l (λ es. es ≡ cond b (events.RetireDescriptor r q.descriptor ∷ []) []) w
+              (next m l w s old r words (over (cond b (descriptor_retired now.descriptors q.descriptor) now.descriptors) (cond b None (Some y))))
+          by_test y is true e = (_, refl, retires y is (same_slot _ _ e))
+          by_test y is false e = stays_over (Some y) is
+
+          by_published : (o : Option Published) → now.published ≡ o
+              → GoesBy m l (λ es. es ≡ retires_own r o q.descriptor) w (next m l w s old r words (over (retired_if now.descriptors o q.descriptor) (kept_unless o q.descriptor)))
+          by_published None is = stays_over None is
+          by_published (Some y) is = by_test y is (y.descriptor == q.descriptor) refl
 
   pub set_done : (rs : List Request) → Fits (sizes_for m l rs) x.0 → set_done_ask q micro ≡ Some x → Leads m l w s old r q at is_open kinds.SetDone records micro x
   set_done rs fits e =
@@ -192,18 +285,20 @@ module _ (m : Meaning) (l : Layout) (w : EpochState) (s : Sight) (old : IsJoined
       for_step m l w s old r q at is_open kinds.SetDone records micro x micros.SetDone (DoneWord q.descriptor, Exchanges 0 1) h.0 h.1
       (goes_on micros.SetDone (ahead ∙ h.0) refl (put s.word (DoneWord q.descriptor) (exchanged (s.word (DoneWord q.descriptor)) 0 1)) (λ d j. refl)
       (λ i d j free. done_elsewhere s.word q.descriptor _ d j (apart m l w s old r i q.descriptor d held few free))
-      refl (λ i. refl) (λ d k. refl) now.reads refl refl)
+      refl (λ i. refl) (λ d k. refl) now.reads refl)
 
   -- after a release the run is over, or goes on with the next one
-  release_by : (b : Bool) (place word v : ℕ) → next_of m q ≡ micros.Release place word → (reads : ReadsState) → reads.held ≡ now.reads.held → reads.walk ≡ now.reads.walk → (finished : RecordsState)
-      → StaysAt m l w (next m l w s old r (put s.word (Cell place) v) (record (cond b (record now { run = None; published = over_if now.published q.descriptor; reads = reads; records = finished }) (record now { run = Some (ended_more q); reads = reads })) { records = records }))
-  release_by true place word v here reads same_held walk finished = is_over (micros.Release place word) here refl (put s.word (Cell place) v) (but_cell s.word place v) reads same_held walk
-  release_by false place word v here reads same_held walk finished =
+  release_by : (b : Bool) (place word v : ℕ) → next_of m q ≡ micros.Release place word → (reads : ReadsState) → reads.walk ≡ now.reads.walk → (finished : RecordsState)
+      → GoesBy m l (λ es. es ≡ cond b (retires_own r now.published q.descriptor) []) w (next m l w s old r (put s.word (Cell place) v) (record (cond b
+      (record now { run = None; published = kept_unless now.published q.descriptor; descriptors = retired_if now.descriptors now.published q.descriptor; reads = reads; records = finished })
+      (record now { run = Some (ended_more q); reads = reads })) { records = records }))
+  release_by true place word v here reads walk finished = is_over (micros.Release place word) here refl place v reads walk
+  release_by false place word v here reads walk finished =
       goes_on (micros.Release place word) here refl (put s.word (Cell place) v) (λ d j. refl) (λ i d j free. descriptor_same (put s.word (Cell place) v) s.word (but_cell s.word place v) d j)
-      refl (λ i. refl) (λ d k. refl) reads same_held walk
+      refl (λ i. refl) (λ d k. refl) reads walk
 
   pub release : release_ask l q micro ≡ Some x → Leads m l w s old r q at is_open kinds.Release records micro x
   release e =
       let h = asked.release_asked q x l micro e in
       for_step m l w s old r q at is_open kinds.Release records micro x (micros.Release h.place h.step.0) (Cell h.place, h.access) h.step.1 h.is
-      (release_by (is_end (next_of m (ended_more q))) h.place h.step.0 (written h.access (s.word (Cell h.place))) (ahead ∙ h.step.1) (cell_read now.reads h.place (s.word (Cell h.place))) refl refl _)
+      (release_by (is_end (next_of m (ended_more q))) h.place h.step.0 (written h.access (s.word (Cell h.place))) (ahead ∙ h.step.1) (cell_read now.reads h.place (s.word (Cell h.place))) refl _)

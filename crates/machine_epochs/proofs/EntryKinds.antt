@@ -1,7 +1,7 @@
 -- The kinds of step that change the epoch, an announcement or a stage.
-use Rattle.std.specs.Prelude.{◌==◌, ◌&&◌, ◌||◌, not, cond, Bool, true, false, nat_lt, nat_le}
+use Rattle.std.specs.Prelude.{◌==◌, ◌&&◌, not, cond, Bool, true, false, nat_lt, nat_le}
 use Rattle.std.specs.List.{filter}
-use Rattle.std.proofs.Common.{◌≡◌, ◌≢◌, ℕ, suc, ◌+◌, ◌<◌, ◌≤◌, List, [], ◌∷◌, ◌++◌, map, refl, sym, ap, ◌∙◌, subst, arith, add-one, Some, None, inl, inr}
+use Rattle.std.proofs.Common.{◌≡◌, ◌≢◌, ℕ, suc, ◌+◌, ◌<◌, ◌≤◌, List, [], ◌∷◌, ◌++◌, map, refl, sym, ap, ◌∙◌, subst, arith, add-one, Option, Some, None, inl, inr}
 use Rattle.std.proofs.lemmas.Bool.Decides.{nat_tests}
 use Rattle.std.proofs.lemmas.Option.{none-some}
 use Rattle.machine_states.specs.body_terms.specs.declared.thunk.Thunk.{Thunk}
@@ -16,13 +16,15 @@ use Rattle.machine_states.specs.runner_parts.specs.declared.event.EventKind.{Eve
 use Rattle.machine_states.specs.runner_parts.specs.declared.event.EventKind.TheVariants as kinds
 use Rattle.machine_states.specs.epoch_core.specs.declared.stage.Stage.{Stage}
 use Rattle.machine_states.specs.epoch_core.specs.declared.stage.Stage.TheVariants.{Idle, Loaded, Announced, Entered, Scanning}
+use Rattle.machine_states.specs.runner_parts.specs.declared.entries.Published.{Published}
 use Rattle.machine_states.specs.runner_parts.specs.declared.entries.Retired.{Retired}
-use Rattle.machine_states.specs.runner_parts.specs.State.{PartState, RecordsState}
-use Rattle.machine_states.specs.runner_parts.specs.Tests.{has, last_stored}
-use Rattle.machine_states.specs.runner_steps.specs.Outside.{enter_load_ask, announce_ask, enter_again_ask, idle_ask, scan_one_ask, advance_ask}
+use Rattle.machine_states.specs.runner_parts.specs.State.{PartState, GuardsState, RecordsState}
+use Rattle.machine_states.specs.runner_parts.specs.Tests.{has, is_some_of, last_stored}
+use Rattle.machine_states.specs.runner_steps.specs.Outside.{enter_load_ask, announce_ask, enter_again_ask, idle_ask, scan_one_ask, advance_ask, is_sure_of}
 use Rattle.machine_states.specs.runner_parts.specs.Lists as lists
 use Rattle.machine_states.specs.runner_steps.specs.After.{outside_after}
 use Rattle.machine_states.specs.runner_steps.specs.AfterOutside as outside
+use Rattle.machine_states.specs.epoch_core.specs.Update.{upd_row}
 use Rattle.machine_states.specs.epoch_core.specs.declared.location.Location.{Location}
 use Rattle.machine_states.specs.epoch_core.specs.declared.location.Location.TheVariants.{Fixed, Live, Hand, Free, Worn, Limbo}
 use Rattle.machine_states.specs.epoch_core.specs.Moves.{is_clear, is_over, is_old, collected}
@@ -41,7 +43,7 @@ use Rattle.machine_epochs.specs.ScanEnds.{advance_collects, scan_collects, colle
 use Rattle.machine_epochs.specs.Chunks.{IsOutsideChunk}
 use Rattle.machine_epochs.proofs.OutsideAsked as asked
 use Rattle.machine_epochs.proofs.Entrances as entrances
-use Rattle.machine_epochs.proofs.CommitKinds.{row_else}
+use Rattle.machine_epochs.proofs.CommitKinds.{row_else, row_only}
 use Rattle.machine_epochs.proofs.Joining.{but_load, but_entries, IsSameSections, section_same, thunk_same, Goes, GoesBy, next, as_published, once, goes_with}
 
 within_test : (a b : ℕ) (p p' : PartState) → a ≤ b → cond (nat_le a b) p p' ≡ p
@@ -91,16 +93,21 @@ collect_same e p = λ i. record {
   free = p.nodes.free;
   worn = p.nodes.worn;
   limbo = young_same e p.nodes.limbo i;
-  free_descriptors = p.descriptors.free ++ old_same e p.descriptors.limbo i;
-  limbo_descriptors = young_same e p.descriptors.limbo i;
+  free_descriptors = p.descriptors.free;
+  limbo_descriptors = p.descriptors.limbo;
 }
 
-has_more : (xs ys : List ℕ) (d : ℕ) → has xs d ≡ true → has (xs ++ ys) d ≡ true
-has_more [] ys d h = absurd (let x = h in cc)
-has_more (x ∷ xs) ys d h = by_test (x == d) (has xs d) (has (xs ++ ys) d) (has_more xs ys d) h
+-- an exit leaves nothing that is held
+row_none : (f : ℕ → ℕ → Bool) (r t : ℕ) → upd_row f r (λ u. false) r t ≡ false
+row_none f r t = grind (arith, nat_tests)
+
+-- where the guard word names nothing, the runner is sure of nothing
+unsure : (g : GuardsState) (d : ℕ) → g.named ≡ None → is_sure_of g d ≡ false
+unsure g d e = ap (λ (o : Option ℕ). g.sure && is_some_of o d) e ∙ no g.sure
   where
-    by_test : (a b c : Bool) → (b ≡ true → c ≡ true) → (a || b) ≡ true → (a || c) ≡ true
-    by_test a b c h e = grind arith
+    no : (b : Bool) → (b && false) ≡ false
+    no true = refl
+    no false = refl
 
 module _ (m : Meaning) (l : Layout) (w : EpochState) (s : Sight) (old : IsJoinedToEpochs m l w s) (r : ℕ) (none : (s.part r).run ≡ None) where
   abbrev p : PartState
@@ -124,7 +131,11 @@ module _ (m : Meaning) (l : Layout) (w : EpochState) (s : Sight) (old : IsJoined
     published : p'.published ≡ p.published
     stored : p'.descriptors.stored ≡ p.descriptors.stored
     freed : (d : ℕ) → has p.descriptors.free d ≡ true → has p'.descriptors.free d ≡ true
-    named : (d : ℕ) → is_entered (w'.stage r) ≡ true → has p'.reads.held d ≡ true → w'.holds r (slot_of (counts_of m l) d) ≡ true
+    alone : (i : ℕ) → i ≢ r → (d : ℕ) → w'.holds i (slot_of (counts_of m l) d) ≡ true → w.holds i (slot_of (counts_of m l) d) ≡ true
+    numbered : (d : ℕ) → p'.guards.named ≡ Some d → d < (counts_of m l).descriptors
+    published_sure : (x : Published) → p.published ≡ Some x → is_sure_of p'.guards x.descriptor ≡ true
+    sure : (d : ℕ) → is_sure_of p'.guards d ≡ true → w'.holds r (slot_of (counts_of m l) d) ≡ true
+    sure_alone : (d : ℕ) → w'.holds r (slot_of (counts_of m l) d) ≡ true → is_sure_of p'.guards d ≡ true
     reached : (t : ℕ) → is_entered (w'.stage r) ≡ true → t < (counts_of m l).nodes → m.reaches p'.reads.walk t ≡ true → w'.holds r t ≡ true
 
   enters : (e : events.Event) (f : Spot → ℕ) (p' : PartState) → Enabled (counts_of m l) w e × ShowsEntries (after (counts_of m l) w e) (next m l w s old r f p')
@@ -142,13 +153,18 @@ module _ (m : Meaning) (l : Layout) (w : EpochState) (s : Sight) (old : IsJoined
         run_made = λ q t e' made. absurd (none-some _ (sym k.run ∙ e'));
         retire = k.retire r ∙ (unretired ∙ ap (retiring_of m) (sym k.run));
         published = λ x e'. k.live _ ((old.tied r).published x (sym k.published ∙ e'));
-        named = k.named;
+        run_sure = λ q e'. absurd (none-some _ (sym k.run ∙ e'));
+        published_sure = λ x e'. k.published_sure x (sym k.published ∙ e');
+        numbered = k.numbered;
+        sure = k.sure;
+        sure_alone = k.sure_alone;
         reached = k.reached;
         stored_free = λ d j n last. k.freed d ((old.tied r).stored_free d j n (before d j n last));
         stored = λ d j n free last. section_same f s.word k.same d j ∙ (old.tied r).stored d j n ((old.tied r).stored_free d j n (before d j n last)) (before d j n last);
       })
       (λ i ne. record {
         holds = k.holds i ne;
+        alone = k.alone i ne;
         words = λ d j h. k.same.thunk d j;
         hand = k.hand i;
         retire = k.retire i;
@@ -193,7 +209,11 @@ module _ (m : Meaning) (l : Layout) (w : EpochState) (s : Sight) (old : IsJoined
             published = refl;
             stored = refl;
             freed = λ d h. h;
-            named = λ d isin. unentered (Loaded w.epoch) refl isin;
+            alone = λ i ne d h. h;
+            numbered = (old.tied r).numbered;
+            published_sure = (old.tied r).published_sure;
+            sure = (old.tied r).sure;
+            sure_alone = (old.tied r).sure_alone;
             reached = λ t isin. unentered (Loaded w.epoch) refl isin;
           }),
         )
@@ -219,7 +239,11 @@ module _ (m : Meaning) (l : Layout) (w : EpochState) (s : Sight) (old : IsJoined
             published = refl;
             stored = refl;
             freed = λ d h. h;
-            named = λ d isin. unentered Announced refl isin;
+            alone = λ i ne d h. h;
+            numbered = (old.tied r).numbered;
+            published_sure = (old.tied r).published_sure;
+            sure = (old.tied r).sure;
+            sure_alone = (old.tied r).sure_alone;
             reached = λ t isin. unentered Announced refl isin;
           }),
         )
@@ -227,7 +251,7 @@ module _ (m : Meaning) (l : Layout) (w : EpochState) (s : Sight) (old : IsJoined
     pub enter_again : (x : Spot × Access) → ((t : ℕ) → m.reaches [] t ≡ false) → enter_again_ask p ≡ Some x → Leads kinds.EnterAgain records x
     enter_again x unread e =
         let h = asked.enter_again_asked p x e in
-        let p' : PartState = record p { stage = Entered (s.word Epoch); reads = lists.no_reads; records = records } in
+        let p' : PartState = record p { stage = Entered (s.word Epoch); guards = lists.with_looked p.guards []; reads = lists.no_reads; records = records } in
         subst (Leads kinds.EnterAgain records) h.1 (
           _,
           refl,
@@ -245,7 +269,11 @@ module _ (m : Meaning) (l : Layout) (w : EpochState) (s : Sight) (old : IsJoined
             published = refl;
             stored = refl;
             freed = λ d h. h;
-            named = λ d isin is_named. absurd (let x = is_named in cc);
+            alone = λ i ne d h. h;
+            numbered = (old.tied r).numbered;
+            published_sure = (old.tied r).published_sure;
+            sure = (old.tied r).sure;
+            sure_alone = (old.tied r).sure_alone;
             reached = λ t isin node is_there. absurd (let x = sym (unread t) ∙ is_there in cc);
           }),
         )
@@ -253,6 +281,7 @@ module _ (m : Meaning) (l : Layout) (w : EpochState) (s : Sight) (old : IsJoined
     pub exit : (x : Spot × Access) → idle_ask r p ≡ Some x → Leads kinds.Idle records x
     exit x e =
         let h = asked.idle_asked r p x e in
+        let away = asked.idle_away r p x e in
         let p' : PartState = record p { stage = Idle; records = records } in
         subst (Leads kinds.Idle records) h.3 (
           _,
@@ -271,7 +300,11 @@ module _ (m : Meaning) (l : Layout) (w : EpochState) (s : Sight) (old : IsJoined
             published = refl;
             stored = refl;
             freed = λ d h. h;
-            named = λ d isin. unentered Idle refl isin;
+            alone = λ i ne d h. row_only w.holds r i (slot_of (counts_of m l) d) (λ u. false) ne h;
+            numbered = (old.tied r).numbered;
+            published_sure = λ y e'. absurd (none-some _ (sym away.0 ∙ e'));
+            sure = λ d is. absurd (let y = sym (unsure p.guards d away.1) ∙ is in cc);
+            sure_alone = λ d h. absurd (let y = sym (row_none w.holds r (slot_of (counts_of m l) d)) ∙ h in cc);
             reached = λ t isin. unentered Idle refl isin;
           }),
         )
@@ -297,7 +330,11 @@ module _ (m : Meaning) (l : Layout) (w : EpochState) (s : Sight) (old : IsJoined
             published = refl;
             stored = refl;
             freed = λ d h. h;
-            named = λ d isin. unentered (Scanning w.epoch 0 true) refl isin;
+            alone = λ i ne d h. h;
+            numbered = (old.tied r).numbered;
+            published_sure = (old.tied r).published_sure;
+            sure = (old.tied r).sure;
+            sure_alone = (old.tied r).sure_alone;
             reached = λ t isin. unentered (Scanning w.epoch 0 true) refl isin;
           }),
         )
@@ -324,8 +361,12 @@ module _ (m : Meaning) (l : Layout) (w : EpochState) (s : Sight) (old : IsJoined
         run = none;
         published = refl;
         stored = refl;
-        freed = λ d h. has_more p.descriptors.free _ d h;
-        named = λ d isin. unentered Idle refl isin;
+        freed = λ d h. h;
+        alone = λ i ne d h. h;
+        numbered = (old.tied r).numbered;
+        published_sure = (old.tied r).published_sure;
+        sure = (old.tied r).sure;
+        sure_alone = (old.tied r).sure_alone;
         reached = λ t isin. unentered Idle refl isin;
       })
 
@@ -377,7 +418,11 @@ module _ (m : Meaning) (l : Layout) (w : EpochState) (s : Sight) (old : IsJoined
               published = refl;
               stored = refl;
               freed = λ d h. h;
-              named = λ d isin. unentered (Scanning x (suc n) (clear && is_clear x (w.announced n))) refl isin;
+              alone = λ i ne d h. h;
+              numbered = (old.tied r).numbered;
+              published_sure = (old.tied r).published_sure;
+              sure = (old.tied r).sure;
+              sure_alone = (old.tied r).sure_alone;
               reached = λ t isin. unentered (Scanning x (suc n) (clear && is_clear x (w.announced n))) refl isin;
             }),
           )

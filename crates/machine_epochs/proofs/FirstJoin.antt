@@ -18,7 +18,7 @@ use Rattle.machine_states.specs.epoch_core.specs.State.{EpochState}
 use Rattle.machine_states.specs.epoch_core.specs.Events.{slot_of}
 use Rattle.machine_states.specs.epoch_core.specs.Sound.{is_for_nodes}
 use Rattle.machine_states.specs.epoch_core.specs.History.{is_out}
-use Rattle.machine_states.specs.epoch_core.specs.Lists.{times, times_retired, in_hand, in_free, in_worn, in_limbo, IsListed}
+use Rattle.machine_states.specs.epoch_core.specs.Lists.{times, times_retired, in_hand, in_free, in_worn, in_limbo, in_any_limbo, IsListed}
 use Rattle.machine_states.specs.epoch_core.specs.Schedules.{IsFirst, first_state, is_unused}
 use Rattle.machine_states.specs.epoch_core.proofs.Keeping.{first}
 use Rattle.machine_states.specs.World.{World}
@@ -153,8 +153,8 @@ module _ (m : Meaning) (l : Layout) where
     worn = λ r t low. let n = nowhere (in_worn r) refl (λ k. refl) t in each_part m l (λ q. times t (lists_of q).worn ≡ in_worn r (first_place m l t)) n (λ k. n) n r;
     limbo = λ r t y low. let n = nowhere (in_limbo r y) refl (λ k. refl) t in each_part m l (λ q. times_retired t y (lists_of q).limbo ≡ in_limbo r y (first_place m l t)) n (λ k. n) n r;
     free_descriptors = free_descriptors;
-    limbo_descriptors = λ r d y low. let n = nowhere (in_limbo r y) refl (λ k. refl) (slot_of (counts_of m l) d) in
-        each_part m l (λ q. times_retired d y (lists_of q).limbo_descriptors ≡ in_limbo r y (first_place m l (slot_of (counts_of m l) d))) n (λ k. n) n r;
+    limbo_descriptors = λ r d low. let n = nowhere (in_any_limbo r) refl (λ k. refl) (slot_of (counts_of m l) d) in
+        each_part m l (λ q. times d (lists_of q).limbo_descriptors ≡ in_any_limbo r (first_place m l (slot_of (counts_of m l) d))) n (λ k. n) n r;
     hand_nodes = λ r t high. each_part m l (λ q. times t (lists_of q).hand ≡ 0) refl (λ k. refl) refl r;
     free_nodes = λ r t high. ap (times t) (nodes_are m l r) ∙ unowned l.nodes l.runners (2 * l.runners + 2) m.fixed_slots t r (inr high);
     worn_nodes = λ r t high. each_part m l (λ q. times t (lists_of q).worn ≡ 0) refl (λ k. refl) refl r;
@@ -169,7 +169,11 @@ module _ (m : Meaning) (l : Layout) where
     run_made = λ q t e made. absurd (none-some _ e);
     retire = refl;
     published = λ x e. absurd (none-some _ e);
-    named = λ d isin named. absurd (let x = isin in cc);
+    run_sure = λ q e. absurd (none-some _ e);
+    published_sure = λ x e. absurd (none-some _ e);
+    numbered = λ d e. absurd (none-some _ e);
+    sure = λ d is. absurd (let x = is in cc);
+    sure_alone = λ d h. absurd (let x = h in cc);
     reached = λ t isin node there. absurd (let x = isin in cc);
     stored_free = λ d j n last. absurd (none-some _ last);
     stored = λ d j n free last. absurd (none-some _ last);

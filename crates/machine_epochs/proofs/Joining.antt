@@ -106,7 +106,11 @@ copied m l w g i q nodes records gone t = record {
   run_made = t.run_made;
   retire = t.retire;
   published = t.published;
-  named = t.named;
+  run_sure = t.run_sure;
+  published_sure = t.published_sure;
+  sure = t.sure;
+  numbered = t.numbered;
+  sure_alone = t.sure_alone;
   reached = t.reached;
   stored_free = t.stored_free;
   stored = t.stored;
@@ -122,7 +126,11 @@ looking m l w g i q look records t = record {
   run_made = t.run_made;
   retire = t.retire;
   published = t.published;
-  named = t.named;
+  run_sure = t.run_sure;
+  published_sure = t.published_sure;
+  sure = t.sure;
+  numbered = t.numbered;
+  sure_alone = t.sure_alone;
   reached = t.reached;
   stored_free = t.stored_free;
   stored = t.stored;
@@ -139,6 +147,7 @@ module _ (m : Meaning) (l : Layout) where
   -- why what is tied to a runner's part stays, where it is another runner that steps
   pub record IsElsewhere (w w' : EpochState) (word word' : Spot → ℕ) (r : ℕ) (p : PartState) : Type 0 where
     pub holds : (t : ℕ) → w.holds r t ≡ true → w'.holds r t ≡ true
+    pub alone : (d : ℕ) → w'.holds r (slot_of c d) ≡ true → w.holds r (slot_of c d) ≡ true
     pub words : (d j : ℕ) → w.holds r (slot_of c d) ≡ true → word' (ThunkWord d j) ≡ word (ThunkWord d j)
     pub hand : (t : ℕ) → w.location t ≡ Hand r → w'.location t ≡ Hand r
     pub retire : w'.retire r ≡ w.retire r
@@ -154,7 +163,11 @@ module _ (m : Meaning) (l : Layout) where
     run_made = λ q t at made. e.hand t (old.run_made q t at made);
     retire = e.retire ∙ old.retire;
     published = λ x at. e.live x at (old.published x at);
-    named = λ d isin named. e.holds _ (old.named d (e.entered isin) named);
+    run_sure = old.run_sure;
+    published_sure = old.published_sure;
+    sure = λ d is. e.holds _ (old.sure d is);
+    numbered = old.numbered;
+    sure_alone = λ d h. old.sure_alone d (e.alone d h);
     reached = λ t isin node there. e.holds t (old.reached t (e.entered isin) node there);
     stored_free = old.stored_free;
     stored = λ d j n free last. e.stored d j free ∙ old.stored d j n free last;
@@ -202,6 +215,7 @@ module _ (m : Meaning) (l : Layout) where
       published_once = once p back;
       tied = all_tied w f p own (λ i ne. record {
         holds = λ t h. h;
+        alone = λ d h. h;
         words = λ d j h. same.thunk d j;
         hand = λ t h. h;
         retire = refl;

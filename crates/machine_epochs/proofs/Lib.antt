@@ -13,6 +13,7 @@ pub mod Reaching
 pub mod Places
 pub mod EntryKinds
 pub mod OutsideKinds
+pub mod GuardKinds
 pub mod StoreKinds
 pub mod SectionKinds
 pub mod RunKinds

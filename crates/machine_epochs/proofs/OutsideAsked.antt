@@ -3,6 +3,7 @@ use Rattle.std.specs.Prelude.{◌==◌, ◌&&◌, ◌⊎◌, cond, Bool, true, f
 use Rattle.std.proofs.Common.{◌≡◌, ℕ, ◌+◌, ◌-◌, ◌<◌, ◌≤◌, List, length, sym, refl, ap, subst, inl, inr, arith, Option, Some, None}
 use Rattle.std.proofs.lemmas.Bool.Decides.{nat_tests}
 use Rattle.std.proofs.lemmas.Bool.{and_parts}
+use Rattle.std.proofs.lemmas.Option.{none-some}
 use Rattle.section_lines.specs.small_lemmas.proofs.Bools.{negated as not_so}
 use Rattle.section_lines.specs.small_lemmas.proofs.Numbers.{tested_less as lt_test, tested_equal as same_test}
 use Rattle.machine_states.specs.map_history.specs.declared.op.Request.{Request}
@@ -10,18 +11,19 @@ use Rattle.machine_states.specs.body_terms.specs.declared.thunk.Thunk.{Thunk}
 use Rattle.machine_states.specs.body_terms.specs.Word.{held_word, is_free, is_spent}
 use Rattle.machine_states.specs.table_words.specs.declared.layout.Layout.{Layout}
 use Rattle.machine_states.specs.table_words.specs.declared.spot.Spot.{Spot}
-use Rattle.machine_states.specs.table_words.specs.declared.spot.Spot.TheVariants.{Seat, Epoch, Announcement, Cell, ThunkWord}
+use Rattle.machine_states.specs.table_words.specs.declared.spot.Spot.TheVariants.{Seat, Epoch, Announcement, Guard, Cell, ThunkWord}
 use Rattle.machine_states.specs.table_words.specs.Places.{slot_count, descriptor_count}
 use Rattle.machine_states.specs.table_words.specs.declared.access.Access.{Access}
 use Rattle.machine_states.specs.table_words.specs.declared.access.Access.TheVariants.{Loads, Stores, Exchanges}
 use Rattle.machine_states.specs.structure_laws.specs.Meaning.{Meaning}
-use Rattle.machine_states.specs.runner_parts.specs.declared.entries.Published.{Published}
 use Rattle.machine_states.specs.epoch_core.specs.declared.stage.Stage.{Stage}
 use Rattle.machine_states.specs.epoch_core.specs.declared.stage.Stage.TheVariants.{Idle, Loaded, Announced, Entered, Scanning}
 use Rattle.machine_states.specs.runner_parts.specs.State.{RunState, PartState}
 use Rattle.machine_states.specs.runner_parts.specs.Tests.{has, is_walking, is_prepared, is_between}
 use Rattle.machine_states.specs.runner_parts.specs.Tests as tests
-use Rattle.machine_states.specs.runner_steps.specs.Outside.{when, enter_load_ask, announce_ask, enter_again_by, enter_again_ask, idle_ask, scan_one_ask, advance_ask, split_ask, entry_spot, entry_ask, read_ask, private_load_ask, descriptor_spot, private_store_ask, hold_ask, open_ask, is_over, retire_ask}
+use Rattle.machine_states.specs.runner_steps.specs.Outside.{when, enter_load_ask, announce_ask, enter_again_by, enter_again_ask, idle_ask, scan_one_ask, advance_ask, split_ask, entry_spot, entry_ask, read_ask, private_load_ask, descriptor_spot, private_store_ask, hold_ask, open_ask, is_sure_of}
+use Rattle.machine_states.specs.runner_steps.specs.Guards.{is_numbered, guard_ask, load_guard_by, load_guard_ask}
+use Rattle.machine_states.specs.guard_core.specs.State.{word_of}
 use Rattle.machine_states.specs.epoch_core.specs.State.{last_epoch}
 use Rattle.machine_states.proofs.Steps.{some_same}
 use Rattle.machine_states.proofs.Sights.{if_some, some_none}
@@ -53,6 +55,16 @@ pub idle_asked : (r : ℕ) (p : PartState) (x : Spot × Access) → idle_ask r p
 idle_asked r p x e =
     let h = if_some _ _ x e in
     let w = walking p.stage p.run (and_parts _ _ h.0).0 in (w.0, w.1, w.2, h.1)
+
+-- no section of its is published, and its guard word names nothing
+pub idle_away : (r : ℕ) (p : PartState) (x : Spot × Access) → idle_ask r p ≡ Some x → (p.published ≡ None) × (p.guards.named ≡ None)
+idle_away r p x e =
+    let b = and_parts _ _ (and_parts _ _ (if_some _ _ x e).0).1 in
+    (none_of p.published b.0, none_of p.guards.named (and_parts _ _ b.1).0)
+  where
+    none_of : {A : Type 0} → (o : Option A) → is_none o ≡ true → o ≡ None
+    none_of None e = refl
+    none_of (Some y) e = absurd (let x = e in cc)
 
 next_test : (n next runners : ℕ) → (n == next && nat_le next runners) ≡ true → (n ≡ next) × (next ≤ runners)
 next_test n next runners e = grind (arith, nat_tests)
@@ -117,6 +129,7 @@ private_store_asked m l slot word number p x e = let h = if_some _ _ x e in (sto
 pub record HoldAsked (m : Meaning) (l : Layout) (rs : List Request) (t : Thunk) (d : ℕ) (p : PartState) (x : Spot × Access) : Type 0 where
   pub few : d < descriptor_count l
   pub free : has p.descriptors.free d ≡ true
+  pub named : p.guards.named ≡ Some d
   pub eight : length t.operands ≡ 8
   pub prepared : is_prepared p.descriptors.stored d t ≡ true
   pub entry : ℕ
@@ -141,13 +154,18 @@ serves_some : (m : Meaning) (l : Layout) (walk : List (ℕ × ℕ)) (t : Thunk) 
 serves_some m l walk t None e = absurd (let x = e in cc)
 serves_some m l walk t (Some q) e = (q, refl, e)
 
+pub named_is : (o : Option ℕ) (d : ℕ) → tests.is_some_of o d ≡ true → o ≡ Some d
+named_is None d e = absurd (let x = e in cc)
+named_is (Some n) d e = ap (λ (k : ℕ). Some k) (same_test n d e)
+
 pub hold_asked : (m : Meaning) (l : Layout) (rs : List Request) (r : ℕ) (t : Thunk) (d : ℕ) (p : PartState) (x : Spot × Access) → hold_ask m l rs r t d p ≡ Some x → HoldAsked m l rs t d p x
 hold_asked m l rs r t d p x e =
     let h = if_some _ _ x e in
     let b = and_parts _ _ h.0 in
     let ready = and_parts _ _ b.0 in
     let own = and_parts _ _ ready.1 in
-    let words = and_parts _ _ own.1 in
+    let named = and_parts _ _ own.1 in
+    let words = and_parts _ _ named.1 in
     let may = and_parts _ _ b.1 in
     let w = walking p.stage p.run may.0 in
     let rest = and_parts _ _ may.1 in
@@ -158,6 +176,7 @@ hold_asked m l rs r t d p x e =
     record {
       few = lt_test _ _ ready.0;
       free = own.0;
+      named = named_is p.guards.named d named.0;
       eight = same_test _ _ words.0;
       prepared = words.1;
       entry = w.0;
@@ -172,19 +191,47 @@ hold_asked m l rs r t d p x e =
       is = h.1;
     }
 
-pub open_asked : (d : ℕ) (p : PartState) (x : Spot × Access) → open_ask d p ≡ Some x → (g : ℕ) × (p.stage ≡ Entered g) × (has p.reads.held d ≡ true) × ((ThunkWord d 0, Loads) ≡ x)
+pub open_asked : (d : ℕ) (p : PartState) (x : Spot × Access) → open_ask d p ≡ Some x → (g : ℕ) × (p.stage ≡ Entered g) × (is_sure_of p.guards d ≡ true) × ((ThunkWord d 0, Loads) ≡ x)
 open_asked d p x e =
     let h = if_some _ _ x e in
     let b = and_parts _ _ h.0 in
     let w = walking p.stage p.run b.0 in (w.0, w.1, b.1, h.1)
 
-over_some : (o : Option Published) → is_over o ≡ true → (y : Published) × (o ≡ Some y)
-over_some None e = absurd (let x = e in cc)
-over_some (Some y) e = (y, refl)
+pub record GuardAsked (l : Layout) (r : ℕ) (d : Option ℕ) (p : PartState) (x : Spot × Access) : Type 0 where
+  pub entry : ℕ
+  pub entered : p.stage ≡ Entered entry
+  pub none : p.run ≡ None
+  pub unpublished : p.published ≡ None
+  pub few : (n : ℕ) → d ≡ Some n → n < descriptor_count l
+  pub is : (Guard r, Stores (word_of d)) ≡ x
 
-pub retire_asked : (p : PartState) (x : Spot × Access) → retire_ask p ≡ Some x → (g : ℕ) × (y : Published) × (p.stage ≡ Entered g) × (p.published ≡ Some y) × ((Epoch, Loads) ≡ x)
-retire_asked p x e =
+pub guard_asked : (l : Layout) (r : ℕ) (d : Option ℕ) (p : PartState) (x : Spot × Access) → guard_ask l r d p ≡ Some x → GuardAsked l r d p x
+guard_asked l r d p x e =
     let h = if_some _ _ x e in
     let b = and_parts _ _ h.0 in
     let w = walking p.stage p.run b.0 in
-    let o = over_some p.published b.1 in (w.0, o.0, w.1, o.1, h.1)
+    record { entry = w.0; entered = w.1; none = w.2; unpublished = no_option p.published (and_parts _ _ b.1).0; few = numbered d (and_parts _ _ b.1).1; is = h.1 }
+  where
+    numbered : (o : Option ℕ) → is_numbered l o ≡ true → (n : ℕ) → o ≡ Some n → n < descriptor_count l
+    numbered None e n is = absurd (none-some _ is)
+    numbered (Some k) e n is = subst (λ (i : ℕ). i < descriptor_count l) (some_same k n is) (lt_test _ _ e)
+
+pub record LoadGuardAsked (l : Layout) (n : ℕ) (p : PartState) (x : Spot × Access) : Type 0 where
+  pub idle : p.stage ≡ Idle
+  pub next : n ≡ length p.guards.looked
+  pub few : n ≤ l.runners
+  pub is : (Guard n, Loads) ≡ x
+
+pub load_guard_asked : (l : Layout) (n : ℕ) (p : PartState) (x : Spot × Access) → load_guard_ask l n p ≡ Some x → LoadGuardAsked l n p x
+load_guard_asked l n p x e = let h = by p.stage e in record { idle = h.0; next = h.1; few = h.2; is = h.3 }
+  where
+    le_of : (a b : ℕ) → nat_le a b ≡ true → a ≤ b
+    le_of a b e = grind (arith, nat_tests)
+
+    by : (st : Stage) → load_guard_by l n (length p.guards.looked) st ≡ Some x
+        → (st ≡ Idle) × (n ≡ length p.guards.looked) × (n ≤ l.runners) × ((Guard n, Loads) ≡ x)
+    by Idle e = let h = if_some _ _ x e in let b = and_parts _ _ h.0 in (refl, same_test _ _ b.0, le_of _ _ b.1, h.1)
+    by (Loaded g) e = some_none x e
+    by Announced e = some_none x e
+    by (Entered g) e = some_none x e
+    by (Scanning y next clear) e = some_none x e

@@ -1,9 +1,10 @@
 -- The kinds of step outside a run that change no stage.
-use Rattle.std.specs.Prelude.{◌==◌, ◌&&◌, ◌||◌, cond, if◌then◌else◌, Bool, true, false, nat_lt, slice_index}
+use Rattle.std.specs.Prelude.{◌==◌, ◌&&◌, ◌||◌, not, cond, if◌then◌else◌, Bool, true, false, nat_lt, nat_le, slice_index}
 use Rattle.std.proofs.Common.{◌≡◌, ℕ, zero, suc, ◌+◌, ◌-◌, ◌<◌, ◌≤◌, List, [], ◌∷◌, ◌++◌, length, refl, sym, ap, ◌∙◌, subst, arith, Option, Some, None}
 use Rattle.std.proofs.lemmas.Bool.Decides.{nat_tests}
 use Rattle.machine_states.specs.map_history.specs.declared.op.Request.{Request}
 use Rattle.machine_states.specs.body_terms.specs.declared.thunk.Thunk.{Thunk}
+use Rattle.machine_states.specs.body_terms.specs.Word.{is_free, value_of}
 use Rattle.machine_states.specs.table_words.specs.declared.layout.Layout.{Layout}
 use Rattle.machine_states.specs.table_words.specs.declared.spot.Spot.{Spot}
 use Rattle.machine_states.specs.table_words.specs.declared.spot.Spot.TheVariants.{Seat, Clock, Announcement, Cell, ThunkWord}
@@ -19,9 +20,9 @@ use Rattle.machine_states.specs.epoch_core.specs.declared.stage.Stage.TheVariant
 use Rattle.machine_states.specs.runner_parts.specs.declared.entries.Look.{Look}
 use Rattle.machine_states.specs.runner_parts.specs.declared.entries.LookStage.TheVariants.{Replied, Stamped}
 use Rattle.machine_states.specs.runner_parts.specs.declared.entries.Tested.{Tested}
-use Rattle.machine_states.specs.runner_parts.specs.State.{RunState, PartState, NodesState, ReadsState, RecordsState}
-use Rattle.machine_states.specs.runner_parts.specs.Tests.{has}
-use Rattle.machine_states.specs.runner_steps.specs.Outside.{split_ask, entry_ask, read_ask, open_ask}
+use Rattle.machine_states.specs.runner_parts.specs.State.{RunState, PartState, NodesState, GuardsState, ReadsState, RecordsState}
+use Rattle.machine_states.specs.runner_parts.specs.Tests.{has, is_some_of}
+use Rattle.machine_states.specs.runner_steps.specs.Outside.{split_ask, entry_ask, read_ask, open_ask, is_sure_of}
 use Rattle.machine_states.specs.runner_steps.specs.Reads.{read_plan_ask, read_clock_ask, read_reply_ask, read_stamp_ask, plan_by, looked_by, come_to}
 use Rattle.machine_states.specs.runner_parts.specs.Lists as lists
 use Rattle.machine_states.specs.runner_steps.specs.AfterOutside as outside
@@ -42,13 +43,13 @@ use Rattle.machine_epochs.specs.Roles.{role_at}
 use Rattle.machine_epochs.specs.Slots.{lists_of, retiring_of}
 use Rattle.machine_epochs.specs.Joined.{IsTied, IsJoinedToEpochs}
 use Rattle.machine_epochs.specs.Chunks.{is_last_look, looked as looked_events, IsOutsideChunk}
-use Rattle.machine_epochs.specs.Supplied.{reaches_node, names_slot, comes_outside}
+use Rattle.machine_epochs.specs.Supplied.{reaches_node, sees_slot, comes_outside}
 use Rattle.machine_epochs.proofs.OutsideAsked as asked
 use Rattle.machine_epochs.proofs.ReadsAsked as reads_asked
 use Rattle.machine_epochs.proofs.RunPlaces.{begins_unretired}
-use Rattle.machine_epochs.proofs.Places.{has_append, names_it, has_times, hand_node}
+use Rattle.machine_epochs.proofs.Places.{has_times, hand_node}
 use Rattle.machine_epochs.proofs.Joining.{copied, looking, IsSameBut, but_load, but_kept, but_stamp, but_reply, descriptor_same, thunk_same, still_tied, Goes, GoesBy, StaysAt, next, as_published, once, stages_stay, stays, goes_with}
-use Rattle.machine_epochs.proofs.CommitKinds.{row_else, row_named}
+use Rattle.machine_epochs.proofs.CommitKinds.{row_else, row_only, row_named, row_back}
 use Rattle.machine_epochs.proofs.Reaching.{may_hold}
 use Rattle.machine_epochs.proofs.SlotKinds.{kept_place, other_place, hand_hand, back_lists}
 
@@ -64,6 +65,42 @@ test_slot (x ∷ xs) slot = by_test (x.slot == slot) refl (test_slot xs slot)
     by_test true e h = same x.slot slot e
     by_test false e h = h
 
+-- of a lock's word that names a descriptor the guard word may name the same one
+seen_slot : (lock : Bool) (v n d : ℕ) (named : Option ℕ) (node : Bool)
+    → ((lock && not (v == 0)) && (is_some_of named (v - 1) && is_some_of named d))
+    ≡ ((nat_lt (n + d) n && node) || (lock && (nat_le n (n + d) && (not (v == 0) && (v == n + d - n + 1 && is_some_of named (n + d - n))))))
+seen_slot lock v n d named node = by_name named ∙ sym (λ i. (is_none n d i && node) || (lock && (is_slot n d i && (not (v == 0) && (v == back n d i + 1 && is_some_of named (back n d i))))))
+  where
+    is_none : (n d : ℕ) → nat_lt (n + d) n ≡ false
+    is_none n d = grind (arith, nat_tests)
+
+    is_slot : (n d : ℕ) → nat_le n (n + d) ≡ true
+    is_slot n d = grind (arith, nat_tests)
+
+    back : (n d : ℕ) → n + d - n ≡ d
+    back n d = omega arith
+
+    same : (v d k : ℕ) → (not (v == 0) && (k == v - 1 && k == d)) ≡ (not (v == 0) && (v == d + 1 && k == d))
+    same v d k = grind (arith, nat_tests)
+
+    none : (a b : Bool) → (a && (b && false)) ≡ false
+    none true true = refl
+    none true false = refl
+    none false b = refl
+
+    by_lock : (b : Bool) (k : ℕ) → ((b && not (v == 0)) && (k == v - 1 && k == d)) ≡ (b && (not (v == 0) && (v == d + 1 && k == d)))
+    by_lock true k = same v d k
+    by_lock false k = refl
+
+    unseen : (b a : Bool) → ((b && a) && false) ≡ (b && (a && ((v == d + 1) && false)))
+    unseen true true = sym (none true (v == d + 1))
+    unseen true false = refl
+    unseen false a = refl
+
+    by_name : (o : Option ℕ) → ((lock && not (v == 0)) && (is_some_of o (v - 1) && is_some_of o d)) ≡ (lock && (not (v == 0) && (v == d + 1 && is_some_of o d)))
+    by_name None = unseen lock (not (v == 0))
+    by_name (Some k) = by_lock lock k
+
 first_true : (a b : Bool) → (a && b) ≡ true → a ≡ true
 first_true true b e = refl
 first_true false b e = absurd (let x = e in cc)
@@ -77,9 +114,10 @@ module _ (m : Meaning) (l : Layout) (w : EpochState) (s : Sight) (old : IsJoined
   Leads kind records x = GoesBy m l (IsOutsideChunk m l r kind p (s.word x.0)) w (next m l w s old r (put s.word x.0 (written x.1 (s.word x.0))) (record (outside_after m l kind p (s.word x.0)) { records = records }))
 
   -- what was tied to the part is so by words that are the same for it
-  tied_by : (f : Spot → ℕ) → IsSameBut f s.word → IsTied m l w f r p
+  pub tied_by : (f : Spot → ℕ) → IsSameBut f s.word → IsTied m l w f r p
   tied_by f same = still_tied m l w w s.word f r p (record {
     holds = λ t h. h;
+    alone = λ d h. h;
     words = λ d j h. same.thunk d j;
     hand = λ t h. h;
     retire = refl;
@@ -151,13 +189,17 @@ module _ (m : Meaning) (l : Layout) (w : EpochState) (s : Sight) (old : IsJoined
       let begun : RunState = outside.opened d found in
       let p' : PartState = record p { run = Some begun; records = records } in
       subst (Leads (kinds.LoadThunk (Some d)) records) h.3 (stays m l w s old r _ p' (but_load s.word (ThunkWord d 0)) refl refl (as_published m l w s old r p' refl) (record {
-        run_held = λ q e'. ap (λ (a : RunState). w.holds r (slot_of (counts_of m l) a.descriptor)) (sym (some_same begun q e')) ∙ (old.tied r).named d (entered_at h.0 h.1) h.2;
+        run_held = λ q e'. ap (λ (a : RunState). w.holds r (slot_of (counts_of m l) a.descriptor)) (sym (some_same begun q e')) ∙ (old.tied r).sure d h.2;
         run_opened = λ q j e' low low'. subst (λ (a : RunState). j < length a.opened → slice_index a.opened j ≡ put s.word (ThunkWord d 0) found (ThunkWord a.descriptor j)) (some_same begun q e') (first d j) low;
         run_begins = λ q e' few. ap (λ (a : RunState). a.at) (sym (some_same begun q e'));
         run_made = λ q t e' made. absurd (let y = ap (λ (a : RunState). a.made) (some_same begun q e') ∙ made in cc);
         retire = unretired ∙ sym (begins_unretired m begun refl);
         published = (old.tied r).published;
-        named = (old.tied r).named;
+        run_sure = λ q e'. ap (λ (a : RunState). is_sure_of p.guards a.descriptor) (sym (some_same begun q e')) ∙ h.2;
+        published_sure = (old.tied r).published_sure;
+        sure = (old.tied r).sure;
+        numbered = (old.tied r).numbered;
+        sure_alone = (old.tied r).sure_alone;
         reached = (old.tied r).reached;
         stored_free = (old.tied r).stored_free;
         stored = λ d' j n free last. descriptor_same _ s.word (but_load s.word (ThunkWord d 0)) d' j ∙ (old.tied r).stored d' j n free last;
@@ -172,10 +214,10 @@ module _ (m : Meaning) (l : Layout) (w : EpochState) (s : Sight) (old : IsJoined
 
   -- readings by which the runner comes to hold these slots
   module _ (f : Spot → ℕ) (same : IsSameBut f s.word) (entered : is_entered (w.stage r) ≡ true) (comes : ℕ → Bool) (may : (t : ℕ) → comes t ≡ true → w.holds r t ≡ false → MayHold w r t) where
-    pub reads : (now : ReadsState) (records : RecordsState) → ((d : ℕ) → has now.held d ≡ true → (has p.reads.held d || comes (slot_of (counts_of m l) d)) ≡ true)
+    pub reads : (guards : GuardsState) (now : ReadsState) (records : RecordsState) → guards.named ≡ p.guards.named → ((d : ℕ) → is_sure_of guards d ≡ (is_sure_of p.guards d || comes (slot_of (counts_of m l) d)))
         → ((t : ℕ) → t < (counts_of m l).nodes → m.reaches now.walk t ≡ true → (m.reaches p.reads.walk t || comes t) ≡ true)
-        → Goes m l (events.Reach r comes ∷ []) w (next m l w s old r f (record p { reads = now; records = records }))
-    reads now records named reached =
+        → Goes m l (events.Reach r comes ∷ []) w (next m l w s old r f (record p { guards = guards; reads = now; records = records }))
+    reads guards now records named sure_by reached =
         goes_with m l w s old r (events.Reach r comes ∷ []) ((entered, λ t h. may_hold (counts_of m l) w old.sound r t (may t h)), tt) f p'
         (sym (map_same lists_of s.part r p' refl))
         (record {
@@ -194,13 +236,18 @@ module _ (m : Meaning) (l : Layout) (w : EpochState) (s : Sight) (old : IsJoined
           run_made = λ q t e made. absurd (let y = sym none ∙ e in cc);
           retire = (old.tied r).retire;
           published = (old.tied r).published;
-          named = λ d isin is_named. row_named r (has p.reads.held d) (comes (slot_of (counts_of m l) d)) (w.holds r (slot_of (counts_of m l) d)) ((old.tied r).named d entered) (named d is_named);
+          run_sure = λ q e. absurd (let y = sym none ∙ e in cc);
+          published_sure = λ y e. sure_by y.descriptor ∙ ap (λ b. b || comes (slot_of (counts_of m l) y.descriptor)) ((old.tied r).published_sure y e);
+          sure = λ d is. row_named r (is_sure_of p.guards d) (comes (slot_of (counts_of m l) d)) (w.holds r (slot_of (counts_of m l) d)) ((old.tied r).sure d) (sym (sure_by d) ∙ is);
+          numbered = λ d e. (old.tied r).numbered d (sym named ∙ e);
+          sure_alone = λ d h. sure_by d ∙ row_back r (w.holds r (slot_of (counts_of m l) d)) (comes (slot_of (counts_of m l) d)) (is_sure_of p.guards d) ((old.tied r).sure_alone d) h;
           reached = λ t isin node is_there. row_named r (m.reaches p.reads.walk t) (comes t) (w.holds r t) ((old.tied r).reached t entered node) (reached t node is_there);
           stored_free = (old.tied r).stored_free;
           stored = λ d j n free last. descriptor_same f s.word same d j ∙ (old.tied r).stored d j n free last;
         })
         (λ i ne. record {
           holds = λ t h. row_else w.holds r i t (λ u. w.holds r u || comes u) ne h;
+          alone = λ d h. row_only w.holds r i (slot_of (counts_of m l) d) (λ u. w.holds r u || comes u) ne h;
           words = λ d j h. same.thunk d j;
           hand = λ t h. h;
           retire = refl;
@@ -210,22 +257,40 @@ module _ (m : Meaning) (l : Layout) (w : EpochState) (s : Sight) (old : IsJoined
         })
       where
         p' : PartState
-        p' = record p { reads = now; records = records }
+        p' = record p { guards = guards; reads = now; records = records }
 
   -- a cell is read outside a run
   module _ (records : RecordsState) (place : ℕ) (x : Spot × Access) where
     abbrev comes : ℕ → ℕ → Bool
     comes found t = comes_outside m (counts_of m l) (kinds.LoadCell (Some place)) p found t
 
-    named_then : (found d : ℕ) (lock b : Bool) → has (p.reads.held ++ cond lock (lists.named_by found) []) d ≡ true → (has p.reads.held d || (b || (lock && names_slot (counts_of m l) found (slot_of (counts_of m l) d)))) ≡ true
-    named_then found d true b h = or_right (has p.reads.held d) b _ (sym (has_append p.reads.held (lists.named_by found) d ∙ ap (λ a. has p.reads.held d || a) (names_it (counts_of m l) found d)) ∙ h)
+    seen_named : (b : Bool) (d : ℕ) → (cond b (lists.published_seen p.guards d) p.guards).named ≡ p.guards.named
+    seen_named true d = refl
+    seen_named false d = refl
+
+    -- what it is sure of after it read this word
+    sure_then : (found d : ℕ) (lock : Bool) → is_sure_of (lists.named_seen p.guards lock found) d
+        ≡ (is_sure_of p.guards d || ((nat_lt (slot_of (counts_of m l) d) (counts_of m l).nodes && m.reaches (p.reads.walk ++ (place, found) ∷ []) (slot_of (counts_of m l) d))
+        || (lock && sees_slot (counts_of m l) p.guards found (slot_of (counts_of m l) d))))
+    sure_then found d lock =
+        by_test (lock && not (is_free found)) refl
+        ∙ ap (λ b. is_sure_of p.guards d || b) (seen_slot lock (value_of found) (counts_of m l).nodes d p.guards.named (m.reaches (p.reads.walk ++ (place, found) ∷ []) (slot_of (counts_of m l) d)))
       where
-        or_right : (a b c : Bool) → (a || c) ≡ true → (a || (b || c)) ≡ true
-        or_right a b c e = grind arith
-    named_then found d false b h = or_left (has p.reads.held d) (b || (false && names_slot (counts_of m l) found (slot_of (counts_of m l) d))) (sym (has_append p.reads.held [] d) ∙ h)
-      where
-        or_left : (a b : Bool) → (a || false) ≡ true → (a || b) ≡ true
-        or_left a b e = grind arith
+        by_test : (b : Bool) → (lock && not (is_free found)) ≡ b
+            → is_sure_of (cond b (lists.published_seen p.guards (value_of found - 1)) p.guards) d ≡ (is_sure_of p.guards d || (b && (is_some_of p.guards.named (value_of found - 1) && is_some_of p.guards.named d)))
+        by_test true e = spread p.guards.sure (is_some_of p.guards.named (value_of found - 1)) (is_some_of p.guards.named d)
+          where
+            spread : (a b c : Bool) → ((a || b) && c) ≡ ((a && c) || (b && c))
+            spread true true true = refl
+            spread true true false = refl
+            spread true false true = refl
+            spread true false false = refl
+            spread false b c = refl
+        by_test false e = sym (or_none (is_sure_of p.guards d))
+          where
+            or_none : (a : Bool) → (a || false) ≡ a
+            or_none true = refl
+            or_none false = refl
 
     reached_then : (t n : ℕ) (a b c : Bool) → t < n → b ≡ true → (a || ((nat_lt t n && b) || c)) ≡ true
     reached_then t n a b c low e = grind (arith, nat_tests)
@@ -240,9 +305,10 @@ module _ (m : Meaning) (l : Layout) (w : EpochState) (s : Sight) (old : IsJoined
         subst (Leads (kinds.LoadCell (Some place)) records) h.2 (
           _,
           refl,
-          reads _ (but_load s.word (Cell place)) (entered_at h.0 h.1) (comes found) (subst May (sym h.2) may) (lists.walked p.reads (m.is_lock place) place found) records
-              (λ d is_named. named_then found d (m.is_lock place) (reaches_node m (counts_of m l) (p.reads.walk ++ (place, found) ∷ []) (slot_of (counts_of m l) d)) is_named)
-              (λ t node is_there. reached_then t (counts_of m l).nodes (m.reaches p.reads.walk t) (m.reaches (p.reads.walk ++ (place, found) ∷ []) t) (m.is_lock place && names_slot (counts_of m l) found t) node is_there),
+          reads _ (but_load s.word (Cell place)) (entered_at h.0 h.1) (comes found) (subst May (sym h.2) may)
+              (lists.named_seen p.guards (m.is_lock place) found) (lists.walked p.reads place found) records (seen_named (m.is_lock place && not (is_free found)) (value_of found - 1))
+              (λ d. sure_then found d (m.is_lock place))
+              (λ t node is_there. reached_then t (counts_of m l).nodes (m.reaches p.reads.walk t) (m.reaches (p.reads.walk ++ (place, found) ∷ []) t) (m.is_lock place && sees_slot (counts_of m l) p.guards found t) node is_there),
         )
 
   -- a slot in the hand was looked at whole, and comes back
@@ -282,13 +348,18 @@ module _ (m : Meaning) (l : Layout) (w : EpochState) (s : Sight) (old : IsJoined
           run_made = λ q u e made. absurd (let y = sym none ∙ e in cc);
           retire = (old.tied r).retire;
           published = λ y e. descriptor_place y.descriptor ∙ (old.tied r).published y e;
-          named = (old.tied r).named;
+          run_sure = λ q e. absurd (let y = sym none ∙ e in cc);
+          published_sure = (old.tied r).published_sure;
+          sure = (old.tied r).sure;
+          numbered = (old.tied r).numbered;
+          sure_alone = (old.tied r).sure_alone;
           reached = (old.tied r).reached;
           stored_free = (old.tied r).stored_free;
           stored = λ d j n free last. descriptor_same f s.word same d j ∙ (old.tied r).stored d j n free last;
         })
         (λ i ne. record {
           holds = λ u h. h;
+          alone = λ d h. h;
           words = λ d j h. same.thunk d j;
           hand = λ u h. kept_place w.location t u (tested worn r) (Hand r) (Hand i) in_hand (hand_hand r i ne) h;
           retire = refl;

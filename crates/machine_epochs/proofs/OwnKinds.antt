@@ -20,9 +20,8 @@ use Rattle.machine_states.specs.epoch_core.specs.declared.stage.Stage.{Stage}
 use Rattle.machine_states.specs.epoch_core.specs.declared.stage.Stage.TheVariants.{Idle, Loaded, Announced, Entered, Scanning}
 use Rattle.machine_states.specs.runner_parts.specs.declared.entries.Published.{Published}
 use Rattle.machine_states.specs.runner_parts.specs.declared.entries.Tested.{Tested}
-use Rattle.machine_states.specs.runner_parts.specs.State.{RunState, PartState, NodesState, ReadsState, RecordsState}
+use Rattle.machine_states.specs.runner_parts.specs.State.{RunState, PartState, NodesState, GuardsState, ReadsState, RecordsState}
 use Rattle.machine_states.specs.runner_parts.specs.Tests.{has}
-use Rattle.machine_states.specs.runner_steps.specs.Outside.{retire_ask}
 use Rattle.machine_states.specs.runner_steps.specs.Sections.{thunk_of, is_open_run, line_of, next_of, setting_of}
 use Rattle.machine_states.specs.runner_parts.specs.Lists as lists
 use Rattle.machine_states.specs.runner_steps.specs.AfterOutside as outside
@@ -33,25 +32,12 @@ use Rattle.machine_states.proofs.Steps.{some_same}
 use Rattle.machine_states.proofs.Sights.{some_none}
 use Rattle.machine_epochs.specs.Slots.{retire_before, retiring_of}
 use Rattle.machine_states.specs.epoch_core.specs.State.{Retiring, no_retire}
-use Rattle.machine_epochs.specs.Descriptors.{times_published}
 use Rattle.machine_epochs.proofs.OutsideAsked as asked
 use Rattle.machine_epochs.proofs.InsideAsked as inside
 use Rattle.machine_epochs.proofs.RunPlaces.{next_in_line, open_run, goes_on_unretired, begins_unretired}
-use Rattle.machine_epochs.proofs.OwnDescriptors.{IsOwn, IsRecent, IsSameLists, stays, idles, collects, publishes, retires}
+use Rattle.machine_epochs.proofs.OwnDescriptors.{IsOwn, IsRecent, IsSameLists, stays, idles, collects, sweeps, publishes, over_counts}
 use Rattle.machine_states.specs.runner_steps.specs.AfterOutside.{published_by}
 use Rattle.machine_states.specs.table_words.specs.Places.{slot_count}
-
--- whether a runner at this stage is entered
-abbrev is_in : Stage → Bool
-is_in (Entered g) = true
-is_in Idle = false
-is_in (Loaded e) = false
-is_in Announced = false
-is_in (Scanning x n b) = false
-
--- a step to a stage that isn't entered, or that leaves stage and publications as they were
-not_entered : {B : Type 0} {st : Stage} {g : ℕ} → is_in st ≡ false → st ≡ Entered g → B
-not_entered out at = absurd (let x = sym out ∙ ap is_in at in cc)
 
 -- whether this is a step that loads an epoch for a Retire
 abbrev is_retire : Micro → Bool
@@ -86,27 +72,26 @@ module _ (m : Meaning) (l : Layout) (rs : List Request) (epoch r : ℕ) (p : Par
     same_lists = record { free = refl; limbo = refl; published = λ d. refl; nodes = refl }
 
     -- another stage, in which nothing is entered
-    to_stage : (st : Stage) → is_in st ≡ false → Own (outside.with_stage p st)
-    to_stage st out = idles m l epoch r p (record p { stage = st; records = records }) (record { free = refl; limbo = refl; published = λ d. refl; nodes = refl }) (λ g d at it. not_entered out at) none old
+    to_stage : (st : Stage) → Own (outside.with_stage p st)
+    to_stage st = idles m l epoch r p (record p { stage = st; records = records }) (record { free = refl; limbo = refl; published = λ d. refl; nodes = refl }) none old
 
     -- nothing of it has changed
-    unmoved : (nodes : NodesState) → nodes.limbo ≡ p.nodes.limbo → (reads : ReadsState) → reads.published ≡ p.reads.published → Own (record p { nodes = nodes; reads = reads })
-    unmoved nodes limbo reads published = idles m l epoch r p (record p { nodes = nodes; reads = reads; records = records }) (record { free = refl; limbo = refl; published = λ d. refl; nodes = limbo })
-        (λ g d at it. (at, ap (λ (xs : List ℕ). has xs d) (sym published) ∙ it)) none old
+    unmoved : (guards : GuardsState) (nodes : NodesState) → nodes.limbo ≡ p.nodes.limbo → (reads : ReadsState) → Own (record p { nodes = nodes; guards = guards; reads = reads })
+    unmoved guards nodes limbo reads = idles m l epoch r p (record p { nodes = nodes; guards = guards; reads = reads; records = records }) (record { free = refl; limbo = refl; published = λ d. refl; nodes = limbo }) none old
 
     alike : Own p
-    alike = unmoved p.nodes refl p.reads refl
+    alike = unmoved p.guards p.nodes refl p.reads
 
     enters : (g : ℕ) → Own (outside.entered p g)
-    enters g = idles m l epoch r p (record p { stage = Entered g; reads = lists.no_reads; records = records }) (record { free = refl; limbo = refl; published = λ d. refl; nodes = refl }) (λ g' d at it. absurd (let y = it in cc)) none old
+    enters g = idles m l epoch r p (record p { stage = Entered g; guards = lists.with_looked p.guards []; reads = lists.no_reads; records = records }) (record { free = refl; limbo = refl; published = λ d. refl; nodes = refl }) none old
 
-    scan_more : (b b' : Bool) (e : ℕ) (st : Stage) → is_in st ≡ false → Own (cond b (cond b' (outside.collected p e) (outside.with_stage p st)) p)
-    scan_more true true e st out = collects m l epoch r p old none records e
-    scan_more true false e st out = to_stage st out
-    scan_more false b' e st out = alike
+    scan_more : (b b' : Bool) (e : ℕ) (st : Stage) → Own (cond b (cond b' (outside.collected p e) (outside.with_stage p st)) p)
+    scan_more true true e st = collects m l epoch r p old none records e
+    scan_more true false e st = to_stage st
+    scan_more false b' e st = alike
 
     scans : (st : Stage) → Own (outside.scan_one_after l p st found)
-    scans (Scanning e next clear) = scan_more (nat_le next l.runners) _ e (Scanning e (next + 1) _) refl
+    scans (Scanning e next clear) = scan_more (nat_le next l.runners) _ e (Scanning e (next + 1) _)
     scans Idle = alike
     scans (Loaded e) = alike
     scans Announced = alike
@@ -128,68 +113,63 @@ module _ (m : Meaning) (l : Layout) (rs : List Request) (epoch r : ℕ) (p : Par
     splits false = alike
 
     stores : (d word number : ℕ) → Own (record p { descriptors = lists.descriptor_stored p.descriptors d word number })
-    stores d word number = idles m l epoch r p (record p { descriptors = lists.descriptor_stored p.descriptors d word number; records = records }) (record { free = refl; limbo = refl; published = λ d. refl; nodes = refl }) (λ g d at it. (at, it)) none old
+    stores d word number = idles m l epoch r p (record p { descriptors = lists.descriptor_stored p.descriptors d word number; records = records }) (record { free = refl; limbo = refl; published = λ d. refl; nodes = refl }) none old
 
     looks : (slot word : ℕ) (b : Bool) → Own (cond b (record p { nodes = lists.nodes_looked l p.nodes slot word found }) (record p { descriptors = lists.descriptor_stored p.descriptors (slot - slot_count l m.fixed_slots) word found }))
-    looks slot word true = unmoved _ (looked_limbo l p.nodes slot word found) p.reads refl
+    looks slot word true = unmoved p.guards _ (looked_limbo l p.nodes slot word found) p.reads
     looks slot word false = stores _ word found
 
     holds : (t : Thunk) (d : ℕ) → asked.HoldAsked m l rs t d p x → (b : Bool) → Own (cond b (record p {
       published = Some (published_by t d p);
       descriptors = lists.descriptor_taken p.descriptors d;
-      reads = lists.section_published (lists.cell_read p.reads t.lock found) d;
-    }) (record p { reads = lists.holds_named (lists.cell_read p.reads t.lock found) found }))
+      guards = lists.published_seen p.guards d;
+      reads = lists.cell_read p.reads t.lock found;
+    }) (record p { reads = lists.cell_read p.reads t.lock found }))
     holds t d h true = publishes m l epoch r p old none records d h.few h.free h.unpublished t found
-    holds t d h false = unmoved p.nodes refl _ refl
+    holds t d h false = unmoved _ p.nodes refl _
 
     opens : (d : ℕ) → Own (outside.open_after d p found)
     opens d =
         let begun : RunState = outside.opened d found in
-        stays m l epoch r p (record p { run = Some begun; records = records }) (record { free = refl; limbo = refl; published = λ d. refl; nodes = refl }) (λ g d at it. (at, it))
+        stays m l epoch r p (record p { run = Some begun; records = records }) (record { free = refl; limbo = refl; published = λ d. refl; nodes = refl })
         (subst (λ y. y ≤ epoch) (sym (ap (λ y. y.epoch) (begins_unretired m begun refl))) (omega arith)) (λ g at is. no_loaded (begins_unretired m begun refl) is) (λ q at few. ap (λ (a : RunState). a.at) (sym (some_same begun q at))) old
 
-    retires_own : retire_ask p ≡ Some x → Own (outside.retire_after p p.published found)
-    retires_own e =
-        let h = asked.retire_asked p x e in
-        let now : found ≡ epoch = loaded (ap (λ (y : Spot × Access). y.0) (sym h.4)) in
-        subst (λ (o : Option Published). Own (outside.retire_after p o found)) (sym h.3)
-        (subst (λ n. Own (outside.retire_after p (Some h.1) n)) (sym now) (retires m l epoch r p old none records h.1 h.3 entered))
-
     pub outside_own : (kind : EventKind) → outside_ask m l rs r kind p ≡ Some x → Own (outside_after m l kind p found)
-    outside_own kinds.EnterLoad e = to_stage (Loaded found) refl
-    outside_own kinds.Announce e = to_stage Announced refl
+    outside_own kinds.EnterLoad e = to_stage (Loaded found)
+    outside_own kinds.Announce e = to_stage Announced
     outside_own kinds.EnterAgain e = enters found
-    outside_own kinds.Idle e = to_stage Idle refl
-    outside_own kinds.ScanEpoch e = to_stage (Scanning found 0 true) refl
+    outside_own kinds.Idle e = to_stage Idle
+    outside_own kinds.ScanEpoch e = to_stage (Scanning found 0 true)
     outside_own (kinds.ScanOne n) e = scans p.stage
     outside_own kinds.Advance e = advances p.stage
     outside_own kinds.Split e = splits _
     outside_own (kinds.Join worker) e = alike
-    outside_own (kinds.LoadCell (Some place)) e = unmoved p.nodes refl _ refl
+    outside_own (kinds.LoadCell (Some place)) e = unmoved _ p.nodes refl _
     outside_own (kinds.LoadEntry request reply) e = alike
     outside_own (kinds.PrivateLoad slot word) e = looks slot word _
     outside_own (kinds.PrivateStore slot word number) e = stores _ word number
     outside_own (kinds.Hold thunk d) e = holds thunk d (asked.hold_asked m l rs r thunk d p x e) _
     outside_own (kinds.LoadThunk (Some d)) e = opens d
-    outside_own kinds.EpochForRetire e = retires_own e
-    outside_own (kinds.ReadPlan thunk) e = unmoved p.nodes refl _ refl
-    outside_own kinds.ReadClock e = unmoved p.nodes refl _ refl
-    outside_own kinds.ReadReply e = unmoved p.nodes refl _ refl
-    outside_own kinds.ReadStamp e = unmoved p.nodes refl _ refl
+    outside_own (kinds.ReadPlan thunk) e = unmoved _ p.nodes refl _
+    outside_own kinds.ReadClock e = unmoved _ p.nodes refl _
+    outside_own kinds.ReadReply e = unmoved _ p.nodes refl _
+    outside_own kinds.ReadStamp e = unmoved _ p.nodes refl _
+    outside_own (kinds.Guard d) e = unmoved _ p.nodes refl _
+    outside_own (kinds.LoadGuard n) e = sweeps m l epoch r p old none records _ _ _
     outside_own _ e = some_none x e
 
   module _ (q : RunState) (at : p.run ≡ Some q) where
     -- the part after a step of the run: its lists are these, and so is its run's Retire
-    in_run : (p' : PartState) → IsSameLists p' p → p'.stage ≡ p.stage → p'.reads.published ≡ p.reads.published → (retiring_of m p'.run).epoch ≤ epoch → IsRecent m p'
+    in_run : (p' : PartState) → IsSameLists p' p → (retiring_of m p'.run).epoch ≤ epoch → IsRecent m p'
         → ((q' : RunState) → p'.run ≡ Some q' → length q'.opened < 13 → q'.at ≡ 0) → IsOwn m l epoch r p'
-    in_run p' same stage published retire least begins = stays m l epoch r p p' same (λ g d at it. (sym stage ∙ at, ap (λ (xs : List ℕ). has xs d) (sym published) ∙ it)) retire least begins old
+    in_run p' same retire least begins = stays m l epoch r p p' same retire least begins old
 
     -- one more word is loaded
     opens_more : length q.opened < 13 → Own (runs.opened_more p q found)
     opens_more few =
         let more : RunState = record q { opened = q.opened ++ found ∷ [] } in
         let start = old.run_begins q at few in
-        in_run (record p { run = Some more; records = records }) (record { free = refl; limbo = refl; published = λ d. refl; nodes = refl }) refl refl
+        in_run (record p { run = Some more; records = records }) (record { free = refl; limbo = refl; published = λ d. refl; nodes = refl })
         (subst (λ y. y ≤ epoch) (sym (ap (λ y. y.epoch) (begins_unretired m more start))) (omega arith)) (λ g at' is. no_loaded (begins_unretired m more start) is) (λ q' e few'. ap (λ (a : RunState). a.at) (sym (some_same more q' e)) ∙ start)
 
     opening_own : (kind : EventKind) → opening_ask kind q ≡ Some x → Own (runs.opened_more p q found)
@@ -203,9 +183,9 @@ module _ (m : Meaning) (l : Layout) (rs : List Request) (epoch r : ℕ) (p : Par
 
       -- the run in its line, where no epoch for a Retire is loaded
       moves : ((s k : ℕ) → next_of m q ≡ micros.EpochForRetire s k → ⊥) → (q' : RunState) → q'.opened ≡ q.opened → (trail : List ℕ) → q'.at ≡ settled (setting_of l q.descriptor) trail (line_of m q) (q.at + 1)
-          → (nodes : NodesState) → nodes.limbo ≡ p.nodes.limbo → (reads : ReadsState) → reads.published ≡ p.reads.published → Own (record p { run = Some q'; nodes = nodes; reads = reads })
-      moves other q' opened trail rests nodes limbo reads published =
-          in_run (record p { run = Some q'; nodes = nodes; reads = reads; records = records }) (record { free = refl; limbo = refl; published = λ d. refl; nodes = limbo }) refl published
+          → (nodes : NodesState) → nodes.limbo ≡ p.nodes.limbo → (reads : ReadsState) → Own (record p { run = Some q'; nodes = nodes; reads = reads })
+      moves other q' opened trail rests nodes limbo reads =
+          in_run (record p { run = Some q'; nodes = nodes; reads = reads; records = records }) (record { free = refl; limbo = refl; published = λ d. refl; nodes = limbo })
           (subst (λ y. y ≤ epoch) (sym (ap (λ y. y.epoch) (goes_on_unretired m l q (micro_at (line_of m q) q.at) refl (λ s k e. other s k (ahead s k e)) q' opened trail rests))) (omega arith))
           (λ g at' is. no_loaded (goes_on_unretired m l q (micro_at (line_of m q) q.at) refl (λ s k e. other s k (ahead s k e)) q' opened trail rests) is)
           (λ q2 e few. absurd (let all = ap (λ (a : RunState). length a.opened) (sym (some_same q' q2 e)) ∙ (ap (λ (xs : List ℕ). length xs) opened ∙ all_loaded) in omega arith))
@@ -228,26 +208,26 @@ module _ (m : Meaning) (l : Layout) (rs : List Request) (epoch r : ℕ) (p : Par
       was_most : (retire_before q (micro_at (line_of m q) q.at)).epoch ≤ epoch
       was_most = subst (λ (o : Option RunState). (retiring_of m o).epoch ≤ epoch) at old.retire_most
 
-      ends_more : (reads : ReadsState) → reads.published ≡ p.reads.published → Own (record p { run = Some (runs.ended_more q); reads = reads })
-      ends_more reads published =
-          in_run (record p { run = Some (runs.ended_more q); reads = reads; records = records }) (record { free = refl; limbo = refl; published = λ d. refl; nodes = refl }) refl published
+      ends_more : (reads : ReadsState) → Own (record p { run = Some (runs.ended_more q); reads = reads })
+      ends_more reads =
+          in_run (record p { run = Some (runs.ended_more q); reads = reads; records = records }) (record { free = refl; limbo = refl; published = λ d. refl; nodes = refl })
           (subst (λ n. n ≤ epoch) (sym (same_retire (micro_at (line_of m q) q.at))) was_most)
           (λ g stage is. subst (λ n. g ≤ n) (sym (same_retire (micro_at (line_of m q) q.at))) (was_least g stage (sym (same_loaded (micro_at (line_of m q) q.at)) ∙ is)))
           (λ q2 e few. absurd (let all = ap (λ (a : RunState). length a.opened) (sym (some_same (runs.ended_more q) q2 e)) ∙ all_loaded in omega arith))
 
-      over_same : (o : Option Published) (d : ℕ) → times_published d (runs.over_if o q.descriptor) ≡ times_published d o
-      over_same None d = refl
-      over_same (Some y) d = refl
+      is_over : (reads : ReadsState) → Own (record p { run = None; published = runs.kept_unless p.published q.descriptor; descriptors = runs.retired_if p.descriptors p.published q.descriptor; reads = reads })
+      is_over reads = record {
+        once = λ d few. over_counts p q.descriptor d ∙ old.once d few;
+        nodes_most = old.nodes_most;
+        retire_most = omega arith;
+        retire_least = λ g stage is. absurd (let y = is in cc);
+        run_begins = λ q2 e few. absurd (let y = e in cc);
+      }
 
-      is_over : (reads : ReadsState) → reads.published ≡ p.reads.published → Own (record p { run = None; published = runs.over_if p.published q.descriptor; reads = reads })
-      is_over reads published =
-          in_run (record p { run = None; published = runs.over_if p.published q.descriptor; reads = reads; records = records }) (record { free = refl; limbo = refl; published = over_same p.published; nodes = refl }) refl published
-          (omega arith) (λ g stage is. absurd (let y = is in cc)) (λ q2 e few. absurd (let y = e in cc))
-
-      releases : (b : Bool) (reads : ReadsState) → reads.published ≡ p.reads.published → (finished : RecordsState)
-          → Own (cond b (record p { run = None; published = runs.over_if p.published q.descriptor; reads = reads; records = finished }) (record p { run = Some (runs.ended_more q); reads = reads }))
-      releases true reads published finished = is_over reads published
-      releases false reads published finished = ends_more reads published
+      releases : (b : Bool) (reads : ReadsState) (finished : RecordsState)
+          → Own (cond b (record p { run = None; published = runs.kept_unless p.published q.descriptor; descriptors = runs.retired_if p.descriptors p.published q.descriptor; reads = reads; records = finished }) (record p { run = Some (runs.ended_more q); reads = reads }))
+      releases true reads finished = is_over reads
+      releases false reads finished = ends_more reads
 
       -- the epoch for a Retire is loaded
       some_most : (q' : RunState) (micro : Micro) → q'.word ≡ epoch → (retire_before q' micro).epoch ≤ epoch
@@ -261,7 +241,7 @@ module _ (m : Meaning) (l : Layout) (rs : List Request) (epoch r : ℕ) (p : Par
       loads_epoch : found ≡ epoch → Own (runs.number_loaded m l p q found)
       loads_epoch now =
           let q' = runs.goes_on m l q found in
-          in_run (record p { run = Some q'; records = records }) (record { free = refl; limbo = refl; published = λ d. refl; nodes = refl }) refl refl (some_most q' (micro_at (line_of m q') q'.at) now)
+          in_run (record p { run = Some q'; records = records }) (record { free = refl; limbo = refl; published = λ d. refl; nodes = refl }) (some_most q' (micro_at (line_of m q') q'.at) now)
           (λ g stage is. some_least q' (micro_at (line_of m q') q'.at) now g (entered g stage) is)
           (λ q2 e few. absurd (let all = ap (λ (a : RunState). length a.opened) (sym (some_same q' q2 e)) ∙ all_loaded in omega arith))
 
@@ -277,24 +257,14 @@ module _ (m : Meaning) (l : Layout) (rs : List Request) (epoch r : ℕ) (p : Par
       retire_own slot k ahead slot' =
           let low : q.word ≤ epoch = subst (λ (μ : Micro). (retire_before q μ).epoch ≤ epoch) (next_in_line m q (micros.RetireCommit slot k) refl ahead) was_most in
           let q' = runs.agrees m l q (written_once found (slot' + 1)) in
-          let kept = moves (no_other (micros.RetireCommit slot k) refl ahead) q' refl (q.trail ++ written_once found (slot' + 1) ∷ []) refl p.nodes refl p.reads refl in
+          let kept = moves (no_other (micros.RetireCommit slot k) refl ahead) q' refl (q.trail ++ written_once found (slot' + 1) ∷ []) refl p.nodes refl p.reads in
           record {
             once = kept.once;
-            descriptors_most = kept.descriptors_most;
             nodes_most = limbo_by (found == 0) slot' low;
             retire_most = kept.retire_most;
             retire_least = kept.retire_least;
             run_begins = kept.run_begins;
-            own_count = kept.own_count;
-            own_late = kept.own_late;
           }
-
-      lock_published : (agreed : ℕ) → (lists.lock_agreed p.reads q.descriptor agreed).published ≡ p.reads.published
-      lock_published agreed = by_test (has p.reads.published q.descriptor)
-        where
-          by_test : (b : Bool) → (cond b (lists.holds_named p.reads agreed) p.reads).published ≡ p.reads.published
-          by_test true = refl
-          by_test false = refl
 
       made_limbo : (slot : ℕ) → (runs.made p q slot found).limbo ≡ p.nodes.limbo
       made_limbo slot = by_test (found == 0) q.worn
@@ -305,46 +275,45 @@ module _ (m : Meaning) (l : Layout) (rs : List Request) (epoch r : ℕ) (p : Par
           by_test false false = refl
 
       module _ (other : (s k : ℕ) → next_of m q ≡ micros.EpochForRetire s k → ⊥) where
-        goes : (word : ℕ) (reads : ReadsState) → reads.published ≡ p.reads.published → Own (record p { run = Some (runs.goes_on m l q word); reads = reads })
-        goes word reads published = moves other (runs.goes_on m l q word) refl q.trail refl p.nodes refl reads published
+        goes : (word : ℕ) (reads : ReadsState) → Own (record p { run = Some (runs.goes_on m l q word); reads = reads })
+        goes word reads = moves other (runs.goes_on m l q word) refl q.trail refl p.nodes refl reads
 
-        commits : (b : Bool) → Own (cond b (runs.lock_committed m l p q found) (runs.word_committed m l p q found))
-        commits true = moves other (runs.agrees m l q (written_once found q.word)) refl (q.trail ++ written_once found q.word ∷ []) refl p.nodes refl _ (lock_published _)
-        commits false = moves other (runs.agrees m l q (written_once found q.word)) refl (q.trail ++ written_once found q.word ∷ []) refl p.nodes refl p.reads refl
+        commits : Own (runs.word_committed m l p q found)
+        commits = moves other (runs.agrees m l q (written_once found q.word)) refl (q.trail ++ written_once found q.word ∷ []) refl p.nodes refl p.reads
 
         fills : (slot : ℕ) (o : Option ℕ) → Own (runs.fill_loaded m l slot p q o found)
-        fills slot None = moves other (runs.goes_on m l (record q { made = Some slot; worn = false }) found) refl q.trail refl (lists.slot_taken p.nodes slot) refl p.reads refl
-        fills slot (Some t) = goes found p.reads refl
+        fills slot None = moves other (runs.goes_on m l (record q { made = Some slot; worn = false }) found) refl q.trail refl (lists.slot_taken p.nodes slot) refl p.reads
+        fills slot (Some t) = goes found p.reads
 
         makes : (o : Option ℕ) → q.made ≡ o → (slot : ℕ) → o ≡ Some slot → Own (runs.make_committed m l p q o found)
         makes None is slot e = absurd (let y = e in cc)
-        makes (Some t) is slot e = moves other (runs.agrees m l (record q { made = None; worn = false }) (written_once found (t + 1))) refl (q.trail ++ written_once found (t + 1) ∷ []) refl (runs.made p q t found) (made_limbo t) p.reads refl
+        makes (Some t) is slot e = moves other (runs.agrees m l (record q { made = None; worn = false }) (written_once found (t + 1))) refl (q.trail ++ written_once found (t + 1) ∷ []) refl (runs.made p q t found) (made_limbo t) p.reads
 
         stamps : (b : Bool) (stamp : ℕ) (learned : RecordsState) → b ≡ true → Own (cond b (record p { run = Some (runs.goes_on m l q stamp); records = learned }) p)
-        stamps true stamp learned e = goes stamp p.reads refl
+        stamps true stamp learned e = goes stamp p.reads
         stamps false stamp learned e = absurd (let y = e in cc)
 
       line_own : (kind : EventKind) → line_ask m l kind p.nodes.free q (next_of m q) ≡ Some x → Own (line_after m l kind p q (next_of m q) found)
       line_own kinds.Commit e = let h = inside.commit_asked q x (next_of m q) e in
-          commits (⊎_elim (λ a. no_other (micros.Commit h.step.0 h.log) refl a) (λ a. no_other (micros.NestedCommit h.step.0 h.log) refl a) h.step.1) _
-      line_own (kinds.LoadCell None) e = let h = inside.load_cell_asked q x (next_of m q) e in goes (no_other (micros.LoadCell h.place h.step.0) refl h.step.1) found _ refl
-      line_own kinds.ExchangeCell e = let h = inside.exchange_cell_asked q x l (next_of m q) e in goes (no_other (micros.ExchangeCell h.place h.step.0 h.step.1) refl h.step.2) q.word _ refl
+          commits (⊎_elim (λ a. no_other (micros.Commit h.step.0 h.log) refl a) (λ a. no_other (micros.NestedCommit h.step.0 h.log) refl a) h.step.1)
+      line_own (kinds.LoadCell None) e = let h = inside.load_cell_asked q x (next_of m q) e in goes (no_other (micros.LoadCell h.place h.step.0) refl h.step.1) found _
+      line_own kinds.ExchangeCell e = let h = inside.exchange_cell_asked q x l (next_of m q) e in goes (no_other (micros.ExchangeCell h.place h.step.0 h.step.1) refl h.step.2) q.word _
       line_own (kinds.PrivateLoad slot word) e = let h = inside.fill_load_asked q x m l slot word p.nodes.free (next_of m q) e in fills (no_other (micros.PrivateLoad h.0 h.1) refl h.3) slot q.made
       line_own (kinds.PrivateStore slot word number) e = let h = inside.fill_store_asked q x m l slot word number (next_of m q) e in
-          moves (no_other (micros.PrivateStore h.0 h.1 h.3) refl h.4) (runs.goes_on m l (record q { worn = q.worn || version_of number == l.version_max }) q.word) refl q.trail refl p.nodes refl p.reads refl
+          moves (no_other (micros.PrivateStore h.0 h.1 h.3) refl h.4) (runs.goes_on m l (record q { worn = q.worn || version_of number == l.version_max }) q.word) refl q.trail refl p.nodes refl p.reads
       line_own kinds.MakeCommit e = let h = inside.make_commit_asked q x (next_of m q) e in makes (no_other (micros.MakeCommit h.2.log) refl h.2.step) q.made refl h.0 h.1
       line_own kinds.RetireCommit e = let h = inside.retire_commit_asked q x (next_of m q) e in retire_own h.0 h.1.log h.1.step _
       line_own kinds.EpochForRetire e = let h = inside.epoch_for_retire_asked q x (next_of m q) e in loads_epoch (loaded (ap (λ (y : Spot × Access). y.0) (sym h.3)))
-      line_own kinds.SetDone e = ends_more p.reads refl
-      line_own kinds.Release e = releases _ _ refl _
-      line_own kinds.ClockLoad e = let h = inside.clock_load_asked q x (next_of m q) e in goes (no_other micros.ClockLoad refl h.0) found p.reads refl
+      line_own kinds.SetDone e = ends_more p.reads
+      line_own kinds.Release e = releases _ _ _
+      line_own kinds.ClockLoad e = let h = inside.clock_load_asked q x (next_of m q) e in goes (no_other micros.ClockLoad refl h.0) found p.reads
       line_own kinds.StampExchange e = let h = inside.stamp_exchange_asked q x (next_of m q) e in stamps (no_other micros.StampExchange refl h.0) _ _ _ h.1
-      line_own kinds.ClockRaise e = let h = inside.clock_raise_asked q x (next_of m q) e in goes (no_other micros.ClockRaise refl h.0) q.word p.reads refl
-      line_own kinds.ReplyExchange e = let h = inside.reply_exchange_asked q x (next_of m q) e in goes (no_other (micros.ReplyExchange h.0) refl h.1) q.word p.reads refl
-      line_own kinds.NestedLoad e = let h = inside.nested_load_asked q x (next_of m q) e in goes (no_other (micros.NestedLoad h.place h.step.0) refl h.step.1) found _ refl
-      line_own kinds.NestedHold e = let h = inside.nested_hold_asked q x l (next_of m q) e in goes (no_other (micros.NestedHold h.place h.step.0) refl h.step.1) q.word _ refl
-      line_own kinds.OutcomeLoad e = let h = inside.outcome_load_asked q x (next_of m q) e in goes (no_other (micros.OutcomeLoad h.place h.step.0) refl h.step.1) found _ refl
-      line_own kinds.OutcomeCommit e = let h = inside.outcome_commit_asked q x (next_of m q) e in commits (no_other (micros.OutcomeCommit h.step.0 h.log) refl h.step.1) true
+      line_own kinds.ClockRaise e = let h = inside.clock_raise_asked q x (next_of m q) e in goes (no_other micros.ClockRaise refl h.0) q.word p.reads
+      line_own kinds.ReplyExchange e = let h = inside.reply_exchange_asked q x (next_of m q) e in goes (no_other (micros.ReplyExchange h.0) refl h.1) q.word p.reads
+      line_own kinds.NestedLoad e = let h = inside.nested_load_asked q x (next_of m q) e in goes (no_other (micros.NestedLoad h.place h.step.0) refl h.step.1) found _
+      line_own kinds.NestedHold e = let h = inside.nested_hold_asked q x l (next_of m q) e in goes (no_other (micros.NestedHold h.place h.step.0) refl h.step.1) q.word _
+      line_own kinds.OutcomeLoad e = let h = inside.outcome_load_asked q x (next_of m q) e in goes (no_other (micros.OutcomeLoad h.place h.step.0) refl h.step.1) found _
+      line_own kinds.OutcomeCommit e = let h = inside.outcome_commit_asked q x (next_of m q) e in commits (no_other (micros.OutcomeCommit h.step.0 h.log) refl h.step.1)
       line_own _ e = some_none x e
 
     inside_by : (kind : EventKind) (b : Bool) → is_open_run q ≡ b → cond b (line_ask m l kind p.nodes.free q (next_of m q)) (opening_ask kind q) ≡ Some x → Own (cond b (line_after m l kind p q (next_of m q) found) (runs.opened_more p q found))

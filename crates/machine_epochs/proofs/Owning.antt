@@ -1,7 +1,6 @@
 -- What parts say of descriptors and limbo lists holds in every state that the machine reaches.
 use Rattle.std.specs.Prelude.{◌==◌, cond, Bool, true, false}
-use Rattle.std.proofs.Common.{◌≡◌, ◌≢◌, ℕ, ◌+◌, ◌<◌, ◌≤◌, List, refl, sym, ap, ◌∙◌, subst, arith, ⊎_elim, Option, Some, None}
-use Rattle.std.proofs.lemmas.Bool.{cases_eq}
+use Rattle.std.proofs.Common.{◌≡◌, ℕ, ◌+◌, ◌<◌, ◌≤◌, List, refl, sym, ap, ◌∙◌, subst, arith, Option, Some, None}
 use Rattle.std.proofs.lemmas.Bool.Decides.{nat_tests}
 use Rattle.std.proofs.lemmas.List.Elements.{All-nil}
 use Rattle.machine_states.specs.map_history.specs.declared.op.Request.{Request}
@@ -17,7 +16,6 @@ use Rattle.machine_states.specs.runner_parts.specs.declared.event.EventKind.{Eve
 use Rattle.machine_states.specs.runner_parts.specs.declared.event.EventKind.TheVariants as kinds
 use Rattle.machine_states.specs.epoch_core.specs.declared.stage.Stage.TheVariants.{Entered}
 use Rattle.machine_states.specs.runner_parts.specs.State.{RunState, PartState, RecordsState}
-use Rattle.machine_states.specs.runner_parts.specs.Tests.{has}
 use Rattle.machine_states.specs.runner_steps.specs.Asks.{asks, ask_by, outside_ask}
 use Rattle.machine_states.specs.runner_steps.specs.After.{after, after_by, leaves, knows_also}
 use Rattle.machine_states.specs.epoch_core.specs.State.{is_entered, entry_of}
@@ -38,7 +36,7 @@ use Rattle.machine_epochs.specs.Descriptors.{DescriptorsAreSound}
 use Rattle.machine_epochs.proofs.OutsideAsked as asked
 use Rattle.machine_epochs.proofs.Elsewhere.{is_entry, quiet_asks}
 use Rattle.machine_epochs.proofs.Entries.{Entries, asks_by, asked_outside}
-use Rattle.machine_epochs.proofs.OwnDescriptors.{IsOwn, one_most, passes}
+use Rattle.machine_epochs.proofs.OwnDescriptors.{IsOwn, passes}
 use Rattle.machine_epochs.proofs.OwnKinds.{outside_own, inside_own}
 use Rattle.machine_epochs.proofs.FirstJoin.{each_part, own_free}
 
@@ -50,13 +48,10 @@ Owns m l s = (r : ℕ) → IsOwn m l (s.word Epoch) r (s.part r)
 copied : (m : Meaning) (l : Layout) (epoch r : ℕ) (p : PartState) (records : RecordsState) (gone : Bool) → IsOwn m l epoch r p → IsOwn m l epoch r (record p { records = records; gone = gone })
 copied m l epoch r p records gone o = record {
   once = o.once;
-  descriptors_most = o.descriptors_most;
   nodes_most = o.nodes_most;
   retire_most = o.retire_most;
   retire_least = o.retire_least;
   run_begins = o.run_begins;
-  own_count = o.own_count;
-  own_late = o.own_late;
 }
 
 exchanged_most : (now x : ℕ) → now ≤ exchanged now x (x + 1)
@@ -118,13 +113,10 @@ module _ (m : Meaning) (l : Layout) (rs : List Request) where
   first_own : (epoch r : ℕ) (nodes descriptors : List ℕ) → ((d : ℕ) → d < descriptor_count l → times d descriptors ≡ cond (owner_of l.sections l.runners d == r) 1 0) → IsOwn m l epoch r (first_part nodes descriptors)
   first_own epoch r nodes descriptors once = record {
     once = λ d few. let o = once d few in omega arith;
-    descriptors_most = All-nil (λ x. x.epoch ≤ epoch);
     nodes_most = All-nil (λ x. x.epoch ≤ epoch);
     retire_most = omega arith;
     retire_least = λ g at is. absurd (let y = at in cc);
     run_begins = λ q e few. absurd (let y = e in cc);
-    own_count = λ g d at it. absurd (let y = at in cc);
-    own_late = λ g d at it. absurd (let y = at in cc);
   }
 
   -- so it is in the first state
@@ -145,24 +137,6 @@ module _ (m : Meaning) (l : Layout) (rs : List Request) where
 
 -- what is said of descriptors follows
 module _ (m : Meaning) (l : Layout) (s : Sight) (own : Owns m l s) where
-  is_mine : (a b : ℕ) → 1 ≤ cond (a == b) 1 0 → a ≡ b
-  is_mine a b h = grind (arith, nat_tests)
-
-  not_mine : (a b : ℕ) → a ≢ b → ◌≡◌ {A = ℕ} (cond (a == b) 1 0) 0
-  not_mine a b ne = grind (arith, nat_tests)
-
-  unfree : (r i g d : ℕ) → (s.part r).stage ≡ Entered g → has (s.part r).reads.published d ≡ true → times d (s.part i).descriptors.free ≡ 0
-  unfree r i g d at it =
-      let c = (own r).own_count g d at it in
-      let count = c.1 in
-      let mine = (own r).once d c.0 in
-      let most = one_most (owner_of l.sections l.runners d == r) in
-      ⊎_elim
-      (λ same. ap (λ k. times d (s.part k).descriptors.free) same ∙ (let h : times d (s.part r).descriptors.free ≡ 0 = omega arith in h))
-      (λ other. let owner = is_mine (owner_of l.sections l.runners d) r (let h : 1 ≤ cond (owner_of l.sections l.runners d == r) 1 0 = omega arith in h) in
-      let his = (own i).once d c.0 in let none = not_mine (owner_of l.sections l.runners d) i (λ e. other (sym e ∙ owner)) in omega arith)
-      (cases_eq i r)
-
   recent : (r g slot log : ℕ) (q : RunState) → (s.part r).stage ≡ Entered g → (s.part r).run ≡ Some q → micro_at (line_of m q) q.at ≡ RetireCommit slot log → (g ≤ q.word) × (q.word ≤ s.word Epoch)
   recent r g slot log q stage run at =
       let now : retiring_of m (s.part r).run ≡ retire_before q (RetireCommit slot log) = ap (retiring_of m) run ∙ ap (retire_before q) at in
@@ -171,9 +145,6 @@ module _ (m : Meaning) (l : Layout) (s : Sight) (own : Owns m l s) where
   pub descriptors_sound : DescriptorsAreSound m l s
   descriptors_sound = record {
     once = λ r. (own r).once;
-    descriptors_most = λ r. (own r).descriptors_most;
     nodes_most = λ r. (own r).nodes_most;
-    own_unfree = unfree;
-    own_late = λ r. (own r).own_late;
     retire_recent = recent;
   }

@@ -12,7 +12,6 @@ use Rattle.machine_states.specs.runner_parts.specs.State.{RunState}
 use Rattle.machine_states.specs.runner_steps.specs.Sections.{thunk_of}
 use Rattle.machine_states.specs.runner_parts.specs.Tests.{has}
 use Rattle.machine_states.specs.runner_steps.specs.Outside.{descriptor_spot}
-use Rattle.machine_states.specs.runner_parts.specs.Lists.{named_by}
 use Rattle.machine_states.specs.epoch_core.specs.declared.location.Location.{Location}
 use Rattle.machine_states.specs.epoch_core.specs.declared.location.Location.TheVariants.{Fixed, Live, Hand, Free, Worn, Limbo}
 use Rattle.machine_states.specs.epoch_core.specs.State.{Counts, EpochState, Role, is_entered, entry_of, IsKept}
@@ -24,7 +23,6 @@ use Rattle.machine_epochs.specs.Entries.{counts_of}
 use Rattle.machine_epochs.specs.Roles.{role_at}
 use Rattle.machine_epochs.specs.Slots.{thunk_in}
 use Rattle.machine_epochs.specs.Joined.{IsJoinedToEpochs}
-use Rattle.machine_epochs.specs.Supplied.{names_slot}
 
 has_first : (y x n : ℕ) (b : Bool) → (b ≡ true → 1 ≤ n) → (y == x || b) ≡ true → 1 ≤ cond (y == x) (1 + n) n
 has_first y x n b rest e = grind (arith, nat_tests)
@@ -41,16 +39,6 @@ has_append (y ∷ xs) ys x = ap (λ b. y == x || b) (has_append xs ys x) ∙ sym
     or_assoc : (a b c : Bool) → ((a || b) || c) ≡ (a || (b || c))
     or_assoc true b c = refl
     or_assoc false b c = refl
-
--- a word names a descriptor where it names its slot number
-pub names_it : (c : Counts) (word d : ℕ) → has (named_by word) d ≡ names_slot c word (slot_of c d)
-names_it c word d = sym (ap (λ b. b && has (named_by word) (slot_of c d - c.nodes)) (le_test c.nodes d) ∙ ap (has (named_by word)) (back c.nodes d))
-  where
-    le_test : (n i : ℕ) → nat_le n (n + i) ≡ true
-    le_test n i = grind (arith, nat_tests)
-
-    back : (n i : ℕ) → n + i - n ≡ i
-    back n i = omega arith
 
 at_free : (r : ℕ) (p : Location) → 1 ≤ in_free r p → p ≡ Free r
 at_free r (Free r') h = ap Free (by_test r' r h)

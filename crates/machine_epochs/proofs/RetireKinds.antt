@@ -92,16 +92,16 @@ module _ (m : Meaning) (l : Layout) (w : EpochState) (s : Sight) (old : IsJoined
         (put s.word Epoch (s.word Epoch)) loaded _
         (record {
           holds = λ t h. h;
+          alone = λ d h. h;
           entered = λ h. h;
           live = λ i h. h;
           thunk = λ i j. refl;
           stored = λ i j h. descriptor_same (put s.word Epoch (s.word Epoch)) s.word (but_load s.word Epoch) i j;
           on_run = record { descriptor = refl; opened = refl };
           made = λ t e. (old.tied r).run_made q t at e;
-          moved = record { stage = refl; published = refl; descriptors = refl; walk = refl };
+          moved = record { stage = refl; published = refl; descriptors = refl; guards = refl; walk = refl };
           here = refl;
           retire = upd_here w.retire r (retiring w.epoch) ∙ (ap retiring old.entries.epoch ∙ sym (ap (retire_before loaded) next_here));
-          named = (old.tied r).named;
         })
         (record {
           epoch = refl;
@@ -116,6 +116,7 @@ module _ (m : Meaning) (l : Layout) (w : EpochState) (s : Sight) (old : IsJoined
         })
         (λ i ne. record {
           holds = λ t h. h;
+          alone = λ d h. h;
           words = λ j j' h. refl;
           hand = λ t h. h;
           retire = other_retire w.retire r i (retiring w.epoch) ne;
@@ -186,17 +187,17 @@ module _ (m : Meaning) (l : Layout) (w : EpochState) (s : Sight) (old : IsJoined
         run_goes m l w s old r q at is_open (events.RetireCommit r ∷ []) (is_loaded, tt) f agreed _
         (subst (λ (x : Retiring). KeepsRun m l w s old r q at is_open (committed x) f agreed (record own { records = records })) (sym is_now) (record {
           holds = λ t h. h;
+          alone = λ d h. h;
           entered = λ h. h;
           live = λ i h. descriptor_place i ∙ h;
           thunk = λ i j. refl;
           stored = λ i j has_it. log_elsewhere s.word d k _ i j (apart m l w s old r r d i held few has_it);
           on_run = record { descriptor = refl; opened = refl };
           made = λ t e. keeps_hand (w.log d k == 0) refl r t ((old.tied r).run_made q t at e);
-          moved = record { stage = refl; published = refl; descriptors = refl; walk = refl };
+          moved = record { stage = refl; published = refl; descriptors = refl; guards = refl; walk = refl };
           here = refl;
           retire = upd_here w.retire r no_retire
               ∙ sym (goes_on_unretired m l q (micros.RetireCommit slot k) here (λ s' k' e. let x = e in cc) agreed refl (q.trail ++ written_once found (slot + 1) ∷ []) refl);
-          named = (old.tied r).named;
         }))
         (subst (λ (x : Retiring). KeepsRest m l w s old r q at is_open (committed x) f) (sym is_now) (record {
           epoch = refl;
@@ -211,6 +212,7 @@ module _ (m : Meaning) (l : Layout) (w : EpochState) (s : Sight) (old : IsJoined
         }))
         (λ i ne. subst (λ (x : Retiring). IsElsewhere m l w (committed x) s.word f i (s.part i)) (sym is_now) (record {
           holds = λ t h. h;
+          alone = λ d h. h;
           words = λ j j' h. refl;
           hand = λ t h. keeps_hand (w.log d k == 0) refl i t h;
           retire = other_retire w.retire r i no_retire ne;

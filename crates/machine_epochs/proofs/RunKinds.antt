@@ -15,10 +15,10 @@ use Rattle.machine_states.specs.table_words.specs.Seen.{upd, put}
 use Rattle.machine_states.specs.structure_laws.specs.Meaning.{Meaning}
 use Rattle.machine_states.specs.runner_parts.specs.declared.event.EventKind.{EventKind}
 use Rattle.machine_states.specs.runner_parts.specs.declared.event.EventKind.TheVariants as kinds
-use Rattle.machine_states.specs.runner_parts.specs.State.{RunState, PartState, DescriptorsState, ReadsState, RecordsState}
+use Rattle.machine_states.specs.runner_parts.specs.State.{RunState, PartState, DescriptorsState, GuardsState, ReadsState, RecordsState}
 use Rattle.machine_states.specs.runner_steps.specs.Sections.{thunk_of, is_open_run, line_of, next_of, setting_of}
 use Rattle.machine_states.specs.runner_steps.specs.InRun.{load_cell_ask, exchange_cell_ask, nested_load_ask, nested_hold_ask, outcome_load_ask, clock_load_ask, stamp_exchange_ask, clock_raise_ask, reply_exchange_ask, stamp_after}
-use Rattle.machine_states.specs.runner_steps.specs.Outside.{descriptor_spot}
+use Rattle.machine_states.specs.runner_steps.specs.Outside.{descriptor_spot, is_sure_of}
 use Rattle.machine_states.specs.runner_parts.specs.Tests.{has, last_stored}
 use Rattle.machine_states.specs.runner_parts.specs.Lists.{cell_read, learned}
 use Rattle.machine_states.specs.runner_steps.specs.AfterInRun as runs
@@ -59,6 +59,7 @@ pub record IsMoved (p' p : PartState) : Type 0 where
   pub stage : p'.stage ≡ p.stage
   pub published : p'.published ≡ p.published
   pub descriptors : p'.descriptors ≡ p.descriptors
+  pub guards : p'.guards ≡ p.guards
   pub walk : p'.reads.walk ≡ p.reads.walk
 
 -- the run goes on in the same section
@@ -79,6 +80,7 @@ module _ (m : Meaning) (l : Layout) (w : EpochState) (s : Sight) (old : IsJoined
   -- why what is tied to the part of a run stays where the run goes on
   pub record KeepsRun (w' : EpochState) (f : Spot → ℕ) (q' : RunState) (p' : PartState) : Type 0 where
     pub holds : (t : ℕ) → w.holds r t ≡ true → w'.holds r t ≡ true
+    pub alone : (d : ℕ) → w'.holds r (slot_of (counts_of m l) d) ≡ true → w.holds r (slot_of (counts_of m l) d) ≡ true
     pub entered : is_entered (w'.stage r) ≡ true → is_entered (w.stage r) ≡ true
     pub live : (d : ℕ) → w.location (slot_of (counts_of m l) d) ≡ Live → w'.location (slot_of (counts_of m l) d) ≡ Live
     pub thunk : (d j : ℕ) → f (ThunkWord d j) ≡ s.word (ThunkWord d j)
@@ -88,7 +90,6 @@ module _ (m : Meaning) (l : Layout) (w : EpochState) (s : Sight) (old : IsJoined
     pub moved : IsMoved p' p
     pub here : p'.run ≡ Some q'
     pub retire : w'.retire r ≡ retiring_of m (Some q')
-    pub named : (d : ℕ) → is_entered (w'.stage r) ≡ true → has p'.reads.held d ≡ true → w'.holds r (slot_of (counts_of m l) d) ≡ true
 
   pub run_tied : (w' : EpochState) (f : Spot → ℕ) (q' : RunState) (p' : PartState) → KeepsRun w' f q' p' → IsTied m l w' f r p'
   run_tied w' f q' p' k =
@@ -106,7 +107,13 @@ module _ (m : Meaning) (l : Layout) (w : EpochState) (s : Sight) (old : IsJoined
         run_made = λ q2 u e is_made. k.made u (ap (λ (a : RunState). a.made) (sym (is q2 e)) ∙ is_made);
         retire = k.retire ∙ ap (retiring_of m) (sym k.here);
         published = λ x e. k.live x.descriptor (t.published x (sym k.moved.published ∙ e));
-        named = k.named;
+        run_sure = λ q2 e.
+            let descriptor : q2.descriptor ≡ q.descriptor = ap (λ (a : RunState). a.descriptor) (is q2 e) ∙ k.on_run.descriptor in
+            (λ i. is_sure_of (k.moved.guards i) (descriptor i)) ∙ t.run_sure q at;
+        published_sure = λ x e. ap (λ (g : GuardsState). is_sure_of g x.descriptor) k.moved.guards ∙ t.published_sure x (sym k.moved.published ∙ e);
+        sure = λ d e. k.holds _ (t.sure d (ap (λ (g : GuardsState). is_sure_of g d) (sym k.moved.guards) ∙ e));
+        numbered = λ d e. t.numbered d (ap (λ (g : GuardsState). g.named) (sym k.moved.guards) ∙ e);
+        sure_alone = λ d h. ap (λ (g : GuardsState). is_sure_of g d) k.moved.guards ∙ t.sure_alone d (k.alone d h);
         reached = λ u isin node there. k.holds u (t.reached u (k.entered isin) node (ap (λ (xs : List (ℕ × ℕ)). m.reaches xs u) (sym k.moved.walk) ∙ there));
         stored_free = λ d j n last. ap (λ (xs : DescriptorsState). has xs.free d) k.moved.descriptors ∙ t.stored_free d j n (ap (λ (xs : DescriptorsState). last_stored xs.stored d j None) (sym k.moved.descriptors) ∙ last);
         stored = λ d j n free last.
@@ -157,11 +164,12 @@ module _ (m : Meaning) (l : Layout) (w : EpochState) (s : Sight) (old : IsJoined
 
     -- a step of the run that is no event of the component
     pub goes_on : (f : Spot → ℕ) → IsSameBut f s.word → (q' : RunState) → IsOn q' q → q'.made ≡ q.made → (trail : List ℕ)
-        → q'.at ≡ settled (setting_of l q.descriptor) trail (line_of m q) (q.at + 1) → (p' : PartState) → IsMoved p' p → p'.nodes ≡ p.nodes → p'.reads.held ≡ p.reads.held → p'.run ≡ Some q' → StaysAt m l w (next m l w s old r f p')
-    goes_on f same q' on' made trail rests p' moved nodes held here' =
+        → q'.at ≡ settled (setting_of l q.descriptor) trail (line_of m q) (q.at + 1) → (p' : PartState) → IsMoved p' p → p'.nodes ≡ p.nodes → p'.run ≡ Some q' → StaysAt m l w (next m l w s old r f p')
+    goes_on f same q' on' made trail rests p' moved nodes here' =
         stays m l w s old r f p' same moved.stage (moved_lists p' p moved nodes) (as_published m l w s old r p' moved.published)
         (run_tied w f q' p' (record {
           holds = λ t h. h;
+          alone = λ d h. h;
           entered = λ h. h;
           live = λ d h. h;
           thunk = same.thunk;
@@ -171,14 +179,13 @@ module _ (m : Meaning) (l : Layout) (w : EpochState) (s : Sight) (old : IsJoined
           moved = moved;
           here = here';
           retire = still q' on' trail rests;
-          named = λ d isin named. (old.tied r).named d isin (ap (λ (xs : List ℕ). has xs d) (sym held) ∙ named);
         }))
 
     -- a step that leaves the run with a number to go by, and the runner with these cells read
-    pub steps : (f : Spot → ℕ) → IsSameBut f s.word → (word : ℕ) (reads : ReadsState) (records : RecordsState) → reads.held ≡ p.reads.held → reads.walk ≡ p.reads.walk
+    pub steps : (f : Spot → ℕ) → IsSameBut f s.word → (word : ℕ) (reads : ReadsState) (records : RecordsState) → reads.walk ≡ p.reads.walk
         → StaysAt m l w (next m l w s old r f (record p { run = Some (runs.goes_on m l q word); reads = reads; records = records }))
-    steps f same word reads records held walk = goes_on f same (runs.goes_on m l q word) (record { descriptor = refl; opened = refl }) refl q.trail refl _
-        (record { stage = refl; published = refl; descriptors = refl; walk = walk }) refl held refl
+    steps f same word reads records walk = goes_on f same (runs.goes_on m l q word) (record { descriptor = refl; opened = refl }) refl q.trail refl _
+        (record { stage = refl; published = refl; descriptors = refl; guards = refl; walk = walk }) refl refl
 
   -- the part where the stamp was made, which found this word
   abbrev stamped : ℕ → PartState
@@ -198,43 +205,43 @@ module _ (m : Meaning) (l : Layout) (w : EpochState) (s : Sight) (old : IsJoined
     pub load_cell : load_cell_ask q micro ≡ Some x → Leads (kinds.LoadCell None) records micro x
     load_cell e = let h = asked.load_cell_asked q x micro e in
         for_step (kinds.LoadCell None) records micro x (micros.LoadCell h.place h.step.0) (Cell h.place, h.access) h.step.1 h.is
-        (steps _ (ahead ∙ h.step.1) refl refl _ (but_cell s.word h.place _) _ (cell_read p.reads h.place _) records refl refl)
+        (steps _ (ahead ∙ h.step.1) refl refl _ (but_cell s.word h.place _) _ (cell_read p.reads h.place _) records refl)
 
     pub exchange_cell : exchange_cell_ask l q micro ≡ Some x → Leads kinds.ExchangeCell records micro x
     exchange_cell e = let h = asked.exchange_cell_asked q x l micro e in
         for_step kinds.ExchangeCell records micro x (micros.ExchangeCell h.place h.step.0 h.step.1) (Cell h.place, h.access) h.step.2 h.is
-        (steps _ (ahead ∙ h.step.2) refl refl _ (but_cell s.word h.place _) _ (cell_read p.reads h.place _) records refl refl)
+        (steps _ (ahead ∙ h.step.2) refl refl _ (but_cell s.word h.place _) _ (cell_read p.reads h.place _) records refl)
 
     pub nested_load : nested_load_ask q micro ≡ Some x → Leads kinds.NestedLoad records micro x
     nested_load e = let h = asked.nested_load_asked q x micro e in
         for_step kinds.NestedLoad records micro x (micros.NestedLoad h.place h.step.0) (Cell h.place, h.access) h.step.1 h.is
-        (steps _ (ahead ∙ h.step.1) refl refl _ (but_cell s.word h.place _) _ (cell_read p.reads h.place _) records refl refl)
+        (steps _ (ahead ∙ h.step.1) refl refl _ (but_cell s.word h.place _) _ (cell_read p.reads h.place _) records refl)
 
     pub nested_hold : nested_hold_ask l q micro ≡ Some x → Leads kinds.NestedHold records micro x
     nested_hold e = let h = asked.nested_hold_asked q x l micro e in
         for_step kinds.NestedHold records micro x (micros.NestedHold h.place h.step.0) (Cell h.place, h.access) h.step.1 h.is
-        (steps _ (ahead ∙ h.step.1) refl refl _ (but_cell s.word h.place _) _ (cell_read p.reads h.place _) records refl refl)
+        (steps _ (ahead ∙ h.step.1) refl refl _ (but_cell s.word h.place _) _ (cell_read p.reads h.place _) records refl)
 
     pub outcome_load : outcome_load_ask q micro ≡ Some x → Leads kinds.OutcomeLoad records micro x
     outcome_load e = let h = asked.outcome_load_asked q x micro e in
         for_step kinds.OutcomeLoad records micro x (micros.OutcomeLoad h.place h.step.0) (Cell h.place, h.access) h.step.1 h.is
-        (steps _ (ahead ∙ h.step.1) refl refl _ (but_cell s.word h.place _) _ (cell_read p.reads h.place _) records refl refl)
+        (steps _ (ahead ∙ h.step.1) refl refl _ (but_cell s.word h.place _) _ (cell_read p.reads h.place _) records refl)
 
     pub clock_load : clock_load_ask q micro ≡ Some x → Leads kinds.ClockLoad records micro x
     clock_load e = let h = asked.clock_load_asked q x micro e in
-        for_step kinds.ClockLoad records micro x micros.ClockLoad (Clock, Loads) h.0 h.1 (steps _ (ahead ∙ h.0) refl refl _ (but_clock s.word _) _ p.reads records refl refl)
+        for_step kinds.ClockLoad records micro x micros.ClockLoad (Clock, Loads) h.0 h.1 (steps _ (ahead ∙ h.0) refl refl _ (but_clock s.word _) _ p.reads records refl)
 
     pub clock_raise : clock_raise_ask q micro ≡ Some x → Leads kinds.ClockRaise records micro x
     clock_raise e = let h = asked.clock_raise_asked q x micro e in
-        for_step kinds.ClockRaise records micro x micros.ClockRaise (Clock, h.1) h.0 h.2 (steps _ (ahead ∙ h.0) refl refl _ (but_clock s.word _) _ p.reads records refl refl)
+        for_step kinds.ClockRaise records micro x micros.ClockRaise (Clock, h.1) h.0 h.2 (steps _ (ahead ∙ h.0) refl refl _ (but_clock s.word _) _ p.reads records refl)
 
     pub reply_exchange : reply_exchange_ask q micro ≡ Some x → Leads kinds.ReplyExchange records micro x
     reply_exchange e = let h = asked.reply_exchange_asked q x micro e in
-        for_step kinds.ReplyExchange records micro x (micros.ReplyExchange h.0) (Reply (thunk_of q.opened).request, h.2) h.1 h.3 (steps _ (ahead ∙ h.1) refl refl _ (but_reply s.word _ _) _ p.reads records refl refl)
+        for_step kinds.ReplyExchange records micro x (micros.ReplyExchange h.0) (Reply (thunk_of q.opened).request, h.2) h.1 h.3 (steps _ (ahead ∙ h.1) refl refl _ (but_reply s.word _ _) _ p.reads records refl)
 
     pub stamp_exchange : stamp_exchange_ask q micro ≡ Some x → Leads kinds.StampExchange records micro x
     stamp_exchange e = let h = asked.stamp_exchange_asked q x micro e in
         let spot = Stamp (thunk_of q.opened).request in
         for_step kinds.StampExchange records micro x micros.StampExchange (spot, h.2) h.0 h.3
         (subst (λ b. StaysAt m l w (next m l w s old r (put s.word spot (written h.2 (s.word spot))) (record (cond b (stamped (s.word spot)) p) { records = records }))) (sym h.1)
-        (steps _ (ahead ∙ h.0) refl refl _ (but_stamp s.word _ _) _ p.reads records refl refl))
+        (steps _ (ahead ∙ h.0) refl refl _ (but_stamp s.word _ _) _ p.reads records refl))

@@ -1,7 +1,7 @@
--- The publication of a section, and the retirement of its descriptor.
+-- The publication of a section.
 use Rattle.std.specs.Prelude.{◌==◌, ◌&&◌, ◌||◌, not, cond, ◌^◌, ◌%◌, Bool, true, false, nat_lt, replicate, slice_index}
 use Rattle.std.specs.List.{filter}
-use Rattle.std.proofs.Common.{◌≡◌, ◌≢◌, ℕ, zero, suc, ◌+◌, ◌-◌, ◌<◌, ◌≤◌, List, [], ◌∷◌, ◌++◌, length, map, refl, sym, ap, ◌∙◌, subst, arith, ◌⊎◌, ⊎_elim, inl, inr, Option, Some, None}
+use Rattle.std.proofs.Common.{◌≡◌, ◌≢◌, ℕ, zero, suc, ◌+◌, ◌-◌, ◌<◌, ◌≤◌, List, [], ◌∷◌, length, refl, sym, ap, ◌∙◌, subst, arith, ◌⊎◌, ⊎_elim, inl, inr, Option, Some, None}
 use Rattle.std.proofs.lemmas.Bool.{cases_eq}
 use Rattle.std.proofs.lemmas.List.{length-replicate}
 use Rattle.std.proofs.lemmas.Bool.Decides.{nat_tests}
@@ -11,7 +11,7 @@ use Rattle.machine_states.specs.body_terms.specs.declared.thunk.Thunk.{Thunk}
 use Rattle.machine_states.specs.body_terms.specs.Word.{held_word}
 use Rattle.machine_states.specs.table_words.specs.declared.layout.Layout.{Layout}
 use Rattle.machine_states.specs.table_words.specs.declared.spot.Spot.{Spot}
-use Rattle.machine_states.specs.table_words.specs.declared.spot.Spot.TheVariants.{Epoch, Cell, ThunkWord, LogWord}
+use Rattle.machine_states.specs.table_words.specs.declared.spot.Spot.TheVariants.{Cell, ThunkWord, LogWord}
 use Rattle.machine_states.specs.table_words.specs.declared.access.Access.{Access}
 use Rattle.machine_states.specs.table_words.specs.declared.access.Access.TheVariants.{Exchanges}
 use Rattle.machine_states.specs.table_words.specs.Access.{written}
@@ -23,33 +23,30 @@ use Rattle.machine_states.specs.runner_parts.specs.declared.entries.Published.{P
 use Rattle.machine_states.specs.runner_parts.specs.declared.entries.Stored.{Stored}
 use Rattle.machine_states.specs.runner_parts.specs.State.{PartState, RecordsState}
 use Rattle.machine_states.specs.runner_parts.specs.Tests.{has, last_stored, is_some_of, are_stored, thunk_words, is_prepared}
-use Rattle.machine_states.specs.runner_steps.specs.Outside.{descriptor_spot, hold_ask, retire_ask}
+use Rattle.machine_states.specs.runner_steps.specs.Outside.{descriptor_spot, hold_ask, is_sure_of}
 use Rattle.machine_states.specs.runner_steps.specs.Sections.{thunk_of}
 use Rattle.machine_states.specs.runner_parts.specs.Lists as lists
 use Rattle.machine_states.specs.runner_steps.specs.AfterOutside as outside
 use Rattle.machine_states.specs.epoch_core.specs.declared.location.Location.{Location}
-use Rattle.machine_states.specs.epoch_core.specs.declared.location.Location.TheVariants.{Live, Hand, Free, Limbo}
+use Rattle.machine_states.specs.epoch_core.specs.declared.location.Location.TheVariants.{Live, Hand, Free}
 use Rattle.machine_states.specs.epoch_core.specs.Update.{upd2, upd_row}
-use Rattle.machine_states.specs.epoch_core.specs.State.{EpochState, Role, MayHold, is_entered}
+use Rattle.machine_states.specs.epoch_core.specs.State.{EpochState, Role, is_entered}
 use Rattle.machine_states.specs.epoch_core.specs.Events as events
 use Rattle.machine_states.specs.epoch_core.specs.Events.{slot_of}
 use Rattle.machine_states.specs.epoch_core.specs.History.{is_out}
-use Rattle.machine_states.specs.epoch_core.specs.Lists.{Entry, Lists}
 use Rattle.machine_states.specs.Sight.{Sight}
 use Rattle.machine_states.proofs.Steps.{some_same}
 use Rattle.machine_states.proofs.Updates.{map_upd}
 use Rattle.machine_epochs.specs.Entries.{counts_of}
 use Rattle.machine_epochs.specs.Roles.{role_at}
-use Rattle.machine_epochs.specs.Slots.{entry_of, lists_of, thunk_in}
+use Rattle.machine_epochs.specs.Slots.{lists_of, thunk_in}
 use Rattle.machine_epochs.specs.Joined.{IsJoinedToEpochs}
 use Rattle.machine_epochs.specs.Chunks.{roles_of, IsOutsideChunk}
-use Rattle.machine_epochs.specs.Supplied.{names_slot, comes_outside}
 use Rattle.machine_epochs.proofs.OutsideAsked as asked
-use Rattle.machine_epochs.proofs.Places.{has_append, names_it, free_descriptor}
-use Rattle.machine_epochs.proofs.Joining.{but_cell, but_load, descriptor_same, Goes, GoesBy, next, once, stages_stay, goes_with}
-use Rattle.machine_epochs.proofs.SlotKinds.{other_place, this_place, kept_place, live_hand}
-use Rattle.machine_epochs.proofs.RetireKinds.{map_more}
-use Rattle.machine_epochs.proofs.OutsideKinds.{Leads, reads}
+use Rattle.machine_epochs.proofs.Places.{free_descriptor}
+use Rattle.machine_epochs.proofs.Joining.{but_cell, descriptor_same, Goes, GoesBy, StaysAt, next, as_published, stages_stay, stays, goes_with}
+use Rattle.machine_epochs.proofs.SlotKinds.{other_place, this_place, kept_place, slot_apart}
+use Rattle.machine_epochs.proofs.OutsideKinds.{Leads, tied_by}
 use Rattle.machine_states.specs.runner_steps.specs.AfterOutside.{published_by}
 
 -- each of these words was stored last at its place
@@ -115,6 +112,12 @@ pair_more holds r u i t h = grind (arith, nat_tests)
 pair_here : (holds : ℕ → ℕ → Bool) (r u t : ℕ) → t ≡ u → upd2 holds r u true r t ≡ true
 pair_here holds r u t e = grind (arith, nat_tests)
 
+pair_other : (holds : ℕ → ℕ → Bool) (r u i t : ℕ) → t ≢ u → upd2 holds r u true i t ≡ true → holds i t ≡ true
+pair_other holds r u i t ne h = grind (arith, nat_tests)
+
+pair_else : (holds : ℕ → ℕ → Bool) (r u i t : ℕ) → i ≢ r → upd2 holds r u true i t ≡ true → holds i t ≡ true
+pair_else holds r u i t ne h = grind (arith, nat_tests)
+
 live_more : (f : ℕ → Location) (t i : ℕ) → f i ≡ Live → upd f t Live i ≡ Live
 live_more f t i e = grind (arith, nat_tests)
 
@@ -129,9 +132,6 @@ free_live r e = let x = e in cc
 
 free_not_hand : (r i : ℕ) → Free r ≡ Hand i → ⊥
 free_not_hand r i e = let x = e in cc
-
-slot_apart : (n d d' : ℕ) → d' ≢ d → n + d' ≢ n + d
-slot_apart n d d' ne e = ne (omega arith)
 
 pub log_spot : (d k : ℕ) → descriptor_spot d (13 + k) ≡ LogWord d k
 log_spot d k = rw (far k, near k, back k) refl
@@ -211,12 +211,12 @@ module _ (m : Meaning) (l : Layout) (w : EpochState) (s : Sight) (old : IsJoined
   here = slot_of (counts_of m l) d
 
   -- the section is published
-  module _ (few : d < (counts_of m l).descriptors) (free : has (s.part r).descriptors.free d ≡ true) (prepared : is_prepared (s.part r).descriptors.stored d t ≡ true) (unpublished : (s.part r).published ≡ None) where
+  module _ (few : d < (counts_of m l).descriptors) (free : has (s.part r).descriptors.free d ≡ true) (prepared : is_prepared (s.part r).descriptors.stored d t ≡ true) (unpublished : (s.part r).published ≡ None) (named : (s.part r).guards.named ≡ Some d) where
     abbrev mine : Published
     mine = published_by t d p
 
     abbrev holding : PartState
-    holding = record p { published = Some mine; descriptors = lists.descriptor_taken p.descriptors d; reads = lists.section_published (lists.cell_read p.reads t.lock found) d; records = records }
+    holding = record p { published = Some mine; descriptors = lists.descriptor_taken p.descriptors d; guards = lists.published_seen p.guards d; reads = lists.cell_read p.reads t.lock found; records = records }
 
     abbrev roles : ℕ → Role
     roles = roles_of m (thunk_words t)
@@ -240,14 +240,21 @@ module _ (m : Meaning) (l : Layout) (w : EpochState) (s : Sight) (old : IsJoined
         order : (a b : ℕ) → (a < b) ⊎ (b ≤ a)
         order a b = search arith
 
-    named_by_it : (d' : ℕ) → has (p.reads.held ++ d ∷ []) d' ≡ true → upd2 w.holds r here true r (slot_of (counts_of m l) d') ≡ true
-    named_by_it d' e = ⊎_elim
-        (λ same. pair_here w.holds r here (slot_of (counts_of m l) d') (ap (slot_of (counts_of m l)) same))
-        (λ other. pair_more w.holds r here r (slot_of (counts_of m l) d') ((old.tied r).named d' entered (before d d' (has p.reads.held d') other (sym (has_append p.reads.held (d ∷ []) d') ∙ e))))
-        (cases_eq d' d)
+    -- the guard word names it, and so no other one is sure
+    named_one : (d' : ℕ) (sure : Bool) → (sure && is_some_of p.guards.named d') ≡ true → d' ≡ d
+    named_one d' sure e = sym (same_word d d' (ap (λ (o : Option ℕ). is_some_of o d') (sym named) ∙ second sure _ e))
+
+    sure_now : is_sure_of (lists.published_seen p.guards d) d ≡ true
+    sure_now = ap (λ (o : Option ℕ). (p.guards.sure || is_some_of o d) && is_some_of o d) named ∙ yes p.guards.sure d
       where
-        before : (d d' : ℕ) (b : Bool) → d' ≢ d → (b || (d == d' || false)) ≡ true → b ≡ true
-        before d d' b ne e = grind (arith, nat_tests)
+        yes : (b : Bool) (d : ℕ) → ((b || d == d) && d == d) ≡ true
+        yes b d = grind (arith, nat_tests)
+
+    sure_alone_now : (d' : ℕ) → upd2 w.holds r here true r (slot_of (counts_of m l) d') ≡ true → is_sure_of (lists.published_seen p.guards d) d' ≡ true
+    sure_alone_now d' h = ⊎_elim
+        (λ same. ap (is_sure_of (lists.published_seen p.guards d)) same ∙ sure_now)
+        (λ other. absurd (other (named_one d' p.guards.sure ((old.tied r).sure_alone d' (pair_other w.holds r here r (slot_of (counts_of m l) d') (slot_apart (counts_of m l).nodes d d' other) h)))))
+        (cases_eq d' d)
 
     taken : (d' j n : ℕ) → last_stored (filter (λ x. not (x.descriptor == d)) p.descriptors.stored) d' j None ≡ Some n → (d' ≢ d) × (last_stored p.descriptors.stored d' j None ≡ Some n)
     taken d' j n e = let ne : d' ≢ d = apart in (ne, sym (last_kept p.descriptors.stored d d' j None ne) ∙ e)
@@ -295,7 +302,11 @@ module _ (m : Meaning) (l : Layout) (w : EpochState) (s : Sight) (old : IsJoined
           run_made = λ q u e made. absurd (let y = sym none ∙ e in cc);
           retire = (old.tied r).retire;
           published = λ x e. this_place w.location here (slot_of (counts_of m l) x.descriptor) Live (ap (λ (y : Published). slot_of (counts_of m l) y.descriptor) (sym (some_same mine x e)));
-          named = λ d' isin is_named. named_by_it d' is_named;
+          run_sure = λ q e. absurd (let y = sym none ∙ e in cc);
+          published_sure = λ x e. ap (λ (y : Published). is_sure_of (lists.published_seen p.guards d) y.descriptor) (sym (some_same mine x e)) ∙ sure_now;
+          numbered = (old.tied r).numbered;
+          sure = λ d' is. pair_here w.holds r here (slot_of (counts_of m l) d') (ap (slot_of (counts_of m l)) (named_one d' _ is));
+          sure_alone = sure_alone_now;
           reached = λ u isin node is_there. pair_more w.holds r here r u ((old.tied r).reached u entered node is_there);
           stored_free = λ d' j n last. let k = taken d' j n last in has_without p.descriptors.free d d' k.0 ∙ (old.tied r).stored_free d' j n k.1;
           stored = λ d' j n has_it last. let k = taken d' j n last in
@@ -303,6 +314,7 @@ module _ (m : Meaning) (l : Layout) (w : EpochState) (s : Sight) (old : IsJoined
         })
         (λ i ne. record {
           holds = λ u h. pair_more w.holds r here i u h;
+          alone = λ d' h. pair_else w.holds r here i (slot_of (counts_of m l) d') ne h;
           words = λ d' j h. refl;
           hand = λ u h. kept_place w.location here u Live (Free r) (Hand i) at_free (free_not_hand r i) h;
           retire = refl;
@@ -311,120 +323,53 @@ module _ (m : Meaning) (l : Layout) (w : EpochState) (s : Sight) (old : IsJoined
           stored = λ d' j h. descriptor_same f s.word (but_cell s.word t.lock v) d' j;
         })
 
-  -- the lock was held, and the word that was found there may name a descriptor
-  loses : (found == t.word) ≡ false → ((u : ℕ) → comes_outside m (counts_of m l) (kinds.Hold t d) p found u ≡ true → w.holds r u ≡ false → MayHold w r u)
-      → Goes m l (events.Reach r (comes_outside m (counts_of m l) (kinds.Hold t d) p found) ∷ []) w (next m l w s old r f (record p { reads = lists.holds_named (lists.cell_read p.reads t.lock found) found; records = records }))
-  loses lost may =
-      reads m l w s old r none f (but_cell s.word t.lock v) entered (comes_outside m (counts_of m l) (kinds.Hold t d) p found) may
-      (lists.holds_named (lists.cell_read p.reads t.lock found) found) records
-      (λ d' e. sym (has_append p.reads.held (lists.named_by found) d' ∙ ap (λ b. has p.reads.held d' || b) (names_it (counts_of m l) found d' ∙ brought (slot_of (counts_of m l) d'))) ∙ e)
-      (λ u low is_there. ap (λ b. b || comes_outside m (counts_of m l) (kinds.Hold t d) p found u) is_there)
-    where
-      brought : (u : ℕ) → names_slot (counts_of m l) found u ≡ comes_outside m (counts_of m l) (kinds.Hold t d) p found u
-      brought u = ap (λ b. not b && names_slot (counts_of m l) found u) (sym lost)
+  -- the lock was held, and the descriptor stays free
+  loses : StaysAt m l w (next m l w s old r f (record p { reads = lists.cell_read p.reads t.lock found; records = records }))
+  loses =
+      let now : PartState = record p { reads = lists.cell_read p.reads t.lock found; records = records } in
+      let same = but_cell s.word t.lock v in
+      let tied = tied_by m l w s old r none f same in
+      stays m l w s old r f now same refl refl (as_published m l w s old r now refl) (record {
+        run_held = tied.run_held;
+        run_opened = tied.run_opened;
+        run_begins = tied.run_begins;
+        run_made = tied.run_made;
+        retire = tied.retire;
+        published = tied.published;
+        run_sure = tied.run_sure;
+        published_sure = tied.published_sure;
+        numbered = tied.numbered;
+        sure = tied.sure;
+        sure_alone = tied.sure_alone;
+        reached = tied.reached;
+        stored_free = tied.stored_free;
+        stored = tied.stored;
+      })
 
 module _ (m : Meaning) (l : Layout) (w : EpochState) (s : Sight) (old : IsJoinedToEpochs m l w s) (r : ℕ) (none : (s.part r).run ≡ None) (records : RecordsState) (x : Spot × Access) where
   abbrev now : PartState
   now = s.part r
 
-  pub hold : (rs : List Request) (t : Thunk) (d : ℕ) → ((u : ℕ) → comes_outside m (counts_of m l) (kinds.Hold t d) now (s.word x.0) u ≡ true → w.holds r u ≡ false → MayHold w r u)
-      → hold_ask m l rs r t d now ≡ Some x → Leads m l w s old r none (kinds.Hold t d) records x
-  hold rs t d may e =
+  pub hold : (rs : List Request) (t : Thunk) (d : ℕ) → hold_ask m l rs r t d now ≡ Some x → Leads m l w s old r none (kinds.Hold t d) records x
+  hold rs t d e =
       let h = asked.hold_asked m l rs r t d now x e in
-      let spot : Spot × Access = (Cell t.lock, Exchanges t.word (held_word d t.word)) in
-      let there : (u : ℕ) → comes_outside m (counts_of m l) (kinds.Hold t d) now (s.word (Cell t.lock)) u ≡ true → w.holds r u ≡ false → MayHold w r u = subst May (sym h.is) may in
-      subst (Leads m l w s old r none (kinds.Hold t d) records) h.is (by_test h spot (s.word (Cell t.lock) == t.word) refl there)
+      subst (Leads m l w s old r none (kinds.Hold t d) records) h.is (by_test h (s.word (Cell t.lock) == t.word) refl)
     where
-      May : Spot × Access → Type 0
-      May y = (u : ℕ) → comes_outside m (counts_of m l) (kinds.Hold t d) now (s.word y.0) u ≡ true → w.holds r u ≡ false → MayHold w r u
-
       won : ℕ → PartState
       won found = record now {
         published = Some (published_by t d now);
         descriptors = lists.descriptor_taken now.descriptors d;
-        reads = lists.section_published (lists.cell_read now.reads t.lock found) d;
+        guards = lists.published_seen now.guards d;
+        reads = lists.cell_read now.reads t.lock found;
       }
 
       lost : ℕ → PartState
-      lost found = record now { reads = lists.holds_named (lists.cell_read now.reads t.lock found) found }
+      lost found = record now { reads = lists.cell_read now.reads t.lock found }
 
       entered : (g : ℕ) → now.stage ≡ Entered g → is_entered (w.stage r) ≡ true
       entered g e = ap is_entered (old.entries.stage r ∙ e)
 
-      by_test : asked.HoldAsked m l rs t d now x → (y : Spot × Access) (b : Bool) → (s.word (Cell t.lock) == t.word) ≡ b
-          → ((u : ℕ) → comes_outside m (counts_of m l) (kinds.Hold t d) now (s.word (Cell t.lock)) u ≡ true → w.holds r u ≡ false → MayHold w r u)
+      by_test : asked.HoldAsked m l rs t d now x → (b : Bool) → (s.word (Cell t.lock) == t.word) ≡ b
           → GoesBy m l (IsOutsideChunk m l r (kinds.Hold t d) now (s.word (Cell t.lock))) w (next m l w s old r (put s.word (Cell t.lock) (written (Exchanges t.word (held_word d t.word)) (s.word (Cell t.lock)))) (record (cond b (won (s.word (Cell t.lock))) (lost (s.word (Cell t.lock)))) { records = records }))
-      by_test h y true is there = (_, inl (same_word _ _ is, refl), publishes m l w s old r none t d records _ (entered h.entry h.entered) h.few h.free h.prepared h.unpublished)
-      by_test h y false is there = (_, inr (other_word _ _ is, refl), loses m l w s old r none t d records _ (entered h.entry h.entered) is there)
-
-  -- the published section's descriptor goes into limbo
-  module _ (y : Published) (is_published : now.published ≡ Some y) (isin : is_entered (w.stage r) ≡ true) where
-    abbrev words : Spot → ℕ
-    words = put s.word Epoch (s.word Epoch)
-
-    abbrev retired : PartState
-    retired = record now { published = None; descriptors = lists.descriptor_retired now.descriptors y.descriptor (s.word Epoch); records = records }
-
-    abbrev place : Location
-    place = Limbo r w.epoch
-
-    abbrev slot : ℕ
-    slot = slot_of (counts_of m l) y.descriptor
-
-    at_live : w.location slot ≡ Live
-    at_live = (old.tied r).published y is_published
-
-    own_lists : record (lists_of now) { limbo_descriptors = map entry_of now.descriptors.limbo ++ record { slot = y.descriptor; epoch = w.epoch } ∷ [] } ≡ lists_of retired
-    own_lists = ap (λ n. record (lists_of now) { limbo_descriptors = map entry_of now.descriptors.limbo ++ record { slot = y.descriptor; epoch = n } ∷ [] }) old.entries.epoch
-        ∙ ap (λ (xs : List Entry). record (lists_of now) { limbo_descriptors = xs }) (sym (map_more now.descriptors.limbo (record { slot = y.descriptor; epoch = s.word Epoch })))
-
-    -- no other runner has published it
-    others_live : (i : ℕ) → i ≢ r → (z : Published) → (s.part i).published ≡ Some z → w.location (slot_of (counts_of m l) z.descriptor) ≡ Live → upd w.location slot place (slot_of (counts_of m l) z.descriptor) ≡ Live
-    others_live i ne z e live = other_place w.location slot (slot_of (counts_of m l) z.descriptor) place (slot_apart (counts_of m l).nodes y.descriptor z.descriptor (λ same. ne (old.published_once i r z y e is_published same))) ∙ live
-
-    out_before : (t : ℕ) → is_out (upd w.location slot place t) ≡ true → is_out (w.location t) ≡ true
-    out_before t out = ⊎_elim
-        (λ same. ap is_out (ap w.location same ∙ at_live))
-        (λ other. ap is_out (sym (other_place w.location slot t place other)) ∙ out)
-        (cases_eq t slot)
-
-    retires : Goes m l (events.RetireDescriptor r y.descriptor ∷ []) w (next m l w s old r words retired)
-    retires =
-        let same = but_load s.word Epoch in
-        goes_with m l w s old r (events.RetireDescriptor r y.descriptor ∷ []) ((isin, at_live), tt) words retired
-        (ap (λ (a : Lists). upd (λ i. lists_of (s.part i)) r a) own_lists ∙ sym (map_upd lists_of s.part r retired))
-        (record { epoch = old.entries.epoch; announced = old.entries.announced; stage = stages_stay m l w s old r words retired refl })
-        old.log old.past
-        (λ d' k out. old.roles d' k (out_before (slot_of (counts_of m l) d') out))
-        (once m l w s old r retired (λ z e. absurd (let a = e in cc)))
-        (record {
-          run_held = λ q e. absurd (let a = sym none ∙ e in cc);
-          run_opened = λ q j e low low'. absurd (let a = sym none ∙ e in cc);
-          run_begins = λ q e low. absurd (let a = sym none ∙ e in cc);
-          run_made = λ q u e made. absurd (let a = sym none ∙ e in cc);
-          retire = (old.tied r).retire;
-          published = λ z e. absurd (let a = e in cc);
-          named = (old.tied r).named;
-          reached = (old.tied r).reached;
-          stored_free = (old.tied r).stored_free;
-          stored = λ d' j n free last. descriptor_same words s.word same d' j ∙ (old.tied r).stored d' j n free last;
-        })
-        (λ i ne. record {
-          holds = λ u h. h;
-          words = λ d' j h. same.thunk d' j;
-          hand = λ u h. kept_place w.location slot u place Live (Hand i) at_live (live_hand i) h;
-          retire = refl;
-          live = λ z e h. others_live i ne z e h;
-          entered = λ h. h;
-          stored = λ d' j h. descriptor_same words s.word same d' j;
-        })
-
-  pub retire_descriptor : retire_ask now ≡ Some x → Leads m l w s old r none kinds.EpochForRetire records x
-  retire_descriptor e =
-      let h = asked.retire_asked now x e in
-      subst (Leads m l w s old r none kinds.EpochForRetire records) h.4 (
-        _,
-        (h.1, h.3, refl),
-        subst (λ (o : Option Published). Goes m l (events.RetireDescriptor r h.1.descriptor ∷ []) w (next m l w s old r (put s.word Epoch (s.word Epoch)) (record (outside.retire_after now o (s.word Epoch)) { records = records }))) (sym h.3)
-            (retires h.1 h.3 (ap is_entered (old.entries.stage r ∙ h.2))),
-      )
+      by_test h true is = (_, inl (same_word _ _ is, refl), publishes m l w s old r none t d records _ (entered h.entry h.entered) h.few h.free h.prepared h.unpublished h.named)
+      by_test h false is = let stay = loses m l w s old r none t d records _ (entered h.entry h.entered) in (stay.0, inr (other_word _ _ is, stay.1), stay.2)

@@ -66,6 +66,9 @@ free_hand r i e = let x = e in cc
 pub hand_hand : (r i : ℕ) → i ≢ r → Hand r ≡ Hand i → ⊥
 hand_hand r i ne e = let same : r ≡ i = cc in ne (sym same)
 
+pub slot_apart : (n d d' : ℕ) → d' ≢ d → n + d' ≢ n + d
+slot_apart n d d' ne e = ne (omega arith)
+
 pub live_hand : (i : ℕ) → Live ≡ Hand i → ⊥
 live_hand i e = let x = e in cc
 
@@ -143,16 +146,16 @@ module _ (m : Meaning) (l : Layout) (w : EpochState) (s : Sight) (old : IsJoined
         run_goes m l w s old r q at is_open (events.MakeCommit r q.descriptor k slot q.worn ∷ []) ((held, role, in_hand), tt) f agreed _
         (record {
           holds = λ t h. h;
+          alone = λ d h. h;
           entered = λ h. h;
           live = λ d h. descriptor_place slot place d node ∙ h;
           thunk = λ d j. refl;
           stored = λ d j has_it. log_elsewhere s.word q.descriptor k _ d j (apart m l w s old r r q.descriptor d held few has_it);
           on_run = record { descriptor = refl; opened = refl };
           made = λ t e. absurd (let x = e in cc);
-          moved = record { stage = refl; published = refl; descriptors = refl; walk = refl };
+          moved = record { stage = refl; published = refl; descriptors = refl; guards = refl; walk = refl };
           here = refl;
           retire = still m l w s old r q at is_open micro ahead inner other agreed (record { descriptor = refl; opened = refl }) (q.trail ++ written_once found (slot + 1) ∷ []) refl;
-          named = (old.tied r).named;
         })
         (record {
           epoch = refl;
@@ -167,6 +170,7 @@ module _ (m : Meaning) (l : Layout) (w : EpochState) (s : Sight) (old : IsJoined
         })
         (λ i ne. record {
           holds = λ t h. h;
+          alone = λ d h. h;
           words = λ d j h. refl;
           hand = λ t h. kept_place w.location slot t place (Hand r) (Hand i) in_hand (hand_hand r i ne) h;
           retire = refl;
@@ -190,16 +194,16 @@ module _ (m : Meaning) (l : Layout) (w : EpochState) (s : Sight) (old : IsJoined
         run_goes m l w s old r q at is_open (events.TakeSlot r slot ∷ []) ((free, node), tt) (put s.word (Cell place) v) (runs.goes_on m l taking word) _
         (record {
           holds = λ t h. h;
+          alone = λ d h. h;
           entered = λ h. h;
           live = λ d h. descriptor_place slot (Hand r) d node ∙ h;
           thunk = λ d j. refl;
           stored = λ d j has_it. descriptor_same (put s.word (Cell place) v) s.word (but_cell s.word place v) d j;
           on_run = record { descriptor = refl; opened = refl };
           made = λ t e. this_place w.location slot t (Hand r) (sym (some_slot t e));
-          moved = record { stage = refl; published = refl; descriptors = refl; walk = refl };
+          moved = record { stage = refl; published = refl; descriptors = refl; guards = refl; walk = refl };
           here = refl;
           retire = still m l w s old r q at is_open micro ahead inner other (runs.goes_on m l taking word) (record { descriptor = refl; opened = refl }) q.trail refl;
-          named = (old.tied r).named;
         })
         (record {
           epoch = refl;
@@ -214,6 +218,7 @@ module _ (m : Meaning) (l : Layout) (w : EpochState) (s : Sight) (old : IsJoined
         })
         (λ i ne. record {
           holds = λ t h. h;
+          alone = λ d h. h;
           words = λ d j h. refl;
           hand = λ t h. kept_place w.location slot t (Hand r) (Free r) (Hand i) free (free_hand r i) h;
           retire = refl;
@@ -234,7 +239,7 @@ module _ (m : Meaning) (l : Layout) (w : EpochState) (s : Sight) (old : IsJoined
       fill_by None low is =
           (_, inl (refl, refl), takes slot low (free_node m l w s old r slot low (last_has p.nodes.free slot is)) (micros.PrivateLoad cell log) (ahead ∙ e) refl refl place _ (s.word (Cell place)) records)
       fill_by (Some t) low is =
-          let stay = steps m l w s old r q at is_open (micros.PrivateLoad cell log) (ahead ∙ e) refl refl _ (but_cell s.word place _) (s.word (Cell place)) p.reads records refl refl in
+          let stay = steps m l w s old r q at is_open (micros.PrivateLoad cell log) (ahead ∙ e) refl refl _ (but_cell s.word place _) (s.word (Cell place)) p.reads records refl in
           (stay.0, inr (ap Some (same_slot t slot is), stay.1), stay.2)
 
     pub fill_load : (slot word : ℕ) → fill_load_ask m l slot word p.nodes.free q micro ≡ Some x → Leads m l w s old r q at is_open (kinds.PrivateLoad slot word) records micro x
@@ -249,7 +254,7 @@ module _ (m : Meaning) (l : Layout) (w : EpochState) (s : Sight) (old : IsJoined
         for_step m l w s old r q at is_open (kinds.PrivateStore slot word number) records micro x μ (Cell h.2, Stores number) h.4 h.5
         (goes_on m l w s old r q at is_open μ (ahead ∙ h.4) refl refl (put s.word (Cell h.2) number) (but_cell s.word h.2 number)
         (runs.goes_on m l (record q { worn = q.worn || version_of number == l.version_max }) q.word) (record { descriptor = refl; opened = refl }) refl q.trail refl _
-        (record { stage = refl; published = refl; descriptors = refl; walk = refl }) refl refl refl)
+        (record { stage = refl; published = refl; descriptors = refl; guards = refl; walk = refl }) refl refl)
 
     pub make_commit : (rs : List Request) → Fits (sizes_for m l rs) x.0 → make_commit_ask q micro ≡ Some x → Leads m l w s old r q at is_open kinds.MakeCommit records micro x
     make_commit rs fits e =

@@ -171,13 +171,18 @@ module _ (m : Meaning) (l : Layout) (w : EpochState) (s : Sight) (old : IsJoined
           run_made = λ q t e made. absurd (let y = sym none ∙ e in cc);
           retire = (old.tied r).retire;
           published = (old.tied r).published;
-          named = (old.tied r).named;
+          run_sure = λ q e. absurd (let y = sym none ∙ e in cc);
+          published_sure = (old.tied r).published_sure;
+          numbered = (old.tied r).numbered;
+          sure = (old.tied r).sure;
+          sure_alone = (old.tied r).sure_alone;
           reached = (old.tied r).reached;
           stored_free = λ d' j n last. free_by (d' == d && j == word) d' j n refl (last_is d' j n last);
           stored = λ d' j n has_it last. stored_by (d' == d && j == word) d' j n refl (last_is d' j n last);
         }))
         (λ i ne. subst (λ (v : EpochState). IsElsewhere m l w v s.word f i (s.part i)) (sym is) (record {
           holds = λ t h. h;
+          alone = λ d h. h;
           words = λ d' j h. thunk d' j (unheld i d' h);
           hand = λ t h. h;
           retire = refl;

@@ -1,5 +1,5 @@
 -- Which events of epochs and slots a step of the machine is, by its kind.
-use Rattle.std.specs.Prelude.{ℕ, ◌+◌, ◌-◌, ◌≡◌, ◌≢◌, ◌⊎◌, Bool, true, false, ◌==◌, ◌&&◌, nat_lt, List, [], ◌∷◌, Option, Some, None, if◌then◌else◌}
+use Rattle.std.specs.Prelude.{ℕ, ◌+◌, ◌-◌, ◌≡◌, ◌≢◌, ◌⊎◌, Bool, true, false, ◌==◌, ◌&&◌, nat_lt, List, [], ◌∷◌, ◌++◌, Option, Some, None, if◌then◌else◌}
 use Rattle.machine_states.specs.body_terms.specs.declared.micro.Micro.{Micro}
 use Rattle.machine_states.specs.body_terms.specs.declared.micro.Micro.TheVariants as micros
 use Rattle.machine_states.specs.table_words.specs.declared.layout.Layout.{Layout}
@@ -19,7 +19,11 @@ use Rattle.machine_states.specs.epoch_core.specs.Events.{Event}
 use Rattle.machine_epochs.specs.Entries.{counts_of}
 use Rattle.machine_epochs.specs.Roles.{role_at}
 use Rattle.machine_epochs.specs.ScanEnds.{collects}
-use Rattle.machine_epochs.specs.Supplied.{comes_outside, comes_agreed}
+use Rattle.machine_epochs.specs.Supplied.{comes_outside}
+use Rattle.machine_states.specs.body_terms.specs.Line.{is_end}
+use Rattle.machine_states.specs.guard_core.specs.Moves.{is_unnamed}
+use Rattle.machine_states.specs.runner_steps.specs.AfterInRun.{ended_more}
+use Rattle.machine_states.specs.runner_steps.specs.Guards.{is_last_guard}
 
 -- this cell is the next one to be looked at of a slot in the hand, and it is the fifth
 abbrev pub is_last_look : NodesState → ℕ → ℕ → Bool
@@ -41,9 +45,16 @@ stored r d word number =
 abbrev pub roles_of : Meaning → List ℕ → ℕ → Role
 roles_of m words index = role_at (m.body (thunk_of words)) index
 
--- the runner comes to hold these slots, and commits the word of its run at this place of the log
-abbrev pub agreed_lock : ℕ → (ℕ → Bool) → RunState → ℕ → List Event
-agreed_lock r comes q log = events.Reach r comes ∷ events.WordCommit r q.descriptor log q.word ∷ []
+-- at the end of its sweep the runner's retired descriptors are free that no guard word names which it read
+abbrev pub sweeps : Layout → ℕ → PartState → ℕ → List Event
+sweeps l r p found =
+    if is_last_guard l p.guards.looked then events.Sweep r (is_unnamed (p.guards.looked ++ found ∷ [])) ∷ [] else []
+
+-- with the end of its run the own published section is retired
+abbrev pub retires_own : ℕ → Option Published → ℕ → List Event
+retires_own r None descriptor = []
+retires_own r (Some x) descriptor =
+    if x.descriptor == descriptor then events.RetireDescriptor r descriptor ∷ [] else []
 
 module _ (m : Meaning) (l : Layout) (r : ℕ) where
   -- the events of a runner's step in no run, which found this word
@@ -66,23 +77,24 @@ module _ (m : Meaning) (l : Layout) (r : ℕ) where
   IsOutsideChunk (kinds.PrivateLoad slot cell) p found es = es ≡ looked l r p.nodes slot cell found
   IsOutsideChunk (kinds.PrivateStore slot word number) p found es =
       es ≡ stored r (slot - slot_count l m.fixed_slots) word number
-  -- the section is published where the lock stood free with the thunk's word; otherwise the word that stood
-  -- there may name a descriptor
+  -- the section is published where the lock stood free with the thunk's word
   IsOutsideChunk (kinds.Hold t d) p found es =
-      ((found ≡ t.word) × (es ≡ events.Publish r d (roles_of m (thunk_words t)) ∷ []))
-      ⊎ ((found ≢ t.word) × (es ≡ events.Reach r (comes_outside m (counts_of m l) (kinds.Hold t d) p found) ∷ []))
-  IsOutsideChunk kinds.EpochForRetire p found es =
-      (x : Published) × (p.published ≡ Some x) × (es ≡ events.RetireDescriptor r x.descriptor ∷ [])
+      ((found ≡ t.word) × (es ≡ events.Publish r d (roles_of m (thunk_words t)) ∷ [])) ⊎ ((found ≢ t.word) × (es ≡ []))
+  -- the guard word moves: the runner is sure of nothing
+  IsOutsideChunk (kinds.Guard d) p found es = es ≡ events.Unguard r ∷ []
+  IsOutsideChunk (kinds.LoadGuard n) p found es = es ≡ sweeps l r p found
   IsOutsideChunk _ p found es = es ≡ []
 
   -- the events of a step of a run's line, which found this word, where the run stands before this step of the line
   abbrev pub IsLineChunk : EventKind → PartState → RunState → Micro → ℕ → List Event → Type 0
-  -- by the commit of a lock's word the runner comes to hold what the agreed word names
   IsLineChunk kinds.Commit p q micro found es =
-      (place log : ℕ) × (((micro ≡ micros.Commit place log) × (es ≡ events.WordCommit r q.descriptor log q.word ∷ []))
-      ⊎ ((micro ≡ micros.NestedCommit place log) × (es ≡ agreed_lock r (comes_agreed (counts_of m l) p q found) q log)))
+      (place log : ℕ) × ((micro ≡ micros.Commit place log) ⊎ (micro ≡ micros.NestedCommit place log))
+      × (es ≡ events.WordCommit r q.descriptor log q.word ∷ [])
   IsLineChunk kinds.OutcomeCommit p q micro found es = (place log : ℕ) × (micro ≡ micros.OutcomeCommit place log)
-      × (es ≡ agreed_lock r (comes_agreed (counts_of m l) p q found) q log)
+      × (es ≡ events.WordCommit r q.descriptor log q.word ∷ [])
+  -- the last release ends the run
+  IsLineChunk kinds.Release p q micro found es =
+      es ≡ (if is_end (next_of m (ended_more q)) then retires_own r p.published q.descriptor else [])
   -- a Make takes its slot with its first private load
   IsLineChunk (kinds.PrivateLoad slot cell) p q micro found es =
       ((q.made ≡ None) × (es ≡ events.TakeSlot r slot ∷ [])) ⊎ ((q.made ≡ Some slot) × (es ≡ []))

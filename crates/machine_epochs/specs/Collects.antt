@@ -12,10 +12,9 @@ use Rattle.machine_states.specs.epoch_core.specs.Moves.{is_clear}
 use Rattle.machine_states.specs.World.{World, happens}
 use Rattle.machine_states.specs.Sight.{sight}
 
--- nothing in its limbo lists was retired two epochs before this one
+-- no node slot in its limbo list was retired two epochs before this one
 pub record HasNothingOld (epoch : ℕ) (p : PartState) : Type 0 where
   pub nodes : All (λ x. epoch < x.epoch + 2) p.nodes.limbo
-  pub descriptors : All (λ x. epoch < x.epoch + 2) p.descriptors.limbo
 
 -- a runner that scans for this epoch, and has the next announcement before it, makes a step of this kind
 pub record ScanStep (m : Meaning) (l : Layout) (requests : List Request) (w v : World) (kind : EventKind)

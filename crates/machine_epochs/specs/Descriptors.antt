@@ -32,21 +32,14 @@ times_published d (Some x) = cond (x.descriptor == d) 1 0
 
 -- how often a descriptor stands with a runner: in its free list, in its limbo, and as its published one
 abbrev pub times_with : PartState → ℕ → ℕ
-times_with p d = times d p.descriptors.free + (times_limbo d p.descriptors.limbo + times_published d p.published)
+times_with p d = times d p.descriptors.free + (times d p.descriptors.limbo + times_published d p.published)
 
 pub record DescriptorsAreSound (m : Meaning) (l : Layout) (s : Sight) : Type 0 where
   -- each descriptor stands once with its owner, free, in limbo or published, and with no other runner
   pub once : (r d : ℕ) → d < descriptor_count l
       → times_with (s.part r) d ≡ cond (owner_of l.sections l.runners d == r) 1 0
-  -- nothing was retired in an epoch to come
-  pub descriptors_most : (r : ℕ) → All (λ x. x.epoch ≤ s.word Epoch) (s.part r).descriptors.limbo
+  -- no node slot was retired in an epoch to come
   pub nodes_most : (r : ℕ) → All (λ x. x.epoch ≤ s.word Epoch) (s.part r).nodes.limbo
-  -- the descriptor of a section that an entered runner published in this entry is in nobody's free list,
-  -- and if it was retired, it was no earlier than the runner entered
-  pub own_unfree : (r i g d : ℕ) → (s.part r).stage ≡ Entered g → has (s.part r).reads.published d ≡ true
-      → times d (s.part i).descriptors.free ≡ 0
-  pub own_late : (r g d : ℕ) → (s.part r).stage ≡ Entered g → has (s.part r).reads.published d ≡ true
-      → All (λ x. x.slot ≡ d → g ≤ x.epoch) (s.part r).descriptors.limbo
   -- at the commit of a Retire the run of an entered runner goes by an epoch that is no earlier than the
   -- runner entered, and not to come
   pub retire_recent : (r g slot log : ℕ) (q : RunState) → (s.part r).stage ≡ Entered g → (s.part r).run ≡ Some q

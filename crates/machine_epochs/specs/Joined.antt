@@ -7,7 +7,7 @@ use Rattle.machine_states.specs.structure_laws.specs.Meaning.{Meaning}
 use Rattle.machine_states.specs.runner_parts.specs.declared.entries.Published.{Published}
 use Rattle.machine_states.specs.runner_parts.specs.State.{RunState, PartState}
 use Rattle.machine_states.specs.runner_parts.specs.Tests.{has, last_stored}
-use Rattle.machine_states.specs.runner_steps.specs.Outside.{descriptor_spot}
+use Rattle.machine_states.specs.runner_steps.specs.Outside.{descriptor_spot, is_sure_of}
 use Rattle.machine_states.specs.epoch_core.specs.declared.location.Location.TheVariants.{Live, Hand}
 use Rattle.machine_states.specs.epoch_core.specs.State.{EpochState, is_entered}
 use Rattle.machine_states.specs.epoch_core.specs.Events.{slot_of}
@@ -34,9 +34,15 @@ module _ (m : Meaning) (l : Layout) where
     pub retire : w.retire r ≡ retiring_of m p.run
     -- the published descriptor is live
     pub published : (x : Published) → p.published ≡ Some x → w.location (slot_of (counts_of m l) x.descriptor) ≡ Live
-    -- an entered runner holds the descriptors that it names and the slots that its readings reach
-    pub named : (d : ℕ) → is_entered (w.stage r) ≡ true → has p.reads.held d ≡ true
-        → w.holds r (slot_of (counts_of m l) d) ≡ true
+    -- who runs a section is sure of its descriptor, and so is who has published one
+    pub run_sure : (q : RunState) → p.run ≡ Some q → is_sure_of p.guards q.descriptor ≡ true
+    pub published_sure : (x : Published) → p.published ≡ Some x → is_sure_of p.guards x.descriptor ≡ true
+    -- a guard word names a descriptor that the table has
+    pub numbered : (d : ℕ) → p.guards.named ≡ Some d → d < (counts_of m l).descriptors
+    -- a runner holds the descriptor of which it is sure, and no other one; an entered runner holds the slots that its
+    -- readings reach
+    pub sure : (d : ℕ) → is_sure_of p.guards d ≡ true → w.holds r (slot_of (counts_of m l) d) ≡ true
+    pub sure_alone : (d : ℕ) → w.holds r (slot_of (counts_of m l) d) ≡ true → is_sure_of p.guards d ≡ true
     pub reached : (t : ℕ) → is_entered (w.stage r) ≡ true → t < (counts_of m l).nodes
         → m.reaches p.reads.walk t ≡ true → w.holds r t ≡ true
     -- what was last stored into a word of a free descriptor stands there, and nothing was stored into others

@@ -26,7 +26,7 @@ lists_of p = record {
   worn = p.nodes.worn;
   limbo = map entry_of p.nodes.limbo;
   free_descriptors = p.descriptors.free;
-  limbo_descriptors = map entry_of p.descriptors.limbo;
+  limbo_descriptors = p.descriptors.limbo;
 }
 
 -- the Retire for which a run that stands before this step has loaded an epoch

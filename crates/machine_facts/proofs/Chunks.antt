@@ -1,6 +1,6 @@
 -- Of what sort the events are that a step of the machine is: they publish and free nothing, or publish one section, or free descriptors.
 use Rattle.std.specs.Prelude.{◌-◌, ◌==◌, nat_lt, if◌then◌else◌}
-use Rattle.std.proofs.Common.{◌≡◌, ℕ, Bool, true, false, List, [], ◌∷◌, refl, sym, ◌∙◌, subst, inl, inr, ⊎_elim, Option, Some, None}
+use Rattle.std.proofs.Common.{◌≡◌, ℕ, Bool, true, false, List, [], ◌∷◌, ◌++◌, refl, sym, ◌∙◌, subst, inl, inr, ⊎_elim, Option, Some, None}
 use Rattle.std.specs.Prelude.{◌⊎◌}
 use Rattle.machine_states.specs.body_terms.specs.declared.micro.Micro.{Micro}
 use Rattle.machine_states.specs.body_terms.specs.declared.thunk.Thunk.{Thunk}
@@ -18,7 +18,11 @@ use Rattle.machine_states.specs.epoch_core.specs.State.{Role}
 use Rattle.machine_states.specs.epoch_core.specs.Events as epochs
 use Rattle.machine_invariant.specs.machine_agreement.specs.machine_epochs.specs.Chunks as slots
 use Rattle.machine_invariant.specs.machine_agreement.specs.Chunks as sections
-use Rattle.machine_invariant.specs.machine_agreement.specs.Supplied.{collects}
+use Rattle.machine_states.specs.body_terms.specs.Line.{is_end}
+use Rattle.machine_states.specs.guard_core.specs.Moves.{is_unnamed}
+use Rattle.machine_states.specs.runner_parts.specs.declared.entries.Published.{Published}
+use Rattle.machine_states.specs.runner_steps.specs.AfterInRun.{ended_more}
+use Rattle.machine_states.specs.runner_steps.specs.Guards.{is_last_guard}
 use Rattle.machine_invariant.proofs.Runs.{AllAre}
 use Rattle.machine_facts.proofs.Agreement.{is_unfreeing, is_unpublishing}
 use Rattle.machine_facts.proofs.Epochs.{IsChain, is_unpublished}
@@ -83,42 +87,61 @@ module _ (m : Meaning) (l : Layout) (w : AgreementState) (r : ℕ) where
   abbrev Last : List agreement.Event → Type 0
   Last heads = AllAre is_lasting heads
 
-  line_heads : (kind : EventKind) (q : RunState) (found : ℕ) (heads : List agreement.Event)
-      → sections.IsLineChunk m l w r kind q found heads → Last heads
-  line_heads kinds.Commit q found heads chunk =
-      ⊎_elim (λ h. subst Last (sym h.1) (refl, tt)) (λ h. subst Last (sym h.1) (refl, tt)) chunk.2
-  line_heads (kinds.LoadCell None) q found heads chunk = subst Last (sym chunk.3) (refl, tt)
-  line_heads kinds.ExchangeCell q found heads chunk = subst Last (sym chunk.4) (refl, (refl, tt))
-  line_heads (kinds.PrivateLoad slot cell) q found heads chunk = subst Last (sym chunk.2) (refl, tt)
-  line_heads (kinds.PrivateStore slot cell number) q found heads chunk = subst Last (sym chunk.4) (refl, tt)
-  line_heads kinds.MakeCommit q found heads chunk = subst Last (sym chunk.4) (refl, tt)
-  line_heads kinds.RetireCommit q found heads chunk = subst Last (sym chunk.3) (refl, tt)
-  line_heads kinds.EpochForRetire q found heads chunk = subst Last (sym chunk.3) (refl, tt)
-  line_heads kinds.NestedLoad q found heads chunk = subst Last (sym chunk.3) (refl, tt)
-  line_heads kinds.OutcomeLoad q found heads chunk = subst Last (sym chunk.3) (refl, tt)
-  line_heads kinds.ClockLoad q found heads chunk = subst Last (sym chunk.1) (refl, tt)
-  line_heads kinds.StampExchange q found heads chunk = subst Last (sym chunk.1) (refl, tt)
-  line_heads kinds.ClockRaise q found heads chunk = subst Last (sym chunk.1) (refl, tt)
-  line_heads kinds.ReplyExchange q found heads chunk = subst Last (sym chunk.2) (refl, tt)
-  line_heads kinds.NestedHold q found heads chunk = subst Last (sym chunk.3) (refl, (refl, tt))
-  line_heads kinds.OutcomeCommit q found heads chunk = subst Last (sym chunk.3) (refl, tt)
-  line_heads kinds.SetDone q found heads chunk = subst Last (sym chunk.1) (refl, tt)
-  line_heads kinds.Release q found heads chunk = ⊎_elim (λ h. subst Last (sym h.1) (refl, (refl, tt)))
-      (λ h. subst Last (sym h.1) (refl, (refl, (refl, tt)))) chunk.3
-  line_heads _ q found heads chunk = subst Last (sym chunk) tt
+  retired_heads : (o : Option Published) (d : ℕ) → Last (sections.retires_own o d)
+  retired_heads None d = tt
+  retired_heads (Some x) d = by (x.descriptor == d)
+    where
+      by : (b : Bool) → Last (if b then agreement.RetireDescriptor d ∷ [] else [])
+      by true = (refl, tt)
+      by false = tt
 
-  inside_heads : (kind : EventKind) (q : RunState) (found : ℕ) (heads : List agreement.Event) (b : Bool)
-      → sections.IsInsideChunk m l w r b kind q found heads → Last heads
-  inside_heads kind q found heads true chunk = line_heads kind q found heads chunk
-  inside_heads kind q found heads false chunk = subst Last (sym chunk) tt
+  line_heads : (kind : EventKind) (p : PartState) (q : RunState) (found : ℕ) (heads : List agreement.Event)
+      → sections.IsLineChunk m l w r kind p q found heads → Last heads
+  line_heads kinds.Commit p q found heads chunk =
+      ⊎_elim (λ h. subst Last (sym h.1) (refl, tt)) (λ h. subst Last (sym h.1) (refl, tt)) chunk.2
+  line_heads (kinds.LoadCell None) p q found heads chunk = subst Last (sym chunk.3) (refl, tt)
+  line_heads kinds.ExchangeCell p q found heads chunk = subst Last (sym chunk.4) (refl, (refl, tt))
+  line_heads (kinds.PrivateLoad slot cell) p q found heads chunk = subst Last (sym chunk.2) (refl, tt)
+  line_heads (kinds.PrivateStore slot cell number) p q found heads chunk = subst Last (sym chunk.4) (refl, tt)
+  line_heads kinds.MakeCommit p q found heads chunk = subst Last (sym chunk.4) (refl, tt)
+  line_heads kinds.RetireCommit p q found heads chunk = subst Last (sym chunk.3) (refl, tt)
+  line_heads kinds.EpochForRetire p q found heads chunk = subst Last (sym chunk.3) (refl, tt)
+  line_heads kinds.NestedLoad p q found heads chunk = subst Last (sym chunk.3) (refl, tt)
+  line_heads kinds.OutcomeLoad p q found heads chunk = subst Last (sym chunk.3) (refl, tt)
+  line_heads kinds.ClockLoad p q found heads chunk = subst Last (sym chunk.1) (refl, tt)
+  line_heads kinds.StampExchange p q found heads chunk = subst Last (sym chunk.1) (refl, tt)
+  line_heads kinds.ClockRaise p q found heads chunk = subst Last (sym chunk.1) (refl, tt)
+  line_heads kinds.ReplyExchange p q found heads chunk = subst Last (sym chunk.2) (refl, tt)
+  line_heads kinds.NestedHold p q found heads chunk = subst Last (sym chunk.3) (refl, (refl, tt))
+  line_heads kinds.OutcomeCommit p q found heads chunk = subst Last (sym chunk.3) (refl, tt)
+  line_heads kinds.SetDone p q found heads chunk = subst Last (sym chunk.1) (refl, tt)
+  line_heads kinds.Release p q found heads chunk = ⊎_elim (λ h. subst Last (sym h.1) (refl, (refl, tt)))
+      (λ h. subst Last (sym h.1) (refl, (refl, (refl, retired_heads p.published q.descriptor)))) chunk.3
+  line_heads _ p q found heads chunk = subst Last (sym chunk) tt
+
+  inside_heads : (kind : EventKind) (p : PartState) (q : RunState) (found : ℕ) (heads : List agreement.Event) (b : Bool)
+      → sections.IsInsideChunk m l w r b kind p q found heads → Last heads
+  inside_heads kind p q found heads true chunk = line_heads kind p q found heads chunk
+  inside_heads kind p q found heads false chunk = subst Last (sym chunk) tt
+
+  retired_tails : (o : Option Published) (d : ℕ) → AreCalm (slots.retires_own r o d)
+  retired_tails None d = none_calm
+  retired_tails (Some x) d = by (x.descriptor == d)
+    where
+      by : (b : Bool) → AreCalm (if b then epochs.RetireDescriptor r d ∷ [] else [])
+      by true = one_calm _ refl
+      by false = none_calm
+
+  released_tails : (b : Bool) (o : Option Published) (d : ℕ) → AreCalm (if b then slots.retires_own r o d else [])
+  released_tails true o d = retired_tails o d
+  released_tails false o d = none_calm
 
   line_tails : (kind : EventKind) (p : PartState) (q : RunState) (micro : Micro) (found : ℕ) (vs : List epochs.Event)
       → slots.IsLineChunk m l r kind p q micro found vs → AreCalm vs
-  line_tails kinds.Commit p q micro found vs chunk =
-      ⊎_elim (λ h. subst AreCalm (sym h.1) (one_calm _ refl))
-      (λ h. subst AreCalm (sym h.1) (record { chain = (refl, tt); unpublished = (refl, (refl, tt)) })) chunk.2
-  line_tails kinds.OutcomeCommit p q micro found vs chunk =
-      subst AreCalm (sym chunk.3) (record { chain = (refl, tt); unpublished = (refl, (refl, tt)) })
+  line_tails kinds.Commit p q micro found vs chunk = subst AreCalm (sym chunk.3) (one_calm _ refl)
+  line_tails kinds.OutcomeCommit p q micro found vs chunk = subst AreCalm (sym chunk.3) (one_calm _ refl)
+  line_tails kinds.Release p q micro found vs chunk =
+      subst AreCalm (sym chunk) (released_tails (is_end (next_of m (ended_more q))) p.published q.descriptor)
   line_tails (kinds.PrivateLoad slot cell) p q micro found vs chunk =
       ⊎_elim (λ h. subst AreCalm (sym h.1) (one_calm _ refl)) (λ h. subst AreCalm (sym h.1) none_calm) chunk
   line_tails kinds.MakeCommit p q micro found vs chunk = subst AreCalm (sym chunk.4) (one_calm _ refl)
@@ -154,15 +177,21 @@ module _ (m : Meaning) (l : Layout) (w : AgreementState) (r : ℕ) where
       by false true = none_calm
       by false false = one_calm _ refl
 
-  -- a scan may end, and then some descriptors are freed
-  pub collected_frees : (o : Option ℕ) (p : PartState) → (ds : List ℕ) × (sections.collected o p ≡ sections.frees ds)
-  collected_frees None p = ([], refl)
-  collected_frees (Some epoch) p = (_, refl)
+  -- a sweep may end, and then some descriptors are freed
+  pub swept_frees : (p : PartState) (found : ℕ) → (ds : List ℕ) × (sections.swept l p found ≡ sections.frees ds)
+  swept_frees p found = by (is_last_guard l p.guards.looked)
+    where
+      by : (b : Bool) → (ds : List ℕ)
+          × ((if b then sections.frees (sections.unnamed (p.guards.looked ++ found ∷ []) p) else []) ≡ sections.frees ds)
+      by true = (_, refl)
+      by false = ([], refl)
 
-  frees : (heads : List agreement.Event) (vs : List epochs.Event) (o : Option ℕ) (p : PartState) → heads ≡ sections.collected o p → AreCalm vs
-      → Sort m r None heads vs
-  frees heads vs o p is calm = let some = collected_frees o p in
-      inr (inr (record { descriptors = some.0; outside = refl; heads_are = is ∙ some.1; tails_are = calm }))
+  sweep_tails : (p : PartState) (found : ℕ) → AreCalm (slots.sweeps l r p found)
+  sweep_tails p found = by (is_last_guard l p.guards.looked)
+    where
+      by : (b : Bool) → AreCalm (if b then epochs.Sweep r (is_unnamed (p.guards.looked ++ found ∷ [])) ∷ [] else [])
+      by true = one_calm _ refl
+      by false = none_calm
 
   quiet : (heads : List agreement.Event) (vs : List epochs.Event) → Last heads → AreCalm vs → Sort m r None heads vs
   quiet heads vs lasting calm = inl (record { lasting = lasting; tails_are = calm })
@@ -174,10 +203,14 @@ module _ (m : Meaning) (l : Layout) (w : AgreementState) (r : ℕ) where
   outside_sort kinds.EnterAgain p found heads vs chunk slots = quiet heads vs (subst Last (sym chunk) tt) (subst AreCalm (sym slots) (one_calm _ refl))
   outside_sort kinds.Idle p found heads vs chunk slots = quiet heads vs (subst Last (sym chunk) tt) (subst AreCalm (sym slots) (one_calm _ refl))
   outside_sort kinds.ScanEpoch p found heads vs chunk slots = quiet heads vs (subst Last (sym chunk) tt) (subst AreCalm (sym slots) (one_calm _ refl))
-  outside_sort (kinds.ScanOne n) p found heads vs chunk slots = frees heads vs (collects l (kinds.ScanOne n) p.stage found) p chunk
+  outside_sort (kinds.ScanOne n) p found heads vs chunk slots = quiet heads vs (subst Last (sym chunk) tt)
       (⊎_elim (λ h. subst AreCalm (sym h.1) (one_calm _ refl)) (λ h. subst AreCalm (sym h.1) (one_calm _ refl)) slots.3)
-  outside_sort kinds.Advance p found heads vs chunk slots = frees heads vs (collects l kinds.Advance p.stage found) p chunk
+  outside_sort kinds.Advance p found heads vs chunk slots = quiet heads vs (subst Last (sym chunk) tt)
       (subst AreCalm (sym slots.4) (one_calm _ refl))
+  outside_sort (kinds.Guard d) p found heads vs chunk slots = quiet heads vs (subst Last (sym chunk) tt) (subst AreCalm (sym slots) (one_calm _ refl))
+  outside_sort (kinds.LoadGuard n) p found heads vs chunk slots =
+      let some = swept_frees p found in
+      inr (inr (record { descriptors = some.0; outside = refl; heads_are = chunk ∙ some.1; tails_are = subst AreCalm (sym slots) (sweep_tails p found) }))
   outside_sort (kinds.LoadCell (Some place)) p found heads vs chunk slots =
       quiet heads vs (subst Last (sym chunk) (refl, tt)) (subst AreCalm (sym slots) (one_calm _ refl))
   outside_sort (kinds.PrivateLoad slot cell) p found heads vs chunk slots =
@@ -196,10 +229,8 @@ module _ (m : Meaning) (l : Layout) (w : AgreementState) (r : ℕ) where
       })))
       (λ lost. absurd (lost.0 won.0)) slots)
       (λ lost. ⊎_elim (λ published. absurd (lost.0 published.0))
-      (λ reach. quiet heads vs (subst Last (sym lost.1) (refl, tt)) (subst AreCalm (sym reach.1) (one_calm _ refl))) slots)
+      (λ none. quiet heads vs (subst Last (sym lost.1) (refl, tt)) (subst AreCalm (sym none.1) none_calm)) slots)
       chunk
-  outside_sort kinds.EpochForRetire p found heads vs chunk slots =
-      quiet heads vs (subst Last (sym chunk.2) (refl, tt)) (subst AreCalm (sym slots.2) (one_calm _ refl))
   outside_sort kinds.ReadReply p found heads vs chunk slots =
       quiet heads vs (subst Last (sym chunk.2) (refl, tt)) (subst AreCalm (sym slots) none_calm)
   outside_sort kinds.ReadStamp p found heads vs chunk slots =
@@ -212,6 +243,6 @@ module _ (m : Meaning) (l : Layout) (w : AgreementState) (r : ℕ) where
       → sections.IsChunk m l w r kind p run found heads → slots.IsChunk m l r kind p run found vs → Sort m r run heads vs
   sort_of kind p None found heads vs chunk slots = outside_sort kind p found heads vs chunk slots
   sort_of kind p (Some q) found heads vs chunk slots = inl (record {
-    lasting = inside_heads kind q found heads (is_open_run q) chunk;
+    lasting = inside_heads kind p q found heads (is_open_run q) chunk;
     tails_are = inside_tails kind p q found vs (is_open_run q) slots;
   })

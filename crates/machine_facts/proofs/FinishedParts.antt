@@ -31,39 +31,41 @@ module _ (m : Meaning) (l : Layout) (rs : List Request) (s s' : Sight) (r : ℕ)
   abbrev pub part1 : PartState
   part1 = after m l r kind step.ask.0 step.ask.1 (s.part r) (s.word step.ask.0)
 
-  -- the parts after the step
-  pub by_part : (Q : List FinishedState → Type 0) (r1 : ℕ) → Q (s'.part r1).records.finished
-      → Q (s.part r1).records.finished ⊎ ((r1 ≡ r) × Q part1.records.finished)
-  by_part Q r1 q = at_kind kind (subst (λ (t : Sight). Q (t.part r1).records.finished) step.next q)
+  -- the parts after the step: one that it had, or the stepping runner's. A join changes nothing of what is asked
+  pub by_any : (Q : PartState → Type 0) → ((p worker : PartState) → Q (knows_also p worker) → Q p) → ((p : PartState) → Q (leaves_part p) → Q p)
+      → (r1 : ℕ) → Q (s'.part r1) → Q (s.part r1) ⊎ ((r1 ≡ r) × Q part1)
+  by_any Q knows gone r1 q = at_kind kind (subst (λ (t : Sight). Q (t.part r1)) step.next q)
     where
-      own : (i : ℕ) → Q (upd s.part r part1 i).records.finished
-          → Q (s.part i).records.finished ⊎ ((i ≡ r) × Q part1.records.finished)
+      own : (i : ℕ) → Q (upd s.part r part1 i) → Q (s.part i) ⊎ ((i ≡ r) × Q part1)
       own i q = ⊎_elim
-          (λ e. inr (e, subst (λ (p : PartState). Q p.records.finished) (ap (upd s.part r part1) e ∙ upd_here s.part r part1) q))
-          (λ ne. inl (subst (λ (p : PartState). Q p.records.finished) (upd_else s.part r part1 i ne) q))
+          (λ e. inr (e, subst Q (ap (upd s.part r part1) e ∙ upd_here s.part r part1) q))
+          (λ ne. inl (subst Q (upd_else s.part r part1 i ne) q))
           (cases_eq i r)
 
-      joining : (worker : ℕ) → Q (upd (upd s.part r (knows_also part1 (s.part worker))) worker (leaves_part (s.part worker)) r1).records.finished
-          → Q (s.part r1).records.finished ⊎ ((r1 ≡ r) × Q part1.records.finished)
+      joining : (worker : ℕ) → Q (upd (upd s.part r (knows_also part1 (s.part worker))) worker (leaves_part (s.part worker)) r1)
+          → Q (s.part r1) ⊎ ((r1 ≡ r) × Q part1)
       joining worker q = ⊎_elim
-          (λ e. inl (subst (λ n. Q (s.part n).records.finished) (sym e) (subst (λ (p : PartState). Q p.records.finished)
+          (λ e. inl (subst (λ n. Q (s.part n)) (sym e) (gone (s.part worker) (subst Q
           (ap (upd (upd s.part r (knows_also part1 (s.part worker))) worker (leaves_part (s.part worker))) e
-          ∙ upd_here (upd s.part r (knows_also part1 (s.part worker))) worker (leaves_part (s.part worker))) q)))
+          ∙ upd_here (upd s.part r (knows_also part1 (s.part worker))) worker (leaves_part (s.part worker))) q))))
           (λ ne. ⊎_elim
           (λ e. inr (
             e,
-            subst (λ (p : PartState). Q p.records.finished) (upd_else (upd s.part r (knows_also part1 (s.part worker))) worker (leaves_part (s.part worker)) r1 ne
-                ∙ (ap (upd s.part r (knows_also part1 (s.part worker))) e ∙ upd_here s.part r (knows_also part1 (s.part worker)))) q,
+            knows part1 (s.part worker) (subst Q (upd_else (upd s.part r (knows_also part1 (s.part worker))) worker (leaves_part (s.part worker)) r1 ne
+                ∙ (ap (upd s.part r (knows_also part1 (s.part worker))) e ∙ upd_here s.part r (knows_also part1 (s.part worker)))) q),
           ))
-          (λ ne'. inl (subst (λ (p : PartState). Q p.records.finished) (upd_else (upd s.part r (knows_also part1 (s.part worker))) worker (leaves_part (s.part worker)) r1 ne
+          (λ ne'. inl (subst Q (upd_else (upd s.part r (knows_also part1 (s.part worker))) worker (leaves_part (s.part worker)) r1 ne
           ∙ upd_else s.part r (knows_also part1 (s.part worker)) r1 ne') q))
           (cases_eq r1 r))
           (cases_eq r1 worker)
 
-      at_kind : (kind' : EventKind) → Q (parts_after kind' s.part r part1 r1).records.finished
-          → Q (s.part r1).records.finished ⊎ ((r1 ≡ r) × Q part1.records.finished)
+      at_kind : (kind' : EventKind) → Q (parts_after kind' s.part r part1 r1) → Q (s.part r1) ⊎ ((r1 ≡ r) × Q part1)
       at_kind (kinds.Join worker) q = joining worker q
       at_kind kind' q = own r1 q
+
+  pub by_part : (Q : List FinishedState → Type 0) (r1 : ℕ) → Q (s'.part r1).records.finished
+      → Q (s.part r1).records.finished ⊎ ((r1 ≡ r) × Q part1.records.finished)
+  by_part Q r1 q = by_any (λ (p : PartState). Q p.records.finished) (λ p worker h. h) (λ p h. h) r1 q
 
   -- what a runner keeps after the step it kept before, or it is of the run that is over
   pub entry : (r1 i : ℕ) (f : FinishedState) → slice_get (s'.part r1).records.finished i ≡ Some f

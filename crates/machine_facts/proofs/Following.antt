@@ -42,7 +42,6 @@ use Rattle.machine_facts.specs.After.{AreFactsAfter, FactsAfter, AreFactsOfStep,
 use Rattle.machine_facts.proofs.Going.{still_alike, moves}
 use Rattle.machine_facts.proofs.Words.{words_stand}
 use Rattle.machine_facts.proofs.Locks.{locks_stand}
-use Rattle.machine_facts.proofs.Takes.{takes_held}
 use Rattle.machine_facts.proofs.Outcomes.{OutcomesKept, outcomes_kept}
 use Rattle.machine_facts.proofs.Agreeing.{outcomes_agree}
 use Rattle.machine_facts.specs.Known.{KnownStand}
@@ -74,7 +73,6 @@ module _ (m : Meaning) (laws : Laws m) (l : Layout) (limits : IsWithinLimits l) 
     sound = sound_of s g changes wins stands;
     exact = stands.exact;
     numbers = stands.alike;
-    takes = takes_held m l g s stands.whole (sound_of s g changes wins stands).slots.in_held;
     outcomes = outcomes_agree m l s (with_histories g changes wins) (sound_of s g changes wins stands) (shaped s g stands.whole) stands.outcomes;
     known = stands.known;
     stored = λ r d i number free last. (stands.whole.slots.tied r).stored d i number free last;

@@ -20,7 +20,6 @@ use Rattle.machine_states.specs.structure_laws.specs.Meaning.{Meaning}
 use Rattle.machine_states.specs.epoch_core.specs.Moves.{is_clear}
 use Rattle.machine_states.specs.runner_parts.specs.declared.entries.Known.{Known}
 use Rattle.machine_states.specs.runner_parts.specs.declared.entries.Look.{Look}
-use Rattle.machine_states.specs.runner_parts.specs.declared.entries.Published.{Published}
 use Rattle.machine_states.specs.runner_parts.specs.declared.event.EventKind.{EventKind}
 use Rattle.machine_states.specs.runner_parts.specs.declared.event.EventKind.TheVariants as kinds
 use Rattle.machine_states.specs.epoch_core.specs.declared.stage.Stage.{Stage}
@@ -116,10 +115,6 @@ module _ (m : Meaning) (l : Layout) (rs : List Request) (r : ℕ) (f : Spot → 
   advance_knows p (stages.Scanning e next clear) = same_if (nat_lt e last_epoch) word' p _ _ (inl refl) (inl refl)
   advance_knows p _ = inl refl
 
-  retire_knows : (p : PartState) (o : Option Published) → K p (outside.retire_after p o found)
-  retire_knows p None = inl refl
-  retire_knows p (Some y) = inl refl
-
   -- a loaded word stands as it was found
   entry_knows : (p : PartState) (request : ℕ) (reply : Bool) → (entry_spot request reply, Loads) ≡ x
       → K p (outside.entry_after request reply p found)
@@ -154,7 +149,6 @@ module _ (m : Meaning) (l : Layout) (rs : List Request) (r : ℕ) (f : Spot → 
   outside_knows (kinds.LoadEntry request reply) p asked = entry_knows p request reply (entry_asked request reply p x asked)
   outside_knows (kinds.PrivateLoad slot word) p asked = same_if (nat_lt slot (slot_count l m.fixed_slots)) word' p _ _ (inl refl) (inl refl)
   outside_knows (kinds.Hold thunk d) p asked = same_if (found == thunk.word) word' p _ _ (inl refl) (inl refl)
-  outside_knows kinds.EpochForRetire p asked = retire_knows p p.published
   outside_knows (kinds.LoadCell (Some place)) p asked = inl refl
   outside_knows (kinds.LoadThunk (Some d)) p asked = inl refl
   outside_knows kinds.ReadReply p asked = read_reply_knows p asked
@@ -197,7 +191,6 @@ module _ (m : Meaning) (l : Layout) (rs : List Request) (r : ℕ) (f : Spot → 
     reply_knows _ asked = some_none x asked
 
     line_knows : (kind : EventKind) (micro : Micro) → line_ask m l kind p.nodes.free q micro ≡ Some x → K p (line_after m l kind p q micro found)
-    line_knows kinds.Commit micro asked = same_if (inside.is_of_lock micro) word' p _ _ (inl refl) (inl refl)
     line_knows (kinds.PrivateLoad slot word) micro asked = fill_knows slot q.made
     line_knows kinds.MakeCommit micro asked = make_knows q.made
     line_knows kinds.StampExchange micro asked = stamp_knows micro asked

@@ -11,7 +11,8 @@ pub mod Locks
 pub mod Once
 pub mod Outcomes
 pub mod Records
-pub mod Takes
+pub mod Readings
+pub mod Watched
 pub mod Words
 pub mod Telling
 pub mod ToldSteps

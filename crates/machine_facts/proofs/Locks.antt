@@ -22,12 +22,12 @@ use Rattle.agreement_core.proofs.Late.{locks_leave}
 use Rattle.machine_states.specs.Sight.{Sight}
 use Rattle.machine_invariant.specs.machine_agreement.specs.machine_scenes.specs.Shown.{rules_of}
 use Rattle.machine_invariant.specs.machine_agreement.specs.Chunks as sections
-use Rattle.machine_invariant.specs.machine_agreement.specs.Supplied.{collects}
+use Rattle.machine_states.specs.runner_parts.specs.declared.entries.Published.{Published}
 use Rattle.machine_invariant.specs.machine_agreement.specs.Joined.{IsJoinedToAgreement, ShowsRun}
 use Rattle.machine_invariant.specs.Along.{Components, components_after, AreEventsOf}
 use Rattle.machine_invariant.proofs.Runs.{AllAre, passes_are, append_are}
 use Rattle.machine_facts.specs.Steps.{IsRelease, LocksStand}
-use Rattle.machine_facts.proofs.Chunks.{collected_frees}
+use Rattle.machine_facts.proofs.Chunks.{swept_frees}
 
 -- no release of a lock
 abbrev pub is_unreleasing : agreement.Event → Bool
@@ -55,28 +55,28 @@ module _ (m : Meaning) (l : Layout) (w : AgreementState) (r : ℕ) where
   abbrev Un : List agreement.Event → Type 0
   Un heads = AllAre is_unreleasing heads
 
-  line_un : (kind : EventKind) → is_release kind ≡ false → (q : RunState) (found : ℕ) (heads : List agreement.Event)
-      → sections.IsLineChunk m l w r kind q found heads → Un heads
-  line_un kinds.Commit is q found heads chunk =
+  line_un : (kind : EventKind) → is_release kind ≡ false → (p : PartState) (q : RunState) (found : ℕ) (heads : List agreement.Event)
+      → sections.IsLineChunk m l w r kind p q found heads → Un heads
+  line_un kinds.Commit is p q found heads chunk =
       ⊎_elim (λ h. subst Un (sym h.1) (refl, tt)) (λ h. subst Un (sym h.1) (refl, tt)) chunk.2
-  line_un (kinds.LoadCell None) is q found heads chunk = subst Un (sym chunk.3) (refl, tt)
-  line_un kinds.ExchangeCell is q found heads chunk = subst Un (sym chunk.4) (refl, (refl, tt))
-  line_un (kinds.PrivateLoad slot cell) is q found heads chunk = subst Un (sym chunk.2) (refl, tt)
-  line_un (kinds.PrivateStore slot cell number) is q found heads chunk = subst Un (sym chunk.4) (refl, tt)
-  line_un kinds.MakeCommit is q found heads chunk = subst Un (sym chunk.4) (refl, tt)
-  line_un kinds.RetireCommit is q found heads chunk = subst Un (sym chunk.3) (refl, tt)
-  line_un kinds.EpochForRetire is q found heads chunk = subst Un (sym chunk.3) (refl, tt)
-  line_un kinds.NestedLoad is q found heads chunk = subst Un (sym chunk.3) (refl, tt)
-  line_un kinds.OutcomeLoad is q found heads chunk = subst Un (sym chunk.3) (refl, tt)
-  line_un kinds.ClockLoad is q found heads chunk = subst Un (sym chunk.1) (refl, tt)
-  line_un kinds.StampExchange is q found heads chunk = subst Un (sym chunk.1) (refl, tt)
-  line_un kinds.ClockRaise is q found heads chunk = subst Un (sym chunk.1) (refl, tt)
-  line_un kinds.ReplyExchange is q found heads chunk = subst Un (sym chunk.2) (refl, tt)
-  line_un kinds.NestedHold is q found heads chunk = subst Un (sym chunk.3) (refl, (refl, tt))
-  line_un kinds.OutcomeCommit is q found heads chunk = subst Un (sym chunk.3) (refl, tt)
-  line_un kinds.SetDone is q found heads chunk = subst Un (sym chunk.1) (refl, tt)
-  line_un kinds.Release is q found heads chunk = absurd (let no : ⊥ = cc in no)
-  line_un _ is q found heads chunk = subst Un (sym chunk) tt
+  line_un (kinds.LoadCell None) is p q found heads chunk = subst Un (sym chunk.3) (refl, tt)
+  line_un kinds.ExchangeCell is p q found heads chunk = subst Un (sym chunk.4) (refl, (refl, tt))
+  line_un (kinds.PrivateLoad slot cell) is p q found heads chunk = subst Un (sym chunk.2) (refl, tt)
+  line_un (kinds.PrivateStore slot cell number) is p q found heads chunk = subst Un (sym chunk.4) (refl, tt)
+  line_un kinds.MakeCommit is p q found heads chunk = subst Un (sym chunk.4) (refl, tt)
+  line_un kinds.RetireCommit is p q found heads chunk = subst Un (sym chunk.3) (refl, tt)
+  line_un kinds.EpochForRetire is p q found heads chunk = subst Un (sym chunk.3) (refl, tt)
+  line_un kinds.NestedLoad is p q found heads chunk = subst Un (sym chunk.3) (refl, tt)
+  line_un kinds.OutcomeLoad is p q found heads chunk = subst Un (sym chunk.3) (refl, tt)
+  line_un kinds.ClockLoad is p q found heads chunk = subst Un (sym chunk.1) (refl, tt)
+  line_un kinds.StampExchange is p q found heads chunk = subst Un (sym chunk.1) (refl, tt)
+  line_un kinds.ClockRaise is p q found heads chunk = subst Un (sym chunk.1) (refl, tt)
+  line_un kinds.ReplyExchange is p q found heads chunk = subst Un (sym chunk.2) (refl, tt)
+  line_un kinds.NestedHold is p q found heads chunk = subst Un (sym chunk.3) (refl, (refl, tt))
+  line_un kinds.OutcomeCommit is p q found heads chunk = subst Un (sym chunk.3) (refl, tt)
+  line_un kinds.SetDone is p q found heads chunk = subst Un (sym chunk.1) (refl, tt)
+  line_un kinds.Release is p q found heads chunk = absurd (let no : ⊥ = cc in no)
+  line_un _ is p q found heads chunk = subst Un (sym chunk) tt
 
   stored_un : (d word number : ℕ) → Un (sections.stored d word number)
   stored_un d word number = by (nat_lt word 12) (word == 12)
@@ -90,19 +90,26 @@ module _ (m : Meaning) (l : Layout) (w : AgreementState) (r : ℕ) where
   frees_un [] = tt
   frees_un (d ∷ ds) = (refl, frees_un ds)
 
-  collected_un : (o : Option ℕ) (p : PartState) → Un (sections.collected o p)
-  collected_un o p = let some = collected_frees m l w r o p in subst Un (sym some.1) (frees_un some.0)
+  swept_un : (p : PartState) (found : ℕ) → Un (sections.swept l p found)
+  swept_un p found = let some = swept_frees m l w r p found in subst Un (sym some.1) (frees_un some.0)
+
+  -- the retirement of the own section releases nothing
+  pub retires_un : (o : Option Published) (d : ℕ) → Un (sections.retires_own o d)
+  retires_un None d = tt
+  retires_un (Some x) d = by (x.descriptor == d)
+    where
+      by : (b : Bool) → Un (if b then agreement.RetireDescriptor d ∷ [] else [])
+      by true = (refl, tt)
+      by false = tt
 
   outside_un : (kind : EventKind) (p : PartState) (found : ℕ) (heads : List agreement.Event)
       → sections.IsOutsideChunk m l w r kind p found heads → Un heads
-  outside_un (kinds.ScanOne n) p found heads chunk = subst Un (sym chunk) (collected_un (collects l (kinds.ScanOne n) p.stage found) p)
-  outside_un kinds.Advance p found heads chunk = subst Un (sym chunk) (collected_un (collects l kinds.Advance p.stage found) p)
+  outside_un (kinds.LoadGuard n) p found heads chunk = subst Un (sym chunk) (swept_un p found)
   outside_un (kinds.LoadCell (Some place)) p found heads chunk = subst Un (sym chunk) (refl, tt)
   outside_un (kinds.PrivateStore slot word number) p found heads chunk =
       subst Un (sym chunk.1) (stored_un (slot - slot_count l m.fixed_slots) word number)
   outside_un (kinds.Hold t d) p found heads chunk =
       ⊎_elim (λ won. subst Un (sym won.1) (refl, (refl, tt))) (λ lost. subst Un (sym lost.1) (refl, tt)) chunk
-  outside_un kinds.EpochForRetire p found heads chunk = subst Un (sym chunk.2) (refl, tt)
   outside_un (kinds.LoadThunk (Some d)) p found heads chunk = subst Un (sym chunk) (refl, tt)
   outside_un kinds.ReadReply p found heads chunk = subst Un (sym chunk.2) (refl, tt)
   outside_un kinds.ReadStamp p found heads chunk = subst Un (sym chunk.2) (refl, tt)
@@ -137,7 +144,7 @@ module _ (m : Meaning) (l : Layout) (rs : List Request) (k : Components) (s s' :
 
   -- a run of its end releases a lock: its own section's
   releasing : (q : RunState) → (s.part r).run ≡ Some q → kind ≡ kinds.Release → Releases r are.heads → (p d : ℕ) → m.is_lock p ≡ true
-      → value_of (s.word (Cell p)) ≡ suc d → (s'.word (Cell p) ≡ s.word (Cell p)) ⊎ IsRelease (s.part r) kind d
+      → value_of (s.word (Cell p)) ≡ suc d → (s'.word (Cell p) ≡ s.word (Cell p)) ⊎ IsRelease (s.part r) kind s.word d
   releasing q runs release x p d lock names =
       let w = k.agreement in
       let three : es ≡ agreement.Read x.place ∷ agreement.Release r x.place x.word ∷ (x.rest ++ replicate are.passes (agreement.Pass r)) =
@@ -159,11 +166,14 @@ module _ (m : Meaning) (l : Layout) (rs : List Request) (k : Components) (s s' :
       (λ (of : IsReleaseOf w1 e d p).
       let runner : r ≡ of.0 = one_runner r x.place x.word of.0 p of.1 of.2 in
       let run = subst (ShowsRun (w.run r)) runs ((joined.tied r).run) in
+      let same : (w.run r).descriptor ≡ d = ap (λ n. (w.run n).descriptor) runner ∙ of.4 in
       inr (record {
         release = release;
         run = q;
         runs = runs;
-        of_section = sym run.descriptor ∙ ap (λ n. (w.run n).descriptor) runner ∙ of.4;
+        of_section = sym run.descriptor ∙ same;
+        done = λ z. (joined.sound.runs r run.running).in_trail.ended_done ok.1.0.1
+            (ap (λ n. (w.section n).done) same ∙ ((joined.sections d).done ∙ z));
       }))
       (locks_leave c w1 e ok.1.0 sound1 d p lock here)
     where
@@ -171,19 +181,19 @@ module _ (m : Meaning) (l : Layout) (rs : List Request) (k : Components) (s s' :
       one_runner r p w r' p' w' e = grind arith
 
   line_by : (kind' : EventKind) → kind ≡ kind' → (q : RunState) → (s.part r).run ≡ Some q
-      → sections.IsLineChunk m l k.agreement r kind' q (s.word are.ask.0) are.heads
+      → sections.IsLineChunk m l k.agreement r kind' (s.part r) q (s.word are.ask.0) are.heads
       → LocksStand m (s.part r) kind s.word s'.word
   line_by kinds.Release is q runs chunk p d lock names = releasing q runs is (⊎_elim
       (λ h. record { place = chunk.0; word = chunk.1; rest = []; heads_are = h.1; unreleasing = tt })
-      (λ h. record { place = chunk.0; word = chunk.1; rest = agreement.Finish r ∷ []; heads_are = h.1; unreleasing = (refl, tt) })
+      (λ h. record { place = chunk.0; word = chunk.1; rest = agreement.Finish r ∷ sections.retires_own (s.part r).published q.descriptor; heads_are = h.1; unreleasing = (refl, retires_un m l k.agreement r (s.part r).published q.descriptor) })
       chunk.3) p d lock names
-  line_by kind' is q runs chunk p d lock names = inl (still (line_un m l k.agreement r kind' refl q (s.word are.ask.0) are.heads chunk) p d lock names)
+  line_by kind' is q runs chunk p d lock names = inl (still (line_un m l k.agreement r kind' refl (s.part r) q (s.word are.ask.0) are.heads chunk) p d lock names)
 
   pub locks_stand : LocksStand m (s.part r) kind s.word s'.word
   locks_stand = by (s.part r).run refl are.in_sections
     where
       inside : (q : RunState) → (s.part r).run ≡ Some q → (b : Bool)
-          → sections.IsInsideChunk m l k.agreement r b kind q (s.word are.ask.0) are.heads → LocksStand m (s.part r) kind s.word s'.word
+          → sections.IsInsideChunk m l k.agreement r b kind (s.part r) q (s.word are.ask.0) are.heads → LocksStand m (s.part r) kind s.word s'.word
       inside q runs true chunk p d lock names = line_by kind refl q runs chunk p d lock names
       inside q runs false chunk p d lock names = inl (still (subst (AllAre is_unreleasing) (sym chunk) tt) p d lock names)
 

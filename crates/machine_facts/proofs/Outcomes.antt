@@ -1,7 +1,6 @@
 -- The outcomes of runs that came to their end agree.
 use Rattle.std.specs.Prelude.{true, slice_get, replicate}
 use Rattle.std.proofs.Common.{◌≡◌, ◌≢◌, ℕ, zero, suc, ◌<◌, List, [], ◌∷◌, ◌++◌, length, sym, ap, ◌∙◌, subst, ⊎_elim, arith, Option, Some}
-use Rattle.std.specs.Prelude.{◌⊎◌}
 use Rattle.std.proofs.lemmas.Bool.Decides.{nat_tests}
 use Rattle.machine_states.specs.map_history.specs.declared.op.Request.{Request}
 use Rattle.machine_states.specs.body_terms.specs.Line.{line, micro_at}
@@ -125,14 +124,14 @@ module _ (m : Meaning) (l : Layout) (rs : List Request) (k : Components) (s s' :
             → (k.agreement.run r).ended ≡ true
         by_heads place word rest is = (subst (agreement_schedules.AllEnabled (rules_of m l) k.agreement) (are.all_heads ∙ ap (λ hs. hs ++ replicate are.passes (agreement.Pass r)) is) are.enabled).1.0.1
 
-        at_release : (kind' : EventKind) → kind' ≡ kinds.Release → sections.IsLineChunk m l k.agreement r kind' q (s.word are.ask.0) are.heads
+        at_release : (kind' : EventKind) → kind' ≡ kinds.Release → sections.IsLineChunk m l k.agreement r kind' (s.part r) q (s.word are.ask.0) are.heads
             → (k.agreement.run r).ended ≡ true
         at_release kinds.Release is chunk = ⊎_elim (λ h. by_heads chunk.0 chunk.1 [] h.1)
-            (λ h. by_heads chunk.0 chunk.1 (agreement.Finish r ∷ []) h.1) chunk.3
+            (λ h. by_heads chunk.0 chunk.1 (agreement.Finish r ∷ sections.retires_own (s.part r).published q.descriptor) h.1) chunk.3
         at_release kind' is chunk = absurd (let no : ⊥ = cc in no)
 
-        released : sections.IsInsideChunk m l k.agreement r (is_open_run q) kind q (s.word are.ask.0) are.heads → (k.agreement.run r).ended ≡ true
-        released chunk = at_release kind new.release (subst (λ b. sections.IsInsideChunk m l k.agreement r b kind q (s.word are.ask.0) are.heads) new.open_run chunk)
+        released : sections.IsInsideChunk m l k.agreement r (is_open_run q) kind (s.part r) q (s.word are.ask.0) are.heads → (k.agreement.run r).ended ≡ true
+        released chunk = at_release kind new.release (subst (λ b. sections.IsInsideChunk m l k.agreement r b kind (s.part r) q (s.word are.ask.0) are.heads) new.open_run chunk)
 
     run_is : IsRunOf (k.agreement.run r) q
     run_is = run_here m l k.agreement s joined r q new.runs

@@ -7,7 +7,6 @@ use Rattle.machine_states.specs.body_terms.specs.Line.{is_end}
 use Rattle.machine_states.specs.table_words.specs.declared.layout.Layout.{Layout}
 use Rattle.machine_states.specs.structure_laws.specs.Meaning.{Meaning}
 use Rattle.machine_states.specs.epoch_core.specs.Moves.{is_clear}
-use Rattle.machine_states.specs.runner_parts.specs.declared.entries.Published.{Published}
 use Rattle.machine_states.specs.runner_parts.specs.declared.event.EventKind.{EventKind}
 use Rattle.machine_states.specs.runner_parts.specs.declared.event.EventKind.TheVariants as kinds
 use Rattle.machine_states.specs.epoch_core.specs.declared.stage.Stage.{Stage}
@@ -48,10 +47,6 @@ module _ (m : Meaning) (l : Layout) where
   advance_same p (stages.Scanning x next clear) = if_same (nat_lt x last_epoch) p _ _ refl refl
   advance_same p _ = refl
 
-  retire_same : (p : PartState) (o : Option Published) (found : ℕ) → Same p (outside.retire_after p o found)
-  retire_same p None found = refl
-  retire_same p (Some x) found = refl
-
   outside_same : (kind : EventKind) (p : PartState) (found : ℕ) → Same p (outside_after m l kind p found)
   outside_same (kinds.ScanOne n) p found = scan_same p p.stage found
   outside_same kinds.Advance p found = advance_same p p.stage
@@ -59,7 +54,6 @@ module _ (m : Meaning) (l : Layout) where
   outside_same (kinds.LoadEntry request reply) p found = learned_same p.records request reply found
   outside_same (kinds.PrivateLoad slot word) p found = if_same (nat_lt slot (slot_count l m.fixed_slots)) p _ _ refl refl
   outside_same (kinds.Hold thunk d) p found = if_same (found == thunk.word) p _ _ refl refl
-  outside_same kinds.EpochForRetire p found = retire_same p p.published found
   outside_same (kinds.LoadCell (Some place)) p found = refl
   outside_same (kinds.LoadThunk (Some d)) p found = refl
   outside_same _ p found = refl
@@ -97,7 +91,6 @@ module _ (m : Meaning) (l : Layout) where
 
     line_same : (kind : EventKind) (micro : Micro) → is_open_run q ≡ true
         → Same p (line_after m l kind p q micro found) ⊎ Ends p q kind (line_after m l kind p q micro found)
-    line_same kinds.Commit micro opened = inl (if_same (inside.is_of_lock micro) p _ _ refl refl)
     line_same (kinds.PrivateLoad slot word) micro opened = inl (fill_same slot q.made)
     line_same kinds.MakeCommit micro opened = inl (make_same q.made)
     line_same kinds.StampExchange micro opened = inl stamp_same

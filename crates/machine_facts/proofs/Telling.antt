@@ -1,5 +1,5 @@
 -- Each step of a runner leaves it knowing the words to which its run has written.
-use Rattle.std.specs.Prelude.{◌==◌, ◌&&◌, ◌||◌, not, nat_lt, cond, Bool, true, false, slice_index_or, if◌then◌else◌}
+use Rattle.std.specs.Prelude.{◌==◌, ◌&&◌, not, nat_lt, cond, Bool, true, false, slice_index_or, if◌then◌else◌}
 use Rattle.std.proofs.Common.{◌≡◌, ◌≢◌, ℕ, ◌+◌, ◌-◌, ◌<◌, List, [], ◌∷◌, ◌++◌, refl, sym, ap, ◌∙◌, subst, ⊎_elim, arith, Option, Some, None}
 use Rattle.std.proofs.lemmas.Bool.{cases_eq, cases_lt, and_parts}
 use Rattle.std.proofs.lemmas.Bool.Decides.{nat_tests}
@@ -207,8 +207,7 @@ module _ (m : Meaning) (l : Layout) (p : PartState) (q : RunState) (is : p.run �
     -- a step of a run's line
     pub line_told : (kind : EventKind) (found : ℕ) → ((n : ℕ) → next_of m q ≡ micros.ReplyExchange n → n ≢ 0)
         → line_ask m l kind p.nodes.free q (next_of m q) ≡ Some x → PartIsTold m (line_after m l kind p q (next_of m q) found)
-    line_told kinds.Commit found some asked = either (inside.is_of_lock (next_of m q)) _ _ (on kinds.Commit found refl asked _ _ refl refl refl refl)
-        (on kinds.Commit found refl asked _ _ refl refl refl refl)
+    line_told kinds.Commit found some asked = on kinds.Commit found refl asked _ _ refl refl refl refl
     line_told (kinds.LoadCell place) found some asked = on (kinds.LoadCell place) found refl asked _ _ refl refl refl refl
     line_told kinds.ExchangeCell found some asked = on kinds.ExchangeCell found refl asked _ _ refl refl refl refl
     line_told (kinds.PrivateLoad slot word) found some asked = fill_told slot word found asked q.made

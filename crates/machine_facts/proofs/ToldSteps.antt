@@ -9,12 +9,10 @@ use Rattle.machine_states.specs.body_terms.specs.Line.{micro_at}
 use Rattle.machine_states.specs.table_words.specs.declared.layout.Layout.{Layout}
 use Rattle.machine_states.specs.table_words.specs.declared.spot.Spot.{Spot}
 use Rattle.machine_states.specs.table_words.specs.declared.access.Access.{Access}
-use Rattle.machine_states.specs.table_words.specs.Access.{written}
 use Rattle.machine_states.specs.table_words.specs.Places.{slot_count}
 use Rattle.machine_states.specs.table_words.specs.Seen.{upd}
 use Rattle.machine_states.specs.structure_laws.specs.Meaning.{Meaning}
 use Rattle.machine_states.specs.epoch_core.specs.Moves.{is_clear}
-use Rattle.machine_states.specs.runner_parts.specs.declared.entries.Published.{Published}
 use Rattle.machine_states.specs.runner_parts.specs.declared.event.EventKind.{EventKind}
 use Rattle.machine_states.specs.runner_parts.specs.declared.event.EventKind.TheVariants as kinds
 use Rattle.machine_states.specs.epoch_core.specs.declared.stage.Stage.{Stage}
@@ -67,10 +65,6 @@ module _ (m : Meaning) (l : Layout) (p : PartState) (none : p.run ≡ None) wher
   advance_told (stages.Scanning e next clear) = either (nat_lt e last_epoch) _ _ (rest _ refl) (rest p refl)
   advance_told _ = rest p refl
 
-  retire_told : (found : ℕ) (o : Option Published) → PartIsTold m (outside.retire_after p o found)
-  retire_told found None = rest p refl
-  retire_told found (Some y) = rest _ refl
-
   outside_told : (kind : EventKind) (found : ℕ) → PartIsTold m (outside_after m l kind p found)
   outside_told kinds.EnterLoad found = rest _ refl
   outside_told kinds.Announce found = rest _ refl
@@ -87,7 +81,6 @@ module _ (m : Meaning) (l : Layout) (p : PartState) (none : p.run ≡ None) wher
   outside_told (kinds.PrivateStore slot word number) found = rest _ refl
   outside_told (kinds.Hold thunk d) found = either (found == thunk.word) _ _ (rest _ refl) (rest _ refl)
   outside_told (kinds.LoadThunk (Some d)) found = starts m (outside.open_after d p found) (λ q is. ap (λ (y : RunState). y.at) (sym (some_same (outside.opened d found) q is)))
-  outside_told kinds.EpochForRetire found = retire_told found p.published
   outside_told (kinds.LoadCell None) found = rest p refl
   outside_told (kinds.LoadThunk None) found = rest p refl
   outside_told _ found = rest _ refl

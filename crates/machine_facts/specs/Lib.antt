@@ -1,6 +1,6 @@
 pub mod Steps
-pub mod Takes
 pub mod Got
+pub mod Watched
 pub mod Outcomes
 pub mod Known
 pub mod States

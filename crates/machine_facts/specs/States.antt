@@ -10,7 +10,6 @@ use Rattle.machine_states.specs.epoch_core.specs.declared.location.Location.TheV
 use Rattle.machine_states.specs.Sight.{Sight}
 use Rattle.machine_invariant.specs.Along.{Components, AreExact}
 use Rattle.machine_invariant.specs.States.{StateIsSound}
-use Rattle.machine_facts.specs.Takes.{TakesAreHeld}
 use Rattle.machine_facts.specs.Outcomes.{OutcomesAgree}
 use Rattle.machine_facts.specs.Known.{KnownStand}
 
@@ -24,8 +23,6 @@ pub record FactsStand (m : Meaning) (l : Layout) (s : Sight) (k : Components) : 
   pub sound : StateIsSound m l s k
   pub exact : AreExact m l k
   pub numbers : NumberAlike k
-  -- publishers hold the descriptors that the locks of their Takes named
-  pub takes : TakesAreHeld m l k.agreement k.epochs.holds s
   -- what is kept of runs that came to their end is what the plain run of the section's body gives
   pub outcomes : OutcomesAgree m l k.agreement s
   -- what runners know of stamp and reply words stands

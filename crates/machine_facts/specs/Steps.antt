@@ -26,15 +26,16 @@ pub record WordsStand (used : ℕ → Bool) (word word' : Spot → ℕ) : Type 0
       → word' (LogWord d k) ≡ word (LogWord d k)
 
 -- the step of a runner with this part releases a lock in a run of the section that this descriptor
--- has
-pub record IsRelease (p : PartState) (kind : EventKind) (d : ℕ) : Type 0 where
+-- has, which is done
+pub record IsRelease (p : PartState) (kind : EventKind) (word : Spot → ℕ) (d : ℕ) : Type 0 where
   pub release : kind ≡ kinds.Release
   pub run : RunState
   pub runs : p.run ≡ Some run
   pub of_section : run.descriptor ≡ d
+  pub done : word (DoneWord d) ≢ 0
 
--- a lock that names a section stands until a run of that section releases it
+-- a lock that names a section stands until a run of that section releases it, and that only once it is done
 abbrev pub LocksStand : Meaning → PartState → EventKind → (Spot → ℕ) → (Spot → ℕ) → Type 0
 LocksStand m p kind word word' = (place d : ℕ) → m.is_lock place ≡ true
     → value_of (word (Cell place)) ≡ suc d
-    → (word' (Cell place) ≡ word (Cell place)) ⊎ IsRelease p kind d
+    → (word' (Cell place) ≡ word (Cell place)) ⊎ IsRelease p kind word d

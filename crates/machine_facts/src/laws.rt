@@ -6,6 +6,7 @@ ghost use Rattle.machine_states.specs.runner_parts.specs.declared.event.Event.{E
 ghost use Rattle.machine_states.specs.World.{World};
 ghost use Rattle.machine_facts.specs.After.{FactsAfter, StepFactsAfter};
 ghost use Rattle.machine_facts.specs.Got.{ReachedGotLocksAreHeld};
+ghost use Rattle.machine_facts.specs.Watched.{ReachedSeenLocksStand};
 
 use machine_states::structure_laws::Structure;
 
@@ -33,6 +34,16 @@ pub fn steps_show_facts<S: Structure>(structure: &S)
 pub fn got_locks_are_held<S: Structure>(structure: &S)
     ensures { (layout : Layout) (requests : List Request)
         → ReachedGotLocksAreHeld (S.meaning structure.now) layout requests }
+{
+    let _ = structure;
+}
+
+/// In each state that the machine reaches, a lock at which a runner has read, since it entered, a word that
+/// names a section has that word still, or the section was done while it had it: in a state from which
+/// events lead to this one, the lock had that word and the section was done.
+pub fn seen_locks_stand<S: Structure>(structure: &S)
+    ensures { (layout : Layout) (requests : List Request)
+        → ReachedSeenLocksStand (S.meaning structure.now) layout requests }
 {
     let _ = structure;
 }

@@ -8,5 +8,5 @@
 mod laws;
 mod told;
 
-pub use laws::{got_locks_are_held, reached_states_show_facts, steps_show_facts};
+pub use laws::{got_locks_are_held, reached_states_show_facts, seen_locks_stand, steps_show_facts};
 pub use told::runs_are_told;

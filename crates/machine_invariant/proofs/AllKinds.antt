@@ -18,23 +18,22 @@ use Rattle.machine_states.specs.runner_steps.specs.Asks.{line_ask, opening_ask, 
 use Rattle.machine_states.specs.World.{is_join}
 use Rattle.machine_states.specs.Sight.{Sight, sight_after, Steps}
 use Rattle.machine_states.proofs.Sights.{some_none}
-use Rattle.machine_agreement.specs.machine_epochs.specs.Entries.{counts_of}
-use Rattle.machine_agreement.proofs.LineAsked.{line_asked}
+use Rattle.machine_guards.specs.machine_agreement.specs.machine_epochs.specs.Entries.{counts_of}
+use Rattle.machine_guards.specs.machine_agreement.proofs.LineAsked.{line_asked}
 use Rattle.machine_invariant.specs.Whole.{Beside, IsWhole}
-use Rattle.machine_invariant.proofs.Asked.{asked_by, line_heads, line_events}
+use Rattle.machine_invariant.proofs.Asked.{asked_by}
 use Rattle.machine_invariant.proofs.SuppliesSlots.{HoldsMet, slots_met}
 use Rattle.machine_invariant.proofs.Meeting.{having_met, has_met}
 use Rattle.machine_invariant.proofs.Chunked.{is_plain_line}
 use Rattle.machine_invariant.proofs.Pieces.{Pieces, KeepsWhole, pieces}
 use Rattle.machine_invariant.proofs.Plain.{plain_whole, outside_whole, join_whole}
-use Rattle.machine_invariant.proofs.Taking.{has_named, is_taking, taking_hold, taking_reading, taking_lock, taking_whole}
 use Rattle.machine_invariant.proofs.Makes.{private_load_whole, private_store_whole, make_commit_whole}
 use Rattle.machine_invariant.proofs.Retires.{retire_commit_whole, epoch_for_retire_whole}
 use Rattle.machine_invariant.proofs.Entering.{enter_again_whole, idle_whole}
 use Rattle.machine_invariant.proofs.Walking.{load_cell_whole}
 use Rattle.machine_invariant.proofs.Publishing.{hold_whole}
-use Rattle.machine_invariant.proofs.Freeing.{scan_one_whole, advance_whole}
-use Rattle.machine_invariant.proofs.SectionsRetired.{section_retired_whole}
+use Rattle.machine_invariant.proofs.Freeing.{load_guard_whole}
+use Rattle.machine_invariant.proofs.SectionsRetired.{release_whole}
 use Rattle.machine_invariant.proofs.Reading.{read_reply_whole, read_stamp_whole}
 use Rattle.machine_invariant.proofs.Following.{StepsWhole, assembled, goes_reached}
 
@@ -81,22 +80,6 @@ module _ (m : Meaning) (laws : Laws m) (l : Layout) (limits : IsWithinLimits l) 
     plain kind asked other j is_plain = direct kind asked other (plain_whole m laws l limits rs g s whole r x kind asked q is j is_plain)
 
     module _ (opened : is_open_run q ≡ true) where
-      -- a load of a lock's word for a Take
-      takes : (kind : EventKind) → asks m l rs r kind p ≡ Some x → is_read kind ≡ false → is_taking kind ≡ true → To kind
-      takes kind asked other taking =
-          let first = pieces m laws l limits rs few allowed g s (here kind) whole r kind (step_of kind asked) (no_read kind other) in
-          let line = line_heads m l r kind p q is opened (s.word x.0) g.agreement first.heads first.in_sections in
-          let had = has_named m laws l limits g s whole r q
-          (taking_lock m laws l limits rs g s whole r x q is opened kind (s.word x.0) first.heads taking line) in
-          let g' : Beside = record g { epochs = _ } in
-          let parts = pieces m laws l limits rs few allowed g' s (here kind) had.stands r kind (step_of kind asked)
-          (λ place t is low by. absurd (let clash : true ≡ false = sym (ap is_read is) ∙ other in cc)) in
-          let kept = taking_whole m laws l limits rs g' s had.stands r x q is opened kind asked taking had.held parts
-          (line_heads m l r kind p q is opened (s.word x.0) g.agreement parts.heads parts.in_sections)
-          (line_events m l r kind p q is opened (s.word x.0) parts.events parts.in_slots) in
-          assembled m l rs g s (here kind) r kind had.reaches had.enabled (step_of kind asked) parts kept
-          (goes_reached m l rs g s r kind (s.word x.0) _ had.reaches had.enabled (taking_hold kind taking) (taking_reading kind taking) kept.goes)
-
       line : (kind : EventKind) → asks m l rs r kind p ≡ Some x → To kind
       line (kinds.PrivateLoad slot cell) asked = direct (kinds.PrivateLoad slot cell) asked refl
           (private_load_whole m laws l limits rs few allowed g s whole r x slot cell asked q is opened)
@@ -108,8 +91,8 @@ module _ (m : Meaning) (laws : Laws m) (l : Layout) (limits : IsWithinLimits l) 
           direct kinds.RetireCommit asked refl (retire_commit_whole m laws l limits rs few allowed g s whole r x asked q is opened)
       line kinds.EpochForRetire asked =
           direct kinds.EpochForRetire asked refl (epoch_for_retire_whole m laws l limits rs few allowed g s whole r x asked q is opened)
-      line kinds.NestedLoad asked = takes kinds.NestedLoad asked refl refl
-      line kinds.OutcomeLoad asked = takes kinds.OutcomeLoad asked refl refl
+      line kinds.Release asked =
+          direct kinds.Release asked refl (release_whole m laws l limits rs few allowed g s whole r x asked q is opened)
       line (kinds.LoadCell (Some place)) asked = some_none x (line_asked m l rs r (kinds.LoadCell (Some place)) p q x asked is opened)
       line (kinds.Hold t d) asked = some_none x (line_asked m l rs r (kinds.Hold t d) p q x asked is opened)
       line (kinds.Join worker) asked = direct (kinds.Join worker) asked refl (join_whole m laws l limits rs g s whole r x worker asked)
@@ -150,14 +133,11 @@ module _ (m : Meaning) (laws : Laws m) (l : Layout) (limits : IsWithinLimits l) 
     outside kinds.EnterAgain asked =
         direct kinds.EnterAgain asked refl (enter_again_whole m laws l limits rs few allowed g s whole r x asked none)
     outside kinds.Idle asked = direct kinds.Idle asked refl (idle_whole m laws l limits rs few allowed g s whole r x asked none)
-    outside (kinds.ScanOne n) asked =
-        direct (kinds.ScanOne n) asked refl (scan_one_whole m laws l limits rs few allowed g s whole r x n asked none)
-    outside kinds.Advance asked = direct kinds.Advance asked refl (advance_whole m laws l limits rs few allowed g s whole r x asked none)
+    outside (kinds.LoadGuard n) asked =
+        direct (kinds.LoadGuard n) asked refl (load_guard_whole m laws l limits rs few allowed g s whole r x n asked none)
     outside (kinds.LoadCell (Some place)) asked = reads_cell place asked
     outside (kinds.Hold t d) asked =
         direct (kinds.Hold t d) asked refl (hold_whole m laws l limits rs few allowed g s whole of r x t d asked none)
-    outside kinds.EpochForRetire asked =
-        direct kinds.EpochForRetire asked refl (section_retired_whole m laws l limits rs few allowed g s whole r x asked none)
     outside (kinds.Join worker) asked = direct (kinds.Join worker) asked refl (join_whole m laws l limits rs g s whole r x worker asked)
     outside kinds.ReadReply asked = direct kinds.ReadReply asked refl (read_reply_whole m laws l limits rs g s whole r x asked none)
     outside kinds.ReadStamp asked = direct kinds.ReadStamp asked refl (read_stamp_whole m laws l limits rs g s whole r x asked none)

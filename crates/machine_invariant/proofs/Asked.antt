@@ -21,10 +21,10 @@ use Rattle.machine_states.specs.epoch_core.specs.State.{EpochState, is_entered}
 use Rattle.machine_states.specs.epoch_core.specs.Events as epochs
 use Rattle.machine_states.specs.Sight.{Sight}
 use Rattle.machine_states.proofs.Sights.{unless_gone}
-use Rattle.machine_agreement.specs.machine_epochs.specs.Joined as joins
-use Rattle.machine_agreement.specs.machine_epochs.specs.Chunks as slots
-use Rattle.machine_agreement.specs.Joined.{IsRunOf}
-use Rattle.machine_agreement.specs.Chunks as chunks
+use Rattle.machine_guards.specs.machine_agreement.specs.machine_epochs.specs.Joined as joins
+use Rattle.machine_guards.specs.machine_agreement.specs.machine_epochs.specs.Chunks as slots
+use Rattle.machine_guards.specs.machine_agreement.specs.Joined.{IsRunOf}
+use Rattle.machine_guards.specs.machine_agreement.specs.Chunks as chunks
 
 module _ (m : Meaning) (l : Layout) (r : ℕ) (kind : EventKind) (p : PartState) where
   -- what it asks for, by the runner's run
@@ -35,8 +35,8 @@ module _ (m : Meaning) (l : Layout) (r : ℕ) (kind : EventKind) (p : PartState)
   -- where the run has read its thunk, its events are those of the run's line
   module _ (q : RunState) (is : p.run ≡ Some q) (opened : is_open_run q ≡ true) (found : ℕ) where
     pub line_heads : (w : AgreementState) (heads : List agreement.Event) → chunks.IsChunk m l w r kind p p.run found heads
-        → chunks.IsLineChunk m l w r kind q found heads
-    line_heads w heads chunk = subst (λ b. chunks.IsInsideChunk m l w r b kind q found heads) opened
+        → chunks.IsLineChunk m l w r kind p q found heads
+    line_heads w heads chunk = subst (λ b. chunks.IsInsideChunk m l w r b kind p q found heads) opened
         (subst (λ (o : Option RunState). chunks.IsChunk m l w r kind p o found heads) is chunk)
 
     pub line_events : (vs : List epochs.Event) → slots.IsChunk m l r kind p p.run found vs

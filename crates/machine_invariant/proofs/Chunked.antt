@@ -13,37 +13,16 @@ use Rattle.machine_states.specs.runner_steps.specs.Sections.{is_open_run, next_o
 use Rattle.agreement_core.specs.State.{AgreementState}
 use Rattle.agreement_core.specs.Events as agreement
 use Rattle.machine_states.specs.epoch_core.specs.Events as epochs
-use Rattle.machine_agreement.specs.machine_epochs.proofs.Reaching.{leaves_descriptors}
-use Rattle.machine_agreement.specs.machine_epochs.specs.Chunks as slots
-use Rattle.machine_agreement.specs.machine_scenes.specs.Kinds.{is_alone}
-use Rattle.machine_agreement.specs.Chunks as sections
-use Rattle.machine_invariant.specs.Named.{LoadsLock, LoadNoLock}
+use Rattle.machine_guards.specs.machine_agreement.specs.machine_epochs.proofs.Reaching.{leaves_descriptors}
+use Rattle.machine_guards.specs.machine_agreement.specs.machine_epochs.specs.Chunks as slots
+use Rattle.machine_guards.specs.machine_agreement.specs.machine_scenes.specs.Kinds.{is_alone}
+use Rattle.machine_guards.specs.machine_agreement.specs.Chunks as sections
 use Rattle.machine_invariant.proofs.Runs.{AllAre}
 use Rattle.machine_invariant.proofs.Quiet.{is_still}
 
--- no load of a lock's word for a Take
-abbrev pub is_unlocked : agreement.Event → Bool
-is_unlocked (agreement.NestedLoad r place log) = false
-is_unlocked (agreement.OutcomeLoad r place log) = false
-is_unlocked _ = true
-
-one_unlocked : (e : agreement.Event) → is_unlocked e ≡ true → (r p : ℕ) → LoadsLock e r p → ⊥
-one_unlocked e is r p (log, loads) = ⊎_elim (λ h. nested e r p log is h) (λ h. outcome e r p log is h) loads
-  where
-    nested : (e : agreement.Event) (r p log : ℕ) → is_unlocked e ≡ true → e ≡ agreement.NestedLoad r p log → ⊥
-    nested e r p log is h = let f : is_unlocked (agreement.NestedLoad r p log) ≡ true = subst (λ v. is_unlocked v ≡ true) h is in cc
-
-    outcome : (e : agreement.Event) (r p log : ℕ) → is_unlocked e ≡ true → e ≡ agreement.OutcomeLoad r p log → ⊥
-    outcome e r p log is h = let f : is_unlocked (agreement.OutcomeLoad r p log) ≡ true = subst (λ v. is_unlocked v ≡ true) h is in cc
-
-pub all_unlocked : (es : List agreement.Event) → AllAre is_unlocked es → LoadNoLock es
-all_unlocked [] are = tt
-all_unlocked (e ∷ es) are = (one_unlocked e are.0, all_unlocked es are.1)
-
--- nothing is published, retired or freed by these, nor is a lock's word loaded for a Take
+-- nothing is published, retired or freed by these
 pub record AreCalm (heads : List agreement.Event) : Type 0 where
   pub still : AllAre is_still heads
-  pub unlocked : AllAre is_unlocked heads
 
 -- and by these nobody enters or leaves, no Make or Retire is concerned, and no descriptor goes anywhere
 pub record AreSteady (vs : List epochs.Event) : Type 0 where
@@ -51,21 +30,21 @@ pub record AreSteady (vs : List epochs.Event) : Type 0 where
   pub leaves : AllAre leaves_descriptors vs
 
 none_calm : AreCalm []
-none_calm = record { still = tt; unlocked = tt }
+none_calm = record { still = tt }
 
 none_steady : AreSteady []
 none_steady = record { alone = tt; leaves = tt }
 
-one_calm : (e : agreement.Event) → is_still e ≡ true → is_unlocked e ≡ true → AreCalm (e ∷ [])
-one_calm e still unlocked = record { still = (still, tt); unlocked = (unlocked, tt) }
+one_calm : (e : agreement.Event) → is_still e ≡ true → AreCalm (e ∷ [])
+one_calm e still = record { still = (still, tt) }
 
-read_calm : (place : ℕ) (e : agreement.Event) → is_still e ≡ true → is_unlocked e ≡ true → AreCalm (agreement.Read place ∷ e ∷ [])
-read_calm place e still unlocked = record { still = (refl, (still, tt)); unlocked = (refl, (unlocked, tt)) }
+read_calm : (place : ℕ) (e : agreement.Event) → is_still e ≡ true → AreCalm (agreement.Read place ∷ e ∷ [])
+read_calm place e still = record { still = (refl, (still, tt)) }
 
 one_steady : (v : epochs.Event) → is_alone v ≡ true → leaves_descriptors v ≡ true → AreSteady (v ∷ [])
 one_steady v alone leaves = record { alone = (alone, tt); leaves = (leaves, tt) }
 
--- the steps in runs that concern no slot of a Make, no Retire, and load no lock's word
+-- the steps in runs that concern no slot of a Make and no Retire, and are no release
 abbrev pub is_plain_line : EventKind → Bool
 is_plain_line (kinds.PrivateLoad slot word) = false
 is_plain_line (kinds.PrivateStore slot word number) = false
@@ -73,49 +52,44 @@ is_plain_line kinds.MakeCommit = false
 is_plain_line (kinds.Hold thunk d) = false
 is_plain_line kinds.RetireCommit = false
 is_plain_line kinds.EpochForRetire = false
-is_plain_line kinds.NestedLoad = false
-is_plain_line kinds.OutcomeLoad = false
+is_plain_line kinds.Release = false
 is_plain_line _ = true
 
 module _ (m : Meaning) (l : Layout) (w : AgreementState) (r : ℕ) where
-  line_calm : (kind : EventKind) (q : RunState) (found : ℕ) (heads : List agreement.Event) → is_plain_line kind ≡ true
-      → sections.IsLineChunk m l w r kind q found heads → AreCalm heads
-  line_calm kinds.Commit q found heads plain chunk =
-      ⊎_elim (λ h. subst AreCalm (sym h.1) (one_calm _ refl refl)) (λ h. subst AreCalm (sym h.1) (one_calm _ refl refl)) chunk.2
-  line_calm (kinds.LoadCell None) q found heads plain chunk = subst AreCalm (sym chunk.3) (one_calm _ refl refl)
-  line_calm kinds.ExchangeCell q found heads plain chunk = subst AreCalm (sym chunk.4) (read_calm _ _ refl refl)
-  line_calm (kinds.PrivateLoad slot cell) q found heads plain chunk = absurd (cc)
-  line_calm (kinds.PrivateStore slot cell number) q found heads plain chunk = absurd (cc)
-  line_calm kinds.MakeCommit q found heads plain chunk = absurd (cc)
-  line_calm kinds.RetireCommit q found heads plain chunk = absurd (cc)
-  line_calm kinds.EpochForRetire q found heads plain chunk = absurd (cc)
-  line_calm kinds.NestedLoad q found heads plain chunk = absurd (cc)
-  line_calm kinds.OutcomeLoad q found heads plain chunk = absurd (cc)
-  line_calm kinds.ClockLoad q found heads plain chunk = subst AreCalm (sym chunk.1) (one_calm _ refl refl)
-  line_calm kinds.StampExchange q found heads plain chunk = subst AreCalm (sym chunk.1) (one_calm _ refl refl)
-  line_calm kinds.ClockRaise q found heads plain chunk = subst AreCalm (sym chunk.1) (one_calm _ refl refl)
-  line_calm kinds.ReplyExchange q found heads plain chunk = subst AreCalm (sym chunk.2) (one_calm _ refl refl)
-  line_calm kinds.NestedHold q found heads plain chunk = subst AreCalm (sym chunk.3) (read_calm _ _ refl refl)
-  line_calm kinds.OutcomeCommit q found heads plain chunk = subst AreCalm (sym chunk.3) (one_calm _ refl refl)
-  line_calm kinds.SetDone q found heads plain chunk = subst AreCalm (sym chunk.1) (one_calm _ refl refl)
-  line_calm kinds.Release q found heads plain chunk = ⊎_elim (λ h. subst AreCalm (sym h.1) (read_calm _ _ refl refl))
-      (λ h. subst AreCalm (sym h.1) (record { still = (refl, (refl, (refl, tt))); unlocked = (refl, (refl, (refl, tt))) })) chunk.3
-  line_calm _ q found heads plain chunk = subst AreCalm (sym chunk) none_calm
+  line_calm : (kind : EventKind) (p : PartState) (q : RunState) (found : ℕ) (heads : List agreement.Event) → is_plain_line kind ≡ true
+      → sections.IsLineChunk m l w r kind p q found heads → AreCalm heads
+  line_calm kinds.Commit p q found heads plain chunk =
+      ⊎_elim (λ h. subst AreCalm (sym h.1) (one_calm _ refl)) (λ h. subst AreCalm (sym h.1) (one_calm _ refl)) chunk.2
+  line_calm (kinds.LoadCell None) p q found heads plain chunk = subst AreCalm (sym chunk.3) (one_calm _ refl)
+  line_calm kinds.ExchangeCell p q found heads plain chunk = subst AreCalm (sym chunk.4) (read_calm _ _ refl)
+  line_calm (kinds.PrivateLoad slot cell) p q found heads plain chunk = absurd (cc)
+  line_calm (kinds.PrivateStore slot cell number) p q found heads plain chunk = absurd (cc)
+  line_calm kinds.MakeCommit p q found heads plain chunk = absurd (cc)
+  line_calm kinds.RetireCommit p q found heads plain chunk = absurd (cc)
+  line_calm kinds.EpochForRetire p q found heads plain chunk = absurd (cc)
+  line_calm kinds.Release p q found heads plain chunk = absurd (cc)
+  line_calm kinds.NestedLoad p q found heads plain chunk = subst AreCalm (sym chunk.3) (one_calm _ refl)
+  line_calm kinds.OutcomeLoad p q found heads plain chunk = subst AreCalm (sym chunk.3) (one_calm _ refl)
+  line_calm kinds.ClockLoad p q found heads plain chunk = subst AreCalm (sym chunk.1) (one_calm _ refl)
+  line_calm kinds.StampExchange p q found heads plain chunk = subst AreCalm (sym chunk.1) (one_calm _ refl)
+  line_calm kinds.ClockRaise p q found heads plain chunk = subst AreCalm (sym chunk.1) (one_calm _ refl)
+  line_calm kinds.ReplyExchange p q found heads plain chunk = subst AreCalm (sym chunk.2) (one_calm _ refl)
+  line_calm kinds.NestedHold p q found heads plain chunk = subst AreCalm (sym chunk.3) (read_calm _ _ refl)
+  line_calm kinds.OutcomeCommit p q found heads plain chunk = subst AreCalm (sym chunk.3) (one_calm _ refl)
+  line_calm kinds.SetDone p q found heads plain chunk = subst AreCalm (sym chunk.1) (one_calm _ refl)
+  line_calm _ p q found heads plain chunk = subst AreCalm (sym chunk) none_calm
 
-  pub inside_calm : (kind : EventKind) (q : RunState) (found : ℕ) (heads : List agreement.Event) (b : Bool) → is_plain_line kind ≡ true
-      → sections.IsInsideChunk m l w r b kind q found heads → AreCalm heads
-  inside_calm kind q found heads true plain chunk = line_calm kind q found heads plain chunk
-  inside_calm kind q found heads false plain chunk = subst AreCalm (sym chunk) none_calm
-
-  reach_steady : (comes : ℕ → Bool) (q : RunState) (log : ℕ) → AreSteady (slots.agreed_lock r comes q log)
-  reach_steady comes q log = record { alone = (refl, (refl, tt)); leaves = (refl, (refl, tt)) }
+  pub inside_calm : (kind : EventKind) (p : PartState) (q : RunState) (found : ℕ) (heads : List agreement.Event) (b : Bool) → is_plain_line kind ≡ true
+      → sections.IsInsideChunk m l w r b kind p q found heads → AreCalm heads
+  inside_calm kind p q found heads true plain chunk = line_calm kind p q found heads plain chunk
+  inside_calm kind p q found heads false plain chunk = subst AreCalm (sym chunk) none_calm
 
   line_steady : (kind : EventKind) (p : PartState) (q : RunState) (micro : Micro) (found : ℕ) (vs : List epochs.Event)
       → is_plain_line kind ≡ true
       → slots.IsLineChunk m l r kind p q micro found vs → AreSteady vs
-  line_steady kinds.Commit p q micro found vs plain chunk =
-      ⊎_elim (λ h. subst AreSteady (sym h.1) (one_steady _ refl refl)) (λ h. subst AreSteady (sym h.1) (reach_steady _ q _)) chunk.2
-  line_steady kinds.OutcomeCommit p q micro found vs plain chunk = subst AreSteady (sym chunk.3) (reach_steady _ q _)
+  line_steady kinds.Commit p q micro found vs plain chunk = subst AreSteady (sym chunk.3) (one_steady _ refl refl)
+  line_steady kinds.OutcomeCommit p q micro found vs plain chunk = subst AreSteady (sym chunk.3) (one_steady _ refl refl)
+  line_steady kinds.Release p q micro found vs plain chunk = absurd (cc)
   line_steady (kinds.PrivateLoad slot cell) p q micro found vs plain chunk = absurd (cc)
   line_steady kinds.MakeCommit p q micro found vs plain chunk = absurd (cc)
   line_steady kinds.EpochForRetire p q micro found vs plain chunk = absurd (cc)
@@ -128,16 +102,14 @@ module _ (m : Meaning) (l : Layout) (w : AgreementState) (r : ℕ) where
   inside_steady kind p q found vs true plain chunk = line_steady kind p q (next_of m q) found vs plain chunk
   inside_steady kind p q found vs false plain chunk = subst AreSteady (sym chunk) none_steady
 
--- the steps outside runs by which nobody enters, leaves, reads a cell, publishes, retires, may end a scan or writes a word
--- of a read, but for joins
+-- the steps outside runs by which nobody enters, leaves, reads a cell, publishes, goes on with a sweep or writes a word of
+-- a read, but for joins
 abbrev pub is_plain_outside : EventKind → Bool
 is_plain_outside kinds.EnterAgain = false
 is_plain_outside kinds.Idle = false
-is_plain_outside (kinds.ScanOne n) = false
-is_plain_outside kinds.Advance = false
 is_plain_outside (kinds.LoadCell (Some place)) = false
 is_plain_outside (kinds.Hold thunk d) = false
-is_plain_outside kinds.EpochForRetire = false
+is_plain_outside (kinds.LoadGuard n) = false
 is_plain_outside (kinds.Join worker) = false
 is_plain_outside kinds.ReadReply = false
 is_plain_outside kinds.ReadStamp = false
@@ -150,22 +122,20 @@ module _ (m : Meaning) (l : Layout) (w : AgreementState) (r : ℕ) where
       by : (b b' : Bool) → AreCalm (if b then [] else (if b' then agreement.StoreDone d number ∷ [] else agreement.StoreLog d
           (word - 13) number ∷ []))
       by true b' = none_calm
-      by false true = one_calm _ refl refl
-      by false false = one_calm _ refl refl
+      by false true = one_calm _ refl
+      by false false = one_calm _ refl
 
   pub outside_calm : (kind : EventKind) (p : PartState) (found : ℕ) (heads : List agreement.Event) → is_plain_outside kind ≡ true
       → sections.IsOutsideChunk m l w r kind p found heads → AreCalm heads
   outside_calm kinds.EnterAgain p found heads plain chunk = absurd (cc)
   outside_calm kinds.Idle p found heads plain chunk = absurd (cc)
-  outside_calm (kinds.ScanOne n) p found heads plain chunk = absurd (cc)
-  outside_calm kinds.Advance p found heads plain chunk = absurd (cc)
   outside_calm (kinds.LoadCell (Some place)) p found heads plain chunk = absurd (cc)
   outside_calm (kinds.Hold thunk d) p found heads plain chunk = absurd (cc)
-  outside_calm kinds.EpochForRetire p found heads plain chunk = absurd (cc)
+  outside_calm (kinds.LoadGuard n) p found heads plain chunk = absurd (cc)
   outside_calm (kinds.Join worker) p found heads plain chunk = absurd (cc)
   outside_calm kinds.ReadReply p found heads plain chunk = absurd (cc)
   outside_calm kinds.ReadStamp p found heads plain chunk = absurd (cc)
-  outside_calm (kinds.LoadThunk (Some d)) p found heads plain chunk = subst AreCalm (sym chunk) (one_calm _ refl refl)
+  outside_calm (kinds.LoadThunk (Some d)) p found heads plain chunk = subst AreCalm (sym chunk) (one_calm _ refl)
   outside_calm (kinds.PrivateStore slot word number) p found heads plain chunk =
       subst AreCalm (sym chunk.1) (stored_calm (slot - slot_count l m.fixed_slots) word number)
   outside_calm _ p found heads plain chunk = subst AreCalm (sym chunk) none_calm
@@ -192,11 +162,13 @@ module _ (m : Meaning) (l : Layout) (w : AgreementState) (r : ℕ) where
   outside_steady kinds.EnterAgain p found vs plain chunk = absurd (cc)
   outside_steady kinds.Idle p found vs plain chunk = absurd (cc)
   outside_steady kinds.ScanEpoch p found vs plain chunk = subst AreSteady (sym chunk) (one_steady _ refl refl)
-  outside_steady (kinds.ScanOne n) p found vs plain chunk = absurd (cc)
-  outside_steady kinds.Advance p found vs plain chunk = absurd (cc)
+  outside_steady (kinds.ScanOne n) p found vs plain chunk = ⊎_elim
+      (λ goes. subst AreSteady (sym goes.1) (one_steady _ refl refl)) (λ ends. subst AreSteady (sym ends.1) (one_steady _ refl refl)) chunk.3
+  outside_steady kinds.Advance p found vs plain chunk = subst AreSteady (sym chunk.4) (one_steady _ refl refl)
   outside_steady (kinds.LoadCell (Some place)) p found vs plain chunk = absurd (cc)
   outside_steady (kinds.Hold thunk d) p found vs plain chunk = absurd (cc)
-  outside_steady kinds.EpochForRetire p found vs plain chunk = absurd (cc)
+  outside_steady (kinds.Guard d) p found vs plain chunk = subst AreSteady (sym chunk) (one_steady _ refl refl)
+  outside_steady (kinds.LoadGuard n) p found vs plain chunk = absurd (cc)
   outside_steady (kinds.Join worker) p found vs plain chunk = absurd (cc)
   outside_steady (kinds.PrivateLoad slot cell) p found vs plain chunk = subst AreSteady (sym chunk) (looked_steady p.nodes slot cell found)
   outside_steady (kinds.PrivateStore slot word number) p found vs plain chunk =
@@ -209,7 +181,7 @@ module _ (m : Meaning) (l : Layout) (w : AgreementState) (r : ℕ) where
   join_calm worker p None found heads chunk = subst AreCalm (sym chunk) none_calm
   join_calm worker p (Some q) found heads chunk = by (is_open_run q) chunk
     where
-      by : (b : Bool) → sections.IsInsideChunk m l w r b (kinds.Join worker) q found heads → AreCalm heads
+      by : (b : Bool) → sections.IsInsideChunk m l w r b (kinds.Join worker) p q found heads → AreCalm heads
       by true chunk = subst AreCalm (sym chunk) none_calm
       by false chunk = subst AreCalm (sym chunk) none_calm
 

@@ -1,7 +1,6 @@
 -- A runner that enters, and one that leaves, keep the whole invariant.
-use Rattle.std.specs.Prelude.{replicate, is_none, true, false, All}
-use Rattle.std.proofs.Common.{◌≡◌, ◌≢◌, ℕ, ◌≤◌, List, [], ◌∷◌, length, sym, refl, ap, ◌∙◌, ⊎_elim, Option, Some, None}
-use Rattle.std.proofs.lemmas.Bool.{cases_eq}
+use Rattle.std.specs.Prelude.{replicate, true, All}
+use Rattle.std.proofs.Common.{◌≡◌, ◌≢◌, ℕ, ◌≤◌, List, [], ◌∷◌, length, sym, refl, ap, ◌∙◌, Some, None}
 use Rattle.machine_states.specs.map_history.specs.declared.op.Request.{Request}
 use Rattle.machine_states.specs.table_words.specs.declared.layout.Layout.{Layout}
 use Rattle.machine_states.specs.table_words.specs.declared.spot.Spot.{Spot}
@@ -12,74 +11,27 @@ use Rattle.machine_states.specs.structure_laws.specs.Laws.{Laws}
 use Rattle.machine_states.specs.structure_laws.specs.Sections.{IsAllowed}
 use Rattle.machine_states.specs.structure_laws.proofs.Changes.{upd_same, upd_other}
 use Rattle.machine_states.specs.runner_parts.specs.declared.event.EventKind.TheVariants as kinds
-use Rattle.machine_states.specs.runner_parts.specs.declared.entries.Published.{Published}
 use Rattle.machine_states.specs.runner_parts.specs.State.{ReadsState, PartState}
-use Rattle.machine_states.specs.runner_parts.specs.Tests.{has}
-use Rattle.machine_states.specs.runner_steps.specs.Outside.{idle_ask}
+use Rattle.machine_guards.specs.machine_agreement.specs.machine_epochs.proofs.OutsideAsked.{idle_away}
 use Rattle.machine_states.specs.runner_steps.specs.Asks.{asks}
 use Rattle.machine_states.specs.runner_steps.specs.After.{after_by, after}
 use Rattle.machine_states.specs.table_words.specs.Seen.{upd}
 use Rattle.agreement_core.specs.State.{IsOpen}
 use Rattle.agreement_core.specs.Events as agreement
-use Rattle.machine_states.specs.epoch_core.specs.declared.stage.Stage.TheVariants.{Idle}
-use Rattle.machine_states.specs.epoch_core.specs.State.{Counts, EpochState, is_entered}
+use Rattle.machine_states.specs.epoch_core.specs.State.{Counts}
 use Rattle.machine_states.specs.epoch_core.specs.Events as epochs
 use Rattle.machine_states.specs.Sight.{Sight, sight_after}
 use Rattle.machine_states.proofs.Updates.{upd_split}
-use Rattle.machine_states.proofs.Sights.{if_some}
-use Rattle.machine_agreement.specs.machine_epochs.specs.Entries.{counts_of}
-use Rattle.machine_agreement.specs.machine_scenes.specs.Steps as steps
-use Rattle.machine_agreement.specs.machine_scenes.proofs.Entries.{others_hold}
+use Rattle.machine_guards.specs.machine_agreement.specs.machine_epochs.specs.Entries.{counts_of}
+use Rattle.machine_guards.specs.machine_agreement.specs.machine_scenes.specs.Steps as steps
 use Rattle.machine_invariant.specs.Whole.{Beside, states_of, made_of, IsWhole}
-use Rattle.machine_invariant.proofs.Basics.{both}
 use Rattle.machine_invariant.proofs.Runs.{is_calm, step_stands, agreement_stands, passes_are}
-use Rattle.machine_invariant.proofs.Ties.{IsOnward}
 use Rattle.machine_invariant.proofs.Quiet.{is_still, hands_of, stands_now}
-use Rattle.machine_invariant.proofs.Chunked.{is_unlocked}
 use Rattle.machine_invariant.proofs.Thunks.{outside_leaves}
 use Rattle.machine_invariant.proofs.Sights.{thunks_after, outside_quiet}
 use Rattle.machine_invariant.proofs.Jointly.{IsWholeAfter, no_hold}
 use Rattle.machine_invariant.proofs.Pieces.{Pieces, KeepsWhole, Leads, led, keeps_by}
 use Rattle.machine_invariant.proofs.Outside.{outside_asked, outside_heads, outside_events, made_outside, published_after, onward_whole}
-
-module _ (m : Meaning) (l : Layout) (e : EpochState) (part : ℕ → PartState) (r : ℕ) (p' : PartState) where
-  -- who enters has published nothing in this entry
-  enter_onward : ((d : ℕ) → has p'.reads.published d ≡ false) → IsOnward m l e (epochs.after (counts_of m l) e (epochs.EnterAgain r)) part
-      (upd part r p')
-  enter_onward nothing = record {
-    entries = λ i d entered has_it. ⊎_elim
-        (λ same. absurd (let h = sym has_it ∙ (ap (λ (y : PartState). has y.reads.published d) (upd_same part r i p' same)
-        ∙ nothing d) in cc))
-        (λ ne. (
-          ap is_entered (sym (upd_other e.stage r i _ ne)) ∙ entered,
-          ap (λ (y : PartState). has y.reads.published d)
-              (sym (upd_other part r i p' ne)) ∙ has_it,
-        ))
-        (cases_eq i r);
-    holds = λ i t entered held. held;
-  }
-
-  -- who leaves isn't entered
-  still_in : (i : ℕ) → is_entered (upd e.stage r Idle i) ≡ true → i ≢ r
-  still_in i entered same = let h = sym entered ∙ ap is_entered (upd_same e.stage r i Idle same) in cc
-
-  leave_onward : IsOnward m l e (epochs.after (counts_of m l) e (epochs.Exit r)) part (upd part r p')
-  leave_onward = record {
-    entries = λ i d entered has_it. let ne = still_in i entered in (
-      ap is_entered (sym (upd_other e.stage r i _ ne)) ∙ entered,
-      ap (λ (y : PartState). has y.reads.published d)
-          (sym (upd_other part r i p' ne)) ∙ has_it,
-    );
-    holds = λ i t entered held. others_hold (counts_of m l) e r i t (still_in i entered) held;
-  }
-
--- who leaves has nothing to retire
-idle_unpublished : (r : ℕ) (p : PartState) (x : Spot × Access) → idle_ask r p ≡ Some x → p.published ≡ None
-idle_unpublished r p x e = no_option p.published (both _ _ (both _ _ (if_some _ _ x e).0).1).0
-  where
-    no_option : (o : Option Published) → is_none o ≡ true → o ≡ None
-    no_option None e = refl
-    no_option (Some y) e = absurd (let x = e in cc)
 
 module _ (m : Meaning) (laws : Laws m) (l : Layout) (limits : IsWithinLimits l) (rs : List Request) (few : length rs ≤ 131072)
     (allowed : All (λ (q : Request). IsAllowed q.op) rs) (g : Beside) (s : Sight) (whole : IsWhole m l g s) (r : ℕ)
@@ -90,7 +42,7 @@ module _ (m : Meaning) (laws : Laws m) (l : Layout) (limits : IsWithinLimits l) 
   abbrev c : Counts
   c = counts_of m l
 
-  -- a runner that enters has read and published nothing
+  -- a runner that enters has read nothing
   module _ (asked : asks m l rs r kinds.EnterAgain p ≡ Some x) (none : p.run ≡ None) where
     abbrev entered_sight : Sight
     entered_sight = sight_after m l s r kinds.EnterAgain x
@@ -109,10 +61,8 @@ module _ (m : Meaning) (laws : Laws m) (l : Layout) (limits : IsWithinLimits l) 
         (steps.after m l c (states_of g s) (steps.Enter r)) (made_of s)
         (passes_are is_calm (agreement.Pass r) refl go.passes) go.enabled (hands_of m laws l limits g.epochs s whole.slots) one in
         onward_whole m laws l limits g s entered_sight whole (replicate go.passes (agreement.Pass r))
-        (passes_are is_still (agreement.Pass r) refl go.passes)
-        (passes_are is_unlocked (agreement.Pass r) refl go.passes) go.enabled go.joined
+        (passes_are is_still (agreement.Pass r) refl go.passes) go.joined
         (epochs.after c g.epochs (epochs.EnterAgain r)) go.joined_slots
-        (enter_onward m l g.epochs s.part r entered_part (λ d. ap (λ (y : ReadsState). has y.published d) reads))
         (λ d. refl)
         (published_after m l s.part r entered_part kept)
         (thunks_after m l s r kinds.EnterAgain x (outside_leaves m l rs r p x kinds.EnterAgain refl
@@ -121,7 +71,7 @@ module _ (m : Meaning) (laws : Laws m) (l : Layout) (limits : IsWithinLimits l) 
         (upd_split s.part r entered_part (λ i y. y.reads.walk ≡ upd (λ i. (s.part i).reads.walk) r [] i)
         (ap (λ (y : ReadsState). y.walk) reads ∙ sym (upd_same (λ i. (s.part i).reads.walk) r r [] refl))
         (λ i ne. sym (upd_other (λ i. (s.part i).reads.walk) r i [] ne)))
-        (made_outside m l s r kinds.EnterAgain x refl none) two
+        (made_outside m l s r kinds.EnterAgain x refl none) two go.guards
 
     pub enter_again_whole : (pieces : Pieces m l g s entered_sight r kinds.EnterAgain x)
         → KeepsWhole m l g s entered_sight r kinds.EnterAgain x pieces
@@ -138,7 +88,7 @@ module _ (m : Meaning) (laws : Laws m) (l : Layout) (limits : IsWithinLimits l) 
     unowned : (d : ℕ) → g.agreement.live d ≡ true → g.publications.runner d ≢ r
     unowned d live same =
         let there = whole.tied.publisher d live in
-        let gone = idle_unpublished r p x (outside_asked m l rs g s left_sight r kinds.Idle x none asked) in
+        let gone = (idle_away r p x (outside_asked m l rs g s left_sight r kinds.Idle x none asked)).0 in
         let both = sym gone ∙ (ap (λ i. (s.part i).published) (sym same) ∙ there.1) in cc
 
     open_live : (d : ℕ) → IsOpen g.agreement d → g.agreement.live d ≡ true
@@ -155,14 +105,12 @@ module _ (m : Meaning) (laws : Laws m) (l : Layout) (limits : IsWithinLimits l) 
         (steps.after m l c (states_of g s) (steps.Leave r)) (made_of s)
         (passes_are is_calm (agreement.Pass r) refl go.passes) go.enabled (hands_of m laws l limits g.epochs s whole.slots) one in
         onward_whole m laws l limits g s left_sight whole (replicate go.passes (agreement.Pass r))
-        (passes_are is_still (agreement.Pass r) refl go.passes)
-        (passes_are is_unlocked (agreement.Pass r) refl go.passes) go.enabled go.joined
+        (passes_are is_still (agreement.Pass r) refl go.passes) go.joined
         (epochs.after c g.epochs (epochs.Exit r)) go.joined_slots
-        (leave_onward m l g.epochs s.part r (after m l r kinds.Idle x.0 x.1 p (s.word x.0)))
         (λ d. refl) quiet.stay.published
         (thunks_after m l s r kinds.Idle x (outside_leaves m l rs r p x kinds.Idle refl
         (outside_asked m l rs g s left_sight r kinds.Idle x none asked)))
-        (λ i. (s.part i).reads.walk) quiet.stay.walk quiet.made two
+        (λ i. (s.part i).reads.walk) quiet.stay.walk quiet.made two go.guards
 
     pub idle_whole : (pieces : Pieces m l g s left_sight r kinds.Idle x) → KeepsWhole m l g s left_sight r kinds.Idle x pieces
     idle_whole pieces = keeps_by m l g s left_sight r kinds.Idle x pieces [] (epochs.Exit r ∷ [])

@@ -25,19 +25,19 @@ use Rattle.machine_states.specs.World.{World}
 use Rattle.machine_states.specs.First.{IsFirst}
 use Rattle.machine_states.specs.Sight.{Sight, sight}
 use Rattle.machine_states.proofs.FirstSights.{first_parts}
-use Rattle.machine_agreement.specs.machine_epochs.specs.Entries.{counts_of}
-use Rattle.machine_agreement.specs.machine_epochs.specs.Firsts.{owner_of, first_place}
-use Rattle.machine_agreement.specs.machine_epochs.proofs.FirstJoin as joins
-use Rattle.machine_agreement.specs.machine_scenes.specs.Shown.{Publications, States}
-use Rattle.machine_agreement.specs.machine_scenes.specs.Schedules as scenes
-use Rattle.machine_agreement.specs.machine_scenes.specs.Kept.{IsKept}
-use Rattle.machine_agreement.specs.machine_scenes.proofs.First.{first_kept}
-use Rattle.machine_agreement.proofs.FirstJoined as sections
+use Rattle.machine_guards.specs.machine_agreement.specs.machine_epochs.specs.Entries.{counts_of}
+use Rattle.machine_guards.specs.machine_agreement.specs.machine_epochs.specs.Firsts.{owner_of, first_place}
+use Rattle.machine_guards.specs.machine_agreement.specs.machine_epochs.proofs.FirstJoin as joins
+use Rattle.machine_guards.specs.machine_agreement.specs.machine_scenes.specs.Shown.{Publications, States}
+use Rattle.machine_guards.specs.machine_agreement.specs.machine_scenes.specs.Schedules as scenes
+use Rattle.machine_guards.specs.machine_agreement.specs.machine_scenes.specs.Kept.{IsKept}
+use Rattle.machine_guards.specs.machine_agreement.specs.machine_scenes.proofs.First.{first_kept}
+use Rattle.machine_guards.specs.machine_agreement.proofs.FirstJoined as sections
 use Rattle.machine_slots.specs.Hands.{LocksAreHeld, SlotsAreFilled}
 use Rattle.machine_slots.proofs.Stores.{first_held, first_filled}
-use Rattle.machine_invariant.specs.Whole.{Beside, states_of, made_of, IsHeldFor, IsWhole}
+use Rattle.machine_invariant.specs.Whole.{Beside, states_of, made_of, IsWhole}
 use Rattle.machine_invariant.proofs.Basics.{not_both}
-use Rattle.machine_invariant.proofs.Named.{named_first}
+use Rattle.machine_guards.proofs.First.{first_stands}
 
 -- nothing is published at first
 abbrev pub no_publications : List Request → Publications
@@ -125,12 +125,10 @@ module _ (m : Meaning) (laws : Laws m) (l : Layout) (limits : IsWithinLimits l) 
       publisher = λ d live. not_both live refl;
       thunk = λ d used. not_both used refl;
       op = λ d used. not_both used refl;
-      mine = λ r d entered. not_both entered refl;
-      mine_held = λ r d entered. not_both entered refl;
     };
     kept = subst (IsKept m l c) same_states (first_kept m laws l limits c refl (first_place m l) first_scene (no_publications rs));
     held = subst (LocksAreHeld m c) same_states (first_held m c (first_place m l) (no_publications rs));
     filled = subst (λ (j : States). SlotsAreFilled m c j (made_of s)) same_states
         (first_filled m c (first_place m l) (no_publications rs) (made_of s));
-    named = named_first (IsHeldFor m l first_beside.epochs s.part) (λ p. s.word (Cell p));
+    guards = first_stands m l rs w start;
   }

@@ -12,7 +12,6 @@ pub mod Lengths
 pub mod LogWords
 pub mod States
 pub mod Along
-mod Named
 pub mod Runs
 mod Ties
 pub mod Parts
@@ -30,7 +29,6 @@ mod Makes
 mod Retires
 mod Outside
 mod Plain
-mod Taking
 mod Entering
 mod Walking
 mod Publishing

@@ -36,13 +36,13 @@ use Rattle.machine_states.specs.Sight.{Sight, sight_after}
 use Rattle.machine_states.proofs.Sights.{if_some, some_none}
 use Rattle.machine_states.proofs.Steps.{some_same}
 use Rattle.machine_states.proofs.Updates.{upd_here, upd_else}
-use Rattle.machine_agreement.specs.machine_epochs.specs.Entries.{counts_of}
-use Rattle.machine_agreement.specs.machine_scenes.specs.Kinds.{is_alone}
-use Rattle.machine_agreement.specs.machine_scenes.specs.Shown.{States}
-use Rattle.machine_agreement.specs.machine_scenes.specs.Steps.{Agreement, Fill, Make, MayMake}
-use Rattle.machine_agreement.specs.machine_scenes.specs.Steps as steps
-use Rattle.machine_agreement.proofs.LineAsked as asked_line
-use Rattle.machine_agreement.proofs.RunPlaces.{run_here}
+use Rattle.machine_guards.specs.machine_agreement.specs.machine_epochs.specs.Entries.{counts_of}
+use Rattle.machine_guards.specs.machine_agreement.specs.machine_scenes.specs.Kinds.{is_alone}
+use Rattle.machine_guards.specs.machine_agreement.specs.machine_scenes.specs.Shown.{States}
+use Rattle.machine_guards.specs.machine_agreement.specs.machine_scenes.specs.Steps.{Agreement, Fill, Make, MayMake}
+use Rattle.machine_guards.specs.machine_agreement.specs.machine_scenes.specs.Steps as steps
+use Rattle.machine_guards.specs.machine_agreement.proofs.LineAsked as asked_line
+use Rattle.machine_guards.specs.machine_agreement.proofs.RunPlaces.{run_here}
 use Rattle.machine_slots.specs.Hands.{LooksAt}
 use Rattle.machine_slots.proofs.Stores.{may_make_filled, fill_small}
 use Rattle.machine_invariant.specs.Whole.{Beside, states_of, made_in, made_of, IsWhole}
@@ -146,18 +146,18 @@ module _ (m : Meaning) (laws : Laws m) (l : Layout) (limits : IsWithinLimits l) 
     pub private_load_whole : (pieces : Pieces m l g s loaded r load x) → KeepsWhole m l g s loaded r load x pieces
     private_load_whole pieces =
         let heads = line_heads m l r load (s.part r) q is opened (s.word x.0) g.agreement pieces.heads pieces.in_sections in
-        let stay = stays_read m l s r load x refl q is opened in
+        let stay = stays_read m l s r load x refl q is opened refl in
         let thunks = thunks_stay m l s r load x refl q is opened rs asked in
         ⊎_elim
         (λ first. keeps_by m l g s loaded r load x pieces (loads heads.0 ∷ []) (epochs.TakeSlot r slot ∷ []) heads.2 first.1 g.publications refl
         (no_hold m l load (s.word x.0) refl) refl
         (λ go. line_whole m laws l limits g s loaded whole stay thunks r (loads heads.0) (epochs.TakeSlot r slot ∷ []) go
-        refl (record { used = refl; live = refl }) (refl, tt) refl refl
+        (record { used = refl; live = refl }) (refl, tt)
         (load_stands heads.0 (epochs.TakeSlot r slot ∷ []) go (inl first.0) (refl, tt))))
         (λ again. keeps_by m l g s loaded r load x pieces (loads heads.0 ∷ []) [] heads.2 again.1 g.publications refl
         (no_hold m l load (s.word x.0) refl) refl
         (λ go. line_whole m laws l limits g s loaded whole stay thunks r (loads heads.0) [] go
-        refl (record { used = refl; live = refl }) tt refl refl
+        (record { used = refl; live = refl }) tt
         (load_stands heads.0 [] go (inr again.0) tt)))
         (line_events m l r load (s.part r) q is opened (s.word x.0) pieces.events pieces.in_slots)
 
@@ -210,13 +210,13 @@ module _ (m : Meaning) (laws : Laws m) (l : Layout) (limits : IsWithinLimits l) 
     pub private_store_whole : (pieces : Pieces m l g s stored r store x) → KeepsWhole m l g s stored r store x pieces
     private_store_whole pieces =
         let heads = line_heads m l r store (s.part r) q is opened (s.word x.0) g.agreement pieces.heads pieces.in_sections in
-        let stay = stays_read m l s r store x refl q is opened in
+        let stay = stays_read m l s r store x refl q is opened refl in
         let thunks = thunks_stay m l s r store x refl q is opened rs asked in
         keeps_by m l g s stored r store x pieces (stores heads.0 heads.1 ∷ []) [] heads.4
         (line_events m l r store (s.part r) q is opened (s.word x.0) pieces.events pieces.in_slots) g.publications refl
         (no_hold m l store (s.word x.0) refl) refl
         (λ go. line_whole m laws l limits g s stored whole stay thunks r (stores heads.0 heads.1) [] go
-        refl (record { used = refl; live = refl }) tt refl refl
+        (record { used = refl; live = refl }) tt
         (store_stands heads.0 heads.1 heads.2 heads.3 go))
 
   -- a Make commits its slot
@@ -264,7 +264,7 @@ module _ (m : Meaning) (laws : Laws m) (l : Layout) (limits : IsWithinLimits l) 
         let events = line_events m l r kinds.MakeCommit (s.part r) q is opened (s.word x.0) pieces.events pieces.in_slots in
         let log = heads.0 in
         let slot = heads.1 in
-        let stay = stays_read m l s r kinds.MakeCommit x refl q is opened in
+        let stay = stays_read m l s r kinds.MakeCommit x refl q is opened refl in
         let thunks = thunks_stay m l s r kinds.MakeCommit x refl q is opened rs asked in
         let taken : pieces.events ≡ takes log slot ∷ [] = events.4
         ∙ (ap (λ k. epochs.MakeCommit r q.descriptor k events.1 q.worn ∷ []) (one_log events.0 log (next_of m q) events.2 heads.2)
@@ -273,5 +273,5 @@ module _ (m : Meaning) (laws : Laws m) (l : Layout) (limits : IsWithinLimits l) 
         keeps_by m l g s committed r kinds.MakeCommit x pieces (commits log slot ∷ []) (takes log slot ∷ []) heads.4 taken g.publications refl
         (no_hold m l kinds.MakeCommit (s.word x.0) refl) refl
         (λ go. line_whole m laws l limits g s committed whole stay thunks r (commits log slot) (takes log slot ∷ []) go
-        refl (record { used = refl; live = refl }) (refl, tt) refl refl
+        (record { used = refl; live = refl }) (refl, tt)
         (commit_stands log slot heads.3 go))

@@ -1,6 +1,7 @@
 -- Before a runner reads a cell outside a run, it comes to hold what it meets there.
-use Rattle.std.specs.Prelude.{All}
-use Rattle.std.proofs.Common.{◌≡◌, ℕ, ◌≤◌, List, [], ◌∷◌, length, refl, sym, subst, Some}
+use Rattle.std.specs.Prelude.{◌&&◌, Bool, true, false, nat_lt, All}
+use Rattle.std.proofs.Common.{◌≡◌, ℕ, ◌+◌, ◌≤◌, List, [], ◌∷◌, length, refl, sym, subst, arith, Some}
+use Rattle.std.proofs.lemmas.Bool.Decides.{nat_tests}
 use Rattle.machine_states.specs.map_history.specs.declared.op.Request.{Request}
 use Rattle.machine_states.specs.table_words.specs.declared.layout.Layout.{Layout}
 use Rattle.machine_states.specs.table_words.specs.declared.spot.Spot.{Spot}
@@ -13,11 +14,11 @@ use Rattle.machine_states.specs.runner_parts.specs.declared.event.EventKind.{Eve
 use Rattle.machine_states.specs.runner_parts.specs.declared.event.EventKind.TheVariants as kinds
 use Rattle.machine_states.specs.runner_steps.specs.Asks.{asks}
 use Rattle.machine_states.specs.epoch_core.specs.State.{Counts}
-use Rattle.machine_states.specs.epoch_core.specs.Events.{Event, Reach}
+use Rattle.machine_states.specs.epoch_core.specs.Events.{Event, Reach, slot_of}
 use Rattle.machine_states.specs.epoch_core.specs.Schedules.{AllEnabled, after_all}
 use Rattle.machine_states.specs.Sight.{Sight}
-use Rattle.machine_agreement.specs.machine_epochs.specs.Entries.{counts_of}
-use Rattle.machine_agreement.specs.machine_scenes.specs.Steps.{MeetsBy}
+use Rattle.machine_guards.specs.machine_agreement.specs.machine_epochs.specs.Entries.{counts_of}
+use Rattle.machine_guards.specs.machine_agreement.specs.machine_scenes.specs.Steps.{MeetsBy}
 use Rattle.machine_invariant.specs.Whole.{Beside, states_of, IsWhole}
 use Rattle.machine_invariant.proofs.Reaching.{now_held, whole_reached}
 use Rattle.machine_invariant.proofs.SuppliesSlots.{slots_met, by_met, HoldsMet, meets_reach}
@@ -38,6 +39,17 @@ pub record HasMet (m : Meaning) (l : Layout) (g : Beside) (s : Sight) (r : ℕ) 
   pub whole : IsWhole m l (having_met m l g r kind) s
   pub holds : HoldsMet m l (having_met m l g r kind) s r kind
 
+-- what is met are node slots
+met_apart : (m : Meaning) (c : Counts) (cells : ℕ → ℕ) (place d : ℕ) → slots_met m c cells place (slot_of c d) ≡ false
+met_apart m c cells place d = alone _ _ (above c.nodes d)
+  where
+    alone : (a b : Bool) → a ≡ false → (a && b) ≡ false
+    alone false b e = refl
+    alone true b e = absurd (let y = e in cc)
+
+    above : (n d : ℕ) → nat_lt (n + d) n ≡ false
+    above n d = grind (arith, nat_tests)
+
 same_place : {p p' : ℕ} → kinds.LoadCell (Some p) ≡ kinds.LoadCell (Some p') → p ≡ p'
 same_place e = cc
 
@@ -50,7 +62,7 @@ module _ (m : Meaning) (laws : Laws m) (l : Layout) (limits : IsWithinLimits l) 
       let ok = meets_reach m laws l limits rs few allowed g s whole r (kinds.LoadCell (Some place)) x asked place refl in
       record {
         enabled = (ok, tt);
-        whole = whole_reached m laws l limits g s r slots whole ok;
+        whole = whole_reached m laws l limits g s r slots (met_apart m (counts_of m l) g.agreement.shared.cells place) whole ok;
         holds = λ place' t is low by. now_held g.epochs.holds slots r t (by_met m l (counts_of m l) (states_of g s) place t low
             (subst (λ n. MeetsBy m l (counts_of m l) (states_of g s) n t) (sym (same_place is)) by));
       }

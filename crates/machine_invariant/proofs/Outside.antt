@@ -23,22 +23,20 @@ use Rattle.machine_states.specs.epoch_core.specs.Events.{slot_of}
 use Rattle.machine_states.specs.World.{is_join}
 use Rattle.machine_states.specs.Sight.{Sight, sight_after}
 use Rattle.machine_states.proofs.Updates.{upd_split}
-use Rattle.machine_agreement.specs.machine_epochs.specs.Entries.{counts_of}
-use Rattle.machine_agreement.specs.machine_epochs.specs.Slots.{thunk_in}
-use Rattle.machine_agreement.specs.machine_epochs.specs.Joined as joins
-use Rattle.machine_agreement.specs.machine_epochs.specs.Chunks as slots
-use Rattle.machine_agreement.specs.machine_scenes.specs.Shown.{States, rules_of}
-use Rattle.machine_agreement.specs.Joined as sections
-use Rattle.machine_agreement.specs.Chunks as chunks
-use Rattle.machine_invariant.specs.Named.{AreNamed}
-use Rattle.machine_invariant.specs.Whole.{Beside, states_of, made_in, made_of, IsHeldFor, HasPublished, AreTied, IsWhole}
+use Rattle.machine_guards.specs.machine_agreement.specs.machine_epochs.specs.Entries.{counts_of}
+use Rattle.machine_guards.specs.machine_agreement.specs.machine_epochs.specs.Slots.{thunk_in}
+use Rattle.machine_guards.specs.machine_agreement.specs.machine_epochs.specs.Joined as joins
+use Rattle.machine_guards.specs.machine_agreement.specs.machine_epochs.specs.Chunks as slots
+use Rattle.machine_guards.specs.machine_agreement.specs.machine_scenes.specs.Shown.{States, rules_of}
+use Rattle.machine_guards.specs.machine_agreement.specs.Joined as sections
+use Rattle.machine_guards.specs.machine_agreement.specs.Chunks as chunks
+use Rattle.machine_guards.specs.Stands.{GuardsStand}
+use Rattle.machine_invariant.specs.Whole.{Beside, states_of, made_in, made_of, HasPublished, AreTied, IsWhole}
 use Rattle.machine_invariant.proofs.Asked.{asked_by}
-use Rattle.machine_invariant.proofs.Named.{named_all}
 use Rattle.machine_invariant.proofs.Runs.{AllAre, Stands, filled_other}
 use Rattle.machine_invariant.proofs.Jointly.{IsWholeAfter}
-use Rattle.machine_invariant.proofs.Ties.{IsOnward, named_onward, tied_onward}
+use Rattle.machine_invariant.proofs.Ties.{tied_onward}
 use Rattle.machine_invariant.proofs.Quiet.{is_still, all_still, in_run, with_walk}
-use Rattle.machine_invariant.proofs.Chunked.{is_unlocked, all_unlocked}
 use Rattle.machine_invariant.proofs.Parts.{outside_made}
 use Rattle.machine_invariant.proofs.Sights.{after_is}
 use Rattle.machine_invariant.proofs.Pieces.{Pieces}
@@ -96,8 +94,8 @@ module _ (m : Meaning) (laws : Laws m) (l : Layout) (limits : IsWithinLimits l) 
       → (walk : ℕ → Readings) → ((i : ℕ) → (s'.part i).reads.walk ≡ walk i)
       → ((i : ℕ) (q : RunState) → (s'.part i).run ≡ Some q → q.made ≡ made_of s i)
       → Stands m laws l limits from (record (states_of g' s') { walk = walk }) (made_of s)
-      → AreNamed (IsHeldFor m l g'.epochs s'.part) g'.agreement → IsWholeAfter m l from g' s'
-  parts_whole g' s s' joined joined' tied walk same made stands named =
+      → GuardsStand m l g'.agreement g'.epochs s' → IsWholeAfter m l from g' s'
+  parts_whole g' s s' joined joined' tied walk same made stands guards =
       let new = with_walk m laws l limits (record (states_of g' s') { walk = walk }) (made_of s)
       (λ i. (s'.part i).reads.walk) same stands in
       record {
@@ -110,16 +108,15 @@ module _ (m : Meaning) (laws : Laws m) (l : Layout) (limits : IsWithinLimits l) 
           held = new.held;
           filled = filled_other m laws l limits (states_of g' s') (made_of s) (made_of s')
               (λ r running. let q = in_run m l g'.agreement s' joined r running in ap made_in q.1 ∙ made r q.0 q.1) new.filled;
-          named = named;
+          guards = guards;
         };
       }
 
-  -- the same where no descriptor goes anywhere, and whoever is entered and has published something was and had before
+  -- the same where no descriptor goes anywhere
   pub onward_whole : {from : States} (g : Beside) (s s' : Sight) → IsWhole m l g s
-      → (es : List agreement.Event) → AllAre is_still es → AllAre is_unlocked es → agreement_schedules.AllEnabled
-      (rules_of m l) g.agreement es
+      → (es : List agreement.Event) → AllAre is_still es
       → sections.IsJoinedToAgreement m l (agreement_schedules.after_all (rules_of m l) g.agreement es) s'
-      → (e' : EpochState) → joins.IsJoinedToEpochs m l e' s' → IsOnward m l g.epochs e' s.part s'.part
+      → (e' : EpochState) → joins.IsJoinedToEpochs m l e' s'
       → ((d : ℕ) → e'.location (slot_of c d) ≡ g.epochs.location (slot_of c d))
       → ((i d : ℕ) (t : Thunk) → HasPublished m l (s.part i) d t → HasPublished m l (s'.part i) d t)
       → ((d : ℕ) → thunk_in s'.word d ≡ thunk_in s.word d)
@@ -132,19 +129,17 @@ module _ (m : Meaning) (laws : Laws m) (l : Layout) (limits : IsWithinLimits l) 
         publications = g.publications;
         walk = walk;
       }) (made_of s)
+      → GuardsStand m l (agreement_schedules.after_all (rules_of m l) g.agreement es) e' s'
       → IsWholeAfter m l from (record {
         agreement = agreement_schedules.after_all
             (rules_of m l) g.agreement es;
         epochs = e';
         publications = g.publications;
       }) s'
-  onward_whole g s s' whole es still unlocked ok joined e' joined' on places published thunks walk same made stands =
+  onward_whole g s s' whole es still joined e' joined' places published thunks walk same made stands guards =
       let w = agreement_schedules.after_all (rules_of m l) g.agreement es in
       let uses = all_still (rules_of m l) g.agreement es still in
       parts_whole (record { agreement = w; epochs = e'; publications = g.publications }) s s' joined joined'
-      (tied_onward m l g.agreement w g.epochs e' g.publications s s' whole.tied on
+      (tied_onward m l g.agreement w g.epochs e' g.publications s s' whole.tied
       (λ d. ap (λ (f : ℕ → Bool). f d) uses.used) (λ d. ap (λ (f : ℕ → Bool). f d) uses.live) places published (λ d used. thunks d))
-      walk same made stands
-      (named_onward m l g.epochs e' s.part s'.part w joined.sound on
-      (named_all (rules_of m l) g.agreement whole.sections.sound (IsHeldFor m l g.epochs s.part) whole.named es ok
-      (all_unlocked es unlocked)))
+      walk same made stands guards

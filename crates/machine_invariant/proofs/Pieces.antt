@@ -10,24 +10,29 @@ use Rattle.machine_states.specs.structure_laws.specs.Meaning.{Meaning}
 use Rattle.machine_states.specs.structure_laws.specs.Laws.{Laws}
 use Rattle.machine_states.specs.structure_laws.specs.Sections.{IsAllowed}
 use Rattle.machine_states.specs.runner_parts.specs.declared.event.EventKind.{EventKind}
+use Rattle.machine_states.specs.runner_parts.specs.declared.event.EventKind.TheVariants as kinds
 use Rattle.agreement_core.specs.State.{AgreementState}
 use Rattle.agreement_core.specs.Events as agreement
 use Rattle.agreement_core.specs.Schedules as agreement_schedules
 use Rattle.machine_states.specs.epoch_core.specs.Events as epochs
 use Rattle.machine_states.specs.epoch_core.specs.Schedules as epoch_schedules
 use Rattle.machine_states.specs.Sight.{Sight, Steps}
-use Rattle.machine_agreement.specs.machine_epochs.specs.Entries.{counts_of}
-use Rattle.machine_agreement.specs.machine_epochs.specs.Joined as joins
-use Rattle.machine_agreement.specs.machine_epochs.specs.Chunks as slots
-use Rattle.machine_agreement.specs.machine_epochs.proofs.AllKinds as joins_kinds
-use Rattle.machine_agreement.specs.machine_scenes.specs.Shown.{Publications, rules_of}
-use Rattle.machine_agreement.specs.Joined as sections
-use Rattle.machine_agreement.specs.Chunks as chunks
-use Rattle.machine_agreement.proofs.AllKinds as sections_kinds
+use Rattle.machine_guards.specs.machine_agreement.specs.machine_epochs.specs.Entries.{counts_of}
+use Rattle.machine_guards.specs.machine_agreement.specs.machine_epochs.specs.Joined as joins
+use Rattle.machine_guards.specs.machine_agreement.specs.machine_epochs.specs.Chunks as slots
+use Rattle.machine_guards.specs.machine_agreement.specs.machine_epochs.proofs.AllKinds as joins_kinds
+use Rattle.machine_guards.specs.machine_agreement.specs.machine_scenes.specs.Shown.{Publications, rules_of}
+use Rattle.machine_guards.specs.machine_agreement.specs.Joined as sections
+use Rattle.machine_guards.specs.machine_agreement.specs.Chunks as chunks
+use Rattle.machine_guards.specs.machine_agreement.proofs.AllKinds as sections_kinds
 use Rattle.machine_invariant.specs.Whole.{Beside, states_of, IsWhole}
 use Rattle.machine_invariant.proofs.Jointly.{IsWholeAfter, is_reading, HoldsNothing, Goes, GoesByPublishing, GoesByReading}
 use Rattle.machine_invariant.proofs.SuppliesSections.{sections_supplied}
-use Rattle.machine_invariant.proofs.SuppliesSlots.{HoldsMet, slots_supplied}
+use Rattle.machine_invariant.proofs.SuppliesSlots.{HoldsMet, slots_supplied, guards_supplied}
+use Rattle.machine_invariant.proofs.Limbo.{SweepsSafely}
+use Rattle.machine_guards.specs.Stands.{GuardsStand}
+use Rattle.machine_guards.proofs.AllKinds as guards_kinds
+use Rattle.machine_guards.proofs.Safe.{sweep_safe}
 
 module _ (m : Meaning) (l : Layout) where
   -- the components' events of this runner's step of this kind on this word, and the states to which they lead
@@ -42,6 +47,9 @@ module _ (m : Meaning) (l : Layout) where
     pub in_slots : slots.IsChunk m l r kind (s.part r) (s.part r).run (s.word x.0) events
     pub enabled_slots : epoch_schedules.AllEnabled (counts_of m l) g.epochs events
     pub joined_slots : joins.IsJoinedToEpochs m l (epoch_schedules.after_all (counts_of m l) g.epochs events) s'
+    -- guards stand there
+    pub guards : GuardsStand m l (agreement_schedules.after_all (rules_of m l) g.agreement (heads ++ replicate passes (agreement.Pass r)))
+        (epoch_schedules.after_all (counts_of m l) g.epochs events) s'
 
   -- the states after these events of agreement, so many checks that pass behind them, and these events of epochs and slots
   abbrev pub led : Beside → ℕ → List agreement.Event → ℕ → List epochs.Event → Publications → Beside
@@ -81,6 +89,8 @@ module _ (m : Meaning) (l : Layout) where
         (heads ++ replicate passes (agreement.Pass r))) s'
     pub enabled_slots : epoch_schedules.AllEnabled (counts_of m l) g.epochs events
     pub joined_slots : joins.IsJoinedToEpochs m l (epoch_schedules.after_all (counts_of m l) g.epochs events) s'
+    pub guards : GuardsStand m l (agreement_schedules.after_all (rules_of m l) g.agreement (heads ++ replicate passes (agreement.Pass r)))
+        (epoch_schedules.after_all (counts_of m l) g.epochs events) s'
 
   module _ (g : Beside) (s s' : Sight) (r : ℕ) (kind : EventKind) (x : Spot × Access) (pieces : Pieces g s s' r kind x)
       (heads : List agreement.Event) (events : List epochs.Event) (same : pieces.heads ≡ heads) (same' : pieces.events ≡ events) where
@@ -94,6 +104,11 @@ module _ (m : Meaning) (l : Layout) where
           (es ++ replicate pieces.passes (agreement.Pass r))) s') same pieces.joined;
       enabled_slots = subst (λ es. epoch_schedules.AllEnabled (counts_of m l) g.epochs es) same' pieces.enabled_slots;
       joined_slots = subst (λ es. joins.IsJoinedToEpochs m l (epoch_schedules.after_all (counts_of m l) g.epochs es) s') same' pieces.joined_slots;
+      guards = subst (λ vs. GuardsStand m l (agreement_schedules.after_all (rules_of m l) g.agreement
+          (heads ++ replicate pieces.passes (agreement.Pass r))) (epoch_schedules.after_all (counts_of m l) g.epochs vs) s') same'
+          (subst (λ es. GuardsStand m l (agreement_schedules.after_all (rules_of m l) g.agreement
+          (es ++ replicate pieces.passes (agreement.Pass r))) (epoch_schedules.after_all (counts_of m l) g.epochs pieces.events) s') same
+          pieces.guards);
     }
 
     -- the step keeps the whole invariant, where the states to which these events lead meet it
@@ -145,16 +160,36 @@ module _ (m : Meaning) (l : Layout) where
           goes = inr (inr there.1);
         }
 
+-- what the end of a sweep frees nobody is sure of
+sweeps_safely : (m : Meaning) (l : Layout) (rs : List Request) (g : Beside) (s s' : Sight) → IsWhole m l g s → (r : ℕ) (kind : EventKind)
+    → (step : Steps m l rs s s' r kind) → SweepsSafely l s r kind (s.word step.ask.0)
+sweeps_safely m l rs g s s' whole r (kinds.LoadGuard n) step n' d q is last lies unnamed =
+    sweep_safe m l rs g.agreement g.epochs s s' r n whole.slots whole.guards step last d q lies unnamed
+sweeps_safely m l rs g s s' whole r _ step n' d q is last lies unnamed = absurd (let y = is in cc)
+
 module _ (m : Meaning) (laws : Laws m) (l : Layout) (limits : IsWithinLimits l) (rs : List Request) (few : length rs ≤ 131072)
     (allowed : All (λ (q : Request). IsAllowed q.op) rs) (g : Beside) (s s' : Sight) (whole : IsWhole m l g s) (r : ℕ)
     (kind : EventKind) where
   -- each step of the machine has such events, where the runner holds what it meets
   pub pieces : (step : Steps m l rs s s' r kind) → HoldsMet m l g s r kind → Pieces m l g s s' r kind step.ask
   pieces step met =
+      let swept = sweeps_safely m l rs g s s' whole r kind step in
       let e = joins_kinds.joined_step m l rs g.epochs s s' r kind step whole.slots
-      (slots_supplied m laws l limits rs few allowed g s whole r kind step.ask step.asked met) in
+      (slots_supplied m laws l limits rs few allowed g s whole r kind step.ask step.asked met swept) in
       let a = sections_kinds.step_goes m l rs g.agreement s whole.sections r s' kind step
-      (sections_supplied m laws l limits rs few allowed g s whole r kind step.ask step.asked e.0 e.1 e.2.enabled) in
+      (sections_supplied m laws l limits rs few allowed g s whole r kind step.ask step.asked swept) in
+      let after = agreement_schedules.after_all (rules_of m l) g.agreement (a.0 ++ replicate a.2.leads.passes (agreement.Pass r)) in
+      let goes = guards_kinds.step_goes m l rs g.agreement after g.epochs (epoch_schedules.after_all (counts_of m l) g.epochs e.0) s s' r kind
+      whole.sections whole.slots whole.guards step (guards_supplied m laws l limits rs few allowed g s whole r kind step.ask step.asked)
+      (record {
+        heads = a.0;
+        in_sections = a.1;
+        leads = record { passes = a.2.leads.passes; enabled = a.2.leads.enabled; there = refl };
+        tails = e.0;
+        in_slots = e.1;
+        enabled = e.2.enabled;
+        there = refl;
+      }) in
       record {
         heads = a.0;
         in_sections = a.1;
@@ -165,4 +200,5 @@ module _ (m : Meaning) (laws : Laws m) (l : Layout) (limits : IsWithinLimits l) 
         in_slots = e.1;
         enabled_slots = e.2.enabled;
         joined_slots = e.2.joined;
+        guards = goes.stands;
       }

@@ -19,27 +19,23 @@ use Rattle.machine_states.specs.runner_steps.specs.Sections.{is_open_run, next_o
 use Rattle.machine_states.specs.runner_steps.specs.Outside.{private_store_ask}
 use Rattle.machine_states.specs.runner_steps.specs.Asks.{outside_ask, inside_ask, line_ask, opening_ask, asks}
 use Rattle.agreement_core.specs.Events as agreement
-use Rattle.agreement_core.specs.Schedules as agreement_schedules
 use Rattle.machine_states.specs.World.{is_join}
 use Rattle.machine_states.specs.Sight.{Sight, sight_after}
 use Rattle.machine_states.proofs.Sights.{some_none}
-use Rattle.machine_agreement.specs.machine_epochs.specs.Slots.{thunk_in}
-use Rattle.machine_agreement.specs.machine_epochs.specs.Chunks as slots
-use Rattle.machine_agreement.specs.machine_epochs.proofs.Joining.{thunk_same}
-use Rattle.machine_agreement.specs.machine_epochs.proofs.OutsideAsked.{private_store_asked}
-use Rattle.machine_agreement.specs.machine_scenes.specs.Shown.{rules_of}
-use Rattle.machine_agreement.specs.Chunks as chunks
-use Rattle.machine_agreement.proofs.LineAsked.{inside_asked}
-use Rattle.machine_invariant.specs.Named.{AreNamed}
-use Rattle.machine_invariant.specs.Whole.{Beside, IsHeldFor, IsWhole}
+use Rattle.machine_guards.specs.machine_agreement.specs.machine_epochs.specs.Slots.{thunk_in}
+use Rattle.machine_guards.specs.machine_agreement.specs.machine_epochs.specs.Chunks as slots
+use Rattle.machine_guards.specs.machine_agreement.specs.machine_epochs.proofs.Joining.{thunk_same}
+use Rattle.machine_guards.specs.machine_agreement.specs.machine_epochs.proofs.OutsideAsked.{private_store_asked}
+use Rattle.machine_guards.specs.machine_agreement.specs.Chunks as chunks
+use Rattle.machine_guards.specs.machine_agreement.proofs.LineAsked.{inside_asked}
+use Rattle.machine_invariant.specs.Whole.{Beside, IsWhole}
 use Rattle.machine_invariant.proofs.Asked.{asked_by}
-use Rattle.machine_invariant.proofs.Named.{named_all}
-use Rattle.machine_invariant.proofs.Parts.{is_making, is_other}
+use Rattle.machine_invariant.proofs.Parts.{is_making, is_release, is_other}
 use Rattle.machine_invariant.proofs.Runs.{passes_are, append_are}
 use Rattle.machine_invariant.proofs.Quiet.{is_still, IsQuiet, quiet_whole}
 use Rattle.machine_invariant.proofs.Thunks.{inside_leaves, outside_leaves, other_thunk}
 use Rattle.machine_invariant.proofs.Sights.{inside_quiet, outside_quiet, join_quiet, thunks_after}
-use Rattle.machine_invariant.proofs.Chunked.{is_unlocked, all_unlocked, AreCalm, AreSteady, is_plain_line, inside_calm, inside_steady}
+use Rattle.machine_invariant.proofs.Chunked.{AreCalm, AreSteady, is_plain_line, inside_calm, inside_steady}
 use Rattle.machine_invariant.proofs.Chunked.{is_plain_outside, outside_calm, outside_steady, join_calm, join_steady}
 use Rattle.machine_invariant.proofs.Outside.{outside_asked, outside_heads, outside_events}
 use Rattle.machine_invariant.proofs.Jointly.{is_hold, is_reading, no_hold}
@@ -49,6 +45,10 @@ plain_making : (kind : EventKind) → is_plain_line kind ≡ true → is_making 
 plain_making (kinds.PrivateLoad slot word) plain = absurd (cc)
 plain_making kinds.MakeCommit plain = absurd (cc)
 plain_making _ plain = refl
+
+plain_release : (kind : EventKind) → is_plain_line kind ≡ true → is_release kind ≡ false
+plain_release kinds.Release plain = absurd (cc)
+plain_release _ plain = refl
 
 plain_hold : (kind : EventKind) → is_plain_line kind ≡ true → is_hold kind ≡ false
 plain_hold (kinds.Hold thunk d) plain = absurd (cc)
@@ -71,7 +71,6 @@ plain_other : (kind : EventKind) → is_plain_outside kind ≡ true → is_other
 plain_other kinds.EnterAgain plain = absurd (cc)
 plain_other (kinds.LoadCell (Some place)) plain = absurd (cc)
 plain_other (kinds.Hold thunk d) plain = absurd (cc)
-plain_other kinds.EpochForRetire plain = absurd (cc)
 plain_other _ plain = refl
 
 module _ (m : Meaning) (laws : Laws m) (l : Layout) (limits : IsWithinLimits l) (g : Beside) (s s' : Sight) (whole : IsWhole m l g s)
@@ -84,23 +83,15 @@ module _ (m : Meaning) (laws : Laws m) (l : Layout) (limits : IsWithinLimits l) 
   calm_heads calm = record {
     still = append_are is_still pieces.heads (replicate pieces.passes (agreement.Pass r)) calm.still
         (passes_are is_still (agreement.Pass r) refl pieces.passes);
-    unlocked = append_are is_unlocked pieces.heads (replicate pieces.passes (agreement.Pass r)) calm.unlocked
-        (passes_are is_unlocked (agreement.Pass r) refl pieces.passes);
   }
 
-  -- what was named, where no lock's word is loaded for a Take
-  named_calm : AreCalm es → AreNamed (IsHeldFor m l g.epochs s.part) (agreement_schedules.after_all (rules_of m l) g.agreement es)
-  named_calm calm = named_all (rules_of m l) g.agreement whole.sections.sound (IsHeldFor m l g.epochs s.part) whole.named es pieces.enabled
-      (all_unlocked es calm.unlocked)
-
-  calm_whole : AreCalm pieces.heads → AreSteady pieces.events → IsQuiet m l s s'
+  pub calm_whole : AreCalm pieces.heads → AreSteady pieces.events → IsQuiet m l s s'
       → ((d : ℕ) → g.agreement.used d ≡ true → thunk_in s'.word d ≡ thunk_in s.word d) → is_hold kind ≡ false → is_reading kind ≡ false
       → KeepsWhole m l g s s' r kind x pieces
   calm_whole calm steady quiet thunks other apart =
       keeps_quietly m l g s s' r kind x pieces (no_hold m l kind (s.word x.0) other) apart
       (quiet_whole m laws l limits g s s' whole quiet thunks es (calm_heads calm).still pieces.enabled pieces.joined
-      (named_calm (calm_heads calm))
-      pieces.events steady.alone steady.leaves pieces.enabled_slots pieces.joined_slots)
+      pieces.events steady.alone steady.leaves pieces.enabled_slots pieces.joined_slots pieces.guards)
 
 module _ (m : Meaning) (laws : Laws m) (l : Layout) (limits : IsWithinLimits l) (rs : List Request) (g : Beside) (s : Sight)
     (whole : IsWhole m l g s) (r : ℕ) (x : Spot × Access) where
@@ -121,16 +112,16 @@ module _ (m : Meaning) (laws : Laws m) (l : Layout) (limits : IsWithinLimits l) 
       by false e = some_none x e
   inside_apart _ q e = refl
 
-  -- a step of a run that takes and commits no slot and no Retire, and loads no lock's word
+  -- a step of a run that takes and commits no slot and no Retire, and is no release
   pub plain_whole : (kind : EventKind) → asks m l rs r kind p ≡ Some x → (q : RunState) → p.run ≡ Some q → is_join kind ≡ false
       → is_plain_line kind ≡ true
       → (pieces : Pieces m l g s (sight_after m l s r kind x) r kind x) → KeepsWhole m l g s (sight_after m l s r kind x) r kind x pieces
   plain_whole kind asked q is j plain pieces = calm_whole m laws l limits g s (sight_after m l s r kind x) whole r kind x pieces
-      (inside_calm m l g.agreement r kind q (s.word x.0) pieces.heads (is_open_run q) plain
+      (inside_calm m l g.agreement r kind p q (s.word x.0) pieces.heads (is_open_run q) plain
       (subst (λ o. chunks.IsChunk m l g.agreement r kind p o (s.word x.0) pieces.heads) is pieces.in_sections))
       (inside_steady m l g.agreement r kind p q (s.word x.0) pieces.events (is_open_run q) plain
       (subst (λ o. slots.IsChunk m l r kind p o (s.word x.0) pieces.events) is pieces.in_slots))
-      (inside_quiet m l s r kind x q is j (plain_making kind plain))
+      (inside_quiet m l s r kind x q is j (plain_making kind plain) (plain_release kind plain))
       (λ d used. thunks_after m l s r kind x (inside_leaves m l q x kind p.nodes.free (inside_asked m l rs r kind p q x asked is)) d)
       (plain_hold kind plain) (inside_apart kind q (inside_asked m l rs r kind p q x asked is))
 
@@ -155,7 +146,7 @@ module _ (m : Meaning) (laws : Laws m) (l : Layout) (limits : IsWithinLimits l) 
   outside_thunks (kinds.PrivateStore slot word number) e heads chunk d used = store_thunks slot word number e chunk.0 d used
   outside_thunks kind e heads chunk d used = thunks_after m l s r kind x (outside_leaves m l rs r p x kind refl e) d
 
-  -- a step outside a run by which nobody enters, leaves, reads a cell, publishes, retires or may end a scan
+  -- a step outside a run by which nobody enters, leaves, reads a cell, publishes or goes on with a sweep
   pub outside_whole : (kind : EventKind) → asks m l rs r kind p ≡ Some x → p.run ≡ None → is_plain_outside kind ≡ true
       → (pieces : Pieces m l g s (sight_after m l s r kind x) r kind x) → KeepsWhole m l g s (sight_after m l s r kind x) r kind x pieces
   outside_whole kind asked none plain pieces =

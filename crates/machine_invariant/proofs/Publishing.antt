@@ -1,6 +1,6 @@
 -- A runner that tries to publish a section keeps the whole invariant.
-use Rattle.std.specs.Prelude.{replicate, slice_get, ◌==◌, ◌||◌, Bool, true, false, All, if◌then◌else◌}
-use Rattle.std.proofs.Common.{◌≡◌, ◌≢◌, ◌⊎◌, inl, inr, ℕ, ◌<◌, ◌≤◌, List, [], ◌∷◌, ◌++◌, length, sym, refl, ap, ◌∙◌, subst, arith, ⊎_elim}
+use Rattle.std.specs.Prelude.{replicate, slice_get, ◌==◌, Bool, true, false, All, if◌then◌else◌}
+use Rattle.std.proofs.Common.{◌≡◌, ◌≢◌, ℕ, ◌<◌, ◌≤◌, List, [], ◌∷◌, ◌++◌, length, sym, refl, ap, ◌∙◌, subst, arith, ⊎_elim}
 use Rattle.std.proofs.Common.{Some, None}
 use Rattle.std.proofs.lemmas.Bool.{cases_eq}
 use Rattle.std.proofs.lemmas.Bool.Decides.{nat_tests}
@@ -21,44 +21,36 @@ use Rattle.machine_states.specs.runner_parts.specs.declared.entries.Published.{P
 use Rattle.machine_states.specs.runner_parts.specs.declared.event.EventKind.{EventKind}
 use Rattle.machine_states.specs.runner_parts.specs.declared.event.EventKind.TheVariants as kinds
 use Rattle.machine_states.specs.runner_parts.specs.State.{PartState}
-use Rattle.machine_states.specs.runner_parts.specs.Tests.{has, thunk_words}
-use Rattle.machine_states.specs.runner_parts.specs.Lists.{descriptor_taken, cell_read, section_published}
+use Rattle.machine_states.specs.runner_parts.specs.Tests.{thunk_words}
+use Rattle.machine_states.specs.runner_parts.specs.Lists.{descriptor_taken, published_seen, cell_read}
 use Rattle.machine_states.specs.runner_steps.specs.Outside.{hold_ask}
 use Rattle.machine_states.specs.runner_steps.specs.Asks.{asks}
 use Rattle.machine_states.specs.runner_steps.specs.AfterOutside.{hold_after, published_by}
 use Rattle.machine_states.specs.runner_steps.specs.After.{after_by, after}
 use Rattle.agreement_core.specs.State.{AgreementState}
-use Rattle.agreement_core.specs.Sound.{IsSound}
 use Rattle.agreement_core.specs.Events as agreement
 use Rattle.agreement_core.specs.Schedules as agreement_schedules
 use Rattle.machine_states.specs.epoch_core.specs.declared.location.Location.TheVariants.{Live}
 use Rattle.machine_states.specs.epoch_core.specs.State.{Counts, EpochState, Role, is_entered}
-use Rattle.machine_states.specs.epoch_core.specs.Update.{upd, upd2}
+use Rattle.machine_states.specs.epoch_core.specs.Update.{upd}
 use Rattle.machine_states.specs.epoch_core.specs.Events as epochs
 use Rattle.machine_states.specs.epoch_core.specs.Events.{Event, slot_of}
 use Rattle.machine_states.specs.epoch_core.specs.History.{is_out}
 use Rattle.machine_states.specs.Sight.{Sight, sight_after}
 use Rattle.machine_states.proofs.Sights.{some_none}
 use Rattle.machine_states.proofs.Updates.{upd_split}
-use Rattle.machine_agreement.specs.machine_epochs.specs.Entries.{counts_of}
-use Rattle.machine_agreement.specs.machine_epochs.specs.Slots.{thunk_in}
-use Rattle.machine_agreement.specs.machine_epochs.specs.Supplied.{comes_outside}
-use Rattle.machine_agreement.specs.machine_epochs.specs.Joined as joins
-use Rattle.machine_agreement.specs.machine_epochs.specs.Chunks.{roles_of}
-use Rattle.machine_agreement.specs.machine_epochs.proofs.OutsideAsked as outside
-use Rattle.machine_agreement.specs.machine_epochs.proofs.Places.{has_append, held_unfree}
-use Rattle.machine_agreement.specs.machine_scenes.specs.Shown.{States, Publications, publishes, rules_of}
-use Rattle.machine_agreement.specs.machine_scenes.specs.Steps as steps
-use Rattle.machine_agreement.specs.machine_scenes.proofs.Entries.{stays_held}
-use Rattle.machine_agreement.specs.Chunks.{publication}
-use Rattle.machine_invariant.specs.Named.{AreNamed}
-use Rattle.machine_invariant.specs.Whole.{Beside, states_of, made_in, made_of, IsHeldFor, HasPublished, AreTied, IsWhole}
+use Rattle.machine_guards.specs.machine_agreement.specs.machine_epochs.specs.Entries.{counts_of}
+use Rattle.machine_guards.specs.machine_agreement.specs.machine_epochs.specs.Slots.{thunk_in}
+use Rattle.machine_guards.specs.machine_agreement.specs.machine_epochs.specs.Chunks.{roles_of}
+use Rattle.machine_guards.specs.machine_agreement.specs.machine_epochs.proofs.OutsideAsked as outside
+use Rattle.machine_guards.specs.machine_agreement.specs.machine_scenes.specs.Shown.{States, Publications, publishes, rules_of}
+use Rattle.machine_guards.specs.machine_agreement.specs.machine_scenes.specs.Steps as steps
+use Rattle.machine_guards.specs.machine_agreement.specs.Chunks.{publication}
+use Rattle.machine_invariant.specs.Whole.{Beside, states_of, made_in, made_of, HasPublished, AreTied, IsWhole}
 use Rattle.machine_invariant.proofs.Asked.{entered_at}
-use Rattle.machine_invariant.proofs.Named.{named_all, named_more}
 use Rattle.machine_invariant.proofs.Parts.{IsSamePart, outside_made}
 use Rattle.machine_invariant.proofs.Runs.{is_calm, step_anew, agreement_stands, epochs_stand, passes_are}
 use Rattle.machine_invariant.proofs.Quiet.{is_still, all_still, hands_of, quiet_whole, stands_now}
-use Rattle.machine_invariant.proofs.Chunked.{is_unlocked, all_unlocked}
 use Rattle.machine_invariant.proofs.Thunks.{outside_leaves}
 use Rattle.machine_invariant.proofs.Sights.{thunks_after, quiet_after}
 use Rattle.machine_invariant.proofs.SuppliesSections as supplies
@@ -71,7 +63,8 @@ abbrev published_part : Thunk → ℕ → PartState → ℕ → PartState
 published_part t d p found = record p {
   published = Some (published_by t d p);
   descriptors = descriptor_taken p.descriptors d;
-  reads = section_published (cell_read p.reads t.lock found) d;
+  guards = published_seen p.guards d;
+  reads = cell_read p.reads t.lock found;
 }
 
 -- where the lock stood free with the thunk's word, the section is published
@@ -88,7 +81,7 @@ hold_won t d p found e = by (found == t.word) (equal found t.word e) _
 -- otherwise nothing is
 hold_lost : (m : Meaning) (l : Layout) (t : Thunk) (d : ℕ) (p : PartState) (found : ℕ) → found ≢ t.word
     → IsSamePart m l p (hold_after t d p found)
-hold_lost m l t d p found ne = by (found == t.word) (other found t.word ne) _ (record { walk = refl; mine = refl; published = λ n u h. h })
+hold_lost m l t d p found ne = by (found == t.word) (other found t.word ne) _ (record { walk = refl; published = λ n u h. h })
   where
     other : (a b : ℕ) → a ≢ b → (a == b) ≡ false
     other a b ne = grind (arith, nat_tests)
@@ -97,44 +90,14 @@ hold_lost m l t d p found ne = by (found == t.word) (other found t.word ne) _ (r
     by true e y same = absurd (let z = e in cc)
     by false e y same = same
 
-holds_published : (f : ℕ → ℕ → Bool) (r t i u : ℕ) → i ≡ r → u ≡ t → upd2 f r t true i u ≡ true
-holds_published f r t i u same same' = grind (arith, nat_tests)
-
--- a number of a longer list that isn't the last one
-has_before : (xs : List ℕ) (d n : ℕ) → n ≢ d → has (xs ++ d ∷ []) n ≡ true → has xs n ≡ true
-has_before xs d n ne e = other (has xs n) d n ne (sym (has_append xs (d ∷ []) n) ∙ e)
-  where
-    other : (b : Bool) (d n : ℕ) → n ≢ d → (b || (d == n || false)) ≡ true → b ≡ true
-    other b d n ne e = grind (arith, nat_tests)
-
 -- a section is published at a free descriptor
-module _ (m : Meaning) (l : Layout) (g : Beside) (s : Sight) (old : AreTied m l g s) (slots : joins.IsJoinedToEpochs m l g.epochs s) (r d : ℕ)
-    (roles : ℕ → Role)
-    (p' : PartState) (mine : p'.reads.published ≡ (s.part r).reads.published ++ d ∷ [])
-    (few : d < (counts_of m l).descriptors) (free : has (s.part r).descriptors.free d ≡ true) where
+module _ (m : Meaning) (l : Layout) (g : Beside) (s : Sight) (old : AreTied m l g s) (r d : ℕ) (roles : ℕ → Role)
+    (p' : PartState) (few : d < (counts_of m l).descriptors) where
   abbrev c : Counts
   c = counts_of m l
 
   abbrev after_publish : EpochState
   after_publish = epochs.after c g.epochs (epochs.Publish r d roles)
-
-  -- who has published a section in this entry has published this one now, or had published another one before
-  had_published : (i n : ℕ) → is_entered (g.epochs.stage i) ≡ true → has (upd s.part r p' i).reads.published n ≡ true
-      → ((i ≡ r) × (n ≡ d)) ⊎ ((n ≢ d) × (has (s.part i).reads.published n ≡ true))
-  had_published i n entered has_it = ⊎_elim
-      (λ same. ⊎_elim (λ own. inl (own, same))
-      (λ ne. absurd (held_unfree m l g.epochs s slots i r d (subst (λ k. g.epochs.holds i (slot_of c k) ≡ true) same
-      (old.mine_held i n entered (sym (ap (λ (y : PartState). has y.reads.published n) (upd_other s.part r i p' ne)) ∙ has_it))) few free))
-      (cases_eq i r))
-      (λ other. inr (
-        other,
-        ⊎_elim
-            (λ own. ap (λ j. has (s.part j).reads.published n) own ∙ has_before (s.part r).reads.published d n other
-            (sym (ap (λ (y : PartState). has y.reads.published n) (upd_same s.part r i p' own) ∙ ap (λ xs. has xs n) mine) ∙ has_it))
-            (λ ne. sym (ap (λ (y : PartState). has y.reads.published n) (upd_other s.part r i p' ne)) ∙ has_it)
-            (cases_eq i r),
-      ))
-      (cases_eq n d)
 
   module _ (op : Op) (t : Thunk) (walk : Readings) (word' : Spot → ℕ) (a' : AgreementState)
       (used' : (n : ℕ) → a'.used n ≡ upd g.agreement.used d true n) (live' : (n : ℕ) → a'.live n ≡ upd g.agreement.live d true n)
@@ -201,25 +164,7 @@ module _ (m : Meaning) (l : Layout) (g : Beside) (s : Sight) (old : AreTied m l 
           ∙ (old.thunk n (sym (used' n ∙ upd_other g.agreement.used d n true ne) ∙ is) ∙ sym (thunks n)))
           (cases_eq n d);
       op = op_after;
-      mine = λ i n entered has_it. ⊎_elim
-          (λ this. upd_same g.publications.runner d n r this.1 ∙ sym this.0)
-          (λ other. upd_other g.publications.runner d n r other.0 ∙ old.mine i n entered other.1)
-          (had_published i n entered has_it);
-      mine_held = λ i n entered has_it. ⊎_elim
-          (λ this. holds_published g.epochs.holds r (slot_of c d) i (slot_of c n) this.0 (ap (slot_of c) this.1))
-          (λ other. stays_held c g.epochs (epochs.Publish r d roles) refl i (slot_of c n) (old.mine_held i n entered other.1))
-          (had_published i n entered has_it);
     }
-
-  -- what is known of descriptors that locks named goes on to be known
-  named_published : IsSound (rules_of m l) g.agreement → g.agreement.used d ≡ false → AreNamed (IsHeldFor m l g.epochs s.part) g.agreement
-      → AreNamed (IsHeldFor m l after_publish (upd s.part r p')) g.agreement
-  named_published sound unused = named_more (rules_of m l) g.agreement sound (IsHeldFor m l g.epochs s.part)
-      (IsHeldFor m l after_publish (upd s.part r p'))
-      (λ n n' used held i entered has_it. ⊎_elim
-      (λ this. absurd (let h = sym unused ∙ (ap g.agreement.used (sym this.1) ∙ used) in cc))
-      (λ other. stays_held c g.epochs (epochs.Publish r d roles) refl i (slot_of c n') (held i entered other.1))
-      (had_published i n entered has_it))
 
 module _ (m : Meaning) (laws : Laws m) (l : Layout) (limits : IsWithinLimits l) (rs : List Request) (few : length rs ≤ 131072)
     (allowed : All (λ (q : Request). IsAllowed q.op) rs) (g : Beside) (s : Sight) (whole : IsWhole m l g s) (of : g.publications.requests ≡ rs) (r : ℕ)
@@ -234,9 +179,6 @@ module _ (m : Meaning) (laws : Laws m) (l : Layout) (limits : IsWithinLimits l) 
     abbrev hold_sight : Sight
     hold_sight = sight_after m l s r kind x
 
-    abbrev reach : List Event
-    reach = epochs.Reach r (comes_outside m (counts_of m l) kind p (s.word x.0)) ∷ []
-
     abbrev publish : List Event
     publish = epochs.Publish r d (roles_of m (thunk_words t)) ∷ []
 
@@ -247,8 +189,8 @@ module _ (m : Meaning) (laws : Laws m) (l : Layout) (limits : IsWithinLimits l) 
     thunks = thunks_after m l s r kind x (outside_leaves m l rs r p x kind refl asks_hold)
 
     -- the lock didn't stand free with the thunk's word
-    lost : s.word x.0 ≢ t.word → (go : Leads m l g hold_sight r (agreement.Read t.lock ∷ []) reach)
-        → IsWholeAfter m l (states_of g s) (led m l g r (agreement.Read t.lock ∷ []) go.passes reach g.publications) hold_sight
+    lost : s.word x.0 ≢ t.word → (go : Leads m l g hold_sight r (agreement.Read t.lock ∷ []) [])
+        → IsWholeAfter m l (states_of g s) (led m l g r (agreement.Read t.lock ∷ []) go.passes [] g.publications) hold_sight
     lost ne go =
         let passes = replicate go.passes (agreement.Pass r) in
         let quiet = quiet_after m l s r kind x refl
@@ -257,10 +199,7 @@ module _ (m : Meaning) (laws : Laws m) (l : Layout) (limits : IsWithinLimits l) 
         (ap (λ o. (after_by m l kind p o (s.word x.0)).run) (sym none) ∙ e) ∙ ap made_in (sym none)) in
         quiet_whole m laws l limits g s hold_sight whole quiet (λ n used. thunks n) (agreement.Read t.lock ∷ passes)
         (refl, passes_are is_still (agreement.Pass r) refl go.passes) go.enabled go.joined
-        (named_all (rules_of m l) g.agreement whole.sections.sound (IsHeldFor m l g.epochs s.part) whole.named
-        (agreement.Read t.lock ∷ passes) go.enabled
-        (all_unlocked (agreement.Read t.lock ∷ passes) (refl, passes_are is_unlocked (agreement.Pass r) refl go.passes)))
-        reach (refl, tt) (refl, tt) go.enabled_slots go.joined_slots
+        [] tt tt go.enabled_slots go.joined_slots go.guards
 
     -- it did
     module _ (same : s.word x.0 ≡ t.word) where
@@ -320,24 +259,16 @@ module _ (m : Meaning) (laws : Laws m) (l : Layout) (limits : IsWithinLimits l) 
           let four = epochs_stand m laws l limits publish _ (made_of s) (refl, tt) go.enabled_slots three in
           let uses = all_still (rules_of m l) (agreement.after read (publication m d t)) passes
           (passes_are is_still (agreement.Pass r) refl go.passes) in
-          let mine = ap (λ (y : PartState). y.reads.published) won_is in
-          let tied = tied_published m l g s whole.tied whole.slots r d
-          (roles_of m (thunk_words t)) won_part mine asked_hold.few asked_hold.free
+          let tied = tied_published m l g s whole.tied r d (roles_of m (thunk_words t)) won_part asked_hold.few
           op t p.reads.walk hold_sight.word (agreement_schedules.after_all (rules_of m l) g.agreement (heads ++ passes))
           (λ n. ap (λ (f : ℕ → Bool). f n) uses.used) (λ n. ap (λ (f : ℕ → Bool). f n) uses.live)
           asked_hold.unpublished _ (ap (λ (y : PartState). y.published) won_is) refl refl thunks thunk_d
           asked_hold.request (ap (λ (qs : List Request). slice_get qs t.request) of ∙ asked_hold.of_request) refl in
-          let named = named_all (rules_of m l) g.agreement whole.sections.sound
-          (IsHeldFor m l (epochs.after (counts_of m l) g.epochs (epochs.Publish r d (roles_of m (thunk_words t)))) hold_sight.part)
-          (named_published m l g s whole.tied whole.slots r d (roles_of m (thunk_words t)) won_part mine asked_hold.few asked_hold.free
-          whole.sections.sound go.enabled.1.0.0 whole.named)
-          (heads ++ passes) go.enabled (all_unlocked (heads ++ passes)
-          (refl, (refl, passes_are is_unlocked (agreement.Pass r) refl go.passes))) in
           parts_whole m laws l limits (led m l g r heads go.passes publish published_at) s hold_sight go.joined go.joined_slots tied
           (λ i. (s.part i).reads.walk)
           (upd_split s.part r won_part (λ i y. y.reads.walk ≡ (s.part i).reads.walk) (ap (λ (y : PartState). y.reads.walk) won_is)
           (λ i ne. refl))
-          (made_outside m l s r kind x refl none) four named
+          (made_outside m l s r kind x refl none) four go.guards
 
     -- the lock stands with another word than the try's
     still_other : s.word x.0 ≢ t.word → HoldsNothing m l kind (s.word x.0)
@@ -370,7 +301,7 @@ module _ (m : Meaning) (laws : Laws m) (l : Layout) (limits : IsWithinLimits l) 
         (outside_events m l rs g s hold_sight r kind x none pieces))
         (λ in_heads. ⊎_elim
         (λ in_events. absurd (in_heads.0 in_events.0))
-        (λ in_events. keeps_by m l g s hold_sight r kind x pieces (agreement.Read t.lock ∷ []) reach in_heads.1 in_events.1 g.publications refl
+        (λ in_events. keeps_by m l g s hold_sight r kind x pieces (agreement.Read t.lock ∷ []) [] in_heads.1 in_events.1 g.publications refl
         (still_other in_heads.0) refl (lost in_heads.0))
         (outside_events m l rs g s hold_sight r kind x none pieces))
         (outside_heads m l rs g s hold_sight r kind x none pieces)

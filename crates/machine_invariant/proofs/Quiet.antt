@@ -7,7 +7,6 @@ use Rattle.machine_states.specs.structure_laws.specs.Scene.{Readings}
 use Rattle.machine_states.specs.structure_laws.specs.Meaning.{Meaning}
 use Rattle.machine_states.specs.structure_laws.specs.Laws.{Laws}
 use Rattle.machine_states.specs.runner_parts.specs.State.{RunState}
-use Rattle.machine_states.specs.runner_parts.specs.Tests.{has}
 use Rattle.agreement_core.specs.State.{CellRules, AgreementState}
 use Rattle.agreement_core.specs.Events as agreement
 use Rattle.agreement_core.specs.Schedules as agreement_schedules
@@ -18,20 +17,20 @@ use Rattle.machine_states.specs.epoch_core.specs.Schedules as epoch_schedules
 use Rattle.machine_states.specs.epoch_core.specs.Sound as epoch_sound
 use Rattle.machine_states.specs.epoch_core.proofs.Keeping as epoch_keeping
 use Rattle.machine_states.specs.Sight.{Sight}
-use Rattle.machine_agreement.specs.machine_epochs.specs.Entries.{counts_of}
-use Rattle.machine_agreement.specs.machine_epochs.specs.Slots.{thunk_in}
-use Rattle.machine_agreement.specs.machine_epochs.specs.Joined as joins
-use Rattle.machine_agreement.specs.machine_epochs.proofs.Reaching.{leaves_descriptors, descriptors_stay}
-use Rattle.machine_agreement.specs.machine_scenes.specs.Kinds.{is_alone}
-use Rattle.machine_agreement.specs.machine_scenes.specs.Shown.{States, rules_of}
-use Rattle.machine_agreement.specs.Joined as sections
-use Rattle.machine_agreement.specs.Joined.{ShowsRun}
+use Rattle.machine_guards.specs.machine_agreement.specs.machine_epochs.specs.Entries.{counts_of}
+use Rattle.machine_guards.specs.machine_agreement.specs.machine_epochs.specs.Slots.{thunk_in}
+use Rattle.machine_guards.specs.machine_agreement.specs.machine_epochs.specs.Joined as joins
+use Rattle.machine_guards.specs.machine_agreement.specs.machine_epochs.proofs.Reaching.{leaves_descriptors, descriptors_stay}
+use Rattle.machine_guards.specs.machine_agreement.specs.machine_scenes.specs.Kinds.{is_alone}
+use Rattle.machine_guards.specs.machine_agreement.specs.machine_scenes.specs.Shown.{States, rules_of}
+use Rattle.machine_guards.specs.machine_agreement.specs.Joined as sections
+use Rattle.machine_guards.specs.machine_agreement.specs.Joined.{ShowsRun}
 use Rattle.machine_slots.specs.Hands.{Made}
-use Rattle.machine_invariant.specs.Named.{AreNamed}
-use Rattle.machine_invariant.specs.Whole.{Beside, states_of, made_in, made_of, IsHeldFor, HasPublished, IsWhole}
+use Rattle.machine_guards.specs.Stands.{GuardsStand}
+use Rattle.machine_invariant.specs.Whole.{Beside, states_of, made_in, made_of, HasPublished, IsWhole}
 use Rattle.machine_invariant.proofs.Runs.{AllAre, is_calm, InHands, Stands, agreement_stands, epochs_stand, filled_other}
 use Rattle.machine_invariant.proofs.Jointly.{no_steps, IsWholeAfter}
-use Rattle.machine_invariant.proofs.Ties.{IsOnward, alone_onward, named_onward, tied_onward}
+use Rattle.machine_invariant.proofs.Ties.{tied_onward}
 use Rattle.machine_states.specs.body_terms.specs.declared.thunk.Thunk.{Thunk}
 
 -- an event of agreement that publishes, retires and frees nothing, and has nothing to do with a Make's slot, a Retire or
@@ -90,10 +89,9 @@ all_stay c (v ∷ fs) w ok sound leaves d =
     all_stay c fs (epochs.after c w v) ok.1 (epoch_keeping.keeps c w v ok.0 sound) leaves.1 d ∙ descriptors_stay c w v ok.0 sound leaves.0 d
 
 module _ (m : Meaning) (l : Layout) where
-  -- the parts have read the same outside runs, and have published the same
+  -- the parts have read the same outside runs, and have to retire what they had to retire
   pub record StayRead (s s' : Sight) : Type 0 where
     pub walk : (i : ℕ) → (s'.part i).reads.walk ≡ (s.part i).reads.walk
-    pub mine : (i : ℕ) → (s'.part i).reads.published ≡ (s.part i).reads.published
     pub published : (i d : ℕ) (t : Thunk) → HasPublished m l (s.part i) d t → HasPublished m l (s'.part i) d t
 
   -- and their Makes fill the same slots
@@ -149,20 +147,18 @@ module _ (m : Meaning) (laws : Laws m) (l : Layout) (limits : IsWithinLimits l) 
       → ((d : ℕ) → g.agreement.used d ≡ true → thunk_in s'.word d ≡ thunk_in s.word d)
       → (es : List agreement.Event) → AllAre is_still es → agreement_schedules.AllEnabled (rules_of m l) g.agreement es
       → sections.IsJoinedToAgreement m l (agreement_schedules.after_all (rules_of m l) g.agreement es) s'
-      → AreNamed (IsHeldFor m l g.epochs s.part) (agreement_schedules.after_all (rules_of m l) g.agreement es)
       → (fs : List epochs.Event) → AllAre is_alone fs → AllAre leaves_descriptors fs → epoch_schedules.AllEnabled c g.epochs fs
       → joins.IsJoinedToEpochs m l (epoch_schedules.after_all c g.epochs fs) s'
+      → GuardsStand m l (agreement_schedules.after_all (rules_of m l) g.agreement es) (epoch_schedules.after_all c g.epochs fs) s'
       → IsWholeAfter m l (states_of g s) (record {
         agreement = agreement_schedules.after_all (rules_of m l) g.agreement es;
         epochs = epoch_schedules.after_all c g.epochs fs;
         publications = g.publications;
       }) s'
-  quiet_whole g s s' whole quiet thunks es still ok joined named fs alone leaves ok' joined' =
+  quiet_whole g s s' whole quiet thunks es still ok joined fs alone leaves ok' joined' guards =
       let w = agreement_schedules.after_all (rules_of m l) g.agreement es in
       let e = epoch_schedules.after_all c g.epochs fs in
       let uses = all_still (rules_of m l) g.agreement es still in
-      let on : IsOnward m l g.epochs e s.part s'.part = alone_onward m l fs g.epochs alone ok' s.part s'.part
-      (λ i d has_it. ap (λ xs. has xs d) (sym (quiet.stay.mine i)) ∙ has_it) in
       let one = agreement_stands m laws l limits es (states_of g s) (made_of s) (all_calm es still) ok (hands_of g.epochs s whole.slots)
       (stands_now g s whole) in
       let two = epochs_stand m laws l limits fs (record (states_of g s) { agreement = w }) (made_of s) alone ok' one in
@@ -172,7 +168,7 @@ module _ (m : Meaning) (laws : Laws m) (l : Layout) (limits : IsWithinLimits l) 
         whole = record {
           sections = joined;
           slots = joined';
-          tied = tied_onward m l g.agreement w g.epochs e g.publications s s' whole.tied on
+          tied = tied_onward m l g.agreement w g.epochs e g.publications s s' whole.tied
               (λ d. ap (λ (f : ℕ → Bool). f d) uses.used) (λ d. ap (λ (f : ℕ → Bool). f d) uses.live)
               (all_stay c fs g.epochs ok' whole.slots.sound leaves) quiet.stay.published thunks;
           kept = new.kept;
@@ -180,6 +176,6 @@ module _ (m : Meaning) (laws : Laws m) (l : Layout) (limits : IsWithinLimits l) 
           filled = filled_other m laws l limits (states_of (record { agreement = w; epochs = e; publications = g.publications }) s')
               (made_of s) (made_of s')
               (λ r running. let q = in_run m l w s' joined r running in ap made_in q.1 ∙ quiet.made r q.0 q.1) new.filled;
-          named = named_onward m l g.epochs e s.part s'.part w joined.sound on named;
+          guards = guards;
         };
       }

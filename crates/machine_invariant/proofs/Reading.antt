@@ -1,6 +1,6 @@
 -- A step by which a read without a lock writes a word keeps the whole invariant.
 use Rattle.std.specs.Prelude.{Bool, true, false, replicate}
-use Rattle.std.proofs.Common.{◌≡◌, ℕ, List, [], ◌∷◌, sym, refl, ap, ◌∙◌, None, Some}
+use Rattle.std.proofs.Common.{◌≡◌, ℕ, List, [], ◌∷◌, refl, ap, ◌∙◌, None, Some}
 use Rattle.machine_states.specs.map_history.specs.declared.op.Request.{Request}
 use Rattle.machine_states.specs.table_words.specs.declared.layout.Layout.{Layout}
 use Rattle.machine_states.specs.table_words.specs.declared.spot.Spot.{Spot}
@@ -11,7 +11,6 @@ use Rattle.machine_states.specs.structure_laws.specs.Laws.{Laws}
 use Rattle.machine_states.specs.runner_parts.specs.declared.event.EventKind.{EventKind}
 use Rattle.machine_states.specs.runner_parts.specs.declared.event.EventKind.TheVariants as kinds
 use Rattle.machine_states.specs.runner_parts.specs.State.{PartState}
-use Rattle.machine_states.specs.runner_parts.specs.Tests.{has}
 use Rattle.machine_states.specs.runner_steps.specs.Sections.{reply_in}
 use Rattle.machine_states.specs.runner_steps.specs.Reads.{read_stamp_after}
 use Rattle.machine_states.specs.runner_steps.specs.Asks.{asks}
@@ -20,18 +19,16 @@ use Rattle.agreement_core.specs.Events as agreement
 use Rattle.agreement_core.specs.Schedules as agreement_schedules
 use Rattle.machine_states.specs.World.{is_join}
 use Rattle.machine_states.specs.Sight.{Sight, sight_after}
-use Rattle.machine_agreement.specs.machine_epochs.specs.Entries.{counts_of}
-use Rattle.machine_agreement.specs.machine_epochs.specs.Slots.{thunk_in}
-use Rattle.machine_agreement.specs.machine_scenes.specs.Shown.{States, rules_of}
-use Rattle.machine_agreement.specs.machine_scenes.specs.Steps as steps
+use Rattle.machine_guards.specs.machine_agreement.specs.machine_epochs.specs.Entries.{counts_of}
+use Rattle.machine_guards.specs.machine_agreement.specs.machine_epochs.specs.Slots.{thunk_in}
+use Rattle.machine_guards.specs.machine_agreement.specs.machine_scenes.specs.Shown.{States, rules_of}
+use Rattle.machine_guards.specs.machine_agreement.specs.machine_scenes.specs.Steps as steps
 use Rattle.machine_slots.specs.Hands.{Made}
-use Rattle.machine_invariant.specs.Whole.{Beside, states_of, made_of, IsHeldFor, IsWhole}
-use Rattle.machine_invariant.proofs.Named.{named_all}
+use Rattle.machine_invariant.specs.Whole.{Beside, states_of, made_of, IsWhole}
 use Rattle.machine_invariant.proofs.Parts.{is_other}
 use Rattle.machine_invariant.proofs.Runs.{passes_are, is_calm, InHands, Stands, step_anew, agreement_stands}
-use Rattle.machine_invariant.proofs.Ties.{IsOnward, alone_onward, named_onward, tied_onward}
+use Rattle.machine_invariant.proofs.Ties.{tied_onward}
 use Rattle.machine_invariant.proofs.Quiet.{KeepsUse, is_still, all_still, IsQuiet, hands_of, stands_now}
-use Rattle.machine_invariant.proofs.Chunked.{is_unlocked, all_unlocked}
 use Rattle.machine_invariant.proofs.Thunks.{is_private_store, outside_leaves}
 use Rattle.machine_invariant.proofs.Sights.{outside_quiet, thunks_after}
 use Rattle.machine_invariant.proofs.Jointly.{IsWholeAfter}
@@ -43,11 +40,6 @@ abbrev is_read_word : agreement.Event → Bool
 is_read_word (agreement.ReadReply request reply) = true
 is_read_word (agreement.ReadStamp request stamp) = true
 is_read_word _ = false
-
-read_unlocked : (v : agreement.Event) → is_read_word v ≡ true → is_unlocked v ≡ true
-read_unlocked (agreement.ReadReply request reply) is = refl
-read_unlocked (agreement.ReadStamp request stamp) is = refl
-read_unlocked _ is = absurd (cc)
 
 read_uses : (w : AgreementState) (v : agreement.Event) → is_read_word v ≡ true → KeepsUse w (agreement.after w v)
 read_uses w (agreement.ReadReply request reply) is = record { used = refl; live = refl }
@@ -96,16 +88,11 @@ module _ (m : Meaning) (laws : Laws m) (l : Layout) (limits : IsWithinLimits l) 
         (passes_are is_calm (agreement.Pass r) refl go.passes) go.enabled.1 hands one in
         let first = read_uses g.agreement v writes in
         let uses = all_still (rules_of m l) (agreement.after g.agreement v) passes (passes_are is_still (agreement.Pass r) refl go.passes) in
-        let on : IsOnward m l g.epochs g.epochs s.part read_sight.part = alone_onward m l [] g.epochs tt tt s.part read_sight.part
-        (λ i d has_it. ap (λ xs. has xs d) (sym (quiet.stay.mine i)) ∙ has_it) in
-        let tied = tied_onward m l g.agreement w g.epochs g.epochs g.publications s read_sight whole.tied on
+        let tied = tied_onward m l g.agreement w g.epochs g.epochs g.publications s read_sight whole.tied
         (λ d. ap (λ (f : ℕ → Bool). f d) (uses.used ∙ first.used)) (λ d. ap (λ (f : ℕ → Bool). f d) (uses.live ∙ first.live))
         (λ d. refl) quiet.stay.published (λ d used. thunks d) in
         parts_whole m laws l limits (record { agreement = w; epochs = g.epochs; publications = g.publications }) s read_sight go.joined go.joined_slots
-        tied (λ i. (s.part i).reads.walk) quiet.stay.walk quiet.made two
-        (named_onward m l g.epochs g.epochs s.part read_sight.part w go.joined.sound on
-        (named_all (rules_of m l) g.agreement whole.sections.sound (IsHeldFor m l g.epochs s.part) whole.named (v ∷ passes) go.enabled
-        (all_unlocked (v ∷ passes) (read_unlocked v writes, passes_are is_unlocked (agreement.Pass r) refl go.passes))))
+        tied (λ i. (s.part i).reads.walk) quiet.stay.walk quiet.made two go.guards
 
   pub read_reply_whole : asks m l rs r kinds.ReadReply p ≡ Some x → p.run ≡ None
       → (pieces : Pieces m l g s (sight_after m l s r kinds.ReadReply x) r kinds.ReadReply x)

@@ -21,14 +21,14 @@ use Rattle.agreement_core.specs.Events as agreement
 use Rattle.machine_states.specs.epoch_core.specs.State.{Counts, Retiring}
 use Rattle.machine_states.specs.epoch_core.specs.Events as epochs
 use Rattle.machine_states.specs.Sight.{Sight, sight_after}
-use Rattle.machine_agreement.specs.machine_epochs.specs.Entries.{counts_of}
-use Rattle.machine_agreement.specs.machine_epochs.specs.Slots.{retire_before, retiring_of}
-use Rattle.machine_agreement.specs.machine_epochs.proofs.RunPlaces.{next_in_line, open_run, retire_next}
-use Rattle.machine_agreement.specs.machine_scenes.specs.Shown.{States}
-use Rattle.machine_agreement.specs.machine_scenes.specs.Steps.{LoadEpoch, Retire, MayLoadEpoch, MayRetire}
-use Rattle.machine_agreement.specs.machine_scenes.specs.Steps as steps
-use Rattle.machine_agreement.specs.Joined.{IsRunOf}
-use Rattle.machine_agreement.proofs.RunPlaces.{run_here, before}
+use Rattle.machine_guards.specs.machine_agreement.specs.machine_epochs.specs.Entries.{counts_of}
+use Rattle.machine_guards.specs.machine_agreement.specs.machine_epochs.specs.Slots.{retire_before, retiring_of}
+use Rattle.machine_guards.specs.machine_agreement.specs.machine_epochs.proofs.RunPlaces.{next_in_line, open_run, retire_next}
+use Rattle.machine_guards.specs.machine_agreement.specs.machine_scenes.specs.Shown.{States}
+use Rattle.machine_guards.specs.machine_agreement.specs.machine_scenes.specs.Steps.{LoadEpoch, Retire, MayLoadEpoch, MayRetire}
+use Rattle.machine_guards.specs.machine_agreement.specs.machine_scenes.specs.Steps as steps
+use Rattle.machine_guards.specs.machine_agreement.specs.Joined.{IsRunOf}
+use Rattle.machine_guards.specs.machine_agreement.proofs.RunPlaces.{run_here, before}
 use Rattle.machine_invariant.specs.Whole.{Beside, states_of, made_of, IsWhole}
 use Rattle.machine_invariant.proofs.Asked.{line_heads, line_events}
 use Rattle.machine_invariant.proofs.Runs.{InHands, Stands, is_calm, agreement_stands, passes_are, step_stands}
@@ -84,12 +84,12 @@ module _ (m : Meaning) (laws : Laws m) (l : Layout) (limits : IsWithinLimits l) 
         let heads = line_heads m l r kinds.RetireCommit (s.part r) q is opened (s.word x.0) g.agreement pieces.heads pieces.in_sections in
         let events = line_events m l r kinds.RetireCommit (s.part r) q is opened (s.word x.0) pieces.events pieces.in_slots in
         let v : agreement.Event = agreement.RetireCommit r heads.0 heads.1 in
-        let stay = stays_read m l s r kinds.RetireCommit x refl q is opened in
+        let stay = stays_read m l s r kinds.RetireCommit x refl q is opened refl in
         let thunks = thunks_stay m l s r kinds.RetireCommit x refl q is opened rs asked in
         keeps_by m l g s retired r kinds.RetireCommit x pieces (v ∷ []) (epochs.RetireCommit r ∷ []) heads.3 events.3 g.publications refl
         (no_hold m l kinds.RetireCommit (s.word x.0) refl) refl
         (λ go. line_whole m laws l limits g s retired whole stay thunks r v (epochs.RetireCommit r ∷ []) go
-        refl (record { used = refl; live = refl }) (refl, tt) refl refl
+        (record { used = refl; live = refl }) (refl, tt)
         (retire_stands heads.0 heads.1 heads.2 go))
 
   -- the epoch for a Retire is loaded
@@ -154,10 +154,10 @@ module _ (m : Meaning) (laws : Laws m) (l : Layout) (limits : IsWithinLimits l) 
         let retired : pieces.events ≡ retires slot log ∷ [] = events.3
         ∙ (ap (λ t. epochs.RetireEpoch r q.descriptor events.1 t ∷ []) same.0
         ∙ ap (λ k. epochs.RetireEpoch r q.descriptor k slot ∷ []) same.1) in
-        let stay = stays_read m l s r kinds.EpochForRetire x refl q is opened in
+        let stay = stays_read m l s r kinds.EpochForRetire x refl q is opened refl in
         let thunks = thunks_stay m l s r kinds.EpochForRetire x refl q is opened rs asked in
         keeps_by m l g s known r kinds.EpochForRetire x pieces (loads slot log ∷ []) (retires slot log ∷ []) heads.3 retired g.publications refl
         (no_hold m l kinds.EpochForRetire (s.word x.0) refl) refl
         (λ go. line_whole m laws l limits g s known whole stay thunks r (loads slot log) (retires slot log ∷ []) go
-        refl (record { used = refl; live = refl }) (refl, tt) refl refl
+        (record { used = refl; live = refl }) (refl, tt)
         (epoch_stands slot log heads.2 go))

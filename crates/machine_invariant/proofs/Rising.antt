@@ -29,11 +29,12 @@ use Rattle.machine_states.specs.Sight as states
 use Rattle.machine_states.proofs.Sights.{happens_steps}
 use Rattle.machine_states.proofs.Reached.{run_has}
 use Rattle.machine_states.proofs.FirstSights as firsts
-use Rattle.machine_agreement.specs.machine_epochs.specs.Entries.{counts_of}
-use Rattle.machine_agreement.specs.machine_scenes.specs.Shown.{rules_of}
-use Rattle.machine_agreement.specs.Chunks as sections
-use Rattle.machine_agreement.specs.Joined.{IsJoinedToAgreement}
-use Rattle.machine_agreement.specs.Supplied.{collects}
+use Rattle.machine_guards.specs.machine_agreement.specs.machine_epochs.specs.Entries.{counts_of}
+use Rattle.machine_guards.specs.machine_agreement.specs.machine_scenes.specs.Shown.{rules_of}
+use Rattle.machine_guards.specs.machine_agreement.specs.Chunks as sections
+use Rattle.machine_guards.specs.machine_agreement.specs.Joined.{IsJoinedToAgreement}
+use Rattle.machine_states.specs.runner_steps.specs.Guards.{is_last_guard}
+use Rattle.machine_states.specs.runner_parts.specs.declared.entries.Published.{Published}
 use Rattle.machine_invariant.specs.Along.{Components, AreEventsOf}
 use Rattle.machine_invariant.specs.Rising.{CellsRise, StepsRise, RisesAfter}
 use Rattle.machine_invariant.specs.Whole.{Beside, IsWhole}
@@ -93,9 +94,21 @@ once_rises c w (e ∷ es) once ok old p = ⊎_elim
     now : ℕ → ℕ
     now = (after_all c (agreement.after w e) es).shared.cells
 
-collected_once : (o : Option ℕ) (p : PartState) → ChangeOnce (sections.collected o p)
-collected_once None p = tt
-collected_once (Some epoch) p = all_once _ (frees_are leaves_cells (λ d. refl) _)
+swept_once : (l : Layout) (p : PartState) (found : ℕ) → ChangeOnce (sections.swept l p found)
+swept_once l p found = by (is_last_guard l p.guards.looked)
+  where
+    by : (b : Bool) → ChangeOnce (if b then sections.frees (sections.unnamed (p.guards.looked ++ found ∷ []) p) else [])
+    by true = all_once _ (frees_are leaves_cells (λ d. refl) _)
+    by false = tt
+
+-- the retirement of the own section changes no cell
+retires_same : (o : Option Published) (d : ℕ) → AllAre leaves_cells (sections.retires_own o d)
+retires_same None d = tt
+retires_same (Some x) d = by (x.descriptor == d)
+  where
+    by : (b : Bool) → AllAre leaves_cells (if b then agreement.RetireDescriptor d ∷ [] else [])
+    by true = (refl, tt)
+    by false = tt
 
 stored_once : (d word number : ℕ) → ChangeOnce (sections.stored d word number)
 stored_once d word number = by (nat_lt word 12) (word == 12)
@@ -116,58 +129,55 @@ one_once heads is = subst ChangeOnce (sym is) (inr tt)
 read_once : (heads : List agreement.Event) {place : ℕ} {e : agreement.Event} → heads ≡ agreement.Read place ∷ e ∷ [] → ChangeOnce heads
 read_once heads is = subst ChangeOnce (sym is) (inl (refl, inr tt))
 
-last_once : (heads : List agreement.Event) {r p place word : ℕ}
-    → heads ≡ agreement.Read p ∷ agreement.Release r place word ∷ agreement.Finish r ∷ [] → ChangeOnce heads
-last_once heads is = subst ChangeOnce (sym is) (inl (refl, inr (refl, tt)))
+last_once : (heads : List agreement.Event) {r p place word : ℕ} (o : Option Published) (d : ℕ)
+    → heads ≡ agreement.Read p ∷ agreement.Release r place word ∷ agreement.Finish r ∷ sections.retires_own o d → ChangeOnce heads
+last_once heads o d is = subst ChangeOnce (sym is) (inl (refl, inr (refl, retires_same o d)))
 
 module _ (m : Meaning) (l : Layout) (w : AgreementState) (r : ℕ) where
-  line_once : (kind : EventKind) (q : RunState) (found : ℕ) (heads : List agreement.Event) → sections.IsLineChunk m l w r kind q found heads
-      → ChangeOnce heads
-  line_once kinds.Commit q found heads chunk = ⊎_elim (λ h. one_once heads h.1) (λ h. one_once heads h.1) chunk.2
-  line_once (kinds.LoadCell None) q found heads chunk = one_once heads chunk.3
-  line_once kinds.ExchangeCell q found heads chunk = read_once heads chunk.4
-  line_once (kinds.PrivateLoad slot cell) q found heads chunk = one_once heads chunk.2
-  line_once (kinds.PrivateStore slot cell number) q found heads chunk = one_once heads chunk.4
-  line_once kinds.MakeCommit q found heads chunk = one_once heads chunk.4
-  line_once kinds.EpochForRetire q found heads chunk = one_once heads chunk.3
-  line_once kinds.RetireCommit q found heads chunk = one_once heads chunk.3
-  line_once kinds.ClockLoad q found heads chunk = one_once heads chunk.1
-  line_once kinds.StampExchange q found heads chunk = one_once heads chunk.1
-  line_once kinds.ClockRaise q found heads chunk = one_once heads chunk.1
-  line_once kinds.ReplyExchange q found heads chunk = one_once heads chunk.2
-  line_once kinds.NestedLoad q found heads chunk = one_once heads chunk.3
-  line_once kinds.NestedHold q found heads chunk = read_once heads chunk.3
-  line_once kinds.OutcomeLoad q found heads chunk = one_once heads chunk.3
-  line_once kinds.OutcomeCommit q found heads chunk = one_once heads chunk.3
-  line_once kinds.SetDone q found heads chunk = one_once heads chunk.1
-  line_once kinds.Release q found heads chunk = ⊎_elim (λ h. read_once heads h.1) (λ h. last_once heads h.1) chunk.3
-  line_once _ q found heads chunk = none_once heads chunk
+  line_once : (kind : EventKind) (p : PartState) (q : RunState) (found : ℕ) (heads : List agreement.Event)
+      → sections.IsLineChunk m l w r kind p q found heads → ChangeOnce heads
+  line_once kinds.Commit p q found heads chunk = ⊎_elim (λ h. one_once heads h.1) (λ h. one_once heads h.1) chunk.2
+  line_once (kinds.LoadCell None) p q found heads chunk = one_once heads chunk.3
+  line_once kinds.ExchangeCell p q found heads chunk = read_once heads chunk.4
+  line_once (kinds.PrivateLoad slot cell) p q found heads chunk = one_once heads chunk.2
+  line_once (kinds.PrivateStore slot cell number) p q found heads chunk = one_once heads chunk.4
+  line_once kinds.MakeCommit p q found heads chunk = one_once heads chunk.4
+  line_once kinds.EpochForRetire p q found heads chunk = one_once heads chunk.3
+  line_once kinds.RetireCommit p q found heads chunk = one_once heads chunk.3
+  line_once kinds.ClockLoad p q found heads chunk = one_once heads chunk.1
+  line_once kinds.StampExchange p q found heads chunk = one_once heads chunk.1
+  line_once kinds.ClockRaise p q found heads chunk = one_once heads chunk.1
+  line_once kinds.ReplyExchange p q found heads chunk = one_once heads chunk.2
+  line_once kinds.NestedLoad p q found heads chunk = one_once heads chunk.3
+  line_once kinds.NestedHold p q found heads chunk = read_once heads chunk.3
+  line_once kinds.OutcomeLoad p q found heads chunk = one_once heads chunk.3
+  line_once kinds.OutcomeCommit p q found heads chunk = one_once heads chunk.3
+  line_once kinds.SetDone p q found heads chunk = one_once heads chunk.1
+  line_once kinds.Release p q found heads chunk = ⊎_elim (λ h. read_once heads h.1) (λ h. last_once heads p.published q.descriptor h.1) chunk.3
+  line_once _ p q found heads chunk = none_once heads chunk
 
   outside_once : (kind : EventKind) (p : PartState) (found : ℕ) (heads : List agreement.Event)
       → sections.IsOutsideChunk m l w r kind p found heads → ChangeOnce heads
   outside_once (kinds.Hold thunk d) p found heads chunk = ⊎_elim (λ h. read_once heads h.1) (λ h. one_once heads h.1) chunk
-  outside_once kinds.EpochForRetire p found heads chunk = one_once heads chunk.2
   outside_once kinds.ReadReply p found heads chunk = one_once heads chunk.2
   outside_once kinds.ReadStamp p found heads chunk = one_once heads chunk.2
-  outside_once (kinds.ScanOne n) p found heads chunk =
-      subst ChangeOnce (sym chunk) (collected_once (collects l (kinds.ScanOne n) p.stage found) p)
-  outside_once kinds.Advance p found heads chunk = subst ChangeOnce (sym chunk) (collected_once (collects l kinds.Advance p.stage found) p)
+  outside_once (kinds.LoadGuard n) p found heads chunk = subst ChangeOnce (sym chunk) (swept_once l p found)
   outside_once (kinds.LoadCell (Some place)) p found heads chunk = one_once heads chunk
   outside_once (kinds.LoadThunk (Some d)) p found heads chunk = one_once heads chunk
   outside_once (kinds.PrivateStore slot word number) p found heads chunk =
       subst ChangeOnce (sym chunk.1) (stored_once (slot - slot_count l m.fixed_slots) word number)
   outside_once _ p found heads chunk = none_once heads chunk
 
-  inside_once : (kind : EventKind) (q : RunState) (found : ℕ) (heads : List agreement.Event) (b : Bool)
-      → sections.IsInsideChunk m l w r b kind q found heads → ChangeOnce heads
-  inside_once kind q found heads true chunk = line_once kind q found heads chunk
-  inside_once kind q found heads false chunk = none_once heads chunk
+  inside_once : (kind : EventKind) (p : PartState) (q : RunState) (found : ℕ) (heads : List agreement.Event) (b : Bool)
+      → sections.IsInsideChunk m l w r b kind p q found heads → ChangeOnce heads
+  inside_once kind p q found heads true chunk = line_once kind p q found heads chunk
+  inside_once kind p q found heads false chunk = none_once heads chunk
 
   -- in the events of a step at most one changes a cell
   chunk_once : (kind : EventKind) (p : PartState) (o : Option RunState) (found : ℕ) (heads : List agreement.Event)
       → sections.IsChunk m l w r kind p o found heads → ChangeOnce heads
   chunk_once kind p None found heads chunk = outside_once kind p found heads chunk
-  chunk_once kind p (Some q) found heads chunk = inside_once kind q found heads (is_open_run q) chunk
+  chunk_once kind p (Some q) found heads chunk = inside_once kind p q found heads (is_open_run q) chunk
 
 -- the words of two states of the machine, by the cells of states of agreement that belong to them
 joined_rises : (m : Meaning) (l : Layout) (a a' : AgreementState) (s s' : Sight) → IsJoinedToAgreement m l a s → IsJoinedToAgreement m l a' s' → RiseByOne a a'

@@ -10,14 +10,14 @@ use Rattle.machine_states.specs.structure_laws.specs.Meaning.{Meaning}
 use Rattle.machine_states.specs.runner_parts.specs.declared.event.EventKind.{EventKind}
 use Rattle.machine_states.specs.runner_parts.specs.declared.event.EventKind.TheVariants as kinds
 use Rattle.machine_states.specs.runner_parts.specs.State.{RunState, PartState}
-use Rattle.machine_states.specs.runner_steps.specs.After.{after_by, after, leaves, knows_also}
+use Rattle.machine_states.specs.runner_steps.specs.After.{inside_after, after_by, after, leaves, knows_also}
 use Rattle.machine_states.specs.World.{is_join}
 use Rattle.machine_states.specs.Sight.{Sight, sight_after}
 use Rattle.machine_states.proofs.Updates.{upd_split}
-use Rattle.machine_agreement.specs.machine_epochs.specs.Slots.{thunk_in}
-use Rattle.machine_agreement.specs.machine_epochs.proofs.Joining.{thunk_same}
+use Rattle.machine_guards.specs.machine_agreement.specs.machine_epochs.specs.Slots.{thunk_in}
+use Rattle.machine_guards.specs.machine_agreement.specs.machine_epochs.proofs.Joining.{thunk_same}
 use Rattle.machine_invariant.specs.Whole.{HasPublished, made_in, made_of}
-use Rattle.machine_invariant.proofs.Parts.{IsSamePart, is_making, inside_same, inside_made, is_other, outside_same, outside_made, noted_same}
+use Rattle.machine_invariant.proofs.Parts.{IsSamePart, is_making, is_release, inside_same, inside_made, is_other, outside_same, outside_made, noted_same}
 use Rattle.machine_invariant.proofs.Quiet.{StayRead, IsQuiet}
 use Rattle.machine_invariant.proofs.Thunks.{LeavesThunks}
 use Rattle.machine_states.specs.body_terms.specs.declared.thunk.Thunk.{Thunk}
@@ -35,11 +35,10 @@ module _ (m : Meaning) (l : Layout) (s : Sight) (r : ℕ) where
   after_is (kinds.Join worker) x e = absurd (cc)
   after_is _ x e = refl
 
-  -- a part that has read and published what it had
+  -- a part that has read what it had, and has to retire what it had to retire
   pub one_stays : (word' : Spot → ℕ) (p' : PartState) → IsSamePart m l p p' → StayRead m l s (record { word = word'; part = upd s.part r p' })
   one_stays word' p' same = record {
     walk = upd_split s.part r p' (λ i y. y.reads.walk ≡ (s.part i).reads.walk) same.walk (λ i ne. refl);
-    mine = upd_split s.part r p' (λ i y. y.reads.published ≡ (s.part i).reads.published) same.mine (λ i ne. refl);
     published = upd_split s.part r p' (λ i y. (d : ℕ) (t : Thunk) → HasPublished m l (s.part i) d t → HasPublished m l y d t) same.published
         (λ i ne d t h. h);
   }
@@ -59,15 +58,20 @@ module _ (m : Meaning) (l : Layout) (s : Sight) (r : ℕ) where
   quiet_after kind x j same made = subst (IsQuiet m l s) (sym (after_is kind x j))
       (one_quiet _ (after m l r kind x.0 x.1 p (s.word x.0)) (noted_same m l r kind x.0 x.1 p (s.word x.0) same) made)
 
-  -- a step in a run that takes and commits no slot for a Make
-  pub inside_quiet : (kind : EventKind) (x : Spot × Access) (q : RunState) → p.run ≡ Some q → is_join kind ≡ false → is_making kind ≡ false
-      → IsQuiet m l s (sight_after m l s r kind x)
-  inside_quiet kind x q is j other = quiet_after kind x j
-      (subst (λ o. IsSamePart m l p (after_by m l kind p o (s.word x.0))) (sym is) (inside_same m l p q (s.word x.0) kind))
+  -- a step in a run that takes and commits no slot for a Make, and leaves the part as it was for the whole invariant
+  pub by_part : (kind : EventKind) (x : Spot × Access) (q : RunState) → p.run ≡ Some q → is_join kind ≡ false → is_making kind ≡ false
+      → IsSamePart m l p (inside_after m l kind p q (s.word x.0)) → IsQuiet m l s (sight_after m l s r kind x)
+  by_part kind x q is j other same = quiet_after kind x j
+      (subst (λ o. IsSamePart m l p (after_by m l kind p o (s.word x.0))) (sym is) same)
       (λ q' e. (inside_made m l p q is (s.word x.0) kind other).same q' (ap (λ o. (after_by m l kind p o (s.word x.0)).run) (sym is) ∙ e)
       ∙ ap made_in (sym is))
 
-  -- a step outside a run that is no entry, no load of a cell, no publication and no retirement
+  -- so does each of them that is no release
+  pub inside_quiet : (kind : EventKind) (x : Spot × Access) (q : RunState) → p.run ≡ Some q → is_join kind ≡ false → is_making kind ≡ false
+      → is_release kind ≡ false → IsQuiet m l s (sight_after m l s r kind x)
+  inside_quiet kind x q is j other released = by_part kind x q is j other (inside_same m l p q (s.word x.0) kind released)
+
+  -- a step outside a run that is no entry, no load of a cell and no publication
   pub outside_quiet : (kind : EventKind) (x : Spot × Access) → p.run ≡ None → is_join kind ≡ false → is_other kind ≡ true
       → IsQuiet m l s (sight_after m l s r kind x)
   outside_quiet kind x none j other = quiet_after kind x j
@@ -80,7 +84,6 @@ module _ (m : Meaning) (l : Layout) (s : Sight) (r : ℕ) where
   join_quiet worker x none = record {
     stay = record {
       walk = λ i. all (λ i y. y.reads.walk ≡ (s.part i).reads.walk) same.walk refl (λ i. refl) i;
-      mine = λ i. all (λ i y. y.reads.published ≡ (s.part i).reads.published) same.mine refl (λ i. refl) i;
       published = λ i. all (λ i y. (d : ℕ) (t : Thunk) → HasPublished m l (s.part i) d t → HasPublished m l y d t) same.published (λ d t h. h) (λ i d t h. h) i;
     };
     made = λ i. all (λ i y. (q : RunState) → y.run ≡ Some q → q.made ≡ made_of s i)
@@ -95,7 +98,7 @@ module _ (m : Meaning) (l : Layout) (s : Sight) (r : ℕ) where
       same = let h = noted_same m l r (kinds.Join worker) x.0 x.1 p (s.word x.0)
           (subst (λ o. IsSamePart m l p (after_by m l (kinds.Join worker) p o (s.word x.0))) (sym none)
           (outside_same m l p (s.word x.0) (kinds.Join worker) refl)) in
-          record { walk = h.walk; mine = h.mine; published = h.published }
+          record { walk = h.walk; published = h.published }
 
       all : (Q : ℕ → PartState → Type 0) → Q r keeper → Q worker (leaves (s.part worker)) → ((i : ℕ) → Q i (s.part i)) → (i : ℕ)
           → Q i (upd (upd s.part r keeper) worker (leaves (s.part worker)) i)

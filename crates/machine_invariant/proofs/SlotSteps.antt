@@ -12,7 +12,6 @@ use Rattle.machine_states.specs.structure_laws.specs.Meaning.{Meaning}
 use Rattle.machine_states.specs.structure_laws.specs.Laws.{Laws}
 use Rattle.machine_states.specs.runner_parts.specs.declared.event.EventKind.{EventKind}
 use Rattle.machine_states.specs.runner_parts.specs.State.{RunState, PartState}
-use Rattle.machine_states.specs.runner_parts.specs.Tests.{has}
 use Rattle.machine_states.specs.runner_steps.specs.Sections.{is_open_run, next_of}
 use Rattle.machine_states.specs.runner_steps.specs.AfterInRun.{opened_more}
 use Rattle.machine_states.specs.runner_steps.specs.After.{line_after, after_by, after}
@@ -20,41 +19,25 @@ use Rattle.machine_states.specs.runner_steps.specs.Asks.{asks}
 use Rattle.agreement_core.specs.State.{AgreementState}
 use Rattle.agreement_core.specs.Events as agreement
 use Rattle.agreement_core.specs.Schedules as agreement_schedules
-use Rattle.machine_states.specs.epoch_core.specs.State.{EpochState, is_entered}
 use Rattle.machine_states.specs.epoch_core.specs.Events as epochs
 use Rattle.machine_states.specs.World.{is_join}
 use Rattle.machine_states.specs.Sight.{Sight, sight_after}
 use Rattle.machine_states.proofs.Updates.{upd_split, upd_here, upd_else}
-use Rattle.machine_agreement.specs.machine_epochs.specs.Entries.{counts_of}
-use Rattle.machine_agreement.specs.machine_epochs.specs.Slots.{thunk_in}
-use Rattle.machine_agreement.specs.machine_epochs.proofs.Reaching.{leaves_descriptors}
-use Rattle.machine_agreement.specs.machine_scenes.specs.Shown.{States, rules_of}
-use Rattle.machine_agreement.proofs.LineAsked as asked_line
+use Rattle.machine_guards.specs.machine_agreement.specs.machine_epochs.specs.Entries.{counts_of}
+use Rattle.machine_guards.specs.machine_agreement.specs.machine_epochs.specs.Slots.{thunk_in}
+use Rattle.machine_guards.specs.machine_agreement.specs.machine_epochs.proofs.Reaching.{leaves_descriptors}
+use Rattle.machine_guards.specs.machine_agreement.specs.machine_scenes.specs.Shown.{States, rules_of}
+use Rattle.machine_guards.specs.machine_agreement.proofs.LineAsked as asked_line
 use Rattle.machine_slots.specs.Hands.{Made}
-use Rattle.machine_invariant.specs.Named.{AreNamed}
-use Rattle.machine_invariant.specs.Whole.{Beside, states_of, made_in, made_of, IsHeldFor, IsWhole}
-use Rattle.machine_invariant.proofs.Named.{named_all}
-use Rattle.machine_invariant.proofs.Parts.{IsSamePart, inside_same, noted_same}
+use Rattle.machine_invariant.specs.Whole.{Beside, states_of, made_in, made_of, IsWhole}
+use Rattle.machine_invariant.proofs.Parts.{IsSamePart, is_release, inside_same, noted_same}
 use Rattle.machine_invariant.proofs.Runs.{AllAre, InHands, Stands, is_calm, agreement_stands, passes_are}
 use Rattle.machine_invariant.proofs.Jointly.{IsWholeAfter}
-use Rattle.machine_invariant.proofs.Ties.{IsOnward, named_onward, tied_onward}
+use Rattle.machine_invariant.proofs.Ties.{tied_onward}
 use Rattle.machine_invariant.proofs.Quiet.{is_still, StayRead, KeepsUse, all_still, all_stay, with_walk}
 use Rattle.machine_invariant.proofs.Sights.{after_is, one_stays, thunks_after}
 use Rattle.machine_invariant.proofs.Thunks.{inside_leaves}
-use Rattle.machine_invariant.proofs.Chunked.{is_unlocked, all_unlocked}
 use Rattle.machine_invariant.proofs.Pieces.{Leads, led}
-
-module _ (m : Meaning) (l : Layout) where
-  -- nobody enters or leaves, or comes to hold something
-  same_onward : (e e' : EpochState) (s s' : Sight) → e'.stage ≡ e.stage → e'.holds ≡ e.holds → StayRead m l s s'
-      → IsOnward m l e e' s.part s'.part
-  same_onward e e' s s' stage holds stay = record {
-    entries = λ i d entered has_it. (
-      ap (λ f. is_entered (f i)) (sym stage) ∙ entered,
-      ap (λ xs. has xs d) (sym (stay.mine i)) ∙ has_it,
-    );
-    holds = λ i t entered held. ap (λ (f : ℕ → ℕ → Bool). f i t) holds ∙ held;
-  }
 
 -- the step of an open run's line
 module _ (m : Meaning) (l : Layout) (s : Sight) (r : ℕ) (kind : EventKind) (x : Spot × Access) (j : is_join kind ≡ false) (q : RunState)
@@ -66,10 +49,10 @@ module _ (m : Meaning) (l : Layout) (s : Sight) (r : ℕ) (kind : EventKind) (x 
   s' = sight_after m l s r kind x
 
   -- the part after it
-  abbrev line_part : PartState
+  abbrev pub line_part : PartState
   line_part = line_after m l kind p q (next_of m q) (s.word x.0)
 
-  part_is : after_by m l kind p p.run (s.word x.0) ≡ line_part
+  pub part_is : after_by m l kind p p.run (s.word x.0) ≡ line_part
   part_is = ap (λ (o : Option RunState). after_by m l kind p o (s.word x.0)) is
       ∙ ap (λ b. if b then line_part else opened_more p q (s.word x.0)) opened
 
@@ -91,9 +74,9 @@ module _ (m : Meaning) (l : Layout) (s : Sight) (r : ℕ) (kind : EventKind) (x 
       (λ ne. upd_else (made_of s) r q.made i ne)
       (cases_eq i r)
 
-  -- it changes nothing of what runners have read outside runs and published
-  pub stays_read : StayRead m l s s'
-  stays_read = subst (StayRead m l s) (sym (after_is m l s r kind x j)) (one_stays m l s r _ p' same)
+  -- it changes nothing of what runners have read outside runs and published, where it is no release
+  pub stays_read : is_release kind ≡ false → StayRead m l s s'
+  stays_read other = subst (StayRead m l s) (sym (after_is m l s r kind x j)) (one_stays m l s r _ p' same)
     where
       p' : PartState
       p' = after m l r kind x.0 x.1 p (s.word x.0)
@@ -101,7 +84,7 @@ module _ (m : Meaning) (l : Layout) (s : Sight) (r : ℕ) (kind : EventKind) (x 
       same : IsSamePart m l p p'
       same = noted_same m l r kind x.0 x.1 p (s.word x.0)
           (subst (λ (o : Option RunState). IsSamePart m l p (after_by m l kind p o (s.word x.0))) (sym is)
-          (inside_same m l p q (s.word x.0) kind))
+          (inside_same m l p q (s.word x.0) kind other))
 
   -- nor of the thunks
   pub thunks_stay : (rs : List Request) → asks m l rs r kind p ≡ Some x → (d : ℕ) → thunk_in s'.word d ≡ thunk_in s.word d
@@ -134,17 +117,11 @@ module _ (m : Meaning) (laws : Laws m) (l : Layout) (limits : IsWithinLimits l) 
     g' = led m l g r (v ∷ []) go.passes fs g.publications
 
     -- the whole invariant after an event of agreement with the checks that pass behind it, and events of epochs and slots
-    pub line_whole : is_unlocked v ≡ true → KeepsUse g.agreement (agreement.after g.agreement v) → AllAre leaves_descriptors fs
-        → g'.epochs.stage ≡ g.epochs.stage → g'.epochs.holds ≡ g.epochs.holds
+    pub line_whole : KeepsUse g.agreement (agreement.after g.agreement v) → AllAre leaves_descriptors fs
         → Stands m laws l limits (states_of g s) (record (states_of g s) { agreement = g'.agreement; epochs = g'.epochs }) (made_of s')
         → IsWholeAfter m l (states_of g s) g' s'
-    line_whole unlocked stays_used leaves stage holds stands =
+    line_whole stays_used leaves stands =
         let uses = passes_use g.agreement r go.passes v stays_used in
-        let on : IsOnward m l g.epochs g'.epochs s.part s'.part = same_onward m l g.epochs g'.epochs s s' stage holds stay in
-        let named : AreNamed (IsHeldFor m l g.epochs s.part) g'.agreement =
-        named_all (rules_of m l) g.agreement whole.sections.sound (IsHeldFor m l g.epochs s.part) whole.named
-        (v ∷ replicate go.passes (agreement.Pass r)) go.enabled
-        (all_unlocked (v ∷ replicate go.passes (agreement.Pass r)) (unlocked, passes_are is_unlocked (agreement.Pass r) refl go.passes)) in
         let new = with_walk m laws l limits (record (states_of g s) { agreement = g'.agreement; epochs = g'.epochs }) (made_of s')
         (λ i. (s'.part i).reads.walk) stay.walk stands in
         record {
@@ -152,12 +129,12 @@ module _ (m : Meaning) (laws : Laws m) (l : Layout) (limits : IsWithinLimits l) 
           whole = record {
             sections = go.joined;
             slots = go.joined_slots;
-            tied = tied_onward m l g.agreement g'.agreement g.epochs g'.epochs g.publications s s' whole.tied on
+            tied = tied_onward m l g.agreement g'.agreement g.epochs g'.epochs g.publications s s' whole.tied
                 (λ d. ap (λ (f : ℕ → Bool). f d) uses.used) (λ d. ap (λ (f : ℕ → Bool). f d) uses.live)
                 (all_stay (counts_of m l) fs g.epochs go.enabled_slots whole.slots.sound leaves) stay.published (λ d used. thunks d);
             kept = new.kept;
             held = new.held;
             filled = new.filled;
-            named = named_onward m l g.epochs g'.epochs s.part s'.part g'.agreement go.joined.sound on named;
+            guards = go.guards;
           };
         }

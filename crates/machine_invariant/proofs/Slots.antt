@@ -1,5 +1,5 @@
 -- What the component of epochs and slots says holds of the machine's lists.
-use Rattle.std.proofs.Common.{◌≡◌, ℕ, ◌+◌, ◌<◌, ◌≤◌, Bool, true, false, cond, List, [], ◌∷◌, map, refl, sym, ap, ◌∙◌, subst, ⊎_elim, arith}
+use Rattle.std.proofs.Common.{◌≡◌, ℕ, ◌+◌, ◌<◌, ◌≤◌, Bool, true, false, cond, List, [], ◌∷◌, map, refl, sym, ap, ◌∙◌, subst, ⊎_elim, arith, Some}
 use Rattle.std.specs.Prelude.{◌==◌, ◌&&◌}
 use Rattle.std.proofs.lemmas.Bool.{cases_lt}
 use Rattle.std.proofs.lemmas.Bool.Decides.{nat_tests}
@@ -19,15 +19,19 @@ use Rattle.machine_states.specs.epoch_core.specs.Lists.{times_retired, in_hand, 
 use Rattle.machine_states.specs.epoch_core.specs.History.{History, IsExact, is_makes, is_retires, agreed_slot, agreed_count}
 use Rattle.machine_states.specs.epoch_core.specs.Sound.{is_for_nodes}
 use Rattle.machine_states.specs.Sight.{Sight}
-use Rattle.machine_agreement.specs.machine_epochs.specs.Entries.{counts_of}
-use Rattle.machine_agreement.specs.machine_epochs.specs.Slots.{retiring_of, retire_before}
-use Rattle.machine_agreement.specs.machine_epochs.specs.Roles.{role_at}
-use Rattle.machine_agreement.specs.machine_epochs.specs.Slots as shows
-use Rattle.machine_agreement.specs.machine_epochs.specs.Descriptors.{times_limbo}
-use Rattle.machine_agreement.specs.machine_epochs.specs.Joined.{IsJoinedToEpochs}
+use Rattle.machine_guards.specs.machine_agreement.specs.machine_epochs.specs.Entries.{counts_of}
+use Rattle.machine_guards.specs.machine_agreement.specs.machine_epochs.specs.Slots.{retiring_of, retire_before}
+use Rattle.machine_guards.specs.machine_agreement.specs.machine_epochs.specs.Roles.{role_at}
+use Rattle.machine_guards.specs.machine_agreement.specs.machine_epochs.specs.Slots as shows
+use Rattle.machine_guards.specs.machine_agreement.specs.machine_epochs.specs.Descriptors.{times_limbo}
+use Rattle.machine_guards.specs.machine_agreement.specs.machine_epochs.specs.Joined.{IsJoinedToEpochs}
 use Rattle.machine_invariant.specs.Slots.{times_among, IsRetiring, NodesStand, DescriptorsStand, HeldStand, InUseAreKept, RetiresStand}
 use Rattle.machine_invariant.specs.Slots.{CommitsAreWonOnce, SlotsAreSound}
+use Rattle.machine_invariant.proofs.Basics.{both}
 use Rattle.machine_invariant.proofs.Asked.{entered_at}
+use Rattle.machine_states.specs.runner_parts.specs.State.{GuardsState}
+use Rattle.machine_states.specs.runner_steps.specs.Outside.{is_sure_of}
+use Rattle.machine_guards.specs.machine_agreement.specs.machine_epochs.proofs.OutsideAsked.{named_is}
 
 -- a slot that isn't in limbo at all, and one that is there once
 limbo_none : (t : ℕ) (xs : List Retired) → ((y : ℕ) → times_retired t y (map shows.entry_of xs) ≡ 0) → times_limbo t xs ≡ 0
@@ -121,6 +125,10 @@ entered_with stages.Announced h = absurd (cc)
 entered_with (stages.Entered g) h = (g, refl, refl)
 entered_with (stages.Scanning x n b) h = absurd (cc)
 
+-- of what a runner is sure its guard word names
+pub sure_named : (g : GuardsState) (d : ℕ) → is_sure_of g d ≡ true → g.named ≡ Some d
+sure_named g d is = named_is g.named d (both g.sure _ is).1
+
 module _ (m : Meaning) (l : Layout) (e : EpochState) (s : Sight) (joined : IsJoinedToEpochs m l e s) where
   -- how often a node slot stands in a runner's lists
   among : (r t : ℕ) → t < (counts_of m l).nodes → times_among (s.part r).nodes t ≡ in_lists r (e.location t)
@@ -177,7 +185,8 @@ module _ (m : Meaning) (l : Layout) (e : EpochState) (s : Sight) (joined : IsJoi
     unhanded = λ r r' t lt h. joined.listed.hand r' t lt ∙ kept_unhanded _ _ r' (joined.sound.held r t h);
     unfree_descriptor = λ r r' d lt h. joined.listed.free_descriptors r' d lt ∙ kept_unfree _ _ r' (joined.sound.held r _ h);
     reached = λ r g t at lt h. (joined.tied r).reached t (entered_at m l e s joined r g at) lt h;
-    named = λ r g d at h. (joined.tied r).named d (entered_at m l e s joined r g at) h;
+    named = λ r d h. (joined.tied r).sure d h;
+    alone = λ r d h. (joined.tied r).sure_alone d h;
     run = λ r q is. (joined.tied r).run_held q is;
   }
 
@@ -186,7 +195,7 @@ module _ (m : Meaning) (l : Layout) (e : EpochState) (s : Sight) (joined : IsJoi
     unfree = λ r r' g t at lt h. held_stand.unfree r r' t lt (held_stand.reached r g t at lt h);
     unworn = λ r r' g t at lt h. held_stand.unworn r r' t lt (held_stand.reached r g t at lt h);
     unhanded = λ r r' g t at lt h. held_stand.unhanded r r' t lt (held_stand.reached r g t at lt h);
-    named = λ r r' g d at lt h. held_stand.unfree_descriptor r r' d lt (held_stand.named r g d at h);
+    named = λ r r' d h. held_stand.unfree_descriptor r r' d ((joined.tied r).numbered d (sure_named (s.part r).guards d h)) (held_stand.named r d h);
     run = λ r r' q is lt. held_stand.unfree_descriptor r r' q.descriptor lt (held_stand.run r q is);
   }
 

@@ -7,7 +7,7 @@ use Rattle.machine_states.specs.epoch_core.specs.History as epoch_history
 use Rattle.agreement_core.specs.State.{AgreementState}
 use Rattle.agreement_core.specs.History as agreement_history
 use Rattle.machine_states.specs.Sight.{Sight}
-use Rattle.machine_agreement.specs.machine_epochs.specs.Entries.{counts_of}
+use Rattle.machine_guards.specs.machine_agreement.specs.machine_epochs.specs.Entries.{counts_of}
 use Rattle.machine_invariant.specs.Whole.{Beside, IsWhole}
 use Rattle.machine_invariant.specs.Along.{Components}
 use Rattle.machine_invariant.specs.States.{StateIsSound}
@@ -45,6 +45,7 @@ module _ (m : Meaning) (l : Layout) (g : Beside) (s : Sight) (whole : IsWhole m 
     sections = sections_sound m l g.agreement g.epochs s whole.sections whole.slots changes exact wins won whole.tied.used
         (λ d used. (g.publications.thunk d, whole.kept.thunks d used, (whole.kept.shaped d used).shape))
         (λ d live. let p = whole.tied.publisher d live in (g.publications.runner d, p.0, p.1, p.2)) published_stand;
+    guards = whole.guards;
     used = whole.tied.used;
     live = whole.tied.live;
     is_live = whole.tied.is_live;

@@ -1,7 +1,7 @@
 -- The whole invariant supplies what the join of sections asks for, step by step.
 use Rattle.std.specs.Prelude.{◌*◌, ◌^◌, Bool, true, false, slice_get, All, if◌then◌else◌}
 use Rattle.std.specs.List.{filter}
-use Rattle.std.proofs.Common.{◌≡◌, ◌≢◌, ℕ, suc, ◌<◌, ◌≤◌, List, length, refl, sym, ap, ◌∙◌, subst, arith, Option, Some, None}
+use Rattle.std.proofs.Common.{◌≡◌, ◌≢◌, ℕ, suc, ◌<◌, ◌≤◌, List, [], ◌∷◌, ◌++◌, length, refl, sym, ap, ◌∙◌, subst, arith, Option, Some, None}
 use Rattle.std.proofs.lemmas.Option.{slice_get_within, get_or_from_slice_get}
 use Rattle.std.proofs.lemmas.List.Elements.{All-get_or}
 use Rattle.machine_states.specs.map_history.specs.declared.op.Request.{Request}
@@ -25,40 +25,38 @@ use Rattle.machine_states.specs.runner_parts.specs.declared.event.EventKind.TheV
 use Rattle.machine_states.specs.runner_parts.specs.declared.entries.Published.{Published}
 use Rattle.machine_states.specs.runner_parts.specs.State.{RunState, PartState}
 use Rattle.machine_states.specs.runner_parts.specs.Tests.{has}
-use Rattle.machine_states.specs.runner_parts.specs.Lists.{is_old, slots_of}
+use Rattle.machine_states.specs.guard_core.specs.Moves.{is_unnamed}
+use Rattle.machine_states.specs.runner_steps.specs.Guards.{is_last_guard}
 use Rattle.machine_states.specs.runner_steps.specs.Asks.{asks, ask_by, sizes_for, line_ask, opening_ask}
 use Rattle.machine_states.specs.runner_steps.specs.InRun.{is_slot, can_raise}
-use Rattle.machine_states.specs.runner_steps.specs.Outside.{hold_ask, open_ask}
+use Rattle.machine_states.specs.runner_steps.specs.Outside.{is_sure_of, hold_ask}
 use Rattle.machine_states.specs.runner_steps.specs.Sections.{is_open_run, next_of}
 use Rattle.agreement_core.specs.State.{AgreementState, section_of}
 use Rattle.agreement_core.specs.Events.{IsAlone, IsPrivateStore, IsPublishable}
-use Rattle.machine_states.specs.epoch_core.specs.declared.location.Location.TheVariants.{Live, Hand, Free}
-use Rattle.machine_states.specs.epoch_core.specs.Events.{Event, slot_of}
-use Rattle.machine_states.specs.epoch_core.specs.Schedules.{AllEnabled}
+use Rattle.machine_states.specs.epoch_core.specs.declared.location.Location.TheVariants.{Hand}
+use Rattle.machine_states.specs.epoch_core.specs.Events.{slot_of}
 use Rattle.machine_states.specs.epoch_core.specs.Sound.{is_for_nodes}
 use Rattle.machine_states.specs.epoch_core.specs.History.{is_out}
 use Rattle.machine_states.specs.Sight.{Sight}
 use Rattle.machine_states.proofs.Sights.{unless_gone, some_none}
-use Rattle.machine_agreement.specs.machine_epochs.specs.Entries.{counts_of}
-use Rattle.machine_agreement.specs.machine_epochs.specs.ScanEnds.{collects}
-use Rattle.machine_agreement.specs.machine_epochs.specs.Chunks.{IsChunk}
-use Rattle.machine_agreement.specs.machine_epochs.proofs.OutsideAsked as outside
-use Rattle.machine_agreement.specs.machine_epochs.proofs.RunPlaces.{open_run}
-use Rattle.machine_agreement.specs.machine_epochs.proofs.Places.{free_descriptor, held_out}
-use Rattle.machine_agreement.specs.machine_scenes.specs.Shown.{rules_of}
-use Rattle.machine_agreement.specs.machine_scenes.specs.Supplied.{SuppliesAgreement}
-use Rattle.machine_agreement.specs.machine_scenes.proofs.Supplies.{supplies_agreement}
-use Rattle.machine_agreement.specs.Joined.{IsRunOf, ShowsRun}
-use Rattle.machine_agreement.specs.Supplied as supplied
-use Rattle.machine_agreement.proofs.LineAsked as asked_line
-use Rattle.machine_agreement.proofs.RunPlaces.{run_here, before}
+use Rattle.machine_guards.specs.machine_agreement.specs.machine_epochs.specs.Entries.{counts_of}
+use Rattle.machine_guards.specs.machine_agreement.specs.machine_epochs.proofs.OutsideAsked as outside
+use Rattle.machine_guards.specs.machine_agreement.specs.machine_epochs.proofs.RunPlaces.{open_run}
+use Rattle.machine_guards.specs.machine_agreement.specs.machine_epochs.proofs.Places.{free_descriptor, held_out}
+use Rattle.machine_guards.specs.machine_agreement.specs.machine_scenes.specs.Shown.{rules_of}
+use Rattle.machine_guards.specs.machine_agreement.specs.machine_scenes.specs.Supplied.{SuppliesAgreement}
+use Rattle.machine_guards.specs.machine_agreement.specs.machine_scenes.proofs.Supplies.{supplies_agreement}
+use Rattle.machine_guards.specs.machine_agreement.specs.Joined.{IsRunOf, ShowsRun}
+use Rattle.machine_guards.specs.machine_agreement.specs.Supplied as supplied
+use Rattle.machine_guards.specs.machine_agreement.proofs.LineAsked as asked_line
+use Rattle.machine_guards.specs.machine_agreement.proofs.RunPlaces.{run_here, before}
 use Rattle.machine_slots.proofs.Locks.{locks_free}
 use Rattle.machine_slots.proofs.Stores.{private_store_is}
 use Rattle.machine_invariant.specs.Whole.{Beside, states_of, made_in, made_of, IsWhole}
-use Rattle.machine_invariant.proofs.Basics.{not_both, by_bool, below_test, same_test}
+use Rattle.machine_invariant.proofs.Basics.{not_both, by_bool, both, below_test, same_test}
 use Rattle.machine_invariant.proofs.Asked.{source_same, entered_at}
 use Rattle.machine_invariant.proofs.Prepared.{thunk_is, done_is, log_is}
-use Rattle.machine_invariant.proofs.Limbo.{chunk_collects, leaves_unlive, leaves_unheld}
+use Rattle.machine_invariant.proofs.Limbo.{SweepsSafely, has_filter, limbo_unlive}
 
 some_product : (a b n k : ℕ) → a ≤ n → b ≤ k → a * b ≤ n * k
 some_product a b n k h h' = grind arith
@@ -68,18 +66,6 @@ few_links : (l : Layout) → IsWithinLimits l → (d : ℕ) → d < descriptor_c
 few_links l limits d few =
     let product = some_product l.sections l.runners 1024 16 limits.few_sections limits.few_runners in
     let runners = limits.few_runners in omega arith
-
-module _ (m : Meaning) (l : Layout) (rs : List Request) (r : ℕ) (p : PartState) (x : Spot × Access) where
-  -- a run begins only outside a run
-  open_outside : (run : Option RunState) (d : ℕ) → ask_by m l rs r (kinds.LoadThunk (Some d)) p run ≡ Some x → open_ask d p ≡ Some x
-  open_outside None d e = e
-  open_outside (Some q) d e = by (is_open_run q) e
-    where
-      by : (b : Bool)
-          → (if b then line_ask m l (kinds.LoadThunk (Some d)) p.nodes.free q (next_of m q) else opening_ask (kinds.LoadThunk (Some d)) q)
-          ≡ Some x → open_ask d p ≡ Some x
-      by true e = some_none x e
-      by false e = some_none x e
 
 module _ (m : Meaning) (laws : Laws m) (l : Layout) (limits : IsWithinLimits l) (rs : List Request) (few : length rs ≤ 131072)
     (allowed : All (λ (q : Request). IsAllowed q.op) rs) (g : Beside) (s : Sight) (whole : IsWhole m l g s) (r : ℕ) (kind : EventKind)
@@ -139,12 +125,8 @@ module _ (m : Meaning) (laws : Laws m) (l : Layout) (limits : IsWithinLimits l) 
   live : (y : Published) → p.published ≡ Some y → a.live y.descriptor ≡ true
   live y is = whole.tied.is_live y.descriptor ((whole.slots.tied r).published y is)
 
-  used : (d : ℕ) → kind ≡ kinds.LoadThunk (Some d) → has p.reads.held d ≡ true → a.used d ≡ true
-  used d is held =
-      let h = outside.open_asked d p x (open_outside m l rs r p x p.run d
-      (ap (λ k. ask_by m l rs r k p p.run) (sym is) ∙ (unless_gone _ p.gone _ x asked).1)) in
-      whole.tied.used d ∙ held_out m l g.epochs s whole.slots r (slot d)
-      ((whole.slots.tied r).named d (entered_at m l g.epochs s whole.slots r h.0 h.1) held)
+  used : (d : ℕ) → is_sure_of p.guards d ≡ true → a.used d ≡ true
+  used d sure = whole.tied.used d ∙ held_out m l g.epochs s whole.slots r (slot d) ((whole.slots.tied r).sure d sure)
 
   pub request_allowed : (n : ℕ) (q : Request) → slice_get rs n ≡ Some q → IsAllowed q.op
   request_allowed n q is = subst (λ (q : Request). IsAllowed q.op) (get_or_from_slice_get rs n q q is)
@@ -173,57 +155,44 @@ module _ (m : Meaning) (laws : Laws m) (l : Layout) (limits : IsWithinLimits l) 
         undone = done_is m l g.epochs s whole.slots r t d h.free h.prepared;
         unlogged = log_is m l g.epochs s whole.slots r t d h.free h.prepared;
         publishable = hold_publishable t d holds;
-        apart = λ i y other is_published same.
-            let free = free_descriptor m l g.epochs s whole.slots r d h.few h.free in
-            let there = (whole.slots.tied i).published y is_published in
-            free_live r (sym free ∙ (ap (λ n. g.epochs.location (slot n)) (sym same) ∙ there));
       }
     where
       few_places : (lock : ℕ) → lock < (sizes_for m l rs).cells → lock < 2 ^ 32
       few_places lock inside = let nodes = limits.few_nodes in let runners = limits.few_runners in let few_cells = laws.first.few_cells in
           let few_slots = laws.first.few_slots in omega (arith, inside, nodes, runners, few_cells, few_slots)
 
-      free_live : (r : ℕ) → Free r ≡ Live → ⊥
-      free_live r e = cc
+  -- a descriptor that leaves limbo, of which nobody is sure
+  module _ (swept : SweepsSafely l s r kind (s.word x.0)) where
+    idle : (n d : ℕ) → kind ≡ kinds.LoadGuard n → is_last_guard l p.guards.looked ≡ true
+        → has (filter (is_unnamed (p.guards.looked ++ s.word x.0 ∷ [])) p.descriptors.limbo) d ≡ true → supplied.IsIdle a d
+    idle n d is last leaves = record { retired = by_bool (a.live d) retired; unrun = unrun }
+      where
+        left : (has p.descriptors.limbo d ≡ true) × (is_unnamed (p.guards.looked ++ s.word x.0 ∷ []) d ≡ true)
+        left = both (has p.descriptors.limbo d) _
+            (sym (has_filter (is_unnamed (p.guards.looked ++ s.word x.0 ∷ [])) p.descriptors.limbo d) ∙ leaves)
 
-  -- a descriptor that leaves limbo
-  idle : (es : List Event) → IsChunk m l r kind p p.run (s.word x.0) es → AllEnabled (counts_of m l) g.epochs es → (epoch d : ℕ)
-      → p.run ≡ None
-      → collects l kind p.stage (s.word x.0) ≡ Some epoch → has (slots_of (filter (is_old epoch) p.descriptors.limbo)) d ≡ true
-      → supplied.IsIdle a d
-  idle es chunk enabled epoch d none is leaves = record { retired = by_bool (a.live d) retired; unrun = unrun }
-    where
-      few_used : a.used d ≡ true → d < (counts_of m l).descriptors
-      few_used used = whole.tied.within d used
+        retired : a.live d ≡ true → ⊥
+        retired live = limbo_unlive m l g.epochs s whole.slots r d (whole.tied.within d (whole.sections.sound.live_used d live)) left.0
+            (whole.tied.live d live)
 
-      retired : a.live d ≡ true → ⊥
-      retired live = leaves_unlive m l g.epochs s whole.slots r epoch d (few_used (whole.sections.sound.live_used d live)) leaves
-          (whole.tied.live d live)
+        sure_by : (i : ℕ) (run : Option RunState) → (s.part i).run ≡ run → (a.run i).running ≡ true → (a.run i).descriptor ≡ d
+            → is_sure_of (s.part i).guards d ≡ true
+        sure_by i None at running same = not_both running (subst (ShowsRun (a.run i)) at (whole.sections.tied i).run)
+        sure_by i (Some q) at running same =
+            let shown = subst (ShowsRun (a.run i)) at (whole.sections.tied i).run in
+            subst (λ k. is_sure_of (s.part i).guards k ≡ true) (sym shown.descriptor ∙ same) ((whole.slots.tied i).run_sure q at)
 
-      held_by : (i : ℕ) (run : Option RunState) → (s.part i).run ≡ run → (a.run i).running ≡ true → (a.run i).descriptor ≡ d
-          → g.epochs.holds i (slot d) ≡ true
-      held_by i None at running same = not_both running (subst (ShowsRun (a.run i)) at (whole.sections.tied i).run)
-      held_by i (Some q) at running same =
-          let shown = subst (ShowsRun (a.run i)) at (whole.sections.tied i).run in
-          ap (λ n. g.epochs.holds i (slot n)) (sym same ∙ shown.descriptor) ∙ (whole.slots.tied i).run_held q at
+        unrun : (i : ℕ) → (a.run i).running ≡ true → (a.run i).descriptor ≢ d
+        unrun i running same = not_both (sure_by i (s.part i).run refl running same) (swept n d i is last left.0 left.1)
 
-      unrun : (i : ℕ) → (a.run i).running ≡ true → (a.run i).descriptor ≢ d
-      unrun i running same =
-          let few = few_used (ap a.used (sym same) ∙ whole.sections.sound.running_used i running) in
-          let outside_chunk = subst (λ (run : Option RunState). IsChunk m l r kind p run (s.word x.0) es) none chunk in
-          leaves_unheld m l g.epochs s whole.slots r epoch d few leaves
-          (chunk_collects m l g.epochs s whole.slots r kind (s.word x.0) epoch es outside_chunk enabled is) i
-          (held_by i (s.part i).run refl running same)
-
-  -- all of it, where these are the step's events of epochs and slots
-  pub sections_supplied : (es : List Event) → IsChunk m l r kind p p.run (s.word x.0) es → AllEnabled (counts_of m l) g.epochs es
-      → supplied.AgreementIsSupplied m l a s r kind (s.word x.0)
-  sections_supplied es chunk enabled = record {
-    alone = λ q place log is opened next at undone. alone q is place log opened next at;
-    private = λ q t cell number is is_store. private_in q is t cell number is_store (is_open_run q) refl;
-    unused = unused;
-    live = live;
-    used = used;
-    publishes = λ t d is none same. publishes t d is none;
-    idle = λ epoch d none is leaves. idle es chunk enabled epoch d none is leaves;
-  }
+    -- all of it
+    pub sections_supplied : supplied.AgreementIsSupplied m l a s r kind (s.word x.0)
+    sections_supplied = record {
+      alone = λ q place log is opened next at undone. alone q is place log opened next at;
+      private = λ q t cell number is is_store. private_in q is t cell number is_store (is_open_run q) refl;
+      unused = unused;
+      live = live;
+      used = λ d is sure. used d sure;
+      publishes = λ t d is none same. publishes t d is none;
+      idle = idle;
+    }

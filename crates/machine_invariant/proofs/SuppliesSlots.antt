@@ -9,11 +9,10 @@ use Rattle.machine_states.specs.map_history.specs.declared.op.Request.{Request}
 use Rattle.machine_states.specs.body_terms.specs.declared.micro.Micro.{Micro}
 use Rattle.machine_states.specs.body_terms.specs.declared.micro.Micro.TheVariants as micros
 use Rattle.machine_states.specs.body_terms.specs.Line.{is_event}
-use Rattle.machine_states.specs.body_terms.specs.Word.{value_of}
-use Rattle.machine_states.specs.body_terms.specs.Run.{written_once}
+use Rattle.machine_states.specs.body_terms.specs.Word.{value_of, is_free}
 use Rattle.machine_states.specs.table_words.specs.declared.layout.Layout.{Layout}
 use Rattle.machine_states.specs.table_words.specs.declared.spot.Spot.{Spot}
-use Rattle.machine_states.specs.table_words.specs.declared.spot.Spot.TheVariants.{Cell, LogWord}
+use Rattle.machine_states.specs.table_words.specs.declared.spot.Spot.TheVariants.{Cell}
 use Rattle.machine_states.specs.table_words.specs.declared.access.Access.{Access}
 use Rattle.machine_states.specs.table_words.specs.Limits.{IsWithinLimits}
 use Rattle.machine_states.specs.structure_laws.specs.Scene.{Readings}
@@ -24,61 +23,49 @@ use Rattle.machine_states.specs.structure_laws.specs.Sections.{IsAllowed}
 use Rattle.machine_states.specs.structure_laws.proofs.Changes.{upd_same}
 use Rattle.machine_states.specs.runner_parts.specs.declared.event.EventKind.{EventKind}
 use Rattle.machine_states.specs.runner_parts.specs.declared.event.EventKind.TheVariants as kinds
-use Rattle.machine_states.specs.runner_parts.specs.State.{RunState, PartState}
-use Rattle.machine_states.specs.runner_parts.specs.Tests.{has, is_readable}
-use Rattle.machine_states.specs.runner_parts.specs.Lists.{named_by}
+use Rattle.machine_states.specs.runner_parts.specs.State.{RunState, GuardsState, PartState}
+use Rattle.machine_states.specs.runner_parts.specs.Tests.{is_readable}
 use Rattle.machine_states.specs.runner_steps.specs.Asks.{asks, ask_by, outside_ask, line_ask, opening_ask}
-use Rattle.machine_states.specs.runner_steps.specs.AfterInRun.{is_of_lock}
 use Rattle.machine_states.specs.runner_steps.specs.Outside.{read_ask}
 use Rattle.machine_states.specs.runner_steps.specs.Sections.{is_open_run, next_of}
-use Rattle.agreement_core.specs.State.{AgreementState, section_of}
+use Rattle.agreement_core.specs.State.{AgreementState}
 use Rattle.agreement_core.specs.Events.{IsBefore}
-use Rattle.agreement_core.specs.Sound.{UsedIsSound}
 use Rattle.machine_states.specs.epoch_core.specs.State.{Counts, is_entered, entry_of, IsKept, MayHold}
 use Rattle.machine_states.specs.epoch_core.specs.Events.{Reach, Enabled, slot_of}
 use Rattle.machine_states.specs.epoch_core.proofs.Reusing.{may_follow}
 use Rattle.machine_states.specs.Sight.{Sight}
 use Rattle.machine_states.proofs.Sights.{unless_gone, some_none, if_some}
-use Rattle.machine_agreement.specs.machine_epochs.specs.Entries.{counts_of}
-use Rattle.machine_agreement.specs.machine_epochs.specs.Supplied.{names_slot, comes_outside, comes_agreed, comes_inside, comes_by, MayRetire}
-use Rattle.machine_agreement.specs.machine_epochs.specs.Supplied as supplied
-use Rattle.machine_agreement.specs.machine_epochs.proofs.OutsideAsked as outside
-use Rattle.machine_agreement.specs.machine_epochs.proofs.RunPlaces.{open_run, is_of_end}
-use Rattle.machine_agreement.specs.machine_epochs.proofs.Places.{run_entered}
-use Rattle.machine_agreement.specs.machine_scenes.specs.Shown.{States, rules_of}
-use Rattle.machine_agreement.specs.machine_scenes.specs.Steps as steps
-use Rattle.machine_agreement.specs.machine_scenes.specs.Steps.{MeetsBy}
-use Rattle.machine_agreement.specs.machine_scenes.specs.Supplied.{SuppliesEpochs}
-use Rattle.machine_agreement.specs.machine_scenes.proofs.Supplies.{supplies_epochs}
-use Rattle.machine_agreement.specs.machine_scenes.proofs.Kept.{step_kept}
-use Rattle.machine_agreement.specs.Joined.{IsRunOf}
-use Rattle.machine_agreement.proofs.LineAsked as asked_line
-use Rattle.machine_agreement.proofs.RunPlaces.{run_here, before}
-use Rattle.machine_invariant.specs.Named.{IsLockCommit}
+use Rattle.machine_guards.specs.machine_agreement.specs.machine_epochs.specs.Entries.{counts_of}
+use Rattle.machine_guards.specs.machine_agreement.specs.machine_epochs.specs.Supplied.{sees_slot, comes_outside, comes_by, MayRetire}
+use Rattle.machine_guards.specs.machine_agreement.specs.machine_epochs.specs.Supplied as supplied
+use Rattle.machine_guards.specs.machine_agreement.specs.machine_epochs.proofs.OutsideAsked as outside
+use Rattle.machine_guards.specs.machine_agreement.specs.machine_epochs.proofs.RunPlaces.{open_run, is_of_end}
+use Rattle.machine_guards.specs.machine_agreement.specs.machine_scenes.specs.Shown.{States}
+use Rattle.machine_guards.specs.machine_agreement.specs.machine_scenes.specs.Steps as steps
+use Rattle.machine_guards.specs.machine_agreement.specs.machine_scenes.specs.Steps.{MeetsBy}
+use Rattle.machine_guards.specs.machine_agreement.specs.machine_scenes.specs.Supplied.{SuppliesEpochs}
+use Rattle.machine_guards.specs.machine_agreement.specs.machine_scenes.proofs.Supplies.{supplies_epochs}
+use Rattle.machine_guards.specs.machine_agreement.specs.machine_scenes.proofs.Kept.{step_kept}
+use Rattle.machine_guards.specs.machine_agreement.specs.Joined.{IsRunOf}
+use Rattle.machine_guards.specs.machine_agreement.proofs.RunPlaces.{run_here, before}
+use Rattle.machine_guards.specs.Supplied.{GuardsAreSupplied}
 use Rattle.machine_invariant.specs.Whole.{Beside, states_of, IsWhole}
-use Rattle.machine_invariant.proofs.Basics.{not_both, both, below_test, same_test}
+use Rattle.machine_invariant.proofs.Basics.{not_both, by_bool, both, below_test, same_test}
 use Rattle.machine_invariant.proofs.Asked.{asked_by, entered_at}
-use Rattle.machine_invariant.proofs.SuppliesSections.{hold_publishable}
+use Rattle.machine_invariant.proofs.Limbo.{SweepsSafely}
 
--- a word that names a descriptor's slot has that descriptor in its value
-named_value : (word d : ℕ) → has (named_by word) d ≡ true → value_of word ≡ suc d
-named_value word d e = by (value_of word) (value_of word == 0) refl e
-  where
-    by : (v : ℕ) (b : Bool) → (v == 0) ≡ b → has (if b then [] else (v - 1) ∷ []) d ≡ true → v ≡ suc d
-    by v true free e = absurd (let x = e in cc)
-    by v false held e = let same = equal (v - 1) d e in above v d held same
-      where
-        equal : (a b : ℕ) → (a == b || false) ≡ true → a ≡ b
-        equal a b e = grind (arith, nat_tests)
-
-        above : (v d : ℕ) → (v == 0) ≡ false → v - 1 ≡ d → v ≡ suc d
-        above v d held same = grind (arith, nat_tests)
-
-names : (c : Counts) (word t : ℕ) → names_slot c word t ≡ true → (d : ℕ) × (slot_of c d ≡ t) × (value_of word ≡ suc d)
-names c word t e = let h = both (nat_le c.nodes t) _ e in (t - c.nodes, back c.nodes t h.0, named_value word (t - c.nodes) h.1)
+-- a lock's word that names the guarded descriptor with this slot number has that descriptor in its value
+names : (c : Counts) (g : GuardsState) (word t : ℕ) → sees_slot c g word t ≡ true → (d : ℕ) × (slot_of c d ≡ t) × (value_of word ≡ suc d)
+names c g word t e =
+    let h = both (nat_le c.nodes t) _ e in
+    let v = (both (value_of word == t - c.nodes + 1) _ (both (not (is_free word)) _ h.1).1).0 in
+    (t - c.nodes, back c.nodes t h.0, same_test (value_of word) (t - c.nodes + 1) v ∙ one_more (t - c.nodes))
   where
     back : (n t : ℕ) → nat_le n t ≡ true → n + (t - n) ≡ t
     back n t e = grind (arith, nat_tests)
+
+    one_more : (n : ℕ) → n + 1 ≡ suc n
+    one_more n = omega arith
 
 -- a place that a runner may read by the test is one that it may load
 pub loadable_by : (m : Meaning) (walk : Readings) (place : ℕ) → is_readable m walk place ≡ true → IsLoadable m walk place
@@ -148,13 +135,18 @@ abbrev pub HoldsMet : Meaning → Layout → Beside → Sight → ℕ → EventK
 HoldsMet m l g s r kind = (place t : ℕ) → kind ≡ kinds.LoadCell (Some place) → t < (counts_of m l).nodes
     → MeetsBy m l (counts_of m l) (states_of g s) place t → g.epochs.holds r t ≡ true
 
--- what a lock's word names may be held by whoever is entered
+-- a descriptor that a lock's word names is live
+pub named_live : (m : Meaning) (l : Layout) (g : Beside) (s : Sight) → IsWhole m l g s → (place d : ℕ) → m.is_lock place ≡ true
+    → value_of (s.word (Cell place)) ≡ suc d → g.agreement.live d ≡ true
+named_live m l g s whole place d lock value =
+    whole.sections.sound.named place d lock (ap value_of (whole.sections.words.cells place) ∙ value)
+
+-- so it may be held by whoever is entered
 pub named_may : (m : Meaning) (l : Layout) (g : Beside) (s : Sight) → IsWhole m l g s → (i place t : ℕ) → m.is_lock place ≡ true
-    → is_entered (g.epochs.stage i) ≡ true → names_slot (counts_of m l) (s.word (Cell place)) t ≡ true → MayHold g.epochs i t
+    → is_entered (g.epochs.stage i) ≡ true → sees_slot (counts_of m l) (s.part i).guards (s.word (Cell place)) t ≡ true → MayHold g.epochs i t
 named_may m l g s whole i place t lock entered is =
-    let h = names (counts_of m l) (s.word (Cell place)) t is in
-    let live = whole.sections.sound.named place h.0 lock (ap value_of (whole.sections.words.cells place) ∙ h.2) in
-    let at_live = whole.tied.live h.0 live in
+    let h = names (counts_of m l) (s.part i).guards (s.word (Cell place)) t is in
+    let at_live = whole.tied.live h.0 (named_live m l g s whole place h.0 lock h.2) in
     subst (λ n. MayHold g.epochs i n) h.1 ((may_follow (counts_of m l) g.epochs whole.slots.sound).descriptor i h.0 entered
     (subst (λ n. IsKept n (entry_of (g.epochs.stage i))) (sym at_live) tt))
 
@@ -173,7 +165,7 @@ module _ (m : Meaning) (laws : Laws m) (l : Layout) (limits : IsWithinLimits l) 
   abbrev supplies : SuppliesEpochs m l c (states_of g s)
   supplies = supplies_epochs m laws l limits c refl (states_of g s) whole.kept
 
-  may_name : (place t : ℕ) → m.is_lock place ≡ true → is_entered (g.epochs.stage r) ≡ true → names_slot c (s.word (Cell place)) t ≡ true
+  may_name : (place t : ℕ) → m.is_lock place ≡ true → is_entered (g.epochs.stage r) ≡ true → sees_slot c p.guards (s.word (Cell place)) t ≡ true
       → MayHold g.epochs r t
   may_name place t lock entered is = named_may m l g s whole r place t lock entered is
 
@@ -222,13 +214,6 @@ module _ (m : Meaning) (laws : Laws m) (l : Layout) (limits : IsWithinLimits l) 
       → g.epochs.holds r t ≡ false → MayHold g.epochs r t
   outside_held (kinds.LoadCell (Some place)) e all met t comes out = read_held place e met t
       (ap (λ y. comes_outside m c (kinds.LoadCell (Some place)) p (s.word y) t) (read_spot place e) ∙ comes) out
-  outside_held (kinds.Hold thunk d) e all met t comes out =
-      let h = outside.hold_asked m l rs r thunk d p x e in
-      let named = (both (not (s.word x.0 == thunk.word)) _ comes).1 in
-      may_name thunk.lock t (hold_publishable m laws l limits rs few allowed g s whole r
-      (kinds.Hold thunk d) x all thunk d e).line.placed.outer_lock
-      (entered_at m l g.epochs s whole.slots r h.entry h.entered)
-      (ap (λ y. names_slot c (s.word y) t) (ap (λ (y : Spot × Access). y.0) h.is) ∙ named)
   outside_held _ e all met t comes out = absurd (let y = comes in cc)
 
   -- the runner's run
@@ -239,86 +224,12 @@ module _ (m : Meaning) (laws : Laws m) (l : Layout) (limits : IsWithinLimits l) 
     abbrev d : ℕ
     d = (a.run r).descriptor
 
-    own : UsedIsSound (rules_of m l) a.shared (a.live d) (a.over d) d (a.section d)
-    own = whole.sections.sound.sections d (whole.sections.sound.running_used r here.running)
-
-    log_here : (k : ℕ) → (a.section d).log k ≡ s.word (LogWord q.descriptor k)
-    log_here k = ap (λ n. (a.section n).log k) here.descriptor ∙ (whole.sections.sections q.descriptor).log k
-
-    -- an agreed lock's word names what the runner holds, where the section is its own
-    module _ (opened : is_open_run q ≡ true) (micro : Micro) (before_commit : IsBefore a r micro) (k : ℕ) (commit : IsLockCommit micro k)
-        (counted : k ≡ (a.section d).slot ((a.run r).at)) where
-      commit_here : IsLockCommit ((section_of a r).code ((a.run r).at)) k
-      commit_here = subst (λ (u : Micro). IsLockCommit u k) (sym before_commit.next) commit
-
-      mine : has p.reads.published q.descriptor ≡ true → has p.reads.published d ≡ true
-      mine is_mine = ap (has p.reads.published) here.descriptor ∙ is_mine
-
-      agreed_behind : (s.word (LogWord q.descriptor k) == 0) ≡ false → (a.run r).at < (a.section d).edge
-      agreed_behind some = ⊎_elim (λ lt. lt) (λ le.
-          let rises = own.published.line.counted.slot_rises ((a.section d).edge) ((a.run r).at) le in
-          let none = own.section.in_log.empty k (omega arith) in absurd (some_none_of _ some (sym (log_here k) ∙ none)))
-          (cases_lt ((a.run r).at) ((a.section d).edge))
-        where
-          some_none_of : (n : ℕ) → (n == 0) ≡ false → n ≡ 0 → ⊥
-          some_none_of n e e' = grind (arith, nat_tests)
-
-      named_held : (d' : ℕ) → has p.reads.published q.descriptor ≡ true → (b : Bool) → (s.word (LogWord q.descriptor k) == 0) ≡ b
-          → value_of (if b then q.word else s.word (LogWord q.descriptor k)) ≡ suc d' → g.epochs.holds r (slot_of c d') ≡ true
-      named_held d' is_mine true none value = whole.named.hand r k d' here.running commit_here (ap value_of here.word ∙ value) r
-          (run_entered m l g.epochs s whole.slots r q is (open_run q opened)) (mine is_mine)
-      named_held d' is_mine false some value = whole.named.log d ((a.run r).at) k d' (whole.sections.sound.running_used r here.running)
-          (agreed_behind some) commit_here (ap value_of (log_here k) ∙ value) r
-          (run_entered m l g.epochs s whole.slots r q is (open_run q opened)) (mine is_mine)
-
-      agreed_held : (t : ℕ) → (LogWord q.descriptor k ≡ x.0) → comes_agreed c p q (s.word x.0) t ≡ true → g.epochs.holds r t ≡ true
-      agreed_held t spot comes =
-          let there : comes_agreed c p q (s.word (LogWord q.descriptor k)) t ≡ true =
-          ap (λ y. comes_agreed c p q (s.word y) t) spot ∙ comes in
-          let h = both (has p.reads.published q.descriptor) _ there in
-          let n = names c (written_once (s.word (LogWord q.descriptor k)) q.word) t h.1 in
-          ap (g.epochs.holds r) (sym n.1) ∙ named_held n.0 h.0 (s.word (LogWord q.descriptor k) == 0) refl n.2
-
     abbrev next : Micro
     next = next_of m q
 
     before_next : (micro : Micro) → is_open_run q ≡ true → is_of_end micro ≡ false → is_event micro ≡ true → next ≡ micro
         → IsBefore a r micro
     before_next micro opened inner event ahead = before m l a s whole.sections r q is (open_run q opened) micro inner event ahead
-
-    lock_of : (micro : Micro) (u k : ℕ) → micro ≡ micros.Commit u k → is_of_lock micro ≡ true → ⊥
-    lock_of micro u k e lock = let y = sym lock ∙ ap is_of_lock e in cc
-
-    line_held : (k : EventKind) → is_open_run q ≡ true → line_ask m l k p.nodes.free q next ≡ Some x → (t : ℕ)
-        → comes_inside c k next p q (s.word x.0) t ≡ true → g.epochs.holds r t ≡ true
-    line_held kinds.Commit opened e t comes =
-        let h = asked_line.commit_asked q x next e in
-        let lock = both (is_of_lock next) _ comes in ⊎_elim
-        (λ plain. absurd (lock_of next h.0 h.1 plain lock.0))
-        (λ nested.
-        let here_before = before_next (micros.NestedCommit h.0 h.1) opened refl refl nested in
-        agreed_held opened (micros.NestedCommit h.0 h.1) here_before h.1
-        (inl (h.0, refl)) (own.published.line.counted.nested_log ((a.run r).at) h.0 h.1 here_before.next) t
-        (ap (λ (y : Spot × Access). y.0) h.3) lock.1) h.2
-    line_held kinds.OutcomeCommit opened e t comes =
-        let h = asked_line.outcome_commit_asked q x next e in
-        let here_before = before_next (micros.OutcomeCommit h.0 h.1) opened refl refl h.2 in
-        agreed_held opened (micros.OutcomeCommit h.0 h.1) here_before h.1
-        (inr (h.0, refl)) (own.published.line.counted.outcome_log ((a.run r).at) h.0 h.1 here_before.next) t
-        (ap (λ (y : Spot × Access). y.0) h.3) comes
-    line_held _ opened e t comes = absurd (let y = comes in cc)
-
-    opening_held : (k : EventKind) → opening_ask k q ≡ Some x → (t : ℕ) → comes_inside c k next p q (s.word x.0) t ≡ true
-        → g.epochs.holds r t ≡ true
-    opening_held kinds.Commit e t comes = some_none x e
-    opening_held kinds.OutcomeCommit e t comes = some_none x e
-    opening_held _ e t comes = absurd (let y = comes in cc)
-
-    inside_held : (k : EventKind) (b : Bool) → is_open_run q ≡ b
-        → (if b then line_ask m l k p.nodes.free q next else opening_ask k q) ≡ Some x → (t : ℕ)
-        → comes_inside c k next p q (s.word x.0) t ≡ true → g.epochs.holds r t ≡ true
-    inside_held k true opened e t comes = line_held k opened e t comes
-    inside_held k false closed e t comes = opening_held k e t comes
 
     -- a Retire before which the run stands may be made
     retires : (t k : ℕ) → is_open_run q ≡ true → next ≡ micros.EpochForRetire t k → MayRetire c g.epochs q.descriptor k t
@@ -331,15 +242,15 @@ module _ (m : Meaning) (laws : Laws m) (l : Layout) (limits : IsWithinLimits l) 
       → g.epochs.holds r t ≡ false → MayHold g.epochs r t
   held met t None at comes out = outside_held kind
       (asked_by m l r kind p rs x _ at asked) asked met t comes out
-  held met t (Some q) at comes out = not_both (inside_held q at kind (is_open_run q) refl
-      (asked_by m l r kind p rs x _ at asked) t comes) out
+  held met t (Some q) at comes out = absurd (let y = comes in cc)
 
   -- all of it, where a runner that reads a cell holds what it meets there
-  pub slots_supplied : HoldsMet m l g s r kind → supplied.EpochsAreSupplied m l g.epochs s r kind x.0
-  slots_supplied met = record {
+  pub slots_supplied : HoldsMet m l g s r kind → SweepsSafely l s r kind (s.word x.0) → supplied.EpochsAreSupplied m l g.epochs s r kind x.0
+  slots_supplied met swept = record {
     unread = supplies.unread;
     held = λ t comes out. held met t p.run refl comes out;
     retires = λ q t k is opened ahead. retires q is t k opened ahead;
+    swept = swept;
   }
 
   -- a read is one outside a run
@@ -358,3 +269,19 @@ module _ (m : Meaning) (laws : Laws m) (l : Layout) (limits : IsWithinLimits l) 
   pub meets_reach : (place : ℕ) → kind ≡ kinds.LoadCell (Some place) → Enabled c g.epochs (Reach r (slots_met m c a.shared.cells place))
   meets_reach place is = reads_met place (read_outside place p.run
       (ap (λ k. ask_by m l rs r k p p.run) (sym is) ∙ (unless_gone _ p.gone _ x asked).1))
+
+  -- guards are supplied as well
+  pub guards_supplied : GuardsAreSupplied m l a g.epochs s kind (s.word x.0)
+  guards_supplied = record {
+    published = λ d is. let there = whole.tied.publisher d (whole.tied.is_live d is) in (g.publications.runner d, there.0, there.1, there.2);
+    live = λ place d is lock value. whole.tied.live d (named_live m l g s whole place d lock (found place d is value));
+    unended = λ place d is lock value.
+        let word = found place d is value in
+        let own = whole.sections.sound.sections d (whole.sections.sound.live_used d (named_live m l g s whole place d lock word)) in
+        by_bool (a.over d) (λ over. own.over_unnamed over place lock (ap value_of (whole.sections.words.cells place) ∙ word));
+  }
+    where
+      -- the word is the cell's
+      found : (place d : ℕ) → kind ≡ kinds.LoadCell (Some place) → value_of (s.word x.0) ≡ suc d → value_of (s.word (Cell place)) ≡ suc d
+      found place d is value = ap (λ y. value_of (s.word y)) (read_spot place (read_outside place p.run
+          (ap (λ k. ask_by m l rs r k p p.run) (sym is) ∙ (unless_gone _ p.gone _ x asked).1))) ∙ value

@@ -20,9 +20,9 @@ use Rattle.machine_states.specs.runner_steps.specs.Outside.{descriptor_spot}
 use Rattle.machine_states.specs.runner_steps.specs.Asks.{outside_ask, line_ask, opening_ask, inside_ask}
 use Rattle.machine_states.proofs.Sights.{if_some, some_none}
 use Rattle.machine_states.proofs.Updates.{put_same}
-use Rattle.machine_agreement.specs.machine_epochs.proofs.InsideAsked as inside
-use Rattle.machine_agreement.specs.machine_epochs.proofs.OutsideAsked as outside
-use Rattle.machine_agreement.specs.machine_epochs.proofs.ReadsAsked as reads
+use Rattle.machine_guards.specs.machine_agreement.specs.machine_epochs.proofs.InsideAsked as inside
+use Rattle.machine_guards.specs.machine_agreement.specs.machine_epochs.proofs.OutsideAsked as outside
+use Rattle.machine_guards.specs.machine_agreement.specs.machine_epochs.proofs.ReadsAsked as reads
 
 -- the step leaves every thunk word
 pub record LeavesThunks (x : Spot × Access) : Type 0 where
@@ -91,6 +91,9 @@ module _ (m : Meaning) (l : Layout) where
     announce_leaves : (e : ℕ) (access : Access) → LeavesThunks (spots.Announcement e, access)
     announce_leaves e access = record { same = λ word d j. refl }
 
+    guard_leaves : (access : Access) → LeavesThunks (spots.Guard r, access)
+    guard_leaves access = record { same = λ word d j. refl }
+
     pub outside_leaves : (kind : EventKind) → is_private_store kind ≡ false → outside_ask m l rs r kind p ≡ Some x → LeavesThunks x
     outside_leaves kinds.EnterLoad is e = subst LeavesThunks (outside.enter_load_asked p.stage x e).1 (load_leaves _)
     outside_leaves kinds.Announce is e = subst LeavesThunks (outside.announce_asked r p.stage x e).2 (announce_leaves _ _)
@@ -108,7 +111,8 @@ module _ (m : Meaning) (l : Layout) where
     outside_leaves (kinds.PrivateStore slot word number) is e = absurd (cc)
     outside_leaves (kinds.Hold thunk d) is e = subst LeavesThunks (outside.hold_asked m l rs r thunk d p x e).is (cell_leaves _ _)
     outside_leaves (kinds.LoadThunk (Some d)) is e = subst LeavesThunks (outside.open_asked d p x e).3 (load_leaves _)
-    outside_leaves kinds.EpochForRetire is e = subst LeavesThunks (outside.retire_asked p x e).4 (load_leaves _)
+    outside_leaves (kinds.Guard d) is e = subst LeavesThunks (outside.guard_asked l r d p x e).is (guard_leaves _)
+    outside_leaves (kinds.LoadGuard n) is e = subst LeavesThunks (outside.load_guard_asked l n p x e).is (load_leaves _)
     outside_leaves (kinds.ReadPlan thunk) is e = subst LeavesThunks (reads.read_plan_asked r thunk p x e).is (announce_leaves _ _)
     outside_leaves kinds.ReadClock is e = subst LeavesThunks (reads.read_clock_asked p x e).is (load_leaves _)
     outside_leaves kinds.ReadReply is e = subst LeavesThunks (reads.read_reply_asked m l rs r p x e).is (record { same = λ word d j. refl })

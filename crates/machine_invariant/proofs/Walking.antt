@@ -14,7 +14,7 @@ use Rattle.machine_states.specs.structure_laws.proofs.Changes.{upd_same, upd_oth
 use Rattle.machine_states.specs.runner_parts.specs.declared.event.EventKind.{EventKind}
 use Rattle.machine_states.specs.runner_parts.specs.declared.event.EventKind.TheVariants as kinds
 use Rattle.machine_states.specs.runner_parts.specs.State.{PartState}
-use Rattle.machine_states.specs.runner_parts.specs.Tests.{has, is_readable}
+use Rattle.machine_states.specs.runner_parts.specs.Tests.{is_readable}
 use Rattle.machine_states.specs.runner_steps.specs.Outside.{read_ask}
 use Rattle.machine_states.specs.runner_steps.specs.Asks.{asks}
 use Rattle.machine_states.specs.runner_steps.specs.After.{after_by, after}
@@ -25,17 +25,15 @@ use Rattle.machine_states.specs.epoch_core.specs.Events.{Event}
 use Rattle.machine_states.specs.Sight.{Sight, sight_after}
 use Rattle.machine_states.proofs.Updates.{upd_split}
 use Rattle.machine_states.proofs.Sights.{if_some}
-use Rattle.machine_agreement.specs.machine_epochs.specs.Entries.{counts_of}
-use Rattle.machine_agreement.specs.machine_epochs.specs.Supplied.{comes_outside}
-use Rattle.machine_agreement.specs.machine_epochs.proofs.OutsideAsked as outside
-use Rattle.machine_agreement.specs.machine_scenes.specs.Steps as steps
+use Rattle.machine_guards.specs.machine_agreement.specs.machine_epochs.specs.Entries.{counts_of}
+use Rattle.machine_guards.specs.machine_agreement.specs.machine_epochs.specs.Supplied.{comes_outside}
+use Rattle.machine_guards.specs.machine_agreement.specs.machine_epochs.proofs.OutsideAsked as outside
+use Rattle.machine_guards.specs.machine_agreement.specs.machine_scenes.specs.Steps as steps
 use Rattle.machine_invariant.specs.Whole.{Beside, states_of, made_of, IsWhole}
 use Rattle.machine_invariant.proofs.Basics.{both}
 use Rattle.machine_invariant.proofs.Asked.{entered_at}
 use Rattle.machine_invariant.proofs.Runs.{is_calm, step_stands, agreement_stands, epochs_stand, passes_are}
-use Rattle.machine_invariant.proofs.Ties.{alone_onward}
 use Rattle.machine_invariant.proofs.Quiet.{is_still, hands_of, all_stay, stands_now}
-use Rattle.machine_invariant.proofs.Chunked.{is_unlocked}
 use Rattle.machine_invariant.proofs.Thunks.{outside_leaves}
 use Rattle.machine_invariant.proofs.Sights.{thunks_after}
 use Rattle.machine_invariant.proofs.SuppliesSlots.{loadable_by, HoldsMet}
@@ -101,11 +99,8 @@ module _ (m : Meaning) (laws : Laws m) (l : Layout) (limits : IsWithinLimits l) 
         (refl, passes_are is_calm (agreement.Pass r) refl go.passes) go.enabled (hands_of m laws l limits g.epochs s whole.slots) one in
         let three = epochs_stand m laws l limits reach _ (made_of s) (refl, tt) go.enabled_slots two in
         onward_whole m laws l limits g s read_sight whole (agreement.Read place ∷ passes)
-        (refl, passes_are is_still (agreement.Pass r) refl go.passes)
-        (refl, passes_are is_unlocked (agreement.Pass r) refl go.passes) go.enabled go.joined
+        (refl, passes_are is_still (agreement.Pass r) refl go.passes) go.joined
         _ go.joined_slots
-        (alone_onward m l reach g.epochs (refl, tt) go.enabled_slots s.part read_sight.part
-        (λ i d has_it. ap (λ xs. has xs d) (sym (same_published i)) ∙ has_it))
         (all_stay c reach g.epochs go.enabled_slots whole.slots.sound (refl, tt))
         (published_after m l s.part r read_part (ap (λ o. (after_by m l kind p o (s.word x.0)).published) none))
         (thunks_after m l s r kind x (outside_leaves m l rs r p x kind refl reads))
@@ -113,11 +108,7 @@ module _ (m : Meaning) (laws : Laws m) (l : Layout) (limits : IsWithinLimits l) 
         (upd_split s.part r read_part
         (λ i y. y.reads.walk ≡ upd (λ i. (s.part i).reads.walk) r (p.reads.walk ++ (place, g.agreement.shared.cells place) ∷ []) i)
         (walked ∙ sym (upd_same (λ i. (s.part i).reads.walk) r r _ refl)) (λ i ne. sym (upd_other (λ i. (s.part i).reads.walk) r i _ ne)))
-        (made_outside m l s r kind x refl none) three
-      where
-        same_published : (i : ℕ) → (read_sight.part i).reads.published ≡ (s.part i).reads.published
-        same_published = upd_split s.part r read_part (λ i y. y.reads.published ≡ (s.part i).reads.published)
-            (ap (λ o. (after_by m l kind p o (s.word x.0)).reads.published) none) (λ i ne. refl)
+        (made_outside m l s r kind x refl none) three go.guards
 
     pub load_cell_whole : (pieces : Pieces m l g s read_sight r kind x) → KeepsWhole m l g s read_sight r kind x pieces
     load_cell_whole pieces = keeps_by m l g s read_sight r kind x pieces (agreement.Read place ∷ []) reach

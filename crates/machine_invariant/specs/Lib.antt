@@ -1,4 +1,3 @@
-pub mod Named
 pub mod Whole
 pub mod Slots
 pub mod Trails
@@ -10,5 +9,6 @@ pub mod Lengths
 pub mod LogWords
 pub mod Rising
 -- Passed on to the layers above, so that they needn't name these libraries themselves.
-pub use Rattle.machine_agreement
+pub use Rattle.machine_guards.specs.machine_agreement
+pub use Rattle.machine_guards
 pub use Rattle.machine_slots

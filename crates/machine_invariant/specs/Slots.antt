@@ -9,18 +9,18 @@ use Rattle.machine_states.specs.structure_laws.specs.Meaning.{Meaning}
 use Rattle.machine_states.specs.epoch_core.specs.declared.stage.Stage.TheVariants.{Entered}
 use Rattle.machine_states.specs.runner_parts.specs.declared.entries.Published.{Published}
 use Rattle.machine_states.specs.runner_parts.specs.State.{RunState, NodesState}
-use Rattle.machine_states.specs.runner_parts.specs.Tests.{has}
+use Rattle.machine_states.specs.runner_steps.specs.Outside.{is_sure_of}
 use Rattle.machine_states.specs.runner_steps.specs.Sections.{line_of}
 use Rattle.machine_states.specs.epoch_core.specs.declared.location.Location.{Location}
 use Rattle.machine_states.specs.epoch_core.specs.declared.location.Location.TheVariants.{Live, Hand, Limbo}
 use Rattle.machine_states.specs.epoch_core.specs.State.{IsKept}
 use Rattle.machine_states.specs.epoch_core.specs.Sound.{is_for_nodes}
-use Rattle.machine_states.specs.epoch_core.specs.Lists.{times, times_retired, in_hand, in_free, in_worn, in_limbo}
+use Rattle.machine_states.specs.epoch_core.specs.Lists.{times, times_retired, in_hand, in_free, in_worn, in_limbo, in_any_limbo}
 use Rattle.machine_states.specs.epoch_core.specs.History.{History, is_out, is_makes, is_retires, agreed_slot, agreed_count}
 use Rattle.machine_states.specs.Sight.{Sight}
-use Rattle.machine_agreement.specs.machine_epochs.specs.Slots.{entry_of, thunk_in}
-use Rattle.machine_agreement.specs.machine_epochs.specs.Roles.{role_at}
-use Rattle.machine_agreement.specs.machine_epochs.specs.Descriptors.{times_limbo}
+use Rattle.machine_guards.specs.machine_agreement.specs.machine_epochs.specs.Slots.{entry_of, thunk_in}
+use Rattle.machine_guards.specs.machine_agreement.specs.machine_epochs.specs.Roles.{role_at}
+use Rattle.machine_guards.specs.machine_agreement.specs.machine_epochs.specs.Descriptors.{times_limbo}
 
 -- how many node slots there are; the descriptors are numbered after them
 abbrev pub node_count : Meaning → Layout → ℕ
@@ -66,8 +66,8 @@ module _ (m : Meaning) (l : Layout) (location : ℕ → Location) (s : Sight) wh
   pub record DescriptorsStand : Type 0 where
     pub free : (r d : ℕ) → d < descriptor_count l
         → times d (s.part r).descriptors.free ≡ in_free r (location (node_count m l + d))
-    pub limbo : (r d y : ℕ) → d < descriptor_count l
-        → times_retired d y (map entry_of (s.part r).descriptors.limbo) ≡ in_limbo r y (location (node_count m l + d))
+    pub limbo : (r d : ℕ) → d < descriptor_count l
+        → times d (s.part r).descriptors.limbo ≡ in_any_limbo r (location (node_count m l + d))
     pub other : (d : ℕ) → is_for_nodes (location (node_count m l + d)) ≡ false
     pub published : (r : ℕ) (x : Published) → (s.part r).published ≡ Some x
         → location (node_count m l + x.descriptor) ≡ Live
@@ -103,17 +103,18 @@ module _ (m : Meaning) (l : Layout) (location : ℕ → Location) (holds : ℕ �
     pub unhanded : (r r' t : ℕ) → t < node_count m l → holds r t ≡ true → times t (s.part r').nodes.hand ≡ 0
     pub unfree_descriptor : (r r' d : ℕ) → d < descriptor_count l → holds r (node_count m l + d) ≡ true
         → times d (s.part r').descriptors.free ≡ 0
-    -- an entered runner holds the slots that its readings reach and the descriptors that it names
+    -- an entered runner holds the slots that its readings reach; a runner holds the descriptor of which it is sure, and
+    -- no other one
     pub reached : (r g t : ℕ) → (s.part r).stage ≡ Entered g → t < node_count m l
         → m.reaches (s.part r).reads.walk t ≡ true
         → holds r t ≡ true
-    pub named : (r g d : ℕ) → (s.part r).stage ≡ Entered g → has (s.part r).reads.held d ≡ true
-        → holds r (node_count m l + d) ≡ true
+    pub named : (r d : ℕ) → is_sure_of (s.part r).guards d ≡ true → holds r (node_count m l + d) ≡ true
+    pub alone : (r d : ℕ) → holds r (node_count m l + d) ≡ true → is_sure_of (s.part r).guards d ≡ true
     -- whoever runs a section holds its descriptor
     pub run : (r : ℕ) (q : RunState) → (s.part r).run ≡ Some q → holds r (node_count m l + q.descriptor) ≡ true
 
-  -- so what an entered runner may still come to is in nobody's free list, worn list or hand: what its
-  -- readings reach, the descriptors that it names, and that of the section that it runs
+  -- so what a runner may still come to is in nobody's free list, worn list or hand: what an entered one's readings
+  -- reach, the descriptor of which it is sure, and that of the section that it runs
   pub record InUseAreKept : Type 0 where
     pub unfree : (r r' g t : ℕ) → (s.part r).stage ≡ Entered g → t < node_count m l
         → m.reaches (s.part r).reads.walk t ≡ true
@@ -124,9 +125,7 @@ module _ (m : Meaning) (l : Layout) (location : ℕ → Location) (holds : ℕ �
     pub unhanded : (r r' g t : ℕ) → (s.part r).stage ≡ Entered g → t < node_count m l
         → m.reaches (s.part r).reads.walk t ≡ true
         → times t (s.part r').nodes.hand ≡ 0
-    pub named : (r r' g d : ℕ) → (s.part r).stage ≡ Entered g → d < descriptor_count l
-        → has (s.part r).reads.held d ≡ true
-        → times d (s.part r').descriptors.free ≡ 0
+    pub named : (r r' d : ℕ) → is_sure_of (s.part r).guards d ≡ true → times d (s.part r').descriptors.free ≡ 0
     pub run : (r r' : ℕ) (q : RunState) → (s.part r).run ≡ Some q → q.descriptor < descriptor_count l
         → times q.descriptor (s.part r').descriptors.free ≡ 0
 

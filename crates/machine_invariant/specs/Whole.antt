@@ -6,21 +6,20 @@ use Rattle.machine_states.specs.table_words.specs.declared.layout.Layout.{Layout
 use Rattle.machine_states.specs.structure_laws.specs.Meaning.{Meaning}
 use Rattle.machine_states.specs.runner_parts.specs.declared.entries.Published.{Published}
 use Rattle.machine_states.specs.runner_parts.specs.State.{RunState, PartState}
-use Rattle.machine_states.specs.runner_parts.specs.Tests.{has}
 use Rattle.agreement_core.specs.State.{AgreementState}
 use Rattle.machine_states.specs.epoch_core.specs.declared.location.Location.TheVariants.{Live}
-use Rattle.machine_states.specs.epoch_core.specs.State.{EpochState, is_entered}
+use Rattle.machine_states.specs.epoch_core.specs.State.{EpochState}
 use Rattle.machine_states.specs.epoch_core.specs.Events.{slot_of}
 use Rattle.machine_states.specs.epoch_core.specs.History.{is_out}
 use Rattle.machine_states.specs.Sight.{Sight}
-use Rattle.machine_agreement.specs.machine_epochs.specs.Entries.{counts_of}
-use Rattle.machine_agreement.specs.machine_epochs.specs.Slots.{thunk_in}
-use Rattle.machine_agreement.specs.machine_epochs.specs.Joined as joins
-use Rattle.machine_agreement.specs.machine_scenes.specs.Shown.{Publications, States}
-use Rattle.machine_agreement.specs.machine_scenes.specs.Kept.{IsKept}
-use Rattle.machine_agreement.specs.Joined as sections
+use Rattle.machine_guards.specs.machine_agreement.specs.machine_epochs.specs.Entries.{counts_of}
+use Rattle.machine_guards.specs.machine_agreement.specs.machine_epochs.specs.Slots.{thunk_in}
+use Rattle.machine_guards.specs.machine_agreement.specs.machine_epochs.specs.Joined as joins
+use Rattle.machine_guards.specs.machine_agreement.specs.machine_scenes.specs.Shown.{Publications, States}
+use Rattle.machine_guards.specs.machine_agreement.specs.machine_scenes.specs.Kept.{IsKept}
+use Rattle.machine_guards.specs.machine_agreement.specs.Joined as sections
 use Rattle.machine_slots.specs.Hands.{Made, LocksAreHeld, SlotsAreFilled}
-use Rattle.machine_invariant.specs.Named.{AreNamed}
+use Rattle.machine_guards.specs.Stands.{GuardsStand}
 
 -- what stands beside the machine's state: the components' states, and what was published
 pub record Beside : Type 0 where
@@ -48,11 +47,6 @@ abbrev pub made_of : Sight → Made
 made_of s r = made_in (s.part r).run
 
 module _ (m : Meaning) (l : Layout) where
-  -- whoever is entered and has published a section with the one descriptor in this entry holds the other descriptor
-  abbrev pub IsHeldFor : EpochState → (ℕ → PartState) → ℕ → ℕ → Type 0
-  IsHeldFor e part d d' = (r : ℕ) → is_entered (e.stage r) ≡ true → has (part r).reads.published d ≡ true
-      → e.holds r (slot_of (counts_of m l) d') ≡ true
-
   -- the runner has published the section of this thunk that this descriptor has, and hasn't retired it
   abbrev pub HasPublished : PartState → ℕ → Thunk → Type 0
   HasPublished p d t = (x : Published) × (p.published ≡ Some x) × (x.descriptor ≡ d) × (x.thunk ≡ t)
@@ -74,11 +68,6 @@ module _ (m : Meaning) (l : Layout) where
     pub op : (d : ℕ) → g.agreement.used d ≡ true
         → (q : Request) × (slice_get g.publications.requests (g.publications.thunk d).request ≡ Some q)
         × (q.op ≡ g.publications.op d)
-    -- an entered runner is the publisher of what it published in this entry, and holds it
-    pub mine : (r d : ℕ) → is_entered (g.epochs.stage r) ≡ true → has (s.part r).reads.published d ≡ true
-        → g.publications.runner d ≡ r
-    pub mine_held : (r d : ℕ) → is_entered (g.epochs.stage r) ≡ true → has (s.part r).reads.published d ≡ true
-        → g.epochs.holds r (slot_of (counts_of m l) d) ≡ true
 
   -- the machine's whole invariant
   pub record IsWhole (g : Beside) (s : Sight) : Type 0 where
@@ -88,7 +77,8 @@ module _ (m : Meaning) (l : Layout) where
     -- they belong together, and show a lawful scene
     pub tied : AreTied g s
     pub kept : IsKept m l (counts_of m l) (states_of g s)
-    -- who holds the slots of locks and the descriptors that locks named, and what stands in the slots that Makes fill
+    -- who holds the slots of locks, and what stands in the slots that Makes fill
     pub held : LocksAreHeld m (counts_of m l) (states_of g s)
     pub filled : SlotsAreFilled m (counts_of m l) (states_of g s) (made_of s)
-    pub named : AreNamed (IsHeldFor g.epochs s.part) g.agreement
+    -- a descriptor of which a runner is sure is given out to nobody
+    pub guards : GuardsStand m l g.agreement g.epochs s

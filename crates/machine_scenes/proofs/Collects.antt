@@ -17,7 +17,7 @@ use Rattle.agreement_core.specs.section_lines.specs.structure_laws.proofs.Moves.
 use Rattle.epoch_core.specs.declared.location.Location.{Location}
 use Rattle.epoch_core.specs.declared.location.Location.TheVariants as locations
 use Rattle.epoch_core.specs.State.{Counts}
-use Rattle.epoch_core.specs.Moves.{collected, is_old, back}
+use Rattle.epoch_core.specs.Moves.{collected, is_old}
 use Rattle.epoch_core.specs.Events.{after_collect}
 use Rattle.machine_scenes.specs.Shown.{status_at, status_of}
 use Rattle.machine_scenes.proofs.Shown.{upd_found}
@@ -84,19 +84,18 @@ module _ (m : Meaning) (laws : Laws m) (layout : Layout) (limits : IsWithinLimit
 -- what a runner that collects does to a slot
 collected_location : (epoch x r : ℕ) (node : Bool) (l : Location) → x ≤ epoch
     → StaysOrIsFree epoch (status_at l) (status_at (collected node r x l))
-collected_location epoch x r node (locations.Limbo r' y) le = by_age (r' == r && is_old y x) node refl
+collected_location epoch x r node (locations.Limbo r' y) le = by_age (node && (r' == r && is_old y x)) refl
   where
-    old_enough : (a b : Bool) → (a && b) ≡ true → b ≡ true
-    old_enough a b e = grind arith
+    second : (a b : Bool) → (a && b) ≡ true → b ≡ true
+    second a b e = grind arith
 
     two_ago : (y x : ℕ) → is_old y x ≡ true → y + 2 ≤ x
     two_ago y x e = grind (arith, nat_tests)
 
-    by_age : (old node : Bool) → (r' == r && is_old y x) ≡ old
-        → StaysOrIsFree epoch (Retired y) (status_at (cond old (back node r) (locations.Limbo r' y)))
-    by_age true true e = inr (y, refl, (let ago = two_ago y x (old_enough (r' == r) (is_old y x) e) in omega arith), refl)
-    by_age true false e = inr (y, refl, (let ago = two_ago y x (old_enough (r' == r) (is_old y x) e) in omega arith), refl)
-    by_age false node e = inl refl
+    by_age : (old : Bool) → (node && (r' == r && is_old y x)) ≡ old
+        → StaysOrIsFree epoch (Retired y) (status_at (cond old (locations.Hand r) (locations.Limbo r' y)))
+    by_age true e = inr (y, refl, (let ago = two_ago y x (second (r' == r) (is_old y x) (second node (r' == r && is_old y x) e)) in omega arith), refl)
+    by_age false e = inl refl
 collected_location epoch x r node locations.Fixed le = inl refl
 collected_location epoch x r node locations.Live le = inl refl
 collected_location epoch x r node (locations.Hand r') le = inl refl

@@ -1,6 +1,6 @@
 -- Who is entered, what it holds and what it has read, over the events of epochs and slots that stand alone.
-use Rattle.std.proofs.Common.{◌≡◌, ◌≢◌, ℕ, zero, suc, List, Bool, true, false, refl, sym, ap, ◌∙◌, inl, inr, ⊎_elim, arith}
-use Rattle.std.specs.Prelude.{◌⊎◌, ◌||◌, ◌&&◌, Some, [], ◌∷◌, ◌++◌, slice_get}
+use Rattle.std.proofs.Common.{◌≡◌, ◌≢◌, ◌<◌, ℕ, zero, suc, List, Bool, true, false, refl, sym, ap, ◌∙◌, inl, inr, ⊎_elim, arith}
+use Rattle.std.specs.Prelude.{◌⊎◌, ◌||◌, ◌&&◌, nat_lt, Some, [], ◌∷◌, ◌++◌, slice_get}
 use Rattle.std.proofs.lemmas.Bool.{cases_eq, both_ways}
 use Rattle.std.proofs.lemmas.Bool.Decides.{nat_tests}
 use Rattle.epoch_core.specs.small_lemmas.proofs.Bools.{or_first as held_or}
@@ -77,12 +77,17 @@ module _ (c : Counts) (e : EpochState) where
   pair : (f : ℕ → ℕ → Bool) (r s i t : ℕ) → f i t ≡ true → upd2 f r s true i t ≡ true
   pair f r s i t held = grind (arith, nat_tests)
 
-  -- what is held stays held
-  pub stays_held : (v : Event) → is_alone v ≡ true → (i t : ℕ) → e.holds i t ≡ true → (after c e v).holds i t ≡ true
-  stays_held (events.Exit r) alone i t held = absurd (cc)
-  stays_held (events.Reach r slots) alone i t held = row e.holds r slots i t held
-  stays_held (events.Publish r d roles) alone i t held = pair e.holds r (slot_of c d) i t held
-  stays_held v alone i t held = held
+  -- a runner that holds no descriptor any more holds its node slots
+  nodes_row : (f : ℕ → ℕ → Bool) (n r i t : ℕ) → t < n → f i t ≡ true → upd_row f r (λ s. f r s && nat_lt s n) i t ≡ true
+  nodes_row f n r i t low held = grind (arith, nat_tests)
+
+  -- a node slot that is held stays held
+  pub stays_held : (v : Event) → is_alone v ≡ true → (i t : ℕ) → t < c.nodes → e.holds i t ≡ true → (after c e v).holds i t ≡ true
+  stays_held (events.Exit r) alone i t low held = absurd (cc)
+  stays_held (events.Reach r slots) alone i t low held = row e.holds r slots i t held
+  stays_held (events.Publish r d roles) alone i t low held = pair e.holds r (slot_of c d) i t held
+  stays_held (events.Unguard r) alone i t low held = nodes_row e.holds c.nodes r i t low held
+  stays_held v alone i t low held = held
 
   -- where a runner leaves, the others hold what they held
   pub others_hold : (r i t : ℕ) → i ≢ r → e.holds i t ≡ true → (after c e (events.Exit r)).holds i t ≡ true

@@ -20,10 +20,11 @@ use Rattle.epoch_core.specs.declared.stage.Stage.TheVariants as stages
 use Rattle.epoch_core.specs.declared.location.Location.{Location}
 use Rattle.epoch_core.specs.declared.location.Location.TheVariants as locations
 use Rattle.epoch_core.specs.State.{Counts, EpochState, is_entered, is_announcing, entry_of, IsKept}
-use Rattle.epoch_core.specs.Moves.{advanced, tested, is_clear}
-use Rattle.epoch_core.specs.Events.{Event, Enabled, after, after_collect, slot_of}
+use Rattle.epoch_core.specs.Moves.{advanced, swept, tested, is_clear}
+use Rattle.epoch_core.specs.Events.{Event, Enabled, after, after_collect, is_among, slot_of}
 use Rattle.epoch_core.specs.Events as events
 use Rattle.epoch_core.specs.Sound.{IsSound}
+use Rattle.epoch_core.proofs.Sweeping.{swept_not, not_among}
 use Rattle.machine_scenes.specs.Shown.{status_at, status_of, reader_of}
 use Rattle.machine_scenes.specs.Kinds.{is_alone}
 use Rattle.machine_scenes.specs.Readers.{Meets, HoldMet, HavePublishers}
@@ -62,6 +63,22 @@ status_change c location s l low = fun_ext at
         ∙ (ap status_at (upd_same location s t l e) ∙ sym (upd_same (λ t. status_of c location t) s t (status_at l) e)))
         (λ ne. ap (λ x. cond (nat_lt t c.nodes) (status_at x) Free) (upd_other location s t l ne)
         ∙ sym (upd_other (λ t. status_of c location t) s t (status_at l) ne)) (cases_eq t s)
+
+-- a sweep moves no node slot
+pub swept_status : (c : Counts) (location : ℕ → Location) (r : ℕ) (descriptors : ℕ → Bool)
+    → ◌≡◌ {A = ℕ → Status} (λ t. status_of c (λ s. swept (is_among c descriptors s) r (location s)) t) (λ t. status_of c location t)
+swept_status c location r descriptors = fun_ext at
+  where
+    inside : (b : Bool) (x y : Status) → (b ≡ true → x ≡ y) → cond b x Free ≡ cond b y Free
+    inside true x y e = e refl
+    inside false x y e = refl
+
+    below : (t n : ℕ) → nat_lt t n ≡ true → t < n
+    below t n e = grind (arith, nat_tests)
+
+    at : (t : ℕ) → status_of c (λ s. swept (is_among c descriptors s) r (location s)) t ≡ status_of c location t
+    at t = inside (nat_lt t c.nodes) (status_at (swept (is_among c descriptors t) r (location t))) (status_at (location t))
+        (λ low. ap status_at (swept_not (is_among c descriptors t) r (location t) (not_among c descriptors t (below t c.nodes low))))
 
 -- a retired node slot is in a limbo
 pub record InLimbo (c : Counts) (location : ℕ → Location) (t y : ℕ) : Type 0 where
@@ -255,6 +272,10 @@ module _ (m : Meaning) (laws : Laws m) (layout : Layout) (limits : IsWithinLimit
     alone_lawful (events.Publish r d roles) alone ok met publishers = moved (slot_of c d) locations.Live (λ low. absurd (omega arith))
     alone_lawful (events.RetireDescriptor r d) alone ok met publishers = moved (slot_of c d) (locations.Limbo r e.epoch)
         (λ low. absurd (omega arith))
+    alone_lawful (events.Unguard r) alone ok met publishers = lawful
+    alone_lawful (events.Sweep r descriptors) alone ok met publishers =
+        with_statuses e.epoch (λ t. status_of c (after c e (events.Sweep r descriptors)).location t) status reader
+        (swept_status c e.location r descriptors) lawful
 
     -- what stands alone makes no slot retired
     pub alone_status : (v : Event) → is_alone v ≡ true → Enabled c e v → (t : ℕ)
@@ -285,3 +306,5 @@ module _ (m : Meaning) (laws : Laws m) (layout : Layout) (limits : IsWithinLimit
         (ap (λ (f : ℕ → Status). f t) (status_same c e.location (slot_of c d) locations.Live (λ low. absurd (omega arith))))
     alone_status (events.RetireDescriptor r d) alone ok t = inl
         (ap (λ (f : ℕ → Status). f t) (status_same c e.location (slot_of c d) (locations.Limbo r e.epoch) (λ low. absurd (omega arith))))
+    alone_status (events.Unguard r) alone ok t = inl refl
+    alone_status (events.Sweep r descriptors) alone ok t = inl (ap (λ (f : ℕ → Status). f t) (swept_status c e.location r descriptors))

@@ -9,8 +9,8 @@ use Rattle.epoch_core.specs.Update.{upd}
 use Rattle.epoch_core.specs.declared.location.Location.{Location}
 use Rattle.epoch_core.specs.declared.location.Location.TheVariants.{Fixed, Live, Hand, Free, Worn, Limbo}
 use Rattle.epoch_core.specs.State.{Counts, EpochState}
-use Rattle.epoch_core.specs.Moves.{collected, is_old, back, tested, made, retired}
-use Rattle.epoch_core.specs.Events.{Event, after, slot_of}
+use Rattle.epoch_core.specs.Moves.{collected, is_old, swept, tested, made, retired}
+use Rattle.epoch_core.specs.Events.{Event, after, slot_of, is_among}
 use Rattle.epoch_core.specs.Events as events
 use Rattle.machine_scenes.specs.Shown.{States}
 use Rattle.machine_scenes.specs.Steps.{Step, Epochs, Enter, Leave, Make, LoadEpoch, Retire, descriptor_of}
@@ -35,17 +35,28 @@ retired_fixed found r y l e = by_win (found == 0) e
     by_win false e = e
 
 collected_fixed : (node : Bool) (r x : ℕ) (l : Location) → collected node r x l ≡ Fixed → l ≡ Fixed
-collected_fixed node r x (Limbo r' y) e = absurd (by_age (r' == r && is_old y x) node e)
+collected_fixed node r x (Limbo r' y) e = absurd (by_age (node && (r' == r && is_old y x)) e)
   where
-    by_age : (old node : Bool) → cond old (back node r) (Limbo r' y) ≢ Fixed
-    by_age true true e = cc
-    by_age true false e = cc
-    by_age false node e = cc
+    by_age : (old : Bool) → cond old (Hand r) (Limbo r' y) ≢ Fixed
+    by_age true e = cc
+    by_age false e = cc
 collected_fixed node r x Fixed e = e
 collected_fixed node r x Live e = e
 collected_fixed node r x (Hand r') e = e
 collected_fixed node r x (Free r') e = e
 collected_fixed node r x (Worn r') e = e
+
+swept_fixed : (b : Bool) (r : ℕ) (l : Location) → swept b r l ≡ Fixed → l ≡ Fixed
+swept_fixed b r (Limbo r' y) e = by (r' == r && b) e
+  where
+    by : (c : Bool) → cond c (Free r) (Limbo r' y) ≡ Fixed → Limbo r' y ≡ Fixed
+    by true e = absurd (cc)
+    by false e = e
+swept_fixed b r Fixed e = e
+swept_fixed b r Live e = e
+swept_fixed b r (Hand r') e = e
+swept_fixed b r (Free r') e = e
+swept_fixed b r (Worn r') e = e
 
 module _ (c : Counts) (e : EpochState) where
   changed : (s : ℕ) (l : Location) (t : ℕ) → (l ≡ Fixed → e.location s ≡ Fixed) → upd e.location s l t ≡ Fixed → e.location t ≡ Fixed
@@ -66,6 +77,7 @@ module _ (c : Counts) (e : EpochState) where
       (e.location ((e.retire r).slot)) fixed) is
   event_fixed (events.Publish r d roles) t is = changed (slot_of c d) Live t (λ fixed. absurd (cc)) is
   event_fixed (events.RetireDescriptor r d) t is = changed (slot_of c d) (Limbo r e.epoch) t (λ fixed. absurd (cc)) is
+  event_fixed (events.Sweep r descriptors) t is = swept_fixed (is_among c descriptors t) r (e.location t) is
   event_fixed v t is = is
 
 module _ (m : Meaning) (layout : Layout) (c : Counts) (j : States) where

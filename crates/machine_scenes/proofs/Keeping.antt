@@ -193,7 +193,7 @@ module _ (m : Meaning) (laws : Laws m) (layout : Layout) (limits : IsWithinLimit
   pub met_after : (step : Step) → (ok : Enabled m layout c j step)
       → HoldMet m c (after m layout c j step).agreement.shared.cells (after m layout c j step).epochs (after m layout c j step).walk
   met_after (Agreement v) ok = met_cells _ (leaves (Agreement v) ok)
-  met_after (Epochs v) ok = λ r t entered low meets. stays_held c e v ok.0 r t
+  met_after (Epochs v) ok = λ r t entered low meets. stays_held c e v ok.0 r t low
       (kept.met r t (was_entered c e v ok.0 ok.1 r entered) low meets)
   met_after (Enter r) ok = met_enter r ok
   met_after (Read r place) ok = met_read r place ok

@@ -94,6 +94,8 @@ module _ (c : Counts) (e : EpochState) (old : IsSound c e) where
     recent_after (events.Reach r slots) ok = recent
     recent_after (events.Publish r d roles) ok = recent
     recent_after (events.RetireDescriptor r d) ok = recent
+    recent_after (events.Unguard r) ok = recent
+    recent_after (events.Sweep r descriptors) ok = recent
 
   -- a store into the log of a free descriptor is into no log of a Retire for which an epoch is loaded
   store_other : (r d k word i : ℕ) → e.location (slot_of c d) ≡ locations.Free r → (e.retire i).loaded ≡ true → (e.retire i).descriptor ≢ d
@@ -125,6 +127,8 @@ module _ (c : Counts) (e : EpochState) (old : IsSound c e) where
   was_pending (events.Reach r slots) alone ok i pending = pending
   was_pending (events.Publish r d roles) alone ok i pending = pending
   was_pending (events.RetireDescriptor r d) alone ok i pending = pending
+  was_pending (events.Unguard r) alone ok i pending = pending
+  was_pending (events.Sweep r descriptors) alone ok i pending = pending
 
   -- the retire in an event alone stands
   pub retire_alone : (v : Event) → is_alone v ≡ true → (i : ℕ) → (after c e v).retire i ≡ e.retire i

@@ -126,13 +126,13 @@ module _ (m : Meaning) (laws : Laws m) (layout : Layout) (limits : IsWithinLimit
       lock : (place : ℕ) → IsLockOf (j'.agreement.section d) place → IsLockOf (a.section d) place
       runner : j'.publications.runner d ≡ j.publications.runner d
       entered : is_entered (e.stage (j.publications.runner d)) ≡ true → is_entered (j'.epochs.stage (j.publications.runner d)) ≡ true
-      holds : (t : ℕ) → e.holds (j.publications.runner d) t ≡ true → j'.epochs.holds (j.publications.runner d) t ≡ true
+      holds : (t : ℕ) → t < c.nodes → e.holds (j.publications.runner d) t ≡ true → j'.epochs.holds (j.publications.runner d) t ≡ true
 
     stays_locked : (j' : States) → LocksAreHeld m c j → ((d : ℕ) → j'.agreement.live d ≡ true → Stays j' d) → LocksAreHeld m c j'
     stays_locked j' held stays = record {
       entered = λ d live. let s = stays d live in ap (λ r. is_entered (j'.epochs.stage r)) s.runner ∙ s.entered (held.entered d s.live);
       held = λ d t i live five low high lock. let s = stays d live in
-          ap (λ r. j'.epochs.holds r t) s.runner ∙ s.holds t (held.held d t i s.live five low high (s.lock (cell_of m t i) lock));
+          ap (λ r. j'.epochs.holds r t) s.runner ∙ s.holds t low (held.held d t i s.live five low high (s.lock (cell_of m t i) lock));
     }
 
     -- an event of agreement, and epochs and slots in which nobody leaves
@@ -146,21 +146,22 @@ module _ (m : Meaning) (laws : Laws m) (layout : Layout) (limits : IsWithinLimit
               (goes_on_all (rules_of m layout) a v ok d (kept.agreement.live_used d live));
           runner = refl;
           entered = λ h. ap (λ (f : ℕ → Stage). is_entered (f (j.publications.runner d))) stage ∙ h;
-          holds = λ t h. ap (λ (f : ℕ → ℕ → Bool). f (j.publications.runner d) t) holds ∙ h;
+          holds = λ t low h. ap (λ (f : ℕ → ℕ → Bool). f (j.publications.runner d) t) holds ∙ h;
         })
 
     -- the same sections, and stages and holdings that stay for the publishers
     epoch_locks : (e' : EpochState) (walk' : ℕ → Readings) → LocksAreHeld m c j
         → ((d : ℕ) → a.live d ≡ true → is_entered (e.stage (j.publications.runner d)) ≡ true
         → is_entered (e'.stage (j.publications.runner d)) ≡ true)
-        → ((d t : ℕ) → a.live d ≡ true → e.holds (j.publications.runner d) t ≡ true → e'.holds (j.publications.runner d) t ≡ true)
+        → ((d t : ℕ) → a.live d ≡ true → t < c.nodes → e.holds (j.publications.runner d) t ≡ true
+        → e'.holds (j.publications.runner d) t ≡ true)
         → LocksAreHeld m c (record j { epochs = e'; walk = walk' })
     epoch_locks e' walk' held entered holds = stays_locked (record j { epochs = e'; walk = walk' }) held (λ d live. record {
       live = live;
       lock = λ place lock. lock;
       runner = refl;
       entered = entered d live;
-      holds = λ t. holds d t live;
+      holds = λ t low. holds d t live low;
     })
 
     -- a place that an entered runner's readings give, and that is a cell of a slot which isn't fixed, is one of a slot that it holds
@@ -215,18 +216,18 @@ module _ (m : Meaning) (laws : Laws m) (layout : Layout) (limits : IsWithinLimit
     locks_held_after (Agreement v) ok back held = event_locks v (plain_unpublished v ok.0) ok.1 e refl refl held
     locks_held_after (Epochs v) ok back held = epoch_locks (events.after c e v) j.walk held
         (λ d live. stays_entered c e v ok.0 ok.1 (j.publications.runner d))
-        (λ d t live. stays_held c e v ok.0 (j.publications.runner d) t)
+        (λ d t live low. stays_held c e v ok.0 (j.publications.runner d) t low)
     locks_held_after (Enter r) ok back held = epoch_locks (events.after c e (events.EnterAgain r)) (upd j.walk r []) held
-        (λ d live entered. enters r (j.publications.runner d) entered) (λ d t live h. h)
+        (λ d live entered. enters r (j.publications.runner d) entered) (λ d t live low h. h)
       where
         enters : (r i : ℕ) → is_entered (e.stage i) ≡ true → is_entered (upd e.stage r (stages.Entered e.epoch) i) ≡ true
         enters r i entered = ⊎_elim (λ same. ap is_entered (upd_same e.stage r i (stages.Entered e.epoch) same))
             (λ ne. ap is_entered (upd_other e.stage r i (stages.Entered e.epoch) ne) ∙ entered) (cases_eq i r)
     locks_held_after (Read r place) ok back held = epoch_locks e (upd j.walk r (j.walk r ++ (place, a.shared.cells place) ∷ [])) held
-        (λ d live entered. entered) (λ d t live h. h)
+        (λ d live entered. entered) (λ d t live low h. h)
     locks_held_after (Leave r) ok back held = epoch_locks (events.after c e (events.Exit r)) j.walk held
         (λ d live entered. ap is_entered (upd_other e.stage r (j.publications.runner d) stages.Idle (back d live)) ∙ entered)
-        (λ d t live. others_hold c e r (j.publications.runner d) t (back d live))
+        (λ d t live low. others_hold c e r (j.publications.runner d) t (back d live))
     locks_held_after (Publish r d lock word request code slot op thunk) ok back held =
         publish_locks r d lock word request code slot op thunk ok held
     locks_held_after (Fill r cell log value t word) ok back held =
@@ -235,7 +236,7 @@ module _ (m : Meaning) (laws : Laws m) (layout : Layout) (limits : IsWithinLimit
         (events.after c e (events.MakeCommit r (descriptor_of j r) log t worn)) refl refl held
     locks_held_after (LoadEpoch r log t) ok back held = epoch_locks
         (events.after c e (events.RetireEpoch r (descriptor_of j r) log t)) j.walk held
-        (λ d live entered. entered) (λ d t live h. h)
+        (λ d live entered. entered) (λ d t live low h. h)
     locks_held_after (Retire r log t) ok back held = event_locks (agreement.RetireCommit r t log) refl ok.enabled
         (events.after c e (events.RetireCommit r)) refl refl held
 

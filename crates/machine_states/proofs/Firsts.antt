@@ -6,7 +6,7 @@ use Rattle.std.proofs.Math.ListN.{length-set}
 use Rattle.std.proofs.lemmas.Bool.Decides.{nat_tests}
 use Rattle.runner_steps.specs.table_words.specs.declared.sizes.Sizes.{Sizes}
 use Rattle.runner_steps.specs.table_words.specs.declared.spot.Spot.{Spot}
-use Rattle.runner_steps.specs.table_words.specs.declared.spot.Spot.TheVariants.{Seat, Epoch, Clock, Announcement, Stamp, Reply, Cell, ThunkWord, DoneWord, LogWord}
+use Rattle.runner_steps.specs.table_words.specs.declared.spot.Spot.TheVariants.{Seat, Epoch, Clock, Announcement, Guard, Stamp, Reply, Cell, ThunkWord, DoneWord, LogWord}
 use Rattle.runner_steps.specs.table_words.specs.Places.{size, address, Fits}
 use Rattle.runner_steps.specs.table_words.specs.Seen.{seen, put}
 use Rattle.runner_steps.specs.table_words.proofs.Seen as words
@@ -54,6 +54,7 @@ module _ (m : Meaning) (s : Sizes) where
   epoch_filled f nought Epoch h = refl
   epoch_filled f nought Clock h = nought Clock h
   epoch_filled f nought (Announcement r) h = nought (Announcement r) h
+  epoch_filled f nought (Guard r) h = nought (Guard r) h
   epoch_filled f nought (Stamp q) h = nought (Stamp q) h
   epoch_filled f nought (Reply q) h = nought (Reply q) h
   epoch_filled f nought (Cell p) h = nought (Cell p) h ∙ none_below p (first_word m p)
@@ -80,6 +81,7 @@ module _ (m : Meaning) (s : Sizes) where
   more f n so_far Epoch h = so_far Epoch h
   more f n so_far Clock h = so_far Clock h
   more f n so_far (Announcement r) h = so_far (Announcement r) h
+  more f n so_far (Guard r) h = so_far (Guard r) h
   more f n so_far (Stamp q) h = so_far (Stamp q) h
   more f n so_far (Reply q) h = so_far (Reply q) h
   more f n so_far (Cell p) h = cell_at p n (first_word m p) (first_word m n) (f (Cell p)) (λ e. ap (first_word m) (sym e)) (so_far (Cell p) h)

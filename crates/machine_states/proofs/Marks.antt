@@ -7,7 +7,6 @@ use Rattle.runner_steps.specs.table_words.specs.declared.layout.Layout.{Layout}
 use Rattle.runner_steps.specs.table_words.specs.Places.{slot_count}
 use Rattle.runner_steps.specs.runner_parts.specs.structure_laws.specs.Meaning.{Meaning}
 use Rattle.runner_steps.specs.runner_parts.specs.epoch_core.specs.Moves.{is_clear}
-use Rattle.runner_steps.specs.runner_parts.specs.declared.entries.Published.{Published}
 use Rattle.runner_steps.specs.runner_parts.specs.epoch_core.specs.declared.stage.Stage.{Stage}
 use Rattle.runner_steps.specs.runner_parts.specs.epoch_core.specs.declared.stage.Stage.TheVariants as stages
 use Rattle.runner_steps.specs.runner_parts.specs.declared.event.EventKind.{EventKind}
@@ -58,7 +57,7 @@ module _ (m : Meaning) (l : Layout) (p : PartState) (found : ℕ) where
     make_keeps (Some t) = same _ refl refl
 
     line_keeps : (kind : EventKind) (micro : Micro) → Keeps (line_after m l kind p q micro found)
-    line_keeps kinds.Commit micro = either (inside.is_of_lock micro) _ _ (same _ refl refl) (same _ refl refl)
+    line_keeps kinds.Commit micro = same _ refl refl
     line_keeps (kinds.LoadCell place) micro = same _ refl refl
     line_keeps kinds.ExchangeCell micro = same _ refl refl
     line_keeps (kinds.PrivateLoad slot word) micro = fill_keeps slot q.made
@@ -90,10 +89,6 @@ module _ (m : Meaning) (l : Layout) (p : PartState) (found : ℕ) where
   advance_keeps (stages.Scanning x next clear) = either (nat_lt x last_epoch) _ _ (same _ refl refl) (same p refl refl)
   advance_keeps _ = same p refl refl
 
-  retire_keeps : (o : Option Published) → Keeps (outside.retire_after p o found)
-  retire_keeps None = same p refl refl
-  retire_keeps (Some x) = same _ refl refl
-
   outside_keeps : (kind : EventKind) → Keeps (outside_after m l kind p found)
   outside_keeps kinds.EnterLoad = same _ refl refl
   outside_keeps kinds.Announce = same _ refl refl
@@ -110,7 +105,6 @@ module _ (m : Meaning) (l : Layout) (p : PartState) (found : ℕ) where
   outside_keeps (kinds.PrivateStore slot word number) = same _ refl refl
   outside_keeps (kinds.Hold thunk d) = either (found == thunk.word) _ _ (same _ refl refl) (same _ refl refl)
   outside_keeps (kinds.LoadThunk (Some d)) = same _ refl refl
-  outside_keeps kinds.EpochForRetire = retire_keeps p.published
   outside_keeps _ = same _ refl refl
 
   pub stays : (kind : EventKind) (run : Option RunState) → Stays p (after_by m l kind p run found)

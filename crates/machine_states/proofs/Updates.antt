@@ -5,7 +5,7 @@ use Rattle.std.proofs.lemmas.Bool.Decides.{nat_tests}
 use Rattle.std.proofs.lemmas.Bool.{cases_eq}
 use mathlib.Core.Path.{fun_ext}
 use Rattle.runner_steps.specs.table_words.specs.declared.spot.Spot.{Spot}
-use Rattle.runner_steps.specs.table_words.specs.declared.spot.Spot.TheVariants.{Seat, Epoch, Clock, Announcement, Stamp, Reply, Cell, ThunkWord, DoneWord, LogWord}
+use Rattle.runner_steps.specs.table_words.specs.declared.spot.Spot.TheVariants.{Seat, Epoch, Clock, Announcement, Guard, Stamp, Reply, Cell, ThunkWord, DoneWord, LogWord}
 use Rattle.runner_steps.specs.table_words.specs.Seen.{upd, put}
 use Rattle.runner_steps.specs.table_words.specs.Access.{written}
 use Rattle.runner_steps.specs.table_words.specs.declared.access.Access.TheVariants.{Exchanges}
@@ -56,6 +56,8 @@ put_same_at f Clock Clock = refl
 put_same_at f Clock b = refl
 put_same_at f (Announcement i) (Announcement i') = one_same (λ x. f (Announcement x)) i i'
 put_same_at f (Announcement i) b = refl
+put_same_at f (Guard i) (Guard i') = one_same (λ x. f (Guard x)) i i'
+put_same_at f (Guard i) b = refl
 put_same_at f (Stamp i) (Stamp i') = one_same (λ x. f (Stamp x)) i i'
 put_same_at f (Stamp i) b = refl
 put_same_at f (Reply i) (Reply i') = one_same (λ x. f (Reply x)) i i'

@@ -11,7 +11,7 @@ use Rattle.runner_steps.specs.runner_parts.specs.structure_laws.specs.Meaning.{M
 use Rattle.runner_steps.specs.runner_parts.specs.structure_laws.specs.Cells.{first_word}
 use Rattle.runner_steps.specs.runner_parts.specs.epoch_core.specs.declared.stage.Stage.TheVariants as stages
 use Rattle.runner_steps.specs.runner_parts.specs.State.{PartState}
-use Rattle.runner_steps.specs.runner_parts.specs.Lists.{no_reads}
+use Rattle.runner_steps.specs.runner_parts.specs.Lists.{no_guards, no_reads}
 use Rattle.runner_steps.specs.Asks.{sizes_for}
 use Rattle.machine_states.specs.World.{World}
 
@@ -39,6 +39,7 @@ first_part nodes descriptors = record {
   published = None;
   nodes = record { free = nodes; hand = []; tests = []; limbo = []; worn = [] };
   descriptors = record { free = descriptors; stored = []; limbo = [] };
+  guards = no_guards;
   reads = no_reads;
   records = record {
     known = [];

@@ -10,5 +10,5 @@ pub use words::first_words;
 
 // Passed on to the layers above, so that they needn't name these libraries themselves.
 pub use runner_steps;
-pub use runner_steps::runner_parts::{epoch_core, structure_laws};
+pub use runner_steps::runner_parts::{epoch_core, guard_core, structure_laws};
 pub use runner_steps::{body_terms, map_history, runner_parts, table_words};

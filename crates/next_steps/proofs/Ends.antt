@@ -16,7 +16,6 @@ use Rattle.machine_states.specs.structure_laws.specs.Laws.{Laws}
 use Rattle.machine_states.specs.epoch_core.specs.Moves.{is_clear}
 use Rattle.machine_states.specs.epoch_core.specs.declared.stage.Stage.{Stage}
 use Rattle.machine_states.specs.epoch_core.specs.declared.stage.Stage.TheVariants as stages
-use Rattle.machine_states.specs.runner_parts.specs.declared.entries.Published.{Published}
 use Rattle.machine_states.specs.runner_parts.specs.declared.event.EventKind.{EventKind}
 use Rattle.machine_states.specs.runner_parts.specs.declared.event.EventKind.TheVariants as kinds
 use Rattle.machine_states.specs.runner_parts.specs.State.{RunState, PartState}
@@ -152,7 +151,7 @@ module _ (m : Meaning) (l : Layout) (p : PartState) (q : RunState) (at : p.run �
   make_same (Some t) = by_run _ _ refl refl refl
 
   line_same : (kind : EventKind) (micro : Micro) → is_ending kind ≡ false → SameEnd q (line_after m l kind p q micro found)
-  line_same kinds.Commit micro h = if_same (inside.is_of_lock micro) _ _ (by_run _ _ refl refl refl) (by_run _ _ refl refl refl)
+  line_same kinds.Commit micro h = by_run _ _ refl refl refl
   line_same (kinds.LoadCell place) micro h = by_run _ _ refl refl refl
   line_same kinds.ExchangeCell micro h = by_run _ _ refl refl refl
   line_same (kinds.PrivateLoad slot word) micro h = fill_same slot q.made
@@ -281,10 +280,6 @@ module _ (m : Meaning) (l : Layout) (p : PartState) (none : p.run ≡ None) (fou
   advance_next (stages.Scanning x next clear) = if_next m (nat_lt x last_epoch) _ _ (no_run _ refl) (no_run _ refl)
   advance_next _ = no_run _ refl
 
-  retire_next : (o : Option Published) → HaveNext m (outside.retire_after p o found)
-  retire_next None = no_run _ refl
-  retire_next (Some x) = no_run _ refl
-
   begun_next : (d : ℕ) → HaveNext m (outside.open_after d p found)
   begun_next d = one_next (outside.open_after d p found) (outside.opened d found) refl
       (record { most = omega arith; next = λ all. absurd (omega arith) })
@@ -305,7 +300,6 @@ module _ (m : Meaning) (l : Layout) (p : PartState) (none : p.run ≡ None) (fou
   outside_next (kinds.PrivateStore slot word number) = no_run _ refl
   outside_next (kinds.Hold thunk d) = if_next m (found == thunk.word) _ _ (no_run _ refl) (no_run _ refl)
   outside_next (kinds.LoadThunk (Some d)) = begun_next d
-  outside_next kinds.EpochForRetire = retire_next p.published
   outside_next _ = no_run _ refl
 
 module _ (m : Meaning) (l : Layout) (rs : List Request) (s s' : Sight) (r : ℕ) (kind : EventKind) (st : IsStep m l rs s s' r kind) where

@@ -27,9 +27,9 @@ use Rattle.machine_states.specs.epoch_core.specs.declared.stage.Stage.TheVariant
 use Rattle.machine_states.specs.runner_parts.specs.declared.entries.Published.{Published}
 use Rattle.machine_states.specs.runner_parts.specs.declared.event.EventKind.{EventKind}
 use Rattle.machine_states.specs.runner_parts.specs.declared.event.EventKind.TheVariants as kinds
-use Rattle.machine_states.specs.runner_parts.specs.State.{RunState, PartState}
+use Rattle.machine_states.specs.runner_parts.specs.State.{RunState, PartState, GuardsState}
 use Rattle.machine_states.specs.runner_parts.specs.Tests.{has}
-use Rattle.machine_states.specs.runner_parts.specs.Lists.{without}
+use Rattle.machine_states.specs.runner_parts.specs.Lists.{without, descriptors_swept, descriptor_retired}
 use Rattle.machine_states.specs.runner_steps.specs.Sections.{is_open_run, next_of}
 use Rattle.machine_states.specs.epoch_core.specs.State.{last_epoch}
 use Rattle.machine_states.specs.runner_steps.specs.InRun.{last_clock}
@@ -37,6 +37,7 @@ use Rattle.machine_states.specs.runner_steps.specs.AfterInRun as inside
 use Rattle.machine_states.specs.runner_steps.specs.AfterInRun.{place_of}
 use Rattle.machine_states.specs.runner_steps.specs.AfterOutside as outside
 use Rattle.machine_states.specs.runner_steps.specs.After.{line_after, inside_after, outside_after}
+use Rattle.machine_states.specs.runner_steps.specs.Guards.{is_last_guard}
 use Rattle.machine_states.specs.epoch_core.specs.declared.location.Location.{Location}
 use Rattle.machine_states.specs.epoch_core.specs.declared.location.Location.TheVariants as locations
 use Rattle.machine_states.specs.epoch_core.specs.Events.{slot_of}
@@ -216,8 +217,17 @@ module _ (m : Meaning) (l : Layout) (d : ℕ) (p : PartState) where
     make_free None = by_same _ refl
     make_free (Some t) = by_same _ refl
 
+    -- with its last release the own section's descriptor goes into limbo
+    over_free : (o : Option Published) → (inside.retired_if p.descriptors o q.descriptor).free ≡ p.descriptors.free
+    over_free None = refl
+    over_free (Some x) = by (x.descriptor == q.descriptor)
+      where
+        by : (b : Bool) → (if b then descriptor_retired p.descriptors q.descriptor else p.descriptors).free ≡ p.descriptors.free
+        by true = refl
+        by false = refl
+
     line_free : (kind : EventKind) (micro : Micro) → LeavesFree d p (line_after m l kind p q micro found)
-    line_free kinds.Commit micro = if_free (inside.is_of_lock micro) _ _ (by_same _ refl) (by_same _ refl)
+    line_free kinds.Commit micro = by_same _ refl
     line_free (kinds.LoadCell place) micro = by_same _ refl
     line_free kinds.ExchangeCell micro = by_same _ refl
     line_free (kinds.PrivateLoad slot word) micro = fill_free slot q.made
@@ -226,7 +236,7 @@ module _ (m : Meaning) (l : Layout) (d : ℕ) (p : PartState) where
     line_free kinds.RetireCommit micro = by_same _ refl
     line_free kinds.EpochForRetire micro = by_same _ refl
     line_free kinds.SetDone micro = by_same _ refl
-    line_free kinds.Release micro = if_free (is_end (next_of m (inside.ended_more q))) _ _ (by_same _ refl) (by_same _ refl)
+    line_free kinds.Release micro = if_free (is_end (next_of m (inside.ended_more q))) _ _ (by_same _ (over_free p.published)) (by_same _ refl)
     line_free kinds.ClockLoad micro = by_same _ refl
     line_free kinds.StampExchange micro = if_free (nat_lt q.word last_clock) _ _ (by_same _ refl) (by_same _ refl)
     line_free kinds.ClockRaise micro = by_same _ refl
@@ -240,7 +250,7 @@ module _ (m : Meaning) (l : Layout) (d : ℕ) (p : PartState) where
     pub inside_free : (kind : EventKind) → LeavesFree d p (inside_after m l kind p q found)
     inside_free kind = if_free (is_open_run q) _ _ (line_free kind (next_of m q)) (by_same _ refl)
 
-  -- the end of a scan adds to the list
+  -- the end of a sweep adds to the list
   more_free : (xs ys : List ℕ) → has (xs ++ ys) d ≡ false → has xs d ≡ false
   more_free xs ys h = by (has xs d) refl
     where
@@ -248,24 +258,22 @@ module _ (m : Meaning) (l : Layout) (d : ℕ) (p : PartState) where
       by true e = absurd (let z = sym (ap (λ b. b || has ys d) e) ∙ (sym (has_append xs ys d) ∙ h) in cc)
       by false e = refl
 
-  collected_free : (epoch : ℕ) → LeavesFree d p (outside.collected p epoch)
-  collected_free epoch = record { back = λ h. more_free p.descriptors.free _ h }
+  sweep_free : (last : Bool) (words : List ℕ) (guards : GuardsState)
+      → LeavesFree d p (record p { descriptors = (if last then descriptors_swept words p.descriptors else p.descriptors); guards = guards })
+  sweep_free true words guards = record { back = λ h. more_free p.descriptors.free _ h }
+  sweep_free false words guards = by_same _ refl
 
   module _ (found : ℕ) where
     scan_free : (stage : Stage) → LeavesFree d p (outside.scan_one_after l p stage found)
     scan_free (stages.Scanning x next clear) = if_free (nat_le next l.runners) _ _
-        (if_free (next == l.runners && not ((clear && is_clear x found) && nat_lt x last_epoch)) _ _ (collected_free x)
+        (if_free (next == l.runners && not ((clear && is_clear x found) && nat_lt x last_epoch)) _ _ (by_same _ refl)
         (by_same _ refl))
         (by_same _ refl)
     scan_free _ = by_same _ refl
 
     advance_free : (stage : Stage) → LeavesFree d p (outside.advance_after p stage)
-    advance_free (stages.Scanning x next clear) = if_free (nat_lt x last_epoch) _ _ (collected_free (x + 1)) (by_same _ refl)
+    advance_free (stages.Scanning x next clear) = if_free (nat_lt x last_epoch) _ _ (by_same _ refl) (by_same _ refl)
     advance_free _ = by_same _ refl
-
-    retire_free : (o : Option Published) → LeavesFree d p (outside.retire_after p o found)
-    retire_free None = by_same _ refl
-    retire_free (Some x) = by_same _ refl
 
     -- a publication at another descriptor
     other_taken : (xs : List ℕ) (d' : ℕ) → d ≢ d' → has (without xs d') d ≡ has xs d
@@ -299,5 +307,5 @@ module _ (m : Meaning) (l : Layout) (d : ℕ) (p : PartState) where
         not_at : (d' : ℕ) → (d' == d) ≡ false → d ≢ d'
         not_at d' e same = grind (arith, nat_tests)
     outside_free (kinds.LoadThunk (Some d')) h = by_same _ refl
-    outside_free kinds.EpochForRetire h = retire_free p.published
+    outside_free (kinds.LoadGuard n) h = sweep_free (is_last_guard l p.guards.looked) _ _
     outside_free _ h = by_same _ refl

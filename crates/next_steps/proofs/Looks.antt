@@ -17,12 +17,9 @@ use Rattle.machine_states.specs.epoch_core.specs.declared.stage.Stage.TheVariant
 use Rattle.machine_states.specs.runner_parts.specs.declared.entries.Look.{Look}
 use Rattle.machine_states.specs.runner_parts.specs.declared.entries.LookStage.{LookStage}
 use Rattle.machine_states.specs.runner_parts.specs.declared.entries.LookStage.TheVariants.{Replied, Stamped}
-use Rattle.machine_states.specs.runner_parts.specs.declared.entries.Published.{Published}
 use Rattle.machine_states.specs.runner_parts.specs.declared.event.EventKind.{EventKind}
 use Rattle.machine_states.specs.runner_parts.specs.declared.event.EventKind.TheVariants as kinds
 use Rattle.machine_states.specs.runner_parts.specs.State.{RunState, PartState}
-use Rattle.machine_states.specs.runner_parts.specs.Lists.{holds_named, lock_agreed}
-use Rattle.machine_states.specs.runner_parts.specs.Tests.{has}
 use Rattle.machine_states.specs.runner_steps.specs.Sections.{is_open_run, next_of}
 use Rattle.machine_states.specs.runner_steps.specs.InRun.{last_clock}
 use Rattle.machine_states.specs.runner_steps.specs.Reads.{plan_by, come_to, look_by, looked_by}
@@ -61,13 +58,6 @@ module _ (m : Meaning) (l : Layout) (n : ℕ) (p : PartState) (old : Small n p) 
   either true y z one two = one
   either false y z one two = two
 
-  agreed : (d word : ℕ) → (lock_agreed p.reads d word).look ≡ p.reads.look
-  agreed d word = by (has p.reads.published d)
-    where
-      by : (b : Bool) → (if b then holds_named p.reads word else p.reads).look ≡ p.reads.look
-      by true = refl
-      by false = refl
-
   module _ (q : RunState) where
     fill : (slot : ℕ) (made : Option ℕ) → Small n (inside.fill_loaded m l slot p q made found)
     fill slot None = stay _ refl
@@ -78,12 +68,12 @@ module _ (m : Meaning) (l : Layout) (n : ℕ) (p : PartState) (old : Small n p) 
     make (Some t) = stay _ refl
 
     line_small : (kind : EventKind) (micro : Micro) → Small n (line_after m l kind p q micro found)
-    line_small kinds.Commit micro = either (inside.is_of_lock micro) _ _ (stay _ (agreed q.descriptor _)) (stay _ refl)
+    line_small kinds.Commit micro = stay _ refl
     line_small (kinds.PrivateLoad slot word) micro = fill slot q.made
     line_small kinds.MakeCommit micro = make q.made
     line_small kinds.Release micro = either (is_end (next_of m (inside.ended_more q))) _ _ (stay _ refl) (stay _ refl)
     line_small kinds.StampExchange micro = either (nat_lt q.word last_clock) _ _ (stay _ refl) (stay _ refl)
-    line_small kinds.OutcomeCommit micro = stay _ (agreed q.descriptor _)
+    line_small kinds.OutcomeCommit micro = stay _ refl
     line_small _ micro = stay _ refl
 
     inside_small : (kind : EventKind) → Small n (inside_after m l kind p q found)
@@ -97,10 +87,6 @@ module _ (m : Meaning) (l : Layout) (n : ℕ) (p : PartState) (old : Small n p) 
   advance : (stage : Stage) → Small n (outside.advance_after p stage)
   advance (stages.Scanning y next clear) = either (nat_lt y last_epoch) _ _ (stay _ refl) (stay _ refl)
   advance _ = stay _ refl
-
-  retire : (o : Option Published) → Small n (outside.retire_after p o found)
-  retire None = stay _ refl
-  retire (Some y) = stay _ refl
 
   -- a look that comes on keeps its clock
   comes : (stage : LookStage) (o : Option Look) → p.reads.look ≡ o → (x : Look) → come_to stage o ≡ Some x → x.clock ≤ n
@@ -123,7 +109,6 @@ module _ (m : Meaning) (l : Layout) (n : ℕ) (p : PartState) (old : Small n p) 
   outside_small (kinds.Hold thunk d) loads = either (found == thunk.word) _ _ (stay _ refl) (stay _ refl)
   outside_small (kinds.LoadThunk (Some d)) loads = stay _ refl
   outside_small (kinds.LoadThunk None) loads = stay _ refl
-  outside_small kinds.EpochForRetire loads = retire p.published
   outside_small (kinds.ReadPlan thunk) loads = record { low = λ x e. subst (λ (z : Look). z.clock ≤ n) (some_same (plan_by thunk) x e) (omega arith) }
   outside_small kinds.ReadClock loads = record { low = looked p.reads.look (loads refl) }
   outside_small kinds.ReadReply loads = record { low = comes Replied p.reads.look refl }

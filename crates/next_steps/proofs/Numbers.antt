@@ -12,10 +12,8 @@ use Rattle.machine_states.specs.runner_parts.specs.declared.event.EventKind.{Eve
 use Rattle.machine_states.specs.epoch_core.specs.declared.stage.Stage.TheVariants.{Entered}
 use Rattle.machine_states.specs.runner_parts.specs.State.{RunState, PartState}
 use Rattle.machine_states.specs.runner_parts.specs.Tests.{has, has_pair}
-use Rattle.machine_states.specs.runner_parts.specs.Lists.{slots_of}
 use Rattle.machine_states.specs.runner_steps.specs.Asks.{ask_by}
 use Rattle.machine_states.specs.runner_steps.specs.After.{after_by}
-use Rattle.machine_states.specs.epoch_core.specs.Events.{slot_of}
 use Rattle.machine_states.specs.World.{World}
 use Rattle.machine_states.specs.First.{IsFirst, falling, first_part, keeper_part, worker_part}
 use Rattle.machine_states.specs.Reached.{Reached}
@@ -24,7 +22,6 @@ use Rattle.machine_states.proofs.FirstSights.{first_parts}
 use Rattle.machine_states.proofs.Sights.{some_none, unless_gone, joins}
 use Rattle.machine_invariant.specs.machine_agreement.specs.machine_epochs.specs.Entries.{counts_of}
 use Rattle.machine_invariant.specs.machine_agreement.specs.machine_epochs.proofs.FirstJoin as FirstJoin
-use Rattle.machine_invariant.specs.machine_agreement.specs.machine_epochs.proofs.Places.{held_out}
 use Rattle.machine_invariant.specs.machine_agreement.specs.machine_scenes.specs.Shown.{scene_of}
 use Rattle.machine_invariant.specs.machine_agreement.specs.machine_scenes.proofs.Links.{gives}
 use Rattle.machine_invariant.specs.After.{AreAllowed}
@@ -96,21 +93,14 @@ module _ (m : Meaning) (l : Layout) (rs : List Request) (w : World) (start : IsF
   first_parts_fit : PartsFit m l (sight m l rs w)
   first_parts_fit r = record {
     free = first_free r;
-    limbo = λ d e. absurd (let none = first_of (λ p. has (slots_of p.descriptors.limbo) d ≡ false) refl (λ k. refl) refl r in not_both e none);
+    limbo = λ d e. absurd (let none = first_of (λ p. has p.descriptors.limbo d ≡ false) refl (λ k. refl) refl r in not_both e none);
     published = λ x e. some_none x (sym (first_of (λ p. p.published ≡ None) refl (λ k. refl) refl r) ∙ e);
     read = λ place word e. not_both e (first_of (λ p. has_pair p.reads.cells place word ≡ false) refl (λ k. refl) refl r);
     walked = λ place word e. not_both e (first_of (λ p. has_pair p.reads.walk place word ≡ false) refl (λ k. refl) refl r);
   }
 
 module _ (m : Meaning) (laws : Laws m) (l : Layout) (limits : IsWithinLimits l) (g : Beside) (s : Sight) (whole : IsWhole m l g s) where
-  -- what an entered runner holds was given out
-  held_fits : (r entry d : ℕ) → (s.part r).stage ≡ Entered entry → has (s.part r).reads.held d ≡ true → d < descriptor_count l
-  held_fits r entry d at held =
-      let entered = entered_at m l g.epochs s whole.slots r entry at in
-      let out = held_out m l g.epochs s whole.slots r (slot_of (counts_of m l) d) ((whole.slots.tied r).named d entered held) in
-      whole.tied.within d (whole.tied.used d ∙ out)
-
-  -- what its readings reach was live or not retired long ago
+  -- what an entered runner's readings reach was live or not retired long ago
   reached_fits : (r entry t : ℕ) → (s.part r).stage ≡ Entered entry → m.reaches (s.part r).reads.walk t ≡ true → t < slot_count l m.fixed_slots
   reached_fits r entry t at reaches =
       let scene = scene_of m (counts_of m l) (states_of g s) in
@@ -125,6 +115,6 @@ reached_numbers m laws l limits rs allowed w reached =
     let whole = reached_whole m laws l rs reached.events w limits allowed reached.after in record {
       parts = reached_keeps m laws l limits rs allowed (PartsFit m l) (first_parts_fit m l rs)
           (λ s s' r kind st old. parts_kept m l rs s s' r kind st old) w reached;
-      held = held_fits m laws l limits whole.0 (sight m l rs w) whole.1;
+      guarded = λ r d is. (whole.1.slots.tied r).numbered d is;
       reached = reached_fits m laws l limits whole.0 (sight m l rs w) whole.1;
     }

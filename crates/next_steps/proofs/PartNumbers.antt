@@ -1,7 +1,7 @@
 -- A step leaves the numbers that a runner keeps within the table.
 use Rattle.std.specs.Prelude.{◌==◌, ◌||◌, ◌&&◌, ◌⊎◌, not, nat_lt, nat_le, Bool, true, false, if◌then◌else◌}
 use Rattle.std.specs.List.{filter}
-use Rattle.std.proofs.Common.{◌≡◌, ℕ, ◌+◌, ◌<◌, List, [], ◌∷◌, ◌++◌, inl, inr, ⊎_elim, sym, refl, ap, ◌∙◌, subst, arith, Option, Some, None}
+use Rattle.std.proofs.Common.{◌≡◌, ℕ, ◌<◌, List, [], ◌∷◌, ◌++◌, inl, inr, ⊎_elim, sym, refl, ap, ◌∙◌, subst, arith, Option, Some, None}
 use Rattle.std.proofs.lemmas.Bool.Decides.{nat_tests}
 use Rattle.machine_states.specs.map_history.specs.declared.op.Request.{Request}
 use Rattle.machine_states.specs.body_terms.specs.Line.{is_end}
@@ -15,14 +15,15 @@ use Rattle.machine_states.specs.table_words.specs.Places.{Fits, slot_count, desc
 use Rattle.machine_states.specs.structure_laws.specs.Meaning.{Meaning}
 use Rattle.machine_states.specs.epoch_core.specs.Moves.{is_clear}
 use Rattle.machine_states.specs.runner_parts.specs.declared.entries.Published.{Published}
-use Rattle.machine_states.specs.runner_parts.specs.declared.entries.Retired.{Retired}
 use Rattle.machine_states.specs.epoch_core.specs.declared.stage.Stage.{Stage}
 use Rattle.machine_states.specs.epoch_core.specs.declared.stage.Stage.TheVariants as stages
 use Rattle.machine_states.specs.runner_parts.specs.declared.event.EventKind.{EventKind}
 use Rattle.machine_states.specs.runner_parts.specs.declared.event.EventKind.TheVariants as kinds
-use Rattle.machine_states.specs.runner_parts.specs.State.{RunState, PartState, DescriptorsState, ReadsState}
+use Rattle.machine_states.specs.runner_parts.specs.State.{RunState, PartState, DescriptorsState, GuardsState, ReadsState}
 use Rattle.machine_states.specs.runner_parts.specs.Tests.{has, has_pair}
-use Rattle.machine_states.specs.runner_parts.specs.Lists.{slots_of, is_old, cell_read, holds_named}
+use Rattle.machine_states.specs.runner_parts.specs.Lists.{descriptors_swept, descriptor_retired, cell_read}
+use Rattle.machine_states.specs.guard_core.specs.Moves.{is_unnamed}
+use Rattle.machine_invariant.proofs.Basics.{same_test}
 use Rattle.machine_states.specs.runner_steps.specs.Sections.{is_open_run, next_of}
 use Rattle.machine_states.specs.epoch_core.specs.State.{last_epoch}
 use Rattle.machine_states.specs.runner_steps.specs.InRun.{last_clock}
@@ -30,6 +31,7 @@ use Rattle.machine_states.specs.runner_steps.specs.Asks.{ask_by, outside_ask, li
 use Rattle.machine_states.specs.runner_steps.specs.AfterInRun as inside
 use Rattle.machine_states.specs.runner_steps.specs.AfterOutside as outside
 use Rattle.machine_states.specs.runner_steps.specs.After.{line_after, inside_after, outside_after}
+use Rattle.machine_states.specs.runner_steps.specs.Guards.{is_last_guard}
 use Rattle.machine_states.proofs.Sights.{some_none}
 use Rattle.machine_states.proofs.Steps.{some_same}
 use Rattle.machine_invariant.specs.machine_agreement.specs.machine_epochs.proofs.InsideAsked as asked
@@ -54,7 +56,7 @@ pair_more (x ∷ xs) a b place word e = by (x.0 == place && x.1 == word) e (pair
     by false e rest = rest e
 
 -- what passes a test is of the list
-pub filtered_has : (test : Retired → Bool) (xs : List Retired) (d : ℕ) → has (slots_of (filter test xs)) d ≡ true → has (slots_of xs) d ≡ true
+pub filtered_has : (test : ℕ → Bool) (xs : List ℕ) (d : ℕ) → has (filter test xs) d ≡ true → has xs d ≡ true
 filtered_has test [] d e = e
 filtered_has test (x ∷ xs) d e = by (test x) e (filtered_has test xs d)
   where
@@ -66,22 +68,17 @@ filtered_has test (x ∷ xs) d e = by (test x) e (filtered_has test xs d)
     or_more true b c e h = refl
     or_more false b c e h = h e
 
-    by : (b : Bool) → has (slots_of (if b then x ∷ filter test xs else filter test xs)) d ≡ true
-        → (has (slots_of (filter test xs)) d ≡ true → has (slots_of xs) d ≡ true) → has (slots_of (x ∷ xs)) d ≡ true
-    by true e rest = or_more (x.slot == d) _ _ e rest
-    by false e rest = or_true (x.slot == d) (rest e)
+    by : (b : Bool) → has (if b then x ∷ filter test xs else filter test xs) d ≡ true
+        → (has (filter test xs) d ≡ true → has xs d ≡ true) → has (x ∷ xs) d ≡ true
+    by true e rest = or_more (x == d) _ _ e rest
+    by false e rest = or_true (x == d) (rest e)
 
-slots_more : (xs : List Retired) (x : Retired) (d : ℕ) → has (slots_of (xs ++ x ∷ [])) d ≡ true → (has (slots_of xs) d ≡ true) ⊎ (d ≡ x.slot)
-slots_more [] x d e = inr (one x.slot d e)
+-- one more number
+one_has : (x d : ℕ) → has (x ∷ []) d ≡ true → d ≡ x
+one_has x d e = same x d e
   where
-    one : (a d : ℕ) → ((a == d) || false) ≡ true → d ≡ a
-    one a d e = grind (arith, nat_tests)
-slots_more (y ∷ xs) x d e = by (y.slot == d) e (slots_more xs x d)
-  where
-    by : (c : Bool) → (c || has (slots_of (xs ++ x ∷ [])) d) ≡ true → (has (slots_of (xs ++ x ∷ [])) d ≡ true → (has (slots_of xs) d ≡ true) ⊎ (d ≡ x.slot))
-        → ((c || has (slots_of xs) d) ≡ true) ⊎ (d ≡ x.slot)
-    by true e rest = inl refl
-    by false e rest = rest e
+    same : (a d : ℕ) → ((a == d) || false) ≡ true → d ≡ a
+    same a d e = grind (arith, nat_tests)
 
 module _ (m : Meaning) (l : Layout) (p : PartState) (old : PartFits m l p) where
   -- a part with the same descriptors and readings
@@ -89,7 +86,7 @@ module _ (m : Meaning) (l : Layout) (p : PartState) (old : PartFits m l p) where
       → p'.reads.cells ≡ p.reads.cells → p'.reads.walk ≡ p.reads.walk → PartFits m l p'
   by_fields p' free limbo published cells walk = record {
     free = λ d h. old.free d (ap (λ xs. has xs d) (sym free) ∙ h);
-    limbo = λ d h. old.limbo d (ap (λ (xs : List Retired). has (slots_of xs) d) (sym limbo) ∙ h);
+    limbo = λ d h. old.limbo d (ap (λ (xs : List ℕ). has xs d) (sym limbo) ∙ h);
     published = λ x h. old.published x (sym published ∙ h);
     read = λ place word h. old.read place word (ap (λ (xs : List (ℕ × ℕ)). has_pair xs place word) (sym cells) ∙ h);
     walked = λ place word h. old.walked place word (ap (λ (xs : List (ℕ × ℕ)). has_pair xs place word) (sym walk) ∙ h);
@@ -109,7 +106,7 @@ module _ (m : Meaning) (l : Layout) (p : PartState) (old : PartFits m l p) where
       → p'.reads.cells ≡ p.reads.cells ++ (place, found) ∷ [] → p'.reads.walk ≡ p.reads.walk → PartFits m l p'
   read_fits place found low p' free limbo published cells walk = record {
     free = λ d h. old.free d (ap (λ xs. has xs d) (sym free) ∙ h);
-    limbo = λ d h. old.limbo d (ap (λ (xs : List Retired). has (slots_of xs) d) (sym limbo) ∙ h);
+    limbo = λ d h. old.limbo d (ap (λ (xs : List ℕ). has xs d) (sym limbo) ∙ h);
     published = published;
     read = λ a word h. ⊎_elim (old.read a word) (λ here. subst (λ n. n < cell_count m l) (sym here) low)
         (pair_more p.reads.cells place found a word (ap (λ (xs : List (ℕ × ℕ)). has_pair xs a word) (sym cells) ∙ h));
@@ -118,19 +115,37 @@ module _ (m : Meaning) (l : Layout) (p : PartState) (old : PartFits m l p) where
 
   -- the steps of a run
   module _ (q : RunState) (found : ℕ) where
-    over_fits : (o : Option Published) (d : ℕ) → p.published ≡ o → (x : Published) → inside.over_if o d ≡ Some x → x.descriptor < descriptor_count l
-    over_fits None d is x e = some_none x e
-    over_fits (Some y) d is x e = subst (λ (z : Published). z.descriptor < descriptor_count l) (some_same _ x e) (old.published y is)
-
-    agreed_fits : (p' : PartState) (word : ℕ) (b : Bool) → p'.descriptors ≡ p.descriptors → p'.published ≡ p.published
-        → p'.reads ≡ (if b then holds_named p.reads word else p.reads) → PartFits m l p'
-    agreed_fits p' word true descriptors published reads = by_fields p' (ap (λ (y : DescriptorsState). y.free) descriptors)
-        (ap (λ (y : DescriptorsState). y.limbo) descriptors) published (ap (λ (y : ReadsState). y.cells) reads) (ap (λ (y : ReadsState). y.walk) reads)
-    agreed_fits p' word false descriptors published reads = by_fields p' (ap (λ (y : DescriptorsState). y.free) descriptors)
-        (ap (λ (y : DescriptorsState). y.limbo) descriptors) published (ap (λ (y : ReadsState). y.cells) reads) (ap (λ (y : ReadsState). y.walk) reads)
-
-    commit_fits : PartFits m l (inside.lock_committed m l p q found)
-    commit_fits = agreed_fits (inside.lock_committed m l p q found) _ (has p.reads.published q.descriptor) refl refl refl
+    -- with its last release the own published section is retired
+    over_fits : (o : Option Published) (d : ℕ) → p.published ≡ o → (p' : PartState) → p'.published ≡ inside.kept_unless o d
+        → p'.descriptors ≡ inside.retired_if p.descriptors o d → p'.reads.walk ≡ p.reads.walk
+        → ((place word : ℕ) → has_pair p'.reads.cells place word ≡ true → place < cell_count m l) → PartFits m l p'
+    over_fits None d is p' published descriptors walk read = record {
+      free = λ n h. old.free n (ap (λ (y : DescriptorsState). has y.free n) (sym descriptors) ∙ h);
+      limbo = λ n h. old.limbo n (ap (λ (y : DescriptorsState). has y.limbo n) (sym descriptors) ∙ h);
+      published = λ x e. some_none x (sym published ∙ e);
+      read = read;
+      walked = λ place word h. old.walked place word (ap (λ (xs : List (ℕ × ℕ)). has_pair xs place word) (sym walk) ∙ h);
+    }
+    over_fits (Some y) d is p' published descriptors walk read = by (y.descriptor == d) refl published descriptors
+      where
+        by : (b : Bool) → (y.descriptor == d) ≡ b → p'.published ≡ (if b then None else Some y)
+            → p'.descriptors ≡ (if b then descriptor_retired p.descriptors d else p.descriptors) → PartFits m l p'
+        by true own published descriptors = record {
+          free = λ n h. old.free n (ap (λ (y : DescriptorsState). has y.free n) (sym descriptors) ∙ h);
+          limbo = λ n h. ⊎_elim (old.limbo n)
+              (λ here. subst (λ k. k < descriptor_count l) (same_test y.descriptor d own ∙ sym (one_has d n here)) (old.published y is))
+              (either_has p.descriptors.limbo (d ∷ []) n (ap (λ (y : DescriptorsState). has y.limbo n) (sym descriptors) ∙ h));
+          published = λ x e. some_none x (sym published ∙ e);
+          read = read;
+          walked = λ place word h. old.walked place word (ap (λ (xs : List (ℕ × ℕ)). has_pair xs place word) (sym walk) ∙ h);
+        }
+        by false other published descriptors = record {
+          free = λ n h. old.free n (ap (λ (y : DescriptorsState). has y.free n) (sym descriptors) ∙ h);
+          limbo = λ n h. old.limbo n (ap (λ (y : DescriptorsState). has y.limbo n) (sym descriptors) ∙ h);
+          published = λ x e. old.published x (is ∙ (sym published ∙ e));
+          read = read;
+          walked = λ place word h. old.walked place word (ap (λ (xs : List (ℕ × ℕ)). has_pair xs place word) (sym walk) ∙ h);
+        }
 
     fill_fits : (slot : ℕ) (made : Option ℕ) → PartFits m l (inside.fill_loaded m l slot p q made found)
     fill_fits slot None = by_fields _ refl refl refl refl refl
@@ -142,7 +157,8 @@ module _ (m : Meaning) (l : Layout) (p : PartState) (old : PartFits m l p) where
 
     release_fits : (place : ℕ) → place < cell_count m l → PartFits m l (inside.lock_released m l place p q found)
     release_fits place low = if_fits (is_end (next_of m (inside.ended_more q))) _ _
-        (read_fits place found low _ refl refl (λ x e. over_fits p.published q.descriptor refl x e) refl refl)
+        (over_fits p.published q.descriptor refl _ refl refl refl (λ a word h. ⊎_elim (old.read a word)
+        (λ here. subst (λ n. n < cell_count m l) (sym here) low) (pair_more p.reads.cells place found a word h)))
         (read_fits place found low _ refl refl old.published refl refl)
 
     -- the place that a step meets is one of the table's
@@ -157,7 +173,7 @@ module _ (m : Meaning) (l : Layout) (p : PartState) (old : PartFits m l p) where
           (ap (λ (y : ReadsState). y.cells) read) (ap (λ (y : ReadsState). y.walk) read)
 
       line_fits : (kind : EventKind) (micro : Micro) → line_ask m l kind p.nodes.free q micro ≡ Some x → PartFits m l (line_after m l kind p q micro found)
-      line_fits kinds.Commit micro e = if_fits (inside.is_of_lock micro) _ _ commit_fits (by_fields _ refl refl refl refl refl)
+      line_fits kinds.Commit micro e = by_fields _ refl refl refl refl refl
       line_fits (kinds.LoadCell None) micro e = let h = asked.load_cell_asked q x micro e in
           reads _ (inside.place_of micro) (met h.place _ h.access h.is (ap inside.place_of h.step.1)) refl refl refl
       line_fits kinds.ExchangeCell micro e = let h = asked.exchange_cell_asked q x l micro e in
@@ -180,7 +196,7 @@ module _ (m : Meaning) (l : Layout) (p : PartState) (old : PartFits m l p) where
           reads _ (inside.place_of micro) (met h.place _ h.access h.is (ap inside.place_of h.step.1)) refl refl refl
       line_fits kinds.OutcomeLoad micro e = let h = asked.outcome_load_asked q x micro e in
           reads _ (inside.place_of micro) (met h.place _ h.access h.is (ap inside.place_of h.step.1)) refl refl refl
-      line_fits kinds.OutcomeCommit micro e = commit_fits
+      line_fits kinds.OutcomeCommit micro e = by_fields _ refl refl refl refl refl
       line_fits (kinds.LoadCell (Some place)) micro e = some_none x e
       line_fits _ micro e = unchanged
 
@@ -192,37 +208,28 @@ module _ (m : Meaning) (l : Layout) (p : PartState) (old : PartFits m l p) where
           by true e = line_fits kind (next_of m q) e
           by false e = by_fields _ refl refl refl refl refl
 
-  -- the end of a scan moves descriptors from limbo to the free list
-  collected_fits : (epoch : ℕ) → PartFits m l (outside.collected p epoch)
-  collected_fits epoch = record {
-    free = λ d h. ⊎_elim (old.free d) (λ new. old.limbo d (filtered_has (is_old epoch) p.descriptors.limbo d new)) (either_has p.descriptors.free _ d h);
-    limbo = λ d h. old.limbo d (filtered_has (λ x. not (is_old epoch x)) p.descriptors.limbo d h);
+  -- the end of a sweep moves descriptors from limbo to the free list
+  sweep_fits : (last : Bool) (words : List ℕ) (guards : GuardsState)
+      → PartFits m l (record p { descriptors = (if last then descriptors_swept words p.descriptors else p.descriptors); guards = guards })
+  sweep_fits true words guards = record {
+    free = λ d h. ⊎_elim (old.free d) (λ new. old.limbo d (filtered_has (is_unnamed words) p.descriptors.limbo d new)) (either_has p.descriptors.free _ d h);
+    limbo = λ d h. old.limbo d (filtered_has (λ x. not (is_unnamed words x)) p.descriptors.limbo d h);
     published = old.published;
     read = old.read;
     walked = old.walked;
   }
+  sweep_fits false words guards = by_fields _ refl refl refl refl refl
 
   module _ (found : ℕ) where
     scan_fits : (stage : Stage) → PartFits m l (outside.scan_one_after l p stage found)
     scan_fits (stages.Scanning x next clear) = if_fits (nat_le next l.runners) _ _
-        (if_fits (next == l.runners && not ((clear && is_clear x found) && nat_lt x last_epoch)) _ _ (collected_fits x)
+        (if_fits (next == l.runners && not ((clear && is_clear x found) && nat_lt x last_epoch)) _ _ (by_fields _ refl refl refl refl refl)
         (by_fields _ refl refl refl refl refl)) unchanged
     scan_fits _ = unchanged
 
     advance_fits : (stage : Stage) → PartFits m l (outside.advance_after p stage)
-    advance_fits (stages.Scanning x next clear) = if_fits (nat_lt x last_epoch) _ _ (collected_fits (x + 1)) unchanged
+    advance_fits (stages.Scanning x next clear) = if_fits (nat_lt x last_epoch) _ _ (by_fields _ refl refl refl refl refl) unchanged
     advance_fits _ = unchanged
-
-    retire_fits : (o : Option Published) → p.published ≡ o → PartFits m l (outside.retire_after p o found)
-    retire_fits None is = unchanged
-    retire_fits (Some x) is = record {
-      free = old.free;
-      limbo = λ d h. ⊎_elim (old.limbo d) (λ here. subst (λ n. n < descriptor_count l) (sym here) (old.published x is))
-          (slots_more p.descriptors.limbo (record { slot = x.descriptor; epoch = found }) d h);
-      published = λ y e. some_none y e;
-      read = old.read;
-      walked = old.walked;
-    }
 
     hold_fits : (t : Thunk) (d : ℕ) → t.lock < cell_count m l → d < descriptor_count l → PartFits m l (outside.hold_after t d p found)
     hold_fits t d low few = if_fits (found == t.word) _ _
@@ -273,5 +280,5 @@ module _ (m : Meaning) (l : Layout) (p : PartState) (old : PartFits m l p) where
     outside_fits rs r (kinds.Hold t d) x fit e = let h = outside_asked.hold_asked m l rs r t d p x e in
         hold_fits t d (subst (λ (y : Spot × Access). Fits (sizes_for m l rs) y.0) (sym h.is) fit) h.few
     outside_fits rs r (kinds.LoadThunk (Some d)) x fit e = by_fields _ refl refl refl refl refl
-    outside_fits rs r kinds.EpochForRetire x fit e = retire_fits p.published refl
+    outside_fits rs r (kinds.LoadGuard n) x fit e = sweep_fits (is_last_guard l p.guards.looked) _ _
     outside_fits rs r _ x fit e = by_fields _ refl refl refl refl refl

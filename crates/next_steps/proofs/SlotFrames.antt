@@ -1,11 +1,10 @@
 -- The steps that leave a runner's slots with it as they are.
 use Rattle.std.specs.Prelude.{◌==◌, nat_lt, Bool, true, false, if◌then◌else◌}
-use Rattle.std.proofs.Common.{◌≡◌, ℕ, refl, ap, Option, Some, None}
+use Rattle.std.proofs.Common.{◌≡◌, ℕ, refl, ap, Some}
 use Rattle.machine_states.specs.body_terms.specs.Line.{is_end}
 use Rattle.machine_states.specs.body_terms.specs.declared.micro.Micro.{Micro}
 use Rattle.machine_states.specs.table_words.specs.declared.layout.Layout.{Layout}
 use Rattle.machine_states.specs.structure_laws.specs.Meaning.{Meaning}
-use Rattle.machine_states.specs.runner_parts.specs.declared.entries.Published.{Published}
 use Rattle.machine_states.specs.runner_parts.specs.declared.event.EventKind.{EventKind}
 use Rattle.machine_states.specs.runner_parts.specs.declared.event.EventKind.TheVariants as kinds
 use Rattle.machine_states.specs.runner_parts.specs.State.{RunState, PartState, NodesState}
@@ -13,7 +12,6 @@ use Rattle.machine_states.specs.runner_parts.specs.Lists.{slot_retired}
 use Rattle.machine_states.specs.runner_steps.specs.Sections.{is_open_run, next_of}
 use Rattle.machine_states.specs.runner_steps.specs.InRun.{last_clock}
 use Rattle.machine_states.specs.runner_steps.specs.AfterInRun as inside
-use Rattle.machine_states.specs.runner_steps.specs.AfterOutside as outside
 use Rattle.machine_states.specs.runner_steps.specs.After.{line_after, inside_after, outside_after}
 use Rattle.next_steps.proofs.Filling.{fills_slot}
 use Rattle.next_steps.proofs.RoomParts.{SameNodes, same_nodes}
@@ -42,7 +40,7 @@ module _ (m : Meaning) (l : Layout) (p : PartState) (found : ℕ) where
     retired_same slot false = same_nodes p.nodes
 
     line_same : (kind : EventKind) (micro : Micro) → fills_slot kind ≡ false → Same p (line_after m l kind p q micro found)
-    line_same kinds.Commit micro h = either (inside.is_of_lock micro) _ _ (same _ refl) (same _ refl)
+    line_same kinds.Commit micro h = same _ refl
     line_same (kinds.LoadCell place) micro h = same _ refl
     line_same kinds.ExchangeCell micro h = same _ refl
     line_same (kinds.PrivateLoad slot word) micro h = absurd (let z = h in cc)
@@ -73,10 +71,6 @@ module _ (m : Meaning) (l : Layout) (p : PartState) (found : ℕ) where
   moves_slots kinds.Advance = true
   moves_slots _ = false
 
-  retire_same : (o : Option Published) → Same p (outside.retire_after p o found)
-  retire_same None = same _ refl
-  retire_same (Some x) = same _ refl
-
   -- another step outside a run
   pub outside_slots : (kind : EventKind) → moves_slots kind ≡ false → Same p (outside_after m l kind p found)
   outside_slots kinds.EnterLoad h = same _ refl
@@ -94,5 +88,4 @@ module _ (m : Meaning) (l : Layout) (p : PartState) (found : ℕ) where
   outside_slots (kinds.PrivateStore slot word number) h = same _ refl
   outside_slots (kinds.Hold thunk d) h = either (found == thunk.word) _ _ (same _ refl) (same _ refl)
   outside_slots (kinds.LoadThunk (Some d)) h = same _ refl
-  outside_slots kinds.EpochForRetire h = retire_same p.published
   outside_slots _ h = same _ refl

@@ -15,7 +15,7 @@ use Rattle.machine_states.specs.structure_laws.specs.Meaning.{Meaning}
 use Rattle.machine_states.specs.structure_laws.specs.Laws.{Laws}
 use Rattle.machine_states.specs.runner_parts.specs.declared.event.EventKind.{EventKind}
 use Rattle.machine_states.specs.runner_parts.specs.declared.entries.Published.{Published}
-use Rattle.machine_states.specs.runner_parts.specs.State.{RunState, FinishedState, RecordsState, PartState}
+use Rattle.machine_states.specs.runner_parts.specs.State.{RunState, FinishedState, RecordsState, DescriptorsState, PartState}
 use Rattle.machine_states.specs.runner_steps.specs.Sections.{thunk_of, is_open_run, next_of}
 use Rattle.machine_states.specs.runner_steps.specs.InRun.{make_slot, last_clock, stamp_after}
 use Rattle.machine_states.specs.runner_steps.specs.Asks.{line_ask}
@@ -31,7 +31,7 @@ use Rattle.machine_invariant.specs.LogWords.{commits_to}
 use Rattle.machine_invariant.proofs.After.{log_words_after}
 use Rattle.next_steps.specs.Steps.{slot_in, kind_at, ask_at, opening_kind, opened_next, has_slot}
 use Rattle.next_steps.specs.Enabled.{Meets, IsInTable, NextIsEnabled}
-use Rattle.next_steps.specs.Stages.{IsInRun, filling_slot, nodes_taking, unfilled, run_behind, nodes_behind, reads_behind, published_behind, finished_behind, IsBehind, ThenOpened, ThenStepped}
+use Rattle.next_steps.specs.Stages.{IsInRun, filling_slot, nodes_taking, unfilled, run_behind, nodes_behind, reads_behind, published_behind, descriptors_behind, finished_behind, IsBehind, ThenOpened, ThenStepped}
 use Rattle.next_steps.proofs.Lines.{next_no_check}
 use Rattle.next_steps.proofs.Enabled.{IsKnown, next_enabled, reached_known}
 
@@ -92,6 +92,7 @@ module _ (m : Meaning) (l : Layout) (r : ℕ) (p : PartState) (q : RunState) (ru
     published : y.published ≡ z.published
     finished : y.records.finished ≡ z.records.finished
     descriptors : y.descriptors ≡ z.descriptors
+    guards : y.guards ≡ z.guards
     stage : y.stage ≡ z.stage
     present : y.gone ≡ z.gone
 
@@ -103,6 +104,7 @@ module _ (m : Meaning) (l : Layout) (r : ℕ) (p : PartState) (q : RunState) (ru
     published = ap (λ (w : PartState). w.published) e;
     finished = ap (λ (w : PartState). w.records.finished) e;
     descriptors = ap (λ (w : PartState). w.descriptors) e;
+    guards = ap (λ (w : PartState). w.guards) e;
     stage = ap (λ (w : PartState). w.stage) e;
     present = ap (λ (w : PartState). w.gone) e;
   }
@@ -118,6 +120,7 @@ module _ (m : Meaning) (l : Layout) (r : ℕ) (p : PartState) (q : RunState) (ru
         published = h.published;
         finished = noted_finished l r kind x.0 x.1 found (after_by m l kind p p.run found).records ∙ h.finished;
         descriptors = h.descriptors;
+        guards = h.guards;
         stage = h.stage;
         present = h.present;
       }
@@ -160,14 +163,15 @@ module _ (m : Meaning) (l : Layout) (p : PartState) (q : RunState) (runs : p.run
   behind : (micro : Micro) (p' : PartState) → p'.run ≡ run_behind m l p q micro found → p'.nodes ≡ nodes_behind p q micro found
       → p'.reads ≡ reads_behind p q micro found → p'.published ≡ published_behind m p q micro
       → p'.records.finished ≡ finished_behind m l p q micro
-      → p'.descriptors ≡ p.descriptors → p'.stage ≡ p.stage → p'.gone ≡ p.gone → Behind micro p'
-  behind micro p' run nodes reads published finished descriptors stage present = record {
+      → p'.descriptors ≡ descriptors_behind m p q micro → p'.guards ≡ p.guards → p'.stage ≡ p.stage → p'.gone ≡ p.gone → Behind micro p'
+  behind micro p' run nodes reads published finished descriptors guards stage present = record {
     run = run;
     nodes = nodes;
     reads = reads;
     published = published;
     finished = finished;
     descriptors = descriptors;
+    guards = guards;
     stage = stage;
     present = present;
   }
@@ -180,16 +184,17 @@ module _ (m : Meaning) (l : Layout) (p : PartState) (q : RunState) (runs : p.run
     published : p'.published ≡ p.published
     finished : p'.records.finished ≡ p.records.finished
     descriptors : p'.descriptors ≡ p.descriptors
+    guards : p'.guards ≡ p.guards
     stage : p'.stage ≡ p.stage
     present : p'.gone ≡ p.gone
 
   loads : (made : Option ℕ) (slot : ℕ) → Loads made slot (inside.fill_loaded m l slot p q made found)
-  loads None slot = record { run = refl; nodes = refl; reads = refl; published = refl; finished = refl; descriptors = refl; stage = refl; present = refl }
-  loads (Some t) slot = record { run = refl; nodes = refl; reads = refl; published = refl; finished = refl; descriptors = refl; stage = refl; present = refl }
+  loads None slot = record { run = refl; nodes = refl; reads = refl; published = refl; finished = refl; descriptors = refl; guards = refl; stage = refl; present = refl }
+  loads (Some t) slot = record { run = refl; nodes = refl; reads = refl; published = refl; finished = refl; descriptors = refl; guards = refl; stage = refl; present = refl }
 
   load_behind : (cell log : ℕ) → Behind (micros.PrivateLoad cell log) (inside.fill_loaded m l (slot_in (make_slot q.made p.nodes.free)) p q q.made found)
   load_behind cell log = let h = loads q.made (slot_in (make_slot q.made p.nodes.free)) in
-      behind (micros.PrivateLoad cell log) _ h.run h.nodes h.reads h.published h.finished h.descriptors h.stage h.present
+      behind (micros.PrivateLoad cell log) _ h.run h.nodes h.reads h.published h.finished h.descriptors h.guards h.stage h.present
 
   -- a Make's commit
   commit_behind : (log : ℕ) (o : Option ℕ) → q.made ≡ o → is_some o ≡ true → Behind (micros.MakeCommit log) (inside.make_committed m l p q q.made found)
@@ -199,7 +204,7 @@ module _ (m : Meaning) (l : Layout) (p : PartState) (q : RunState) (runs : p.run
       subst (λ (o : Option ℕ). Behind (micros.MakeCommit log) (inside.make_committed m l p q o found)) (sym made)
       (behind (micros.MakeCommit log) (inside.make_committed m l p q (Some slot) found)
       (ap (λ n. Some (inside.agrees m l (unfilled q) (written_once found (n + 1)))) (sym same))
-      (ap (λ n. inside.made p q n found) (sym same)) refl refl refl refl refl refl)
+      (ap (λ n. inside.made p q n found) (sym same)) refl refl refl refl refl refl refl)
 
   -- a release, the last one or another
   record IsPart (y : PartState) (place : ℕ) : Type 0 where
@@ -208,27 +213,32 @@ module _ (m : Meaning) (l : Layout) (p : PartState) (q : RunState) (runs : p.run
     published : y.published ≡ p.published
     finished : y.records.finished ≡ p.records.finished
     descriptors : y.descriptors ≡ p.descriptors
+    guards : y.guards ≡ p.guards
     stage : y.stage ≡ p.stage
     present : y.gone ≡ p.gone
 
   release_behind : (place word : ℕ) → Behind (micros.Release place word) (inside.lock_released m l place p q found)
   release_behind place word = by (is_end (next_of m (inside.ended_more q))) refl (record p { reads = cell_read p.reads place found })
-      (record { nodes = refl; reads = refl; published = refl; finished = refl; descriptors = refl; stage = refl; present = refl })
+      (record { nodes = refl; reads = refl; published = refl; finished = refl; descriptors = refl; guards = refl; stage = refl; present = refl })
     where
       by : (b : Bool) → is_end (next_of m (inside.ended_more q)) ≡ b → (y : PartState) → IsPart y place
           → Behind (micros.Release place word) (if b then inside.run_over m l y (inside.ended_more q) else inside.with_run y (inside.ended_more q))
       by true e y is = behind (micros.Release place word) _
           (sym (ap (λ b. if b then None else Some (inside.ended_more q)) e)) is.nodes is.reads
-          (ap (λ (o : Option Published). inside.over_if o q.descriptor) is.published
-          ∙ sym (ap (λ b. if b then inside.over_if p.published q.descriptor else p.published) e))
+          (ap (λ (o : Option Published). inside.kept_unless o q.descriptor) is.published
+          ∙ sym (ap (λ b. if b then inside.kept_unless p.published q.descriptor else p.published) e))
           (ap (λ (fs : List FinishedState). fs ++ inside.finished_of m l (inside.ended_more q) ∷ []) is.finished
           ∙ sym (ap (λ b. if b then p.records.finished ++ inside.finished_of m l (inside.ended_more q) ∷ [] else p.records.finished) e))
-          is.descriptors is.stage is.present
+          (ap (λ (ds : DescriptorsState). inside.retired_if ds y.published q.descriptor) is.descriptors
+          ∙ ap (λ (o : Option Published). inside.retired_if p.descriptors o q.descriptor) is.published
+          ∙ sym (ap (λ b. if b then inside.retired_if p.descriptors p.published q.descriptor else p.descriptors) e))
+          is.guards is.stage is.present
       by false e y is = behind (micros.Release place word) _
           (sym (ap (λ b. if b then None else Some (inside.ended_more q)) e)) is.nodes is.reads
-          (is.published ∙ sym (ap (λ b. if b then inside.over_if p.published q.descriptor else p.published) e))
+          (is.published ∙ sym (ap (λ b. if b then inside.kept_unless p.published q.descriptor else p.published) e))
           (is.finished ∙ sym (ap (λ b. if b then p.records.finished ++ inside.finished_of m l (inside.ended_more q) ∷ [] else p.records.finished) e))
-          is.descriptors is.stage is.present
+          (is.descriptors ∙ sym (ap (λ b. if b then inside.retired_if p.descriptors p.published q.descriptor else p.descriptors) e))
+          is.guards is.stage is.present
 
   stamp_behind : nat_lt q.word last_clock ≡ true → Behind micros.StampExchange (inside.stamp_agreed m l p q found)
   stamp_behind low = subst (λ b. Behind micros.StampExchange (if b
@@ -237,30 +247,30 @@ module _ (m : Meaning) (l : Layout) (p : PartState) (q : RunState) (runs : p.run
         records = learned p.records (thunk_of q.opened).request false (written_once found (stamp_after q.word));
       }
       else p)) (sym low) (behind micros.StampExchange _ refl refl refl refl
-      (learned_finished p.records (thunk_of q.opened).request false (written_once found (stamp_after q.word))) refl refl refl)
+      (learned_finished p.records (thunk_of q.opened).request false (written_once found (stamp_after q.word))) refl refl refl refl)
 
   -- the step that stands next, where it is one of those that a run makes
   step_behind : (micro : Micro) → is_check micro ≡ false → is_end micro ≡ false → (micro ≡ micros.StampExchange → nat_lt q.word last_clock ≡ true)
       → ((log : ℕ) → micro ≡ micros.MakeCommit log → is_some q.made ≡ true) → Behind micro (line_after m l (kind_at p q micro) p q micro found)
-  step_behind (micros.LoadCell place log) check over stamp made = behind (micros.LoadCell place log) _ refl refl refl refl refl refl refl refl
-  step_behind (micros.Commit place log) check over stamp made = behind (micros.Commit place log) _ refl refl refl refl refl refl refl refl
-  step_behind (micros.NestedLoad place log) check over stamp made = behind (micros.NestedLoad place log) _ refl refl refl refl refl refl refl refl
-  step_behind (micros.NestedCommit place log) check over stamp made = behind (micros.NestedCommit place log) _ refl refl refl refl refl refl refl refl
-  step_behind (micros.NestedHold place word) check over stamp made = behind (micros.NestedHold place word) _ refl refl refl refl refl refl refl refl
-  step_behind (micros.OutcomeLoad place log) check over stamp made = behind (micros.OutcomeLoad place log) _ refl refl refl refl refl refl refl refl
-  step_behind (micros.OutcomeCommit place log) check over stamp made = behind (micros.OutcomeCommit place log) _ refl refl refl refl refl refl refl refl
+  step_behind (micros.LoadCell place log) check over stamp made = behind (micros.LoadCell place log) _ refl refl refl refl refl refl refl refl refl
+  step_behind (micros.Commit place log) check over stamp made = behind (micros.Commit place log) _ refl refl refl refl refl refl refl refl refl
+  step_behind (micros.NestedLoad place log) check over stamp made = behind (micros.NestedLoad place log) _ refl refl refl refl refl refl refl refl refl
+  step_behind (micros.NestedCommit place log) check over stamp made = behind (micros.NestedCommit place log) _ refl refl refl refl refl refl refl refl refl
+  step_behind (micros.NestedHold place word) check over stamp made = behind (micros.NestedHold place word) _ refl refl refl refl refl refl refl refl refl
+  step_behind (micros.OutcomeLoad place log) check over stamp made = behind (micros.OutcomeLoad place log) _ refl refl refl refl refl refl refl refl refl
+  step_behind (micros.OutcomeCommit place log) check over stamp made = behind (micros.OutcomeCommit place log) _ refl refl refl refl refl refl refl refl refl
   step_behind (micros.PrivateLoad cell log) check over stamp made = load_behind cell log
-  step_behind (micros.PrivateStore cell log value) check over stamp made = behind (micros.PrivateStore cell log value) _ refl refl refl refl refl refl refl refl
+  step_behind (micros.PrivateStore cell log value) check over stamp made = behind (micros.PrivateStore cell log value) _ refl refl refl refl refl refl refl refl refl
   step_behind (micros.MakeCommit log) check over stamp made = commit_behind log q.made refl (made log refl)
-  step_behind micros.ClockLoad check over stamp made = behind micros.ClockLoad _ refl refl refl refl refl refl refl refl
+  step_behind micros.ClockLoad check over stamp made = behind micros.ClockLoad _ refl refl refl refl refl refl refl refl refl
   step_behind micros.StampExchange check over stamp made = stamp_behind (stamp refl)
-  step_behind micros.ClockRaise check over stamp made = behind micros.ClockRaise _ refl refl refl refl refl refl refl refl
-  step_behind (micros.ExchangeCell place log value) check over stamp made = behind (micros.ExchangeCell place log value) _ refl refl refl refl refl refl refl refl
-  step_behind (micros.EpochForRetire slot log) check over stamp made = behind (micros.EpochForRetire slot log) _ refl refl refl refl refl refl refl refl
-  step_behind (micros.RetireCommit slot log) check over stamp made = behind (micros.RetireCommit slot log) _ refl refl refl refl refl refl refl refl
+  step_behind micros.ClockRaise check over stamp made = behind micros.ClockRaise _ refl refl refl refl refl refl refl refl refl
+  step_behind (micros.ExchangeCell place log value) check over stamp made = behind (micros.ExchangeCell place log value) _ refl refl refl refl refl refl refl refl refl
+  step_behind (micros.EpochForRetire slot log) check over stamp made = behind (micros.EpochForRetire slot log) _ refl refl refl refl refl refl refl refl refl
+  step_behind (micros.RetireCommit slot log) check over stamp made = behind (micros.RetireCommit slot log) _ refl refl refl refl refl refl refl refl refl
   step_behind (micros.ReplyExchange reply) check over stamp made = behind (micros.ReplyExchange reply) _ refl refl refl refl
-      (learned_finished p.records (thunk_of q.opened).request true (written_once found reply)) refl refl refl
-  step_behind micros.SetDone check over stamp made = behind micros.SetDone _ refl refl refl refl refl refl refl refl
+      (learned_finished p.records (thunk_of q.opened).request true (written_once found reply)) refl refl refl refl
+  step_behind micros.SetDone check over stamp made = behind micros.SetDone _ refl refl refl refl refl refl refl refl refl
   step_behind (micros.Release place word) check over stamp made = release_behind place word
   step_behind micros.End check over stamp made = absurd (let z = over in cc)
   step_behind (micros.CheckWord place log word) check over stamp made = absurd (let z = check in cc)
@@ -306,6 +316,7 @@ module _ (m : Meaning) (laws : Laws m) (l : Layout) (limits : IsWithinLimits l) 
         published = same.published ∙ h.published;
         finished = same.finished ∙ h.finished;
         descriptors = same.descriptors ∙ h.descriptors;
+        guards = same.guards ∙ h.guards;
         stage = same.stage ∙ h.stage;
         present = same.present ∙ h.present;
       }

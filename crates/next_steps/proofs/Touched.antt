@@ -170,7 +170,8 @@ module _ (m : Meaning) (l : Layout) where
     outside_may (kinds.Hold thunk d) e = subst (May (kinds.Hold thunk d)) (outside.hold_asked m l rs r thunk d p x e).is
         (at_spot (kinds.Hold thunk d) (spots.Cell thunk.lock) (Exchanges thunk.word (held_word d thunk.word)) refl)
     outside_may (kinds.LoadThunk (Some d)) e = subst (May (kinds.LoadThunk (Some d))) (outside.open_asked d p x e).3 refl
-    outside_may kinds.EpochForRetire e = subst (May kinds.EpochForRetire) (outside.retire_asked p x e).4 refl
+    outside_may (kinds.Guard d) e = subst (May (kinds.Guard d)) (outside.guard_asked l r d p x e).is refl
+    outside_may (kinds.LoadGuard n) e = subst (May (kinds.LoadGuard n)) (outside.load_guard_asked l n p x e).is refl
     outside_may (kinds.ReadPlan thunk) e = subst (May (kinds.ReadPlan thunk)) (reads.read_plan_asked r thunk p x e).is refl
     outside_may kinds.ReadClock e = subst (May kinds.ReadClock) (reads.read_clock_asked p x e).is refl
     outside_may kinds.ReadReply e = subst (May kinds.ReadReply) (reads.read_reply_asked m l rs r p x e).is refl

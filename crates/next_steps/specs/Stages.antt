@@ -11,11 +11,11 @@ use Rattle.machine_states.specs.table_words.specs.declared.spot.Spot.{Spot}
 use Rattle.machine_states.specs.table_words.specs.declared.access.Access.{Access}
 use Rattle.machine_states.specs.structure_laws.specs.Meaning.{Meaning}
 use Rattle.machine_states.specs.runner_parts.specs.declared.entries.Published.{Published}
-use Rattle.machine_states.specs.runner_parts.specs.State.{RunState, FinishedState, NodesState, ReadsState, PartState}
-use Rattle.machine_states.specs.runner_parts.specs.Lists.{slot_taken, slot_retired, cell_read, lock_agreed}
+use Rattle.machine_states.specs.runner_parts.specs.State.{RunState, FinishedState, NodesState, DescriptorsState, ReadsState, PartState}
+use Rattle.machine_states.specs.runner_parts.specs.Lists.{slot_taken, slot_retired, cell_read}
 use Rattle.machine_states.specs.runner_steps.specs.Sections.{next_of}
 use Rattle.machine_states.specs.runner_steps.specs.InRun.{make_slot, stamp_after}
-use Rattle.machine_states.specs.runner_steps.specs.AfterInRun.{goes_on, agrees, made, ended_more, over_if, finished_of}
+use Rattle.machine_states.specs.runner_steps.specs.AfterInRun.{goes_on, agrees, made, ended_more, kept_unless, retired_if, finished_of}
 use Rattle.machine_states.specs.runner_steps.specs.After.{after}
 use Rattle.machine_states.specs.World.{World, seat_of}
 use Rattle.machine_states.specs.Reached.{Reached}
@@ -86,10 +86,8 @@ nodes_behind p q _ found = p.nodes
 abbrev pub reads_behind : PartState → RunState → Micro → ℕ → ReadsState
 reads_behind p q (micros.LoadCell place log) found = cell_read p.reads place found
 reads_behind p q (micros.NestedLoad place log) found = cell_read p.reads place found
-reads_behind p q (micros.NestedCommit place log) found = lock_agreed p.reads q.descriptor (written_once found q.word)
 reads_behind p q (micros.NestedHold place word) found = cell_read p.reads place found
 reads_behind p q (micros.OutcomeLoad place log) found = cell_read p.reads place found
-reads_behind p q (micros.OutcomeCommit place log) found = lock_agreed p.reads q.descriptor (written_once found q.word)
 reads_behind p q (micros.ExchangeCell place log value) found = cell_read p.reads place found
 reads_behind p q (micros.Release place word) found = cell_read p.reads place found
 reads_behind p q _ found = p.reads
@@ -97,8 +95,14 @@ reads_behind p q _ found = p.reads
 -- its own published section, and the runs that it has brought to their end: this one with its last release
 abbrev pub published_behind : Meaning → PartState → RunState → Micro → Option Published
 published_behind m p q (micros.Release place word) =
-    if is_end (next_of m (ended_more q)) then over_if p.published q.descriptor else p.published
+    if is_end (next_of m (ended_more q)) then kept_unless p.published q.descriptor else p.published
 published_behind m p q _ = p.published
+
+-- its own descriptors: with the last release of its own section's run that one's goes into limbo
+abbrev pub descriptors_behind : Meaning → PartState → RunState → Micro → DescriptorsState
+descriptors_behind m p q (micros.Release place word) =
+    if is_end (next_of m (ended_more q)) then retired_if p.descriptors p.published q.descriptor else p.descriptors
+descriptors_behind m p q _ = p.descriptors
 
 abbrev pub finished_behind : Meaning → Layout → PartState → RunState → Micro → List FinishedState
 finished_behind m l p q (micros.Release place word) = let f = p.records.finished in
@@ -113,7 +117,8 @@ pub record IsBehind (m : Meaning) (l : Layout) (p : PartState) (q : RunState) (m
   pub reads : p'.reads ≡ reads_behind p q micro found
   pub published : p'.published ≡ published_behind m p q micro
   pub finished : p'.records.finished ≡ finished_behind m l p q micro
-  pub descriptors : p'.descriptors ≡ p.descriptors
+  pub descriptors : p'.descriptors ≡ descriptors_behind m p q micro
+  pub guards : p'.guards ≡ p.guards
   pub stage : p'.stage ≡ p.stage
   pub present : p'.gone ≡ p.gone
 

@@ -7,7 +7,7 @@ use Rattle.std.proofs.lemmas.Bool.Decides.{nat_tests}
 use Rattle.machine_states.specs.map_history.specs.declared.op.Request.{Request}
 use Rattle.machine_states.specs.table_words.specs.declared.layout.Layout.{Layout}
 use Rattle.machine_states.specs.table_words.specs.declared.spot.Spot.{Spot}
-use Rattle.machine_states.specs.table_words.specs.declared.spot.Spot.TheVariants.{Seat, Epoch, Clock, Announcement, Stamp, Reply, Cell, ThunkWord, DoneWord, LogWord}
+use Rattle.machine_states.specs.table_words.specs.declared.spot.Spot.TheVariants.{Seat, Epoch, Clock, Announcement, Guard, Stamp, Reply, Cell, ThunkWord, DoneWord, LogWord}
 use Rattle.machine_states.specs.table_words.specs.declared.access.Access.{Access}
 use Rattle.machine_states.specs.table_words.specs.declared.access.Access.TheVariants.{Loads}
 use Rattle.machine_states.specs.table_words.specs.Access.{written}
@@ -48,6 +48,7 @@ elsewhere Epoch = inl refl
 elsewhere Seat = inr (record { kept = λ f v. refl; seen = λ n e. refl; unmoved = λ n e. refl })
 elsewhere Clock = inr (record { kept = λ f v. refl; seen = λ n e. refl; unmoved = λ n e. refl })
 elsewhere (Announcement i) = inr (record { kept = λ f v. refl; seen = λ n e. refl; unmoved = λ n e. refl })
+elsewhere (Guard i) = inr (record { kept = λ f v. refl; seen = λ n e. refl; unmoved = λ n e. refl })
 elsewhere (Stamp i) = inr (record { kept = λ f v. refl; seen = λ n e. refl; unmoved = λ n e. refl })
 elsewhere (Reply i) = inr (record { kept = λ f v. refl; seen = λ n e. refl; unmoved = λ n e. refl })
 elsewhere (Cell i) = inr (record { kept = λ f v. refl; seen = λ n e. refl; unmoved = λ n e. refl })

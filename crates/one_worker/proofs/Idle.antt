@@ -118,7 +118,7 @@ module _ (m : Meaning) (l : Layout) (y : PartState) (found : ℕ) where
     released place = either (is_end (next_of m (inside.ended_more q))) _ _ (same _ refl) (same _ refl)
 
     line_keeps : (kind : EventKind) → (kind ≡ kinds.MakeCommit → found ≡ 0 → ⊥) → (micro : Micro) → Keeps (line_after m l kind y q micro found)
-    line_keeps kinds.Commit lost micro = either (inside.is_of_lock micro) _ _ (same _ refl) (same _ refl)
+    line_keeps kinds.Commit lost micro = same _ refl
     line_keeps (kinds.LoadCell place) lost micro = same _ refl
     line_keeps kinds.ExchangeCell lost micro = same _ refl
     line_keeps (kinds.PrivateLoad slot word) lost micro = fill slot q.made
@@ -157,10 +157,6 @@ module _ (m : Meaning) (l : Layout) (y : PartState) (found : ℕ) where
   advance (stages.Scanning x next clear) = either (nat_lt x last_epoch) _ _ (collected (x + 1)) (same y refl)
   advance _ = same y refl
 
-  retire_section : (o : Option Published) → Keeps (outside.retire_after y o found)
-  retire_section None = same y refl
-  retire_section (Some x) = same _ refl
-
   hold : (t : Thunk) (d : ℕ) → Keeps (outside.hold_after t d y found)
   hold t d = either (found == t.word) _ _ (same _ refl) (same _ refl)
 
@@ -195,7 +191,6 @@ module _ (m : Meaning) (l : Layout) (y : PartState) (found : ℕ) where
   outside_keeps (kinds.PrivateStore slot word number) = same _ refl
   outside_keeps (kinds.Hold t d) = hold t d
   outside_keeps (kinds.LoadThunk (Some d)) = same _ refl
-  outside_keeps kinds.EpochForRetire = retire_section y.published
   outside_keeps kind = same _ refl
 
 one_here : (i : ℕ) → ◌≡◌ {A = ℕ} (cond (i == i) 1 0) 1

@@ -1,6 +1,6 @@
 -- What the worker has read stands over each step, as long as it has published nothing in its entry.
 use Rattle.std.specs.Prelude.{◌==◌, ◌⊎◌, Bool, true, false, slice_get, if◌then◌else◌}
-use Rattle.std.proofs.Common.{◌≡◌, ℕ, ◌<◌, ◌≤◌, List, [], refl, sym, ap, ◌∙◌, subst, ⊎_elim, inl, inr, Option, Some, None}
+use Rattle.std.proofs.Common.{◌≡◌, ℕ, suc, ◌<◌, ◌≤◌, List, [], length, refl, sym, ap, ◌∙◌, subst, ⊎_elim, inl, inr, arith, Option, Some, None}
 use Rattle.std.proofs.lemmas.Bool.{both_ways}
 use Rattle.machine_states.specs.epoch_core.specs.small_lemmas.proofs.Numbers.{equal_tested as same_test}
 use Rattle.machine_states.specs.map_history.specs.declared.op.Request.{Request}
@@ -19,7 +19,7 @@ use Rattle.machine_states.specs.runner_parts.specs.declared.event.EventKind.TheV
 use Rattle.machine_states.specs.runner_parts.specs.State.{RunState, PartState}
 use Rattle.machine_states.specs.runner_steps.specs.Asks.{ask_by}
 use Rattle.machine_states.specs.runner_steps.specs.Sections.{is_open_run}
-use Rattle.machine_states.specs.runner_parts.specs.Lists.{cell_read, holds_named, section_published, descriptor_taken}
+use Rattle.machine_states.specs.runner_parts.specs.Lists.{cell_read, descriptor_taken, published_seen}
 use Rattle.machine_states.specs.runner_steps.specs.AfterOutside.{published_by}
 use Rattle.machine_states.specs.runner_steps.specs.After.{after_by}
 use Rattle.machine_states.specs.epoch_core.specs.State.{is_entered}
@@ -34,9 +34,9 @@ use Rattle.resource_bounds.specs.reached_histories.specs.Kept.{link_of}
 use Rattle.runner_facts.specs.next_steps.proofs.Parts.{each_part}
 use Rattle.resource_bounds.specs.reached_histories.specs.Laws.{HasHistory}
 use Rattle.resource_bounds.specs.Versions.{open_count}
-use Rattle.one_worker.specs.Alone.{NoneIsOpen}
+use Rattle.one_worker.specs.Alone.{HasPublishedNone, NoneIsOpen}
 use Rattle.one_worker.proofs.Open.{owner, none_open}
-use Rattle.one_worker.proofs.Moves.{Stays, Enters, MovesBy, inside_moves, outside_moves}
+use Rattle.one_worker.proofs.Moves.{walk_count, read_count, Stays, Enters, MovesBy, inside_moves, outside_moves}
 use Rattle.one_worker.proofs.Idle.{idle_times, in_hand_idle, inside_keeps as inside_idle, outside_keeps as outside_idle}
 use Rattle.one_worker.proofs.Quiet.{Publishes, leaves, no_make}
 
@@ -49,10 +49,13 @@ pub record IsIdlePlace (m : Meaning) (s : Sight) (place : ℕ) : Type 0 where
   pub is : place ≡ cell_of m.fixed_cells slot cell
   pub idle : 1 ≤ idle_times (s.part runner).nodes slot
 
--- what the worker has published in this entry is noted there, and what it has read stands, but for cells of such slots
+-- what the worker reads in walks it has read; a publication in this entry shows in what it has read besides; and what it
+-- has read stands, but for cells of such slots
 pub record Holds (m : Meaning) (s : Sight) : Type 0 where
-  pub noted : (x : Published) → (s.part 0).published ≡ Some x → (s.part 0).reads.published ≡ [] → ⊥
-  pub read : (entry i place word : ℕ) → (s.part 0).stage ≡ stages.Entered entry → (s.part 0).reads.published ≡ []
+  pub few : walk_count (s.part 0).reads ≤ read_count (s.part 0).reads
+  pub noted : (x : Published) → (s.part 0).published ≡ Some x
+      → (suc (walk_count (s.part 0).reads) ≤ read_count (s.part 0).reads) × (suc x.walked ≤ read_count (s.part 0).reads)
+  pub read : (entry i place word : ℕ) → (s.part 0).stage ≡ stages.Entered entry → HasPublishedNone (s.part 0)
       → slice_get (s.part 0).reads.walk i ≡ Some (place, word) → (s.word (spots.Cell place) ≡ word) ⊎ IsIdlePlace m s place
 
 pair_same : (a b c d : ℕ) → ◌≡◌ {A = ℕ × ℕ} (a, b) (c, d) → (a ≡ c) × (b ≡ d)
@@ -93,7 +96,7 @@ module _ (m : Meaning) (l : Layout) (rs : List Request) (s s' : Sight) (r : ℕ)
   moves = subst (λ (t : Sight). At 0 (t.part 0)) (sym st.next)
       (each_part m l s r x At (λ i z records gone h. h) kind (joins m l rs kind r y x st.asked)
       (⊎_elim (λ stays. inl stays) (λ enters. inr (enters, refl)) stepped)
-      (λ i ne. inl (record { was = λ entry e. e; walk = inl refl; none = λ e. e; had = λ z is e. (z, is) })) 0)
+      (λ i ne. inl (record { was = λ entry e. e; walk = inl refl; few = λ h. h; noted = λ h noted. noted; none = λ noted h. h })) 0)
 
   -- who has published a section is entered
   not_entering : (z : Published) → own.published ≡ Some z → kind ≡ kinds.EnterAgain → 0 ≡ r → ⊥
@@ -111,28 +114,35 @@ module _ (m : Meaning) (l : Layout) (rs : List Request) (s s' : Sight) (r : ℕ)
       announced_there None e = (enter_again_asked y x e).0
       announced_there (Some q) e = cond_none (is_open_run q) x e
 
-  noted' : (z : Published) → (s'.part 0).published ≡ Some z → (s'.part 0).reads.published ≡ [] → ⊥
-  noted' z is none = ⊎_elim
-      (λ stays. let had = stays.had z is none in old.noted had.0 had.1 (stays.none none))
-      (λ enters. not_entering z (sym enters.0.own ∙ is) enters.0.is enters.1)
+  few' : walk_count (s'.part 0).reads ≤ read_count (s'.part 0).reads
+  few' = ⊎_elim
+      (λ stays. stays.few old.few)
+      (λ enters. let none = ap (λ (xs : List (ℕ × ℕ)). length xs) enters.0.walk in omega (arith, none))
       moves
 
-  module _ (none : (s'.part 0).reads.published ≡ []) (stays : Stays m l own found kind (s'.part 0).stage (s'.part 0).reads (s'.part 0).published)
+  noted' : (z : Published) → (s'.part 0).published ≡ Some z
+      → (suc (walk_count (s'.part 0).reads) ≤ read_count (s'.part 0).reads) × (suc z.walked ≤ read_count (s'.part 0).reads)
+  noted' z is = ⊎_elim
+      (λ stays. stays.noted old.few old.noted z is)
+      (λ enters. absurd (not_entering z (sym enters.0.own ∙ is) enters.0.is enters.1))
+      moves
+
+  module _ (none : HasPublishedNone (s'.part 0)) (stays : Stays m l own found kind (s'.part 0).stage (s'.part 0).reads (s'.part 0).published)
       (entry : ℕ) (entered' : (s'.part 0).stage ≡ stages.Entered entry) where
     entered : own.stage ≡ stages.Entered entry
     entered = stays.was entry entered'
 
+    -- so it was before
+    none_before : HasPublishedNone own
+    none_before = let h = stays.none old.noted (none.unpublished, none.walked) in record { unpublished = h.0; walked = h.1 }
+
     -- it has no section under way
     quiet : NoneIsOpen m s
-    quiet = none_open m l rs s before one (by own.published refl)
-      where
-        by : (o : Option Published) → own.published ≡ o → open_count o ≡ 0
-        by None is = refl
-        by (Some z) is = absurd (old.noted z is (stays.none none))
+    quiet = none_open m l rs s before one (ap open_count none_before.unpublished)
 
     -- nobody else publishes
     no_publication : (place : ℕ) → Publishes m l rs before.beside s whole quiet r kind x place → ⊥
-    no_publication place p = noted' (published_by p.thunk p.descriptor y) (ap (λ i. (s'.part i).published) (sym first) ∙ there) none
+    no_publication place p = none_some (published_by p.thunk p.descriptor y) (sym (ap (λ i. (s'.part i).published) (sym first) ∙ there) ∙ none.unpublished)
       where
         now : (after_by m l kind y y.run found).published ≡ Some (published_by p.thunk p.descriptor y)
         now = ap (λ k. (after_by m l k y y.run found).published) p.is
@@ -142,8 +152,9 @@ module _ (m : Meaning) (l : Layout) (rs : List Request) (s s' : Sight) (r : ℕ)
             by : (b : Bool) → b ≡ true → (if b then record y {
               published = Some (published_by p.thunk p.descriptor y);
               descriptors = descriptor_taken y.descriptors p.descriptor;
-              reads = section_published (cell_read y.reads p.thunk.lock found) p.descriptor;
-            } else record y { reads = holds_named (cell_read y.reads p.thunk.lock found) found }).published ≡ Some (published_by p.thunk p.descriptor y)
+              guards = published_seen y.guards p.descriptor;
+              reads = cell_read y.reads p.thunk.lock found;
+            } else record y { reads = cell_read y.reads p.thunk.lock found }).published ≡ Some (published_by p.thunk p.descriptor y)
             by true e = refl
             by false e = absurd (let z = e in cc)
 
@@ -194,7 +205,7 @@ module _ (m : Meaning) (l : Layout) (rs : List Request) (s s' : Sight) (r : ℕ)
             is = idle.is;
             idle = idle_stays idle.runner idle.slot idle.idle;
           }))
-          (old.read entry i place word entered (stays.none none) at)
+          (old.read entry i place word entered none_before at)
 
     -- a cell that was just read
     just_read : (place : ℕ) → kind ≡ kinds.LoadCell (Some place) → s'.word (spots.Cell place) ≡ found
@@ -220,6 +231,7 @@ module _ (m : Meaning) (l : Layout) (rs : List Request) (s s' : Sight) (r : ℕ)
 
   pub kept : Holds m s'
   kept = record {
+    few = few';
     noted = noted';
     read = λ entry i place word entered none at. ⊎_elim
         (λ stays. reads_on none stays entry entered i place word at)

@@ -48,18 +48,14 @@ module _ (m : Meaning) (l : Layout) (rs : List Request) (s : Sight) (stands : Ha
       rest : (k : ℕ) → k ≡ 1 → c.trace n % k ≡ 0
       rest k e = ap (λ i. c.trace n % i) e ∙ by_one (c.trace n)
 
-  -- who has published a section that isn't over is the worker
+  -- who has published a section is the worker
   pub owner : (r d : ℕ) → link_of (s.part r).published ≡ suc d → r ≡ 0
   owner r d e = sym (sound.sections.owned r d (stands.kept.published r ∙ e)).1 ∙ only (h.request d)
 
   module _ (quiet : open_count (s.part 0).published ≡ 0) where
     no_link : (o : Option Published) → open_count o ≡ 0 → link_of o ≡ 0
     no_link None e = refl
-    no_link (Some x) e = by x.over e
-      where
-        by : (b : Bool) → ◌≡◌ {A = ℕ} (cond b 0 1) 0 → ◌≡◌ {A = ℕ} (cond b 0 (suc x.descriptor)) 0
-        by true e = refl
-        by false e = absurd (omega (arith, e))
+    no_link (Some x) e = absurd (omega (arith, e))
 
     none : link_of (s.part 0).published ≡ 0
     none = no_link (s.part 0).published quiet
@@ -81,18 +77,11 @@ module _ (m : Meaning) (l : Layout) (rs : List Request) (s : Sight) (stands : Ha
         by (suc d) e =
             let live = whole.kept.agreement.named p d lock e in
             let there = whole.tied.publisher d live in
-            over (stands.beside.publications.runner d) there.0 there.1 there.2 there.0.over refl
+            owned (stands.beside.publications.runner d) there.0 there.1 there.2
           where
-            live_used : a.live d ≡ true → a.used d ≡ true
-            live_used live = whole.kept.agreement.live_used d live
-
-            over : (r : ℕ) (x : Published) → (s.part r).published ≡ Some x → x.descriptor ≡ d → (b : Bool) → x.over ≡ b → suc d ≡ 0
-            over r x is at true ended =
-                let live = whole.kept.agreement.named p d lock e in
-                let of_run : a.over d ≡ true = ap a.over (sym at) ∙ (whole.sections.tied r).over x is ended in
-                absurd ((whole.kept.agreement.sections d (live_used live)).over_unnamed of_run p lock e)
-            over r x is at false going =
-                let link : link_of (s.part r).published ≡ suc d = ap link_of is ∙ (ap (λ b. cond b 0 (suc x.descriptor)) going ∙ ap suc at) in
+            owned : (r : ℕ) (x : Published) → (s.part r).published ≡ Some x → x.descriptor ≡ d → suc d ≡ 0
+            owned r x is at =
+                let link : link_of (s.part r).published ≡ suc d = ap link_of is ∙ ap suc at in
                 let first : link_of (s.part 0).published ≡ suc d = ap (λ i. link_of (s.part i).published) (sym (owner r d link)) ∙ link in
                 let nothing = none in absurd (omega (arith, first, nothing))
 

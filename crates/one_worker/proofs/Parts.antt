@@ -15,7 +15,7 @@ use Rattle.machine_states.specs.epoch_core.specs.declared.stage.Stage.TheVariant
 use Rattle.machine_states.specs.runner_parts.specs.declared.event.EventKind.{EventKind}
 use Rattle.machine_states.specs.runner_parts.specs.declared.event.EventKind.TheVariants as kinds
 use Rattle.machine_states.specs.runner_parts.specs.State.{RunState, ReadsState, PartState}
-use Rattle.machine_states.specs.runner_parts.specs.Lists.{lock_agreed, holds_named, cell_read, section_published, descriptor_taken}
+use Rattle.machine_states.specs.runner_parts.specs.Lists.{cell_read, descriptor_taken, published_seen}
 use Rattle.machine_states.specs.runner_parts.specs.Tests.{has}
 use Rattle.machine_states.specs.runner_steps.specs.Sections.{is_open_run, next_of}
 use Rattle.machine_states.specs.epoch_core.specs.State.{last_epoch}
@@ -27,13 +27,14 @@ use Rattle.machine_states.proofs.Steps.{some_same, none_some}
 
 module _ (m : Meaning) (l : Layout) (y : PartState) (found : ℕ) (kind : EventKind) where
   module _ (reads : ReadsState) (published : Option Published) where
-    -- what is published was so before, with the same sections of this entry
+    -- the readings are as before, or one more
+    abbrev pub Grows : Type 0
+    Grows = (reads.cells ≡ y.reads.cells) ⊎ ((u : ℕ × ℕ) × (reads.cells ≡ y.reads.cells ++ u ∷ []))
+
+    -- what is published was so before
     pub record Had (x' : Published) : Type 0 where
-      pub section : Published
-      pub is : y.published ≡ Some section
-      pub descriptor : section.descriptor ≡ x'.descriptor
-      pub thunk : section.thunk ≡ x'.thunk
-      pub entry : y.reads.published ≡ reads.published
+      pub is : y.published ≡ Some x'
+      pub grows : Grows
 
     -- or it is published by the step
     pub record Published' (x' : Published) : Type 0 where
@@ -42,18 +43,24 @@ module _ (m : Meaning) (l : Layout) (y : PartState) (found : ℕ) (kind : EventK
       pub is : kind ≡ kinds.Hold thunk descriptor
       pub won : found ≡ thunk.word
       pub section : x' ≡ outside.published_by thunk descriptor y
-      pub entry : reads.published ≡ y.reads.published ++ descriptor ∷ []
+      pub read : reads.cells ≡ y.reads.cells ++ (thunk.lock, found) ∷ []
       pub walk : reads.walk ≡ y.reads.walk
 
     abbrev pub KeepsBy : Type 0
-    KeepsBy = (x' : Published) → published ≡ Some x' → (reads.published ≡ [] → ⊥) → Had x' ⊎ Published' x'
+    KeepsBy = (x' : Published) → published ≡ Some x' → (reads.cells ≡ [] → ⊥) → Had x' ⊎ Published' x'
 
   pub record Keeps (z : PartState) : Type 0 where
     pub by : KeepsBy z.reads z.published
 
-  as_before : (z : PartState) → z.reads.published ≡ y.reads.published → z.published ≡ y.published → Keeps z
-  as_before z reads own = record {
-    by = λ x' is some. inl (record { section = x'; is = sym own ∙ is; descriptor = refl; thunk = refl; entry = sym reads });
+  as_before : (z : PartState) → z.reads.cells ≡ y.reads.cells → z.published ≡ y.published → Keeps z
+  as_before z cells own = record {
+    by = λ x' is some. inl (record { is = sym own ∙ is; grows = inl cells });
+  }
+
+  -- one more reading
+  read_more : (z : PartState) (u : ℕ × ℕ) → z.reads.cells ≡ y.reads.cells ++ u ∷ [] → z.published ≡ y.published → Keeps z
+  read_more z u cells own = record {
+    by = λ x' is some. inl (record { is = sym own ∙ is; grows = inr (u, cells) });
   }
 
   either : (b : Bool) (z z' : PartState) → Keeps z → Keeps z' → Keeps (if b then z else z')
@@ -69,31 +76,23 @@ module _ (m : Meaning) (l : Layout) (y : PartState) (found : ℕ) (kind : EventK
     make None = as_before y refl refl
     make (Some t) = as_before _ refl refl
 
-    over_had : (o : Option Published) (x' : Published) → inside.over_if o q.descriptor ≡ Some x'
-        → (x : Published) × (o ≡ Some x) × (x.descriptor ≡ x'.descriptor) × (x.thunk ≡ x'.thunk)
+    over_had : (o : Option Published) (x' : Published) → inside.kept_unless o q.descriptor ≡ Some x' → o ≡ Some x'
     over_had None x' e = absurd (none_some x' (sym e))
-    over_had (Some x) x' e = let same = some_same _ x' e in
-        (x, refl, ap (λ (u : Published). u.descriptor) same, ap (λ (u : Published). u.thunk) same)
+    over_had (Some x) x' e = by (x.descriptor == q.descriptor) e
+      where
+        by : (b : Bool) → (if b then None else Some x) ≡ Some x' → Some x ≡ Some x'
+        by true e = absurd (none_some x' (sym e))
+        by false e = e
 
     released : (place : ℕ) → Keeps (inside.lock_released m l place y q found)
     released place = either (is_end (next_of m (inside.ended_more q))) _ _
-        (record {
-          by = λ x' is some. let had = over_had y.published x' is in
-              inl (record { section = had.0; is = had.1; descriptor = had.2; thunk = had.3; entry = refl });
-        })
-        (as_before _ refl refl)
-
-    agreed : (d word : ℕ) → (lock_agreed y.reads d word).published ≡ y.reads.published
-    agreed d word = by (has y.reads.published d)
-      where
-        by : (b : Bool) → (if b then holds_named y.reads word else y.reads).published ≡ y.reads.published
-        by true = refl
-        by false = refl
+        (record { by = λ x' is some. inl (record { is = over_had y.published x' is; grows = inr ((place, found), refl) }) })
+        (read_more _ (place, found) refl refl)
 
     line_keeps : (kind' : EventKind) (micro : Micro) → Keeps (line_after m l kind' y q micro found)
-    line_keeps kinds.Commit micro = either (inside.is_of_lock micro) _ _ (as_before _ (agreed q.descriptor _) refl) (as_before _ refl refl)
-    line_keeps (kinds.LoadCell place) micro = as_before _ refl refl
-    line_keeps kinds.ExchangeCell micro = as_before _ refl refl
+    line_keeps kinds.Commit micro = as_before _ refl refl
+    line_keeps (kinds.LoadCell place) micro = read_more _ _ refl refl
+    line_keeps kinds.ExchangeCell micro = read_more _ _ refl refl
     line_keeps (kinds.PrivateLoad slot word) micro = fill slot q.made
     line_keeps (kinds.PrivateStore slot word number) micro = as_before _ refl refl
     line_keeps kinds.MakeCommit micro = make q.made
@@ -105,10 +104,10 @@ module _ (m : Meaning) (l : Layout) (y : PartState) (found : ℕ) (kind : EventK
     line_keeps kinds.StampExchange micro = either (nat_lt q.word last_clock) _ _ (as_before _ refl refl) (as_before y refl refl)
     line_keeps kinds.ClockRaise micro = as_before _ refl refl
     line_keeps kinds.ReplyExchange micro = as_before _ refl refl
-    line_keeps kinds.NestedLoad micro = as_before _ refl refl
-    line_keeps kinds.NestedHold micro = as_before _ refl refl
-    line_keeps kinds.OutcomeLoad micro = as_before _ refl refl
-    line_keeps kinds.OutcomeCommit micro = as_before _ (agreed q.descriptor _) refl
+    line_keeps kinds.NestedLoad micro = read_more _ _ refl refl
+    line_keeps kinds.NestedHold micro = read_more _ _ refl refl
+    line_keeps kinds.OutcomeLoad micro = read_more _ _ refl refl
+    line_keeps kinds.OutcomeCommit micro = as_before _ refl refl
     line_keeps kind' micro = as_before y refl refl
 
     pub inside_keeps : (kind' : EventKind) → Keeps (inside_after m l kind' y q found)
@@ -123,10 +122,6 @@ module _ (m : Meaning) (l : Layout) (y : PartState) (found : ℕ) (kind : EventK
   advance (stages.Scanning x next clear) = either (nat_lt x last_epoch) _ _ (as_before _ refl refl) (as_before y refl refl)
   advance _ = as_before y refl refl
 
-  retire : (o : Option Published) → Keeps (outside.retire_after y o found)
-  retire None = as_before y refl refl
-  retire (Some x) = record { by = λ x' is some. absurd (none_some x' (sym is)) }
-
   hold : (t : Thunk) (d : ℕ) → kind ≡ kinds.Hold t d → Keeps (outside.hold_after t d y found)
   hold t d of_kind = by (found == t.word) refl
     where
@@ -136,8 +131,9 @@ module _ (m : Meaning) (l : Layout) (y : PartState) (found : ℕ) (kind : EventK
       by : (b : Bool) → (found == t.word) ≡ b → Keeps (if b then record y {
         published = Some (outside.published_by t d y);
         descriptors = descriptor_taken y.descriptors d;
-        reads = section_published (cell_read y.reads t.lock found) d;
-      } else record y { reads = holds_named (cell_read y.reads t.lock found) found })
+        guards = published_seen y.guards d;
+        reads = cell_read y.reads t.lock found;
+      } else record y { reads = cell_read y.reads t.lock found })
       by true e = record {
         by = λ x' is some. inr (record {
           thunk = t;
@@ -145,13 +141,13 @@ module _ (m : Meaning) (l : Layout) (y : PartState) (found : ℕ) (kind : EventK
           is = of_kind;
           won = same_number found t.word e;
           section = sym (some_same (outside.published_by t d y) x' is);
-          entry = refl;
+          read = refl;
           walk = refl;
         });
       }
-      by false e = as_before _ refl refl
+      by false e = read_more _ (t.lock, found) refl refl
 
-  -- a runner that enters has published nothing in its entry
+  -- a runner that enters has read nothing in its entry
   enters : Keeps (outside.entered y found)
   enters = record { by = λ x' is some. absurd (some refl) }
 
@@ -165,11 +161,10 @@ module _ (m : Meaning) (l : Layout) (y : PartState) (found : ℕ) (kind : EventK
   outside_keeps kinds.Advance is = advance y.stage
   outside_keeps kinds.Split is = either (nat_lt y.records.splits l.runners) _ _ (as_before _ refl refl) (as_before y refl refl)
   outside_keeps (kinds.Join worker) is = as_before _ refl refl
-  outside_keeps (kinds.LoadCell (Some place)) is = as_before _ refl refl
+  outside_keeps (kinds.LoadCell (Some place)) is = read_more _ (place, found) refl refl
   outside_keeps (kinds.LoadEntry request reply) is = as_before _ refl refl
   outside_keeps (kinds.PrivateLoad slot word) is = either (nat_lt slot (slot_count l m.fixed_slots)) _ _ (as_before _ refl refl) (as_before _ refl refl)
   outside_keeps (kinds.PrivateStore slot word number) is = as_before _ refl refl
   outside_keeps (kinds.Hold t d) is = hold t d is
   outside_keeps (kinds.LoadThunk (Some d)) is = as_before _ refl refl
-  outside_keeps kinds.EpochForRetire is = retire y.published
   outside_keeps kind' is = as_before _ refl refl

@@ -1,6 +1,6 @@
 -- So it is in every reached state with one worker.
 use Rattle.std.specs.Prelude.{slice_get}
-use Rattle.std.proofs.Common.{◌≡◌, List, [], le_of_eq, refl, sym, ap, ◌∙◌, Some, None}
+use Rattle.std.proofs.Common.{◌≡◌, ℕ, List, [], length, le_of_eq, refl, sym, ap, ◌∙◌, arith, Some, None}
 use Rattle.machine_states.specs.map_history.specs.declared.op.Request.{Request}
 use Rattle.machine_states.specs.table_words.specs.declared.layout.Layout.{Layout}
 use Rattle.machine_states.specs.table_words.specs.Limits.{IsWithinLimits}
@@ -33,7 +33,8 @@ module _ (m : Meaning) (laws : Laws m) (l : Layout) (limits : IsWithinLimits l) 
 
     first_has : (w : World) → IsFirst m l rs w → Holds m (sight m l rs w)
     first_has w first = record {
-      noted = λ x is none. none_some x (sym is ∙ unpublished);
+      few = let none = ap (λ (xs : List (ℕ × ℕ)). length xs) unread in omega (arith, none);
+      noted = λ x is. absurd (none_some x (sym is ∙ unpublished));
       read = λ entry i place word entered none at. absurd (none_some (place, word) (sym at ∙ ap (λ xs. slice_get xs i) unread));
     }
       where

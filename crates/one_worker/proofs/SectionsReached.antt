@@ -1,6 +1,6 @@
 -- So it is in every reached state with one worker.
 use Rattle.std.specs.Prelude.{◌==◌, ◌⊎◌, cond, not, Bool, true, false, slice_get, if◌then◌else◌}
-use Rattle.std.proofs.Common.{◌≡◌, ◌≢◌, ℕ, suc, ◌≤◌, List, [], ◌∷◌, ◌++◌, length, le_of_eq, refl, sym, ap, ◌∙◌, subst, ⊎_elim, inl, inr, arith, Option, Some, None}
+use Rattle.std.proofs.Common.{◌≡◌, ◌≢◌, ℕ, zero, suc, ◌<◌, ◌≤◌, List, [], ◌∷◌, ◌++◌, length, le_of_eq, refl, sym, ap, ◌∙◌, subst, ⊎_elim, inl, inr, arith, Option, Some, None}
 use Rattle.std.proofs.lemmas.Bool.{cases_lt}
 use Rattle.machine_states.specs.epoch_core.specs.small_lemmas.proofs.Numbers.{equal_tested as same_test}
 use Rattle.machine_states.specs.map_history.specs.declared.op.Request.{Request}
@@ -24,7 +24,7 @@ use Rattle.machine_states.specs.epoch_core.specs.declared.stage.Stage.TheVariant
 use Rattle.machine_states.specs.runner_parts.specs.declared.event.Event.{Event}
 use Rattle.machine_states.specs.runner_parts.specs.declared.event.EventKind.TheVariants as kinds
 use Rattle.machine_states.specs.runner_parts.specs.State.{RunState, NodesState, PartState}
-use Rattle.machine_states.specs.runner_parts.specs.Lists.{cell_read, holds_named, section_published, descriptor_taken}
+use Rattle.machine_states.specs.runner_parts.specs.Lists.{cell_read, descriptor_taken, published_seen}
 use Rattle.machine_states.specs.runner_steps.specs.Asks.{ask_by}
 use Rattle.machine_states.specs.runner_steps.specs.Sections.{is_open_run}
 use Rattle.machine_states.specs.runner_steps.specs.AfterOutside.{published_by}
@@ -49,6 +49,8 @@ use Rattle.resource_bounds.specs.machine_epochs.specs.Slots.{thunk_in}
 use Rattle.resource_bounds.specs.machine_epochs.proofs.FirstJoin as FirstJoin
 use Rattle.resource_bounds.specs.machine_epochs.proofs.OutsideAsked.{HoldAsked, hold_asked}
 use Rattle.resource_bounds.specs.machine_epochs.proofs.Places.{free_descriptor}
+use Rattle.machine_states.specs.epoch_core.specs.small_lemmas.proofs.Lists.{get_last}
+use Rattle.runner_facts.specs.machine_facts.specs.machine_agreement.proofs.Releases.{get_more}
 use Rattle.runner_facts.specs.machine_facts.specs.After.{AreFactsOfStep}
 use Rattle.runner_facts.specs.machine_facts.proofs.Following.{facts_after, step_facts_after}
 use Rattle.runner_facts.specs.machine_facts.specs.machine_invariant.specs.After.{AreAllowed}
@@ -63,17 +65,29 @@ use Rattle.one_worker.proofs.Idle.{idle_times}
 use Rattle.one_worker.proofs.Kept.{IsIdlePlace, Holds}
 use Rattle.one_worker.proofs.Places.{out, is_free, node, unread}
 use Rattle.one_worker.proofs.Reached.{holds}
-use Rattle.one_worker.specs.Lone.{LoneSectionsGoThrough}
+use Rattle.one_worker.specs.Alone.{HasPublishedNone}
+use Rattle.one_worker.specs.Lone.{IsLastReading, LoneSectionsGoThrough}
 use Rattle.one_worker.proofs.Parts.{Had, Published', KeepsBy, inside_keeps, outside_keeps}
 use Rattle.one_worker.proofs.Goes.{Goes}
 use Rattle.one_worker.proofs.SectionsKept.{kept}
 use Rattle.one_worker.proofs.Published.{published}
 use Rattle.one_worker.proofs.Ends.{ends_so}
 
-one_only : {A : Type 0} (xs : List A) (y z : A) → xs ++ y ∷ [] ≡ z ∷ [] → xs ≡ []
-one_only [] y z e = refl
-one_only (x ∷ []) y z e = absurd (let two = ap length e in omega (arith, two))
-one_only (x ∷ x' ∷ xs) y z e = absurd (let two = ap length e in omega (arith, two))
+-- what a list has it has with one more, and what it has then at a place below its end it had
+get_kept : {A : Type 0} (xs : List A) (f y : A) (i : ℕ) → slice_get xs i ≡ Some y → slice_get (xs ++ f ∷ []) i ≡ Some y
+get_kept [] f y i e = absurd (let z = e in cc)
+get_kept (x ∷ xs) f y zero e = e
+get_kept (x ∷ xs) f y (suc i) e = get_kept xs f y i e
+
+-- the last reading of a list was so without one more, if it isn't that
+last_before : (xs ys : List (ℕ × ℕ)) → (ys ≡ xs) ⊎ ((u : ℕ × ℕ) × (ys ≡ xs ++ u ∷ [])) → (at place word : ℕ) → suc at ≤ length xs
+    → IsLastReading ys at place word → IsLastReading xs at place word
+last_before xs ys (inl same) at place word low h = subst (λ (zs : List (ℕ × ℕ)). IsLastReading zs at place word) same h
+last_before xs ys (inr more) at place word low h = record {
+  here = ⊎_elim (λ before. before.1) (λ now. absurd (let end = now.0 in omega (arith, end, low)))
+      (get_more xs more.0 (place, word) at (ap (λ (zs : List (ℕ × ℕ)). slice_get zs at) (sym more.1) ∙ h.here));
+  last = λ i later e. h.last i later (ap (λ (zs : List (ℕ × ℕ)). slice_get zs i) more.1 ∙ get_kept xs more.0 (place, word) i e);
+}
 
 free_not_live : (a : Status) → a ≡ Free → a ≡ Live → ⊥
 free_not_live a one two = cc
@@ -90,9 +104,8 @@ module _ (m : Meaning) (l : Layout) (rs : List Request) (s : Sight) (history : H
   abbrev a : AgreementState
   a = history.beside.agreement
 
-  linked : (o : Bool) (e : ℕ) → cond o 0 (suc x.descriptor) ≡ suc e → e ≡ x.descriptor
-  linked true e h = absurd (omega (arith, h))
-  linked false e h = omega (arith, h)
+  linked : (e : ℕ) → suc x.descriptor ≡ suc e → e ≡ x.descriptor
+  linked e h = omega (arith, h)
 
   pub alone : (e : ℕ) → a.used e ≡ true → (a.section e).done ≡ 0 → e ≡ x.descriptor
   alone e used undone =
@@ -100,24 +113,20 @@ module _ (m : Meaning) (l : Layout) (rs : List Request) (s : Sight) (history : H
       let going : h.done e ≡ false = (history.joined.tied.sections e used).done ∙ ap (λ n. not (n == 0)) undone in
       let open_one = history.joined.sound.sections.published e (history.joined.tied.used e ∙ used) going in
       let first : h.published 0 ≡ suc e = ap h.published (sym (only m l rs s history one (h.request e))) ∙ open_one in
-      linked x.over e (sym (ap link_of is) ∙ (sym (history.kept.published 0) ∙ first))
+      linked e (sym (ap link_of is) ∙ (sym (history.kept.published 0) ∙ first))
 
   pub named : (p e : ℕ) → m.is_lock p ≡ true → value_of (s.word (spots.Cell p)) ≡ suc e → e ≡ x.descriptor
   named p e lock value =
       let here = ap value_of (whole.sections.words.cells p) ∙ value in
       let live = whole.kept.agreement.named p e lock here in
       let there = whole.tied.publisher e live in
-      by (history.beside.publications.runner e) there.0 there.1 there.2 here live there.0.over refl
+      by (history.beside.publications.runner e) there.0 there.1 there.2
     where
-      by : (r : ℕ) (y : Published) → (s.part r).published ≡ Some y → y.descriptor ≡ e → value_of (a.shared.cells p) ≡ suc e → a.live e ≡ true
-          → (b : Bool) → y.over ≡ b → e ≡ x.descriptor
-      by r y own at here live true ended =
-          let of_run : a.over e ≡ true = ap a.over (sym at) ∙ (whole.sections.tied r).over y own ended in
-          absurd ((whole.kept.agreement.sections e (whole.kept.agreement.live_used e live)).over_unnamed of_run p lock here)
-      by r y own at here live false going =
-          let link : link_of (s.part r).published ≡ suc e = ap link_of own ∙ (ap (λ b. cond b 0 (suc y.descriptor)) going ∙ ap suc at) in
+      by : (r : ℕ) (y : Published) → (s.part r).published ≡ Some y → y.descriptor ≡ e → e ≡ x.descriptor
+      by r y own at =
+          let link : link_of (s.part r).published ≡ suc e = ap link_of own ∙ ap suc at in
           let first : link_of (s.part 0).published ≡ suc e = ap (λ i. link_of (s.part i).published) (sym (owner m l rs s history one r e link)) ∙ link in
-          linked x.over e (sym (ap link_of is) ∙ first)
+          linked e (sym (ap link_of is) ∙ first)
 
   pub used_there : a.used x.descriptor ≡ true
   used_there = whole.tied.used x.descriptor ∙ ap is_out ((whole.slots.tied 0).published x is)
@@ -127,7 +136,7 @@ module _ (m : Meaning) (l : Layout) (rs : List Request) (s : Sight) (history : H
 
 -- the first section in its entry goes on
 abbrev pub Go : Meaning → Sight → Type 0
-Go m s = (x : Published) → (s.part 0).published ≡ Some x → (s.part 0).reads.published ≡ x.descriptor ∷ [] → Goes m s x.descriptor x.thunk
+Go m s = (x : Published) → (s.part 0).published ≡ Some x → IsLastReading (s.part 0).reads.cells x.walked x.thunk.lock x.thunk.word → Goes m s x.descriptor x.thunk
 
 -- one step
 module _ (m : Meaning) (l : Layout) (limits : IsWithinLimits l) (rs : List Request) (per_pair : ℕ) (planner : PlannerLaws m per_pair)
@@ -135,7 +144,7 @@ module _ (m : Meaning) (l : Layout) (limits : IsWithinLimits l) (rs : List Reque
     (st : Steps m l rs (sight m l rs w) (sight m l rs v) e.runner e.kind) (before : HasHistory m l rs (sight m l rs w))
     (after : HasHistory m l rs (sight m l rs v)) (one : l.runners ≡ 1) (read : Holds m (sight m l rs w)) (read' : Holds m (sight m l rs v))
     (old : Go m (sight m l rs w)) (x' : Published) (is' : ((sight m l rs v).part 0).published ≡ Some x')
-    (only' : ((sight m l rs v).part 0).reads.published ≡ x'.descriptor ∷ []) where
+    (first' : IsLastReading ((sight m l rs v).part 0).reads.cells x'.walked x'.thunk.lock x'.thunk.word) where
   abbrev s : Sight
   s = sight m l rs w
 
@@ -157,11 +166,11 @@ module _ (m : Meaning) (l : Layout) (limits : IsWithinLimits l) (rs : List Reque
   asked : ask_by m l rs r e.kind y y.run ≡ Some x
   asked = (unless_gone _ y.gone _ x st.asked).1
 
-  some : (s'.part 0).reads.published ≡ [] → ⊥
-  some z = let both = sym z ∙ only' in cc
+  some : (s'.part 0).reads.cells ≡ [] → ⊥
+  some z = let none = ap (λ (xs : List (ℕ × ℕ)). slice_get xs x'.walked) (sym z) ∙ first'.here in cc
 
   abbrev At : ℕ → PartState → Type 0
-  At i z = (x1 : Published) → z.published ≡ Some x1 → (z.reads.published ≡ [] → ⊥)
+  At i z = (x1 : Published) → z.published ≡ Some x1 → (z.reads.cells ≡ [] → ⊥)
       → Had m l (s.part i) found e.kind z.reads z.published x1 ⊎ (Published' m l (s.part i) found e.kind z.reads z.published x1 × (i ≡ r))
 
   stepped : KeepsBy m l y found e.kind (after_by m l e.kind y y.run found).reads (after_by m l e.kind y y.run found).published
@@ -175,7 +184,7 @@ module _ (m : Meaning) (l : Layout) (limits : IsWithinLimits l) (rs : List Reque
   at_first = subst (λ (t : Sight). At 0 (t.part 0)) (sym st.next)
       (each_part m l s r x At (λ i z records gone h. h) e.kind (joins m l rs e.kind r y x st.asked)
       (λ x1 is none. ⊎_elim (λ had. inl had) (λ new. inr (new, refl)) (stepped x1 is none))
-      (λ i ne x1 is none. inl (record { section = x1; is = is; descriptor = refl; thunk = refl; entry = refl })) 0)
+      (λ i ne x1 is none. inl (record { is = is; grows = inl refl })) 0)
 
   -- a publication that won
   module _ (t : Thunk) (d : ℕ) (hold : e.kind ≡ kinds.Hold t d) (none : y.run ≡ None) (won : found ≡ t.word) where
@@ -189,8 +198,9 @@ module _ (m : Meaning) (l : Layout) (limits : IsWithinLimits l) (rs : List Reque
         by : (b : Bool) → b ≡ true → (if b then record y {
           published = Some (published_by t d y);
           descriptors = descriptor_taken y.descriptors d;
-          reads = section_published (cell_read y.reads t.lock found) d;
-        } else record y { reads = holds_named (cell_read y.reads t.lock found) found }).published ≡ Some (published_by t d y)
+          guards = published_seen y.guards d;
+          reads = cell_read y.reads t.lock found;
+        } else record y { reads = cell_read y.reads t.lock found }).published ≡ Some (published_by t d y)
         by true is = refl
         by false is = absurd (let z = is in cc)
 
@@ -205,18 +215,14 @@ module _ (m : Meaning) (l : Layout) (limits : IsWithinLimits l) (rs : List Reque
   -- a section that was published before
   goes_on : Had m l (s.part 0) found e.kind (s'.part 0).reads (s'.part 0).published x' → Goes m s' x'.descriptor x'.thunk
   goes_on had =
-      subst (λ d. Goes m s' d x'.thunk) had.descriptor (subst (λ t. Goes m s' h.descriptor t) had.thunk
-      (kept m l limits rs (per_pair, planner.over l limits) s s' r e.kind st before h.descriptor h.thunk
-      (used_there m l rs s before one h had.is) (live_there m l rs s before one h had.is)
-      (facts.there.sound.sections.in_published.thunk 0 h had.is)
-      (λ k agreed. facts.leads.words.log h.descriptor k (facts.there.sound.sections.in_published.used 0 h had.is) agreed)
-      (λ done. facts.leads.words.done h.descriptor (facts.there.sound.sections.in_published.used 0 h had.is) done)
-      (alone m l rs s before one h had.is) (named m l rs s before one h had.is)
-      (λ t d hold none won. none_some h (sym had.is ∙ (ap (λ i. (s.part i).published) (sym (is_first t d hold none won)) ∙ (asked_hold t d hold none won).unpublished)))
-      (old h had.is (had.entry ∙ (only' ∙ ap (λ n. n ∷ []) (sym had.descriptor))))))
-    where
-      h : Published
-      h = had.section
+      kept m l limits rs (per_pair, planner.over l limits) s s' r e.kind st before x'.descriptor x'.thunk
+      (used_there m l rs s before one x' had.is) (live_there m l rs s before one x' had.is)
+      (facts.there.sound.sections.in_published.thunk 0 x' had.is)
+      (λ k agreed. facts.leads.words.log x'.descriptor k (facts.there.sound.sections.in_published.used 0 x' had.is) agreed)
+      (λ done. facts.leads.words.done x'.descriptor (facts.there.sound.sections.in_published.used 0 x' had.is) done)
+      (alone m l rs s before one x' had.is) (named m l rs s before one x' had.is)
+      (λ t d hold none won. none_some x' (sym had.is ∙ (ap (λ i. (s.part i).published) (sym (is_first t d hold none won)) ∙ (asked_hold t d hold none won).unpublished)))
+      (old x' had.is (last_before (s.part 0).reads.cells (s'.part 0).reads.cells had.grows x'.walked x'.thunk.lock x'.thunk.word (read.noted x' had.is).1 first'))
 
   -- a section that the step publishes
   module _ (new : Published' m l (s.part 0) found e.kind (s'.part 0).reads (s'.part 0).published x') (at : 0 ≡ r) where
@@ -242,8 +248,24 @@ module _ (m : Meaning) (l : Layout) (limits : IsWithinLimits l) (rs : List Reque
     thunk_of_it : x'.thunk ≡ t
     thunk_of_it = ap (λ (u : Published). u.thunk) new.section
 
-    unpublished : (s.part 0).reads.published ≡ []
-    unpublished = one_only (s.part 0).reads.published d x'.descriptor (sym new.entry ∙ only')
+    -- with the publication it read its lock last, so before it only in walks
+    unpublished : HasPublishedNone (s.part 0)
+    unpublished = record {
+      unpublished = ap (λ i. (s.part i).published) at ∙ ha.unpublished;
+      walked = ⊎_elim
+          (λ before. absurd (first'.last (length (s.part 0).reads.cells) (let low = before.0 in omega (arith, low)) at_end))
+          (λ now. let end = now.0 in omega (arith, end, walked))
+          (get_more (s.part 0).reads.cells (t.lock, found) (x'.thunk.lock, x'.thunk.word) x'.walked
+          (ap (λ (xs : List (ℕ × ℕ)). slice_get xs x'.walked) (sym new.read) ∙ first'.here));
+    }
+      where
+        walked : x'.walked ≡ length (s.part 0).reads.walk
+        walked = ap (λ (u : Published). u.walked) new.section
+
+        at_end : slice_get (s'.part 0).reads.cells (length (s.part 0).reads.cells) ≡ Some (x'.thunk.lock, x'.thunk.word)
+        at_end = ap (λ (xs : List (ℕ × ℕ)). slice_get xs (length (s.part 0).reads.cells)) new.read
+            ∙ (get_last (s.part 0).reads.cells (t.lock, found)
+            ∙ (ap (λ n. Some (t.lock, n)) new.won ∙ ap (λ (u : Thunk). Some (u.lock, u.word)) (sym thunk_of_it)))
 
     entered : (s.part 0).stage ≡ stages.Entered ha.entry
     entered = ap (λ i. (s.part i).stage) at ∙ ha.entered
@@ -267,11 +289,12 @@ module _ (m : Meaning) (l : Layout) (limits : IsWithinLimits l) (rs : List Reque
     won_part = record y {
       published = Some (published_by t d y);
       descriptors = descriptor_taken y.descriptors d;
-      reads = section_published (cell_read y.reads t.lock found) d;
+      guards = published_seen y.guards d;
+      reads = cell_read y.reads t.lock found;
     }
 
     abbrev lost_part : PartState
-    lost_part = record y { reads = holds_named (cell_read y.reads t.lock found) found }
+    lost_part = record y { reads = cell_read y.reads t.lock found }
 
     -- the nodes and the runs are as they were
     abbrev Same : PartState → Type 0
@@ -380,7 +403,7 @@ module _ (m : Meaning) (laws : Laws m) (l : Layout) (limits : IsWithinLimits l) 
       has : Go m (sight m l rs w)
 
     first_has : (w : World) → IsFirst m l rs w → Go m (sight m l rs w)
-    first_has w first x is only = absurd (none_some x (sym is ∙ unpublished))
+    first_has w first x is last = absurd (none_some x (sym is ∙ unpublished))
       where
         unpublished : ((sight m l rs w).part 0).published ≡ None
         unpublished = ap (λ (p : PartState). p.published) (first_parts m l w.parts first.parts 0)
@@ -407,6 +430,6 @@ module _ (m : Meaning) (laws : Laws m) (l : Layout) (limits : IsWithinLimits l) 
       let history = reached_have m laws l rs limits allowed w reached in
       let facts = facts_after m laws l rs reached.events w limits allowed reached.after in
       let x = first.section in
-      let goes = go one w reached x first.published (first.only ∙ ap (λ n. n ∷ []) (sym first.descriptor)) in
+      let goes = go one w reached x first.published first.first in
       ends_so m l rs (sight m l rs w) history x.descriptor x.thunk (used_there m l rs (sight m l rs w) history one x first.published)
       (facts.here.sound.sections.in_published.thunk 0 x first.published) goes r q runs (of ∙ sym first.descriptor) all

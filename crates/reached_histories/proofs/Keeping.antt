@@ -21,7 +21,7 @@ use Rattle.machine_states.specs.runner_steps.specs.After.{stepped, after, after_
 use Rattle.machine_states.specs.runner_steps.specs.AfterOutside as outside
 use Rattle.machine_states.specs.runner_steps.specs.Asks.{line_ask, opening_ask}
 use Rattle.machine_states.specs.runner_steps.specs.Sections.{is_open_run, next_of}
-use Rattle.machine_states.specs.runner_parts.specs.Lists.{descriptor_taken, section_published, cell_read, holds_named}
+use Rattle.machine_states.specs.runner_parts.specs.Lists.{descriptor_taken, published_seen, cell_read}
 use Rattle.machine_facts.specs.machine_invariant.proofs.Asked.{asked_by}
 use Rattle.machine_states.proofs.Sights.{some_none}
 use Rattle.machine_history.specs.history_core.specs.State.{Requests, HistoryState}
@@ -280,8 +280,9 @@ module _ (m : Meaning) (l : Layout) (rs : List Request) (s s' : Sight) (r d : â„
   won found e = subst (Î» b. IsPublished (if b then record (s.part r) {
     published = Some (outside.published_by t d (s.part r));
     descriptors = descriptor_taken (s.part r).descriptors d;
-    reads = section_published (cell_read (s.part r).reads t.lock found) d;
-  } else record (s.part r) { reads = holds_named (cell_read (s.part r).reads t.lock found) found })) (sym e) (record { known = refl; published = refl; link = refl })
+    guards = published_seen (s.part r).guards d;
+    reads = cell_read (s.part r).reads t.lock found;
+  } else record (s.part r) { reads = cell_read (s.part r).reads t.lock found })) (sym e) (record { known = refl; published = refl; link = refl })
 
   stepped_published : IsPublished (stepped m l (kinds.Hold t d) (s.part r) (s.word step.ask.0))
   stepped_published = by (s.part r).run refl

@@ -13,12 +13,9 @@ use Rattle.machine_states.specs.epoch_core.specs.Moves.{is_clear}
 use Rattle.machine_states.specs.epoch_core.specs.State.{last_epoch}
 use Rattle.machine_states.specs.epoch_core.specs.declared.stage.Stage.{Stage}
 use Rattle.machine_states.specs.epoch_core.specs.declared.stage.Stage.TheVariants as stages
-use Rattle.machine_states.specs.runner_parts.specs.declared.entries.Published.{Published}
 use Rattle.machine_states.specs.runner_parts.specs.declared.event.EventKind.{EventKind}
 use Rattle.machine_states.specs.runner_parts.specs.declared.event.EventKind.TheVariants as kinds
 use Rattle.machine_states.specs.runner_parts.specs.State.{RunState, ReadsState, PartState}
-use Rattle.machine_states.specs.runner_parts.specs.Lists.{holds_named, lock_agreed}
-use Rattle.machine_states.specs.runner_parts.specs.Tests.{has}
 use Rattle.machine_states.specs.runner_steps.specs.Sections.{is_open_run, next_of}
 use Rattle.machine_states.specs.runner_steps.specs.InRun.{last_clock}
 use Rattle.machine_states.specs.runner_steps.specs.AfterInRun as inside
@@ -56,14 +53,6 @@ module _ (m : Meaning) (l : Layout) (p : PartState) (found : ℕ) where
     either true y z one two = one
     either false y z one two = two
 
-  agreed : (d word : ℕ) → ((lock_agreed p.reads d word).look ≡ p.reads.look) × ((lock_agreed p.reads d word).walk ≡ p.reads.walk)
-  agreed d word = by (has p.reads.published d)
-    where
-      by : (b : Bool) → ((if b then holds_named p.reads word else p.reads).look ≡ p.reads.look)
-          × ((if b then holds_named p.reads word else p.reads).walk ≡ p.reads.walk)
-      by true = (refl, refl)
-      by false = (refl, refl)
-
   module _ (q : RunState) where
     fill : (slot word : ℕ) (made : Option ℕ) → LooksOn (kinds.PrivateLoad slot word) found p (inside.fill_loaded m l slot p q made found)
     fill slot word None = stay (kinds.PrivateLoad slot word) _ refl refl refl
@@ -74,15 +63,12 @@ module _ (m : Meaning) (l : Layout) (p : PartState) (found : ℕ) where
     make (Some t) = stay kinds.MakeCommit _ refl refl refl
 
     line_looks : (kind : EventKind) (micro : Micro) → LooksOn kind found p (line_after m l kind p q micro found)
-    line_looks kinds.Commit micro = let e = agreed q.descriptor _ in
-        either kinds.Commit (inside.is_of_lock micro) _ _ (stay kinds.Commit _ refl e.0 e.1) (stay kinds.Commit _ refl refl refl)
     line_looks (kinds.PrivateLoad slot word) micro = fill slot word q.made
     line_looks kinds.MakeCommit micro = make q.made
     line_looks kinds.Release micro =
         either kinds.Release (is_end (next_of m (inside.ended_more q))) _ _ (stay kinds.Release _ refl refl refl) (stay kinds.Release _ refl refl refl)
     line_looks kinds.StampExchange micro =
         either kinds.StampExchange (nat_lt q.word last_clock) _ _ (stay kinds.StampExchange _ refl refl refl) (stay kinds.StampExchange _ refl refl refl)
-    line_looks kinds.OutcomeCommit micro = let e = agreed q.descriptor _ in stay kinds.OutcomeCommit _ refl e.0 e.1
     line_looks kind micro = stay kind _ refl refl refl
 
     inside_looks : (kind : EventKind) → LooksOn kind found p (inside_after m l kind p q found)
@@ -99,10 +85,6 @@ module _ (m : Meaning) (l : Layout) (p : PartState) (found : ℕ) where
   advance (stages.Scanning y next clear) =
       either kinds.Advance (nat_lt y last_epoch) _ _ (out kinds.Advance _ (λ g e. let z = e in cc) refl refl) (stay kinds.Advance _ refl refl refl)
   advance _ = stay kinds.Advance _ refl refl refl
-
-  retire : (o : Option Published) → LooksOn kinds.EpochForRetire found p (outside.retire_after p o found)
-  retire None = stay kinds.EpochForRetire _ refl refl refl
-  retire (Some y) = stay kinds.EpochForRetire _ refl refl refl
 
   outside_looks : (kind : EventKind) → p.run ≡ None → is_looking_kind kind ≡ false → LooksOn kind found p (outside_after m l kind p found)
   outside_looks kinds.EnterAgain none plain = absurd (let z = plain in cc)
@@ -126,7 +108,6 @@ module _ (m : Meaning) (l : Layout) (p : PartState) (found : ℕ) where
       (stay (kinds.Hold thunk d) _ refl refl refl) (stay (kinds.Hold thunk d) _ refl refl refl)
   outside_looks (kinds.LoadThunk (Some d)) none plain = stay (kinds.LoadThunk (Some d)) _ refl refl refl
   outside_looks (kinds.LoadThunk None) none plain = stay (kinds.LoadThunk None) _ refl refl refl
-  outside_looks kinds.EpochForRetire none plain = retire p.published
   outside_looks kind none plain = stay kind _ refl refl refl
 
   by_looks : (kind : EventKind) (o : Option RunState) → p.run ≡ o → is_looking_kind kind ≡ false → LooksOn kind found p (after_by m l kind p o found)

@@ -1,5 +1,5 @@
 -- Where the clock is loaded for a look that is a read, the history may see it, or the lock has moved on.
-use Rattle.std.specs.Prelude.{◌⊎◌, ◌==◌, ◌&&◌, ◌||◌, ◌-◌, Bool, true, false, List, ◌++◌, take, drop, length, Option}
+use Rattle.std.specs.Prelude.{◌==◌, ◌&&◌, ◌||◌, ◌-◌, Bool, true, false, List, ◌++◌, take, drop, length, Option}
 use Rattle.std.proofs.Common.{◌≡◌, ◌≢◌, ℕ, ◌<◌, refl, sym, ap, ◌∙◌, subst, ⊎_elim, arith}
 use Rattle.std.proofs.lemmas.List.{take-append-drop}
 use Rattle.std.proofs.lemmas.List.Folds.{list_any-append}

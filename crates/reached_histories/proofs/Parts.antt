@@ -1,10 +1,9 @@
 -- What each step of a runner leaves of what it knows and of the section that it has published.
-use Rattle.std.specs.Prelude.{◌==◌, ◌&&◌, ◌||◌, not, nat_lt, nat_le, cond, Bool, true, false, slice_index_or, if◌then◌else◌}
+use Rattle.std.specs.Prelude.{◌==◌, ◌&&◌, not, nat_lt, nat_le, Bool, true, false, slice_index_or, if◌then◌else◌}
 use Rattle.std.proofs.Common.{◌≡◌, ◌≢◌, ℕ, zero, suc, ◌≤◌, List, [], ◌∷◌, ◌++◌, refl, sym, ap, ◌∙◌, subst, inl, inr, ⊎_elim, arith, Option, Some, None}
 use Rattle.std.specs.Prelude.{◌⊎◌}
 use Rattle.std.proofs.lemmas.Bool.Decides.{nat_tests}
 use Rattle.std.proofs.lemmas.List.{append-nil}
-use Rattle.machine_states.specs.epoch_core.specs.small_lemmas.proofs.Bools.{second_of as second}
 use Rattle.machine_states.specs.map_history.specs.declared.op.Request.{Request}
 use Rattle.machine_states.specs.body_terms.specs.declared.micro.Micro.{Micro}
 use Rattle.machine_states.specs.body_terms.specs.declared.micro.Micro.TheVariants as micros
@@ -24,20 +23,19 @@ use Rattle.machine_states.specs.runner_parts.specs.declared.event.EventKind.{Eve
 use Rattle.machine_states.specs.runner_parts.specs.declared.event.EventKind.TheVariants as kinds
 use Rattle.machine_states.specs.epoch_core.specs.declared.stage.Stage.{Stage}
 use Rattle.machine_states.specs.epoch_core.specs.declared.stage.Stage.TheVariants as stages
-use Rattle.machine_states.specs.runner_parts.specs.Lists.{learned, descriptor_taken, section_published, cell_read, holds_named}
+use Rattle.machine_states.specs.runner_parts.specs.Lists.{learned, descriptor_taken, published_seen, cell_read}
 use Rattle.machine_states.specs.runner_parts.specs.State.{RunState, PartState, RecordsState}
-use Rattle.machine_states.specs.runner_parts.specs.Tests.{knows, is_walking}
+use Rattle.machine_states.specs.runner_parts.specs.Tests.{knows}
 use Rattle.machine_states.specs.runner_steps.specs.Sections.{thunk_of, line_of, is_open_run, next_of}
 use Rattle.machine_states.specs.runner_steps.specs.InRun.{last_clock, stamp_after, release_ask}
-use Rattle.machine_states.specs.runner_steps.specs.Outside.{is_over}
 use Rattle.machine_states.specs.epoch_core.specs.State.{last_epoch}
-use Rattle.machine_states.specs.runner_steps.specs.Asks.{asks, outside_ask, line_ask, opening_ask}
+use Rattle.machine_states.specs.runner_steps.specs.Asks.{asks, line_ask, opening_ask}
 use Rattle.machine_states.specs.runner_steps.specs.AfterInRun as inside
 use Rattle.machine_states.specs.runner_steps.specs.AfterOutside as outside
 use Rattle.machine_states.specs.runner_steps.specs.Reads.{read_stamp_after, reply_known, stamp_known}
 use Rattle.machine_states.specs.runner_steps.specs.After.{outside_after, line_after, after_by, stepped}
 use Rattle.machine_states.specs.Sight.{Sight}
-use Rattle.machine_states.proofs.Sights.{if_some, some_none}
+use Rattle.machine_states.proofs.Sights.{some_none}
 use Rattle.machine_states.proofs.Steps.{some_same}
 use Rattle.machine_facts.specs.machine_agreement.proofs.Ends.{at_end}
 use Rattle.machine_facts.specs.machine_invariant.specs.Whole.{Beside, IsWhole}
@@ -89,24 +87,28 @@ learns_more p p' request reply number known published =
       link = inl (ap link_of published);
     }
 
-over_was : (o : Option Published) (d : ℕ) (x : Published) → inside.over_if o d ≡ Some x → WasPublished o x
+-- the end of a run: of the own section, which isn't published any more, or of another
+over_was : (o : Option Published) (d : ℕ) (x : Published) → inside.kept_unless o d ≡ Some x → WasPublished o x
 over_was None d x is = some_none x is
-over_was (Some y) d x is = let same = some_same (record y { over = y.over || y.descriptor == d }) x is in
-    (y, refl, ap (λ (z : Published). z.descriptor) (sym same), ap (λ (z : Published). z.thunk) (sym same), ap (λ (z : Published). z.known) (sym same))
+over_was (Some y) d x is = by (y.descriptor == d) is
+  where
+    by : (b : Bool) → (if b then None else Some y) ≡ Some x → WasPublished (Some y) x
+    by true is = some_none x is
+    by false is = let same = some_same y x is in
+        (y, refl, ap (λ (z : Published). z.descriptor) (sym same), ap (λ (z : Published). z.thunk) (sym same), ap (λ (z : Published). z.known) (sym same))
 
--- the end of a run: of the own section, or of another
-over_cases : (o : Option Published) (d : ℕ) → (link_of (inside.over_if o d) ≡ link_of o) ⊎ ((link_of (inside.over_if o d) ≡ 0) × (link_of o ≡ suc d))
+over_cases : (o : Option Published) (d : ℕ)
+    → (link_of (inside.kept_unless o d) ≡ link_of o) ⊎ ((link_of (inside.kept_unless o d) ≡ 0) × (link_of o ≡ suc d))
 over_cases None d = inl refl
-over_cases (Some y) d = by y.over (y.descriptor == d) refl
+over_cases (Some y) d = by (y.descriptor == d) refl
   where
     same : (a b : ℕ) → (a == b) ≡ true → a ≡ b
     same a b e = grind (arith, nat_tests)
 
-    by : (over is : Bool) → (y.descriptor == d) ≡ is
-        → (cond (over || is) 0 (suc y.descriptor) ≡ cond over 0 (suc y.descriptor)) ⊎ ((cond (over || is) 0 (suc y.descriptor) ≡ 0) × (cond over 0 (suc y.descriptor) ≡ suc d))
-    by true is e = inl refl
-    by false true e = inr (refl, ap suc (same y.descriptor d e))
-    by false false e = inl refl
+    by : (b : Bool) → (y.descriptor == d) ≡ b
+        → (link_of (if b then None else Some y) ≡ suc y.descriptor) ⊎ ((link_of (if b then None else Some y) ≡ 0) × (suc y.descriptor ≡ suc d))
+    by true e = inr (refl, ap suc (same y.descriptor d e))
+    by false e = inl refl
 
 module _ (m : Meaning) (l : Layout) (p : PartState) where
   module _ (none : p.run ≡ None) (found : ℕ) where
@@ -118,16 +120,6 @@ module _ (m : Meaning) (l : Layout) (p : PartState) where
     advance_keeps : (stage : Stage) → KeepsOn p (outside.advance_after p stage)
     advance_keeps (stages.Scanning e next clear) = either p (nat_lt e last_epoch) _ _ (on p _ refl refl) (on p p refl refl)
     advance_keeps _ = on p p refl refl
-
-    -- a retired section has been run to its end
-    retire_keeps : (o : Option Published) → p.published ≡ o → link_of p.published ≡ 0 → KeepsOn p (outside.retire_after p o found)
-    retire_keeps None is over = on p p refl refl
-    retire_keeps (Some y) is over = record {
-      grows = λ n reply e. e;
-      appends = ([], sym (append-nil p.records.known));
-      was = λ x at. some_none x at;
-      link = inl (sym over);
-    }
 
     -- a read's words are learned
     reply_keeps : (o : Option Look) (p' : PartState) → p'.records.known ≡ reply_known m o found p.records → p'.published ≡ p.published → KeepsOn p p'
@@ -144,21 +136,21 @@ module _ (m : Meaning) (l : Layout) (p : PartState) where
         by false known = on p p' known published
 
     outside_keeps : (kind : EventKind) → ((t : Thunk) (d : ℕ) → kind ≡ kinds.Hold t d → found ≢ t.word)
-        → (kind ≡ kinds.EpochForRetire → link_of p.published ≡ 0) → KeepsOn p (outside_after m l kind p found)
-    outside_keeps kinds.EnterLoad quiet over = on p _ refl refl
-    outside_keeps kinds.Announce quiet over = on p _ refl refl
-    outside_keeps kinds.EnterAgain quiet over = on p _ refl refl
-    outside_keeps kinds.Idle quiet over = on p _ refl refl
-    outside_keeps kinds.ScanEpoch quiet over = on p _ refl refl
-    outside_keeps (kinds.ScanOne n) quiet over = scan_keeps p.stage
-    outside_keeps kinds.Advance quiet over = advance_keeps p.stage
-    outside_keeps kinds.Split quiet over = either p (nat_lt p.records.splits l.runners) _ _ (on p _ refl refl) (on p p refl refl)
-    outside_keeps (kinds.Join worker) quiet over = on p _ refl refl
-    outside_keeps (kinds.LoadCell (Some place)) quiet over = on p _ refl refl
-    outside_keeps (kinds.LoadEntry request reply) quiet over = learns_more p _ request reply found refl refl
-    outside_keeps (kinds.PrivateLoad slot word) quiet over = either p (nat_lt slot (slot_count l m.fixed_slots)) _ _ (on p _ refl refl) (on p _ refl refl)
-    outside_keeps (kinds.PrivateStore slot word number) quiet over = on p _ refl refl
-    outside_keeps (kinds.Hold thunk d) quiet over = by (found == thunk.word) refl
+        → KeepsOn p (outside_after m l kind p found)
+    outside_keeps kinds.EnterLoad quiet = on p _ refl refl
+    outside_keeps kinds.Announce quiet = on p _ refl refl
+    outside_keeps kinds.EnterAgain quiet = on p _ refl refl
+    outside_keeps kinds.Idle quiet = on p _ refl refl
+    outside_keeps kinds.ScanEpoch quiet = on p _ refl refl
+    outside_keeps (kinds.ScanOne n) quiet = scan_keeps p.stage
+    outside_keeps kinds.Advance quiet = advance_keeps p.stage
+    outside_keeps kinds.Split quiet = either p (nat_lt p.records.splits l.runners) _ _ (on p _ refl refl) (on p p refl refl)
+    outside_keeps (kinds.Join worker) quiet = on p _ refl refl
+    outside_keeps (kinds.LoadCell (Some place)) quiet = on p _ refl refl
+    outside_keeps (kinds.LoadEntry request reply) quiet = learns_more p _ request reply found refl refl
+    outside_keeps (kinds.PrivateLoad slot word) quiet = either p (nat_lt slot (slot_count l m.fixed_slots)) _ _ (on p _ refl refl) (on p _ refl refl)
+    outside_keeps (kinds.PrivateStore slot word number) quiet = on p _ refl refl
+    outside_keeps (kinds.Hold thunk d) quiet = by (found == thunk.word) refl
       where
         same : (a b : ℕ) → (a == b) ≡ true → a ≡ b
         same a b e = grind (arith, nat_tests)
@@ -166,17 +158,17 @@ module _ (m : Meaning) (l : Layout) (p : PartState) where
         by : (b : Bool) → (found == thunk.word) ≡ b → KeepsOn p (if b then record p {
           published = Some (outside.published_by thunk d p);
           descriptors = descriptor_taken p.descriptors d;
-          reads = section_published (cell_read p.reads thunk.lock found) d;
-        } else record p { reads = holds_named (cell_read p.reads thunk.lock found) found })
+          guards = published_seen p.guards d;
+          reads = cell_read p.reads thunk.lock found;
+        } else record p { reads = cell_read p.reads thunk.lock found })
         by true e = absurd (quiet thunk d refl (same found thunk.word e))
         by false e = on p _ refl refl
-    outside_keeps (kinds.LoadThunk (Some d)) quiet over = on p _ refl refl
-    outside_keeps kinds.EpochForRetire quiet over = retire_keeps p.published refl (over refl)
-    outside_keeps (kinds.LoadCell None) quiet over = on p p refl refl
-    outside_keeps (kinds.LoadThunk None) quiet over = on p p refl refl
-    outside_keeps kinds.ReadReply quiet over = reply_keeps p.reads.look _ refl refl
-    outside_keeps kinds.ReadStamp quiet over = stamp_keeps p.reads.look _ refl refl
-    outside_keeps _ quiet over = on p _ refl refl
+    outside_keeps (kinds.LoadThunk (Some d)) quiet = on p _ refl refl
+    outside_keeps (kinds.LoadCell None) quiet = on p p refl refl
+    outside_keeps (kinds.LoadThunk None) quiet = on p p refl refl
+    outside_keeps kinds.ReadReply quiet = reply_keeps p.reads.look _ refl refl
+    outside_keeps kinds.ReadStamp quiet = stamp_keeps p.reads.look _ refl refl
+    outside_keeps _ quiet = on p _ refl refl
 
   module _ (q : RunState) (is : p.run ≡ Some q) (opened : is_open_run q ≡ true) (found : ℕ) where
     fill_keeps : (slot : ℕ) (made : Option ℕ) → KeepsOn p (inside.fill_loaded m l slot p q made found)
@@ -188,7 +180,7 @@ module _ (m : Meaning) (l : Layout) (p : PartState) where
     make_keeps (Some t) = on p _ refl refl
 
     -- the last release
-    over_keeps : (p' : PartState) → p'.records.known ≡ p.records.known → 1 ≤ q.ended → p'.published ≡ inside.over_if p.published q.descriptor → KeepsOn p p'
+    over_keeps : (p' : PartState) → p'.records.known ≡ p.records.known → 1 ≤ q.ended → p'.published ≡ inside.kept_unless p.published q.descriptor → KeepsOn p p'
     over_keeps p' known ended published = record {
       grows = λ n reply e. ap (λ xs. knows xs n reply) known ∙ e;
       appends = ([], known ∙ sym (append-nil p.records.known));
@@ -203,7 +195,7 @@ module _ (m : Meaning) (l : Layout) (p : PartState) where
     released_keeps place ended = either p (is_end (next_of m (inside.ended_more q))) _ _ (over_keeps _ refl ended refl) (on p _ refl refl)
 
     line_keeps : (kind : EventKind) (micro : Micro) → (kind ≡ kinds.Release → 1 ≤ q.ended) → KeepsOn p (line_after m l kind p q micro found)
-    line_keeps kinds.Commit micro ended = either p (inside.is_of_lock micro) _ _ (on p _ refl refl) (on p _ refl refl)
+    line_keeps kinds.Commit micro ended = on p _ refl refl
     line_keeps (kinds.LoadCell place) micro ended = on p _ refl refl
     line_keeps kinds.ExchangeCell micro ended = on p _ refl refl
     line_keeps (kinds.PrivateLoad slot word) micro ended = fill_keeps slot q.made
@@ -229,11 +221,6 @@ module _ (m : Meaning) (l : Layout) (p : PartState) where
 abbrev is_set : Micro → Bool
 is_set micros.SetDone = true
 is_set _ = false
-
--- a section that is retired was run to its end
-retired_over : (o : Option Published) → is_over o ≡ true → link_of o ≡ 0
-retired_over None e = refl
-retired_over (Some y) e = ap (λ b. cond b 0 (suc y.descriptor)) e
 
 module _ (m : Meaning) (l : Layout) (rs : List Request) (g : Beside) (s : Sight) (whole : IsWhole m l g s) (r : ℕ) (x : Spot × Access) (kind : EventKind)
     (asked : asks m l rs r kind (s.part r) ≡ Some x) where
@@ -261,6 +248,4 @@ module _ (m : Meaning) (l : Layout) (rs : List Request) (g : Beside) (s : Sight)
 
       by : (run : Option RunState) → p.run ≡ run → KeepsOn p (after_by m l kind p run found)
       by None is = outside_keeps m l p is found kind quiet
-          (λ same. retired_over p.published (second (is_walking p.stage p.run) (is_over p.published)
-          (if_some _ _ x (subst (λ k. outside_ask m l rs r k p ≡ Some x) same (asked_by m l r kind p rs x None is asked))).0))
       by (Some q) is = in_run q is (is_open_run q) refl (asked_by m l r kind p rs x (Some q) is asked)

@@ -1,5 +1,5 @@
 -- Each step of the machine is steps of the joint states with the history.
-use Rattle.std.specs.Prelude.{◌⊎◌, ◌==◌, ◌||◌, cond, slice_get, Bool, true, false, []}
+use Rattle.std.specs.Prelude.{◌==◌, ◌||◌, cond, slice_get, Bool, true, false, []}
 use Rattle.std.proofs.Common.{◌≡◌, ◌≢◌, ℕ, suc, ◌≤◌, List, ◌∷◌, ◌++◌, length, refl, sym, ap, ◌∙◌, subst, ⊎_elim, arith, Option, Some, None}
 use Rattle.std.proofs.lemmas.Bool.{cases_eq}
 use Rattle.std.proofs.lemmas.Bool.Decides.{nat_tests}
@@ -67,9 +67,8 @@ kept_alike s w v alike kept = record {
   published = λ i. ap (λ (f : ℕ → ℕ). f i) alike.published ∙ kept.published i;
 }
 
-of_link : (over : Bool) (n d : ℕ) → cond over 0 (suc n) ≡ suc d → n ≡ d
-of_link true n d e = absurd (let z = e in cc)
-of_link false n d e = let z = e in omega arith
+of_link : (n d : ℕ) → suc n ≡ suc d → n ≡ d
+of_link n d e = omega arith
 
 -- behind the end of an own run nothing else is published
 ended_link : (c : Requests) (w : HistoryState) (r before now i d : ℕ) → (after_all c w (ends r before now)).published i ≡ suc d
@@ -175,12 +174,12 @@ module _ (m : Meaning) (laws : Laws m) (l : Layout) (limits : IsWithinLimits l) 
       where
         by : (o : Option Published) → (s.part i).published ≡ o → link_of (s.part i).published ≡ suc d → g.agreement.live d ≡ true
         by None none e = absurd (let clash : 0 ≡ suc d = sym (ap link_of none) ∙ e in cc)
-        by (Some y) some e = subst (λ n. g.agreement.live n ≡ true) (of_link y.over y.descriptor d (sym (ap link_of some) ∙ e))
+        by (Some y) some e = subst (λ n. g.agreement.live n ≡ true) (of_link y.descriptor d (sym (ap link_of some) ∙ e))
             (old.whole.tied.is_live y.descriptor ((old.whole.slots.tied i).published y some))
 
     -- what a worker has published and not run to its end is what it has published and not retired
     linked : (i : ℕ) (x : Published) → (s.part i).published ≡ Some x → (e : ℕ) → w.published i ≡ suc e → x.descriptor ≡ e
-    linked i x at e is = of_link x.over x.descriptor e (sym (ap link_of at) ∙ (sym (old.kept.published i) ∙ is))
+    linked i x at e is = of_link x.descriptor e (sym (ap link_of at) ∙ (sym (old.kept.published i) ∙ is))
 
     -- nothing is published: the own run may come to its end first, and what the runner comes to know is learned last
     module _ (quiet : GoesQuietly m l g s kind (s.word one.ask.0) (states_of g' s')) where

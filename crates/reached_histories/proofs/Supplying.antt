@@ -1,7 +1,7 @@
 -- What the machine's states supply to the history's events.
 use Rattle.std.specs.Prelude.{◌==◌, ◌&&◌, ◌||◌, ◌%◌, not, nat_lt, cond, Bool, true, false, map, slice_get}
 use Rattle.std.specs.List.{list_all, range_with_len}
-use Rattle.std.proofs.Common.{◌≡◌, ℕ, zero, suc, ◌+◌, ◌<◌, ◌≤◌, List, [], ◌∷◌, length, refl, sym, ap, ◌∙◌, subst, arith, Option, Some, None, option_map, is_none}
+use Rattle.std.proofs.Common.{◌≡◌, ℕ, zero, suc, ◌<◌, ◌≤◌, List, [], ◌∷◌, length, refl, sym, ap, ◌∙◌, subst, arith, Option, Some, None, option_map, is_none}
 use Rattle.std.proofs.lemmas.Bool.Decides.{nat_tests}
 use Rattle.std.proofs.lemmas.Option.{slice_get-map, slice_get_within, slice_get-get_or}
 use Rattle.std.proofs.lemmas.List.FromFn.{get_or-range_with_len, length-range_with_len}
@@ -17,11 +17,9 @@ use Rattle.machine_states.specs.table_words.specs.declared.access.Access.{Access
 use Rattle.machine_states.specs.structure_laws.specs.Meaning.{Meaning}
 use Rattle.machine_states.specs.runner_parts.specs.declared.entries.Known.{Known}
 use Rattle.machine_states.specs.runner_parts.specs.declared.entries.Published.{Published}
-use Rattle.machine_states.specs.runner_parts.specs.declared.entries.Retired.{Retired}
 use Rattle.machine_states.specs.runner_parts.specs.declared.event.EventKind.TheVariants.{Hold}
 use Rattle.machine_states.specs.runner_parts.specs.State.{RunState, PartState}
-use Rattle.machine_states.specs.runner_parts.specs.Lists.{slots_of}
-use Rattle.machine_states.specs.runner_parts.specs.Tests.{has, is_answered, are_answered, is_next, is_between}
+use Rattle.machine_states.specs.runner_parts.specs.Tests.{is_answered, are_answered, is_next, is_between}
 use Rattle.machine_states.specs.runner_steps.specs.Sections.{is_open_run, next_of}
 use Rattle.machine_states.specs.runner_steps.specs.Outside.{hold_ask}
 use Rattle.machine_states.specs.runner_steps.specs.Asks.{ask_by, line_ask, opening_ask}
@@ -29,11 +27,11 @@ use Rattle.machine_states.specs.epoch_core.specs.declared.location.Location.{Loc
 use Rattle.machine_states.specs.epoch_core.specs.declared.location.Location.TheVariants.{Fixed, Live, Hand, Free, Worn, Limbo}
 use Rattle.machine_states.specs.epoch_core.specs.Events.{slot_of}
 use Rattle.machine_states.specs.epoch_core.specs.History.{is_out}
-use Rattle.machine_states.specs.epoch_core.specs.Lists.{times_retired, in_limbo}
+use Rattle.machine_states.specs.epoch_core.specs.Lists.{in_any_limbo}
 use Rattle.machine_states.proofs.Sights.{if_some, some_none, unless_gone}
 use Rattle.machine_states.proofs.Steps.{some_same}
 use Rattle.machine_facts.specs.machine_agreement.specs.machine_epochs.specs.Entries.{counts_of}
-use Rattle.machine_facts.specs.machine_agreement.specs.machine_epochs.specs.Slots.{entry_of as limbo_entry}
+use Rattle.machine_facts.specs.machine_agreement.specs.machine_epochs.proofs.Places.{has_times}
 use Rattle.reached_histories.specs.Requests.{or_none, request_at}
 use Rattle.reached_histories.specs.Kept.{link_of}
 use Rattle.reached_histories.specs.Supplies.{HoldsAreDue, OperationsAreAsked, FreesAreOver}
@@ -62,43 +60,25 @@ passes test (y ∷ xs) (suc i) x all at = passes test xs i x (and_parts (test y)
 earlier_passes : (trace t below n : ℕ) (answered : Bool) → (not (t == trace && nat_lt n below) || answered) ≡ true → t ≡ trace → n < below → answered ≡ true
 earlier_passes trace t below n answered e same low = grind (arith, nat_tests)
 
--- a descriptor in a limbo list was retired in some epoch
-retired_at : (d : ℕ) (xs : List Retired) → has (slots_of xs) d ≡ true → (y : ℕ) × (1 ≤ times_retired d y (map limbo_entry xs))
-retired_at d [] e = absurd (let x = e in cc)
-retired_at d (x ∷ xs) e = by (x.slot == d) refl (λ rest. retired_at d xs rest) e
-  where
-    counted : (b : Bool) (n : ℕ) → 1 ≤ n → 1 ≤ cond b (1 + n) n
-    counted true n h = omega arith
-    counted false n h = h
+-- a retired descriptor is given out and not live
+retired_out : (r : ℕ) (p : Location) → 1 ≤ in_any_limbo r p → is_out p ≡ true
+retired_out r (Limbo r' y') h = refl
+retired_out r Fixed h = absurd (omega arith)
+retired_out r Live h = refl
+retired_out r (Hand r') h = absurd (omega arith)
+retired_out r (Free r') h = absurd (omega arith)
+retired_out r (Worn r') h = absurd (omega arith)
 
-    first : (a y n : ℕ) → (a == d) ≡ true → 1 ≤ cond (a == d && y == y) (1 + n) n
-    first a y n e = grind (arith, nat_tests)
+retired_unlive : (r : ℕ) (p : Location) → 1 ≤ in_any_limbo r p → p ≡ Live → ⊥
+retired_unlive r (Limbo r' y') h e = cc
+retired_unlive r Fixed h e = cc
+retired_unlive r Live h e = absurd (omega arith)
+retired_unlive r (Hand r') h e = cc
+retired_unlive r (Free r') h e = cc
+retired_unlive r (Worn r') h e = cc
 
-    by : (b : Bool) → (x.slot == d) ≡ b → (has (slots_of xs) d ≡ true → (y : ℕ) × (1 ≤ times_retired d y (map limbo_entry xs)))
-        → (b || has (slots_of xs) d) ≡ true → (y : ℕ) × (1 ≤ times_retired d y (map limbo_entry (x ∷ xs)))
-    by true same rest e = (x.epoch, first x.slot x.epoch _ same)
-    by false other rest e = let h = rest e in (h.0, counted (x.slot == d && x.epoch == h.0) _ h.1)
-
--- a retired slot is given out and not live
-retired_out : (r y : ℕ) (p : Location) → 1 ≤ in_limbo r y p → is_out p ≡ true
-retired_out r y (Limbo r' y') h = refl
-retired_out r y Fixed h = absurd (omega arith)
-retired_out r y Live h = refl
-retired_out r y (Hand r') h = absurd (omega arith)
-retired_out r y (Free r') h = absurd (omega arith)
-retired_out r y (Worn r') h = absurd (omega arith)
-
-retired_unlive : (r y : ℕ) (p : Location) → 1 ≤ in_limbo r y p → p ≡ Live → ⊥
-retired_unlive r y (Limbo r' y') h e = cc
-retired_unlive r y Fixed h e = cc
-retired_unlive r y Live h e = absurd (omega arith)
-retired_unlive r y (Hand r') h e = cc
-retired_unlive r y (Free r') h e = cc
-retired_unlive r y (Worn r') h e = cc
-
-of_link : (over : Bool) (n d : ℕ) → cond over 0 (suc n) ≡ suc d → n ≡ d
-of_link true n d e = absurd (let z = e in cc)
-of_link false n d e = let z = e in omega arith
+of_link : (n d : ℕ) → suc n ≡ suc d → n ≡ d
+of_link n d e = omega arith
 
 module _ (m : Meaning) (l : Layout) (rs : List Request) where
   -- the thunk's request is there, and is the worker's next one by these known words
@@ -192,15 +172,14 @@ module _ (m : Meaning) (l : Layout) (rs : List Request) where
 
   pub frees_over : FreesAreOver m l rs
   frees_over g s w whole kept r d few there = record {
-    used = whole.tied.used d ∙ retired_out r place.0 _ place.1;
+    used = whole.tied.used d ∙ retired_out r _ place;
     over = λ i e. unpublished i (s.part i).published refl (sym (kept.published i) ∙ e);
   }
     where
-      place : (y : ℕ) × (1 ≤ in_limbo r y (g.epochs.location (slot_of (counts_of m l) d)))
-      place = let h = retired_at d (s.part r).descriptors.limbo there in
-          (h.0, subst (λ n. 1 ≤ n) (whole.slots.listed.limbo_descriptors r d h.0 few) h.1)
+      place : 1 ≤ in_any_limbo r (g.epochs.location (slot_of (counts_of m l) d))
+      place = subst (λ n. 1 ≤ n) (whole.slots.listed.limbo_descriptors r d few) (has_times (s.part r).descriptors.limbo d there)
 
       unpublished : (i : ℕ) (o : Option Published) → (s.part i).published ≡ o → link_of (s.part i).published ≡ suc d → ⊥
       unpublished i None at e = absurd (let z = ap link_of (sym at) ∙ e in cc)
-      unpublished i (Some y) at e = retired_unlive r place.0 _ place.1
-          (subst (λ n. g.epochs.location (slot_of (counts_of m l) n) ≡ Live) (of_link y.over y.descriptor d (ap link_of (sym at) ∙ e)) ((whole.slots.tied i).published y at))
+      unpublished i (Some y) at e = retired_unlive r _ place
+          (subst (λ n. g.epochs.location (slot_of (counts_of m l) n) ≡ Live) (of_link y.descriptor d (ap link_of (sym at) ∙ e)) ((whole.slots.tied i).published y at))

@@ -1,5 +1,5 @@
 -- What the joined states say, in the words of the machine.
-use Rattle.std.specs.Prelude.{◌/◌, ◌%◌, cond, Bool, true, false}
+use Rattle.std.specs.Prelude.{◌/◌, ◌%◌, Bool, true, false}
 use Rattle.std.proofs.Common.{◌≡◌, ◌≢◌, ℕ, suc, ◌<◌, ◌≤◌, List, length, inl, inr, refl, sym, ap, ◌∙◌, subst, ⊎_elim, arith, Option, Some, None}
 use Rattle.std.proofs.lemmas.Bool.{cases_lt}
 use Rattle.machine_states.specs.map_history.specs.declared.op.Request.{Request}
@@ -234,17 +234,15 @@ module _ (m : Meaning) (laws : Laws m) (l : Layout) (limits : IsWithinLimits l) 
   pub open_of : (r n d : ℕ) → w.published r ≡ suc d → w.request d ≡ n → HasOpen s r n
   open_of r n d own request = by (s.part r).published refl (sym (at.kept.published r) ∙ own)
     where
-      linked : (over : Bool) (k : ℕ) → cond over 0 (suc k) ≡ suc d → (over ≡ false) × (k ≡ d)
-      linked true k e = absurd (let z = e in cc)
-      linked false k e = (refl, let z = e in omega arith)
+      linked : (k : ℕ) → suc k ≡ suc d → k ≡ d
+      linked k e = omega arith
 
       by : (o : Option Published) → (s.part r).published ≡ o → link_of (s.part r).published ≡ suc d → HasOpen s r n
       by None none e = absurd (let clash : 0 ≡ suc d = sym (ap link_of none) ∙ e in cc)
-      by (Some x) some e = let h = linked x.over x.descriptor (sym (ap link_of some) ∙ e) in record {
+      by (Some x) some e = let h = linked x.descriptor (sym (ap link_of some) ∙ e) in record {
         section = x;
         published = some;
-        going = h.0;
-        request = sym (at.publications r x some).request ∙ (ap w.request h.1 ∙ request);
+        request = sym (at.publications r x some).request ∙ (ap w.request h ∙ request);
       }
 
   pub requests_stand : RequestsStand m l rs g s w.history

@@ -1,5 +1,5 @@
 -- What runners keep, as the history's state has it.
-use Rattle.std.specs.Prelude.{ℕ, suc, ◌≡◌, cond, Option, Some, None}
+use Rattle.std.specs.Prelude.{ℕ, suc, ◌≡◌, Option, Some, None}
 use Rattle.machine_states.specs.runner_parts.specs.declared.entries.Published.{Published}
 use Rattle.machine_states.specs.runner_parts.specs.Tests.{is_answered}
 use Rattle.machine_history.specs.history_core.specs.State.{HistoryState}
@@ -9,7 +9,7 @@ use Rattle.machine_states.specs.Sight.{Sight}
 -- none
 abbrev pub link_of : Option Published → ℕ
 link_of None = 0
-link_of (Some x) = cond x.over 0 (suc x.descriptor)
+link_of (Some x) = suc x.descriptor
 
 -- a runner knows a request where it has both its words in its records; a worker's published section
 -- is the one that it hasn't run to its end

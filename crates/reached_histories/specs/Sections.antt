@@ -1,5 +1,5 @@
 -- Sections and their requests, in the words of the machine.
-use Rattle.std.specs.Prelude.{◌≡◌, ℕ, ◌<◌, true, false, Some, take}
+use Rattle.std.specs.Prelude.{◌≡◌, ℕ, ◌<◌, true, Some, take}
 use Rattle.machine_states.specs.body_terms.specs.declared.micro.Micro.TheVariants.{StampExchange}
 use Rattle.machine_states.specs.structure_laws.specs.Meaning.{Meaning}
 use Rattle.machine_states.specs.runner_parts.specs.declared.entries.Look.{Look}
@@ -40,5 +40,4 @@ module _ (s : Sight) where
   pub record HasOpen (r n : ℕ) : Type 0 where
     pub section : Published
     pub published : HasPublished r section
-    pub going : section.over ≡ false
     pub request : section.thunk.request ≡ n

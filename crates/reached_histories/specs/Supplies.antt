@@ -9,7 +9,6 @@ use Rattle.machine_states.specs.table_words.specs.declared.access.Access.{Access
 use Rattle.machine_states.specs.table_words.specs.Places.{descriptor_count}
 use Rattle.machine_states.specs.structure_laws.specs.Meaning.{Meaning}
 use Rattle.machine_states.specs.runner_parts.specs.declared.event.EventKind.TheVariants.{Hold}
-use Rattle.machine_states.specs.runner_parts.specs.Lists.{slots_of}
 use Rattle.machine_states.specs.runner_parts.specs.Tests.{has, is_answered}
 use Rattle.machine_states.specs.runner_parts.specs.State.{RunState}
 use Rattle.machine_states.specs.runner_steps.specs.Sections.{is_open_run}
@@ -66,7 +65,7 @@ module _ (m : Meaning) (l : Layout) (requests : List Request) where
   abbrev pub FreesAreOver : Type 0
   FreesAreOver = (g : Beside) (s : Sight) (w : HistoryState) → IsWhole m l g s → AreKept s w
       → (r d : ℕ) → d < descriptor_count l
-      → has (slots_of (s.part r).descriptors.limbo) d ≡ true
+      → has (s.part r).descriptors.limbo d ≡ true
       → IsOverFor w g d
 
 -- a runner that has both words of a request in its records may come to know it

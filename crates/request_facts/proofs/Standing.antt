@@ -127,9 +127,8 @@ module _ (m : Meaning) (l : Layout) (rs : List Request) (allowed : AreAllowed rs
     }
 
   -- what has no link isn't on the way
-  closed : (o : Option Published) (x : Published) → o ≡ Some x → link_of o ≡ 0 → x.over ≡ false → ⊥
-  closed o x is none going =
-      let clash : 0 ≡ suc x.descriptor = sym none ∙ (ap link_of is ∙ ap (λ b. cond b 0 (suc x.descriptor)) going) in cc
+  closed : (o : Option Published) (x : Published) → o ≡ Some x → link_of o ≡ 0 → ⊥
+  closed o x is none = let clash : 0 ≡ suc x.descriptor = sym none ∙ ap link_of is in cc
 
   -- a request of its own that it doesn't know, while it has no section on the way
   module _ (r n : ℕ) (own : c.worker n ≡ r) (idle : link_of (s.part r).published ≡ 0) (unknown : is_answered (s.part r).records.known n ≡ false) where
@@ -137,7 +136,7 @@ module _ (m : Meaning) (l : Layout) (rs : List Request) (allowed : AreAllowed rs
     no_stamp = ⊎_elim (λ none. none)
         (λ some. ⊎_elim
         (λ told. absurd (let clash : true ≡ false = sym told ∙ (ap (λ i. is_answered (s.part i).records.known n) own ∙ unknown) in cc))
-        (λ mine. absurd (closed (s.part r).published mine.section (ap (λ i. (s.part i).published) (sym own) ∙ mine.published) idle mine.going))
+        (λ mine. absurd (closed (s.part r).published mine.section (ap (λ i. (s.part i).published) (sym own) ∙ mine.published) idle))
         (stands.asked.answered n some))
         (zero_or (s.word (spots.Stamp n)))
 
@@ -158,7 +157,7 @@ module _ (m : Meaning) (l : Layout) (rs : List Request) (allowed : AreAllowed rs
   pub unasked : (r n : ℕ) → IsToAsk m l rs s r n → IsUnasked m l rs s n
   unasked r n is = record {
     unstamped = no_stamp r n is.own is.idle is.unknown;
-    unpublished = λ asked. closed (s.part r).published asked.section (ap (λ i. (s.part i).published) (sym is.own) ∙ asked.published) is.idle asked.going;
+    unpublished = λ asked. closed (s.part r).published asked.section (ap (λ i. (s.part i).published) (sym is.own) ∙ asked.published) is.idle;
     unlooked = λ x looked sought. is.unsought x (ap (λ i. (s.part i).reads.look) (sym is.own) ∙ looked)
         (subst (λ i. IsSought (s.part i) x) is.own sought);
   }

@@ -76,11 +76,19 @@ pub record WinsMake (p p' : PartState) (kind : EventKind) (found : ℕ) : Type 0
   pub empty : found ≡ 0
   pub less : entry_count p.nodes ≤ suc (entry_count p'.nodes)
 
+-- a run of this section by this runner comes to its end, with its last release
+pub record Ends (p : PartState) (kind : EventKind) (d : ℕ) : Type 0 where
+  pub is : kind ≡ kinds.Release
+  pub run : RunState
+  pub runs : p.run ≡ Some run
+  pub opened : is_open_run run ≡ true
+  pub of_section : d ≡ run.descriptor
+
 pub record Leaves (p p' : PartState) (kind : EventKind) (found : ℕ) : Type 0 where
   -- no slot is lost but by a Make
   pub slots : (entry_count p.nodes ≤ entry_count p'.nodes) ⊎ WinsMake p p' kind found
-  -- a published section stays until it is over
-  pub published : (x : Published) → p.published ≡ Some x → Stays x p'.published ⊎ (x.over ≡ true)
+  -- a published section stays until its publisher has run it to its end
+  pub published : (x : Published) → p.published ≡ Some x → Stays x p'.published ⊎ Ends p kind x.descriptor
 
 module _ (m : Meaning) (l : Layout) (p : PartState) (once : (t : ℕ) → times_among p.nodes t ≤ 1) (found : ℕ) where
   module _ (kind : EventKind) where
@@ -96,11 +104,6 @@ module _ (m : Meaning) (l : Layout) (p : PartState) (once : (t : ℕ) → times_
 
     same : (p' : PartState) → p'.nodes ≡ p.nodes → p'.published ≡ p.published → Leaves p p' kind found
     same p' nodes published = leaves p' (inl (least p' nodes)) published
-
-    over_stays : (o : Option Published) (d : ℕ) (x : Published) → o ≡ Some x → Stays x (inside.over_if o d)
-    over_stays None d x is = absurd (none_some x (sym is))
-    over_stays (Some y) d x is = let e = some_same y x is in
-        (_, refl, ap (λ (z : Published). z.descriptor) e, ap (λ (z : Published). z.thunk) e)
 
   module _ (q : RunState) (runs : p.run ≡ Some q) (opened : is_open_run q ≡ true) where
     fill : (kind : EventKind) (slot : ℕ) (made : Option ℕ) → Leaves p (inside.fill_loaded m l slot p q made found) kind found
@@ -136,11 +139,28 @@ module _ (m : Meaning) (l : Layout) (p : PartState) (once : (t : ℕ) → times_
 
     released : (place : ℕ) → Leaves p (inside.lock_released m l place p q found) kinds.Release found
     released place = either kinds.Release (is_end (next_of m (inside.ended_more q))) _ _
-        (record { slots = inl (omega arith); published = λ x is. inl (over_stays kinds.Release p.published q.descriptor x is) })
+        (record { slots = inl (omega arith); published = λ x is. over p.published x is })
         (same kinds.Release _ refl refl)
+      where
+        over : (o : Option Published) (x : Published) → o ≡ Some x → Stays x (inside.kept_unless o q.descriptor) ⊎ Ends p kinds.Release x.descriptor
+        over None x is = absurd (none_some x (sym is))
+        over (Some y) x is = by (y.descriptor == q.descriptor) refl
+          where
+            same_section : y ≡ x
+            same_section = some_same y x is
+
+            by : (b : Bool) → (y.descriptor == q.descriptor) ≡ b → Stays x (if b then None else Some y) ⊎ Ends p kinds.Release x.descriptor
+            by true e = inr (record {
+              is = refl;
+              run = q;
+              runs = runs;
+              opened = opened;
+              of_section = ap (λ (z : Published). z.descriptor) (sym same_section) ∙ same_zero y.descriptor q.descriptor e;
+            })
+            by false e = inl (y, refl, ap (λ (z : Published). z.descriptor) same_section, ap (λ (z : Published). z.thunk) same_section)
 
     line_leaves : (kind : EventKind) (micro : Micro) → Leaves p (line_after m l kind p q micro found) kind found
-    line_leaves kinds.Commit micro = either kinds.Commit (inside.is_of_lock micro) _ _ (same kinds.Commit _ refl refl) (same kinds.Commit _ refl refl)
+    line_leaves kinds.Commit micro = same kinds.Commit _ refl refl
     line_leaves (kinds.LoadCell place) micro = same (kinds.LoadCell place) _ refl refl
     line_leaves kinds.ExchangeCell micro = same kinds.ExchangeCell _ refl refl
     line_leaves (kinds.PrivateLoad slot word) micro = fill (kinds.PrivateLoad slot word) slot q.made
@@ -180,11 +200,6 @@ module _ (m : Meaning) (l : Layout) (p : PartState) (once : (t : ℕ) → times_
       (leaves kinds.Advance (outside.collected p (x + 1)) (inl (collected p.nodes (x + 1))) refl) (same kinds.Advance p refl refl)
   advance _ = same kinds.Advance p refl refl
 
-  retire_section : (o : Option Published) → p.published ≡ o → ((x : Published) → p.published ≡ Some x → x.over ≡ true)
-      → Leaves p (outside.retire_after p o found) kinds.EpochForRetire found
-  retire_section None is over = same kinds.EpochForRetire p refl refl
-  retire_section (Some x) is over = record { slots = inl (omega arith); published = λ y at. inr (over y at) }
-
   hold : (t : Thunk) (d : ℕ) → p.published ≡ None → Leaves p (outside.hold_after t d p found) (kinds.Hold t d) found
   hold t d none = either (kinds.Hold t d) (found == t.word) _ _
       (record { slots = inl (omega arith); published = λ x is. absurd (none_some x (sym is ∙ none)) })
@@ -205,10 +220,9 @@ module _ (m : Meaning) (l : Layout) (p : PartState) (once : (t : ℕ) → times_
       by true = tested (x.cells == 5)
       by false = omega arith
 
-  -- a publication comes where nothing is published, and a section is retired where it is over
+  -- a publication comes where nothing is published
   abbrev pub MayGo : EventKind → Type 0
   MayGo (kinds.Hold t d) = p.published ≡ None
-  MayGo kinds.EpochForRetire = (x : Published) → p.published ≡ Some x → x.over ≡ true
   MayGo _ = Unit {0}
 
   pub outside_leaves : (kind : EventKind) → MayGo kind → Leaves p (outside_after m l kind p found) kind found
@@ -228,5 +242,4 @@ module _ (m : Meaning) (l : Layout) (p : PartState) (once : (t : ℕ) → times_
   outside_leaves (kinds.PrivateStore slot word number) may = same (kinds.PrivateStore slot word number) _ refl refl
   outside_leaves (kinds.Hold t d) may = hold t d may
   outside_leaves (kinds.LoadThunk (Some d)) may = same (kinds.LoadThunk (Some d)) _ refl refl
-  outside_leaves kinds.EpochForRetire may = retire_section p.published refl may
   outside_leaves kind may = same kind _ refl refl

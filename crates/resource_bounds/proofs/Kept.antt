@@ -1,7 +1,7 @@
 -- Each step raises a place's version no further than its runner's runs may.
 use Rattle.std.specs.Prelude.{◌==◌, ◌-◌, ◌%◌, ◌^◌, ◌⊎◌, ◌&&◌, ◌||◌, not, cond, Bool, true, false, if◌then◌else◌}
 use Rattle.std.proofs.Common.{◌≡◌, ◌≢◌, ℕ, zero, suc, ◌+◌, ◌*◌, ◌<◌, ◌≤◌, List, length, refl, sym, ap, ◌∙◌, subst, ⊎_elim, inl, inr, arith, Option, Some, None}
-use Rattle.std.proofs.lemmas.Bool.{cases_eq, and_parts}
+use Rattle.std.proofs.lemmas.Bool.{cases_eq}
 use Rattle.std.proofs.lemmas.Bool.Decides.{nat_tests}
 use Rattle.machine_states.specs.epoch_core.specs.small_lemmas.proofs.Numbers.{one_at_most as flag_few, tested_equal as test_same}
 use Rattle.machine_states.specs.map_history.specs.declared.op.Request.{Request}
@@ -26,7 +26,6 @@ use Rattle.machine_states.specs.runner_parts.specs.declared.entries.Published.{P
 use Rattle.machine_states.specs.runner_parts.specs.declared.event.EventKind.{EventKind}
 use Rattle.machine_states.specs.runner_parts.specs.declared.event.EventKind.TheVariants as kinds
 use Rattle.machine_states.specs.runner_parts.specs.State.{RunState, PartState}
-use Rattle.machine_states.specs.runner_parts.specs.Tests.{is_walking}
 use Rattle.machine_states.specs.runner_steps.specs.Asks.{ask_by, line_ask, opening_ask, outside_ask}
 use Rattle.machine_states.specs.runner_steps.specs.InRun.{is_slot}
 use Rattle.machine_states.specs.runner_steps.specs.Sections.{thunk_of, is_open_run, line_of, next_of}
@@ -35,7 +34,7 @@ use Rattle.machine_states.specs.runner_steps.specs.After.{after, after_by, line_
 use Rattle.agreement_core.specs.State.{Section}
 use Rattle.agreement_core.proofs.Lines.{exchange_unlocked}
 use Rattle.machine_states.specs.Sight.{Sight, parts_after}
-use Rattle.machine_states.proofs.Sights.{if_some, some_none, unless_gone, Joins, joins}
+use Rattle.machine_states.proofs.Sights.{some_none, unless_gone, Joins, joins}
 use Rattle.machine_states.proofs.Steps.{some_same}
 use Rattle.machine_states.proofs.Updates.{upd_here, upd_else, upd_split}
 use Rattle.machine_epochs.specs.Entries.{counts_of}
@@ -201,9 +200,9 @@ module _ (m : Meaning) (laws : Laws m) (l : Layout) (limits : IsWithinLimits l) 
     most : spent (weight p (index m p)) q.at (line_of m q) ≤ 4
     most = run_most m l st.beside s st.whole r q runs all p (index m p)
 
-    outer : (z : Published) → y.published ≡ Some z → z.descriptor ≡ q.descriptor → z.over ≡ false → (z.thunk.lock == p) ≡ true
+    outer : (z : Published) → y.published ≡ Some z → z.descriptor ≡ q.descriptor → (z.thunk.lock == p) ≡ true
         → spent (weight p (index m p)) q.at (line_of m q) ≤ 2
-    outer z is own over lock =
+    outer z is own lock =
         let same : thunk_of q.opened ≡ z.thunk =
         sym (opened_thunk m l st.beside.agreement s st.whole.sections r q runs all) ∙ (ap (thunk_in s.word) (sym own) ∙ thunk_there m l st.beside s st.whole r z is) in
         outer_most m l st.beside s st.whole r q runs all p (index m p) (ap (λ (t : Thunk). t.lock) same ∙ test_same z.thunk.lock p lock)
@@ -329,10 +328,9 @@ module _ (m : Meaning) (laws : Laws m) (l : Layout) (limits : IsWithinLimits l) 
     inside_fine true opened e = line_fine q runs opened kind refl e
     inside_fine false opened e = inl (opening_stays f p m l q x kind e, (opening_keeps m p l y found q runs (opening_few kind e)).up)
 
-  section_over : (kind' : EventKind) → outside_ask m l rs r kind' y ≡ Some x → MayGo m p l y found kind'
-  section_over (kinds.Hold t d) e = (hold_asked m l rs r t d y x e).unpublished
-  section_over kinds.EpochForRetire e = (and_parts (is_walking y.stage y.run) _ (if_some _ _ x e).0).1
-  section_over _ e = tt
+  may_go : (kind' : EventKind) → outside_ask m l rs r kind' y ≡ Some x → MayGo m p l y found kind'
+  may_go (kinds.Hold t d) e = (hold_asked m l rs r t d y x e).unpublished
+  may_go _ e = tt
 
   hold_fine : (none : y.run ≡ None) (t : Thunk) (d : ℕ) → outside_ask m l rs r (kinds.Hold t d) y ≡ Some x → Fine (outside_after m l (kinds.Hold t d) y found)
   hold_fine none t d e =
@@ -353,7 +351,7 @@ module _ (m : Meaning) (laws : Laws m) (l : Layout) (limits : IsWithinLimits l) 
 
   outside_fine : (none : y.run ≡ None) (kind' : EventKind) → outside_ask m l rs r kind' y ≡ Some x → Fine (outside_after m l kind' y found)
   outside_fine none (kinds.Hold t d) e = hold_fine none t d e
-  outside_fine none kind' e = inl (outside_stays f p m l rs r y x kind' refl e, (outside_keeps m p l y found none kind' (section_over kind' e)).up)
+  outside_fine none kind' e = inl (outside_stays f p m l rs r y x kind' refl e, (outside_keeps m p l y found none kind' (may_go kind' e)).up)
 
   fine : Fine (after_by m l kind y y.run found)
   fine = by y.run refl asked

@@ -1,7 +1,7 @@
 -- What Makes used up is kept along the machine's steps.
-use Rattle.std.specs.Prelude.{◌⊎◌, count_by, true, false, if◌then◌else◌}
+use Rattle.std.specs.Prelude.{◌⊎◌, count_by, true, if◌then◌else◌}
 use Rattle.std.proofs.Common.{◌≡◌, ◌≢◌, ℕ, zero, suc, ◌+◌, ◌<◌, ◌≤◌, List, length, refl, sym, ap, ◌∙◌, subst, ⊎_elim, inl, inr, arith, Option, Some, None}
-use Rattle.std.proofs.lemmas.Bool.{cases_eq, and_parts}
+use Rattle.std.proofs.lemmas.Bool.{cases_eq}
 use Rattle.machine_states.specs.epoch_core.specs.small_lemmas.proofs.Numbers.{chosen_here as one_here}
 use Rattle.machine_states.specs.map_history.specs.declared.op.Request.{Request}
 use Rattle.machine_states.specs.map_history.specs.Words.{adds_by}
@@ -28,21 +28,20 @@ use Rattle.machine_states.specs.runner_parts.specs.declared.event.Event.{Event}
 use Rattle.machine_states.specs.runner_parts.specs.declared.event.EventKind.{EventKind}
 use Rattle.machine_states.specs.runner_parts.specs.declared.event.EventKind.TheVariants as kinds
 use Rattle.machine_states.specs.runner_parts.specs.State.{RunState, PartState}
-use Rattle.machine_states.specs.runner_parts.specs.Tests.{is_walking}
 use Rattle.machine_states.specs.runner_steps.specs.Asks.{ask_by, line_ask, opening_ask, outside_ask}
-use Rattle.machine_states.specs.runner_steps.specs.Outside.{is_over}
-use Rattle.machine_states.specs.runner_steps.specs.Sections.{next_of}
+use Rattle.machine_states.specs.runner_steps.specs.Sections.{is_open_run, next_of}
 use Rattle.machine_states.specs.runner_steps.specs.After.{after_by}
 use Rattle.machine_states.specs.World.{World}
 use Rattle.machine_states.specs.Reached.{Reached}
 use Rattle.machine_states.specs.Sight.{Sight, sight, Steps}
-use Rattle.machine_states.proofs.Sights.{if_some, unless_gone, joins}
-use Rattle.machine_states.proofs.Steps.{some_same, none_some}
+use Rattle.machine_states.proofs.Sights.{unless_gone, joins}
+use Rattle.machine_states.proofs.Steps.{some_same}
 use Rattle.machine_states.proofs.Updates.{upd_here, upd_else}
 use Rattle.machine_epochs.specs.Slots.{thunk_in}
 use Rattle.machine_epochs.proofs.InsideAsked.{make_commit_asked}
 use Rattle.machine_epochs.proofs.OutsideAsked.{hold_asked}
 use Rattle.machine_epochs.proofs.RunPlaces.{next_in_line, open_run}
+use Rattle.reached_histories.specs.machine_facts.specs.machine_agreement.proofs.LineAsked as asked_line
 use Rattle.reached_histories.specs.machine_facts.specs.machine_agreement.proofs.RunPlaces.{run_here, used_here, opened_thunk}
 use Rattle.reached_histories.specs.machine_facts.specs.Steps.{WordsStand}
 use Rattle.reached_histories.specs.machine_facts.specs.States.{FactsStand}
@@ -60,7 +59,8 @@ use Rattle.agreement_core.specs.Runs.{TrailIsSound}
 use Rattle.machine_states.specs.epoch_core.specs.History.{is_out}
 use Rattle.resource_bounds.proofs.Lines.{makes_in, few_makes, some_make, makes_stay, makes_more}
 use Rattle.resource_bounds.proofs.MakesSums.{total, total_more}
-use Rattle.resource_bounds.proofs.Entries.{Stays, WinsMake, Leaves, inside_leaves, MayGo, outside_leaves}
+use Rattle.resource_bounds.proofs.Entries.{Stays, WinsMake, Ends, Leaves, inside_leaves, MayGo, outside_leaves}
+use Rattle.resource_bounds.proofs.Releases.{released_done}
 use Rattle.resource_bounds.proofs.Sections.{reply_new, publisher, unreplied, answers_new}
 
 order : (a b : ℕ) → (a < b) ⊎ (b ≤ a)
@@ -102,12 +102,6 @@ module _ (m : Meaning) (l : Layout) (rs : List Request) (s : Sight) (stands : Ha
 
     pub thunk_there : thunk_in s.word y.descriptor ≡ y.thunk
     thunk_there = facts.sound.sections.in_published.thunk r y is
-
-    -- a section that is over is done
-    pub over_done : y.over ≡ true → s.word (spots.DoneWord y.descriptor) ≢ 0
-    over_done over z =
-        (stands.whole.sections.sound.sections y.descriptor used_there).over_done ((stands.whole.sections.tied r).over y is over)
-        ((stands.whole.sections.sections y.descriptor).done ∙ z)
 
   -- once the published section is done, its request has its reply
   pub settled : (q n : ℕ) (y : Makes m l rs s q n) → s.word (spots.DoneWord y.section.descriptor) ≢ 0
@@ -185,13 +179,8 @@ module _ (m : Meaning) (laws : Laws m) (l : Layout) (limits : IsWithinLimits l) 
   asked : ask_by m l rs r e.kind p p.run ≡ Some x
   asked = (unless_gone _ p.gone _ x st.asked).1
 
-  section_over : (o : Option Published) → is_over o ≡ true → (y : Published) → o ≡ Some y → y.over ≡ true
-  section_over None h y is = absurd (none_some y (sym is))
-  section_over (Some z) h y is = subst (λ (u : Published). u.over ≡ true) (some_same z y is) h
-
   may : (kind : EventKind) → outside_ask m l rs r kind p ≡ Some x → MayGo m l p once found kind
   may (kinds.Hold t d) h = (hold_asked m l rs r t d p x h).unpublished
-  may kinds.EpochForRetire h = section_over p.published (and_parts (is_walking p.stage p.run) _ (if_some _ _ x h).0).1
   may _ h = tt
 
   own_leaves : Leaves p (after_by m l e.kind p p.run found) e.kind found
@@ -206,10 +195,18 @@ module _ (m : Meaning) (laws : Laws m) (l : Layout) (limits : IsWithinLimits l) 
   parts Q blind own rest i = subst (λ (y : Sight). Q i (y.part i)) (sym st.next)
       (each_part m l s r x Q blind e.kind (joins m l rs e.kind r p x st.asked) own rest i)
 
-  -- a published section stays until it is over
-  published_stays : (i : ℕ) (y : Published) → (s.part i).published ≡ Some y → Stays y (s'.part i).published ⊎ (y.over ≡ true)
-  published_stays = parts (λ i p'. (y : Published) → (s.part i).published ≡ Some y → Stays y p'.published ⊎ (y.over ≡ true))
+  -- a published section stays until its publisher has run it to its end
+  published_stays : (i : ℕ) (y : Published) → (s.part i).published ≡ Some y → Stays y (s'.part i).published ⊎ Ends p e.kind y.descriptor
+  published_stays = parts (λ i p'. (y : Published) → (s.part i).published ≡ Some y → Stays y p'.published ⊎ Ends p e.kind y.descriptor)
       (λ i p' records gone h. h) own_leaves.published (λ i ne y is. inl (y, is, refl, refl))
+
+  -- a run releases a lock behind the store of its section's done word
+  ended_done : (q : RunState) → p.run ≡ Some q → is_open_run q ≡ true → e.kind ≡ kinds.Release → s.word (spots.DoneWord q.descriptor) ≢ 0
+  ended_done q runs opened is z =
+      let in_line = subst (λ b. (if b then line_ask m l kinds.Release p.nodes.free q (next_of m q) else opening_ask kinds.Release q) ≡ Some x) opened
+      (subst (λ k. ask_by m l rs r k p (Some q) ≡ Some x) is (subst (λ o. ask_by m l rs r e.kind p o ≡ Some x) runs asked)) in
+      let h = asked_line.release_asked q x l (next_of m q) in_line in
+      released_done m l rs stands.beside s stands.whole r q runs opened h.0 h.1 h.2 ((stands.whole.sections.sections q.descriptor).done ∙ z)
 
   module _ (old : Counted m l rs s) where
     same_most : (q n : ℕ) → (n ≡ 0) ⊎ ((adds_by (s.word (spots.Reply q)) ≡ true) × (n ≤ 2)) → IsMost m l rs s' q n
@@ -243,9 +240,10 @@ module _ (m : Meaning) (laws : Laws m) (l : Layout) (limits : IsWithinLimits l) 
           adds = y.adds;
         }))
 
-        ends : (y : Makes m l rs s q n) → y.section.over ≡ true → IsMost m l rs s' q n
+        -- a section that is run to its end is done
+        ends : (y : Makes m l rs s q n) → Ends p e.kind y.section.descriptor → IsMost m l rs s' q n
         ends y is = same_most q n (settled m l rs s stands facts.before facts.there map q n y
-            (over_done m l rs s stands facts.before facts.there map (worker_of m l rs q) y.section y.published is))
+            (subst (λ d. s.word (spots.DoneWord d) ≢ 0) (sym is.of_section) (ended_done is.run is.runs is.opened is.is)))
 
     -- the step wins no commit of a Make
     kept : entry_count p.nodes ≤ entry_count (after_by m l e.kind p p.run found).nodes → Counted m l rs s'
@@ -315,7 +313,7 @@ module _ (m : Meaning) (laws : Laws m) (l : Layout) (limits : IsWithinLimits l) 
         abbrev n : ℕ
         n = t.request
 
-        own : (y : Published) × ((s.part (worker_of m l rs n)).published ≡ Some y) × (y.descriptor ≡ d) × (y.over ≡ false)
+        own : (y : Published) × ((s.part (worker_of m l rs n)).published ≡ Some y) × (y.descriptor ≡ d)
         own = publisher m l rs s stands d used q0.at k at edge
 
         few : n < length rs
@@ -324,7 +322,7 @@ module _ (m : Meaning) (laws : Laws m) (l : Layout) (limits : IsWithinLimits l) 
             (((reached_enabled m laws l limits rs allowed w reached).runs r q0 wins.runs).thunk all).request
 
         own_stays : Stays own.0 (s'.part (worker_of m l rs n)).published
-        own_stays = ⊎_elim (λ z. z) (λ is. absurd (let z = sym is ∙ own.3 in cc)) (published_stays (worker_of m l rs n) own.0 own.1)
+        own_stays = ⊎_elim (λ z. z) (λ ends. absurd (let z = sym wins.is ∙ ends.is in cc)) (published_stays (worker_of m l rs n) own.0 own.1)
 
         thunk_is : own.0.thunk ≡ t
         thunk_is = sym (thunk_there m l rs s stands facts.before facts.there map (worker_of m l rs n) own.0 own.1) ∙ ap (thunk_in s.word) own.2

@@ -1,5 +1,5 @@
 -- What a runner's runs may have raised, and what each step adds to it.
-use Rattle.std.specs.Prelude.{◌==◌, ◌-◌, ◌*◌, ◌%◌, ◌&&◌, ◌||◌, not, nat_lt, nat_le, cond, Bool, true, false, if◌then◌else◌}
+use Rattle.std.specs.Prelude.{◌==◌, ◌-◌, ◌*◌, ◌%◌, ◌&&◌, not, nat_lt, nat_le, cond, Bool, true, false, if◌then◌else◌}
 use Rattle.std.proofs.Common.{◌≡◌, ℕ, ◌+◌, ◌<◌, ◌≤◌, List, [], ◌∷◌, ◌++◌, length, length-append, refl, ap, ◌∙◌, arith, Option, Some, None}
 use Rattle.std.proofs.lemmas.Bool.Decides.{nat_tests}
 use Rattle.machine_states.specs.body_terms.specs.Line.{line, micro_at, is_end}
@@ -17,7 +17,6 @@ use Rattle.machine_states.specs.runner_parts.specs.declared.event.EventKind.TheV
 use Rattle.machine_states.specs.runner_parts.specs.State.{RunState, FinishedState, PartState}
 use Rattle.machine_states.specs.runner_parts.specs.Lists as lists
 use Rattle.machine_states.specs.runner_steps.specs.Sections.{thunk_of, line_of, next_of}
-use Rattle.machine_states.specs.runner_steps.specs.Outside.{is_over}
 use Rattle.machine_states.specs.epoch_core.specs.State.{last_epoch}
 use Rattle.machine_states.specs.runner_steps.specs.InRun.{last_clock}
 use Rattle.machine_states.specs.runner_steps.specs.AfterInRun as inside
@@ -33,14 +32,14 @@ module _ (m : Meaning) (p : ℕ) where
   abbrev pub spent_by : List ℕ → ℕ → ℕ
   spent_by opened at = cond (length opened == 13) (spent (weight p index) at (line (m.body (thunk_of opened)))) 0
 
-  -- what a run in progress may have raised, and a publication whose section isn't over
+  -- what a run in progress may have raised, and a publication
   abbrev pub by_run : Option RunState → ℕ
   by_run None = 0
   by_run (Some q) = spent_by q.opened q.at
 
   abbrev pub by_open : Option Published → ℕ
   by_open None = 0
-  by_open (Some x) = cond x.over 0 (cond (x.thunk.lock == p) 2 0)
+  by_open (Some x) = cond (x.thunk.lock == p) 2 0
 
   -- what a runner's runs may have raised
   abbrev pub charge : PartState → ℕ
@@ -114,22 +113,25 @@ module _ (m : Meaning) (p : ℕ) where
 
       -- what is known of the run
       module _ (most : spent (weight p index) q.at (line_of m q) ≤ 4)
-          (outer : (x : Published) → y.published ≡ Some x → x.descriptor ≡ q.descriptor → x.over ≡ false → (x.thunk.lock == p) ≡ true
+          (outer : (x : Published) → y.published ≡ Some x → x.descriptor ≡ q.descriptor → (x.thunk.lock == p) ≡ true
           → spent (weight p index) q.at (line_of m q) ≤ 2) where
-        over_keeps : (o : Option Published) → y.published ≡ o → by_run (Some q) + by_open o ≤ 4 + by_open (inside.over_if o q.descriptor)
+        over_keeps : (o : Option Published) → y.published ≡ o → by_run (Some q) + by_open o ≤ 4 + by_open (inside.kept_unless o q.descriptor)
         over_keeps None now = let e = by_opened_run q all in omega (arith, e, most)
-        over_keeps (Some x) now = by x.over (x.descriptor == q.descriptor) (x.thunk.lock == p) refl refl refl
+        over_keeps (Some x) now = by (x.descriptor == q.descriptor) (x.thunk.lock == p) refl refl
           where
             same_number : (a b : ℕ) → (a == b) ≡ true → a ≡ b
             same_number a b e = grind (arith, nat_tests)
 
-            by : (o d k : Bool) → x.over ≡ o → (x.descriptor == q.descriptor) ≡ d → (x.thunk.lock == p) ≡ k
-                → by_run (Some q) + cond o 0 (cond k 2 0) ≤ 4 + cond (o || d) 0 (cond k 2 0)
-            by true d k eo ed ek = let e = by_opened_run q all in omega (arith, e, most)
-            by false false k eo ed ek = let e = by_opened_run q all in omega (arith, e, most)
-            by false true false eo ed ek = let e = by_opened_run q all in omega (arith, e, most)
-            by false true true eo ed ek =
-                let e = by_opened_run q all in let two = outer x now (same_number x.descriptor q.descriptor ed) eo ek in omega (arith, e, two)
+            -- where another run ended, the publication stays
+            over_of : Bool → ℕ
+            over_of k = cond k 2 0
+
+            by : (d k : Bool) → (x.descriptor == q.descriptor) ≡ d → (x.thunk.lock == p) ≡ k
+                → by_run (Some q) + cond k 2 0 ≤ 4 + by_open (if d then None else Some x)
+            by false k ed ek = let e = by_opened_run q all in let stays = ap over_of ek in omega (arith, e, most, stays)
+            by true false ed ek = let e = by_opened_run q all in omega (arith, e, most)
+            by true true ed ek =
+                let e = by_opened_run q all in let two = outer x now (same_number x.descriptor q.descriptor ed) ek in omega (arith, e, two)
 
         released : (place : ℕ) → Keeps (inside.lock_released m l place y q found)
         released place = either (is_end (next_of m (inside.ended_more q))) _ _
@@ -159,8 +161,7 @@ module _ (m : Meaning) (p : ℕ) where
             by false = refl
 
         pub line_keeps : (kind : EventKind) (micro : Micro) → Keeps (line_after m l kind y q micro found)
-        line_keeps kinds.Commit micro = either (inside.is_of_lock micro) _ _
-            (gone _ _ refl refl (on_more q.at _) refl refl) (gone _ _ refl refl (on_more q.at _) refl refl)
+        line_keeps kinds.Commit micro = gone _ _ refl refl (on_more q.at _) refl refl
         line_keeps (kinds.LoadCell place) micro = gone _ _ refl refl (on_more q.at _) refl refl
         line_keeps kinds.ExchangeCell micro = loses _ (exchanged (inside.place_of micro))
         line_keeps (kinds.PrivateLoad slot word) micro = fill slot q.made
@@ -197,12 +198,6 @@ module _ (m : Meaning) (p : ℕ) where
     advance (stages.Scanning x next clear) = either (nat_lt x last_epoch) _ _ (collected (x + 1)) as_is
     advance _ = as_is
 
-    -- a section that is retired is over
-    retire : (o : Option Published) → y.published ≡ o → is_over o ≡ true → Keeps (outside.retire_after y o found)
-    retire None is over = as_is
-    retire (Some x) is over =
-        let before = ap by_open is in let none = ap {B = ℕ} (λ b. cond b 0 (cond (x.thunk.lock == p) 2 0)) over in record { up = omega (arith, before, none) }
-
     -- a publication raises its lock twice, with the release
     pub held : (t : Thunk) (d : ℕ) → y.published ≡ None → found ≡ t.word → t.lock ≡ p → charge y + 2 ≤ charge (outside.hold_after t d y found)
     held t d none won lock = by (found == t.word) (same_test found t.word won)
@@ -213,18 +208,18 @@ module _ (m : Meaning) (p : ℕ) where
         by : (b : Bool) → b ≡ true → charge y + 2 ≤ charge (if b then record y {
           published = Some (outside.published_by t d y);
           descriptors = lists.descriptor_taken y.descriptors d;
-          reads = lists.section_published (lists.cell_read y.reads t.lock found) d;
-        } else record y { reads = lists.holds_named (lists.cell_read y.reads t.lock found) found })
+          guards = lists.published_seen y.guards d;
+          reads = lists.cell_read y.reads t.lock found;
+        } else record y { reads = lists.cell_read y.reads t.lock found })
         by true e = let before = ap by_open none in let two = ap {B = ℕ} (λ b. cond b 2 0) (same_test t.lock p lock) in omega (arith, before, two)
         by false e = absurd (let z = e in cc)
 
     hold_keeps : (t : Thunk) (d : ℕ) → y.published ≡ None → Keeps (outside.hold_after t d y found)
     hold_keeps t d none = either (found == t.word) _ _ (record { up = let before = ap by_open none in omega (arith, before) }) (same _ refl refl refl)
 
-    -- a run begins where there is none, a publication comes where nothing is published, and a section is retired where it is over
+    -- a run begins where there is none, and a publication comes where nothing is published
     abbrev pub MayGo : EventKind → Type 0
     MayGo (kinds.Hold t d) = y.published ≡ None
-    MayGo kinds.EpochForRetire = is_over y.published ≡ true
     MayGo _ = Unit {0}
 
     entry : (request : ℕ) (reply : Bool) → Keeps (outside.entry_after request reply y found)
@@ -253,5 +248,4 @@ module _ (m : Meaning) (p : ℕ) where
     outside_keeps none (kinds.PrivateStore slot word number) may = same _ refl refl refl
     outside_keeps none (kinds.Hold t d) may = hold_keeps t d may
     outside_keeps none (kinds.LoadThunk (Some d)) may = record { up = let before = ap by_run none in omega (arith, before) }
-    outside_keeps none kinds.EpochForRetire may = retire y.published refl may
     outside_keeps none kind may = same _ refl refl refl

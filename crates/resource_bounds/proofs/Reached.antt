@@ -47,12 +47,11 @@ module _ (m : Meaning) (l : Layout) (g : Beside) (s : Sight) (whole : IsWhole m 
 
   open_few : (o : Option Published) → by_open m p o ≤ 4 * open_count o
   open_few None = omega arith
-  open_few (Some x) = by x.over (x.thunk.lock == p)
+  open_few (Some x) = by (x.thunk.lock == p)
     where
-      by : (o k : Bool) → cond o 0 (cond k 2 0) ≤ 4 * cond o 0 1
-      by true k = omega arith
-      by false true = omega arith
-      by false false = omega arith
+      by : (k : Bool) → cond k 2 0 ≤ 4 * 1
+      by true = omega arith
+      by false = omega arith
 
   charges : (n : ℕ) → sum_to (λ i. charge m p (s.part i)) n ≤ 4 * runs_below s.part n
   charges zero = omega arith

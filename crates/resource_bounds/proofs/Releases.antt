@@ -1,6 +1,7 @@
--- What a run releases at its end is a lock.
-use Rattle.std.specs.Prelude.{slice_index_or, true}
-use Rattle.std.proofs.Common.{◌≡◌, ℕ, zero, suc, ◌<◌, List, [], ◌∷◌, length, take, ⊎_elim, sym, refl, ap, ◌∙◌, arith, Some}
+-- What a run releases at its end is a lock, and its section is done.
+use Rattle.std.specs.Prelude.{slice_index_or, nat_le, true}
+use Rattle.std.proofs.Common.{◌≡◌, ◌≢◌, ℕ, zero, suc, ◌<◌, List, [], ◌∷◌, length, take, ⊎_elim, sym, refl, ap, ◌∙◌, subst, arith, Some}
+use Rattle.std.proofs.lemmas.Bool.Decides.{nat_tests}
 use Rattle.machine_states.specs.map_history.specs.declared.op.Request.{Request}
 use Rattle.machine_states.specs.body_terms.specs.declared.micro.Micro.{Micro}
 use Rattle.machine_states.specs.body_terms.specs.declared.micro.Micro.TheVariants as micros
@@ -11,12 +12,13 @@ use Rattle.machine_states.specs.table_words.specs.declared.layout.Layout.{Layout
 use Rattle.machine_states.specs.structure_laws.specs.Meaning.{Meaning}
 use Rattle.machine_states.specs.runner_parts.specs.State.{RunState}
 use Rattle.machine_states.specs.runner_steps.specs.Sections.{thunk_of, is_open_run, line_of, next_of}
+use Rattle.agreement_core.specs.Runs.{TrailIsSound}
 use Rattle.agreement_core.specs.State.{Section}
 use Rattle.agreement_core.proofs.Lines.{hold_lock}
 use Rattle.machine_states.specs.Sight.{Sight}
 use Rattle.machine_epochs.proofs.RunPlaces.{open_run}
 use Rattle.machine_scenes.specs.Shown.{rules_of}
-use Rattle.reached_histories.specs.machine_facts.specs.machine_agreement.proofs.RunPlaces.{used_here, code_here, of_thunk}
+use Rattle.reached_histories.specs.machine_facts.specs.machine_agreement.proofs.RunPlaces.{run_here, used_here, code_here, of_thunk}
 use Rattle.reached_histories.specs.machine_facts.specs.machine_agreement.proofs.Ends.{at_end}
 use Rattle.reached_histories.specs.machine_facts.specs.machine_agreement.proofs.Endings.{TakesIn, release_taken}
 use Rattle.reached_histories.specs.machine_facts.specs.machine_invariant.specs.Whole.{Beside, IsWhole}
@@ -56,3 +58,15 @@ module _ (m : Meaning) (l : Layout) (rs : List Request) (g : Beside) (s : Sight)
       let held = in_line.ordered.held_before nested.0 p nested.1 w (code_here m l g.agreement s whole.sections r q is all nested.0 ∙ here) in
       hold_lock (rules_of m l) x.lock x.code x.slot in_line held.0 p w held.2)
       (behind p w q.ended place.1)
+
+  -- it does so behind the store of the section's done word
+  pub released_done : (p w : ℕ) → next_of m q ≡ micros.Release p w → x.done ≢ 0
+  released_done p w next =
+      let here = run_here m l g.agreement s whole.sections r q is in
+      let trail = subst (λ i. TrailIsSound (g.agreement.section i) (g.agreement.run r)) here.descriptor (whole.sections.sound.runs r here.running).in_trail in
+      let place = at_end m l rs g.agreement s whole.sections r q is opened (micros.Release p w) (omega arith) next in
+      trail.ended_done (here.ended ∙ past q.ended place.1)
+    where
+      past : (n : ℕ) → slice_index_or (ending (line_of m q) q.at t.lock t.word) n micros.End ≡ micros.Release p w → nat_le 1 n ≡ true
+      past zero e = absurd (let z : micros.SetDone ≡ micros.Release p w = e in cc)
+      past (suc n) e = grind (arith, nat_tests)

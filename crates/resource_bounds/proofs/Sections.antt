@@ -1,5 +1,5 @@
 -- What the history says of a section that has agreed on a Make, or is about to.
-use Rattle.std.specs.Prelude.{◌==◌, ◌⊎◌, not, cond, Bool, true, false, Contains}
+use Rattle.std.specs.Prelude.{◌==◌, ◌⊎◌, not, Bool, true, false, Contains}
 use Rattle.std.proofs.Common.{◌≡◌, ◌≢◌, ℕ, zero, suc, ◌<◌, ◌≤◌, List, refl, sym, ap, ◌∙◌, subst, ⊎_elim, arith, Option, Some, None}
 use Rattle.std.proofs.lemmas.Bool.Decides.{nat_tests}
 use Rattle.machine_states.specs.epoch_core.specs.small_lemmas.proofs.Bools.{from_both as true_not_false}
@@ -198,18 +198,14 @@ module _ (m : Meaning) (l : Layout) (rs : List Request) (s : Sight) (stands : Ha
       going = section_tied.done ∙ ap (λ n. not (n == 0)) undone
 
       -- its worker has published it
-      pub publisher : (y : Published) × ((s.part (c.worker t.request)).published ≡ Some y) × (y.descriptor ≡ d) × (y.over ≡ false)
+      pub publisher : (y : Published) × ((s.part (c.worker t.request)).published ≡ Some y) × (y.descriptor ≡ d)
       publisher = linked (s.part (c.worker t.request)).published refl
           (sym (stands.kept.published (c.worker t.request)) ∙ (ap (λ n. h.published (c.worker n)) (sym request_is) ∙ sound.sections.published d used_there going))
         where
           linked : (o : Option Published) → (s.part (c.worker t.request)).published ≡ o → link_of o ≡ suc d
-              → (y : Published) × ((s.part (c.worker t.request)).published ≡ Some y) × (y.descriptor ≡ d) × (y.over ≡ false)
+              → (y : Published) × ((s.part (c.worker t.request)).published ≡ Some y) × (y.descriptor ≡ d)
           linked None is e = absurd (omega (arith, e))
-          linked (Some y) is e = let both = by y.over e in (y, is, both.0, both.1)
-            where
-              by : (b : Bool) → cond b 0 (suc y.descriptor) ≡ suc d → (y.descriptor ≡ d) × (b ≡ false)
-              by true z = absurd (omega (arith, z))
-              by false z = (omega (arith, z), refl)
+          linked (Some y) is e = (y, is, omega (arith, e))
 
       -- and its request has no reply
       pub unreplied : s.word (spots.Reply t.request) ≡ 0

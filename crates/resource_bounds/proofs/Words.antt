@@ -116,8 +116,9 @@ module _ (f : Spot → ℕ) (p : ℕ) where
     outside_stays (kinds.PrivateStore slot word number) no_change e =
         subst Stays (outside.private_store_asked m l slot word number y x e).1 (store_stays (slot - slot_count l m.fixed_slots) word number)
     outside_stays (kinds.Hold thunk d) no_change e = absurd (true≢false no_change)
+    outside_stays (kinds.Guard d) no_change e = subst Stays (outside.guard_asked l r d y x e).is refl
+    outside_stays (kinds.LoadGuard n) no_change e = loaded _ x (outside.load_guard_asked l n y x e).is
     outside_stays (kinds.LoadThunk (Some d)) no_change e = loaded _ x (outside.open_asked d y x e).3
-    outside_stays kinds.EpochForRetire no_change e = loaded _ x (outside.retire_asked y x e).4
     outside_stays (kinds.ReadPlan thunk) no_change e = subst Stays (reads.read_plan_asked r thunk y x e).is refl
     outside_stays kinds.ReadClock no_change e = loaded _ x (reads.read_clock_asked y x e).is
     outside_stays kinds.ReadReply no_change e = subst Stays (reads.read_reply_asked m l rs r y x e).is refl

@@ -1,5 +1,5 @@
 -- How often the versions of cells were raised, by the runs of sections.
-use Rattle.std.specs.Prelude.{ℕ, zero, suc, ◌+◌, ◌*◌, ◌≤◌, cond, length, Option, Some, None}
+use Rattle.std.specs.Prelude.{ℕ, zero, suc, ◌+◌, ◌*◌, ◌≤◌, length, Option, Some, None}
 use Rattle.machine_states.specs.body_terms.specs.Word.{version_of}
 use Rattle.machine_states.specs.table_words.specs.declared.layout.Layout.{Layout}
 use Rattle.machine_states.specs.table_words.specs.declared.spot.Spot.TheVariants.{Cell}
@@ -15,7 +15,7 @@ run_count (Some q) = 1
 -- a section that was published and that its publisher hasn't run to its end
 abbrev pub open_count : Option Published → ℕ
 open_count None = 0
-open_count (Some x) = cond x.over 0 1
+open_count (Some x) = 1
 
 -- the runs of a runner: those that came to their end, the one in progress, and one for a section that it has
 -- published and not yet run to its end

@@ -4,6 +4,7 @@ ghost use Rattle.runner_steps.specs.table_words.specs.Limits.{IsWithinLimits};
 ghost use Rattle.runner_steps.specs.table_words.specs.Places.{sizes_of};
 ghost use Rattle.runner_steps.specs.Asks.{outside_ask, line_ask, opening_ask, inside_ask, ask_by, fitting, sizes_for, asks};
 
+use crate::guards::{guard_ask, load_guard_ask};
 use crate::inside::{
     clock_load_ask, clock_raise_ask, commit_ask, epoch_for_retire_ask, exchange_cell_ask,
     fill_load_ask, fill_store_ask, is_open_run, load_cell_ask, load_done_ask, make_commit_ask,
@@ -12,8 +13,7 @@ use crate::inside::{
 };
 use crate::outside::{
     advance_ask, announce_ask, enter_again_ask, enter_load_ask, entry_ask, hold_ask, idle_ask,
-    join_ask, open_ask, private_load_ask, private_store_ask, read_ask, retire_ask, scan_one_ask,
-    split_ask,
+    join_ask, open_ask, private_load_ask, private_store_ask, read_ask, scan_one_ask, split_ask,
 };
 use crate::reads::{read_clock_ask, read_plan_ask, read_reply_ask, read_stamp_ask};
 use runner_steps::body_terms::Micro;
@@ -150,11 +150,12 @@ fn outside_ask<S: Structure>(
             )
         }
         EventKind::LoadThunk(Some(descriptor)) => open_ask(part, *descriptor),
-        EventKind::EpochForRetire => retire_ask(part),
         EventKind::ReadPlan(thunk) => read_plan_ask(part, runner, thunk),
         EventKind::ReadClock => read_clock_ask(part),
         EventKind::ReadReply => read_reply_ask(part, structure, layout, requests, runner),
         EventKind::ReadStamp => read_stamp_ask(part),
+        EventKind::Guard(descriptor) => guard_ask(part, layout, runner, *descriptor),
+        EventKind::LoadGuard(number) => load_guard_ask(part, layout, *number),
         _ => None,
     }
 }

@@ -5,8 +5,9 @@ ghost use Rattle.runner_steps.specs.table_words.specs.Places.{slot_count, descri
 ghost use Rattle.runner_steps.specs.body_terms.specs.Word.{held_word, version_of};
 ghost use Rattle.runner_steps.specs.body_terms.specs.Memory.{cell_of};
 ghost use Rattle.runner_steps.specs.runner_parts.specs.Tests.{is_walking, is_between, is_open, serves};
-ghost use Rattle.runner_steps.specs.Outside.{enter_load_ask, announce_ask, enter_again_ask, idle_ask, scan_one_ask, advance_ask, split_ask, join_ask, read_ask, entry_ask, descriptor_spot, private_load_ask, private_store_ask, is_due, is_publishable, is_ready, hold_ask, open_ask, is_over, retire_ask};
+ghost use Rattle.runner_steps.specs.Outside.{enter_load_ask, announce_ask, enter_again_ask, idle_ask, scan_one_ask, advance_ask, split_ask, join_ask, read_ask, entry_ask, descriptor_spot, private_load_ask, private_store_ask, is_due, is_publishable, is_ready, hold_ask, open_ask};
 
+use crate::guards::{is_sure_of, names};
 use crate::knowledge::{
     is_between, is_next, is_open, is_outside, is_readable, is_resting, is_walking,
 };
@@ -15,7 +16,7 @@ use runner_steps::body_terms::{Place, Thunk, Word};
 use runner_steps::map_history::Request;
 use runner_steps::runner_parts::epoch_core::{LAST_EPOCH, Stage};
 use runner_steps::runner_parts::structure_laws::Structure;
-use runner_steps::runner_parts::{Known, Part, Published, Reads, Records, has};
+use runner_steps::runner_parts::{Known, Part, Reads, Records, has};
 use runner_steps::table_words::{Access, Layout, Spot};
 use runner_steps::{cell_place, descriptor_count, descriptor_spot, held_word, slot_count};
 
@@ -73,20 +74,11 @@ pub fn advance_ask(layout: Layout, stage: Stage) -> Option<(Spot, Access)>
     }
 }
 
-/// Whether a published section was run to its end.
-fn is_over(published: Option<Published>) -> bool
-    ensures { result ≡ is_over published }
-{
-    match published {
-        None => false,
-        Some(section) => section.over,
-    }
-}
-
 pub fn idle_ask(part: &Part, runner: u32) -> Option<(Spot, Access)>
     ensures { result ≡ idle_ask runner part.now }
 {
-    let over = part.published.is_none() && !is_between(&part.reads.look);
+    let settled = part.published.is_none() && part.guards.named.is_none();
+    let over = settled && !is_between(&part.reads.look);
     if is_walking(part.stage, &part.run) && over {
         Some((Spot::Announcement(runner), Access::Stores(0)))
     } else {
@@ -186,24 +178,14 @@ pub fn private_store_ask<S: Structure>(
 pub fn open_ask(part: &Part, descriptor: u32) -> Option<(Spot, Access)>
     ensures { result ≡ open_ask descriptor part.now }
 {
-    if is_walking(part.stage, &part.run) && has(&part.reads.held, descriptor) {
+    if is_walking(part.stage, &part.run) && is_sure_of(&part.guards, descriptor) {
         Some((Spot::ThunkWord(descriptor, 0), Access::Loads))
     } else {
         None
     }
 }
 
-pub fn retire_ask(part: &Part) -> Option<(Spot, Access)>
-    ensures { result ≡ retire_ask part.now }
-{
-    if is_walking(part.stage, &part.run) && is_over(part.published) {
-        Some((Spot::Epoch, Access::Loads))
-    } else {
-        None
-    }
-}
-
-/// Whether the runner is entered, in no run, has no section left to retire, and no reply of a read without its stamp.
+/// Whether the runner is entered, in no run, has no published section, and no reply of a read without its stamp.
 fn may_begin(part: &Part) -> bool
     ensures { result ≡ (is_walking part.now.stage part.now.run && (is_none part.now.published
         && not (is_between part.now.reads.look))) }
@@ -213,7 +195,7 @@ fn may_begin(part: &Part) -> bool
 }
 
 /// Whether the thunk may be published: it serves the worker's next request, its lock's word was read free, no
-/// section is left to retire, and no reply of a read is without its stamp.
+/// section of the runner's is published, and no reply of a read is without its stamp.
 pub fn is_publishable<S: Structure>(
     part: &Part,
     structure: &S,
@@ -250,6 +232,7 @@ pub fn is_ready(part: &Part, layout: Layout, descriptor: u32, thunk: &Thunk) -> 
     let operands: &[u64] = &thunk.operands;
     descriptor < descriptor_count(layout)
         && has(&part.descriptors.free, descriptor)
+        && names(&part.guards, descriptor)
         && operands.len() == 8
         && is_prepared(&part.descriptors.stored, descriptor, thunk)
 }

@@ -3,9 +3,8 @@ use Rattle.std.specs.Prelude.{ℕ, ◌+◌, Bool, true, false, ◌==◌, ◌||�
 use Rattle.machine_states.specs.body_terms.specs.Word.{version_of}
 use Rattle.machine_states.specs.table_words.specs.declared.layout.Layout.{Layout}
 use Rattle.machine_states.specs.runner_parts.specs.Lists.{nodes_looked, slot_taken, slot_made, slot_back, slot_retired}
-use Rattle.machine_states.specs.runner_steps.specs.AfterOutside.{retire_after}
 use Rattle.runner_block.specs.declared.block.Block.{Block}
-use Rattle.runner_block.specs.Kept.{with_part, with_nodes}
+use Rattle.runner_block.specs.Kept.{KeptState, with_part, with_nodes, over_in}
 
 -- the block after a private load in a run, of which a Make has its slot in the hand, or not yet
 abbrev pub block_filling : Block → ℕ → Bool → Block
@@ -43,8 +42,20 @@ block_made b slot won = record {
 
 -- after the load of the epoch for a retirement
 abbrev pub block_retired : Block → ℕ → Block
-block_retired b epoch = if b.place.inside then record b { place = record (b.place) { epoch = epoch } }
-    else record b { lists = with_part b.lists (retire_after b.lists.part b.lists.part.published epoch) }
+block_retired b epoch = record b { place = record (b.place) { epoch = epoch } }
+
+-- the lists after the release of a lock, which was the section's own, released last, or a nested one
+abbrev pub lists_released : KeptState → ℕ → Bool → KeptState
+lists_released lists descriptor true = with_part lists (over_in lists.part descriptor)
+lists_released lists descriptor false = lists
+
+-- after the release of this lock
+abbrev pub block_released : Block → ℕ → Block
+block_released b lock =
+    record {
+      lists = lists_released b.lists b.place.descriptor (lock == b.place.lock);
+      place = record (b.place) { inside = false };
+    }
 
 -- after the commit of a retirement
 abbrev pub block_slot_retired : Block → ℕ → Bool → Block

@@ -1,11 +1,13 @@
 -- What a runner's code keeps of its part.
-use Rattle.std.specs.Prelude.{ℕ, [], Bool, Option, Some, None, false, if◌then◌else◌}
+use Rattle.std.specs.Prelude.{ℕ, List, [], Bool, Option, Some, None, if◌then◌else◌}
 use Rattle.machine_states.specs.body_terms.specs.declared.thunk.Thunk.{Thunk}
 use Rattle.machine_states.specs.epoch_core.specs.declared.stage.Stage.{Stage}
 use Rattle.machine_states.specs.epoch_core.specs.declared.stage.Stage.TheVariants as stages
 use Rattle.machine_states.specs.runner_parts.specs.declared.entries.Published.{Published}
-use Rattle.machine_states.specs.runner_parts.specs.State.{PartState, NodesState}
-use Rattle.machine_states.specs.runner_parts.specs.Lists.{without}
+use Rattle.machine_states.specs.runner_parts.specs.State.{PartState, NodesState, GuardsState}
+use Rattle.machine_states.specs.runner_parts.specs.Lists.{without, no_guards, with_looked}
+use Rattle.machine_states.specs.runner_steps.specs.AfterOutside.{with_stage}
+use Rattle.machine_states.specs.runner_steps.specs.AfterInRun.{kept_unless, retired_if}
 
 -- what a runner's code keeps of its part, and for how many node slots its lists have room
 pub record KeptState : Type 0 where
@@ -28,7 +30,7 @@ no_thunk = record { form = 0; request = 0; lock = 0; word = 0; operands = [] }
 abbrev pub published_as : Option ℕ → Option Published
 published_as None = None
 published_as (Some descriptor) =
-    Some (record { descriptor = descriptor; thunk = no_thunk; walked = 0; known = 0; over = false })
+    Some (record { descriptor = descriptor; thunk = no_thunk; walked = 0; known = 0 })
 
 -- the epoch that a runner loaded and has to announce
 abbrev pub loaded_of : Stage → ℕ
@@ -51,3 +53,22 @@ published_in p descriptor =
 -- and after an exchange that was to publish it, which won or lost
 abbrev pub held_in : PartState → ℕ → Bool → PartState
 held_in p descriptor won = if won then published_in p descriptor else p
+
+-- of what is guarded the code keeps the guard words that a sweep in progress has read; what its own word names, and of
+-- what the runner is sure, no step asks of the code
+abbrev pub only_looked : List ℕ → GuardsState
+only_looked words = with_looked no_guards words
+
+-- of what the code keeps, after the runner entered with this epoch: a sweep in progress counts for nothing
+abbrev pub entered_in : PartState → ℕ → PartState
+entered_in p epoch =
+    record (with_stage p (stages.Entered epoch)) { guards = with_looked p.guards [] }
+
+-- of what the code keeps, after a run of this descriptor came to its end: where it is that of the own section, the
+-- descriptor goes into limbo
+abbrev pub over_in : PartState → ℕ → PartState
+over_in p descriptor =
+    record p {
+      published = kept_unless p.published descriptor;
+      descriptors = retired_if p.descriptors p.published descriptor;
+    }

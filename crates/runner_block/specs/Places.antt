@@ -7,10 +7,12 @@ abbrev pub begun_place : RunPlace → ℕ → RunPlace
 begun_place kept descriptor =
     record kept { descriptor = descriptor; agreed = 0; epoch = 0; making = false; worn = false }
 
--- the place after the load of the thunk word with this index: the first one begins a run, the second one is its request
+-- the place after the load of the thunk word with this index: the first one begins a run, the second one is its
+-- request, and the third one its section's lock
 abbrev pub opened_place : RunPlace → ℕ → ℕ → ℕ → RunPlace
 opened_place kept descriptor index word = if index == 0 then begun_place kept descriptor
-    else if index == 1 then record kept { request = word % 2 ^ 32 } else kept
+    else if index == 1 then record kept { request = word % 2 ^ 32 }
+    else if index == 2 then record kept { lock = word % 2 ^ 32 } else kept
 
 -- the place of a runner in no run
 pub record IsAtRest (kept : RunPlace) : Type 0 where

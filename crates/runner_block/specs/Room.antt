@@ -1,21 +1,21 @@
 -- A runner's lists as its code keeps them, with reserved room.
-use Rattle.std.specs.Prelude.{◌≡◌, ℕ, ◌<◌, ◌≤◌, ◌^◌, List, [], ◌∷◌, ◌++◌, true, false, ◌==◌, not, Option, Some, None}
+use Rattle.std.specs.Prelude.{◌≡◌, ℕ, ◌<◌, ◌≤◌, ◌^◌, List, [], ◌∷◌, ◌++◌, true, false, ◌==◌, not, Option, Some, None, if◌then◌else◌}
 use Rattle.std.specs.List.{filter, list_any}
-use Rattle.machine_states.specs.runner_parts.specs.declared.entries.Retired.{Retired}
 use Rattle.machine_states.specs.runner_parts.specs.declared.entries.Tested.{Tested}
 use Rattle.machine_states.specs.runner_parts.specs.State.{NodesState}
 use Rattle.machine_states.specs.runner_parts.specs.Tests.{has}
-use Rattle.machine_states.specs.runner_parts.specs.Lists.{without, is_old, slots_of, entry_count}
+use Rattle.machine_states.specs.runner_parts.specs.Lists.{without, slots_of, entry_count}
+use Rattle.machine_states.specs.guard_core.specs.Moves.{is_unnamed}
 
 -- the lists of own node slots, and for how many slots each has room
 pub record NodesKept : Type 0 where
   pub lists : NodesState
   pub room : ℕ
 
--- the lists of own descriptors, and the one with which a section is published that wasn't retired yet
+-- the lists of own descriptors, and the one with which a section is published that wasn't run to its end yet
 pub record DescriptorsKept : Type 0 where
   pub free : List ℕ
-  pub limbo : List Retired
+  pub limbo : List ℕ
   pub published : Option ℕ
 
 -- no slot is tested twice, and each is below this number
@@ -68,22 +68,27 @@ first_nodes free room =
 abbrev pub first_descriptors : List ℕ → DescriptorsKept
 first_descriptors free = record { free = free; limbo = []; published = None }
 
-abbrev pub sections_collected : ℕ → DescriptorsKept → DescriptorsKept
-sections_collected epoch d =
+-- at the end of a sweep that read these guard words, the descriptors that none of them names are free
+abbrev pub sections_swept : List ℕ → DescriptorsKept → DescriptorsKept
+sections_swept words d =
     record d {
-      free = d.free ++ slots_of (filter (is_old epoch) d.limbo);
-      limbo = filter (λ x. not (is_old epoch x)) d.limbo;
+      free = d.free ++ filter (is_unnamed words) d.limbo;
+      limbo = filter (λ x. not (is_unnamed words x)) d.limbo;
     }
 
 -- a section was published with this descriptor
 abbrev pub section_held : DescriptorsKept → ℕ → DescriptorsKept
 section_held d descriptor = record d { free = without d.free descriptor; published = Some descriptor }
 
--- the published section was retired with this epoch
-abbrev pub retired_with : DescriptorsKept → Option ℕ → ℕ → DescriptorsKept
-retired_with d None epoch = d
-retired_with d (Some descriptor) epoch =
-    record d { limbo = d.limbo ++ record { slot = descriptor; epoch = epoch } ∷ []; published = None }
+-- a run of this descriptor came to its end: where it is that of the published section, it goes into limbo
+abbrev pub retired_own : DescriptorsKept → Option ℕ → ℕ → DescriptorsKept
+retired_own d None descriptor = d
+retired_own d (Some own) descriptor =
+    if own == descriptor then record d { limbo = d.limbo ++ descriptor ∷ []; published = None } else d
 
-abbrev pub section_retired : DescriptorsKept → ℕ → DescriptorsKept
-section_retired d epoch = retired_with d d.published epoch
+abbrev pub section_over : DescriptorsKept → ℕ → DescriptorsKept
+section_over d descriptor = retired_own d d.published descriptor
+
+-- a sweep reads no more guard words: those of at most 16 workers and of the keeper
+abbrev pub most_guards : ℕ
+most_guards = 17

@@ -1,14 +1,14 @@
 //! What a runner's code keeps, in one block of memory.
 ghost use Rattle.std.specs.Prelude.{◌≡◌, ◌<◌, true, false};
 ghost use Rattle.machine_states.specs.runner_parts.specs.Tests.{has};
-ghost use Rattle.runner_block.specs.Blocks.{block_looked, block_stored, block_made, block_slot_retired, block_retired};
+ghost use Rattle.runner_block.specs.Blocks.{block_looked, block_stored, block_made, block_slot_retired, block_retired, block_released};
 ghost use Rattle.runner_block.specs.Room.{AreFew};
 ghost use Rattle.machine_states.specs.runner_parts.specs.Lists.{slot_retired};
 ghost use Rattle.runner_block.specs.Looks.{MayTake};
 
 use crate::kept::Kept;
 use crate::place::RunPlace;
-use machine_states::body_terms::Word;
+use machine_states::body_terms::{Place, Word};
 use machine_states::table_words::Layout;
 
 /// The stage and the lists, and of a run in progress its place.
@@ -84,14 +84,20 @@ impl Block {
         self.place.agreed += 1;
     }
 
-    /// The epoch was loaded for a retirement: outside a run it is that of the published section.
+    /// The epoch was loaded for the retirement of a node slot.
     pub fn retired(&mut self, epoch: u64)
         ensures { self.new ≡ block_retired self.old epoch }
     {
-        if self.place.inside {
-            self.place.epoch = epoch;
-        } else {
-            self.lists.retire(epoch);
+        self.place.epoch = epoch;
+    }
+
+    /// A lock was released, so the run is at its end, and with the section's own lock it is over.
+    pub fn released(&mut self, lock: Place)
+        ensures { self.new ≡ block_released self.old lock }
+    {
+        if lock == self.place.lock {
+            self.lists.end_run(self.place.descriptor);
         }
+        self.place.inside = false;
     }
 }

@@ -3,18 +3,17 @@ ghost use Rattle.std.specs.Prelude.{◌≡◌, ◌+◌, ◌<◌, ◌≤◌, ◌^
 ghost use Rattle.machine_states.specs.runner_parts.specs.Tests.{has};
 ghost use Rattle.machine_states.specs.epoch_core.specs.Lists.{times};
 ghost use Rattle.machine_states.specs.First.{falling};
-ghost use Rattle.runner_block.specs.Room.{first_descriptors, sections_collected, section_held, section_retired};
+ghost use Rattle.runner_block.specs.Room.{first_descriptors, sections_swept, section_held, section_over};
 
-use crate::reserved::{falling, take_out, wait_over};
-use machine_states::runner_parts::Retired;
+use crate::reserved::{falling, free_unnamed, take_out};
 use std::alloc::{AllocError, Global};
 use std::marker::Model;
 
-/// The lists of own descriptors, and the one with which a section is published that wasn't retired yet.
+/// The lists of own descriptors, and the one with which a section is published that wasn't run to its end yet.
 #[derive(Drop)]
 pub struct DescriptorLists {
     free: Vec<u32>,
-    limbo: Vec<Retired>,
+    limbo: Vec<u32>,
     published: Option<u32>,
 }
 
@@ -58,11 +57,11 @@ impl DescriptorLists {
         self.limbo.len() as u32
     }
 
-    /// The descriptors that have waited long enough go from limbo to the free list.
-    pub fn collect(&mut self, epoch: u64)
-        ensures { self.new ≡ sections_collected epoch self.old }
+    /// A sweep read these guard words: the descriptors that none of them names go from limbo to the free list.
+    pub fn sweep(&mut self, words: &[u64])
+        ensures { self.new ≡ sections_swept words.now self.old }
     {
-        wait_over(&mut self.free, &mut self.limbo, epoch);
+        free_unnamed(&mut self.free, &mut self.limbo, words);
     }
 
     /// A section was published with this free descriptor, mostly the last one.
@@ -76,13 +75,15 @@ impl DescriptorLists {
         self.published = Some(descriptor);
     }
 
-    /// The epoch was loaded to retire the published section: its descriptor goes into limbo.
-    pub fn retire(&mut self, epoch: u64)
-        ensures { self.new ≡ section_retired self.old epoch }
+    /// A run of this descriptor came to its end: where it is the published one, it goes into limbo.
+    pub fn end_run(&mut self, descriptor: u32)
+        ensures { self.new ≡ section_over self.old descriptor }
     {
-        if let Some(slot) = self.published {
-            self.limbo.push_reserved(Retired { slot, epoch });
-            self.published = None;
+        if let Some(own) = self.published {
+            if own == descriptor {
+                self.limbo.push_reserved(descriptor);
+                self.published = None;
+            }
         }
     }
 }

@@ -3,14 +3,16 @@ ghost use Rattle.std.specs.Prelude.{◌≡◌, ◌+◌, ◌<◌, ◌≤◌, ◌^
 ghost use Rattle.machine_states.specs.runner_parts.specs.declared.event.EventKind.TheVariants as kinds;
 ghost use Rattle.machine_states.specs.runner_parts.specs.Tests.{has};
 ghost use Rattle.machine_states.specs.epoch_core.specs.Lists.{times};
-ghost use Rattle.machine_states.specs.runner_steps.specs.AfterOutside.{with_stage, collected, scan_one_after, advance_after, split_after, retire_after};
+ghost use Rattle.machine_states.specs.runner_steps.specs.AfterOutside.{with_stage, collected, scan_one_after, advance_after, split_after};
+ghost use Rattle.machine_states.specs.runner_steps.specs.Guards.{load_guard_after};
 ghost use Rattle.machine_states.specs.runner_parts.specs.Lists.{slot_taken, slot_made, slot_back, slot_retired, nodes_looked};
 ghost use Rattle.runner_block.specs.Scans.{scan_of};
-ghost use Rattle.runner_block.specs.Kept.{loaded_of, scanned_of, held_in, with_part, with_nodes};
-ghost use Rattle.runner_block.specs.Room.{AreFew};
+ghost use Rattle.runner_block.specs.Kept.{loaded_of, scanned_of, held_in, entered_in, over_in, with_part, with_nodes};
+ghost use Rattle.runner_block.specs.Room.{AreFew, most_guards};
 ghost use Rattle.machine_states.specs.First.{falling, first_part};
 
 use crate::descriptors::DescriptorLists;
+use crate::guards::GuardWords;
 use crate::nodes::NodeLists;
 use crate::stage_fields::StageFields;
 use machine_states::body_terms::{Body, Trail};
@@ -39,14 +41,15 @@ impl RunRoom {
     }
 }
 
-/// What a runner's code keeps of its part: its stage, its lists, and of the keeper how many workers were
-/// split off. The lists have room for each slot of their kind, so that no step takes memory. Beside these
-/// there is the room for a run: contracts don't see it.
+/// What a runner's code keeps of its part: its stage, its lists, the guard words of a sweep in progress, and of the
+/// keeper how many workers were split off. The lists have room for each slot of their kind, so that no step takes memory.
+/// Beside these there is the room for a run: contracts don't see it.
 #[derive(Drop)]
 pub struct Kept {
     stage: StageFields,
     nodes: NodeLists,
     descriptors: DescriptorLists,
+    guards: GuardWords,
     splits: u32,
     run: Option<Box<RunRoom, Global>>,
 }
@@ -54,7 +57,7 @@ pub struct Kept {
 impl Model for Kept {
     ghost use Rattle.std.specs.Prelude.{None, [], false};
     ghost use Rattle.machine_states.specs.runner_parts.specs.Lists.{no_reads};
-    ghost use Rattle.runner_block.specs.Kept.{KeptState, published_as};
+    ghost use Rattle.runner_block.specs.Kept.{KeptState, published_as, only_looked};
 
     ghost Value = { KeptState };
 
@@ -65,6 +68,7 @@ impl Model for Kept {
         published = published_as a.descriptors.published;
         nodes = a.nodes.lists;
         descriptors = record { free = a.descriptors.free; stored = []; limbo = a.descriptors.limbo };
+        guards = only_looked a.guards;
         reads = no_reads;
         records = record {
           known = [];
@@ -113,6 +117,7 @@ impl Kept {
                 descriptors.count,
                 descriptors.room,
             )?,
+            guards: GuardWords::new(alloc)?,
             splits: 0,
             run: Some(Box::new(alloc, RunRoom::new())?),
         })
@@ -208,7 +213,6 @@ impl Kept {
         ensures { self.new ≡ with_part self.old (collected self.old.part epoch) }
     {
         self.nodes.collect(epoch);
-        self.descriptors.collect(epoch);
         self.stage.set(Stage::Idle);
     }
 
@@ -273,11 +277,34 @@ impl Kept {
         }
     }
 
-    /// The epoch was loaded to retire the published section.
-    pub fn retire(&mut self, epoch: u64)
-        ensures { self.new ≡ with_part self.old (retire_after self.old.part self.old.part.published epoch) }
+    /// The runner entered with this epoch: a sweep in progress counts for nothing.
+    pub fn enter(&mut self, epoch: u64)
+        ensures { self.new ≡ with_part self.old (entered_in self.old.part epoch) }
     {
-        self.descriptors.retire(epoch);
+        self.stage.set(Stage::Entered(epoch));
+        self.guards.forget();
+    }
+
+    /// A sweep read one more guard word. After the last one it is over, and the retired descriptors that none of its
+    /// words names are free.
+    pub fn load_guard(&mut self, layout: Layout, found: u64)
+        requires limits { layout.runners < most_guards }
+        requires few { length self.old.part.guards.looked ≤ layout.runners }
+        ensures { self.new ≡ with_part self.old (load_guard_after layout self.old.part found) }
+    {
+        let last = self.guards.words().len() == layout.runners as usize;
+        self.guards.read(found);
+        if last {
+            self.descriptors.sweep(self.guards.words());
+            self.guards.forget();
+        }
+    }
+
+    /// A run of this descriptor came to its end: where it is that of the own section, the descriptor goes into limbo.
+    pub fn end_run(&mut self, descriptor: u32)
+        ensures { self.new ≡ with_part self.old (over_in self.old.part descriptor) }
+    {
+        self.descriptors.end_run(descriptor);
     }
 
     /// A Make takes a free slot into the hand.

@@ -4,6 +4,7 @@ ghost use Rattle.std.specs.List.{filter};
 ghost use Rattle.std.specs.Vec.{vec_capacity};
 ghost use Rattle.machine_states.specs.runner_parts.specs.Lists.{is_old, slots_of, without, test_of, tests_without};
 ghost use Rattle.machine_states.specs.runner_parts.specs.Tests.{has};
+ghost use Rattle.machine_states.specs.guard_core.specs.Moves.{is_unnamed};
 ghost use Rattle.machine_states.specs.epoch_core.specs.Lists.{times};
 ghost use Rattle.machine_states.specs.First.{falling};
 
@@ -57,6 +58,44 @@ pub fn wait_over(list: &mut Vec<u32>, limbo: &mut Vec<Retired>, epoch: u64)
     if !limbo.is_empty() {
         move_old(list, limbo, epoch);
     }
+}
+
+/// Whether none of these guard words names this descriptor.
+fn is_unnamed(words: &[u64], descriptor: u32) -> bool
+    ensures { result ≡ is_unnamed words.now descriptor }
+{
+    for word in words {
+        if *word == descriptor as u64 + 1 {
+            return false;
+        }
+    }
+    true
+}
+
+/// The descriptors that none of these guard words names are added to the list.
+fn add_unnamed(list: &mut Vec<u32>, limbo: &[u32], words: &[u64])
+    requires { vec_len list.old + length limbo.now ≤ vec_capacity list.old }
+    ensures items { list.new.items ≡ list.old.items ++ filter (is_unnamed words.now) limbo.now }
+    ensures room { vec_capacity list.new ≡ vec_capacity list.old }
+{
+    for descriptor in limbo {
+        if is_unnamed(words, *descriptor) {
+            list.push_reserved(*descriptor);
+        }
+    }
+}
+
+/// The descriptors that none of these guard words names go from limbo into the list.
+pub fn free_unnamed(list: &mut Vec<u32>, limbo: &mut Vec<u32>, words: &[u64])
+    requires { vec_len list.old + vec_len limbo.old ≤ vec_capacity list.old }
+    ensures list { list.new.items ≡ list.old.items ++ filter (is_unnamed words.now) limbo.old.items }
+    ensures limbo { limbo.new.items ≡ filter (λ x. not (is_unnamed words.now x)) limbo.old.items }
+    ensures sum { vec_len list.new + vec_len limbo.new ≡ vec_len list.old + vec_len limbo.old }
+    ensures room { vec_capacity list.new ≡ vec_capacity list.old }
+    ensures limbo_room { vec_capacity limbo.new ≡ vec_capacity limbo.old }
+{
+    add_unnamed(list, limbo, words);
+    limbo.retain(|x| !is_unnamed(words, *x));
 }
 
 /// A list of this many numbers from this one on, in falling order, with room for `room` of them.

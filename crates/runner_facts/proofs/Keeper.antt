@@ -12,7 +12,7 @@ use Rattle.machine_states.specs.body_terms.specs.declared.micro.Micro.{Micro}
 use Rattle.machine_states.specs.body_terms.specs.declared.thunk.Thunk.{Thunk}
 use Rattle.machine_states.specs.table_words.specs.declared.layout.Layout.{Layout}
 use Rattle.machine_states.specs.table_words.specs.declared.spot.Spot.{Spot}
-use Rattle.machine_states.specs.table_words.specs.declared.spot.Spot.TheVariants.{Seat, Epoch, Clock, Announcement, Stamp, Reply, Cell, ThunkWord, DoneWord, LogWord}
+use Rattle.machine_states.specs.table_words.specs.declared.spot.Spot.TheVariants.{Seat, Epoch, Clock, Announcement, Guard, Stamp, Reply, Cell, ThunkWord, DoneWord, LogWord}
 use Rattle.machine_states.specs.table_words.specs.declared.access.Access.{Access}
 use Rattle.machine_states.specs.table_words.specs.Access.{written}
 use Rattle.machine_states.specs.table_words.specs.Limits.{IsWithinLimits}
@@ -69,6 +69,7 @@ put_here f Seat v = refl
 put_here f Epoch v = refl
 put_here f Clock v = refl
 put_here f (Announcement i) v = one_here i v _
+put_here f (Guard i) v = one_here i v _
 put_here f (Stamp i) v = one_here i v _
 put_here f (Reply i) v = one_here i v _
 put_here f (Cell i) v = one_here i v _
@@ -91,6 +92,8 @@ put_else f Clock Clock v ne = absurd (ne refl)
 put_else f Clock b v ne = refl
 put_else f (Announcement i) (Announcement i') v ne = one_else i i' v _ (λ e. ne (ap (λ n. Announcement n) (sym e)))
 put_else f (Announcement i) b v ne = refl
+put_else f (Guard i) (Guard i') v ne = one_else i i' v _ (λ e. ne (ap (λ n. Guard n) (sym e)))
+put_else f (Guard i) b v ne = refl
 put_else f (Stamp i) (Stamp i') v ne = one_else i i' v _ (λ e. ne (ap (λ n. Stamp n) (sym e)))
 put_else f (Stamp i) b v ne = refl
 put_else f (Reply i) (Reply i') v ne = one_else i i' v _ (λ e. ne (ap (λ n. Reply n) (sym e)))
@@ -232,7 +235,7 @@ module _ (m : Meaning) (l : Layout) (p : PartState) (none : p.published ≡ None
     make_none (Some t) = none
 
     line_none : (kind : EventKind) (micro : Micro) → IsUnpublished (line_after m l kind p q micro found)
-    line_none kinds.Commit micro = either (inside.is_of_lock micro) _ _ none none
+    line_none kinds.Commit micro = none
     line_none (kinds.LoadCell place) micro = none
     line_none kinds.ExchangeCell micro = none
     line_none (kinds.PrivateLoad slot word) micro = fill_none slot q.made
@@ -242,7 +245,7 @@ module _ (m : Meaning) (l : Layout) (p : PartState) (none : p.published ≡ None
     line_none kinds.EpochForRetire micro = none
     line_none kinds.SetDone micro = none
     line_none kinds.Release micro = either (is_end (next_of m (inside.ended_more q))) _ _
-        (ap (λ (o : Option Published). inside.over_if o q.descriptor) none) none
+        (ap (λ (o : Option Published). inside.kept_unless o q.descriptor) none) none
     line_none kinds.ClockLoad micro = none
     line_none kinds.StampExchange micro = either (nat_lt q.word last_clock) _ _ none none
     line_none kinds.ClockRaise micro = none
@@ -265,10 +268,6 @@ module _ (m : Meaning) (l : Layout) (p : PartState) (none : p.published ≡ None
   advance_none (stages.Scanning x next clear) = either (nat_lt x last_epoch) _ _ none none
   advance_none _ = none
 
-  retire_none : (o : Option Published) → IsUnpublished (outside.retire_after p o found)
-  retire_none None = none
-  retire_none (Some x) = refl
-
   -- a publication by the keeper isn't enabled
   outside_none : 1 ≤ l.runners → (rs : List Request) (kind : EventKind) (x : Spot × Access) → outside_ask m l rs l.runners kind p ≡ Some x
       → IsUnpublished (outside_after m l kind p found)
@@ -287,7 +286,6 @@ module _ (m : Meaning) (l : Layout) (p : PartState) (none : p.published ≡ None
   outside_none some rs (kinds.PrivateStore slot word number) x e = none
   outside_none some rs (kinds.Hold t d) x e = absurd (no_hold m l some rs t d p x e)
   outside_none some rs (kinds.LoadThunk (Some d)) x e = none
-  outside_none some rs kinds.EpochForRetire x e = retire_none p.published
   outside_none some rs _ x e = none
 
   after_none : 1 ≤ l.runners → (rs : List Request) (kind : EventKind) (o : Option RunState) (x : Spot × Access) → ask_by m l rs l.runners kind p o ≡ Some x

@@ -2,7 +2,6 @@
 use Rattle.std.specs.Prelude.{◌==◌, ◌&&◌, not, nat_lt, nat_le, cond, Bool, true, false, if◌then◌else◌}
 use Rattle.std.specs.List.{filter}
 use Rattle.std.proofs.Common.{◌≡◌, ℕ, suc, ◌+◌, List, [], ◌∷◌, ◌++◌, length, length-append, refl, ap, arith, Option, Some, None}
-use Rattle.std.proofs.lemmas.List.{length-map}
 use Rattle.std.proofs.lemmas.List.Filters.{length-filter_both}
 use Rattle.machine_states.specs.body_terms.specs.Line.{is_end}
 use Rattle.machine_states.specs.body_terms.specs.declared.micro.Micro.{Micro}
@@ -11,20 +10,22 @@ use Rattle.machine_states.specs.table_words.specs.declared.layout.Layout.{Layout
 use Rattle.machine_states.specs.table_words.specs.Places.{slot_count}
 use Rattle.machine_states.specs.structure_laws.specs.Meaning.{Meaning}
 use Rattle.machine_states.specs.epoch_core.specs.Moves.{is_clear}
+use Rattle.machine_states.specs.guard_core.specs.Moves.{is_unnamed}
 use Rattle.machine_states.specs.runner_parts.specs.declared.entries.Left.{Left}
 use Rattle.machine_states.specs.runner_parts.specs.declared.entries.Published.{Published}
 use Rattle.machine_states.specs.epoch_core.specs.declared.stage.Stage.{Stage}
 use Rattle.machine_states.specs.epoch_core.specs.declared.stage.Stage.TheVariants as stages
 use Rattle.machine_states.specs.runner_parts.specs.declared.event.EventKind.{EventKind}
 use Rattle.machine_states.specs.runner_parts.specs.declared.event.EventKind.TheVariants as kinds
-use Rattle.machine_states.specs.runner_parts.specs.State.{RunState, RecordsState, PartState}
-use Rattle.machine_states.specs.runner_parts.specs.Lists.{without, is_old, slots_of, learned}
+use Rattle.machine_states.specs.runner_parts.specs.State.{RunState, DescriptorsState, GuardsState, RecordsState, PartState}
+use Rattle.machine_states.specs.runner_parts.specs.Lists.{without, descriptor_retired, descriptors_swept, learned}
 use Rattle.machine_states.specs.runner_steps.specs.Sections.{is_open_run, next_of}
 use Rattle.machine_states.specs.epoch_core.specs.State.{last_epoch}
 use Rattle.machine_states.specs.runner_steps.specs.InRun.{last_clock}
 use Rattle.machine_states.specs.runner_steps.specs.AfterInRun as inside
 use Rattle.machine_states.specs.runner_steps.specs.AfterOutside as outside
 use Rattle.machine_states.specs.runner_steps.specs.After.{line_after, inside_after, outside_after}
+use Rattle.machine_states.specs.runner_steps.specs.Guards.{is_last_guard}
 use Rattle.machine_states.specs.epoch_core.specs.Lists.{times}
 use Rattle.machine_states.specs.World.{is_join}
 use Rattle.runner_facts.specs.Facts.{published_count, descriptors_of}
@@ -45,9 +46,17 @@ learned_keeps z request reply n = by (n == 0)
     by true = refl
     by false = refl
 
-over_count : (o : Option Published) (d : ℕ) → published_count (inside.over_if o d) ≡ published_count o
-over_count None d = refl
-over_count (Some x) d = refl
+-- the own section that a run ended is in limbo instead of published
+over_count : (ds : DescriptorsState) (o : Option Published) (d : ℕ)
+    → length (inside.retired_if ds o d).free + (length (inside.retired_if ds o d).limbo + published_count (inside.kept_unless o d))
+    ≡ length ds.free + (length ds.limbo + published_count o)
+over_count ds None d = refl
+over_count ds (Some x) d = by (x.descriptor == d)
+  where
+    by : (b : Bool) → length (if b then descriptor_retired ds d else ds).free + (length (if b then descriptor_retired ds d else ds).limbo + published_count (if b then None else Some x))
+        ≡ length ds.free + (length ds.limbo + published_count (Some x))
+    by true = let more = length-append ds.limbo (d ∷ []) in omega arith
+    by false = refl
 
 -- a list without a number is shorter by as often as that stood in it
 without_length : (xs : List ℕ) (d : ℕ) → length (without xs d) + times d xs ≡ length xs
@@ -81,11 +90,11 @@ module _ (m : Meaning) (l : Layout) (p : PartState) where
 
     over_keeps : (place : ℕ) → Keeps p (inside.lock_released m l place p q found)
     over_keeps place = either (is_end (next_of m (inside.ended_more q))) _ _
-        (keeps _ refl refl (ap (λ n. length p.descriptors.free + (length p.descriptors.limbo + n)) (over_count p.published q.descriptor)))
+        (keeps _ refl refl (over_count p.descriptors p.published q.descriptor))
         (keeps _ refl refl refl)
 
     line_keeps : (kind : EventKind) (micro : Micro) → Keeps p (line_after m l kind p q micro found)
-    line_keeps kinds.Commit micro = either (inside.is_of_lock micro) _ _ (keeps _ refl refl refl) (keeps _ refl refl refl)
+    line_keeps kinds.Commit micro = keeps _ refl refl refl
     line_keeps (kinds.LoadCell place) micro = keeps _ refl refl refl
     line_keeps kinds.ExchangeCell micro = keeps _ refl refl refl
     line_keeps (kinds.PrivateLoad slot word) micro = fill_keeps slot q.made
@@ -108,13 +117,17 @@ module _ (m : Meaning) (l : Layout) (p : PartState) where
     pub inside_keeps : (kind : EventKind) → Keeps p (inside_after m l kind p q found)
     inside_keeps kind = either (is_open_run q) _ _ (line_keeps kind (next_of m q)) (keeps _ refl refl refl)
 
-  -- the end of a scan moves descriptors from limbo to the free list
+  -- the end of a scan moves no descriptors
   collected_keeps : (epoch : ℕ) → Keeps p (outside.collected p epoch)
-  collected_keeps epoch = keeps (outside.collected p epoch) refl refl
-      (let all = length-filter_both (is_old epoch) (λ x. not (is_old epoch x)) (λ x. refl) p.descriptors.limbo in
-      let free = length-append p.descriptors.free (slots_of (filter (is_old epoch) p.descriptors.limbo)) in
-      let slots : length (slots_of (filter (is_old epoch) p.descriptors.limbo)) ≡ length (filter (is_old epoch) p.descriptors.limbo)
-      = length-map (filter (is_old epoch) p.descriptors.limbo) (λ x. x.slot) in omega arith)
+  collected_keeps epoch = keeps (outside.collected p epoch) refl refl refl
+
+  -- the end of a sweep moves descriptors from limbo to the free list
+  sweep_keeps : (last : Bool) (words : List ℕ) (guards : GuardsState)
+      → Keeps p (record p { descriptors = (if last then descriptors_swept words p.descriptors else p.descriptors); guards = guards })
+  sweep_keeps true words guards = keeps _ refl refl
+      (let all = length-filter_both (is_unnamed words) (λ x. not (is_unnamed words x)) (λ x. refl) p.descriptors.limbo in
+      let free = length-append p.descriptors.free (filter (is_unnamed words) p.descriptors.limbo) in omega arith)
+  sweep_keeps false words guards = keeps _ refl refl refl
 
   module _ (found : ℕ) where
     scan_keeps : (stage : Stage) → Keeps p (outside.scan_one_after l p stage found)
@@ -125,12 +138,6 @@ module _ (m : Meaning) (l : Layout) (p : PartState) where
     advance_keeps : (stage : Stage) → Keeps p (outside.advance_after p stage)
     advance_keeps (stages.Scanning x next clear) = either (nat_lt x last_epoch) _ _ (collected_keeps (x + 1)) same
     advance_keeps _ = same
-
-    retire_keeps : (o : Option Published) → p.published ≡ o → Keeps p (outside.retire_after p o found)
-    retire_keeps None is = same
-    retire_keeps (Some x) is = keeps (outside.retire_after p (Some x) found) refl refl
-        (let more = length-append p.descriptors.limbo (record { slot = x.descriptor; epoch = found } ∷ []) in
-        let one = ap published_count is in omega arith)
 
     hold_keeps : (t : Thunk) (d : ℕ) → times d p.descriptors.free ≡ 1 → p.published ≡ None → Keeps p (outside.hold_after t d p found)
     hold_keeps t d once none = either (found == t.word) _ _
@@ -159,5 +166,5 @@ module _ (m : Meaning) (l : Layout) (p : PartState) where
     outside_keeps (kinds.PrivateStore slot word number) h may = keeps _ refl refl refl
     outside_keeps (kinds.Hold t d) h may = hold_keeps t d may.0 may.1
     outside_keeps (kinds.LoadThunk (Some d)) h may = keeps _ refl refl refl
-    outside_keeps kinds.EpochForRetire h may = retire_keeps p.published refl
+    outside_keeps (kinds.LoadGuard n) h may = sweep_keeps (is_last_guard l p.guards.looked) _ _
     outside_keeps _ h may = keeps _ refl refl refl

@@ -185,8 +185,9 @@ module _ (f : Spot → ℕ) (d k : ℕ) where
         subst LogStays h.1 (other_store (slot - slot_count l m.fixed_slots) word number
         (λ same. unfree (ap (λ i. has y.descriptors.free i) same ∙ h.0)))
     outside_log (kinds.Hold thunk d') e = subst LogStays (outside.hold_asked m l rs r thunk d' y x e).is refl
+    outside_log (kinds.Guard d') e = subst LogStays (outside.guard_asked l r d' y x e).is refl
+    outside_log (kinds.LoadGuard n) e = loads _ x (outside.load_guard_asked l n y x e).is
     outside_log (kinds.LoadThunk (Some d')) e = loads _ x (outside.open_asked d' y x e).3
-    outside_log kinds.EpochForRetire e = loads _ x (outside.retire_asked y x e).4
     outside_log (kinds.ReadPlan thunk) e = subst LogStays (reads.read_plan_asked r thunk y x e).is refl
     outside_log kinds.ReadClock e = loads _ x (reads.read_clock_asked y x e).is
     outside_log kinds.ReadReply e = subst LogStays (reads.read_reply_asked m l rs r y x e).is refl

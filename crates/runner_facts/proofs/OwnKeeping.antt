@@ -1,11 +1,10 @@
 -- What each step of a runner leaves of where its descriptors are.
 use Rattle.std.specs.Prelude.{◌==◌, ◌&&◌, ◌||◌, ◌⊎◌, not, nat_lt, nat_le, Bool, true, false, if◌then◌else◌}
 use Rattle.std.specs.List.{filter}
-use Rattle.std.proofs.Common.{◌≡◌, ◌≢◌, ℕ, ◌+◌, List, [], ◌∷◌, ◌++◌, refl, sym, ap, ◌∙◌, inl, inr, ⊎_elim, arith, Option, Some, None}
+use Rattle.std.proofs.Common.{◌≡◌, ◌≢◌, ℕ, ◌+◌, List, [], ◌∷◌, refl, sym, ap, ◌∙◌, inl, inr, ⊎_elim, arith, Option, Some, None}
 use Rattle.std.proofs.lemmas.Bool.{cases_eq}
 use Rattle.std.proofs.lemmas.Bool.Decides.{nat_tests}
 use Rattle.section_lines.specs.small_lemmas.proofs.Bools.{or_true as or_right}
-use Rattle.section_lines.specs.small_lemmas.proofs.Numbers.{equal_tested as same_number}
 use Rattle.machine_states.specs.body_terms.specs.Line.{is_end}
 use Rattle.machine_states.specs.body_terms.specs.declared.micro.Micro.{Micro}
 use Rattle.machine_states.specs.body_terms.specs.declared.thunk.Thunk.{Thunk}
@@ -13,14 +12,14 @@ use Rattle.machine_states.specs.table_words.specs.declared.layout.Layout.{Layout
 use Rattle.machine_states.specs.table_words.specs.Places.{slot_count}
 use Rattle.machine_states.specs.structure_laws.specs.Meaning.{Meaning}
 use Rattle.machine_states.specs.epoch_core.specs.Moves.{is_clear}
+use Rattle.machine_states.specs.guard_core.specs.Moves.{is_unnamed}
 use Rattle.machine_states.specs.runner_parts.specs.declared.entries.Published.{Published}
-use Rattle.machine_states.specs.runner_parts.specs.declared.entries.Retired.{Retired}
 use Rattle.machine_states.specs.epoch_core.specs.declared.stage.Stage.{Stage}
 use Rattle.machine_states.specs.epoch_core.specs.declared.stage.Stage.TheVariants as stages
 use Rattle.machine_states.specs.runner_parts.specs.declared.event.EventKind.{EventKind}
 use Rattle.machine_states.specs.runner_parts.specs.declared.event.EventKind.TheVariants as kinds
-use Rattle.machine_states.specs.runner_parts.specs.State.{RunState, PartState}
-use Rattle.machine_states.specs.runner_parts.specs.Lists.{without, is_old, slots_of}
+use Rattle.machine_states.specs.runner_parts.specs.State.{RunState, GuardsState, PartState}
+use Rattle.machine_states.specs.runner_parts.specs.Lists.{without, descriptor_retired, descriptors_swept}
 use Rattle.machine_states.specs.runner_parts.specs.Tests.{has}
 use Rattle.machine_states.specs.runner_steps.specs.Sections.{is_open_run, next_of}
 use Rattle.machine_states.specs.epoch_core.specs.State.{last_epoch}
@@ -28,6 +27,7 @@ use Rattle.machine_states.specs.runner_steps.specs.InRun.{last_clock}
 use Rattle.machine_states.specs.runner_steps.specs.AfterInRun as inside
 use Rattle.machine_states.specs.runner_steps.specs.AfterOutside as outside
 use Rattle.machine_states.specs.runner_steps.specs.After.{line_after, inside_after, outside_after}
+use Rattle.machine_states.specs.runner_steps.specs.Guards.{is_last_guard}
 use Rattle.machine_states.proofs.Steps.{some_same, none_some}
 use Rattle.machine_facts.specs.machine_agreement.specs.machine_epochs.proofs.Places.{has_append}
 use Rattle.runner_facts.specs.Own.{HasOwn}
@@ -47,23 +47,23 @@ without_has (x ∷ xs) d d0 ne h = by (x == d0) refl (x == d) refl h (without_ha
     by false ea true eb h rest = ap (λ c. c || has (without xs d0) d) eb
     by false ea false eb h rest = ap (λ c. c || has (without xs d0) d) eb ∙ rest h
 
--- of a list of entries each is among those that pass a test or among the others
-split_has : (f : Retired → Bool) (xs : List Retired) (d : ℕ) → has (slots_of xs) d ≡ true
-    → (has (slots_of (filter f xs)) d ≡ true) ⊎ (has (slots_of (filter (λ x. not (f x)) xs)) d ≡ true)
+-- of a list each is among those that pass a test or among the others
+split_has : (f : ℕ → Bool) (xs : List ℕ) (d : ℕ) → has xs d ≡ true
+    → (has (filter f xs) d ≡ true) ⊎ (has (filter (λ x. not (f x)) xs) d ≡ true)
 split_has f [] d h = inl h
-split_has f (x ∷ xs) d h = by (f x) refl (x.slot == d) refl h (split_has f xs d)
+split_has f (x ∷ xs) d h = by (f x) (x == d) refl h (split_has f xs d)
   where
-    more : (c : Bool) (ys : List Retired) → has (slots_of ys) d ≡ true → has (slots_of (if c then x ∷ ys else ys)) d ≡ true
-    more true ys e = ap (λ b. (x.slot == d) || b) e ∙ or_right (x.slot == d)
+    more : (c : Bool) (ys : List ℕ) → has ys d ≡ true → has (if c then x ∷ ys else ys) d ≡ true
+    more true ys e = ap (λ b. (x == d) || b) e ∙ or_right (x == d)
     more false ys e = e
 
-    by : (c : Bool) → f x ≡ c → (b : Bool) → (x.slot == d) ≡ b → (b || has (slots_of xs) d) ≡ true
-        → (has (slots_of xs) d ≡ true → (has (slots_of (filter f xs)) d ≡ true) ⊎ (has (slots_of (filter (λ y. not (f y)) xs)) d ≡ true))
-        → (has (slots_of (if c then x ∷ filter f xs else filter f xs)) d ≡ true)
-        ⊎ (has (slots_of (if not c then x ∷ filter (λ y. not (f y)) xs else filter (λ y. not (f y)) xs)) d ≡ true)
-    by true ec true eb h rest = inl (ap (λ a. a || has (slots_of (filter f xs)) d) eb)
-    by false ec true eb h rest = inr (ap (λ a. a || has (slots_of (filter (λ y. not (f y)) xs)) d) eb)
-    by c ec false eb h rest = ⊎_elim (λ e. inl (more c (filter f xs) e)) (λ e. inr (more (not c) (filter (λ y. not (f y)) xs) e)) (rest h)
+    by : (c b : Bool) → (x == d) ≡ b → (b || has xs d) ≡ true
+        → (has xs d ≡ true → (has (filter f xs) d ≡ true) ⊎ (has (filter (λ y. not (f y)) xs) d ≡ true))
+        → (has (if c then x ∷ filter f xs else filter f xs) d ≡ true)
+        ⊎ (has (if not c then x ∷ filter (λ y. not (f y)) xs else filter (λ y. not (f y)) xs) d ≡ true)
+    by true true eb h rest = inl (ap (λ a. a || has (filter f xs) d) eb)
+    by false true eb h rest = inr (ap (λ a. a || has (filter (λ y. not (f y)) xs) d) eb)
+    by c false eb h rest = ⊎_elim (λ e. inl (more c (filter f xs) e)) (λ e. inr (more (not c) (filter (λ y. not (f y)) xs) e)) (rest h)
 
 module _ (m : Meaning) (l : Layout) (d : ℕ) (p : PartState) (found : ℕ) where
   -- the descriptor stays with the runner
@@ -73,17 +73,33 @@ module _ (m : Meaning) (l : Layout) (d : ℕ) (p : PartState) (found : ℕ) wher
   same : (p' : PartState) → p'.descriptors.free ≡ p.descriptors.free → p'.descriptors.limbo ≡ p.descriptors.limbo → p'.published ≡ p.published → Keeps p'
   same p' free limbo published = record {
     own = λ own. ⊎_elim (λ h. inl (ap (λ xs. has xs d) free ∙ h))
-        (λ more. ⊎_elim (λ h. inr (inl (ap (λ xs. has (slots_of xs) d) limbo ∙ h))) (λ h. inr (inr (h.0, published ∙ h.1, h.2))) more) own;
+        (λ more. ⊎_elim (λ h. inr (inl (ap (λ xs. has xs d) limbo ∙ h))) (λ h. inr (inr (h.0, published ∙ h.1, h.2))) more) own;
   }
 
   either : (b : Bool) (y z : PartState) → Keeps y → Keeps z → Keeps (if b then y else z)
   either true y z one two = one
   either false y z one two = two
 
-  over : (o : Option Published) (d0 : ℕ) (x : Published) → o ≡ Some x → x.descriptor ≡ d
-      → (y : Published) × (inside.over_if o d0 ≡ Some y) × (y.descriptor ≡ d)
-  over None d0 x is at = absurd (none_some x (sym is))
-  over (Some y) d0 x is at = (_, refl, ap (λ (z : Published). z.descriptor) (some_same y x is) ∙ at)
+  -- the own section that a run ended goes into limbo
+  over : (o : Option Published) (d0 : ℕ) → p.published ≡ o → HasOwn p d
+      → HasOwn (record p { published = inside.kept_unless o d0; descriptors = inside.retired_if p.descriptors o d0 }) d
+  over None d0 is own = ⊎_elim (λ h. inl h) (λ more. ⊎_elim (λ h. inr (inl h)) (λ h. absurd (none_some h.0 (sym h.1 ∙ is))) more) own
+  over (Some y) d0 is own = by (y.descriptor == d0) refl
+    where
+      same : (a b : ℕ) → (a == b) ≡ true → a ≡ b
+      same a b e = grind (arith, nat_tests)
+
+      by : (b : Bool) → (y.descriptor == d0) ≡ b
+          → HasOwn (record p { published = (if b then None else Some y); descriptors = (if b then descriptor_retired p.descriptors d0 else p.descriptors) }) d
+      by false e = ⊎_elim (λ h. inl h) (λ more. ⊎_elim (λ h. inr (inl h)) (λ h. inr (inr (y, refl, ap (λ (z : Published). z.descriptor) (some_same y h.0 (sym is ∙ h.1)) ∙ h.2))) more) own
+      by true e = ⊎_elim (λ h. inl h) (λ more. inr (inl (has_append p.descriptors.limbo (d0 ∷ []) d ∙ ⊎_elim
+          (λ h. ap (λ b. b || has (d0 ∷ []) d) h)
+          (λ h. ap (λ b. has p.descriptors.limbo d || b) (one d0 d (sym (same y.descriptor d0 e) ∙ (ap (λ (z : Published). z.descriptor) (some_same y h.0 (sym is ∙ h.1)) ∙ h.2)))
+          ∙ or_right (has p.descriptors.limbo d))
+          more))) own
+        where
+          one : (a b : ℕ) → a ≡ b → ((a == b) || false) ≡ true
+          one a b e = grind (arith, nat_tests)
 
   module _ (q : RunState) where
     fill : (slot : ℕ) (made : Option ℕ) → Keeps (inside.fill_loaded m l slot p q made found)
@@ -96,11 +112,11 @@ module _ (m : Meaning) (l : Layout) (d : ℕ) (p : PartState) (found : ℕ) wher
 
     released : (place : ℕ) → Keeps (inside.lock_released m l place p q found)
     released place = either (is_end (next_of m (inside.ended_more q))) _ _
-        (record { own = λ own. ⊎_elim (λ h. inl h) (λ more. ⊎_elim (λ h. inr (inl h)) (λ h. inr (inr (over p.published q.descriptor h.0 h.1 h.2))) more) own })
+        (record { own = over p.published q.descriptor refl })
         (same _ refl refl refl)
 
     line_keeps : (kind : EventKind) (micro : Micro) → Keeps (line_after m l kind p q micro found)
-    line_keeps kinds.Commit micro = either (inside.is_of_lock micro) _ _ (same _ refl refl refl) (same _ refl refl refl)
+    line_keeps kinds.Commit micro = same _ refl refl refl
     line_keeps (kinds.LoadCell place) micro = same _ refl refl refl
     line_keeps kinds.ExchangeCell micro = same _ refl refl refl
     line_keeps (kinds.PrivateLoad slot word) micro = fill slot q.made
@@ -123,18 +139,24 @@ module _ (m : Meaning) (l : Layout) (d : ℕ) (p : PartState) (found : ℕ) wher
     pub inside_keeps : (kind : EventKind) → Keeps (inside_after m l kind p q found)
     inside_keeps kind = either (is_open_run q) _ _ (line_keeps kind (next_of m q)) (same _ refl refl refl)
 
-  -- the end of a scan moves descriptors from limbo to the free list
+  -- the end of a scan moves no descriptors
   collected : (epoch : ℕ) → Keeps (outside.collected p epoch)
-  collected epoch = record {
+  collected epoch = same _ refl refl refl
+
+  -- the end of a sweep moves descriptors from limbo to the free list
+  swept : (last : Bool) (words : List ℕ) (guards : GuardsState)
+      → Keeps (record p { descriptors = (if last then descriptors_swept words p.descriptors else p.descriptors); guards = guards })
+  swept true words guards = record {
     own = λ own. ⊎_elim
-        (λ h. inl (has_append p.descriptors.free (slots_of (filter (is_old epoch) p.descriptors.limbo)) d ∙ ap (λ b. b || has (slots_of (filter (is_old epoch) p.descriptors.limbo)) d) h))
+        (λ h. inl (has_append p.descriptors.free (filter (is_unnamed words) p.descriptors.limbo) d ∙ ap (λ b. b || has (filter (is_unnamed words) p.descriptors.limbo) d) h))
         (λ more. ⊎_elim
         (λ h. ⊎_elim
-        (λ old. inl (has_append p.descriptors.free (slots_of (filter (is_old epoch) p.descriptors.limbo)) d
-        ∙ (ap (λ b. has p.descriptors.free d || b) old ∙ or_right (has p.descriptors.free d))))
-        (λ young. inr (inl young)) (split_has (is_old epoch) p.descriptors.limbo d h))
+        (λ unnamed. inl (has_append p.descriptors.free (filter (is_unnamed words) p.descriptors.limbo) d
+        ∙ (ap (λ b. has p.descriptors.free d || b) unnamed ∙ or_right (has p.descriptors.free d))))
+        (λ named. inr (inl named)) (split_has (is_unnamed words) p.descriptors.limbo d h))
         (λ h. inr (inr h)) more) own;
   }
+  swept false words guards = same _ refl refl refl
 
   scan : (stage : Stage) → Keeps (outside.scan_one_after l p stage found)
   scan (stages.Scanning x next clear) = either (nat_le next l.runners) _ _
@@ -144,26 +166,6 @@ module _ (m : Meaning) (l : Layout) (d : ℕ) (p : PartState) (found : ℕ) wher
   advance : (stage : Stage) → Keeps (outside.advance_after p stage)
   advance (stages.Scanning x next clear) = either (nat_lt x last_epoch) _ _ (collected (x + 1)) (same p refl refl refl)
   advance _ = same p refl refl refl
-
-  -- a section that is retired goes from published into limbo
-  retire : (o : Option Published) → p.published ≡ o → Keeps (outside.retire_after p o found)
-  retire None is = same p refl refl refl
-  retire (Some x) is = record {
-    own = λ own. ⊎_elim (λ h. inl h)
-        (λ more. ⊎_elim
-        (λ h. inr (inl (appended p.descriptors.limbo (record { slot = x.descriptor; epoch = found }) d ∙ ap (λ b. b || (x.descriptor == d || false)) h)))
-        (λ h. inr (inl (appended p.descriptors.limbo (record { slot = x.descriptor; epoch = found }) d ∙ (ap (λ b. has (slots_of p.descriptors.limbo) d || (b || false))
-        (same_number x.descriptor d (ap (λ (z : Published). z.descriptor) (some_same x h.0 (sym is ∙ h.1)) ∙ h.2))
-        ∙ or_right (has (slots_of p.descriptors.limbo) d))))) more) own;
-  }
-    where
-      appended : (xs : List Retired) (y : Retired) (d : ℕ) → has (slots_of (xs ++ y ∷ [])) d ≡ (has (slots_of xs) d || (y.slot == d || false))
-      appended [] y d = refl
-      appended (x ∷ xs) y d = ap (λ b. (x.slot == d) || b) (appended xs y d) ∙ or_assoc (x.slot == d) (has (slots_of xs) d) (y.slot == d || false)
-        where
-          or_assoc : (a b c : Bool) → (a || (b || c)) ≡ ((a || b) || c)
-          or_assoc true b c = refl
-          or_assoc false b c = refl
 
   -- a published descriptor leaves the free list
   hold : (t : Thunk) (d0 : ℕ) → p.published ≡ None → Keeps (outside.hold_after t d0 p found)
@@ -196,5 +198,5 @@ module _ (m : Meaning) (l : Layout) (d : ℕ) (p : PartState) (found : ℕ) wher
   outside_keeps (kinds.PrivateStore slot word number) may = same _ refl refl refl
   outside_keeps (kinds.Hold t d0) may = hold t d0 may
   outside_keeps (kinds.LoadThunk (Some d0)) may = same _ refl refl refl
-  outside_keeps kinds.EpochForRetire may = retire p.published refl
+  outside_keeps (kinds.LoadGuard n) may = swept (is_last_guard l p.guards.looked) _ _
   outside_keeps kind may = same _ refl refl refl

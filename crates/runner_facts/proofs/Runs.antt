@@ -13,7 +13,6 @@ use Rattle.machine_states.specs.table_words.specs.declared.access.Access.TheVari
 use Rattle.machine_states.specs.table_words.specs.Places.{slot_count}
 use Rattle.machine_states.specs.structure_laws.specs.Meaning.{Meaning}
 use Rattle.machine_states.specs.epoch_core.specs.Moves.{is_clear}
-use Rattle.machine_states.specs.runner_parts.specs.declared.entries.Published.{Published}
 use Rattle.machine_states.specs.epoch_core.specs.declared.stage.Stage.{Stage}
 use Rattle.machine_states.specs.epoch_core.specs.declared.stage.Stage.TheVariants as stages
 use Rattle.machine_states.specs.runner_parts.specs.declared.event.EventKind.{EventKind}
@@ -93,8 +92,7 @@ module _ (m : Meaning) (l : Layout) (y : PartState) (found : ℕ) (kind : EventK
       released place = either (is_end (next_of m (inside.ended_more q))) _ _ (record { run = inl refl }) (waits _ _ refl refl refl refl refl)
 
       pub line_runs : (kind' : EventKind) → kind ≡ kind' → (micro : Micro) → Runs (line_after m l kind' y q micro found)
-      line_runs kinds.Commit of_kind micro = either (inside.is_of_lock micro) _ _
-          (rests _ _ (q.trail ++ written_once found q.word ∷ []) refl refl refl refl (no_load of_kind refl)) (rests _ _ (q.trail ++ written_once found q.word ∷ []) refl refl refl refl (no_load of_kind refl))
+      line_runs kinds.Commit of_kind micro = rests _ _ (q.trail ++ written_once found q.word ∷ []) refl refl refl refl (no_load of_kind refl)
       line_runs (kinds.LoadCell place) of_kind micro = rests _ _ q.trail refl refl refl refl (no_load of_kind refl)
       line_runs kinds.ExchangeCell of_kind micro = rests _ _ q.trail refl refl refl refl (no_load of_kind refl)
       line_runs (kinds.PrivateLoad slot word) of_kind micro = fill slot q.made (no_load of_kind refl)
@@ -136,10 +134,6 @@ module _ (m : Meaning) (l : Layout) (y : PartState) (found : ℕ) (kind : EventK
     advance (stages.Scanning x next clear) = begins_either (nat_lt x last_epoch) _ _ (still _ refl) (still y refl)
     advance _ = still y refl
 
-    retire : (o : Option Published) → Begins (outside.retire_after y o found)
-    retire None = still y refl
-    retire (Some x) = still _ refl
-
     opens : (d : ℕ) → Begins (outside.open_after d y found)
     opens d = record { run = λ q' is. by q' is }
       where
@@ -166,5 +160,4 @@ module _ (m : Meaning) (l : Layout) (y : PartState) (found : ℕ) (kind : EventK
     outside_runs (kinds.PrivateStore slot word number) = still _ refl
     outside_runs (kinds.Hold t d) = begins_either (found == t.word) _ _ (still _ refl) (still _ refl)
     outside_runs (kinds.LoadThunk (Some d)) = opens d
-    outside_runs kinds.EpochForRetire = retire y.published
     outside_runs kind' = still _ refl

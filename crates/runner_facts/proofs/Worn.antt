@@ -21,7 +21,6 @@ use Rattle.machine_states.specs.table_words.specs.Seen.{put}
 use Rattle.machine_states.specs.structure_laws.specs.Meaning.{Meaning}
 use Rattle.machine_states.specs.structure_laws.specs.Laws.{Laws}
 use Rattle.machine_states.specs.epoch_core.specs.Moves.{is_clear}
-use Rattle.machine_states.specs.runner_parts.specs.declared.entries.Published.{Published}
 use Rattle.machine_states.specs.runner_parts.specs.declared.entries.Tested.{Tested}
 use Rattle.machine_states.specs.epoch_core.specs.declared.stage.Stage.{Stage}
 use Rattle.machine_states.specs.epoch_core.specs.declared.stage.Stage.TheVariants as stages
@@ -216,7 +215,7 @@ module _ (m : Meaning) (l : Layout) (word : Spot → ℕ) where
     retired_same slot false = same p.nodes
 
     line_worn : (kind : EventKind) (micro : Micro) → StoresShow kind → IsWorn (line_after m l kind p q micro found)
-    line_worn kinds.Commit micro h = either (inside.is_of_lock micro) _ _ (goes _ _ (same p.nodes) refl refl refl) (goes _ _ (same p.nodes) refl refl refl)
+    line_worn kinds.Commit micro h = goes _ _ (same p.nodes) refl refl refl
     line_worn (kinds.LoadCell place) micro h = goes _ _ (same p.nodes) refl refl refl
     line_worn kinds.ExchangeCell micro h = goes _ _ (same p.nodes) refl refl refl
     line_worn (kinds.PrivateLoad slot cell) micro h = fill_worn slot q.made
@@ -272,10 +271,6 @@ module _ (m : Meaning) (l : Layout) (word : Spot → ℕ) where
     advance_worn (stages.Scanning x next clear) = either (nat_lt x last_epoch) _ _ (rests _ refl (record { worn = refl; tests = refl })) old
     advance_worn _ = old
 
-    retire_worn : (o : Option Published) → IsWorn (outside.retire_after p o found)
-    retire_worn None = old
-    retire_worn (Some x) = rests _ refl (same p.nodes)
-
     outside_worn : (kind : EventKind) → LoadsShow kind → IsWorn (outside_after m l kind p found)
     outside_worn kinds.EnterLoad h = rests _ refl (same p.nodes)
     outside_worn kinds.Announce h = rests _ refl (same p.nodes)
@@ -292,7 +287,6 @@ module _ (m : Meaning) (l : Layout) (word : Spot → ℕ) where
     outside_worn (kinds.PrivateStore slot word number) h = rests _ refl (same p.nodes)
     outside_worn (kinds.Hold t d) h = either (found == t.word) _ _ (rests _ refl (same p.nodes)) (rests _ refl (same p.nodes))
     outside_worn (kinds.LoadThunk (Some d)) h = kept p _ (same p.nodes) (fills_unmade _ refl) old
-    outside_worn kinds.EpochForRetire h = retire_worn p.published
     outside_worn _ h = rests _ refl (same p.nodes)
 
 -- each step

@@ -12,7 +12,6 @@ use Rattle.machine_states.specs.structure_laws.specs.Sections.{IsAllowed}
 use Rattle.machine_states.specs.structure_laws.specs.Shape.{Shaped}
 use Rattle.machine_states.specs.runner_parts.specs.declared.entries.Published.{Published}
 use Rattle.machine_states.specs.epoch_core.specs.declared.stage.Stage.TheVariants.{Entered}
-use Rattle.machine_states.specs.runner_parts.specs.Lists.{slots_of}
 use Rattle.machine_states.specs.runner_parts.specs.State.{PartState}
 use Rattle.machine_states.specs.runner_parts.specs.Tests.{has}
 use Rattle.machine_states.specs.Sight.{Sight}
@@ -30,7 +29,7 @@ FittingAreShaped m l s = (r entry : ℕ) (op : Op) (thunk : Thunk) → (s.part r
 
 -- the section of a descriptor that waits in limbo is done
 abbrev pub LimboIsDone : Sight → Type 0
-LimboIsDone s = (r d : ℕ) → has (slots_of (s.part r).descriptors.limbo) d ≡ true → s.word (DoneWord d) ≡ 1
+LimboIsDone s = (r d : ℕ) → has (s.part r).descriptors.limbo d ≡ true → s.word (DoneWord d) ≡ 1
 
 -- a worker that the keeper has joined makes no further step
 abbrev pub JoinedAreGone : Layout → Sight → Type 0

@@ -1,12 +1,13 @@
--- What the words of locks name that entered runners have read.
-use Rattle.std.specs.Prelude.{ℕ, suc, ◌≡◌, ◌⊎◌, true, false}
+-- What the words of locks name that runners have read, where these are sure of the descriptor.
+use Rattle.std.specs.Prelude.{ℕ, suc, ◌≡◌, ◌⊎◌, true, false, length, slice_get, Some}
 use Rattle.machine_states.specs.body_terms.specs.Line.{line, micro_at}
 use Rattle.machine_states.specs.body_terms.specs.Word.{value_of, held_word}
 use Rattle.machine_states.specs.body_terms.specs.declared.micro.Micro.TheVariants.{NestedHold}
 use Rattle.machine_states.specs.table_words.specs.declared.spot.Spot.{Spot}
 use Rattle.machine_states.specs.structure_laws.specs.Meaning.{Meaning}
-use Rattle.machine_states.specs.epoch_core.specs.declared.stage.Stage.TheVariants.{Entered}
-use Rattle.machine_states.specs.runner_parts.specs.Tests.{has, has_pair}
+use Rattle.machine_states.specs.runner_parts.specs.State.{PartState}
+use Rattle.machine_states.specs.runner_parts.specs.Tests.{has}
+use Rattle.machine_states.specs.runner_steps.specs.Outside.{is_sure_of}
 use Rattle.machine_states.specs.Sight.{Sight}
 use Rattle.machine_facts.specs.machine_agreement.specs.machine_epochs.specs.Slots.{thunk_in}
 
@@ -17,16 +18,23 @@ HasLock m word d place held = ((place ≡ (thunk_in word d).lock) × (held ≡ h
     ⊎ ((i free : ℕ) × (micro_at (line (m.body (thunk_in word d))) i ≡ NestedHold place free)
     × (held ≡ held_word d free))
 
--- a word of a lock that this runner, which is entered, has read since it entered, names this descriptor
-pub record HasReadName (m : Meaning) (s : Sight) (r place word d : ℕ) : Type 0 where
-  pub entry : ℕ
-  pub entered : (s.part r).stage ≡ Entered entry
-  pub read : has_pair (s.part r).reads.cells place word ≡ true
+-- this is the last word that the runner read outside a run, in its walk
+pub record HasReadLast (p : PartState) (place word : ℕ) : Type 0 where
+  pub at : ℕ
+  pub here : slice_get p.reads.walk at ≡ Some (place, word)
+  pub last : length p.reads.walk ≡ suc at
+
+-- the last word that this runner read in its walk is a lock's and names this descriptor, and the runner is sure of it:
+-- its guard word names it, and it has seen it published since
+pub record IsNamed (m : Meaning) (s : Sight) (r place word d : ℕ) : Type 0 where
+  pub read : HasReadLast (s.part r) place word
   pub lock : m.is_lock place ≡ true
   pub names : value_of word ≡ suc d
+  pub sure : is_sure_of (s.part r).guards d ≡ true
 
--- the section that the word named is still in the descriptor, which is in nobody's free list
+-- the section that the word named is still in the descriptor. And each descriptor of which a runner is sure is in
+-- nobody's free list
 pub record NamesStand (m : Meaning) (s : Sight) : Type 0 where
-  pub lock : (r place word d : ℕ) → HasReadName m s r place word d → HasLock m s.word d place word
-  pub unfree : (r place word d : ℕ) → HasReadName m s r place word d → (r' : ℕ)
+  pub lock : (r place word d : ℕ) → IsNamed m s r place word d → HasLock m s.word d place word
+  pub unfree : (r d : ℕ) → is_sure_of (s.part r).guards d ≡ true → (r' : ℕ)
       → has (s.part r').descriptors.free d ≡ false

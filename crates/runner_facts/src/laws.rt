@@ -71,9 +71,9 @@ pub fn worn_slots_are_worn<S: Structure>(structure: &S)
     let _ = structure;
 }
 
-/// In every state that the machine reaches, a word of a lock that an entered runner has read since it entered, in a
-/// walk, by an exchange or in a run, and that names a descriptor, is the held word of a lock of the section that is
-/// still in that descriptor.
+/// In every state that the machine reaches: where the last word that a runner read in its walk is a lock's and names a
+/// descriptor, and the runner is sure of that descriptor, the word is the held word of a lock of the section that is
+/// still in it. A descriptor of which a runner is sure is in nobody's free list.
 pub fn names_stand<S: Structure>(structure: &S)
     ensures { (layout : Layout) (requests : List Request) (w : World) → IsWithinLimits layout → AreAllowed requests
         → Reached (S.meaning structure.now) layout requests w

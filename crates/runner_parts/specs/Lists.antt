@@ -1,20 +1,17 @@
 -- How a runner's lists change.
-use Rattle.std.specs.Prelude.{ℕ, ◌+◌, ◌-◌, List, [], ◌∷◌, ◌++◌, Bool, true, false, not, ◌==◌, ◌&&◌, ◌||◌, nat_lt, nat_le, map, length, None, if◌then◌else◌}
+use Rattle.std.specs.Prelude.{ℕ, ◌+◌, ◌-◌, List, [], ◌∷◌, ◌++◌, Bool, true, false, not, ◌==◌, ◌&&◌, ◌||◌, nat_lt, nat_le, map, length, Option, None, if◌then◌else◌}
 use Rattle.std.specs.List.{filter}
 use Rattle.structure_laws.specs.body_terms.specs.Word.{value_of, version_of, is_free}
 use Rattle.structure_laws.specs.table_words.specs.declared.layout.Layout.{Layout}
 use Rattle.runner_parts.specs.declared.entries.Retired.{Retired}
 use Rattle.runner_parts.specs.declared.entries.Tested.{Tested}
-use Rattle.runner_parts.specs.State.{NodesState, DescriptorsState, ReadsState, RecordsState}
-use Rattle.runner_parts.specs.Tests.{has}
+use Rattle.guard_core.specs.Moves.{is_unnamed}
+use Rattle.runner_parts.specs.State.{NodesState, DescriptorsState, GuardsState, ReadsState, RecordsState}
+use Rattle.runner_parts.specs.Tests.{has, is_some_of}
 
 -- the list without this number
 abbrev pub without : List ℕ → ℕ → List ℕ
 without xs x = filter (λ y. not (y == x)) xs
-
--- the descriptor that a lock's word names, if any
-abbrev pub named_by : ℕ → List ℕ
-named_by word = if is_free word then [] else (value_of word - 1) ∷ []
 
 -- retired long enough ago to be used again: two epochs before this one
 abbrev pub is_old : ℕ → Retired → Bool
@@ -33,14 +30,6 @@ nodes_collected epoch n =
     record n {
       hand = n.hand ++ slots_of (filter (is_old epoch) n.limbo);
       limbo = filter (λ x. not (is_old epoch x)) n.limbo;
-    }
-
--- the descriptors that have waited long enough go from limbo to the free list
-abbrev pub descriptors_collected : ℕ → DescriptorsState → DescriptorsState
-descriptors_collected epoch d =
-    record d {
-      free = d.free ++ slots_of (filter (is_old epoch) d.limbo);
-      limbo = filter (λ x. not (is_old epoch x)) d.limbo;
     }
 
 -- how far the slot's cells have been looked at
@@ -93,40 +82,50 @@ abbrev pub descriptor_taken : DescriptorsState → ℕ → DescriptorsState
 descriptor_taken d descriptor =
     record d { free = without d.free descriptor; stored = filter (λ x. not (x.descriptor == descriptor)) d.stored }
 
-abbrev pub descriptor_retired : DescriptorsState → ℕ → ℕ → DescriptorsState
-descriptor_retired d descriptor epoch = record d { limbo = d.limbo ++ record { slot = descriptor; epoch = epoch } ∷ [] }
+abbrev pub descriptor_retired : DescriptorsState → ℕ → DescriptorsState
+descriptor_retired d descriptor = record d { limbo = d.limbo ++ descriptor ∷ [] }
+
+-- at the end of a sweep that read these guard words, the descriptors that none of them names go from limbo to the
+-- free list
+abbrev pub descriptors_swept : List ℕ → DescriptorsState → DescriptorsState
+descriptors_swept words d =
+    record d {
+      free = d.free ++ filter (is_unnamed words) d.limbo;
+      limbo = filter (λ x. not (is_unnamed words x)) d.limbo;
+    }
+
+-- nothing is guarded, and no guard word has been read
+abbrev pub no_guards : GuardsState
+no_guards = record { named = None; sure = false; looked = [] }
+
+-- this descriptor was seen published: the runner is sure of it, if its guard word names it
+abbrev pub published_seen : GuardsState → ℕ → GuardsState
+published_seen g d = record g { sure = g.sure || is_some_of g.named d }
+
+-- a word was read: where it is a lock's and names a descriptor, that one is published
+abbrev pub named_seen : GuardsState → Bool → ℕ → GuardsState
+named_seen g lock word = if lock && not (is_free word) then published_seen g (value_of word - 1) else g
+
+-- the guard word names this from now on, and nothing has been seen of it
+abbrev pub guard_moved : GuardsState → Option ℕ → GuardsState
+guard_moved g d = record g { named = d; sure = false }
+
+-- the guard words read so far in the sweep
+abbrev pub with_looked : GuardsState → List ℕ → GuardsState
+with_looked g words = record g { looked = words }
 
 -- nothing has been read yet
 abbrev pub no_reads : ReadsState
-no_reads = record { walk = []; cells = []; held = []; published = []; look = None }
+no_reads = record { walk = []; cells = []; look = None }
 
 -- one more cell was read
 abbrev pub cell_read : ReadsState → ℕ → ℕ → ReadsState
 cell_read s place word = record s { cells = s.cells ++ (place, word) ∷ [] }
 
--- the descriptor that this word names, if any, is held from now on
-abbrev pub holds_named : ReadsState → ℕ → ReadsState
-holds_named s word = record s { held = s.held ++ named_by word }
-
--- a cell was read outside a run; a lock's word gives a descriptor to hold
-abbrev pub walked : ReadsState → Bool → ℕ → ℕ → ReadsState
-walked s lock place word =
-    record s {
-      walk = s.walk ++ (place, word) ∷ [];
-      cells = s.cells ++ (place, word) ∷ [];
-      held = s.held
-          ++ (if lock then named_by word else []);
-    }
-
--- a lock word was agreed on in a run of this descriptor: it gives a descriptor to hold where the section is
--- the runner's own
-abbrev pub lock_agreed : ReadsState → ℕ → ℕ → ReadsState
-lock_agreed s descriptor word = if has s.published descriptor then holds_named s word else s
-
--- a section was published
-abbrev pub section_published : ReadsState → ℕ → ReadsState
-section_published s descriptor =
-    record s { held = s.held ++ descriptor ∷ []; published = s.published ++ descriptor ∷ [] }
+-- a cell was read outside a run
+abbrev pub walked : ReadsState → ℕ → ℕ → ReadsState
+walked s place word =
+    record s { walk = s.walk ++ (place, word) ∷ []; cells = s.cells ++ (place, word) ∷ [] }
 
 -- a stamp or reply word was read: it is known where it isn't 0
 abbrev pub learned : RecordsState → ℕ → Bool → ℕ → RecordsState

@@ -42,14 +42,21 @@ pub record NodesState : Type 0 where
 pub record DescriptorsState : Type 0 where
   pub free : List ℕ
   pub stored : List Stored
-  pub limbo : List Retired
+  pub limbo : List ℕ
+
+-- what the runner guards
+pub record GuardsState : Type 0 where
+  -- the descriptor that its guard word names
+  pub named : Option ℕ
+  -- it has seen that descriptor published while its guard word named it
+  pub sure : Bool
+  -- the guard words that it has read in the sweep in progress, in the order of the runners
+  pub looked : List ℕ
 
 -- what was read since the runner entered
 pub record ReadsState : Type 0 where
   pub walk : List (ℕ × ℕ)
   pub cells : List (ℕ × ℕ)
-  pub held : List ℕ
-  pub published : List ℕ
   -- the read without a lock that it has announced
   pub look : Option Look
 
@@ -78,6 +85,7 @@ pub record PartState : Type 0 where
   pub published : Option Published
   pub nodes : NodesState
   pub descriptors : DescriptorsState
+  pub guards : GuardsState
   pub reads : ReadsState
   pub records : RecordsState
   pub gone : Bool

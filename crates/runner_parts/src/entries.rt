@@ -35,16 +35,14 @@ pub struct Known {
     pub number: u64,
 }
 
-/// The section that a runner published last and hasn't retired: its descriptor and its thunk, how many
-/// readings the runner had and how many stamp and reply words it knew when it published it, and whether the
-/// runner has run it to its end.
+/// The section that a runner published last, as long as it hasn't run it to its end: its descriptor and its thunk, how
+/// many readings the runner had and how many stamp and reply words it knew when it published it.
 #[derive(Clone, Copy, Debug, PartialEq, Eq)]
 pub struct Published {
     pub descriptor: u32,
     pub thunk: Thunk,
     pub walked: usize,
     pub known: usize,
-    pub over: bool,
 }
 
 /// How far a read without a lock has come: its thunk was announced, the clock was loaded for it, its reply word was

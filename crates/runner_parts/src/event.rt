@@ -48,6 +48,10 @@ pub enum EventKind {
     ReadClock,
     ReadReply,
     ReadStamp,
+    /// Carries the descriptor that the own guard word names from then on, and None where it names none.
+    Guard(Option<u32>),
+    /// Carries the runner whose guard word a sweep reads.
+    LoadGuard(u32),
 }
 
 /// One step of one runner. Workers are numbered from 0, and the keeper has the number after the last.

@@ -14,7 +14,7 @@ mod stores;
 
 pub use entries::{Known, Left, Look, LookStage, Published, Retired, Stored, Tested};
 pub use event::{Event, EventKind};
-pub use lists::{Descriptors, Nodes, Reads, Records};
+pub use lists::{Descriptors, Guards, Nodes, Reads, Records};
 pub use lists_change::has;
 pub use part::Part;
 pub use run::{Finished, Run};
@@ -22,4 +22,5 @@ pub use stores::thunk_words;
 
 // Passed on to the layers above, so that they needn't name these libraries themselves.
 pub use epoch_core;
+pub use guard_core;
 pub use structure_laws;

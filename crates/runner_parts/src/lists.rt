@@ -31,12 +31,13 @@ impl Model for Nodes {
     } };
 }
 
-/// The own descriptors: the free ones with what was stored into them, in the order of the stores, and those in limbo.
+/// The own descriptors: the free ones with what was stored into them, in the order of the stores, and those in limbo,
+/// which are retired and wait until no guard word names them.
 #[derive(Drop)]
 pub struct Descriptors {
     pub free: Vec<u32>,
     pub stored: Vec<Stored>,
-    pub limbo: Vec<Retired>,
+    pub limbo: Vec<u32>,
 }
 
 impl Model for Descriptors {
@@ -47,14 +48,29 @@ impl Model for Descriptors {
     ghost view = { λ a. record { free = a.free.items; stored = a.stored.items; limbo = a.limbo.items } };
 }
 
-/// What a runner has read since it entered: the loads outside a run, all loads and exchanges of cells, the
-/// descriptors that it holds, the descriptors of the sections that it published, and its read without a lock.
+/// What a runner guards: the descriptor that its guard word names, whether it has seen that one published while the
+/// word named it, and the guard words that it has read in the sweep in progress, in the order of the runners.
+#[derive(Drop)]
+pub struct Guards {
+    pub named: Option<u32>,
+    pub sure: bool,
+    pub looked: Vec<u64>,
+}
+
+impl Model for Guards {
+    ghost use Rattle.runner_parts.specs.State.{GuardsState};
+
+    ghost Value = { GuardsState };
+
+    ghost view = { λ a. record { named = a.named; sure = a.sure; looked = a.looked.items } };
+}
+
+/// What a runner has read since it entered: the loads outside a run, all loads and exchanges of cells, and its read
+/// without a lock.
 #[derive(Drop)]
 pub struct Reads {
     pub walk: Vec<(Place, Word)>,
     pub cells: Vec<(Place, Word)>,
-    pub held: Vec<u32>,
-    pub published: Vec<u32>,
     pub look: Option<Look>,
 }
 
@@ -66,8 +82,6 @@ impl Model for Reads {
     ghost view = { λ a. record {
       walk = a.walk.items;
       cells = a.cells.items;
-      held = a.held.items;
-      published = a.published.items;
       look = a.look;
     } };
 }

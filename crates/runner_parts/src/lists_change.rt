@@ -1,11 +1,12 @@
 //! How a runner's lists change.
 ghost use Rattle.std.specs.Prelude.{◌≡◌, ◌==◌, ◌<◌, ◌-◌, ◌^◌, not, IfOk, OnOk};
 ghost use Rattle.std.specs.List.{filter};
-ghost use Rattle.runner_parts.specs.Lists.{without, named_by, is_old, slots_of, nodes_collected, descriptors_collected, test_of, tests_without, slot_back, slot_tested, one_more, nodes_looked, slot_taken, slot_made, slot_retired, descriptor_stored, descriptor_taken, descriptor_retired, cell_read, holds_named, walked, lock_agreed, section_published, learned};
+ghost use Rattle.runner_parts.specs.Lists.{without, is_old, slots_of, nodes_collected, test_of, tests_without, slot_back, slot_tested, one_more, nodes_looked, slot_taken, slot_made, slot_retired, descriptor_stored, descriptor_taken, descriptor_retired, descriptors_swept, published_seen, named_seen, cell_read, walked, learned};
 ghost use Rattle.runner_parts.specs.Tests.{has};
+ghost use Rattle.guard_core.specs.Moves.{is_unnamed};
 
 use crate::entries::{Known, Retired, Stored, Tested};
-use crate::lists::{Descriptors, Nodes, Reads, Records};
+use crate::lists::{Descriptors, Guards, Nodes, Reads, Records};
 use std::alloc::{AllocError, Global};
 use structure_laws::body_terms::{Place, Word};
 use structure_laws::table_words::Layout;
@@ -179,13 +180,14 @@ fn one_more(layout: Layout, test: Tested, word: u64) -> Tested
 }
 
 impl Descriptors {
-    /// The descriptors that have waited long enough go from limbo to the free list.
-    pub fn collect(&mut self, alloc: Global, epoch: u64) -> Result<(), AllocError>
-        ensures { OnOk result (self.new ≡ descriptors_collected epoch self.old) }
+    /// At the end of a sweep that read these guard words, the descriptors that none of them names go from limbo to
+    /// the free list.
+    pub fn sweep(&mut self, alloc: Global, words: &[u64]) -> Result<(), AllocError>
+        ensures { OnOk result (self.new ≡ descriptors_swept words.now self.old) }
     {
-        let old = old_slots(alloc, &self.limbo, epoch)?;
-        self.limbo = young(alloc, &self.limbo, epoch)?;
-        self.free.extend_from_slice(&old)?;
+        let free = unnamed(alloc, &self.limbo, words)?;
+        self.limbo = named(alloc, &self.limbo, words)?;
+        self.free.extend_from_slice(&free)?;
         Ok(())
     }
 
@@ -209,15 +211,46 @@ impl Descriptors {
         Ok(())
     }
 
-    pub fn retire(&mut self, descriptor: u32, epoch: u64) -> Result<(), AllocError>
-        ensures { OnOk result (self.new ≡ descriptor_retired self.old descriptor epoch) }
+    pub fn retire(&mut self, descriptor: u32) -> Result<(), AllocError>
+        ensures { OnOk result (self.new ≡ descriptor_retired self.old descriptor) }
     {
-        self.limbo.push(Retired {
-            slot: descriptor,
-            epoch,
-        })?;
+        self.limbo.push(descriptor)?;
         Ok(())
     }
+}
+
+/// Whether none of these guard words names this descriptor.
+fn is_unnamed(words: &[u64], descriptor: u32) -> bool
+    ensures { result ≡ is_unnamed words.now descriptor }
+{
+    for word in words {
+        if *word == descriptor as u64 + 1 {
+            return false;
+        }
+    }
+    true
+}
+
+/// The descriptors that none of these guard words names.
+fn unnamed(alloc: Global, limbo: &[u32], words: &[u64]) -> Result<Vec<u32>, AllocError>
+    ensures { IfOk result (λ v. v.items ≡ filter (is_unnamed words.now) limbo.now) }
+{
+    limbo
+        .iter()
+        .copied()
+        .filter(|x| is_unnamed(words, *x))
+        .collect(alloc)
+}
+
+/// The other ones.
+fn named(alloc: Global, limbo: &[u32], words: &[u64]) -> Result<Vec<u32>, AllocError>
+    ensures { IfOk result (λ v. v.items ≡ filter (λ x. not (is_unnamed words.now x)) limbo.now) }
+{
+    limbo
+        .iter()
+        .copied()
+        .filter(|x| !is_unnamed(words, *x))
+        .collect(alloc)
 }
 
 /// What was stored into the other descriptors.
@@ -235,6 +268,27 @@ fn stored_without(
         .collect(alloc)
 }
 
+impl Guards {
+    /// This descriptor was seen published: the runner is sure of it, if its guard word names it.
+    pub fn see_published(&mut self, descriptor: u32)
+        ensures { self.new ≡ published_seen self.old descriptor }
+    {
+        if self.named == Some(descriptor) {
+            self.sure = true;
+        }
+    }
+
+    /// A word was read: where it is a lock's and names a descriptor, that one is published.
+    pub fn see_named(&mut self, lock: bool, word: u64)
+        ensures { self.new ≡ named_seen self.old lock word }
+    {
+        let value = Word::from_bits(word).value();
+        if lock && value != 0 {
+            self.see_published(value - 1);
+        }
+    }
+}
+
 impl Reads {
     /// One more cell was read.
     pub fn cell_read(&mut self, place: Place, word: u64) -> Result<(), AllocError>
@@ -244,48 +298,12 @@ impl Reads {
         Ok(())
     }
 
-    /// The descriptor that this word names, if any, is held from now on.
-    pub fn hold_named(&mut self, word: u64) -> Result<(), AllocError>
-        ensures { OnOk result (self.new ≡ holds_named self.old word) }
-    {
-        let value = Word::from_bits(word).value();
-        if value != 0 {
-            self.held.push(value - 1)?;
-        }
-        Ok(())
-    }
-
-    /// A cell was read outside a run; a lock's word gives a descriptor to hold.
-    pub fn walk_to(&mut self, lock: bool, place: Place, word: u64) -> Result<(), AllocError>
-        ensures { OnOk result (self.new ≡ walked self.old lock place word) }
+    /// A cell was read outside a run.
+    pub fn walk_to(&mut self, place: Place, word: u64) -> Result<(), AllocError>
+        ensures { OnOk result (self.new ≡ walked self.old place word) }
     {
         self.walk.push((place, Word::from_bits(word)))?;
         self.cells.push((place, Word::from_bits(word)))?;
-        let value = Word::from_bits(word).value();
-        if lock && value != 0 {
-            self.held.push(value - 1)?;
-        }
-        Ok(())
-    }
-
-    /// A lock word was agreed on in a run of this descriptor: it gives a descriptor to hold where the section is the
-    /// runner's own.
-    pub fn lock_agreed(&mut self, descriptor: u32, word: u64) -> Result<(), AllocError>
-        ensures { OnOk result (self.new ≡ lock_agreed self.old descriptor word) }
-    {
-        if has(&self.published, descriptor) {
-            self.hold_named(word)
-        } else {
-            Ok(())
-        }
-    }
-
-    /// A section was published.
-    pub fn publish(&mut self, descriptor: u32) -> Result<(), AllocError>
-        ensures { OnOk result (self.new ≡ section_published self.old descriptor) }
-    {
-        self.held.push(descriptor)?;
-        self.published.push(descriptor)?;
         Ok(())
     }
 }

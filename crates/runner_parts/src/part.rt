@@ -1,7 +1,7 @@
 //! What one runner is at and keeps.
 
 use crate::entries::Published;
-use crate::lists::{Descriptors, Nodes, Reads, Records};
+use crate::lists::{Descriptors, Guards, Nodes, Reads, Records};
 use crate::run::Run;
 use epoch_core::Stage;
 use std::marker::Model;
@@ -14,6 +14,7 @@ pub struct Part {
     pub published: Option<Published>,
     pub nodes: Nodes,
     pub descriptors: Descriptors,
+    pub guards: Guards,
     pub reads: Reads,
     pub records: Records,
     pub gone: bool,
@@ -30,6 +31,7 @@ impl Model for Part {
       published = a.published;
       nodes = a.nodes;
       descriptors = a.descriptors;
+      guards = a.guards;
       reads = a.reads;
       records = a.records;
       gone = a.gone;

@@ -13,9 +13,10 @@ use Rattle.runner_parts.specs.declared.entries.Left.{Left}
 use Rattle.runner_parts.specs.structure_laws.specs.body_terms.specs.declared.micro.Micro.{Micro}
 use Rattle.runner_parts.specs.State.{RunState, PartState, RecordsState}
 use Rattle.runner_steps.specs.Sections.{is_open_run, next_of}
-use Rattle.runner_steps.specs.AfterOutside.{with_stage, entered, scan_one_after, advance_after, split_after, read_after, entry_after, private_load_after, private_store_after, hold_after, open_after, retire_after}
+use Rattle.runner_steps.specs.AfterOutside.{with_stage, entered, scan_one_after, advance_after, split_after, read_after, entry_after, private_load_after, private_store_after, hold_after, open_after}
 use Rattle.runner_steps.specs.Reads.{read_plan_after, read_clock_after, read_reply_after, read_stamped_after, only_loads_after}
-use Rattle.runner_steps.specs.AfterInRun.{opened_more, commit_after, cell_loaded, cell_exchanged, fill_loaded, fill_stored, make_committed, retire_committed, number_loaded, stamp_agreed, clock_raised, reply_agreed, lock_committed, done_set, lock_released, place_of, retired_slot_of, reply_word_of}
+use Rattle.runner_steps.specs.Guards.{guard_after, load_guard_after}
+use Rattle.runner_steps.specs.AfterInRun.{opened_more, word_committed, cell_loaded, cell_exchanged, fill_loaded, fill_stored, make_committed, retire_committed, number_loaded, stamp_agreed, clock_raised, reply_agreed, done_set, lock_released, place_of, retired_slot_of, reply_word_of}
 
 -- the keeper has joined this worker
 abbrev pub joins : PartState → ℕ → PartState
@@ -38,16 +39,17 @@ outside_after m l (kinds.PrivateLoad slot word) p found = private_load_after m l
 outside_after m l (kinds.PrivateStore slot word number) p found = private_store_after m l slot word number p
 outside_after m l (kinds.Hold thunk d) p found = hold_after thunk d p found
 outside_after m l (kinds.LoadThunk (Some d)) p found = open_after d p found
-outside_after m l kinds.EpochForRetire p found = retire_after p p.published found
 outside_after m l (kinds.ReadPlan thunk) p found = read_plan_after thunk p
 outside_after m l kinds.ReadClock p found = read_clock_after p found
 outside_after m l kinds.ReadReply p found = read_reply_after m p found
 outside_after m l kinds.ReadStamp p found = read_stamped_after p found
+outside_after m l (kinds.Guard d) p found = guard_after d p
+outside_after m l (kinds.LoadGuard n) p found = load_guard_after l p found
 outside_after m l _ p found = p
 
 -- the part after an event of a run that stood before this step
 abbrev pub line_after : Meaning → Layout → EventKind → PartState → RunState → Micro → ℕ → PartState
-line_after m l kinds.Commit p q micro found = commit_after m l micro p q found
+line_after m l kinds.Commit p q micro found = word_committed m l p q found
 line_after m l (kinds.LoadCell place) p q micro found = cell_loaded m l (place_of micro) p q found
 line_after m l kinds.ExchangeCell p q micro found = cell_exchanged m l (place_of micro) p q found
 line_after m l (kinds.PrivateLoad slot word) p q micro found = fill_loaded m l slot p q q.made found
@@ -64,7 +66,7 @@ line_after m l kinds.ReplyExchange p q micro found = reply_agreed m l (reply_wor
 line_after m l kinds.NestedLoad p q micro found = cell_loaded m l (place_of micro) p q found
 line_after m l kinds.NestedHold p q micro found = cell_exchanged m l (place_of micro) p q found
 line_after m l kinds.OutcomeLoad p q micro found = cell_loaded m l (place_of micro) p q found
-line_after m l kinds.OutcomeCommit p q micro found = lock_committed m l p q found
+line_after m l kinds.OutcomeCommit p q micro found = word_committed m l p q found
 line_after m l _ p q micro found = p
 
 -- the part after an event of a run

@@ -8,10 +8,10 @@ use Rattle.runner_parts.specs.structure_laws.specs.body_terms.specs.Run.{written
 use Rattle.runner_parts.specs.structure_laws.specs.table_words.specs.declared.layout.Layout.{Layout}
 use Rattle.runner_parts.specs.structure_laws.specs.Meaning.{Meaning}
 use Rattle.runner_parts.specs.declared.entries.Published.{Published}
-use Rattle.runner_parts.specs.State.{RunState, FinishedState, PartState, NodesState}
+use Rattle.runner_parts.specs.State.{RunState, FinishedState, PartState, NodesState, DescriptorsState}
 use Rattle.runner_steps.specs.Sections.{thunk_of, next_of, settles, outcome_of, is_late}
 use Rattle.runner_steps.specs.InRun.{stamp_after, last_clock}
-use Rattle.runner_parts.specs.Lists.{cell_read, lock_agreed, slot_taken, slot_made, slot_back, slot_retired, learned}
+use Rattle.runner_parts.specs.Lists.{cell_read, descriptor_retired, slot_taken, slot_made, slot_back, slot_retired, learned}
 
 -- the next place of the line, with this number to go by
 abbrev pub goes_on : Meaning → Layout → RunState → ℕ → RunState
@@ -44,14 +44,6 @@ number_loaded m l p q found = with_run p (goes_on m l q found)
 -- the word is agreed on that stood in the log, or else the proposal
 abbrev pub word_committed : Meaning → Layout → PartState → RunState → ℕ → PartState
 word_committed m l p q found = with_run p (agrees m l q (written_once found q.word))
-
--- the same for a lock's word
-abbrev pub lock_committed : Meaning → Layout → PartState → RunState → ℕ → PartState
-lock_committed m l p q found =
-    record p {
-      run = Some (agrees m l q (written_once found q.word));
-      reads = lock_agreed p.reads q.descriptor (written_once found q.word);
-    }
 
 -- the first private load of a Make takes the slot into the hand
 abbrev pub fill_loaded : Meaning → Layout → ℕ → PartState → RunState → Option ℕ → ℕ → PartState
@@ -110,10 +102,15 @@ ended_more q = record q { ended = q.ended + 1 }
 abbrev pub done_set : PartState → RunState → PartState
 done_set p q = with_run p (ended_more q)
 
--- the own section was run to its end
-abbrev pub over_if : Option Published → ℕ → Option Published
-over_if None descriptor = None
-over_if (Some x) descriptor = Some (record x { over = x.over || x.descriptor == descriptor })
+-- the own section is published no more once the runner has run it to its end
+abbrev pub kept_unless : Option Published → ℕ → Option Published
+kept_unless None descriptor = None
+kept_unless (Some x) descriptor = if x.descriptor == descriptor then None else Some x
+
+-- and then its descriptor goes into limbo
+abbrev pub retired_if : DescriptorsState → Option Published → ℕ → DescriptorsState
+retired_if d None descriptor = d
+retired_if d (Some x) descriptor = if x.descriptor == descriptor then descriptor_retired d descriptor else d
 
 -- what is kept of a run at its end
 abbrev pub finished_of : Meaning → Layout → RunState → FinishedState
@@ -131,7 +128,8 @@ abbrev pub run_over : Meaning → Layout → PartState → RunState → PartStat
 run_over m l p q =
     record p {
       run = None;
-      published = over_if p.published q.descriptor;
+      published = kept_unless p.published q.descriptor;
+      descriptors = retired_if p.descriptors p.published q.descriptor;
       records = record (p.records) { finished = p.records.finished ++ finished_of m l q ∷ [] };
     }
 
@@ -152,15 +150,6 @@ place_of (micros.OutcomeLoad place log) = place
 place_of (micros.ExchangeCell place log value) = place
 place_of (micros.Release place word) = place
 place_of _ = 0
-
--- whether a commit is that of a lock's word
-abbrev pub is_of_lock : Micro → Bool
-is_of_lock (micros.NestedCommit place log) = true
-is_of_lock _ = false
-
-abbrev pub commit_after : Meaning → Layout → Micro → PartState → RunState → ℕ → PartState
-commit_after m l micro p q found =
-    if is_of_lock micro then lock_committed m l p q found else word_committed m l p q found
 
 abbrev pub retired_slot_of : Micro → ℕ
 retired_slot_of (micros.RetireCommit slot log) = slot

@@ -10,23 +10,20 @@ use Rattle.runner_parts.specs.epoch_core.specs.declared.stage.Stage.TheVariants 
 use Rattle.runner_parts.specs.declared.entries.Published.{Published}
 use Rattle.runner_parts.specs.State.{RunState, PartState}
 use Rattle.runner_parts.specs.epoch_core.specs.State.{last_epoch}
-use Rattle.runner_parts.specs.Lists.{nodes_collected, descriptors_collected, nodes_looked, descriptor_stored, descriptor_taken, descriptor_retired, no_reads, cell_read, holds_named, walked, section_published, learned}
+use Rattle.runner_parts.specs.Lists.{nodes_collected, nodes_looked, descriptor_stored, descriptor_taken, published_seen, named_seen, with_looked, no_reads, cell_read, walked, learned}
 
 abbrev pub with_stage : PartState → Stage → PartState
 with_stage p stage = record p { stage = stage }
 
--- the lists begin anew
+-- the lists begin anew; a sweep in progress counts for nothing, since what comes into limbo from now on isn't looked for
+-- in it
 abbrev pub entered : PartState → ℕ → PartState
-entered p found = record p { stage = stages.Entered found; reads = no_reads }
+entered p found =
+    record p { stage = stages.Entered found; guards = with_looked p.guards []; reads = no_reads }
 
 -- a scan is over, and this epoch was reached
 abbrev pub collected : PartState → ℕ → PartState
-collected p epoch =
-    record p {
-      stage = stages.Idle;
-      nodes = nodes_collected epoch p.nodes;
-      descriptors = descriptors_collected epoch p.descriptors;
-    }
+collected p epoch = record p { stage = stages.Idle; nodes = nodes_collected epoch p.nodes }
 
 -- after the last announcement the scan is over, unless an advance may be tried
 abbrev pub scanned : Layout → PartState → ℕ → ℕ → Bool → PartState
@@ -49,7 +46,11 @@ split_after l p =
     { records = record (p.records) { splits = p.records.splits + 1 } } else p
 
 abbrev pub read_after : Meaning → ℕ → PartState → ℕ → PartState
-read_after m place p found = record p { reads = walked p.reads (m.is_lock place) place found }
+read_after m place p found =
+    record p {
+      guards = named_seen p.guards (m.is_lock place) found;
+      reads = walked p.reads place found;
+    }
 
 abbrev pub entry_after : ℕ → Bool → PartState → ℕ → PartState
 entry_after request reply p found = record p { records = learned p.records request reply found }
@@ -67,7 +68,7 @@ private_store_after m l slot word number p =
 -- the section with this thunk as it is published in this descriptor
 abbrev pub published_by : Thunk → ℕ → PartState → Published
 published_by t d p =
-    record { descriptor = d; thunk = t; walked = length p.reads.walk; known = length p.records.known; over = false }
+    record { descriptor = d; thunk = t; walked = length p.reads.walk; known = length p.records.known }
 
 -- where the lock was free, the section is published; otherwise the descriptor stays free
 abbrev pub hold_after : Thunk → ℕ → PartState → ℕ → PartState
@@ -75,9 +76,10 @@ hold_after t d p found = if found == t.word
     then record p {
       published = Some (published_by t d p);
       descriptors = descriptor_taken p.descriptors d;
-      reads = section_published (cell_read p.reads t.lock found) d;
+      guards = published_seen p.guards d;
+      reads = cell_read p.reads t.lock found;
     }
-    else record p { reads = holds_named (cell_read p.reads t.lock found) found }
+    else record p { reads = cell_read p.reads t.lock found }
 
 -- a run begins
 abbrev pub opened : ℕ → ℕ → RunState
@@ -86,9 +88,3 @@ opened d found =
 
 abbrev pub open_after : ℕ → PartState → ℕ → PartState
 open_after d p found = record p { run = Some (opened d found) }
-
--- the published section's descriptor goes into limbo
-abbrev pub retire_after : PartState → Option Published → ℕ → PartState
-retire_after p None found = p
-retire_after p (Some x) found =
-    record p { published = None; descriptors = descriptor_retired p.descriptors x.descriptor found }

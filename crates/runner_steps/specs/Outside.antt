@@ -14,10 +14,9 @@ use Rattle.runner_parts.specs.structure_laws.specs.Meaning.{Meaning}
 use Rattle.runner_parts.specs.epoch_core.specs.State.{last_epoch}
 use Rattle.runner_parts.specs.epoch_core.specs.declared.stage.Stage.{Stage}
 use Rattle.runner_parts.specs.epoch_core.specs.declared.stage.Stage.TheVariants as stages
-use Rattle.runner_parts.specs.declared.entries.Published.{Published}
 use Rattle.runner_parts.specs.declared.entries.Known.{Known}
-use Rattle.runner_parts.specs.State.{PartState}
-use Rattle.runner_parts.specs.Tests.{has, is_walking, is_resting, is_outside, is_next, is_prepared, is_open, serves, is_readable, is_between}
+use Rattle.runner_parts.specs.State.{GuardsState, PartState}
+use Rattle.runner_parts.specs.Tests.{has, is_walking, is_resting, is_outside, is_next, is_prepared, is_open, serves, is_readable, is_between, is_some_of}
 
 -- a word and what the step does with it; None where the event isn't enabled
 abbrev pub Ask : Type 0
@@ -44,11 +43,12 @@ enter_again_by false _ = None
 abbrev pub enter_again_ask : PartState → Ask
 enter_again_ask p = enter_again_by (is_between p.reads.look) p.stage
 
--- not while it has a published section that it hasn't retired, or the reply of a read of its is without its stamp
+-- not while it has a published section that it hasn't run to its end, or its guard word names a descriptor, or the reply
+-- of a read of its is without its stamp
 abbrev pub idle_ask : ℕ → PartState → Ask
 idle_ask r p =
-    when (is_walking p.stage p.run && (is_none p.published && not (is_between p.reads.look))) (spots.Announcement r)
-    (Stores 0)
+    when (is_walking p.stage p.run && (is_none p.published && (is_none p.guards.named && not (is_between p.reads.look))))
+    (spots.Announcement r) (Stores 0)
 
 -- the next announcement, the keeper's last
 abbrev pub scan_one_ask : Layout → ℕ → Stage → Ask
@@ -108,32 +108,29 @@ abbrev pub is_due : Meaning → Layout → List Request → ℕ → List Known �
 is_due m l requests r known walk t =
     let request = slice_get requests t.request in is_next l r requests known request && serves m l walk t request
 
--- the thunk may be published: its lock's word was read free, no section is left to retire, and no reply of a read
--- is without its stamp
+-- the thunk may be published: its lock's word was read free, no section of the runner's is published, and no reply of a
+-- read is without its stamp
 abbrev pub is_publishable : Meaning → Layout → List Request → ℕ → Thunk → PartState → Bool
 is_publishable m l requests r t p =
     is_walking p.stage p.run && (is_none p.published && (not (is_between p.reads.look)
     && (is_open l p.reads.cells t && is_due m l requests r p.records.known p.reads.walk t)))
 
--- the own free descriptor's words were stored with this thunk, which has eight operands
+-- the own free descriptor's words were stored with this thunk, which has eight operands, and the guard word names it
 abbrev pub is_ready : Layout → PartState → ℕ → Thunk → Bool
 is_ready l p d t =
     nat_lt d (descriptor_count l)
-    && (has p.descriptors.free d && (length t.operands == 8 && is_prepared p.descriptors.stored d t))
+    && (has p.descriptors.free d && (is_some_of p.guards.named d
+    && (length t.operands == 8 && is_prepared p.descriptors.stored d t)))
 
 abbrev pub hold_ask : Meaning → Layout → List Request → ℕ → Thunk → ℕ → PartState → Ask
 hold_ask m l requests r t d p =
     when (is_ready l p d t && is_publishable m l requests r t p) (spots.Cell t.lock)
     (Exchanges t.word (held_word d t.word))
 
--- a run begins with the first thunk word of a descriptor that the runner holds
+-- the runner is sure of this descriptor: its guard word names it, and it has seen it published since
+abbrev pub is_sure_of : GuardsState → ℕ → Bool
+is_sure_of g d = g.sure && is_some_of g.named d
+
+-- a run begins with the first thunk word of a descriptor of which the runner is sure
 abbrev pub open_ask : ℕ → PartState → Ask
-open_ask d p = when (is_walking p.stage p.run && has p.reads.held d) (spots.ThunkWord d 0) Loads
-
--- the section that the runner published was run to its end
-abbrev pub is_over : Option Published → Bool
-is_over None = false
-is_over (Some x) = x.over
-
-abbrev pub retire_ask : PartState → Ask
-retire_ask p = when (is_walking p.stage p.run && is_over p.published) spots.Epoch Loads
+open_ask d p = when (is_walking p.stage p.run && is_sure_of p.guards d) (spots.ThunkWord d 0) Loads

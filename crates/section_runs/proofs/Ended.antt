@@ -1,11 +1,10 @@
 -- A whole run, put together.
-use Rattle.std.proofs.Common.{◌≡◌, ◌≢◌, ℕ, ◌+◌, ◌-◌, ◌≤◌, List, [], ◌∷◌, ◌++◌, Bool, true, refl, sym, ap, ◌∙◌, subst, arith, Option, Some, None}
+use Rattle.std.proofs.Common.{◌≡◌, ◌≢◌, ℕ, ◌+◌, ◌≤◌, List, [], ◌∷◌, ◌++◌, Bool, true, refl, sym, ap, ◌∙◌, subst, arith, Option, Some, None}
 use Rattle.std.specs.Prelude.{if◌then◌else◌}
 use Rattle.idem_cell.specs.machine_states.specs.body_terms.specs.Cost.{cost_of}
 use Rattle.idem_cell.specs.machine_states.specs.body_terms.specs.Line.{line, micro_at}
 use Rattle.idem_cell.specs.machine_states.specs.body_terms.specs.Run.{leaves}
 use Rattle.idem_cell.specs.machine_states.specs.body_terms.specs.Trail.{Agreed}
-use Rattle.idem_cell.specs.machine_states.specs.body_terms.specs.Word.{value_of}
 use Rattle.idem_cell.specs.machine_states.specs.body_terms.specs.declared.outcome.Outcome.{Outcome}
 use Rattle.idem_cell.specs.machine_states.specs.body_terms.specs.declared.outcome.Outcome.TheVariants as outcomes
 use Rattle.idem_cell.specs.machine_states.specs.body_terms.specs.declared.step.Step.{Step}
@@ -15,8 +14,9 @@ use Rattle.idem_cell.specs.machine_states.specs.table_words.specs.declared.layou
 use Rattle.idem_cell.specs.machine_states.specs.structure_laws.specs.Meaning.{Meaning}
 use Rattle.idem_cell.specs.machine_states.specs.structure_laws.specs.Laws.{Laws}
 use Rattle.idem_cell.specs.machine_states.specs.runner_parts.specs.State.{RunState, FinishedState, NodesState, ReadsState}
-use Rattle.idem_cell.specs.machine_states.specs.runner_parts.specs.Tests.{has, is_answered}
-use Rattle.idem_cell.specs.machine_states.specs.runner_steps.specs.AfterInRun.{ended_more, over_if, finished_of}
+use Rattle.idem_cell.specs.machine_states.specs.runner_parts.specs.Tests.{is_answered}
+use Rattle.idem_cell.specs.machine_states.specs.runner_steps.specs.AfterInRun.{ended_more, kept_unless, retired_if, finished_of}
+use Rattle.idem_cell.specs.machine_states.specs.runner_steps.specs.Outside.{is_sure_of}
 use Rattle.idem_cell.specs.machine_states.specs.runner_steps.specs.Sections.{thunk_of, outcome_of, outcome_or, setting_of, settles, is_late}
 use Rattle.nested_lock.specs.machine_facts.specs.machine_invariant.specs.After.{AreAllowed}
 use Rattle.idem_alloc.specs.commit_log.specs.version_words.specs.RunnerState.{RunnerState}
@@ -95,8 +95,12 @@ module _ {T : Type 0} (m : Meaning) (laws : Laws m) (t : TableState T) (limits :
   stage : new.part.stage ≡ r1.part.stage
   stage = ended.released.step.behind.stage ∙ passed.stays.stage
 
-  held : (i : ℕ) → has r1.part.reads.held i ≡ true → has new.part.reads.held i ≡ true
-  held i h = ap (λ (s : ReadsState). has s.held i) ended.released.step.behind.reads ∙ passed.stays.held i h
+  guards : new.part.guards ≡ r1.part.guards
+  guards = ended.released.step.behind.guards ∙ passed.stays.guards
+
+  -- it is sure of the descriptor on
+  sure_on : is_sure_of new.part.guards q.descriptor ≡ true
+  sure_on = (λ i. is_sure_of (guards i) (q_descriptor i)) ∙ opened.sure
 
   abbrev f : FinishedState
   f = finished_of m last.layout (ended_more q)
@@ -104,13 +108,13 @@ module _ {T : Type 0} (m : Meaning) (laws : Laws m) (t : TableState T) (limits :
   shows : EndShows m d thunk f new
   shows = subst (λ (x : Thunk). EndShows m d x f new) q_thunk (subst (λ i. EndShows m i (thunk_of q.opened) f new) q_descriptor
       (end_shows m laws last new (subst IsWithinLimits (sym new_own.layout) limits) (subst AreAllowed (sym new_own.requests) allowed) q _ _ ended.released.found ended.released.step
-      ended.released.over opened.epoch (stage ∙ opened.at) (subst (λ i. has new.part.reads.held i ≡ true) (sym q_descriptor) (held d opened.holds))))
+      ended.released.over sure_on))
 
   -- it rests behind the checks that pass
   rests : settles m last.layout q ≡ q
   rests = subst (λ (l : Layout). settles m l q ≡ q) (ap (λ (y : RunnerState T). y.layout) ended.released.step.event.made)
       (end_rests m laws last new (subst IsWithinLimits (sym new_own.layout) limits) (subst AreAllowed (sym new_own.requests) allowed) q _ _ ended.released.found ended.released.step
-      ended.released.over opened.epoch (stage ∙ opened.at) (subst (λ i. has new.part.reads.held i ≡ true) (sym q_descriptor) (held d opened.holds)))
+      ended.released.over sure_on)
 
   outcome_is : f.outcome ≡ o
   outcome_is = ap (λ (y : RunState). outcome_of m last.layout (ended_more y)) ended.on.run ∙ (ap (λ (l : Layout). outcome_of m l q2) ended.on.layout ∙ walked.over.outcome)
@@ -151,14 +155,15 @@ module _ {T : Type 0} (m : Meaning) (laws : Laws m) (t : TableState T) (limits :
         present = behind.present ∙ (passed.stays.present ∙ hop.stays.present);
         stage = stage ∙ hop.stays.stage;
         resting = behind.run ∙ ap (λ b. if b then None else Some (ended_more q)) over;
-        published = behind.published ∙ (ap (λ b. if b then over_if last.part.published q.descriptor else last.part.published) over
-            ∙ (λ i. over_if ((passed.stays.published ∙ hop.stays.published) i) (q_descriptor i)));
-        descriptors = behind.descriptors ∙ (passed.stays.descriptors ∙ hop.stays.descriptors);
+        published = behind.published ∙ (ap (λ b. if b then kept_unless last.part.published q.descriptor else last.part.published) over
+            ∙ (λ i. kept_unless ((passed.stays.published ∙ hop.stays.published) i) (q_descriptor i)));
+        descriptors = behind.descriptors ∙ (ap (λ b. if b then retired_if last.part.descriptors last.part.published q.descriptor else last.part.descriptors) over
+            ∙ (λ i. retired_if ((passed.stays.descriptors ∙ hop.stays.descriptors) i) ((passed.stays.published ∙ hop.stays.published) i) (q_descriptor i)));
         nodes = subst (λ (ns : NodesState). NodesRan (m.body thunk) ns new.part.nodes) hop.nodes (subst (λ xs. NodesRan xs r1.part.nodes new.part.nodes) body1
             (nodes_ran (body_of m r1) walked.passed r1.part.nodes new.part.nodes (subst (NodesGone (body_of m r1) walked.passed r1.part.nodes) (sym (behind.nodes ∙ ended.on.nodes)) walked.nodes)));
         left_nodes = λ other. behind.nodes ∙ (ended.on.nodes ∙ (walked.left other ∙ hop.nodes));
-        held = λ i h. held i (hop.stays.held i h);
-        entry = ap (λ (s : ReadsState). s.published) behind.reads ∙ (passed.stays.entry ∙ hop.stays.entry);
+        guards = guards ∙ hop.stays.guards;
+        walk = ap (λ (s : ReadsState). s.walk) behind.reads ∙ (passed.stays.walk ∙ hop.stays.walk);
         look = ap (λ (s : ReadsState). s.look) behind.reads ∙ (passed.stays.look ∙ hop.stays.look);
         learns = subst (λ ks. Learns thunk.request ks new.part.records.known) hop.known (learns_more thunk.request r1.part.records.known last.part.records.known new.part.records.known passed.learns
             (subst (λ (x : Thunk). Learns x.request last.part.records.known new.part.records.known) q_thunk
@@ -166,7 +171,6 @@ module _ {T : Type 0} (m : Meaning) (laws : Laws m) (t : TableState T) (limits :
         told = λ answer answered. ap (λ (x : Thunk). is_answered new.part.records.known x.request) (sym q_thunk)
             ∙ answered_told m laws t limits allowed last new last_own q _ _ ended.released.found ended.released.step rests answer (outcome_is ∙ answered);
         cause = λ other. (q2.at, cause_of other);
-        names = λ p w busy published. names_last p w (walked.names p w busy (ap (has r1.part.reads.published) (ap (λ (y : RunState). y.descriptor) run1) ∙ (ap (λ xs. has xs d) hop.stays.entry ∙ published)));
       }
     where
       -- the check at which it left
@@ -175,9 +179,3 @@ module _ {T : Type 0} (m : Meaning) (laws : Laws m) (t : TableState T) (limits :
           ((sym q_descriptor ∙ ap (λ (y : RunState). y.descriptor) ended.on.run) i)) (words i)
           (micro_at (line (m.body ((sym q_thunk ∙ ap (λ (y : RunState). thunk_of y.opened) ended.on.run) i))) q2.at))
           ∙ left_by (leaves (setting_of r2.layout q2.descriptor) q2.trail (micro_at (line (m.body (thunk_of q2.opened))) q2.at)) _ o walked.over.outcome other
-
-      -- what was held behind the body is held at the end
-      names_last : (p w : ℕ) → has r2.part.reads.held (value_of w - 1) ≡ true → has new.part.reads.held (value_of w - 1) ≡ true
-      names_last p w h = ap (λ (s : ReadsState). has s.held (value_of w - 1)) ended.released.step.behind.reads
-          ∙ (ran_passed m laws t limits allowed ended.count (thunk_of q2.opened).request r2 last (ran_own m laws t limits allowed made r1 r2 own went) ended.ran q ended.inside
-          (λ p is. ap (λ (y : RunState). (thunk_of y.opened).request) (run_is m r2 p is))).stays.held (value_of w - 1) h

@@ -12,9 +12,8 @@ use Rattle.idem_cell.specs.machine_states.specs.structure_laws.specs.Meaning.{Me
 use Rattle.idem_cell.specs.machine_states.specs.structure_laws.specs.Laws.{Laws}
 use Rattle.idem_cell.specs.machine_states.specs.runner_parts.specs.declared.event.EventKind.TheVariants as kinds
 use Rattle.idem_cell.specs.machine_states.specs.runner_parts.specs.declared.event.Event.{Event}
-use Rattle.idem_cell.specs.machine_states.specs.epoch_core.specs.declared.stage.Stage.TheVariants as stages
 use Rattle.idem_cell.specs.machine_states.specs.runner_parts.specs.State.{RunState, FinishedState, PartState}
-use Rattle.idem_cell.specs.machine_states.specs.runner_parts.specs.Tests.{has}
+use Rattle.idem_cell.specs.machine_states.specs.runner_steps.specs.Outside.{is_sure_of}
 use Rattle.idem_cell.specs.machine_states.specs.runner_steps.specs.AfterInRun.{ended_more, finished_of}
 use Rattle.idem_cell.specs.machine_states.specs.runner_steps.specs.Sections.{thunk_of, next_of, settles}
 use Rattle.idem_cell.specs.machine_states.specs.epoch_core.specs.declared.location.Location.{Location}
@@ -64,7 +63,7 @@ pub record EndShows {T : Type 0} (m : Meaning) (d : ℕ) (t : Thunk) (f : Finish
 
 module _ {T : Type 0} (m : Meaning) (laws : Laws m) (last new : RunnerState T) (limits : IsWithinLimits new.layout) (allowed : AreAllowed new.requests)
     (q : RunState) (place word found : ℕ) (step : Stepped m q (micros.Release place word) found last new) (over : is_end (next_of m (ended_more q)) ≡ true)
-    (g : ℕ) (stage : new.part.stage ≡ stages.Entered g) (held : has new.part.reads.held q.descriptor ≡ true) where
+    (sure : is_sure_of new.part.guards q.descriptor ≡ true) where
   abbrev event : Event
   event = record { runner = new.number; kind = kinds.Release }
 
@@ -100,11 +99,11 @@ module _ {T : Type 0} (m : Meaning) (laws : Laws m) (last new : RunnerState T) (
   pub end_rests : settles m new.layout q ≡ q
   end_rests = (all.there.sound.sections.joined.tied new.number).rests q runs step.running.opened
 
-  -- the descriptor is held, so the section is still in it
+  -- the runner is sure of the descriptor, so the section is still in it
   used1 : all.after.agreement.used q.descriptor ≡ true
   used1 =
       let slots = all.here.sound.slots in
-      let is_held = slots.in_held.named new.number g q.descriptor (ap (λ (p : PartState). p.stage) part1 ∙ stage) (ap (λ (p : PartState). has p.reads.held q.descriptor) part1 ∙ held) in
+      let is_held = slots.in_held.named new.number q.descriptor (ap (λ (p : PartState). is_sure_of p.guards q.descriptor) part1 ∙ sure) in
       let kept = slots.in_held.kept new.number (node_count m new.layout + q.descriptor) is_held in
       all.here.sound.used q.descriptor ∙ kept_out (all.after.epochs.location (node_count m new.layout + q.descriptor)) kept.0 kept.2
 

@@ -12,7 +12,8 @@ use Rattle.idem_cell.specs.machine_states.specs.body_terms.specs.declared.thunk.
 use Rattle.idem_cell.specs.section_lines.proofs.Phases.{is_in_phases}
 use Rattle.idem_cell.specs.section_lines.proofs.Resting.{rests_at}
 use Rattle.idem_cell.specs.machine_states.specs.structure_laws.specs.Meaning.{Meaning}
-use Rattle.idem_cell.specs.machine_states.specs.runner_parts.specs.State.{RunState}
+use Rattle.idem_cell.specs.machine_states.specs.runner_parts.specs.State.{RunState, GuardsState}
+use Rattle.idem_cell.specs.machine_states.specs.runner_steps.specs.Outside.{is_sure_of}
 use Rattle.idem_cell.specs.machine_states.specs.runner_steps.specs.Sections.{thunk_of, setting_of}
 use Rattle.idem_alloc.specs.commit_log.specs.version_words.specs.RunnerState.{RunnerState}
 use Rattle.section_runs.specs.Reached.{run_or, run_of, MayBegin}
@@ -39,9 +40,7 @@ module _ {T : Type 0} (m : Meaning) (d : ℕ) (t : Thunk) (late : Bool) where
     run = hop.run;
     thunk = hop.thunk;
     found = hop.found;
-    epoch = may.epoch;
-    at = hop.stays.stage ∙ may.at.at;
-    holds = hop.stays.held d may.holds;
+    sure = ap (λ (g : GuardsState). is_sure_of g d) hop.stays.guards ∙ may.sure;
   }
 
   module _ (r : RunnerState T) (is : StandsOpened m d t late r) where

@@ -1,6 +1,7 @@
 -- The opening of a run, load by load.
 use Rattle.std.proofs.Common.{◌≡◌, ℕ, zero, suc, ◌+◌, ◌<◌, List, [], ◌∷◌, ◌++◌, length, length-append, Bool, true, false, refl, sym, ap, ◌∙◌, subst, arith, Option, Some, None}
 use Rattle.std.specs.Prelude.{◌==◌, ◌&&◌, nat_lt, if◌then◌else◌}
+use Rattle.std.proofs.lemmas.Bool.{and_parts}
 use Rattle.std.proofs.lemmas.Bool.Decides.{nat_tests}
 use Rattle.idem_cell.specs.machine_states.specs.body_terms.specs.declared.thunk.Thunk.{Thunk}
 use Rattle.idem_cell.specs.machine_states.specs.table_words.specs.declared.sizes.Sizes.{Sizes}
@@ -13,15 +14,16 @@ use Rattle.idem_cell.specs.machine_states.specs.structure_laws.specs.Meaning.{Me
 use Rattle.idem_cell.specs.machine_states.specs.structure_laws.specs.Laws.{Laws}
 use Rattle.idem_cell.specs.machine_states.specs.runner_parts.specs.declared.event.EventKind.{EventKind}
 use Rattle.idem_cell.specs.machine_states.specs.runner_parts.specs.declared.event.EventKind.TheVariants as kinds
-use Rattle.idem_cell.specs.machine_states.specs.runner_parts.specs.State.{RunState, PartState}
-use Rattle.idem_cell.specs.machine_states.specs.runner_parts.specs.Tests.{has, is_walking}
-use Rattle.idem_cell.specs.machine_states.specs.runner_steps.specs.Outside.{when}
+use Rattle.idem_cell.specs.machine_states.specs.runner_parts.specs.State.{RunState, GuardsState, PartState}
+use Rattle.idem_cell.specs.machine_states.specs.runner_parts.specs.Tests.{is_walking}
+use Rattle.idem_cell.specs.machine_states.specs.runner_steps.specs.Outside.{when, is_sure_of}
 use Rattle.idem_cell.specs.machine_states.specs.runner_steps.specs.Asks.{ask_by, fitting, sizes_for}
 use Rattle.idem_cell.specs.machine_states.specs.runner_steps.specs.Sections.{thunk_of, is_late, next_of}
 use Rattle.idem_cell.specs.machine_states.specs.runner_steps.specs.AfterInRun.{with_run, opened_more}
 use Rattle.idem_cell.specs.machine_states.specs.runner_steps.specs.After.{after_by, line_after, counted}
 use Rattle.nested_lock.specs.machine_facts.specs.machine_agreement.proofs.LineKinds.{noted_finished, noting}
 use Rattle.idem_cell.specs.machine_states.specs.Sight.{sight, part_or_first}
+use Rattle.idem_cell.specs.machine_epochs.proofs.OutsideAsked.{named_is}
 use Rattle.nested_lock.specs.machine_facts.specs.machine_invariant.specs.After.{AreAllowed}
 use Rattle.idem_alloc.specs.commit_log.specs.next_steps.specs.Stages.{IsInRun}
 use Rattle.idem_alloc.specs.commit_log.specs.next_steps.specs.Steps.{opening_kind, opened_next}
@@ -67,11 +69,13 @@ module _ {T : Type 0} (m : Meaning) (laws : Laws m) (t : TableState T) (limits :
     present : r.part.gone ≡ false
     present = is.stays.present ∙ may.at.present
 
+    sure_now : is_sure_of r.part.guards d ≡ true
+    sure_now = ap (λ (g : GuardsState). is_sure_of g d) is.stays.guards ∙ may.sure
+
     -- the descriptor is one of the table's
     fits : d < descriptor_count r.layout
-    fits = (reached_numbers m laws r.layout within r.requests few is.reached.world is.reached.reached).held r.number may.epoch d
-        (ap (λ (p : PartState). p.stage) seen ∙ (is.stays.stage ∙ may.at.at))
-        (ap (λ (p : PartState). has p.reads.held d) seen ∙ is.stays.held d may.holds)
+    fits = (reached_numbers m laws r.layout within r.requests few is.reached.world is.reached.reached).guarded r.number d
+        (ap (λ (p : PartState). p.guards.named) seen ∙ named_is r.part.guards.named d (and_parts _ _ sure_now).1)
       where
         seen : (sight m r.layout r.requests is.reached.world).part r.number ≡ r.part
         seen = ap part_or_first is.reached.own
@@ -84,7 +88,7 @@ module _ {T : Type 0} (m : Meaning) (laws : Laws m) (t : TableState T) (limits :
         let s : Sizes = sizes_for m r.layout r.requests in
         ap (λ (b : Bool). if b then None else fitting s (ask_by m r.layout r.requests r.number (kinds.LoadThunk (Some d)) r.part r.part.run)) present
         ∙ (ap (λ (o : Option RunState). fitting s (ask_by m r.layout r.requests r.number (kinds.LoadThunk (Some d)) r.part o)) none
-        ∙ (ap (λ (b : Bool). fitting s (when b (spots.ThunkWord d 0) Loads)) (λ i. is_walking ((is.stays.stage ∙ may.at.at) i) (none i) && (is.stays.held d may.holds) i)
+        ∙ (ap (λ (b : Bool). fitting s (when b (spots.ThunkWord d 0) Loads)) (λ i. is_walking ((is.stays.stage ∙ may.at.at) i) (none i) && sure_now i)
         ∙ ap (λ (b : Bool). if b then Some (spots.ThunkWord d 0, Loads) else None) (fits_is s (spots.ThunkWord d 0) (fits, (omega arith)))))
 
     next : length words < 13 → r.part.run ≡ Some (opening d words) → met_by m r (opening_kind (opening d words)) ≡ Some (opened_next (opening d words))
@@ -145,8 +149,8 @@ module _ {T : Type 0} (m : Meaning) (laws : Laws m) (t : TableState T) (limits :
               published = ap (λ (p : PartState). p.published) part;
               descriptors = ap (λ (p : PartState). p.descriptors) part;
               finished = ap (λ (p : PartState). p.records.finished) part ∙ noted_finished r.layout r.number kind made.met.0 made.met.1 found r.part.records;
-              held = λ i h. ap (λ (p : PartState). has p.reads.held i) part ∙ h;
-              entry = ap (λ (p : PartState). p.reads.published) part;
+              guards = ap (λ (p : PartState). p.guards) part;
+              walk = ap (λ (p : PartState). p.reads.walk) part;
               look = ap (λ (p : PartState). p.reads.look) part;
             });
             nodes = ap (λ (p : PartState). p.nodes) part ∙ is.nodes;

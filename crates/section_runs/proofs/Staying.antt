@@ -1,10 +1,9 @@
 -- What no step of a run changes but the last one, and how its steps are counted.
 use Rattle.std.proofs.Common.{◌≡◌, ℕ, zero, suc, ◌+◌, List, [], ◌∷◌, ◌++◌, Bool, true, false, refl, sym, ap, ◌∙◌, subst, arith, Some, None, append_assoc}
-use Rattle.std.specs.Prelude.{◌||◌, slice_get, if◌then◌else◌}
+use Rattle.std.specs.Prelude.{slice_get, if◌then◌else◌}
 use Rattle.idem_cell.specs.machine_states.specs.body_terms.specs.declared.micro.Micro.{Micro}
 use Rattle.idem_cell.specs.machine_states.specs.body_terms.specs.declared.micro.Micro.TheVariants as micros
 use Rattle.idem_cell.specs.machine_states.specs.body_terms.specs.Line.{is_end}
-use Rattle.idem_cell.specs.machine_states.specs.body_terms.specs.Run.{written_once}
 use Rattle.idem_cell.specs.machine_states.specs.table_words.specs.declared.layout.Layout.{Layout}
 use Rattle.idem_cell.specs.machine_states.specs.table_words.specs.declared.access.Access.{Access}
 use Rattle.idem_cell.specs.machine_states.specs.table_words.specs.declared.spot.Spot.{Spot}
@@ -13,16 +12,13 @@ use Rattle.idem_cell.specs.machine_states.specs.structure_laws.specs.Meaning.{Me
 use Rattle.idem_cell.specs.machine_states.specs.structure_laws.specs.Laws.{Laws}
 use Rattle.idem_cell.specs.machine_states.specs.runner_parts.specs.declared.entries.Known.{Known}
 use Rattle.idem_cell.specs.machine_states.specs.runner_parts.specs.State.{RunState, ReadsState, PartState}
-use Rattle.idem_cell.specs.machine_states.specs.runner_parts.specs.Lists.{named_by, lock_agreed, holds_named}
-use Rattle.idem_cell.specs.machine_states.specs.runner_parts.specs.Tests.{has}
 use Rattle.idem_cell.specs.machine_states.specs.runner_steps.specs.Sections.{thunk_of, is_open_run, next_of}
-use Rattle.idem_cell.specs.machine_states.specs.runner_steps.specs.AfterInRun.{ended_more, over_if, finished_of}
+use Rattle.idem_cell.specs.machine_states.specs.runner_steps.specs.AfterInRun.{ended_more, kept_unless, retired_if, finished_of}
 use Rattle.idem_cell.specs.machine_states.specs.runner_steps.specs.After.{line_after, after, counted}
 use Rattle.nested_lock.specs.machine_facts.specs.machine_agreement.proofs.LineKinds.{noting, after_line}
-use Rattle.idem_cell.specs.machine_epochs.proofs.Places.{has_append}
 use Rattle.nested_lock.specs.machine_facts.specs.machine_invariant.specs.After.{AreAllowed}
 use Rattle.idem_alloc.specs.commit_log.specs.next_steps.specs.Steps.{kind_at}
-use Rattle.idem_alloc.specs.commit_log.specs.next_steps.specs.Stages.{run_behind, reads_behind, published_behind, finished_behind}
+use Rattle.idem_alloc.specs.commit_log.specs.next_steps.specs.Stages.{run_behind, reads_behind, published_behind, descriptors_behind, finished_behind}
 use Rattle.idem_alloc.specs.commit_log.specs.next_steps.proofs.Stages.{in_table}
 use Rattle.idem_alloc.specs.commit_log.specs.version_words.specs.RunnerState.{RunnerState}
 use Rattle.idem_alloc.specs.commit_log.specs.version_words.specs.TableState.{TableState, IsOf}
@@ -32,54 +28,28 @@ use Rattle.section_runs.specs.Reached.{events_after}
 use Rattle.section_runs.specs.Opened.{Stays, Learns}
 use Rattle.section_runs.proofs.Records.{noted_known, noted_events, learns_none, line_leaves}
 
-pub held_more : (xs ys : List ℕ) (d : ℕ) → has xs d ≡ true → has (xs ++ ys) d ≡ true
-held_more xs ys d e = has_append xs ys d ∙ ap (λ b. b || has ys d) e
-
--- a lock's agreed word only adds to what is held
-agreed_held : (s : ReadsState) (descriptor word d : ℕ) → has s.held d ≡ true → has (lock_agreed s descriptor word).held d ≡ true
-agreed_held s descriptor word d e = by (has s.published descriptor)
-  where
-    by : (b : Bool) → has (if b then holds_named s word else s).held d ≡ true
-    by true = held_more s.held (named_by word) d e
-    by false = e
-
-agreed_published : (s : ReadsState) (descriptor word : ℕ) → (lock_agreed s descriptor word).published ≡ s.published
-agreed_published s descriptor word = by (has s.published descriptor)
-  where
-    by : (b : Bool) → (if b then holds_named s word else s).published ≡ s.published
-    by true = refl
-    by false = refl
-
-agreed_look : (s : ReadsState) (descriptor word : ℕ) → (lock_agreed s descriptor word).look ≡ s.look
-agreed_look s descriptor word = by (has s.published descriptor)
-  where
-    by : (b : Bool) → (if b then holds_named s word else s).look ≡ s.look
-    by true = refl
-    by false = refl
-
 module _ (m : Meaning) (l : Layout) (p : PartState) (q : RunState) (found : ℕ) where
-  held_stays : (micro : Micro) (d : ℕ) → has p.reads.held d ≡ true → has (reads_behind p q micro found).held d ≡ true
-  held_stays (micros.NestedCommit place log) d e = agreed_held p.reads q.descriptor (written_once found q.word) d e
-  held_stays (micros.OutcomeCommit place log) d e = agreed_held p.reads q.descriptor (written_once found q.word) d e
-  held_stays _ d e = e
-
-  entry_stays : (micro : Micro) → (reads_behind p q micro found).published ≡ p.reads.published
-  entry_stays (micros.NestedCommit place log) = agreed_published p.reads q.descriptor (written_once found q.word)
-  entry_stays (micros.OutcomeCommit place log) = agreed_published p.reads q.descriptor (written_once found q.word)
-  entry_stays _ = refl
+  walk_stays : (micro : Micro) → (reads_behind p q micro found).walk ≡ p.reads.walk
+  walk_stays _ = refl
 
   look_stays : (micro : Micro) → (reads_behind p q micro found).look ≡ p.reads.look
-  look_stays (micros.NestedCommit place log) = agreed_look p.reads q.descriptor (written_once found q.word)
-  look_stays (micros.OutcomeCommit place log) = agreed_look p.reads q.descriptor (written_once found q.word)
   look_stays _ = refl
 
   published_stays : (micro : Micro) (after : RunState) → run_behind m l p q micro found ≡ Some after → published_behind m p q micro ≡ p.published
   published_stays (micros.Release place word) after e = by (is_end (next_of m (ended_more q))) e
     where
-      by : (b : Bool) → (if b then None else Some (ended_more q)) ≡ Some after → (if b then over_if p.published q.descriptor else p.published) ≡ p.published
+      by : (b : Bool) → (if b then None else Some (ended_more q)) ≡ Some after → (if b then kept_unless p.published q.descriptor else p.published) ≡ p.published
       by true e = absurd (let z = e in cc)
       by false e = refl
   published_stays _ after e = refl
+
+  descriptors_stays : (micro : Micro) (after : RunState) → run_behind m l p q micro found ≡ Some after → descriptors_behind m p q micro ≡ p.descriptors
+  descriptors_stays (micros.Release place word) after e = by (is_end (next_of m (ended_more q))) e
+    where
+      by : (b : Bool) → (if b then None else Some (ended_more q)) ≡ Some after → (if b then retired_if p.descriptors p.published q.descriptor else p.descriptors) ≡ p.descriptors
+      by true e = absurd (let z = e in cc)
+      by false e = refl
+  descriptors_stays _ after e = refl
 
   finished_stays : (micro : Micro) (after : RunState) → run_behind m l p q micro found ≡ Some after → finished_behind m l p q micro ≡ p.records.finished
   finished_stays (micros.Release place word) after e = by (is_end (next_of m (ended_more q))) e
@@ -102,8 +72,8 @@ module _ {T : Type 0} where
     published = refl;
     descriptors = refl;
     finished = refl;
-    held = λ d e. e;
-    entry = refl;
+    guards = refl;
+    walk = refl;
     look = refl;
   }
 
@@ -117,8 +87,8 @@ module _ {T : Type 0} where
     published = two.published ∙ one.published;
     descriptors = two.descriptors ∙ one.descriptors;
     finished = two.finished ∙ one.finished;
-    held = λ d e. two.held d (one.held d e);
-    entry = two.entry ∙ one.entry;
+    guards = two.guards ∙ one.guards;
+    walk = two.walk ∙ one.walk;
     look = two.look ∙ one.look;
   }
 
@@ -190,10 +160,10 @@ module _ {T : Type 0} (m : Meaning) (laws : Laws m) (t : TableState T) (limits :
           present = step.behind.present;
           stage = step.behind.stage;
           published = step.behind.published ∙ published_stays m a.layout a.part q found micro behind e;
-          descriptors = step.behind.descriptors;
+          descriptors = step.behind.descriptors ∙ descriptors_stays m a.layout a.part q found micro behind e;
           finished = step.behind.finished ∙ finished_stays m a.layout a.part q found micro behind e;
-          held = λ d h. ap (λ (s : ReadsState). has s.held d) step.behind.reads ∙ held_stays m a.layout a.part q found micro d h;
-          entry = ap (λ (s : ReadsState). s.published) step.behind.reads ∙ entry_stays m a.layout a.part q found micro;
+          guards = step.behind.guards;
+          walk = ap (λ (s : ReadsState). s.walk) step.behind.reads ∙ walk_stays m a.layout a.part q found micro;
           look = ap (λ (s : ReadsState). s.look) step.behind.reads ∙ look_stays m a.layout a.part q found micro;
         }
 

@@ -1,32 +1,25 @@
 -- A Take, by its answer.
-use Rattle.std.proofs.Common.{◌≡◌, ℕ, suc, ◌+◌, ◌-◌, ◌<◌, List, [], ◌∷◌, ◌++◌, length-append, append_assoc, Bool, true, false, eq-eqb, refl, sym, ap, ◌∙◌, subst, arith, ⊎_elim, Option, Some, None}
-use Rattle.std.specs.Prelude.{◌==◌, ◌||◌, ◌&&◌, not, cond, if◌then◌else◌, slice_index, take, is_err}
+use Rattle.std.proofs.Common.{◌≡◌, ℕ, suc, ◌+◌, ◌-◌, ◌<◌, List, [], ◌∷◌, ◌++◌, length-append, append_assoc, false, refl, sym, ap, ◌∙◌, subst, arith, ⊎_elim, Option, Some, None}
+use Rattle.std.specs.Prelude.{slice_index, take, is_err}
 use Rattle.idem_cell.specs.machine_states.specs.body_terms.specs.declared.micro.Micro.{Micro}
 use Rattle.idem_cell.specs.machine_states.specs.body_terms.specs.declared.micro.Micro.TheVariants as micros
 use Rattle.idem_cell.specs.machine_states.specs.body_terms.specs.declared.outcome.Outcome.{Outcome}
-use Rattle.idem_cell.specs.machine_states.specs.body_terms.specs.declared.outcome.Outcome.TheVariants as outcomes
 use Rattle.idem_cell.specs.machine_states.specs.body_terms.specs.declared.step.Step.TheVariants.{Take}
 use Rattle.idem_cell.specs.machine_states.specs.body_terms.specs.Line.{begins, line, micros, micro_at, is_check, is_event, registers_before, releases}
 use Rattle.idem_cell.specs.machine_states.specs.body_terms.specs.Run.{Setting, leaves, settled}
 use Rattle.idem_cell.specs.machine_states.specs.body_terms.specs.Shape.{IsStep}
-use Rattle.idem_cell.specs.machine_states.specs.body_terms.specs.Word.{value_of, is_free, is_spent, held_word}
 use Rattle.idem_cell.specs.machine_states.specs.body_terms.proofs.LineLemmas.{begins_next}
 use Rattle.idem_cell.specs.section_lines.specs.Rests.{taken_releases}
 use Rattle.idem_cell.specs.section_lines.proofs.Resting.{run_rests, rests_at}
 use Rattle.idem_cell.specs.machine_states.specs.table_words.specs.declared.layout.Layout.{Layout}
 use Rattle.idem_cell.specs.machine_states.specs.structure_laws.specs.Meaning.{Meaning}
-use Rattle.idem_cell.specs.machine_states.specs.runner_parts.specs.State.{RunState, ReadsState}
-use Rattle.idem_cell.specs.machine_states.specs.runner_parts.specs.Lists.{lock_agreed, holds_named}
-use Rattle.idem_cell.specs.machine_states.specs.runner_parts.specs.Tests.{has}
+use Rattle.idem_cell.specs.machine_states.specs.runner_parts.specs.State.{RunState}
 use Rattle.idem_cell.specs.machine_states.specs.runner_steps.specs.Sections.{thunk_of, line_of, setting_of, settles, outcome_or, reply_in}
 use Rattle.idem_cell.specs.machine_states.specs.runner_steps.specs.AfterInRun.{goes_on, agrees}
-use Rattle.idem_cell.specs.machine_epochs.proofs.Places.{has_append}
-use Rattle.idem_cell.specs.machine_states.proofs.Steps.{some_same}
-use Rattle.idem_alloc.specs.commit_log.specs.next_steps.specs.Stages.{reads_behind}
 use Rattle.idem_alloc.specs.commit_log.specs.version_words.specs.RunnerState.{RunnerState}
 use Rattle.idem_alloc.specs.commit_log.specs.Runs.{IsRunning}
-use Rattle.idem_alloc.specs.commit_log.proofs.Next.{settled_at, settled_next}
-use Rattle.nested_lock.specs.Answers.{left_by, first_outcome, second_outcome, outcome_at}
+use Rattle.idem_alloc.specs.commit_log.proofs.Next.{settled_at}
+use Rattle.nested_lock.specs.Answers.{first_outcome, second_outcome, outcome_at}
 use Rattle.nested_lock.specs.Taken.{MayTake, HasRead, HasHeld, HasTaken}
 use Rattle.nested_lock.specs.declared.takes.TakeEnd.{TakeEnd}
 use Rattle.nested_lock.proofs.Reading.{index_last}
@@ -46,45 +39,6 @@ may_take m r place word may = record {
     at = let b = begins_here m r may.n (Take place word) may.before may.here refl in omega (arith, b);
   };
 }
-
--- it is Busy with the word that names a descriptor
-busy_word : (vm place expected read p w : ℕ) → left_by vm place expected read ≡ outcomes.Busy p w → (is_free read ≡ false) × (w ≡ read)
-busy_word vm place expected read p w e = by (is_free read) (is_spent vm read) refl e
-  where
-    by : (a b : Bool) → is_free read ≡ a → cond a (cond b (outcomes.Spent place read) (outcomes.Stale place expected read)) (outcomes.Busy place read) ≡ outcomes.Busy p w
-        → (is_free read ≡ false) × (w ≡ read)
-    by true true is e = absurd (let z = e in cc)
-    by true false is e = absurd (let z = e in cc)
-    by false b is e = (is, sym (word_in e))
-      where
-        word_of : Outcome → ℕ
-        word_of (outcomes.Busy p w) = w
-        word_of _ = 0
-
-        word_in : outcomes.Busy place read ≡ outcomes.Busy p w → read ≡ w
-        word_in e = ap word_of e
-
--- an outcome that isn't none
-not_none : (b : Bool) (x y : Outcome) → cond b None (Some x) ≡ Some y → x ≡ y
-not_none true x y e = absurd (let z = e in cc)
-not_none false x y e = some_same x y e
-
-agreed_published : (s : ReadsState) (d word : ℕ) → (lock_agreed s d word).published ≡ s.published
-agreed_published s d word = by (has s.published d)
-  where
-    by : (b : Bool) → (if b then holds_named s word else s).published ≡ s.published
-    by true = refl
-    by false = refl
-
--- the descriptor that an agreed lock word names is held, where the section is the runner's own
-agreed_name : (s : ReadsState) (d word : ℕ) → has s.published d ≡ true → is_free word ≡ false → has (lock_agreed s d word).held (value_of word - 1) ≡ true
-agreed_name s d word own named =
-    ap (λ b. has (if b then holds_named s word else s).held (value_of word - 1)) own
-    ∙ (ap (λ b. has (s.held ++ (if b then [] else (value_of word - 1) ∷ [])) (value_of word - 1)) named
-    ∙ (has_append s.held ((value_of word - 1) ∷ []) (value_of word - 1) ∙ last (has s.held (value_of word - 1)) (value_of word - 1)))
-  where
-    last : (b : Bool) (d : ℕ) → (b || (d == d || false)) ≡ true
-    last b d = let e : (d == d) ≡ true = eq-eqb d d refl in grind (arith, e)
 
 module _ {T : Type 0} (m : Meaning) (r : RunnerState T) (place word n : ℕ) (before : IsBefore m n r) (here : IsStep (body_of m r) n (Take place word)) (end : TakeEnd) (new : RunnerState T) where
   abbrev q : RunState
@@ -158,17 +112,6 @@ module _ {T : Type 0} (m : Meaning) (r : RunnerState T) (place word n : ℕ) (be
     nodes : between.part.nodes ≡ r.part.nodes
     nodes = commit_nodes m reads.middle between _ end.first reads.first reads.commit ∙ reads.load.behind.nodes
 
-    -- what is read of the lock's word when it was agreed on
-    commits : reads.commit.micro ≡ micros.NestedCommit place log
-    commits = sym reads.commit.step.next ∙ settled_next m r.layout (record q { at = q.at + 1; word = reads.loaded }) (micros.NestedCommit place log) (there 1 (q.at + 1) (omega arith) refl) refl
-
-    reads_are : between.part.reads ≡ lock_agreed reads.middle.part.reads q.descriptor end.first
-    reads_are = reads.commit.step.behind.reads
-        ∙ (ap (λ (c : Micro). reads_behind reads.middle.part q1 c reads.commit.found) commits ∙ ap (lock_agreed reads.middle.part.reads q.descriptor) (sym reads.commit.told))
-
-    published : reads.middle.part.reads.published ≡ r.part.reads.published
-    published = ap (λ (s : ReadsState). s.published) reads.load.behind.reads
-
     -- a first word that refuses
     module _ (same : new ≡ between) (outcome : Outcome) (told : first_outcome r.layout.version_max place word end.first ≡ Some outcome) where
       left : leaves s first_trail (micro_at ms (q1.at + 1)) ≡ Some outcome
@@ -195,15 +138,6 @@ module _ {T : Type 0} (m : Meaning) (r : RunnerState T) (place word n : ℕ) (be
 
       pub first_trail_is : first_trail ≡ (run_of new).trail
       first_trail_is = ap (λ (y : RunState). y.trail) (run_is m new b new_running)
-
-      pub first_names : (p w : ℕ) → outcome ≡ outcomes.Busy p w → has r.part.reads.published q.descriptor ≡ true → has new.part.reads.held (value_of w - 1) ≡ true
-      first_names p w busy own =
-          let is = busy_word r.layout.version_max place word end.first p w (refusal_of (told ∙ ap (λ (o : Outcome). Some o) busy)) in
-          (λ i. has ((ap (λ (y : RunnerState T). y.part.reads) same ∙ reads_are) i).held (value_of (is.1 i) - 1))
-          ∙ agreed_name reads.middle.part.reads q.descriptor end.first (ap (λ xs. has xs q.descriptor) published ∙ own) is.0
-        where
-          refusal_of : first_outcome r.layout.version_max place word end.first ≡ Some (outcomes.Busy p w) → left_by r.layout.version_max place word end.first ≡ outcomes.Busy p w
-          refusal_of e = not_none (end.first == word && (is_free end.first && not (is_spent r.layout.version_max end.first))) (left_by r.layout.version_max place word end.first) (outcomes.Busy p w) e
 
     -- a first word with which the lock may be taken
     module _ (told : first_outcome r.layout.version_max place word end.first ≡ None) (read : ℕ) (tried : HasHeld m place word read end.answer between new b) where
@@ -272,13 +206,6 @@ module _ {T : Type 0} (m : Meaning) (r : RunnerState T) (place word n : ℕ) (be
       pub second_trail_is : both ≡ (run_of new).trail
       second_trail_is = ap (λ (y : RunState). y.trail) (run_is m new q4 last_running)
 
-      reads_then : new.part.reads ≡ lock_agreed tried.looking.part.reads q.descriptor read
-      reads_then = tried.commit.behind.reads ∙ ap (lock_agreed tried.looking.part.reads q.descriptor) (sym tried.agreed)
-
-      published_then : tried.looking.part.reads.published ≡ r.part.reads.published
-      published_then = ap (λ (s : ReadsState). s.published) tried.load.behind.reads ∙ (ap (λ (s : ReadsState). s.published) tried.hold.behind.reads
-          ∙ (ap (λ (s : ReadsState). s.published) reads_are ∙ (agreed_published reads.middle.part.reads q.descriptor end.first ∙ published)))
-
       -- a second word that doesn't name the section
       module _ (outcome : Outcome) (answered : outcome_at place end.answer ≡ Some outcome) where
         left_then : leaves s both (micro_at ms (q3.at + 1)) ≡ Some outcome
@@ -287,13 +214,6 @@ module _ {T : Type 0} (m : Meaning) (r : RunnerState T) (place word n : ℕ) (be
         pub second_over : IsOver m n outcome new
         second_over = leaves_at q4 6 (micros.CheckHeld place (log + 1) word) outcome last_running last_layout refl refl before.none before.unended (omega arith)
             (q4_at ∙ ((rests_at s both ms).leaves (q3.at + 1) outcome left_then ∙ q4_next)) refl refl (ap (λ (c : Micro). leaves s both c) (sym check_held) ∙ left_then)
-
-        pub second_names : (p w : ℕ) → outcome ≡ outcomes.Busy p w → has r.part.reads.published q.descriptor ≡ true → has new.part.reads.held (value_of w - 1) ≡ true
-        second_names p w busy own =
-            let is = busy_word r.layout.version_max place word read p w
-            (not_none (read == held_word q.descriptor word) (left_by r.layout.version_max place word read) (outcomes.Busy p w) (told_here ∙ (answered ∙ ap (λ (o : Outcome). Some o) busy))) in
-            (λ i. has (reads_then i).held (value_of (is.1 i) - 1))
-            ∙ agreed_name tried.looking.part.reads q.descriptor read (ap (λ xs. has xs q.descriptor) published_then ∙ own) is.0
 
       -- one that does
       pub second_goes : outcome_at place end.answer ≡ None → IsBefore m (suc n) new
@@ -330,13 +250,11 @@ module _ {T : Type 0} (m : Meaning) (r : RunnerState T) (place word : ℕ) (may 
         over = λ n before here. first_over m r place word n before here end new has.between has.behind has.reads refused.same outcome told;
         same = first_same m r place word may.n may.before may.here end new has.between has.behind has.reads refused.same outcome told;
         nodes = first_nodes m r place word may.n may.before may.here end new has.between has.behind has.reads refused.same outcome told;
-        names = first_names m r place word may.n may.before may.here end new has.between has.behind has.reads refused.same outcome told;
       })
       (λ tried. record {
         over = λ n before here. second_over m r place word n before here end new has.between has.behind has.reads tried.told tried.read (held_by tried.read tried.held) outcome answered;
         same = second_same m r place word may.n may.before may.here end new has.between has.behind has.reads tried.told tried.read (held_by tried.read tried.held);
         nodes = second_nodes m r place word may.n may.before may.here end new has.between has.behind has.reads tried.told tried.read (held_by tried.read tried.held);
-        names = second_names m r place word may.n may.before may.here end new has.between has.behind has.reads tried.told tried.read (held_by tried.read tried.held) outcome answered;
       }) has.ends
 
   pub take_trail : (run_of r).trail ++ words_of end ≡ (run_of new).trail

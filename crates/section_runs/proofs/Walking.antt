@@ -1,5 +1,5 @@
 -- A run goes through its body.
-use Rattle.std.proofs.Common.{◌≡◌, ℕ, zero, suc, ◌+◌, ◌-◌, ◌≤◌, List, [], ◌∷◌, ◌++◌, length, length-append, append_assoc, take, Bool, true, false, refl, sym, ap, ◌∙◌, subst, arith}
+use Rattle.std.proofs.Common.{◌≡◌, ℕ, zero, suc, ◌+◌, ◌≤◌, List, [], ◌∷◌, ◌++◌, length, length-append, append_assoc, take, Bool, true, false, refl, sym, ap, ◌∙◌, subst, arith}
 use Rattle.std.specs.Prelude.{cond, count_by, sum_by}
 use Rattle.std.proofs.lemmas.List.Sums.{sum_by-cons}
 use Rattle.idem_cell.specs.section_lines.specs.small_lemmas.proofs.Lists.{append_none}
@@ -11,7 +11,6 @@ use Rattle.idem_cell.specs.machine_states.specs.body_terms.specs.declared.step.S
 use Rattle.idem_cell.specs.machine_states.specs.body_terms.specs.declared.step.Step.TheVariants.{Load, Want, Fresh, Take, Make, Stamp, Store, Retire, Answer}
 use Rattle.idem_cell.specs.machine_states.specs.body_terms.specs.Line.{no_registers, line, micro_at, is_event, releases, registers_before}
 use Rattle.idem_cell.specs.machine_states.specs.body_terms.specs.Shape.{IsStep, IsShaped, phase, is_make, is_retire, is_take}
-use Rattle.idem_cell.specs.machine_states.specs.body_terms.specs.Word.{value_of}
 use Rattle.idem_cell.specs.machine_states.specs.body_terms.proofs.LineLemmas.{take_next, take_all, past_line}
 use Rattle.idem_cell.specs.section_lines.specs.Rests.{taken_releases}
 use Rattle.idem_cell.specs.section_lines.specs.Rests as resting
@@ -19,7 +18,6 @@ use Rattle.idem_cell.specs.section_lines.proofs.Places.{step_inside}
 use Rattle.idem_cell.specs.section_lines.proofs.Resting.{run_rests}
 use Rattle.idem_cell.specs.machine_states.specs.structure_laws.specs.Meaning.{Meaning}
 use Rattle.idem_cell.specs.machine_states.specs.runner_parts.specs.State.{NodesState}
-use Rattle.idem_cell.specs.machine_states.specs.runner_parts.specs.Tests.{has}
 use Rattle.idem_cell.specs.machine_states.specs.runner_steps.specs.Sections.{thunk_of, setting_of, outcome_or, reply_in}
 use Rattle.idem_cell.specs.machine_states.specs.body_terms.specs.Run.{leaves}
 use Rattle.idem_alloc.specs.commit_log.specs.version_words.specs.RunnerState.{RunnerState}
@@ -131,11 +129,10 @@ module _ {T : Type 0} (m : Meaning) where
 
   -- a run that leaves at a step
   pub walked_left : (n : ℕ) (step : Step) (o : Outcome) (old a new : RunnerState T) → IsShaped (body_of m old) → IsStep (body_of m old) n step → phase step ≡ 1
-      → IsSameRun m old a → NodesGone (body_of m old) n old.part.nodes a.part.nodes → a.part.reads.published ≡ old.part.reads.published
+      → IsSameRun m old a → NodesGone (body_of m old) n old.part.nodes a.part.nodes
       → IsOver m n o new → IsSameRun m a new → new.part.nodes ≡ a.part.nodes
-      → ((p w : ℕ) → o ≡ outcomes.Busy p w → has a.part.reads.published (run_of a).descriptor ≡ true → has new.part.reads.held (value_of w - 1) ≡ true)
       → HasWalked m n o old new
-  walked_left n step o old a new shaped here first same gone entry over same' unchanged names =
+  walked_left n step o old a new shaped here first same gone over same' unchanged =
       let kept : a.part.nodes ≡ old.part.nodes = gone.early (λ i s low is. let p = shaped.phases i n s step low is here in omega (arith, p, first)) in
       record {
         over = over;
@@ -144,7 +141,6 @@ module _ {T : Type 0} (m : Meaning) where
         passed = n;
         nodes = subst (NodesGone (body_of m old) n old.part.nodes) (sym unchanged) gone;
         left = λ other. unchanged ∙ kept;
-        names = λ p w busy own. names p w busy ((λ i. has (entry i) (same.descriptor i)) ∙ own);
       }
 
   -- a run that went through all
@@ -172,7 +168,6 @@ module _ {T : Type 0} (m : Meaning) where
         passed = n;
         nodes = gone;
         left = λ other. absurd (other (reply_in (body_of m old)) refl);
-        names = λ p w busy own. absurd (let z = busy in cc);
       }
     where
       take_line : (k : ℕ) (ms : List Micro) → k ≡ length ms → take k ms ≡ ms
@@ -201,7 +196,6 @@ module _ {T : Type 0} (m : Meaning) where
         passed = w.passed;
         nodes = w.nodes;
         left = w.left;
-        names = w.names;
       }
 
 -- the Takes that were passed are among the first steps, as many as were told

@@ -69,7 +69,6 @@ module _ {T : Type 0} (m : Meaning) (n : ℕ) (step s : Step) (kept : Places) (e
     over = λ o left. absurd (never_left going passed o told left);
     exit = λ o left. absurd (never_left going passed o told left);
     unchanged = λ o left. absurd (never_left going passed o told left);
-    names = λ o p w left busy own. absurd (never_left going passed o told left);
     same = λ still. (goes (going_still going passed told still)).same;
     words = λ still. words (going_still going passed told still);
     late = late;
@@ -86,7 +85,6 @@ module _ {T : Type 0} (m : Meaning) (n : ℕ) (step s : Step) (kept : Places) (e
     over = λ o left. (leaves o left).over n may.before here;
     exit = λ o left. first;
     unchanged = λ o left. (leaves o left).nodes;
-    names = λ o p w left busy own. (leaves o left).names p w busy own;
     same = λ still. by passed refl still;
     words = words;
     late = late;
@@ -114,7 +112,6 @@ module _ {T : Type 0} (m : Meaning) (n : ℕ) (step s : Step) (kept : Places) (e
     over = λ o out. over m r n s may.before tested_here test o (sym is ∙ some_by left o (sym told ∙ out));
     exit = λ o out. first;
     unchanged = λ o out. refl;
-    names = λ o p w out is_busy own. absurd (busy o p w (some_by left o (sym told ∙ out)) is_busy);
     same = λ still. record { opened = refl; descriptor = refl; layout = refl };
     words = λ still. words;
     late = refl;

@@ -1,16 +1,14 @@
 -- How a run goes through the steps of its body.
-use Rattle.std.specs.Prelude.{◌≡◌, ◌≢◌, ℕ, suc, ◌+◌, ◌≤◌, ◌<◌, ◌-◌, cond, List, [], ◌++◌, count_by, take, length, true, false, None}
+use Rattle.std.specs.Prelude.{◌≡◌, ◌≢◌, ℕ, suc, ◌+◌, ◌≤◌, ◌<◌, cond, List, [], ◌++◌, count_by, take, length, false, None}
 use Rattle.idem_cell.specs.machine_states.specs.body_terms.specs.Line.{micro_at, is_event, registers_before, releases}
 use Rattle.idem_cell.specs.machine_states.specs.body_terms.specs.Shape.{IsStep, phase, is_make, is_retire}
-use Rattle.idem_cell.specs.machine_states.specs.body_terms.specs.Word.{value_of}
 use Rattle.idem_cell.specs.machine_states.specs.body_terms.specs.declared.outcome.Outcome.{Outcome}
-use Rattle.idem_cell.specs.machine_states.specs.body_terms.specs.declared.outcome.Outcome.TheVariants.{Answered, Busy}
+use Rattle.idem_cell.specs.machine_states.specs.body_terms.specs.declared.outcome.Outcome.TheVariants.{Answered}
 use Rattle.idem_cell.specs.machine_states.specs.body_terms.specs.declared.step.Step.{Step}
 use Rattle.idem_cell.specs.section_lines.specs.Rests.{rests, taken_releases}
 use Rattle.idem_cell.specs.machine_states.specs.structure_laws.specs.Meaning.{Meaning}
 use Rattle.idem_cell.specs.machine_states.specs.runner_parts.specs.declared.entries.Retired.{Retired}
 use Rattle.idem_cell.specs.machine_states.specs.runner_parts.specs.State.{RunState, NodesState}
-use Rattle.idem_cell.specs.machine_states.specs.runner_parts.specs.Tests.{has}
 use Rattle.idem_cell.specs.machine_states.specs.runner_steps.specs.Sections.{thunk_of, setting_of, outcome_of, line_of}
 use Rattle.idem_alloc.specs.commit_log.specs.version_words.specs.RunnerState.{RunnerState}
 use Rattle.idem_alloc.specs.commit_log.specs.Runs.{IsRunning}
@@ -90,10 +88,6 @@ module _ {T : Type 0} (m : Meaning) where
     pub over : (n : ℕ) → IsBefore n old → IsStep (body_of old) n step → IsOver n outcome new
     pub same : IsSameRun old new
     pub nodes : new.part.nodes ≡ old.part.nodes
-    -- an own section that found a lock held by another: that one's descriptor is held
-    pub names : (place word : ℕ) → outcome ≡ Busy place word
-        → has old.part.reads.published (run_of old).descriptor ≡ true
-        → has new.part.reads.held (value_of word - 1) ≡ true
 
   -- the run went through some steps of its body, and is to end with this outcome; the Takes among them are among so
   -- many first ones
@@ -105,6 +99,3 @@ module _ {T : Type 0} (m : Meaning) where
     pub nodes : NodesGone (body_of old) passed old.part.nodes new.part.nodes
     -- a run that leaves has made and retired nothing
     pub left : ((reply : ℕ) → outcome ≢ Answered reply) → new.part.nodes ≡ old.part.nodes
-    pub names : (place word : ℕ) → outcome ≡ Busy place word
-        → has old.part.reads.published (run_of old).descriptor ≡ true
-        → has new.part.reads.held (value_of word - 1) ≡ true

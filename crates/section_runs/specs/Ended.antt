@@ -1,5 +1,5 @@
 -- How a run of a section ended.
-use Rattle.std.specs.Prelude.{◌≡◌, ◌≢◌, ℕ, suc, ◌+◌, ◌-◌, ◌≤◌, ◌⊎◌, List, [], ◌∷◌, ◌++◌, Bool, true, count_by, sum_by, length, Some, None}
+use Rattle.std.specs.Prelude.{◌≡◌, ◌≢◌, ℕ, suc, ◌+◌, ◌≤◌, ◌⊎◌, List, [], ◌∷◌, ◌++◌, Bool, true, count_by, sum_by, length, Some, None}
 use Rattle.idem_cell.specs.machine_states.specs.body_terms.specs.Cost.{cost_of, step_cost}
 use Rattle.idem_cell.specs.machine_states.specs.body_terms.specs.Line.{line, micro_at}
 use Rattle.idem_cell.specs.machine_states.specs.body_terms.specs.Plain.{first_values}
@@ -8,7 +8,7 @@ use Rattle.idem_cell.specs.machine_states.specs.body_terms.specs.Run.{leaves}
 use Rattle.idem_cell.specs.machine_states.specs.body_terms.specs.Trail.{Agreed}
 use Rattle.idem_cell.specs.machine_states.specs.body_terms.specs.Word.{value_of}
 use Rattle.idem_cell.specs.machine_states.specs.body_terms.specs.declared.outcome.Outcome.{Outcome}
-use Rattle.idem_cell.specs.machine_states.specs.body_terms.specs.declared.outcome.Outcome.TheVariants.{Answered, Busy}
+use Rattle.idem_cell.specs.machine_states.specs.body_terms.specs.declared.outcome.Outcome.TheVariants.{Answered}
 use Rattle.idem_cell.specs.machine_states.specs.body_terms.specs.declared.step.Step.{Step}
 use Rattle.idem_cell.specs.machine_states.specs.body_terms.specs.declared.thunk.Thunk.{Thunk}
 use Rattle.idem_cell.specs.machine_states.specs.table_words.specs.declared.spot.Spot.TheVariants.{Cell, DoneWord, LogWord}
@@ -16,8 +16,8 @@ use Rattle.idem_cell.specs.runner_gate.specs.Asks.{Asks}
 use Rattle.idem_cell.specs.machine_states.specs.structure_laws.specs.Meaning.{Meaning}
 use Rattle.idem_cell.specs.machine_states.specs.runner_parts.specs.declared.entries.Retired.{Retired}
 use Rattle.idem_cell.specs.machine_states.specs.runner_parts.specs.State.{NodesState, FinishedState}
-use Rattle.idem_cell.specs.machine_states.specs.runner_parts.specs.Tests.{has, is_answered}
-use Rattle.idem_cell.specs.machine_states.specs.runner_steps.specs.AfterInRun.{over_if}
+use Rattle.idem_cell.specs.machine_states.specs.runner_parts.specs.Tests.{is_answered}
+use Rattle.idem_cell.specs.machine_states.specs.runner_steps.specs.AfterInRun.{kept_unless, retired_if}
 use Rattle.idem_cell.specs.machine_states.specs.runner_steps.specs.Sections.{setting_of}
 use Rattle.idem_cell.specs.machine_states.specs.Sight.{Sight, sight}
 use Rattle.idem_cell.specs.machine_epochs.specs.Slots.{thunk_in}
@@ -86,15 +86,15 @@ module _ {T : Type 0} (m : Meaning) where
     pub present : new.part.gone ≡ old.part.gone
     pub stage : new.part.stage ≡ old.part.stage
     pub resting : new.part.run ≡ None
-    pub published : new.part.published ≡ over_if old.part.published d
-    pub descriptors : new.part.descriptors ≡ old.part.descriptors
+    pub published : new.part.published ≡ kept_unless old.part.published d
+    pub descriptors : new.part.descriptors ≡ retired_if old.part.descriptors old.part.published d
     pub nodes : NodesRan (m.body t) old.part.nodes new.part.nodes
     pub left_nodes : ((reply : ℕ) → outcome ≢ Answered reply) → new.part.nodes ≡ old.part.nodes
-    -- what was held is held on, and what was learned is of the section's request
-    pub held : (i : ℕ) → has old.part.reads.held i ≡ true → has new.part.reads.held i ≡ true
-    pub entry : new.part.reads.published ≡ old.part.reads.published
-    -- and what it has read without a lock
+    -- its guard word names what it named, and it knows what it has read on the way to a lock, and without a lock
+    pub guards : new.part.guards ≡ old.part.guards
+    pub walk : new.part.reads.walk ≡ old.part.reads.walk
     pub look : new.part.reads.look ≡ old.part.reads.look
+    -- what was learned is of the section's request
     pub learns : Learns t.request old.part.records.known new.part.records.known
     -- where the section answered, its runner knows both words of its request
     pub told : (answer : ℕ) → outcome ≡ Answered answer → is_answered new.part.records.known t.request ≡ true
@@ -102,9 +102,6 @@ module _ {T : Type 0} (m : Meaning) where
     pub cause : ((reply : ℕ) → outcome ≢ Answered reply)
         → (at : ℕ)
         × (leaves (setting_of new.layout d) trail.words (micro_at (line (m.body t)) at) ≡ Some outcome)
-    -- an own section that found a lock held by another: that one may be helped
-    pub names : (place read : ℕ) → outcome ≡ Busy place read → has old.part.reads.published d ≡ true
-        → has new.part.reads.held (value_of read - 1) ≡ true
 
   -- behind its opening, a gate halted the runner in its run
   pub record RanShort (d made : ℕ) (old new : RunnerState T) : Type 0 where

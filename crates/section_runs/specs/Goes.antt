@@ -1,16 +1,13 @@
 -- A step of a run's body, with the registers that its code keeps, and what came of it.
-use Rattle.std.specs.Prelude.{◌≡◌, ◌≢◌, ℕ, suc, ◌-◌, true}
+use Rattle.std.specs.Prelude.{◌≡◌, ◌≢◌, ℕ, suc}
 use Rattle.idem_cell.specs.machine_states.specs.body_terms.specs.Cost.{step_cost}
 use Rattle.idem_cell.specs.machine_states.specs.body_terms.specs.Line.{registers_before}
 use Rattle.idem_cell.specs.machine_states.specs.body_terms.specs.Shape.{IsStep, phase}
-use Rattle.idem_cell.specs.machine_states.specs.body_terms.specs.Word.{value_of}
 use Rattle.idem_cell.specs.machine_states.specs.body_terms.specs.Trail.{Agreed}
 use Rattle.idem_cell.specs.machine_states.specs.body_terms.specs.declared.outcome.Outcome.{Outcome}
-use Rattle.idem_cell.specs.machine_states.specs.body_terms.specs.declared.outcome.Outcome.TheVariants.{Busy}
 use Rattle.idem_cell.specs.machine_states.specs.body_terms.specs.declared.step.Step.{Step}
 use Rattle.idem_cell.specs.runner_gate.specs.Asks.{Asks}
 use Rattle.idem_cell.specs.machine_states.specs.structure_laws.specs.Meaning.{Meaning}
-use Rattle.idem_cell.specs.machine_states.specs.runner_parts.specs.Tests.{has}
 use Rattle.idem_alloc.specs.commit_log.specs.version_words.specs.RunnerState.{RunnerState}
 use Rattle.idem_alloc.specs.commit_log.specs.Halted.{IsThrough, IsHalted}
 use Rattle.section_runs.specs.Reached.{run_of}
@@ -40,9 +37,6 @@ pub record Went {T : Type 0} (m : Meaning) (n : ℕ) (step : Step) (passed : Pas
   pub over : (o : Outcome) → passed ≡ Left o → IsOver m n o new
   pub exit : (o : Outcome) → passed ≡ Left o → phase step ≡ 1
   pub unchanged : (o : Outcome) → passed ≡ Left o → new.part.nodes ≡ old.part.nodes
-  pub names : (o : Outcome) (place word : ℕ) → passed ≡ Left o → o ≡ Busy place word
-      → has old.part.reads.published (run_of old).descriptor ≡ true
-      → has new.part.reads.held (value_of word - 1) ≡ true
   pub same : passed ≢ Halted → IsSameRun m old new
   pub words : passed ≢ Halted → trail'.words ≡ (run_of new).trail
   pub late : trail'.late ≡ trail.late

@@ -6,9 +6,8 @@ use Rattle.idem_cell.specs.machine_states.specs.structure_laws.specs.Meaning.{Me
 use Rattle.idem_cell.specs.machine_states.specs.runner_parts.specs.declared.event.EventKind.{EventKind}
 use Rattle.idem_cell.specs.machine_states.specs.runner_parts.specs.declared.event.EventKind.TheVariants as kinds
 use Rattle.idem_cell.specs.machine_states.specs.runner_parts.specs.declared.entries.Known.{Known}
-use Rattle.idem_cell.specs.machine_states.specs.epoch_core.specs.declared.stage.Stage.TheVariants as stages
 use Rattle.idem_cell.specs.machine_states.specs.runner_parts.specs.State.{RunState}
-use Rattle.idem_cell.specs.machine_states.specs.runner_parts.specs.Tests.{has}
+use Rattle.idem_cell.specs.machine_states.specs.runner_steps.specs.Outside.{is_sure_of}
 use Rattle.idem_cell.specs.machine_states.specs.runner_steps.specs.Sections.{thunk_of, is_late}
 use Rattle.idem_alloc.specs.commit_log.specs.version_words.specs.RunnerState.{RunnerState}
 use Rattle.idem_alloc.specs.commit_log.specs.version_words.specs.Events.{Makes}
@@ -32,9 +31,9 @@ module _ {T : Type 0} where
     pub published : new.part.published ≡ old.part.published
     pub descriptors : new.part.descriptors ≡ old.part.descriptors
     pub finished : new.part.records.finished ≡ old.part.records.finished
-    -- what was held is held on
-    pub held : (d : ℕ) → has old.part.reads.held d ≡ true → has new.part.reads.held d ≡ true
-    pub entry : new.part.reads.published ≡ old.part.reads.published
+    -- the guard word names what it named, and what was read on the way to a lock is known on
+    pub guards : new.part.guards ≡ old.part.guards
+    pub walk : new.part.reads.walk ≡ old.part.reads.walk
     pub look : new.part.reads.look ≡ old.part.reads.look
 
 -- a run that has loaded these words of this descriptor, and nothing else
@@ -102,6 +101,4 @@ pub record StandsOpened {T : Type 0} (m : Meaning) (d : ℕ) (t : Thunk) (late :
   pub run : r.part.run ≡ Some (opening d words)
   pub thunk : thunk_of words ≡ t
   pub found : is_late (opening d words) ≡ late
-  pub epoch : ℕ
-  pub at : r.part.stage ≡ stages.Entered epoch
-  pub holds : has r.part.reads.held d ≡ true
+  pub sure : is_sure_of r.part.guards d ≡ true

@@ -4,7 +4,7 @@ use Rattle.idem_cell.specs.machine_states.specs.structure_laws.specs.Meaning.{Me
 use Rattle.idem_cell.specs.machine_states.specs.epoch_core.specs.declared.stage.Stage.TheVariants as stages
 use Rattle.idem_cell.specs.machine_states.specs.runner_parts.specs.declared.entries.Published.{Published}
 use Rattle.idem_cell.specs.machine_states.specs.runner_parts.specs.State.{RunState}
-use Rattle.idem_cell.specs.machine_states.specs.runner_parts.specs.Tests.{has}
+use Rattle.idem_cell.specs.machine_states.specs.runner_steps.specs.Outside.{is_sure_of}
 use Rattle.idem_cell.specs.machine_states.specs.runner_steps.specs.After.{counted}
 use Rattle.idem_cell.specs.machine_states.specs.World.{World, seat_of}
 use Rattle.idem_cell.specs.machine_states.specs.Reached.{Reached}
@@ -40,10 +40,11 @@ module _ {T : Type 0} where
   abbrev pub IsInside : Meaning → RunnerState T → Type 0
   IsInside m r = IsRunning m r (run_of r)
 
-  -- the runner may begin a run of the section in this descriptor: it is entered, in no run, and holds the descriptor
+  -- the runner may begin a run of the section in this descriptor: it is entered, in no run, and sure of the
+  -- descriptor that its guard word names
   pub record MayBegin (m : Meaning) (r : RunnerState T) (d : ℕ) : Type 0 where
     pub epoch : ℕ
     pub published : Option Published
     pub at : IsAt r (stages.Entered epoch) published
-    pub holds : has r.part.reads.held d ≡ true
+    pub sure : is_sure_of r.part.guards d ≡ true
     pub reached : IsReached m r

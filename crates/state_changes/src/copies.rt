@@ -1,7 +1,7 @@
 //! Copies of a runner's part.
 ghost use Rattle.std.specs.Prelude.{◌≡◌, IfOk};
 
-use runner_steps::runner_parts::{Descriptors, Finished, Nodes, Part, Reads, Records, Run};
+use runner_steps::runner_parts::{Descriptors, Finished, Guards, Nodes, Part, Reads, Records, Run};
 use std::alloc::{AllocError, Global};
 
 fn run_copy(alloc: Global, run: &Run) -> Result<Run, AllocError>
@@ -50,14 +50,22 @@ fn descriptors_copy(alloc: Global, descriptors: &Descriptors) -> Result<Descript
     })
 }
 
+fn guards_copy(alloc: Global, guards: &Guards) -> Result<Guards, AllocError>
+    ensures { IfOk result (λ x. x ≡ guards.now) }
+{
+    Ok(Guards {
+        named: guards.named,
+        sure: guards.sure,
+        looked: Vec::from_slice(alloc, &guards.looked)?,
+    })
+}
+
 fn reads_copy(alloc: Global, reads: &Reads) -> Result<Reads, AllocError>
     ensures { IfOk result (λ x. x ≡ reads.now) }
 {
     Ok(Reads {
         walk: Vec::from_slice(alloc, &reads.walk)?,
         cells: Vec::from_slice(alloc, &reads.cells)?,
-        held: Vec::from_slice(alloc, &reads.held)?,
-        published: Vec::from_slice(alloc, &reads.published)?,
         look: reads.look,
     })
 }
@@ -113,6 +121,7 @@ pub fn part_copy(alloc: Global, part: &Part) -> Result<Part, AllocError>
         published: part.published,
         nodes: nodes_copy(alloc, &part.nodes)?,
         descriptors: descriptors_copy(alloc, &part.descriptors)?,
+        guards: guards_copy(alloc, &part.guards)?,
         reads: reads_copy(alloc, &part.reads)?,
         records: records_copy(alloc, &part.records)?,
         gone: part.gone,

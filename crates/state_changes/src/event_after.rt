@@ -8,9 +8,9 @@ ghost use Rattle.runner_steps.specs.Reads.{only_loads_after};
 
 use crate::inside::{place_of, reply_word_of, retired_slot_of};
 use crate::line::{
-    cell_exchanged, cell_loaded, clock_raised, committed, done_set, fill_loaded, fill_stored,
-    lock_committed, lock_released, make_committed, number_loaded, opened_more, reply_agreed,
-    retire_committed, stamp_agreed,
+    cell_exchanged, cell_loaded, clock_raised, done_set, fill_loaded, fill_stored, lock_released,
+    make_committed, number_loaded, opened_more, reply_agreed, retire_committed, stamp_agreed,
+    word_committed,
 };
 use crate::outside::outside_after;
 use runner_asks::{is_open_run, next_of};
@@ -39,7 +39,9 @@ fn line_after<S: Structure>(
         micro.now found) }
 {
     match kind {
-        EventKind::Commit => return committed(part, run, structure, layout, micro, found),
+        EventKind::Commit | EventKind::OutcomeCommit => {
+            return word_committed(part, run, structure, layout, found);
+        }
         EventKind::LoadCell(_) | EventKind::NestedLoad | EventKind::OutcomeLoad => {
             return cell_loaded(part, run, structure, layout, place_of(micro), found);
         }
@@ -72,7 +74,6 @@ fn line_after<S: Structure>(
         EventKind::ReplyExchange => {
             return reply_agreed(part, run, structure, layout, reply_word_of(micro), found);
         }
-        EventKind::OutcomeCommit => return lock_committed(part, run, structure, layout, found),
         _ => part.run = Some(run),
     }
     Ok(())

@@ -2,14 +2,14 @@
 ghost use Rattle.std.specs.Prelude.{◌≡◌, ◌≤◌, ◌<◌, ◌^◌, length, OnOk, IfOk};
 ghost use Rattle.runner_steps.specs.table_words.specs.Limits.{IsWithinLimits};
 ghost use Rattle.runner_steps.specs.Sections.{settles, outcome_of, next_of};
-ghost use Rattle.runner_steps.specs.AfterInRun.{goes_on, agrees, opened_more, cell_loaded, cell_exchanged, number_loaded, word_committed, lock_committed, fill_loaded, fill_stored, make_committed, retire_committed, stamp_agreed, clock_raised, reply_agreed, done_set, finished_of, over_if, run_over, released_more, lock_released, place_of, is_of_lock, commit_after, retired_slot_of, reply_word_of, ended_more};
+ghost use Rattle.runner_steps.specs.AfterInRun.{goes_on, agrees, opened_more, cell_loaded, cell_exchanged, number_loaded, word_committed, fill_loaded, fill_stored, make_committed, retire_committed, stamp_agreed, clock_raised, reply_agreed, done_set, finished_of, run_over, released_more, lock_released, place_of, retired_slot_of, reply_word_of, ended_more};
 ghost use Rattle.runner_steps.specs.After.{line_after, inside_after};
 ghost use Rattle.runner_steps.specs.runner_parts.specs.State.{PartState};
 
 use runner_asks::{is_end, leaves, reply_in, settled, thunk_of};
 use runner_steps::body_terms::{Micro, Outcome, Place, Word, micro_at};
 use runner_steps::runner_parts::structure_laws::Structure;
-use runner_steps::runner_parts::{EventKind, Finished, Part, Published, Run};
+use runner_steps::runner_parts::{EventKind, Finished, Part, Run};
 use runner_steps::table_words::Layout;
 use std::alloc::{AllocError, Global};
 
@@ -68,13 +68,6 @@ pub fn place_of(micro: &Micro) -> Place
     }
 }
 
-/// Whether a commit is that of a lock's word.
-pub fn is_of_lock(micro: &Micro) -> bool
-    ensures { result ≡ is_of_lock micro.now }
-{
-    matches!(micro, Micro::NestedCommit { .. })
-}
-
 pub fn retired_slot_of(micro: &Micro) -> u32
     ensures { result ≡ retired_slot_of micro.now }
 {
@@ -126,17 +119,4 @@ pub fn finished_of<S: Structure>(
         trail: Vec::from_slice(alloc, &run.trail)?,
         late: run.opened[12] != 0,
     })
-}
-
-/// The own section was run to its end.
-pub fn over_if(published: Option<Published>, descriptor: u32) -> Option<Published>
-    ensures { result ≡ over_if published descriptor }
-{
-    match published {
-        None => None,
-        Some(section) => Some(Published {
-            over: section.over || section.descriptor == descriptor,
-            ..section
-        }),
-    }
 }

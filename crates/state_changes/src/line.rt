@@ -1,13 +1,13 @@
 //! What a step of a run's line makes of the part.
 ghost use Rattle.std.specs.Prelude.{◌≡◌, ◌<◌, ◌+◌, ◌^◌, length, OnOk};
 ghost use Rattle.runner_steps.specs.table_words.specs.Limits.{IsWithinLimits};
-ghost use Rattle.state_changes.specs.Parts.{slot_decided};
-ghost use Rattle.runner_steps.specs.AfterInRun.{with_run, opened_more, cell_loaded, cell_exchanged, number_loaded, word_committed, lock_committed, fill_loaded, fill_stored, make_committed, retire_committed, stamp_agreed, clock_raised, reply_agreed, done_set, run_over, released_more, lock_released, commit_after};
+ghost use Rattle.state_changes.specs.Parts.{slot_decided, section_over};
+ghost use Rattle.runner_steps.specs.AfterInRun.{with_run, opened_more, cell_loaded, cell_exchanged, number_loaded, word_committed, fill_loaded, fill_stored, make_committed, retire_committed, stamp_agreed, clock_raised, reply_agreed, done_set, run_over, released_more, lock_released};
 
-use crate::inside::{agrees, finished_of, goes_on, is_of_lock, over_if};
+use crate::inside::{agrees, finished_of, goes_on};
 use runner_asks::{LAST_CLOCK, is_end, next_of, thunk_of};
 use runner_steps::agreed_on;
-use runner_steps::body_terms::{Micro, Place, Word};
+use runner_steps::body_terms::{Place, Word};
 use runner_steps::runner_parts::structure_laws::Structure;
 use runner_steps::runner_parts::{Part, Run};
 use runner_steps::table_words::Layout;
@@ -81,7 +81,7 @@ pub fn number_loaded<S: Structure>(
 }
 
 /// The word is agreed on that stood in the log, or else the proposal.
-fn word_committed<S: Structure>(
+pub fn word_committed<S: Structure>(
     part: &mut Part,
     mut run: Run,
     structure: &S,
@@ -97,47 +97,6 @@ fn word_committed<S: Structure>(
     agrees(&mut run, structure, layout, agreed)?;
     part.run = Some(run);
     Ok(())
-}
-
-/// The same for a lock's word.
-pub fn lock_committed<S: Structure>(
-    part: &mut Part,
-    mut run: Run,
-    structure: &S,
-    layout: Layout,
-    found: u64,
-) -> Result<(), AllocError>
-    requires limits { IsWithinLimits layout }
-    requires opened { length run.opened ≡ 13 }
-    requires at { run.at < 440 }
-    ensures { OnOk result (part.new ≡ lock_committed (S.meaning structure.now) layout part.old run found) }
-{
-    let agreed = agreed_on(found, run.word);
-    part.reads.lock_agreed(run.descriptor, agreed)?;
-    agrees(&mut run, structure, layout, agreed)?;
-    part.run = Some(run);
-    Ok(())
-}
-
-/// A commit of a cell's or of a lock's word.
-pub fn committed<S: Structure>(
-    part: &mut Part,
-    run: Run,
-    structure: &S,
-    layout: Layout,
-    micro: &Micro,
-    found: u64,
-) -> Result<(), AllocError>
-    requires limits { IsWithinLimits layout }
-    requires opened { length run.opened ≡ 13 }
-    requires at { run.at < 440 }
-    ensures { OnOk result (part.new ≡ commit_after (S.meaning structure.now) layout micro.now part.old run found) }
-{
-    if is_of_lock(micro) {
-        lock_committed(part, run, structure, layout, found)
-    } else {
-        word_committed(part, run, structure, layout, found)
-    }
 }
 
 /// The first private load of a Make takes the slot into the hand.
@@ -321,7 +280,22 @@ pub fn done_set(part: &mut Part, mut run: Run)
     part.run = Some(run);
 }
 
-/// The run is over: its trail is kept, and the own section was run to its end.
+/// Where this is the own published section, it is published no more, and its descriptor is retired.
+fn section_over(part: &mut Part, descriptor: u32) -> Result<(), AllocError>
+    ensures { OnOk result (part.new ≡ section_over part.old descriptor) }
+{
+    let Some(section) = part.published else {
+        return Ok(());
+    };
+    if section.descriptor == descriptor {
+        part.published = None;
+        part.descriptors.retire(descriptor)
+    } else {
+        Ok(())
+    }
+}
+
+/// The run is over: its trail is kept, and the own section is retired.
 fn run_over<S: Structure>(
     part: &mut Part,
     alloc: Global,
@@ -335,9 +309,8 @@ fn run_over<S: Structure>(
 {
     let finished = finished_of(&run, alloc, structure, layout)?;
     part.records.finished.push(finished)?;
-    part.published = over_if(part.published, run.descriptor);
     part.run = None;
-    Ok(())
+    section_over(part, run.descriptor)
 }
 
 /// The run goes on to the next release, and is over after the last.

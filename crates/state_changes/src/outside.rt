@@ -1,9 +1,10 @@
 //! What an event outside a run makes of the part.
 ghost use Rattle.std.specs.Prelude.{◌≡◌, ◌≤◌, ◌<◌, ◌^◌, OnOk};
 ghost use Rattle.runner_steps.specs.table_words.specs.Limits.{IsWithinLimits};
-ghost use Rattle.runner_steps.specs.AfterOutside.{with_stage, entered, collected, scanned, scan_one_after, advance_after, split_after, read_after, entry_after, private_load_after, private_store_after, published_by, hold_after, open_after, retire_after};
+ghost use Rattle.runner_steps.specs.AfterOutside.{with_stage, entered, collected, scanned, scan_one_after, advance_after, split_after, read_after, entry_after, private_load_after, private_store_after, published_by, hold_after, open_after};
 ghost use Rattle.runner_steps.specs.runner_parts.specs.Lists.{no_reads};
 ghost use Rattle.runner_steps.specs.Reads.{read_plan_after, read_clock_after, read_reply_after, read_stamped_after};
+ghost use Rattle.runner_steps.specs.Guards.{guard_after, load_guard_after};
 ghost use Rattle.runner_steps.specs.After.{joins, outside_after};
 
 use runner_asks::{LAST_CLOCK, reply_in};
@@ -22,8 +23,6 @@ fn no_reads(alloc: Global) -> Reads
     Reads {
         walk: Vec::new(alloc),
         cells: Vec::new(alloc),
-        held: Vec::new(alloc),
-        published: Vec::new(alloc),
         look: None,
     }
 }
@@ -33,7 +32,6 @@ fn collect(part: &mut Part, alloc: Global, epoch: u64) -> Result<(), AllocError>
     ensures { OnOk result (part.new ≡ collected part.old epoch) }
 {
     part.nodes.collect(alloc, epoch)?;
-    part.descriptors.collect(alloc, epoch)?;
     part.stage = Stage::Idle;
     Ok(())
 }
@@ -122,7 +120,9 @@ fn read<S: Structure>(
 ) -> Result<(), AllocError>
     ensures { OnOk result (part.new ≡ read_after (S.meaning structure.now) place part.old found) }
 {
-    part.reads.walk_to(structure.is_lock(place), place, found)
+    let lock = structure.is_lock(place);
+    part.guards.see_named(lock, found);
+    part.reads.walk_to(place, found)
 }
 
 /// A cell of a node slot was looked at, or a word of an own free descriptor is known, since nobody else stores there.
@@ -174,17 +174,15 @@ fn held(
     part.reads.cell_read(thunk.lock, found)?;
     if found == thunk.word.bits() {
         part.descriptors.take(alloc, descriptor)?;
+        part.guards.see_published(descriptor);
         part.published = Some(Published {
             descriptor,
             thunk: *thunk,
             walked: part.reads.walk.len(),
             known: part.records.known.len(),
-            over: false,
         });
-        part.reads.publish(descriptor)
-    } else {
-        part.reads.hold_named(found)
     }
+    Ok(())
 }
 
 fn opened(part: &mut Part, alloc: Global, descriptor: u32, found: u64) -> Result<(), AllocError>
@@ -203,19 +201,6 @@ fn opened(part: &mut Part, alloc: Global, descriptor: u32, found: u64) -> Result
         ended: 0,
     });
     Ok(())
-}
-
-/// The published section's descriptor goes into limbo.
-fn retired(part: &mut Part, found: u64) -> Result<(), AllocError>
-    ensures { OnOk result (part.new ≡ retire_after part.old part.old.published found) }
-{
-    match part.published {
-        None => Ok(()),
-        Some(section) => {
-            part.published = None;
-            part.descriptors.retire(section.descriptor, found)
-        }
-    }
 }
 
 /// A read without a lock is announced.
@@ -282,6 +267,33 @@ fn stamped(part: &mut Part, found: u64) -> Result<(), AllocError>
     part.records.learn(look.thunk.request, false, stamp)
 }
 
+/// The guard word names this from now on, and nothing has been seen of it.
+fn guarded(part: &mut Part, descriptor: Option<u32>)
+    ensures { part.new ≡ guard_after descriptor part.old }
+{
+    part.guards.named = descriptor;
+    part.guards.sure = false;
+}
+
+/// One more guard word was read. After the last one the sweep is over, and the descriptors that none of them names go
+/// to the free list.
+fn guard_looked(
+    part: &mut Part,
+    alloc: Global,
+    layout: Layout,
+    found: u64,
+) -> Result<(), AllocError>
+    ensures { OnOk result (part.new ≡ load_guard_after layout part.old found) }
+{
+    let is_last = part.guards.looked.len() == layout.runners as usize;
+    part.guards.looked.push(found)?;
+    if is_last {
+        part.descriptors.sweep(alloc, &part.guards.looked)?;
+        part.guards.looked = Vec::new(alloc);
+    }
+    Ok(())
+}
+
 /// The part after an event outside a run, which found this word.
 pub fn outside_after<S: Structure>(
     part: &mut Part,
@@ -299,6 +311,7 @@ pub fn outside_after<S: Structure>(
         EventKind::Announce => part.stage = Stage::Announced,
         EventKind::EnterAgain => {
             part.stage = Stage::Entered(found);
+            part.guards.looked = Vec::new(alloc);
             part.reads = no_reads(alloc);
         }
         EventKind::Idle => part.stage = Stage::Idle,
@@ -331,11 +344,12 @@ pub fn outside_after<S: Structure>(
             found,
         ),
         EventKind::LoadThunk(Some(descriptor)) => return opened(part, alloc, *descriptor, found),
-        EventKind::EpochForRetire => return retired(part, found),
         EventKind::ReadPlan(thunk) => planned(part, thunk),
         EventKind::ReadClock => timed(part, found),
         EventKind::ReadReply => return replied(part, structure, found),
         EventKind::ReadStamp => return stamped(part, found),
+        EventKind::Guard(descriptor) => guarded(part, *descriptor),
+        EventKind::LoadGuard(_) => return guard_looked(part, alloc, layout, found),
         _ => {}
     }
     Ok(())

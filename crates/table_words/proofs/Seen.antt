@@ -7,7 +7,7 @@ use mathlib.Core.Path.{fun_ext}
 use Rattle.small_lemmas.proofs.Numbers.{tested_less as one, tested_most as most, less_tested as is_below}
 use Rattle.table_words.specs.declared.sizes.Sizes.{Sizes}
 use Rattle.table_words.specs.declared.spot.Spot.{Spot}
-use Rattle.table_words.specs.declared.spot.Spot.TheVariants.{Seat, Epoch, Clock, Announcement, Stamp, Reply, Cell, ThunkWord, DoneWord, LogWord}
+use Rattle.table_words.specs.declared.spot.Spot.TheVariants.{Seat, Epoch, Clock, Announcement, Guard, Stamp, Reply, Cell, ThunkWord, DoneWord, LogWord}
 use Rattle.table_words.specs.Places.{size, address, Fits, fits}
 use Rattle.table_words.specs.Seen.{blank, seen, put}
 
@@ -50,6 +50,7 @@ within s Seat h = omega arith
 within s Epoch h = omega arith
 within s Clock h = omega arith
 within s (Announcement r) h = omega arith
+within s (Guard r) h = omega arith
 within s (Stamp q) h = omega arith
 within s (Reply q) h = omega arith
 within s (Cell p) h = omega arith
@@ -63,6 +64,7 @@ fits_means s Seat h = tt
 fits_means s Epoch h = tt
 fits_means s Clock h = tt
 fits_means s (Announcement r) h = most _ _ h
+fits_means s (Guard r) h = most _ _ h
 fits_means s (Stamp q) h = one _ _ h
 fits_means s (Reply q) h = one _ _ h
 fits_means s (Cell p) h = one _ _ h
@@ -75,6 +77,7 @@ fits_is s Seat h = refl
 fits_is s Epoch h = refl
 fits_is s Clock h = refl
 fits_is s (Announcement r) h = is_most _ _ h
+fits_is s (Guard r) h = is_most _ _ h
 fits_is s (Stamp q) h = is_below _ _ h
 fits_is s (Reply q) h = is_below _ _ h
 fits_is s (Cell p) h = is_below _ _ h
@@ -88,6 +91,7 @@ seen_here s words Seat h = refl
 seen_here s words Epoch h = refl
 seen_here s words Clock h = refl
 seen_here s words (Announcement r) h = rw (fits_is s (Announcement r) h) refl
+seen_here s words (Guard r) h = rw (fits_is s (Guard r) h) refl
 seen_here s words (Stamp q) h = rw (fits_is s (Stamp q) h) refl
 seen_here s words (Reply q) h = rw (fits_is s (Reply q) h) refl
 seen_here s words (Cell p) h = rw (fits_is s (Cell p) h) refl
@@ -105,6 +109,7 @@ module _ (s : Sizes) (words : List ℕ) (v : ℕ) (room : size s ≤ length word
   seen_set Seat Epoch h = miss words (address s Seat) (address s Epoch) v (blank Epoch) (fits s Epoch) (λ e e'. omega arith)
   seen_set Seat Clock h = miss words (address s Seat) (address s Clock) v (blank Clock) (fits s Clock) (λ e e'. omega arith)
   seen_set Seat (Announcement r') h = miss words (address s Seat) (address s (Announcement r')) v (blank (Announcement r')) (fits s (Announcement r')) (λ e e'. let h' : r' ≤ s.runners = most _ _ e in omega arith)
+  seen_set Seat (Guard r') h = miss words (address s Seat) (address s (Guard r')) v (blank (Guard r')) (fits s (Guard r')) (λ e e'. let h' : r' ≤ s.runners = most _ _ e in omega arith)
   seen_set Seat (Stamp q') h = miss words (address s Seat) (address s (Stamp q')) v (blank (Stamp q')) (fits s (Stamp q')) (λ e e'. let h' : q' < s.requests = one _ _ e in omega arith)
   seen_set Seat (Reply q') h = miss words (address s Seat) (address s (Reply q')) v (blank (Reply q')) (fits s (Reply q')) (λ e e'. let h' : q' < s.requests = one _ _ e in omega arith)
   seen_set Seat (Cell p') h = miss words (address s Seat) (address s (Cell p')) v (blank (Cell p')) (fits s (Cell p')) (λ e e'. let h' : p' < s.cells = one _ _ e in omega arith)
@@ -115,6 +120,7 @@ module _ (s : Sizes) (words : List ℕ) (v : ℕ) (room : size s ≤ length word
   seen_set Epoch Epoch h = get_or-set_same words (address s Epoch) v 0 (inside Epoch h)
   seen_set Epoch Clock h = miss words (address s Epoch) (address s Clock) v (blank Clock) (fits s Clock) (λ e e'. omega arith)
   seen_set Epoch (Announcement r') h = miss words (address s Epoch) (address s (Announcement r')) v (blank (Announcement r')) (fits s (Announcement r')) (λ e e'. let h' : r' ≤ s.runners = most _ _ e in omega arith)
+  seen_set Epoch (Guard r') h = miss words (address s Epoch) (address s (Guard r')) v (blank (Guard r')) (fits s (Guard r')) (λ e e'. let h' : r' ≤ s.runners = most _ _ e in omega arith)
   seen_set Epoch (Stamp q') h = miss words (address s Epoch) (address s (Stamp q')) v (blank (Stamp q')) (fits s (Stamp q')) (λ e e'. let h' : q' < s.requests = one _ _ e in omega arith)
   seen_set Epoch (Reply q') h = miss words (address s Epoch) (address s (Reply q')) v (blank (Reply q')) (fits s (Reply q')) (λ e e'. let h' : q' < s.requests = one _ _ e in omega arith)
   seen_set Epoch (Cell p') h = miss words (address s Epoch) (address s (Cell p')) v (blank (Cell p')) (fits s (Cell p')) (λ e e'. let h' : p' < s.cells = one _ _ e in omega arith)
@@ -125,6 +131,7 @@ module _ (s : Sizes) (words : List ℕ) (v : ℕ) (room : size s ≤ length word
   seen_set Clock Epoch h = miss words (address s Clock) (address s Epoch) v (blank Epoch) (fits s Epoch) (λ e e'. omega arith)
   seen_set Clock Clock h = get_or-set_same words (address s Clock) v 0 (inside Clock h)
   seen_set Clock (Announcement r') h = miss words (address s Clock) (address s (Announcement r')) v (blank (Announcement r')) (fits s (Announcement r')) (λ e e'. let h' : r' ≤ s.runners = most _ _ e in omega arith)
+  seen_set Clock (Guard r') h = miss words (address s Clock) (address s (Guard r')) v (blank (Guard r')) (fits s (Guard r')) (λ e e'. let h' : r' ≤ s.runners = most _ _ e in omega arith)
   seen_set Clock (Stamp q') h = miss words (address s Clock) (address s (Stamp q')) v (blank (Stamp q')) (fits s (Stamp q')) (λ e e'. let h' : q' < s.requests = one _ _ e in omega arith)
   seen_set Clock (Reply q') h = miss words (address s Clock) (address s (Reply q')) v (blank (Reply q')) (fits s (Reply q')) (λ e e'. let h' : q' < s.requests = one _ _ e in omega arith)
   seen_set Clock (Cell p') h = miss words (address s Clock) (address s (Cell p')) v (blank (Cell p')) (fits s (Cell p')) (λ e e'. let h' : p' < s.cells = one _ _ e in omega arith)
@@ -137,16 +144,31 @@ module _ (s : Sizes) (words : List ℕ) (v : ℕ) (room : size s ≤ length word
   seen_set (Announcement r) (Announcement r') h = hit words (address s (Announcement r)) (address s (Announcement r')) v (blank (Announcement r')) (fits s (Announcement r')) (r' == r) (inside (Announcement r) h)
       (λ e. let same = same_means r' r e in (ap (λ x. address s (Announcement x)) (sym same), rw same (is_most r _ h)))
       (λ f e e'. let h' : r' ≤ s.runners = most _ _ e in let ne = other_means r' r f in ne (omega arith))
+  seen_set (Announcement r) (Guard r') h = miss words (address s (Announcement r)) (address s (Guard r')) v (blank (Guard r')) (fits s (Guard r')) (λ e e'. let h' : r' ≤ s.runners = most _ _ e in omega arith)
   seen_set (Announcement r) (Stamp q') h = miss words (address s (Announcement r)) (address s (Stamp q')) v (blank (Stamp q')) (fits s (Stamp q')) (λ e e'. let h' : q' < s.requests = one _ _ e in omega arith)
   seen_set (Announcement r) (Reply q') h = miss words (address s (Announcement r)) (address s (Reply q')) v (blank (Reply q')) (fits s (Reply q')) (λ e e'. let h' : q' < s.requests = one _ _ e in omega arith)
   seen_set (Announcement r) (Cell p') h = miss words (address s (Announcement r)) (address s (Cell p')) v (blank (Cell p')) (fits s (Cell p')) (λ e e'. let h' : p' < s.cells = one _ _ e in omega arith)
   seen_set (Announcement r) (ThunkWord d' j') h = miss words (address s (Announcement r)) (address s (ThunkWord d' j')) v (blank (ThunkWord d' j')) (fits s (ThunkWord d' j')) (λ e e'. let h' : (d' < s.descriptors) × (j' < 12) = two _ _ _ _ e in let x1 : d' < s.descriptors = h'.0 in let y1 : j' < 12 = h'.1 in omega arith)
   seen_set (Announcement r) (DoneWord d') h = miss words (address s (Announcement r)) (address s (DoneWord d')) v (blank (DoneWord d')) (fits s (DoneWord d')) (λ e e'. let h' : d' < s.descriptors = one _ _ e in omega arith)
   seen_set (Announcement r) (LogWord d' k') h = miss words (address s (Announcement r)) (address s (LogWord d' k')) v (blank (LogWord d' k')) (fits s (LogWord d' k')) (λ e e'. let h' : (d' < s.descriptors) × (k' < 64) = two _ _ _ _ e in let x1 : d' < s.descriptors = h'.0 in let y1 : k' < 64 = h'.1 in omega arith)
+  seen_set (Guard r) Seat h = miss words (address s (Guard r)) (address s Seat) v (blank Seat) (fits s Seat) (λ e e'. omega arith)
+  seen_set (Guard r) Epoch h = miss words (address s (Guard r)) (address s Epoch) v (blank Epoch) (fits s Epoch) (λ e e'. omega arith)
+  seen_set (Guard r) Clock h = miss words (address s (Guard r)) (address s Clock) v (blank Clock) (fits s Clock) (λ e e'. omega arith)
+  seen_set (Guard r) (Announcement r') h = miss words (address s (Guard r)) (address s (Announcement r')) v (blank (Announcement r')) (fits s (Announcement r')) (λ e e'. let h' : r' ≤ s.runners = most _ _ e in omega arith)
+  seen_set (Guard r) (Guard r') h = hit words (address s (Guard r)) (address s (Guard r')) v (blank (Guard r')) (fits s (Guard r')) (r' == r) (inside (Guard r) h)
+      (λ e. let same = same_means r' r e in (ap (λ x. address s (Guard x)) (sym same), rw same (is_most r _ h)))
+      (λ f e e'. let h' : r' ≤ s.runners = most _ _ e in let ne = other_means r' r f in ne (omega arith))
+  seen_set (Guard r) (Stamp q') h = miss words (address s (Guard r)) (address s (Stamp q')) v (blank (Stamp q')) (fits s (Stamp q')) (λ e e'. let h' : q' < s.requests = one _ _ e in omega arith)
+  seen_set (Guard r) (Reply q') h = miss words (address s (Guard r)) (address s (Reply q')) v (blank (Reply q')) (fits s (Reply q')) (λ e e'. let h' : q' < s.requests = one _ _ e in omega arith)
+  seen_set (Guard r) (Cell p') h = miss words (address s (Guard r)) (address s (Cell p')) v (blank (Cell p')) (fits s (Cell p')) (λ e e'. let h' : p' < s.cells = one _ _ e in omega arith)
+  seen_set (Guard r) (ThunkWord d' j') h = miss words (address s (Guard r)) (address s (ThunkWord d' j')) v (blank (ThunkWord d' j')) (fits s (ThunkWord d' j')) (λ e e'. let h' : (d' < s.descriptors) × (j' < 12) = two _ _ _ _ e in let x1 : d' < s.descriptors = h'.0 in let y1 : j' < 12 = h'.1 in omega arith)
+  seen_set (Guard r) (DoneWord d') h = miss words (address s (Guard r)) (address s (DoneWord d')) v (blank (DoneWord d')) (fits s (DoneWord d')) (λ e e'. let h' : d' < s.descriptors = one _ _ e in omega arith)
+  seen_set (Guard r) (LogWord d' k') h = miss words (address s (Guard r)) (address s (LogWord d' k')) v (blank (LogWord d' k')) (fits s (LogWord d' k')) (λ e e'. let h' : (d' < s.descriptors) × (k' < 64) = two _ _ _ _ e in let x1 : d' < s.descriptors = h'.0 in let y1 : k' < 64 = h'.1 in omega arith)
   seen_set (Stamp q) Seat h = miss words (address s (Stamp q)) (address s Seat) v (blank Seat) (fits s Seat) (λ e e'. omega arith)
   seen_set (Stamp q) Epoch h = miss words (address s (Stamp q)) (address s Epoch) v (blank Epoch) (fits s Epoch) (λ e e'. omega arith)
   seen_set (Stamp q) Clock h = miss words (address s (Stamp q)) (address s Clock) v (blank Clock) (fits s Clock) (λ e e'. omega arith)
   seen_set (Stamp q) (Announcement r') h = miss words (address s (Stamp q)) (address s (Announcement r')) v (blank (Announcement r')) (fits s (Announcement r')) (λ e e'. let h' : r' ≤ s.runners = most _ _ e in omega arith)
+  seen_set (Stamp q) (Guard r') h = miss words (address s (Stamp q)) (address s (Guard r')) v (blank (Guard r')) (fits s (Guard r')) (λ e e'. let h' : r' ≤ s.runners = most _ _ e in omega arith)
   seen_set (Stamp q) (Stamp q') h = hit words (address s (Stamp q)) (address s (Stamp q')) v (blank (Stamp q')) (fits s (Stamp q')) (q' == q) (inside (Stamp q) h)
       (λ e. let same = same_means q' q e in (ap (λ x. address s (Stamp x)) (sym same), rw same (is_below q _ h)))
       (λ f e e'. let h' : q' < s.requests = one _ _ e in let ne = other_means q' q f in ne (omega arith))
@@ -159,6 +181,7 @@ module _ (s : Sizes) (words : List ℕ) (v : ℕ) (room : size s ≤ length word
   seen_set (Reply q) Epoch h = miss words (address s (Reply q)) (address s Epoch) v (blank Epoch) (fits s Epoch) (λ e e'. omega arith)
   seen_set (Reply q) Clock h = miss words (address s (Reply q)) (address s Clock) v (blank Clock) (fits s Clock) (λ e e'. omega arith)
   seen_set (Reply q) (Announcement r') h = miss words (address s (Reply q)) (address s (Announcement r')) v (blank (Announcement r')) (fits s (Announcement r')) (λ e e'. let h' : r' ≤ s.runners = most _ _ e in omega arith)
+  seen_set (Reply q) (Guard r') h = miss words (address s (Reply q)) (address s (Guard r')) v (blank (Guard r')) (fits s (Guard r')) (λ e e'. let h' : r' ≤ s.runners = most _ _ e in omega arith)
   seen_set (Reply q) (Stamp q') h = miss words (address s (Reply q)) (address s (Stamp q')) v (blank (Stamp q')) (fits s (Stamp q')) (λ e e'. let h' : q' < s.requests = one _ _ e in omega arith)
   seen_set (Reply q) (Reply q') h = hit words (address s (Reply q)) (address s (Reply q')) v (blank (Reply q')) (fits s (Reply q')) (q' == q) (inside (Reply q) h)
       (λ e. let same = same_means q' q e in (ap (λ x. address s (Reply x)) (sym same), rw same (is_below q _ h)))
@@ -171,6 +194,7 @@ module _ (s : Sizes) (words : List ℕ) (v : ℕ) (room : size s ≤ length word
   seen_set (Cell p) Epoch h = miss words (address s (Cell p)) (address s Epoch) v (blank Epoch) (fits s Epoch) (λ e e'. omega arith)
   seen_set (Cell p) Clock h = miss words (address s (Cell p)) (address s Clock) v (blank Clock) (fits s Clock) (λ e e'. omega arith)
   seen_set (Cell p) (Announcement r') h = miss words (address s (Cell p)) (address s (Announcement r')) v (blank (Announcement r')) (fits s (Announcement r')) (λ e e'. let h' : r' ≤ s.runners = most _ _ e in omega arith)
+  seen_set (Cell p) (Guard r') h = miss words (address s (Cell p)) (address s (Guard r')) v (blank (Guard r')) (fits s (Guard r')) (λ e e'. let h' : r' ≤ s.runners = most _ _ e in omega arith)
   seen_set (Cell p) (Stamp q') h = miss words (address s (Cell p)) (address s (Stamp q')) v (blank (Stamp q')) (fits s (Stamp q')) (λ e e'. let h' : q' < s.requests = one _ _ e in omega arith)
   seen_set (Cell p) (Reply q') h = miss words (address s (Cell p)) (address s (Reply q')) v (blank (Reply q')) (fits s (Reply q')) (λ e e'. let h' : q' < s.requests = one _ _ e in omega arith)
   seen_set (Cell p) (Cell p') h = hit words (address s (Cell p)) (address s (Cell p')) v (blank (Cell p')) (fits s (Cell p')) (p' == p) (inside (Cell p) h)
@@ -183,6 +207,7 @@ module _ (s : Sizes) (words : List ℕ) (v : ℕ) (room : size s ≤ length word
   seen_set (ThunkWord d j) Epoch h = miss words (address s (ThunkWord d j)) (address s Epoch) v (blank Epoch) (fits s Epoch) (λ e e'. let x0 = h.0 in let y0 = h.1 in omega arith)
   seen_set (ThunkWord d j) Clock h = miss words (address s (ThunkWord d j)) (address s Clock) v (blank Clock) (fits s Clock) (λ e e'. let x0 = h.0 in let y0 = h.1 in omega arith)
   seen_set (ThunkWord d j) (Announcement r') h = miss words (address s (ThunkWord d j)) (address s (Announcement r')) v (blank (Announcement r')) (fits s (Announcement r')) (λ e e'. let x0 = h.0 in let y0 = h.1 in let h' : r' ≤ s.runners = most _ _ e in omega arith)
+  seen_set (ThunkWord d j) (Guard r') h = miss words (address s (ThunkWord d j)) (address s (Guard r')) v (blank (Guard r')) (fits s (Guard r')) (λ e e'. let x0 = h.0 in let y0 = h.1 in let h' : r' ≤ s.runners = most _ _ e in omega arith)
   seen_set (ThunkWord d j) (Stamp q') h = miss words (address s (ThunkWord d j)) (address s (Stamp q')) v (blank (Stamp q')) (fits s (Stamp q')) (λ e e'. let x0 = h.0 in let y0 = h.1 in let h' : q' < s.requests = one _ _ e in omega arith)
   seen_set (ThunkWord d j) (Reply q') h = miss words (address s (ThunkWord d j)) (address s (Reply q')) v (blank (Reply q')) (fits s (Reply q')) (λ e e'. let x0 = h.0 in let y0 = h.1 in let h' : q' < s.requests = one _ _ e in omega arith)
   seen_set (ThunkWord d j) (Cell p') h = miss words (address s (ThunkWord d j)) (address s (Cell p')) v (blank (Cell p')) (fits s (Cell p')) (λ e e'. let x0 = h.0 in let y0 = h.1 in let h' : p' < s.cells = one _ _ e in omega arith)
@@ -196,6 +221,7 @@ module _ (s : Sizes) (words : List ℕ) (v : ℕ) (room : size s ≤ length word
   seen_set (DoneWord d) Epoch h = miss words (address s (DoneWord d)) (address s Epoch) v (blank Epoch) (fits s Epoch) (λ e e'. omega arith)
   seen_set (DoneWord d) Clock h = miss words (address s (DoneWord d)) (address s Clock) v (blank Clock) (fits s Clock) (λ e e'. omega arith)
   seen_set (DoneWord d) (Announcement r') h = miss words (address s (DoneWord d)) (address s (Announcement r')) v (blank (Announcement r')) (fits s (Announcement r')) (λ e e'. let h' : r' ≤ s.runners = most _ _ e in omega arith)
+  seen_set (DoneWord d) (Guard r') h = miss words (address s (DoneWord d)) (address s (Guard r')) v (blank (Guard r')) (fits s (Guard r')) (λ e e'. let h' : r' ≤ s.runners = most _ _ e in omega arith)
   seen_set (DoneWord d) (Stamp q') h = miss words (address s (DoneWord d)) (address s (Stamp q')) v (blank (Stamp q')) (fits s (Stamp q')) (λ e e'. let h' : q' < s.requests = one _ _ e in omega arith)
   seen_set (DoneWord d) (Reply q') h = miss words (address s (DoneWord d)) (address s (Reply q')) v (blank (Reply q')) (fits s (Reply q')) (λ e e'. let h' : q' < s.requests = one _ _ e in omega arith)
   seen_set (DoneWord d) (Cell p') h = miss words (address s (DoneWord d)) (address s (Cell p')) v (blank (Cell p')) (fits s (Cell p')) (λ e e'. let h' : p' < s.cells = one _ _ e in omega arith)
@@ -208,6 +234,7 @@ module _ (s : Sizes) (words : List ℕ) (v : ℕ) (room : size s ≤ length word
   seen_set (LogWord d k) Epoch h = miss words (address s (LogWord d k)) (address s Epoch) v (blank Epoch) (fits s Epoch) (λ e e'. let x0 = h.0 in let y0 = h.1 in omega arith)
   seen_set (LogWord d k) Clock h = miss words (address s (LogWord d k)) (address s Clock) v (blank Clock) (fits s Clock) (λ e e'. let x0 = h.0 in let y0 = h.1 in omega arith)
   seen_set (LogWord d k) (Announcement r') h = miss words (address s (LogWord d k)) (address s (Announcement r')) v (blank (Announcement r')) (fits s (Announcement r')) (λ e e'. let x0 = h.0 in let y0 = h.1 in let h' : r' ≤ s.runners = most _ _ e in omega arith)
+  seen_set (LogWord d k) (Guard r') h = miss words (address s (LogWord d k)) (address s (Guard r')) v (blank (Guard r')) (fits s (Guard r')) (λ e e'. let x0 = h.0 in let y0 = h.1 in let h' : r' ≤ s.runners = most _ _ e in omega arith)
   seen_set (LogWord d k) (Stamp q') h = miss words (address s (LogWord d k)) (address s (Stamp q')) v (blank (Stamp q')) (fits s (Stamp q')) (λ e e'. let x0 = h.0 in let y0 = h.1 in let h' : q' < s.requests = one _ _ e in omega arith)
   seen_set (LogWord d k) (Reply q') h = miss words (address s (LogWord d k)) (address s (Reply q')) v (blank (Reply q')) (fits s (Reply q')) (λ e e'. let x0 = h.0 in let y0 = h.1 in let h' : q' < s.requests = one _ _ e in omega arith)
   seen_set (LogWord d k) (Cell p') h = miss words (address s (LogWord d k)) (address s (Cell p')) v (blank (Cell p')) (fits s (Cell p')) (λ e e'. let x0 = h.0 in let y0 = h.1 in let h' : p' < s.cells = one _ _ e in omega arith)

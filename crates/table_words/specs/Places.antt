@@ -3,7 +3,7 @@ use Rattle.std.specs.Prelude.{ℕ, ◌+◌, ◌*◌, ◌<◌, ◌≤◌, Bool, t
 use Rattle.table_words.specs.declared.layout.Layout.{Layout}
 use Rattle.table_words.specs.declared.sizes.Sizes.{Sizes}
 use Rattle.table_words.specs.declared.spot.Spot.{Spot}
-use Rattle.table_words.specs.declared.spot.Spot.TheVariants.{Seat, Epoch, Clock, Announcement, Stamp, Reply, Cell, ThunkWord, DoneWord, LogWord}
+use Rattle.table_words.specs.declared.spot.Spot.TheVariants.{Seat, Epoch, Clock, Announcement, Guard, Stamp, Reply, Cell, ThunkWord, DoneWord, LogWord}
 
 -- the number of all node slots: the fixed ones, the workers', the keeper's
 abbrev pub slot_count : Layout → ℕ → ℕ
@@ -32,12 +32,12 @@ thunk_words = 12
 abbrev pub log_words : ℕ
 log_words = 64
 
--- so many words fill a line of 128 bytes; the epoch, the clock and each announcement begin one
+-- so many words fill a line of 128 bytes; the epoch, the clock, each announcement and each guard word begin one
 abbrev pub line_words : ℕ
 line_words = 16
 
 abbrev pub entries_at : Sizes → ℕ
-entries_at s = 16 * (4 + s.runners)
+entries_at s = 16 * (5 + 2 * s.runners)
 
 abbrev pub cells_at : Sizes → ℕ
 cells_at s = entries_at s + 2 * s.requests
@@ -55,6 +55,7 @@ address s Seat = 0
 address s Epoch = 16
 address s Clock = 32
 address s (Announcement r) = 16 * (3 + r)
+address s (Guard r) = 16 * (4 + s.runners + r)
 address s (Stamp q) = entries_at s + 2 * q
 address s (Reply q) = entries_at s + 2 * q + 1
 address s (Cell p) = cells_at s + p
@@ -68,6 +69,7 @@ Fits s Seat = Unit {0}
 Fits s Epoch = Unit {0}
 Fits s Clock = Unit {0}
 Fits s (Announcement r) = r ≤ s.runners
+Fits s (Guard r) = r ≤ s.runners
 Fits s (Stamp q) = q < s.requests
 Fits s (Reply q) = q < s.requests
 Fits s (Cell p) = p < s.cells
@@ -81,6 +83,7 @@ fits s Seat = true
 fits s Epoch = true
 fits s Clock = true
 fits s (Announcement r) = nat_le r s.runners
+fits s (Guard r) = nat_le r s.runners
 fits s (Stamp q) = nat_lt q s.requests
 fits s (Reply q) = nat_lt q s.requests
 fits s (Cell p) = nat_lt p s.cells

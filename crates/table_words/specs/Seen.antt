@@ -2,7 +2,7 @@
 use Rattle.std.specs.Prelude.{ℕ, List, ◌==◌, slice_index, cond}
 use Rattle.table_words.specs.declared.sizes.Sizes.{Sizes}
 use Rattle.table_words.specs.declared.spot.Spot.{Spot}
-use Rattle.table_words.specs.declared.spot.Spot.TheVariants.{Seat, Epoch, Clock, Announcement, Stamp, Reply, Cell, ThunkWord, DoneWord, LogWord}
+use Rattle.table_words.specs.declared.spot.Spot.TheVariants.{Seat, Epoch, Clock, Announcement, Guard, Stamp, Reply, Cell, ThunkWord, DoneWord, LogWord}
 use Rattle.table_words.specs.Places.{address, fits}
 
 -- a function that is changed at one number
@@ -15,6 +15,7 @@ blank Seat = 0
 blank Epoch = 0
 blank Clock = 0
 blank (Announcement r) = 0
+blank (Guard r) = 0
 blank (Stamp q) = 0
 blank (Reply q) = 0
 blank (Cell p) = 4294967296
@@ -36,6 +37,8 @@ put f Clock v Clock = v
 put f Clock v b = f b
 put f (Announcement r) v (Announcement r') = cond (r' == r) v (f (Announcement r'))
 put f (Announcement r) v b = f b
+put f (Guard r) v (Guard r') = cond (r' == r) v (f (Guard r'))
+put f (Guard r) v b = f b
 put f (Stamp q) v (Stamp q') = cond (q' == q) v (f (Stamp q'))
 put f (Stamp q) v b = f b
 put f (Reply q) v (Reply q') = cond (q' == q) v (f (Reply q'))

@@ -5,8 +5,9 @@ ghost use Rattle.table_words.specs.Places.{sizes_of, size};
 
 use crate::layout::Layout;
 
-/// How many words fill a line of 128 bytes. The epoch, the clock and each announcement begin a line of their own, since
-/// each runner writes some of them all the time: two in one cache line would be taken from one processor by the other.
+/// How many words fill a line of 128 bytes. The epoch, the clock, each announcement and each guard word begin a line of
+/// their own, since each runner writes some of them all the time: two in one cache line would be taken from one
+/// processor by the other.
 pub const LINE_WORDS: usize = 16;
 
 /// How many workers, requests, cells and descriptors a table has words for.
@@ -41,7 +42,7 @@ impl Sizes {
     pub fn words(self) -> usize
         ensures { result ≡ size self }
     {
-        let entries = LINE_WORDS * (4 + self.runners as usize) + 2 * self.requests as usize;
+        let entries = LINE_WORDS * (5 + 2 * self.runners as usize) + 2 * self.requests as usize;
         entries + self.cells as usize + 77 * self.descriptors as usize
     }
 }

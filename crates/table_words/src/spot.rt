@@ -6,8 +6,8 @@ use crate::sizes::{LINE_WORDS, Sizes};
 
 /// A word of the table, by what it is.
 ///
-/// Announcements are numbered by runner, the keeper last. A place counts cells alone, the fixed cells first and then
-/// five for each node slot. A descriptor has twelve thunk words, a done word and 64 log words.
+/// Announcements and guard words are numbered by runner, the keeper last. A place counts cells alone, the fixed cells
+/// first and then five for each node slot. A descriptor has twelve thunk words, a done word and 64 log words.
 #[derive(Clone, Copy, PartialEq, Eq, Debug)]
 pub enum Spot {
     /// The word that splitting and joining a seat load.
@@ -15,6 +15,8 @@ pub enum Spot {
     Epoch,
     Clock,
     Announcement(u32),
+    /// The word with which a runner keeps a descriptor from being used again (a hazard pointer; Michael, 2004).
+    Guard(u32),
     Stamp(u32),
     Reply(u32),
     Cell(u32),
@@ -30,7 +32,7 @@ impl Spot {
     {
         match self {
             Spot::Seat | Spot::Epoch | Spot::Clock => true,
-            Spot::Announcement(runner) => runner <= sizes.runners,
+            Spot::Announcement(runner) | Spot::Guard(runner) => runner <= sizes.runners,
             Spot::Stamp(request) | Spot::Reply(request) => request < sizes.requests,
             Spot::Cell(place) => place < sizes.cells,
             Spot::ThunkWord(descriptor, word) => descriptor < sizes.descriptors && word < 12,
@@ -49,6 +51,7 @@ impl Spot {
             Spot::Epoch => LINE_WORDS,
             Spot::Clock => 2 * LINE_WORDS,
             Spot::Announcement(runner) => LINE_WORDS * (3 + runner as usize),
+            Spot::Guard(runner) => LINE_WORDS * (4 + sizes.runners as usize + runner as usize),
             Spot::Stamp(request) => sizes.entries_at() + 2 * request as usize,
             Spot::Reply(request) => sizes.entries_at() + 2 * request as usize + 1,
             Spot::Cell(place) => sizes.cells_at() + place as usize,
@@ -67,7 +70,7 @@ impl Sizes {
     fn entries_at(self) -> usize
         ensures { result ≡ entries_at self }
     {
-        LINE_WORDS * (4 + self.runners as usize)
+        LINE_WORDS * (5 + 2 * self.runners as usize)
     }
 
     /// Where the cells begin.

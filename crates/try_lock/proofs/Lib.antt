@@ -1,4 +1,5 @@
 mod Preparing
 mod Publishing
-mod Retiring
+mod Guarding
+mod Watching
 mod Helping

@@ -12,7 +12,7 @@ use Rattle.machine_states.specs.runner_parts.specs.declared.entries.Stored.{Stor
 use Rattle.machine_states.specs.runner_parts.specs.declared.event.EventKind.{EventKind}
 use Rattle.machine_states.specs.runner_parts.specs.declared.event.EventKind.TheVariants as kinds
 use Rattle.machine_states.specs.epoch_core.specs.declared.stage.Stage.TheVariants as stages
-use Rattle.machine_states.specs.runner_parts.specs.State.{PartState, DescriptorsState}
+use Rattle.machine_states.specs.runner_parts.specs.State.{PartState, GuardsState, DescriptorsState}
 use Rattle.machine_states.specs.runner_parts.specs.Tests.{has, is_some_of, last_stored, are_stored, is_prepared, thunk_words}
 use Rattle.machine_states.specs.runner_parts.specs.Lists.{descriptor_stored, nodes_looked}
 use Rattle.machine_states.specs.runner_steps.specs.After.{outside_after}
@@ -20,7 +20,7 @@ use Rattle.section_runs.specs.commit_log.specs.version_words.specs.RunnerState.{
 use Rattle.section_runs.specs.commit_log.specs.version_words.specs.Events.{IsEnabled, Makes}
 use Rattle.section_runs.specs.commit_log.specs.version_words.specs.Stages.{IsAt}
 use Rattle.section_runs.specs.commit_log.specs.version_words.proofs.Stages.{may_load_word, may_store_word, then_loaded_word, then_stored_word}
-use Rattle.epoch_slots.proofs.Outside.{nodes_made, descriptors_made, reads_made, known_made, finished_made}
+use Rattle.epoch_slots.proofs.Outside.{nodes_made, descriptors_made, guards_made, reads_made, known_made, finished_made}
 use Rattle.try_lock.specs.Prepares.{MaySet, KeepsElse, Stores, SetsWord, SetsWords, HasSet, IsReady}
 
 -- what is known of a word after one more store
@@ -40,7 +40,7 @@ module _ (p q : DescriptorsState) (d word n : ℕ) (is : q ≡ descriptor_stored
 
 module _ {T : Type 0} where
   pub keeps_all : (r : RunnerState T) → KeepsElse r r
-  keeps_all r = record { number = refl; layout = refl; requests = refl; nodes = refl; free = refl; limbo = refl; reads = refl; known = refl; finished = refl }
+  keeps_all r = record { number = refl; layout = refl; requests = refl; nodes = refl; free = refl; limbo = refl; looked = refl; reads = refl; known = refl; finished = refl }
 
   pub keeps_on : (a b c : RunnerState T) → KeepsElse a b → KeepsElse b c → KeepsElse a c
   keeps_on a b c one two = record {
@@ -50,6 +50,7 @@ module _ {T : Type 0} where
     nodes = two.nodes ∙ one.nodes;
     free = two.free ∙ one.free;
     limbo = two.limbo ∙ one.limbo;
+    looked = two.looked ∙ one.looked;
     reads = two.reads ∙ one.reads;
     known = two.known ∙ one.known;
     finished = two.finished ∙ one.finished;
@@ -80,6 +81,7 @@ module _ {T : Type 0} where
             nodes = nodes_made m k found r r' made resting ∙ ap (λ (p : PartState). p.nodes) part;
             free = ap (λ (x : DescriptorsState). x.free) stored;
             limbo = ap (λ (x : DescriptorsState). x.limbo) stored;
+            looked = ap (λ (g : GuardsState). g.looked) (guards_made m k found r r' made resting ∙ ap (λ (p : PartState). p.guards) part);
             reads = reads_made m k found r r' made resting ∙ ap (λ (p : PartState). p.reads) part;
             known = known_made m k found r r' made resting ∙ ap (λ (p : PartState). p.records.known) part;
             finished = finished_made m k found r r' made resting ∙ ap (λ (p : PartState). p.records.finished) part;

@@ -1,11 +1,11 @@
 -- The exchange that publishes a section, and what stands before and behind it.
-use Rattle.std.proofs.Common.{◌≡◌, ℕ, zero, suc, ◌+◌, ◌-◌, ◌*◌, ◌<◌, ◌≤◌, List, [], ◌∷◌, ◌++◌, length, Bool, true, false, refl, sym, ap, subst, ◌∙◌, eq-eqb, le_of_eq, arith, Some, None, Ok, Err, replicate}
+use Rattle.std.proofs.Common.{◌≡◌, ℕ, zero, suc, ◌+◌, ◌-◌, ◌*◌, ◌<◌, ◌≤◌, List, [], ◌∷◌, length, Bool, true, false, refl, sym, ap, subst, ◌∙◌, eq-eqb, le_of_eq, arith, Some, None, Ok, Err, replicate}
 use Rattle.std.specs.Prelude.{◌==◌, ◌&&◌, ◌||◌, nat_lt, slice_index, is_none, if◌then◌else◌, not}
 use Rattle.std.proofs.lemmas.List.{length-replicate}
 use Rattle.machine_states.specs.epoch_core.specs.small_lemmas.proofs.Bools.{second_of as and_right}
 use Rattle.machine_states.specs.epoch_core.specs.small_lemmas.proofs.Numbers.{less_tested as tests_below}
 use Rattle.machine_states.specs.map_history.specs.declared.op.Request.{Request}
-use Rattle.machine_states.specs.body_terms.specs.Word.{value_of, is_free, held_word}
+use Rattle.machine_states.specs.body_terms.specs.Word.{held_word}
 use Rattle.machine_states.specs.body_terms.specs.declared.outcome.Refused.{Refused}
 use Rattle.machine_states.specs.body_terms.specs.declared.thunk.Thunk.{Thunk}
 use Rattle.machine_states.specs.table_words.specs.declared.layout.Layout.{Layout}
@@ -21,10 +21,10 @@ use Rattle.machine_states.specs.structure_laws.specs.Meaning.{Meaning}
 use Rattle.machine_states.specs.structure_laws.specs.Laws.{Laws}
 use Rattle.machine_states.specs.runner_parts.specs.declared.event.EventKind.TheVariants as kinds
 use Rattle.machine_states.specs.epoch_core.specs.declared.stage.Stage.TheVariants as stages
-use Rattle.machine_states.specs.runner_parts.specs.State.{PartState}
-use Rattle.machine_states.specs.runner_parts.specs.Tests.{has, is_walking, is_open, last_stored, is_prepared, is_between}
-use Rattle.machine_states.specs.runner_parts.specs.Lists.{without, cell_read, holds_named, section_published, descriptor_taken}
-use Rattle.machine_states.specs.runner_steps.specs.Outside.{when, is_ready, is_publishable, is_due, descriptor_spot}
+use Rattle.machine_states.specs.runner_parts.specs.State.{GuardsState, DescriptorsState, PartState}
+use Rattle.machine_states.specs.runner_parts.specs.Tests.{has, is_walking, is_open, last_stored, is_prepared, is_between, is_some_of}
+use Rattle.machine_states.specs.runner_parts.specs.Lists.{without, cell_read, descriptor_taken, published_seen}
+use Rattle.machine_states.specs.runner_steps.specs.Outside.{when, is_ready, is_publishable, is_due, descriptor_spot, is_sure_of}
 use Rattle.machine_states.specs.runner_steps.specs.AfterOutside.{hold_after, published_by}
 use Rattle.machine_states.specs.runner_steps.specs.Asks.{asks}
 use Rattle.machine_states.specs.Sight.{Sight, sight, part_or_first, Steps}
@@ -39,15 +39,17 @@ use Rattle.section_runs.specs.machine_facts.proofs.Following.{step_facts_after}
 use Rattle.section_runs.specs.commit_log.specs.next_steps.specs.Numbers.{PartFits}
 use Rattle.section_runs.specs.commit_log.specs.next_steps.proofs.Numbers.{reached_numbers}
 use Rattle.section_runs.specs.commit_log.specs.version_words.specs.RunnerState.{RunnerState}
-use Rattle.section_runs.specs.commit_log.specs.version_words.specs.Events.{IsEnabled, Makes}
+use Rattle.section_runs.specs.commit_log.specs.version_words.specs.Events.{IsEnabled, Makes, IsMade}
 use Rattle.section_runs.specs.commit_log.specs.version_words.specs.Stages.{IsAt}
 use Rattle.section_runs.specs.commit_log.specs.version_words.proofs.Holds.{holds_so}
 use Rattle.section_runs.specs.commit_log.specs.version_words.proofs.Stages.{enabled, made_at}
-use Rattle.epoch_slots.proofs.Outside.{nodes_made, descriptors_made, reads_made, known_made, finished_made}
+use Rattle.epoch_slots.proofs.Outside.{nodes_made, descriptors_made, guards_made, reads_made, known_made, finished_made}
 use Rattle.try_lock.specs.declared.section.Section.{Section}
 use Rattle.try_lock.specs.Reached.{IsReached, IsSectionOf}
 use Rattle.try_lock.specs.Prepares.{MaySet, KeepsElse, IsReady}
 use Rattle.try_lock.specs.Publishes.{refused_by, IsUnrun, MayPublish, IsPublished, IsRefused, Publishes}
+use Rattle.try_lock.proofs.Preparing.{keeps_on}
+use Rattle.try_lock.proofs.Guarding.{guard_at, guard_named, guard_keeps, guard_keeps_else}
 
 -- an entry of a list is in it
 has_at : (xs : List ℕ) (i : ℕ) → i < length xs → has xs (slice_index xs i) ≡ true
@@ -59,17 +61,26 @@ has_at (x ∷ xs) (suc i) low = let rest = has_at xs i (omega (arith, low)) in e
     either true b e = refl
     either false b e = e
 
-has_last : (xs : List ℕ) (x : ℕ) → has (xs ++ x ∷ []) x ≡ true
-has_last [] x = ap (λ (b : Bool). b || false) (eq-eqb x x refl)
-has_last (y ∷ xs) x = let rest = has_last xs x in either (y == x) (has (xs ++ x ∷ []) x) rest
-  where
-    either : (a b : Bool) → b ≡ true → (a || b) ≡ true
-    either true b e = refl
-    either false b e = e
-
 -- the last of the free ones
 pub last_is_free : (free xs : List ℕ) → xs ≡ free → 1 ≤ length free → has free (slice_index xs (length xs - 1)) ≡ true
 last_is_free free xs is some = subst (λ ys. has ys (slice_index xs (length xs - 1)) ≡ true) is (has_at xs (length xs - 1) (let a = ap length is in omega (arith, a, some)))
+
+-- the words of the descriptor are those of the thunk, no done and an empty log, and the guard word names it
+record IsGuarded {T : Type 0} (d : ℕ) (t : Thunk) (old new : RunnerState T) : Type 0 where
+  pub at : (epoch : ℕ) → IsAt old (stages.Entered epoch) None → IsAt new (stages.Entered epoch) None
+  pub keeps : KeepsElse old new
+  pub prepared : is_prepared new.part.descriptors.stored d t ≡ true
+  pub named : new.part.guards.named ≡ Some d
+
+pub guarded : {T : Type 0} (m : Meaning) (d : ℕ) (t : Thunk) (r b g : RunnerState T) (epoch : ℕ) → IsAt r (stages.Entered epoch) None → IsReady m d t r b → IsMade m (kinds.Guard (Some d)) b g → IsGuarded d t r g
+guarded m d t r b g epoch at ready guard =
+    let was = ready.at epoch at in
+    record {
+      at = λ e is. guard_at m (Some d) guard.found b g guard.event e (ready.at e is);
+      keeps = keeps_on r b g ready.keeps (guard_keeps_else m (Some d) guard.found b g guard.event was.resting);
+      prepared = ap (λ (x : DescriptorsState). is_prepared x.stored d t) (guard_keeps m (Some d) guard.found b g guard.event was.resting).descriptors ∙ ready.prepared;
+      named = guard_named m (Some d) guard.found b g guard.event was.resting;
+    }
 
 module _ {T : Type 0} (m : Meaning) where
   -- the part of a runner in a state that the machine reaches
@@ -81,7 +92,7 @@ module _ {T : Type 0} (m : Meaning) where
   pub may_prepare : Laws m → (r : RunnerState T) (t : Thunk) → IsWithinLimits r.layout → AreAllowed r.requests → MayPublish m r t → (d : ℕ) → has r.part.descriptors.free d ≡ true → MaySet r d
   may_prepare laws r t limits allowed may d free = record { epoch = may.epoch; at = may.at; free = record { own = free; few = (fits laws r limits allowed may.reached).free d free } }
 
-  module _ (r b : RunnerState T) (t : Thunk) (d : ℕ) (may : MayPublish m r t) (ready : IsReady m d t r b) where
+  module _ (r b : RunnerState T) (t : Thunk) (d : ℕ) (may : MayPublish m r t) (ready : IsGuarded d t r b) where
     abbrev keeps : KeepsElse r b
     keeps = ready.keeps
 
@@ -93,8 +104,9 @@ module _ {T : Type 0} (m : Meaning) where
     may_hold laws limits allowed free eight =
         let part = fits laws r limits allowed may.reached in
         let few : nat_lt d (descriptor_count r.layout) ≡ true = tests_below d (descriptor_count r.layout) (part.free d free) in
-        let prepared : is_ready b.layout b.part d t ≡ true = (λ i. nat_lt d (descriptor_count (keeps.layout i)) && (has (keeps.free i) d && (length t.operands == 8 && ready.prepared i)))
-        ∙ (λ i. few i && (free i && (eq-eqb (length t.operands) 8 eight i && true))) in
+        let prepared : is_ready b.layout b.part d t ≡ true =
+        (λ i. nat_lt d (descriptor_count (keeps.layout i)) && (has (keeps.free i) d && (is_some_of (ready.named i) d && (length t.operands == 8 && ready.prepared i))))
+        ∙ (λ i. few i && (free i && (eq-eqb d d refl i && (eq-eqb (length t.operands) 8 eight i && true)))) in
         let unlocked : is_open b.layout b.part.reads.cells t ≡ true = (λ i. is_open (keeps.layout i) ((keeps.reads i).cells) t) ∙ may.unlocked in
         let due : is_due m b.layout b.requests b.number b.part.records.known b.part.reads.walk t ≡ true =
         (λ i. is_due m (keeps.layout i) (keeps.requests i) (keeps.number i) (keeps.known i) ((keeps.reads i).walk) t) ∙ may.due in
@@ -110,14 +122,15 @@ abbrev part_won : Thunk → ℕ → PartState → ℕ → PartState
 part_won t d p found = record p {
   published = Some (published_by t d p);
   descriptors = descriptor_taken p.descriptors d;
-  reads = section_published (cell_read p.reads t.lock found) d;
+  guards = published_seen p.guards d;
+  reads = cell_read p.reads t.lock found;
 }
 
 abbrev part_lost : Thunk → PartState → ℕ → PartState
-part_lost t p found = record p { reads = holds_named (cell_read p.reads t.lock found) found }
+part_lost t p found = record p { reads = cell_read p.reads t.lock found }
 
 module _ {T : Type 0} (m : Meaning) (t : Thunk) (d found : ℕ) (r b r' : RunnerState T) (keeps : KeepsElse r b)
-    (stays : (epoch : ℕ) → IsAt r (stages.Entered epoch) None → IsAt b (stages.Entered epoch) None) (entry : ℕ) (was : IsAt r (stages.Entered entry) None) (made : Makes m (kinds.Hold t d) found b r') where
+    (stays : (epoch : ℕ) → IsAt r (stages.Entered epoch) None → IsAt b (stages.Entered epoch) None) (named : b.part.guards.named ≡ Some d) (entry : ℕ) (was : IsAt r (stages.Entered entry) None) (made : Makes m (kinds.Hold t d) found b r') where
   at : IsAt b (stages.Entered entry) None
   at = stays entry was
 
@@ -138,6 +151,9 @@ module _ {T : Type 0} (m : Meaning) (t : Thunk) (d found : ℕ) (r b r' : Runner
   pub limbo_held : r'.part.descriptors.limbo ≡ r.part.descriptors.limbo
   limbo_held = ap (λ x. x.limbo) (descriptors_made m (kinds.Hold t d) found b r' made at.resting) ∙ (by_test (λ p. p.descriptors.limbo) b.part.descriptors.limbo refl refl ∙ keeps.limbo)
 
+  pub looked_held : r'.part.guards.looked ≡ r.part.guards.looked
+  looked_held = ap (λ x. x.looked) (guards_made m (kinds.Hold t d) found b r' made at.resting) ∙ (by_test (λ p. p.guards.looked) b.part.guards.looked refl refl ∙ keeps.looked)
+
   pub cells_held : r'.part.reads.cells ≡ (cell_read r.part.reads t.lock found).cells
   cells_held = ap (λ x. x.cells) (reads_made m (kinds.Hold t d) found b r' made at.resting)
       ∙ (by_test (λ p. p.reads.cells) (cell_read b.part.reads t.lock found).cells refl refl ∙ ap (λ s. (cell_read s t.lock found).cells) keeps.reads)
@@ -157,7 +173,7 @@ module _ {T : Type 0} (m : Meaning) (t : Thunk) (d found : ℕ) (r b r' : Runner
     part_is = ap (λ (c : Bool). if c then part_won t d b.part found else part_lost t b.part found) (eq-eqb found t.word won)
 
     same_publication : published_by t d b.part ≡ published_by t d r.part
-    same_publication = (λ i. record { descriptor = d; thunk = t; walked = length (keeps.reads i).walk; known = length (keeps.known i); over = false })
+    same_publication = (λ i. record { descriptor = d; thunk = t; walked = length (keeps.reads i).walk; known = length (keeps.known i) })
 
     pub at_won : (epoch : ℕ) → IsAt r (stages.Entered epoch) None → IsAt r' (stages.Entered epoch) (Some (published_by t d r.part))
     at_won epoch entered = let is = stays epoch entered in
@@ -167,8 +183,16 @@ module _ {T : Type 0} (m : Meaning) (t : Thunk) (d found : ℕ) (r b r' : Runner
     pub free_won : r'.part.descriptors.free ≡ without r.part.descriptors.free d
     free_won = ap (λ x. x.free) (descriptors_made m (kinds.Hold t d) found b r' made at.resting) ∙ (ap (λ p. p.descriptors.free) part_is ∙ ap (λ xs. without xs d) keeps.free)
 
-    pub reads_won : r'.part.reads ≡ section_published (cell_read r.part.reads t.lock found) d
-    reads_won = reads_made m (kinds.Hold t d) found b r' made at.resting ∙ (ap (λ p. p.reads) part_is ∙ ap (λ s. section_published (cell_read s t.lock found) d) keeps.reads)
+    pub reads_won : r'.part.reads ≡ cell_read r.part.reads t.lock found
+    reads_won = reads_made m (kinds.Hold t d) found b r' made at.resting ∙ (ap (λ p. p.reads) part_is ∙ ap (λ s. cell_read s t.lock found) keeps.reads)
+
+    sure_won : is_sure_of r'.part.guards d ≡ true
+    sure_won = ap (λ (g : GuardsState). is_sure_of g d) (guards_made m (kinds.Hold t d) found b r' made at.resting ∙ ap (λ p. p.guards) part_is)
+        ∙ ((λ i. (b.part.guards.sure || is_some_of (named i) d) && is_some_of (named i) d) ∙ (λ i. (b.part.guards.sure || eq-eqb d d refl i) && eq-eqb d d refl i) ∙ seen b.part.guards.sure)
+      where
+        seen : (s : Bool) → ((s || true) && true) ≡ true
+        seen true = refl
+        seen false = refl
 
     pub section_won : (s : Section) → s ≡ record { descriptor = d; place = t.lock; held = held_word d t.word } → IsSectionOf r' t s
     section_won s is = subst (λ (x : Section). IsSectionOf r' t x) (sym is) (record {
@@ -178,8 +202,7 @@ module _ {T : Type 0} (m : Meaning) (t : Thunk) (d found : ℕ) (r b r' : Runner
       thunk = refl;
       place = refl;
       held = refl;
-      entry = ap (λ x. has x.published d) reads_won ∙ has_last r.part.reads.published d;
-      holds = ap (λ x. has x.held d) reads_won ∙ has_last r.part.reads.held d;
+      sure = sure_won;
     })
 
     pub published_won : (s : Section) → s ≡ record { descriptor = d; place = t.lock; held = held_word d t.word } → IsPublished t d found r r' s
@@ -206,15 +229,14 @@ module _ {T : Type 0} (m : Meaning) (t : Thunk) (d found : ℕ) (r b r' : Runner
     pub free_lost : r'.part.descriptors.free ≡ r.part.descriptors.free
     free_lost = ap (λ x. x.free) (descriptors_made m (kinds.Hold t d) found b r' made at.resting) ∙ (ap (λ p. p.descriptors.free) part_still ∙ keeps.free)
 
-    pub reads_lost : r'.part.reads ≡ holds_named (cell_read r.part.reads t.lock found) found
-    reads_lost = reads_made m (kinds.Hold t d) found b r' made at.resting ∙ (ap (λ p. p.reads) part_still ∙ ap (λ s. holds_named (cell_read s t.lock found) found) keeps.reads)
+    pub reads_lost : r'.part.reads ≡ cell_read r.part.reads t.lock found
+    reads_lost = reads_made m (kinds.Hold t d) found b r' made at.resting ∙ (ap (λ p. p.reads) part_still ∙ ap (λ s. cell_read s t.lock found) keeps.reads)
 
-    names_lost : is_free found ≡ false → has r'.part.reads.held (value_of found - 1) ≡ true
-    names_lost held = ap (λ x. has x.held (value_of found - 1)) reads_lost
-        ∙ (ap (λ (c : Bool). has (r.part.reads.held ++ (if c then [] else (value_of found - 1) ∷ [])) (value_of found - 1)) held ∙ has_last r.part.reads.held (value_of found - 1))
+    guarded_lost : r'.part.guards.named ≡ Some d
+    guarded_lost = ap (λ (g : GuardsState). g.named) (guards_made m (kinds.Hold t d) found b r' made at.resting ∙ ap (λ p. p.guards) part_still) ∙ named
 
-    pub refused_lost : (e : Refused) → e ≡ refused_by r.layout.version_max t.word found → IsRefused t found r r' e
-    refused_lost e is = record { lost = lost; why = is; at = at_lost; free = free_lost; reads = reads_lost; names = names_lost }
+    pub refused_lost : (e : Refused) → e ≡ refused_by r.layout.version_max t.word found → IsRefused t d found r r' e
+    refused_lost e is = record { lost = lost; why = is; at = at_lost; free = free_lost; guarded = guarded_lost; reads = reads_lost }
 
 -- the words of the descriptor, once the section is published
 module _ {T : Type 0} (m : Meaning) (laws : Laws m) (t : Thunk) (d found : ℕ) (r b r' : RunnerState T) (keeps : KeepsElse r b) (made : Makes m (kinds.Hold t d) found b r')
@@ -274,29 +296,35 @@ module _ {T : Type 0} (m : Meaning) (laws : Laws m) (t : Thunk) (d found : ℕ) 
   }
 
 -- the whole publication
-module _ {T : Type 0} (m : Meaning) (laws : Laws m) (r b r' : RunnerState T) (t : Thunk) (d found : ℕ) (limits : IsWithinLimits r.layout) (allowed : AreAllowed r.requests) (may : MayPublish m r t)
-    (free : has r.part.descriptors.free d ≡ true) (ready : IsReady m d t r b) (made : Makes m (kinds.Hold t d) found b r') where
+module _ {T : Type 0} (m : Meaning) (laws : Laws m) (r b g r' : RunnerState T) (t : Thunk) (d found : ℕ) (limits : IsWithinLimits r.layout) (allowed : AreAllowed r.requests) (may : MayPublish m r t)
+    (free : has r.part.descriptors.free d ≡ true) (ready : IsReady m d t r b) (guard : IsMade m (kinds.Guard (Some d)) b g) (made : Makes m (kinds.Hold t d) found g r') where
+  whole : IsGuarded d t r g
+  whole = guarded m d t r b g may.epoch may.at ready guard
+
   pub publishes_won : found ≡ t.word → (s : Section) → s ≡ record { descriptor = d; place = t.lock; held = held_word d t.word } → Publishes m t (Ok s) r r'
   publishes_won won s is =
-      let done = published_won m t d found r b r' ready.keeps ready.at may.epoch may.at made won s is in
+      let done = published_won m t d found r g r' whole.keeps whole.at whole.named may.epoch may.at made won s is in
       record {
         descriptor = d;
         found = found;
         ready = b;
+        guarding = g;
         was_free = free;
         sets = ready.sets;
+        guard = guard;
         hold = made;
         published = done;
         refused = tt;
-        read = cells_held m t d found r b r' ready.keeps ready.at may.epoch may.at made;
-        number = number_held m t d found r b r' ready.keeps ready.at may.epoch may.at made;
-        nodes = nodes_held m t d found r b r' ready.keeps ready.at may.epoch may.at made;
-        limbo = limbo_held m t d found r b r' ready.keeps ready.at may.epoch may.at made;
-        known = known_held m t d found r b r' ready.keeps ready.at may.epoch may.at made;
-        finished = finished_held m t d found r b r' ready.keeps ready.at may.epoch may.at made;
-        reached = reached_held m t d found r b r' ready.keeps ready.at may.epoch may.at made;
+        read = cells_held m t d found r g r' whole.keeps whole.at whole.named may.epoch may.at made;
+        number = number_held m t d found r g r' whole.keeps whole.at whole.named may.epoch may.at made;
+        nodes = nodes_held m t d found r g r' whole.keeps whole.at whole.named may.epoch may.at made;
+        limbo = limbo_held m t d found r g r' whole.keeps whole.at whole.named may.epoch may.at made;
+        looked = looked_held m t d found r g r' whole.keeps whole.at whole.named may.epoch may.at made;
+        known = known_held m t d found r g r' whole.keeps whole.at whole.named may.epoch may.at made;
+        finished = finished_held m t d found r g r' whole.keeps whole.at whole.named may.epoch may.at made;
+        reached = reached_held m t d found r g r' whole.keeps whole.at whole.named may.epoch may.at made;
         stands = subst (λ n. IsUnrun n t (sight m r'.layout r'.requests made.shown.world)) (sym done.own)
-            (unrun m laws t d found r b r' ready.keeps made limits allowed free ready.prepared done.published);
+            (unrun m laws t d found r g r' whole.keeps made limits allowed free whole.prepared done.published);
       }
 
   pub publishes_lost : found == t.word ≡ false → (e : Refused) → e ≡ refused_by r.layout.version_max t.word found → Publishes m t (Err e) r r'
@@ -304,17 +332,20 @@ module _ {T : Type 0} (m : Meaning) (laws : Laws m) (r b r' : RunnerState T) (t 
     descriptor = d;
     found = found;
     ready = b;
+    guarding = g;
     was_free = free;
     sets = ready.sets;
+    guard = guard;
     hold = made;
     published = tt;
-    refused = refused_lost m t d found r b r' ready.keeps ready.at may.epoch may.at made lost e is;
-    read = cells_held m t d found r b r' ready.keeps ready.at may.epoch may.at made;
-    number = number_held m t d found r b r' ready.keeps ready.at may.epoch may.at made;
-    nodes = nodes_held m t d found r b r' ready.keeps ready.at may.epoch may.at made;
-    limbo = limbo_held m t d found r b r' ready.keeps ready.at may.epoch may.at made;
-    known = known_held m t d found r b r' ready.keeps ready.at may.epoch may.at made;
-    finished = finished_held m t d found r b r' ready.keeps ready.at may.epoch may.at made;
-    reached = reached_held m t d found r b r' ready.keeps ready.at may.epoch may.at made;
+    refused = refused_lost m t d found r g r' whole.keeps whole.at whole.named may.epoch may.at made lost e is;
+    read = cells_held m t d found r g r' whole.keeps whole.at whole.named may.epoch may.at made;
+    number = number_held m t d found r g r' whole.keeps whole.at whole.named may.epoch may.at made;
+    nodes = nodes_held m t d found r g r' whole.keeps whole.at whole.named may.epoch may.at made;
+    limbo = limbo_held m t d found r g r' whole.keeps whole.at whole.named may.epoch may.at made;
+    looked = looked_held m t d found r g r' whole.keeps whole.at whole.named may.epoch may.at made;
+    known = known_held m t d found r g r' whole.keeps whole.at whole.named may.epoch may.at made;
+    finished = finished_held m t d found r g r' whole.keeps whole.at whole.named may.epoch may.at made;
+    reached = reached_held m t d found r g r' whole.keeps whole.at whole.named may.epoch may.at made;
     stands = tt;
   }

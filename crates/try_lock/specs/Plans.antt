@@ -1,5 +1,5 @@
 -- Plans of requests: the loads of a walk, and what is answered by them.
-use Rattle.std.specs.Prelude.{◌≡◌, ℕ, ◌+◌, ◌*◌, ◌-◌, ◌≤◌, List, [], ◌∷◌, ◌++◌, length, take, slice_get}
+use Rattle.std.specs.Prelude.{◌≡◌, ℕ, ◌+◌, ◌*◌, ◌-◌, ◌≤◌, [], ◌∷◌, ◌++◌, length, take, slice_get}
 use Rattle.std.specs.Prelude.{Bool, true, false, not, ◌==◌, ◌&&◌, if◌then◌else◌, Option, Some, None}
 use Rattle.machine_states.specs.map_history.specs.declared.op.Op.{Op}
 use Rattle.machine_states.specs.map_history.specs.declared.op.Request.{Request}
@@ -14,7 +14,6 @@ use Rattle.machine_states.specs.runner_parts.specs.declared.event.EventKind.TheV
 use Rattle.machine_states.specs.runner_parts.specs.declared.entries.Published.{Published}
 use Rattle.machine_states.specs.epoch_core.specs.declared.stage.Stage.TheVariants as stages
 use Rattle.machine_states.specs.runner_parts.specs.State.{ReadsState}
-use Rattle.machine_states.specs.runner_parts.specs.Lists.{named_by}
 use Rattle.machine_states.specs.runner_parts.specs.Tests.{has_pair}
 use Rattle.section_runs.specs.commit_log.specs.version_words.specs.RunnerState.{RunnerState}
 use Rattle.section_runs.specs.commit_log.specs.version_words.specs.Events.{Makes}
@@ -36,18 +35,11 @@ abbrev pub is_halted : Planned → Bool
 is_halted answers.Halted = true
 is_halted _ = false
 
--- the descriptors that the words of locks among these readings name
-abbrev pub names_read : Meaning → Readings → List ℕ
-names_read m [] = []
-names_read m (reading ∷ readings) = (if m.is_lock reading.0 then named_by reading.1 else []) ++ names_read m readings
-
 -- what a runner has read, with these readings of a walk
-abbrev pub reads_walked : Meaning → ReadsState → Readings → ReadsState
-reads_walked m reads readings = record {
+abbrev pub reads_walked : ReadsState → Readings → ReadsState
+reads_walked reads readings = record {
   walk = reads.walk ++ readings;
   cells = reads.cells ++ readings;
-  held = reads.held ++ names_read m readings;
-  published = reads.published;
   look = reads.look;
 }
 
@@ -124,12 +116,15 @@ module _ {T : Type 0} where
     Loads (reading ∷ readings) old new =
         (r : RunnerState T) × Makes m (kinds.LoadCell (Some reading.0)) reading.1 old r × Loads readings r new
 
-    -- the runner made these loads and no other step; it has read what they gave, and all else of it is as before
+    -- the runner made these loads and no other step; it has read what they gave, its guard word names what it named,
+    -- and all else of it is as before
     pub record HasWalked (readings : Readings) (old new : RunnerState T) : Type 0 where
       pub loads : Loads readings old new
       pub at : (epoch : ℕ) (section : Option Published) → IsAt old (stages.Entered epoch) section
           → IsAt new (stages.Entered epoch) section
-      pub reads : new.part.reads ≡ reads_walked m old.part.reads readings
+      pub reads : new.part.reads ≡ reads_walked old.part.reads readings
+      pub guarded : new.part.guards.named ≡ old.part.guards.named
+      pub looked : new.part.guards.looked ≡ old.part.guards.looked
       pub keeps : KeepsOwn old new
       pub same : new ≡ record old { part = new.part }
 

@@ -17,7 +17,8 @@ module _ {T : Type 0} where
     pub at : IsAt r (stages.Entered epoch) None
     pub free : HasFree r descriptor
 
-  -- nothing of the runner changed but what it knows of the words of its descriptors, and its counts of steps
+  -- nothing of the runner changed but what it knows of the words of its descriptors, what its guard word names, and its
+  -- counts of steps
   pub record KeepsElse (old new : RunnerState T) : Type 0 where
     pub number : new.number ≡ old.number
     pub layout : new.layout ≡ old.layout
@@ -25,6 +26,7 @@ module _ {T : Type 0} where
     pub nodes : new.part.nodes ≡ old.part.nodes
     pub free : new.part.descriptors.free ≡ old.part.descriptors.free
     pub limbo : new.part.descriptors.limbo ≡ old.part.descriptors.limbo
+    pub looked : new.part.guards.looked ≡ old.part.guards.looked
     pub reads : new.part.reads ≡ old.part.reads
     pub known : new.part.records.known ≡ old.part.records.known
     pub finished : new.part.records.finished ≡ old.part.records.finished

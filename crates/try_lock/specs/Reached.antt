@@ -5,14 +5,14 @@ use Rattle.machine_states.specs.body_terms.specs.declared.thunk.Thunk.{Thunk}
 use Rattle.machine_states.specs.structure_laws.specs.Meaning.{Meaning}
 use Rattle.machine_states.specs.epoch_core.specs.declared.stage.Stage.TheVariants as stages
 use Rattle.machine_states.specs.runner_parts.specs.declared.entries.Published.{Published}
-use Rattle.machine_states.specs.runner_parts.specs.Tests.{has}
+use Rattle.machine_states.specs.runner_steps.specs.Outside.{is_sure_of}
 use Rattle.section_runs.specs.commit_log.specs.version_words.specs.RunnerState.{RunnerState}
 use Rattle.section_runs.specs.commit_log.specs.version_words.specs.Stages.{IsAt}
 pub use Rattle.section_runs.specs.Reached.{IsReached}
 use Rattle.try_lock.specs.declared.section.Section.{Section}
 
 module _ {T : Type 0} where
-  -- the runner published this section with this thunk since it entered, and holds its descriptor
+  -- the runner published this section with this thunk, hasn't run it to its end, and is sure of its descriptor
   pub record IsSectionOf (r : RunnerState T) (t : Thunk) (s : Section) : Type 0 where
     pub published : Published
     pub own : r.part.published ≡ Some published
@@ -20,8 +20,7 @@ module _ {T : Type 0} where
     pub thunk : published.thunk ≡ t
     pub place : s.place ≡ t.lock
     pub held : s.held ≡ held_word s.descriptor t.word
-    pub entry : has r.part.reads.published s.descriptor ≡ true
-    pub holds : has r.part.reads.held s.descriptor ≡ true
+    pub sure : is_sure_of r.part.guards s.descriptor ≡ true
 
   -- the runner may run the section that it published: it is entered and in no run, and has a reserve of two node slots
   pub record MayRunSection (m : Meaning) (r : RunnerState T) (t : Thunk) (s : Section) : Type 0 where
@@ -32,12 +31,12 @@ module _ {T : Type 0} where
     pub reserve : 2 ≤ length r.part.nodes.free
     pub reached : IsReached m r
 
-  -- the runner may help the section that this word names: it read the word in this entry, so it holds the descriptor
+  -- the runner may help the section that this word names: it has watched the lock, and is sure of the descriptor
   pub record MayHelp (m : Meaning) (r : RunnerState T) (held : ℕ) : Type 0 where
     pub epoch : ℕ
     pub published : Option Published
     pub at : IsAt r (stages.Entered epoch) published
     pub names : is_free held ≡ false
-    pub holds : has r.part.reads.held (value_of held - 1) ≡ true
+    pub sure : is_sure_of r.part.guards (value_of held - 1) ≡ true
     pub reserve : 2 ≤ length r.part.nodes.free
     pub reached : IsReached m r

@@ -116,7 +116,7 @@ fn has_eight_operands(thunk: &Thunk)
 }
 
 /// Publishes a section with this thunk: writes the thunk into an own free descriptor, with no done and an empty
-/// log, and makes one exchange of the thunk's outer lock, from the free word that was read to the one that names
+/// log, stores the own guard word to name it, and makes one exchange of the thunk's outer lock, from the free word that was read to the one that names
 /// the descriptor. A word of the descriptor that is right already isn't written.
 ///
 /// The runner has to be entered and in no run, without a section that it hasn't retired, and have a reserve of one
@@ -126,7 +126,7 @@ fn has_eight_operands(thunk: &Thunk)
 ///
 /// The answer is Ok exactly where the exchange won. Else it names the word that the exchange saw: Busy where that
 /// names a descriptor, Spent where it is free and has too few versions left to be taken and released, Stale
-/// otherwise; the descriptor is free again. No memory is taken (Ben-David, Blelloch, Wei, 2022).
+/// otherwise; the descriptor is still free, and the guard word names it. No memory is taken (Ben-David, Blelloch, Wei, 2022).
 pub fn publish<S: Structure>(
     table: &FlockTable<S>,
     runner: Runner<S>,
@@ -141,6 +141,7 @@ pub fn publish<S: Structure>(
     let free = runner.free_descriptors();
     let descriptor = free[free.len() - 1];
     let runner = prepare(table, runner, descriptor, thunk);
+    let runner = table.guard(runner, Some(descriptor));
     let (runner, read, won) = table.hold(runner, thunk, descriptor);
     if won {
         let held = held_word(descriptor, thunk.word);

@@ -50,9 +50,8 @@ pub fn run_section<S: Structure, G: Gate, L>(
 
 /// Helps: runs the section that this lock word names, whatever its publisher and others do, as `run_section` does.
 ///
-/// The runner read the word in this entry from a lock outside a run, or it is an agreed word of a Take of a section
-/// that it published in this entry; so it holds the section's descriptor. It is in no run, and has a reserve of two
-/// node slots.
+/// The runner has watched the lock, which had this word still, so it is sure of the section's descriptor. It is in no
+/// run, and has a reserve of two node slots.
 pub fn help<S: Structure, G: Gate, L>(
     table: &FlockTable<S>,
     runner: Runner<S>,

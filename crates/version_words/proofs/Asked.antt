@@ -1,6 +1,6 @@
 -- What an enabled event says of the part.
-use Rattle.std.proofs.Common.{◌≡◌, ℕ, List, Bool, true, false, refl, sym, ◌∙◌, Option, Some, None, if◌then◌else◌, arith, ap}
-use Rattle.std.specs.Prelude.{◌==◌, ◌&&◌, nat_le}
+use Rattle.std.proofs.Common.{◌≡◌, ℕ, ◌≤◌, List, length, Bool, true, false, refl, sym, ◌∙◌, Option, Some, None, if◌then◌else◌, arith, ap}
+use Rattle.std.specs.Prelude.{◌==◌, ◌&&◌, nat_le, is_none}
 use Rattle.machine_states.specs.map_history.specs.declared.op.Request.{Request}
 use Rattle.machine_states.specs.body_terms.specs.declared.micro.Micro.{Micro}
 use Rattle.machine_states.specs.table_words.specs.declared.layout.Layout.{Layout}
@@ -18,6 +18,8 @@ use Rattle.machine_states.specs.epoch_core.specs.declared.stage.Stage.TheVariant
 use Rattle.machine_states.specs.runner_parts.specs.State.{RunState, PartState}
 use Rattle.machine_states.specs.runner_steps.specs.Sections.{is_open_run, next_of}
 use Rattle.machine_states.specs.runner_steps.specs.Outside.{Ask, when, enter_load_ask, announce_ask, enter_again_by, scan_one_ask}
+use Rattle.machine_states.specs.runner_steps.specs.Guards.{is_numbered, guard_ask, load_guard_by, load_guard_ask}
+use Rattle.machine_states.specs.guard_core.specs.State.{word_of}
 use Rattle.machine_states.specs.runner_steps.specs.Asks.{fitting, sizes_for, asks, ask_by, outside_ask, line_ask, opening_ask}
 use Rattle.std.proofs.lemmas.Bool.Decides.{nat_tests}
 use Rattle.std.proofs.lemmas.Option.{none-some}
@@ -26,7 +28,7 @@ use Rattle.runner_block.specs.Scans.{scan_of}
 use Rattle.version_words.specs.RunnerState.{RunnerState}
 use Rattle.version_words.specs.Events.{met_by, IsEnabled}
 use Rattle.machine_states.proofs.Steps.{some_same}
-use Rattle.machine_states.specs.runner_parts.specs.Tests.{is_between}
+use Rattle.machine_states.specs.runner_parts.specs.Tests.{is_between, is_walking}
 
 -- the kinds of step that are made in no run alone
 abbrev pub is_outer : EventKind → Bool
@@ -45,6 +47,8 @@ is_outer (kinds.ReadPlan thunk) = true
 is_outer kinds.ReadClock = true
 is_outer kinds.ReadReply = true
 is_outer kinds.ReadStamp = true
+is_outer (kinds.Guard d) = true
+is_outer (kinds.LoadGuard n) = true
 is_outer _ = false
 
 met : (s : Sizes) (y x : Spot × Access) (b : Bool) → (if b then Some y else None) ≡ Some x → Some y ≡ Some x
@@ -80,6 +84,8 @@ module _ (m : Meaning) (l : Layout) where
   no_line kinds.ReadClock free q micro e = refl
   no_line kinds.ReadReply free q micro e = refl
   no_line kinds.ReadStamp free q micro e = refl
+  no_line (kinds.Guard d) free q micro e = refl
+  no_line (kinds.LoadGuard n) free q micro e = refl
   no_line _ free q micro e = absurd (false≢true e)
 
   no_opening : (k : EventKind) (q : RunState) → is_outer k ≡ true → opening_ask k q ≡ None
@@ -126,6 +132,24 @@ scans_next l n (stages.Loaded e) x h = absurd (none-some x h)
 scans_next l n stages.Announced x h = absurd (none-some x h)
 scans_next l n (stages.Entered g) x h = absurd (none-some x h)
 
+-- the next guard word of a sweep
+pub record IsNextGuard (l : Layout) (n looked : ℕ) (x : Spot × Access) : Type 0 where
+  pub next : n ≡ looked
+  pub few : n ≤ l.runners
+  pub met : (spots.Guard n, Loads) ≡ x
+
+next_of_all : (l : Layout) (n looked : ℕ) → n == looked && nat_le n l.runners ≡ true → (n ≡ looked) × (n ≤ l.runners)
+next_of_all l n looked e = (grind (arith, nat_tests, e), grind (arith, nat_tests, e))
+
+looks_next : (l : Layout) (n looked : ℕ) (stage : Stage) (x : Spot × Access) → load_guard_by l n looked stage ≡ Some x → IsNextGuard l n looked x
+looks_next l n looked stages.Idle x h =
+    let t = tested (n == looked && nat_le n l.runners) (spots.Guard n) Loads x h in let b = next_of_all l n looked t.0 in
+    record { next = b.0; few = b.1; met = t.1 }
+looks_next l n looked (stages.Loaded e) x h = absurd (none-some x h)
+looks_next l n looked stages.Announced x h = absurd (none-some x h)
+looks_next l n looked (stages.Entered g) x h = absurd (none-some x h)
+looks_next l n looked (stages.Scanning y next clear) x h = absurd (none-some x h)
+
 -- the events of an entry, each with its word and access
 module _ {T : Type 0} (m : Meaning) (r : RunnerState T) where
   enabled_outside : (k : EventKind) (x : Spot × Access) → is_outer k ≡ true → met_by m r k ≡ Some x → (r.part.run ≡ None) × (outside_ask m r.layout r.requests r.number k r.part ≡ Some x)
@@ -146,3 +170,11 @@ module _ {T : Type 0} (m : Meaning) (r : RunnerState T) where
 
   pub asks_enter_again : (x : Spot × Access) → met_by m r kinds.EnterAgain ≡ Some x → x ≡ (spots.Epoch, Loads)
   asks_enter_again x h = sym (enters_again (is_between r.part.reads.look) r.part.stage x (enabled_outside kinds.EnterAgain x refl h).1)
+
+  -- the own guard word is stored
+  pub asks_guard : (d : Option ℕ) (x : Spot × Access) → met_by m r (kinds.Guard d) ≡ Some x → x ≡ (spots.Guard r.number, Stores (word_of d))
+  asks_guard d x h = sym (tested (is_walking r.part.stage r.part.run && (is_none r.part.published && is_numbered r.layout d)) (spots.Guard r.number) (Stores (word_of d)) x (enabled_outside (kinds.Guard d) x refl h).1).1
+
+  -- and a sweep reads the guard word that comes next
+  pub asks_load_guard : (n : ℕ) (x : Spot × Access) → met_by m r (kinds.LoadGuard n) ≡ Some x → IsNextGuard r.layout n (length r.part.guards.looked) x
+  asks_load_guard n x h = looks_next r.layout n (length r.part.guards.looked) r.part.stage x (enabled_outside (kinds.LoadGuard n) x refl h).1

@@ -35,6 +35,7 @@ not_nought s spots.Seat e h = true≢false e
 not_nought s spots.Epoch e h = omega arith
 not_nought s spots.Clock e h = omega arith
 not_nought s (spots.Announcement r) e h = omega arith
+not_nought s (spots.Guard r) e h = omega arith
 not_nought s (spots.Stamp q) e h = omega arith
 not_nought s (spots.Reply q) e h = omega arith
 not_nought s (spots.Cell p) e h = omega arith

@@ -18,9 +18,9 @@ use Rattle.machine_states.specs.structure_laws.specs.Meaning.{Meaning}
 use Rattle.machine_states.specs.runner_parts.specs.declared.event.EventKind.{EventKind}
 use Rattle.machine_states.specs.runner_parts.specs.declared.event.EventKind.TheVariants as kinds
 use Rattle.machine_states.specs.runner_parts.specs.State.{PartState}
-use Rattle.machine_states.specs.runner_parts.specs.Tests.{has, is_walking, is_open, is_prepared, has_pair, is_between}
+use Rattle.machine_states.specs.runner_parts.specs.Tests.{has, is_walking, is_open, is_prepared, has_pair, is_between, is_some_of}
 use Rattle.machine_states.specs.epoch_core.specs.Lists.{times}
-use Rattle.machine_states.specs.runner_parts.specs.Lists.{descriptor_taken, section_published, cell_read, holds_named}
+use Rattle.machine_states.specs.runner_parts.specs.Lists.{descriptor_taken, published_seen, cell_read}
 use Rattle.machine_states.specs.runner_steps.specs.Outside.{hold_ask, is_ready, is_publishable, is_due}
 use Rattle.machine_states.specs.runner_steps.specs.AfterOutside.{hold_after, published_by}
 use Rattle.version_words.specs.declared.view.View.{View}
@@ -53,8 +53,9 @@ hold_asked : (m : Meaning) (l : Layout) (rs : List Request) (r : ℕ) (t : Thunk
 hold_asked m l rs r t d p x e =
     let c = tested (is_ready l p d t && is_publishable m l rs r t p) (spots.Cell t.lock) (Exchanges t.word (held_word d t.word)) x e in
     let both = both_true (is_ready l p d t) (is_publishable m l rs r t p) c.0 in
-    let ready = both_true (nat_lt d (descriptor_count l)) (has p.descriptors.free d && (length t.operands == 8 && is_prepared p.descriptors.stored d t)) both.0 in
-    let free = both_true (has p.descriptors.free d) (length t.operands == 8 && is_prepared p.descriptors.stored d t) ready.1 in
+    let prepared = is_some_of p.guards.named d && (length t.operands == 8 && is_prepared p.descriptors.stored d t) in
+    let ready = both_true (nat_lt d (descriptor_count l)) (has p.descriptors.free d && prepared) both.0 in
+    let free = both_true (has p.descriptors.free d) prepared ready.1 in
     let walking = both_true (is_walking p.stage p.run) (is_none p.published && (not (is_between p.reads.look) && (is_open l p.reads.cells t && is_due m l rs r p.records.known p.reads.walk t))) both.1 in
     let none = both_true (is_none p.published) (not (is_between p.reads.look) && (is_open l p.reads.cells t && is_due m l rs r p.records.known p.reads.walk t)) walking.1 in
     let settled = both_true (not (is_between p.reads.look)) (is_open l p.reads.cells t && is_due m l rs r p.records.known p.reads.walk t) none.1 in
@@ -105,11 +106,12 @@ abbrev part_won : Thunk → ℕ → ℕ → PartState → PartState
 part_won t d found p = record p {
   published = Some (published_by t d p);
   descriptors = descriptor_taken p.descriptors d;
-  reads = section_published (cell_read p.reads t.lock found) d;
+  guards = published_seen p.guards d;
+  reads = cell_read p.reads t.lock found;
 }
 
 abbrev part_lost : Thunk → ℕ → PartState → PartState
-part_lost t found p = record p { reads = holds_named (cell_read p.reads t.lock found) found }
+part_lost t found p = record p { reads = cell_read p.reads t.lock found }
 
 hold_won : (t : Thunk) (d found : ℕ) (p : PartState) → found == t.word ≡ true → hold_after t d p found ≡ part_won t d found p
 hold_won t d found p e = ap (λ (b : Bool). if b then part_won t d found p else part_lost t found p) e

@@ -28,31 +28,35 @@ use Rattle.std.proofs.lemmas.Bool.{true≢false}
 use Rattle.machine_states.specs.structure_laws.specs.Meaning.{Meaning}
 use Rattle.machine_states.specs.runner_parts.specs.declared.event.EventKind.{EventKind}
 use Rattle.machine_states.specs.runner_parts.specs.declared.event.EventKind.TheVariants as kinds
-use Rattle.machine_states.specs.runner_parts.specs.State.{RunState, PartState}
+use Rattle.machine_states.specs.runner_parts.specs.State.{RunState, PartState, NodesState}
 use Rattle.machine_states.specs.runner_steps.specs.Sections.{line_limit, is_open_run, next_of, thunk_of, line_of}
 use Rattle.machine_states.specs.runner_parts.specs.declared.entries.Published.{Published}
 use Rattle.machine_states.specs.runner_parts.specs.Tests.{has}
 use Rattle.machine_states.specs.runner_steps.specs.InRun.{stamp_after, last_clock, can_raise, can_hold, nested_hold_ask, release_ask}
 use Rattle.machine_states.specs.runner_steps.specs.Asks.{asks, sizes_for, ask_by, outside_ask, line_ask, opening_ask}
-use Rattle.machine_states.specs.runner_steps.specs.AfterInRun.{opened_more, over_if, goes_on, agrees, with_run, ended_more, run_over, lock_committed, word_committed, is_of_lock, place_of, reply_word_of}
-use Rattle.machine_states.specs.runner_parts.specs.Lists.{cell_read, learned}
+use Rattle.machine_states.specs.runner_steps.specs.AfterInRun.{opened_more, kept_unless, retired_if, goes_on, agrees, with_run, ended_more, run_over, word_committed, place_of, reply_word_of}
+use Rattle.machine_states.specs.runner_parts.specs.Lists.{cell_read, learned, descriptor_retired}
 use Rattle.machine_states.specs.runner_steps.specs.After.{line_after, after_by, stepped}
 use Rattle.version_words.specs.declared.view.View.{View}
 use Rattle.runner_block.specs.declared.place.RunPlace.{RunPlace}
 use Rattle.runner_block.specs.declared.block.Block.{Block}
 use Rattle.version_words.specs.Naming.{load_of}
+use Rattle.runner_block.specs.Kept.{KeptState, published_as, over_in}
+use Rattle.runner_block.specs.Blocks.{lists_released, block_released}
 use Rattle.version_words.specs.RunnerState.{RunnerState, told_part, told_published}
 use Rattle.version_words.specs.TableState.{TableState, IsOf}
 use Rattle.version_words.specs.Place.{IsPlaced, HasEpoch, is_ending, next_log}
 use Rattle.version_words.specs.Kept.{IsKept}
 use Rattle.version_words.specs.Events.{met_by, Makes, seen_seat}
 use Rattle.version_words.proofs.Splits.{learns}
+use Rattle.version_words.proofs.Told.{told_read}
 use Rattle.version_words.proofs.Asked.{unless_gone, tested}
 use Rattle.version_words.proofs.Keeps.{KeepsPart, no_epoch, was_part, then_kept}
 use Rattle.version_words.proofs.Epochs.{is_epoch, goes_epoch, ended_epoch, epoch_if}
 use Rattle.machine_states.proofs.Steps.{some_same, asked_fits}
 
 -- the kinds of step that are made in a run alone, once it has loaded its opening, and that leave the lists as they are
+-- and the log; but the release with which the run is over retires the own section's descriptor
 abbrev pub is_quiet : EventKind → Bool
 is_quiet (kinds.LoadCell None) = true
 is_quiet kinds.ExchangeCell = true
@@ -78,6 +82,15 @@ abbrev pub is_ender : EventKind → Bool
 is_ender kinds.SetDone = true
 is_ender kinds.Release = true
 is_ender _ = false
+
+-- the release of a lock
+abbrev pub is_release : EventKind → Bool
+is_release kinds.Release = true
+is_release _ = false
+
+no_release : (k : EventKind) → is_ender k ≡ false → is_release k ≡ false
+no_release kinds.Release n = absurd (true≢false n)
+no_release _ n = refl
 
 ender_quiet : (k : EventKind) → is_ender k ≡ true → is_quiet k ≡ true
 ender_quiet kinds.SetDone e = refl
@@ -150,10 +163,6 @@ opened_run m l rs r k p x e h = let b = by_run m l rs r k p p.run x e (unless_go
 pub step_is : (m : Meaning) (l : Layout) (k : EventKind) (p : PartState) (found : ℕ) (h : HasOpenRun p) → stepped m l k p found ≡ line_after m l k p h.run (next_of m h.run) found
 step_is m l k p found h = ap (λ (o : Option RunState). after_by m l k p o found) h.there ∙ ap (λ (b : Bool). if b then line_after m l k p h.run (next_of m h.run) found else opened_more p h.run found) h.ready
 
-over_published : (o : Option Published) (descriptor : ℕ) → told_published (over_if o descriptor) ≡ told_published o
-over_published None descriptor = refl
-over_published (Some x) descriptor = refl
-
 -- the lists stay
 told_same : (b : Bool) (p q r : PartState) → told_part p ≡ told_part r → told_part q ≡ told_part r → told_part (if b then p else q) ≡ told_part r
 told_same true p q r e e' = e
@@ -163,28 +172,37 @@ module _ (m : Meaning) (l : Layout) (p : PartState) (q : RunState) (micro : Micr
   knows_more : (request : ℕ) (reply : Bool) (number : ℕ) → told_part (record p { records = learned p.records request reply number }) ≡ told_part p
   knows_more request reply number = ap (λ (n : ℕ). record (told_part p) { records = record { known = []; finished = []; events = 0; won = 0; epoch_seen = 0; crossed = false; crosses = false; left = []; splits = n; joined = []; only_loads = false } }) (learns p.records request reply number)
 
-  -- a run that is over leaves them, and the section that the code keeps as published
-  over_told : (p' : PartState) (q' : RunState) → told_part (run_over m l p' q') ≡ told_part p'
-  over_told p' q' = ap (λ (o : Option Published). record (told_part p') { published = o }) (over_published p'.published q'.descriptor)
-
   -- a quiet step leaves the lists
-  quiet_lists : (k : EventKind) → is_inner k ≡ true → told_part (line_after m l k p q micro found) ≡ told_part p
-  quiet_lists kinds.Commit e = told_same (is_of_lock micro) (lock_committed m l p q found) (word_committed m l p q found) p refl refl
-  quiet_lists kinds.OutcomeCommit e = refl
-  quiet_lists (kinds.LoadCell None) e = refl
-  quiet_lists kinds.ExchangeCell e = refl
-  quiet_lists kinds.SetDone e = refl
-  quiet_lists kinds.Release e = let after_release = record p { reads = cell_read p.reads (place_of micro) found } in told_same (is_end (next_of m (ended_more q))) (run_over m l after_release (ended_more q)) (with_run after_release (ended_more q)) p (over_told after_release (ended_more q)) refl
-  quiet_lists kinds.ClockLoad e = refl
-  quiet_lists kinds.StampExchange e = let stamp = written_once found (stamp_after q.word) in let request = (thunk_of q.opened).request in
+  quiet_lists : (k : EventKind) → is_inner k ≡ true → is_release k ≡ false → told_part (line_after m l k p q micro found) ≡ told_part p
+  quiet_lists kinds.Commit e n = refl
+  quiet_lists kinds.OutcomeCommit e n = refl
+  quiet_lists (kinds.LoadCell None) e n = refl
+  quiet_lists kinds.ExchangeCell e n = refl
+  quiet_lists kinds.SetDone e n = refl
+  quiet_lists kinds.Release e n = absurd (true≢false n)
+  quiet_lists kinds.ClockLoad e n = refl
+  quiet_lists kinds.StampExchange e n = let stamp = written_once found (stamp_after q.word) in let request = (thunk_of q.opened).request in
       told_same (nat_lt q.word last_clock) (record p { run = Some (goes_on m l q stamp); records = learned p.records request false stamp }) p p (knows_more request false stamp) refl
-  quiet_lists kinds.ClockRaise e = refl
-  quiet_lists kinds.ReplyExchange e = knows_more (thunk_of q.opened).request true (written_once found (reply_word_of micro))
-  quiet_lists kinds.NestedLoad e = refl
-  quiet_lists kinds.NestedHold e = refl
-  quiet_lists kinds.OutcomeLoad e = refl
-  quiet_lists (kinds.LoadCell (Some place)) e = absurd (false_true e)
-  quiet_lists _ e = absurd (false_true e)
+  quiet_lists kinds.ClockRaise e n = refl
+  quiet_lists kinds.ReplyExchange e n = knows_more (thunk_of q.opened).request true (written_once found (reply_word_of micro))
+  quiet_lists kinds.NestedLoad e n = refl
+  quiet_lists kinds.NestedHold e n = refl
+  quiet_lists kinds.OutcomeLoad e n = refl
+  quiet_lists (kinds.LoadCell (Some place)) e n = absurd (false_true e)
+  quiet_lists _ e n = absurd (false_true e)
+
+-- a run that is over has its own section's descriptor in limbo, as the code has
+over_some : (b : Bool) (p : PartState) (x : Published) (d : ℕ) → record (told_part p) { published = (if b then None else published_as (Some x.descriptor)); descriptors = (if b then descriptor_retired (told_part p).descriptors d else (told_part p).descriptors) }
+    ≡ told_part (record p { published = (if b then None else Some x); descriptors = (if b then descriptor_retired p.descriptors d else p.descriptors) })
+over_some true p x d = refl
+over_some false p x d = refl
+
+over_lists : (p : PartState) (o : Option Published) (d : ℕ) → over_in (record (told_part p) { published = told_published o }) d ≡ told_part (record p { published = kept_unless o d; descriptors = retired_if p.descriptors o d })
+over_lists p None d = refl
+over_lists p (Some x) d = over_some (x.descriptor == d) p x d
+
+over_told : (m : Meaning) (l : Layout) (p : PartState) (q : RunState) → over_in (told_part p) q.descriptor ≡ told_part (run_over m l p q)
+over_told m l p q = over_lists p p.published q.descriptor
 
 -- the place of a run with these words
 pub same_place : (kept : RunPlace) (q y : RunState) → y.descriptor ≡ q.descriptor → y.opened ≡ q.opened → y.trail ≡ q.trail → y.made ≡ q.made → y.worn ≡ q.worn → IsPlaced kept q → IsPlaced kept y
@@ -192,6 +210,7 @@ same_place kept q y d o t a w is = record {
   descriptor = is.descriptor ∙ sym d;
   some = subst (λ (xs : List ℕ). 0 < length xs) (sym o) is.some;
   request = λ some. subst (λ (xs : List ℕ). 1 < length xs → kept.request ≡ slice_index xs 1 % 2 ^ 32) (sym o) is.request some;
+  lock = λ some. subst (λ (xs : List ℕ). 2 < length xs → kept.lock ≡ slice_index xs 2 % 2 ^ 32) (sym o) is.lock some;
   agreed = is.agreed ∙ ap length (sym t);
   making = is.making ∙ ap is_some (sym a);
   worn = is.worn ∙ sym w;
@@ -220,7 +239,7 @@ abbrev pub at_end : RunPlace → RunPlace
 at_end kept = record kept { inside = false }
 
 at_end_placed : (kept : RunPlace) (q : RunState) → IsPlaced kept q → IsPlaced (at_end kept) q
-at_end_placed kept q is = record { descriptor = is.descriptor; some = is.some; request = is.request; agreed = is.agreed; making = is.making; worn = is.worn }
+at_end_placed kept q is = record { descriptor = is.descriptor; some = is.some; request = is.request; lock = is.lock; agreed = is.agreed; making = is.making; worn = is.worn }
 
 module _ (m : Meaning) (l : Layout) (p : PartState) (q : RunState) (there : p.run ≡ Some q) (micro : Micro) (found : ℕ) (kept : RunPlace) (is : IsPlaced kept q) where
   goes_placed : (word : ℕ) → PlacesRun kept q.made (Some (goes_on m l q word))
@@ -263,7 +282,7 @@ module _ (m : Meaning) (l : Layout) (p : PartState) (q : RunState) (there : p.ru
   stays_open _ e n none = false_true e
 
   commit_open : (k : EventKind) → is_commit k ≡ true → (line_after m l k p q micro found).run ≡ None → ⊥
-  commit_open kinds.Commit e none = some_if (is_of_lock micro) (lock_committed m l p q found) (word_committed m l p q found) (λ h. none-some (agrees m l q (written_once found q.word)) (sym h)) (λ h. none-some (agrees m l q (written_once found q.word)) (sym h)) none
+  commit_open kinds.Commit e none = none-some (agrees m l q (written_once found q.word)) (sym none)
   commit_open kinds.OutcomeCommit e none = none-some (agrees m l q (written_once found q.word)) (sym none)
   commit_open _ e none = false_true e
 
@@ -281,13 +300,14 @@ module _ (m : Meaning) (l : Layout) (p : PartState) (q : RunState) (there : p.ru
     descriptor = is.descriptor;
     some = is.some;
     request = is.request;
+    lock = is.lock;
     agreed = (let a = is.agreed in let b = length-append q.trail (word ∷ []) in omega (arith, a, b));
     making = is.making;
     worn = is.worn;
   }) refl
 
   commit_place : (k : EventKind) → is_commit k ≡ true → PlacesRun one_more q.made (line_after m l k p q micro found).run
-  commit_place kinds.Commit e = run_if one_more q.made (is_of_lock micro) (lock_committed m l p q found) (word_committed m l p q found) (agrees_placed (written_once found q.word)) (agrees_placed (written_once found q.word))
+  commit_place kinds.Commit e = agrees_placed (written_once found q.word)
   commit_place kinds.OutcomeCommit e = agrees_placed (written_once found q.word)
   commit_place _ e = absurd (false_true e)
 
@@ -310,7 +330,7 @@ module _ (m : Meaning) (l : Layout) (p : PartState) (q : RunState) (there : p.ru
   quiet_epoch goes _ e n = absurd (false_true e)
 
   commit_epoch : ((word : ℕ) → HasEpoch m epoch (Some (agrees m l q word))) → (k : EventKind) → is_commit k ≡ true → HasEpoch m epoch (line_after m l k p q micro found).run
-  commit_epoch agree kinds.Commit e = epoch_if m epoch (is_of_lock micro) (lock_committed m l p q found) (word_committed m l p q found) (agree (written_once found q.word)) (agree (written_once found q.word))
+  commit_epoch agree kinds.Commit e = agree (written_once found q.word)
   commit_epoch agree kinds.OutcomeCommit e = agree (written_once found q.word)
   commit_epoch agree _ e = absurd (false_true e)
 
@@ -431,8 +451,8 @@ module _ (m : Meaning) (l : Layout) (k : EventKind) (kept : Block) (p : PartStat
   placed = was.place.run q h.there
 
   -- the hand has the same slots, so the slot of a Make too
-  hand_stays : (place : RunPlace) → PlacesRun place q.made p'.run → told_part p' ≡ told_part p → (y : RunState) (slot : ℕ) → p'.run ≡ Some y → y.made ≡ Some slot → has p'.nodes.hand slot ≡ true
-  hand_stays place run same y slot there made = ap (λ (z : PartState). has z.nodes.hand slot) same ∙ was.place.in_hand q slot h.there (sym (run y there).1 ∙ made)
+  hand_stays : (place : RunPlace) → PlacesRun place q.made p'.run → p'.nodes ≡ p.nodes → (y : RunState) (slot : ℕ) → p'.run ≡ Some y → y.made ≡ Some slot → has p'.nodes.hand slot ≡ true
+  hand_stays place run same y slot there made = ap (λ (n : NodesState). has n.hand slot) same ∙ was.place.in_hand q slot h.there (sym (run y there).1 ∙ made)
 
   goes_part : (kept' : Block) → kept'.place.inside ≡ kept.place.inside → is_ender k ≡ false → kept'.lists.part ≡ told_part p' → PlacesRun kept'.place q.made p'.run → (p'.run ≡ None → ⊥)
       → told_part p' ≡ told_part p → HasEpoch m kept'.place.epoch p'.run → KeepsPart m kept' p'
@@ -441,7 +461,7 @@ module _ (m : Meaning) (l : Layout) (k : EventKind) (kept : Block) (p : PartStat
     place = record {
       run = λ y e. (run y e).0;
       outside = λ none. absurd (goes none);
-      in_hand = hand_stays kept'.place run same;
+      in_hand = hand_stays kept'.place run (ap (λ (z : PartState). z.nodes) same);
     };
     run = record { ending = λ y e ready closed. absurd (goes_inside m l kept p q k x was h.there h.ready n asked (sym inside ∙ closed)) };
     epoch = epoch;
@@ -453,29 +473,59 @@ module _ (m : Meaning) (l : Layout) (k : EventKind) (kept : Block) (p : PartStat
   -- after a step of a run that leaves the lists and the log
   stays_part : is_quiet k ≡ true → is_ender k ≡ false → KeepsPart m kept p'
   stays_part quiet n =
-      let same = quiet_lists m l p q (next_of m q) found k (quiet_inner k quiet) in
+      let same = quiet_lists m l p q (next_of m q) found k (quiet_inner k quiet) (no_release k n) in
       goes_part kept refl n (was.lists ∙ sym same) (stays_place m l p q h.there (next_of m q) found kept.place placed k quiet n) (stays_open m l p q h.there (next_of m q) found kept.place placed k quiet n) same
       (quiet_epoch m l p q h.there (next_of m q) found kept.place.epoch was_epoch (λ word. goes_epoch m l p.nodes.free q k x (quiet_other k quiet) asked h.ready kept.place.epoch (goes_on m l q word) q.trail refl refl) k quiet n)
 
   -- after a commit of a loaded word
   commit_part : is_commit k ≡ true → KeepsPart m (record kept { place = record (kept.place) { agreed = kept.place.agreed + 1 } }) p'
   commit_part commits =
-      let same = quiet_lists m l p q (next_of m q) found k (commit_inner k commits) in
+      let same = quiet_lists m l p q (next_of m q) found k (commit_inner k commits) (no_release k (commit_goes k commits)) in
       goes_part (record kept { place = record (kept.place) { agreed = kept.place.agreed + 1 } }) refl (commit_goes k commits) (was.lists ∙ sym same) (commit_place m l p q h.there (next_of m q) found kept.place placed k commits)
       (commit_open m l p q h.there (next_of m q) found kept.place placed k commits) same
       (commit_epoch m l p q h.there (next_of m q) found kept.place.epoch was_epoch (λ word. goes_epoch m l p.nodes.free q k x (commit_other k commits) asked h.ready kept.place.epoch (agrees m l q word) (q.trail ++ word ∷ []) refl refl) k commits)
 
   -- after a step of the end
-  ends_part : is_ender k ≡ true → KeepsPart m (record kept { place = at_end kept.place }) p'
-  ends_part ender =
-      let same = quiet_lists m l p q (next_of m q) found k (quiet_inner k (ender_quiet k ender)) in
+  ends_part : is_ender k ≡ true → (kept' : KeptState) → kept'.part ≡ told_part p' → p'.nodes ≡ p.nodes → KeepsPart m (record { lists = kept'; place = at_end kept.place }) p'
+  ends_part ender kept' lists nodes =
       let run = ends_place m l p q h.there (next_of m q) found kept.place placed k ender in
       record {
-        lists = was.lists ∙ sym same;
-        place = record { run = λ y e. (run y e).0; outside = λ none. refl; in_hand = hand_stays (at_end kept.place) run same };
+        lists = lists;
+        place = record { run = λ y e. (run y e).0; outside = λ none. refl; in_hand = hand_stays (at_end kept.place) run nodes };
         run = record { ending = λ y e ready closed. ends_run m l p q (next_of m q) found k ender (ender_ends m l p.nodes.free q k ender (next_of m q) x asked) y e };
         epoch = ender_epoch m l p q h.there (next_of m q) found kept.place.epoch was_epoch k ender;
       }
+
+  -- after the done word was set, which leaves the lists
+  done_part : is_ender k ≡ true → is_release k ≡ false → KeepsPart m (record kept { place = at_end kept.place }) p'
+  done_part ender n =
+      let same = quiet_lists m l p q (next_of m q) found k (quiet_inner k (ender_quiet k ender)) n in
+      ends_part ender kept.lists (was.lists ∙ sym same) (ap (λ (z : PartState). z.nodes) same)
+
+-- after a release, of which the last one, of the section's own lock, ends the run
+module _ (m : Meaning) (l : Layout) (kept : Block) (p : PartState) (found place : ℕ) (h : HasOpenRun p) (x : Spot × Access) (asked : line_ask m l kinds.Release p.nodes.free h.run (next_of m h.run) ≡ Some x) (was : KeepsPart m kept p)
+    (last : is_end (next_of m (ended_more h.run)) ≡ place == kept.place.lock) where
+  abbrev read : PartState
+  read = record p { reads = cell_read p.reads (place_of (next_of m h.run)) found }
+
+  abbrev end : RunState
+  end = ended_more h.run
+
+  lists_by : (b : Bool) → (lists_released kept.lists kept.place.descriptor b).part ≡ told_part (if b then run_over m l read end else with_run read end)
+  lists_by true = (λ i. over_in (was.lists i) ((was.place.run h.run h.there).descriptor i)) ∙ over_told m l read end
+  lists_by false = was.lists
+
+  nodes_by : (b : Bool) → (if b then run_over m l read end else with_run read end).nodes ≡ p.nodes
+  nodes_by true = refl
+  nodes_by false = refl
+
+  released_part : KeepsPart m (block_released kept place) (line_after m l kinds.Release p h.run (next_of m h.run) found)
+  released_part = ends_part m l kinds.Release kept p found h x asked was refl (lists_released kept.lists kept.place.descriptor (place == kept.place.lock))
+      (ap (λ (b : Bool). (lists_released kept.lists kept.place.descriptor b).part) (sym last) ∙ lists_by (is_end (next_of m end))) (nodes_by (is_end (next_of m end)))
+
+released_room : (lists : KeptState) (descriptor : ℕ) (b : Bool) → (lists_released lists descriptor b).room ≡ lists.room
+released_room lists descriptor true = refl
+released_room lists descriptor false = refl
 
 line_by : (m : Meaning) (l : Layout) (k : EventKind) (free : List ℕ) (q : RunState) (x : Spot × Access) (b : Bool) → opening_ask k q ≡ None
     → (if b then line_ask m l k free q (next_of m q) else opening_ask k q) ≡ Some x → line_ask m l k free q (next_of m q) ≡ Some x
@@ -513,9 +563,21 @@ module _ {T : Type 0} (mean : T → Meaning) (s : T) (k : EventKind) (found numb
   pub commit_kept : is_commit k ≡ true → IsKept mean number (record kept { place = record (kept.place) { agreed = kept.place.agreed + 1 } }) me'
   commit_kept commits = run_kept (record kept { place = record (kept.place) { agreed = kept.place.agreed + 1 } }) refl (commit_part (mean s) me.0.layout k kept me.0.part found opens made.met next_asked before commits)
 
-  -- after a step of the end
-  pub ender_kept : is_ender k ≡ true → IsKept mean number (record kept { place = at_end kept.place }) me'
-  ender_kept ender = run_kept (record kept { place = at_end kept.place }) refl (ends_part (mean s) me.0.layout k kept me.0.part found opens made.met next_asked before ender)
+  -- after the done word was set
+  pub done_set_kept : is_ender k ≡ true → is_release k ≡ false → IsKept mean number (record kept { place = at_end kept.place }) me'
+  done_set_kept ender n = run_kept (record kept { place = at_end kept.place }) refl (done_part (mean s) me.0.layout k kept me.0.part found opens made.met next_asked before ender n)
+
+-- what the code keeps after a release
+module _ {T : Type 0} (mean : T → Meaning) (s : T) (found number : ℕ) (kept : Block) (old_table new_table : TableId) (me me' : Me Thunk (View T)) (live : me.0.structure ≡ Some s)
+    (made : Makes (mean s) kinds.Release found (seen_seat old_table me) (seen_seat new_table me')) (slots : me'.1 ≡ me.1) (was : IsKept mean number kept me) where
+  -- the run that it was of
+  pub releasing : HasOpenRun me.0.part
+  releasing = opens mean s kinds.Release found number kept old_table new_table me me' live made slots was refl
+
+  pub release_kept : (place : ℕ) → is_end (next_of (mean s) (ended_more releasing.run)) ≡ place == kept.place.lock → IsKept mean number (block_released kept place) me'
+  release_kept place last = run_kept mean s kinds.Release found number kept old_table new_table me me' live made slots was refl (block_released kept place) (released_room kept.lists kept.place.descriptor (place == kept.place.lock))
+      (released_part (mean s) me.0.layout kept me.0.part found place releasing made.met (next_asked mean s kinds.Release found number kept old_table new_table me me' live made slots was refl)
+      (was_part mean s kinds.Release found number kept old_table new_table me me' live made slots was) last)
 
 -- what an exchange expects
 abbrev old_of : Access → ℕ
@@ -593,7 +655,7 @@ module _ {T : Type 0} (mean : T → Meaning) (s : T) (place found number : ℕ) 
       then_kept mean s (kinds.LoadCell (Some place)) found number kept old_table new_table me me' live made slots was kept refl
       (subst (KeepsPart (mean s) kept) (sym (ap (λ (o : Option RunState). after_by (mean s) me.0.layout (kinds.LoadCell (Some place)) me.0.part o found) none))
       (record {
-        lists = b.lists;
+        lists = b.lists ∙ sym (told_read (mean s) place found me.0.part);
         place = record { run = b.place.run; outside = b.place.outside; in_hand = b.place.in_hand };
         run = record { ending = b.run.ending };
         epoch = record { opening = b.epoch.opening; retiring = b.epoch.retiring };

@@ -14,6 +14,8 @@ pub mod Shows
 pub mod SeatCalls
 pub mod Stages
 pub mod Inside
+pub mod Last
+pub mod Releases
 pub mod Openings
 pub mod Privates
 pub mod Holds
@@ -21,3 +23,4 @@ pub mod OwnLoads
 pub mod MakeSteps
 pub mod RetireSteps
 pub mod Entries
+pub mod GuardSteps

@@ -1,6 +1,6 @@
 -- The commit of a Make, and the load of the epoch for a retirement.
-use Rattle.std.proofs.Common.{◌≡◌, ℕ, [], ◌+◌, ◌<◌, ◌^◌, ⊎_elim, inl, inr, List, ◌∷◌, ◌++◌, Bool, true, false, refl, sym, ap, subst, ◌∙◌, arith, Option, Some, None, if◌then◌else◌, length-append}
-use Rattle.std.specs.Prelude.{◌==◌, ◌&&◌}
+use Rattle.std.proofs.Common.{◌≡◌, ℕ, [], ◌+◌, ◌<◌, ◌^◌, List, ◌∷◌, ◌++◌, Bool, true, false, refl, sym, ap, subst, ◌∙◌, arith, Option, Some, None, if◌then◌else◌, length-append}
+use Rattle.std.specs.Prelude.{◌==◌}
 use Rattle.std.proofs.lemmas.Option.{none-some}
 use Rattle.atomic_table.specs.Table.{Me}
 use Rattle.atomic_table.specs.Seated.{TableId}
@@ -19,35 +19,31 @@ use Rattle.machine_states.specs.table_words.specs.Limits.{IsWithinLimits}
 use Rattle.machine_states.specs.structure_laws.specs.Meaning.{Meaning}
 use Rattle.machine_states.specs.structure_laws.specs.Laws.{Laws}
 use Rattle.machine_states.specs.runner_parts.specs.declared.event.EventKind.TheVariants as kinds
-use Rattle.machine_states.specs.runner_parts.specs.declared.entries.Published.{Published}
 use Rattle.machine_states.specs.runner_parts.specs.State.{RunState, PartState}
-use Rattle.machine_states.specs.runner_parts.specs.Tests.{has, is_walking}
+use Rattle.machine_states.specs.runner_parts.specs.Tests.{has}
 use Rattle.machine_states.specs.runner_parts.specs.Lists.{slot_made, slot_back}
 use Rattle.machine_states.specs.runner_steps.specs.Sections.{is_open_run, next_of}
-use Rattle.machine_states.specs.runner_steps.specs.Outside.{is_over}
 use Rattle.machine_states.specs.runner_steps.specs.InRun.{make_commit_ask, make_commit_to, epoch_for_retire_ask}
 use Rattle.machine_states.specs.runner_steps.specs.Asks.{asks, ask_by, sizes_for}
 use Rattle.machine_states.specs.runner_steps.specs.AfterInRun.{goes_on, agrees, make_committed}
-use Rattle.machine_states.specs.runner_steps.specs.AfterOutside.{retire_after}
-use Rattle.machine_states.specs.runner_steps.specs.After.{after_by, stepped}
+use Rattle.machine_states.specs.runner_steps.specs.After.{stepped}
 use Rattle.machine_invariant.specs.machine_agreement.specs.machine_epochs.proofs.RunPlaces.{next_in_line}
 use Rattle.machine_invariant.specs.After.{AreAllowed}
 use Rattle.version_words.specs.declared.view.View.{View}
 use Rattle.version_words.specs.ReachedWith.{ReachedWith}
 use Rattle.runner_block.specs.declared.block.Block.{Block}
-use Rattle.runner_block.specs.Kept.{with_part}
-use Rattle.version_words.specs.RunnerState.{RunnerState, told_part, told_published}
+use Rattle.version_words.specs.RunnerState.{RunnerState}
 use Rattle.version_words.specs.TableState.{TableState}
 use Rattle.version_words.specs.Place.{IsPlaced, next_log}
 use Rattle.runner_block.specs.Blocks.{block_made, block_retired}
 use Rattle.version_words.specs.Kept.{IsKept}
 use Rattle.version_words.specs.Events.{met_by, IsEnabled, IsNamed, Makes, step_at, nothing, seen_seat}
-use Rattle.version_words.proofs.Asked.{unless_gone, tested}
-use Rattle.version_words.proofs.Keeps.{KeepsPart, no_epoch, was_part, then_kept}
+use Rattle.version_words.proofs.Asked.{unless_gone}
+use Rattle.version_words.proofs.Keeps.{KeepsPart, was_part, then_kept}
 use Rattle.version_words.proofs.Epochs.{goes_epoch, loaded_epoch}
 use Rattle.version_words.proofs.Founds.{made_word, few_found}
 use Rattle.version_words.proofs.Inside.{PlacesRun, opened_all, goes_inside, log_low, places, step_is}
-use Rattle.version_words.proofs.Privates.{IsOpenFor, Stands, open_inside}
+use Rattle.version_words.proofs.Privates.{IsOpenFor, open_inside}
 use Rattle.version_words.proofs.OwnLoads.{goes_on_part}
 use Rattle.machine_states.proofs.Steps.{some_same}
 use Rattle.version_words.proofs.Shows.{seen_then}
@@ -89,62 +85,27 @@ module _ (m : Meaning) (l : Layout) (rs : List Request) (r : ℕ) (p : PartState
   epoch_spot q (micros.EpochForRetire slot log) e = sym (some_same (spots.Epoch, Loads) x e)
   epoch_spot q _ e = absurd (none-some x e)
 
-  epoch_by : (o : Option RunState) → p.run ≡ o → ask_by m l rs r kinds.EpochForRetire p o ≡ Some x → (x ≡ (spots.Epoch, Loads)) × Stands m l kinds.EpochForRetire p x
-  epoch_by None run e = (sym (tested (is_walking p.stage p.run && is_over p.published) spots.Epoch Loads x e).1, inl run)
+  epoch_by : (o : Option RunState) → p.run ≡ o → ask_by m l rs r kinds.EpochForRetire p o ≡ Some x → (x ≡ (spots.Epoch, Loads)) × IsOpenFor m l kinds.EpochForRetire p x
+  epoch_by None run e = absurd (none-some x e)
   epoch_by (Some q) run e = let h = open_inside m l kinds.EpochForRetire p q (is_open_run q) x refl refl e in
-      (epoch_spot q (next_of m q) h.1, inr (record { open_run = record { run = q; there = run; ready = h.0 }; asks_so = h.1 }))
+      (epoch_spot q (next_of m q) h.1, record { open_run = record { run = q; there = run; ready = h.0 }; asks_so = h.1 })
 
-  epoch_asked : asks m l rs r kinds.EpochForRetire p ≡ Some x → (x ≡ (spots.Epoch, Loads)) × Stands m l kinds.EpochForRetire p x
+  epoch_asked : asks m l rs r kinds.EpochForRetire p ≡ Some x → (x ≡ (spots.Epoch, Loads)) × IsOpenFor m l kinds.EpochForRetire p x
   epoch_asked e = epoch_by p.run refl (unless_gone (sizes_for m l rs) p.gone (ask_by m l rs r kinds.EpochForRetire p p.run) x e)
 
 pub epoch_named : {T : Type 0} (m : Meaning) (t : TableState T) (r : RunnerState T) → IsEnabled m kinds.EpochForRetire r
     → IsNamed m (λ m' l' rs' p' made. kinds.EpochForRetire) r (step_at m t spots.Epoch 0 0 nothing) (spots.Epoch, Loads)
 epoch_named m t r enabled = record { asked = enabled.asked ∙ ap Some (epoch_asked m r.layout r.requests r.number r.part enabled.met enabled.asked).0; plain = refl }
 
-retired_runs : (p : PartState) (o : Option Published) (found : ℕ) → (retire_after p o found).run ≡ p.run
-retired_runs p None found = refl
-retired_runs p (Some x) found = refl
-
-told_retired : (p : PartState) (o : Option Published) (found : ℕ) → retire_after (told_part p) (told_published o) found ≡ told_part (retire_after p o found)
-told_retired p None found = refl
-told_retired p (Some x) found = refl
-
-module _ (m : Meaning) (l : Layout) (found : ℕ) (kept : Block) (p : PartState) (x : Spot × Access) (was : KeepsPart m kept p) where
-  -- outside a run
-  retired_part : p.run ≡ None → KeepsPart m (block_retired kept found) (retire_after p p.published found)
-  retired_part none =
-      let p' = retire_after p p.published found in
-      let kept' : Block = record kept { lists = with_part kept.lists (retire_after kept.lists.part kept.lists.part.published found) } in
-      let rests = retired_runs p p.published found ∙ none in
-      subst (λ (b : Bool). KeepsPart m (if b then record kept { place = record (kept.place) { epoch = found } } else kept') p') (sym (was.place.outside none)) (record {
-        lists = ap (λ (y : PartState). retire_after y y.published found) was.lists ∙ told_retired p p.published found;
-        place = record {
-          run = λ q e. absurd (none-some q (sym rests ∙ e));
-          outside = λ e. was.place.outside none;
-          in_hand = λ q s e f. absurd (none-some q (sym rests ∙ e));
-        };
-        run = record { ending = λ q e. absurd (none-some q (sym rests ∙ e)) };
-        epoch = no_epoch m kept.place.epoch p'.run (λ q e. none-some q (sym rests ∙ e));
-      })
-
-  in_run_by : (h : IsOpenFor m l kinds.EpochForRetire p x) (b : Bool) → kept.place.inside ≡ b
-      → KeepsPart m (if b then record kept { place = record (kept.place) { epoch = found } } else record kept { lists = with_part kept.lists (retire_after kept.lists.part kept.lists.part.published found) }) (record p { run = Some (goes_on m l h.open_run.run found) })
-  in_run_by h true e = goes_on_part m l kinds.EpochForRetire kept found p h.open_run x found was refl h.asks_so (loaded_epoch m (goes_on m l h.open_run.run found))
-  in_run_by h false e = absurd (goes_inside m l kept p h.open_run.run kinds.EpochForRetire x was h.open_run.there h.open_run.ready refl h.asks_so e)
-
-  epoch_part : Stands m l kinds.EpochForRetire p x → KeepsPart m (block_retired kept found) (stepped m l kinds.EpochForRetire p found)
-  epoch_part at = ⊎_elim
-      (λ (none : p.run ≡ None). subst (KeepsPart m (block_retired kept found)) (sym (ap (λ (o : Option RunState). after_by m l kinds.EpochForRetire p o found) none)) (retired_part none))
-      (λ (h : IsOpenFor m l kinds.EpochForRetire p x). subst (KeepsPart m (block_retired kept found)) (sym (step_is m l kinds.EpochForRetire p found h.open_run)) (in_run_by h kept.place.inside refl)) at
+-- the block after the load of the epoch is that of the part
+epoch_part : (m : Meaning) (l : Layout) (found : ℕ) (kept : Block) (p : PartState) (x : Spot × Access) → KeepsPart m kept p → IsOpenFor m l kinds.EpochForRetire p x → KeepsPart m (block_retired kept found) (stepped m l kinds.EpochForRetire p found)
+epoch_part m l found kept p x was h = subst (KeepsPart m (block_retired kept found)) (sym (step_is m l kinds.EpochForRetire p found h.open_run))
+    (goes_on_part m l kinds.EpochForRetire kept found p h.open_run x found was refl h.asks_so (loaded_epoch m (goes_on m l h.open_run.run found)))
 
 module _ {T : Type 0} (mean : T → Meaning) (s : T) (found number : ℕ) (kept : Block) (old_table new_table : TableId) (me me' : Me Thunk (View T)) (live : me.0.structure ≡ Some s)
     (made : Makes (mean s) kinds.EpochForRetire found (seen_seat old_table me) (seen_seat new_table me')) (slots : me'.1 ≡ me.1) (was : IsKept mean number kept me) where
-  same_room : (b : Bool) → (if b then record kept { place = record (kept.place) { epoch = found } } else record kept { lists = with_part kept.lists (retire_after kept.lists.part kept.lists.part.published found) }).lists.room ≡ kept.lists.room
-  same_room true = refl
-  same_room false = refl
-
   pub epoch_kept : IsKept mean number (block_retired kept found) me'
-  epoch_kept = then_kept mean s kinds.EpochForRetire found number kept old_table new_table me me' live made slots was (block_retired kept found) (same_room kept.place.inside)
+  epoch_kept = then_kept mean s kinds.EpochForRetire found number kept old_table new_table me me' live made slots was (block_retired kept found) refl
       (epoch_part (mean s) me.0.layout found kept me.0.part made.met (was_part mean s kinds.EpochForRetire found number kept old_table new_table me me' live made slots was)
       (epoch_asked (mean s) me.0.layout me.0.requests me.0.number me.0.part made.met made.asked).1)
 
@@ -192,6 +153,7 @@ module _ {T : Type 0} (mean : T → Meaning) (s : T) (spot : Spot) (slot number 
       descriptor = placed.descriptor;
       some = placed.some;
       request = placed.request;
+      lock = placed.lock;
       agreed = (let a = placed.agreed in let b = length-append q.trail (written_once found (slot + 1) ∷ []) in omega (arith, a, b));
       making = refl;
       worn = refl;

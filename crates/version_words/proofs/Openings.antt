@@ -59,19 +59,28 @@ abbrev spot_descriptor : Spot → ℕ
 spot_descriptor (spots.ThunkWord d j) = d
 spot_descriptor _ = 0
 
--- the second word stays when more are loaded
+-- the second word stays when more are loaded, and so does the third
 first_of : (xs : List ℕ) (found : ℕ) → length xs ≡ 12 → slice_index xs 1 % 2 ^ 32 ≡ slice_index (xs ++ found ∷ []) 1 % 2 ^ 32
 first_of [] found e = absurd (omega arith)
 first_of (x ∷ []) found e = absurd (omega arith)
 first_of (x ∷ y ∷ xs) found e = refl
 
+third_of : (xs : List ℕ) (found : ℕ) → length xs ≡ 12 → slice_index xs 2 % 2 ^ 32 ≡ slice_index (xs ++ found ∷ []) 2 % 2 ^ 32
+third_of [] found e = absurd (omega arith)
+third_of (x ∷ []) found e = absurd (omega arith)
+third_of (x ∷ y ∷ []) found e = absurd (omega arith)
+third_of (x ∷ y ∷ z ∷ xs) found e = refl
+
 module _ (kept : RunPlace) (q : RunState) (found descriptor index : ℕ) (is : IsPlaced kept q) (at : index ≡ length q.opened) where
   longer : length (q.opened ++ found ∷ []) ≡ length q.opened + 1
   longer = length-append q.opened (found ∷ [])
 
-  -- the place after one more word, of which the second is the request
+  -- the place after one more word, of which the second is the request and the third the lock
+  abbrev place_by : Bool → Bool → RunPlace
+  place_by second third = if second then record kept { request = found % 2 ^ 32 } else if third then record kept { lock = found % 2 ^ 32 } else kept
+
   abbrev place_after : RunPlace
-  place_after = if index == 1 then record kept { request = found % 2 ^ 32 } else kept
+  place_after = place_by (index == 1) (index == 2)
 
   request_at : (xs : List ℕ) (kept_request : ℕ) → 0 < length xs → (1 < length xs → kept_request ≡ slice_index xs 1 % 2 ^ 32)
       → (if length xs == 1 then found % 2 ^ 32 else kept_request) ≡ slice_index (xs ++ found ∷ []) 1 % 2 ^ 32
@@ -79,13 +88,26 @@ module _ (kept : RunPlace) (q : RunState) (found descriptor index : ℕ) (is : I
   request_at (x ∷ []) n some was = refl
   request_at (x ∷ y ∷ xs) n some was = ap (λ (b : Bool). if b then found % 2 ^ 32 else n) (ne_eqb (suc (suc (length xs))) 1 (λ e. omega arith)) ∙ was (omega arith)
 
-  placed_by : (b : Bool) → (if b then found % 2 ^ 32 else kept.request) ≡ slice_index (q.opened ++ found ∷ []) 1 % 2 ^ 32
-      → IsPlaced (if b then record kept { request = found % 2 ^ 32 } else kept) (record q { opened = q.opened ++ found ∷ [] })
-  placed_by true e = record { descriptor = is.descriptor; some = omega (arith, longer); request = λ some. e; agreed = is.agreed; making = is.making; worn = is.worn }
-  placed_by false e = record { descriptor = is.descriptor; some = omega (arith, longer); request = λ some. e; agreed = is.agreed; making = is.making; worn = is.worn }
+  lock_at : (xs : List ℕ) (kept_lock : ℕ) → 0 < length xs → (2 < length xs → kept_lock ≡ slice_index xs 2 % 2 ^ 32) → 2 < length (xs ++ found ∷ [])
+      → (if length xs == 1 then kept_lock else if length xs == 2 then found % 2 ^ 32 else kept_lock) ≡ slice_index (xs ++ found ∷ []) 2 % 2 ^ 32
+  lock_at [] n some was many = absurd (omega (arith, some))
+  lock_at (x ∷ []) n some was many = absurd (omega (arith, many))
+  lock_at (x ∷ y ∷ []) n some was many = refl
+  lock_at (x ∷ y ∷ z ∷ xs) n some was many =
+      let count = suc (suc (suc (length xs))) in
+      ap (λ (b : Bool). if b then n else if count == 2 then found % 2 ^ 32 else n) (ne_eqb count 1 (λ e. omega (arith, e)))
+      ∙ (ap (λ (b : Bool). if b then found % 2 ^ 32 else n) (ne_eqb count 2 (λ e. omega (arith, e))) ∙ was (omega arith))
+
+  placed_by : (b b' : Bool) → (if b then found % 2 ^ 32 else kept.request) ≡ slice_index (q.opened ++ found ∷ []) 1 % 2 ^ 32
+      → (2 < length (q.opened ++ found ∷ []) → (if b then kept.lock else if b' then found % 2 ^ 32 else kept.lock) ≡ slice_index (q.opened ++ found ∷ []) 2 % 2 ^ 32)
+      → IsPlaced (place_by b b') (record q { opened = q.opened ++ found ∷ [] })
+  placed_by true b' e f = record { descriptor = is.descriptor; some = omega (arith, longer); request = λ some. e; lock = f; agreed = is.agreed; making = is.making; worn = is.worn }
+  placed_by false true e f = record { descriptor = is.descriptor; some = omega (arith, longer); request = λ some. e; lock = f; agreed = is.agreed; making = is.making; worn = is.worn }
+  placed_by false false e f = record { descriptor = is.descriptor; some = omega (arith, longer); request = λ some. e; lock = f; agreed = is.agreed; making = is.making; worn = is.worn }
 
   place_more : IsPlaced place_after (record q { opened = q.opened ++ found ∷ [] })
-  place_more = placed_by (index == 1) (ap (λ (n : ℕ). if n == 1 then found % 2 ^ 32 else kept.request) at ∙ request_at q.opened kept.request is.some is.request)
+  place_more = placed_by (index == 1) (index == 2) (ap (λ (n : ℕ). if n == 1 then found % 2 ^ 32 else kept.request) at ∙ request_at q.opened kept.request is.some is.request)
+      (λ many. ap (λ (n : ℕ). if n == 1 then kept.lock else if n == 2 then found % 2 ^ 32 else kept.lock) at ∙ lock_at q.opened kept.lock is.some is.lock many)
 
   opened_is : opened_place kept descriptor index found ≡ place_after
   opened_is = let some : index == 0 ≡ false = (let a = is.some in grind (arith, nat_tests, at, a)) in
@@ -132,7 +154,7 @@ module _ {T : Type 0} (mean : T → Meaning) (s : T) (descriptor index found num
       (subst (KeepsPart m kept') (sym step)
       (subst (λ (place : RunPlace). KeepsPart m (record kept { place = place }) (record p { run = Some (opened descriptor found) })) place_is
       (opening_part m kept kept.lists (record p { run = Some (opened descriptor found) }) (opened descriptor found) refl was.lists (begun_place kept.place descriptor)
-      (record { descriptor = refl; some = omega arith; request = λ some. absurd (omega arith); agreed = refl; making = refl; worn = refl })
+      (record { descriptor = refl; some = omega arith; request = λ some. absurd (omega arith); lock = λ some. absurd (omega arith); agreed = refl; making = refl; worn = refl })
       (λ ready. absurd (not_open (opened descriptor found) (omega arith) ready)) refl (λ slot e. absurd (none-some slot e)))))
 
   -- what the code keeps when one more thunk word was loaded
@@ -151,12 +173,13 @@ module _ {T : Type 0} (mean : T → Meaning) (s : T) (descriptor index found num
       (subst (λ (place : RunPlace). KeepsPart m (record kept { place = place }) (opened_more p q found)) (sym (opened_is kept.place q found descriptor index is at))
       (opening_part m kept kept.lists (opened_more p q found) (record q { opened = q.opened ++ found ∷ [] }) refl was.lists place (place_more kept.place q found descriptor index is at)
       (λ ready. absurd (not_open (record q { opened = q.opened ++ found ∷ [] }) (omega (arith, more, longer)) ready))
-      (same_epoch (index == 1) ∙ was_epoch.opening q there (omega (arith, more)))
+      (same_epoch (index == 1) (index == 2) ∙ was_epoch.opening q there (omega (arith, more)))
       (λ slot e. was.place.in_hand q slot there e))))
     where
-      same_epoch : (b : Bool) → (if b then record (kept.place) { request = found % 2 ^ 32 } else kept.place).epoch ≡ kept.place.epoch
-      same_epoch true = refl
-      same_epoch false = refl
+      same_epoch : (b b' : Bool) → (if b then record (kept.place) { request = found % 2 ^ 32 } else if b' then record (kept.place) { lock = found % 2 ^ 32 } else kept.place).epoch ≡ kept.place.epoch
+      same_epoch true b' = refl
+      same_epoch false true = refl
+      same_epoch false false = refl
 
   -- the done word is loaded after the thunk words
   done_opens : (q : RunState) (x : Spot × Access) (b : Bool) → (if b then line_ask m l kinds.LoadDone p.nodes.free q (next_of m q) else load_done_ask q) ≡ Some x → (b ≡ false) × (load_done_ask q ≡ Some x)
@@ -179,6 +202,7 @@ module _ {T : Type 0} (mean : T → Meaning) (s : T) (descriptor index found num
         descriptor = is.descriptor;
         some = omega (arith, longer);
         request = λ some. is.request (omega (arith, full)) ∙ first_of q.opened found full;
+        lock = λ some. is.lock (omega (arith, full)) ∙ third_of q.opened found full;
         agreed = is.agreed;
         making = is.making;
         worn = is.worn;

@@ -166,7 +166,7 @@ pub goes_on_part : (m : Meaning) (l : Layout) (k : EventKind) (kept : Block) (ep
 goes_on_part m l k kept epoch p h x found was n asked has_epoch =
     let q = h.run in let is = was.place.run q h.there in
     let place' : RunPlace = record (kept.place) { epoch = epoch } in
-    let is' : IsPlaced place' q = record { descriptor = is.descriptor; some = is.some; request = is.request; agreed = is.agreed; making = is.making; worn = is.worn } in
+    let is' : IsPlaced place' q = record { descriptor = is.descriptor; some = is.some; request = is.request; lock = is.lock; agreed = is.agreed; making = is.making; worn = is.worn } in
     let run : PlacesRun place' q.made (Some (goes_on m l q found)) = places place' q.made (goes_on m l q found) (same_place place' q (goes_on m l q found) refl refl refl refl refl is') refl in
     record {
       lists = was.lists;
@@ -234,7 +234,7 @@ module _ (m : Meaning) (l : Layout) (slot word found : ℕ) (kept : Block) (p : 
     taking_part unmade =
         let q' : RunState = goes_on m l (record q { made = Some slot; worn = false }) found in
         let kept' : Block = block_filling kept slot false in
-        let run : PlacesRun kept'.place (Some slot) (Some q') = places kept'.place (Some slot) q' (record { descriptor = placed.descriptor; some = placed.some; request = placed.request; agreed = placed.agreed; making = refl; worn = refl }) refl in
+        let run : PlacesRun kept'.place (Some slot) (Some q') = places kept'.place (Some slot) q' (record { descriptor = placed.descriptor; some = placed.some; request = placed.request; lock = placed.lock; agreed = placed.agreed; making = refl; worn = refl }) refl in
         record {
           lists = ap (λ (y : PartState). record y { nodes = slot_taken y.nodes slot }) was.lists;
           place = record {

@@ -304,6 +304,7 @@ module _ {T : Type 0} (mean : T → Meaning) (s : T) (slot word number found own
         descriptor = is.descriptor;
         some = is.some;
         request = is.request;
+        lock = is.lock;
         agreed = is.agreed;
         making = is.making;
         worn = ap (λ (b : Bool). b || version_of number == l.version_max) is.worn;

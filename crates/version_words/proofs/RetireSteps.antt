@@ -143,6 +143,7 @@ module _ {T : Type 0} (mean : T → Meaning) (s : T) (spot : Spot) (slot number 
     descriptor = placed.descriptor;
     some = placed.some;
     request = placed.request;
+    lock = placed.lock;
     agreed = (let a = placed.agreed in let b = length-append q.trail (written_once found (slot + 1) ∷ []) in omega (arith, a, b));
     making = placed.making;
     worn = placed.worn;

@@ -11,13 +11,12 @@ use Rattle.machine_states.specs.runner_parts.specs.declared.event.EventKind.{Eve
 use Rattle.machine_states.specs.runner_parts.specs.declared.event.EventKind.TheVariants as kinds
 use Rattle.machine_states.specs.epoch_core.specs.declared.stage.Stage.{Stage}
 use Rattle.machine_states.specs.epoch_core.specs.declared.stage.Stage.TheVariants as stages
-use Rattle.machine_states.specs.runner_parts.specs.declared.entries.Published.{Published}
 use Rattle.machine_states.specs.runner_parts.specs.State.{RunState, PartState, RecordsState}
 use Rattle.machine_states.specs.runner_steps.specs.Sections.{is_open_run, next_of, thunk_of}
 use Rattle.machine_states.specs.body_terms.specs.Run.{written_once}
 use Rattle.machine_states.specs.runner_steps.specs.InRun.{stamp_after, last_clock}
 use Rattle.machine_states.specs.runner_parts.specs.Lists.{learned}
-use Rattle.machine_states.specs.runner_steps.specs.AfterOutside.{scan_one_after, advance_after, retire_after}
+use Rattle.machine_states.specs.runner_steps.specs.AfterOutside.{scan_one_after, advance_after}
 use Rattle.machine_states.specs.runner_steps.specs.AfterInRun.{goes_on, fill_loaded, make_committed, stamp_agreed}
 use Rattle.machine_states.specs.runner_steps.specs.After.{outside_after, line_after, after_by, stepped, noted, after}
 
@@ -51,10 +50,6 @@ advances : (p : PartState) (stage : Stage) → splits (advance_after p stage) �
 advances p (stages.Scanning x next clear) = chosen _ _ p (splits p) refl refl
 advances p _ = refl
 
-retires : (p : PartState) (o : Option Published) (found : ℕ) → splits (retire_after p o found) ≡ splits p
-retires p None found = refl
-retires p (Some x) found = refl
-
 module _ (m : Meaning) (l : Layout) where
   outside : (k : EventKind) (p : PartState) (found : ℕ) → is_split k ≡ false → splits (outside_after m l k p found) ≡ splits p
   outside kinds.Split p found e = absurd (true≢false e)
@@ -67,7 +62,6 @@ module _ (m : Meaning) (l : Layout) where
   outside (kinds.Hold thunk d) p found e = chosen _ _ _ (splits p) refl refl
   outside (kinds.LoadThunk (Some d)) p found e = refl
   outside (kinds.LoadThunk None) p found e = refl
-  outside kinds.EpochForRetire p found e = retires p p.published found
   outside _ p found e = refl
 
   fills : (slot : ℕ) (p : PartState) (q : RunState) (made : Option ℕ) (found : ℕ) → splits (fill_loaded m l slot p q made found) ≡ splits p
@@ -83,7 +77,6 @@ module _ (m : Meaning) (l : Layout) where
       chosen (nat_lt q.word last_clock) (record p { run = Some (goes_on m l q stamp); records = learned p.records request false stamp }) p (splits p) (learns p.records request false stamp) refl
 
   inside : (k : EventKind) (p : PartState) (q : RunState) (micro : Micro) (found : ℕ) → splits (line_after m l k p q micro found) ≡ splits p
-  inside kinds.Commit p q micro found = chosen _ _ _ (splits p) refl refl
   inside (kinds.PrivateLoad slot word) p q micro found = fills slot p q q.made found
   inside kinds.MakeCommit p q micro found = makes p q q.made found
   inside kinds.Release p q micro found = chosen _ _ _ (splits p) refl refl

@@ -24,6 +24,8 @@ use Rattle.machine_states.specs.epoch_core.specs.declared.stage.Stage.TheVariant
 use Rattle.machine_states.specs.runner_parts.specs.declared.entries.Published.{Published}
 use Rattle.machine_states.specs.runner_parts.specs.Tests.{has, is_walking, is_resting, is_outside, is_between}
 use Rattle.machine_states.specs.runner_parts.specs.State.{RunState, PartState}
+use Rattle.machine_states.specs.runner_steps.specs.Guards.{is_numbered, load_guard_by}
+use Rattle.machine_states.specs.guard_core.specs.State.{word_of}
 use Rattle.machine_states.specs.runner_steps.specs.Outside.{Ask, when, enter_load_ask, announce_ask, enter_again_by, scan_one_ask, advance_ask, descriptor_spot}
 use Rattle.machine_states.specs.epoch_core.specs.State.{last_epoch}
 use Rattle.machine_states.specs.runner_steps.specs.Asks.{ask_by, outside_ask, fitting, sizes_for}
@@ -85,9 +87,20 @@ module _ {T : Type 0} (m : Meaning) (r : RunnerState T) where
     may_load_entry request true is few = at_stage stages.Idle (kinds.LoadEntry request true) (spots.Reply request, Loads) is (ap (λ (b : Bool). when b (spots.Reply request) Loads) ((λ i. is_resting (is.at i) (is.resting i)))) few
     may_load_entry request false is few = at_stage stages.Idle (kinds.LoadEntry request false) (spots.Stamp request, Loads) is (ap (λ (b : Bool). when b (spots.Stamp request) Loads) ((λ i. is_resting (is.at i) (is.resting i)))) few
 
-  pub may_idle : (epoch : ℕ) → IsAt r (stages.Entered epoch) None → IsEnabled m kinds.Idle r
-  may_idle epoch is = at_stage None (stages.Entered epoch) kinds.Idle (spots.Announcement r.number, Stores 0) is
-      (ap (λ (b : Bool). when b (spots.Announcement r.number) (Stores 0)) (λ i. is_walking (is.at i) (is.resting i) && (is_none (is.published i) && not (is.settled i)))) is.seated
+  pub may_idle : (epoch : ℕ) → IsAt r (stages.Entered epoch) None → r.part.guards.named ≡ None → IsEnabled m kinds.Idle r
+  may_idle epoch is unguarded = at_stage None (stages.Entered epoch) kinds.Idle (spots.Announcement r.number, Stores 0) is
+      (ap (λ (b : Bool). when b (spots.Announcement r.number) (Stores 0)) (λ i. is_walking (is.at i) (is.resting i) && (is_none (is.published i) && (is_none (unguarded i) && not (is.settled i))))) is.seated
+
+  -- an entered runner without a published section moves its guard
+  pub may_guard : (epoch : ℕ) (d : Option ℕ) → IsAt r (stages.Entered epoch) None → is_numbered r.layout d ≡ true → IsEnabled m (kinds.Guard d) r
+  may_guard epoch d is numbered = at_stage None (stages.Entered epoch) (kinds.Guard d) (spots.Guard r.number, Stores (word_of d)) is
+      (ap (λ (b : Bool). when b (spots.Guard r.number) (Stores (word_of d))) (λ i. is_walking (is.at i) (is.resting i) && (is_none (is.published i) && numbered i))) is.seated
+
+  -- an idle one reads the next guard word of its sweep
+  pub may_load_guard : (n : ℕ) → IsAt r stages.Idle None → length r.part.guards.looked ≡ n → n ≤ r.layout.runners → IsEnabled m (kinds.LoadGuard n) r
+  may_load_guard n is next few = at_stage None stages.Idle (kinds.LoadGuard n) (spots.Guard n, Loads) is
+      (ap (load_guard_by r.layout n (length r.part.guards.looked)) is.at
+      ∙ ap (λ (b : Bool). when b (spots.Guard n) Loads) (let e : n == length r.part.guards.looked && nat_le n r.layout.runners ≡ true = grind (arith, nat_tests, next, few) in e)) few
 
   pub may_split : (splits : ℕ) → IsKeeper r splits → splits < r.layout.runners → IsEnabled m kinds.Split r
   may_split splits is few = enabled kinds.Split (spots.Seat, Loads) is.present is.resting
@@ -183,6 +196,14 @@ module _ {T : Type 0} (m : Meaning) (found : ℕ) (r r' : RunnerState T) (sectio
       made_at m kinds.Advance found r r' made is.resting stages.Idle section is.seated
       (ap (λ (q : PartState). q.gone) part ∙ is.present) (ap (λ (q : PartState). q.run) part ∙ is.resting) (ap (λ (q : PartState). q.stage) part) (ap (λ (q : PartState). q.published) part ∙ is.published)
       (ap (λ (q : PartState). is_between q.reads.look) part ∙ is.settled)
+
+-- an entered runner that moved its guard, and an idle one that read a guard word
+module _ {T : Type 0} (m : Meaning) (found : ℕ) (r r' : RunnerState T) (section : Option Published) where
+  pub then_guarded : (epoch : ℕ) (d : Option ℕ) → Makes m (kinds.Guard d) found r r' → IsAt r (stages.Entered epoch) section → IsAt r' (stages.Entered epoch) section
+  then_guarded epoch d made is = made_at m (kinds.Guard d) found r r' made is.resting (stages.Entered epoch) section is.seated is.present is.resting is.at is.published is.settled
+
+  pub then_looked : (n : ℕ) → Makes m (kinds.LoadGuard n) found r r' → IsAt r stages.Idle section → IsAt r' stages.Idle section
+  then_looked n made is = made_at m (kinds.LoadGuard n) found r r' made is.resting stages.Idle section is.seated is.present is.resting is.at is.published is.settled
 
 -- a keeper that splits off a worker
 module _ {T : Type 0} (m : Meaning) (r r' : RunnerState T) (splits : ℕ) where

@@ -1,6 +1,6 @@
 -- What a runner's code keeps of its part after an event.
 use Rattle.std.specs.Prelude.{◌==◌, ◌&&◌, not, nat_lt, nat_le}
-use Rattle.std.proofs.Common.{◌≡◌, ℕ, ◌+◌, [], Bool, true, false, refl, ap, ◌∙◌, Option, None, if◌then◌else◌, sym}
+use Rattle.std.proofs.Common.{◌≡◌, ℕ, ◌+◌, ◌-◌, List, [], ◌∷◌, ◌++◌, Bool, true, false, refl, ap, ◌∙◌, Option, None, if◌then◌else◌, sym}
 use Rattle.machine_states.specs.epoch_core.specs.small_lemmas.proofs.Bools.{false_not_true as false_true}
 use Rattle.machine_states.specs.table_words.specs.declared.layout.Layout.{Layout}
 use Rattle.machine_states.specs.table_words.specs.declared.spot.Spot.{Spot}
@@ -13,7 +13,12 @@ use Rattle.machine_states.specs.epoch_core.specs.declared.stage.Stage.{Stage}
 use Rattle.machine_states.specs.epoch_core.specs.declared.stage.Stage.TheVariants as stages
 use Rattle.machine_states.specs.runner_parts.specs.State.{RunState, PartState}
 use Rattle.machine_states.specs.epoch_core.specs.State.{last_epoch}
-use Rattle.machine_states.specs.runner_steps.specs.AfterOutside.{with_stage, collected, scanned, scan_one_after, advance_after}
+use Rattle.machine_states.specs.body_terms.specs.Word.{value_of, is_free}
+use Rattle.machine_states.specs.runner_parts.specs.State.{GuardsState}
+use Rattle.machine_states.specs.runner_parts.specs.Lists.{descriptors_swept, published_seen, with_looked}
+use Rattle.machine_states.specs.runner_steps.specs.Guards.{guard_after, is_last_guard, load_guard_after}
+use Rattle.runner_block.specs.Kept.{only_looked}
+use Rattle.machine_states.specs.runner_steps.specs.AfterOutside.{with_stage, collected, scanned, scan_one_after, advance_after, read_after}
 use Rattle.machine_states.specs.runner_steps.specs.After.{outside_after, after_by, stepped, after}
 use Rattle.version_words.specs.RunnerState.{RunnerState, told_part}
 use Rattle.version_words.specs.Events.{Makes}
@@ -77,6 +82,27 @@ module _ (m : Meaning) (l : Layout) (p : PartState) (found : ℕ) where
   -- a step in no run begins none
   pub still_outside : (r : ℕ) (k : EventKind) (spot : Spot) (access : Access) → is_outer k ≡ true → p.run ≡ None → (after m l r k spot access p found).run ≡ None
   still_outside r k spot access e none = ap (λ (o : Option RunState). (after_by m l k p o found).run) none ∙ (outer_runs k e ∙ none)
+
+-- a guard moves, and of what it names nothing is kept
+pub told_guard : (p : PartState) (d : Option ℕ) → told_part (guard_after d p) ≡ told_part p
+told_guard p d = refl
+
+-- a sweep goes on
+load_guard_by : (last : Bool) (words : List ℕ) (p : PartState) → record (told_part p) { descriptors = (if last then descriptors_swept words (told_part p).descriptors else (told_part p).descriptors); guards = with_looked (told_part p).guards (if last then [] else words) }
+    ≡ told_part (record p { descriptors = (if last then descriptors_swept words p.descriptors else p.descriptors); guards = with_looked p.guards (if last then [] else words) })
+load_guard_by true words p = refl
+load_guard_by false words p = refl
+
+pub told_load_guard : (l : Layout) (p : PartState) (found : ℕ) → load_guard_after l (told_part p) found ≡ told_part (load_guard_after l p found)
+told_load_guard l p found = load_guard_by (is_last_guard l p.guards.looked) (p.guards.looked ++ found ∷ []) p
+
+-- what a walk tells of a guarded descriptor isn't kept
+looked_still : (b : Bool) (g : GuardsState) (d : ℕ) → (if b then published_seen g d else g).looked ≡ g.looked
+looked_still true g d = refl
+looked_still false g d = refl
+
+pub told_read : (m : Meaning) (place found : ℕ) (p : PartState) → told_part (read_after m place p found) ≡ told_part p
+told_read m place found p = ap (λ (words : List ℕ). record (told_part p) { guards = only_looked words }) (looked_still (m.is_lock place && not (is_free found)) p.guards (value_of found - 1))
 
 -- the lists after a step in no run
 pub outer_lists : {T : Type 0} (m : Meaning) (k : EventKind) (found : ℕ) (r r' : RunnerState T) → is_outer k ≡ true → Makes m k found r r' → told_part (outside_after m r.layout k r.part found) ≡ told_part r'.part

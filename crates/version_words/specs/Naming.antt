@@ -1,5 +1,5 @@
 -- Which event a step is.
-use Rattle.std.specs.Prelude.{ℕ, ◌/◌, ◌%◌, ◌==◌, List, Bool, true, false, Option, Some, None}
+use Rattle.std.specs.Prelude.{ℕ, zero, suc, ◌/◌, ◌%◌, ◌==◌, List, Bool, true, false, Option, Some, None}
 use mathlib.Core.Option.{Option as Option_of, none, some}
 use Rattle.atomic_table.specs.Table.{Step}
 use Rattle.machine_states.specs.map_history.specs.declared.op.Request.{Request}
@@ -49,3 +49,8 @@ hold_of (some thunk) descriptor = kinds.Hold thunk descriptor
 abbrev pub plan_of : Option_of Thunk → EventKind
 plan_of none = kinds.EnterLoad
 plan_of (some thunk) = kinds.ReadPlan thunk
+
+-- the descriptor that a guard word with this number names, if any
+abbrev pub guarded_by : ℕ → Option ℕ
+guarded_by zero = None
+guarded_by (suc d) = Some d

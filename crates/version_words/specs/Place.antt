@@ -13,12 +13,14 @@ use Rattle.machine_states.specs.runner_parts.specs.Tests.{has}
 use Rattle.machine_states.specs.runner_steps.specs.Sections.{is_open_run, line_of, next_of}
 use Rattle.runner_block.specs.declared.place.RunPlace.{RunPlace}
 
--- a word of its opening was loaded, and it has the run's descriptor, the request that its words name, how many words
--- were agreed on, whether a Make has its slot in the hand, and whether a cell of that slot came to the greatest version
+-- a word of its opening was loaded, and it has the run's descriptor, the request and the lock that its words name, how
+-- many words were agreed on, whether a Make has its slot in the hand, and whether a cell of that slot came to the
+-- greatest version
 pub record IsPlaced (kept : RunPlace) (q : RunState) : Type 0 where
   pub descriptor : kept.descriptor ≡ q.descriptor
   pub some : 0 < length q.opened
   pub request : 1 < length q.opened → kept.request ≡ slice_index q.opened 1 % 2 ^ 32
+  pub lock : 2 < length q.opened → kept.lock ≡ slice_index q.opened 2 % 2 ^ 32
   pub agreed : kept.agreed ≡ length q.trail
   pub making : kept.making ≡ is_some q.made
   pub worn : kept.worn ≡ q.worn

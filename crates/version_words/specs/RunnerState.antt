@@ -8,7 +8,7 @@ use Rattle.machine_states.specs.epoch_core.specs.declared.stage.Stage.TheVariant
 use Rattle.machine_states.specs.runner_parts.specs.declared.entries.Published.{Published}
 use Rattle.machine_states.specs.runner_parts.specs.State.{PartState}
 use Rattle.machine_states.specs.runner_parts.specs.Lists.{no_reads}
-use Rattle.runner_block.specs.Kept.{published_as}
+use Rattle.runner_block.specs.Kept.{published_as, only_looked}
 
 -- a runner: its table, its number, what it is at and keeps, and of the keeper the parts of the workers that it joined,
 -- the last one first
@@ -38,6 +38,7 @@ told_part p = record {
   published = told_published p.published;
   nodes = p.nodes;
   descriptors = record (p.descriptors) { stored = [] };
+  guards = only_looked p.guards.looked;
   reads = no_reads;
   records = record {
     known = [];

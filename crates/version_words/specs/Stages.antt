@@ -12,7 +12,7 @@ use Rattle.machine_states.specs.epoch_core.specs.Moves.{is_clear}
 use Rattle.version_words.specs.Shown.{left_part}
 use Rattle.version_words.specs.RunnerState.{RunnerState}
 
--- the runner is in no run, at this stage, and has this section to retire, if any
+-- the runner is in no run, at this stage, and has this section to run to its end, if any
 pub record IsAt {T : Type 0} (r : RunnerState T) (stage : Stage) (section : Option Published) : Type 0 where
   pub present : r.part.gone ≡ false
   pub resting : r.part.run ≡ None

@@ -34,7 +34,7 @@ impl Bases {
     pub fn of(sizes: Sizes) -> Self
         ensures { result ≡ sizes }
     {
-        let entries = LINE_WORDS * (4 + sizes.runners as usize);
+        let entries = LINE_WORDS * (5 + 2 * sizes.runners as usize);
         let cells = entries + 2 * sizes.requests as usize;
         Bases {
             sizes,
@@ -55,6 +55,9 @@ impl Bases {
             Spot::Epoch => LINE_WORDS,
             Spot::Clock => 2 * LINE_WORDS,
             Spot::Announcement(runner) => LINE_WORDS * (3 + runner as usize),
+            Spot::Guard(runner) => {
+                LINE_WORDS * (4 + self.sizes.runners as usize + runner as usize)
+            }
             Spot::Stamp(request) => self.entries + 2 * request as usize,
             Spot::Reply(request) => self.entries + 2 * request as usize + 1,
             Spot::Cell(place) => self.cells + place as usize,

@@ -46,11 +46,11 @@ impl<S: Structure> FlockTable<S> {
         ensures event { Makes (S.meaning self.now.structure) kinds.EnterAgain result.1 runner result.0 }
     {
         let epoch = self.load::<plays::EnterAgain>(&mut runner.seat, Spot::Epoch);
-        runner.kept.lists.set_stage(Stage::Entered(epoch));
+        runner.kept.lists.enter(epoch);
         (runner, epoch)
     }
 
-    /// The own announcement becomes 0, idle.
+    /// The own announcement becomes 0, idle. The own guard word names nothing.
     pub fn idle(&self, mut runner: Runner<S>) -> Runner<S>
         requires own { IsOf self.now runner }
         requires next { IsEnabled (S.meaning self.now.structure) kinds.Idle runner }

@@ -14,7 +14,8 @@ use machine_states::table_words::Spot;
 
 impl<S: Structure> FlockTable<S> {
     /// The thunk's lock goes from the free word that was read to the one that names this descriptor, if it still holds
-    /// the free word. The answer is the word found, and whether the section is published.
+    /// the free word. The own guard word names the descriptor before. The answer is the word found, and whether the
+    /// section is published.
     pub fn hold(
         &self,
         mut runner: Runner<S>,

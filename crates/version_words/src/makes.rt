@@ -62,8 +62,7 @@ impl<S: Structure> FlockTable<S> {
         (runner, found == 0)
     }
 
-    /// The epoch, to retire a node slot in a run, or outside one the descriptor of the section that the runner
-    /// published.
+    /// The epoch, to retire a node slot in a run.
     pub fn epoch_for_retire(&self, mut runner: Runner<S>) -> (Runner<S>, u64)
         requires own { IsOf self.now runner }
         requires next { IsEnabled (S.meaning self.now.structure) kinds.EpochForRetire runner }

@@ -16,7 +16,7 @@ use machine_states::table_words::Spot;
 
 impl<S: Structure> FlockTable<S> {
     /// The next thunk word of the run's descriptor, whose words begin at this start; outside a run the first one of a
-    /// descriptor that the runner holds, with which a run begins. Its index is how many were loaded.
+    /// descriptor of which the runner is sure, with which a run begins. Its index is how many were loaded.
     #[inline(always)]
     pub fn load_thunk(
         &self,

@@ -264,6 +264,26 @@ impl Named for EpochForRetire {
     ghost naming = { λ m layout requests part step. kinds.EpochForRetire };
 }
 
+/// What the guard word is to name is read off the number that is stored.
+pub struct Guard;
+
+impl Named for Guard {
+    ghost use Rattle.machine_states.specs.runner_parts.specs.declared.event.EventKind.TheVariants as kinds;
+    ghost use Rattle.version_words.specs.Naming.{guarded_by};
+
+    ghost naming = { λ m layout requests part step. kinds.Guard (guarded_by step.first) };
+}
+
+/// The guard word is the one that comes next in the sweep.
+pub struct LoadGuard;
+
+impl Named for LoadGuard {
+    ghost use Rattle.std.specs.Prelude.{length};
+    ghost use Rattle.machine_states.specs.runner_parts.specs.declared.event.EventKind.TheVariants as kinds;
+
+    ghost naming = { λ m layout requests part step. kinds.LoadGuard (length part.guards.looked) };
+}
+
 /// The announcement is the one that comes next.
 pub struct ScanOne;
 

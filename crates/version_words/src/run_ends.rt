@@ -106,7 +106,8 @@ impl<S: Structure> FlockTable<S> {
     }
 
     /// The lock goes from the word with which the run's section holds it to the next free word, if it is still held so.
-    /// The given word is the free one that the lock had before.
+    /// The given word is the free one that the lock had before. With the section's own lock, which comes last, the run
+    /// is over, and where it was of the section that this runner published, its descriptor goes into limbo.
     pub fn release(&self, mut runner: Runner<S>, place: Place, word: Word) -> Runner<S>
         requires own { IsOf self.now runner }
         requires next { let held = held_by_run runner.part.run word in met_by (S.meaning self.now.structure) runner
@@ -119,7 +120,7 @@ impl<S: Structure> FlockTable<S> {
         let held = held_word(runner.kept.place.descriptor, word);
         let free = held.next(0);
         self.exchange::<plays::Release>(&mut runner.seat, spot, held.bits(), free.bits());
-        runner.kept.place.inside = false;
+        runner.kept.released(place);
         runner
     }
 }

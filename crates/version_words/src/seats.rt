@@ -33,6 +33,7 @@ fn boxed(alloc: Global, lists: Kept) -> Result<Box<Block, Global>, AllocError>
     let place = RunPlace {
         descriptor: 0,
         request: 0,
+        lock: 0,
         agreed: 0,
         epoch: 0,
         inside: false,

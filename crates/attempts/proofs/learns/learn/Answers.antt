@@ -2,7 +2,7 @@ use Rattle.std.proofs.Common.{◌<◌, length, true, false, sym, subst, ap, ◌�
 use Rattle.std.proofs.lemmas.Option.{slice_get_within}
 use Rattle.machine_states.specs.table_words.specs.Limits.{IsWithinLimits}
 use Rattle.machine_states.proofs.Steps.{some_same, none_some}
-use Rattle.version_words.specs.machine_invariant.specs.After.{AreAllowed}
+use Rattle.machine_facts.specs.machine_invariant.specs.After.{AreAllowed}
 use Rattle.version_words.proofs.Stages.{may_load_entry, then_knows}
 use Rattle.machine_states.specs.epoch_core.specs.declared.stage.Stage.TheVariants as stages
 use Rattle.attempts.specs.declared.answers.Attempt.TheVariants as answers

@@ -1,6 +1,8 @@
-use Rattle.std.proofs.Common.{refl}
+use Rattle.std.proofs.Common.{[], refl, ap, ◌∙◌}
+use Rattle.machine_states.specs.runner_parts.specs.State.{GuardsState}
+use Rattle.machine_states.specs.runner_parts.specs.Lists.{with_looked}
 use Rattle.version_words.proofs.Stages.{may_enter_load, may_announce, may_enter_again, then_loaded, then_announced, then_entered}
-use Rattle.epoch_slots.proofs.Outside.{reads_made, own_kept, own_kept_on}
+use Rattle.epoch_slots.proofs.Outside.{guards_made, reads_made, own_kept, own_kept_on}
 use Rattle.epoch_slots.proofs.entry.enter.Goals as goal
 
 pub enter_load-runner-requires-clause-next : goal.enter_load-runner-requires-clause-next
@@ -30,6 +32,8 @@ returns-clause-enters g c =
       again = again;
       at = then_entered _ _ _ _ _ again announced;
       reads = reads_made _ _ _ _ _ again announced.resting;
+      guards = guards_made _ _ _ _ _ again announced.resting
+          ∙ ap (λ (g : GuardsState). with_looked g []) (guards_made _ _ _ _ _ announce loaded.resting ∙ guards_made _ _ _ _ _ load c.requires.idle.resting);
       keeps = own_kept_on _ _ _ (own_kept _ _ _ _ _ load c.requires.idle.resting refl refl refl)
           (own_kept_on _ _ _ (own_kept _ _ _ _ _ announce loaded.resting refl refl refl)
           (own_kept _ _ _ _ _ again announced.resting refl refl refl));

@@ -8,17 +8,13 @@ use Rattle.idem_cell.specs.machine_states.specs.body_terms.specs.declared.outcom
 use Rattle.idem_cell.specs.machine_states.specs.body_terms.specs.declared.step.Step.{Step}
 use Rattle.idem_cell.specs.machine_states.specs.body_terms.proofs.LineLemmas.{read_step, registers_before_next}
 use Rattle.idem_cell.specs.section_lines.specs.Rests.{taken_releases}
-use Rattle.section_runs.specs.Reached.{run_of}
 use Rattle.section_runs.specs.Registers.{AreKept}
 use Rattle.section_runs.specs.Bodies.{NodesGone, body_of, IsBefore, HasWalked}
-use Rattle.section_runs.proofs.Staying.{ran_passed}
-use Rattle.idem_cell.specs.machine_states.specs.runner_parts.specs.State.{RunState}
-use Rattle.section_runs.proofs.Going.{run_is}
 use Rattle.section_runs.proofs.Using.{on_not_halted, left_not_halted}
 use Rattle.section_runs.proofs.Through.{through_more, halted_then, through_few}
 use Rattle.section_runs.proofs.Apart.{stood_apart, through_apart, halted_apart}
 use Rattle.section_runs.proofs.Walking.{none_before, sum_next, sum_most, sum_room, nodes_none, nodes_more, slot_left, same_none, same_more, body_same, walked_left, walked_all, walked_taken, takes_none, takes_more, is_over}
-use Rattle.idem_cell.specs.machine_states.specs.runner_steps.specs.Sections.{reply_in, thunk_of}
+use Rattle.idem_cell.specs.machine_states.specs.runner_steps.specs.Sections.{reply_in}
 use Rattle.section_runs.proofs.bodies.walk.Goals as goal
 
 pub loop-n-init : goal.loop-n-init
@@ -113,12 +109,7 @@ loop-n-preserved g c =
 
 pub returns-in-Left-clause-over : goal.returns-in-Left-clause-over
 returns-in-Left-clause-over g c =
-    let met = g.met.S.Structure g.world.𝓛 g.world.𝓜 g.world.𝓡 ((λ s allowed. allowed), (λ patient. patient), (λ alone. alone), (λ cuts. cuts)) in
     let m = g.S.Structure.meaning c.args.table.now.structure in
-    let laws = met.laws c.args.table.now.structure in
-    let t = c.args.table.now in
-    let limits = c.requires.own.limits _ refl in
-    let allowed = c.requires.own.allowed _ refl in
     let r = c.args.runner in
     let body = c.args.body.now in
     let n = c.loop-n.n in
@@ -134,7 +125,7 @@ returns-in-Left-clause-over g c =
     (walked_taken m n c.loop-n.taken c.in-Left.outcome r c.step_gated-gone.result.0 inv.among.few
     (subst (λ (xs : List Step). taken_releases (take n xs) ≡ taken_releases (take c.loop-n.taken xs)) c.requires.body inv.among.same)
     (walked_left m n step c.in-Left.outcome r now c.step_gated-gone.result.0 (subst IsShaped c.requires.body c.requires.shaped) here0 (went.exit _ out) inv.same
-    (subst (λ (xs : List Step). NodesGone xs n r.part.nodes now.part.nodes) c.requires.body inv.nodes) (ran_passed m laws t limits allowed inv.through.made (thunk_of (run_of r).opened).request r now c.requires.own inv.through.ran _ inv.before.running (λ p is. ap (λ (y : RunState). (thunk_of y.opened).request) (run_is m r p is))).stays.entry (went.over _ out) (went.same still) (went.unchanged _ out) (λ p w busy own. went.names _ p w out busy own)))
+    (subst (λ (xs : List Step). NodesGone xs n r.part.nodes now.part.nodes) c.requires.body inv.nodes) (went.over _ out) (went.same still) (went.unchanged _ out)))
 
 pub returns-in-Left-clause-trail : goal.returns-in-Left-clause-trail
 returns-in-Left-clause-trail g c =

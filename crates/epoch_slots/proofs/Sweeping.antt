@@ -1,0 +1,111 @@
+-- A sweep, guard word by guard word.
+use Rattle.std.proofs.Common.{◌≡◌, ℕ, suc, ◌+◌, ◌<◌, ◌≤◌, List, [], ◌∷◌, ◌++◌, length, length-append, Bool, true, false, refl, sym, ap, subst, ◌∙◌, eq-eqb, ne_eqb, arith, None, if◌then◌else◌}
+use Rattle.std.specs.Prelude.{◌==◌}
+use Rattle.machine_states.specs.table_words.specs.declared.layout.Layout.{Layout}
+use Rattle.machine_states.specs.structure_laws.specs.Meaning.{Meaning}
+use Rattle.machine_states.specs.runner_parts.specs.declared.event.EventKind.TheVariants as kinds
+use Rattle.machine_states.specs.epoch_core.specs.declared.stage.Stage.TheVariants as stages
+use Rattle.machine_states.specs.runner_parts.specs.State.{GuardsState, DescriptorsState, PartState}
+use Rattle.machine_states.specs.runner_parts.specs.Lists.{descriptors_swept, with_looked}
+use Rattle.machine_states.specs.runner_steps.specs.Guards.{is_last_guard, load_guard_after}
+use Rattle.version_words.specs.RunnerState.{RunnerState}
+use Rattle.version_words.specs.TableState.{TableState, IsOf}
+use Rattle.version_words.specs.Events.{IsEnabled, Makes}
+use Rattle.version_words.specs.Stages.{IsAt}
+use Rattle.version_words.proofs.Stages.{may_load_guard, then_looked}
+use Rattle.epoch_slots.specs.Sweeps.{MaySweep, KeepsBeside, Sweeps, HasLooked, HasSwept}
+use Rattle.epoch_slots.proofs.Outside.{nodes_made, descriptors_made, guards_made, known_made, finished_made}
+
+-- what one more guard word makes of a part
+abbrev swept_or : Bool → List ℕ → PartState → PartState
+swept_or last words p = record p {
+  descriptors = (if last then descriptors_swept words p.descriptors else p.descriptors);
+  guards = with_looked p.guards (if last then [] else words);
+}
+
+module _ {T : Type 0} (m : Meaning) where
+  -- one guard word more at the end
+  sweeps_more : (found : List ℕ) (next word : ℕ) (r s r' : RunnerState T) → Sweeps m next found r s → Makes m (kinds.LoadGuard (next + length found)) word s r'
+      → Sweeps m next (found ++ word ∷ []) r r'
+  sweeps_more [] next word r s r' same made = (r', subst (λ y. Makes m (kinds.LoadGuard next) word y r') same (subst (λ n. Makes m (kinds.LoadGuard n) word s r') (let e : next + 0 ≡ next = omega arith in e) made), refl)
+  sweeps_more (x ∷ found) next word r s r' (y, one, rest) made =
+      (y, one, sweeps_more found (next + 1) word y s r' rest (subst (λ n. Makes m (kinds.LoadGuard n) word s r') (let e : next + suc (length found) ≡ next + 1 + length found = omega arith in e) made))
+
+  -- nothing was read yet
+  pub look_begins : (r : RunnerState T) → MaySweep r → HasLooked m 0 r r
+  look_begins r ready = record {
+    found = [];
+    each = refl;
+    sweeps = refl;
+    at = ready.at;
+    descriptors = refl;
+    guards = ap (λ (words : List ℕ). with_looked r.part.guards words) ready.looked;
+    keeps = record { number = refl; layout = refl; nodes = refl; known = refl; finished = refl };
+  }
+
+  module _ (t : TableState T) (old r : RunnerState T) (own : IsOf t r) (count : ℕ) (so : HasLooked m count old r) where
+    as_wide : r.layout.runners ≡ t.layout.runners
+    as_wide = ap (λ (l : Layout). l.runners) own.layout
+
+    -- as many words are kept as were read
+    looked_is : r.part.guards.looked ≡ so.found
+    looked_is = ap (λ (g : GuardsState). g.looked) so.guards
+
+    looked_count : length r.part.guards.looked ≡ count
+    looked_count = ap length looked_is ∙ so.each
+
+    pub may_look : count ≤ t.layout.runners → IsEnabled m (kinds.LoadGuard count) r
+    may_look few = may_load_guard m r count so.at looked_count (omega (arith, few, as_wide))
+
+    module _ (word : ℕ) (r' : RunnerState T) (made : Makes m (kinds.LoadGuard count) word r r') where
+      more : Sweeps m 0 (so.found ++ word ∷ []) old r'
+      more = sweeps_more so.found 0 word old r r' so.sweeps (subst (λ n. Makes m (kinds.LoadGuard n) word r r') (let a = so.each in let e : count ≡ 0 + length so.found = omega (arith, a) in e) made)
+
+      one_more : length (so.found ++ word ∷ []) ≡ count + 1
+      one_more = length-append so.found (word ∷ []) ∙ (let e = so.each in omega (arith, e))
+
+      still : KeepsBeside old r'
+      still = record {
+        number = ap (λ (y : RunnerState T). y.number) made.made ∙ so.keeps.number;
+        layout = ap (λ (y : RunnerState T). y.layout) made.made ∙ so.keeps.layout;
+        nodes = nodes_made m (kinds.LoadGuard count) word r r' made so.at.resting ∙ so.keeps.nodes;
+        known = known_made m (kinds.LoadGuard count) word r r' made so.at.resting ∙ so.keeps.known;
+        finished = finished_made m (kinds.LoadGuard count) word r r' made so.at.resting ∙ so.keeps.finished;
+      }
+
+      -- the part after it, by whether it was the last one
+      part_by : (last : Bool) → is_last_guard r.layout r.part.guards.looked ≡ last → load_guard_after r.layout r.part word ≡ swept_or last (so.found ++ word ∷ []) r.part
+      part_by last e = (λ i. swept_or (e i) (looked_is i ++ word ∷ []) r.part)
+
+      -- before the last one
+      pub looked_more : count < t.layout.runners → HasLooked m (count + 1) old r'
+      looked_more few =
+          let part = part_by false (ne_eqb (length r.part.guards.looked) r.layout.runners (λ e. omega (arith, e, few, looked_count, as_wide))) in
+          record {
+            found = so.found ++ word ∷ [];
+            each = one_more;
+            sweeps = more;
+            at = then_looked m word r r' None count made so.at;
+            descriptors = descriptors_made m (kinds.LoadGuard count) word r r' made so.at.resting ∙ (ap (λ (p : PartState). p.descriptors) part ∙ so.descriptors);
+            guards = guards_made m (kinds.LoadGuard count) word r r' made so.at.resting ∙ (ap (λ (p : PartState). p.guards) part
+                ∙ ap (λ (g : GuardsState). with_looked g (so.found ++ word ∷ [])) so.guards);
+            keeps = still;
+          }
+
+      -- with it
+      pub swept : MaySweep old → count ≡ t.layout.runners → HasSwept m old r'
+      swept ready last =
+          let here : length r.part.guards.looked ≡ r.layout.runners = omega (arith, last, looked_count, as_wide) in
+          let part = part_by true (eq-eqb (length r.part.guards.looked) r.layout.runners here) in
+          let guards : r'.part.guards ≡ with_looked old.part.guards [] = guards_made m (kinds.LoadGuard count) word r r' made so.at.resting ∙ (ap (λ (p : PartState). p.guards) part
+          ∙ ap (λ (g : GuardsState). with_looked g []) so.guards) in
+          record {
+            found = so.found ++ word ∷ [];
+            each = one_more ∙ (let wide = ap (λ (l : Layout). l.runners) so.keeps.layout in omega (arith, last, as_wide, wide));
+            sweeps = more;
+            descriptors = descriptors_made m (kinds.LoadGuard count) word r r' made so.at.resting ∙ (ap (λ (p : PartState). p.descriptors) part
+                ∙ ap (λ (d : DescriptorsState). descriptors_swept (so.found ++ word ∷ []) d) so.descriptors);
+            guards = guards ∙ ap (λ (words : List ℕ). with_looked old.part.guards words) (sym ready.looked);
+            ready = record { at = then_looked m word r r' None count made so.at; looked = ap (λ (g : GuardsState). g.looked) guards };
+            keeps = still;
+          }

@@ -1,0 +1,10 @@
+pub mod Words
+pub mod Views
+pub mod Places
+pub mod Others
+pub mod Steps
+pub mod GuardSteps
+pub mod Ending
+pub mod AllKinds
+pub mod First
+pub mod Safe

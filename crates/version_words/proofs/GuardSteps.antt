@@ -1,0 +1,61 @@
+-- Steps on guard words: their names, and what they tell.
+use Rattle.std.proofs.Common.{◌≡◌, ℕ, ◌≤◌, [], length, refl, sym, ap, subst, ◌∙◌, arith, Option, Some, None}
+use Rattle.machine_states.specs.table_words.specs.declared.layout.Layout.{Layout}
+use Rattle.machine_states.specs.table_words.specs.declared.spot.Spot.TheVariants as spots
+use Rattle.machine_states.specs.table_words.specs.declared.access.Access.TheVariants.{Loads, Stores}
+use Rattle.machine_states.specs.structure_laws.specs.Meaning.{Meaning}
+use Rattle.machine_states.specs.runner_parts.specs.declared.event.EventKind.{EventKind}
+use Rattle.machine_states.specs.runner_parts.specs.declared.event.EventKind.TheVariants as kinds
+use Rattle.machine_states.specs.guard_core.specs.State.{word_of}
+use Rattle.machine_states.specs.runner_parts.specs.State.{RunState, PartState}
+use Rattle.machine_states.specs.runner_steps.specs.After.{after_by, noted}
+use Rattle.version_words.specs.RunnerState.{RunnerState}
+use Rattle.version_words.specs.TableState.{TableState}
+use Rattle.version_words.specs.Naming.{guarded_by}
+use Rattle.version_words.specs.Events.{met_by, IsEnabled, IsNamed, IsBlind, Makes, step_at, nothing}
+use Rattle.version_words.proofs.Asked.{IsNextGuard, in_no_run, asks_guard, asks_load_guard}
+
+-- the word by which a guard names a descriptor names it
+guarded_is : (d : Option ℕ) → guarded_by (word_of d) ≡ d
+guarded_is None = refl
+guarded_is (Some d) = refl
+
+module _ {T : Type 0} (m : Meaning) (r : RunnerState T) (d : Option ℕ) (enabled : IsEnabled m (kinds.Guard d) r) (number : ℕ) (is : number ≡ word_of d) where
+  guard_kind : kinds.Guard (guarded_by number) ≡ kinds.Guard d
+  guard_kind = ap (λ n. kinds.Guard (guarded_by n)) is ∙ ap kinds.Guard (guarded_is d)
+
+  pub guard_named : (t : TableState T) → IsNamed m (λ m' l' rs' p' made. kinds.Guard (guarded_by made.first)) r (step_at m t (spots.Guard r.number) number 0 nothing) (spots.Guard r.number, Stores number)
+  guard_named t = record {
+    asked = ap (met_by m r) guard_kind ∙ (enabled.asked ∙ ap Some (asks_guard m r d enabled.met enabled.asked ∙ (λ i. (spots.Guard r.number, Stores (sym is i)))));
+    plain = refl;
+  }
+
+  -- the part after it, whatever the word held before
+  abbrev part_by : Option RunState → ℕ → PartState
+  part_by o found = let p' = after_by m r.layout (kinds.Guard (guarded_by number)) r.part o found in
+      record p' { records = noted r.layout r.number (kinds.Guard (guarded_by number)) (spots.Guard r.number) (Stores number) found p'.records }
+
+  same_by : (o : Option RunState) → o ≡ None → (found other : ℕ) → part_by o found ≡ part_by o other
+  same_by o none found other = ap (λ (o : Option RunState). part_by o found) none ∙ sym (ap (λ (o : Option RunState). part_by o other) none)
+
+  pub guard_blind : IsBlind m (kinds.Guard (guarded_by number)) (spots.Guard r.number, Stores number) r
+  guard_blind = record { same = λ found other. same_by r.part.run (in_no_run m r (kinds.Guard d) refl enabled) found other }
+
+  pub guard_event : (found : ℕ) (r' : RunnerState T) → Makes m (kinds.Guard (guarded_by number)) found r r' → Makes m (kinds.Guard d) found r r'
+  guard_event found r' made = subst (λ (k : EventKind). Makes m k found r r') guard_kind made
+
+module _ {T : Type 0} (m : Meaning) (r : RunnerState T) (n : ℕ) (enabled : IsEnabled m (kinds.LoadGuard n) r) where
+  pub next_guard : IsNextGuard r.layout n (length r.part.guards.looked) enabled.met
+  next_guard = asks_load_guard m r n enabled.met enabled.asked
+
+  look_kind : kinds.LoadGuard (length r.part.guards.looked) ≡ kinds.LoadGuard n
+  look_kind = ap kinds.LoadGuard (sym next_guard.next)
+
+  pub look_named : (t : TableState T) → IsNamed m (λ m' l' rs' p' made. kinds.LoadGuard (length p'.guards.looked)) r (step_at m t (spots.Guard n) 0 0 nothing) (spots.Guard n, Loads)
+  look_named t = record {
+    asked = ap (met_by m r) look_kind ∙ (enabled.asked ∙ ap Some (sym next_guard.met));
+    plain = refl;
+  }
+
+  pub look_event : (found : ℕ) (r' : RunnerState T) → Makes m (kinds.LoadGuard (length r.part.guards.looked)) found r r' → Makes m (kinds.LoadGuard n) found r r'
+  look_event found r' made = subst (λ (k : EventKind). Makes m k found r r') look_kind made
