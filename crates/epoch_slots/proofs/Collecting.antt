@@ -6,7 +6,7 @@ use Rattle.machine_states.specs.table_words.specs.Limits.{IsWithinLimits}
 use Rattle.machine_states.specs.structure_laws.specs.Meaning.{Meaning}
 use Rattle.machine_states.specs.structure_laws.specs.Laws.{Laws}
 use Rattle.machine_states.specs.runner_parts.specs.declared.event.EventKind.TheVariants.{ScanOne}
-use Rattle.machine_states.specs.runner_parts.specs.State.{PartState, NodesState}
+use Rattle.machine_states.specs.runner_parts.specs.State.{PartState, NodesState, GuardsState}
 use Rattle.machine_states.specs.runner_parts.specs.Tests.{has}
 use Rattle.machine_states.specs.runner_parts.specs.Lists.{is_old, slots_of, nodes_collected}
 use Rattle.machine_states.specs.epoch_core.specs.State.{last_epoch}
@@ -77,6 +77,7 @@ module _ {T : Type 0} (m : Meaning) (runners epoch : ℕ) (clear : Bool) (old a 
         worn = old.part.nodes.worn ++ worn_out (hand_out i) back.wears;
         tests = tidy.tests i;
       })) in
+      let guards : c.part.guards ≡ old.part.guards = back.rest.guards ∙ (ends.guards ∙ scanned.guards) in
       record {
         epoch = epoch;
         found = scanned.found ++ ends.found ∷ [];
@@ -95,8 +96,14 @@ module _ {T : Type 0} (m : Meaning) (runners epoch : ℕ) (clear : Bool) (old a 
         tested = subst (λ xs. AreTested m xs back.wears b c) (all ∙ hand_out) back.tested;
         nodes = nodes;
         descriptors = back.rest.descriptors ∙ (ends.descriptors ∙ scanned.keeps.descriptors);
-        guards = back.rest.guards ∙ (ends.guards ∙ scanned.guards);
-        tidy = record { at = back.at; hand = ap (λ (n : NodesState). n.hand) nodes; tests = ap (λ (n : NodesState). n.tests) nodes };
+        guards = guards;
+        tidy = record {
+          at = back.at;
+          hand = ap (λ (n : NodesState). n.hand) nodes;
+          tests = ap (λ (n : NodesState). n.tests) nodes;
+          looked = ap (λ (g : GuardsState). g.looked) guards ∙ tidy.looked;
+          unguarded = ap (λ (g : GuardsState). g.named) guards ∙ tidy.unguarded;
+        };
         number = back.rest.number ∙ (ends.number ∙ scanned.keeps.number);
         known = back.rest.known ∙ (ends.known ∙ scanned.keeps.known);
         finished = back.rest.finished ∙ (ends.finished ∙ scanned.keeps.finished);

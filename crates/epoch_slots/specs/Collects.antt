@@ -38,11 +38,13 @@ come_back epoch n wears = let slots = slots_of (filter (is_old epoch) n.limbo) i
 }
 
 module _ {T : Type 0} where
-  -- the runner is idle and has no slot in its hand
+  -- the runner is idle, has no slot in its hand and no sweep in progress, and its guard word names nothing
   pub record IsTidy (r : RunnerState T) : Type 0 where
     pub at : IsAt r stages.Idle None
     pub hand : r.part.nodes.hand ≡ []
     pub tests : r.part.nodes.tests ≡ []
+    pub looked : r.part.guards.looked ≡ []
+    pub unguarded : r.part.guards.named ≡ None
 
   module _ (m : Meaning) where
     -- the machine reaches a state in which the runner has this part
