@@ -72,10 +72,9 @@ fn finish<S: Structure>(
 /// each the five cells are loaded, by which it goes to the free list or, where one is at the greatest version, to the
 /// worn list, in limbo's order.
 ///
-/// The runner has to be idle with an empty hand, no sweep in progress and a guard word that names nothing (`IsTidy`).
-/// There is no refusal, and no memory is taken. It makes 2
-/// steps and one for each runner, one more where the advance is tried, and five for each node slot that
-/// leaves limbo (Fraser, 2004).
+/// The runner has to be idle with an empty hand, no sweep in progress and a guard word that names nothing. There is no
+/// refusal, and no memory is taken. It makes 2 steps and one for each runner, one more where the advance is tried, and
+/// five for each node slot that leaves limbo (Fraser, 2004).
 pub fn collect<S: Structure>(table: &FlockTable<S>, runner: Runner<S>) -> Runner<S>
     requires own { IsOf table.now runner }
     requires tidy { IsTidy runner }

@@ -51,7 +51,7 @@ pub fn look(
     table.load_cell(runner, place)
 }
 
-/// Leaves.
+/// Lets the guard go, and leaves: an idle runner keeps no descriptor from its owner.
 pub fn exit(table: &FlockTable<Tray>, runner: Runner<Tray>, epoch: u64) -> Runner<Tray>
     requires own { IsOf table.now runner }
     requires at { IsAt runner (stages.Entered epoch) None }
@@ -59,6 +59,7 @@ pub fn exit(table: &FlockTable<Tray>, runner: Runner<Tray>, epoch: u64) -> Runne
     ensures at { IsAt result stages.Idle None }
     ensures number { result.number ≡ runner.number }
 {
+    let runner = table.guard(runner, None);
     table.idle(runner)
 }
 

@@ -205,6 +205,11 @@ module _ {T : Type 0} (m : Meaning) (found : ℕ) (r r' : RunnerState T) (sectio
   pub then_looked : (n : ℕ) → Makes m (kinds.LoadGuard n) found r r' → IsAt r stages.Idle section → IsAt r' stages.Idle section
   then_looked n made is = made_at m (kinds.LoadGuard n) found r r' made is.resting stages.Idle section is.seated is.present is.resting is.at is.published is.settled
 
+-- a guard that is let go names nothing
+pub then_unguarded : {T : Type 0} (m : Meaning) (found : ℕ) (r r' : RunnerState T) → Makes m (kinds.Guard None) found r r' → r.part.run ≡ None → r'.part.guards.named ≡ None
+then_unguarded {T} m found r r' made resting = ap (λ (y : RunnerState T). y.part.guards.named) made.made
+    ∙ ap (λ (o : Option RunState). (after_by m r.layout (kinds.Guard None) r.part o found).guards.named) resting
+
 -- a keeper that splits off a worker
 module _ {T : Type 0} (m : Meaning) (r r' : RunnerState T) (splits : ℕ) where
   pub then_split : HasSplit m r r' → IsKeeper r splits → splits < r.layout.runners → IsKeeper r' (splits + 1)
