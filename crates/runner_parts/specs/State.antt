@@ -68,7 +68,8 @@ pub record RecordsState : Type 0 where
   pub won : ℕ
   -- the epoch as its own steps last saw or left it; 0 until then
   pub epoch_seen : ℕ
-  -- others' steps crossed its own: a scan of its met an announcement that wasn't idle, or it found the epoch moved
+  -- others' steps crossed its own: a scan of its met an announcement that wasn't idle, a sweep of its met a guard word
+  -- that named a descriptor, or it found the epoch moved
   pub crossed : Bool
   -- it joined a worker when its own steps had met the epoch, so that they may have crossed the worker's
   pub crosses : Bool

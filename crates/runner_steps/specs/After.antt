@@ -96,9 +96,10 @@ epoch_after _ number epoch = epoch
 abbrev pub own_epoch : ℕ → ℕ
 own_epoch epoch = if epoch == 0 then 1 else epoch
 
--- the step read an announcement that isn't idle
+-- the step read an announcement that isn't idle, or a guard word that names a descriptor
 abbrev pub is_busy : EventKind → ℕ → Bool
 is_busy (kinds.ScanOne n) found = not (found == 0)
+is_busy (kinds.LoadGuard n) found = not (found == 0)
 is_busy _ found = false
 
 -- the step found the epoch other than the runner's own steps had left it

@@ -128,12 +128,12 @@ fn own_epoch(epoch: u64) -> u64
     if epoch == 0 { 1 } else { epoch }
 }
 
-/// The step read an announcement that isn't idle.
+/// The step read an announcement that isn't idle, or a guard word that names a descriptor.
 fn is_busy(kind: &EventKind, found: u64) -> bool
     ensures { result ≡ is_busy kind.now found }
 {
     match kind {
-        EventKind::ScanOne(_) => found != 0,
+        EventKind::ScanOne(_) | EventKind::LoadGuard(_) => found != 0,
         _ => false,
     }
 }
