@@ -1,17 +1,14 @@
 -- A sweep, guard word by guard word.
 use Rattle.std.proofs.Common.{◌≡◌, ℕ, suc, ◌+◌, ◌<◌, ◌≤◌, List, [], ◌∷◌, ◌++◌, length, length-append, Bool, true, false, refl, sym, ap, subst, ◌∙◌, eq-eqb, ne_eqb, arith, None, if◌then◌else◌}
-use Rattle.std.specs.Prelude.{◌==◌}
 use Rattle.machine_states.specs.table_words.specs.declared.layout.Layout.{Layout}
 use Rattle.machine_states.specs.structure_laws.specs.Meaning.{Meaning}
 use Rattle.machine_states.specs.runner_parts.specs.declared.event.EventKind.TheVariants as kinds
-use Rattle.machine_states.specs.epoch_core.specs.declared.stage.Stage.TheVariants as stages
 use Rattle.machine_states.specs.runner_parts.specs.State.{GuardsState, DescriptorsState, PartState}
 use Rattle.machine_states.specs.runner_parts.specs.Lists.{descriptors_swept, with_looked}
 use Rattle.machine_states.specs.runner_steps.specs.Guards.{is_last_guard, load_guard_after}
 use Rattle.version_words.specs.RunnerState.{RunnerState}
 use Rattle.version_words.specs.TableState.{TableState, IsOf}
 use Rattle.version_words.specs.Events.{IsEnabled, Makes}
-use Rattle.version_words.specs.Stages.{IsAt}
 use Rattle.version_words.proofs.Stages.{may_load_guard, then_looked}
 use Rattle.epoch_slots.specs.Sweeps.{MaySweep, KeepsBeside, Sweeps, HasLooked, HasSwept}
 use Rattle.epoch_slots.proofs.Outside.{nodes_made, descriptors_made, guards_made, known_made, finished_made}
