@@ -24,22 +24,23 @@ module _ {T : Type 0} (m : Meaning) (r : RunnerState T) (d : Option ℕ) (enable
   guard_kind : kinds.Guard (guarded_by number) ≡ kinds.Guard d
   guard_kind = ap (λ n. kinds.Guard (guarded_by n)) is ∙ ap kinds.Guard (guarded_is d)
 
-  pub guard_named : (t : TableState T) → IsNamed m (λ m' l' rs' p' made. kinds.Guard (guarded_by made.first)) r (step_at m t (spots.Guard r.number) number 0 nothing) (spots.Guard r.number, Stores number)
-  guard_named t = record {
-    asked = ap (met_by m r) guard_kind ∙ (enabled.asked ∙ ap Some (asks_guard m r d enabled.met enabled.asked ∙ (λ i. (spots.Guard r.number, Stores (sym is i)))));
+  -- the guard word is that of the runner with this number, its own
+  pub guard_named : (own : ℕ) → own ≡ r.number → (t : TableState T) → IsNamed m (λ m' l' rs' p' made. kinds.Guard (guarded_by made.first)) r (step_at m t (spots.Guard own) number 0 nothing) (spots.Guard own, Stores number)
+  guard_named own same t = record {
+    asked = ap (met_by m r) guard_kind ∙ (enabled.asked ∙ ap Some (asks_guard m r d enabled.met enabled.asked ∙ (λ i. (spots.Guard (sym same i), Stores (sym is i)))));
     plain = refl;
   }
 
   -- the part after it, whatever the word held before
-  abbrev part_by : Option RunState → ℕ → PartState
-  part_by o found = let p' = after_by m r.layout (kinds.Guard (guarded_by number)) r.part o found in
-      record p' { records = noted r.layout r.number (kinds.Guard (guarded_by number)) (spots.Guard r.number) (Stores number) found p'.records }
+  abbrev part_by : ℕ → Option RunState → ℕ → PartState
+  part_by own o found = let p' = after_by m r.layout (kinds.Guard (guarded_by number)) r.part o found in
+      record p' { records = noted r.layout r.number (kinds.Guard (guarded_by number)) (spots.Guard own) (Stores number) found p'.records }
 
-  same_by : (o : Option RunState) → o ≡ None → (found other : ℕ) → part_by o found ≡ part_by o other
-  same_by o none found other = ap (λ (o : Option RunState). part_by o found) none ∙ sym (ap (λ (o : Option RunState). part_by o other) none)
+  same_by : (own : ℕ) (o : Option RunState) → o ≡ None → (found other : ℕ) → part_by own o found ≡ part_by own o other
+  same_by own o none found other = ap (λ (o : Option RunState). part_by own o found) none ∙ sym (ap (λ (o : Option RunState). part_by own o other) none)
 
-  pub guard_blind : IsBlind m (kinds.Guard (guarded_by number)) (spots.Guard r.number, Stores number) r
-  guard_blind = record { same = λ found other. same_by r.part.run (in_no_run m r (kinds.Guard d) refl enabled) found other }
+  pub guard_blind : (own : ℕ) → IsBlind m (kinds.Guard (guarded_by number)) (spots.Guard own, Stores number) r
+  guard_blind own = record { same = λ found other. same_by own r.part.run (in_no_run m r (kinds.Guard d) refl enabled) found other }
 
   pub guard_event : (found : ℕ) (r' : RunnerState T) → Makes m (kinds.Guard (guarded_by number)) found r r' → Makes m (kinds.Guard d) found r r'
   guard_event found r' made = subst (λ (k : EventKind). Makes m k found r r') guard_kind made

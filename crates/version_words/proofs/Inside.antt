@@ -575,6 +575,7 @@ module _ {T : Type 0} (mean : T → Meaning) (s : T) (found number : ℕ) (kept 
   releasing = opens mean s kinds.Release found number kept old_table new_table me me' live made slots was refl
 
   pub release_kept : (place : ℕ) → is_end (next_of (mean s) (ended_more releasing.run)) ≡ place == kept.place.lock → IsKept mean number (block_released kept place) me'
+  unfolding releasing opens
   release_kept place last = run_kept mean s kinds.Release found number kept old_table new_table me me' live made slots was refl (block_released kept place) (released_room kept.lists kept.place.descriptor (place == kept.place.lock))
       (released_part (mean s) me.0.layout kept me.0.part found place releasing made.met (next_asked mean s kinds.Release found number kept old_table new_table me me' live made slots was refl)
       (was_part mean s kinds.Release found number kept old_table new_table me me' live made slots was) last)

@@ -69,8 +69,8 @@ Apart lock ms = (i p k w : ℕ) → micro_at ms i ≡ micros.CheckHeld p k w →
 end_so : (ms : List Micro) (lock word : ℕ) → Apart lock ms → EndsWith lock (releases_to ms lock word)
 end_so [] lock word apart zero place w e = sym (eq-eqb place lock (sym (ap place_of e)))
 end_so [] lock word apart (suc n) place w e = absurd (true≢false (ap is_end e))
-end_so (micro ∷ ms) lock word apart = subst (EndsWith lock) (sym (append_assoc (release_of micro) (releases ms) (micros.Release lock word ∷ [])))
-    (one_ends micro lock (releases_to ms lock word) (λ p k w e. apart 0 p k w e) (begin_so ms lock word) (end_so ms lock word (λ i p k w e. apart (suc i) p k w e)))
+end_so (micro ∷ ms) lock word apart n place w e = subst (EndsWith lock) (sym (append_assoc (release_of micro) (releases ms) (micros.Release lock word ∷ [])))
+    (one_ends micro lock (releases_to ms lock word) (λ p k v h. apart 0 p k v h) (begin_so ms lock word) (end_so ms lock word (λ i p k v h. apart (suc i) p k v h))) n place w e
 
 abbrev is_done : Micro → Bool
 is_done micros.SetDone = true
@@ -82,8 +82,8 @@ ending_so ms at lock word apart (suc n) place w e = end_so (take at ms) lock wor
 
 next_so : (b : Bool) (here : Micro) (xs : List Micro) (e j place w lock : ℕ) → (here ≡ micros.Release place w → ⊥) → j ≡ suc e → EndsWith lock xs → cond b here (slice_index_or xs e micros.End) ≡ micros.Release place w
     → is_end (cond b here (slice_index_or xs j micros.End)) ≡ place == lock
-next_so true here xs e j place w lock no next ends is = absurd (no is)
-next_so false here xs e j place w lock no next ends is = ap (λ n. is_end (slice_index_or xs n micros.End)) next ∙ ends e place w is
+next_so true here xs e j place w lock other next ends is = absurd (other is)
+next_so false here xs e j place w lock other next ends is = ap (λ n. is_end (slice_index_or xs n micros.End)) next ∙ ends e place w is
 
 -- no release stands in a body's line
 abbrev is_other : Micro → Bool

@@ -10,13 +10,13 @@ pub store-requires-clause-named : goal.store-requires-clause-named
 store-requires-clause-named g c =
     let m = g.S.Structure.meaning c.args.self.now.structure in let seat = c.runner.inside.seat in let r = seen_seat seat.table_id seat.me in let d = c.args.descriptor in
     let next = subst (IsEnabled m (Guard d)) (sym c.runner.view_is) c.requires.next in
-    λ κs lives. guard_named m r d next c.guard_word-word.result c.guard_word-word.ensures c.args.self.now
+    λ κs lives. guard_named m r d next c.guard_word-word.result c.guard_word-word.ensures c.runner.inside.number c.runner.invariant.same_number c.args.self.now
 
 pub store-requires-clause-blind : goal.store-requires-clause-blind
 store-requires-clause-blind g c =
     let m = g.S.Structure.meaning c.args.self.now.structure in let seat = c.runner.inside.seat in let r = seen_seat seat.table_id seat.me in let d = c.args.descriptor in
     let next = subst (IsEnabled m (Guard d)) (sym c.runner.view_is) c.requires.next in
-    λ κs lives. guard_blind m r d next c.guard_word-word.result c.guard_word-word.ensures
+    λ κs lives. guard_blind m r d next c.guard_word-word.result c.guard_word-word.ensures c.runner.inside.number
 
 pub invariant_of-runner : goal.invariant_of-runner
 invariant_of-runner g c =

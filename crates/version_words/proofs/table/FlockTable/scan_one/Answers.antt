@@ -24,3 +24,10 @@ invariant_of-runner g c =
     c.scan_one.new.self (λ p. scan_one_after seat.me.0.layout p p.stage found)
     (c.scan_one.ensures ∙ (λ i. let b = c.deref_mut.ensures.value i in with_part b.lists (scan_one_after (same_layout i) b.lists.part b.lists.part.stage found)))
     (told_scan seat.me.0.layout seat.me.0.part seat.me.0.part.stage found))
+
+pub returns-clause-event : goal.returns-clause-event
+returns-clause-event g c =
+    let m = g.S.Structure.meaning c.args.self.now.structure in let seat = c.runner.inside.seat in let new = c.load-found.new.seat in let found = c.load-found.result in let n = c.args.announcement in
+    let old = seen_seat seat.table_id seat.me in
+    subst (λ r. Makes m (ScanOne n) found r (seen_seat new.table_id new.me)) c.runner.view_is
+    (subst (λ (k : EventKind). Makes m k found old (seen_seat new.table_id new.me)) (scan_named m old n (subst (IsEnabled m (ScanOne n)) (sym c.runner.view_is) c.requires.next)) c.load-found.ensures.event)

@@ -10,4 +10,4 @@ invariant_of-runner g c =
     let mean = g.S.Structure.meaning in let seat = c.runner.inside.seat in let new = c.exchange.new.seat in let number = c.runner.inside.number in
     subst (λ (b : Block). IsKept mean number (record b { place = record (b.place) { inside = false } }) new.me) (sym c.deref_mut.ensures.value)
     (done_set_kept mean c.args.self.now.structure SetDone c.exchange.result number c.runner.inside.kept.value seat.table_id new.table_id seat.me new.me
-    (ap (λ r. r.structure) c.runner.view_is ∙ c.requires.own.structure) c.exchange.ensures.event c.exchange.ensures.slots c.runner.invariant refl refl)
+    (ap (λ r. r.structure) c.runner.view_is ∙ c.requires.own.structure) c.exchange.ensures.event c.exchange.ensures.slots c.runner.invariant refl refl refl)
