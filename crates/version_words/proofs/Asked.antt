@@ -18,7 +18,7 @@ use Rattle.machine_states.specs.epoch_core.specs.declared.stage.Stage.TheVariant
 use Rattle.machine_states.specs.runner_parts.specs.State.{RunState, PartState}
 use Rattle.machine_states.specs.runner_steps.specs.Sections.{is_open_run, next_of}
 use Rattle.machine_states.specs.runner_steps.specs.Outside.{Ask, when, enter_load_ask, announce_ask, enter_again_by, scan_one_ask}
-use Rattle.machine_states.specs.runner_steps.specs.Guards.{is_numbered, guard_ask, load_guard_by, load_guard_ask}
+use Rattle.machine_states.specs.runner_steps.specs.Guards.{is_numbered, load_guard_by}
 use Rattle.machine_states.specs.guard_core.specs.State.{word_of}
 use Rattle.machine_states.specs.runner_steps.specs.Asks.{fitting, sizes_for, asks, ask_by, outside_ask, line_ask, opening_ask}
 use Rattle.std.proofs.lemmas.Bool.Decides.{nat_tests}

@@ -1,6 +1,5 @@
 -- Steps on guard words: their names, and what they tell.
-use Rattle.std.proofs.Common.{◌≡◌, ℕ, ◌≤◌, [], length, refl, sym, ap, subst, ◌∙◌, arith, Option, Some, None}
-use Rattle.machine_states.specs.table_words.specs.declared.layout.Layout.{Layout}
+use Rattle.std.proofs.Common.{◌≡◌, ℕ, length, refl, sym, ap, subst, ◌∙◌, Option, Some, None}
 use Rattle.machine_states.specs.table_words.specs.declared.spot.Spot.TheVariants as spots
 use Rattle.machine_states.specs.table_words.specs.declared.access.Access.TheVariants.{Loads, Stores}
 use Rattle.machine_states.specs.structure_laws.specs.Meaning.{Meaning}

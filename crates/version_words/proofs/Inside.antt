@@ -34,7 +34,7 @@ use Rattle.machine_states.specs.runner_parts.specs.declared.entries.Published.{P
 use Rattle.machine_states.specs.runner_parts.specs.Tests.{has}
 use Rattle.machine_states.specs.runner_steps.specs.InRun.{stamp_after, last_clock, can_raise, can_hold, nested_hold_ask, release_ask}
 use Rattle.machine_states.specs.runner_steps.specs.Asks.{asks, sizes_for, ask_by, outside_ask, line_ask, opening_ask}
-use Rattle.machine_states.specs.runner_steps.specs.AfterInRun.{opened_more, kept_unless, retired_if, goes_on, agrees, with_run, ended_more, run_over, word_committed, place_of, reply_word_of}
+use Rattle.machine_states.specs.runner_steps.specs.AfterInRun.{opened_more, kept_unless, retired_if, goes_on, agrees, with_run, ended_more, run_over, place_of, reply_word_of}
 use Rattle.machine_states.specs.runner_parts.specs.Lists.{cell_read, learned, descriptor_retired}
 use Rattle.machine_states.specs.runner_steps.specs.After.{line_after, after_by, stepped}
 use Rattle.version_words.specs.declared.view.View.{View}
