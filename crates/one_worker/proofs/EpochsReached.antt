@@ -16,7 +16,9 @@ use Rattle.machine_states.specs.structure_laws.specs.Meaning.{Meaning}
 use Rattle.machine_states.specs.runner_parts.specs.declared.event.Event.{Event}
 use Rattle.machine_states.specs.runner_parts.specs.declared.event.EventKind.{EventKind}
 use Rattle.machine_states.specs.runner_parts.specs.declared.event.EventKind.TheVariants as kinds
+use Rattle.machine_states.specs.epoch_core.specs.State.{is_entered}
 use Rattle.machine_states.specs.epoch_core.specs.declared.stage.Stage.TheVariants.{Idle, Scanning}
+use Rattle.machine_states.specs.guard_core.specs.State.{word_of}
 use Rattle.machine_states.specs.runner_parts.specs.State.{RunState, RecordsState, PartState}
 use Rattle.machine_states.specs.runner_steps.specs.Asks.{ask_by}
 use Rattle.machine_states.specs.runner_steps.specs.After.{after, stepped, leaves, knows_also, own_epoch, epoch_after, is_busy, is_moved, is_late_join}
@@ -35,6 +37,7 @@ use Rattle.resource_bounds.specs.machine_epochs.proofs.Elsewhere.{is_entry, quie
 use Rattle.resource_bounds.specs.machine_epochs.proofs.FirstJoin as FirstJoin
 use Rattle.resource_bounds.specs.machine_epochs.proofs.Reached.{sound_after}
 use Rattle.one_worker.specs.Uncrossed.{IsUncrossed, EpochIsOwn}
+use Rattle.one_worker.proofs.Guards.{GuardsFit, reached_fit}
 use Rattle.machine_states.proofs.Marks.{Stays, stays}
 
 -- a step on this word is none on the epoch
@@ -150,16 +153,20 @@ module _ (m : Meaning) (l : Layout) (rs : List Request) (r : ℕ) (p : PartState
     silent_by kinds.Advance (Some q) e = cond_none _ x e
     silent_by kind o e = (quiet_asks m l rs r kind p o x refl e f).1 i
 
-  -- a scan's step reads the announcement of a runner that there is
+  -- a scan's step reads the announcement of a runner that there is, and a sweep's its guard word
   busy_by : (f : Spot → ℕ) (kind : EventKind) (o : Option RunState) → ask_by m l rs r kind p o ≡ Some x
-      → ((n epoch : ℕ) (clear : Bool) → p.stage ≡ Scanning epoch n clear → n ≤ l.runners → f (Announcement n) ≡ 0) → is_busy kind (f x.0) ≡ false
-  busy_by f (kinds.ScanOne n) None e quiet = let h = asked.scan_one_asked l n p.stage x e in
+      → ((n epoch : ℕ) (clear : Bool) → p.stage ≡ Scanning epoch n clear → n ≤ l.runners → f (Announcement n) ≡ 0)
+      → ((n : ℕ) → p.stage ≡ Idle → n ≤ l.runners → f (Guard n) ≡ 0) → is_busy kind (f x.0) ≡ false
+  busy_by f (kinds.ScanOne n) None e quiet unguarded = let h = asked.scan_one_asked l n p.stage x e in
       ap (λ (y : Spot × Access). not (f y.0 == 0)) (sym h.4) ∙ zero_idle (f (Announcement n)) (quiet n h.0 h.1 h.2 h.3)
-  busy_by f (kinds.ScanOne n) (Some q) e quiet = cond_none _ x e
-  busy_by f _ o e quiet = refl
+  busy_by f (kinds.ScanOne n) (Some q) e quiet unguarded = cond_none _ x e
+  busy_by f (kinds.LoadGuard n) None e quiet unguarded = let h = asked.load_guard_asked l n p x e in
+      ap (λ (y : Spot × Access). not (f y.0 == 0)) (sym h.is) ∙ zero_idle (f (Guard n)) (unguarded n h.idle h.few)
+  busy_by f (kinds.LoadGuard n) (Some q) e quiet unguarded = cond_none _ x e
+  busy_by f _ o e quiet unguarded = refl
 
 module _ (m : Meaning) (l : Layout) (rs : List Request) (one : l.runners ≡ 1) (s s' : Sight) (r : ℕ) (kind : EventKind) (step : Steps m l rs s s' r kind)
-    (found found' : Found) (sound : EpochsAreSound s found) (sound' : EpochsAreSound s' found') (old : EpochIsOwn s) where
+    (found found' : Found) (sound : EpochsAreSound s found) (sound' : EpochsAreSound s' found') (guards : GuardsFit s) (old : EpochIsOwn s) where
   abbrev x : Spot × Access
   x = step.ask
 
@@ -285,8 +292,18 @@ module _ (m : Meaning) (l : Layout) (rs : List Request) (one : l.runners ≡ 1) 
             (λ ne. ap (λ k. s.word (Announcement k)) (let e : n ≡ 1 = omega (arith, low, ne, one) in e) ∙ is.silent)
             (cases_eq n 0)
 
+        -- the guard word of who isn't entered names nothing
+        unguarded : (i : ℕ) → (s.part i).stage ≡ Idle → s.word (Guard i) ≡ 0
+        unguarded i idle = (guards i).stored ∙ ap word_of ((guards i).away (ap is_entered idle))
+
+        unguarded_all : (n : ℕ) → p.stage ≡ Idle → n ≤ l.runners → s.word (Guard n) ≡ 0
+        unguarded_all n at low = ⊎_elim
+            (λ e. ap (λ k. s.word (Guard k)) e ∙ unguarded 0 (ap (λ (y : PartState). y.stage) own_was ∙ at))
+            (λ ne. ap (λ k. s.word (Guard k)) (let e : n ≡ 1 = omega (arith, low, ne, one) in e) ∙ unguarded 1 is.idle)
+            (cases_eq n 0)
+
         unbusy : is_busy kind word ≡ false
-        unbusy = busy_by m l rs r p x s.word kind p.run asking.1 idle_all
+        unbusy = busy_by m l rs r p x s.word kind p.run asking.1 idle_all unguarded_all
 
         epoch_then : s'.word Epoch ≡ own_epoch p'.records.epoch_seen
         epoch_then = ⊎_elim
@@ -373,9 +390,9 @@ module _ (m : Meaning) (l : Layout) (rs : List Request) (one : l.runners ≡ 1) 
 
 module _ (m : Meaning) (l : Layout) (rs : List Request) (one : l.runners ≡ 1) where
   kept : (s s' : Sight) (r : ℕ) (kind : EventKind) → Steps m l rs s s' r kind → (found found' : Found) → EpochsAreSound s found → EpochsAreSound s' found'
-      → EpochIsOwn s → EpochIsOwn s'
-  kept s s' r (kinds.Join worker) step found found' sound sound' old = join_then m l rs one s s' r worker step old
-  kept s s' r kind step found found' sound sound' old = other_then m l rs one s s' r kind step found found' sound sound' old refl
+      → GuardsFit s → EpochIsOwn s → EpochIsOwn s'
+  kept s s' r (kinds.Join worker) step found found' sound sound' guards old = join_then m l rs one s s' r worker step old
+  kept s s' r kind step found found' sound sound' guards old = other_then m l rs one s s' r kind step found found' sound sound' guards old refl
 
   -- a reached state that has it
   record Has (w : World) : Type 0 where
@@ -404,7 +421,8 @@ module _ (m : Meaning) (l : Layout) (rs : List Request) (one : l.runners ≡ 1) 
         reached = reached;
         has = kept (sight m l rs w) (sight m l rs v) e.runner e.kind
             (happens_steps m l rs w v e (record { words = le_of_eq (sym all.words); parts = all.parts }) goes).0
-            _ _ (sound_after m l rs old.reached.events w old.reached.after) (sound_after m l rs reached.events v reached.after) old.has;
+            _ _ (sound_after m l rs old.reached.events w old.reached.after) (sound_after m l rs reached.events v reached.after)
+            (reached_fit m l rs w old.reached) old.has;
       }
 
   pub reached_uncrossed : (w : World) → Reached m l rs w → EpochIsOwn (sight m l rs w)

@@ -6,6 +6,7 @@ pub mod Open
 pub mod Places
 mod Quiet
 pub mod Reached
+mod Guards
 pub mod EpochsReached
 pub mod Onward
 mod Lines

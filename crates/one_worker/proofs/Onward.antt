@@ -112,3 +112,7 @@ module _ (m : Meaning) (l : Layout) (rs : List Request) (r : ℕ) (p : PartState
     -- an announcement that was read is idle
     pub read_idle : (n : ℕ) → kind ≡ kinds.ScanOne n → found ≡ 0
     read_idle n of = same_number found 0 (subst (λ (k : EventKind). is_busy k found ≡ false) of unbusy)
+
+    -- a guard word that was read names nothing
+    pub read_unguarded : (n : ℕ) → kind ≡ kinds.LoadGuard n → found ≡ 0
+    read_unguarded n of = same_number found 0 (subst (λ (k : EventKind). is_busy k found ≡ false) of unbusy)

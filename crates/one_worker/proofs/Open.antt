@@ -1,5 +1,5 @@
 -- With one worker every section is its own.
-use Rattle.std.specs.Prelude.{◌==◌, ◌%◌, not, cond, Bool, true, false}
+use Rattle.std.specs.Prelude.{◌==◌, ◌%◌, not, true, false}
 use Rattle.std.proofs.Common.{◌≡◌, ◌≢◌, ℕ, zero, suc, List, refl, sym, ap, ◌∙◌, arith, Option, Some, None}
 use Rattle.machine_states.specs.map_history.specs.declared.op.Request.{Request}
 use Rattle.machine_states.specs.body_terms.specs.Word.{value_of}

@@ -13,9 +13,9 @@ ghost use Rattle.one_worker.specs.Lone.{LoneSectionsGoThrough};
 use machine_states::structure_laws::Structure;
 
 /// In every state that the machine reaches with one worker, over a structure that gives what planners need: take the
-/// first section that the worker has published since it entered, as long as it hasn't retired it. A run of it that ends
-/// where it stands ends with the section's answer, or by a word behind which too few versions are left. For what the
-/// section wants and expects was read in the worker's walk, and nobody changes it but the section itself.
+/// first section that the worker has published since it entered, as long as it hasn't run it to its end. A run of it
+/// that ends where it stands ends with the section's answer, or by a word behind which too few versions are left. For
+/// what the section wants and expects was read in the worker's walk, and nobody changes it but the section itself.
 pub fn lone_sections_go_through<S: Structure>(structure: &S)
     ensures { (per_pair : ℕ) (layout : Layout) (requests : List Request) (w : World)
         → PlannerLaws (S.meaning structure.now) per_pair
