@@ -24,14 +24,15 @@ use Rattle.idem_alloc.specs.commit_log.specs.version_words.specs.TableState.{Tab
 use Rattle.idem_alloc.specs.commit_log.specs.Runs.{Ran}
 use Rattle.idem_alloc.specs.commit_log.proofs.Running.{ran_one, ran_more}
 use Rattle.section_runs.specs.Reached.{run_or, run_of, events_after}
-use Rattle.section_runs.specs.Opened.{Learns, HasOpened, StandsOpened, opening}
+use Rattle.section_runs.specs.Opened.{Learns, ReadsOthers, HasOpened, StandsOpened, opening}
 use Rattle.section_runs.specs.Bodies.{NodesGone, body_of, HasWalked}
 use Rattle.section_runs.specs.Ends.{HasEnded}
 use Rattle.idem_cell.specs.machine_states.specs.Sight.{sight}
 use Rattle.idem_cell.specs.machine_states.specs.runner_steps.specs.After.{counted}
 use Rattle.section_runs.specs.Ended.{NodesRan, IsDone, EndsSo}
 use Rattle.section_runs.proofs.Going.{run_is}
-use Rattle.section_runs.proofs.Staying.{Passed, learns_more, still_of, step_events, step_learns, ran_passed, ran_own, events_more}
+use Rattle.section_runs.proofs.Staying.{Passed, learns_more, reads_more, still_of, step_events, step_learns, ran_passed, ran_own, events_more}
+use Rattle.section_runs.proofs.Readings.{step_reads}
 use Rattle.section_runs.proofs.Walking.{sum_most, made_by, retired_by}
 use Rattle.section_runs.proofs.Facts.{EndShows, end_shows, end_rests}
 use Rattle.section_runs.proofs.Told.{answered_told}
@@ -82,9 +83,9 @@ module _ {T : Type 0} (m : Meaning) (laws : Laws m) (t : TableState T) (limits :
   body1 : body_of m r1 ≡ m.body thunk
   body1 = ap (λ (y : RunState). m.body (thunk_of y.opened)) run1 ∙ ap m.body opened.thunk
 
-  passed : Passed (made + ended.count) thunk.request r1 last
-  passed = ran_passed m laws t limits allowed (made + ended.count) thunk.request r1 last own (ran_more m made ended.count r1 r2 last went ended.ran) q ended.inside
-      (λ p is. ap (λ (y : RunState). (thunk_of y.opened).request) (run_is m r1 p is ∙ run1) ∙ ap (λ (x : Thunk). x.request) opened.thunk)
+  passed : Passed (made + ended.count) thunk r1 last
+  passed = ran_passed m laws t limits allowed (made + ended.count) thunk r1 last own (ran_more m made ended.count r1 r2 last went ended.ran) q ended.inside
+      (λ p is. ap (λ (y : RunState). thunk_of y.opened) (run_is m r1 p is ∙ run1) ∙ opened.thunk)
 
   last_own : IsOf t last
   last_own = ran_own m laws t limits allowed (made + ended.count) r1 last own (ran_more m made ended.count r1 r2 last went ended.ran)
@@ -165,6 +166,10 @@ module _ {T : Type 0} (m : Meaning) (laws : Laws m) (t : TableState T) (limits :
         guards = guards ∙ hop.stays.guards;
         walk = ap (λ (s : ReadsState). s.walk) behind.reads ∙ (passed.stays.walk ∙ hop.stays.walk);
         look = ap (λ (s : ReadsState). s.look) behind.reads ∙ (passed.stays.look ∙ hop.stays.look);
+        cells = subst (λ (xs : ReadsState). ReadsOthers thunk.lock thunk.word xs.cells new.part.reads.cells) hop.reads
+            (reads_more thunk.lock thunk.word r1.part.reads.cells last.part.reads.cells new.part.reads.cells passed.cells
+            (subst (λ (x : Thunk). ReadsOthers x.lock x.word last.part.reads.cells new.part.reads.cells) q_thunk
+            (step_reads m laws t limits allowed last new last_own new_own q ended.released.found _ ended.released.step)));
         learns = subst (λ ks. Learns thunk.request ks new.part.records.known) hop.known (learns_more thunk.request r1.part.records.known last.part.records.known new.part.records.known passed.learns
             (subst (λ (x : Thunk). Learns x.request last.part.records.known new.part.records.known) q_thunk
             (step_learns m laws t limits allowed last new last_own q _ ended.released.found ended.released.step)));

@@ -1,8 +1,9 @@
 -- What no step of a run changes but the last one, and how its steps are counted.
-use Rattle.std.proofs.Common.{◌≡◌, ℕ, zero, suc, ◌+◌, List, [], ◌∷◌, ◌++◌, Bool, true, false, refl, sym, ap, ◌∙◌, subst, arith, Some, None, append_assoc}
+use Rattle.std.proofs.Common.{◌≡◌, ◌≢◌, ℕ, zero, suc, ◌+◌, List, [], ◌∷◌, ◌++◌, Bool, true, false, refl, sym, ap, ◌∙◌, subst, arith, Some, None, append_assoc}
 use Rattle.std.specs.Prelude.{slice_get, if◌then◌else◌}
 use Rattle.idem_cell.specs.machine_states.specs.body_terms.specs.declared.micro.Micro.{Micro}
 use Rattle.idem_cell.specs.machine_states.specs.body_terms.specs.declared.micro.Micro.TheVariants as micros
+use Rattle.idem_cell.specs.machine_states.specs.body_terms.specs.declared.thunk.Thunk.{Thunk}
 use Rattle.idem_cell.specs.machine_states.specs.body_terms.specs.Line.{is_end}
 use Rattle.idem_cell.specs.machine_states.specs.table_words.specs.declared.layout.Layout.{Layout}
 use Rattle.idem_cell.specs.machine_states.specs.table_words.specs.declared.access.Access.{Access}
@@ -25,14 +26,27 @@ use Rattle.idem_alloc.specs.commit_log.specs.version_words.specs.TableState.{Tab
 use Rattle.idem_alloc.specs.commit_log.specs.Runs.{IsRunning, Stepped, Ran}
 use Rattle.idem_alloc.specs.commit_log.proofs.Running.{opened_stays, one_run}
 use Rattle.section_runs.specs.Reached.{events_after}
-use Rattle.section_runs.specs.Opened.{Stays, Learns}
+use Rattle.section_runs.specs.Opened.{Stays, Learns, ReadsOthers}
+use Rattle.section_runs.proofs.Readings.{reads_none, step_reads}
 use Rattle.section_runs.proofs.Records.{noted_known, noted_events, learns_none, line_leaves}
 
 module _ (m : Meaning) (l : Layout) (p : PartState) (q : RunState) (found : ℕ) where
   walk_stays : (micro : Micro) → (reads_behind p q micro found).walk ≡ p.reads.walk
+  walk_stays (micros.LoadCell place log) = refl
+  walk_stays (micros.NestedLoad place log) = refl
+  walk_stays (micros.NestedHold place word) = refl
+  walk_stays (micros.OutcomeLoad place log) = refl
+  walk_stays (micros.ExchangeCell place log value) = refl
+  walk_stays (micros.Release place word) = refl
   walk_stays _ = refl
 
   look_stays : (micro : Micro) → (reads_behind p q micro found).look ≡ p.reads.look
+  look_stays (micros.LoadCell place log) = refl
+  look_stays (micros.NestedLoad place log) = refl
+  look_stays (micros.NestedHold place word) = refl
+  look_stays (micros.OutcomeLoad place log) = refl
+  look_stays (micros.ExchangeCell place log value) = refl
+  look_stays (micros.Release place word) = refl
   look_stays _ = refl
 
   published_stays : (micro : Micro) (after : RunState) → run_behind m l p q micro found ≡ Some after → published_behind m p q micro ≡ p.published
@@ -92,24 +106,35 @@ module _ {T : Type 0} where
     look = two.look ∙ one.look;
   }
 
-each_more : (request : ℕ) (xs ys : List Known) → ((i : ℕ) (x : Known) → slice_get xs i ≡ Some x → x.request ≡ request)
-    → ((i : ℕ) (x : Known) → slice_get ys i ≡ Some x → x.request ≡ request) → (i : ℕ) (x : Known) → slice_get (xs ++ ys) i ≡ Some x → x.request ≡ request
-each_more request [] ys one two i x at = two i x at
-each_more request (y ∷ xs) ys one two zero x at = one 0 x at
-each_more request (y ∷ xs) ys one two (suc i) x at = each_more request xs ys (λ k z here. one (suc k) z here) two i x at
+-- what holds of each of two lists holds of each of both
+each_more : {A : Type 0} (P : A → Type 0) (xs ys : List A) → ((i : ℕ) (x : A) → slice_get xs i ≡ Some x → P x)
+    → ((i : ℕ) (x : A) → slice_get ys i ≡ Some x → P x) → (i : ℕ) (x : A) → slice_get (xs ++ ys) i ≡ Some x → P x
+each_more P [] ys one two i x at = two i x at
+each_more P (y ∷ xs) ys one two zero x at = one 0 x at
+each_more P (y ∷ xs) ys one two (suc i) x at = each_more P xs ys (λ k z here. one (suc k) z here) two i x at
 
 pub learns_more : (request : ℕ) (a b c : List Known) → Learns request a b → Learns request b c → Learns request a c
 learns_more request a b c one two = record {
   more = one.more ++ two.more;
   adds = two.adds ∙ (ap (λ xs. xs ++ two.more) one.adds ∙ append_assoc a one.more two.more);
-  only = each_more request one.more two.more one.only two.only;
+  only = each_more (λ (x : Known). x.request ≡ request) one.more two.more one.only two.only;
 }
 
--- what so many steps of a run left, that is still in progress
-pub record Passed {T : Type 0} (n request : ℕ) (old new : RunnerState T) : Type 0 where
+pub reads_more : (place word : ℕ) (a b c : List (ℕ × ℕ)) → ReadsOthers place word a b → ReadsOthers place word b c → ReadsOthers place word a c
+reads_more place word a b c one two = record {
+  more = one.more ++ two.more;
+  adds = two.adds ∙ (ap (λ xs. xs ++ two.more) one.adds ∙ append_assoc a one.more two.more);
+  others = λ i at. each_more (λ (x : ℕ × ℕ). x ≢ (place, word)) one.more two.more
+      (λ k x here same. one.others k (here ∙ ap (λ (y : ℕ × ℕ). Some y) same)) (λ k x here same. two.others k (here ∙ ap (λ (y : ℕ × ℕ). Some y) same))
+      i (place, word) at refl;
+}
+
+-- what so many steps of a run of this section left, that is still in progress
+pub record Passed {T : Type 0} (n : ℕ) (thunk : Thunk) (old new : RunnerState T) : Type 0 where
   pub stays : Stays old new
   pub events : new.part.records.events ≡ events_after old.part.records.events n
-  pub learns : Learns request old.part.records.known new.part.records.known
+  pub learns : Learns thunk.request old.part.records.known new.part.records.known
+  pub cells : ReadsOthers thunk.lock thunk.word old.part.reads.cells new.part.reads.cells
 
 module _ {T : Type 0} (m : Meaning) (laws : Laws m) (t : TableState T) (limits : IsWithinLimits t.layout) (allowed : AreAllowed t.requests) where
   pub run_open : (r : RunnerState T) → IsOf t r → (q : RunState) → IsRunning m r q → is_open_run q ≡ true
@@ -172,23 +197,26 @@ module _ {T : Type 0} (m : Meaning) (laws : Laws m) (t : TableState T) (limits :
   was_running zero a b same q is = (q, subst (λ (y : RunnerState T). IsRunning m y q) same is)
   was_running (suc n) a b ran q is = (ran.1, ran.4.running)
 
-  pub ran_passed : (n request : ℕ) (a b : RunnerState T) → IsOf t a → Ran m n a b → (q : RunState) → IsRunning m b q
-      → ((p : RunState) → IsRunning m a p → (thunk_of p.opened).request ≡ request) → Passed n request a b
-  ran_passed zero request a b own same q is of = subst (λ (y : RunnerState T). Passed 0 request a y) (sym same)
-      (record { stays = stays_same a; events = refl; learns = learns_none request a.part.records.known })
-  ran_passed (suc n) request a b own ran q is of =
+  pub ran_passed : (n : ℕ) (thunk : Thunk) (a b : RunnerState T) → IsOf t a → Ran m n a b → (q : RunState) → IsRunning m b q
+      → ((p : RunState) → IsRunning m a p → thunk_of p.opened ≡ thunk) → Passed n thunk a b
+  ran_passed zero thunk a b own same q is of = subst (λ (y : RunnerState T). Passed 0 thunk a y) (sym same)
+      (record { stays = stays_same a; events = refl; learns = learns_none thunk.request a.part.records.known; cells = reads_none thunk.lock thunk.word a.part.reads.cells })
+  ran_passed (suc n) thunk a b own ran q is of =
       let r = ran.0 in let p = ran.1 in let step = ran.4 in
       let between = was_running n r b ran.5 q is in
       let behind : r.part.run ≡ Some between.0 = between.1.inside.running in
       let opened = opened_stays m a.layout a.part p ran.3 ran.2 between.0 (sym step.behind.run ∙ behind) in
       let same = of p step.running in
-      let rest = ran_passed n request r b (still_of a r own p ran.2 ran.3 step) ran.5 q is
-      (λ p' is'. ap (λ (y : RunState). (thunk_of y.opened).request) (one_run m r p' between.0 is' between.1) ∙ (ap (λ xs. (thunk_of xs).request) opened ∙ same)) in
+      let own1 = still_of a r own p ran.2 ran.3 step in
+      let rest = ran_passed n thunk r b own1 ran.5 q is
+      (λ p' is'. ap (λ (y : RunState). thunk_of y.opened) (one_run m r p' between.0 is' between.1) ∙ (ap thunk_of opened ∙ same)) in
       record {
         stays = stays_more a r b (step_stays a r own p ran.2 ran.3 step between.0 behind) rest.stays;
         events = rest.events ∙ ap (λ k. events_after k n) (step_events a r own p ran.2 ran.3 step);
-        learns = learns_more request a.part.records.known r.part.records.known b.part.records.known
-            (subst (λ i. Learns i a.part.records.known r.part.records.known) same (step_learns a r own p ran.2 ran.3 step)) rest.learns;
+        learns = learns_more thunk.request a.part.records.known r.part.records.known b.part.records.known
+            (subst (λ (x : Thunk). Learns x.request a.part.records.known r.part.records.known) same (step_learns a r own p ran.2 ran.3 step)) rest.learns;
+        cells = reads_more thunk.lock thunk.word a.part.reads.cells r.part.reads.cells b.part.reads.cells
+            (subst (λ (x : Thunk). ReadsOthers x.lock x.word a.part.reads.cells r.part.reads.cells) same (step_reads m laws t limits allowed a r own own1 p ran.3 ran.2 step)) rest.cells;
       }
 
   pub ran_own : (n : ℕ) (a b : RunnerState T) → IsOf t a → Ran m n a b → IsOf t b

@@ -29,7 +29,7 @@ use Rattle.idem_alloc.specs.commit_log.specs.Runs.{Ran}
 use Rattle.idem_alloc.specs.commit_log.specs.Asked.{IsAsked}
 use Rattle.idem_alloc.specs.commit_log.specs.Halted.{IsHalted}
 use Rattle.section_runs.specs.Reached.{IsReached, events_after}
-use Rattle.section_runs.specs.Opened.{Learns, IsOpening, HasOpened}
+use Rattle.section_runs.specs.Opened.{Learns, ReadsOthers, IsOpening, HasOpened}
 use Rattle.section_runs.specs.declared.runs.RunEnd.{RunEnd}
 use Rattle.section_runs.specs.declared.runs.RunEnd.TheVariants.{Done, Halted}
 
@@ -94,6 +94,8 @@ module _ {T : Type 0} (m : Meaning) where
     pub guards : new.part.guards ≡ old.part.guards
     pub walk : new.part.reads.walk ≡ old.part.reads.walk
     pub look : new.part.reads.look ≡ old.part.reads.look
+    -- in the run it didn't read the word again that its lock had when the section was published
+    pub cells : ReadsOthers t.lock t.word old.part.reads.cells new.part.reads.cells
     -- what was learned is of the section's request
     pub learns : Learns t.request old.part.records.known new.part.records.known
     -- where the section answered, its runner knows both words of its request

@@ -1,5 +1,5 @@
 -- The opening of a run.
-use Rattle.std.specs.Prelude.{◌≡◌, ℕ, zero, suc, List, Bool, true, false, length, ◌++◌, ◌≤◌, slice_get, Option, Some, None}
+use Rattle.std.specs.Prelude.{◌≡◌, ◌≢◌, ℕ, zero, suc, List, Bool, true, false, length, ◌++◌, ◌≤◌, slice_get, Option, Some, None}
 use Rattle.idem_cell.specs.machine_states.specs.body_terms.specs.declared.thunk.Thunk.{Thunk}
 use Rattle.idem_cell.specs.runner_gate.specs.Asks.{Asks}
 use Rattle.idem_cell.specs.machine_states.specs.structure_laws.specs.Meaning.{Meaning}
@@ -19,6 +19,12 @@ pub record Learns (request : ℕ) (old new : List Known) : Type 0 where
   pub more : List Known
   pub adds : new ≡ old ++ more
   pub only : (i : ℕ) (x : Known) → slice_get more i ≡ Some x → x.request ≡ request
+
+-- what was read of cells is known on, and none of what was read since is this word at this place
+pub record ReadsOthers (place word : ℕ) (old new : List (ℕ × ℕ)) : Type 0 where
+  pub more : List (ℕ × ℕ)
+  pub adds : new ≡ old ++ more
+  pub others : (i : ℕ) → slice_get more i ≢ Some (place, word)
 
 -- what no step of a run changes but its last one
 module _ {T : Type 0} where

@@ -1,6 +1,6 @@
 -- The worker goes from one request to the next.
 use Rattle.std.proofs.Common.{◌≡◌, ℕ, zero, suc, ◌+◌, ◌<◌, ◌≤◌, List, [], ◌∷◌, ◌++◌, length, Bool, true, false, refl, sym, ap, subst, ◌∙◌, eq-eqb, arith, Option, Result, Ok, Some, None, inl, inr, slice_get}
-use Rattle.std.specs.Prelude.{◌==◌, ◌&&◌, ◌||◌, not, cond, ◌%◌}
+use Rattle.std.specs.Prelude.{◌==◌, ◌&&◌, ◌||◌, not, cond, if◌then◌else◌, ◌%◌}
 use Rattle.std.proofs.lemmas.Bool.Decides.{nat_tests}
 use Rattle.runner_steps.specs.table_words.specs.small_lemmas.proofs.Bools.{or_second as either}
 use Rattle.runner_steps.specs.body_terms.specs.Trail.{Agreed}
@@ -13,23 +13,26 @@ use Rattle.runner_steps.specs.runner_parts.specs.structure_laws.specs.Tray.{tray
 use Rattle.runner_steps.specs.runner_parts.specs.declared.entries.Known.{Known}
 use Rattle.runner_steps.specs.runner_parts.specs.declared.entries.Published.{Published}
 use Rattle.runner_steps.specs.runner_parts.specs.declared.event.EventKind.TheVariants as kinds
-use Rattle.runner_steps.specs.runner_parts.specs.State.{DescriptorsState, NodesState, ReadsState}
+use Rattle.runner_steps.specs.runner_parts.specs.epoch_core.specs.declared.stage.Stage.TheVariants as stages
+use Rattle.runner_steps.specs.runner_parts.specs.State.{DescriptorsState, GuardsState, NodesState, ReadsState}
 use Rattle.runner_steps.specs.runner_parts.specs.Tests.{has_pair, is_open, is_next, is_answered, knows, serves, is_between}
-use Rattle.runner_steps.specs.AfterInRun.{over_if}
+use Rattle.runner_steps.specs.AfterInRun.{kept_unless}
 use Rattle.runner_steps.specs.Outside.{is_due}
 use Rattle.try_lock.specs.commit_log.specs.version_words.specs.RunnerState.{RunnerState}
 use Rattle.try_lock.specs.commit_log.specs.version_words.specs.TableState.{TableState, IsOf}
-use Rattle.try_lock.specs.commit_log.specs.version_words.specs.Events.{Makes}
+use Rattle.try_lock.specs.commit_log.specs.version_words.specs.Events.{IsEnabled, Makes}
 use Rattle.try_lock.specs.commit_log.specs.version_words.specs.Naming.{load_of}
+use Rattle.try_lock.specs.commit_log.specs.version_words.specs.Stages.{IsAt}
 use Rattle.try_lock.specs.commit_log.specs.version_words.proofs.Stages.{then_loaded_cell}
-use Rattle.try_lock.specs.epoch_slots.specs.Entries.{Enters, Exits}
-use Rattle.try_lock.specs.epoch_slots.proofs.Outside.{nodes_made, descriptors_made, reads_made, known_made}
+use Rattle.try_lock.specs.epoch_slots.specs.Entries.{HasLeave, Enters, Exits}
+use Rattle.try_lock.specs.epoch_slots.proofs.Outside.{nodes_made, descriptors_made, guards_made, reads_made, known_made}
 use Rattle.try_lock.specs.commit_log.specs.Runs.{Ran}
 use Rattle.try_lock.specs.declared.section.Section.{Section}
 use Rattle.try_lock.specs.Ends.{EndsSo, IsCutShort}
 use Rattle.try_lock.specs.Publishes.{MayPublish, Publishes}
-use Rattle.try_lock.specs.Retires.{IsOver, HasRetired}
+use Rattle.try_lock.proofs.Guarding.{may_let_go, guard_at, guard_named, guard_keeps, guard_keeps_else}
 use Rattle.section_speed.specs.Scenes.{eight_requests, IsScene}
+use Rattle.try_lock.specs.Reached.{MayRunSection}
 use Rattle.section_speed.specs.Workers.{KnowsBelow, IsBefore, HasRead, MayRun}
 
 -- what isn't known
@@ -86,9 +89,9 @@ pair_last : (xs : List (ℕ × ℕ)) (a b : ℕ) → has_pair (xs ++ (a, b) ∷ 
 pair_last [] a b = let e : ((a == a && b == b) || false) ≡ true = grind (arith, nat_tests) in e
 pair_last (x ∷ xs) a b = either (x.0 == a && x.1 == b) (has_pair (xs ++ (a, b) ∷ []) a b) (pair_last xs a b)
 
-same_over : (d e : ℕ) (over : Bool) → d ≡ e → (over || d == e) ≡ true
-same_over d e true same = refl
-same_over d e false same = grind (arith, nat_tests, same)
+-- a section that was run to its end isn't published any more
+none_kept : (x : Published) (d : ℕ) → x.descriptor ≡ d → kept_unless (Some x) d ≡ None
+none_kept x d same = ap (λ b. if b then None else Some x) (eq-eqb x.descriptor d same)
 
 module _ {T : Type 0} where
   pub then_read : (idle entered r : RunnerState T) (request word : ℕ) → IsBefore request idle → 2 ≤ length idle.part.nodes.free → 1 ≤ length idle.part.descriptors.free
@@ -109,6 +112,7 @@ module _ {T : Type 0} where
         descriptors = subst (λ (d : DescriptorsState). 1 ≤ length d.free) (sym descriptors) some;
         hand = ap (λ (n : NodesState). n.hand) nodes ∙ before.tidy.hand;
         tests = ap (λ (n : NodesState). n.tests) nodes ∙ before.tidy.tests;
+        looked = ap (λ (g : GuardsState). g.looked) (guards_made tray (kinds.LoadCell (Some 0)) word entered r load resting ∙ enters.guards);
         reached = record { world = made.shown.world; reached = made.shown.reached; own = made.shown.own };
       }
 
@@ -152,6 +156,7 @@ module _ {T : Type 0} where
           knows = subst (KnowsBelow request) (sym publishes.known) read.knows;
           hand = ap (λ (n : NodesState). n.hand) publishes.nodes ∙ read.hand;
           tests = ap (λ (n : NodesState). n.tests) publishes.nodes ∙ read.tests;
+          looked = publishes.looked ∙ read.looked;
         }
 
   ran_number : (n : ℕ) (old new : RunnerState T) → Ran tray n old new → new.number ≡ old.number
@@ -164,37 +169,51 @@ module _ {T : Type 0} where
   cut_number d made old new (inr short) = ran_number short.count short.opened new short.ran ∙ short.opening.stays.number
 
   module _ (request : ℕ) (section : Section) (o : Outcome) (trail : Agreed) (made : ℕ) (old new : RunnerState T) (may : MayRun request section old) (ends : EndsSo tray section.descriptor may.thunk o trail made old new) where
-    -- the section is over, and may be retired
-    pub may_retire : IsOver new section.descriptor
-    may_retire =
-        let run = may.may in let x = run.section.published in
-        record {
-          epoch = run.epoch;
-          published = record x { over = x.over || x.descriptor == section.descriptor };
-          at = record {
-            present = ends.present ∙ run.at.present;
-            resting = ends.resting;
-            at = ends.stage ∙ run.at.at;
-            published = ends.published ∙ ap (λ (p : Option Published). over_if p section.descriptor) run.section.own;
-            settled = ap is_between ends.look ∙ run.at.settled;
-            seated = within ends.number ends.layout run.at.seated;
-          };
-          own = run.section.descriptor;
-          over = same_over x.descriptor section.descriptor x.over run.section.descriptor;
-        }
-      where
-        within : new.number ≡ old.number → new.layout ≡ old.layout → old.number ≤ old.layout.runners → new.number ≤ new.layout.runners
-        within number layout few = let e = ap (λ (l : Layout). l.runners) layout in omega (arith, number, e, few)
+    abbrev run : MayRunSection tray old may.thunk section
+    run = may.may
 
-    -- behind it the worker is before the next request
-    pub then_next : (gone idle : RunnerState T) → HasRetired tray section.descriptor new gone → Exits tray gone idle → IsBefore (request + 1) idle
-    then_next gone idle retired exits = record {
-      tidy = record {
-        at = exits.at;
-        hand = ap (λ (n : NodesState). n.hand) (exits.keeps.nodes ∙ retired.nodes) ∙ (ends.nodes.hand ∙ may.hand);
-        tests = ap (λ (n : NodesState). n.tests) (exits.keeps.nodes ∙ retired.nodes) ∙ ends.nodes.tests may.tests;
-      };
-      number = exits.keeps.number ∙ (ap (λ (y : RunnerState T). y.number) retired.event.made ∙ (ends.number ∙ may.number));
-      knows = subst (KnowsBelow (request + 1)) (sym (exits.keeps.known ∙ (retired.known ∙ ends.learns.adds)))
-          (record { below = below_more old.part.records.known ends.learns.more request may.knows.below (λ i x e. ends.learns.only i x e ∙ may.serves) });
+    -- the section is over
+    over_at : IsAt new (stages.Entered run.epoch) None
+    over_at = record {
+      present = ends.present ∙ run.at.present;
+      resting = ends.resting;
+      at = ends.stage ∙ run.at.at;
+      published = ends.published ∙ (ap (λ (p : Option Published). kept_unless p section.descriptor) run.section.own
+          ∙ none_kept run.section.published section.descriptor run.section.descriptor);
+      settled = ap is_between ends.look ∙ run.at.settled;
+      seated = let few = run.at.seated in let number = ends.number in let e = ap (λ (l : Layout). l.runners) ends.layout in omega (arith, number, e, few);
     }
+
+    -- so the worker may let its guard go
+    pub may_go : IsEnabled tray (kinds.Guard None) new
+    may_go = may_let_go tray new run.epoch over_at
+
+    module _ (found : ℕ) (gone : RunnerState T) (made : Makes tray (kinds.Guard None) found new gone) where
+      -- and leave
+      pub may_leave : HasLeave gone
+      may_leave = record {
+        epoch = run.epoch;
+        at = guard_at tray None found new gone made run.epoch over_at;
+        unguarded = guard_named tray None found new gone made ends.resting;
+      }
+
+      pub gone_number : gone.number ≡ 0
+      gone_number = (guard_keeps tray None found new gone made ends.resting).number ∙ (ends.number ∙ may.number)
+
+      -- behind it it is before the next request
+      pub then_next : (idle : RunnerState T) → Exits tray gone idle → IsBefore (request + 1) idle
+      then_next idle exits =
+          let keeps = guard_keeps tray None found new gone made ends.resting in
+          record {
+            tidy = record {
+              at = exits.at;
+              hand = ap (λ (n : NodesState). n.hand) (exits.keeps.nodes ∙ keeps.nodes) ∙ (ends.nodes.hand ∙ may.hand);
+              tests = ap (λ (n : NodesState). n.tests) (exits.keeps.nodes ∙ keeps.nodes) ∙ ends.nodes.tests may.tests;
+              looked = ap (λ (g : GuardsState). g.looked) exits.guards ∙ ((guard_keeps_else tray None found new gone made ends.resting).looked
+                  ∙ (ap (λ (g : GuardsState). g.looked) ends.guards ∙ may.looked));
+              unguarded = ap (λ (g : GuardsState). g.named) exits.guards ∙ guard_named tray None found new gone made ends.resting;
+            };
+            number = exits.keeps.number ∙ gone_number;
+            knows = subst (KnowsBelow (request + 1)) (sym (exits.keeps.known ∙ (keeps.known ∙ ends.learns.adds)))
+                (record { below = below_more old.part.records.known ends.learns.more request may.knows.below (λ i x e. ends.learns.only i x e ∙ may.serves) });
+          }

@@ -16,7 +16,7 @@ pub record KnowsBelow (request : ℕ) (known : List Known) : Type 0 where
   pub below : (i : ℕ) (x : Known) → slice_get known i ≡ Some x → x.request < request
 
 module _ {T : Type 0} where
-  -- the worker is idle with an empty hand, and knows nothing of this request
+  -- the worker is idle with an empty hand and no guard, and knows nothing of this request
   pub record IsBefore (request : ℕ) (r : RunnerState T) : Type 0 where
     pub tidy : IsTidy r
     pub number : r.number ≡ 0
@@ -33,6 +33,7 @@ module _ {T : Type 0} where
     pub descriptors : 1 ≤ length r.part.descriptors.free
     pub hand : r.part.nodes.hand ≡ []
     pub tests : r.part.nodes.tests ≡ []
+    pub looked : r.part.guards.looked ≡ []
     pub reached : IsReached tray r
 
   -- it may run the request's section, which is its own
@@ -44,3 +45,4 @@ module _ {T : Type 0} where
     pub knows : KnowsBelow request r.part.records.known
     pub hand : r.part.nodes.hand ≡ []
     pub tests : r.part.nodes.tests ≡ []
+    pub looked : r.part.guards.looked ≡ []

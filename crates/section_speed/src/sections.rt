@@ -10,7 +10,7 @@ use try_lock::commit_log::version_words::{FlockTable, Runner};
 use try_lock::epoch_slots::{Kind, enter, exit, reserve};
 use try_lock::section_runs::RunEnd;
 use try_lock::section_runs::runner_gate::Free;
-use try_lock::{Section, publish, retire_section, run_section};
+use try_lock::{Section, publish, run_section};
 
 /// The worker, where two node slots and a descriptor are free; else the worker too.
 fn with_reserve(worker: Runner<Tray>) -> Result<Runner<Tray>, Runner<Tray>>
@@ -89,7 +89,8 @@ fn reply_of(outcome: Outcome) -> u64 {
     }
 }
 
-/// Runs the section to its end, retires it, and leaves: the reply, where it came to its end.
+/// Runs the section to its end, with which its descriptor is retired, lets the guard go, and leaves: the reply, where it
+/// came to its end.
 fn run_own(
     table: &FlockTable<Tray>,
     worker: Runner<Tray>,
@@ -107,7 +108,7 @@ fn run_own(
     let (worker, end) = run_section(table, worker, &section, &mut gate, &mut steps);
     match end {
         RunEnd::Done(outcome, _trail) => {
-            let worker = retire_section(table, worker, section);
+            let worker = table.guard(worker, None);
             let worker = exit(table, worker);
             (worker, Some(reply_of(outcome)))
         }
