@@ -16,10 +16,10 @@ use Rattle.try_lock.specs.Prepares.{KeepsElse}
 
 module _ {T : Type 0} (m : Meaning) where
   pub may_guard : (d : ℕ) (r : RunnerState T) (epoch : ℕ) → IsAt r (stages.Entered epoch) None → d < descriptor_count r.layout → IsEnabled m (kinds.Guard (Some d)) r
-  may_guard d r epoch is few = guard_enabled m r None epoch (Some d) is (less_tested d (descriptor_count r.layout) few)
+  may_guard d r epoch is few = guard_enabled m r epoch (Some d) is (less_tested d (descriptor_count r.layout) few)
 
   pub may_let_go : (r : RunnerState T) (epoch : ℕ) → IsAt r (stages.Entered epoch) None → IsEnabled m (kinds.Guard None) r
-  may_let_go r epoch is = guard_enabled m r None epoch None is refl
+  may_let_go r epoch is = guard_enabled m r epoch None is refl
 
   module _ (d : Option ℕ) (found : ℕ) (r g : RunnerState T) (made : Makes m (kinds.Guard d) found r g) where
     pub guard_at : (epoch : ℕ) → IsAt r (stages.Entered epoch) None → IsAt g (stages.Entered epoch) None

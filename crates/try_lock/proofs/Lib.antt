@@ -1,5 +1,5 @@
 mod Preparing
 mod Publishing
-mod Guarding
-mod Watching
+pub mod Guarding
+pub mod Watching
 mod Helping

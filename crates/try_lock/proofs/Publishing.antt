@@ -66,7 +66,7 @@ pub last_is_free : (free xs : List ℕ) → xs ≡ free → 1 ≤ length free �
 last_is_free free xs is some = subst (λ ys. has ys (slice_index xs (length xs - 1)) ≡ true) is (has_at xs (length xs - 1) (let a = ap length is in omega (arith, a, some)))
 
 -- the words of the descriptor are those of the thunk, no done and an empty log, and the guard word names it
-record IsGuarded {T : Type 0} (d : ℕ) (t : Thunk) (old new : RunnerState T) : Type 0 where
+pub record IsGuarded {T : Type 0} (d : ℕ) (t : Thunk) (old new : RunnerState T) : Type 0 where
   pub at : (epoch : ℕ) → IsAt old (stages.Entered epoch) None → IsAt new (stages.Entered epoch) None
   pub keeps : KeepsElse old new
   pub prepared : is_prepared new.part.descriptors.stored d t ≡ true

@@ -1,5 +1,5 @@
 -- A lock that is held is watched.
-use Rattle.std.specs.Prelude.{◌≡◌, ℕ, ◌-◌, ◌<◌, ◌==◌, Bool, true, Some, None}
+use Rattle.std.specs.Prelude.{◌≡◌, ℕ, ◌-◌, ◌<◌, ◌==◌, Bool, true, false, Some, None}
 use Rattle.machine_states.specs.body_terms.specs.Word.{value_of, is_free}
 use Rattle.machine_states.specs.table_words.specs.declared.spot.Spot.TheVariants.{Cell}
 use Rattle.machine_states.specs.table_words.specs.Places.{descriptor_count}

@@ -116,8 +116,8 @@ fn has_eight_operands(thunk: &Thunk)
 }
 
 /// Publishes a section with this thunk: writes the thunk into an own free descriptor, with no done and an empty
-/// log, stores the own guard word to name it, and makes one exchange of the thunk's outer lock, from the free word that was read to the one that names
-/// the descriptor. A word of the descriptor that is right already isn't written.
+/// log, stores the own guard word to name it, and makes one exchange of the thunk's outer lock, from the free word that
+/// was read to the one that names the descriptor. A word of the descriptor that is right already isn't written.
 ///
 /// The runner has to be entered and in no run, without a section that it hasn't retired, and have a reserve of one
 /// descriptor. The thunk's outer word has to be free and not spent, and read in this entry. The thunk's request has
@@ -126,7 +126,8 @@ fn has_eight_operands(thunk: &Thunk)
 ///
 /// The answer is Ok exactly where the exchange won. Else it names the word that the exchange saw: Busy where that
 /// names a descriptor, Spent where it is free and has too few versions left to be taken and released, Stale
-/// otherwise; the descriptor is still free, and the guard word names it. No memory is taken (Ben-David, Blelloch, Wei, 2022).
+/// otherwise; the descriptor is still free, and the guard word names it. No memory is taken (Ben-David, Blelloch, Wei,
+/// 2022).
 pub fn publish<S: Structure>(
     table: &FlockTable<S>,
     runner: Runner<S>,
