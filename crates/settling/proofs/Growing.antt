@@ -11,14 +11,10 @@ use Rattle.machine_states.specs.structure_laws.specs.Meaning.{Meaning}
 use Rattle.machine_states.specs.runner_parts.specs.declared.entries.Left.{Left}
 use Rattle.machine_states.specs.runner_parts.specs.declared.event.EventKind.{EventKind}
 use Rattle.machine_states.specs.runner_parts.specs.declared.event.EventKind.TheVariants as kinds
-use Rattle.machine_states.specs.runner_parts.specs.State.{RunState, ReadsState, RecordsState, PartState}
+use Rattle.machine_states.specs.runner_parts.specs.State.{RunState, RecordsState, PartState}
 use Rattle.machine_states.specs.runner_steps.specs.After.{after_by, left_more, is_late_join, noted}
 use Rattle.machine_states.specs.World.{is_join}
 use Rattle.keeper_facts.specs.runner_facts.specs.next_steps.specs.Steps.{kind_at}
-use Rattle.keeper_facts.specs.runner_facts.specs.next_steps.specs.Stages.{reads_behind}
-use Rattle.machine_states.specs.body_terms.specs.Run.{written_once}
-use Rattle.machine_states.specs.runner_parts.specs.Lists.{holds_named, lock_agreed}
-use Rattle.machine_states.specs.runner_parts.specs.Tests.{has}
 use Rattle.keeper_facts.proofs.Keeping.{after_keeps, noted_joined}
 use Rattle.machine_states.proofs.Marks.{stays}
 use Rattle.try_lock.specs.commit_log.specs.version_words.specs.RunnerState.{RunnerState}
@@ -139,21 +135,3 @@ module _ {T : Type 0} (m : Meaning) where
   grows_opens (suc n) a b opens =
       let r = opens.0 in
       grows_on a r b (grows_opens n a r opens.3) (grows_made opens.1 opens.2 r b (opening_plain opens.1 opens.4) opens.5)
-
--- a lock's agreed word is no reading of a walk
-agreed_walk : (s : ReadsState) (descriptor word : ℕ) → (lock_agreed s descriptor word).walk ≡ s.walk
-agreed_walk s descriptor word = by (has s.published descriptor)
-  where
-    by : (b : Bool) → (if b then holds_named s word else s).walk ≡ s.walk
-    by true = refl
-    by false = refl
-
-behind_walk : (p : PartState) (q : RunState) (micro : Micro) (found : ℕ) → (reads_behind p q micro found).walk ≡ p.reads.walk
-behind_walk p q (micros.NestedCommit place log) found = agreed_walk p.reads q.descriptor (written_once found q.word)
-behind_walk p q (micros.OutcomeCommit place log) found = agreed_walk p.reads q.descriptor (written_once found q.word)
-behind_walk p q _ found = refl
-
--- a run loads no cell for a walk
-pub ran_walk : {T : Type 0} (m : Meaning) (n : ℕ) (a b : RunnerState T) → Ran m n a b → b.part.reads.walk ≡ a.part.reads.walk
-ran_walk m zero a b same = ap (λ (y : RunnerState _). y.part.reads.walk) same
-ran_walk m (suc n) a b ran = ran_walk m n ran.0 b ran.5 ∙ (ap (λ (s : ReadsState). s.walk) ran.4.behind.reads ∙ behind_walk a.part ran.1 ran.2 ran.3)

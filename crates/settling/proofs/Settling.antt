@@ -11,7 +11,7 @@ use Rattle.machine_states.specs.runner_steps.specs.Asks.{sizes_for}
 use Rattle.machine_states.specs.structure_laws.specs.Meaning.{Meaning}
 use Rattle.machine_states.specs.structure_laws.specs.Laws.{Laws}
 use Rattle.machine_states.specs.runner_parts.specs.declared.event.EventKind.TheVariants as kinds
-use Rattle.machine_states.specs.runner_parts.specs.State.{NodesState, ReadsState, PartState}
+use Rattle.machine_states.specs.runner_parts.specs.State.{NodesState, GuardsState, ReadsState, PartState}
 use Rattle.machine_states.specs.runner_parts.specs.Tests.{has}
 use Rattle.machine_states.specs.Reached.{Reached}
 use Rattle.machine_states.specs.Sight.{Sight, sight, part_or_first}
@@ -26,7 +26,7 @@ use Rattle.try_lock.specs.commit_log.specs.version_words.specs.TableState.{Table
 use Rattle.try_lock.specs.epoch_slots.specs.Entries.{HasLeave, Enters, Exits}
 use Rattle.try_lock.specs.epoch_slots.proofs.Outside.{reads_made}
 use Rattle.settling.specs.Settled.{LoadsLocks, MaySettle, IsSettled, Settles}
-use Rattle.settling.specs.Clearing.{cell_count, KeepsJoins, IsClearing}
+use Rattle.settling.specs.Clearing.{cell_count, KeepsJoins, IsUnderway, IsClearing}
 use Rattle.settling.proofs.Growing.{Grows, grows_on, own_grows, grows_made}
 use Rattle.settling.proofs.Clears.{RecordTells, cleared_in, freed_in, keeps_grown}
 
@@ -42,8 +42,8 @@ module _ {T : Type 0} (m : Meaning) (laws : Laws m) (t : TableState T) (limits :
     pub enter_keeps : KeepsJoins old r
     enter_keeps = keeps_grown old r entering enters.keeps
 
-    pub begins : IsClearing m (length r.part.records.finished) 0 r
-    begins = record {
+    begins_way : IsUnderway m (length r.part.records.finished) 0 r
+    begins_way = record {
       epoch = enters.epoch;
       at = enters.at;
       keeper = entering.number ∙ may.joined.number ∙ ap (λ l. l.runners) (sym (entering.layout ∙ own.layout));
@@ -59,13 +59,17 @@ module _ {T : Type 0} (m : Meaning) (laws : Laws m) (t : TableState T) (limits :
       reserve = subst (λ l. 2 * l.runners + 2 ≤ length r.part.nodes.free + 0) (sym (entering.layout ∙ own.layout))
           (let a = ap (λ (n : NodesState). length n.free) enters.keeps.nodes in let b = may.free in omega (arith, a, b));
       runs = omega arith;
+      looked = ap (λ (g : GuardsState). g.looked) enters.guards;
     }
       where
         none_read : {x : ℕ × ℕ} → None ≡ Some x → ⊥
         none_read e = cc
 
+    pub begins : IsClearing m (length r.part.records.finished) 0 r
+    begins = record { way = begins_way; unguarded = ap (λ (g : GuardsState). g.named) enters.guards ∙ may.tidy.unguarded }
+
   pub may_leave : (begun below : ℕ) (r : RunnerState T) → IsClearing m begun below r → HasLeave r
-  may_leave begun below r is = record { epoch = is.epoch; at = is.at }
+  may_leave begun below r is = record { epoch = is.way.epoch; at = is.way.at; unguarded = is.unguarded }
 
   module _ (begun : ℕ) (r new : RunnerState T) (own : IsOf t r) (is : IsClearing m begun (cell_count m t.layout) r) (exits : Exits m r new) where
     leaving : Grows r new
@@ -78,7 +82,7 @@ module _ {T : Type 0} (m : Meaning) (laws : Laws m) (t : TableState T) (limits :
     own' = own_grows t r new leaving own
 
     keeper : new.number ≡ new.layout.runners
-    keeper = leaving.number ∙ is.keeper ∙ ap (λ l. l.runners) (sym leaving.layout)
+    keeper = leaving.number ∙ is.way.keeper ∙ ap (λ l. l.runners) (sym leaving.layout)
 
     -- in each state in which the keeper has this part
     module _ (w : World) (reached : Reached m new.layout new.requests w) (part : slice_get w.parts (seat_of new.layout new.number) ≡ Some new.part) where
@@ -96,7 +100,7 @@ module _ {T : Type 0} (m : Meaning) (laws : Laws m) (t : TableState T) (limits :
 
       joined : AllJoined new.layout s
       joined worker low = ap (λ (p : PartState). has p.records.joined worker) seen
-          ∙ (ap (λ xs. has xs worker) leaving.told ∙ is.told worker (subst (λ l. worker < l.runners) leaving.layout low))
+          ∙ (ap (λ xs. has xs worker) leaving.told ∙ is.way.told worker (subst (λ l. worker < l.runners) leaving.layout low))
 
       alone : IsAlone new.layout s
       alone = record { joined = joined; resting = ap (λ (p : PartState). p.run) seen ∙ exits.at.resting }
@@ -107,7 +111,7 @@ module _ {T : Type 0} (m : Meaning) (laws : Laws m) (t : TableState T) (limits :
       free : (place : ℕ) → m.is_lock place ≡ true → value_of (s.word (Cell place)) ≡ 0
       free place lock = ⊎_elim
           (λ low. tells.cleared alone place (subst (λ (p : PartState). IsCleared p.records.left place) (sym seen)
-          (cleared_in r.part.records.left new.part.records.left leaving.left place (is.cleared place low lock))) lock)
+          (cleared_in r.part.records.left new.part.records.left leaving.left place (is.way.cleared place low lock))) lock)
           (λ high. ap value_of (beyond place high))
           (cases_lt place (cell_count m t.layout))
         where
@@ -125,13 +129,13 @@ module _ {T : Type 0} (m : Meaning) (laws : Laws m) (t : TableState T) (limits :
       settled = record { free = free; replied = (history.closed free).replied }
 
       -- it ran at most one section for each worker
-      few_freed : length is.freed ≤ new.layout.runners
-      few_freed = tells.few joined is.freed is.apart (λ d h. subst (λ (p : PartState). IsFreed m p.records.left d) (sym seen)
-          (freed_in m r.part.records.left new.part.records.left leaving.left d (is.each d h)))
+      few_freed : length is.way.freed ≤ new.layout.runners
+      few_freed = tells.few joined is.way.freed is.way.apart (λ d h. subst (λ (p : PartState). IsFreed m p.records.left d) (sym seen)
+          (freed_in m r.part.records.left new.part.records.left leaving.left d (is.way.each d h)))
 
     -- where it has freed none, it ran none
-    none_freed : ((d : ℕ) → IsFreed m new.part.records.left d → ⊥) → length is.freed ≡ 0
-    none_freed none = by is.freed (λ d h. none d (freed_in m r.part.records.left new.part.records.left leaving.left d (is.each d h)))
+    none_freed : ((d : ℕ) → IsFreed m new.part.records.left d → ⊥) → length is.way.freed ≡ 0
+    none_freed none = by is.way.freed (λ d h. none d (freed_in m r.part.records.left new.part.records.left leaving.left d (is.way.each d h)))
       where
         by : (ds : List ℕ) → ((d : ℕ) → has ds d ≡ true → ⊥) → length ds ≡ 0
         by [] empty = refl
@@ -146,22 +150,24 @@ module _ {T : Type 0} (m : Meaning) (laws : Laws m) (t : TableState T) (limits :
       reached = record { world = exits.announce.event.shown.world; reached = exits.announce.event.shown.reached; own = exits.announce.event.shown.own };
       tidy = record {
         at = exits.at;
-        hand = ap (λ (n : NodesState). n.hand) exits.keeps.nodes ∙ is.hand;
-        tests = ap (λ (n : NodesState). n.tests) exits.keeps.nodes ∙ is.tests;
+        hand = ap (λ (n : NodesState). n.hand) exits.keeps.nodes ∙ is.way.hand;
+        tests = ap (λ (n : NodesState). n.tests) exits.keeps.nodes ∙ is.way.tests;
+        looked = ap (λ (g : GuardsState). g.looked) exits.guards ∙ is.way.looked;
+        unguarded = ap (λ (g : GuardsState). g.named) exits.guards ∙ is.unguarded;
       };
       number = keeps.number;
       joined = keeps.joined;
       told = keeps.told;
       crosses = keeps.crosses;
       known = keeps.known;
-      loaded = subst (LoadsLocks m) (ap (λ (s : ReadsState). s.walk) (sym (reads_made m kinds.Idle exits.announce.found r new exits.announce.event is.at.resting))) is.loaded;
+      loaded = subst (LoadsLocks m) (ap (λ (s : ReadsState). s.walk) (sym (reads_made m kinds.Idle exits.announce.found r new exits.announce.event is.way.at.resting))) is.way.loaded;
       few =
           let shown = exits.announce.event.shown in
           let freed = few_freed shown.world shown.reached shown.own in
-          let runs = ap length exits.keeps.finished ∙ is.runs in
+          let runs = ap length exits.keeps.finished ∙ is.way.runs in
           let layout = ap (λ l. l.runners) keeps.layout in omega (arith, freed, runs, layout, same);
       quiet = λ none.
-          let runs = ap length exits.keeps.finished ∙ is.runs in
+          let runs = ap length exits.keeps.finished ∙ is.way.runs in
           let freed = none_freed none in
           let finished : length new.part.records.finished ≡ length old.part.records.finished = omega (arith, runs, freed, same) in
           (keeps.quiet finished, finished);

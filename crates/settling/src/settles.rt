@@ -5,15 +5,15 @@ ghost use Rattle.machine_states.specs.body_terms.specs.Word.{value_of};
 ghost use Rattle.try_lock.specs.commit_log.specs.version_words.specs.TableState.{IsOf};
 ghost use Rattle.try_lock.specs.Reached.{MayHelp};
 ghost use Rattle.settling.specs.Settled.{MaySettle, Settles};
-ghost use Rattle.settling.specs.Clearing.{cell_count, KeepsJoins, IsClearing, HasRun};
+ghost use Rattle.settling.specs.Clearing.{cell_count, KeepsJoins, IsClearing, HasMet, HasRun};
 
 use keeper_facts::what_the_keeper_saw_tells;
 use machine_states::body_terms::{Place, Steps, Word};
 use machine_states::structure_laws::Structure;
 use try_lock::commit_log::version_words::{FlockTable, Runner};
 use try_lock::epoch_slots::{enter, exit};
-use try_lock::help;
 use try_lock::section_runs::runner_gate::Free;
+use try_lock::{help, watch};
 
 /// How many cells the table has.
 fn cells<S: Structure>(table: &FlockTable<S>) -> u32
@@ -37,6 +37,33 @@ fn run_named<S: Structure>(table: &FlockTable<S>, keeper: Runner<S>, held: Word)
     keeper
 }
 
+/// Watches this lock, which named a section as it was loaded, runs that section if the lock has the word still, and lets
+/// the own guard go. All workers are joined, so it has; and a lock that had another word by now would name no section.
+fn clear_named<S: Structure>(
+    table: &FlockTable<S>,
+    keeper: Runner<S>,
+    place: Place,
+    held: Word,
+) -> Runner<S>
+    requires own { IsOf table.now keeper }
+    requires lock { (S.meaning table.now.structure).is_lock place ≡ true }
+    requires within { place < cell_count (S.meaning table.now.structure) table.now.layout }
+    requires next { (begun : ℕ) × HasMet (S.meaning table.now.structure) begun place held keeper }
+    ensures own { IsOf table.now result }
+    ensures cleared { (begun : ℕ) → HasMet (S.meaning table.now.structure) begun place held keeper
+        → IsClearing (S.meaning table.now.structure) begun (place + 1) result }
+    ensures keeps { KeepsJoins keeper result }
+{
+    what_the_keeper_saw_tells(table.structure());
+    let (keeper, stands) = watch(table, keeper, place, held);
+    if stands {
+        let keeper = run_named(table, keeper, held);
+        table.guard(keeper, None)
+    } else {
+        table.guard(keeper, None)
+    }
+}
+
 /// Loads this lock, and runs the section that it names, if it names one.
 fn clear_lock<S: Structure>(table: &FlockTable<S>, keeper: Runner<S>, place: Place) -> Runner<S>
     requires own { IsOf table.now keeper }
@@ -48,12 +75,11 @@ fn clear_lock<S: Structure>(table: &FlockTable<S>, keeper: Runner<S>, place: Pla
         → IsClearing (S.meaning table.now.structure) begun (place + 1) result }
     ensures keeps { KeepsJoins keeper result }
 {
-    what_the_keeper_saw_tells(table.structure());
     let (keeper, word) = table.load_cell(keeper, place);
     if word.value() == 0 {
         keeper
     } else {
-        run_named(table, keeper, word)
+        clear_named(table, keeper, place, word)
     }
 }
 

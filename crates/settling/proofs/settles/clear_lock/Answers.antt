@@ -1,24 +1,24 @@
 use Rattle.std.proofs.Common.{◌<◌, sym, ◌∙◌, subst, refl}
 use Rattle.settling.specs.Clearing.{cell_count}
-use Rattle.settling.proofs.Clears.{RecordTells, keeps_on, load_keeps, clears_free, may_help, run_keeps, clears_named}
+use Rattle.settling.proofs.Clears.{load_keeps, keeps_on, clears_free, has_met}
 use Rattle.settling.proofs.settles.clear_lock.Goals as goal
 
-pub run_named-requires-clause-next : goal.run_named-requires-clause-next
-run_named-requires-clause-next g c κs within =
+pub clear_named-requires-clause-next : goal.clear_named-requires-clause-next
+clear_named-requires-clause-next g c κs within =
     let met = g.met.S.Structure g.world.𝓛 g.world.𝓜 g.world.𝓡 ((λ s allowed. allowed), (λ patient. patient), (λ alone. alone), (λ cuts. cuts)) in
-    let m = g.S.Structure.meaning c.args.table.now.structure in
-    may_help m (met.laws c.args.table.now.structure) c.args.table.now (c.requires.own.limits _ refl) (c.requires.own.allowed _ refl)
-    (subst (λ s. RecordTells (g.S.Structure.meaning s)) c.structure.ensures c.what_the_keeper_saw_tells.ensures)
-    c.requires.next.0 c.args.place c.requires.lock c.args.keeper c.requires.own c.requires.next.1 (subst (λ l. c.args.place < cell_count m l) (sym c.requires.own.layout) c.requires.within)
-    c.load_cell-keeper.result.1 c.load_cell-keeper.result.0 c.load_cell-keeper.ensures.own c.load_cell-keeper.ensures.event (λ e. c.if-value-eq0.false (c.value.ensures ∙ e))
+    let m = g.S.Structure.meaning c.args.table.now.structure in (
+      c.requires.next.0,
+      has_met m (met.laws c.args.table.now.structure) c.args.table.now (c.requires.own.limits _ refl) (c.requires.own.allowed _ refl)
+          c.requires.next.0 c.args.place c.requires.lock c.args.keeper c.requires.next.1 (subst (λ l. c.args.place < cell_count m l) (sym c.requires.own.layout) c.requires.within)
+          c.load_cell-keeper.result.1 c.load_cell-keeper.result.0 c.load_cell-keeper.ensures.own c.load_cell-keeper.ensures.event (λ e. c.if-value-eq0.false (c.value.ensures ∙ e)),
+    )
 
 pub returns-then-value-eq0-clause-cleared : goal.returns-then-value-eq0-clause-cleared
 returns-then-value-eq0-clause-cleared g c =
     let met = g.met.S.Structure g.world.𝓛 g.world.𝓜 g.world.𝓡 ((λ s allowed. allowed), (λ patient. patient), (λ alone. alone), (λ cuts. cuts)) in
     let m = g.S.Structure.meaning c.args.table.now.structure in
     λ begun clearing. clears_free m (met.laws c.args.table.now.structure) c.args.table.now (c.requires.own.limits _ refl) (c.requires.own.allowed _ refl)
-    (subst (λ s. RecordTells (g.S.Structure.meaning s)) c.structure.ensures c.what_the_keeper_saw_tells.ensures)
-    begun c.args.place c.requires.lock c.args.keeper c.requires.own clearing (subst (λ l. c.args.place < cell_count m l) (sym c.requires.own.layout) c.requires.within)
+    begun c.args.place c.requires.lock c.args.keeper clearing (subst (λ l. c.args.place < cell_count m l) (sym c.requires.own.layout) c.requires.within)
     c.load_cell-keeper.result.1 c.load_cell-keeper.result.0 c.load_cell-keeper.ensures.own c.load_cell-keeper.ensures.event (sym c.value.ensures ∙ c.if-value-eq0.true)
 
 pub returns-then-value-eq0-clause-keeps : goal.returns-then-value-eq0-clause-keeps
@@ -26,31 +26,24 @@ returns-then-value-eq0-clause-keeps g c =
     let met = g.met.S.Structure g.world.𝓛 g.world.𝓜 g.world.𝓡 ((λ s allowed. allowed), (λ patient. patient), (λ alone. alone), (λ cuts. cuts)) in
     let m = g.S.Structure.meaning c.args.table.now.structure in
     load_keeps m (met.laws c.args.table.now.structure) c.args.table.now (c.requires.own.limits _ refl) (c.requires.own.allowed _ refl)
-    (subst (λ s. RecordTells (g.S.Structure.meaning s)) c.structure.ensures c.what_the_keeper_saw_tells.ensures)
-    c.requires.next.0 c.args.place c.requires.lock c.args.keeper c.requires.own c.requires.next.1 (subst (λ l. c.args.place < cell_count m l) (sym c.requires.own.layout) c.requires.within)
+    c.requires.next.0 c.args.place c.requires.lock c.args.keeper c.requires.next.1 (subst (λ l. c.args.place < cell_count m l) (sym c.requires.own.layout) c.requires.within)
     c.load_cell-keeper.result.1 c.load_cell-keeper.result.0 c.load_cell-keeper.ensures.own c.load_cell-keeper.ensures.event
 
 pub returns-else-value-eq0-clause-cleared : goal.returns-else-value-eq0-clause-cleared
 returns-else-value-eq0-clause-cleared g c =
     let met = g.met.S.Structure g.world.𝓛 g.world.𝓜 g.world.𝓡 ((λ s allowed. allowed), (λ patient. patient), (λ alone. alone), (λ cuts. cuts)) in
     let m = g.S.Structure.meaning c.args.table.now.structure in
-    λ begun clearing. clears_named m (met.laws c.args.table.now.structure) c.args.table.now (c.requires.own.limits _ refl) (c.requires.own.allowed _ refl)
-    (subst (λ s. RecordTells (g.S.Structure.meaning s)) c.structure.ensures c.what_the_keeper_saw_tells.ensures)
-    begun c.args.place c.requires.lock c.args.keeper c.requires.own clearing (subst (λ l. c.args.place < cell_count m l) (sym c.requires.own.layout) c.requires.within)
-    c.load_cell-keeper.result.1 c.load_cell-keeper.result.0 c.load_cell-keeper.ensures.own c.load_cell-keeper.ensures.event (λ e. c.if-value-eq0.false (c.value.ensures ∙ e))
-    c.run_named.result c.run_named.ensures.own c.run_named.ensures.ran
+    λ begun clearing. c.clear_named.ensures.cleared begun
+    (has_met m (met.laws c.args.table.now.structure) c.args.table.now (c.requires.own.limits _ refl) (c.requires.own.allowed _ refl)
+    begun c.args.place c.requires.lock c.args.keeper clearing (subst (λ l. c.args.place < cell_count m l) (sym c.requires.own.layout) c.requires.within)
+    c.load_cell-keeper.result.1 c.load_cell-keeper.result.0 c.load_cell-keeper.ensures.own c.load_cell-keeper.ensures.event (λ e. c.if-value-eq0.false (c.value.ensures ∙ e)))
 
 pub returns-else-value-eq0-clause-keeps : goal.returns-else-value-eq0-clause-keeps
 returns-else-value-eq0-clause-keeps g c =
     let met = g.met.S.Structure g.world.𝓛 g.world.𝓜 g.world.𝓡 ((λ s allowed. allowed), (λ patient. patient), (λ alone. alone), (λ cuts. cuts)) in
     let m = g.S.Structure.meaning c.args.table.now.structure in
-    keeps_on c.args.keeper c.load_cell-keeper.result.0 c.run_named.result
+    keeps_on c.args.keeper c.load_cell-keeper.result.0 c.clear_named.result
     (load_keeps m (met.laws c.args.table.now.structure) c.args.table.now (c.requires.own.limits _ refl) (c.requires.own.allowed _ refl)
-    (subst (λ s. RecordTells (g.S.Structure.meaning s)) c.structure.ensures c.what_the_keeper_saw_tells.ensures)
-    c.requires.next.0 c.args.place c.requires.lock c.args.keeper c.requires.own c.requires.next.1 (subst (λ l. c.args.place < cell_count m l) (sym c.requires.own.layout) c.requires.within)
+    c.requires.next.0 c.args.place c.requires.lock c.args.keeper c.requires.next.1 (subst (λ l. c.args.place < cell_count m l) (sym c.requires.own.layout) c.requires.within)
     c.load_cell-keeper.result.1 c.load_cell-keeper.result.0 c.load_cell-keeper.ensures.own c.load_cell-keeper.ensures.event)
-    (run_keeps m (met.laws c.args.table.now.structure) c.args.table.now (c.requires.own.limits _ refl) (c.requires.own.allowed _ refl)
-    (subst (λ s. RecordTells (g.S.Structure.meaning s)) c.structure.ensures c.what_the_keeper_saw_tells.ensures)
-    c.requires.next.0 c.args.place c.requires.lock c.args.keeper c.requires.own c.requires.next.1 (subst (λ l. c.args.place < cell_count m l) (sym c.requires.own.layout) c.requires.within)
-    c.load_cell-keeper.result.1 c.load_cell-keeper.result.0 c.load_cell-keeper.ensures.own c.load_cell-keeper.ensures.event (λ e. c.if-value-eq0.false (c.value.ensures ∙ e))
-    c.run_named.result c.run_named.ensures.own c.run_named.ensures.ran)
+    c.clear_named.ensures.keeps

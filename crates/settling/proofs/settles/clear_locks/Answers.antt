@@ -1,5 +1,4 @@
 use Rattle.std.proofs.Common.{◌≡◌, ◌+◌, length, false, sym, subst, ap, ◌∙◌}
-use Rattle.machine_states.specs.structure_laws.specs.Meaning.{Meaning}
 use Rattle.try_lock.specs.commit_log.specs.version_words.specs.TableState.{IsOf}
 use Rattle.settling.specs.Clearing.{KeepsJoins, IsClearing}
 use Rattle.settling.proofs.Clears.{keeps_on, skips}
