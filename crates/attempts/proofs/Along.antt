@@ -14,8 +14,7 @@ use Rattle.machine_states.specs.table_words.specs.Limits.{IsWithinLimits}
 use Rattle.machine_states.specs.structure_laws.specs.Meaning.{Meaning}
 use Rattle.machine_states.specs.structure_laws.specs.Laws.{Laws}
 use Rattle.machine_states.specs.runner_parts.specs.declared.entries.Known.{Known}
-use Rattle.machine_states.specs.runner_parts.specs.State.{RunState, PartState, ReadsState}
-use Rattle.machine_states.specs.runner_parts.specs.Tests.{has_pair}
+use Rattle.machine_states.specs.runner_parts.specs.State.{RunState, PartState}
 use Rattle.machine_states.specs.runner_steps.specs.Sections.{thunk_of, line_of, setting_of, settles}
 use Rattle.machine_states.specs.runner_steps.specs.After.{line_after}
 use Rattle.lock_words.specs.machine_epochs.proofs.RunPlaces.{is_of_end, next_in_line}
@@ -37,7 +36,7 @@ use Rattle.lock_walks.specs.try_lock.specs.section_runs.proofs.Told.{HasStamp, s
 use Rattle.lock_walks.specs.try_lock.specs.section_runs.proofs.Staying.{run_open, still_of, step_learns, step_stays, learns_more}
 use Rattle.attempts.specs.Learned.{StoodAtStamp, HasLearned}
 use Rattle.attempts.proofs.Knowing.{append_none}
-use Rattle.attempts.proofs.Placing.{tells, IsOn, is_on, quiet_known, cells_stay}
+use Rattle.attempts.proofs.Placing.{tells, IsOn, is_on, quiet_known}
 
 module _ {T : Type 0} (m : Meaning) (laws : Laws m) (t : TableState T) (limits : IsWithinLimits t.layout) (allowed : AreAllowed t.requests)
     (old : RunnerState T) (d : ℕ) (thunk : Thunk) where
@@ -297,11 +296,3 @@ module _ {T : Type 0} where
         limits = there.limits;
         allowed = there.allowed;
       }
-
-  -- and forgets no cell that it read
-  pub ran_cells : (m : Meaning) (n : ℕ) (a b : RunnerState T) → Ran m n a b → (place word : ℕ)
-      → has_pair a.part.reads.cells place word ≡ true → has_pair b.part.reads.cells place word ≡ true
-  ran_cells m zero a b same place word read = ap (λ (y : RunnerState T). has_pair y.part.reads.cells place word) same ∙ read
-  ran_cells m (suc n) a b ran place word read =
-      ran_cells m n ran.0 b ran.5 place word (ap (λ (s : ReadsState). has_pair s.cells place word) ran.4.behind.reads
-      ∙ cells_stay m a.layout a.part ran.1 ran.3 ran.2 place word read)

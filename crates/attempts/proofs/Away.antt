@@ -115,7 +115,7 @@ module _ {T : Type 0} (m : Meaning) (laws : Laws m) (t : TableState T) (limits :
       learned = ended_learned m laws t limits allowed watching helped own_helped (value_of word - 1) u outcome trail made ends
 
       pub help_go : MayLetGo helped
-      help_go = record { epoch = may.leave.epoch; at = ended_at m (value_of word - 1) u outcome trail made watching helped ends may.leave.epoch None (watched_at m place word true old watching watched may_busy) }
+      help_go = record { epoch = may_busy.leave.epoch; at = ended_at m (value_of word - 1) u outcome trail made watching helped ends may_busy.leave.epoch None (watched_at m place word true old watching watched may_busy) }
 
       pub help_turned : (new : RunnerState T) → HasGone m helped new
           → ((w : World) → Reached m t.layout t.requests w → NamesStand m (sight m t.layout t.requests w))

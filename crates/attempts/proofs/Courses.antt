@@ -114,7 +114,7 @@ module _ {T : Type 0} (m : Meaning) (planning : Planning) (request : Request) (o
 
   -- the publication was refused
   module _ (thunk : Thunk) (refused : Refused) (r : RunnerState T) (is : HasTried m planning request thunk (Err refused) old r) where
-    lost : IsRefused thunk is.publishes.found is.planned r refused
+    lost : IsRefused thunk is.publishes.descriptor is.publishes.found is.planned r refused
     lost = is.publishes.refused
 
     by_word : (free spent : Bool) (expected found place word : ℕ) (e : Refused)

@@ -1,18 +1,24 @@
 -- An attempt's own run, to its end or to where a gate halted it.
-use Rattle.std.specs.Prelude.{◌&&◌, not, Bool, true, false, Ok, if◌then◌else◌}
-use Rattle.std.proofs.Common.{◌≡◌, ℕ, ◌+◌, ◌≤◌, List, [], ◌∷◌, ◌++◌, length, refl, sym, ap, ◌∙◌, subst, arith, Some}
+use Rattle.std.specs.Prelude.{◌&&◌, not, Bool, true, false, Ok, slice_get, if◌then◌else◌}
+use Rattle.std.proofs.Common.{◌≡◌, ◌≢◌, ℕ, ◌+◌, ◌≤◌, List, [], ◌∷◌, ◌++◌, length, refl, sym, ap, ◌∙◌, subst, ⊎_elim, arith, Some, None}
 use Rattle.std.proofs.lemmas.Bool.{true≢false}
 use Rattle.machine_states.specs.map_history.specs.declared.op.Request.{Request}
 use Rattle.machine_states.specs.body_terms.specs.Trail.{Agreed}
 use Rattle.machine_states.specs.body_terms.specs.declared.outcome.Outcome.{Outcome}
+use Rattle.machine_states.specs.body_terms.specs.declared.outcome.Outcome.TheVariants.{Answered}
 use Rattle.machine_states.specs.body_terms.specs.declared.thunk.Thunk.{Thunk}
+use Rattle.machine_states.specs.table_words.specs.declared.layout.Layout.{Layout}
 use Rattle.machine_states.specs.table_words.specs.Limits.{IsWithinLimits}
 use Rattle.runner_gate.specs.Asks.{Asks}
 use Rattle.machine_states.specs.structure_laws.specs.Meaning.{Meaning}
 use Rattle.machine_states.specs.structure_laws.specs.Laws.{Laws}
 use Rattle.machine_states.specs.runner_parts.specs.declared.entries.Known.{Known}
 use Rattle.machine_states.specs.runner_parts.specs.declared.entries.Published.{Published}
-use Rattle.machine_states.specs.runner_parts.specs.State.{PartState}
+use Rattle.machine_states.specs.runner_parts.specs.State.{PartState, RunState, FinishedState}
+use Rattle.machine_states.specs.runner_parts.specs.Tests.{is_answered}
+use Rattle.machine_states.specs.runner_steps.specs.Sections.{thunk_of}
+use Rattle.machine_states.specs.World.{World, seat_of}
+use Rattle.machine_states.specs.Reached.{Reached}
 use Rattle.machine_states.specs.Sight.{Sight, sight, part_or_first}
 use Rattle.lock_words.specs.machine_epochs.specs.Slots.{thunk_in}
 use Rattle.machine_facts.specs.machine_agreement.proofs.RunPlaces.{opened_thunk}
@@ -24,46 +30,47 @@ use Rattle.version_words.specs.TableState.{TableState, IsOf}
 use Rattle.lock_walks.specs.try_lock.specs.commit_log.specs.Asked.{IsAsked}
 use Rattle.lock_walks.specs.try_lock.specs.declared.section.Section.{Section}
 use Rattle.lock_walks.specs.try_lock.specs.Planning.{Planning}
+use Rattle.lock_walks.specs.try_lock.specs.Reached.{IsSectionOf}
 use Rattle.lock_walks.specs.try_lock.specs.Ends.{EndsSo, IsCutShort}
 use Rattle.attempts.specs.Knowing.{LearnsNoOther}
 use Rattle.attempts.specs.Learned.{StoodAtStamp, IsCut}
 use Rattle.attempts.specs.Course.{HasTried, HasEnded}
 use Rattle.attempts.specs.Counted.{IsCounted}
-use Rattle.attempts.specs.Attempts.{is_halted, has_helped, most_of_run, IsBrief, InOwnRun, IsHalted}
+use Rattle.attempts.specs.Attempts.{is_halted, has_helped, most_of_run, IsBrief, InOwnRun, HasJustEnded, IsHalted}
 use Rattle.attempts.specs.Rests.{Rests}
 use Rattle.attempts.specs.declared.answers.Attempt.{Attempt}
 use Rattle.attempts.specs.declared.answers.Attempt.TheVariants as answers
-use Rattle.attempts.proofs.Knowing.{knows_on, no_other_same, no_other_on, no_other_learned, append_none, length_on}
+use Rattle.attempts.proofs.Knowing.{knows_on, front_same, no_other_same, no_other_on, no_other_learned, append_none, length_on}
 use Rattle.attempts.proofs.Counting.{counted_steps, asked_then, steps_then, seen_then}
 use Rattle.attempts.proofs.Leaving.{ended_knows}
-use Rattle.attempts.proofs.Trying.{cut_published, cut_is_published}
-use Rattle.attempts.proofs.Telling.{cut_is}
+use Rattle.attempts.proofs.Along.{HasLastStep}
+use Rattle.attempts.proofs.Trying.{unknown_here, is_published, cut_published}
+use Rattle.attempts.proofs.Telling.{IsAtEnd, IsOn, along, kept, kept_is, end_quiet, end_told, end_left, cut_end, cut_is}
+use Rattle.attempts.proofs.Stamps.{own_stamp_above}
 use Rattle.attempts.proofs.Costs.{ended_costs, cut_costs}
 
--- a runner that stood in a run of the section that it has published: the run's thunk is the one with which it was published
-module _ {T : Type 0} (m : Meaning) (laws : Laws m) (r : RunnerState T) (limits : IsWithinLimits r.layout) (allowed : AreAllowed r.requests)
-    (d : ℕ) (thunk u : Thunk) (x : Published) (own : r.part.published ≡ Some x) (of : x.descriptor ≡ d) (with_thunk : x.thunk ≡ thunk)
-    (stood : StoodAtStamp m d u r) where
+-- a runner in a run of the section that it has published: the run's thunk is the one with which it was published
+module _ (m : Meaning) (laws : Laws m) (l : Layout) (requests : List Request) (limits : IsWithinLimits l) (allowed : AreAllowed requests)
+    (w : World) (reached : Reached m l requests w) (r : ℕ) (part : PartState) (own : slice_get w.parts (seat_of l r) ≡ Some part)
+    (q : RunState) (runs : part.run ≡ Some q) (opened : length q.opened ≡ 13)
+    (x : Published) (published : part.published ≡ Some x) (of : q.descriptor ≡ x.descriptor) where
   abbrev s : Sight
-  s = sight m r.layout r.requests stood.world
+  s = sight m l requests w
 
-  all : AreFactsAfter m r.layout r.requests stood.reached.events stood.world stood.reached.after
-  all = facts_after m laws r.layout r.requests stood.reached.events stood.world limits allowed stood.reached.after
+  all : AreFactsAfter m l requests reached.events w reached.after
+  all = facts_after m laws l requests reached.events w limits allowed reached.after
 
-  part : s.part r.number ≡ stood.part
-  part = ap part_or_first stood.own
+  seen : s.part r ≡ part
+  seen = ap part_or_first own
 
-  runs : (s.part r.number).run ≡ Some stood.run
-  runs = ap (λ (p : PartState). p.run) part ∙ stood.runs
-
-  of_run : thunk_in s.word stood.run.descriptor ≡ u
-  of_run = opened_thunk m r.layout all.components.agreement s all.here.sound.sections.joined r.number stood.run runs stood.opened ∙ stood.thunk
+  of_run : thunk_in s.word q.descriptor ≡ thunk_of q.opened
+  of_run = opened_thunk m l all.components.agreement s all.here.sound.sections.joined r q (ap (λ (p : PartState). p.run) seen ∙ runs) opened
 
   of_own : thunk_in s.word x.descriptor ≡ x.thunk
-  of_own = all.here.sound.sections.in_published.thunk r.number x (ap (λ (p : PartState). p.published) part ∙ (stood.published ∙ own))
+  of_own = all.here.sound.sections.in_published.thunk r x (ap (λ (p : PartState). p.published) seen ∙ published)
 
-  pub own_run_thunk : u ≡ thunk
-  own_run_thunk = sym of_run ∙ (ap (thunk_in s.word) (stood.of_descriptor ∙ sym of) ∙ (of_own ∙ with_thunk))
+  pub own_run_thunk : thunk_of q.opened ≡ x.thunk
+  own_run_thunk = sym of_run ∙ (ap (thunk_in s.word) of ∙ of_own)
 
 module _ {T : Type 0} (m : Meaning) (laws : Laws m) (t : TableState T) (limits : IsWithinLimits t.layout) (allowed : AreAllowed t.requests)
     (planning : Planning) (request : Request) (section : Section) (thunk : Thunk) (old here : RunnerState T)
@@ -73,11 +80,15 @@ module _ {T : Type 0} (m : Meaning) (laws : Laws m) (t : TableState T) (limits :
     cut : IsCut m section.descriptor here new
     cut = cut_is m laws t limits allowed here new own_new section.descriptor n short
 
+    -- what it has published
+    abbrev section_of : IsSectionOf here thunk section
+    section_of = tried.publishes.published.section
+
     same : StoodAtStamp m section.descriptor cut.thunk here → cut.thunk.request ≡ request.number
-    same stood = ap (λ (u : Thunk). u.request)
-        (own_run_thunk m laws here (subst IsWithinLimits (sym own_here.layout) limits) (subst AreAllowed (sym own_here.requests) allowed)
-        section.descriptor thunk cut.thunk tried.publishes.published.section.published tried.publishes.published.section.own
-        tried.publishes.published.section.descriptor tried.publishes.published.section.thunk stood)
+    same stood = ap (λ (u : Thunk). u.request) (sym stood.thunk
+        ∙ (own_run_thunk m laws here.layout here.requests (subst IsWithinLimits (sym own_here.layout) limits) (subst AreAllowed (sym own_here.requests) allowed)
+        stood.world stood.reached here.number stood.part stood.own stood.run stood.runs stood.opened section_of.published (stood.published ∙ section_of.own)
+        (stood.of_descriptor ∙ sym section_of.descriptor) ∙ section_of.thunk))
         ∙ tried.plans.answers.request
 
     no_other : LearnsNoOther request.number here new
@@ -100,11 +111,64 @@ module _ {T : Type 0} (m : Meaning) (laws : Laws m) (t : TableState T) (limits :
         let long = length_on here.part.records.finished cut.more new.part.records.finished cut.finished in
         let few = cut.few in omega (arith, long, few)
 
+    -- where it has published none then, it was halted behind the last step of the run
+    module _ (none : new.part.published ≡ None) where
+      end : (u : Thunk) × IsAtEnd m laws t limits allowed here new own_new section.descriptor u
+      end = ⊎_elim
+          (λ (on : IsOn m laws t limits allowed here new own_new section.descriptor).
+          absurd (is_published m planning request old thunk section here tried (sym on.published ∙ none)))
+          (λ (is : (u : Thunk) × IsAtEnd m laws t limits allowed here new own_new section.descriptor u). is)
+          (cut_end m laws t limits allowed here new own_new section.descriptor n short)
+
+      abbrev last : HasLastStep m laws t limits allowed here section.descriptor end.0 new
+      last = end.1.last
+
+      -- the own thunk's
+      end_thunk : thunk_of last.run.opened ≡ thunk
+      end_thunk = own_run_thunk m laws last.before.layout last.before.requests
+          (subst IsWithinLimits (sym last.own.layout) limits) (subst AreAllowed (sym last.own.requests) allowed)
+          last.step.running.inside.world last.step.running.inside.reached last.before.number last.before.part last.step.running.inside.own
+          last.run last.step.running.inside.running last.step.running.opened section_of.published
+          ((along m laws t limits allowed here new own_new section.descriptor end.0 end.1).published ∙ section_of.own)
+          ((along m laws t limits allowed here new own_new section.descriptor end.0 end.1).descriptor ∙ sym section_of.descriptor) ∙ section_of.thunk
+
+      asks_this : end.0.request ≡ request.number
+      asks_this = ap (λ (u : Thunk). u.request) (sym (along m laws t limits allowed here new own_new section.descriptor end.0 end.1).thunk_is ∙ end_thunk)
+          ∙ tried.plans.answers.request
+
+      abbrev run_kept : FinishedState
+      run_kept = kept m laws t limits allowed here new own_new section.descriptor end.0 end.1
+
+      quiet : new.part.records.known ≡ last.before.part.records.known
+      quiet = end_quiet m laws t limits allowed here new own_new section.descriptor end.0 end.1
+
+      untold : (outcome : Outcome) → run_kept.outcome ≡ outcome → ((answer : ℕ) → outcome ≢ Answered answer) → is_answered new.part.records.known request.number ≡ false
+      untold outcome e other = ap (λ ks. is_answered ks request.number) (end_left m laws t limits allowed here new own_new section.descriptor end.0 end.1 outcome e other)
+          ∙ unknown_here planning request old tried.plans.enters.may here tried.still
+
+      just_ended : HasJustEnded m planning request thunk section old here new
+      just_ended = record {
+        finished = run_kept;
+        kept = kept_is m laws t limits allowed here new own_new section.descriptor end.0 end.1;
+        of_descriptor = (along m laws t limits allowed here new own_new section.descriptor end.0 end.1).descriptor;
+        lock = ap (λ (u : Thunk). u.lock) end_thunk;
+        word = ap (λ (u : Thunk). u.word) end_thunk;
+        for = tried.plans.answers.request;
+        told = λ answer e. subst (λ k. is_answered new.part.records.known k ≡ true) asks_this
+            (end_told m laws t limits allowed here new own_new section.descriptor end.0 end.1 answer e);
+        untold = λ other. untold run_kept.outcome refl other;
+        above = λ x entry stamped known answered stamp knows.
+            own_stamp_above m laws t limits allowed planning request thunk section old here tried new end.0 last
+            (ap (λ ks. is_answered ks request.number) (sym quiet) ∙ answered)
+            new own_new (front_same last.before.part.records.known new.part.records.known quiet) cut.reached stamp knows x entry stamped known;
+      }
+
     abbrev was_halted : IsHalted m planning request old new
     was_halted = record {
       at = InOwnRun thunk section here n tried short;
       published = cut_published m planning request old thunk section here tried section.descriptor new cut.published;
-      unknown = λ none. absurd (cut_is_published m planning request old thunk section here tried section.descriptor new cut.published none);
+      unknown = λ none elsewhere. absurd (true≢false elsewhere);
+      ended = λ none. just_ended none;
       reached = cut.reached;
     }
 

@@ -1,9 +1,9 @@
 -- What a Stale tells as expected: a mark's unmarked word, or a word that the plan had read.
-use Rattle.std.specs.Prelude.{◌==◌, ◌&&◌, ◌-◌, ◌⊎◌, cond, Bool, true, false, slice_get, slice_index, if◌then◌else◌}
-use Rattle.std.proofs.Common.{◌≡◌, ◌≢◌, ℕ, ◌+◌, List, [], ◌∷◌, ◌++◌, length, refl, sym, ap, ◌∙◌, subst, ⊎_elim, inl, inr, arith, Some, None}
+use Rattle.std.specs.Prelude.{◌==◌, ◌&&◌, ◌||◌, ◌-◌, ◌⊎◌, cond, Bool, true, false, slice_get, slice_index, if◌then◌else◌}
+use Rattle.std.proofs.Common.{◌≡◌, ◌≢◌, ℕ, zero, suc, ◌+◌, List, [], ◌∷◌, ◌++◌, length, refl, sym, ap, ◌∙◌, subst, ⊎_elim, inl, inr, arith, Some, None}
 use Rattle.std.proofs.lemmas.Bool.Decides.{nat_tests}
-use Rattle.section_lines.specs.small_lemmas.proofs.Bools.{both_of}
-use Rattle.section_lines.specs.small_lemmas.proofs.Numbers.{tested_equal}
+use Rattle.section_lines.specs.small_lemmas.proofs.Bools.{both_of, or_first, or_second}
+use Rattle.section_lines.specs.small_lemmas.proofs.Numbers.{tested_equal, self_tested}
 use Rattle.machine_states.specs.map_history.specs.declared.op.Op.{Op}
 use Rattle.machine_states.specs.body_terms.specs.Line.{line, micro_at}
 use Rattle.machine_states.specs.body_terms.specs.Run.{leaves, refusal, is_takable}
@@ -25,6 +25,7 @@ use Rattle.machine_states.specs.structure_laws.specs.Meaning.{Meaning}
 use Rattle.machine_states.specs.structure_laws.specs.Cells.{slots}
 use Rattle.machine_states.specs.structure_laws.specs.Sections.{IsAllowed}
 use Rattle.machine_states.specs.structure_laws.specs.Shape.{HasStep, Shaped}
+use Rattle.machine_states.specs.runner_parts.specs.Tests.{has_pair}
 use Rattle.machine_states.specs.runner_steps.specs.Sections.{setting_of}
 use Rattle.machine_states.proofs.Steps.{some_same, none_some}
 use Rattle.lock_walks.specs.try_lock.specs.declared.planned.Planned.{Planned}
@@ -36,6 +37,7 @@ use Rattle.lock_walks.proofs.Each.{get_last}
 use Rattle.lock_walks.specs.Wants.{WantsWereRead}
 use Rattle.attempts.specs.Course.{of_plan, of_refusal, of_outcome, WasRead, IsMarked}
 use Rattle.attempts.specs.declared.answers.Attempt.TheVariants as answers
+use Rattle.attempts.proofs.Refusing.{ChecksTake, left_busy}
 
 -- which reading refuses a plan as stale
 module _ (m : Meaning) (planning : Planning) (l : Layout) (op : Op) (place expected read : ℕ) where
@@ -199,3 +201,28 @@ module _ (m : Meaning) (wants : WantsWereRead m) (l : Layout) (limits : IsWithin
   pub section_stale : (at : ℕ) → leaves (setting_of l d) trail (micro_at (line (m.body thunk)) at) ≡ Some (outcomes.Stale place expected read)
       → WasRead readings place expected
   section_stale at e = was_planned at (stale_at l d trail place expected read (micro_at (line (m.body thunk)) at) e)
+
+-- a word that stands among readings is found there
+pair_here : (xs : Readings) (i p w : ℕ) → slice_get xs i ≡ Some (p, w) → has_pair xs p w ≡ true
+pair_here [] i p w e = absurd (none_some _ (sym e))
+pair_here (x ∷ xs) zero p w e = subst (λ (y : ℕ × ℕ). ((y.0 == p && y.1 == w) || has_pair xs p w) ≡ true) (sym (some_same x (p, w) e))
+    (or_first (p == p && w == w) (has_pair xs p w) (ap (λ b. b && (w == w)) (self_tested p) ∙ self_tested w))
+pair_here (x ∷ xs) (suc i) p w e = or_second (x.0 == p && x.1 == w) (has_pair xs p w) (pair_here xs i p w e)
+
+-- of the lock that a section found held its plan had read a word
+module _ (m : Meaning) (l : Layout) (readings : Readings) (thunk : Thunk) (shaped : Shaped m l readings thunk) (d : ℕ) (trail : List ℕ) (place word at : ℕ)
+    (left : leaves (setting_of l d) trail (micro_at (line (m.body thunk)) at) ≡ Some (outcomes.Busy place word)) where
+  had_read : (n p w : ℕ) → HasStep m thunk n (Take p w) → p ≡ place → (v : ℕ) × (has_pair readings place v ≡ true)
+  had_read n p w here same = let k = shaped.take_read n p w here in
+      (w, pair_here readings k.0 place w (k.1 ∙ ap (λ (i : ℕ). Some (i, w)) same))
+
+  by_check : ChecksTake l d trail place word (micro_at (line (m.body thunk)) at) → (v : ℕ) × (has_pair readings place v ≡ true)
+  by_check check = ⊎_elim
+      (λ free. let o = of_take (m.body thunk) at (CheckFree place check.0 check.1) free refl in
+      let same = o.2.same in had_read o.2.from.n o.0 o.1 o.2.from.here (let z = same in cc))
+      (λ held. let o = of_take (m.body thunk) at (CheckHeld place check.0 check.1) held refl in
+      let same = o.2.same in had_read o.2.from.n o.0 o.1 o.2.from.here (let z = same in cc))
+      check.2
+
+  pub busy_read : (v : ℕ) × (has_pair readings place v ≡ true)
+  busy_read = by_check (left_busy l d trail place word (micro_at (line (m.body thunk)) at) left).1

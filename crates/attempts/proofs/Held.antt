@@ -22,7 +22,6 @@ use Rattle.version_words.specs.RunnerState.{RunnerState}
 use Rattle.lock_walks.specs.runner_facts.specs.next_steps.specs.Rooms.{cell_count}
 use Rattle.lock_walks.specs.runner_facts.specs.next_steps.proofs.Numbers.{reached_numbers}
 use Rattle.lock_walks.specs.try_lock.specs.Reached.{IsReached}
-use Rattle.lock_walks.specs.try_lock.proofs.Publishing.{fits}
 use Rattle.attempts.proofs.Leaving.{not_free}
 
 module _ (m : Meaning) (laws : Laws m) (l : Layout) (rs : List Request) (limits : IsWithinLimits l) (allowed : AreAllowed rs) where
@@ -35,12 +34,15 @@ module _ (m : Meaning) (laws : Laws m) (l : Layout) (rs : List Request) (limits 
 
 module _ {T : Type 0} (m : Meaning) (laws : Laws m) (r : RunnerState T) (limits : IsWithinLimits r.layout) (allowed : AreAllowed r.requests) (is : IsReached m r)
     (place word : ℕ) (read : has_pair r.part.reads.cells place word ≡ true) where
+  read_there : has_pair ((sight m r.layout r.requests is.world).part r.number).reads.cells place word ≡ true
+  read_there = ap (λ (p : PartState). has_pair p.reads.cells place word) (ap part_or_first is.own) ∙ read
+
   pub read_within : place < cell_count m r.layout
-  read_within = (fits m laws r limits allowed is).read place word read
+  read_within = ((reached_numbers m laws r.layout limits r.requests allowed is.world is.reached).parts r.number).read place word read_there
 
   pub read_few : m.is_lock place ≡ true → is_free word ≡ false → value_of word - 1 < descriptor_count r.layout
   read_few lock names = by (seen_locks_stand m laws r.layout r.requests limits allowed is.world is.reached r.number place word (value_of word - 1) lock (not_free word names)
-      (ap (λ (p : PartState). has_pair p.reads.cells place word) (ap part_or_first is.own) ∙ read))
+      read_there)
     where
       by : ((sight m r.layout r.requests is.world).word (Cell place) ≡ word) ⊎ WasDone m r.layout r.requests is.world place word (value_of word - 1) → value_of word - 1 < descriptor_count r.layout
       by (inl stands) = named_few m laws r.layout r.requests limits allowed is.world is.reached place (value_of word - 1) lock (ap value_of stands ∙ not_free word names)

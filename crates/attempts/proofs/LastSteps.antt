@@ -48,8 +48,9 @@ module _ {T : Type 0} (m : Meaning) (laws : Laws m) (t : TableState T) (limits :
   code_is : (i : ℕ) → micro_at (line_of m q) i ≡ micro_at (line (m.body thunk)) i
   code_is i = ap (λ (x : Thunk). micro_at (line (m.body x)) i) here.thunk_is
 
-  known_same : new.part.records.known ≡ r.part.records.known
-  known_same = step_quiet m laws t limits allowed old d thunk r new own q (micros.Release place word) found step is refl
+  -- the last step tells nothing
+  pub last_quiet : new.part.records.known ≡ r.part.records.known
+  last_quiet = step_quiet m laws t limits allowed old d thunk r new own q (micros.Release place word) found step is refl
 
   abbrev setting : Setting
   setting = setting_of r.layout q.descriptor
@@ -60,7 +61,7 @@ module _ {T : Type 0} (m : Meaning) (laws : Laws m) (t : TableState T) (limits :
   -- a run that leaves at a check was told nothing
   pub last_left : (outcome : Outcome) → outcome_of m r.layout (ended_more q) ≡ outcome → ((n : ℕ) → outcome ≢ outcomes.Answered n)
       → new.part.records.known ≡ old.part.records.known
-  last_left outcome e other = known_same ∙ (is.learns.adds ∙ (ap (λ xs. old.part.records.known ++ xs) (none is.learns.more here.told) ∙ append_none old.part.records.known))
+  last_left outcome e other = last_quiet ∙ (is.learns.adds ∙ (ap (λ xs. old.part.records.known ++ xs) (none is.learns.more here.told) ∙ append_none old.part.records.known))
     where
       check : is_check at ≡ true
       check = (leaves_left setting q.trail at outcome (left_by _ _ outcome e other)).1

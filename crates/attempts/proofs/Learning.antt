@@ -31,7 +31,7 @@ use Rattle.version_words.specs.Stages.{IsAt}
 use Rattle.version_words.proofs.Stages.{then_knows}
 use Rattle.lock_walks.specs.try_lock.specs.epoch_slots.specs.Collects.{IsTidy}
 use Rattle.lock_walks.specs.try_lock.specs.epoch_slots.specs.Entries.{Exits}
-use Rattle.lock_walks.specs.try_lock.specs.epoch_slots.proofs.Outside.{nodes_made, known_made, finished_made}
+use Rattle.lock_walks.specs.try_lock.specs.epoch_slots.proofs.Outside.{nodes_made, guards_made, known_made, finished_made}
 use Rattle.machine_facts.specs.Known.{KnownStand}
 use Rattle.machine_facts.proofs.Following.{facts_after}
 use Rattle.request_facts.specs.Placed.{IsServedAs}
@@ -40,6 +40,7 @@ use Rattle.request_facts.proofs.Standing.{callers_stand}
 use Rattle.attempts.specs.Knowing.{KnowsMore, IsOwn}
 use Rattle.attempts.specs.Rests.{LearnsNoOwn, MayLearn, HasLearnt}
 use Rattle.attempts.proofs.Knowing.{front_same, front_on, front_entry, knows_same, knows_on, own_on, answered_on, answered_of_other, append_none}
+use Rattle.attempts.proofs.LettingGo.{exits_tidy}
 
 -- what is met is what fits
 fitting_same : (s : Sizes) (y x : Spot × Access) → fitting s (Some y) ≡ Some x → y ≡ x
@@ -106,10 +107,15 @@ module _ {T : Type 0} (m : Meaning) (n : ℕ) (reply : Bool) (found : ℕ) (r r'
     at = then_knows m found r r' None stages.Idle n reply made tidy.at;
     hand = ap (λ s. s.hand) nodes_same ∙ tidy.hand;
     tests = ap (λ s. s.tests) nodes_same ∙ tidy.tests;
+    looked = ap (λ s. s.looked) guards_same ∙ tidy.looked;
+    unguarded = ap (λ s. s.named) guards_same ∙ tidy.unguarded;
   }
     where
       nodes_same : r'.part.nodes ≡ r.part.nodes
       nodes_same = nodes_made m (kinds.LoadEntry n reply) found r r' made idle.resting
+
+      guards_same : r'.part.guards ≡ r.part.guards
+      guards_same = guards_made m (kinds.LoadEntry n reply) found r r' made idle.resting
 
   -- so nothing is learned of a request but this one, and this one was known
   pub load_no_own : is_answered r.part.records.known n ≡ true → LearnsNoOwn m r r'
@@ -138,13 +144,7 @@ module _ {T : Type 0} (m : Meaning) (laws : Laws m) (map : m.is_map ≡ true) (r
   n = request.number
 
   left : IsTidy r0
-  left = record {
-    at = exits.at;
-    hand = ap (λ s. s.hand) exits.keeps.nodes ∙ may.hand.hand;
-    tests = ap (λ s. s.tests) exits.keeps.nodes ∙ may.hand.tests;
-    looked = ap (λ g. g.looked) exits.guards ∙ may.hand.looked;
-    unguarded = ap (λ g. g.named) exits.guards ∙ may.leave.unguarded;
-  }
+  left = exits_tidy m old r0 may.hand may.leave.unguarded exits
 
   tidy_one : IsTidy r1
   tidy_one = load_tidy m n false stamp r0 r1 one left.at left

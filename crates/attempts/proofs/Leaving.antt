@@ -242,11 +242,11 @@ module _ {T : Type 0} (m : Meaning) (laws : Laws m) (place word : ℕ) (old watc
   pub helped_go : MayLetGo helped
   helped_go = record { epoch = may.leave.epoch; at = at_helped }
 
-  keeps : KeepsOwn helped new
-  keeps = gone_keeps m helped new helped_go gone
+  still : KeepsOwn helped new
+  still = gone_keeps m helped new helped_go gone
 
   no_own : LearnsNoOwn m old new
-  no_own q own = ap (λ xs. is_answered xs q.number) keeps.known
+  no_own q own = ap (λ xs. is_answered xs q.number) still.known
       ∙ (learns_no_own m laws watching helped limits allowed (value_of word - 1) t learned (watched_at m place word true old watching watched may).published q own_watching
       ∙ ap (λ xs. is_answered xs q.number) watched.keeps.known)
     where
@@ -265,7 +265,7 @@ module _ {T : Type 0} (m : Meaning) (laws : Laws m) (place word : ℕ) (old watc
     helped = helped;
     ends = ends;
     leaves = gone;
-    told = λ answer answered. ap (λ xs. is_answered xs t.request) keeps.known ∙ ends.told answer answered;
+    told = λ answer answered. ap (λ xs. is_answered xs t.request) still.known ∙ ends.told answer answered;
   }
 
   module _ (names : (w : World) → Reached m helped.layout helped.requests w → NamesStand m (sight m helped.layout helped.requests w)) where
@@ -292,7 +292,7 @@ module _ {T : Type 0} (m : Meaning) (laws : Laws m) (place word : ℕ) (old watc
         walk_is = ap (λ (p : PartState). p.reads.walk) here ∙ (ends.walk ∙ (ap (λ (s : ReadsState). s.walk) watched.reads ∙ ap (λ w. old.part.reads.walk ++ (place, w) ∷ []) found_is))
 
     one_more : length new.part.records.finished ≡ length old.part.records.finished + 1
-    one_more = ap length keeps.finished ∙ (length_on watching.part.records.finished (ends.finished ∷ []) helped.part.records.finished ends.kept ∙ ap (λ fs. length fs + 1) watched.keeps.finished)
+    one_more = ap length still.finished ∙ (length_on watching.part.records.finished (ends.finished ∷ []) helped.part.records.finished ends.kept ∙ ap (λ fs. length fs + 1) watched.keeps.finished)
 
     pub turned_by_help : (halts halts' : ℕ) (asks asks' : Asks) (steps steps' : ℕ) → IsAsked made true halts halts' asks asks' steps steps'
         → HasTurned m (answers.Busy place word) (answers.Busy place word) old new halts halts' asks asks' steps steps'
@@ -300,7 +300,7 @@ module _ {T : Type 0} (m : Meaning) (laws : Laws m) (place word : ℕ) (old watc
       made = made;
       asked = asked;
       knows = knows_on old watching new (knows_same old watching watched.keeps.number watched.keeps.known watched.keeps.finished)
-          (knows_on watching helped new (ended_knows m (value_of word - 1) t outcome trail made watching helped ends) (knows_same helped new keeps.number keeps.known keeps.finished));
+          (knows_on watching helped new (ended_knows m (value_of word - 1) t outcome trail made watching helped ends) (knows_same helped new still.number still.known still.finished));
       no_own = no_own;
       reached = exits_reached m gone.unguarded new gone.exits;
       halted = λ e. absurd (let z = e in cc);

@@ -1,17 +1,14 @@
--- A runner that collects and sweeps where it has to.
+-- A runner that collects and sweeps where it has to: where slots lack behind that, it has made a step.
 use Rattle.std.specs.Prelude.{◌==◌, nat_lt, Bool, true, false}
 use Rattle.std.proofs.Common.{◌≡◌, ℕ, ◌<◌, length, refl, sym, ap, ◌∙◌, subst, arith, true≢false}
 use Rattle.std.proofs.lemmas.Bool.Decides.{nat_tests}
 use Rattle.machine_states.specs.structure_laws.specs.Meaning.{Meaning}
-use Rattle.machine_states.specs.runner_parts.specs.State.{GuardsState}
 use Rattle.version_words.specs.RunnerState.{RunnerState}
-use Rattle.lock_walks.specs.try_lock.specs.epoch_slots.specs.Collects.{IsTidy, Collects}
-use Rattle.lock_walks.specs.try_lock.specs.epoch_slots.specs.Sweeps.{HasSwept}
 use Rattle.lock_walks.specs.try_lock.specs.epoch_slots.specs.declared.reserves.Kind.{Kind}
 use Rattle.lock_walks.specs.try_lock.specs.epoch_slots.specs.declared.reserves.Kind.TheVariants as kinds
 use Rattle.lock_walks.specs.try_lock.specs.Reached.{IsReached}
 use Rattle.attempts.specs.Attempts.{IsFew}
-use Rattle.attempts.specs.Reclaims.{lacks_slots, lacks_descriptor, IsRested, CollectsWhere, SweepsWhere, Reclaims}
+use Rattle.attempts.specs.Reclaims.{lacks_slots, lacks_descriptor, CollectsWhere, SweepsWhere, Reclaims}
 use Rattle.attempts.proofs.Reaching.{collects_reached, swept_reached}
 
 module _ {T : Type 0} where
@@ -24,47 +21,7 @@ module _ {T : Type 0} where
   none_lacks : (r : RunnerState T) → length r.part.descriptors.free ≡ 0 → lacks_descriptor r ≡ true
   none_lacks r none = ap (λ k. k == 0) none
 
-  pub same_rested : (old new : RunnerState T) → IsTidy old → new ≡ old → IsRested old new
-  same_rested old new tidy same = subst (IsRested old) (sym same) (record { tidy = tidy; number = refl; known = refl; finished = refl })
-
-  pub then_rested : (a b c : RunnerState T) → IsRested a b → IsRested b c → IsRested a c
-  then_rested a b c one two = record {
-    tidy = two.tidy;
-    number = two.number ∙ one.number;
-    known = two.known ∙ one.known;
-    finished = two.finished ∙ one.finished;
-  }
-
   module _ (m : Meaning) where
-    pub collects_due : (due : Bool) (old new : RunnerState T) → due ≡ true → Collects m old new → CollectsWhere m due old new
-    collects_due due old new e collects = subst (λ b. CollectsWhere m b old new) (sym e) collects
-
-    pub not_due : (due : Bool) (old : RunnerState T) → due ≡ false → CollectsWhere m due old old
-    not_due due old e = subst (λ b. CollectsWhere m b old old) (sym e) refl
-
-    pub collected_rested : (old new : RunnerState T) → Collects m old new → IsRested old new
-    collected_rested old new c = record { tidy = c.tidy; number = c.number; known = c.known; finished = c.finished }
-
-    pub sweeps_due : (due : Bool) (old new : RunnerState T) → due ≡ true → HasSwept m old new → SweepsWhere m due old new
-    sweeps_due due old new e swept = subst (λ b. SweepsWhere m b old new) (sym e) swept
-
-    pub no_sweep : (due : Bool) (old : RunnerState T) → due ≡ false → SweepsWhere m due old old
-    no_sweep due old e = subst (λ b. SweepsWhere m b old old) (sym e) refl
-
-    pub swept_rested : (old new : RunnerState T) → IsTidy old → HasSwept m old new → IsRested old new
-    swept_rested old new tidy swept = record {
-      tidy = record {
-        at = swept.ready.at;
-        hand = ap (λ n. n.hand) swept.keeps.nodes ∙ tidy.hand;
-        tests = ap (λ n. n.tests) swept.keeps.nodes ∙ tidy.tests;
-        looked = swept.ready.looked;
-        unguarded = ap (λ (g : GuardsState). g.named) swept.guards ∙ tidy.unguarded;
-      };
-      number = swept.keeps.number;
-      known = swept.keeps.known;
-      finished = swept.keeps.finished;
-    }
-
     -- where slots lack the last thing that was done was a scan, or a sweep
     pub short_reached : (old new : RunnerState T) (kind : Kind) → IsFew new kind → Reclaims m old new → IsReached m new
     short_reached old new kind few r = swept (lacks_descriptor r.third) refl r.sweeps

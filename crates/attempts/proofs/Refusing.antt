@@ -1,7 +1,6 @@
 -- What refused a plan, or made a section leave, as an answer of an attempt.
-use Rattle.std.specs.Prelude.{cond, Bool, true, false, slice_index}
-use Rattle.std.proofs.Common.{◌≡◌, ◌≢◌, ℕ, List, [], ◌∷◌, ◌++◌, refl, sym, ap, ◌∙◌, subst, Option, Some, None}
-use Rattle.section_lines.specs.small_lemmas.proofs.Bools.
+use Rattle.std.specs.Prelude.{◌⊎◌, cond, Bool, true, false, slice_index, if◌then◌else◌}
+use Rattle.std.proofs.Common.{◌≡◌, ◌≢◌, ℕ, List, [], ◌∷◌, ◌++◌, refl, sym, ap, ◌∙◌, subst, inl, inr, Option, Some, None}
 use Rattle.machine_states.specs.map_history.specs.declared.op.Op.{Op}
 use Rattle.machine_states.specs.body_terms.specs.Run.{Setting, leaves, refusal, is_takable}
 use Rattle.machine_states.specs.body_terms.specs.Word.{is_free, is_spent}
@@ -24,23 +23,27 @@ use Rattle.attempts.specs.Course.{of_plan, of_outcome}
 use Rattle.attempts.specs.Attempts.{is_refusal}
 use Rattle.attempts.specs.declared.answers.Attempt.TheVariants as answers
 
--- a section that found a lock held read a word there that names a descriptor
+-- a section that found a lock held at a check of a Take read a word there that names a descriptor
 module _ (l : Layout) (d : ℕ) (trail : List ℕ) (place word : ℕ) where
   abbrev s : Setting
   s = setting_of l d
 
+  -- a check of a Take of the lock at this place
+  abbrev pub ChecksTake : Micro → Type 0
+  ChecksTake micro = (log expected : ℕ) × ((micro ≡ micros.CheckFree place log expected) ⊎ (micro ≡ micros.CheckHeld place log expected))
+
   by_word : (free spent : Bool) (p expected read : ℕ)
       → cond free (cond spent (outcomes.Spent p read) (outcomes.Stale p expected read)) (outcomes.Busy p read) ≡ outcomes.Busy place word
-      → (free ≡ false) × (read ≡ word)
+      → (free ≡ false) × (read ≡ word) × (p ≡ place)
   by_word true true p expected read e = absurd (let z = e in cc)
   by_word true false p expected read e = absurd (let z = e in cc)
-  by_word false spent p expected read e = (refl, let z = e in cc)
+  by_word false spent p expected read e = (refl, let z = e in cc, let z = e in cc)
 
-  by_refusal : (p expected read : ℕ) → refusal s p expected read ≡ outcomes.Busy place word → is_free word ≡ false
+  by_refusal : (p expected read : ℕ) → refusal s p expected read ≡ outcomes.Busy place word → (is_free word ≡ false) × (p ≡ place)
   by_refusal p expected read e = let h = by_word (is_free read) (is_spent l.version_max read) p expected read e in
-      subst (λ w. is_free w ≡ false) h.1 h.0
+      (subst (λ w. is_free w ≡ false) h.1 h.0, h.2)
 
-  by_test : (b : Bool) (p expected read : ℕ) → cond b None (Some (refusal s p expected read)) ≡ Some (outcomes.Busy place word) → is_free word ≡ false
+  by_test : (b : Bool) (p expected read : ℕ) → cond b None (Some (refusal s p expected read)) ≡ Some (outcomes.Busy place word) → (is_free word ≡ false) × (p ≡ place)
   by_test true p expected read e = absurd (none_some _ (sym e))
   by_test false p expected read e = by_refusal p expected read (some_same _ _ e)
 
@@ -52,31 +55,14 @@ module _ (l : Layout) (d : ℕ) (trail : List ℕ) (place word : ℕ) where
   by_fresh false p read e = none_some _ (sym e)
   by_fresh true p read e = let z = some_same _ _ e in cc
 
-  pub left_busy : (micro : Micro) → leaves s trail micro ≡ Some (outcomes.Busy place word) → is_free word ≡ false
+  pub left_busy : (micro : Micro) → leaves s trail micro ≡ Some (outcomes.Busy place word) → (is_free word ≡ false) × ChecksTake micro
   left_busy (micros.CheckWord p log w) e = absurd (by_want _ p w (slice_index trail log) e)
   left_busy (micros.CheckFresh p log) e = absurd (by_fresh _ p (slice_index trail log) e)
-  left_busy (micros.CheckFree p log w) e = by_test (is_takable s w (slice_index trail log)) p w (slice_index trail log) e
-  left_busy (micros.CheckHeld p log w) e = by_test _ p w (slice_index trail log) e
-  left_busy (micros.LoadCell p log) e = absurd (none_some _ (sym e))
-  left_busy (micros.Commit p log) e = absurd (none_some _ (sym e))
-  left_busy (micros.NestedLoad p log) e = absurd (none_some _ (sym e))
-  left_busy (micros.NestedCommit p log) e = absurd (none_some _ (sym e))
-  left_busy (micros.NestedHold p w) e = absurd (none_some _ (sym e))
-  left_busy (micros.OutcomeLoad p log) e = absurd (none_some _ (sym e))
-  left_busy (micros.OutcomeCommit p log) e = absurd (none_some _ (sym e))
-  left_busy (micros.PrivateLoad cell log) e = absurd (none_some _ (sym e))
-  left_busy (micros.PrivateStore cell log value) e = absurd (none_some _ (sym e))
-  left_busy (micros.MakeCommit log) e = absurd (none_some _ (sym e))
-  left_busy micros.ClockLoad e = absurd (none_some _ (sym e))
-  left_busy micros.StampExchange e = absurd (none_some _ (sym e))
-  left_busy micros.ClockRaise e = absurd (none_some _ (sym e))
-  left_busy (micros.ExchangeCell p log value) e = absurd (none_some _ (sym e))
-  left_busy (micros.EpochForRetire slot log) e = absurd (none_some _ (sym e))
-  left_busy (micros.RetireCommit slot log) e = absurd (none_some _ (sym e))
-  left_busy (micros.ReplyExchange reply) e = absurd (none_some _ (sym e))
-  left_busy micros.End e = absurd (none_some _ (sym e))
-  left_busy micros.SetDone e = absurd (none_some _ (sym e))
-  left_busy (micros.Release p w) e = absurd (none_some _ (sym e))
+  left_busy (micros.CheckFree p log w) e =
+      let h = by_test (is_takable s w (slice_index trail log)) p w (slice_index trail log) e in (h.0, (log, w, inl (ap (λ x. micros.CheckFree x log w) h.1)))
+  left_busy (micros.CheckHeld p log w) e =
+      let h = by_test _ p w (slice_index trail log) e in (h.0, (log, w, inr (ap (λ x. micros.CheckHeld x log w) h.1)))
+  left_busy _ e = absurd (none_some _ (sym e))
 
 pub refusal_of_outcome : (o : Outcome) → ((reply : ℕ) → o ≢ outcomes.Answered reply) → is_refusal (of_outcome o) ≡ true
 refusal_of_outcome (outcomes.Busy place word) other = refl

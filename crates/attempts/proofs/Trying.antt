@@ -1,5 +1,5 @@
 -- The publication of an attempt.
-use Rattle.std.specs.Prelude.{◌⊎◌, ◌&&◌, not, Bool, Result, Ok, true, false, if◌then◌else◌}
+use Rattle.std.specs.Prelude.{◌⊎◌, ◌&&◌, ◌==◌, not, Bool, Result, Ok, true, false, if◌then◌else◌}
 use Rattle.std.proofs.Common.{◌≡◌, ℕ, ◌+◌, ◌≤◌, length, refl, sym, ap, ◌∙◌, subst, arith, inl, inr, Option, Some, None}
 use Rattle.std.proofs.lemmas.Bool.{true≢false}
 use Rattle.machine_states.specs.map_history.specs.declared.op.Request.{Request}
@@ -121,7 +121,8 @@ module _ {T : Type 0} (m : Meaning) (planning : Planning) (request : Request) (o
   was_halted = record {
     at = BehindHold thunk section tried;
     published = published_for;
-    unknown = λ none. absurd (is_published none);
+    unknown = λ none elsewhere. absurd (is_published none);
+    ended = λ none. tt;
     reached = tried.publishes.reached;
   }
 
@@ -156,17 +157,13 @@ module _ {T : Type 0} (m : Meaning) (planning : Planning) (request : Request) (o
     over_thunk : (o : Option Published) (x : Published) → kept_unless o d ≡ Some x → ((y : Published) → o ≡ Some y → y.thunk.request ≡ request.number)
         → x.thunk.request ≡ request.number
     over_thunk None x e each = absurd (none_some x (sym e))
-    over_thunk (Some y) x e each = ap (λ (z : Published). z.thunk.request) (sym (some_same _ x e)) ∙ each y refl
+    over_thunk (Some y) x e each = by (y.descriptor == d) e
+      where
+        by : (b : Bool) → (if b then None else Some y) ≡ Some x → x.thunk.request ≡ request.number
+        by true none = absurd (none_some x (sym none))
+        by false some = ap (λ (z : Published). z.thunk.request) (sym (some_same y x some)) ∙ each y refl
 
     pub cut_published : (new.part.published ≡ here.part.published) ⊎ (new.part.published ≡ kept_unless here.part.published d)
         → (x : Published) → new.part.published ≡ Some x → x.thunk.request ≡ request.number
     cut_published (inl same) x is = published_for x (sym same ∙ is)
     cut_published (inr over) x is = over_thunk here.part.published x (sym over ∙ is) published_for
-
-    over_some : (o : Option Published) (x : Published) → o ≡ Some x → kept_unless o d ≡ None → ⊥
-    over_some None x e none = none_some x (sym e)
-    over_some (Some y) x e none = none_some _ none
-
-    pub cut_is_published : (new.part.published ≡ here.part.published) ⊎ (new.part.published ≡ kept_unless here.part.published d) → new.part.published ≡ None → ⊥
-    cut_is_published (inl same) none = is_published (sym same ∙ none)
-    cut_is_published (inr over) none = over_some here.part.published _ (tried_at m planning request old thunk section here tried).published (sym over ∙ none)

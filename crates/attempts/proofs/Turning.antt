@@ -196,7 +196,8 @@ module _ {T : Type 0} (m : Meaning) (laws : Laws m) (planning : Planning) (reque
     was_halted = record {
       at = InHelpedRun (record { place = at.0; word = at.1; cut = here; cause = by.0; watching = at.3; watches = at.4; made = turned.made; short = at.5 });
       published = λ x is. absurd (some_none x (sym is ∙ turned.halted halted));
-      unknown = λ none. unknown_still;
+      unknown = λ none elsewhere. unknown_still;
+      ended = λ none. tt;
       reached = turned.reached;
     }
 

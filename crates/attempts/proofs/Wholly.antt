@@ -246,7 +246,8 @@ module _ {T : Type 0} (m : Meaning) (laws : Laws m) (t : TableState T) (limits :
     answers = record {
       at = InPlan planned.readings (subst (λ (a : Planned). HasPlanned m planning request planned.readings a old r) is course);
       published = λ x some. absurd (none_some x (sym some ∙ at.published));
-      unknown = λ none. unknown;
+      unknown = λ none elsewhere. unknown;
+      ended = λ none. tt;
       reached = planned.reached;
     };
     knows = knows_same here r still_planned.number still_planned.known still_planned.finished;
@@ -433,7 +434,8 @@ module _ {T : Type 0} (m : Meaning) (laws : Laws m) (t : TableState T) (limits :
     was_halted = record {
       at = AtEntry entered_so;
       published = λ x some. absurd (none_some x (sym some ∙ enters.at.published));
-      unknown = λ none. unknown_here planning request old may here still;
+      unknown = λ none elsewhere. unknown_here planning request old may here still;
+      ended = λ none. tt;
       reached = enters_reached m ready here enters;
     }
 

@@ -1,6 +1,6 @@
 -- Attempts of requests: what may be attempted, and what each answer says.
 use mathlib.Core.Logic.{inl, inr}
-use Rattle.std.specs.Prelude.{◌≡◌, ◌⊎◌, ℕ, ◌+◌, ◌*◌, ◌-◌, ◌<◌, ◌≤◌, Bool, true, false, not, Ok, Some, None, length, if◌then◌else◌}
+use Rattle.std.specs.Prelude.{◌≡◌, ◌≢◌, ◌⊎◌, ℕ, ◌+◌, ◌*◌, ◌-◌, ◌<◌, ◌≤◌, Bool, true, false, not, [], ◌∷◌, ◌++◌, Ok, Some, None, length, if◌then◌else◌}
 use Rattle.machine_states.specs.map_history.specs.declared.op.Request.{Request}
 use Rattle.machine_states.specs.map_history.specs.declared.reply.Reply.{Reply}
 use Rattle.machine_states.specs.map_history.specs.Words.{word_of}
@@ -15,6 +15,7 @@ use Rattle.machine_states.specs.structure_laws.specs.Cells.{slots}
 pub use Rattle.machine_states.specs.structure_laws.specs.Shape.{most_of_run}
 use Rattle.machine_states.specs.runner_parts.specs.declared.entries.Known.{Known}
 use Rattle.machine_states.specs.runner_parts.specs.declared.entries.Published.{Published}
+use Rattle.machine_states.specs.runner_parts.specs.State.{FinishedState}
 use Rattle.machine_states.specs.runner_parts.specs.Tests.{is_answered}
 use Rattle.machine_states.specs.Sight.{sight}
 use Rattle.version_words.specs.RunnerState.{RunnerState}
@@ -229,12 +230,47 @@ module _ {T : Type 0} where
           (if is_refused_late m planning request (answers.Busy is.place is.word) old is.cut is.cause then 2 else 1)
           + refused_steps m planning request (answers.Busy is.place is.word) old is.cut is.cause
 
-      -- a gate halted the runner behind its entry. What it has published since, if anything, is for this request
+      -- whether that was in the run of its own section
+      abbrev pub is_own_run : (old new : RunnerState T) → Stops old new → Bool
+      is_own_run old new (InOwnRun thunk section published made tries short) = true
+      is_own_run old new _ = false
+
+      -- the own section's run came to its end by the very step behind which the gate halted the runner: one more run is
+      -- kept, that of this section. It answered exactly where the runner knows both words of the request; and then the
+      -- stamp is above that of each request that the runner knew to be answered as the attempt began
+      pub record HasJustEnded (thunk : Thunk) (section : Section) (old published new : RunnerState T) : Type 0 where
+        pub finished : FinishedState
+        pub kept : new.part.records.finished ≡ published.part.records.finished ++ finished ∷ []
+        pub of_descriptor : finished.descriptor ≡ section.descriptor
+        pub lock : finished.lock ≡ thunk.lock
+        pub word : finished.word ≡ thunk.word
+        pub for : thunk.request ≡ request.number
+        pub told : (answer : ℕ) → finished.outcome ≡ Answered answer
+            → is_answered new.part.records.known request.number ≡ true
+        pub untold : ((answer : ℕ) → finished.outcome ≢ Answered answer)
+            → is_answered new.part.records.known request.number ≡ false
+        pub above : (x : Known) → HasEntry old.part.records.known x → x.reply ≡ false
+            → is_answered old.part.records.known x.request ≡ true
+            → is_answered new.part.records.known request.number ≡ true
+            → (stamp : ℕ) → HasEntry new.part.records.known
+            (record { request = request.number; reply = false; number = stamp })
+            → x.number < stamp
+
+      -- so it is where the runner was halted in its own run
+      abbrev pub EndsAt : (old new : RunnerState T) → Stops old new → Type 0
+      EndsAt old new (InOwnRun thunk section published made tries short) =
+          HasJustEnded thunk section old published new
+      EndsAt old new _ = Unit {0}
+
+      -- a gate halted the runner behind its entry. What it has published since and not run to its end, if anything, is
+      -- for this request. Where there is none, the request isn't answered, or the runner was halted behind the last step
+      -- of its own run
       pub record IsHalted (old new : RunnerState T) : Type 0 where
         pub at : Stops old new
         pub published : (x : Published) → new.part.published ≡ Some x → x.thunk.request ≡ request.number
-        -- where it has published none, or none that it hasn't run to its end, the request isn't answered
-        pub unknown : new.part.published ≡ None → is_answered new.part.records.known request.number ≡ false
+        pub unknown : new.part.published ≡ None → is_own_run old new at ≡ false
+            → is_answered new.part.records.known request.number ≡ false
+        pub ended : new.part.published ≡ None → EndsAt old new at
         pub reached : IsReached m new
 
       abbrev pub Answers : Attempt → RunnerState T → RunnerState T → Type 0

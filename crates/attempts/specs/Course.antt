@@ -211,8 +211,8 @@ module _ {T : Type 0} (m : Meaning) where
     pub lets_go : IsMade m (kinds.Guard None) old unguarded
     pub exits : Exits m unguarded new
 
-  -- the runner watched this lock, which had the word still, ran the section that the word names to its end, and left: the
-  -- section is done, and where it answered, the runner knows both words of its request
+  -- the runner watched this lock, which had the word still, ran the section that the word names to its end, and left:
+  -- the section is done, and where it answered, the runner knows both words of its request
   pub record HasHelped (place word : ℕ) (old new : RunnerState T) : Type 0 where
     pub names : is_free word ≡ false
     pub watching : RunnerState T

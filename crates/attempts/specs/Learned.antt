@@ -35,9 +35,8 @@ module _ {T : Type 0} (m : Meaning) where
     pub learns : Learns t.request old.part.records.known new.part.records.known
     pub stood : learns.more ≢ [] → StoodAtStamp d t old
 
-  -- a gate halted the runner in its run, or in its opening: what it has published is what it had published,
-  -- run to its
-  -- end or not
+  -- a gate halted the runner in its run, or in its opening: what it has published is what it had published, but for the
+  -- section of a run that came to its end
   pub record IsCut (d : ℕ) (old new : RunnerState T) : Type 0 where
     pub number : new.number ≡ old.number
     pub published : (new.part.published ≡ old.part.published) ⊎ (new.part.published ≡ kept_unless old.part.published d)

@@ -18,7 +18,7 @@ module _ {T : Type 0} where
   abbrev pub has_much_in_limbo : RunnerState T → Bool
   has_much_in_limbo r = nat_lt 0 (length r.part.nodes.limbo) && nat_le r.layout.nodes (4 * length r.part.nodes.limbo)
 
-  -- the runner is idle with an empty hand, and is who it was, knows what it knew, and has run what it had
+  -- the runner is idle with an empty hand and no guard, and is who it was, knows what it knew, and has run what it had
   pub record IsRested (old new : RunnerState T) : Type 0 where
     pub tidy : IsTidy new
     pub number : new.number ≡ old.number
@@ -36,8 +36,8 @@ module _ {T : Type 0} where
     SweepsWhere true old new = HasSwept m old new
     SweepsWhere false old new = new ≡ old
 
-    -- one scan where much is in limbo, and then up to three in a row, as long as node slots lack; then one sweep where no
-    -- descriptor is free. So where node slots still lack three scans were made one behind the other, and where a
+    -- one scan where much is in limbo, and then up to three in a row, as long as node slots lack; then one sweep where
+    -- no descriptor is free. So where node slots still lack three scans were made one behind the other, and where a
     -- descriptor lacks each own one in limbo is named by the guard word of another runner
     pub record Reclaims (old new : RunnerState T) : Type 0 where
       pub collected : RunnerState T

@@ -28,6 +28,11 @@ use Rattle.attempts.specs.Attempts.{is_halted, is_short, IsBrief, Leaves, leavin
 use Rattle.attempts.specs.declared.answers.Attempt.{Attempt}
 use Rattle.attempts.specs.declared.answers.Attempt.TheVariants as answers
 
+-- the runner may let its guard go and leave: it is entered, in no run, and has no published section
+pub record MayLetGo {T : Type 0} (r : RunnerState T) : Type 0 where
+  pub epoch : ℕ
+  pub at : IsAt r (stages.Entered epoch) None
+
 module _ {T : Type 0} (m : Meaning) where
   -- the runner may leave with this answer: it is entered, in no run, with an empty hand, no published section and no
   -- guard, and may watch a lock that the answer names, and help
@@ -39,11 +44,6 @@ module _ {T : Type 0} (m : Meaning) where
     -- it has read the word of this lock since it entered, or its own section left by it
     pub met : (place word : ℕ) → answer ≡ answers.Busy place word
         → (has_pair r.part.reads.cells place word ≡ true) ⊎ HasLeftBy r.part place word
-
-  -- the runner may let its guard go and leave: it is entered, in no run, and has no published section
-  pub record MayLetGo (r : RunnerState T) : Type 0 where
-    pub epoch : ℕ
-    pub at : IsAt r (stages.Entered epoch) None
 
   -- the runner came to know no request of its own
   abbrev pub LearnsNoOwn : RunnerState T → RunnerState T → Type 0

@@ -14,8 +14,8 @@ use version_words::{FlockTable, Runner};
 /// Leaves, and loads the stamp word and the reply word of a request that the runner knows: the answer is `Done`
 /// with them.
 ///
-/// The runner has to be entered and in no run, with an empty hand and nothing to retire, and to know both words. It
-/// makes three atomic steps, which aren't counted. There is no refusal, and no memory is taken.
+/// The runner has to be entered and in no run, with an empty hand, no published section and no guard, and to know both
+/// words. It makes three atomic steps, which aren't counted. There is no refusal, and no memory is taken.
 pub fn learn<S: Planner>(
     table: &FlockTable<S>,
     runner: Runner<S>,

@@ -70,7 +70,8 @@ fn sweep_where_none<S: Structure>(table: &FlockTable<S>, runner: Runner<S>) -> R
 /// made only where it is needed. Three in a row bring back all that nobody holds: what was retired in the present epoch
 /// leaves limbo two epochs on. One sweep brings back each retired descriptor that no guard word names.
 ///
-/// The runner has to be idle with an empty hand. There is no refusal, and no memory is taken (Fraser, 2004; Michael, 2004).
+/// The runner has to be idle with an empty hand and no guard. There is no refusal, and no memory is taken
+/// (Fraser, 2004; Michael, 2004).
 pub fn reclaim<S: Structure>(table: &FlockTable<S>, runner: Runner<S>) -> Runner<S>
     requires own { IsOf table.now runner }
     requires tidy { IsTidy runner }

@@ -16,14 +16,14 @@ use crate::refusals::section_left;
 use crate::turns::turn_away;
 use lock_walks::Planner;
 use lock_walks::try_lock::{RunEnd, Section, run_section};
-use lock_words::stale_words_differ;
+use lock_words::{stale_words_differ, taken_names_stand};
 use machine_states::body_terms::{Outcome, StepKind, Steps};
 use machine_states::map_history::Request;
 use runner_gate::Gate;
 use version_words::{FlockTable, Runner};
 
-/// Lets the guard of the own section go, which was run to its end with this outcome, and leaves: where it answered, with the words
-/// of the request, else with the refusal by which it left.
+/// Lets the guard of the own section go, which was run to its end with this outcome, and leaves: where it answered,
+/// with the words of the request, else with the refusal by which it left.
 pub fn conclude<S: Planner, G: Gate, L>(
     table: &FlockTable<S>,
     runner: Runner<S>,
@@ -52,6 +52,7 @@ pub fn conclude<S: Planner, G: Gate, L>(
         learn(table, runner, request)
     } else {
         stale_words_differ(table.structure());
+        taken_names_stand(table.structure());
         turn_away(table, runner, section_left(outcome), gate, steps)
     }
 }

@@ -31,8 +31,8 @@ fn leave<S: Structure>(table: &FlockTable<S>, runner: Runner<S>) -> Runner<S>
 /// names run to its end where the lock has the word still. Otherwise that section is done.
 ///
 /// The runner has to be entered and in no run, with an empty hand, no published section and no guard, and may watch the
-/// lock that a Busy names. `Halted` comes exactly where the gate halted it as it helped. No memory is taken, and nothing waits
-/// (Ben-David, Blelloch, Wei, *Lock-free locks revisited*, 2022).
+/// lock that a Busy names. `Halted` comes exactly where the gate halted it as it helped. No memory is taken, and
+/// nothing waits (Ben-David, Blelloch, Wei, *Lock-free locks revisited*, 2022).
 pub fn turn_away<S: Structure, G: Gate, L>(
     table: &FlockTable<S>,
     runner: Runner<S>,
