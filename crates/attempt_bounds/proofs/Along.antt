@@ -15,6 +15,7 @@ use Rattle.version_words.specs.Events.{Makes, IsMade}
 use Rattle.lone_plans.specs.one_worker.specs.next_steps.specs.Steps.{kind_at}
 use Rattle.attempts.specs.epoch_slots.specs.Entries.{Enters, Exits}
 use Rattle.attempts.specs.epoch_slots.specs.Collects.{Scans, Looks, AreTested}
+use Rattle.attempts.specs.epoch_slots.specs.Sweeps.{Sweeps}
 use Rattle.attempts.specs.commit_log.specs.Runs.{Ran}
 use Rattle.attempts.specs.try_lock.specs.section_runs.specs.Opened.{Opens, is_opening}
 use Rattle.attempts.specs.try_lock.specs.Plans.{Loads}
@@ -61,6 +62,10 @@ module _ {T : Type 0} where
     pub scans_on : (next : ℕ) (found : List ℕ) (a b : RunnerState T) → Scans m next found a b → Onward a b
     scans_on next [] a b same = stay a b same
     scans_on next (n ∷ ns) a b scans = then_on a scans.0 b (made_on (kinds.ScanOne next) n a scans.0 refl scans.1) (scans_on (next + 1) ns scans.0 b scans.2)
+
+    pub sweeps_on : (next : ℕ) (found : List ℕ) (a b : RunnerState T) → Sweeps m next found a b → Onward a b
+    sweeps_on next [] a b same = stay a b same
+    sweeps_on next (n ∷ ns) a b sweeps = then_on a sweeps.0 b (made_on (kinds.LoadGuard next) n a sweeps.0 refl sweeps.1) (sweeps_on (next + 1) ns sweeps.0 b sweeps.2)
 
     looks_on : (slot cell : ℕ) (words : List ℕ) (a b : RunnerState T) → Looks m slot cell words a b → Onward a b
     looks_on slot cell [] a b same = stay a b same

@@ -1,6 +1,7 @@
 -- How far an attempt takes the epoch on, and what it leaves in limbo.
-use Rattle.std.specs.Prelude.{false, true, replicate}
-use Rattle.std.proofs.Common.{◌≡◌, ℕ, ◌+◌, ◌*◌, ◌^◌, ◌<◌, ◌≤◌, List, [], ◌∷◌, ◌++◌, length, length-append, refl, ap, ◌∙◌, arith, None}
+use Rattle.std.specs.Prelude.{◌==◌, nat_lt, false, true, replicate}
+use Rattle.std.proofs.Common.{◌≡◌, ℕ, ◌+◌, ◌*◌, ◌^◌, ◌<◌, ◌≤◌, List, [], ◌∷◌, ◌++◌, length, length-append, refl, ap, ◌∙◌, arith, Some, None}
+use Rattle.std.proofs.lemmas.Bool.Decides.{nat_tests}
 use Rattle.machine_states.specs.map_history.specs.declared.op.Request.{Request}
 use Rattle.machine_states.specs.map_history.specs.declared.reply.Reply.{Reply}
 use Rattle.machine_states.specs.table_words.specs.Places.{slot_count}
@@ -20,11 +21,10 @@ use Rattle.version_words.proofs.Stages.{then_knows}
 use Rattle.attempts.proofs.Learning.{load_finished}
 use Rattle.attempts.specs.try_lock.specs.Planning.{Planning}
 use Rattle.attempts.specs.Course.{LeavesAndLoads}
-use Rattle.attempts.specs.Attempts.{IsShort, IsServed}
-use Rattle.attempts.specs.Reclaims.{lacks_slots}
-use Rattle.attempts.proofs.Refilling.{few_lacks}
+use Rattle.attempts.specs.Attempts.{IsFew, IsShort, IsServed}
+use Rattle.attempts.specs.try_lock.proofs.Guarding.{guard_keeps}
 use Rattle.attempt_bounds.specs.Spared.{IsEarly, IsSpared, AttemptsSpareSlots}
-use Rattle.attempt_bounds.proofs.Along.{Onward, then_on, made_on, enters_on, exits_on, loads_on, sets_on, opens_on, ran_on}
+use Rattle.attempt_bounds.proofs.Along.{Onward, then_on, made_on, is_made_on, enters_on, exits_on, loads_on, sets_on, opens_on, ran_on}
 use Rattle.attempt_bounds.proofs.Reclaimed.{own, was_uncrossed, epoch_most, no_nodes_left, no_descriptors_left}
 
 still_early : (e n : ℕ) → e ≤ 1 + 4 * n → n < 2 ^ 59 → e + 3 < 2 ^ 62
@@ -60,6 +60,9 @@ module _ {T : Type 0} (m : Meaning) (planning : Planning) where
     abbrev prepared : RunnerState T
     prepared = is.run.ended.tries.publishes.ready
 
+    abbrev guarding : RunnerState T
+    guarding = is.run.ended.tries.publishes.guarding
+
     abbrev entered : RunnerState T
     entered = is.run.ended.tries.plans.entered
 
@@ -73,7 +76,8 @@ module _ {T : Type 0} (m : Meaning) (planning : Planning) where
     ran = is.run.ran
 
     finished_more : new.part.records.finished ≡ old.part.records.finished ++ is.run.ended.ends.finished ∷ []
-    finished_more = leaves_finished request.number is.retired new is.leaves ∙ (is.run.retires.finished
+    finished_more = leaves_finished request.number is.unguarded new is.leaves
+        ∙ ((guard_keeps m None is.run.lets_go.found ran is.unguarded is.run.lets_go.event is.run.ended.ends.resting).finished
         ∙ (is.run.ended.ends.kept ∙ ap (λ (xs : List FinishedState). xs ++ is.run.ended.ends.finished ∷ []) is.run.ended.tries.still.finished))
 
     one_more : length new.part.records.finished ≡ length old.part.records.finished + 1
@@ -84,12 +88,13 @@ module _ {T : Type 0} (m : Meaning) (planning : Planning) where
     behind = then_on ready entered new (enters_on m ready entered is.run.ended.tries.plans.enters.enters)
         (then_on entered planned new (loads_on m is.run.ended.tries.readings entered planned is.run.ended.tries.plans.walked.loads)
         (then_on planned prepared new (sets_on m (slot_count planned.layout m.fixed_slots + is.run.ended.tries.publishes.descriptor) 0 (thunk_words is.thunk ++ replicate 65 0) planned prepared is.run.ended.tries.publishes.sets)
-        (then_on prepared published new
-        (made_on m (kinds.Hold is.thunk is.run.ended.tries.publishes.descriptor) is.run.ended.tries.publishes.found prepared published refl is.run.ended.tries.publishes.hold)
+        (then_on prepared guarding new (is_made_on m (kinds.Guard (Some is.run.ended.tries.publishes.descriptor)) prepared guarding refl is.run.ended.tries.publishes.guard)
+        (then_on guarding published new
+        (made_on m (kinds.Hold is.thunk is.run.ended.tries.publishes.descriptor) is.run.ended.tries.publishes.found guarding published refl is.run.ended.tries.publishes.hold)
         (then_on published opened new (opens_on m 13 published opened is.run.ended.ends.opening.loads)
         (then_on opened ran new (ran_on m is.run.ended.ends.count opened ran is.run.ended.ends.ran)
-        (then_on ran is.retired new (made_on m kinds.EpochForRetire is.run.retires.epoch ran is.retired refl is.run.retires.event)
-        (leaves_on request.number is.retired new is.leaves)))))))
+        (then_on ran is.unguarded new (is_made_on m (kinds.Guard None) ran is.unguarded refl is.run.lets_go)
+        (leaves_on request.number is.unguarded new is.leaves))))))))
 
     ready_uncrossed : ready.part.records.crossed ≡ false
     ready_uncrossed = (behind uncrossed).0
@@ -126,15 +131,15 @@ module _ {T : Type 0} (m : Meaning) (planning : Planning) where
     early_too : own old + 3 < 2 ^ 62
     early_too = still_early (own old) (length old.part.records.finished) (spared (was_uncrossed m old new is.reclaims uncrossed) was_low_too) was_low_too
 
-    lacks : lacks_slots new ≡ true
-    lacks = few_lacks new short.kind is.few
-
     none_in_limbo : short.limbo ≡ 0
-    none_in_limbo = ap (λ (x : Short). x.limbo) is.counts ∙ by short.kind
+    none_in_limbo = ap (λ (x : Short). x.limbo) is.counts ∙ by short.kind is.few
       where
-        by : (kind : Kind) → (counts_of new kind).limbo ≡ 0
-        by slots.Node = no_nodes_left m old new is.reclaims uncrossed early_too lacks
-        by slots.Descriptor = no_descriptors_left m old new is.reclaims uncrossed early_too lacks
+        too_few : (n : ℕ) → n < 2 → nat_lt n 2 ≡ true
+        too_few n few = grind (arith, nat_tests)
+
+        by : (kind : Kind) → IsFew new kind → (counts_of new kind).limbo ≡ 0
+        by slots.Node few = no_nodes_left m old new is.reclaims uncrossed early_too (too_few (length new.part.nodes.free) few)
+        by slots.Descriptor few = no_descriptors_left m old new is.reclaims uncrossed (ap (λ n. n == 0) few.1)
 
   first_spared : (r : RunnerState T) → r.part.records.epoch_seen ≡ 0 → IsSpared r
   first_spared r epoch uncrossed low =

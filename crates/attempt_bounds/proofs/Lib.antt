@@ -5,5 +5,6 @@ pub mod Served
 mod Recent
 pub mod Along
 mod Scanned
+mod Swept
 mod Reclaimed
 mod Attempted

@@ -1,5 +1,5 @@
 -- A plan of the one worker is refused by a spent word alone.
-use Rattle.std.proofs.Common.{◌≡◌, ℕ, [], sym, ap, ◌∙◌, subst, None}
+use Rattle.std.proofs.Common.{◌≡◌, ℕ, length, sym, ap, ◌∙◌, subst, arith, None}
 use Rattle.machine_states.specs.map_history.specs.declared.op.Request.{Request}
 use Rattle.machine_states.specs.table_words.specs.declared.layout.Layout.{Layout}
 use Rattle.machine_states.specs.table_words.specs.Limits.{IsWithinLimits}
@@ -13,6 +13,7 @@ use Rattle.machine_states.specs.runner_parts.specs.State.{ReadsState}
 use Rattle.version_words.specs.machine_invariant.specs.After.{AreAllowed}
 use Rattle.version_words.specs.RunnerState.{RunnerState}
 use Rattle.version_words.specs.Stages.{IsAt}
+use Rattle.lone_plans.specs.one_worker.specs.Alone.{HasPublishedNone}
 use Rattle.lone_plans.specs.Lone.{NobodyRefuses, HasWalkedAlone}
 use Rattle.lone_plans.proofs.Planned as alones
 use Rattle.attempts.specs.try_lock.specs.declared.planned.Planned.{Planned}
@@ -55,14 +56,20 @@ module _ {T : Type 0} (m : Meaning) (laws : Laws m) (planning : Planning) (stead
   pub at_is : IsAt new (stages.Entered epoch) None
   at_is = has.walked.at epoch None has.enters.enters.at
 
-  reads_is : new.part.reads ≡ reads_walked m no_reads readings
-  reads_is = has.walked.reads ∙ ap (λ (s : ReadsState). reads_walked m s readings) has.enters.enters.reads
+  reads_is : new.part.reads ≡ reads_walked no_reads readings
+  reads_is = has.walked.reads ∙ ap (λ (s : ReadsState). reads_walked s readings) has.enters.enters.reads
 
   pub walk_is : new.part.reads.walk ≡ readings
   walk_is = ap (λ (s : ReadsState). s.walk) reads_is
 
-  pub fresh_is : new.part.reads.published ≡ []
-  fresh_is = ap (λ (s : ReadsState). s.published) reads_is
+  pub cells_is : new.part.reads.cells ≡ readings
+  cells_is = ap (λ (s : ReadsState). s.cells) reads_is
+
+  pub fresh_is : HasPublishedNone new.part
+  fresh_is = record {
+    unpublished = at_is.published;
+    walked = let cells = ap length cells_is in let walk = ap length walk_is in omega (arith, cells, walk);
+  }
 
   pub allowed_is : IsAllowed request.op
   allowed_is = allowed_at old.requests request.number request has.enters.may.there lone.allowed.each

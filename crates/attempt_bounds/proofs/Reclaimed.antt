@@ -1,13 +1,16 @@
--- What a runner has in limbo once it collected where it had to, and how far it took the epoch on.
-use Rattle.std.specs.Prelude.{Bool, true, false}
+-- What a runner has in limbo once it collected and swept where it had to, and how far it took the epoch on.
+use Rattle.std.specs.Prelude.{nat_lt, Bool, true, false}
 use Rattle.std.proofs.Common.{◌≡◌, ℕ, ◌+◌, ◌^◌, ◌<◌, ◌≤◌, length, refl, sym, ap, ◌∙◌, subst, arith, true≢false}
 use Rattle.machine_states.specs.structure_laws.specs.Meaning.{Meaning}
+use Rattle.machine_states.specs.runner_parts.specs.State.{NodesState}
 use Rattle.machine_states.specs.runner_steps.specs.After.{own_epoch}
 use Rattle.version_words.specs.RunnerState.{RunnerState}
 use Rattle.attempts.specs.epoch_slots.specs.Collects.{Collects}
-use Rattle.attempts.specs.Reclaims.{lacks_slots, has_much_in_limbo, CollectsWhere, Reclaims}
+use Rattle.attempts.specs.Reclaims.{lacks_slots, lacks_descriptor, has_much_in_limbo, CollectsWhere, SweepsWhere, Reclaims}
 use Rattle.attempt_bounds.proofs.Recent.{recent}
-use Rattle.attempt_bounds.proofs.Scanned.{old_uncrossed, epoch_is, epoch_then, nodes_left, descriptors_left, no_nodes, no_descriptors}
+use Rattle.attempt_bounds.proofs.Along.{Onward, stay}
+use Rattle.attempt_bounds.proofs.Scanned.{old_uncrossed, epoch_is, epoch_then, nodes_left, no_nodes}
+use Rattle.attempt_bounds.proofs.Swept.{swept_on, no_descriptors}
 
 module _ {T : Type 0} where
   abbrev pub own : RunnerState T → ℕ
@@ -37,27 +40,46 @@ module _ {T : Type 0} where
     lacked true old new is collects lacks = refl
     lacked false old new is same lacks = absurd (true≢false (sym lacks ∙ (ap lacks_slots same ∙ is)))
 
+    -- a sweep is no step on the epoch
+    sweep_on : (due : Bool) (old new : RunnerState T) → SweepsWhere m due old new → Onward old new
+    sweep_on true old new swept = swept_on m old new swept
+    sweep_on false old new same = stay old new same
+
     module _ (old new : RunnerState T) (r : Reclaims m old new) (uncrossed : IsUncrossed new) where
+      behind : IsUncrossed r.third × (own new ≡ own r.third)
+      behind = sweep_on (lacks_descriptor r.third) r.third new r.sweeps uncrossed
+
+      third_uncrossed : IsUncrossed r.third
+      third_uncrossed = behind.0
+
       second_uncrossed : IsUncrossed r.second
-      second_uncrossed = where_was (lacks_slots r.second) r.second new r.thrice uncrossed
+      second_uncrossed = where_was (lacks_slots r.second) r.second r.third r.thrice third_uncrossed
 
       first_uncrossed : IsUncrossed r.first
       first_uncrossed = where_was (lacks_slots r.first) r.first r.second r.twice second_uncrossed
 
-      swept_uncrossed : IsUncrossed r.swept
-      swept_uncrossed = where_was (lacks_slots r.swept) r.swept r.first r.once first_uncrossed
+      collected_uncrossed : IsUncrossed r.collected
+      collected_uncrossed = where_was (lacks_slots r.collected) r.collected r.first r.once first_uncrossed
 
       pub was_uncrossed : IsUncrossed old
-      was_uncrossed = where_was (has_much_in_limbo old) old r.swept r.sweeps swept_uncrossed
+      was_uncrossed = where_was (has_much_in_limbo old) old r.collected r.collects collected_uncrossed
+
+      -- where no descriptor is free, none of the own ones is in limbo: the sweep read no guard word that names one
+      pub no_descriptors_left : lacks_descriptor new ≡ true → length new.part.descriptors.limbo ≡ 0
+      no_descriptors_left lacks = by (lacks_descriptor r.third) refl r.sweeps
+        where
+          by : (due : Bool) → lacks_descriptor r.third ≡ due → SweepsWhere m due r.third new → length new.part.descriptors.limbo ≡ 0
+          by true is swept = no_descriptors m r.third new swept uncrossed
+          by false is same = absurd (true≢false (sym lacks ∙ (ap lacks_descriptor same ∙ is)))
 
       module _ (early : own old + 3 < 2 ^ 62) where
-        swept_most : own r.swept ≤ own old + 1
-        swept_most = where_most (has_much_in_limbo old) old r.swept r.sweeps swept_uncrossed (omega (arith, early))
+        collected_most : own r.collected ≤ own old + 1
+        collected_most = where_most (has_much_in_limbo old) old r.collected r.collects collected_uncrossed (omega (arith, early))
 
         first_most : own r.first ≤ own old + 2
         first_most =
-            let before = swept_most in
-            let one = where_most (lacks_slots r.swept) r.swept r.first r.once first_uncrossed (omega (arith, early, before)) in omega (arith, before, one)
+            let before = collected_most in
+            let one = where_most (lacks_slots r.collected) r.collected r.first r.once first_uncrossed (omega (arith, early, before)) in omega (arith, before, one)
 
         second_most : own r.second ≤ own old + 3
         second_most =
@@ -67,15 +89,26 @@ module _ {T : Type 0} where
         pub epoch_most : own new ≤ own old + 4
         epoch_most =
             let before = second_most in
-            let one = where_most (lacks_slots r.second) r.second new r.thrice uncrossed (omega (arith, early, before)) in omega (arith, before, one)
+            let one = where_most (lacks_slots r.second) r.second r.third r.thrice third_uncrossed (omega (arith, early, before)) in
+            let same = behind.1 in omega (arith, before, one, same)
 
-        -- where slots lack still, the last two things that were done were scans
+        -- where node slots lack still, the last two scans that might be made were made
         module _ (lacks : lacks_slots new ≡ true) where
-          second_lacks : lacks_slots r.second ≡ true
-          second_lacks = lacked (lacks_slots r.second) r.second new refl r.thrice lacks
+          same_nodes : new.part.nodes ≡ r.third.part.nodes
+          same_nodes = by (lacks_descriptor r.third) r.sweeps
+            where
+              by : (due : Bool) → SweepsWhere m due r.third new → new.part.nodes ≡ r.third.part.nodes
+              by true swept = swept.keeps.nodes
+              by false same = ap (λ (y : RunnerState T). y.part.nodes) same
 
-          last : Collects m r.second new
-          last = is_made (lacks_slots r.second) r.second new second_lacks r.thrice
+          third_lacks : lacks_slots r.third ≡ true
+          third_lacks = ap (λ (n : NodesState). nat_lt (length n.free) 2) (sym same_nodes) ∙ lacks
+
+          second_lacks : lacks_slots r.second ≡ true
+          second_lacks = lacked (lacks_slots r.second) r.second r.third refl r.thrice third_lacks
+
+          last : Collects m r.second r.third
+          last = is_made (lacks_slots r.second) r.second r.third second_lacks r.thrice
 
           before_last : Collects m r.first r.second
           before_last = is_made (lacks_slots r.first) r.first r.second (lacked (lacks_slots r.first) r.first r.second refl r.twice second_lacks) r.twice
@@ -91,9 +124,6 @@ module _ {T : Type 0} where
 
           -- the first of them brought back what was retired before the epoch that it found, and the second the rest
           pub no_nodes_left : length new.part.nodes.limbo ≡ 0
-          no_nodes_left = nodes_left m r.second new last uncrossed second_early
-              ∙ (ap (λ (n : ℕ). recent n r.second.part.nodes.limbo) then ∙ no_nodes m r.first r.second before_last second_uncrossed first_early)
-
-          pub no_descriptors_left : length new.part.descriptors.limbo ≡ 0
-          no_descriptors_left = descriptors_left m r.second new last uncrossed second_early
-              ∙ (ap (λ (n : ℕ). recent n r.second.part.descriptors.limbo) then ∙ no_descriptors m r.first r.second before_last second_uncrossed first_early)
+          no_nodes_left = ap (λ (n : NodesState). length n.limbo) same_nodes
+              ∙ (nodes_left m r.second r.third last third_uncrossed second_early
+              ∙ (ap (λ (n : ℕ). recent n r.second.part.nodes.limbo) then ∙ no_nodes m r.first r.second before_last second_uncrossed first_early))

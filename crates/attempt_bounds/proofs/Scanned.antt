@@ -1,4 +1,4 @@
--- What a scan makes of limbo where nobody crossed the runner's steps.
+-- What a scan makes of the node slots in limbo where nobody crossed the runner's steps.
 use Rattle.std.specs.Prelude.{◌==◌, ◌&&◌, ◌||◌, not, nat_lt, nat_le, Bool, true, false, if◌then◌else◌, All}
 use Rattle.std.specs.List.{filter, list_all}
 use Rattle.std.proofs.Common.{◌≡◌, ℕ, ◌+◌, ◌^◌, ◌<◌, ◌≤◌, List, [], ◌∷◌, length, refl, sym, ap, ◌∙◌, subst, arith, Option, Some, None}
@@ -17,7 +17,7 @@ use Rattle.machine_states.specs.runner_parts.specs.declared.event.EventKind.TheV
 use Rattle.machine_states.specs.runner_parts.specs.declared.entries.Retired.{Retired}
 use Rattle.machine_states.specs.epoch_core.specs.declared.stage.Stage.{Stage}
 use Rattle.machine_states.specs.epoch_core.specs.declared.stage.Stage.TheVariants.{Idle, Loaded, Announced, Entered, Scanning}
-use Rattle.machine_states.specs.runner_parts.specs.State.{RunState, PartState, NodesState, DescriptorsState}
+use Rattle.machine_states.specs.runner_parts.specs.State.{RunState, PartState, NodesState}
 use Rattle.machine_states.specs.runner_parts.specs.Lists.{is_old, slots_of}
 use Rattle.machine_states.specs.epoch_core.specs.State.{last_epoch}
 use Rattle.machine_states.specs.runner_steps.specs.Asks.{ask_by}
@@ -185,26 +185,12 @@ module _ {T : Type 0} (m : Meaning) where
           (subst (λ n. All (λ (y : Retired). y.epoch ≤ n) ((sight m c.begun.layout c.begun.requests c.load.shown.before).part c.begun.number).nodes.limbo) word_is
           (sound.nodes_most c.begun.number))
 
-      descriptors_most : All (λ (y : Retired). y.epoch ≤ epoch) old.part.descriptors.limbo
-      descriptors_most = subst (λ (p : PartState). All (λ (y : Retired). y.epoch ≤ epoch) p.descriptors.limbo) part_is
-          (subst (λ n. All (λ (y : Retired). y.epoch ≤ n) ((sight m c.begun.layout c.begun.requests c.load.shown.before).part c.begun.number).descriptors.limbo) word_is
-          (sound.descriptors_most c.begun.number))
-
       nodes_are : new.part.nodes.limbo ≡ filter (λ y. not (is_old (epoch + 1) y)) old.part.nodes.limbo
       nodes_are = ap (λ (n : NodesState). n.limbo) c.nodes ∙ ap (λ n. filter (λ y. not (is_old n y)) old.part.nodes.limbo) reached_is
-
-      descriptors_are : new.part.descriptors.limbo ≡ filter (λ y. not (is_old (epoch + 1) y)) old.part.descriptors.limbo
-      descriptors_are = ap (λ (d : DescriptorsState). d.limbo) c.descriptors ∙ ap (λ n. filter (λ y. not (is_old n y)) old.part.descriptors.limbo) reached_is
 
       -- what is left was recent before, and is so no more
       pub nodes_left : length new.part.nodes.limbo ≡ recent (own_epoch old.part.records.epoch_seen) old.part.nodes.limbo
       nodes_left = ap length nodes_are ∙ (kept_recent epoch old.part.nodes.limbo ∙ ap (λ n. recent n old.part.nodes.limbo) epoch_is)
 
-      pub descriptors_left : length new.part.descriptors.limbo ≡ recent (own_epoch old.part.records.epoch_seen) old.part.descriptors.limbo
-      descriptors_left = ap length descriptors_are ∙ (kept_recent epoch old.part.descriptors.limbo ∙ ap (λ n. recent n old.part.descriptors.limbo) epoch_is)
-
       pub no_nodes : recent (epoch + 1) new.part.nodes.limbo ≡ 0
       no_nodes = ap (recent (epoch + 1)) nodes_are ∙ none_kept epoch (λ y. not (is_old (epoch + 1) y)) old.part.nodes.limbo nodes_most
-
-      pub no_descriptors : recent (epoch + 1) new.part.descriptors.limbo ≡ 0
-      no_descriptors = ap (recent (epoch + 1)) descriptors_are ∙ none_kept epoch (λ y. not (is_old (epoch + 1) y)) old.part.descriptors.limbo descriptors_most

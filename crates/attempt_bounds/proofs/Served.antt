@@ -23,7 +23,7 @@ module _ {T : Type 0} (m : Meaning) (laws : Laws m) (planning : Planning) (plann
       (λ plan. subst NobodyCameBetween (sym plan.same)
       (plan_so m laws planning steady request old cut lone plan.readings plan.refusal plan.plans plan.plans.answers))
       (⊎_elim
-      (λ lock. absurd (none_refused m laws planning steady request old cut lone lock.thunk lock.refusal lock.tries))
+      (λ lock. absurd (none_refused m laws planning steady request old lock.guarded lone lock.thunk lock.refusal lock.tries))
       (λ section. subst NobodyCameBetween (sym section.same)
       (left_so m laws planning planner steady request old section.left.run.ran lone section.left.run.section section.thunk section.outcome
       section.left.trail section.left.run.ended)))

@@ -1,6 +1,6 @@
 -- The exchange by which the one worker publishes isn't refused.
 use Rattle.std.specs.Prelude.{true, slice_get, Err, if◌then◌else◌}
-use Rattle.std.proofs.Common.{◌≡◌, ℕ, [], sym, ap, ◌∙◌, subst, inr, Option, Some, None}
+use Rattle.std.proofs.Common.{◌≡◌, ℕ, [], ◌∷◌, ◌++◌, length, length-append, sym, ap, ◌∙◌, subst, inr, arith, Option, Some, None}
 use Rattle.machine_states.specs.epoch_core.specs.small_lemmas.proofs.Numbers.{equal_tested as same_test}
 use Rattle.machine_states.specs.map_history.specs.declared.op.Request.{Request}
 use Rattle.machine_states.specs.body_terms.specs.Word.{held_word}
@@ -29,6 +29,7 @@ use Rattle.version_words.specs.machine_invariant.specs.After.{AreAllowed}
 use Rattle.version_words.specs.RunnerState.{RunnerState}
 use Rattle.version_words.specs.Events.{Makes}
 use Rattle.version_words.specs.Stages.{IsAt}
+use Rattle.lone_plans.specs.one_worker.specs.Alone.{HasPublishedNone}
 use Rattle.lone_plans.proofs.Alone as alone
 use Rattle.attempts.specs.try_lock.specs.Planning.{Planning}
 use Rattle.attempts.specs.try_lock.specs.declared.planned.Planned.TheVariants as plans
@@ -53,7 +54,7 @@ module _ {T : Type 0} (m : Meaning) (laws : Laws m) (planning : Planning) (stead
   abbrev found : ℕ
   found = tries.publishes.found
 
-  refused : IsRefused thunk found tries.planned new refusal
+  refused : IsRefused thunk tries.publishes.descriptor found tries.planned new refusal
   refused = tries.publishes.refused
 
   number_is : new.number ≡ 0
@@ -76,17 +77,24 @@ module _ {T : Type 0} (m : Meaning) (laws : Laws m) (planning : Planning) (stead
   walk_is = ap (λ (s : ReadsState). s.walk) refused.reads
       ∙ planned.walk_is m laws planning steady request old tries.planned lone tries.readings (plans.Thunk thunk) tries.plans
 
-  fresh_is : new.part.reads.published ≡ []
-  fresh_is = ap (λ (s : ReadsState). s.published) refused.reads
-      ∙ planned.fresh_is m laws planning steady request old tries.planned lone tries.readings (plans.Thunk thunk) tries.plans
+  -- it has read one cell besides its walk
+  fresh_is : HasPublishedNone new.part
+  fresh_is = record {
+    unpublished = at_is.published;
+    walked =
+        let cells = ap length (ap (λ (s : ReadsState). s.cells) refused.reads
+        ∙ ap (λ (rs : Readings). rs ++ (thunk.lock, found) ∷ []) (planned.cells_is m laws planning steady request old tries.planned lone tries.readings (plans.Thunk thunk) tries.plans)) in
+        let more = length-append tries.readings ((thunk.lock, found) ∷ []) in
+        let walk = ap length walk_is in omega (arith, cells, more, walk);
+  }
 
-  hold : Makes m (kinds.Hold thunk tries.publishes.descriptor) found tries.publishes.ready new
+  hold : Makes m (kinds.Hold thunk tries.publishes.descriptor) found tries.publishes.guarding new
   hold = tries.publishes.hold
 
   -- behind the exchange the lock has the word that it found
   here : seen (sizes_for m new.layout new.requests) hold.shown.world.words (spots.Cell thunk.lock) ≡ found
   here = subst (λ (x : Spot × Access). seen (sizes_for m new.layout new.requests) hold.shown.world.words x.0 ≡ written x.1 found)
-      (sym (met_lock m thunk tries.publishes.descriptor found tries.publishes.ready new hold)) hold.shown.word
+      (sym (met_lock m thunk tries.publishes.descriptor found tries.publishes.guarding new hold)) hold.shown.word
       ∙ ap (λ b. if b then held_word tries.publishes.descriptor thunk.word else found) refused.lost
 
   -- and that is the one that the walk has read

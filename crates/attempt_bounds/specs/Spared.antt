@@ -27,7 +27,7 @@ module _ (T : Type 0) (m : Meaning) (planning : Planning) where
     -- an attempt that serves its request leads from a spared runner to a spared one
     pub served : (request : Request) (reply : Reply) (stamp : ℕ) (old new : RunnerState T) → IsSpared old
         → IsServed m planning request reply stamp old new → IsSpared new
-    -- behind a spared runner, an attempt that lacks slots of a kind has none of either kind in limbo
+    -- behind a spared runner, an attempt that lacks slots of a kind has none of that kind in limbo
     pub short : (short : Short) (number : ℕ) (old new : RunnerState T) → IsSpared old → IsShort m short number old new
         → new.part.records.crossed ≡ false → length new.part.records.finished < 2 ^ 59
         → short.limbo ≡ 0

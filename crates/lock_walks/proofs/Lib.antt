@@ -1,7 +1,7 @@
 pub mod Each
 pub mod Following
 pub mod Brief
-mod Walking
+pub mod Walking
 mod Leading
 mod Planning
 mod Onward
