@@ -49,8 +49,6 @@ fn first_part(alloc: Global, nodes: Vec<u32>, descriptors: Vec<u32>) -> Part
         reads: Reads {
             walk: Vec::new(alloc),
             cells: Vec::new(alloc),
-            held: Vec::new(alloc),
-            published: Vec::new(alloc),
             look: None,
         },
         records: Records {
