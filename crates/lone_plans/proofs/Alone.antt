@@ -1,6 +1,6 @@
 -- What stands where the one worker is entered and has published nothing since.
 use Rattle.std.specs.Prelude.{cond, Bool, true, false, slice_get}
-use Rattle.std.proofs.Common.{◌≡◌, ◌⊎◌, ℕ, [], sym, ap, ◌∙◌, subst, inl, Some, None}
+use Rattle.std.proofs.Common.{◌≡◌, ◌⊎◌, ℕ, sym, ap, ◌∙◌, subst, inl, Some, None}
 use Rattle.machine_states.specs.map_history.specs.declared.op.Op.{Op}
 use Rattle.machine_states.specs.body_terms.specs.Word.{value_of}
 use Rattle.machine_states.specs.body_terms.specs.declared.thunk.Thunk.{Thunk}
@@ -19,7 +19,7 @@ use Rattle.one_worker.specs.machine_facts.specs.machine_invariant.proofs.Asked.{
 use Rattle.one_worker.specs.reached_histories.specs.Laws.{HasHistory}
 use Rattle.one_worker.specs.reached_histories.proofs.Histories.{reached_have}
 use Rattle.one_worker.specs.resource_bounds.specs.Versions.{open_count}
-use Rattle.one_worker.specs.Alone.{AloneStands}
+use Rattle.one_worker.specs.Alone.{HasPublishedNone, AloneStands}
 use Rattle.one_worker.proofs.Reached.{reached_alone}
 use Rattle.one_worker.specs.resource_bounds.proofs.Quiet.{scene, cells_are, stands_for, quiet}
 use Rattle.lock_walks.specs.version_words.specs.RunnerState.{RunnerState}
@@ -32,7 +32,7 @@ use Rattle.lone_plans.specs.Lone.{IsLone}
 -- a runner, and a state in which it has its part
 module _ {T : Type 0} (m : Meaning) (laws : Laws m) (r : RunnerState T) (lone : IsLone r) (zero : r.number ≡ 0)
     (w : World) (reached : Reached m r.layout r.requests w) (own : slice_get w.parts (seat_of r.layout r.number) ≡ Some r.part)
-    (epoch : ℕ) (at : IsAt r (stages.Entered epoch) None) (fresh : r.part.reads.published ≡ []) where
+    (epoch : ℕ) (at : IsAt r (stages.Entered epoch) None) (fresh : HasPublishedNone r.part) where
   abbrev pub s : Sight
   s = sight m r.layout r.requests w
 
@@ -52,7 +52,7 @@ module _ {T : Type 0} (m : Meaning) (laws : Laws m) (r : RunnerState T) (lone : 
   stands = subst (λ (p : PartState). (i place word : ℕ) → slice_get p.reads.walk i ≡ Some (place, word)
       → (m.is_lock place ≡ false) ⊎ IsKnown m p.reads.walk place → s.word (spots.Cell place) ≡ word) part_is
       (λ i place word. alone.read epoch i place word (ap (λ (p : PartState). p.stage) part_is ∙ at.at)
-      (ap (λ (p : PartState). p.reads.published) part_is ∙ fresh))
+      (subst HasPublishedNone (sym part_is) fresh))
 
   history : HasHistory m r.layout r.requests s
   history = reached_have m laws r.layout r.requests lone.limits lone.allowed w reached

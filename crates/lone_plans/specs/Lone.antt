@@ -1,5 +1,5 @@
 -- What a plan may be refused by with one worker.
-use Rattle.std.specs.Prelude.{◌≡◌, ◌⊎◌, ℕ, [], true, false, slice_get, Some, None}
+use Rattle.std.specs.Prelude.{◌≡◌, ◌⊎◌, ℕ, true, false, slice_get, Some, None}
 use Rattle.machine_states.specs.map_history.specs.declared.op.Op.{Op}
 use Rattle.machine_states.specs.table_words.specs.Limits.{IsWithinLimits}
 use Rattle.machine_states.specs.table_words.specs.declared.spot.Spot.TheVariants.{Cell}
@@ -10,6 +10,7 @@ use Rattle.machine_states.specs.structure_laws.specs.Sections.{IsAllowed}
 use Rattle.machine_states.specs.epoch_core.specs.declared.stage.Stage.TheVariants as stages
 use Rattle.machine_states.specs.Sight.{sight}
 use Rattle.one_worker.specs.machine_facts.specs.machine_invariant.specs.After.{AreAllowed}
+use Rattle.one_worker.specs.Alone.{HasPublishedNone}
 use Rattle.lock_walks.specs.version_words.specs.RunnerState.{RunnerState}
 use Rattle.lock_walks.specs.version_words.specs.Stages.{IsAt}
 use Rattle.lock_walks.specs.try_lock.specs.declared.planned.Planned.{Planned}
@@ -39,7 +40,7 @@ module _ {T : Type 0} where
     pub worker : r.number ≡ 0
     pub epoch : ℕ
     pub at : IsAt r (stages.Entered epoch) None
-    pub fresh : r.part.reads.published ≡ []
+    pub fresh : HasPublishedNone r.part
 
 module _ {T : Type 0} (m : Meaning) where
   -- since it entered it has read nothing but this walk of an operation that is served; so it was entered

@@ -1,6 +1,6 @@
 -- A read of the one worker is refused by a spent word or its body alone.
 use Rattle.std.specs.Prelude.{◌++◌, true, slice_get}
-use Rattle.std.proofs.Common.{◌≡◌, ◌≢◌, ℕ, suc, List, [], ◌∷◌, sym, ap, ◌∙◌, subst, inl, inr, Some}
+use Rattle.std.proofs.Common.{◌≡◌, ◌≢◌, ℕ, suc, List, [], ◌∷◌, length, refl, sym, ap, ◌∙◌, subst, inl, inr, arith, Some}
 use Rattle.std.proofs.lemmas.Option.{slice_get_within}
 use Rattle.runner_parts.specs.structure_laws.specs.map_history.specs.declared.op.Request.{Request}
 use Rattle.runner_parts.specs.structure_laws.specs.body_terms.specs.declared.thunk.Thunk.{Thunk}
@@ -24,7 +24,7 @@ use Rattle.seq_read.specs.caller_facts.specs.epoch_slots.proofs.Outside.{reads_m
 use Rattle.seq_read.specs.caller_facts.specs.try_lock.specs.declared.planned.Planned.{Planned}
 use Rattle.seq_read.specs.caller_facts.specs.try_lock.specs.declared.planned.Planned.TheVariants as plans
 use Rattle.seq_read.specs.caller_facts.specs.try_lock.specs.Planning.{Planning}
-use Rattle.seq_read.specs.caller_facts.specs.try_lock.specs.Plans.{IsWalk, Answers}
+use Rattle.seq_read.specs.caller_facts.specs.try_lock.specs.Plans.{IsWalk, Answers, reads_walked}
 use Rattle.seq_read.specs.caller_facts.specs.Asking.{MayAttempt}
 use Rattle.seq_read.specs.caller_facts.proofs.Shapes.{allowed_at}
 use Rattle.seq_read.specs.Course.{of_plan, IsReading, HasPlanned, HasLoaded, HasAnnounced, HasClock, HasLock, CellDiffers}
@@ -40,6 +40,10 @@ right_in : {X : Type 0} (xs ys : List X) (i : ℕ) (y : X) → slice_get ys i �
 right_in [] ys i y h = (i, h)
 right_in (x ∷ xs) ys i y h = let behind = right_in xs ys i y h in (suc behind.0, behind.1)
 
+-- walks read nothing else
+only_walks : (old new : ReadsState) (readings : Readings) → new ≡ reads_walked old readings → old.cells ≡ old.walk → new.cells ≡ new.walk
+only_walks old new readings same only = subst (λ (s : ReadsState). s.cells ≡ s.walk) (sym same) (ap (λ rs. rs ++ readings) only)
+
 plan_met : (p : Planned) → NobodyRefuses p → NobodyCameBetween (of_plan p)
 plan_met (plans.Busy place word) none = none
 plan_met (plans.Spent place word) none = tt
@@ -49,7 +53,7 @@ plan_met (plans.Thunk thunk) none = tt
 plan_met plans.Halted none = tt
 
 module _ {T : Type 0} (m : Meaning) (laws : Laws m) (planning : Planning) (request : Request) (old : RunnerState T) (lone : IsLone old) where
-  alone_of : (r : RunnerState T) → MayAttempt planning request old → IsReading old r → r.part.reads.published ≡ [] → IsAlone r
+  alone_of : (r : RunnerState T) → MayAttempt planning request old → IsReading old r → r.part.reads.cells ≡ r.part.reads.walk → IsAlone r
   alone_of r may reading fresh = record {
     lone = record {
       limits = subst IsWithinLimits (sym reading.still.layout) lone.limits;
@@ -59,12 +63,14 @@ module _ {T : Type 0} (m : Meaning) (laws : Laws m) (planning : Planning) (reque
     worker = reading.still.number ∙ alones.worker_zero request old lone.one may.next;
     epoch = reading.epoch;
     at = reading.at;
-    fresh = fresh;
+    fresh = record { unpublished = reading.at.published; walked = let same = ap length fresh in omega (arith, same) };
   }
 
   module _ (readings : Readings) (answer : Planned) (r : RunnerState T) (is : HasPlanned m planning request readings answer old r) where
-    fresh_planned : r.part.reads.published ≡ []
-    fresh_planned = ap (λ (s : ReadsState). s.published) is.walked.reads ∙ ap (λ (s : ReadsState). s.published) is.enters.enters.reads
+    -- it has read nothing but in its walks
+    fresh_planned : r.part.reads.cells ≡ r.part.reads.walk
+    fresh_planned = only_walks is.entered.part.reads r.part.reads readings is.walked.reads
+        (subst (λ (s : ReadsState). s.cells ≡ s.walk) (sym is.enters.enters.reads) refl)
 
     allowed_planned : IsAllowed request.op
     allowed_planned = allowed_at old.requests request.number request is.enters.may.there lone.allowed.each
@@ -92,23 +98,23 @@ module _ {T : Type 0} (m : Meaning) (laws : Laws m) (planning : Planning) (reque
     fits_on more = (laws.over old.layout lone.limits).fitting.fits_on readings more request.op thunk is.answers.fits
 
   module _ (thunk : Thunk) (found : Readings) where
-    fresh_loaded : (r : RunnerState T) → HasLoaded m planning request thunk found old r → r.part.reads.published ≡ []
-    fresh_loaded r is = ap (λ (s : ReadsState). s.published) is.loads.reads ∙ fresh_planned is.readings (plans.Thunk thunk) is.planned is.plans
+    fresh_loaded : (r : RunnerState T) → HasLoaded m planning request thunk found old r → r.part.reads.cells ≡ r.part.reads.walk
+    fresh_loaded r is = only_walks is.planned.part.reads r.part.reads found is.loads.reads (fresh_planned is.readings (plans.Thunk thunk) is.planned is.plans)
 
-    fresh_announced : (r : RunnerState T) → HasAnnounced m planning request thunk found old r → r.part.reads.published ≡ []
-    fresh_announced r is = ap (λ (s : ReadsState). s.published)
-        (reads_made m (kinds.ReadPlan thunk) is.announces.found is.loaded r is.announces.event (loaded_here m planning request old thunk found is.loaded is.finds.loads).resting)
-        ∙ fresh_loaded is.loaded is.finds.loads
+    fresh_announced : (r : RunnerState T) → HasAnnounced m planning request thunk found old r → r.part.reads.cells ≡ r.part.reads.walk
+    fresh_announced r is = subst (λ (s : ReadsState). s.cells ≡ s.walk)
+        (sym (reads_made m (kinds.ReadPlan thunk) is.announces.found is.loaded r is.announces.event (loaded_here m planning request old thunk found is.loaded is.finds.loads).resting))
+        (fresh_loaded is.loaded is.finds.loads)
 
-    fresh_clocked : (clock : ℕ) (r : RunnerState T) → HasClock m planning request thunk found clock old r → r.part.reads.published ≡ []
-    fresh_clocked clock r is = ap (λ (s : ReadsState). s.published)
-        (reads_made m kinds.ReadClock clock is.announced r is.loads (announced_here m planning request old thunk found is.announced is.announces).resting)
-        ∙ fresh_announced is.announced is.announces
+    fresh_clocked : (clock : ℕ) (r : RunnerState T) → HasClock m planning request thunk found clock old r → r.part.reads.cells ≡ r.part.reads.walk
+    fresh_clocked clock r is = subst (λ (s : ReadsState). s.cells ≡ s.walk)
+        (sym (reads_made m kinds.ReadClock clock is.announced r is.loads (announced_here m planning request old thunk found is.announced is.announces).resting))
+        (fresh_announced is.announced is.announces)
 
-    fresh_locked : (clock word : ℕ) (r : RunnerState T) → HasLock m planning request thunk found clock word old r → r.part.reads.published ≡ []
-    fresh_locked clock word r is = ap (λ (s : ReadsState). s.published)
+    fresh_locked : (clock word : ℕ) (r : RunnerState T) → HasLock m planning request thunk found clock word old r → r.part.reads.cells ≡ r.part.reads.walk
+    fresh_locked clock word r is = only_walks is.clocked.part.reads r.part.reads ((thunk.lock, word) ∷ [])
         (reads_made m (kinds.LoadCell (Some thunk.lock)) word is.clocked r is.loads (clock_here m planning request old thunk found clock is.clocked is.clocks).resting)
-        ∙ fresh_clocked clock is.clocked is.clocks
+        (fresh_clocked clock is.clocked is.clocks)
 
   -- a cell that the body loads has the word that the plan has read, and so the one that the body wants
   pub no_cell : PlannerLaws m planning.per_pair → (place expected read : ℕ) (r : RunnerState T) → CellDiffers m planning request place expected read old r → ⊥

@@ -15,7 +15,7 @@ use Rattle.machine_states.specs.runner_parts.specs.declared.entries.Look.{Look}
 use Rattle.machine_states.specs.runner_parts.specs.declared.entries.LookStage.TheVariants.{Looked, Replied, Stamped}
 use Rattle.machine_states.specs.runner_parts.specs.declared.event.EventKind.{EventKind}
 use Rattle.machine_states.specs.runner_parts.specs.declared.event.EventKind.TheVariants as kinds
-use Rattle.machine_states.specs.runner_parts.specs.State.{ReadsState}
+use Rattle.machine_states.specs.runner_parts.specs.State.{GuardsState, ReadsState}
 use Rattle.machine_states.specs.runner_steps.specs.Reads.{are_of, plan_by, only_loads_after}
 use Rattle.machine_states.specs.runner_steps.specs.After.{after_by}
 use Rattle.machine_states.specs.runner_parts.specs.State.{RunState}
@@ -24,25 +24,36 @@ use Rattle.caller_facts.specs.version_words.specs.TableState.{TableState, IsOf}
 use Rattle.caller_facts.specs.version_words.specs.Events.{Makes}
 use Rattle.caller_facts.specs.version_words.specs.Stages.{IsAt}
 use Rattle.caller_facts.specs.version_words.proofs.Asked.{in_no_run}
-use Rattle.caller_facts.specs.epoch_slots.specs.Entries.{Enters, KeepsOwn}
-use Rattle.caller_facts.specs.epoch_slots.proofs.Outside.{own_kept}
+use Rattle.caller_facts.specs.epoch_slots.specs.Entries.{Enters, HasLeave, KeepsOwn}
+use Rattle.caller_facts.specs.epoch_slots.proofs.Outside.{guards_made, own_kept}
 use Rattle.caller_facts.specs.try_lock.specs.declared.planned.Planned.{Planned}
 use Rattle.caller_facts.specs.try_lock.specs.declared.planned.Planned.TheVariants as plans
 use Rattle.caller_facts.specs.try_lock.specs.Planning.{Planning}
 use Rattle.caller_facts.specs.try_lock.specs.Plans as plan
 use Rattle.caller_facts.specs.try_lock.specs.Reached.{IsReached}
+use Rattle.caller_facts.specs.try_lock.proofs.Watching.{same_named, same_looked}
 use Rattle.caller_facts.specs.Asking.{MayAttempt}
 use Rattle.seq_read.specs.Course.{IsReading, HasEntered, HasPlanned, HasLoaded, HasFound, HasAnnounced, HasClock, HasLock, HasReplied, HasStamped}
 use Rattle.seq_read.proofs.Events.{IsHere, at_here, loads_on, plan_on, clock_on, load_on, reply_on, stamp_on}
 
+-- a reading runner may leave: its guard word names nothing, as before
+pub may_leave : {T : Type 0} (planning : Planning) (request : Request) (old r : RunnerState T) → MayAttempt planning request old → IsReading old r → HasLeave r
+may_leave planning request old r may reading = record { epoch = reading.epoch; at = reading.at; unguarded = reading.slots.guarded ∙ may.tidy.unguarded }
+
 module _ {T : Type 0} (m : Meaning) (planning : Planning) (request : Request) (old : RunnerState T) where
   -- a step that leaves the own slots and what is known leaves the runner reading
-  pub reading_on : (k : EventKind) (found : ℕ) (r r' : RunnerState T) (made : Makes m k found r r') → IsReading old r → KeepsOwn r r' → (epoch : ℕ)
+  pub reading_on : (k : EventKind) (found : ℕ) (r r' : RunnerState T) (made : Makes m k found r r') → IsReading old r → KeepsOwn r r'
+      → r'.part.guards.named ≡ r.part.guards.named → r'.part.guards.looked ≡ r.part.guards.looked → (epoch : ℕ)
       → IsAt r' (stages.Entered epoch) None → IsReading old r'
-  reading_on k found r r' made was keeps epoch at = record {
+  reading_on k found r r' made was keeps guarded looked epoch at = record {
     epoch = epoch;
     at = at;
-    slots = record { nodes = keeps.nodes ∙ was.slots.nodes; descriptors = keeps.descriptors ∙ was.slots.descriptors };
+    slots = record {
+      nodes = keeps.nodes ∙ was.slots.nodes;
+      descriptors = keeps.descriptors ∙ was.slots.descriptors;
+      guarded = guarded ∙ was.slots.guarded;
+      looked = looked ∙ was.slots.looked;
+    };
     still = record {
       layout = ap (λ (y : RunnerState T). y.layout) made.made ∙ was.still.layout;
       requests = ap (λ (y : RunnerState T). y.requests) made.made ∙ was.still.requests;
@@ -61,7 +72,12 @@ module _ {T : Type 0} (m : Meaning) (planning : Planning) (request : Request) (o
     reading = record {
       epoch = enters.epoch;
       at = enters.at;
-      slots = record { nodes = enters.keeps.nodes; descriptors = enters.keeps.descriptors };
+      slots = record {
+        nodes = enters.keeps.nodes;
+        descriptors = enters.keeps.descriptors;
+        guarded = ap (λ (g : GuardsState). g.named) enters.guards;
+        looked = ap (λ (g : GuardsState). g.looked) enters.guards ∙ sym may.tidy.looked;
+      };
       still = record {
         layout = own_new.layout ∙ sym own_old.layout;
         requests = own_new.requests ∙ sym own_old.requests;
@@ -107,6 +123,8 @@ module _ {T : Type 0} (m : Meaning) (planning : Planning) (request : Request) (o
       slots = record {
         nodes = is.walked.keeps.nodes ∙ enters.reading.slots.nodes;
         descriptors = is.walked.keeps.descriptors ∙ enters.reading.slots.descriptors;
+        guarded = is.walked.guarded ∙ enters.reading.slots.guarded;
+        looked = is.walked.looked ∙ enters.reading.slots.looked;
       };
       still = record {
         layout = ap (λ (y : RunnerState T). y.layout) is.walked.same ∙ enters.reading.still.layout;
@@ -142,6 +160,8 @@ module _ {T : Type 0} (m : Meaning) (planning : Planning) (request : Request) (o
       slots = record {
         nodes = walked.keeps.nodes ∙ is.reading.slots.nodes;
         descriptors = walked.keeps.descriptors ∙ is.reading.slots.descriptors;
+        guarded = walked.guarded ∙ is.reading.slots.guarded;
+        looked = walked.looked ∙ is.reading.slots.looked;
       };
       still = record {
         layout = ap (λ (y : RunnerState T). y.layout) walked.same ∙ is.reading.still.layout;
@@ -173,7 +193,9 @@ module _ {T : Type 0} (m : Meaning) (planning : Planning) (request : Request) (o
         finds = is;
         announces = record { found = none; event = made };
         reading = reading_on (kinds.ReadPlan thunk) none r r' made is.loads.reading
-            (own_kept m (kinds.ReadPlan thunk) none r r' made (loaded_here r is.loads).resting refl refl refl) (epoch_of r is.loads)
+            (own_kept m (kinds.ReadPlan thunk) none r r' made (loaded_here r is.loads).resting refl refl refl)
+            (ap (λ (g : GuardsState). g.named) (guards_made m (kinds.ReadPlan thunk) none r r' made (loaded_here r is.loads).resting))
+            (ap (λ (g : GuardsState). g.looked) (guards_made m (kinds.ReadPlan thunk) none r r' made (loaded_here r is.loads).resting)) (epoch_of r is.loads)
             (at_here r' (epoch_of r is.loads) (Some (plan_by thunk)) (is.loads.readings ++ found) true announcing_here refl);
       }
 
@@ -202,7 +224,9 @@ module _ {T : Type 0} (m : Meaning) (planning : Planning) (request : Request) (o
         announces = is;
         loads = made;
         reading = reading_on kinds.ReadClock clock r r' made is.reading
-            (own_kept m kinds.ReadClock clock r r' made (announced_here r is).resting refl refl refl) (epoch_announced r is)
+            (own_kept m kinds.ReadClock clock r r' made (announced_here r is).resting refl refl refl)
+            (ap (λ (g : GuardsState). g.named) (guards_made m kinds.ReadClock clock r r' made (announced_here r is).resting))
+            (ap (λ (g : GuardsState). g.looked) (guards_made m kinds.ReadClock clock r r' made (announced_here r is).resting)) (epoch_announced r is)
             (at_here r' (epoch_announced r is) (Some (look_at (walk_announced r is) clock)) (walk_announced r is) true clocking_here refl);
       }
 
@@ -225,6 +249,10 @@ module _ {T : Type 0} (m : Meaning) (planning : Planning) (request : Request) (o
           loads = made;
           reading = reading_on (kinds.LoadCell (Some thunk.lock)) word r r' made is.reading
               (own_kept m (kinds.LoadCell (Some thunk.lock)) word r r' made (clock_here r is).resting refl refl refl)
+              (ap (λ (g : GuardsState). g.named) (guards_made m (kinds.LoadCell (Some thunk.lock)) word r r' made (clock_here r is).resting)
+              ∙ same_named r.part.guards (m.is_lock thunk.lock) word)
+              (ap (λ (g : GuardsState). g.looked) (guards_made m (kinds.LoadCell (Some thunk.lock)) word r r' made (clock_here r is).resting)
+              ∙ same_looked r.part.guards (m.is_lock thunk.lock) word)
               (epoch_announced is.announced is.announces)
               (at_here r' (epoch_announced is.announced is.announces) (Some (look_at (walk_announced is.announced is.announces) clock))
               (walk_announced is.announced is.announces ++ (thunk.lock, word) ∷ []) true locking_here refl);

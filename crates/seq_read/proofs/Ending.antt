@@ -16,7 +16,7 @@ use Rattle.machine_states.specs.structure_laws.specs.Meaning.{Meaning}
 use Rattle.machine_states.specs.structure_laws.specs.Laws.{Laws}
 use Rattle.machine_states.specs.runner_parts.specs.declared.entries.Known.{Known}
 use Rattle.machine_states.specs.runner_parts.specs.declared.event.EventKind.TheVariants as kinds
-use Rattle.machine_states.specs.runner_parts.specs.State.{NodesState}
+use Rattle.machine_states.specs.runner_parts.specs.State.{NodesState, GuardsState}
 use Rattle.machine_states.specs.runner_parts.specs.Tests.{is_answered}
 use Rattle.machine_states.specs.runner_steps.specs.Sections.{reply_in}
 use Rattle.caller_facts.specs.version_words.specs.machine_invariant.specs.After.{AreAllowed}
@@ -195,6 +195,8 @@ module _ {T : Type 0} (m : Meaning) (laws : Laws m) (map : m.is_map ≡ true) (p
           at = exits.at;
           hand = ap (λ (x : NodesState). x.hand) (exits.keeps.nodes ∙ is.slots.nodes) ∙ may_of.tidy.hand;
           tests = ap (λ (x : NodesState). x.tests) (exits.keeps.nodes ∙ is.slots.nodes) ∙ may_of.tidy.tests;
+          looked = ap (λ (g : GuardsState). g.looked) exits.guards ∙ (is.slots.looked ∙ may_of.tidy.looked);
+          unguarded = ap (λ (g : GuardsState). g.named) exits.guards ∙ (is.slots.guarded ∙ may_of.tidy.unguarded);
         };
         placed = placed_new;
         in_time = follows_answered m laws planning request old new limits allowed may_of layout_new requests_new stamp stamp_new;

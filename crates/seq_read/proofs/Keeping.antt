@@ -14,6 +14,7 @@ use Rattle.machine_states.specs.structure_laws.specs.Meaning.{Meaning}
 use Rattle.machine_states.specs.structure_laws.specs.Laws.{Laws}
 use Rattle.machine_states.specs.runner_parts.specs.declared.entries.Known.{Known}
 use Rattle.machine_states.specs.runner_parts.specs.declared.event.EventKind.TheVariants as kinds
+use Rattle.machine_states.specs.runner_parts.specs.State.{GuardsState}
 use Rattle.machine_states.specs.runner_parts.specs.Tests.{is_answered}
 use Rattle.caller_facts.specs.version_words.specs.machine_invariant.specs.After.{AreAllowed}
 use Rattle.caller_facts.specs.version_words.specs.RunnerState.{RunnerState}
@@ -91,7 +92,12 @@ module _ {T : Type 0} (m : Meaning) where
     layout = ap (λ (y : RunnerState T). y.layout) exits.announce.event.made ∙ is.layout;
     requests = ap (λ (y : RunnerState T). y.requests) exits.announce.event.made ∙ is.requests;
     same_number = exits.keeps.number ∙ is.same_number;
-    slots = record { nodes = exits.keeps.nodes ∙ is.slots.nodes; descriptors = exits.keeps.descriptors ∙ is.slots.descriptors };
+    slots = record {
+      nodes = exits.keeps.nodes ∙ is.slots.nodes;
+      descriptors = exits.keeps.descriptors ∙ is.slots.descriptors;
+      guarded = ap (λ (g : GuardsState). g.named) exits.guards ∙ is.slots.guarded;
+      looked = ap (λ (g : GuardsState). g.looked) exits.guards ∙ is.slots.looked;
+    };
     finished = exits.keeps.finished ∙ is.finished;
     known = front_on old.part.records.known r.part.records.known new.part.records.known is.known
         (front_same r.part.records.known new.part.records.known exits.keeps.known);

@@ -14,6 +14,5 @@ pub mod Light
 pub mod Entering
 pub mod Along
 pub mod Looked
-pub mod Walking
 pub mod Testing
 pub mod Telling

@@ -26,7 +26,7 @@ use Rattle.caller_facts.specs.version_words.specs.machine_invariant.specs.After.
 use Rattle.caller_facts.specs.section_runs.specs.commit_log.specs.Asked.{IsAsked}
 use Rattle.caller_facts.specs.section_runs.specs.commit_log.proofs.Asked.{asked_more}
 use Rattle.next_steps.proofs.Numbers.{reached_numbers}
-use Rattle.seq_read.proofs.Walking.{may_load, walked_more}
+use Rattle.caller_facts.specs.lock_walks.proofs.Walking.{may_load, walked_more}
 use Rattle.caller_facts.specs.try_lock.specs.declared.planned.Planned.TheVariants as plans
 use Rattle.caller_facts.specs.try_lock.specs.Planning.{Planning}
 use Rattle.caller_facts.specs.try_lock.specs.Plans.{HasWalked}

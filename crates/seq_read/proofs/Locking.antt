@@ -17,7 +17,7 @@ use Rattle.machine_states.specs.runner_parts.specs.Tests.{has_pair, is_readable}
 use Rattle.machine_states.specs.Sight.{part_or_first}
 use Rattle.caller_facts.specs.version_words.specs.machine_invariant.specs.After.{AreAllowed}
 use Rattle.next_steps.proofs.Numbers.{reached_numbers}
-use Rattle.seq_read.proofs.Walking.{may_load}
+use Rattle.caller_facts.specs.lock_walks.proofs.Walking.{may_load}
 use Rattle.caller_facts.specs.try_lock.specs.Planning.{Planning}
 use Rattle.caller_facts.specs.try_lock.specs.Reached.{IsReached}
 use Rattle.caller_facts.specs.version_words.specs.RunnerState.{RunnerState}

@@ -8,7 +8,7 @@ use Rattle.caller_facts.specs.section_runs.specs.runner_gate.specs.Asks.{Asks, a
 use Rattle.machine_states.specs.structure_laws.specs.Meaning.{Meaning}
 use Rattle.machine_states.specs.structure_laws.specs.Laws.{Laws}
 use Rattle.machine_states.specs.runner_parts.specs.declared.event.EventKind.TheVariants as kinds
-use Rattle.machine_states.specs.runner_parts.specs.State.{NodesState}
+use Rattle.machine_states.specs.runner_parts.specs.State.{NodesState, GuardsState}
 use Rattle.machine_states.specs.runner_parts.specs.Tests.{is_answered}
 use Rattle.caller_facts.specs.version_words.specs.machine_invariant.specs.After.{AreAllowed}
 use Rattle.caller_facts.specs.version_words.specs.RunnerState.{RunnerState}
@@ -80,6 +80,8 @@ module _ {T : Type 0} (m : Meaning) (laws : Laws m) (planning : Planning) (reque
       at = exits.at;
       hand = ap (λ (n : NodesState). n.hand) (exits.keeps.nodes ∙ reading.slots.nodes) ∙ may.tidy.hand;
       tests = ap (λ (n : NodesState). n.tests) (exits.keeps.nodes ∙ reading.slots.nodes) ∙ may.tidy.tests;
+      looked = ap (λ (g : GuardsState). g.looked) exits.guards ∙ (reading.slots.looked ∙ may.tidy.looked);
+      unguarded = ap (λ (g : GuardsState). g.named) exits.guards ∙ (reading.slots.guarded ∙ may.tidy.unguarded);
     }
 
     left_untouched : IsUntouched m request.number new

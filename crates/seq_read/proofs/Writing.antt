@@ -21,7 +21,7 @@ use Rattle.machine_states.specs.structure_laws.specs.Shape.{Shaped}
 use Rattle.machine_states.specs.runner_parts.specs.declared.entries.Look.{Look}
 use Rattle.machine_states.specs.runner_parts.specs.declared.entries.LookStage.TheVariants.{Replied}
 use Rattle.machine_states.specs.runner_parts.specs.declared.event.EventKind.TheVariants as kinds
-use Rattle.machine_states.specs.runner_parts.specs.State.{PartState, RecordsState}
+use Rattle.machine_states.specs.runner_parts.specs.State.{PartState, GuardsState, RecordsState}
 use Rattle.machine_states.specs.runner_parts.specs.Lists.{learned}
 use Rattle.machine_states.specs.runner_parts.specs.Tests.{knows, is_answered, is_between, is_next, is_walking}
 use Rattle.machine_states.specs.runner_steps.specs.InRun.{last_clock}
@@ -34,7 +34,7 @@ use Rattle.machine_states.proofs.Steps.{some_same}
 use Rattle.caller_facts.specs.version_words.specs.machine_invariant.specs.After.{AreAllowed}
 use Rattle.next_steps.specs.Looks.{LooksHaveStamps}
 use Rattle.caller_facts.specs.section_runs.proofs.Replies.{last_answer}
-use Rattle.caller_facts.specs.epoch_slots.proofs.Outside.{nodes_made, descriptors_made, known_made}
+use Rattle.caller_facts.specs.epoch_slots.proofs.Outside.{nodes_made, descriptors_made, guards_made, known_made}
 use Rattle.caller_facts.specs.try_lock.specs.declared.planned.Planned.TheVariants as plans
 use Rattle.caller_facts.specs.try_lock.specs.Planning.{Planning}
 use Rattle.caller_facts.specs.try_lock.specs.Reached.{IsReached}
@@ -198,6 +198,8 @@ module _ {T : Type 0} (m : Meaning) (laws : Laws m) (planning : Planning) (reque
           slots = record {
             nodes = nodes_made m kinds.ReadReply none r r' made here.resting ∙ is.reading.slots.nodes;
             descriptors = descriptors_made m kinds.ReadReply none r r' made here.resting ∙ is.reading.slots.descriptors;
+            guarded = ap (λ (g : GuardsState). g.named) (guards_made m kinds.ReadReply none r r' made here.resting) ∙ is.reading.slots.guarded;
+            looked = ap (λ (g : GuardsState). g.looked) (guards_made m kinds.ReadReply none r r' made here.resting) ∙ is.reading.slots.looked;
           };
           known = known_made m kinds.ReadReply none r r' made here.resting
               ∙ (ap (λ o. reply_known m o none r.part.records) here.looked
@@ -263,6 +265,8 @@ module _ {T : Type 0} (m : Meaning) (laws : Laws m) (planning : Planning) (reque
           slots = record {
             nodes = nodes_made m kinds.ReadStamp none r r' made there.resting ∙ is.slots.nodes;
             descriptors = descriptors_made m kinds.ReadStamp none r r' made there.resting ∙ is.slots.descriptors;
+            guarded = ap (λ (g : GuardsState). g.named) (guards_made m kinds.ReadStamp none r r' made there.resting) ∙ is.slots.guarded;
+            looked = ap (λ (g : GuardsState). g.looked) (guards_made m kinds.ReadStamp none r r' made there.resting) ∙ is.slots.looked;
           };
           known = known_made m kinds.ReadStamp none r r' made there.resting
               ∙ (ap (λ o. stamp_known o none r.part.records) there.looked

@@ -42,10 +42,12 @@ of_lock thunk word =
     if is_free word then answers.Stale thunk.lock thunk.word word else answers.Busy thunk.lock word
 
 module _ {T : Type 0} where
-  -- the runner has the own slots that it had
+  -- the runner has the own slots that it had, and its guard word names what it named
   pub record KeepsSlots (old new : RunnerState T) : Type 0 where
     pub nodes : new.part.nodes ≡ old.part.nodes
     pub descriptors : new.part.descriptors ≡ old.part.descriptors
+    pub guarded : new.part.guards.named ≡ old.part.guards.named
+    pub looked : new.part.guards.looked ≡ old.part.guards.looked
 
   -- it is entered and in no run, has the own slots that it had, and knows what it knew and no more
   pub record IsReading (old new : RunnerState T) : Type 0 where

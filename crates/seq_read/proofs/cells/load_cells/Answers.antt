@@ -7,7 +7,7 @@ use Rattle.caller_facts.specs.Counted.{IsSeen}
 use Rattle.seq_read.proofs.Loading.{cell_asked, next_cells, cut_cells, same_cells, all_cells}
 use Rattle.caller_facts.specs.section_runs.specs.commit_log.proofs.Asked.{asked_none}
 use Rattle.seq_read.proofs.Testing.{untested}
-use Rattle.seq_read.proofs.Walking.{walked_none}
+use Rattle.caller_facts.specs.lock_walks.proofs.Walking.{walked_none}
 use Rattle.seq_read.proofs.cells.load_cells.Goals as goal
 use Rattle.seq_read.proofs.cells.load_cells.Goals.{in-Load+else-not-passes, in_default}
 

@@ -60,7 +60,11 @@ exit-runner-requires-clause-entered g c κs within =
     let e = c.requires.unmoved in
     let replied = replied_of m (met.laws c.args.table.now.structure) (g.S.Planner.planning c.args.table.now.structure) c.args.request.now e.1 (subst IsWithinLimits (sym c.requires.own.layout ∙ e.2.reading.still.layout) (c.requires.own.limits _ refl)) (subst AreAllowed (sym c.requires.own.requests ∙ e.2.reading.still.requests) (c.requires.own.allowed _ refl)) (subst (λ s. LooksStand (g.S.Structure.meaning s)) c.structure.ensures c.looks_are_small.ensures.stamps) c.args.thunk.now e.0 c.args.clock c.args.runner e.2 c.write_reply-runner.result.0 0 c.write_reply-runner.ensures.event in
     let stamped = stamped_of m (met.laws c.args.table.now.structure) (g.S.Planner.planning c.args.table.now.structure) c.args.request.now e.1 (subst IsWithinLimits (sym c.requires.own.layout ∙ e.2.reading.still.layout) (c.requires.own.limits _ refl)) (subst AreAllowed (sym c.requires.own.requests ∙ e.2.reading.still.requests) (c.requires.own.allowed _ refl)) (subst (λ s. LooksStand (g.S.Structure.meaning s)) c.structure.ensures c.looks_are_small.ensures.stamps) c.args.thunk.now e.0 c.args.clock c.write_reply-runner.result.0 replied c.write_stamp-runner.result.0 0 c.write_stamp-runner.ensures.event in
-    record { epoch = _; at = at_here c.write_stamp-runner.result.0 _ _ _ _ (stamped_here m (g.S.Planner.planning c.args.table.now.structure) c.args.request.now e.1 c.args.thunk.now e.0 c.args.clock c.write_stamp-runner.result.0 stamped) refl }
+    record {
+      epoch = _;
+      at = at_here c.write_stamp-runner.result.0 _ _ _ _ (stamped_here m (g.S.Planner.planning c.args.table.now.structure) c.args.request.now e.1 c.args.thunk.now e.0 c.args.clock c.write_stamp-runner.result.0 stamped) refl;
+      unguarded = stamped.slots.guarded ∙ e.2.clocks.announces.finds.loads.plans.enters.may.tidy.unguarded;
+    }
 
 pub unreachable-requires : goal.unreachable-requires
 unreachable-requires g c =

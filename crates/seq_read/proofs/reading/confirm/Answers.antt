@@ -5,7 +5,7 @@ use Rattle.caller_facts.specs.section_runs.specs.commit_log.specs.Asked.{IsAsked
 use Rattle.caller_facts.specs.Counted.{IsSeen}
 use Rattle.seq_read.specs.Course.{HasLock, loaded_steps}
 use Rattle.seq_read.specs.Parts.{Rests}
-use Rattle.seq_read.proofs.Courses.{announced_of, clock_of, lock_of}
+use Rattle.seq_read.proofs.Courses.{announced_of, clock_of, lock_of, may_leave}
 use Rattle.seq_read.proofs.Writing.{LooksStand}
 use Rattle.seq_read.proofs.Along.{words_differ, words_agree, plan_cut, clock_cut, lock_cut, moved_rests, same_rests}
 use Rattle.seq_read.proofs.reading.confirm.Goals as goal
@@ -67,7 +67,7 @@ exit-requires-clause-entered g c κs within =
     let m = g.S.Structure.meaning c.args.table.now.structure in
     let e = c.requires.found in
     let locks = lock_of m (g.S.Planner.planning c.args.table.now.structure) c.args.request.now e.1 c.args.thunk.now e.0 c.load_clock-runner.result.1 c.load_clock-runner.result.0 c.load_lock-runner.result.0 c.load_lock-runner.result.1 (clock_of m (g.S.Planner.planning c.args.table.now.structure) c.args.request.now e.1 c.args.thunk.now e.0 c.announce-runner.result.0 c.load_clock-runner.result.0 c.load_clock-runner.result.1 (announced_of m (g.S.Planner.planning c.args.table.now.structure) c.args.request.now e.1 c.args.thunk.now e.0 c.args.runner c.announce-runner.result.0 e.2 c.announce-runner.ensures.event.found c.announce-runner.ensures.event.event) c.load_clock-runner.ensures.event) c.load_lock-runner.ensures.event in
-    record { epoch = locks.reading.epoch; at = locks.reading.at }
+    may_leave (g.S.Planner.planning c.args.table.now.structure) c.args.request.now e.1 c.load_lock-runner.result.0 e.2.loads.plans.enters.may locks.reading
 
 pub returns-then-ne-clause-rests : goal.returns-then-ne-clause-rests
 returns-then-ne-clause-rests g c =

@@ -8,12 +8,13 @@ use Rattle.caller_facts.specs.version_words.specs.machine_invariant.specs.After.
 use Rattle.caller_facts.specs.Counted.{IsSeen}
 use Rattle.seq_read.specs.Wants.{readings_of, is_missed, IsAmong}
 use Rattle.seq_read.specs.Parts.{MayLoad, HasLoadedCells}
+use Rattle.seq_read.proofs.Courses.{may_leave}
 use Rattle.seq_read.proofs.Looked.{body_rests, may_load_so, loaded, cells_cut, cell_rests, found_so, found_rests}
 use Rattle.seq_read.proofs.Testing.{missed_is}
 use Rattle.seq_read.proofs.reading.look_at.Goals as goal
 
 pub exit-requires-clause-entered : goal.exit-requires-clause-entered
-exit-requires-clause-entered g c κs within = let e = c.requires.planned in record { epoch = e.2.reading.epoch; at = e.2.reading.at }
+exit-requires-clause-entered g c κs within = let e = c.requires.planned in may_leave (g.S.Planner.planning c.args.table.now.structure) c.args.request.now e.1 c.args.runner e.2.enters.may e.2.reading
 
 pub returns-in-Some-clause-rests : goal.returns-in-Some-clause-rests
 returns-in-Some-clause-rests g c =
@@ -51,7 +52,7 @@ exit-requires-in-Some-missed-clause-entered g c κs within =
     let m = g.S.Structure.meaning c.args.table.now.structure in
     let e = c.requires.planned in
     let was = loaded m (met.laws c.args.table.now.structure) (g.S.Planner.planning c.args.table.now.structure) c.args.request.now e.1 (subst IsWithinLimits (sym c.requires.own.layout ∙ e.2.reading.still.layout) (c.requires.own.limits _ refl)) (subst AreAllowed (sym c.requires.own.requests ∙ e.2.reading.still.requests) (c.requires.own.allowed _ refl)) c.args.thunk.now e.0 c.args.runner e.2 (IsSeen g.G.Gate.halts g.G.Gate.asks) (ap (position (λ step. not (is_look step))) (sym c.requires.body) ∙ (sym c.first_change.ensures ∙ c.in_default.is)) c.load_cells-runner.ensures.loaded.0 c.load_cells-runner.result.2 c.load_cells-runner.result.0 (g.G.Gate.halts c.args.gate.now) (g.G.Gate.halts c.load_cells-runner.new.gate) (g.G.Gate.asks c.args.gate.now) (g.G.Gate.asks c.load_cells-runner.new.gate) c.args.steps.now.count c.load_cells-runner.new.steps.count (subst (λ b. HasLoadedCells m b c.load_cells-runner.ensures.loaded.0 c.load_cells-runner.result.2 c.args.runner c.load_cells-runner.result.0 (IsSeen g.G.Gate.halts g.G.Gate.asks) (g.G.Gate.halts c.args.gate.now) (g.G.Gate.halts c.load_cells-runner.new.gate) (g.G.Gate.asks c.args.gate.now) (g.G.Gate.asks c.load_cells-runner.new.gate) c.args.steps.now.count c.load_cells-runner.new.steps.count) c.requires.body c.load_cells-runner.ensures.loaded.2) in
-    record { epoch = was.reading.epoch; at = was.reading.at }
+    may_leave (g.S.Planner.planning c.args.table.now.structure) c.args.request.now e.1 c.load_cells-runner.result.0 e.2.enters.may was.reading
 
 pub returns-in-Some-missed-clause-rests : goal.returns-in-Some-missed-clause-rests
 returns-in-Some-missed-clause-rests g c =

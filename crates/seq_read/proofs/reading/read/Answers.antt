@@ -8,7 +8,7 @@ use Rattle.caller_facts.specs.try_lock.specs.Plans.{HasPlanned as PlanIs, is_hal
 use Rattle.caller_facts.specs.Counted.{IsCounted, IsSeen}
 use Rattle.seq_read.specs.Course.{HasPlanned}
 use Rattle.seq_read.specs.Reads.{Reads}
-use Rattle.seq_read.proofs.Courses.{entered_of, planned_of}
+use Rattle.seq_read.proofs.Courses.{entered_of, planned_of, may_leave}
 use Rattle.seq_read.proofs.Refusing.{refuses_by, refusal_goes_on}
 use Rattle.seq_read.proofs.Entering.{entry_halted, plan_halted, reads_so, plan_refused_reads}
 use Rattle.seq_read.proofs.reading.read.Goals as goal
@@ -52,7 +52,7 @@ exit-requires-clause-entered g c κs within =
     let enters = entered_of m (g.S.Planner.planning c.args.table.now.structure) c.args.request.now c.args.runner c.args.table.now c.enter-runner.result c.requires.own c.enter-runner.ensures.own c.requires.next c.enter-runner.ensures.enters in
     let is = (subst (λ s. PlanIs (g.S.Structure.meaning s) (g.S.Planner.planning s) c.args.request.now c.plan-runner.result.1 c.enter-runner.result c.plan-runner.result.0 (g.G.Gate.halts c.goes_on.new.gate) (g.G.Gate.halts c.plan-runner.new.gate) (g.G.Gate.asks c.goes_on.new.gate) (g.G.Gate.asks c.plan-runner.new.gate) c.args.steps.now.count c.plan-runner.new.steps.count) c.structure.ensures c.plan-runner.ensures.plans) in
     let planned = planned_of m (g.S.Planner.planning c.args.table.now.structure) c.args.request.now c.args.runner c.enter-runner.result enters c.plan-runner.result.1 c.plan-runner.result.0 _ _ _ _ _ _ is in
-    record { epoch = planned.reading.epoch; at = planned.reading.at }
+    may_leave (g.S.Planner.planning c.args.table.now.structure) c.args.request.now c.args.runner c.plan-runner.result.0 c.requires.next planned.reading
 
 pub returns-in-Thunk-clause-reads : goal.returns-in-Thunk-clause-reads
 returns-in-Thunk-clause-reads g c =
