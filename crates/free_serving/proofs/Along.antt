@@ -1,7 +1,7 @@
 -- A list of requests, served one after the other, each `get` read first.
 use Rattle.std.specs.Prelude.{◌⊎◌, ◌*◌, ◌%◌, Bool, true, false, slice_get}
 use Rattle.std.proofs.Common.{◌≡◌, ◌≢◌, ℕ, zero, suc, ◌+◌, ◌<◌, ◌≤◌, List, [], ◌∷◌, length, refl, sym, ap, ◌∙◌, subst, ⊎_elim, inl, inr, arith, Some}
-use Rattle.std.proofs.lemmas.Bool.{cases_eq}
+use Rattle.std.proofs.lemmas.Bool.{cases_eq, both_ways}
 use Rattle.std.proofs.lemmas.Option.{slice_get_within}
 use Rattle.std.proofs.Math.Nat.{suc-mul}
 use Rattle.machine_states.specs.map_history.specs.declared.op.Request.{Request}
@@ -27,13 +27,13 @@ use Rattle.seq_read.specs.caller_facts.specs.request_facts.specs.Laws.{HasEntry}
 use Rattle.seq_read.specs.caller_facts.specs.epoch_slots.specs.Collects.{IsTidy}
 use Rattle.serving.specs.attempts.specs.Knowing.{KnowsMore, IsOwn}
 use Rattle.serving.specs.attempts.proofs.Knowing.{knows_same, knows_on, own_on}
-use Rattle.serving.specs.Serving.{most_asks, WasHalted, MayServe}
+use Rattle.serving.specs.Serving.{most_asks, WasJustServed, WasHalted, MayServe}
 use Rattle.serving.specs.declared.answers.Served.{Served}
 use Rattle.serving.specs.declared.answers.Served.TheVariants as answers
 use Rattle.serving.proofs.Standing.{entry_on, answered_more, stamp_of, one_stamp}
 use Rattle.serving.proofs.Trying.{same_layout, same_requests}
 use Rattle.free_serving.specs.Services.{is_get, Service, request_of, served_by, full_by, steps_by, asks_by, steps_in, asks_in, goes_on, GoesOn, IsEnd, IsService, AreDone, asks_let}
-use Rattle.free_serving.specs.Left.{IsBefore, IsOdd, MostRuns, AreServed, AreAskedWholly, CameBetween, WasReadInVain, HasStopped, Ends as EndsAll, Leaves}
+use Rattle.free_serving.specs.Left.{IsBefore, IsOdd, MostRuns, AreServed, AreAskedWholly, WasPublished, CameBetween, WasReadInVain, HasStopped, Ends as EndsAll, Leaves}
 use Rattle.free_serving.specs.One.{IsServed, Ends, LeavesOne, ServesOne}
 use Rattle.free_serving.specs.Freely.{ServesFreely}
 use Rattle.free_serving.proofs.Same.{Same}
@@ -302,23 +302,24 @@ module _ {T : Type 0} (m : Meaning) (laws : Laws m) (planning : Planning) (retry
       one_or_none
 
   -- the request behind those that are served: this one, or the next one
-  next_get : (x : Request) (p : Published) → slice_get requests (i + count) ≡ Some x → is_get x.op ≡ true → new.part.published ≡ Some p
+  next_get : (x : Request) → slice_get requests (i + count) ≡ Some x → is_get x.op ≡ true → WasPublished x new
       → (answer ≢ answers.All) → WasReadInVain m planning x old
-  next_get x p there get some over = ⊎_elim
+  next_get x there get was over = ⊎_elim
       (λ none. let here = some_same q x (sym at ∙ (ap (slice_get requests) (let e : i ≡ i + count = omega (arith, none) in e) ∙ there)) in
       subst (λ (y : Request). WasReadInVain m planning y old) here
-      (vain_back m planning old r same q (left.next p (ap (λ (y : Request). is_get y.op) here ∙ get) some)))
-      (λ one. absurd (nothing answer refl one))
+      (vain_back m planning old r same q (left.next (ap (λ (y : Request). is_get y.op) here ∙ get) none (subst (λ (y : Request). WasPublished y new) (sym here) was))))
+      (λ one. absurd (⊎_elim (λ section. nothing section.0 section.1 answer refl one)
+      (λ answered. both_ways _ (still_open (i + count) x there (omega (arith, one))) answered) was))
       one_or_none
     where
-      nothing : (a : Served) → answer ≡ a → count ≡ 1 → ⊥
-      nothing answers.All e one = over e
-      nothing answers.Halted e one =
+      nothing : (p : Published) → new.part.published ≡ Some p → (a : Served) → answer ≡ a → count ≡ 1 → ⊥
+      nothing p some answers.All e one = over e
+      nothing p some answers.Halted e one =
           let halted = subst (λ (a : Served). Ends m planning retry_short q a count r new) e left.ends in
           let place = halted.published p some in
           none_some place.0 (sym (ap (slice_get (q ∷ [])) (sym one) ∙ place.1))
-      nothing (answers.Short short) e one = let stopped = subst (λ (a : Served). Ends m planning retry_short q a count r new) e left.ends in omega (arith, stopped.0, one)
-      nothing (answers.Spent place word) e one = let stopped = subst (λ (a : Served). Ends m planning retry_short q a count r new) e left.ends in omega (arith, stopped.0, one)
+      nothing p some (answers.Short short) e one = let stopped = subst (λ (a : Served). Ends m planning retry_short q a count r new) e left.ends in omega (arith, stopped.0, one)
+      nothing p some (answers.Spent place word) e one = let stopped = subst (λ (a : Served). Ends m planning retry_short q a count r new) e left.ends in omega (arith, stopped.0, one)
 
   module _ (asks asks1 asks2 : Asks) (steps steps1 steps2 : ℕ) (so_far : IsSoFar m planning retry_short requests i old r asks asks1 steps steps1)
       (asked_now : asks2 ≡ asked_on asks1 asked) where
@@ -364,8 +365,8 @@ module _ {T : Type 0} (m : Meaning) (laws : Laws m) (planning : Planning) (retry
           (q, ap (slice_get requests) (let e : i + count ≡ i = omega (arith, here.0) in e) ∙ at, place.2 ∙ ap (λ (y : Request). y.number) (sym here.1));
       unanswered = λ none x there. ⊎_elim
           (λ zero. let here = some_same q x (sym at ∙ (ap (slice_get requests) (let e : i ≡ i + count = omega (arith, zero) in e) ∙ there)) in
-          subst (λ (y : Request). is_answered new.part.records.known y.number ≡ false) here (was.unanswered none q (ap (slice_get (q ∷ [])) zero)))
-          (λ one. still_open (i + count) x there (omega (arith, one)))
+          subst (λ (y : Request). (is_answered new.part.records.known y.number ≡ false) ⊎ WasJustServed y new) here (was.unanswered none q (ap (slice_get (q ∷ [])) zero)))
+          (λ one. inl (still_open (i + count) x there (omega (arith, one))))
           one_or_none;
     }
       where
@@ -390,10 +391,15 @@ module _ {T : Type 0} (m : Meaning) (laws : Laws m) (planning : Planning) (retry
         let is : asks2.count ≡ counted_on asks.count (asked + asks_in so_far.services) = ap (λ (a : Asks). a.count) asked_all in
         let low = counted_few asks.count (asked + asks_in so_far.services) in omega (arith, is, low, most)
 
-    whole_all : AreAskedWholly answer (i + count) (i + full) new
+    whole_all : AreAskedWholly requests answer (i + count) (i + full) new
     whole_all = ⊎_elim
         (λ same_count. inl (let e : i + count ≡ i + full = omega (arith, same_count) in e))
-        (λ cut. inr (cut.0, cut.1, let last = cut.2 in let e : i + count ≡ i + full + 1 = omega (arith, last) in e))
+        (λ cut. inr (
+          cut.0,
+          cut.1,
+          (let last = cut.2 in let e : i + count ≡ i + full + 1 = omega (arith, last) in e),
+          (λ x there. still_open (i + count) x there (let last = cut.2 in omega (arith, last))),
+        ))
         left.whole
 
     least_all : (i + full) * 8 ≤ asked + asks_in so_far.services
@@ -416,7 +422,7 @@ module _ {T : Type 0} (m : Meaning) (laws : Laws m) (planning : Planning) (retry
         asked = asks_few ((i + count + 1) * most_asks (slots m old.layout))
             (let few = is.1 in let more = mul_more (i + 1) (i + count + 1) (most_asks (slots m old.layout)) (omega arith) in omega (arith, few, more));
       })) (brief_now (λ start behind. MostRuns answer (i + count) start behind) (runs_all answer));
-      read = λ free. record { odd = all_odd; next = λ x p there get some. next_get x p there get some over };
+      read = λ free. record { odd = all_odd; next = λ x there get was. next_get x there get was over };
     }
 
     -- and what was done
@@ -517,7 +523,8 @@ module _ {T : Type 0} (m : Meaning) (planning : Planning) (retry_short : Bool) (
     })) so_far.brief;
     read = λ free. record {
       odd = along.odd;
-      next = λ x p there get some. absurd (none_some p (sym some ∙ along.tidy.at.published));
+      next = λ x there get was. absurd (⊎_elim (λ section. none_some section.0 (sym section.1 ∙ along.tidy.at.published))
+          (λ answered. both_ways _ (along.unanswered x there) answered) was);
     };
   }
 

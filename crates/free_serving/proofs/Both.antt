@@ -96,5 +96,5 @@ module _ {T : Type 0} (m : Meaning) (planning : Planning) (retry_short : Bool) (
       few = both_within made asked (slots m old.layout) few (subst (λ (l : Layout). asked ≤ most_of_attempt (slots m l) + 3) same.0 within.few);
     })) brief;
     spared = λ all unwaited was. ⊎_elim (λ came. inl (came_back m planning old mid same came)) inr (left.spared all unwaited (spared was));
-    next = λ x get some. vain;
+    next = λ get none was. vain;
   }

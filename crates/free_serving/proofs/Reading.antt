@@ -31,7 +31,7 @@ use Rattle.serving.specs.declared.answers.Served.TheVariants as answers
 use Rattle.serving.proofs.Lists.{and_true, entry_known}
 use Rattle.serving.proofs.Standing.{one_stamp}
 use Rattle.free_serving.specs.Services.{is_get}
-use Rattle.free_serving.specs.Left.{MostRuns}
+use Rattle.free_serving.specs.Left.{MostRuns, AreAskedWholly, WasPublished}
 use Rattle.free_serving.specs.One.{IsServed as IsServedOne, Ends, LeavesOne}
 use Rattle.free_serving.proofs.Bridge.{knows_of, no_other_of}
 use Rattle.free_serving.proofs.Chain.{only_place}
@@ -118,7 +118,7 @@ module _ {T : Type 0} (m : Meaning) (planning : Planning) (retry_short : Bool) (
         });
         spared = λ all unwaited was. inr (served_spared m planning q old new read.answers.stamped read.answers.read.thunk read.answers.read.found read.answers.read.clock
             read.answers.read.stamps (exits_on m read.answers.stamped new read.answers.exits) read.finished was);
-        next = λ x is_get some. absurd (no_section new read.answers.tidy.at.published x some);
+        next = λ is_get none was. absurd (let z : 1 ≡ 0 = none in omega (arith, z));
       }
 
       pub done_all : LeavesOne m planning retry_short q answers.All 1 1 (read.made + 1 + 1) old new
@@ -164,9 +164,15 @@ module _ {T : Type 0} (m : Meaning) (planning : Planning) (retry_short : Bool) (
       runs_of true = let same = ap length read.finished in omega (arith, same)
       runs_of false = let same = ap length read.finished in omega (arith, same)
 
-      wholly : (b : Bool) → (◌≡◌ {A = ℕ} (if b then 1 else 0) 0) ⊎ ((answers.Halted ≡ answers.Halted) × (new.part.published ≡ None) × (◌≡◌ {A = ℕ} (if b then 1 else 0) (0 + 1)))
-      wholly true = inr (refl, read.answers.unpublished, refl)
+      wholly : (b : Bool) → AreAskedWholly (q ∷ []) answers.Halted (if b then 1 else 0) 0 new
+      wholly true = inr (refl, read.answers.unpublished, refl, λ x there. absurd (let place = only_place q x 1 there in omega (arith, place.0)))
       wholly false = inl refl
+
+      -- where its stamp isn't written it isn't answered
+      unpublished_at : (b : Bool) → written ≡ b → ◌≡◌ {A = ℕ} (if b then 1 else 0) 0 → WasPublished q new → ⊥
+      unpublished_at true e none was = let z : 1 ≡ 0 = none in omega (arith, z)
+      unpublished_at false e none (inl section) = no_section new read.answers.unpublished section.0 section.1
+      unpublished_at false e none (inr answered) = true≢false (sym answered ∙ (read.answers.answered ∙ e))
 
       pub cut_leaves : LeavesOne m planning retry_short q answers.Halted count 0 (read.made + 1) old new
       cut_leaves = record {
@@ -174,7 +180,7 @@ module _ {T : Type 0} (m : Meaning) (planning : Planning) (retry_short : Bool) (
         served = λ one. served_at read.answers.at (is_written written one);
         ends = record {
           published = λ x some. absurd (no_section new read.answers.unpublished x some);
-          unanswered = λ none x there. unanswered_at written refl x there;
+          unanswered = λ none x there. inl (unanswered_at written refl x there);
         };
         reached = inl read.answers.reached;
         knows = knows_of old new read.knows;
@@ -186,5 +192,5 @@ module _ {T : Type 0} (m : Meaning) (planning : Planning) (retry_short : Bool) (
           few = read_within read.made (slots m old.layout) 1 (few_made reads.Halted read) (omega arith);
         });
         spared = λ all. absurd (let z = all in cc);
-        next = λ x is_get some. absurd (no_section new read.answers.unpublished x some);
+        next = λ is_get none was. absurd (unpublished_at written refl none was);
       }

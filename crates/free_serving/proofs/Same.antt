@@ -7,7 +7,8 @@ use Rattle.machine_states.specs.runner_parts.specs.declared.event.EventKind.TheV
 use Rattle.version_words.specs.RunnerState.{RunnerState}
 use Rattle.version_words.specs.Events.{Makes}
 use Rattle.seq_read.specs.caller_facts.specs.epoch_slots.specs.Collects.{Scans, Looks, AreTested, Advances, Collects}
-use Rattle.serving.specs.attempts.specs.Reclaims.{CollectsWhere, Reclaims, has_much_in_limbo, lacks_slots}
+use Rattle.seq_read.specs.caller_facts.specs.epoch_slots.specs.Sweeps.{Sweeps}
+use Rattle.serving.specs.attempts.specs.Reclaims.{CollectsWhere, SweepsWhere, Reclaims, has_much_in_limbo, lacks_slots, lacks_descriptor}
 
 module _ {T : Type 0} where
   -- the runner is of the same table
@@ -53,9 +54,18 @@ module _ {T : Type 0} where
     where_same true a b c = collects_same a b c
     where_same false a b same = stays a b same
 
-    -- so it is behind scans
+    sweeps_same : (next : ℕ) (found : List ℕ) (a b : RunnerState T) → Sweeps m next found a b → Same a b
+    sweeps_same next [] a b same = stays a b same
+    sweeps_same next (n ∷ ns) a b sweeps = then_same a sweeps.0 b (made_same (kinds.LoadGuard next) n a sweeps.0 sweeps.1) (sweeps_same (next + 1) ns sweeps.0 b sweeps.2)
+
+    swept_same : (due : Bool) (a b : RunnerState T) → SweepsWhere m due a b → Same a b
+    swept_same true a b swept = sweeps_same 0 swept.found a b swept.sweeps
+    swept_same false a b same = stays a b same
+
+    -- so it is behind scans and a sweep
     pub reclaims_same : (a b : RunnerState T) → Reclaims m a b → Same a b
-    reclaims_same a b c = then_same a c.swept b (where_same (has_much_in_limbo a) a c.swept c.sweeps)
-        (then_same c.swept c.first b (where_same (lacks_slots c.swept) c.swept c.first c.once)
+    reclaims_same a b c = then_same a c.collected b (where_same (has_much_in_limbo a) a c.collected c.collects)
+        (then_same c.collected c.first b (where_same (lacks_slots c.collected) c.collected c.first c.once)
         (then_same c.first c.second b (where_same (lacks_slots c.first) c.first c.second c.twice)
-        (where_same (lacks_slots c.second) c.second b c.thrice)))
+        (then_same c.second c.third b (where_same (lacks_slots c.second) c.second c.third c.thrice)
+        (swept_same (lacks_descriptor c.third) c.third b c.sweeps))))

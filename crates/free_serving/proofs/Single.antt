@@ -165,5 +165,5 @@ module _ {T : Type 0} (m : Meaning) (laws : Laws m) (planning : Planning) (retry
     whole = inl refl;
     brief = general;
     spared = λ all unwaited was. ⊎_elim (λ crossed. inl (serves.tries, crossed)) inr ((done (all_of all)).spared unwaited was spare);
-    next = λ x get some. vain get;
+    next = λ get none was. vain get;
   }

@@ -66,10 +66,16 @@ module _ {T : Type 0} where
         → is_answered r.part.records.known q.number ≡ false
 
   -- of so many served requests so many were asked about to the end: all, or all but the last one, whose read a gate
-  -- halted behind its stamp
-  abbrev pub AreAskedWholly : Served → (count full : ℕ) → RunnerState T → Type 0
-  AreAskedWholly answer count full r =
-      (count ≡ full) ⊎ ((answer ≡ answers.Halted) × (r.part.published ≡ None) × (count ≡ full + 1))
+  -- halted behind its stamp; then the next request isn't answered
+  abbrev pub AreAskedWholly : List Request → Served → (count full : ℕ) → RunnerState T → Type 0
+  AreAskedWholly requests answer count full r =
+      (count ≡ full) ⊎ ((answer ≡ answers.Halted) × (r.part.published ≡ None) × (count ≡ full + 1)
+      × ((q : Request) → slice_get requests count ≡ Some q → is_answered r.part.records.known q.number ≡ false))
+
+  -- a section was published for this request: it is published still, or answered the request as it came to its end
+  abbrev pub WasPublished : Request → RunnerState T → Type 0
+  WasPublished request r =
+      ((x : Published) × (r.part.published ≡ Some x)) ⊎ (is_answered r.part.records.known request.number ≡ true)
 
   -- so many runs, and at most so many asks, of a serving
   pub record IsBrief (m : Meaning) (answer : Served) (count : ℕ) (old new : RunnerState T) (asks asks' : Asks)
@@ -99,13 +105,13 @@ module _ {T : Type 0} where
       pub refusal : is_refusal answer ≡ true
       pub looks : m.is_map ≡ true → (at : ℕ) → answer ≢ reads.Locked at
 
-    -- which of the served requests have a read's stamp: each `get`, unless its read came to nothing. So it is of the
-    -- next one, where its section was published
+    -- which of the served requests have a read's stamp: each `get`, unless its read came to nothing. So the read of the
+    -- next one did, where its section was published
     pub record AreRead (requests : List Request) (count : ℕ) (old new : RunnerState T) : Type 0 where
       pub odd : (i : ℕ) (q : Request) → i < count → slice_get requests i ≡ Some q → is_get q.op ≡ true
           → IsOdd new.part.records.known q ⊎ WasReadInVain q old
-      pub next : (q : Request) (x : Published) → slice_get requests count ≡ Some q → is_get q.op ≡ true
-          → new.part.published ≡ Some x → WasReadInVain q old
+      pub next : (q : Request) → slice_get requests count ≡ Some q → is_get q.op ≡ true → WasPublished q new
+          → WasReadInVain q old
 
     module _ (retry_short : Bool) where
       -- the serving stopped at this request, which isn't answered. Before the last attempt of it the runner was as
@@ -143,7 +149,7 @@ module _ {T : Type 0} where
         pub full : ℕ
         pub asked : asks' ≡ asked_on asks made
         pub least : full * least_asks reads_free ≤ made
-        pub whole : AreAskedWholly answer count full new
+        pub whole : AreAskedWholly requests answer count full new
         -- where no other one came between, so many runs came to their end, and the gate was asked at most so often
         pub brief : CameBetween old ⊎ IsBrief m answer count old new asks asks'
         pub read : reads_free ≡ true → AreRead requests count old new

@@ -6,7 +6,6 @@ use Rattle.seq_read.specs.runner_gate.specs.Asks.{Asks, asked_on}
 use Rattle.machine_states.specs.structure_laws.specs.Meaning.{Meaning}
 use Rattle.machine_states.specs.structure_laws.specs.Cells.{slots}
 use Rattle.machine_states.specs.runner_parts.specs.declared.entries.Known.{Known}
-use Rattle.machine_states.specs.runner_parts.specs.declared.entries.Published.{Published}
 use Rattle.machine_states.specs.runner_parts.specs.Tests.{is_answered}
 use Rattle.version_words.specs.RunnerState.{RunnerState}
 use Rattle.seq_read.specs.caller_facts.specs.epoch_slots.specs.Collects.{IsTidy}
@@ -19,7 +18,7 @@ use Rattle.serving.specs.Serving.{most_asks, WasHalted}
 use Rattle.serving.specs.declared.answers.Served.{Served}
 use Rattle.serving.specs.declared.answers.Served.TheVariants as answers
 use Rattle.free_serving.specs.Services.{is_get, Service, request_of, served_by, full_by, steps_by, asks_by, IsEnd, IsService, asks_let}
-use Rattle.free_serving.specs.Left.{Rises, IsOdd, least_asks, MostRuns, AreAskedWholly, CameBetween, WasReadInVain, HasStopped}
+use Rattle.free_serving.specs.Left.{Rises, IsOdd, least_asks, MostRuns, AreAskedWholly, WasPublished, CameBetween, WasReadInVain, HasStopped}
 
 module _ {T : Type 0} (m : Meaning) (planning : Planning) (retry_short : Bool) (request : Request) where
   -- the request is answered, with a stamp behind those that were known; where it is a `get`, the stamp is a read's, or
@@ -52,11 +51,11 @@ module _ {T : Type 0} (m : Meaning) (planning : Planning) (retry_short : Bool) (
     pub knows : KnowsMore old new
     pub no_other : LearnsNoOther request.number old new
     pub least : full * least_asks true ≤ asked
-    pub whole : AreAskedWholly answer count full new
+    pub whole : AreAskedWholly (request ∷ []) answer count full new
     pub brief : CameBetween m planning old ⊎ IsBrief answer count asked old new
     pub spared : answer ≡ answers.All → retry_short ≡ false → IsSpared old → CameBetween m planning old ⊎ IsSpared new
     -- a `get` whose section was published was read in vain before
-    pub next : (x : Published) → is_get request.op ≡ true → new.part.published ≡ Some x
+    pub next : is_get request.op ≡ true → count ≡ 0 → WasPublished request new
         → WasReadInVain m planning request old
 
   pub record ServesOne (answer : Served) (old new : RunnerState T) (Seen : ℕ → Asks → Type 0)

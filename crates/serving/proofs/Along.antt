@@ -1,12 +1,15 @@
 -- A list of requests, served one after the other.
 use Rattle.std.specs.Prelude.{◌==◌, ◌&&◌, ◌||◌, ◌⊎◌, nat_lt, ◌%◌, not, Bool, true, false, slice_get, if◌then◌else◌}
 use Rattle.std.proofs.Common.{◌≡◌, ◌≢◌, ℕ, ◌+◌, ◌*◌, ◌<◌, ◌≤◌, List, [], ◌∷◌, ◌++◌, length, refl, sym, ap, ◌∙◌, subst, ⊎_elim, inl, inr, arith, Some, None}
-use Rattle.std.proofs.lemmas.Bool.{cases_eq, eq-eqb}
+use Rattle.std.proofs.lemmas.Bool.{cases_eq, eq-eqb, both_ways}
 use Rattle.std.proofs.lemmas.Bool.Decides.{nat_tests}
 use Rattle.std.proofs.lemmas.Option.{slice_get_within}
 use Rattle.machine_states.specs.map_history.specs.declared.op.Request.{Request}
 use Rattle.machine_states.specs.map_history.specs.declared.reply.Reply.{Reply}
 use Rattle.machine_states.specs.map_history.specs.Requests.{AreInOrder}
+use Rattle.machine_states.specs.body_terms.specs.declared.outcome.Outcome.{Outcome}
+use Rattle.machine_states.specs.body_terms.specs.declared.outcome.Outcome.TheVariants as outcomes
+use Rattle.machine_states.specs.body_terms.specs.declared.thunk.Thunk.{Thunk}
 use Rattle.machine_states.specs.table_words.specs.Limits.{IsWithinLimits}
 use Rattle.machine_states.specs.structure_laws.specs.Meaning.{Meaning}
 use Rattle.machine_states.specs.structure_laws.specs.Laws.{Laws}
@@ -20,20 +23,21 @@ use Rattle.attempt_bounds.specs.version_words.specs.TableState.{TableState, IsOf
 use Rattle.attempt_bounds.specs.attempts.specs.epoch_slots.specs.Collects.{IsTidy}
 use Rattle.attempt_bounds.specs.attempts.specs.epoch_slots.specs.declared.reserves.Short.{Short}
 use Rattle.attempt_bounds.specs.attempts.specs.try_lock.specs.Planning.{Planning}
+use Rattle.attempt_bounds.specs.attempts.specs.try_lock.specs.declared.section.Section.{Section}
 use Rattle.attempt_bounds.specs.attempts.specs.try_lock.specs.Reached.{IsReached}
 use Rattle.attempt_bounds.specs.attempts.specs.request_facts.specs.Laws.{HasEntry}
 use Rattle.machine_states.specs.body_terms.specs.Counted.{counted_on}
 use Rattle.runner_gate.specs.Asks.{Asks, asked_on}
 use Rattle.attempt_bounds.specs.attempts.specs.Knowing.{KnowsMore, IsOwn}
 use Rattle.attempt_bounds.specs.attempts.specs.Course.{MayAttempt}
-use Rattle.attempt_bounds.specs.attempts.specs.Attempts.{asks_more, asks_before, IsServed, IsShort, IsTurnedAway, IsHalted, Answers}
+use Rattle.attempt_bounds.specs.attempts.specs.Attempts.{asks_more, asks_before, IsServed, IsShort, IsTurnedAway, Stops, AtEntry, InPlan, BehindHold, InOwnRun, InHelpedRun, is_own_run, HasJustEnded, EndsAt, IsHalted, Answers}
 use Rattle.attempt_bounds.specs.attempts.specs.declared.answers.Attempt.{Attempt}
 use Rattle.attempt_bounds.specs.attempts.specs.declared.answers.Attempt.TheVariants as attempts
 use Rattle.attempt_bounds.specs.attempts.proofs.Knowing.{knows_same, knows_on, own_on}
 use Rattle.attempt_bounds.specs.Spared.{IsSpared, AttemptsSpareSlots}
 use Rattle.serving.specs.declared.answers.Served.{Served}
 use Rattle.serving.specs.declared.answers.Served.TheVariants as answers
-use Rattle.serving.specs.Serving.{is_tried_again, stop_of, IsBefore, TriedRuns, ServedRuns, Try, is_served, GoesOn, served_in, steps_in, asks_in, least_asks, asks_let, all_asks_let, WasCrossed, TriesBriefly, ServesBriefly, MayServe, AreServed, AreTried, Persists, Serves}
+use Rattle.serving.specs.Serving.{is_tried_again, stop_of, IsBefore, TriedRuns, ServedRuns, Try, is_served, GoesOn, served_in, steps_in, asks_in, least_asks, asks_let, all_asks_let, WasJustServed, WasCrossed, TriesBriefly, ServesBriefly, MayServe, AreServed, AreTried, Persists, Serves}
 use Rattle.serving.proofs.Lists.{and_true, all_pass, where_held, numbered, entry_known}
 use Rattle.serving.proofs.Standing.{entry_on, answered_more, stamp_of, one_stamp}
 use Rattle.serving.proofs.Tries.{or_left, count_more, asks_further, served_append, steps_append, asks_append, crossed_back, crossed_then, crossed_now, crossed_more, done_asks, tried_behind}
@@ -428,6 +432,51 @@ module _ {T : Type 0} (m : Meaning) (laws : Laws m) (planning : Planning) (reque
     brief = brief;
   }
 
+  -- a gate halted the runner with nothing published: this request isn't answered, or its section was just run to its end
+  module _ (reached : IsReached m new) where
+    own_before : (x : Request) → IsOwn new x → IsOwn r x
+    own_before x own = own_on new r (sym (same_requests t r new of_r of_new)) (sym (same_layout t r new of_r of_new)) (sym persists.knows.number) x own
+
+    just_served : (thunk : Thunk) (section : Section) (published : RunnerState T) → HasJustEnded m planning q thunk section persists.before published new
+        → is_answered new.part.records.known q.number ≡ true → WasJustServed q new
+    just_served thunk section published ended answered = record {
+      answered = answered;
+      before = published.part.records.finished;
+      run = ended.finished;
+      kept = ended.kept;
+      reply = told.0;
+      outcome = told.1;
+      above = λ x own other known a b ha hb isa isb ofa ofb.
+          let here = own_before x own in
+          let was = was_known reached x.number (sym (persists.no_other x here other) ∙ known) a ha isa ofa in
+          let below = ended.above was.0 (entry_on r.part.records.known persists.before.part.records.known persists.knew.known was.0 was.1) was.3
+          (ap (λ n. is_answered persists.before.part.records.known n) was.2
+          ∙ answered_more r.part.records.known persists.before.part.records.known persists.knew.known x.number (sym (persists.no_other x here other) ∙ known))
+          answered b.number (hb.0, hb.1 ∙ (λ i. Some (record { request = ofb i; reply = isb i; number = b.number }))) in
+          subst (λ n. n < b.number) (sym was.4) below;
+    }
+      where
+        told_by : (o : Outcome) → ended.finished.outcome ≡ o → (reply : ℕ) × (ended.finished.outcome ≡ outcomes.Answered reply)
+        told_by (outcomes.Answered reply) e = (reply, e)
+        told_by (outcomes.Busy place word) e = absurd (both_ways _ (ended.untold (λ reply is. let z = sym e ∙ is in cc)) answered)
+        told_by (outcomes.Stale place expected read) e = absurd (both_ways _ (ended.untold (λ reply is. let z = sym e ∙ is in cc)) answered)
+        told_by (outcomes.Spent place word) e = absurd (both_ways _ (ended.untold (λ reply is. let z = sym e ∙ is in cc)) answered)
+
+        told : (reply : ℕ) × (ended.finished.outcome ≡ outcomes.Answered reply)
+        told = told_by ended.finished.outcome refl
+
+    halted_so : (at : Stops m planning q persists.before new) → (is_own_run m planning q persists.before new at ≡ false → is_answered new.part.records.known q.number ≡ false)
+        → EndsAt m planning q persists.before new at → (is_answered new.part.records.known q.number ≡ false) ⊎ WasJustServed q new
+    halted_so (InOwnRun thunk section published made tries short) unknown ended = by (is_answered new.part.records.known q.number) refl
+      where
+        by : (b : Bool) → is_answered new.part.records.known q.number ≡ b → (is_answered new.part.records.known q.number ≡ false) ⊎ WasJustServed q new
+        by true e = inr (just_served thunk section published ended e)
+        by false e = inl e
+    halted_so (AtEntry enters) unknown ended = inl (unknown refl)
+    halted_so (InPlan readings plans) unknown ended = inl (unknown refl)
+    halted_so (BehindHold thunk section tries) unknown ended = inl (unknown refl)
+    halted_so (InHelpedRun is) unknown ended = inl (unknown refl)
+
   serves_halted : answer ≡ attempts.Halted → Briefly answers.Halted → IsHalted m planning q persists.before new → ServesSo answers.Halted
   serves_halted same brief is = record {
     count = i;
@@ -436,7 +485,8 @@ module _ {T : Type 0} (m : Meaning) (laws : Laws m) (planning : Planning) (reque
     tried = tried_all;
     ends = record {
       published = λ x e. (q, at, is.published x e);
-      unanswered = λ none x there. subst (λ (y : Request). is_answered new.part.records.known y.number ≡ false) (some_same q x (sym at ∙ there)) (is.unknown none);
+      unanswered = λ none x there. subst (λ (y : Request). (is_answered new.part.records.known y.number ≡ false) ⊎ WasJustServed y new) (some_same q x (sym at ∙ there))
+          (halted_so is.reached is.at (is.unknown none) (is.ended none));
     };
     knows = knows_all;
     others = others_all;
@@ -536,7 +586,7 @@ module _ {T : Type 0} (m : Meaning) (laws : Laws m) (planning : Planning) (reque
     tried = tried_all;
     ends = record {
       published = λ x there. absurd (none_some x (sym there ∙ now.tidy.at.published));
-      unanswered = λ none x there. now.unanswered x there;
+      unanswered = λ none x there. inl (now.unanswered x there);
     };
     knows = knows_all;
     others = others_all;

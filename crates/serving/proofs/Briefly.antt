@@ -13,7 +13,7 @@ use Rattle.attempt_bounds.specs.attempts.specs.try_lock.specs.Planning.{Planning
 use Rattle.machine_states.specs.body_terms.specs.Counted.{counted_on}
 use Rattle.runner_gate.specs.Asks.{Asks, asked_on}
 use Rattle.attempt_bounds.specs.attempts.specs.Course.{MayAttempt}
-use Rattle.attempt_bounds.specs.attempts.specs.Attempts.{is_halted, asks_more, runs_of, most_of_attempt, has_met_held, IsAttempt, Attempts}
+use Rattle.attempt_bounds.specs.attempts.specs.Attempts.{is_halted, asks_more, runs_of, most_of_attempt, has_helped, has_met_held, IsAttempt, Attempts}
 use Rattle.attempt_bounds.specs.attempts.specs.declared.answers.Attempt.{Attempt}
 use Rattle.attempt_bounds.specs.attempts.specs.declared.answers.Attempt.TheVariants as attempts
 use Rattle.serving.specs.declared.answers.Served.{Served}
@@ -99,9 +99,12 @@ module _ {T : Type 0} (m : Meaning) (planning : Planning) where
         let more = few_more answer is.published in
         asks_within is.made (asks_more answer is.published) (slots m old.layout) asks.count asks'.count few more asked rises
 
+    abbrev helped : Bool
+    helped = has_helped m planning request answer old new is.is.answers
+
     told : (a : Attempt) → answer ≡ a → is_halted a ≡ false
-        → length new.part.records.finished ≡ length old.part.records.finished + runs_of a is.published
-    told a e going = is.is.runs (ap is_halted e ∙ going) ∙ ap (λ x. length old.part.records.finished + runs_of x is.published) e
+        → length new.part.records.finished ≡ length old.part.records.finished + runs_of a is.published helped
+    told a e going = is.is.runs (ap is_halted e ∙ going) ∙ ap (λ x. length old.part.records.finished + runs_of x is.published helped) e
 
     runs_by : (a : Attempt) → answer ≡ a → length new.part.records.finished ≤ length old.part.records.finished + 1
         → TriedRuns a (length old.part.records.finished) (length new.part.records.finished)

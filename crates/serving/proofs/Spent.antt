@@ -22,6 +22,7 @@ use Rattle.machine_states.specs.runner_parts.specs.Tests.{has_pair}
 use Rattle.machine_states.proofs.Steps.{some_same, none_some}
 use Rattle.attempt_bounds.specs.attempts.specs.lock_words.specs.Spent.{IsLate}
 use Rattle.attempt_bounds.specs.version_words.specs.RunnerState.{RunnerState}
+use Rattle.attempt_bounds.specs.version_words.specs.Events.{IsMade}
 use Rattle.attempt_bounds.specs.attempts.specs.epoch_slots.specs.Entries.{Exits}
 use Rattle.attempt_bounds.specs.attempts.specs.epoch_slots.proofs.Outside.{reads_made}
 use Rattle.attempt_bounds.specs.attempts.specs.try_lock.specs.declared.planned.Planned.{Planned}
@@ -29,6 +30,7 @@ use Rattle.attempt_bounds.specs.attempts.specs.try_lock.specs.declared.planned.P
 use Rattle.attempt_bounds.specs.attempts.specs.try_lock.specs.Planning.{Planning}
 use Rattle.attempt_bounds.specs.attempts.specs.try_lock.specs.Plans.{refused_at, refused_by_lock}
 use Rattle.attempt_bounds.specs.attempts.specs.try_lock.specs.Publishes.{refused_by}
+use Rattle.attempt_bounds.specs.attempts.specs.try_lock.proofs.Guarding.{guard_at, guard_reads, guard_keeps}
 use Rattle.attempt_bounds.specs.attempts.specs.Course.{of_plan, of_refusal, of_outcome, HasPlanned, HasTried, HasLeft}
 use Rattle.attempt_bounds.specs.attempts.specs.Attempts.{IsTurnedAway}
 use Rattle.attempt_bounds.specs.attempts.specs.declared.answers.Attempt.TheVariants as attempts
@@ -150,19 +152,22 @@ module _ {T : Type 0} (m : Meaning) (planning : Planning) (request : Request) (p
   by_plan readings (plans.Thunk thunk) planned same = absurd (let z = same in cc)
   by_plan readings plans.Halted planned same = absurd (let z = same in cc)
 
-  by_lock_word : (thunk : Thunk) (refusal : Refused) → HasTried m planning request thunk (Err refusal) old cut
-      → m.is_lock thunk.lock ≡ true → attempts.Spent place word ≡ of_refusal thunk.lock refusal → WasRead
-  by_lock_word thunk (refusals.Spent w) tried lock same =
+  by_lock_word : (thunk : Thunk) (refusal : Refused) (guarded : RunnerState T) → HasTried m planning request thunk (Err refusal) old guarded
+      → IsMade m (kinds.Guard None) guarded cut → m.is_lock thunk.lock ≡ true → attempts.Spent place word ≡ of_refusal thunk.lock refusal → WasRead
+  by_lock_word thunk (refusals.Spent w) guarded tried goes lock same =
       let publishes = tried.publishes in
       let refused = publishes.refused in
       let is = refused_found tried.planned.layout thunk.word publishes.found w refused.why in
       let ends = spent_same place thunk.lock word w same in
+      let epoch = tried.plans.enters.enters.epoch in
+      let at = refused.at epoch (tried.plans.walked.at epoch None tried.plans.enters.enters.at) in
       of_read tried.planned.layout thunk.lock publishes.found tried.plans.still.layout (sym ends.0) (is.0 ∙ sym ends.1) lock is.1 is.2
-      (refused.at tried.plans.enters.enters.epoch (tried.plans.walked.at tried.plans.enters.enters.epoch None tried.plans.enters.enters.at)).resting
-      (ap (λ xs. has_pair xs thunk.lock publishes.found) publishes.read
-      ∙ has_more tried.planned.part.reads.cells ((thunk.lock, publishes.found) ∷ []) thunk.lock publishes.found (has_here thunk.lock publishes.found))
-  by_lock_word thunk (refusals.Busy w) tried lock same = absurd (let z = same in cc)
-  by_lock_word thunk (refusals.Stale expected read) tried lock same = absurd (let z = same in cc)
+      (guard_at m None goes.found guarded cut goes.event epoch at).resting
+      (ap (λ (s : ReadsState). has_pair s.cells thunk.lock publishes.found) (guard_reads m None goes.found guarded cut goes.event at.resting)
+      ∙ (ap (λ xs. has_pair xs thunk.lock publishes.found) publishes.read
+      ∙ has_more tried.planned.part.reads.cells ((thunk.lock, publishes.found) ∷ []) thunk.lock publishes.found (has_here thunk.lock publishes.found)))
+  by_lock_word thunk (refusals.Busy w) guarded tried goes lock same = absurd (let z = same in cc)
+  by_lock_word thunk (refusals.Stale expected read) guarded tried goes lock same = absurd (let z = same in cc)
 
   by_section : (thunk : Thunk) (outcome : Outcome) → HasLeft m planning request thunk outcome old cut
       → attempts.Spent place word ≡ of_outcome outcome → HasEnded
@@ -172,7 +177,8 @@ module _ {T : Type 0} (m : Meaning) (planning : Planning) (request : Request) (p
       let same_words = spent_same place p word w same in (
         length run.ended.published.part.records.finished,
         ends.finished,
-        ap (λ xs. slice_get xs (length run.ended.published.part.records.finished)) (exits.keeps.finished ∙ (run.retires.finished ∙ ends.kept))
+        ap (λ xs. slice_get xs (length run.ended.published.part.records.finished)) (exits.keeps.finished
+            ∙ ((guard_keeps m None run.lets_go.found run.ran cut run.lets_go.event ends.resting).finished ∙ ends.kept))
             ∙ get_last run.ended.published.part.records.finished ends.finished,
         ends.same_outcome ∙ (λ i. outcomes.Spent (sym same_words.0 i) (sym same_words.1 i)),
       )
@@ -185,7 +191,7 @@ module _ {T : Type 0} (m : Meaning) (planning : Planning) (request : Request) (p
   spent_is_kept = ⊎_elim
       (λ plan. inl (by_plan plan.readings plan.refusal plan.plans plan.same))
       (λ rest. ⊎_elim
-      (λ lock. inl (by_lock_word lock.thunk lock.refusal lock.tries lock.lock lock.same))
+      (λ lock. inl (by_lock_word lock.thunk lock.refusal lock.guarded lock.tries lock.lets_go lock.lock lock.same))
       (λ section. inr (by_section section.thunk section.outcome section.left section.same))
       rest)
       away.cause

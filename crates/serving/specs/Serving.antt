@@ -1,12 +1,14 @@
 -- The serving of a list of requests: what may be served, and what each answer says.
-use Rattle.std.specs.Prelude.{◌≡◌, ◌≢◌, ℕ, ◌+◌, ◌*◌, ◌<◌, ◌≤◌, ◌⊎◌, List, [], ◌∷◌, length, Bool, true, false, not, ◌==◌, ◌&&◌, ◌||◌, if◌then◌else◌, Option, None, Some, slice_get}
+use Rattle.std.specs.Prelude.{◌≡◌, ◌≢◌, ℕ, ◌+◌, ◌*◌, ◌<◌, ◌≤◌, ◌⊎◌, List, [], ◌∷◌, ◌++◌, length, Bool, true, false, not, ◌==◌, ◌&&◌, ◌||◌, if◌then◌else◌, Option, None, Some, slice_get}
 use Rattle.machine_states.specs.map_history.specs.declared.op.Request.{Request}
 use Rattle.machine_states.specs.body_terms.specs.Counted.{counted_on}
+use Rattle.machine_states.specs.body_terms.specs.declared.outcome.Outcome.TheVariants.{Answered}
 use Rattle.runner_gate.specs.Asks.{Asks, asked_on}
 use Rattle.machine_states.specs.structure_laws.specs.Meaning.{Meaning}
 use Rattle.machine_states.specs.structure_laws.specs.Cells.{slots}
 use Rattle.machine_states.specs.runner_parts.specs.declared.entries.Known.{Known}
 use Rattle.machine_states.specs.runner_parts.specs.declared.entries.Published.{Published}
+use Rattle.machine_states.specs.runner_parts.specs.State.{FinishedState}
 use Rattle.machine_states.specs.runner_parts.specs.Tests.{is_answered}
 use Rattle.attempt_bounds.specs.version_words.specs.RunnerState.{RunnerState}
 use Rattle.attempt_bounds.specs.attempts.specs.epoch_slots.specs.Collects.{IsTidy}
@@ -141,13 +143,26 @@ module _ {T : Type 0} where
     pub behind : (i : ℕ) (q : Request) → count < i → slice_get requests i ≡ Some q
         → is_answered r.part.records.known q.number ≡ false
 
-  -- a gate halted the runner. What it has published, if anything, is for the request behind those that are served;
-  -- where it has published nothing, that request isn't answered
+  -- a gate halted the runner behind the very step by which the run of this request's section came to its end, and so
+  -- answered it: that run is the last one that it keeps, and the request's stamp is above those of its other own
+  -- requests that are answered
+  pub record WasJustServed (request : Request) (r : RunnerState T) : Type 0 where
+    pub answered : is_answered r.part.records.known request.number ≡ true
+    pub before : List FinishedState
+    pub run : FinishedState
+    pub kept : r.part.records.finished ≡ before ++ run ∷ []
+    pub reply : ℕ
+    pub outcome : run.outcome ≡ Answered reply
+    pub above : (q : Request) → IsOwn r q → q.number ≢ request.number
+        → is_answered r.part.records.known q.number ≡ true → IsBefore r.part.records.known q request
+
+  -- a gate halted the runner. What it has published and not run to its end, if anything, is for the request behind those
+  -- that are served; where there is none, that request isn't answered, or its section was just run to its end
   pub record WasHalted (requests : List Request) (count : ℕ) (r : RunnerState T) : Type 0 where
     pub published : (x : Published) → r.part.published ≡ Some x
         → (q : Request) × (slice_get requests count ≡ Some q) × (x.thunk.request ≡ q.number)
     pub unanswered : r.part.published ≡ None → (q : Request) → slice_get requests count ≡ Some q
-        → is_answered r.part.records.known q.number ≡ false
+        → (is_answered r.part.records.known q.number ≡ false) ⊎ WasJustServed q r
 
   -- one of these attempts was refused since another one came between: by such an answer, on this table
   pub record WasCrossed (m : Meaning) (planning : Planning) (tries : List Try) (r : RunnerState T) : Type 0 where

@@ -8,7 +8,7 @@ use Rattle.machine_states.specs.table_words.specs.declared.spot.Spot.TheVariants
 use Rattle.machine_states.specs.table_words.specs.declared.access.Access.TheVariants.{Loads}
 use Rattle.machine_states.specs.structure_laws.specs.Meaning.{Meaning}
 use Rattle.machine_states.specs.runner_parts.specs.declared.event.EventKind.TheVariants as kinds
-use Rattle.machine_states.specs.runner_parts.specs.State.{RunState, PartState, RecordsState, NodesState}
+use Rattle.machine_states.specs.runner_parts.specs.State.{RunState, PartState, RecordsState, NodesState, GuardsState}
 use Rattle.machine_states.specs.runner_parts.specs.Tests.{has, is_between}
 use Rattle.machine_states.specs.runner_steps.specs.After.{after, after_by, stepped, leaves, joins}
 use Rattle.machine_states.specs.First.{keeper_part, falling}
@@ -82,6 +82,7 @@ first_is_idle {T} m t r is = subst (λ (y : RunnerState T). IsIdleKeeper m 0 0 y
   joined = record { fresh = λ worker past. refl; parts = λ worker few. absurd (omega (arith, few)) };
   told = λ worker few. absurd (omega (arith, few));
   nodes = refl;
+  guards = refl;
   finished = refl;
   unmet = refl;
   apart = refl;
@@ -102,6 +103,7 @@ module _ {T : Type 0} (m : Meaning) (r r' : RunnerState T) (splits : ℕ) where
     joined = split_joined m r r' splits 0 split is.keeper is.joined;
     told = λ worker none. absurd (omega (arith, none));
     nodes = of (λ (q : PartState). q.nodes) (λ q s. refl) ∙ (is.nodes ∙ ap (λ (l : Layout). (keeper_part m l).nodes) (sym (ap (λ (y : RunnerState T). y.layout) split.made)));
+    guards = of (λ (q : PartState). q.guards) (λ q s. refl) ∙ is.guards;
     finished = ap (λ (y : RunnerState T). y.part.records.finished) split.made
         ∙ (split_finished m r.layout r.number r.part is.at.resting ∙ is.finished);
     unmet = ap (λ (y : RunnerState T). y.part.records.epoch_seen) split.made
@@ -128,6 +130,7 @@ module _ {T : Type 0} (m : Meaning) (keeper worker r' : RunnerState T) (splits c
     joined = then_joined m keeper worker r' splits count joins is.keeper is.joined next;
     told = λ k few. told k few;
     nodes = of (λ (q : PartState). q.nodes) (λ q s. refl) ∙ (is.nodes ∙ ap (λ (l : Layout). (keeper_part m l).nodes) (sym (ap (λ (y : RunnerState T). y.layout) joins)));
+    guards = of (λ (q : PartState). q.guards) (λ q s. refl) ∙ is.guards;
     finished = ap (λ (y : RunnerState T). y.part.records.finished) joins
         ∙ (join_finished m keeper.layout keeper.number worker.number keeper.part is.at.resting ∙ is.finished);
     unmet = ap (λ (y : RunnerState T). y.part.records.epoch_seen) joins ∙ seen;
@@ -186,7 +189,13 @@ pub may_settle : {T : Type 0} (m : Meaning) (t : TableState T) (r : RunnerState 
 may_settle m t r count own is all = record {
   joined = has_all m t r count own is all;
   told = λ worker few. is.told worker (omega (arith, few, all));
-  tidy = record { at = is.at; hand = ap (λ (n : NodesState). n.hand) is.nodes; tests = ap (λ (n : NodesState). n.tests) is.nodes };
+  tidy = record {
+    at = is.at;
+    hand = ap (λ (n : NodesState). n.hand) is.nodes;
+    tests = ap (λ (n : NodesState). n.tests) is.nodes;
+    looked = ap (λ (g : GuardsState). g.looked) is.guards;
+    unguarded = ap (λ (g : GuardsState). g.named) is.guards;
+  };
   free = free_slots m t r count count own is;
 }
 

@@ -42,6 +42,8 @@ module _ {T : Type 0} (m : Meaning) (t : TableState T) where
       at = next_is_idle m keeper r splits made is few;
       hand = ap (λ (y : RunnerState T). y.part.nodes.hand) made;
       tests = ap (λ (y : RunnerState T). y.part.nodes.tests) made;
+      looked = ap (λ (y : RunnerState T). y.part.guards.looked) made;
+      unguarded = ap (λ (y : RunnerState T). y.part.guards.named) made;
     };
     known = ap (λ (y : RunnerState T). y.part.records.known) made;
   }

@@ -2,6 +2,7 @@
 use Rattle.std.specs.Prelude.{◌≡◌, ℕ, ◌<◌, [], true, false, None}
 use Rattle.machine_states.specs.structure_laws.specs.Meaning.{Meaning}
 use Rattle.machine_states.specs.epoch_core.specs.declared.stage.Stage.TheVariants as stages
+use Rattle.machine_states.specs.runner_parts.specs.Lists.{no_guards}
 use Rattle.machine_states.specs.runner_parts.specs.Tests.{has}
 use Rattle.machine_states.specs.First.{keeper_part}
 use Rattle.closed_words.specs.version_words.specs.RunnerState.{RunnerState}
@@ -15,6 +16,8 @@ pub record IsIdleKeeper {T : Type 0} (m : Meaning) (splits count : ℕ) (r : Run
   pub joined : HasJoined r count
   pub told : (worker : ℕ) → worker < count → has r.part.records.joined worker ≡ true
   pub nodes : r.part.nodes ≡ (keeper_part m r.layout).nodes
+  -- it guards nothing, and has no sweep in progress
+  pub guards : r.part.guards ≡ no_guards
   -- and has run no section
   pub finished : r.part.records.finished ≡ []
   -- its own steps have not met the epoch, so they crossed no worker's that it joined

@@ -41,9 +41,9 @@ use Rattle.settled_tables.specs.settling.specs.epoch_slots.specs.declared.reserv
 use Rattle.settled_tables.specs.settling.specs.epoch_slots.specs.declared.reserves.Short.{Short}
 use Rattle.settled_tables.specs.settling.specs.try_lock.specs.Planning.{Planning}
 use Rattle.free_serving.specs.serving.specs.attempts.specs.Attempts.{IsFew}
-use Rattle.free_serving.specs.serving.specs.Serving.{WasHalted, StopsShort}
+use Rattle.free_serving.specs.serving.specs.Serving.{WasJustServed, WasHalted, StopsShort}
 use Rattle.free_serving.specs.Services.{is_get}
-use Rattle.free_serving.specs.Left.{Rises, IsBefore, IsOdd, AreAskedWholly, WasReadInVain, Leaves, Ends}
+use Rattle.free_serving.specs.Left.{Rises, IsBefore, IsOdd, AreAskedWholly, WasPublished, WasReadInVain, Leaves, Ends}
 use Rattle.free_serving.specs.serving.specs.declared.answers.Served.{Served}
 use Rattle.free_serving.specs.serving.specs.declared.answers.Served.TheVariants as answers
 use Rattle.free_serving.specs.resource_bounds.specs.Makes.{added}
@@ -167,7 +167,28 @@ module _ {T : Type 0} (m : Meaning) (t : TableState T) (keeper : RunnerState T) 
         none = λ i q past e. dite (ℕ_discrete i count) (λ is. next q (subst (λ (k : ℕ). slice_get own k ≡ Some q) is e)) (λ far. behind i q (omega (arith, past, far)) e);
       }
 
-      -- where it has one, its section was published, and others have run it
+      -- where it has one, behind those of the earlier ones, one more has an entry
+      module _ (q : Request) (at : slice_get own count ≡ Some q) (some : stamp_of m w q ≢ 0)
+          (above : (i : ℕ) (q' : Request) → i < count → slice_get own i ≡ Some q' → Rises reads_free (stamp_of m w q') (stamp_of m w q)) where
+        entries_more : (i : ℕ) (q' : Request) → i < count + 1 → slice_get own i ≡ Some q' → stamp_of m w q' ≢ 0
+        entries_more i q' low e = dite (ℕ_discrete i count)
+            (λ is. subst (λ (y : Request). stamp_of m w y ≢ 0) (some_same q q' (sym at ∙ subst (λ (k : ℕ). slice_get own k ≡ Some q') is e)) some)
+            (λ far. entry i q' e (left.served.answered i q' (omega (arith, low, far)) e))
+
+        rising_more : (i j : ℕ) (a b : Request) → i < j → j < count + 1 → slice_get own i ≡ Some a → slice_get own j ≡ Some b → Rises reads_free (stamp_of m w a) (stamp_of m w b)
+        rising_more i j a b less low e e' = dite (ℕ_discrete j count)
+            (λ is. subst (λ (y : Request). Rises reads_free (stamp_of m w a) (stamp_of m w y)) (some_same q b (sym at ∙ subst (λ (k : ℕ). slice_get own k ≡ Some b) is e')) (above i a (omega (arith, less, is)) e))
+            (λ far. let under : j < count = omega (arith, low, far) in before a b (left.served.answered i a (omega (arith, less, under)) e) (left.served.answered j b under e') (left.served.rising i j a b less under e e'))
+
+        pub one_more_entered : AreEntered m w reads_free own (count + 1)
+        one_more_entered = record {
+          few = let low = slice_get_within own count q at in omega (arith, low);
+          entries = entries_more;
+          rising = rising_more;
+          none = λ i q' past e. behind i q' (omega (arith, past)) e;
+        }
+
+      -- so it is where its section was published, and others have run it
       module _ (x : Published) (own_section : new.part.published ≡ Some x) (q : Request) (at : slice_get own count ≡ Some q) (request : x.thunk.request ≡ q.number) (some : stamp_of m w q ≢ 0) where
         below : (i : ℕ) (q' : Request) → i < count → slice_get own i ≡ Some q' → stamp_of m w q' < stamp_of m w q
         below i q' low e =
@@ -180,23 +201,8 @@ module _ {T : Type 0} (m : Meaning) (t : TableState T) (keeper : RunnerState T) 
         above : (i : ℕ) (q' : Request) → i < count → slice_get own i ≡ Some q' → Rises reads_free (stamp_of m w q') (stamp_of m w q)
         above i q' low e = rises_by reads_free (stamp_of m w q') (stamp_of m w q) (below i q' low e)
 
-        entries_more : (i : ℕ) (q' : Request) → i < count + 1 → slice_get own i ≡ Some q' → stamp_of m w q' ≢ 0
-        entries_more i q' low e = dite (ℕ_discrete i count)
-            (λ is. subst (λ (y : Request). stamp_of m w y ≢ 0) (some_same q q' (sym at ∙ subst (λ (k : ℕ). slice_get own k ≡ Some q') is e)) some)
-            (λ far. entry i q' e (left.served.answered i q' (omega (arith, low, far)) e))
-
-        rising_more : (i j : ℕ) (a b : Request) → i < j → j < count + 1 → slice_get own i ≡ Some a → slice_get own j ≡ Some b → Rises reads_free (stamp_of m w a) (stamp_of m w b)
-        rising_more i j a b less low e e' = dite (ℕ_discrete j count)
-            (λ is. subst (λ (y : Request). Rises reads_free (stamp_of m w a) (stamp_of m w y)) (some_same q b (sym at ∙ subst (λ (k : ℕ). slice_get own k ≡ Some b) is e')) (above i a (omega (arith, less, is)) e))
-            (λ far. let under : j < count = omega (arith, low, far) in before a b (left.served.answered i a (omega (arith, less, under)) e) (left.served.answered j b under e') (left.served.rising i j a b less under e e'))
-
         pub entered_more : AreEntered m w reads_free own (count + 1)
-        entered_more = record {
-          few = let low = slice_get_within own count q at in omega (arith, low);
-          entries = entries_more;
-          rising = rising_more;
-          none = λ i q' past e. behind i q' (omega (arith, past)) e;
-        }
+        entered_more = one_more_entered q at some above
 
     -- a runner with nothing published has nothing open
     nothing_open : new.part.published ≡ None → (n : ℕ) → HasOpen end worker n → ⊥
@@ -212,9 +218,17 @@ module _ {T : Type 0} (m : Meaning) (t : TableState T) (keeper : RunnerState T) 
     same_request : (q q' : Request) → slice_get own count ≡ Some q → slice_get own count ≡ Some q' → is_answered new.part.records.known q.number ≡ false → is_answered new.part.records.known q'.number ≡ false
     same_request q q' e e' unknown_so = subst (λ (y : Request). is_answered new.part.records.known y.number ≡ false) (some_same q q' (sym e ∙ e')) unknown_so
 
-    module _ (low : worker < t.layout.runners) (own_new : IsOf t new) (kept : DescriptorsAreKept t.layout end) (spent : SpentStand m t.layout end) (worn : WornAreWorn m t.layout end)
+    module _ (low : worker < t.layout.runners) (own_new : IsOf t new) (number : new.number ≡ worker) (kept : DescriptorsAreKept t.layout end) (spent : SpentStand m t.layout end) (worn : WornAreWorn m t.layout end)
         (once_worn : (i j slot : ℕ) → slice_get (end.part worker).nodes.worn i ≡ Some slot → slice_get (end.part worker).nodes.worn j ≡ Some slot → i ≡ j)
         (many : t.layout.nodes ≤ entry_count (end.part worker).nodes + 2 * added end.word (length t.requests)) (lists : ListsAreShort m t.layout end) where
+      -- where the request behind them was just served, it has an entry
+      entered_just : new.part.published ≡ None → (q : Request) → slice_get own count ≡ Some q → WasJustServed q new → AreEntered m w reads_free own (count + 1)
+      entered_just nothing q at just = one_more_entered (opened_none nothing) q at (entry count q at just.answered)
+          (λ i q' few e. let known_so = left.served.answered i q' few e in
+          before q' q known_so just.answered (λ x y hx hy isx isy ofx ofy. rises_by reads_free x.number y.number
+          (just.above q' (record { there = ap (λ rs. slice_get rs q'.number) own_new.requests ∙ there i q' e; own = ap (λ l. q'.trace % l.runners) own_new.layout ∙ (trace i q' e ∙ sym number) })
+          (λ same. omega (arith, few, once i count q' q e at same)) known_so x y hx hy isx isy ofx ofy)))
+
       -- a slot in the worker's worn list is worn in the closed words
       worn_there : (i slot : ℕ) → slice_get new.part.nodes.worn i ≡ Some slot → HasWornCell m w.layout (word_of m w) slot
       worn_there i slot e =
@@ -335,9 +349,9 @@ module _ {T : Type 0} (m : Meaning) (t : TableState T) (keeper : RunnerState T) 
         descriptors = short_descriptors short stops.cause.few stops.cause.counts tidy.at.published;
       }
 
-      -- as many have an entry as it knows of, or one more, whose section it published
+      -- as many have an entry as were served, or one more, whose section it published
       abbrev IsCounted : ℕ → Type 0
-      IsCounted n = (n ≡ count) ⊎ ((n ≡ count + 1) × (x : Published) × (new.part.published ≡ Some x))
+      IsCounted n = (n ≡ count) ⊎ ((n ≡ count + 1) × ((q : Request) → slice_get own count ≡ Some q → WasPublished q new))
 
       -- what is left of it, and how many of its requests have an entry: one more at most than were served, where it
       -- was halted
@@ -345,22 +359,43 @@ module _ {T : Type 0} (m : Meaning) (t : TableState T) (keeper : RunnerState T) 
       LeavesServed a = (served : HasServed m w retry_short reads_free own a) × (served.count ≤ left.full + halted a) × IsCounted served.count
 
       -- so many are asked about to the end: all, or all but one of a halted worker
-      no_more : (a : Served) → AreAskedWholly a count left.full new → count ≤ left.full + halted a
+      no_more : (a : Served) → AreAskedWholly own a count left.full new → count ≤ left.full + halted a
       no_more a (inl same) = omega (arith, same)
       no_more a (inr cut) =
           let one : halted a ≡ 1 = ap halted cut.0 in
           let more = cut.2 in omega (arith, one, more)
 
-      one_more : AreAskedWholly answers.Halted count left.full new → (x : Published) → new.part.published ≡ Some x → count + 1 ≤ left.full + 1
+      one_more : AreAskedWholly own answers.Halted count left.full new → (x : Published) → new.part.published ≡ Some x → count + 1 ≤ left.full + 1
       one_more (inl same) x some = omega (arith, same)
       one_more (inr cut) x some = absurd (none_some x (sym some ∙ cut.1))
 
-      halted_at : AreAskedWholly answers.Halted count left.full new → WasHalted own count new → (o : Option Published) → new.part.published ≡ o → LeavesServed answers.Halted
-      halted_at whole was None nothing = (
-        record { count = count; entered = entered_stopped nothing (λ q e. was.unanswered nothing q e); cause = tt; shown = tt },
+      just_more : AreAskedWholly own answers.Halted count left.full new → (q : Request) → slice_get own count ≡ Some q → WasJustServed q new → count + 1 ≤ left.full + 1
+      just_more (inl same) q at just = omega (arith, same)
+      just_more (inr cut) q at just = absurd (true_false (is_answered new.part.records.known q.number) just.answered (cut.3 q at))
+
+      -- with nothing published: the request behind the served ones has an entry where it was just served
+      halted_with_none : AreAskedWholly own answers.Halted count left.full new → WasHalted own count new → new.part.published ≡ None
+          → (o : Option Request) → slice_get own count ≡ o → LeavesServed answers.Halted
+      halted_with_none whole was nothing None last = (
+        record { count = count; entered = entered_stopped nothing (λ q e. absurd (none_some q (sym e ∙ last))); cause = tt; shown = tt },
         no_more answers.Halted whole,
         inl refl,
       )
+      halted_with_none whole was nothing (Some q) at = ⊎_elim
+          (λ unknown. (
+            record { count = count; entered = entered_stopped nothing (λ q' e. same_request q q' at e unknown); cause = tt; shown = tt },
+            no_more answers.Halted whole,
+            inl refl,
+          ))
+          (λ just. (
+            record { count = count + 1; entered = entered_just nothing q at just; cause = tt; shown = tt },
+            just_more whole q at just,
+            inr (refl, λ q' e. inr (subst (λ (y : Request). is_answered new.part.records.known y.number ≡ true) (some_same q q' (sym at ∙ e)) just.answered)),
+          ))
+          (was.unanswered nothing q at)
+
+      halted_at : AreAskedWholly own answers.Halted count left.full new → WasHalted own count new → (o : Option Published) → new.part.published ≡ o → LeavesServed answers.Halted
+      halted_at whole was None nothing = halted_with_none whole was nothing (slice_get own count) refl
       halted_at whole was (Some x) is = let o = was.published x is in dite (ℕ_discrete (stamp_of m w o.0) 0)
           (λ z. (
             record {
@@ -375,10 +410,10 @@ module _ {T : Type 0} (m : Meaning) (t : TableState T) (keeper : RunnerState T) 
           (λ some. (
             record { count = count + 1; entered = entered_more was.published x is o.0 o.1 o.2 some; cause = tt; shown = tt },
             one_more whole x is,
-            inr (refl, x, is),
+            inr (refl, λ q e. inl (x, is)),
           ))
 
-      leaves_served : (a : Served) → AreAskedWholly a count left.full new → Ends m planning retry_short own a count old new → LeavesServed a
+      leaves_served : (a : Served) → AreAskedWholly own a count left.full new → Ends m planning retry_short own a count old new → LeavesServed a
       leaves_served answers.All whole ends = (
         record {
           count = count;
@@ -442,6 +477,7 @@ module _ {T : Type 0} (m : Meaning) (t : TableState T) (keeper : RunnerState T) 
           here low = ⊎_elim
               (λ same. known_odd (omega (arith, low, same)))
               (λ more. ⊎_elim known_odd
-              (λ high. inr ((left.read free).next q more.1 (subst (λ (n : ℕ). slice_get own n ≡ Some q) (let is = more.0 in let last : i ≡ count = omega (arith, low, is, high) in last) e) get more.2))
+              (λ high. let there_so = subst (λ (n : ℕ). slice_get own n ≡ Some q) (let is = more.0 in let last : i ≡ count = omega (arith, low, is, high) in last) e in
+              inr ((left.read free).next q there_so get (more.1 q there_so)))
               (cases_lt i count))
               served.2

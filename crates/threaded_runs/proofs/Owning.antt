@@ -86,6 +86,8 @@ module _ {T : Type 0} (m : Meaning) (planning : Planning) (t : TableState T) (ke
     at = at;
     hand = ap (λ (y : RunnerState T). y.part.nodes.hand) made;
     tests = ap (λ (y : RunnerState T). y.part.nodes.tests) made;
+    looked = ap (λ (y : RunnerState T). y.part.guards.looked) made;
+    unguarded = ap (λ (y : RunnerState T). y.part.guards.named) made;
   }
 
   unknown : (n : ℕ) → is_answered r.part.records.known n ≡ false

@@ -25,9 +25,9 @@ module _ {T : Type 0} where
       (away : IsTurnedAway m planning request (attempts.Spent place word) old new) where
     of_cut : IsRefused m planning request (attempts.Spent place word) old away.cut → away.cut.layout ≡ old.layout
     of_cut (inl plan) = plan.plans.still.layout
-    of_cut (inr (inl lock)) = lock.tries.still.layout
+    of_cut (inr (inl lock)) = ap (λ (y : RunnerState T). y.layout) lock.lets_go.event.made ∙ lock.tries.still.layout
     of_cut (inr (inr section)) = let run = section.left.run in
-        ap (λ (y : RunnerState T). y.layout) run.retires.event.made ∙ (run.ended.ends.layout ∙ run.ended.tries.still.layout)
+        ap (λ (y : RunnerState T). y.layout) run.lets_go.event.made ∙ (run.ended.ends.layout ∙ run.ended.tries.still.layout)
 
     same_layout : new.layout ≡ old.layout
     same_layout = ap (λ (y : RunnerState T). y.layout) away.leaves.announce.event.made ∙ of_cut away.cause

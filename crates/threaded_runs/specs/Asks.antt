@@ -17,7 +17,7 @@ halted_in (answer ∷ answers) = halted answer + halted_in answers
 
 module _ {T : Type 0} (m : Meaning) (w : WordsState T) where
   -- at least so often: for each served request, but for one at most of each worker that was halted, whose section
-  -- others or the keeper may have run to its end. A request that is read is asked about less often
+  -- somebody may have run to its end. A request that is read is asked about less often
   abbrev pub AsksOften : Bool → List Served → (before behind : ℕ) → Type 0
   AsksOften reads_free given before behind =
       plus before (least_asks reads_free * (served_in m w - halted_in given)) ≤ behind
