@@ -3,8 +3,8 @@
 
 Usage: bench/sections.py [PROGRAM]     (default: crates/section_speed/out/section_speed, made by `rt run` in crates/section_speed)
 
-It wants rustc. A section is one request's: the entry, the load of the lock, the publication (77 loads, what differs is stored, one exchange), the run (22
-steps), the retirement and the end of the entry, all by one worker on one thread. Each table serves eight sections, or one: so the difference is
+It wants rustc. A section is one request's: the entry, the load of the lock, the publication (77 loads, what differs is stored, a guard word, one exchange),
+the run (22 steps), the end of the guard and of the entry, all by one worker on one thread. Each table serves eight sections, or one: so the difference is
 that of seven sections, and what a process and a table need to begin and to end isn't counted. Of each the least processor time of several runs,
 by both programs in turn, is taken; both must print the same.
 """

@@ -46,14 +46,14 @@ struct Thunk {
 struct Worker {
     number: usize,
     free: Vec<usize>,
-    limbo: Vec<(usize, u64)>,
+    limbo: Vec<usize>,
     steps: u64,
 }
 
 impl Table {
-    // One worker and the keeper, 20 cells, and the descriptors.
+    // One worker and the keeper, with an announcement and a guard word each, 20 cells, and the descriptors.
     fn new() -> Table {
-        let (entries, cells) = (5, 5 + 2 * REQUESTS);
+        let (entries, cells) = (7, 7 + 2 * REQUESTS);
         let descriptors = cells + 43;
         let words: Vec<AtomicU64> = (0..descriptors + DESCRIPTOR * SECTIONS).map(|_| AtomicU64::new(0)).collect();
         words[1].store(1, SeqCst);
@@ -80,7 +80,8 @@ impl Table {
         black_box(self.load(1));
     }
 
-    // The words of a free descriptor become the thunk's, no done and an empty log; then one exchange of the lock.
+    // The words of a free descriptor become the thunk's, no done and an empty log; then the own guard word names it, and
+    // one exchange of the lock.
     fn publish(&self, worker: &mut Worker, thunk: &Thunk) -> Option<(usize, u64)> {
         let descriptor = *worker.free.last()?;
         let at = self.descriptors + DESCRIPTOR * descriptor;
@@ -96,6 +97,7 @@ impl Table {
                 self.words[at + index].store(0, SeqCst);
             }
         }
+        self.words[5 + worker.number].store(descriptor as u64 + 1, SeqCst);
         let held = pack(descriptor as u64 + 1, version(thunk.word) + 1);
         let found = self.exchange(self.cells + thunk.lock as usize, thunk.word, held);
         if found != thunk.word {
@@ -144,10 +146,10 @@ impl Table {
         REPLY
     }
 
-    // One step each: the retirement, and the end of the entry.
+    // One step each: the guard is let go, and the end of the entry.
     fn leave(&self, worker: &mut Worker, descriptor: usize) {
-        let epoch = self.load(1);
-        worker.limbo.push((descriptor, epoch));
+        worker.limbo.push(descriptor);
+        self.words[5 + worker.number].store(0, SeqCst);
         self.words[3 + worker.number].store(0, SeqCst);
     }
 
