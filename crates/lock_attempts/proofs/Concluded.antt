@@ -1,6 +1,6 @@
 -- The end of an attempt's own section.
 use Rattle.std.specs.Prelude.{cond, nat_lt, [], Bool, true, false, Result, Ok, Err}
-use Rattle.std.proofs.Common.{◌≡◌, ◌≢◌, ℕ, ◌+◌, length, refl, sym, ap, ◌∙◌, subst, ⊎_elim, arith, Option, Some, None}
+use Rattle.std.proofs.Common.{◌≡◌, ◌≢◌, ℕ, ◌+◌, length, refl, sym, ap, ◌∙◌, subst, ⊎_elim, arith, None}
 use Rattle.std.proofs.lemmas.Bool.{true≢false}
 use Rattle.machine_states.specs.epoch_core.specs.small_lemmas.proofs.Numbers.{tested_equal}
 use Rattle.machine_states.specs.map_history.specs.declared.op.Request.{Request}
@@ -23,6 +23,7 @@ use Rattle.agreement_core.specs.History.{change_of, moves_of}
 use Rattle.agreement_core.specs.State as agreement
 use Rattle.agreement_core.proofs.Lasting.{before_end}
 use Rattle.agreement_core.proofs.Noting.{is_exchange, no_change, below}
+use Rattle.machine_states.specs.runner_parts.specs.declared.event.EventKind.TheVariants as kinds
 use Rattle.machine_states.specs.runner_parts.specs.Tests.{is_answered}
 use Rattle.machine_states.specs.runner_steps.specs.Sections.{reply_in}
 use Rattle.machine_states.specs.Sight.{Sight, sight}
@@ -32,11 +33,12 @@ use Rattle.version_words.specs.machine_invariant.specs.Sections.{IsAnswered, IsL
 use Rattle.version_words.specs.machine_invariant.specs.Trails.{step_at, log_of}
 use Rattle.version_words.specs.RunnerState.{RunnerState}
 use Rattle.version_words.specs.TableState.{TableState, IsOf}
-use Rattle.attempts.specs.epoch_slots.specs.Entries.{HasLeave, Exits}
+use Rattle.version_words.specs.Events.{IsMade}
+use Rattle.attempts.specs.epoch_slots.specs.Entries.{KeepsOwn, HasLeave, Exits}
 use Rattle.attempts.specs.commit_log.proofs.Asked.{asked_none}
 use Rattle.attempts.specs.try_lock.specs.declared.section.Section.{Section}
 use Rattle.attempts.specs.try_lock.specs.Planning.{Planning}
-use Rattle.attempts.specs.try_lock.specs.Retires.{HasRetired}
+use Rattle.attempts.specs.try_lock.proofs.Guarding.{guard_keeps}
 use Rattle.attempts.specs.Knowing.{KnowsMore}
 use Rattle.attempts.specs.Course.{HasEnded, HasRun}
 use Rattle.attempts.specs.Attempts.{is_halted, is_refusal}
@@ -46,6 +48,8 @@ use Rattle.attempts.specs.declared.answers.Attempt.TheVariants as answers
 use Rattle.attempts.proofs.Knowing.{knows_same, knows_on, no_other_on, no_other_same}
 use Rattle.attempts.proofs.Reaching.{exits_reached}
 use Rattle.attempts.proofs.Counting.{counted_steps}
+use Rattle.attempts.proofs.LettingGo.{exits_tidy}
+use Rattle.attempts.proofs.Courses.{ended_go}
 use Rattle.attempts.proofs.Concluding.{may_learn}
 use Rattle.lock_attempts.specs.Sections.{is_done, HappenedOnce, HasAnswered}
 use Rattle.lock_attempts.specs.Parts.{AnswersLast}
@@ -63,19 +67,20 @@ undone answers.Halted answer same refusal = refl
 module _ {T : Type 0} (m : Meaning) (laws : Laws m) (t : TableState T) (limits : IsWithinLimits t.layout) (allowed : AreAllowed t.requests)
     (planning : Planning) (request : Request) (section : Section) (thunk : Thunk) (outcome : Outcome) (trail : Agreed) (old ran : RunnerState T)
     (own_ran : IsOf t ran) (is : HasEnded m planning request section thunk outcome trail old ran)
-    (retired : RunnerState T) (own_retired : IsOf t retired) (retires : HasRetired m section.descriptor ran retired)
+    (gone : RunnerState T) (own_gone : IsOf t gone) (goes : IsMade m (kinds.Guard None) ran gone)
     (answer : ℕ) (answered : outcome ≡ outcomes.Answered answer) where
   abbrev s : Sight
   s = sight m ran.layout ran.requests is.ends.reached.world
 
-  learns : MayLearn m request retired
-  learns = may_learn m laws t limits allowed planning request section thunk outcome trail old ran own_ran is retired own_retired retires answer answered
+  learns : MayLearn m request gone
+  learns = may_learn m laws t limits allowed planning request section thunk outcome trail old ran own_ran is gone own_gone goes answer answered
 
-  pub answered_leave : HasLeave retired
+  pub answered_leave : HasLeave gone
   answered_leave = learns.leave
 
-  number : retired.number ≡ ran.number
-  number = ap (λ (y : RunnerState T). y.number) retires.event.made
+  -- the guard's step
+  kept : KeepsOwn ran gone
+  kept = guard_keeps m None goes.found ran gone goes.event (ended_go m planning request old section thunk outcome trail ran is).at.resting
 
   section_answered : IsAnswered m is.ends.components.agreement s section.descriptor
   section_answered = ⊎_elim
@@ -160,38 +165,34 @@ module _ {T : Type 0} (m : Meaning) (laws : Laws m) (t : TableState T) (limits :
   module _ (own : Readings → Thunk) (is_own : thunk ≡ own is.tries.readings) where
     -- the own run, with its answer, in as many steps
     abbrev Answering : Outcome → Type 0
-    Answering o = (r : HasRun m planning request thunk o trail old retired) × (counted ≡ length r.ended.tries.readings + r.ended.made)
+    Answering o = (r : HasRun m planning request thunk o trail old gone) × (counted ≡ length r.ended.tries.readings + r.ended.made)
         × HappenedOnce m r.ended.ends.components (sight m r.ran.layout r.ran.requests r.ended.ends.reached.world) r.section.descriptor
         × (thunk ≡ own r.ended.tries.readings)
 
     answering : Answering (outcomes.Answered answer)
-    answering = subst Answering answered (record { section = section; ran = ran; ended = is; retires = retires }, refl, once, is_own)
+    answering = subst Answering answered (record { section = section; ran = ran; ended = is; lets_go = goes }, refl, once, is_own)
 
-    module _ (new : RunnerState T) (exits : Exits m retired new) where
+    module _ (new : RunnerState T) (exits : Exits m gone new) where
       abbrev has_answered : HasAnswered m planning request own answer old new
       has_answered = record {
         thunk = thunk;
         trail = trail;
-        retired = retired;
+        unguarded = gone;
         run = answering.0;
         is_own = answering.3;
         answer = said;
         once = answering.2;
         exits = exits;
         knows = ap (λ xs. is_answered xs request.number) exits.keeps.known ∙ learns.knows;
-        tidy = record {
-          at = exits.at;
-          hand = ap (λ n. n.hand) exits.keeps.nodes ∙ learns.hand.hand;
-          tests = ap (λ n. n.tests) exits.keeps.nodes ∙ learns.hand.tests;
-        };
-        reached = exits_reached m retired new exits;
+        tidy = exits_tidy m gone new learns.hand learns.leave.unguarded exits;
+        reached = exits_reached m gone new exits;
       }
 
-      knows_ran : KnowsMore ran retired
-      knows_ran = knows_same ran retired number retires.known retires.finished
+      knows_ran : KnowsMore ran gone
+      knows_ran = knows_same ran gone kept.number kept.known kept.finished
 
       same_runs : length new.part.records.finished ≡ length ran.part.records.finished
-      same_runs = ap length (exits.keeps.finished ∙ retires.finished)
+      same_runs = ap length (exits.keeps.finished ∙ kept.finished)
 
       no_steps : (n : ℕ) → n + 0 ≡ n
       no_steps n = omega arith
@@ -200,8 +201,8 @@ module _ {T : Type 0} (m : Meaning) (laws : Laws m) (t : TableState T) (limits :
           → AnswersLast m planning request own true counted 0 answer old ran new halts halts asks asks steps steps
       answered_last halts asks steps = record {
         answers = has_answered;
-        knows = knows_on ran retired new knows_ran (knows_same retired new exits.keeps.number exits.keeps.known exits.keeps.finished);
-        no_other = no_other_same request.number ran new (exits.keeps.known ∙ retires.known);
+        knows = knows_on ran gone new knows_ran (knows_same gone new exits.keeps.number exits.keeps.known exits.keeps.finished);
+        no_other = no_other_same request.number ran new (exits.keeps.known ∙ kept.known);
         made = 0;
         made_is = no_steps counted ∙ answering.1;
         asked = counted_steps 0 true halts halts asks asks steps steps (asked_none halts asks steps);

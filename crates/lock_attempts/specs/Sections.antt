@@ -59,19 +59,19 @@ pub record HappenedOnce (m : Meaning) (k : Components) (s : Sight) (d : ℕ) : T
 
 -- `own` is the thunk that is asked for, by the readings of its walk
 module _ {T : Type 0} (m : Meaning) (planning : Planning) (request : Request) (own : Readings → Thunk) where
-  -- the section that was planned was published, run to its end, and retired; its thunk is the one that is asked for, by
-  -- the readings with which it was published, it answered with its body's number, and happened once. The runner knows
-  -- both words of the ticket, and left: it is idle, with an empty hand
+  -- the section that was planned was published and run to its end, and the guard let go; its thunk is the one that is
+  -- asked for, by the readings with which it was published, it answered with its body's number, and happened once. The
+  -- runner knows both words of the ticket, and left: it is idle, with an empty hand
   pub record HasAnswered (reply : ℕ) (old new : RunnerState T) : Type 0 where
     pub thunk : Thunk
     pub trail : Agreed
-    pub retired : RunnerState T
-    pub run : HasRun m planning request thunk (Answered reply) trail old retired
+    pub unguarded : RunnerState T
+    pub run : HasRun m planning request thunk (Answered reply) trail old unguarded
     pub is_own : thunk ≡ own run.ended.tries.readings
     pub answer : reply ≡ reply_in (m.body thunk)
     pub once : HappenedOnce m run.ended.ends.components
         (sight m run.ran.layout run.ran.requests run.ended.ends.reached.world) run.section.descriptor
-    pub exits : Exits m retired new
+    pub exits : Exits m unguarded new
     pub knows : is_answered new.part.records.known request.number ≡ true
     pub tidy : IsTidy new
     pub reached : IsReached m new

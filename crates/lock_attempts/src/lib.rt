@@ -1,4 +1,4 @@
-//! A caller's loop for locks alone: sections are planned, published, run and retired, again where they were refused.
+//! A caller's loop for locks alone: sections are planned, published and run, again where they were refused.
 //!
 //! A structure that serves no map may take any thunk that fits what was read. Each request of its table is a ticket for
 //! one section: what the section does is chosen when it is attempted. `attempting` has one attempt of a ticket, `tries`

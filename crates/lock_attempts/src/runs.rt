@@ -14,16 +14,16 @@ ghost use Rattle.attempts.specs.lock_walks.specs.Wants.{WantsWereRead};
 ghost use Rattle.lock_attempts.specs.Parts.{SectionRests};
 
 use attempts::epoch_slots::exit;
-use attempts::lock_walks::try_lock::{RunEnd, Section, retire_section, run_section};
-use attempts::lock_words::stale_words_differ;
+use attempts::lock_walks::try_lock::{RunEnd, Section, run_section};
+use attempts::lock_words::{stale_words_differ, taken_names_stand};
 use attempts::{Attempt, goes_on, section_left, turn_away};
 use machine_states::body_terms::{Outcome, StepKind, Steps};
 use machine_states::structure_laws::Structure;
 use runner_gate::Gate;
 use version_words::{FlockTable, Runner};
 
-/// Retires the own section, which was run to its end with this outcome, and leaves: where it answered, with that
-/// number, else with the refusal by which it left.
+/// Lets the guard of the own section go, which was run to its end with this outcome, and leaves: where it answered, with
+/// that number, else with the refusal by which it left.
 fn conclude<S: Structure, G: Gate, L>(
     table: &FlockTable<S>,
     runner: Runner<S>,
@@ -45,8 +45,10 @@ fn conclude<S: Structure, G: Gate, L>(
         (length ended.tries.readings + ended.made) 0 result.1 old runner result.0 (IsSeen G.halts G.asks)
         (G.halts gate.old) (G.halts gate.new) (G.asks gate.old) (G.asks gate.new) steps.old.count steps.new.count }
 {
+    let _ = section;
     stale_words_differ(table.structure());
-    let runner = retire_section(table, runner, section);
+    taken_names_stand(table.structure());
+    let runner = table.guard(runner, None);
     if let Outcome::Answered(reply) = outcome {
         (exit(table, runner), Ok(reply))
     } else {
@@ -55,7 +57,7 @@ fn conclude<S: Structure, G: Gate, L>(
     }
 }
 
-/// Runs the own section, which was just published, to its end, retires it and leaves. The gate is asked once before.
+/// Runs the own section, which was just published, to its end, lets its guard go and leaves. The gate is asked once before.
 pub fn run_own<S: Structure, G: Gate, L>(
     table: &FlockTable<S>,
     runner: Runner<S>,

@@ -46,6 +46,7 @@ pub fn try_section<S: Structure, G: Gate, L>(
     match published {
         Ok(section) => run_own(table, runner, section, gate, steps),
         Err(refused) => {
+            let runner = table.guard(runner, None);
             let (runner, answer) = turn_away(
                 table,
                 runner,

@@ -71,6 +71,7 @@ module _ {T : Type 0} (m : Meaning) (old new : RunnerState T) (thunk : Thunk) (a
         hand = record {
           hand = ap (λ (n : NodesState). n.hand) publishes.nodes ∙ hand.hand;
           tests = ap (λ (n : NodesState). n.tests) publishes.nodes ∙ hand.tests;
+          looked = publishes.looked ∙ hand.looked;
         };
       }
 

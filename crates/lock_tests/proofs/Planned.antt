@@ -6,7 +6,7 @@ use Rattle.machine_states.specs.body_terms.specs.Word.{is_spent}
 use Rattle.machine_states.specs.body_terms.specs.declared.thunk.Thunk.{Thunk}
 use Rattle.settled_tables.specs.settling.specs.runner_gate.specs.Asks.{Asks}
 use Rattle.machine_states.specs.structure_laws.specs.Meaning.{Meaning}
-use Rattle.machine_states.specs.runner_parts.specs.State.{DescriptorsState, NodesState, ReadsState}
+use Rattle.machine_states.specs.runner_parts.specs.State.{DescriptorsState, GuardsState, NodesState, ReadsState}
 use Rattle.machine_states.specs.runner_parts.specs.Tests.{has_pair, is_next, serves}
 use Rattle.settled_tables.specs.closed_words.specs.version_words.specs.RunnerState.{RunnerState}
 use Rattle.hash_table.specs.try_lock.specs.epoch_slots.specs.Entries.{Enters}
@@ -39,6 +39,7 @@ module _ {T : Type 0} (m : Meaning) (idle entered : RunnerState T) (enters : Ent
       planned_hand = let nodes = so.walked.keeps.nodes ∙ enters.keeps.nodes in record {
         hand = ap (λ (x : NodesState). x.hand) nodes ∙ due.tidy.hand;
         tests = ap (λ (x : NodesState). x.tests) nodes ∙ due.tidy.tests;
+        looked = so.walked.looked ∙ ap (λ (g : GuardsState). g.looked) enters.guards;
       }
 
   -- the thunk that was planned may be published

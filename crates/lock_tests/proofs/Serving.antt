@@ -9,14 +9,14 @@ use Rattle.machine_states.specs.runner_parts.specs.declared.entries.Known.{Known
 use Rattle.machine_states.specs.runner_parts.specs.declared.event.EventKind.TheVariants as kinds
 use Rattle.machine_states.specs.epoch_core.specs.declared.stage.Stage.TheVariants as stages
 use Rattle.machine_states.specs.runner_parts.specs.Lists.{learned}
-use Rattle.machine_states.specs.runner_parts.specs.State.{NodesState}
+use Rattle.machine_states.specs.runner_parts.specs.State.{GuardsState, NodesState}
 use Rattle.machine_states.specs.runner_parts.specs.Tests.{knows, is_answered, are_answered}
 use Rattle.machine_states.proofs.Steps.{some_same, none_some}
 use Rattle.settled_tables.specs.closed_words.specs.version_words.specs.RunnerState.{RunnerState}
 use Rattle.settled_tables.specs.closed_words.specs.version_words.specs.Events.{Makes}
 use Rattle.settled_tables.specs.closed_words.specs.version_words.proofs.Stages.{then_knows}
 use Rattle.hash_table.specs.try_lock.specs.epoch_slots.specs.Collects.{IsTidy}
-use Rattle.hash_table.specs.try_lock.specs.epoch_slots.proofs.Outside.{nodes_made, known_made}
+use Rattle.hash_table.specs.try_lock.specs.epoch_slots.proofs.Outside.{nodes_made, guards_made, known_made}
 use Rattle.hash_table.specs.try_lock.specs.section_runs.specs.Opened.{Learns}
 use Rattle.lock_attempts.specs.attempts.proofs.Knowing.{answered_of_other}
 use Rattle.lock_tests.specs.Workers.{HasReserve, IsNewWorker}
@@ -56,10 +56,13 @@ module _ {T : Type 0} (m : Meaning) (number : ℕ) (reply : Bool) (found : ℕ) 
 
   -- after the load of a request's word
   pub loaded_tidy : IsTidy r'
-  loaded_tidy = let nodes = nodes_made m (kinds.LoadEntry number reply) found r r' made tidy.at.resting in record {
+  loaded_tidy = let nodes = nodes_made m (kinds.LoadEntry number reply) found r r' made tidy.at.resting in
+      let guards = guards_made m (kinds.LoadEntry number reply) found r r' made tidy.at.resting in record {
     at = then_knows m found r r' None stages.Idle number reply made tidy.at;
     hand = ap (λ (s : NodesState). s.hand) nodes ∙ tidy.hand;
     tests = ap (λ (s : NodesState). s.tests) nodes ∙ tidy.tests;
+    looked = ap (λ (s : GuardsState). s.looked) guards ∙ tidy.looked;
+    unguarded = ap (λ (s : GuardsState). s.named) guards ∙ tidy.unguarded;
   }
 
   pub loaded_others : KnowsOthers number r.part.records.known r'.part.records.known

@@ -1,32 +1,52 @@
 -- What becomes of a worker in a run of a section, and behind it.
-use Rattle.std.proofs.Common.{◌≡◌, ◌≢◌, ℕ, zero, suc, ◌≤◌, Bool, true, false, refl, ap, ◌∙◌, arith, Option, None, inl, inr}
-use Rattle.std.specs.Prelude.{◌==◌, ◌||◌}
+use Rattle.std.proofs.Common.{◌≡◌, ◌≢◌, ℕ, zero, suc, ◌≤◌, length, true, false, refl, sym, ap, subst, ◌∙◌, arith, Option, Some, None, inl, inr}
+use Rattle.std.specs.Prelude.{◌==◌, if◌then◌else◌}
 use Rattle.std.proofs.lemmas.Bool.Decides.{nat_tests}
 use Rattle.machine_states.specs.body_terms.specs.Trail.{Agreed}
 use Rattle.machine_states.specs.body_terms.specs.Word.{is_free}
 use Rattle.machine_states.specs.body_terms.specs.declared.outcome.Outcome.{Outcome}
 use Rattle.machine_states.specs.body_terms.specs.declared.thunk.Thunk.{Thunk}
 use Rattle.machine_states.specs.structure_laws.specs.Meaning.{Meaning}
+use Rattle.machine_states.specs.epoch_core.specs.declared.stage.Stage.TheVariants as stages
 use Rattle.machine_states.specs.runner_parts.specs.declared.entries.Published.{Published}
-use Rattle.machine_states.specs.runner_steps.specs.AfterInRun.{over_if}
+use Rattle.machine_states.specs.runner_parts.specs.declared.event.EventKind.TheVariants as kinds
+use Rattle.machine_states.specs.runner_parts.specs.State.{GuardsState, NodesState}
+use Rattle.machine_states.specs.runner_steps.specs.AfterInRun.{kept_unless}
 use Rattle.settled_tables.specs.closed_words.specs.version_words.specs.RunnerState.{RunnerState}
+use Rattle.settled_tables.specs.closed_words.specs.version_words.specs.Events.{IsMade}
+use Rattle.settled_tables.specs.closed_words.specs.version_words.specs.Stages.{IsAt}
 use Rattle.hash_table.specs.try_lock.specs.commit_log.specs.Runs.{Ran}
 use Rattle.hash_table.specs.try_lock.specs.section_runs.specs.declared.runs.RunEnd.{RunEnd}
 use Rattle.hash_table.specs.try_lock.specs.section_runs.specs.declared.runs.RunEnd.TheVariants.{Done, Halted}
 use Rattle.hash_table.specs.try_lock.specs.epoch_slots.specs.Collects.{IsTidy}
-use Rattle.hash_table.specs.try_lock.specs.epoch_slots.specs.Entries.{Exits}
+use Rattle.hash_table.specs.try_lock.specs.epoch_slots.specs.Entries.{KeepsOwn, HasLeave, Enters, Exits}
 use Rattle.hash_table.specs.try_lock.specs.declared.section.Section.{Section}
 use Rattle.hash_table.specs.try_lock.specs.Reached.{MayRunSection, MayHelp}
 use Rattle.hash_table.specs.try_lock.specs.Ends.{EndsSo, IsCutShort}
-use Rattle.hash_table.specs.try_lock.specs.Retires.{IsOver, HasRetired}
+use Rattle.hash_table.specs.try_lock.specs.Watches.{Watched}
+use Rattle.lock_attempts.specs.attempts.specs.Course.{HasGone}
+use Rattle.lock_attempts.specs.attempts.specs.Rests.{MayLetGo}
+use Rattle.lock_attempts.specs.attempts.proofs.Leaving.{ended_at, ended_hand}
+use Rattle.lock_attempts.specs.attempts.proofs.LettingGo.{gone, gone_leave, gone_keeps, gone_tidy}
 use Rattle.lock_tests.specs.Workers.{HasRead, IsEmptyHanded}
-use Rattle.machine_states.specs.runner_parts.specs.Tests.{is_between}
 
-same_over : (d e : ℕ) (over : Bool) → d ≡ e → (over || d == e) ≡ true
-same_over d e true same = refl
-same_over d e false same = grind (arith, nat_tests, same)
+-- what was published is so no more behind the end of its run
+over_none : (x : Published) (d : ℕ) → x.descriptor ≡ d → kept_unless (Some x) d ≡ None
+over_none x d e = ap (λ b. if b then None else Some x) (let same : (x.descriptor == d) ≡ true = grind (arith, nat_tests, e) in same)
 
 module _ {T : Type 0} (m : Meaning) where
+  -- an entry
+  module _ (old entered : RunnerState T) (tidy : IsTidy old) (enters : Enters m old entered) where
+    pub entered_leave : HasLeave entered
+    entered_leave = record { epoch = enters.epoch; at = enters.at; unguarded = ap (λ (g : GuardsState). g.named) enters.guards ∙ tidy.unguarded }
+
+    pub entered_hand : IsEmptyHanded entered
+    entered_hand = record {
+      hand = ap (λ (n : NodesState). n.hand) enters.keeps.nodes ∙ tidy.hand;
+      tests = ap (λ (n : NodesState). n.tests) enters.keeps.nodes ∙ tidy.tests;
+      looked = ap (λ (g : GuardsState). g.looked) enters.guards;
+    }
+
   ran_number : (n : ℕ) (old new : RunnerState T) → Ran m n old new → new.number ≡ old.number
   ran_number zero old new same = ap (λ (r : RunnerState T). r.number) same
   ran_number (suc n) old new (r, q, micro, found, step, rest) = ran_number n r new rest ∙ ap (λ (y : RunnerState T). y.number) step.event.made
@@ -36,49 +56,45 @@ module _ {T : Type 0} (m : Meaning) where
   cut_number d made old new (inl (words, opening)) = opening.stays.number
   cut_number d made old new (inr short) = ran_number short.count short.opened new short.ran ∙ short.opening.stays.number
 
-  -- a worker that has read a lock's word may help the section that it names
-  pub may_help : (place word : ℕ) (r : RunnerState T) → HasRead m place word r → is_free word ≡ false → MayHelp m r word
-  may_help place word r read some = record {
+  -- a worker that has read a lock's word, and found it again behind its guard, may help the section that it names
+  pub may_help : (place word : ℕ) (r watching : RunnerState T) → HasRead m place word r → is_free word ≡ false → Watched m place word true r watching → MayHelp m watching word
+  may_help place word r watching read some watched = record {
     epoch = read.epoch;
     published = None;
-    at = read.at;
+    at = watched.at read.epoch read.at;
     names = some;
-    holds = read.names some;
-    reserve = read.reserve.nodes;
-    reached = read.reached;
+    sure = watched.sure refl;
+    reserve = subst (λ (n : NodesState). 2 ≤ length n.free) (sym watched.keeps.nodes) read.reserve.nodes;
+    reached = watched.reached;
   }
 
-  -- its own section, run to its end, may be retired
-  pub may_retire : (section : Section) (t : Thunk) (o : Outcome) (trail : Agreed) (made : ℕ) (old new : RunnerState T) → MayRunSection m old t section
-      → EndsSo m section.descriptor t o trail made old new → IsOver new section.descriptor
-  may_retire section t o trail made old new may ends =
-      let x = may.section.published in
-      record {
-        epoch = may.epoch;
-        published = record x { over = x.over || x.descriptor == section.descriptor };
-        at = record {
-          present = ends.present ∙ may.at.present;
-          resting = ends.resting;
-          at = ends.stage ∙ may.at.at;
-          published = ends.published ∙ ap (λ (p : Option Published). over_if p section.descriptor) may.section.own;
-          settled = ap is_between ends.look ∙ may.at.settled;
-          seated = subst2 ends.number ends.layout may.at.seated;
-        };
-        own = may.section.descriptor;
-        over = same_over x.descriptor section.descriptor x.over may.section.descriptor;
-      }
-    where
-      subst2 : new.number ≡ old.number → new.layout ≡ old.layout → old.number ≤ old.layout.runners → new.number ≤ new.layout.runners
-      subst2 number layout few = let e = ap (λ l. l.runners) layout in omega (arith, number, e, few)
+  -- its own section, run to its end, is published no more: it may let its guard go
+  module _ (section : Section) (t : Thunk) (o : Outcome) (trail : Agreed) (made : ℕ) (old ran : RunnerState T) (may : MayRunSection m old t section)
+      (ends : EndsSo m section.descriptor t o trail made old ran) where
+    pub ended_go : MayLetGo ran
+    ended_go = record {
+      epoch = may.epoch;
+      at = subst (λ (p : Option Published). IsAt ran (stages.Entered may.epoch) p)
+          (ap (λ (p : Option Published). kept_unless p section.descriptor) (sym may.at.published ∙ may.section.own)
+          ∙ over_none may.section.published section.descriptor may.section.descriptor)
+          (ended_at m section.descriptor t o trail made old ran ends may.epoch may.published may.at);
+    }
 
-  -- and it has no slot in its hand then
-  pub left_tidy : (section : Section) (t : Thunk) (o : Outcome) (trail : Agreed) (made : ℕ) (old new gone idle : RunnerState T) → IsEmptyHanded old
-      → EndsSo m section.descriptor t o trail made old new → HasRetired m section.descriptor new gone → Exits m gone idle → IsTidy idle
-  left_tidy section t o trail made old new gone idle hand ends retired exits = record {
-    at = exits.at;
-    hand = ap (λ n. n.hand) (exits.keeps.nodes ∙ retired.nodes) ∙ (ends.nodes.hand ∙ hand.hand);
-    tests = ap (λ n. n.tests) (exits.keeps.nodes ∙ retired.nodes) ∙ ends.nodes.tests hand.tests;
-  }
+    -- and then it leaves
+    module _ (unguarded : RunnerState T) (goes : IsMade m (kinds.Guard None) ran unguarded) where
+      pub ended_leave : HasLeave unguarded
+      ended_leave = gone_leave m goes.found ran unguarded goes.event ended_go
+
+      module _ (idle : RunnerState T) (exits : Exits m unguarded idle) where
+        left : HasGone m ran idle
+        left = gone m goes.found ran unguarded goes.event idle exits
+
+        pub left_keeps : KeepsOwn ran idle
+        left_keeps = gone_keeps m ran idle ended_go left
+
+        -- it has no slot in its hand then
+        pub left_tidy : IsEmptyHanded old → IsTidy idle
+        left_tidy hand = gone_tidy m ran idle ended_go left (ended_hand m section.descriptor t o trail made old ran ends hand)
 
   -- whoever helped has its number, however it ended
   pub helped_number : (d : ℕ) (old new : RunnerState T) (end : RunEnd) → ((o : Outcome) (trail : Agreed) → end ≡ Done o trail → (t : Thunk) × (made : ℕ) × EndsSo m d t o trail made old new)

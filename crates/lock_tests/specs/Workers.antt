@@ -1,16 +1,17 @@
 -- Workers on their way to a section and through it.
-use Rattle.std.specs.Prelude.{◌≡◌, ℕ, ◌-◌, [], true, false, None}
-use Rattle.machine_states.specs.body_terms.specs.Word.{value_of, is_free}
+use Rattle.std.specs.Prelude.{◌≡◌, ℕ, [], true, false, None}
+use Rattle.machine_states.specs.body_terms.specs.Word.{is_free}
 use Rattle.machine_states.specs.body_terms.specs.declared.thunk.Thunk.{Thunk}
 use Rattle.machine_states.specs.structure_laws.specs.Meaning.{Meaning}
 use Rattle.machine_states.specs.epoch_core.specs.declared.stage.Stage.TheVariants as stages
-use Rattle.machine_states.specs.runner_parts.specs.Tests.{has, has_pair}
+use Rattle.machine_states.specs.runner_parts.specs.Tests.{has_pair}
 use Rattle.settled_tables.specs.closed_words.specs.version_words.specs.RunnerState.{RunnerState}
 use Rattle.settled_tables.specs.closed_words.specs.version_words.specs.Stages.{IsAt}
 use Rattle.hash_table.specs.try_lock.specs.epoch_slots.specs.Collects.{IsTidy}
 use Rattle.hash_table.specs.try_lock.specs.Reached.{IsReached, MayRunSection}
+use Rattle.hash_table.specs.try_lock.specs.Watches.{MayWatch}
 use Rattle.hash_table.specs.try_lock.specs.declared.section.Section.{Section}
--- two node slots and one descriptor are free; no slot is in the runner's hand
+-- two node slots and one descriptor are free; no slot is in the runner's hand, and no sweep in progress
 pub use Rattle.lock_attempts.specs.attempts.specs.Course.{HasReserve, IsEmptyHanded}
 
 module _ {T : Type 0} where
@@ -26,12 +27,13 @@ module _ {T : Type 0} where
     pub reserve : HasReserve r
 
   module _ (m : Meaning) where
-    -- the worker is entered and has read this word of a lock; it knows no request's words
+    -- the worker is entered and has read this word of a lock, which it may watch where the word names a section; it knows
+    -- no request's words
     pub record HasRead (place word : ℕ) (r : RunnerState T) : Type 0 where
       pub epoch : ℕ
       pub at : IsAt r (stages.Entered epoch) None
       pub read : has_pair r.part.reads.cells place word ≡ true
-      pub names : is_free word ≡ false → has r.part.reads.held (value_of word - 1) ≡ true
+      pub watch : is_free word ≡ false → MayWatch m place word r
       pub knows : r.part.records.known ≡ []
       pub reserve : HasReserve r
       pub hand : IsEmptyHanded r

@@ -5,6 +5,7 @@ ghost use Rattle.machine_states.specs.runner_parts.specs.Tests.{is_answered};
 ghost use Rattle.settled_tables.specs.closed_words.specs.version_words.specs.TableState.{IsOf};
 ghost use Rattle.hash_table.specs.try_lock.specs.epoch_slots.specs.Collects.{IsTidy};
 ghost use Rattle.hash_table.specs.try_lock.specs.declared.section.Section.{Section};
+ghost use Rattle.lock_attempts.specs.attempts.specs.Reclaims.{IsRested};
 ghost use Rattle.lock_tests.specs.Workers.{MayRun, MayRunFor};
 ghost use Rattle.lock_tests.specs.Asked.{KnowsOthers, IsDue, HasServed, IsOnlyWorker};
 ghost use Rattle.lock_tests.specs.declared.turns.Offer.TheVariants.{Published};
@@ -13,7 +14,7 @@ ghost use Rattle.lock_tests.specs.declared.courses.Course.{Course as Came};
 
 use crate::turns::{Offer, Turn, run_own};
 use hash_table::lock_walks::Planner;
-use hash_table::lock_walks::epoch_slots::{Short, collect, enter};
+use hash_table::lock_walks::epoch_slots::{Short, collect, enter, sweep};
 use hash_table::lock_walks::section_runs::RunEnd;
 use hash_table::lock_walks::try_lock::{Planned, publish};
 use hash_table::lock_walks::version_words::{FlockTable, Runner};
@@ -109,7 +110,7 @@ fn read_entry<S: Structure>(
     (runner, Some((stamp, reply)))
 }
 
-/// Serves the worker's next request: plans it, publishes its section, runs it, retires it, leaves, and reads the
+/// Serves the worker's next request: plans it, publishes its section, runs it, lets its guard go, leaves, and reads the
 /// request's words.
 fn serve_due<S: Planner>(
     table: &FlockTable<S>,
@@ -141,7 +142,22 @@ fn serve_due<S: Planner>(
     }
 }
 
-/// The worker collects, and serves its next request where two node slots and a descriptor are free.
+/// One scan of the announcements, and then one sweep of the guard words where no descriptor is free.
+pub fn scan_and_sweep<S: Structure>(table: &FlockTable<S>, runner: Runner<S>) -> Runner<S>
+    requires own { IsOf table.now runner }
+    requires tidy { IsTidy runner }
+    ensures own { IsOf table.now result }
+    ensures rested { IsRested runner result }
+{
+    let runner = collect(table, runner);
+    if runner.free_descriptors().is_empty() {
+        sweep(table, runner)
+    } else {
+        runner
+    }
+}
+
+/// The worker collects and sweeps, and serves its next request where two node slots and a descriptor are free.
 fn serve_next<S: Planner>(
     table: &FlockTable<S>,
     runner: Runner<S>,
@@ -156,7 +172,7 @@ fn serve_next<S: Planner>(
     ensures number { result.0.number ≡ runner.number }
     ensures after { (course : Came) → result.1 ≡ served.Answered course → HasServed (request.now.number + 1) result.0 }
 {
-    let runner = collect(table, runner);
+    let runner = scan_and_sweep(table, runner);
     match reserve_slots(runner) {
         Ok(runner) => serve_due(table, runner, request),
         Err((runner, short)) => (runner, Served::Short(short)),

@@ -5,7 +5,7 @@ ghost use Rattle.machine_states.specs.map_history.specs.Keys.{key_of};
 
 use crate::hash_scene::{new_table, pairs_of, plan_and_publish};
 use crate::scripts::scripted;
-use crate::turns::{Offer, Turn, read_lock, run_own, side_by_side};
+use crate::turns::{Offer, Turn, run_own, side_by_side, watch_lock};
 use crate::workers::{crew, gather};
 use machine_states::body_terms::{Outcome, StepKind};
 use machine_states::map_history::Op;
@@ -22,7 +22,7 @@ struct Row {
     pairs: Vec<(u32, u32)>,
 }
 
-/// The first worker plans its request and publishes the section, and then the second one reads the held word. Then both
+/// The first worker plans its request and publishes the section, and then the second one watches the held lock. Then both
 /// are at the section, each on a thread and with its gate.
 fn helped<R: Threads + Sync>(
     rt: &R,
@@ -40,14 +40,14 @@ fn helped<R: Threads + Sync>(
     let Offer::Published(section) = offered else {
         return Err(AllocError);
     };
-    let (second, held) = read_lock(&table, second, 0);
+    let (second, held) = watch_lock(&table, second, 0);
+    let Some(held) = held else {
+        return Err(AllocError);
+    };
     let (gate, other) = scripted(alloc, lines)?;
     let (first, second) = side_by_side(rt, &table, (first, section, gate), (second, held, other));
     let (first, ran) = first;
     let (second, helped) = second;
-    let Some(helped) = helped else {
-        return Err(AllocError);
-    };
     let words = gather(table, keeper, first, second);
     let pairs = pairs_of(alloc, &words)?;
     Ok(Row {

@@ -31,9 +31,9 @@ mod turns;
 mod workers;
 
 pub use closing::pairs_of;
-pub use courses::{Course, Served, plan_and_publish, serve_in_turn};
-pub use scenes::{new_table, offer, visit};
+pub use courses::{Course, Served, plan_and_publish, scan_and_sweep, serve_in_turn};
+pub use scenes::{come_in, new_table, offer, visit};
 pub use scripts::scripted;
 pub use traces::one_trace;
-pub use turns::{Offer, Turn, help_held, read_lock, run_own, side_by_side};
+pub use turns::{Offer, Turn, help_held, read_lock, run_own, side_by_side, watch_lock};
 pub use workers::{crew, gather, gather_one, split};

@@ -8,11 +8,12 @@ ghost use Rattle.settled_tables.specs.closed_words.specs.version_words.specs.Tab
 ghost use Rattle.settled_tables.specs.closed_words.specs.version_words.specs.Stages.{IsKeeper, HasJoined};
 ghost use Rattle.lock_tests.specs.Scenes.{two_requests};
 
-use crate::scenes::{new_table, offer, visit};
+use crate::courses::scan_and_sweep;
+use crate::scenes::{come_in, new_table, offer, visit};
 use crate::scripts::scripted;
-use crate::turns::{Offer, Turn, help_held, read_lock, run_own, side_by_side};
+use crate::turns::{Offer, Turn, help_held, read_lock, run_own, side_by_side, watch_lock};
 use crate::workers::{crew, gather};
-use hash_table::lock_walks::epoch_slots::{Kind, Short, collect, enter, exit, reserve};
+use hash_table::lock_walks::epoch_slots::{Kind, Short, collect, exit, reserve};
 use hash_table::lock_walks::section_runs::RunEnd;
 use hash_table::lock_walks::try_lock::Section;
 use hash_table::lock_walks::version_words::{FlockTable, Runner, Words};
@@ -52,7 +53,7 @@ fn close(
     table: FlockTable<Tray>,
     keeper: Runner<Tray>,
     first: (Runner<Tray>, Turn),
-    second: (Runner<Tray>, Option<Turn>),
+    second: (Runner<Tray>, Turn),
 ) -> Result<Ended, AllocError>
     requires own { IsOf table keeper × IsOf table first.0 × IsOf table second.0 }
     requires keeper { IsKeeper keeper 2 × HasJoined keeper 0 }
@@ -61,9 +62,6 @@ fn close(
 {
     let (first, ran) = first;
     let (second, helped) = second;
-    let Some(helped) = helped else {
-        return Err(AllocError);
-    };
     let first_free = Vec::from_slice(alloc, first.free_nodes())?;
     let second_free = Vec::from_slice(alloc, second.free_nodes())?;
     let words = gather(table, keeper, first, second);
@@ -76,7 +74,7 @@ fn close(
     })
 }
 
-/// The first worker publishes such a section, and then the second one reads the held word. Then the first one runs the
+/// The first worker publishes such a section, and then the second one watches the held lock. Then the first one runs the
 /// section, and is halted at its ask with this number, if any; after that the second one helps.
 fn in_turn(alloc: Global, form: u64, operand: u64, halt: Option<u64>) -> Result<Ended, AllocError> {
     let (table, keeper) = new_table(alloc, 4294967295)?;
@@ -86,7 +84,10 @@ fn in_turn(alloc: Global, form: u64, operand: u64, halt: Option<u64>) -> Result<
     let Offer::Published(section) = offered else {
         return Err(AllocError);
     };
-    let (second, held) = read_lock(&table, second, 0);
+    let (second, held) = watch_lock(&table, second, 0);
+    let Some(held) = held else {
+        return Err(AllocError);
+    };
     let first = run_own(&table, first, section, &mut HaltAt::new(halt));
     let second = help_held(&table, second, held, &mut Free::new());
     close(alloc, table, keeper, first, second)
@@ -107,7 +108,10 @@ fn on_threads<R: Threads + Sync, G: Gate + Send + Drop>(
     let Offer::Published(section) = offered else {
         return Err(AllocError);
     };
-    let (second, held) = read_lock(&table, second, 0);
+    let (second, held) = watch_lock(&table, second, 0);
+    let Some(held) = held else {
+        return Err(AllocError);
+    };
     let (gate, other) = gates;
     let (first, second) = side_by_side(rt, &table, (first, section, gate), (second, held, other));
     close(alloc, table, keeper, first, second)
@@ -224,7 +228,7 @@ fn two_threads_in_any_order_store_a_number_once(rt: HostRuntime) -> Result<(), A
     Ok(())
 }
 
-/// Two scans of a worker that has run its section to the end; else none.
+/// Two scans of a worker that has run its section to the end, and a sweep; else none.
 fn scan_twice(table: &FlockTable<Tray>, runner: Runner<Tray>, turn: &Turn) -> Runner<Tray>
     requires own { IsOf table.now runner }
     requires tidy { (outcome : Outcome) (trail : Agreed) → turn.now.end ≡ Done outcome trail → IsTidy runner }
@@ -233,8 +237,8 @@ fn scan_twice(table: &FlockTable<Tray>, runner: Runner<Tray>, turn: &Turn) -> Ru
 {
     match &turn.end {
         RunEnd::Done(_, _) => {
-            let runner = collect(table, runner);
-            collect(table, runner)
+            let runner = scan_and_sweep(table, runner);
+            scan_and_sweep(table, runner)
         }
         RunEnd::Halted => runner,
     }
@@ -298,7 +302,7 @@ fn the_second_publication_finds_the_lock_held(rt: HostRuntime) -> Result<(), All
 fn an_entered_runner_holds_the_epoch_back(rt: HostRuntime) -> Result<(), AllocError> {
     let (table, keeper) = new_table(rt.alloc(), 4294967295)?;
     let (keeper, first, second) = crew(&table, rt.alloc(), keeper)?;
-    let first = enter(&table, first);
+    let first = come_in(&table, first);
     let (second, once) = visit(&table, collect(&table, second));
     let (second, twice) = visit(&table, collect(&table, second));
     let entered = first.entered();

@@ -2,10 +2,11 @@
 ghost use Rattle.std.specs.Prelude.{◌≡◌, ◌<◌, IfOk};
 ghost use Rattle.machine_states.specs.structure_laws.specs.Tray.{tray};
 ghost use Rattle.hash_table.specs.try_lock.specs.epoch_slots.specs.Collects.{IsTidy};
+ghost use Rattle.hash_table.specs.try_lock.specs.epoch_slots.specs.Entries.{HasLeave};
 ghost use Rattle.settled_tables.specs.closed_words.specs.version_words.specs.TableState.{IsOf};
 ghost use Rattle.settled_tables.specs.closed_words.specs.version_words.specs.Stages.{IsKeeper, HasJoined};
 ghost use Rattle.lock_tests.specs.Scenes.{IsScene};
-ghost use Rattle.lock_tests.specs.Workers.{HasRead, MayRun};
+ghost use Rattle.lock_tests.specs.Workers.{HasRead, IsEmptyHanded, MayRun};
 ghost use Rattle.lock_tests.specs.declared.turns.Offer.TheVariants.{Published};
 ghost use Rattle.hash_table.specs.try_lock.specs.declared.section.Section.{Section};
 
@@ -51,6 +52,18 @@ pub fn new_table(
     Ok((table, keeper))
 }
 
+/// Enters. The worker may leave again.
+pub fn come_in(table: &FlockTable<Tray>, runner: Runner<Tray>) -> Runner<Tray>
+    requires own { IsOf table.now runner }
+    requires tidy { IsTidy runner }
+    ensures own { IsOf table.now result }
+    ensures leave { HasLeave result }
+    ensures hand { IsEmptyHanded result }
+    ensures number { result.number ≡ runner.number }
+{
+    enter(table, runner)
+}
+
 /// Enters and leaves. The answer is the epoch of the entry.
 pub fn visit(table: &FlockTable<Tray>, runner: Runner<Tray>) -> (Runner<Tray>, Option<u64>)
     requires own { IsOf table.now runner }
@@ -59,7 +72,7 @@ pub fn visit(table: &FlockTable<Tray>, runner: Runner<Tray>) -> (Runner<Tray>, O
     ensures tidy { IsTidy result.0 }
     ensures number { result.0.number ≡ runner.number }
 {
-    let runner = enter(table, runner);
+    let runner = come_in(table, runner);
     let epoch = runner.entered();
     (exit(table, runner), epoch)
 }

@@ -1,16 +1,17 @@
 //! Runs of a section by its publisher and by another worker, in turn or on two threads.
-ghost use Rattle.std.specs.Prelude.{◌≡◌, ◌<◌, ℕ, true};
+ghost use Rattle.std.specs.Prelude.{◌≡◌, ◌<◌, ℕ, true, Some};
 ghost use Rattle.machine_states.specs.body_terms.specs.Trail.{Agreed};
 ghost use Rattle.machine_states.specs.body_terms.specs.declared.outcome.Outcome.{Outcome as Ending};
 ghost use Rattle.hash_table.specs.try_lock.specs.section_runs.specs.declared.runs.RunEnd.TheVariants.{Done};
 ghost use Rattle.hash_table.specs.try_lock.specs.epoch_slots.specs.Collects.{IsTidy};
+ghost use Rattle.hash_table.specs.try_lock.specs.Reached.{MayHelp};
 ghost use Rattle.settled_tables.specs.closed_words.specs.version_words.specs.TableState.{IsOf};
 ghost use Rattle.lock_tests.specs.Workers.{IsReady, HasRead, MayRun, MayRunFor};
 ghost use Rattle.lock_tests.specs.Asked.{KnowsOthers};
 
 use hash_table::lock_walks::epoch_slots::{enter, exit};
 use hash_table::lock_walks::section_runs::RunEnd;
-use hash_table::lock_walks::try_lock::{Section, help, retire_section, run_section};
+use hash_table::lock_walks::try_lock::{Section, help, run_section, watch};
 use hash_table::lock_walks::version_words::{FlockTable, Runner};
 use machine_states::body_terms::{Outcome, Place, Refused, Steps, Word};
 use machine_states::structure_laws::Structure;
@@ -66,7 +67,33 @@ pub fn read_lock<S: Structure>(
     table.load_cell(runner, place)
 }
 
-/// Runs the own section. Where it came to its end, the worker retires it, and leaves.
+/// Enters, reads the lock, and watches it. The word by which the lock names a section, where it had the same word at the
+/// second load: then the worker may help that section. Else none.
+pub fn watch_lock<S: Structure>(
+    table: &FlockTable<S>,
+    runner: Runner<S>,
+    place: Place,
+) -> (Runner<S>, Option<Word>)
+    requires own { IsOf table.now runner }
+    requires ready { (number : ℕ) × IsReady number runner }
+    requires fixed { place < (S.meaning table.now.structure).fixed_cells }
+    requires lock { (S.meaning table.now.structure).is_lock place ≡ true }
+    ensures own { IsOf table.now result.0 }
+    ensures number { result.0.number ≡ runner.number }
+    ensures help { (word : ℕ) → result.1 ≡ Some word → MayHelp (S.meaning table.now.structure) result.0 word }
+{
+    let (runner, held) = read_lock(table, runner, place);
+    if held.value() == 0 {
+        return (runner, None);
+    }
+    let (runner, same) = watch(table, runner, place, held);
+    if !same {
+        return (runner, None);
+    }
+    (runner, Some(held))
+}
+
+/// Runs the own section. Where it came to its end, the worker lets its guard go, and leaves.
 pub fn run_own<S: Structure, G: Gate>(
     table: &FlockTable<S>,
     runner: Runner<S>,
@@ -87,7 +114,7 @@ pub fn run_own<S: Structure, G: Gate>(
     let steps = steps.count;
     match end {
         RunEnd::Done(outcome, trail) => {
-            let runner = retire_section(table, runner, section);
+            let runner = table.guard(runner, None);
             let runner = exit(table, runner);
             let end = RunEnd::Done(outcome, trail);
             (runner, Turn { end, steps })
@@ -96,37 +123,36 @@ pub fn run_own<S: Structure, G: Gate>(
     }
 }
 
-/// Helps the section that the lock's word names, and stays entered. None where the word names none.
+/// Helps the section that this word of a lock names, which the worker has watched, and stays entered. Behind the watch
+/// the section may have come to its end: then the help is late.
 pub fn help_held<S: Structure, G: Gate>(
     table: &FlockTable<S>,
     runner: Runner<S>,
     held: Word,
     gate: &mut G,
-) -> (Runner<S>, Option<Turn>)
+) -> (Runner<S>, Turn)
     requires own { IsOf table.now runner }
-    requires read { (place : ℕ) × HasRead (S.meaning table.now.structure) place held runner }
+    requires watched { MayHelp (S.meaning table.now.structure) runner held }
     ensures own { IsOf table.now result.0 }
     ensures number { result.0.number ≡ runner.number }
 {
-    if held.value() == 0 {
-        return (runner, None);
-    }
     let mut steps = Steps::<()>::new();
     let (runner, end) = help(table, runner, held, gate, &mut steps);
     let steps = steps.count;
-    (runner, Some(Turn { end, steps }))
+    (runner, Turn { end, steps })
 }
 
-/// Both at one section, each on a thread of its own: its publisher, and the other one by the word that it read.
+/// Both at one section, each on a thread of its own: its publisher, and the other one by the word of the lock that it has
+/// watched.
 pub fn side_by_side<R: Threads + Sync, S: Structure, G: Gate + Send + Drop>(
     rt: &R,
     table: &FlockTable<S>,
     first: (Runner<S>, Section, G),
     second: (Runner<S>, Word, G),
-) -> ((Runner<S>, Turn), (Runner<S>, Option<Turn>))
+) -> ((Runner<S>, Turn), (Runner<S>, Turn))
     requires own { IsOf table.now first.0 × IsOf table.now second.0 }
     requires next { MayRun (S.meaning table.now.structure) first.1 first.0 }
-    requires read { (place : ℕ) × HasRead (S.meaning table.now.structure) place second.1 second.0 }
+    requires watched { MayHelp (S.meaning table.now.structure) second.0 second.1 }
     ensures own { IsOf table.now result.0.0 × IsOf table.now result.1.0 }
     ensures numbers { (result.0.0.number ≡ first.0.number) × (result.1.0.number ≡ second.0.number) }
     ensures tidy { (outcome : Ending) (trail : Agreed) → result.0.1.end ≡ Done outcome trail → IsTidy result.0.0 }
@@ -143,9 +169,8 @@ pub fn side_by_side<R: Threads + Sync, S: Structure, G: Gate + Send + Drop>(
             let mut gate = gate;
             run_own(table, runner, section, &mut gate)
         },
-        move || -> (Runner<S>, Option<Turn>)
-            requires { IsOf table.now helper
-                × ((place : ℕ) × HasRead (S.meaning table.now.structure) place held helper) }
+        move || -> (Runner<S>, Turn)
+            requires { IsOf table.now helper × MayHelp (S.meaning table.now.structure) helper held }
             ensures { IsOf table.entry.now result.0 × (result.0.number ≡ helper.number) }
         {
             let mut gate = other_gate;

@@ -1,14 +1,12 @@
 use Rattle.std.proofs.Common.{Ok, Err, length, refl, sym, ap, ◌∙◌, subst}
-use Rattle.machine_states.specs.table_words.specs.Limits.{IsWithinLimits}
-use Rattle.version_words.specs.machine_invariant.specs.After.{AreAllowed}
 use Rattle.attempts.specs.try_lock.specs.Publishes.{Publishes}
 use Rattle.attempts.specs.Counted.{IsSeen}
 use Rattle.attempts.specs.Attempts.{is_refusal}
 use Rattle.attempts.specs.Rests.{MayLeave, HasTurned}
-use Rattle.attempts.proofs.Courses.{may_publish, refused_may_leave}
-use Rattle.attempts.proofs.Locks.{planned_shaped}
+use Rattle.attempts.proofs.LettingGo.{may_go}
+use Rattle.attempts.proofs.Courses.{may_publish, refused_go}
 use Rattle.attempts.proofs.Trying.{tried_of, refusal_of_lock}
-use Rattle.attempts.proofs.Wholly.{lost_rests}
+use Rattle.attempts.proofs.Wholly.{lost_may_leave, lost_rests}
 use Rattle.lock_attempts.proofs.Concluded.{undone}
 use Rattle.lock_attempts.proofs.Along.{section_tried}
 use Rattle.lock_attempts.proofs.tries.try_section.Goals as goal
@@ -27,15 +25,19 @@ pub turn_away-runner-requires-clause-refusal : goal.turn_away-runner-requires-cl
 turn_away-runner-requires-clause-refusal g c κs within =
     ap is_refusal c.lock_refused.ensures ∙ refusal_of_lock c.args.thunk.now.lock c.in-Err.refused
 
+pub guard-runner-requires-clause-next : goal.guard-runner-requires-clause-next
+guard-runner-requires-clause-next g c κs within =
+    let e = c.requires.planned in
+    may_go (g.S.Structure.meaning c.args.table.now.structure) c.publish-runner.result.0 (refused_go (g.S.Structure.meaning c.args.table.now.structure) e.0 e.1 e.2 c.args.thunk.now c.in-Err.refused c.publish-runner.result.0
+    (tried_of (g.S.Structure.meaning c.args.table.now.structure) e.0 e.1 e.2 e.3 c.args.thunk.now c.args.runner e.4 (Err c.in-Err.refused) c.publish-runner.result.0 (subst (λ a. Publishes (g.S.Structure.meaning c.args.table.now.structure) c.args.thunk.now a c.args.runner c.publish-runner.result.0) c.in-Err.is c.publish-runner.ensures.publishes)
+    (c.publish-runner.ensures.own.layout ∙ sym c.requires.own.layout) (c.publish-runner.ensures.own.requests ∙ sym c.requires.own.requests)))
+
 pub turn_away-runner-requires-clause-next : goal.turn_away-runner-requires-clause-next
 turn_away-runner-requires-clause-next g c κs within =
     let met = g.met.S.Structure g.world.𝓛 g.world.𝓜 g.world.𝓡 ((λ s allowed. allowed), (λ patient. patient), (λ alone. alone), (λ cuts. cuts)) in
     let e = c.requires.planned in
-    subst (λ a. MayLeave (g.S.Structure.meaning c.args.table.now.structure) a c.publish-runner.result.0) (sym c.lock_refused.ensures)
-    (refused_may_leave (g.S.Structure.meaning c.args.table.now.structure) e.0 e.1 e.2 c.args.thunk.now c.in-Err.refused c.publish-runner.result.0
-    (tried_of (g.S.Structure.meaning c.args.table.now.structure) e.0 e.1 e.2 e.3 c.args.thunk.now c.args.runner e.4 (Err c.in-Err.refused) c.publish-runner.result.0 (subst (λ a. Publishes (g.S.Structure.meaning c.args.table.now.structure) c.args.thunk.now a c.args.runner c.publish-runner.result.0) c.in-Err.is c.publish-runner.ensures.publishes) (c.publish-runner.ensures.own.layout ∙ sym c.requires.own.layout) (c.publish-runner.ensures.own.requests ∙ sym c.requires.own.requests))
-    (planned_shaped (g.S.Structure.meaning c.args.table.now.structure) (met.laws c.args.table.now.structure) e.0 e.1 e.3 c.args.thunk.now e.2 c.args.runner
-    (subst IsWithinLimits (sym c.requires.own.layout) (c.requires.own.limits _ refl)) (subst AreAllowed (sym c.requires.own.requests) (c.requires.own.allowed _ refl)) e.4).outer_lock)
+    subst (λ a. MayLeave (g.S.Structure.meaning c.args.table.now.structure) a c.guard-runner.result) (sym c.lock_refused.ensures)
+    (lost_may_leave (g.S.Structure.meaning c.args.table.now.structure) (met.laws c.args.table.now.structure) c.args.table.now (c.requires.own.limits _ refl) (c.requires.own.allowed _ refl) e.0 e.1 c.args.thunk.now c.in-Err.refused e.2 c.args.runner c.publish-runner.result.0 c.guard-runner.result c.publish-runner.ensures.own c.guard-runner.ensures.own e.3 e.4 (subst (λ a. Publishes (g.S.Structure.meaning c.args.table.now.structure) c.args.thunk.now a c.args.runner c.publish-runner.result.0) c.in-Err.is c.publish-runner.ensures.publishes) (c.publish-runner.ensures.own.layout ∙ sym c.requires.own.layout) (c.publish-runner.ensures.own.requests ∙ sym c.requires.own.requests) (record { found = 0; event = c.guard-runner.ensures.event 0 }))
 
 pub returns-in-Ok-clause-rests : goal.returns-in-Ok-clause-rests
 returns-in-Ok-clause-rests g c =
@@ -46,9 +48,9 @@ returns-in-Ok-clause-rests g c =
 pub returns-in-Err-clause-rests : goal.returns-in-Err-clause-rests
 returns-in-Err-clause-rests g c =
     let met = g.met.S.Structure g.world.𝓛 g.world.𝓜 g.world.𝓡 ((λ s allowed. allowed), (λ patient. patient), (λ alone. alone), (λ cuts. cuts)) in
-    let turned = (subst (λ a. HasTurned (g.S.Structure.meaning c.args.table.now.structure) a c.turn_away-runner.result.1 c.publish-runner.result.0 c.turn_away-runner.result.0 (g.G.Gate.halts c.args.gate.now) (g.G.Gate.halts c.turn_away-runner.new.gate) (g.G.Gate.asks c.args.gate.now) (g.G.Gate.asks c.turn_away-runner.new.gate) c.args.steps.now.count c.turn_away-runner.new.steps.count) c.lock_refused.ensures c.turn_away-runner.ensures.turned) in
+    let turned = (subst (λ a. HasTurned (g.S.Structure.meaning c.args.table.now.structure) a c.turn_away-runner.result.1 c.guard-runner.result c.turn_away-runner.result.0 (g.G.Gate.halts c.args.gate.now) (g.G.Gate.halts c.turn_away-runner.new.gate) (g.G.Gate.asks c.args.gate.now) (g.G.Gate.asks c.turn_away-runner.new.gate) c.args.steps.now.count c.turn_away-runner.new.steps.count) c.lock_refused.ensures c.turn_away-runner.ensures.turned) in
     λ planning request own old readings planned is_own. (
       undone c.turn_away-runner.result.1 _ turned.same (refusal_of_lock c.args.thunk.now.lock c.in-Err.refused),
-      lost_rests (g.S.Structure.meaning c.args.table.now.structure) (met.laws c.args.table.now.structure) c.args.table.now (c.requires.own.limits _ refl) (c.requires.own.allowed _ refl) planning request c.args.thunk.now c.in-Err.refused old c.args.runner c.publish-runner.result.0 c.publish-runner.ensures.own readings planned (subst (λ a. Publishes (g.S.Structure.meaning c.args.table.now.structure) c.args.thunk.now a c.args.runner c.publish-runner.result.0) c.in-Err.is c.publish-runner.ensures.publishes) (c.publish-runner.ensures.own.layout ∙ sym c.requires.own.layout) (c.publish-runner.ensures.own.requests ∙ sym c.requires.own.requests)
+      lost_rests (g.S.Structure.meaning c.args.table.now.structure) (met.laws c.args.table.now.structure) c.args.table.now (c.requires.own.limits _ refl) (c.requires.own.allowed _ refl) planning request c.args.thunk.now c.in-Err.refused old c.args.runner c.publish-runner.result.0 c.guard-runner.result c.publish-runner.ensures.own c.guard-runner.ensures.own readings planned (subst (λ a. Publishes (g.S.Structure.meaning c.args.table.now.structure) c.args.thunk.now a c.args.runner c.publish-runner.result.0) c.in-Err.is c.publish-runner.ensures.publishes) (c.publish-runner.ensures.own.layout ∙ sym c.requires.own.layout) (c.publish-runner.ensures.own.requests ∙ sym c.requires.own.requests) (record { found = 0; event = c.guard-runner.ensures.event 0 })
           c.turn_away-runner.result.1 c.turn_away-runner.result.0 c.turn_away-runner.ensures.own (IsSeen g.G.Gate.halts g.G.Gate.asks) _ _ _ _ _ _ (c.args.gate.now, refl, refl) turned,
     )

@@ -7,9 +7,9 @@ use Rattle.lock_tests.proofs.courses.serve_next.Goals as goal
 
 pub serve_due-requires-clause-due : goal.serve_due-requires-clause-due
 serve_due-requires-clause-due g c κs within =
-    let r = c.collect-runner.result in let collects = c.collect-runner.ensures.collects in let own = c.collect-runner.ensures.own in
+    let r = c.scan_and_sweep-runner.result in let rested = c.scan_and_sweep-runner.ensures.rested in let own = c.scan_and_sweep-runner.ensures.own in
     subst (λ x. IsDue c.args.request.now x) (sym c.in-Ok.ensures.same)
     (is_due_next r c.args.request.now
-    (record { number = collects.number ∙ c.requires.alone.number; alone = ap (λ (l : Layout). l.runners) (own.layout ∙ sym c.requires.own.layout) ∙ c.requires.alone.alone })
-    (served_on c.args.request.now.number c.args.runner r c.requires.before collects.tidy collects.known)
+    (record { number = rested.number ∙ c.requires.alone.number; alone = ap (λ (l : Layout). l.runners) (own.layout ∙ sym c.requires.own.layout) ∙ c.requires.alone.alone })
+    (served_on c.args.request.now.number c.args.runner r c.requires.before rested.tidy rested.known)
     (ap (λ rs. slice_get rs c.args.request.now.number) own.requests ∙ c.requires.request) c.in-Ok.ensures.enough)
