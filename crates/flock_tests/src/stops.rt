@@ -182,19 +182,12 @@ fn three_are_served_beside_one_that_stops(rt: HostRuntime) -> Result<(), Fail> {
     let inserts = made.report().matches("ins ").count();
     let nodes = inserts.saturating_mul(2).saturating_add(2);
     for table in TABLES {
-        let words =
-            format!(in alloc; "--table {table} --runners 4 --sections 5 --nodes {nodes}")?;
+        let words = format!(in alloc; "--table {table} --runners 4 --sections 5 --nodes {nodes}")?;
         for ask in 1..=60 {
             let ended = run_stopped(&rt, alloc, &words, ask, text)?;
-            assert!(&rt;
-                others_are_served(ended.report()),
-                "{table} at {ask}"
-            );
+            assert!(&rt; others_are_served(ended.report()), "{table} at {ask}");
             assert!(&rt; tells_unserved(alloc, &ended)?, "{table} at {ask}");
-            assert!(&rt;
-                is_legal(alloc, text, ended.report())?,
-                "{table} at {ask}"
-            );
+            assert!(&rt; is_legal(alloc, text, ended.report())?, "{table} at {ask}");
         }
     }
     Ok(())

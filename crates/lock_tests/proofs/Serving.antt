@@ -58,12 +58,12 @@ module _ {T : Type 0} (m : Meaning) (number : ℕ) (reply : Bool) (found : ℕ) 
   pub loaded_tidy : IsTidy r'
   loaded_tidy = let nodes = nodes_made m (kinds.LoadEntry number reply) found r r' made tidy.at.resting in
       let guards = guards_made m (kinds.LoadEntry number reply) found r r' made tidy.at.resting in record {
-    at = then_knows m found r r' None stages.Idle number reply made tidy.at;
-    hand = ap (λ (s : NodesState). s.hand) nodes ∙ tidy.hand;
-    tests = ap (λ (s : NodesState). s.tests) nodes ∙ tidy.tests;
-    looked = ap (λ (s : GuardsState). s.looked) guards ∙ tidy.looked;
-    unguarded = ap (λ (s : GuardsState). s.named) guards ∙ tidy.unguarded;
-  }
+        at = then_knows m found r r' None stages.Idle number reply made tidy.at;
+        hand = ap (λ (s : NodesState). s.hand) nodes ∙ tidy.hand;
+        tests = ap (λ (s : NodesState). s.tests) nodes ∙ tidy.tests;
+        looked = ap (λ (s : GuardsState). s.looked) guards ∙ tidy.looked;
+        unguarded = ap (λ (s : GuardsState). s.named) guards ∙ tidy.unguarded;
+      }
 
   pub loaded_others : KnowsOthers number r.part.records.known r'.part.records.known
   loaded_others k ne = ap (λ xs. is_answered xs k) loaded_known ∙ by (found == 0)
