@@ -7,11 +7,11 @@ use std::hint::black_box;
 use std::sync::atomic::AtomicU64;
 use std::sync::atomic::Ordering::SeqCst;
 
-// How many runners announce, the keeper among them; the number of the first descriptor among all slots, and how many words it has.
+// How many runners announce and guard, the keeper among them; the number of the first descriptor among all slots, and how many words it has.
 const RUNNERS: usize = 3;
 const SLOT: usize = 10;
 const DESCRIPTOR: usize = 77;
-const WORDS: usize = 369;
+const WORDS: usize = 372;
 
 struct Words {
     words: &'static [AtomicU64],
@@ -28,6 +28,10 @@ impl Words {
 
     fn announcement(&self, runner: usize) -> &AtomicU64 {
         &self.words[3 + runner]
+    }
+
+    fn guard(&self, runner: usize) -> &AtomicU64 {
+        &self.words[3 + RUNNERS + runner]
     }
 
     fn stamp(&self, request: usize) -> &AtomicU64 {
@@ -47,6 +51,7 @@ impl Words {
         let loaded = self.epoch().load(SeqCst);
         self.announcement(0).store(loaded, SeqCst);
         let epoch = self.epoch().load(SeqCst);
+        self.guard(0).store(0, SeqCst);
         self.announcement(0).store(0, SeqCst);
         epoch
     }
@@ -84,7 +89,7 @@ fn sum_of(rounds: u32, round: impl Fn(u32) -> u64) -> u64 {
 // The words of a table of the test structure with two workers.
 fn words() -> Words {
     let words: Vec<AtomicU64> = (0..WORDS).map(|_| AtomicU64::new(0)).collect();
-    let words = Words { words: black_box(words.leak()), entries: 6, cells: 8, descriptors: 61, node_slots: SLOT };
+    let words = Words { words: black_box(words.leak()), entries: 9, cells: 11, descriptors: 64, node_slots: SLOT };
     words.epoch().store(1, SeqCst);
     words.cell(1).store(1 << 32, SeqCst);
     words
@@ -102,7 +107,7 @@ fn main() {
         "private_load" => (1, sum_of(rounds, |_| words.own(SLOT, 13).load(SeqCst))),
         "private_store" => (1, sum_of(rounds, |round| words.store(u64::from(round)))),
         "descriptor" => (77, sum_of(rounds, |round| words.others(u64::from(round)))),
-        "enter" => (4, sum_of(rounds, |_| words.enter())),
+        "enter" => (5, sum_of(rounds, |_| words.enter())),
         "scan" => (5, sum_of(rounds, |_| u64::from(words.scan()))),
         _ => panic!("no kind of step has this name"),
     };

@@ -101,43 +101,44 @@ fn plain_kind(number: u32) -> EventKind {
     }
 }
 
-/// Makes the next private step of a Make, in one of these slots, with this number.
-fn fills(machine: &mut TwoWorkers, runner: u32, first: u32, count: u32, number: u64) -> bool {
-    for slot in first..first.saturating_add(count) {
-        for word in 0..5u32 {
-            if machine.goes(runner, EventKind::PrivateLoad { slot, word })
-                || machine.goes(runner, EventKind::PrivateStore { slot, word, number })
-            {
-                return true;
-            }
-        }
+/// What a worker or the keeper is at and keeps.
+fn part_of(machine: &TwoWorkers, runner: u32) -> &Part {
+    match runner {
+        0 => machine.part(0),
+        1 => machine.part(1),
+        _ => machine.part(2),
     }
-    false
 }
 
-/// The slot that the worker's Make fills, and the number that it stores next.
-fn filled(part: &Part) -> (u32, u64, u32) {
+/// The slot that the runner's Make fills, and the number that it stores next.
+fn filled(part: &Part) -> (u32, u64) {
     match &part.run {
-        None => (0, 0, 1),
+        None => (0, 0),
         Some(run) => {
             let slot = match run.made {
                 None => last_of(&part.nodes.free).unwrap_or(0),
                 Some(slot) => slot,
             };
             let version = Word::from_bits(run.word).version().saturating_add(1);
-            (slot, Word::pack(0, version).bits(), 1)
+            (slot, Word::pack(0, version).bits())
         }
     }
 }
 
-/// Makes the next private step of a Make; the keeper's slots have not been used yet.
-fn makes_private(machine: &mut TwoWorkers, runner: u32) -> bool {
-    let (slot, number, count) = match runner {
-        0 => filled(machine.part(0)),
-        1 => filled(machine.part(1)),
-        _ => (2 * OWN, Word::pack(0, 2).bits(), 6),
-    };
-    fills(machine, runner, slot, count, number)
+/// Makes the next private step of a Make.
+fn makes_private(machine: &mut TwoWorkers, runner: u32, loads: bool) -> bool {
+    let (slot, number) = filled(part_of(machine, runner));
+    for word in 0..5u32 {
+        let kind = if loads {
+            EventKind::PrivateLoad { slot, word }
+        } else {
+            EventKind::PrivateStore { slot, word, number }
+        };
+        if machine.goes(runner, kind) {
+            return true;
+        }
+    }
+    false
 }
 
 /// Loads the next announcement of a scan.
@@ -150,13 +151,29 @@ fn scans(machine: &mut TwoWorkers, runner: u32) -> bool {
     false
 }
 
+/// Makes a step of an idle runner: it begins a scan, enters, or loads the next guard word of a sweep, mostly where it
+/// has retired a descriptor.
+fn rests(machine: &mut TwoWorkers, runner: u32, numbers: &mut Numbers) -> bool {
+    let part = part_of(machine, runner);
+    let has_retired = part.descriptors.limbo.len() != 0;
+    let next = u32::try_from(part.guards.looked.len()).unwrap_or(0);
+    let kind = match numbers.below(16) {
+        0..4 => EventKind::ScanEpoch,
+        4 => EventKind::EnterLoad,
+        5 => EventKind::LoadGuard(next),
+        _ if has_retired => EventKind::LoadGuard(next),
+        _ => EventKind::EnterLoad,
+    };
+    machine.goes(runner, kind)
+}
+
 /// Makes the step of a runner that is in a run, scanning or entering.
 fn goes_on(machine: &mut TwoWorkers, runner: u32, kinds: u64) -> bool {
     if kinds & (1 << 5) != 0 {
         return scans(machine, runner);
     }
     if kinds & (1 << 11 | 1 << 12) != 0 {
-        return makes_private(machine, runner);
+        return makes_private(machine, runner, kinds & (1 << 11) != 0);
     }
     machine.goes(runner, plain_kind(kinds.trailing_zeros()))
 }
@@ -185,14 +202,47 @@ fn planned(machine: &TwoWorkers, form: u64, request: u32) -> Thunk {
     }
 }
 
-/// Helps the section that holds the lock, or reads the lock, or leaves.
-fn helps(machine: &mut TwoWorkers, runner: u32, numbers: &mut Numbers) -> bool {
-    let holder = machine.cell(0).value();
-    match numbers.below(8) {
-        0 => machine.goes(runner, EventKind::Idle),
-        1 | 2 => machine.goes(runner, EventKind::LoadCell(Some(0))),
-        _ => machine.goes(runner, EventKind::LoadThunk(Some(holder.saturating_sub(1)))),
+/// Clears the guard, or becomes idle where it is clear.
+fn leaves(machine: &mut TwoWorkers, runner: u32) -> bool {
+    let kind = match part_of(machine, runner).guards.named {
+        None => EventKind::Idle,
+        Some(_) => EventKind::Guard(None),
+    };
+    machine.goes(runner, kind)
+}
+
+/// The descriptor that the lock named when the runner last read it.
+fn last_named(part: &Part) -> Option<u32> {
+    match part.reads.walk.last() {
+        None => None,
+        Some((_, word)) => word.value().checked_sub(1),
     }
+}
+
+/// The next step of a helper: it reads the lock, guards the descriptor that the lock named, reads the
+/// lock once more, and runs the section of which it is sure then.
+fn helping(part: &Part) -> EventKind {
+    let named = part.guards.named;
+    if part.guards.sure {
+        return EventKind::LoadThunk(named);
+    }
+    match last_named(part) {
+        Some(descriptor) if named != Some(descriptor) => EventKind::Guard(Some(descriptor)),
+        _ => EventKind::LoadCell(Some(0)),
+    }
+}
+
+/// Helps the section that holds the lock, or reads the lock, or guards any descriptor or none, or leaves.
+fn helps(machine: &mut TwoWorkers, runner: u32, numbers: &mut Numbers) -> bool {
+    let any = u32::try_from(numbers.below(u64::from(SECTIONS))).unwrap_or(0);
+    let kind = match numbers.below(8) {
+        0 => return leaves(machine, runner),
+        1 => EventKind::LoadCell(Some(0)),
+        2 => EventKind::Guard(Some(any)),
+        3 => EventKind::Guard(None),
+        _ => helping(part_of(machine, runner)),
+    };
+    machine.goes(runner, kind)
 }
 
 /// Stores the worker's next word, and gives the kinds that it may make where it can't or has none
@@ -200,6 +250,10 @@ fn helps(machine: &mut TwoWorkers, runner: u32, numbers: &mut Numbers) -> bool {
 fn stores(machine: &mut TwoWorkers, worker: &mut Worker) -> Option<u64> {
     if worker.published || worker.next >= 77 {
         return Some(machine.kinds(worker.runner));
+    }
+    if worker.next == 0 && !worker.again {
+        let free = &part_of(machine, worker.runner).descriptors.free;
+        worker.descriptor = last_of(free).unwrap_or(worker.descriptor);
     }
     let word = worker.next;
     let number = thunk_words(&worker.thunk)
@@ -239,6 +293,9 @@ fn prepares(machine: &mut TwoWorkers, worker: &mut Worker) -> bool {
         worker.looked = true;
         return machine.goes(runner, EventKind::LoadCell(Some(0)));
     }
+    if part_of(machine, runner).guards.named != Some(worker.descriptor) {
+        return machine.goes(runner, EventKind::Guard(Some(worker.descriptor)));
+    }
     worker.looked = false;
     let kind = EventKind::Hold {
         thunk: worker.thunk,
@@ -251,39 +308,43 @@ fn prepares(machine: &mut TwoWorkers, worker: &mut Worker) -> bool {
 
 /// Whether the worker's latest run answered its request.
 fn is_answered(machine: &TwoWorkers, runner: u32) -> bool {
-    let part = if runner == 0 {
-        machine.part(0)
-    } else {
-        machine.part(1)
-    };
-    match part.records.finished.last() {
+    match part_of(machine, runner).records.finished.last() {
         None => false,
         Some(last) => matches!(last.outcome, Outcome::Answered(_)),
     }
 }
 
-/// Makes a step of an entered worker that is in no run.
-fn walks(machine: &mut TwoWorkers, worker: &mut Worker, kinds: u64, numbers: &mut Numbers) -> bool {
-    let runner = worker.runner;
-    if !worker.published {
-        return if numbers.below(4) == 0 {
-            helps(machine, runner, numbers)
-        } else {
-            prepares(machine, worker)
-        };
-    }
-    if kinds & (1 << 15) == 0 {
-        return machine.goes(runner, EventKind::LoadThunk(Some(worker.descriptor)));
-    }
-    if is_answered(machine, runner) {
+/// The worker is about its next section, for the same request where the one before didn't answer it.
+fn plans_next(machine: &TwoWorkers, worker: &mut Worker, numbers: &mut Numbers) {
+    if is_answered(machine, worker.runner) {
         worker.thunk.request = worker.thunk.request.saturating_add(1);
     }
     worker.thunk.form = if numbers.below(2) == 0 { 101 } else { 102 };
-    worker.descriptor = worker.descriptor.saturating_add(1);
     worker.published = false;
     worker.again = false;
     worker.next = 0;
-    machine.goes(runner, EventKind::EpochForRetire)
+}
+
+/// Makes a step of an entered worker that is in no run. One whose section is over leaves, and plans the next one when
+/// it has entered again.
+fn walks(machine: &mut TwoWorkers, worker: &mut Worker, numbers: &mut Numbers) -> bool {
+    let runner = worker.runner;
+    if !worker.published {
+        return match numbers.below(8) {
+            0 => leaves(machine, runner),
+            1 | 2 => helps(machine, runner, numbers),
+            _ => prepares(machine, worker),
+        };
+    }
+    let part = part_of(machine, runner);
+    if part.published.is_some() {
+        return machine.goes(runner, EventKind::LoadThunk(Some(worker.descriptor)));
+    }
+    if part.reads.cells.len() != 0 {
+        return leaves(machine, runner);
+    }
+    plans_next(machine, worker, numbers);
+    false
 }
 
 /// Makes a step of this runner.
@@ -305,19 +366,11 @@ fn turns(
         return goes_on(machine, runner, kinds);
     }
     if kinds & 1 != 0 {
-        let scan = numbers.below(4) == 0;
-        return machine.goes(
-            runner,
-            if scan {
-                EventKind::ScanEpoch
-            } else {
-                EventKind::EnterLoad
-            },
-        );
+        return rests(machine, runner, numbers);
     }
     match runner {
-        0 => walks(machine, &mut workers[0], kinds, numbers),
-        1 => walks(machine, &mut workers[1], kinds, numbers),
+        0 => walks(machine, &mut workers[0], numbers),
+        1 => walks(machine, &mut workers[1], numbers),
         _ => helps(machine, runner, numbers),
     }
 }
@@ -499,18 +552,44 @@ fn agrees(
     }
 }
 
-/// What a schedule made: its events, sections and finished runs, and whether all of them agreed
-/// with the plain runs.
+/// What a schedule made: its events, sections and finished runs, how many runs were of another runner's section, how
+/// many descriptors its sweeps freed, and whether all runs agreed with the plain runs.
 #[derive(Clone, Copy)]
 struct Seen {
     events: u32,
     sections: usize,
     runs: usize,
+    helped: usize,
+    freed: usize,
     agrees: bool,
 }
 
-/// What stands at the end of a schedule, of which each release agreed or didn't.
-fn at_end(machine: &TwoWorkers, sections: &[Section], events: u32, agrees: bool) -> Seen {
+/// How many of the runs that this runner finished were of another runner's section.
+fn helped(finished: &[Finished], runner: u32) -> usize {
+    let mut count = 0usize;
+    for run in finished {
+        if run.descriptor / OWN != runner {
+            count = count.saturating_add(1);
+        }
+    }
+    count
+}
+
+/// How many descriptors of the workers are retired, and not free again.
+fn retired(machine: &TwoWorkers) -> usize {
+    let first = machine.part(0).descriptors.limbo.len();
+    first.saturating_add(machine.part(1).descriptors.limbo.len())
+}
+
+/// What stands at the end of a schedule, which made so many events and freed so many descriptors, and of which each
+/// release agreed or didn't.
+fn at_end(
+    machine: &TwoWorkers,
+    sections: &[Section],
+    events: u32,
+    freed: usize,
+    agrees: bool,
+) -> Seen {
     let first = machine.part(0).records.finished.as_slice();
     let second = machine.part(1).records.finished.as_slice();
     let keeper = machine.part(2).records.finished.as_slice();
@@ -521,6 +600,10 @@ fn at_end(machine: &TwoWorkers, sections: &[Section], events: u32, agrees: bool)
             .len()
             .saturating_add(second.len())
             .saturating_add(keeper.len()),
+        helped: helped(first, 0)
+            .saturating_add(helped(second, 1))
+            .saturating_add(helped(keeper, 2)),
+        freed,
         agrees: agrees
             && end_alike(first, sections)
             && end_alike(second, sections)
@@ -537,6 +620,7 @@ fn schedule(alloc: Global, requests: &[Request], seed: u64) -> Result<Seen, Allo
     let mut sections = Vec::new(alloc);
     let mut numbers = Numbers { state: seed };
     let mut events = 0u32;
+    let mut freed = 0usize;
     let mut all_agree = true;
     for _ in 0..TURNS {
         if events >= EVENTS {
@@ -544,13 +628,15 @@ fn schedule(alloc: Global, requests: &[Request], seed: u64) -> Result<Seen, Allo
         }
         let runner = numbers.runner();
         let was_held = machine.cell(0).value() != 0;
+        let were_retired = retired(&machine);
         if turns(&mut machine, &mut workers, runner, &mut numbers) {
             events = events.saturating_add(1);
         }
+        freed = freed.saturating_add(were_retired.saturating_sub(retired(&machine)));
         let worker = if runner == 0 { workers[0] } else { workers[1] };
         all_agree &= agrees(alloc, &machine, &worker, was_held, &mut sections)?;
     }
-    Ok(at_end(&machine, &sections, events, all_agree))
+    Ok(at_end(&machine, &sections, events, freed, all_agree))
 }
 
 #[test]
@@ -560,6 +646,7 @@ fn random_schedules_agree_with_the_plain_runs(rt: HostRuntime) -> Result<(), All
         let seen = schedule(rt.alloc(), &requests, seed)?;
         assert!(rt; seen.events == EVENTS);
         assert!(rt; seen.sections > 1 && seen.runs > 1);
+        assert!(rt; seen.helped > 0 && seen.freed > 0);
         assert!(rt; seen.agrees);
     }
     Ok(())

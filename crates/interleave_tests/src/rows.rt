@@ -80,7 +80,7 @@ fn enters(machine: &mut Machine<Tray>, runner: u32) -> bool {
         && goes(machine, runner, EventKind::EnterAgain)
 }
 
-/// Enters, reads the lock, and stores the words of a free descriptor.
+/// Enters, reads the lock, stores the words of a free descriptor, and guards it.
 fn prepares(machine: &mut Machine<Tray>, runner: u32, descriptor: u32, thunk: &Thunk) -> bool {
     if !enters(machine, runner) || !goes(machine, runner, EventKind::LoadCell(Some(0))) {
         return false;
@@ -97,7 +97,7 @@ fn prepares(machine: &mut Machine<Tray>, runner: u32, descriptor: u32, thunk: &T
             return false;
         }
     }
-    true
+    goes(machine, runner, EventKind::Guard(Some(descriptor)))
 }
 
 /// Prepares a descriptor with the thunk, and publishes it.
@@ -109,6 +109,19 @@ fn publishes(machine: &mut Machine<Tray>, runner: u32, descriptor: u32, thunk: T
 /// Enters, and reads the lock.
 fn looks(machine: &mut Machine<Tray>, runner: u32) -> bool {
     enters(machine, runner) && goes(machine, runner, EventKind::LoadCell(Some(0)))
+}
+
+/// Enters, reads the lock, guards this descriptor, and reads the lock once more: as a helper of the
+/// section that the lock names.
+fn watches(machine: &mut Machine<Tray>, runner: u32, descriptor: u32) -> bool {
+    looks(machine, runner)
+        && goes(machine, runner, EventKind::Guard(Some(descriptor)))
+        && goes(machine, runner, EventKind::LoadCell(Some(0)))
+}
+
+/// Clears the guard, and becomes idle.
+fn leaves(machine: &mut Machine<Tray>, runner: u32) -> bool {
+    goes(machine, runner, EventKind::Guard(None)) && goes(machine, runner, EventKind::Idle)
 }
 
 /// Scans all announcements of two workers and the keeper, and advances the epoch where that is enabled.
@@ -125,9 +138,15 @@ fn collects(machine: &mut Machine<Tray>, runner: u32) -> bool {
     true
 }
 
-/// The kind of a run's step that has this name.
-fn kind_of(name: &str) -> EventKind {
+/// The kind of step that has this name: one of a run's; or outside runs a load of the lock, a guard or a word of a
+/// sweep with this number, the end of a guard, or the end of an entry.
+fn kind_of(name: &str, number: u32) -> EventKind {
     match name {
+        "look" => EventKind::LoadCell(Some(0)),
+        "guard" => EventKind::Guard(Some(number)),
+        "clear" => EventKind::Guard(None),
+        "leave" => EventKind::Idle,
+        "sweep" => EventKind::LoadGuard(number),
         "load" => EventKind::LoadCell(None),
         "commit" => EventKind::Commit,
         "make" => EventKind::MakeCommit,
@@ -143,16 +162,20 @@ fn kind_of(name: &str) -> EventKind {
     }
 }
 
-/// Makes these steps of runs, in turn.
+/// Makes these steps, in turn: each is a runner, a name, and a number where its kind has one.
 fn plays(machine: &mut Machine<Tray>, steps: &str) -> bool {
     for step in steps.split(", ") {
-        let Some((runner, name)) = step.split_once(' ') else {
+        let Some((runner, words)) = step.split_once(' ') else {
             return false;
         };
+        let (name, number) = words.split_once(' ').unwrap_or((words, "0"));
         let Ok(runner) = runner.parse::<u32>() else {
             return false;
         };
-        if !goes(machine, runner, kind_of(name)) {
+        let Ok(number) = number.parse::<u32>() else {
+            return false;
+        };
+        if !goes(machine, runner, kind_of(name, number)) {
             return false;
         }
     }
@@ -307,7 +330,7 @@ fn a_list_that_begins_with_announce_is_refused_at_its_start(
 }
 
 #[test]
-fn idle_enables_five_kinds(rt: HostRuntime) -> Result<(), AllocError> {
+fn idle_enables_six_kinds(rt: HostRuntime) -> Result<(), AllocError> {
     let requests = requests();
     let mut machine = Machine::new(rt.alloc(), Tray, layout(2), &requests)?;
     let kinds = match machine.step(Event {
@@ -317,7 +340,7 @@ fn idle_enables_five_kinds(rt: HostRuntime) -> Result<(), AllocError> {
         Err(StepError::NotEnabled { enabled }) => enabled,
         _ => 0,
     };
-    assert_eq!(rt; kinds, 1 | 1 << 4 | 1 << 11 | 1 << 12 | 1 << 26);
+    assert_eq!(rt; kinds, 1 | 1 << 4 | 1 << 11 | 1 << 12 | 1 << 26 | 1 << 38);
     Ok(())
 }
 
@@ -337,11 +360,10 @@ fn requests_are_published_once_and_in_their_order(rt: HostRuntime) -> Result<(),
             }
         )
     );
-    assert!(rt; goes(&mut machine, 0, EventKind::Idle));
+    assert!(rt; leaves(&mut machine, 0));
     assert!(rt; publishes(&mut machine, 0, 1, thunk(101, 0, 7)));
     assert_eq!(rt; runs(&mut machine, 0, 1), 22);
-    assert!(rt; goes(&mut machine, 0, EventKind::EpochForRetire));
-    assert!(rt; goes(&mut machine, 0, EventKind::Idle));
+    assert!(rt; leaves(&mut machine, 0));
     let word = Word::from_bits(12884901888);
     let again = Thunk {
         word,
@@ -358,7 +380,7 @@ fn requests_are_published_once_and_in_their_order(rt: HostRuntime) -> Result<(),
             }
         )
     );
-    assert!(rt; goes(&mut machine, 0, EventKind::Idle));
+    assert!(rt; leaves(&mut machine, 0));
     let next = Thunk {
         word,
         ..thunk(101, 1, 7)
@@ -375,7 +397,7 @@ fn a_number_is_stored_once_and_a_late_helper_changes_nothing(
     let mut machine = Machine::new(rt.alloc(), Tray, layout(2), &requests)?;
     let number = thunk(101, 0, 7);
     assert!(rt; publishes(&mut machine, 0, 0, number));
-    assert!(rt; looks(&mut machine, 1));
+    assert!(rt; watches(&mut machine, 1, 0));
     assert_eq!(rt; runs(&mut machine, 0, 0), 22);
     assert_eq!(rt; machine.cell(1).bits(), 8589934599);
     assert_eq!(rt; machine.cell(0).bits(), 12884901888);
@@ -393,7 +415,7 @@ fn two_runners_store_a_number_once(rt: HostRuntime) -> Result<(), AllocError> {
     let mut machine = Machine::new(rt.alloc(), Tray, layout(2), &requests)?;
     let number = thunk(101, 0, 7);
     assert!(rt; publishes(&mut machine, 0, 0, number));
-    assert!(rt; looks(&mut machine, 1));
+    assert!(rt; watches(&mut machine, 1, 0));
     assert!(rt; opens(&mut machine, 0, 0) && opens(&mut machine, 1, 0));
     assert!(rt; plays(&mut machine, "0 load, 1 load, 1 commit, 0 commit"));
     assert!(rt;
@@ -480,7 +502,9 @@ fn a_lock_that_is_held_refuses(rt: HostRuntime) -> Result<(), AllocError> {
         )
     );
     assert_eq!(rt; machine.cell(0).value(), 1);
-    assert!(rt; goes(&mut machine, 1, EventKind::Idle));
+    assert!(rt; !goes(&mut machine, 1, EventKind::Idle));
+    assert!(rt; leaves(&mut machine, 1));
+    assert!(rt; !goes(&mut machine, 0, EventKind::Guard(None)));
     assert!(rt; !goes(&mut machine, 0, EventKind::Idle));
     Ok(())
 }
@@ -489,7 +513,7 @@ fn a_lock_that_is_held_refuses(rt: HostRuntime) -> Result<(), AllocError> {
 fn two_runners_make_one_node(rt: HostRuntime) -> Result<(), AllocError> {
     let requests = requests();
     let mut machine = Machine::new(rt.alloc(), Tray, layout(2), &requests)?;
-    assert!(rt; publishes(&mut machine, 0, 0, thunk(102, 0, FIRST)) && looks(&mut machine, 1));
+    assert!(rt; publishes(&mut machine, 0, 0, thunk(102, 0, FIRST)) && watches(&mut machine, 1, 0));
     assert!(rt; opens(&mut machine, 0, 0) && opens(&mut machine, 1, 0));
     assert!(rt; plays(&mut machine, "0 load, 0 commit") && fills_slot(&mut machine, 0, 0));
     assert!(rt; plays(&mut machine, "1 load, 1 commit") && fills_slot(&mut machine, 1, 2));
@@ -517,9 +541,7 @@ fn a_node_is_taken_out(rt: HostRuntime) -> Result<(), AllocError> {
     let mut machine = Machine::new(rt.alloc(), Tray, layout(2), &requests)?;
     assert!(rt; publishes(&mut machine, 0, 0, thunk(102, 0, FIRST)));
     assert_eq!(rt; runs(&mut machine, 0, 0), 33);
-    assert!(rt;
-        goes(&mut machine, 0, EventKind::EpochForRetire) && goes(&mut machine, 0, EventKind::Idle)
-    );
+    assert!(rt; leaves(&mut machine, 0));
     let mut unlink = thunk(103, 1, machine.cell(2).bits());
     unlink.word = machine.cell(0);
     assert!(rt; publishes(&mut machine, 0, 1, unlink));
@@ -556,6 +578,83 @@ fn the_epoch_waits_for_an_old_announcement(rt: HostRuntime) -> Result<(), AllocE
     assert_eq!(rt; machine.epoch(), 3);
     assert!(rt; enters(&mut machine, 0));
     assert_eq!(rt; machine.announcement(0), 3);
+    Ok(())
+}
+
+/// Whether these descriptors of this runner's are free, and these retired and not free again.
+fn has_descriptors(part: &Part, free: &[u32], limbo: &[u32]) -> bool {
+    part.descriptors.free.as_slice() == free && part.descriptors.limbo.as_slice() == limbo
+}
+
+#[test]
+fn a_descriptor_that_no_guard_names_is_free_behind_a_sweep(
+    rt: HostRuntime,
+) -> Result<(), AllocError> {
+    let requests = requests();
+    let mut machine = Machine::new(rt.alloc(), Tray, layout(2), &requests)?;
+    assert!(rt; publishes(&mut machine, 0, 0, thunk(101, 0, 7)));
+    assert!(rt; looks(&mut machine, 1));
+    assert_eq!(rt; runs(&mut machine, 0, 0), 22);
+    assert!(rt; leaves(&mut machine, 0));
+    assert!(rt; plays(&mut machine, "0 sweep 0, 0 sweep 1"));
+    assert!(rt; has_descriptors(machine.part(0), &[1], &[0]));
+    assert!(rt; plays(&mut machine, "0 sweep 2"));
+    assert!(rt; has_descriptors(machine.part(0), &[1, 0], &[]));
+    // The helper has read the lock in the old section's time, and runs the new one.
+    assert!(rt; plays(&mut machine, "1 guard 0"));
+    let next = Thunk {
+        word: machine.cell(0),
+        ..thunk(101, 1, 8)
+    };
+    assert!(rt; publishes(&mut machine, 0, 0, next));
+    assert!(rt; plays(&mut machine, "1 look"));
+    assert_eq!(rt; runs(&mut machine, 1, 0), 22);
+    assert_eq!(rt; machine.cell(1).bits(), 12884901896);
+    Ok(())
+}
+
+#[test]
+fn a_descriptor_that_a_guard_names_stays_in_limbo(rt: HostRuntime) -> Result<(), AllocError> {
+    let requests = requests();
+    let mut machine = Machine::new(rt.alloc(), Tray, layout(2), &requests)?;
+    assert!(rt; publishes(&mut machine, 0, 0, thunk(101, 0, 7)));
+    assert!(rt; watches(&mut machine, 1, 0));
+    assert_eq!(rt; runs(&mut machine, 0, 0), 22);
+    assert!(rt; leaves(&mut machine, 0));
+    assert!(rt; plays(&mut machine, "0 sweep 0, 0 sweep 1, 0 sweep 2"));
+    assert!(rt; has_descriptors(machine.part(0), &[1], &[0]));
+    assert_eq!(rt; runs(&mut machine, 1, 0), 22);
+    assert!(rt; ends(machine.part(1), Outcome::Answered(FIRST), &[FIRST], true));
+    assert!(rt; plays(&mut machine, "1 clear, 0 sweep 0, 0 sweep 1, 0 sweep 2"));
+    assert!(rt; has_descriptors(machine.part(0), &[1, 0], &[]));
+    Ok(())
+}
+
+#[test]
+fn no_run_of_a_section_whose_lock_has_moved_on(rt: HostRuntime) -> Result<(), AllocError> {
+    let requests = requests();
+    let mut machine = Machine::new(rt.alloc(), Tray, layout(2), &requests)?;
+    assert!(rt; publishes(&mut machine, 0, 0, thunk(101, 0, 7)));
+    assert!(rt; looks(&mut machine, 1));
+    assert!(rt; plays(&mut machine, "1 guard 0"));
+    assert!(rt; !goes(&mut machine, 1, EventKind::LoadThunk(Some(0))));
+    assert_eq!(rt; runs(&mut machine, 0, 0), 22);
+    assert!(rt; plays(&mut machine, "1 look"));
+    assert!(rt; !goes(&mut machine, 1, EventKind::LoadThunk(Some(0))));
+    assert!(rt; leaves(&mut machine, 1));
+    Ok(())
+}
+
+#[test]
+fn a_sweep_begins_anew_behind_an_entry(rt: HostRuntime) -> Result<(), AllocError> {
+    let mut machine = Machine::new(rt.alloc(), Tray, layout(2), &[])?;
+    assert!(rt; !goes(&mut machine, 0, EventKind::LoadGuard(1)));
+    assert!(rt; plays(&mut machine, "0 sweep 0, 0 sweep 1"));
+    assert!(rt; enters(&mut machine, 0));
+    assert!(rt; !goes(&mut machine, 0, EventKind::LoadGuard(2)));
+    assert!(rt; plays(&mut machine, "0 leave"));
+    assert!(rt; !goes(&mut machine, 0, EventKind::LoadGuard(2)));
+    assert!(rt; plays(&mut machine, "0 sweep 0"));
     Ok(())
 }
 

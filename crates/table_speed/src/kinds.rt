@@ -13,7 +13,7 @@ pub enum Kind {
     PrivateStore,
     /// The loads of all words of an own free descriptor, each compared with a number.
     Descriptor,
-    /// An entry and its end: two loads of the epoch, and two stores of the announcement.
+    /// An entry and its end: two loads of the epoch, two stores of the announcement, and one of the guard word.
     Enter,
     /// A scan of two workers and the keeper: four loads, and the exchange that advances the epoch.
     Scan,
@@ -47,8 +47,7 @@ impl Kind {
         match self {
             Kind::LoadEntry | Kind::LoadCell | Kind::PrivateLoad | Kind::PrivateStore => 1,
             Kind::Descriptor => 77,
-            Kind::Enter => 4,
-            Kind::Scan => 5,
+            Kind::Enter | Kind::Scan => 5,
         }
     }
 
