@@ -1,5 +1,5 @@
 -- A `get` that is read: what this leaves, where the read served it, and where a gate halted it.
-use Rattle.std.specs.Prelude.{◌*◌, ◌%◌, ◌⊎◌, Bool, true, false, slice_get, if◌then◌else◌}
+use Rattle.std.specs.Prelude.{◌*◌, ◌%◌, Bool, true, false, slice_get, if◌then◌else◌}
 use Rattle.std.proofs.Common.{◌≡◌, ℕ, ◌+◌, ◌≤◌, [], ◌∷◌, length, refl, sym, ap, ◌∙◌, subst, inl, inr, arith, Some, None}
 use Rattle.std.proofs.lemmas.Bool.{true≢false}
 use Rattle.machine_states.specs.map_history.specs.declared.op.Op.{Op}

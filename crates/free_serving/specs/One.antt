@@ -1,5 +1,5 @@
 -- What the serving of one request does and leaves, in which a `get` is read first.
-use Rattle.std.specs.Prelude.{◌≡◌, ℕ, ◌*◌, ◌≤◌, ◌⊎◌, [], ◌∷◌, length, Bool, true, false, Some}
+use Rattle.std.specs.Prelude.{◌≡◌, ℕ, ◌*◌, ◌≤◌, ◌⊎◌, [], ◌∷◌, length, Bool, true, false}
 use Rattle.machine_states.specs.map_history.specs.declared.op.Request.{Request}
 use Rattle.machine_states.specs.body_terms.specs.Counted.{counted_on}
 use Rattle.seq_read.specs.runner_gate.specs.Asks.{Asks, asked_on}

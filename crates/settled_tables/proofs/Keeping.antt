@@ -10,7 +10,7 @@ use Rattle.machine_states.specs.structure_laws.specs.Meaning.{Meaning}
 use Rattle.machine_states.specs.runner_parts.specs.declared.event.EventKind.TheVariants as kinds
 use Rattle.machine_states.specs.runner_parts.specs.State.{RunState, PartState, RecordsState, NodesState, GuardsState}
 use Rattle.machine_states.specs.runner_parts.specs.Tests.{has, is_between}
-use Rattle.machine_states.specs.runner_steps.specs.After.{after, after_by, stepped, leaves, joins}
+use Rattle.machine_states.specs.runner_steps.specs.After.{after, after_by, stepped, leaves}
 use Rattle.machine_states.specs.First.{keeper_part, falling}
 use Rattle.closed_words.specs.version_words.specs.RunnerState.{RunnerState}
 use Rattle.closed_words.specs.version_words.specs.Shown.{left_part}

@@ -1,5 +1,5 @@
 -- The words of a table that its keeper has settled, and what became of the sections of a run.
-use Rattle.std.proofs.Common.{◌≡◌, ℕ, suc, ◌<◌, Bool, refl, sym, ap, ◌∙◌, subst, eq-eqb, if◌then◌else◌, arith}
+use Rattle.std.proofs.Common.{◌≡◌, suc, Bool, sym, ap, ◌∙◌, subst, eq-eqb, if◌then◌else◌}
 use Rattle.std.specs.Prelude.{slice_get, IsSome, List}
 use Rattle.machine_states.specs.map_history.specs.declared.op.Request.{Request}
 use Rattle.machine_states.specs.body_terms.specs.Word.{value_of}
@@ -17,7 +17,7 @@ use Rattle.closed_words.specs.reached_histories.specs.machine_facts.proofs.Follo
 use Rattle.closed_words.specs.version_words.specs.machine_invariant.specs.After.{AreAllowed}
 use Rattle.closed_words.specs.version_words.specs.RunnerState.{RunnerState}
 use Rattle.closed_words.specs.version_words.specs.Shown.{left_part}
-use Rattle.closed_words.specs.version_words.specs.TableState.{TableState, WordsState, IsOf, IsClosing, HasJoinedAll, word_of}
+use Rattle.closed_words.specs.version_words.specs.TableState.{TableState, WordsState, IsOf, IsClosing, HasJoinedAll}
 use Rattle.closed_words.specs.Histories.{HoldsNoLock}
 use Rattle.settling.specs.Settled.{Settles, IsSettled}
 use Rattle.settled_tables.specs.Once.{SectionsCameOnce}

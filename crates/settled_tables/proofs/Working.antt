@@ -1,6 +1,5 @@
 -- The workers of a run, one more of them each time.
-use Rattle.std.specs.Prelude.{slice_index_or}
-use Rattle.std.proofs.Common.{◌≡◌, ℕ, suc, ◌+◌, ◌<◌, List, [], ◌∷◌, ◌++◌, length, get_or, subst, sym, ap, ◌∙◌, refl, arith}
+use Rattle.std.proofs.Common.{◌≡◌, ℕ, suc, ◌+◌, ◌<◌, List, [], ◌∷◌, ◌++◌, length, get_or, subst, sym, ap, ◌∙◌, arith}
 use Rattle.std.proofs.lemmas.List.{get_or_append_left, length-append}
 use Rattle.std.proofs.Math.Seq.{get_or-append_seam}
 use mathlib.Core.Logic.{dite}
@@ -11,7 +10,7 @@ use Rattle.closed_words.specs.version_words.specs.TableState.{TableState, IsOf}
 use Rattle.closed_words.specs.version_words.specs.Stages.{IsKeeper}
 use Rattle.closed_words.specs.version_words.specs.Events.{next_worker}
 use Rattle.closed_words.specs.version_words.proofs.Stages.{next_is_idle}
-use Rattle.settled_tables.specs.Seats.{IsNewWorker, AreNewWorkers, CameBack, AllCameBack, IsBack, AreBack, AreReports}
+use Rattle.settled_tables.specs.Seats.{IsNewWorker, AreNewWorkers, AllCameBack, AreBack, AreReports}
 
 -- a fact of each place, and of one more
 pub one_more : {X : Type 0} (P : ℕ → X → Type 0) (xs ys : List X) (x : X) → ys ≡ xs ++ x ∷ [] → ((i : ℕ) (d : X) → i < length xs → P i (get_or xs i d)) → P (length xs) x
