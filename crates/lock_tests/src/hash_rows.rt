@@ -22,8 +22,8 @@ struct Row {
     pairs: Vec<(u32, u32)>,
 }
 
-/// The first worker plans its request and publishes the section, and then the second one watches the held lock. Then both
-/// are at the section, each on a thread and with its gate.
+/// The first worker plans its request and publishes the section, and then the second one watches the held lock. Then
+/// both are at the section, each on a thread and with its gate.
 fn helped<R: Threads + Sync>(
     rt: &R,
     alloc: Global,

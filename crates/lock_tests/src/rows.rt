@@ -74,8 +74,8 @@ fn close(
     })
 }
 
-/// The first worker publishes such a section, and then the second one watches the held lock. Then the first one runs the
-/// section, and is halted at its ask with this number, if any; after that the second one helps.
+/// The first worker publishes such a section, and then the second one watches the held lock. Then the first one runs
+/// the section, and is halted at its ask with this number, if any; after that the second one helps.
 fn in_turn(alloc: Global, form: u64, operand: u64, halt: Option<u64>) -> Result<Ended, AllocError> {
     let (table, keeper) = new_table(alloc, 4294967295)?;
     let (keeper, first, second) = crew(&table, alloc, keeper)?;

@@ -67,8 +67,8 @@ pub fn read_lock<S: Structure>(
     table.load_cell(runner, place)
 }
 
-/// Enters, reads the lock, and watches it. The word by which the lock names a section, where it had the same word at the
-/// second load: then the worker may help that section. Else none.
+/// Enters, reads the lock, and watches it. The word by which the lock names a section, where it had the same word at
+/// the second load: then the worker may help that section. Else none.
 pub fn watch_lock<S: Structure>(
     table: &FlockTable<S>,
     runner: Runner<S>,
@@ -142,8 +142,8 @@ pub fn help_held<S: Structure, G: Gate>(
     (runner, Turn { end, steps })
 }
 
-/// Both at one section, each on a thread of its own: its publisher, and the other one by the word of the lock that it has
-/// watched.
+/// Both at one section, each on a thread of its own: its publisher, and the other one by the word of the lock that it
+/// has watched.
 pub fn side_by_side<R: Threads + Sync, S: Structure, G: Gate + Send + Drop>(
     rt: &R,
     table: &FlockTable<S>,
