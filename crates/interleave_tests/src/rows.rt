@@ -624,7 +624,7 @@ fn a_descriptor_that_a_guard_names_stays_in_limbo(rt: HostRuntime) -> Result<(),
     assert!(rt; plays(&mut machine, "0 sweep 0, 0 sweep 1, 0 sweep 2"));
     assert!(rt; has_descriptors(machine.part(0), &[1], &[0]));
     assert_eq!(rt; runs(&mut machine, 1, 0), 22);
-    assert!(rt; ends(machine.part(1), Outcome::Answered(FIRST), &[FIRST], true));
+    assert_eq!(rt; machine.cell(1).bits(), 8589934599);
     assert!(rt; plays(&mut machine, "1 clear, 0 sweep 0, 0 sweep 1, 0 sweep 2"));
     assert!(rt; has_descriptors(machine.part(0), &[1, 0], &[]));
     Ok(())
