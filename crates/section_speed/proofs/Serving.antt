@@ -31,6 +31,7 @@ use Rattle.try_lock.specs.declared.section.Section.{Section}
 use Rattle.try_lock.specs.Ends.{EndsSo, IsCutShort}
 use Rattle.try_lock.specs.Publishes.{MayPublish, Publishes}
 use Rattle.try_lock.proofs.Guarding.{may_let_go, guard_at, guard_named, guard_keeps, guard_keeps_else}
+use Rattle.try_lock.proofs.Watching.{same_looked}
 use Rattle.section_speed.specs.Scenes.{eight_requests, IsScene}
 use Rattle.try_lock.specs.Reached.{MayRunSection}
 use Rattle.section_speed.specs.Workers.{KnowsBelow, IsBefore, HasRead, MayRun}
@@ -112,7 +113,8 @@ module _ {T : Type 0} where
         descriptors = subst (λ (d : DescriptorsState). 1 ≤ length d.free) (sym descriptors) some;
         hand = ap (λ (n : NodesState). n.hand) nodes ∙ before.tidy.hand;
         tests = ap (λ (n : NodesState). n.tests) nodes ∙ before.tidy.tests;
-        looked = ap (λ (g : GuardsState). g.looked) (guards_made tray (kinds.LoadCell (Some 0)) word entered r load resting ∙ enters.guards);
+        looked = ap (λ (g : GuardsState). g.looked) (guards_made tray (kinds.LoadCell (Some 0)) word entered r load resting)
+            ∙ (same_looked entered.part.guards (tray.is_lock 0) word ∙ ap (λ (g : GuardsState). g.looked) enters.guards);
         reached = record { world = made.shown.world; reached = made.shown.reached; own = made.shown.own };
       }
 
@@ -188,30 +190,30 @@ module _ {T : Type 0} where
     pub may_go : IsEnabled tray (kinds.Guard None) new
     may_go = may_let_go tray new run.epoch over_at
 
-    module _ (found : ℕ) (gone : RunnerState T) (made : Makes tray (kinds.Guard None) found new gone) where
+    module _ (found : ℕ) (gone : RunnerState T) (goes : Makes tray (kinds.Guard None) found new gone) where
       -- and leave
       pub may_leave : HasLeave gone
       may_leave = record {
         epoch = run.epoch;
-        at = guard_at tray None found new gone made run.epoch over_at;
-        unguarded = guard_named tray None found new gone made ends.resting;
+        at = guard_at tray None found new gone goes run.epoch over_at;
+        unguarded = guard_named tray None found new gone goes ends.resting;
       }
 
       pub gone_number : gone.number ≡ 0
-      gone_number = (guard_keeps tray None found new gone made ends.resting).number ∙ (ends.number ∙ may.number)
+      gone_number = (guard_keeps tray None found new gone goes ends.resting).number ∙ (ends.number ∙ may.number)
 
       -- behind it it is before the next request
       pub then_next : (idle : RunnerState T) → Exits tray gone idle → IsBefore (request + 1) idle
       then_next idle exits =
-          let keeps = guard_keeps tray None found new gone made ends.resting in
+          let keeps = guard_keeps tray None found new gone goes ends.resting in
           record {
             tidy = record {
               at = exits.at;
               hand = ap (λ (n : NodesState). n.hand) (exits.keeps.nodes ∙ keeps.nodes) ∙ (ends.nodes.hand ∙ may.hand);
               tests = ap (λ (n : NodesState). n.tests) (exits.keeps.nodes ∙ keeps.nodes) ∙ ends.nodes.tests may.tests;
-              looked = ap (λ (g : GuardsState). g.looked) exits.guards ∙ ((guard_keeps_else tray None found new gone made ends.resting).looked
+              looked = ap (λ (g : GuardsState). g.looked) exits.guards ∙ ((guard_keeps_else tray None found new gone goes ends.resting).looked
                   ∙ (ap (λ (g : GuardsState). g.looked) ends.guards ∙ may.looked));
-              unguarded = ap (λ (g : GuardsState). g.named) exits.guards ∙ guard_named tray None found new gone made ends.resting;
+              unguarded = ap (λ (g : GuardsState). g.named) exits.guards ∙ guard_named tray None found new gone goes ends.resting;
             };
             number = exits.keeps.number ∙ gone_number;
             knows = subst (KnowsBelow (request + 1)) (sym (exits.keeps.known ∙ (keeps.known ∙ ends.learns.adds)))
