@@ -1,6 +1,6 @@
 -- A runner that collects and sweeps where it has to: where slots lack behind that, it has made a step.
 use Rattle.std.specs.Prelude.{◌==◌, nat_lt, Bool, true, false}
-use Rattle.std.proofs.Common.{◌≡◌, ℕ, ◌<◌, length, refl, sym, ap, ◌∙◌, subst, arith, true≢false}
+use Rattle.std.proofs.Common.{◌≡◌, ℕ, ◌<◌, ◌≤◌, length, refl, sym, ap, ◌∙◌, subst, arith, true≢false}
 use Rattle.std.proofs.lemmas.Bool.Decides.{nat_tests}
 use Rattle.machine_states.specs.structure_laws.specs.Meaning.{Meaning}
 use Rattle.version_words.specs.RunnerState.{RunnerState}
@@ -37,3 +37,13 @@ module _ {T : Type 0} where
         swept : (b : Bool) → lacks_descriptor r.third ≡ b → SweepsWhere m b r.third new → IsReached m new
         swept true e sweeps = swept_reached m r.third new sweeps
         swept false e same = still kind few same e
+
+    -- where a descriptor lacks it was a sweep, which left no more in limbo than there are runners
+    pub short_named : (old new : RunnerState T) → length new.part.descriptors.free ≡ 0 → Reclaims m old new
+        → length new.part.descriptors.limbo ≤ new.layout.runners
+    short_named old new none r = swept (lacks_descriptor r.third) refl r.sweeps
+      where
+        swept : (b : Bool) → lacks_descriptor r.third ≡ b → SweepsWhere m b r.third new
+            → length new.part.descriptors.limbo ≤ new.layout.runners
+        swept true e sweeps = sweeps.few
+        swept false e same = absurd (true≢false (sym (none_lacks new none) ∙ (ap lacks_descriptor same ∙ e)))

@@ -97,6 +97,9 @@ module _ {T : Type 0} where
       pub reclaims : Reclaims m old new
       pub few : IsFew new short.kind
       pub counts : short ≡ counts_of new short.kind
+      -- where a descriptor lacks, guard words of other runners name all of the runner's own: they are no more than there
+      -- are runners. So a runner that has one more of them never lacks one
+      pub named : short.kind ≡ kinds.Descriptor → short.limbo ≤ new.layout.runners
       pub untouched : IsUntouched number new
 
     -- the runner ran the section that this lock's word named to its end, and left. It is the section of

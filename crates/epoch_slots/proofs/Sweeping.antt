@@ -1,11 +1,22 @@
 -- A sweep, guard word by guard word.
-use Rattle.std.proofs.Common.{◌≡◌, ℕ, suc, ◌+◌, ◌<◌, ◌≤◌, List, [], ◌∷◌, ◌++◌, length, length-append, Bool, true, false, refl, sym, ap, subst, ◌∙◌, eq-eqb, ne_eqb, arith, None, if◌then◌else◌}
+use Rattle.std.proofs.Common.{◌≡◌, ℕ, suc, ◌+◌, ◌<◌, ◌≤◌, List, [], ◌∷◌, ◌++◌, length, length-append, le_of_eq, Bool, true, false, refl, sym, ap, subst, ◌∙◌, eq-eqb, ne_eqb, arith, None, if◌then◌else◌}
+use Rattle.machine_states.specs.map_history.specs.declared.op.Request.{Request}
+use Rattle.machine_states.specs.table_words.specs.Limits.{IsWithinLimits}
 use Rattle.machine_states.specs.table_words.specs.declared.layout.Layout.{Layout}
+use Rattle.machine_states.specs.structure_laws.specs.Laws.{Laws}
 use Rattle.machine_states.specs.structure_laws.specs.Meaning.{Meaning}
 use Rattle.machine_states.specs.runner_parts.specs.declared.event.EventKind.TheVariants as kinds
 use Rattle.machine_states.specs.runner_parts.specs.State.{GuardsState, DescriptorsState, PartState}
 use Rattle.machine_states.specs.runner_parts.specs.Lists.{descriptors_swept, with_looked}
 use Rattle.machine_states.specs.runner_steps.specs.Guards.{is_last_guard, load_guard_after}
+use Rattle.machine_states.specs.Sight.{Sight, sight, part_or_first, Steps, IsWhole}
+use Rattle.machine_states.proofs.Reached.{reached_all}
+use Rattle.machine_states.proofs.Sights.{happens_steps}
+use Rattle.version_words.specs.machine_invariant.specs.After.{AreAllowed}
+use Rattle.version_words.specs.machine_invariant.specs.machine_guards.specs.Sweeps.{SweepIsExact}
+use Rattle.version_words.specs.machine_invariant.specs.machine_guards.proofs.Safe.{sweep_exact}
+use Rattle.reached_histories.specs.Laws.{HasHistory}
+use Rattle.reached_histories.proofs.Histories.{reached_have}
 use Rattle.version_words.specs.RunnerState.{RunnerState}
 use Rattle.version_words.specs.TableState.{TableState, IsOf}
 use Rattle.version_words.specs.Events.{IsEnabled, Makes}
@@ -19,6 +30,45 @@ swept_or last words p = record p {
   descriptors = (if last then descriptors_swept words p.descriptors else p.descriptors);
   guards = with_looked p.guards (if last then [] else words);
 }
+
+-- by the last guard word: for each word that names something one descriptor stays in limbo at most, and the own one
+-- names nothing
+module _ {T : Type 0} (m : Meaning) (laws : Laws m) (r r' : RunnerState T) (count word : ℕ) (made : Makes m (kinds.LoadGuard count) word r r')
+    (limits : IsWithinLimits r'.layout) (allowed : AreAllowed r'.requests) (last : length r.part.guards.looked ≡ r'.layout.runners) where
+  abbrev l : Layout
+  l = r'.layout
+
+  abbrev rs : List Request
+  rs = r'.requests
+
+  abbrev s : Sight
+  s = sight m l rs made.shown.before
+
+  abbrev s' : Sight
+  s' = sight m l rs made.shown.world
+
+  stands : HasHistory m l rs s
+  stands = reached_have m laws l rs limits allowed made.shown.before made.shown.was_reached
+
+  complete : IsWhole m l rs made.shown.before
+  complete = let all = reached_all m l rs made.shown.before made.shown.was_reached in record { words = le_of_eq (sym all.words); parts = all.parts }
+
+  step : Steps m l rs s s' r'.number (kinds.LoadGuard count)
+  step = (happens_steps m l rs made.shown.before made.shown.world (record { runner = r'.number; kind = kinds.LoadGuard count }) complete made.shown.happened).0
+
+  was : s.part r'.number ≡ r.part
+  was = ap part_or_first made.shown.was_own
+
+  exact : SweepIsExact l s s' r'.number (s.word (step.ask.0))
+  exact = sweep_exact m l rs stands.beside.agreement stands.beside.epochs s s' r'.number count stands.whole.slots stands.whole.guards step
+      (ap (λ (p : PartState). is_last_guard l p.guards.looked) was ∙ eq-eqb (length r.part.guards.looked) l.runners last)
+
+  few_stay : length r'.part.descriptors.limbo ≤ l.runners
+  few_stay =
+      let few = exact.few in
+      let words = exact.words in
+      let here = ap (λ (p : PartState). length p.descriptors.limbo) (ap part_or_first made.shown.own) in
+      omega (arith, few, words, here)
 
 module _ {T : Type 0} (m : Meaning) where
   -- one guard word more at the end
@@ -90,10 +140,11 @@ module _ {T : Type 0} (m : Meaning) where
           }
 
       -- with it
-      pub swept : MaySweep old → count ≡ t.layout.runners → HasSwept m old r'
-      swept ready last =
+      pub swept : Laws m → MaySweep old → count ≡ t.layout.runners → HasSwept m old r'
+      swept laws ready last =
           let here : length r.part.guards.looked ≡ r.layout.runners = omega (arith, last, looked_count, as_wide) in
           let part = part_by true (eq-eqb (length r.part.guards.looked) r.layout.runners here) in
+          let as_own : r'.layout ≡ t.layout = ap (λ (y : RunnerState T). y.layout) made.made ∙ own.layout in
           let guards : r'.part.guards ≡ with_looked old.part.guards [] = guards_made m (kinds.LoadGuard count) word r r' made so.at.resting ∙ (ap (λ (p : PartState). p.guards) part
           ∙ ap (λ (g : GuardsState). with_looked g []) so.guards) in
           record {
@@ -102,6 +153,8 @@ module _ {T : Type 0} (m : Meaning) where
             sweeps = more;
             descriptors = descriptors_made m (kinds.LoadGuard count) word r r' made so.at.resting ∙ (ap (λ (p : PartState). p.descriptors) part
                 ∙ ap (λ (d : DescriptorsState). descriptors_swept (so.found ++ word ∷ []) d) so.descriptors);
+            few = few_stay m laws r r' count word made (own.limits _ as_own) (own.allowed _ (ap (λ (y : RunnerState T). y.requests) made.made ∙ own.requests))
+                (here ∙ ap (λ (l : Layout). l.runners) (own.layout ∙ sym as_own));
             guards = guards ∙ ap (λ (words : List ℕ). with_looked old.part.guards words) (sym ready.looked);
             ready = record { at = then_looked m word r r' None count made so.at; looked = ap (λ (g : GuardsState). g.looked) guards };
             keeps = still;

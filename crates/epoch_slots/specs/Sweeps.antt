@@ -1,5 +1,5 @@
 -- What a sweep of the guard words reads, and which descriptors are free behind it.
-use Rattle.std.specs.Prelude.{◌≡◌, ℕ, ◌+◌, List, [], ◌∷◌, length, None}
+use Rattle.std.specs.Prelude.{◌≡◌, ℕ, ◌+◌, ◌≤◌, List, [], ◌∷◌, length, None}
 use Rattle.machine_states.specs.structure_laws.specs.Meaning.{Meaning}
 use Rattle.machine_states.specs.runner_parts.specs.declared.event.EventKind.TheVariants as kinds
 use Rattle.machine_states.specs.epoch_core.specs.declared.stage.Stage.TheVariants as stages
@@ -47,6 +47,9 @@ module _ {T : Type 0} where
       pub each : length found ≡ old.layout.runners + 1
       pub sweeps : Sweeps 0 found old new
       pub descriptors : new.part.descriptors ≡ descriptors_swept found old.part.descriptors
+      -- a guard word names one descriptor, and the runner's own names none: so no more stay in limbo than there are
+      -- other runners, the keeper among them
+      pub few : length new.part.descriptors.limbo ≤ new.layout.runners
       pub guards : new.part.guards ≡ old.part.guards
       pub ready : MaySweep new
       pub keeps : KeepsBeside old new

@@ -27,7 +27,8 @@ use Rattle.threaded_runs.specs.Runs.{AreServed}
 use Rattle.flock_tool.specs.Alone.{HasLoneRoom, IsValidAlone, KeepsVersions, NothingStops}
 use Rattle.flock_tool.specs.Checks.{IsDue}
 use Rattle.flock_tool.specs.Commands.{CheckEnds, Ends, GenEnds, LoadEnds, LoadRuns, RunEnds}
-use Rattle.flock_tool.specs.Complete.{Completes, HasEnoughSlots, HasEnoughVersions, IsAnswered}
+use Rattle.threaded_runs.specs.Room.{HasEnoughSlots, HasEnoughVersions}
+use Rattle.flock_tool.specs.Complete.{Completes, IsAnswered}
 use Rattle.flock_tool.specs.Finish.{finish_by, finish_status}
 use Rattle.flock_tool.specs.Loads.{HasCounted, HasLoadRun}
 use Rattle.flock_tool.specs.Plans.{AsksTooMuch, LoadAsksTooMuch, all_nodes, all_requests, layout_by}

@@ -16,6 +16,7 @@ use Rattle.flock_tool.specs.declared.load.Counted.{Counted}
 use Rattle.flock_tool.specs.declared.ran.Ran.{Ran}
 use Rattle.flock_tool.proofs.Enough.{completes, ends_otherwise}
 use Rattle.flock_tool.proofs.Finishing.{finish_run, one_halted, zero_all}
+use Rattle.flock_tool.proofs.Others.{spares_others, spares_at_nine}
 use Rattle.flock_tool.proofs.Whole.{all_served}
 
 whole_is : (finish : Finish) → is_whole finish ≡ true → finish ≡ Whole
@@ -79,6 +80,7 @@ module _ {reads : Bool} (ran : Ran) (requests : ℕ) (count : Counted) (finish :
           status = λ _. is ∙ ap finish_status finish_same;
           line = λ _. subst (λ (f : Finish). TellsFinish f faults) finish_same tells;
           enough = completes (meaning_of ran) (words_in ran) waits (answers_in ran) served left limits.some_sections number (is ∙ ap finish_status finish_same);
+          others = spares_others (meaning_of ran) (words_in ran) allowed waits (answers_in ran) served limits.some_runners left number (is ∙ ap finish_status finish_same);
           failed = λ nine. absurd (not_nine nine);
           halted = λ one. one_halted (answers_in ran) left (ap finish_status (sym finish_same) ∙ sym is ∙ one);
         };
@@ -103,6 +105,8 @@ module _ {reads : Bool} (ran : Ran) (requests : ℕ) (count : Counted) (finish :
       status = λ _. sym (ap finish_status (sym finish_same) ∙ ap finish_status (whole_is finish whole));
       line = λ _. subst (λ (f : Finish). TellsFinish f faults) (sym (whole_is finish whole) ∙ finish_same) (untouched.same, untouched.steady);
       enough = ends_otherwise (meaning_of ran) (words_in ran) waits 0 (λ five. omega (arith, five)) (λ six. omega (arith, six));
+      others = spares_others (meaning_of ran) (words_in ran) allowed waits (answers_in ran) served limits.some_runners left 0
+          (sym (ap finish_status (sym finish_same) ∙ ap finish_status (whole_is finish whole)));
       failed = λ nine. absurd (omega (arith, nine));
       halted = λ one. absurd (omega (arith, one));
     };
@@ -127,6 +131,7 @@ module _ {reads : Bool} (ran : Ran) (requests : ℕ) (count : Counted) (finish :
       status = λ not. absurd (not nine);
       line = λ not. absurd (not nine);
       enough = ends_otherwise (meaning_of ran) (words_in ran) waits number (λ five. omega (arith, five, nine)) (λ six. omega (arith, six, nine));
+      others = spares_at_nine (meaning_of ran) (words_in ran) allowed waits (answers_in ran) served limits.some_runners number nine;
       failed = λ _. tells;
       halted = λ one. absurd (omega (arith, one, nine));
     };

@@ -2,21 +2,17 @@
 use Rattle.std.specs.Prelude.{◌&&◌, Bool, true, false, if◌then◌else◌, nat_lt, slice_get, unwrap_or}
 use Rattle.std.proofs.Common.{◌≡◌, ◌≢◌, ℕ, suc, ◌+◌, ◌≤◌, List, [], ◌∷◌, length, Option, None, Some, refl, sym, ap, ◌∙◌, ⊎_elim, arith}
 use Rattle.std.proofs.lemmas.Bool.Decides.{nat_tests}
-use Rattle.machine_states.specs.body_terms.specs.Memory.{cell_of}
-use Rattle.machine_states.specs.body_terms.specs.Word.{version_of}
-use Rattle.machine_states.specs.table_words.specs.declared.layout.Layout.{Layout}
-use Rattle.machine_states.specs.table_words.specs.declared.spot.Spot.{Spot}
-use Rattle.machine_states.specs.table_words.specs.declared.spot.Spot.TheVariants.{Cell}
 use Rattle.machine_states.specs.structure_laws.specs.Meaning.{Meaning}
-use Rattle.version_words.specs.TableState.{WordsState, word_of}
+use Rattle.version_words.specs.TableState.{WordsState}
 use Rattle.hash_table.specs.try_lock.specs.epoch_slots.specs.declared.reserves.Kind.{Kind}
 use Rattle.hash_table.specs.try_lock.specs.epoch_slots.specs.declared.reserves.Kind.TheVariants as slots
 use Rattle.hash_table.specs.try_lock.specs.epoch_slots.specs.declared.reserves.Short.{Short}
-use Rattle.threaded_runs.specs.free_serving.specs.lock_words.specs.Spent.{IsLate, IsPast, IsSpentAt}
 use Rattle.threaded_runs.specs.free_serving.specs.serving.specs.declared.answers.Served.{Served}
 use Rattle.threaded_runs.specs.free_serving.specs.serving.specs.declared.answers.Served.TheVariants as answers
 use Rattle.threaded_runs.specs.Runs.{AreServed, IsShortOf}
-use Rattle.flock_tool.specs.Complete.{HasEnoughSlots, HasEnoughVersions, Completes}
+use Rattle.threaded_runs.specs.Room.{HasEnoughSlots, HasEnoughVersions}
+use Rattle.threaded_runs.proofs.Sparing.{none_spent, none_worn}
+use Rattle.flock_tool.specs.Complete.{Completes}
 use Rattle.flock_tool.specs.Finish.{versions_of, slots_of, any_halted, first_or, first_from, finish_by, finish_status}
 use Rattle.flock_tool.specs.declared.finish.Finish.{Finish}
 use Rattle.flock_tool.specs.declared.finish.Finish.TheVariants.{Whole, Halted, WornSlots}
@@ -98,17 +94,6 @@ six_lacks list unserved status = by (first_from versions_of 0 list) refl (first_
 pub ends_otherwise : {T : Type 0} (m : Meaning) (w : WordsState T) (waits : Bool) (number : ℕ) → number ≢ 5 → number ≢ 6 → Completes m w waits number
 ends_otherwise m w waits number not_five not_six = record { slots = λ _ _. not_five; versions = λ _. not_six }
 
--- fewer than two versions are left behind a word that is told spent, and its place isn't at an earlier one
-pub is_late : (m : Meaning) (l : Layout) (place word : ℕ) → IsSpentAt m l place word → IsLate l word
-is_late m l place word spent = ⊎_elim (λ free. free.2) (λ limit. omega (arith, limit.1)) spent
-
-pub is_past : (words : Spot → ℕ) (place word : ℕ) → IsPast words place word → version_of word ≤ version_of (words (Cell place))
-is_past words place word past = ⊎_elim (λ same. let now = ap version_of same in omega (arith, now)) (λ below. omega (arith, below)) past
-
-pub first_of : (xs : List ℕ) → 1 ≤ length xs → (x : ℕ) × (slice_get xs 0 ≡ Some x)
-first_of [] some = absurd (omega (arith, some))
-first_of (x ∷ xs) some = (x, refl)
-
 module _ {T : Type 0} {reads : Bool} (m : Meaning) (w : WordsState T) (waits : Bool) (list : List Served) (served : AreServed m w waits reads list) (unserved : ℕ) where
   -- a want that is waited out comes only where none of the worker's slots is in limbo; then two are free
   not_short : waits ≢ false → 1 ≤ w.layout.sections → HasEnoughSlots m w → (short : Short) → IsShortOf m w waits short → short.worn ≡ 0 → ⊥
@@ -131,14 +116,8 @@ module _ {T : Type 0} {reads : Bool} (m : Meaning) (w : WordsState T) (waits : B
   never_six enough six = by (six_lacks list unserved six)
     where
       by : LacksVersions list → ⊥
-      by (Met i place word at) = let shown = (served.served i (answers.Spent place word) at).shown in
-          let late = is_late m w.layout place word shown.0 in let past = is_past (word_of m w) place word shown.1 in let left = enough place in omega (arith, late, past, left)
-      by (Wears i short at some) =
-          let worn = (served.served i (answers.Short short) at).shown in
-          let many = worn.many in
-          let one = first_of worn.slots (omega (arith, many, some)) in
-          let cell = worn.each 0 one.0 one.1 in
-          let full = cell.worn in let left = enough (cell_of m.fixed_cells one.0 cell.cell) in omega (arith, full, left)
+      by (Met i place word at) = let shown = (served.served i (answers.Spent place word) at).shown in none_spent m w enough place word shown.0 shown.1
+      by (Wears i short at some) = let unworn = none_worn m w enough short.worn (served.served i (answers.Short short) at).shown in omega (arith, unworn, some)
 
   pub completes : 1 ≤ w.layout.sections → (number : ℕ) → number ≡ finish_status (finish_by list unserved) → Completes m w waits number
   completes some number is = record {

@@ -15,8 +15,9 @@ use Rattle.threaded_runs.specs.free_serving.specs.serving.specs.declared.answers
 use Rattle.threaded_runs.specs.free_serving.specs.serving.specs.declared.answers.Served.TheVariants as answers
 use Rattle.threaded_runs.specs.Lone.{AreServedAlone, ServesAlone}
 use Rattle.threaded_runs.specs.Runs.{AreServed, IsShortOf}
+use Rattle.threaded_runs.proofs.Sparing.{first_of, is_late, is_past}
 use Rattle.flock_tool.specs.Finish.{finish_by, finish_status}
-use Rattle.flock_tool.proofs.Enough.{Lacks, LacksVersions, first_of, five_lacks, is_late, is_past, six_lacks}
+use Rattle.flock_tool.proofs.Enough.{Lacks, LacksVersions, five_lacks, six_lacks}
 use Rattle.flock_tool.proofs.Enough.LacksVersions.{Met, Wears}
 
 twice : (per_pair size : ℕ) → per_pair ≤ 2 → per_pair * size ≤ 2 * size

@@ -17,4 +17,5 @@ pub mod Running
 pub mod Sizes
 pub mod Whole
 mod OneKeyed
+mod Others
 mod Traced

@@ -30,6 +30,7 @@ use Rattle.flock_tool.specs.declared.status.Stop.TheVariants.{WriteFault}
 use Rattle.flock_tool.proofs.Ends.{IfSome-from}
 use Rattle.flock_tool.proofs.Enough.{completes, ends_otherwise}
 use Rattle.flock_tool.proofs.Finishing.{finish_run, zero_all, one_halted}
+use Rattle.flock_tool.proofs.Others.{spares_others, spares_at_nine}
 use Rattle.flock_tool.proofs.Whole.{all_served}
 
 -- a run of a plan is one of its options and requests
@@ -100,6 +101,7 @@ ended_whole ran traces waits unserved status sink faults limits allowed served i
             (λ all. prints.1.0.counted ∙ all_served (meaning_of ran) (words_in ran) allowed waits (answers_in ran) served limits.some_runners all prints.1.0.entries prints.1.0.shown)
             (zero_all (answers_in ran) unserved (sym is ∙ none));
         enough = completes (meaning_of ran) (words_in ran) waits (answers_in ran) served unserved limits.some_sections status is;
+        others = spares_others (meaning_of ran) (words_in ran) allowed waits (answers_in ran) served limits.some_runners unserved status is;
         line = λ _. told_is;
         failed = λ nine. absurd (not_nine nine);
       };
@@ -108,9 +110,11 @@ ended_whole ran traces waits unserved status sink faults limits allowed served i
     }
 
 -- the sink failed, and holds a part of it
-pub ended_part : (ran : Ran) (traces : ℕ) (waits : Bool) (status : ℕ) (sink faults : Stream) → status ≡ 9 → StopsReport (meaning_of ran) (words_in ran) traces WriteFault sink
+pub ended_part : {reads : Bool} (ran : Ran) (traces : ℕ) (waits : Bool) (status : ℕ) (sink faults : Stream)
+    → IsWithinLimits (words_in ran).layout → AreAllowed (words_in ran).requests → AreServed (meaning_of ran) (words_in ran) waits reads (answers_in ran)
+    → status ≡ 9 → StopsReport (meaning_of ran) (words_in ran) traces WriteFault sink
     → Told (codes "flock: write fault\n") faults → EndsRun ran traces waits (status, Some ran) sink faults
-ended_part ran traces waits status sink faults nine stops tells = record {
+ended_part ran traces waits status sink faults limits allowed served nine stops tells = record {
   status = inr (inr (inr (inr nine)));
   back = refl;
   ended = record {
@@ -122,6 +126,7 @@ ended_part ran traces waits status sink faults nine stops tells = record {
     status = λ not. absurd (not nine);
     all = λ none. absurd (omega (arith, none, nine));
     enough = ends_otherwise (meaning_of ran) (words_in ran) waits status (λ five. omega (arith, five, nine)) (λ six. omega (arith, six, nine));
+    others = spares_at_nine (meaning_of ran) (words_in ran) allowed waits (answers_in ran) served limits.some_runners status nine;
     line = λ not. absurd (not nine);
     failed = λ _. tells;
   };

@@ -1,5 +1,5 @@
--- A run in which each runner has served all of its requests leaves none unserved.
-use Rattle.std.proofs.Common.{◌≡◌, ◌≢◌, ℕ, zero, suc, ◌<◌, ◌%◌, ◌==◌, Bool, true, false, cond, List, [], ◌∷◌, Option, None, Some, IsSome, length, refl, sym, ap, ◌∙◌, subst, arith, rules, zero-add}
+-- The requests of a runner that has served all of its own have an entry; so where each has, none is unserved.
+use Rattle.std.proofs.Common.{◌≡◌, ◌≢◌, ℕ, zero, suc, ◌<◌, ◌%◌, ◌==◌, Bool, true, false, cond, List, [], ◌∷◌, Option, None, Some, IsSome, get_or, length, refl, sym, ap, ◌∙◌, subst, arith, rules, zero-add}
 use Rattle.std.specs.Prelude.{not, is_some, filter, map, slice_get}
 use Rattle.std.proofs.lemmas.Bool.Decides.{nat_tests}
 use Rattle.std.proofs.lemmas.List.Sums.{sum_by-cons}
@@ -66,20 +66,18 @@ numbered requests traces order n q at = some_same q.number n (sym by_map ∙ (ap
         ∙ ap (λ (k : ℕ). Some k) (get_or-range_with_len 0 (length requests) n 0 low ∙ zero-add n)
 
 module _ {T : Type 0} {reads : Bool} (m : Meaning) (w : WordsState T) (allowed : AreAllowed w.requests) (retry_short : Bool) (list : List Served)
-    (served : AreServed m w retry_short reads list) (some : 0 < w.layout.runners)
-    (all : (i : ℕ) (answer : Served) → slice_get list i ≡ Some answer → answer ≡ answers.All) where
-  -- each request has a stamp
-  stamped : (n : ℕ) (q : Request) → slice_get w.requests n ≡ Some q → word_of m w (Stamp n) ≢ 0
-  stamped n q is = subst (λ k. word_of m w (Stamp k) ≢ 0) (numbered w.requests 64 allowed.in_order n q is) here
+    (served : AreServed m w retry_short reads list) (some : 0 < w.layout.runners) where
+  -- the answer of the runner that serves this request
+  pub answer_for : (q : Request) → (answer : Served) × (slice_get list (q.trace % w.layout.runners) ≡ Some answer)
+  answer_for q = (_, slice_get-get_or list (q.trace % w.layout.runners) answers.All (omega (arith, served.each, some)))
+
+  -- where it has served all of its requests, this one has a stamp
+  pub stamped : (n : ℕ) (q : Request) → slice_get w.requests n ≡ Some q → slice_get list (q.trace % w.layout.runners) ≡ Some answers.All
+      → word_of m w (Stamp n) ≢ 0
+  stamped n q is there = subst (λ k. word_of m w (Stamp k) ≢ 0) (numbered w.requests 64 allowed.in_order n q is) here
     where
       worker : ℕ
       worker = q.trace % w.layout.runners
-
-      inside : worker < length list
-      inside = omega (arith, served.each, some)
-
-      there : slice_get list worker ≡ Some answers.All
-      there = let is = slice_get-get_or list worker answers.All inside in is ∙ ap Some (all worker _ is)
 
       own : HasServed m w retry_short reads (own_requests w.layout.runners worker w.requests) answers.All
       own = served.served worker answers.All there
@@ -90,12 +88,14 @@ module _ {T : Type 0} {reads : Bool} (m : Meaning) (w : WordsState T) (allowed :
       here : stamp_of m w q ≢ 0
       here = own.entered.entries place.0 q (omega (arith, slice_get_within _ place.0 q place.1, own.cause)) place.1
 
-  pub all_served : (entries : List (Option Entry)) → HaveEntries m w entries → unserved_in entries ≡ 0
-  all_served entries shown = none_unserved entries there
+  pub all_served : ((i : ℕ) (answer : Served) → slice_get list i ≡ Some answer → answer ≡ answers.All)
+      → (entries : List (Option Entry)) → HaveEntries m w entries → unserved_in entries ≡ 0
+  all_served all entries shown = none_unserved entries there
     where
       there : (n : ℕ) (entry : Option Entry) → slice_get entries n ≡ Some entry → IsSome entry
       there n (Some entry) is = search rules
       there n None is =
           let inside : n < length w.requests = omega (arith, slice_get_within entries n None is, shown.one_each) in
           let at = slice_get-get_or w.requests n (record { trace = 0; number = 0; op = Get 0 }) inside in
-          absurd (stamped n _ at (shown.each n None is))
+          let own = answer_for (get_or w.requests n (record { trace = 0; number = 0; op = Get 0 })) in
+          absurd (stamped n _ at (own.1 ∙ ap Some (all _ own.0 own.1)) (shown.each n None is))

@@ -17,7 +17,7 @@ use Rattle.command_line.specs.Options.{are_free}
 use Rattle.command_line.specs.declared.generated.LoadOptions.{LoadOptions}
 use Rattle.flock_tool.specs.declared.load.Counted.{Counted}
 use Rattle.flock_tool.specs.declared.ran.Ran.{Ran}
-use Rattle.flock_tool.specs.Complete.{Completes}
+use Rattle.flock_tool.specs.Complete.{Completes, SparesOthers}
 use Rattle.flock_tool.specs.Finish.{any_halted, finish_by, finish_status, TellsFinish}
 use Rattle.flock_tool.specs.Runs.{words_in, answers_in, meaning_of, AreGiven, IsRunOf, IsRunStatus, LacksMemory}
 use Rattle.flock_tool.specs.Streams.{Fails, Gating, Stream, Told}
@@ -48,6 +48,8 @@ pub record HasCounted (ran : Ran) (waits : Bool) (number : ℕ) (sink faults : S
   pub status : number ≢ 9 → number ≡ finish_status (finish_by (answers_in ran) (unserved_in entries))
   -- with slots and versions enough it isn't 5, where a want of slots is waited out, and isn't 6
   pub enough : Completes (meaning_of ran) (words_in ran) waits number
+  -- whoever stops, the others are served
+  pub others : SparesOthers (meaning_of ran) (words_in ran) (answers_in ran) number
   pub line : number ≢ 9 → TellsFinish (finish_by (answers_in ran) (unserved_in entries)) faults
   pub failed : number ≡ 9 → Told (codes "flock: write fault\n") faults
   pub halted : number ≡ 1 → any_halted (answers_in ran) ≡ true

@@ -23,7 +23,7 @@ use Rattle.command_line.specs.Options.{are_free, bits_by}
 use Rattle.command_line.specs.declared.options.RunOptions.{RunOptions}
 use Rattle.threaded_runs.specs.free_serving.specs.resource_bounds.specs.Makes.{inserts}
 use Rattle.command_line.specs.declared.options.TableKind.TheVariants as kinds
-use Rattle.flock_tool.specs.Complete.{Completes}
+use Rattle.flock_tool.specs.Complete.{Completes, SparesOthers}
 use Rattle.flock_tool.specs.Finish.{any_halted, finish_by, finish_status, TellsFinish}
 use Rattle.flock_tool.specs.Plans.{layout_by}
 use Rattle.flock_tool.specs.Streams.{Fails, Gating, Stream, Told}
@@ -166,6 +166,8 @@ pub record HasEnded (ran : Ran) (traces : ℕ) (waits : Bool) (number : ℕ) (si
   pub all : number ≡ 0 → unserved ≡ 0
   -- with slots and versions enough it isn't 5, where a want of slots is waited out, and isn't 6
   pub enough : Completes (meaning_of ran) (words_in ran) waits number
+  -- whoever stops, the others are served
+  pub others : SparesOthers (meaning_of ran) (words_in ran) (answers_in ran) number
   pub line : number ≢ 9 → TellsFinish (finish_by (answers_in ran) unserved) faults
   pub failed : number ≡ 9 → Told (codes "flock: write fault\n") faults
 

@@ -10,7 +10,8 @@ use Rattle.command_line.specs.Options.{runners_by}
 use Rattle.command_line.specs.declared.command.Command.{Command}
 use Rattle.command_line.specs.declared.command.Command.TheVariants as commands
 use Rattle.command_line.specs.declared.options.RunOptions.{RunOptions}
-use Rattle.flock_tool.specs.Complete.{HasEnoughVersions, IsAnswered}
+use Rattle.threaded_runs.specs.Room.{HasEnoughVersions}
+use Rattle.flock_tool.specs.Complete.{IsAnswered}
 use Rattle.flock_tool.specs.Plans.{all_nodes, all_requests, layout_by}
 use Rattle.flock_tool.specs.Runs.{meaning_of, words_in}
 use Rattle.flock_tool.specs.Streams.{Fails, Gating, Halts, Stream}

@@ -1,9 +1,7 @@
--- What each step leaves of a runner's own node slots and of the section that it has published.
+-- What each step leaves of a runner's own node slots outside limbo, and of the section that it has published.
 use Rattle.std.specs.Prelude.{◌==◌, ◌&&◌, ◌⊎◌, not, nat_lt, nat_le, cond, Bool, true, false, if◌then◌else◌}
 use Rattle.std.specs.List.{filter}
 use Rattle.std.proofs.Common.{◌≡◌, ℕ, suc, ◌+◌, ◌≤◌, List, [], ◌∷◌, ◌++◌, length, length-append, refl, sym, ap, ◌∙◌, subst, inl, inr, arith, Option, Some, None}
-use Rattle.std.proofs.lemmas.List.{length-map}
-use Rattle.std.proofs.lemmas.List.Filters.{length-filter_both}
 use Rattle.machine_states.specs.epoch_core.specs.small_lemmas.proofs.Numbers.{tested_equal as same_zero}
 use Rattle.machine_states.specs.body_terms.specs.Line.{is_end}
 use Rattle.machine_states.specs.body_terms.specs.declared.micro.Micro.{Micro}
@@ -20,7 +18,7 @@ use Rattle.machine_states.specs.runner_parts.specs.declared.event.EventKind.{Eve
 use Rattle.machine_states.specs.runner_parts.specs.declared.event.EventKind.TheVariants as kinds
 use Rattle.machine_states.specs.runner_parts.specs.State.{RunState, NodesState, PartState}
 use Rattle.machine_states.specs.runner_parts.specs.Lists as lists
-use Rattle.machine_states.specs.runner_parts.specs.Lists.{without, is_old, slots_of, entry_count}
+use Rattle.machine_states.specs.runner_parts.specs.Lists.{without, is_old, slots_of}
 use Rattle.machine_states.specs.runner_parts.specs.Tests.{has}
 use Rattle.machine_states.specs.runner_steps.specs.Sections.{is_open_run, next_of}
 use Rattle.machine_states.specs.epoch_core.specs.State.{last_epoch}
@@ -31,6 +29,7 @@ use Rattle.machine_states.specs.runner_steps.specs.After.{line_after, inside_aft
 use Rattle.machine_states.specs.epoch_core.specs.Lists.{times}
 use Rattle.machine_states.proofs.Steps.{some_same, none_some}
 use Rattle.reached_histories.specs.machine_facts.specs.machine_invariant.specs.Slots.{times_among}
+use Rattle.resource_bounds.specs.Makes.{slots_left}
 
 -- a list without a number is shorter by as often as that stood in it
 without_length : (xs : List ℕ) (d : ℕ) → length (without xs d) + times d xs ≡ length xs
@@ -43,25 +42,21 @@ without_length (x ∷ xs) d = by (x == d) (without_length xs d)
     by false rest = omega arith
 
 module _ (n : NodesState) (slot : ℕ) (once : times_among n slot ≤ 1) where
-  back : (worn : Bool) → entry_count n ≤ entry_count (lists.slot_back n slot worn)
+  back : (worn : Bool) → slots_left n ≤ slots_left (lists.slot_back n slot worn)
   back true = let less = without_length n.hand slot in let more = length-append n.worn (slot ∷ []) in omega (arith, once, less, more)
   back false = let less = without_length n.hand slot in let more = length-append n.free (slot ∷ []) in omega (arith, once, less, more)
 
-  taken : entry_count n ≤ entry_count (lists.slot_taken n slot)
+  taken : slots_left n ≤ slots_left (lists.slot_taken n slot)
   taken = let less = without_length n.free slot in let more = length-append n.hand (slot ∷ []) in omega (arith, once, less, more)
 
-  used_up : entry_count n ≤ suc (entry_count (lists.slot_made n slot))
+  used_up : slots_left n ≤ suc (slots_left (lists.slot_made n slot))
   used_up = let less = without_length n.hand slot in omega (arith, once, less)
 
-retired : (n : NodesState) (slot epoch : ℕ) → entry_count n ≤ entry_count (lists.slot_retired n slot epoch)
-retired n slot epoch = let more = length-append n.limbo (record { slot = slot; epoch = epoch } ∷ []) in omega (arith, more)
+retired : (n : NodesState) (slot epoch : ℕ) → slots_left n ≤ slots_left (lists.slot_retired n slot epoch)
+retired n slot epoch = omega arith
 
-collected : (n : NodesState) (epoch : ℕ) → entry_count n ≤ entry_count (lists.nodes_collected epoch n)
-collected n epoch =
-    let all = length-filter_both (is_old epoch) (λ x. not (is_old epoch x)) (λ x. refl) n.limbo in
-    let hand = length-append n.hand (slots_of (filter (is_old epoch) n.limbo)) in
-    let slots : length (slots_of (filter (is_old epoch) n.limbo)) ≡ length (filter (is_old epoch) n.limbo)
-    = length-map (filter (is_old epoch) n.limbo) (λ x. x.slot) in omega (arith, all, hand, slots)
+collected : (n : NodesState) (epoch : ℕ) → slots_left n ≤ slots_left (lists.nodes_collected epoch n)
+collected n epoch = let hand = length-append n.hand (slots_of (filter (is_old epoch) n.limbo)) in omega (arith, hand)
 
 -- the published section is there still
 abbrev pub Stays : Published → Option Published → Type 0
@@ -74,7 +69,7 @@ pub record WinsMake (p p' : PartState) (kind : EventKind) (found : ℕ) : Type 0
   pub runs : p.run ≡ Some run
   pub opened : is_open_run run ≡ true
   pub empty : found ≡ 0
-  pub less : entry_count p.nodes ≤ suc (entry_count p'.nodes)
+  pub less : slots_left p.nodes ≤ suc (slots_left p'.nodes)
 
 -- a run of this section by this runner comes to its end, with its last release
 pub record Ends (p : PartState) (kind : EventKind) (d : ℕ) : Type 0 where
@@ -86,21 +81,21 @@ pub record Ends (p : PartState) (kind : EventKind) (d : ℕ) : Type 0 where
 
 pub record Leaves (p p' : PartState) (kind : EventKind) (found : ℕ) : Type 0 where
   -- no slot is lost but by a Make
-  pub slots : (entry_count p.nodes ≤ entry_count p'.nodes) ⊎ WinsMake p p' kind found
+  pub slots : (slots_left p.nodes ≤ slots_left p'.nodes) ⊎ WinsMake p p' kind found
   -- a published section stays until its publisher has run it to its end
   pub published : (x : Published) → p.published ≡ Some x → Stays x p'.published ⊎ Ends p kind x.descriptor
 
 module _ (m : Meaning) (l : Layout) (p : PartState) (once : (t : ℕ) → times_among p.nodes t ≤ 1) (found : ℕ) where
   module _ (kind : EventKind) where
-    leaves : (p' : PartState) → (entry_count p.nodes ≤ entry_count p'.nodes) ⊎ WinsMake p p' kind found → p'.published ≡ p.published → Leaves p p' kind found
+    leaves : (p' : PartState) → (slots_left p.nodes ≤ slots_left p'.nodes) ⊎ WinsMake p p' kind found → p'.published ≡ p.published → Leaves p p' kind found
     leaves p' slots published = record { slots = slots; published = λ x is. inl (x, published ∙ is, refl, refl) }
 
     either : (b : Bool) (y z : PartState) → Leaves p y kind found → Leaves p z kind found → Leaves p (if b then y else z) kind found
     either true y z one two = one
     either false y z one two = two
 
-    least : (p' : PartState) → p'.nodes ≡ p.nodes → entry_count p.nodes ≤ entry_count p'.nodes
-    least p' e = let same = ap entry_count e in omega (arith, same)
+    least : (p' : PartState) → p'.nodes ≡ p.nodes → slots_left p.nodes ≤ slots_left p'.nodes
+    least p' e = let same = ap slots_left e in omega (arith, same)
 
     same : (p' : PartState) → p'.nodes ≡ p.nodes → p'.published ≡ p.published → Leaves p p' kind found
     same p' nodes published = leaves p' (inl (least p' nodes)) published
@@ -117,23 +112,23 @@ module _ (m : Meaning) (l : Layout) (p : PartState) (once : (t : ℕ) → times_
         p' : PartState
         p' = inside.make_committed m l p q (Some slot) found
 
-        by : (b : Bool) → (found == 0) ≡ b → (entry_count p.nodes ≤ entry_count p'.nodes) ⊎ WinsMake p p' kinds.MakeCommit found
+        by : (b : Bool) → (found == 0) ≡ b → (slots_left p.nodes ≤ slots_left p'.nodes) ⊎ WinsMake p p' kinds.MakeCommit found
         by true e = inr (record {
           is = refl;
           run = q;
           runs = runs;
           opened = opened;
           empty = same_zero found 0 e;
-          less = subst (λ b. entry_count p.nodes ≤ suc (entry_count (if b then lists.slot_made p.nodes slot else lists.slot_back p.nodes slot q.worn)))
+          less = subst (λ b. slots_left p.nodes ≤ suc (slots_left (if b then lists.slot_made p.nodes slot else lists.slot_back p.nodes slot q.worn)))
               (sym e) (used_up p.nodes slot (once slot));
         })
-        by false e = inl (subst (λ b. entry_count p.nodes ≤ entry_count (if b then lists.slot_made p.nodes slot else lists.slot_back p.nodes slot q.worn))
+        by false e = inl (subst (λ b. slots_left p.nodes ≤ slots_left (if b then lists.slot_made p.nodes slot else lists.slot_back p.nodes slot q.worn))
             (sym e) (back p.nodes slot (once slot) q.worn))
 
     retire : (slot : ℕ) → Leaves p (inside.retire_committed m l slot p q found) kinds.RetireCommit found
     retire slot = leaves kinds.RetireCommit _ (inl (by (found == 0))) refl
       where
-        by : (b : Bool) → entry_count p.nodes ≤ entry_count (if b then lists.slot_retired p.nodes slot q.word else p.nodes)
+        by : (b : Bool) → slots_left p.nodes ≤ slots_left (if b then lists.slot_retired p.nodes slot q.word else p.nodes)
         by true = retired p.nodes slot q.word
         by false = omega arith
 
@@ -211,12 +206,12 @@ module _ (m : Meaning) (l : Layout) (p : PartState) (once : (t : ℕ) → times_
       x : Tested
       x = lists.one_more l (lists.test_of p.nodes.tests slot) found
 
-      tested : (b : Bool) → entry_count p.nodes
-          ≤ entry_count (if b then lists.slot_back p.nodes x.slot x.worn else record (p.nodes) { tests = lists.tests_without p.nodes.tests x.slot ++ x ∷ [] })
+      tested : (b : Bool) → slots_left p.nodes
+          ≤ slots_left (if b then lists.slot_back p.nodes x.slot x.worn else record (p.nodes) { tests = lists.tests_without p.nodes.tests x.slot ++ x ∷ [] })
       tested true = back p.nodes x.slot (once x.slot) x.worn
       tested false = omega arith
 
-      by : (b : Bool) → entry_count p.nodes ≤ entry_count (if b then lists.slot_tested p.nodes x else p.nodes)
+      by : (b : Bool) → slots_left p.nodes ≤ slots_left (if b then lists.slot_tested p.nodes x else p.nodes)
       by true = tested (x.cells == 5)
       by false = omega arith
 

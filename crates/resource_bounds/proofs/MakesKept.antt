@@ -48,7 +48,6 @@ use Rattle.reached_histories.specs.machine_facts.specs.States.{FactsStand}
 use Rattle.reached_histories.specs.machine_facts.specs.After.{AreFactsOfStep}
 use Rattle.reached_histories.specs.machine_facts.specs.machine_invariant.specs.Along.{Components}
 use Rattle.reached_histories.specs.machine_facts.specs.machine_invariant.specs.After.{AreAllowed}
-use Rattle.machine_states.specs.runner_parts.specs.Lists.{entry_count}
 use Rattle.reached_histories.specs.machine_facts.specs.machine_invariant.specs.Slots.{times_among}
 use Rattle.reached_histories.specs.Requests.{requests_of}
 use Rattle.next_steps.proofs.Parts.{IsBlind, each_part}
@@ -57,6 +56,7 @@ use Rattle.reached_histories.specs.Laws.{HasHistory}
 use Rattle.reached_histories.proofs.Histories.{reached_have}
 use Rattle.agreement_core.specs.Runs.{TrailIsSound}
 use Rattle.machine_states.specs.epoch_core.specs.History.{is_out}
+use Rattle.resource_bounds.specs.Makes.{slots_left}
 use Rattle.resource_bounds.proofs.Lines.{makes_in, few_makes, some_make, makes_stay, makes_more}
 use Rattle.resource_bounds.proofs.MakesSums.{total, total_more}
 use Rattle.resource_bounds.proofs.Entries.{Stays, WinsMake, Ends, Leaves, inside_leaves, MayGo, outside_leaves}
@@ -90,7 +90,7 @@ module _ (m : Meaning) (l : Layout) (rs : List Request) where
   -- by request, how many Makes were won for it
   pub record Counted (s : Sight) : Type 0 where
     pub won : ℕ → ℕ
-    pub slots : (r : ℕ) → r < l.runners → l.nodes ≤ entry_count (s.part r).nodes + total won (length rs)
+    pub slots : (r : ℕ) → r < l.runners → l.nodes ≤ slots_left (s.part r).nodes + total won (length rs)
     pub most : (q : ℕ) → IsMost s q (won q)
 
 -- of a state: what is published is a section, whose thunk stands there
@@ -246,15 +246,15 @@ module _ (m : Meaning) (laws : Laws m) (l : Layout) (limits : IsWithinLimits l) 
             (subst (λ d. s.word (spots.DoneWord d) ≢ 0) (sym is.of_section) (ended_done is.run is.runs is.opened is.is)))
 
     -- the step wins no commit of a Make
-    kept : entry_count p.nodes ≤ entry_count (after_by m l e.kind p p.run found).nodes → Counted m l rs s'
+    kept : slots_left p.nodes ≤ slots_left (after_by m l e.kind p p.run found).nodes → Counted m l rs s'
     kept least = record {
       won = old.won;
       slots = λ i low. let before = old.slots i low in let more = entries i in omega (arith, before, more);
       most = λ q. most_keeps q (old.won q) (old.most q);
     }
       where
-        entries : (i : ℕ) → entry_count (s.part i).nodes ≤ entry_count (s'.part i).nodes
-        entries = parts (λ i p'. entry_count (s.part i).nodes ≤ entry_count p'.nodes) (λ i p' records gone h. h) least (λ i ne. omega arith)
+        entries : (i : ℕ) → slots_left (s.part i).nodes ≤ slots_left (s'.part i).nodes
+        entries = parts (λ i p'. slots_left (s.part i).nodes ≤ slots_left p'.nodes) (λ i p' records gone h. h) least (λ i ne. omega arith)
 
     -- it does
     module _ (wins : WinsMake p (after_by m l e.kind p p.run found) e.kind found) where
@@ -365,8 +365,8 @@ module _ (m : Meaning) (laws : Laws m) (l : Layout) (limits : IsWithinLimits l) 
             (λ ne. subst (IsMost m l rs s' q) (sym (upd_else old.won n (suc (old.won n)) q ne)) (most_keeps q (old.won q) (old.most q)))
             (cases_eq q n)
 
-        entries : (i : ℕ) → entry_count (s.part i).nodes ≤ suc (entry_count (s'.part i).nodes)
-        entries = parts (λ i p'. entry_count (s.part i).nodes ≤ suc (entry_count p'.nodes)) (λ i p' records gone h. h) wins.less (λ i ne. omega arith)
+        entries : (i : ℕ) → slots_left (s.part i).nodes ≤ suc (slots_left (s'.part i).nodes)
+        entries = parts (λ i p'. slots_left (s.part i).nodes ≤ suc (slots_left p'.nodes)) (λ i p' records gone h. h) wins.less (λ i ne. omega arith)
 
         won_more : Counted m l rs s'
         won_more = record {

@@ -21,10 +21,9 @@ use Rattle.machine_states.proofs.Reached.{first_reached, more_reached, reached_h
 use Rattle.machine_states.proofs.Sights.{happens_steps}
 use Rattle.reached_histories.specs.machine_facts.proofs.Following.{facts_after, step_facts_after}
 use Rattle.reached_histories.specs.machine_facts.specs.machine_invariant.specs.After.{AreAllowed}
-use Rattle.machine_states.specs.runner_parts.specs.Lists.{entry_count}
 use Rattle.reached_histories.specs.Laws.{HasHistory}
 use Rattle.reached_histories.proofs.Histories.{reached_have}
-use Rattle.resource_bounds.specs.Makes.{MakesAreCounted}
+use Rattle.resource_bounds.specs.Makes.{slots_left, MakesAreCounted}
 use Rattle.resource_bounds.proofs.MakesSums.{total_added}
 use Rattle.resource_bounds.proofs.MakesKept.{Counted, worker_of, used_there, settled, counted_on}
 
@@ -45,16 +44,16 @@ module _ (m : Meaning) (laws : Laws m) (l : Layout) (limits : IsWithinLimits l) 
   less : (r n : ℕ) → r < n → nat_lt r n ≡ true
   less r n low = grind (arith, nat_tests)
 
-  first_entries : (r : ℕ) → r < l.runners → entry_count (first_part_of m l r).nodes ≡ l.nodes
+  first_entries : (r : ℕ) → r < l.runners → slots_left (first_part_of m l r).nodes ≡ l.nodes
   first_entries r low =
-      ap (λ b. entry_count (cond b (keeper_part m l) (cond (nat_lt r l.runners) (worker_part m l r) (first_part [] []))).nodes) (below r l.runners low)
-      ∙ (ap (λ b. entry_count (cond b (worker_part m l r) (first_part [] [])).nodes) (less r l.runners low)
+      ap (λ b. slots_left (cond b (keeper_part m l) (cond (nat_lt r l.runners) (worker_part m l r) (first_part [] []))).nodes) (below r l.runners low)
+      ∙ (ap (λ b. slots_left (cond b (worker_part m l r) (first_part [] [])).nodes) (less r l.runners low)
       ∙ (let all = falling_length (m.fixed_slots + l.nodes * r) l.nodes in omega (arith, all)))
 
   first_has : (w : World) → IsFirst m l rs w → Counted m l rs (sight m l rs w)
   first_has w first = record {
     won = λ q. 0;
-    slots = λ r low. let same = ap (λ (p : PartState). entry_count p.nodes) (first_parts m l w.parts first.parts r) in let all = first_entries r low in
+    slots = λ r low. let same = ap (λ (p : PartState). slots_left p.nodes) (first_parts m l w.parts first.parts r) in let all = first_entries r low in
         omega (arith, same, all);
     most = λ q. inl refl;
   }

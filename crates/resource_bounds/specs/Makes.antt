@@ -1,4 +1,4 @@
--- How many node slots a worker still has, and how many requests added a pair.
+-- How many node slots a worker can still come by, and how many requests added a pair.
 use Rattle.std.specs.Prelude.{◌≡◌, ℕ, zero, suc, ◌+◌, ◌*◌, ◌<◌, ◌≤◌, cond, true, List, length, count_by}
 use Rattle.machine_states.specs.map_history.specs.declared.op.Request.{Request}
 use Rattle.machine_states.specs.map_history.specs.Keys.{may_add}
@@ -9,7 +9,7 @@ use Rattle.machine_states.specs.table_words.specs.declared.spot.Spot.{Spot}
 use Rattle.machine_states.specs.table_words.specs.declared.spot.Spot.TheVariants.{Reply, Cell}
 use Rattle.machine_states.specs.structure_laws.specs.Meaning.{Meaning}
 use Rattle.machine_states.specs.Sight.{Sight}
-use Rattle.machine_states.specs.runner_parts.specs.Lists.{entry_count}
+use Rattle.machine_states.specs.runner_parts.specs.State.{NodesState}
 
 -- how many of the first requests have a reply that says that a pair was added, or put in the place of another
 abbrev pub added : (Spot → ℕ) → ℕ → ℕ
@@ -20,11 +20,16 @@ added word (suc n) = added word n + cond (adds_by (word (Reply n))) 1 0
 abbrev pub HoldsNoLock : Meaning → (Spot → ℕ) → Type 0
 HoldsNoLock m word = (p : ℕ) → m.is_lock p ≡ true → value_of (word (Cell p)) ≡ 0
 
--- where no lock is held: a worker's own slots are all there but for those that Makes used up, which are at
--- most two for each request that added a pair, or put a new one in the place of another
+-- how many node slots a runner has free, in its hand or worn: those in its limbo aren't counted
+abbrev pub slots_left : NodesState → ℕ
+slots_left n = length n.hand + (length n.free + length n.worn)
+
+-- where no lock is held: of a worker's slots only those are gone that Makes used up, which are at most two for each
+-- request that added a pair, or put a new one in the place of another. What it retired comes on top, though it may
+-- wait in limbo for ever
 abbrev pub MakesAreCounted : Meaning → Layout → List Request → Sight → Type 0
 MakesAreCounted m l requests s = HoldsNoLock m s.word → (r : ℕ) → r < l.runners
-    → l.nodes ≤ entry_count (s.part r).nodes + 2 * added s.word (length requests)
+    → l.nodes ≤ slots_left (s.part r).nodes + 2 * added s.word (length requests)
 
 -- how many requests may add a pair
 abbrev pub inserts : List Request → ℕ

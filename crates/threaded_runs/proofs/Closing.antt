@@ -46,7 +46,7 @@ use Rattle.free_serving.specs.Services.{is_get}
 use Rattle.free_serving.specs.Left.{Rises, IsBefore, IsOdd, AreAskedWholly, WasPublished, WasReadInVain, Leaves, Ends}
 use Rattle.free_serving.specs.serving.specs.declared.answers.Served.{Served}
 use Rattle.free_serving.specs.serving.specs.declared.answers.Served.TheVariants as answers
-use Rattle.free_serving.specs.resource_bounds.specs.Makes.{added}
+use Rattle.free_serving.specs.resource_bounds.specs.Makes.{added, slots_left}
 use Rattle.threaded_runs.specs.Runs.{stamp_of, AreEntered, AreWornOut, IsShortOf, HasServed}
 use Rattle.threaded_runs.specs.Counts.{halted}
 use Rattle.threaded_runs.proofs.Picked.{front_only}
@@ -220,7 +220,7 @@ module _ {T : Type 0} (m : Meaning) (t : TableState T) (keeper : RunnerState T) 
 
     module _ (low : worker < t.layout.runners) (own_new : IsOf t new) (number : new.number ≡ worker) (kept : DescriptorsAreKept t.layout end) (spent : SpentStand m t.layout end) (worn : WornAreWorn m t.layout end)
         (once_worn : (i j slot : ℕ) → slice_get (end.part worker).nodes.worn i ≡ Some slot → slice_get (end.part worker).nodes.worn j ≡ Some slot → i ≡ j)
-        (many : t.layout.nodes ≤ entry_count (end.part worker).nodes + 2 * added end.word (length t.requests)) (lists : ListsAreShort m t.layout end) where
+        (many : t.layout.nodes ≤ slots_left (end.part worker).nodes + 2 * added end.word (length t.requests)) (lists : ListsAreShort m t.layout end) where
       -- where the request behind them was just served, it has an entry
       entered_just : new.part.published ≡ None → (q : Request) → slice_get own count ≡ Some q → WasJustServed q new → AreEntered m w reads_free own (count + 1)
       entered_just nothing q at just = one_more_entered (opened_none nothing) q at (entry count q at just.answered)
@@ -289,19 +289,18 @@ module _ {T : Type 0} (m : Meaning) (t : TableState T) (keeper : RunnerState T) 
             ap (λ (x : Short). x.limbo) same ∙ all_in_limbo lacks nothing,
           )
 
-      -- its hand is empty, so its slots are free, in limbo or worn
+      -- its hand is empty, so its slots outside limbo are free or worn
       short_counted : (short : Short) → short ≡ counts_of new short.kind → IsTidy new → short.kind ≡ slots.Node
-          → w.layout.nodes ≤ short.free + (short.limbo + short.worn) + 2 * added (word_of m w) (length w.requests)
+          → w.layout.nodes ≤ short.free + short.worn + 2 * added (word_of m w) (length w.requests)
       short_counted short counts tidy kind =
           let same : short ≡ counts_of new slots.Node = counts ∙ ap (counts_of new) kind in
           let free : short.free ≡ length new.part.nodes.free = ap (λ (x : Short). x.free) same in
-          let limbo : short.limbo ≡ length new.part.nodes.limbo = ap (λ (x : Short). x.limbo) same in
           let worn_out : short.worn ≡ length new.part.nodes.worn = ap (λ (x : Short). x.worn) same in
           let hand : length new.part.nodes.hand ≡ 0 = ap length tidy.hand in
-          let entries : entry_count (end.part worker).nodes ≡ entry_count new.part.nodes = ap (λ (p : PartState). entry_count p.nodes) part in
+          let left : slots_left (end.part worker).nodes ≡ slots_left new.part.nodes = ap (λ (p : PartState). slots_left p.nodes) part in
           let nodes : w.layout.nodes ≡ t.layout.nodes = ap (λ (l : Layout). l.nodes) closing.layout in
           let pairs = added_is in
-          omega (arith, free, limbo, worn_out, hand, entries, nodes, pairs, many)
+          omega (arith, free, worn_out, hand, left, nodes, pairs, many)
 
       -- and they are no more than the table has
       short_most : (short : Short) → short ≡ counts_of new short.kind → short.kind ≡ slots.Node → short.free + (short.limbo + short.worn) ≤ cells.slots m w.layout
@@ -347,6 +346,7 @@ module _ {T : Type 0} (m : Meaning) (t : TableState T) (keeper : RunnerState T) 
         counted = short_counted short stops.cause.counts tidy;
         most = short_most short stops.cause.counts;
         descriptors = short_descriptors short stops.cause.few stops.cause.counts tidy.at.published;
+        named = λ kind. subst (λ (l : Layout). short.limbo ≤ l.runners) (own_new.layout ∙ sym closing.layout) (stops.cause.named kind);
       }
 
       -- as many have an entry as were served, or one more, whose section it published

@@ -12,7 +12,6 @@ use Rattle.machine_states.specs.structure_laws.specs.Meaning.{Meaning}
 use Rattle.machine_states.specs.structure_laws.specs.Planner.{PlannerLaws}
 use Rattle.machine_states.specs.World.{seat_of}
 use Rattle.machine_states.specs.Reached.{Reached}
-use Rattle.machine_states.specs.runner_parts.specs.Lists.{entry_count}
 use Rattle.machine_states.specs.runner_steps.specs.After.{leaves}
 use Rattle.machine_states.specs.Sight.{sight}
 use Rattle.settled_tables.specs.settling.specs.runner_gate.specs.Asks.{Asks}
@@ -39,6 +38,7 @@ use Rattle.threaded_runs.specs.Jobs.{AllSeated, AllUnhalted, AllGiven, AllRun, A
 use Rattle.threaded_runs.specs.Gates.{served_by, IsGateOf, GatesCameBack}
 use Rattle.threaded_runs.proofs.Gates.{length-gates_of, gate_at, often_so}
 use Rattle.threaded_runs.specs.Runs.{HasServed, AreServed, served_in, stamp_of}
+use Rattle.threaded_runs.proofs.Sparing.{all_or_halted}
 use Rattle.threaded_runs.proofs.Seats.{some_of}
 use Rattle.threaded_runs.proofs.Owning.{own_there, own_trace, own_once}
 use Rattle.threaded_runs.proofs.Closing.{end, word_is, added_is, part_is, descriptors_done, has_served, few_entered, read_odd}
@@ -119,7 +119,7 @@ module _ {T : Type 0} (m : Meaning) (planning : Planning) (retry_short reads_fre
       once : (i k : ℕ) (q q' : Request) → slice_get j.requests.items i ≡ Some q → slice_get j.requests.items k ≡ Some q' → q.number ≡ q'.number → i ≡ k
       once i k q q' e e' = own_once t.layout.runners worker t.requests order i k q q' (own_of i q e) (own_of k q' e')
 
-      made : t.layout.nodes ≤ entry_count ((end m t keeper w closing).part worker).nodes + 2 * makes.added (end m t keeper w closing).word (length t.requests)
+      made : t.layout.nodes ≤ makes.slots_left ((end m t keeper w closing).part worker).nodes + 2 * makes.added (end m t keeper w closing).word (length t.requests)
       made = facts.makes planning.per_pair lawful.planner settled.free worker low
 
       served_so : HasServed m w retry_short reads_free (own_requests t.layout.runners worker t.requests) f.answer
@@ -227,15 +227,22 @@ module _ {T : Type 0} (m : Meaning) (planning : Planning) (retry_short reads_fre
         asked = counted;
       }
 
+    pairs_added : makes.added (word_of m w) (length w.requests) ≤ makes.inserts w.requests
+    pairs_added = subst (λ (n : ℕ). n ≤ makes.inserts w.requests) (sym (added_is m t keeper w closing))
+        (subst (λ (rs : List Request). makes.added (end m t keeper w closing).word (length t.requests) ≤ makes.inserts rs) (sym closing.requests)
+        (facts.added lawful.planner.serves))
+
+    of_words : (worker : ℕ) (answer : Served) → slice_get answers worker ≡ Some answer → HasServed m w retry_short reads_free (own_requests w.layout.runners worker w.requests) answer
+    of_words worker answer at = subst (λ (l : Layout). HasServed m w retry_short reads_free (own_requests l.runners worker w.requests) answer) (sym closing.layout)
+        (subst (λ (rs : List Request). HasServed m w retry_short reads_free (own_requests t.layout.runners worker rs) answer) (sym closing.requests) (worker_served worker answer at))
+
     pub all_served : AreServed m w retry_short reads_free answers
     all_served = record {
       each = each ∙ ap (λ (l : Layout). l.runners) (sym closing.layout);
-      served = λ worker answer at. subst (λ (l : Layout). HasServed m w retry_short reads_free (own_requests l.runners worker w.requests) answer) (sym closing.layout)
-          (subst (λ (rs : List Request). HasServed m w retry_short reads_free (own_requests t.layout.runners worker rs) answer) (sym closing.requests) (worker_served worker answer at));
+      served = of_words;
       free = holds_none;
       replied = (history.settled holds_none).replied;
       done = worker_done;
-      few_added = subst (λ (n : ℕ). n ≤ makes.inserts w.requests) (sym (added_is m t keeper w closing))
-          (subst (λ (rs : List Request). makes.added (end m t keeper w closing).word (length t.requests) ≤ makes.inserts rs) (sym closing.requests)
-          (facts.added lawful.planner.serves));
+      few_added = pairs_added;
+      others = λ room worker answer at. all_or_halted m w room pairs_added retry_short reads_free (own_requests w.layout.runners worker w.requests) answer (of_words worker answer at);
     }

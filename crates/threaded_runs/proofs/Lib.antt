@@ -5,6 +5,7 @@ mod Owning
 mod Stopping
 mod Asked
 mod Gates
+pub mod Sparing
 mod Closing
 mod Ending
 mod Alone

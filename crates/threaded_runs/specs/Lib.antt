@@ -1,6 +1,7 @@
 pub mod Own
 pub mod Counts
 pub mod Jobs
+pub mod Room
 pub mod Runs
 pub mod Asks
 pub mod Gates

@@ -16,6 +16,7 @@ use Rattle.free_serving.specs.serving.specs.declared.answers.Served.TheVariants 
 use Rattle.free_serving.specs.Left.{Rises}
 use Rattle.free_serving.specs.resource_bounds.specs.Makes.{added, inserts}
 use Rattle.threaded_runs.specs.Own.{own_requests}
+use Rattle.threaded_runs.specs.Room.{HasRoomForAll}
 
 -- the words are of a table that was made with these
 pub record IsMadeWith {T : Type 0} (given : T) (l : Layout) (rs : List Request) (w : WordsState T) : Type 0 where
@@ -49,17 +50,19 @@ module _ {T : Type 0} (m : Meaning) (w : WordsState T) where
     pub each : (i slot : ℕ) → slice_get slots i ≡ Some slot → HasWornCell m w.layout (word_of m w) slot
 
   -- at the last attempt too few slots of the kind were free, and this isn't waited out, or no slot of
-  -- the kind was in limbo; where descriptors lacked, all of the worker's were in limbo. Its node
-  -- slots, with two for each request that added a pair, are as many as the layout gives it, and no
-  -- more than the table has, since those that other workers made may come to it
+  -- the kind was in limbo; where descriptors lacked, all of the worker's were in limbo, and guard words of other runners
+  -- named them: no more than there are workers. Its node slots outside limbo, with two for each request that added a
+  -- pair, are as many as the layout gives it; and those in limbo with them no more than the table has, since those that
+  -- other workers made may come to it
   pub record IsShortOf (retry_short : Bool) (short : Short) : Type 0 where
     pub over : (retry_short ≡ false) ⊎ (short.limbo ≡ 0)
     pub nodes : short.kind ≡ kinds.Node → short.free < 2
     pub counted : short.kind ≡ kinds.Node
-        → w.layout.nodes ≤ short.free + (short.limbo + short.worn) + 2 * added (word_of m w) (length w.requests)
+        → w.layout.nodes ≤ short.free + short.worn + 2 * added (word_of m w) (length w.requests)
     pub most : short.kind ≡ kinds.Node → short.free + (short.limbo + short.worn) ≤ cells.slots m w.layout
     pub descriptors : short.kind ≡ kinds.Descriptor
         → (short.free ≡ 0) × (short.worn ≡ 0) × (short.limbo ≡ w.layout.sections)
+    pub named : short.kind ≡ kinds.Descriptor → short.limbo ≤ w.layout.runners
 
   -- why the worker served so many of its requests and no more: at All these are all of them
   abbrev pub IsCause : Bool → List Request → Served → ℕ → Type 0
@@ -98,3 +101,7 @@ module _ {T : Type 0} (m : Meaning) (w : WordsState T) where
         → (d : ℕ) → w.layout.sections * worker ≤ d → d < w.layout.sections * worker + w.layout.sections
         → word_of m w (DoneWord d) ≡ 1
     pub few_added : added (word_of m w) (length w.requests) ≤ inserts w.requests
+    -- whoever stops, the others are served: with room for all, each worker that no gate halted has served all of its
+    -- requests
+    pub others : HasRoomForAll m w → (worker : ℕ) (answer : Served) → slice_get given worker ≡ Some answer
+        → (answer ≡ answers.All) ⊎ (answer ≡ answers.Halted)
