@@ -131,10 +131,10 @@ const PAIRS: [(&str, &str, u64); 5] = [
     ),
 ];
 
-// Whether each request of the second trace was served.
-fn second_is_served(report: &str) -> bool {
-    match report.split_once("trace 1\n") {
-        Some((_, second)) => !second.contains("unserved"),
+// Whether each request was served behind this line of the report.
+fn all_served_from(report: &str, line: &str) -> bool {
+    match report.split_once(line) {
+        Some((_, others)) => !others.contains("unserved"),
         None => false,
     }
 }
@@ -150,7 +150,7 @@ fn whoever_does_not_stop_is_served(rt: HostRuntime) -> Result<(), Fail> {
             for ask in 1..=last {
                 let ended = run_stopped(&rt, alloc, &words, ask, &text)?;
                 assert!(rt;
-                    second_is_served(ended.report()),
+                    all_served_from(ended.report(), "trace 1\n"),
                     "{row} on {table} at {ask}"
                 );
                 assert!(rt;
@@ -162,6 +162,37 @@ fn whoever_does_not_stop_is_served(rt: HostRuntime) -> Result<(), Fail> {
                     "{row} on {table} at {ask}"
                 );
                 assert!(rt; tells_unserved(alloc, &ended)?, "{row} on {table} at {ask}");
+            }
+        }
+    }
+    Ok(())
+}
+
+// Four traces on 50 keys.
+const FOUR: &str = "gen --seed=7 --traces 4 --length 200 --keys 50";
+
+// Wherever one of four runners stops, or three of them, each request of the others is served: each runner has one
+// descriptor more than there are runners, and node slots for all insertions, so it doesn't matter that none of those in
+// limbo comes back. So it is proved of every run; here it is seen of some.
+#[test]
+fn others_are_served_beside_those_that_stop(rt: HostRuntime) -> Result<(), Fail> {
+    let alloc = rt.alloc();
+    let made = run(&rt, alloc, FOUR, Vec::new(alloc))?;
+    let text = made.sink.bytes();
+    let inserts = made.report().matches("ins ").count();
+    let nodes = inserts.saturating_mul(2).saturating_add(2);
+    for table in TABLES {
+        for ask in 1..=40 {
+            let one = format!(in alloc; "0:{ask}")?;
+            let three = format!(in alloc; "0:{ask},1:{ask},2:{ask}")?;
+            for (halt, others) in [(one, "trace 1\n"), (three, "trace 3\n")] {
+                let line = format!(in alloc;
+                    "run --table {table} --runners 4 --sections 5 --nodes {nodes} --halt {halt}"
+                )?;
+                let ended = run(&rt, alloc, &line, text.to_vec(alloc)?)?;
+                assert!(&rt; all_served_from(ended.report(), others), "{line}");
+                assert!(&rt; tells_unserved(alloc, &ended)?, "{line}");
+                assert!(&rt; is_legal(alloc, text, ended.report())?, "{line}");
             }
         }
     }
