@@ -2,7 +2,7 @@
 ghost use Rattle.std.specs.Prelude.{◌≡◌, ◌*◌, ◌<◌, IfOk, sum};
 ghost use Rattle.account_laws.specs.Accounts.{accounts_of};
 ghost use Rattle.closed_words.specs.Histories.{HoldsNoLock};
-ghost use Rattle.accounts.specs.Balances.{balance_in, AreBalances};
+ghost use Rattle.accounts.specs.Balances.{AreBalances};
 
 use crate::body::balance_of;
 use crate::table::Accounts;

@@ -97,8 +97,8 @@ module _ {T : Type 0} where
       pub reclaims : Reclaims m old new
       pub few : IsFew new short.kind
       pub counts : short ≡ counts_of new short.kind
-      -- where a descriptor lacks, guard words of other runners name all of the runner's own: they are no more than there
-      -- are runners. So a runner that has one more of them never lacks one
+      -- where a descriptor lacks, guard words of other runners name all of the runner's own: they are no more than
+      -- there are runners. So a runner that has one more of them never lacks one
       pub named : short.kind ≡ kinds.Descriptor → short.limbo ≤ new.layout.runners
       pub untouched : IsUntouched number new
 
@@ -266,8 +266,8 @@ module _ {T : Type 0} where
       EndsAt old new _ = Unit {0}
 
       -- a gate halted the runner behind its entry. What it has published since and not run to its end, if anything, is
-      -- for this request. Where there is none, the request isn't answered, or the runner was halted behind the last step
-      -- of its own run
+      -- for this request. Where there is none, the request isn't answered, or the runner was halted behind the last
+      -- step of its own run
       pub record IsHalted (old new : RunnerState T) : Type 0 where
         pub at : Stops old new
         pub published : (x : Published) → new.part.published ≡ Some x → x.thunk.request ≡ request.number

@@ -1,5 +1,5 @@
 //! An attempt's own section: it is run to its end, and answered by.
-ghost use Rattle.std.specs.Prelude.{◌≡◌, ◌+◌, length, true, false, Ok};
+ghost use Rattle.std.specs.Prelude.{◌+◌, length, true, false, Ok};
 ghost use Rattle.machine_states.specs.body_terms.specs.Trail.{Agreed};
 ghost use Rattle.machine_states.specs.body_terms.specs.declared.thunk.Thunk.{Thunk};
 ghost use Rattle.version_words.specs.RunnerState.{RunnerState};

@@ -1,6 +1,6 @@
 -- The worker's own request that it doesn't know: nobody has served it.
 use Rattle.std.specs.Prelude.{◌==◌, ◌&&◌, not, Bool, true, false, None}
-use Rattle.std.proofs.Common.{◌≡◌, ℕ, ◌%◌, refl, sym, ap, ◌∙◌}
+use Rattle.std.proofs.Common.{◌≡◌, ℕ, ◌%◌, refl, ap, ◌∙◌}
 use Rattle.machine_states.specs.epoch_core.specs.small_lemmas.proofs.Numbers.{tested_equal as same_of}
 use Rattle.machine_states.specs.map_history.specs.declared.op.Request.{Request}
 use Rattle.machine_states.specs.table_words.specs.Limits.{IsWithinLimits}

@@ -1,5 +1,4 @@
 //! Gates that follow a script, and stop at a planned ask.
-ghost use Rattle.std.specs.Prelude.{◌≡◌, IfOk};
 ghost use Rattle.threaded_runs.specs.runner_gate.specs.Planned.{asks_of};
 
 use body_terms::StepKind;

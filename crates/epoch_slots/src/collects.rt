@@ -1,5 +1,5 @@
 //! The scan of the announcements, and the node slots that come out of limbo.
-ghost use Rattle.std.specs.Prelude.{◌≡◌, ◌+◌, ◌<◌, ◌≤◌, ◌&&◌, nat_lt, length, None};
+ghost use Rattle.std.specs.Prelude.{◌≡◌, ◌<◌, ◌&&◌, nat_lt, None};
 ghost use Rattle.machine_states.specs.epoch_core.specs.declared.stage.Stage.TheVariants as stages;
 ghost use Rattle.machine_states.specs.epoch_core.specs.State.{last_epoch};
 ghost use Rattle.machine_states.specs.epoch_core.specs.Moves.{is_clear};

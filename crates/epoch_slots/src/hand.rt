@@ -1,5 +1,5 @@
 //! The node slots that came out of limbo, looked at and given back.
-ghost use Rattle.std.specs.Prelude.{◌≡◌, ℕ, ◌<◌, [], true, length, None};
+ghost use Rattle.std.specs.Prelude.{◌≡◌, ◌<◌, [], true, length, None};
 ghost use Rattle.machine_states.specs.table_words.specs.Places.{slot_count};
 ghost use Rattle.machine_states.specs.epoch_core.specs.declared.stage.Stage.TheVariants as stages;
 ghost use Rattle.machine_states.specs.runner_parts.specs.Tests.{has};

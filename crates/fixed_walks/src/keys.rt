@@ -1,12 +1,11 @@
 //! The walk of a key, and the pairs of a closed table, for a structure of keys' cells.
-ghost use Rattle.std.specs.Prelude.{◌≡◌, ◌+◌, ◌<◌, ◌≤◌, ◌++◌, ◌∷◌, [], cond, true, length, IfOk};
+ghost use Rattle.std.specs.Prelude.{◌≡◌, ◌+◌, ◌<◌, ◌≤◌, ◌++◌, ◌∷◌, [], true, length, IfOk};
 ghost use Rattle.std.specs.FinMap.{entries};
 ghost use Rattle.runner_parts.specs.structure_laws.specs.map_history.specs.Replay.{Pairs};
 ghost use Rattle.key_cells.specs.Keyed.{cell_place, keyed, serves_key};
 ghost use Rattle.key_cells.specs.Steps.{part};
 ghost use Rattle.lock_walks.specs.Way.{Leads};
 ghost use Rattle.lock_walks.specs.try_lock.specs.Contents.{StandFor};
-ghost use Rattle.fixed_walks.specs.Fixed.{fixed_planning};
 ghost use Rattle.fixed_walks.specs.Keys.{key_course, Means, word_at, held_by};
 ghost use Rattle.fixed_walks.specs.Walk.{fixed_way};
 

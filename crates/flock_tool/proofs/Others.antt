@@ -1,7 +1,6 @@
 -- Whoever stops, the others are served, where a run has room for all its requests.
 use Rattle.std.specs.Prelude.{◌⊎◌, ◌%◌, slice_get}
-use Rattle.std.proofs.Common.{◌≡◌, ◌≢◌, ℕ, ◌<◌, Bool, List, Option, Some, refl, sym, ap, ◌∙◌, ⊎_elim, inl, inr, arith}
-use Rattle.machine_states.specs.map_history.specs.declared.op.Request.{Request}
+use Rattle.std.proofs.Common.{◌≡◌, ◌≢◌, ℕ, ◌<◌, Bool, List, Some, ap, ◌∙◌, ⊎_elim, inl, inr}
 use Rattle.machine_states.specs.structure_laws.specs.Meaning.{Meaning}
 use Rattle.version_words.specs.machine_invariant.specs.After.{AreAllowed}
 use Rattle.version_words.specs.TableState.{WordsState}

@@ -24,8 +24,8 @@ module _ {T : Type 0} (m : Meaning) (w : WordsState T) where
   OthersAreServed answers = (number : ℕ) (q : Request) → slice_get w.requests number ≡ Some q
       → word_of m w (Stamp number) ≡ 0 → slice_get answers (q.trace % w.layout.runners) ≡ Some Halted
 
-  -- whoever stops, the others are served, where there is room for all: then the status says that all were served, that a
-  -- runner was halted, or that the sink failed
+  -- whoever stops, the others are served, where there is room for all: then the status says that all were served, that
+  -- a runner was halted, or that the sink failed
   pub record SparesOthers (answers : List Served) (number : ℕ) : Type 0 where
     pub statuses : HasRoomForAll m w → (number ≡ 0) ⊎ (number ≡ 1) ⊎ (number ≡ 9)
     pub served : HasRoomForAll m w → OthersAreServed answers

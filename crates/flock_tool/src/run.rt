@@ -1,5 +1,5 @@
 // The run itself, and its report.
-ghost use Rattle.std.specs.Prelude.{◌≡◌, ◌≤◌, All, IfOk, IfErr, OnErr, OnOk, [], not, true};
+ghost use Rattle.std.specs.Prelude.{◌≡◌, All, IfOk, IfErr, OnErr, OnOk, [], true};
 ghost use Rattle.std.specs.FinMap.{len};
 ghost use Rattle.machine_states.specs.map_history.specs.declared.op.Request.{Request};
 ghost use Rattle.machine_states.specs.map_history.specs.Replay.{Pairs};

@@ -1,7 +1,7 @@
 // The ways in which the program ends without a report.
 ghost use Rattle.std.specs.Prelude.{◌≡◌, ◌++◌, ◌≤◌, length, codes, decimal};
 ghost use Rattle.command_line.specs.trace_reader.specs.declared.traces.TraceError.TheVariants.{Malformed};
-ghost use Rattle.flock_tool.specs.End.{Tells, kind_text, error_line, error_status, print_stop, stop_line, stop_status};
+ghost use Rattle.flock_tool.specs.End.{Tells, kind_text, error_line, print_stop, stop_line, stop_status};
 
 use arrayvec::ArrayString;
 use command_line::trace_reader::{BadLine, TraceError};

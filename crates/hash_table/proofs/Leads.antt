@@ -16,7 +16,7 @@ use Rattle.machine_states.specs.structure_laws.specs.Scene.{Readings}
 use Rattle.machine_states.specs.runner_parts.specs.Tests.{is_readable}
 use Rattle.bucket_walks.specs.bucket_laws.specs.Walk.{Stage, AtEdition, AtLink, AtKey, AtValue, AtNext, AtLock, AtEnd, Refused, Walk, is_del, has_one_key, is_end, same_numbers, Bounds, cell_at, wanted_at, fed, form_for, operands_for, fits_walk}
 use Rattle.bucket_walks.specs.bucket_laws.specs.Buckets.{buckets_meaning, table, bounds, is_link_place, LinksWithin}
-use Rattle.bucket_walks.specs.bucket_laws.proofs.Places.{third, slot_at, lt_true, lt_false, eq_true, eq_false}
+use Rattle.bucket_walks.specs.bucket_laws.proofs.Places.{third, slot_at, lt_true, lt_false, eq_false}
 use Rattle.bucket_walks.specs.bucket_laws.proofs.TableLaws.{bucket_small}
 use Rattle.bucket_walks.specs.bucket_laws.proofs.TableGives.{reached}
 use Rattle.bucket_walks.specs.bucket_laws.proofs.WalkFacts.{Gives}

@@ -1,6 +1,5 @@
 //! The search tree as a structure.
 ghost use Rattle.std.specs.Prelude.{◌≡◌, ◌+◌, ◌≤◌, true, refl};
-ghost use Rattle.tree_walks.specs.structure_laws.specs.body_terms.specs.Word.{value_of};
 ghost use Rattle.tree_walks.specs.structure_laws.specs.table_words.specs.Places.{slot_count};
 ghost use Rattle.tree_walks.specs.tree_laws.specs.Leaves.{tree, shows_inner, shows_link};
 ghost use Rattle.tree_walks.specs.tree_laws.proofs.TreeLaws.{tree_laws};

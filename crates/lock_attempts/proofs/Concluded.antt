@@ -1,5 +1,5 @@
 -- The end of an attempt's own section.
-use Rattle.std.specs.Prelude.{cond, nat_lt, [], Bool, true, false, Result, Ok, Err}
+use Rattle.std.specs.Prelude.{cond, nat_lt, [], Bool, true, false}
 use Rattle.std.proofs.Common.{◌≡◌, ◌≢◌, ℕ, ◌+◌, length, refl, sym, ap, ◌∙◌, subst, ⊎_elim, arith, None}
 use Rattle.std.proofs.lemmas.Bool.{true≢false}
 use Rattle.machine_states.specs.epoch_core.specs.small_lemmas.proofs.Numbers.{tested_equal}
@@ -45,7 +45,7 @@ use Rattle.attempts.specs.Attempts.{is_halted, is_refusal}
 use Rattle.attempts.specs.Rests.{MayLearn}
 use Rattle.attempts.specs.declared.answers.Attempt.{Attempt}
 use Rattle.attempts.specs.declared.answers.Attempt.TheVariants as answers
-use Rattle.attempts.proofs.Knowing.{knows_same, knows_on, no_other_on, no_other_same}
+use Rattle.attempts.proofs.Knowing.{knows_same, knows_on, no_other_same}
 use Rattle.attempts.proofs.Reaching.{exits_reached}
 use Rattle.attempts.proofs.Counting.{counted_steps}
 use Rattle.attempts.proofs.LettingGo.{exits_tidy}

@@ -1,16 +1,14 @@
 -- The tickets of all workers, by their numbers.
-use Rattle.std.specs.Prelude.{◌==◌, ◌&&◌, ◌||◌, not, nat_lt, Bool, true, false, All, slice_get}
-use Rattle.std.specs.List.{range_with_len, list_all}
-use Rattle.std.proofs.Common.{◌≡◌, ℕ, zero, suc, ◌+◌, ◌-◌, ◌*◌, ◌/◌, ◌%◌, ◌<◌, ◌≤◌, List, [], ◌∷◌, length, map, get_or, refl, sym, ap, subst, ◌∙◌, arith, Some, ⊎_elim}
+use Rattle.std.specs.Prelude.{◌==◌, ◌&&◌, ◌||◌, not, nat_lt, Bool, true, false, slice_get}
+use Rattle.std.specs.List.{range_with_len}
+use Rattle.std.proofs.Common.{◌≡◌, ℕ, ◌+◌, ◌-◌, ◌*◌, ◌/◌, ◌%◌, ◌<◌, ◌≤◌, List, [], ◌∷◌, length, map, get_or, refl, sym, ap, subst, ◌∙◌, arith, Some, ⊎_elim}
 use Rattle.std.proofs.lemmas.Bool.Decides.{nat_tests}
 use Rattle.std.proofs.lemmas.List.FromFn.{get_or-map-range_with_len, length-map-range_with_len}
 use Rattle.std.proofs.lemmas.Nat.{div_below, div-mul-add, mod-mul-add, le-div, row_fits, div-add-mod'}
 use Rattle.std.proofs.lemmas.Option.{slice_get-get_or}
 use Rattle.machine_states.specs.epoch_core.specs.small_lemmas.proofs.Numbers.{tested_equal}
-use Rattle.machine_states.specs.map_history.specs.declared.op.Op.TheVariants.{Get}
 use Rattle.machine_states.specs.map_history.specs.declared.op.Request.{Request}
 use Rattle.machine_states.specs.map_history.specs.Requests.{AreInOrder}
-use Rattle.machine_states.specs.map_history.specs.Keys.{DependsOn}
 use Rattle.machine_states.specs.runner_parts.specs.declared.entries.Known.{Known}
 use Rattle.machine_states.specs.runner_parts.specs.Tests.{is_answered, are_answered}
 use Rattle.machine_states.specs.table_words.specs.declared.layout.Layout.{Layout}

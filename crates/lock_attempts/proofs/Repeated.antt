@@ -1,7 +1,7 @@
 -- A section that is attempted again.
 use Rattle.std.specs.Prelude.{◌==◌, ◌&&◌, ◌||◌, not, nat_lt, ◌%◌, Bool, true, false, slice_get, Result, Ok, Err}
 use Rattle.std.specs.List.{list_all}
-use Rattle.std.proofs.Common.{◌≡◌, ℕ, zero, suc, ◌+◌, ◌≤◌, List, [], ◌∷◌, refl, sym, ap, ◌∙◌, subst, arith}
+use Rattle.std.proofs.Common.{◌≡◌, ℕ, suc, ◌+◌, ◌≤◌, List, [], ◌∷◌, refl, sym, ap, ◌∙◌, subst, arith}
 use Rattle.machine_states.specs.map_history.specs.declared.op.Request.{Request}
 use Rattle.machine_states.specs.body_terms.specs.declared.thunk.Thunk.{Thunk}
 use Rattle.runner_gate.specs.Asks.{Asks}
@@ -18,7 +18,7 @@ use Rattle.attempts.specs.Course.{MayAttempt}
 use Rattle.attempts.specs.Attempts.{is_halted, Answers}
 use Rattle.attempts.specs.declared.answers.Attempt.{Attempt}
 use Rattle.attempts.specs.declared.answers.Attempt.TheVariants as answers
-use Rattle.attempts.proofs.Knowing.{answered_on, knows_same, knows_on, no_other_on, no_other_same}
+use Rattle.attempts.proofs.Knowing.{answered_on, knows_same, knows_on, no_other_on}
 use Rattle.lock_attempts.specs.Sections.{is_done, SectionAttempts}
 use Rattle.lock_attempts.specs.Again.{is_tried_again, AreRefused, Persists}
 

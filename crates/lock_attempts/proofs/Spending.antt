@@ -1,11 +1,9 @@
 -- A worker's tickets behind an attempt of the next one.
-use Rattle.std.specs.Prelude.{◌==◌, ◌&&◌, ◌||◌, not, nat_lt, ◌%◌, Bool, true, false, slice_get, Result, Ok, Err}
-use Rattle.std.specs.List.{list_all}
-use Rattle.std.proofs.Common.{◌≡◌, ◌≢◌, ℕ, suc, ◌+◌, ◌<◌, ◌≤◌, List, [], ◌∷◌, refl, sym, ap, ◌∙◌, subst, arith, Some, eq-eqb}
+use Rattle.std.specs.Prelude.{◌==◌, ◌&&◌, ◌||◌, not, nat_lt, ◌%◌, Bool, true, false, slice_get, Ok, Err}
+use Rattle.std.proofs.Common.{◌≡◌, ◌≢◌, ℕ, ◌+◌, ◌<◌, ◌≤◌, List, refl, sym, ap, ◌∙◌, arith, Some, eq-eqb}
 use Rattle.std.proofs.lemmas.Bool.Decides.{nat_tests}
 use mathlib.Core.Logic.{dite}
 use native.Mathlib.Decide.{ℕ_discrete}
-use Rattle.machine_states.specs.epoch_core.specs.small_lemmas.proofs.Numbers.{tested_equal}
 use Rattle.machine_states.specs.map_history.specs.declared.op.Request.{Request}
 use Rattle.machine_states.specs.map_history.specs.declared.op.Op.TheVariants.{Get}
 use Rattle.machine_states.specs.body_terms.specs.declared.thunk.Thunk.{Thunk}
@@ -24,11 +22,10 @@ use Rattle.attempts.specs.Course.{MayAttempt}
 use Rattle.attempts.specs.Attempts.{is_halted}
 use Rattle.attempts.specs.declared.answers.Attempt.{Attempt}
 use Rattle.attempts.specs.declared.answers.Attempt.TheVariants as answers
-use Rattle.lock_attempts.specs.Sections.{SectionAttempts}
 use Rattle.lock_attempts.specs.Again.{Persists}
 use Rattle.lock_attempts.specs.Tickets.{ticket, HasTickets}
 use Rattle.lock_attempts.specs.declared.tickets.Tickets.{Tickets}
-use Rattle.lock_attempts.proofs.Repeated.{both, both_are, all_on, answered_more, earlier_on, next_of_parts, open_after}
+use Rattle.lock_attempts.proofs.Repeated.{all_on, answered_more, earlier_on, next_of_parts, open_after}
 
 -- the earlier requests are answered, and this one
 earlier_then : (known more : List Known) → IsFront known more → (trace n : ℕ) → is_answered more n ≡ true → (requests : List Request)

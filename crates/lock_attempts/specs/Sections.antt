@@ -37,8 +37,8 @@ is_done (answers.Done reply stamp) = true
 is_done _ = false
 
 -- the section in this descriptor happened once: each word that it wanted is the agreed one, each of its Stores moved
--- its cell in one event, from the agreed word to the new one, no other step of its line changed a cell, and its ticket's
--- stamp and reply were each written by one event
+-- its cell in one event, from the agreed word to the new one, no other step of its line changed a cell, and its
+-- ticket's stamp and reply were each written by one event
 pub record HappenedOnce (m : Meaning) (k : Components) (s : Sight) (d : ℕ) : Type 0 where
   pub answered : IsAnswered m k.agreement s d
   pub wanted : (i place log word : ℕ) → step_at m k.agreement s d i ≡ CheckWord place log word

@@ -61,20 +61,20 @@ fn plan_and_try<S: Structure, W: Walker, G: Gate, L>(
 /// Attempts a ticket's section once.
 ///
 /// The worker collects and sweeps where it has to, makes sure of two node slots and one descriptor, enters, plans the
-/// section by this walk, publishes it in its lock, runs it, lets its guard go and leaves. The ticket is one of the worker's own requests,
-/// the next one of its trace; the worker is idle, with an empty hand. The walk has loaded nothing, and leads a plan on
-/// this structure, whose sections want what was read.
+/// section by this walk, publishes it in its lock, runs it, lets its guard go and leaves. The ticket is one of the
+/// worker's own requests, the next one of its trace; the worker is idle, with an empty hand. The walk has loaded
+/// nothing, and leads a plan on this structure, whose sections want what was read.
 ///
 /// - `Ok`: the section that was planned happened once, and answered with this number: its thunk is the walk's own, by
 ///   the words that the walk read; each word that it wants was the agreed one, and each of its Stores moved its cell in
 ///   one event, from the agreed word to the one that its body says, whoever ran it. The ticket is used from then on.
-/// - `Busy`: a lock was held. The section that its word names is done at return: the worker ran it to its end, or found,
-///   as it watched the lock, that the section was done.
+/// - `Busy`: a lock was held. The section that its word names is done at return: the worker ran it to its end, or
+///   found, as it watched the lock, that the section was done.
 /// - `Stale`: a word was read, and then another one at the same place.
 /// - `Far`: the walk is too long, by its own plan.
 /// - `Spent`: a lock or a cell has too few versions left.
-/// - `Short`: after three scans in a row fewer than two node slots were free, or after a sweep no descriptor, since guard
-///   words of other runners name all that are in limbo.
+/// - `Short`: after three scans in a row fewer than two node slots were free, or after a sweep no descriptor, since
+///   guard words of other runners name all that are in limbo.
 /// - `Halted`: the gate halted the worker. Exactly then its count of halts rose.
 ///
 /// At every answer but `Ok` and `Halted` nothing happened: nobody has served the ticket, and the section that was

@@ -22,8 +22,8 @@ use machine_states::structure_laws::Structure;
 use runner_gate::Gate;
 use version_words::{FlockTable, Runner};
 
-/// Lets the guard of the own section go, which was run to its end with this outcome, and leaves: where it answered, with
-/// that number, else with the refusal by which it left.
+/// Lets the guard of the own section go, which was run to its end with this outcome, and leaves: where it answered,
+/// with that number, else with the refusal by which it left.
 fn conclude<S: Structure, G: Gate, L>(
     table: &FlockTable<S>,
     runner: Runner<S>,
@@ -35,7 +35,8 @@ fn conclude<S: Structure, G: Gate, L>(
     requires own { IsOf table.now runner }
     requires wants { WantsWereRead (S.meaning table.now.structure) }
     requires ended { (planning : Planning) × (request : Request) × (old : RunnerState S) × (thunk : Thunk)
-        × (trail : Agreed) × HasEnded (S.meaning table.now.structure) planning request section thunk outcome trail old runner }
+        × (trail : Agreed)
+        × HasEnded (S.meaning table.now.structure) planning request section thunk outcome trail old runner }
     ensures own { IsOf table.now result.0 }
     ensures rests { (planning : Planning) (request : Request) (own : Readings → Thunk) (old : RunnerState S)
         (thunk : Thunk) (trail : Agreed)
@@ -57,7 +58,8 @@ fn conclude<S: Structure, G: Gate, L>(
     }
 }
 
-/// Runs the own section, which was just published, to its end, lets its guard go and leaves. The gate is asked once before.
+/// Runs the own section, which was just published, to its end, lets its guard go and leaves. The gate is asked once
+/// before.
 pub fn run_own<S: Structure, G: Gate, L>(
     table: &FlockTable<S>,
     runner: Runner<S>,

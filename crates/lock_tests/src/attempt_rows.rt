@@ -1,5 +1,4 @@
 //! Tests.
-ghost use Rattle.std.specs.Prelude.{◌≡◌};
 ghost use Rattle.settled_tables.specs.closed_words.specs.version_words.specs.TableState.{IsOf};
 ghost use Rattle.lock_tests.specs.AttemptScene.{IsScene, IsFresh, ServesThem};
 

@@ -1,5 +1,5 @@
 //! What the words of a closed table hold.
-ghost use Rattle.std.specs.Prelude.{◌≡◌, ◌≤◌, ◌<◌, ◌&&◌, ◌==◌, not, true, IfOk};
+ghost use Rattle.std.specs.Prelude.{◌≡◌, ◌<◌, ◌&&◌, ◌==◌, not, true, IfOk};
 ghost use Rattle.std.specs.FinMap.{entries};
 ghost use Rattle.machine_states.specs.map_history.specs.Replay.{Pairs};
 ghost use Rattle.machine_states.specs.body_terms.specs.Word.{value_of};

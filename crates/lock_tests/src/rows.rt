@@ -1,5 +1,5 @@
 //! Tests.
-ghost use Rattle.std.specs.Prelude.{◌≡◌, IfOk};
+ghost use Rattle.std.specs.Prelude.{◌≡◌};
 ghost use Rattle.machine_states.specs.body_terms.specs.Trail.{Agreed};
 ghost use Rattle.machine_states.specs.body_terms.specs.declared.outcome.Outcome.{Outcome};
 ghost use Rattle.hash_table.specs.try_lock.specs.section_runs.specs.declared.runs.RunEnd.TheVariants.{Done};

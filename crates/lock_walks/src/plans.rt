@@ -1,5 +1,5 @@
 //! The loads of a plan, and its answer.
-ghost use Rattle.std.specs.Prelude.{◌≡◌, ◌+◌, ◌<◌, ℕ, true, is_some, Some};
+ghost use Rattle.std.specs.Prelude.{◌≡◌, ◌+◌, ◌<◌, true, is_some, Some};
 ghost use Rattle.machine_states.specs.map_history.specs.declared.op.Op.{Op};
 ghost use Rattle.machine_states.specs.table_words.specs.Limits.{IsWithinLimits};
 ghost use Rattle.machine_states.specs.structure_laws.specs.Scene.{Readings};

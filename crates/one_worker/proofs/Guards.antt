@@ -33,7 +33,7 @@ use Rattle.machine_states.proofs.Updates.{upd_here, upd_else, upd_split}
 use Rattle.resource_bounds.specs.machine_epochs.proofs.OutsideAsked as asked
 use Rattle.resource_bounds.specs.machine_epochs.proofs.FirstJoin as FirstJoin
 use Rattle.runner_facts.specs.machine_facts.specs.machine_invariant.specs.machine_guards.proofs.Views as views
-use Rattle.runner_facts.specs.machine_facts.specs.machine_invariant.specs.machine_guards.proofs.Views.{View, view, is_guarding, is_release}
+use Rattle.runner_facts.specs.machine_facts.specs.machine_invariant.specs.machine_guards.proofs.Views.{View, view, is_release}
 use Rattle.runner_facts.specs.machine_facts.specs.machine_invariant.specs.machine_guards.proofs.Words.{guards_left, inside_left, load_left}
 
 -- this guard word is what the runner with this part has stored

@@ -15,8 +15,8 @@ pub record NoneIsOpen (m : Meaning) (s : Sight) : Type 0 where
   pub unlocked : (p : ℕ) → m.is_lock p ≡ true → value_of (s.word (Cell p)) ≡ 0
   pub done : (r : ℕ) (q : RunState) → (s.part r).run ≡ Some q → s.word (DoneWord q.descriptor) ≢ 0
 
--- the runner has published nothing since it entered: it has no published section, and since then it has read at most one
--- cell but in its walks. A section that it published and ran to its end since would have read two at least
+-- the runner has published nothing since it entered: it has no published section, and since then it has read at most
+-- one cell but in its walks. A section that it published and ran to its end since would have read two at least
 pub record HasPublishedNone (p : PartState) : Type 0 where
   pub unpublished : p.published ≡ None
   pub walked : length p.reads.cells ≤ suc (length p.reads.walk)

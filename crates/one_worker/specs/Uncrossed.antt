@@ -6,9 +6,9 @@ use Rattle.machine_states.specs.epoch_core.specs.declared.stage.Stage.TheVariant
 use Rattle.machine_states.specs.runner_steps.specs.After.{own_epoch}
 use Rattle.machine_states.specs.Sight.{Sight}
 
--- the worker, which has number 0, found the epoch as its own steps had left it, met no announcement but idle ones in its
--- scans, and in its sweeps no guard word that names a descriptor; the epoch is as it left it; and the keeper, which has
--- number 1, is idle
+-- the worker, which has number 0, found the epoch as its own steps had left it, met no announcement but idle ones in
+-- its scans, and in its sweeps no guard word that names a descriptor; the epoch is as it left it; and the keeper, which
+-- has number 1, is idle
 pub record IsUncrossed (s : Sight) : Type 0 where
   pub uncrossed : (s.part 0).records.crossed ≡ false
   pub epoch : s.word Epoch ≡ own_epoch (s.part 0).records.epoch_seen

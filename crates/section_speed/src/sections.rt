@@ -89,8 +89,8 @@ fn reply_of(outcome: Outcome) -> u64 {
     }
 }
 
-/// Runs the section to its end, with which its descriptor is retired, lets the guard go, and leaves: the reply, where it
-/// came to its end.
+/// Runs the section to its end, with which its descriptor is retired, lets the guard go, and leaves: the reply, where
+/// it came to its end.
 fn run_own(
     table: &FlockTable<Tray>,
     worker: Runner<Tray>,

@@ -1,5 +1,5 @@
 -- Asks that are counted apart, and told in the end.
-use Rattle.std.specs.Prelude.{not, Bool, true, false}
+use Rattle.std.specs.Prelude.{not, Bool}
 use Rattle.std.proofs.Common.{◌≡◌, ℕ, arith, subst, ap}
 use Rattle.machine_states.specs.map_history.specs.declared.op.Request.{Request}
 use Rattle.caller_facts.specs.section_runs.specs.runner_gate.specs.Asks.{Asks}

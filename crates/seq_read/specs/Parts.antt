@@ -48,8 +48,8 @@ module _ {T : Type 0} (m : Meaning) (planning : Planning) (request : Request) wh
     pub shaped : IsShaped steps
     pub looks : list_all is_look steps ≡ true
 
-  -- the rest of a read that began with `old`, from here on; `before` is how many steps were counted before. The gate was
-  -- asked behind each of these, and behind the entry
+  -- the rest of a read that began with `old`, from here on; `before` is how many steps were counted before. The gate
+  -- was asked behind each of these, and behind the entry
   pub record Rests (before : ℕ) (answer : Read) (old new : RunnerState T)
       (Seen : ℕ → Asks → Type 0) (halts halts' : ℕ) (asks asks' : Asks) (steps steps' : ℕ) : Type 0 where
     pub answers : Answers m planning request answer old new

@@ -38,8 +38,8 @@ is_halted _ = false
 abbrev pub locked_at : ℕ → Read
 locked_at at = answers.Locked at
 
--- a read counts at most so many steps, where there are so many node slots: the loads of a plan, those of a body's cells,
--- and five more
+-- a read counts at most so many steps, where there are so many node slots: the loads of a plan, those of a body's
+-- cells, and five more
 abbrev pub most_of_read : ℕ → ℕ
 most_of_read count = 6 * count + 44 + 35
 
@@ -169,8 +169,8 @@ module _ {T : Type 0} (m : Meaning) where
     Answers answers.Halted old new = IsHalted old new
     Answers answer old new = IsTurnedAway answer old new
 
-    -- so many steps are counted: the loads of the plan and of the body's cells, the announcement, the load of the clock,
-    -- the second one of the lock, and the exchanges of both words
+    -- so many steps are counted: the loads of the plan and of the body's cells, the announcement, the load of the
+    -- clock, the second one of the lock, and the exchanges of both words
     abbrev pub steps_of : (answer : Read) (old new : RunnerState T) → Answers answer old new → ℕ
     steps_of (answers.Done reply stamp) old new is = read_steps reply stamp old is.stamped is.read
     steps_of answers.Halted old new is = stop_steps old new is.at
@@ -181,8 +181,8 @@ module _ {T : Type 0} (m : Meaning) where
     asks_before answers.Halted old new is = stop_asks old new is.at
     asks_before _ old new is = 0
 
-    -- what a read does. The gate is asked behind the entry, and behind each counted step. Where it halted the runner, it
-    -- was seen before: with as many halts as at first, and with so many more asks
+    -- what a read does. The gate is asked behind the entry, and behind each counted step. Where it halted the runner,
+    -- it was seen before: with as many halts as at first, and with so many more asks
     pub record Reads (answer : Read) (old new : RunnerState T) (Seen : ℕ → Asks → Type 0)
         (halts halts' : ℕ) (asks asks' : Asks) (steps steps' : ℕ) : Type 0 where
       pub answers : Answers answer old new

@@ -85,7 +85,8 @@ pub fn load_lock<S: Structure, G: Gate, L>(
     (runner, word, going)
 }
 
-/// Writes the reply of the read, whose lock had its word again, and asks the gate behind that. Answers the reply's word.
+/// Writes the reply of the read, whose lock had its word again, and asks the gate behind that. Answers the reply's
+/// word.
 pub fn write_reply<S: Structure, G: Gate, L>(
     table: &FlockTable<S>,
     runner: Runner<S>,

@@ -1,9 +1,10 @@
-//! Reads without a lock: a request whose body changes nothing is served by loads between two equal readings of its lock.
+//! Reads without a lock: a request whose body changes nothing is served by loads between two equal readings of its
+//! lock.
 //!
 //! `reading` has the call `read`, and its plan; `cells` loads the cells of the planned body, `wants` tests them, and
 //! `confirming` has what comes behind them: the announcement, the clock, the lock once more, and the request's two
-//! words. `bodies` looks at the body, `answers` is what a read may come to, and `refusals` how refusals are told as such
-//! answers.
+//! words. `bodies` looks at the body, `answers` is what a read may come to, and `refusals` how refusals are told as
+//! such answers.
 #![tactic(auto)]
 
 mod answers;

@@ -1,5 +1,5 @@
 //! One read of a request without a lock.
-ghost use Rattle.std.specs.Prelude.{◌≡◌, ℕ, ◌+◌, ◌≤◌, length};
+ghost use Rattle.std.specs.Prelude.{◌≡◌, ◌≤◌, length};
 ghost use Rattle.machine_states.specs.structure_laws.specs.Scene.{Readings};
 ghost use Rattle.machine_states.specs.runner_steps.specs.Sections.{reply_in};
 ghost use Rattle.caller_facts.specs.version_words.specs.RunnerState.{RunnerState};
@@ -191,8 +191,8 @@ fn look_asked<S: Planner, G: Gate, L>(
     (runner, answer)
 }
 
-/// As `look`, where the room that the runner keeps is out: the read makes a body. It is a call of its own, since a caller
-/// would clear the body's place before each read, though it seldom needs it.
+/// As `look`, where the room that the runner keeps is out: the read makes a body. It is a call of its own, since a
+/// caller would clear the body's place before each read, though it seldom needs it.
 #[inline(never)]
 fn look_anew<S: Planner, G: Gate, L>(
     table: &FlockTable<S>,
@@ -227,8 +227,8 @@ fn look_anew<S: Planner, G: Gate, L>(
     )
 }
 
-/// Looks at the body of the thunk that was planned. A body that the runner keeps for its runs is refilled with its steps,
-/// which is cheaper than to make one.
+/// Looks at the body of the thunk that was planned. A body that the runner keeps for its runs is refilled with its
+/// steps, which is cheaper than to make one.
 fn look<S: Planner, G: Gate, L>(
     table: &FlockTable<S>,
     mut runner: Runner<S>,
@@ -263,16 +263,16 @@ fn look<S: Planner, G: Gate, L>(
 
 /// Reads a request once, without its lock.
 ///
-/// The runner enters, plans the request's section, and looks at its body. Where this changes nothing, it loads the cells
-/// that the body loads and tests what the body wants of them, announces the read, loads the clock, loads the lock once
-/// more, writes the reply and then the stamp, and leaves. The request is one of the table's, of a trace that this runner
-/// serves; the runner knows the answers of the trace's earlier requests and not yet this one's; it is idle, with an empty
-/// hand.
+/// The runner enters, plans the request's section, and looks at its body. Where this changes nothing, it loads the
+/// cells that the body loads and tests what the body wants of them, announces the read, loads the clock, loads the lock
+/// once more, writes the reply and then the stamp, and leaves. The request is one of the table's, of a trace that this
+/// runner serves; the runner knows the answers of the trace's earlier requests and not yet this one's; it is idle, with
+/// an empty hand.
 ///
 /// - `Done`: between its two equal readings of the lock the cells held what the body wants. The request stands once in
-///   the one history, with this stamp, twice the loaded clock and one, and with this reply; its stamp word and its reply
-///   word hold them. The stamp is above those of all requests that were answered as the read began, by whomever, or it
-///   is the same odd one, so that both are of reads.
+///   the one history, with this stamp, twice the loaded clock and one, and with this reply; its stamp word and its
+///   reply word hold them. The stamp is above those of all requests that were answered as the read began, by whomever,
+///   or it is the same odd one, so that both are of reads.
 /// - `Locked`: the body changes something; this is its first such step.
 /// - `Busy`: a lock was held, as the plan read it, or behind the load of the clock. Nobody is helped.
 /// - `Stale`: a word was read, and then another one at the same place; or a node that was reached has been taken out.
@@ -281,8 +281,8 @@ fn look<S: Planner, G: Gate, L>(
 /// - `Halted`: the gate halted the runner. Exactly then its count of halts rose.
 ///
 /// After every answer but `Halted` the runner is idle, and may read or attempt again. After every answer but `Done` and
-/// `Halted` nobody has served the request, which has neither word. After `Halted` the runner stays entered, and can only
-/// be joined; the request is served exactly where the gate halted it behind the exchange of the stamp.
+/// `Halted` nobody has served the request, which has neither word. After `Halted` the runner stays entered, and can
+/// only be joined; the request is served exactly where the gate halted it behind the exchange of the stamp.
 ///
 /// The gate is asked once behind the entry, and after each counted step. The runner takes no lock and no slot, runs no
 /// section, takes no memory, and waits for nothing (after Hemminger's seqlocks, and Boehm, *Can seqlocks get along with

@@ -156,8 +156,8 @@ module _ {T : Type 0} where
     pub above : (q : Request) → IsOwn r q → q.number ≢ request.number
         → is_answered r.part.records.known q.number ≡ true → IsBefore r.part.records.known q request
 
-  -- a gate halted the runner. What it has published and not run to its end, if anything, is for the request behind those
-  -- that are served; where there is none, that request isn't answered, or its section was just run to its end
+  -- a gate halted the runner. What it has published and not run to its end, if anything, is for the request behind
+  -- those that are served; where there is none, that request isn't answered, or its section was just run to its end
   pub record WasHalted (requests : List Request) (count : ℕ) (r : RunnerState T) : Type 0 where
     pub published : (x : Published) → r.part.published ≡ Some x
         → (q : Request) × (slice_get requests count ≡ Some q) × (x.thunk.request ≡ q.number)

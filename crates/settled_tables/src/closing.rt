@@ -13,7 +13,8 @@ use machine_states::structure_laws::Structure;
 use settling::settle;
 use std::alloc::{AllocError, Global};
 
-/// Settles a table whose workers have all been joined, wherever they stand, and closes it: no lock of its words is held.
+/// Settles a table whose workers have all been joined, wherever they stand, and closes it: no lock of its words is
+/// held.
 ///
 /// So whatever the workers did and wherever they were stopped, the cells are those that the structure says of a memory
 /// in which nothing is pending (`AreSettled` of `closed_words`); and each section that was published happened once, for

@@ -37,8 +37,9 @@ fn run_named<S: Structure>(table: &FlockTable<S>, keeper: Runner<S>, held: Word)
     keeper
 }
 
-/// Watches this lock, which named a section as it was loaded, runs that section if the lock has the word still, and lets
-/// the own guard go. All workers are joined, so it has; and a lock that had another word by now would name no section.
+/// Watches this lock, which named a section as it was loaded, runs that section if the lock has the word still, and
+/// lets the own guard go. All workers are joined, so it has; and a lock that had another word by now would name no
+/// section.
 fn clear_named<S: Structure>(
     table: &FlockTable<S>,
     keeper: Runner<S>,

@@ -1,6 +1,6 @@
 -- Where a run has room for all its requests, a worker that no gate halted has served all of its own, wherever another one stopped.
 use Rattle.std.specs.Prelude.{◌⊎◌, slice_get}
-use Rattle.std.proofs.Common.{◌≡◌, ℕ, zero, suc, ◌+◌, ◌*◌, ◌≤◌, Bool, List, [], ◌∷◌, length, Some, refl, ap, ⊎_elim, inl, inr, arith}
+use Rattle.std.proofs.Common.{◌≡◌, ℕ, zero, suc, ◌≤◌, Bool, List, [], ◌∷◌, length, Some, refl, ap, ⊎_elim, inl, inr, arith}
 use Rattle.machine_states.specs.map_history.specs.declared.op.Request.{Request}
 use Rattle.machine_states.specs.body_terms.specs.Memory.{cell_of}
 use Rattle.machine_states.specs.body_terms.specs.Word.{version_of}

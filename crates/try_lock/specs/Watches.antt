@@ -17,8 +17,8 @@ use Rattle.epoch_slots.specs.Entries.{KeepsOwn}
 use Rattle.try_lock.specs.Reached.{IsReached}
 
 module _ {T : Type 0} (m : Meaning) (place held : ℕ) where
-  -- the runner is entered and in no run, and has no published section; at this place of the table is a lock, and the word
-  -- names a descriptor of the table
+  -- the runner is entered and in no run, and has no published section; at this place of the table is a lock, and the
+  -- word names a descriptor of the table
   pub record MayWatch (r : RunnerState T) : Type 0 where
     pub epoch : ℕ
     pub at : IsAt r (stages.Entered epoch) None

@@ -1,8 +1,8 @@
 //! Sections under locks: a section is published in its lock, and whoever meets the lock held runs it to its end.
 //!
 //! `planned` is what a plan answers; plans stand in `lock_walks`. `section` has what a caller holds of its own section,
-//! `publishes` how a section is published, `watches` how a lock is watched that is held, `runs` how a section is run, by
-//! its publisher or by others (Ben-David, Blelloch, Wei, *Lock-free locks revisited*, 2022).
+//! `publishes` how a section is published, `watches` how a lock is watched that is held, `runs` how a section is run,
+//! by its publisher or by others (Ben-David, Blelloch, Wei, *Lock-free locks revisited*, 2022).
 #![tactic(auto)]
 
 mod planned;

@@ -1,5 +1,5 @@
 //! The publication of a section.
-ghost use Rattle.std.specs.Prelude.{◌≡◌, ◌+◌, ◌<◌, ◌≤◌, length, replicate, slice_index};
+ghost use Rattle.std.specs.Prelude.{◌≡◌, ◌+◌, ◌<◌, ◌≤◌, length, replicate};
 ghost use Rattle.machine_states.specs.table_words.specs.Places.{slot_count};
 ghost use Rattle.section_runs.specs.commit_log.specs.version_words.specs.TableState.{IsOf};
 ghost use Rattle.section_runs.specs.commit_log.specs.version_words.specs.Events.{start_of};

@@ -7,10 +7,10 @@ use machine_states::structure_laws::Structure;
 use section_runs::commit_log::version_words::{FlockTable, Runner};
 
 /// Watches the lock at this place, which had this word, that names a section: stores the own guard word to name the
-/// section's descriptor, and loads the lock. The answer is true exactly where it has that word; then the runner is sure of
-/// the descriptor, and the section may be helped. Otherwise the lock has another word by now: of one that the runner had
-/// read there since it entered, `seen_locks_stand` of `machine_facts` says that its section was done (Michael, *Hazard
-/// pointers*, 2004).
+/// section's descriptor, and loads the lock. The answer is true exactly where it has that word; then the runner is sure
+/// of the descriptor, and the section may be helped. Otherwise the lock has another word by now: of one that the runner
+/// had read there since it entered, `seen_locks_stand` of `machine_facts` says that its section was done (Michael,
+/// *Hazard pointers*, 2004).
 ///
 /// The runner is entered and in no run, and has no published section. Two atomic steps, of which no gate is asked; no
 /// memory is taken.

@@ -1,5 +1,4 @@
 use Rattle.std.proofs.Common.{◌≡◌, ℕ, true, refl, sym, subst, arith}
-use Rattle.std.specs.Prelude.{◌==◌}
 use Rattle.std.proofs.lemmas.Bool.Decides.{nat_tests}
 use Rattle.direct_table.specs.map_history.specs.Replay.{Pairs}
 use Rattle.body_terms.specs.Word.{value_of, is_free}

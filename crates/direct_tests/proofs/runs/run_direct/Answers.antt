@@ -1,4 +1,4 @@
-use Rattle.std.proofs.Common.{◌≡◌, ℕ, false, sym, ap, ◌∙◌, subst}
+use Rattle.std.proofs.Common.{◌≡◌, false, sym, ap, ◌∙◌, subst}
 use Rattle.direct_table.specs.direct_laws.specs.Direct.{direct}
 use Rattle.direct_table.specs.declared.table.DirectTable.{DirectTable}
 use Rattle.threaded_runs.specs.Runs.{AreServed}

@@ -1,7 +1,7 @@
-use Rattle.std.proofs.Common.{sym, subst, arith}
+use Rattle.std.proofs.Common.{sym, arith}
 use Rattle.attempts.specs.lock_walks.specs.Own.{own_thunk}
 use Rattle.attempts.specs.Counted.{IsSeen}
-use Rattle.lock_attempts.proofs.Repeated.{IsTrying, trying_begins, trying_next, trying_ends}
+use Rattle.lock_attempts.proofs.Repeated.{trying_begins, trying_next, trying_ends}
 use Rattle.lock_attempts.proofs.serving.persist.Goals as goal
 
 pub loop-again-init : goal.loop-again-init

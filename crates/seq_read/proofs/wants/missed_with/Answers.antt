@@ -1,4 +1,4 @@
-use Rattle.std.proofs.Common.{subst, Some, None}
+use Rattle.std.proofs.Common.{subst}
 use Rattle.seq_read.specs.Wants.{IsTested}
 use Rattle.seq_read.proofs.Testing.{tested_still, tested_next}
 use Rattle.seq_read.proofs.wants.missed_with.Goals as goal

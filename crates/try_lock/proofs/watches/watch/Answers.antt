@@ -1,4 +1,4 @@
-use Rattle.std.proofs.Common.{◌-◌, refl, sym, ap, subst, Some}
+use Rattle.std.proofs.Common.{◌-◌, sym, ap, subst, Some}
 use Rattle.machine_states.specs.runner_parts.specs.declared.event.EventKind.TheVariants as kinds
 use Rattle.section_runs.specs.commit_log.specs.version_words.specs.Events.{IsEnabled, Makes}
 use Rattle.try_lock.proofs.Helping.{some_value}
