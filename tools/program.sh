@@ -61,15 +61,15 @@ folders_of_program() {
   done
 }
 
-# One sum of all that the program is built from, but for the toolchain.
-sum_of_program() {
+# One sum of all that the program is built from, but for the toolchain; its status is 0 where it is whole.
+sum_of_program() (
+  set -o pipefail
   {
-    lines_of_program | LC_ALL=C sort
-    cat "$top/HANDLES" 2> /dev/null
-    # shellcheck disable=SC2046
-    (cd "$top" && find $(folders_of_program) -type f -print0 | LC_ALL=C sort -z | xargs -0 sha256sum)
+    { lines_of_program || :; } | LC_ALL=C sort && { cat "$top/HANDLES" 2> /dev/null || :; } &&
+      # shellcheck disable=SC2046
+      (cd "$top" && find $(folders_of_program) -type f -print0 | LC_ALL=C sort -z | xargs -0 sha256sum)
   } | sha256sum | cut -c1-32
-}
+)
 
 # What tells that one of these files is another: the time of its last change, which no command can set back, its length
 # and its number. Files of crates that the program doesn't use stand there too, since to leave them out takes longer.
@@ -77,17 +77,18 @@ times_of_files() {
   (cd "$top" && find crates.txt HANDLES crates/*/{src,specs,proofs} -type f -printf '%p %C@ %s %i\n' 2> /dev/null)
 }
 
-# The sum of the program, without reading the files where none of them is another than when it was taken.
+# The sum of the program, without reading the files where none of them is another than when it was taken; nothing where
+# it can't be taken.
 current_sum() {
   local kept sum room
   for kept in "$out"/times-*; do
     [ -s "$kept" ] && cmp -s "$kept" <(times_of_files) && printf '%s\n' "${kept##*-}" && return
   done
   [ -d "$out" ] && room=$(new_room) && times_of_files > "$room/times"
-  sum=$(sum_of_program)
+  sum=$(sum_of_program) || sum=
   if [ -n "${room:-}" ]; then
     rm -f "$out"/times-*
-    mv "$room/times" "$out/times-$sum"
+    [ -z "$sum" ] || mv "$room/times" "$out/times-$sum"
     rm -rf "$room"
   fi
   printf '%s\n' "$sum"
