@@ -1,0 +1,4 @@
+pub mod Following
+pub mod Leads
+mod Gathering
+mod Standing
