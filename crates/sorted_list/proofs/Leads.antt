@@ -1,11 +1,10 @@
 -- The walk of the list leads a runner as the list plans.
-use Rattle.std.proofs.Common.{◌≡◌, ℕ, ◌+◌, ◌*◌, ◌≤◌, [], ◌∷◌, ◌++◌, length, Bool, true, false, refl, sym, ap, subst, ◌∙◌, arith, Option, Some, None}
+use Rattle.std.proofs.Common.{◌≡◌, ℕ, ◌+◌, ◌≤◌, [], ◌∷◌, ◌++◌, Bool, true, false, refl, sym, ap, subst, ◌∙◌, arith, Option, Some, None}
 use Rattle.std.specs.Prelude.{◌==◌, ◌&&◌, ◌-◌, not, nat_le, is_some, if◌then◌else◌}
 use Rattle.std.proofs.lemmas.Bool.Decides.{nat_tests}
 use Rattle.std.proofs.lemmas.Bool.{true≢false}
 use Rattle.list_walks.specs.small_lemmas.proofs.Bools.{false_not_true as false_true}
 use Rattle.list_walks.specs.structure_laws.specs.map_history.specs.declared.op.Op.{Op}
-use Rattle.list_walks.specs.structure_laws.specs.map_history.specs.declared.op.Op.TheVariants.{Get}
 use Rattle.list_walks.specs.structure_laws.specs.body_terms.specs.Word.{value_of, version_of, pack, is_free, is_spent}
 use Rattle.list_walks.specs.structure_laws.proofs.Changes.{equal_of}
 use Rattle.list_walks.specs.structure_laws.specs.table_words.specs.declared.layout.Layout.{Layout}
@@ -17,9 +16,7 @@ use Rattle.list_walks.specs.list_laws.specs.Walk.{Walk}
 use Rattle.list_walks.specs.list_laws.specs.Nodes.{list, walk_of, is_lock_place}
 use Rattle.list_walks.specs.Walking.{fed_by, followed_by, is_refused_in}
 use Rattle.list_walks.specs.Leading.{is_mark_place, wanted_in, fed_in, first_walk, WalkLeads, FarLaw}
-use Rattle.list_walks.specs.Gets.{IsListWalk}
 use Rattle.list_walks.proofs.Leading.{walk_leads}
-use Rattle.list_walks.proofs.Gets.{make_few_loads}
 use Rattle.lock_walks.specs.try_lock.specs.declared.planned.Planned.{Planned}
 use Rattle.lock_walks.specs.try_lock.specs.declared.planned.Planned.TheVariants as answers
 use Rattle.lock_walks.specs.try_lock.specs.Plans.{refused_by_lock}
@@ -35,10 +32,6 @@ both_true e f = λ i. e i && f i
 
 nat_le_true : {a b : ℕ} → a ≤ b → nat_le a b ≡ true
 nat_le_true le = grind (arith, nat_tests, le)
-
--- readings of the walk of a `get` are few
-pub get_few : (layout : Layout) (key : ℕ) (readings : Readings) → IsListWalk layout (Get key) readings → length readings ≤ 3 * slot_count layout 2 + 28
-get_few layout key readings walks = let few = make_few_loads layout (Get key) readings walks in omega (arith, few)
 
 -- the walk after readings by which it led
 abbrev walked_by : SortedWalk → Readings → SortedWalk

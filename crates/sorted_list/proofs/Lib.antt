@@ -1,4 +1,4 @@
 pub mod Following
-pub mod Leads
+mod Leads
 mod Gathering
 mod Standing

@@ -1,5 +1,5 @@
 -- The words of a closed table, node by node.
-use Rattle.std.proofs.Common.{◌≡◌, ◌≢◌, ℕ, suc, ◌+◌, ◌-◌, ◌<◌, ◌≤◌, List, ◌∷◌, ◌++◌, [], sym, ap, subst, ◌∙◌, arith}
+use Rattle.std.proofs.Common.{◌≡◌, ◌≢◌, ℕ, suc, ◌+◌, ◌-◌, ◌<◌, ◌≤◌, List, ◌∷◌, ◌++◌, [], sym, ap, subst, ◌∙◌, arith, true}
 use Rattle.list_walks.specs.structure_laws.specs.map_history.specs.Replay.{Pairs}
 use Rattle.list_walks.specs.structure_laws.specs.body_terms.specs.Memory.{cell_of}
 use Rattle.list_walks.specs.structure_laws.specs.body_terms.specs.Word.{value_of}

@@ -7,10 +7,9 @@ ghost use Rattle.list_walks.specs.list_laws.proofs.ListLaws.{list_plans};
 ghost use Rattle.list_walks.specs.list_laws.proofs.Near.{not_far, no_mark};
 ghost use Rattle.list_walks.specs.list_laws.proofs.Retiring.{few_retires};
 ghost use Rattle.list_walks.specs.Walking.{is_refused_in};
-ghost use Rattle.list_walks.proofs.Gets.{only_look};
+ghost use Rattle.list_walks.proofs.Gets.{get_few, only_look};
 ghost use Rattle.lock_walks.specs.try_lock.specs.Contents.{StandFor, NamesNone};
 ghost use Rattle.sorted_list.specs.Planned.{list_planning};
-ghost use Rattle.sorted_list.proofs.Leads.{get_few};
 
 use crate::list::SortedList;
 use crate::walker::SortedWalk;
