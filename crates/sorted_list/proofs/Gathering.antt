@@ -7,14 +7,13 @@ use Rattle.std.specs.FinMap.Entries.{below_all, same_entries}
 use Rattle.std.proofs.lemmas.Bool.Decides.{nat_tests}
 use Rattle.std.proofs.lemmas.Bool.{and_from, cases_eq}
 use Rattle.std.proofs.lemmas.Cmp.{nat_cmp_total}
-use Rattle.list_walks.specs.small_lemmas.proofs.Bools.{from_false as false_true}
 use Rattle.list_walks.specs.small_lemmas.proofs.Numbers.{less_tested as lt_test, not_less_tested as lt_not, equal_tested as eq_test}
 use Rattle.list_walks.specs.structure_laws.specs.map_history.specs.Replay.{Pairs}
 use Rattle.list_walks.specs.structure_laws.specs.Ranks.{lower}
 use Rattle.list_walks.specs.structure_laws.specs.Scene.{Cells}
 use Rattle.list_walks.specs.structure_laws.proofs.Changes.{both_true}
 use Rattle.list_walks.specs.structure_laws.proofs.Lower.{lower_few, lower_falls}
-use Rattle.list_walks.specs.list_laws.specs.Line.{Nodes, rank, last_key}
+use Rattle.list_walks.specs.list_laws.specs.Line.{Nodes, rank}
 use Rattle.list_walks.specs.list_laws.specs.Nodes.{nodes, ListStands}
 use Rattle.list_walks.specs.list_laws.proofs.Line.{rank_unmarked, above_head}
 use Rattle.sorted_list.specs.Gathered.{HasPairs, IsGathering}

@@ -80,9 +80,8 @@ impl Structure for SortedList {
     }
 
     fn reaches(&self, readings: &[(Place, Word)], slot: u32) -> bool {
-        readings
-            .iter()
-            .any(|&(place, word)| place % 5 == 2 && u64::from(word.value()) == u64::from(slot) + 1)
+        readings.iter().any(|&(place, word)| place % 5 == 2
+            && u64::from(word.value()) == u64::from(slot) + 1)
     }
 
     fn fits(&self, layout: Layout, op: Op, readings: &[(Place, Word)], thunk: &Thunk) -> bool {
