@@ -6,14 +6,15 @@ use Rattle.command_line.specs.declared.options.Reads.{Reads}
 use Rattle.command_line.specs.declared.options.Reads.TheVariants.{Free, Lock}
 use Rattle.command_line.specs.declared.options.RunOptions.{RunOptions}
 use Rattle.command_line.specs.declared.options.TableKind.{TableKind}
-use Rattle.command_line.specs.declared.options.TableKind.TheVariants.{Hash, Tree}
+use Rattle.command_line.specs.declared.options.TableKind.TheVariants as kinds
 use Rattle.command_line.specs.Halts.{halts_in}
 use Rattle.command_line.specs.Numbers.{exponent_in, number_in}
 use Rattle.command_line.specs.Written.{AreOptionsOf, Text, Written, all_words_of, given}
 
 abbrev pub table_in : Text → Option TableKind
-table_in text = if bytes_eq text (codes "hash") then Some Hash else if bytes_eq text (codes "tree") then Some Tree else
-    None
+table_in text =
+    if bytes_eq text (codes "hash") then Some kinds.Hash else if bytes_eq text (codes "tree") then Some kinds.Tree else
+    if bytes_eq text (codes "list") then Some kinds.List else None
 
 abbrev pub reads_in : Text → Option Reads
 reads_in text = if bytes_eq text (codes "lock") then Some Lock else if bytes_eq text (codes "free") then Some Free else
@@ -42,7 +43,7 @@ run_names =
 
 -- what options mean of which this says what each was given
 pub record Mean (said : Text → Option Text) (run : RunOptions) : Type 0 where
-  pub table : meant_or Hash table_in (said (codes "table")) ≡ Some run.table
+  pub table : meant_or kinds.Hash table_in (said (codes "table")) ≡ Some run.table
   pub runners : meant (number_in 1 16) (said (codes "runners")) ≡ Some run.runners
   pub bucket_bits : meant exponent_in (said (codes "buckets")) ≡ Some run.bucket_bits
   pub nodes : meant (number_in 0 262144) (said (codes "nodes")) ≡ Some run.nodes

@@ -20,6 +20,8 @@ pub enum TableKind {
     Hash,
     /// The search tree with a lock in each inner node.
     Tree,
+    /// The sorted list with a lock in each node.
+    List,
 }
 
 /// How the requests that only read are served.
@@ -155,6 +157,7 @@ fn table_or_hash(text: Option<&str>) -> Option<TableKind>
     match text {
         Some("hash") => Some(TableKind::Hash),
         Some("tree") => Some(TableKind::Tree),
+        Some("list") => Some(TableKind::List),
         Some(_) => None,
         None => Some(TableKind::Hash),
     }

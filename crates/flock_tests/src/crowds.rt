@@ -175,7 +175,7 @@ const READERS: [(&str, &str); 2] = [
     ),
 ];
 
-// Whether each request of this text is answered on both tables, and the reports are legal.
+// Whether each request of this text is answered on each table, and the reports are legal.
 fn are_served<T: Threads + Wait + Sync>(
     rt: &T,
     alloc: Global,

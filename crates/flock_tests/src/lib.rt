@@ -1,5 +1,5 @@
 //! Worked rows of the whole program, as tests: `flock` of `flock_tool` over streams in memory, on
-//! the hash table and on the search tree.
+//! the hash table, on the search tree and on the sorted list.
 //!
 //! `program` runs the program on a text, and `legal` is a check of reports of its own. `texts` has texts with their
 //! reports and with their first faults, `options` commands with options at each status, `limits` the limits on texts,

@@ -12,8 +12,8 @@ use std::alloc::{AllocError, Global};
 use std::sync::Wait;
 use std::thread::Threads;
 
-/// The two tables that serve the requests.
-pub const TABLES: [&str; 2] = ["hash", "tree"];
+/// The tables that serve the requests.
+pub const TABLES: [&str; 3] = ["hash", "tree", "list"];
 
 /// What a run left: its status, what it printed, and what it told.
 #[derive(Drop)]

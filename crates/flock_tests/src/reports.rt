@@ -10,8 +10,8 @@ use std::test::Fail;
 use std::thread::Threads;
 
 // Each row: the status and the words, the text, the report, and what is told. They are the same on
-// both tables.
-const ON_BOTH_TABLES: &str = "\
+// each table.
+const ON_EACH_TABLE: &str = "\
 0 run|flock 1/trace/ins 5 70/get 5/del 5/get 5/|trace 0/0 new/1 val 70/2 gone/3 none/final 0/|
 0 run --sections 1|flock 1/trace/ins 5 70/get 5/del 5/get 5/|trace 0/0 new/1 val 70/2 gone/3 none/final 0/|
 0 run|flock 1/trace/ins 5 70/ins 5 80/get 5/|trace 0/0 new/1 dup/2 val 70/final 1/|
@@ -33,10 +33,11 @@ const ON_BOTH_TABLES: &str = "\
 5 run --reads free --nodes 0|flock 1/trace/get 1/ins 1 1/get 1/|trace 0/0 none/- unserved/- unserved/final 0/|flock: slots: runner 0 node free 0 limbo 0 worn 0/
 ";
 
-// On the tree each pair takes two node slots, on the hash table one.
+// On the tree each pair takes two node slots, on the hash table and on the list one.
 const ON_ONE_TABLE: &str = "\
 5 run --table tree --nodes 4|flock 1/trace/ins 1 1/ins 2 2/ins 3 3/|trace 0/0 new/1 new/- unserved/final 2/|flock: slots: runner 0 node free 0 limbo 0 worn 0/
 0 run --table hash --nodes 4|flock 1/trace/ins 1 1/ins 2 2/ins 3 3/|trace 0/0 new/1 new/2 new/final 3/|
+0 run --table list --nodes 4|flock 1/trace/ins 2 2/ins 1 1/ins 3 3/|trace 0/0 new/1 new/2 new/final 3/|
 ";
 
 // Whether a row comes out as it says, with these words behind its own, and the program finds the
@@ -59,10 +60,11 @@ fn comes_out<T: Threads + Wait + Sync>(
 }
 
 #[test]
-fn rows_come_out_on_both_tables(rt: HostRuntime) -> Result<(), Fail> {
-    for row in ON_BOTH_TABLES.lines() {
+fn rows_come_out_on_each_table(rt: HostRuntime) -> Result<(), Fail> {
+    for row in ON_EACH_TABLE.lines() {
         assert!(rt; comes_out(&rt, rt.alloc(), row, "--table hash")?, "{row}");
         assert!(rt; comes_out(&rt, rt.alloc(), row, "--table tree")?, "{row}");
+        assert!(rt; comes_out(&rt, rt.alloc(), row, "--table list")?, "{row}");
     }
     for row in ON_ONE_TABLE.lines() {
         assert!(rt; comes_out(&rt, rt.alloc(), row, "")?, "{row}");
@@ -82,7 +84,7 @@ fn in_and_out(alloc: Global, times: u32, rises: bool) -> Result<Vec<u8>, AllocEr
     Ok(text)
 }
 
-// Whether this text comes out as this report on both tables, by one runner with 18 node slots.
+// Whether this text comes out as this report on each table, by one runner with 18 node slots.
 fn is_served_by_few_slots<T: Threads + Wait + Sync>(
     rt: &T,
     alloc: Global,
@@ -113,7 +115,8 @@ fn node_slots_are_used_again(rt: HostRuntime) -> Result<(), Fail> {
     Ok(())
 }
 
-// The same where the pair's value is set again and again, for which the tree makes a leaf each time.
+// The same where the pair's value is set again and again, for which the tree makes a leaf each time,
+// and the list a node.
 #[test]
 fn a_key_is_set_again_and_again(rt: HostRuntime) -> Result<(), Fail> {
     let alloc = rt.alloc();

@@ -33,6 +33,8 @@ hash 5 48|flock 2/trace/put 5 70/put 5 80/|trace 0/0 new/- unserved/final 1/
 hash 49 76|flock 2/trace/put 5 70/put 5 80/|trace 0/0 new/1 was 70/final 1/
 tree 7 63|flock 2/trace/put 5 70/put 5 80/|trace 0/0 new/- unserved/final 1/
 tree 64 103|flock 2/trace/put 5 70/put 5 80/|trace 0/0 new/1 was 70/final 1/
+list 6 50|flock 2/trace/put 5 70/put 5 80/|trace 0/0 new/- unserved/final 1/
+list 51 101|flock 2/trace/put 5 70/put 5 80/|trace 0/0 new/1 was 70/final 1/
 ";
 
 // The same where the requests that only read are served without a lock: such a request is answered from the ask on that

@@ -36,7 +36,7 @@ use Rattle.flock_tool.specs.Runs.{words_in, answers_in, meaning_of, per_pair_in,
 use Rattle.flock_tool.specs.Streams.{Gating, Stream}
 use Rattle.flock_tool.specs.Valid.{HasRoom, IsValid, IsWhole, NothingFails}
 use Rattle.flock_tool.specs.declared.ran.Ran.{Ran}
-use Rattle.flock_tool.specs.declared.ran.Ran.TheVariants.{Hash, Tree}
+use Rattle.flock_tool.specs.declared.ran.Ran.TheVariants as tables
 use Rattle.flock_tool.proofs.EnoughAlone.{never_five, never_six}
 
 -- where none is unserved, each entry is there
@@ -107,8 +107,9 @@ module _ (options : RunOptions) (traces : Traces) (count : ℕ) (count_is : coun
           (subst (λ rs. 2 * inserts rs + 2 ≤ (layout_by options traces.count traces.requests).nodes) (sym requests) room.enough)
 
   few_per_pair : (back : Ran) → per_pair_in back ≤ 2
-  few_per_pair (Hash words answers) = omega arith
-  few_per_pair (Tree words answers) = omega arith
+  few_per_pair (tables.Hash words answers) = omega arith
+  few_per_pair (tables.Tree words answers) = omega arith
+  few_per_pair (tables.List words answers) = omega arith
 
   -- with room for one runner it is neither 5 nor 6
   avoids : HasLoneRoom options traces → (number unserved : ℕ) → (number ≢ 9 → number ≡ finish_status (finish_by (answers_in ran) unserved))

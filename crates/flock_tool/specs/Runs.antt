@@ -8,6 +8,8 @@ use Rattle.load_counts.specs.run_reports.specs.report_text.specs.Sink.{Extends, 
 use Rattle.hash_table.specs.declared.table.HashTable.{HashTable}
 use Rattle.leaf_tree.specs.declared.tree.LeafTree.{LeafTree}
 use Rattle.leaf_tree.specs.tree_laws.specs.Leaves.{tree}
+use Rattle.sorted_list.specs.declared.list.SortedList.{SortedList}
+use Rattle.sorted_list.specs.list_laws.specs.Nodes.{list}
 use Rattle.version_words.specs.TableState.{WordsState}
 use Rattle.load_counts.specs.run_reports.specs.report_text.specs.Ranks.{ranks_of}
 use Rattle.load_counts.specs.run_reports.specs.Reports.{IsReport, PrintsInPart}
@@ -34,35 +36,42 @@ use Rattle.flock_tool.specs.declared.status.Stop.TheVariants as stops
 use Rattle.flock_tool.specs.declared.status.Stop.TheVariants.{Words, Nodes, WriteFault}
 use Rattle.flock_tool.specs.declared.ran.Ran.{Ran}
 use Rattle.flock_tool.specs.declared.ran.Ran.TheVariants.{Hash, Tree}
+use Rattle.flock_tool.specs.declared.ran.Ran.TheVariants as tables
 
 -- which structure kept the map
 abbrev pub structure_in : Ran → Type 0
 structure_in (Hash words answers) = HashTable
 structure_in (Tree words answers) = LeafTree
+structure_in (tables.List words answers) = SortedList
 
 -- the closed words, and what the runners answered, in the order of their numbers
 abbrev pub words_in : (ran : Ran) → WordsState (structure_in ran)
 words_in (Hash words answers) = words
 words_in (Tree words answers) = words
+words_in (tables.List words answers) = words
 
 abbrev pub answers_in : Ran → List Served
 answers_in (Hash words answers) = answers.items
 answers_in (Tree words answers) = answers.items
+answers_in (tables.List words answers) = answers.items
 
 abbrev pub meaning_of : Ran → Meaning
 meaning_of (Hash words answers) = buckets_meaning words.structure.bits
 meaning_of (Tree words answers) = tree
+meaning_of (tables.List words answers) = list
 
 -- how many node slots a pair of the map keeps in use, at most
 abbrev pub per_pair_in : Ran → ℕ
 per_pair_in (Hash words answers) = 1
 per_pair_in (Tree words answers) = 2
+per_pair_in (tables.List words answers) = 1
 
 -- the table was of the kind and of the size that the options name
 abbrev pub IsTableOf : RunOptions → Ran → Type 0
 IsTableOf options (Hash words answers) =
     (options.table ≡ kinds.Hash) × (words.structure.bits ≡ bits_by options.bucket_bits (inserts words.requests))
 IsTableOf options (Tree words answers) = options.table ≡ kinds.Tree
+IsTableOf options (tables.List words answers) = options.table ≡ kinds.List
 
 -- for each runner a gate was given, in order of number, with the ask at which it is named to halt, if it is
 pub record AreHaltsOf (halts : List Halt) (runners : ℕ) (planned : List GatePlan) : Type 0 where

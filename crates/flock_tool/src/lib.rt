@@ -31,4 +31,5 @@ pub use hash_table;
 pub use leaf_tree;
 pub use load_counts;
 pub use printed_traces::report_text;
+pub use sorted_list;
 pub use threaded_runs;

@@ -90,6 +90,7 @@ fn count_run(alloc: Global, ran: &Ran, requests: u32) -> Result<Counted, AllocEr
     match ran {
         Ran::Hash(words, _) => count_on(alloc, words, requests),
         Ran::Tree(words, _) => count_on(alloc, words, requests),
+        Ran::List(words, _) => count_on(alloc, words, requests),
     }
 }
 

@@ -2,6 +2,7 @@
 
 use hash_table::HashTable;
 use leaf_tree::LeafTree;
+use sorted_list::SortedList;
 use threaded_runs::serving::Served;
 use version_words::Words;
 
@@ -13,4 +14,6 @@ pub enum Ran {
     Hash(Words<HashTable>, Vec<Served>),
     /// On the search tree.
     Tree(Words<LeafTree>, Vec<Served>),
+    /// On the sorted list.
+    List(Words<SortedList>, Vec<Served>),
 }

@@ -22,6 +22,7 @@ use hash_table::lock_walks::Planner;
 use leaf_tree::LeafTree;
 use load_counts::run_reports::{contents_stand, print_words};
 use printed_traces::report_text::Sink;
+use sorted_list::SortedList;
 use std::alloc::{AllocError, Global};
 use std::sync::Wait;
 use std::thread::Threads;
@@ -61,6 +62,10 @@ pub fn run_plan<T: Threads + Wait + Sync, G: Gates>(
         TableKind::Tree => {
             let (words, answers) = run_on(rt, alloc, LeafTree::new(), plan, gates)?;
             Ok(Ran::Tree(words, answers))
+        }
+        TableKind::List => {
+            let (words, answers) = run_on(rt, alloc, SortedList::new(), plan, gates)?;
+            Ok(Ran::List(words, answers))
         }
     }
 }
@@ -124,6 +129,7 @@ pub fn run_is_allowed(ran: &Ran)
     match ran {
         Ran::Hash(words, _) => words_are_reached(words),
         Ran::Tree(words, _) => words_are_reached(words),
+        Ran::List(words, _) => words_are_reached(words),
     }
 }
 
@@ -132,7 +138,9 @@ pub fn answers(ran: &Ran) -> &[Served]
     ensures { result.now ≡ answers_in ran.now }
 {
     match ran {
-        Ran::Hash(_, answers) | Ran::Tree(_, answers) => answers.as_slice(),
+        Ran::Hash(_, answers) | Ran::Tree(_, answers) | Ran::List(_, answers) => {
+            answers.as_slice()
+        }
     }
 }
 
@@ -183,5 +191,6 @@ pub fn print_run<K: Sink>(alloc: Global, plan: &Plan, ran: &Ran, sink: &mut K) -
     match ran {
         Ran::Hash(words, _) => print_on(alloc, plan, words, sink),
         Ran::Tree(words, _) => print_on(alloc, plan, words, sink),
+        Ran::List(words, _) => print_on(alloc, plan, words, sink),
     }
 }

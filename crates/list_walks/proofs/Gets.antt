@@ -1,11 +1,13 @@
 -- A walk makes few loads, and the section of a `get` changes nothing.
-use Rattle.std.proofs.Common.{◌≡◌, ℕ, suc, ◌≤◌, [], ◌∷◌, length, Bool, true, false, cond, refl, sym, ap, subst, ◌∙◌, arith, Some}
+use Rattle.std.proofs.Common.{◌≡◌, ℕ, suc, ◌+◌, ◌*◌, ◌≤◌, [], ◌∷◌, length, Bool, true, false, cond, refl, sym, ap, subst, ◌∙◌, arith, Some}
 use Rattle.std.specs.Prelude.{◌==◌, slice_get, take}
 use Rattle.std.specs.List.{list_all}
 use Rattle.runner_parts.specs.epoch_core.specs.small_lemmas.proofs.Numbers.{self_tested}
 use Rattle.runner_parts.specs.structure_laws.specs.map_history.specs.declared.op.Op.TheVariants.{Get}
 use Rattle.runner_parts.specs.structure_laws.specs.body_terms.specs.Shape.{is_look}
 use Rattle.runner_parts.specs.structure_laws.specs.body_terms.specs.declared.thunk.Thunk.{Thunk}
+use Rattle.runner_parts.specs.structure_laws.specs.table_words.specs.declared.layout.Layout.{Layout}
+use Rattle.runner_parts.specs.structure_laws.specs.table_words.specs.Places.{slot_count}
 use Rattle.runner_parts.specs.structure_laws.specs.Scene.{Readings}
 use Rattle.runner_parts.specs.structure_laws.proofs.Changes.{both_true, equal_of}
 use Rattle.list_laws.specs.bucket_laws.specs.Walk.{is_wanted, has_one_key}
@@ -14,7 +16,7 @@ use Rattle.list_laws.specs.Walk.{is_end, walk}
 use Rattle.list_laws.specs.Nodes.{walk_of}
 use Rattle.list_walks.specs.Walking.{Walking, wanted_by, fed_by, followed_by, left_by}
 use Rattle.list_walks.specs.Leading.{first_walk}
-use Rattle.list_walks.specs.Gets.{WalksMakeFewLoads, GetsOnlyLook}
+use Rattle.list_walks.specs.Gets.{IsListWalk, WalksMakeFewLoads, GetsOnlyLook}
 use Rattle.list_walks.proofs.Steps.{walk_nearer}
 
 -- a walk goes on by a reading that it wants
@@ -38,6 +40,10 @@ few_left w (reading ∷ readings) walks =
 
 pub make_few_loads : WalksMakeFewLoads
 make_few_loads layout op readings walks = let few = few_left (first_walk layout op) readings walks in omega (arith, few)
+
+-- so those of a `get` are as few as plans want
+pub get_few : (layout : Layout) (key : ℕ) (readings : Readings) → IsListWalk layout (Get key) readings → length readings ≤ 3 * slot_count layout 2 + 28
+get_few layout key readings walks = let few = make_few_loads layout (Get key) readings walks in omega (arith, few)
 
 -- form 31
 looks_in : (t : Thunk) → t.form ≡ 31 → list_all is_look (list_steps t) ≡ true

@@ -46,6 +46,7 @@ run --sections 1025
 run --version-max 2
 run --version-max 4294967296
 run --table trees
+run --table lists
 run --table HASH
 run --reads
 run --reads locks
@@ -90,6 +91,7 @@ run --nodes 0
 run --nodes=007
 run --buckets 4096 --table hash
 run --table tree --runners 2
+run --table list --halt 0:7
 run --table=hash --buckets=1
 run --reads free
 run --reads=lock --table tree

@@ -16,3 +16,9 @@ count_on-requires-in-Tree-clause-free c κs = subst (λ (r : Ran). HoldsNoLock (
 
 pub returns-in-Tree : goal.returns-in-Tree
 returns-in-Tree c = subst (λ (r : Ran). IfOk c.count_on-in-Tree.result (IsCounted (meaning_of r) (words_in r))) (sym c.in-Tree.is) c.count_on-in-Tree.ensures
+
+pub count_on-requires-in-List-clause-free : goal.count_on-requires-in-List-clause-free
+count_on-requires-in-List-clause-free c κs = subst (λ (r : Ran). HoldsNoLock (meaning_of r) (words_in r)) c.in-List.is c.requires.free
+
+pub returns-in-List : goal.returns-in-List
+returns-in-List c = subst (λ (r : Ran). IfOk c.count_on-in-List.result (IsCounted (meaning_of r) (words_in r))) (sym c.in-List.is) c.count_on-in-List.ensures

@@ -16,3 +16,9 @@ returns-in-Tree-clause-limits c = subst (λ (r : Ran). IsWithinLimits (words_in 
 
 pub returns-in-Tree-clause-requests : goal.returns-in-Tree-clause-requests
 returns-in-Tree-clause-requests c = subst (λ (r : Ran). AreAllowed (words_in r).requests) (sym c.in-Tree.is) c.words_are_reached-in-Tree.ensures.requests
+
+pub returns-in-List-clause-limits : goal.returns-in-List-clause-limits
+returns-in-List-clause-limits c = subst (λ (r : Ran). IsWithinLimits (words_in r).layout) (sym c.in-List.is) c.words_are_reached-in-List.ensures.limits
+
+pub returns-in-List-clause-requests : goal.returns-in-List-clause-requests
+returns-in-List-clause-requests c = subst (λ (r : Ran). AreAllowed (words_in r).requests) (sym c.in-List.is) c.words_are_reached-in-List.ensures.requests

@@ -1,0 +1,4 @@
+pub mod Following
+mod Leads
+mod Gathering
+mod Standing
