@@ -1,9 +1,16 @@
 -- How a runner comes by free slots before it enters.
-use Rattle.std.specs.Prelude.{◌≡◌, ◌*◌, ◌&&◌, ◌==◌, Bool, true, false, nat_lt, nat_le, length}
+use Rattle.std.specs.Prelude.{◌≡◌, ℕ, ◌*◌, ◌/◌, ◌&&◌, ◌==◌, Bool, true, false, nat_lt, nat_le, length, if◌then◌else◌}
+use Rattle.std.specs.Int.{is_power_of_two}
 use Rattle.machine_states.specs.structure_laws.specs.Meaning.{Meaning}
 use Rattle.version_words.specs.RunnerState.{RunnerState}
 use Rattle.lock_walks.specs.try_lock.specs.epoch_slots.specs.Collects.{IsTidy, Collects}
 use Rattle.lock_walks.specs.try_lock.specs.epoch_slots.specs.Sweeps.{HasSwept}
+
+-- so many node slots in limbo, of as many as the layout gives each worker, are worth the steps of a scan: a quarter or
+-- more, as long as that is fewer than 64; else 64 or 65, and again each time that they have doubled
+abbrev pub is_much : ℕ → ℕ → Bool
+is_much given limbo =
+    if nat_lt limbo 64 then nat_lt 0 limbo && nat_le given (4 * limbo) else is_power_of_two (limbo / 2)
 
 module _ {T : Type 0} where
   -- fewer node slots are free than an attempt needs
@@ -14,9 +21,9 @@ module _ {T : Type 0} where
   abbrev pub lacks_descriptor : RunnerState T → Bool
   lacks_descriptor r = length r.part.descriptors.free == 0
 
-  -- of as many node slots as the layout gives each worker a quarter or more are in the own limbo
+  -- so many of its own node slots are in limbo that a scan is worth its steps
   abbrev pub has_much_in_limbo : RunnerState T → Bool
-  has_much_in_limbo r = nat_lt 0 (length r.part.nodes.limbo) && nat_le r.layout.nodes (4 * length r.part.nodes.limbo)
+  has_much_in_limbo r = is_much r.layout.nodes (length r.part.nodes.limbo)
 
   -- the runner is idle with an empty hand and no guard, and is who it was, knows what it knew, and has run what it had
   pub record IsRested (old new : RunnerState T) : Type 0 where

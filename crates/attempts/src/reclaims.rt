@@ -1,31 +1,63 @@
 //! How a runner comes by free slots before an attempt: it collects and sweeps where it has to.
 ghost use Rattle.std.specs.Prelude.{◌≡◌};
 ghost use Rattle.version_words.specs.TableState.{IsOf};
-ghost use Rattle.lock_walks.specs.try_lock.specs.epoch_slots.specs.Collects.{IsTidy};
-ghost use Rattle.attempts.specs.Reclaims.{lacks_slots, lacks_descriptor, has_much_in_limbo, CollectsWhere, SweepsWhere, Reclaims, IsRested};
+ghost use Rattle.lock_walks.specs.try_lock.specs.epoch_slots.specs.Collects.{IsTidy, Collects};
+ghost use Rattle.attempts.specs.Reclaims.{is_much, lacks_slots, lacks_descriptor, has_much_in_limbo, CollectsWhere, SweepsWhere, Reclaims, IsRested};
 
 use lock_walks::epoch_slots::{collect, sweep};
 use machine_states::structure_laws::Structure;
 use version_words::{FlockTable, Runner};
 
+/// Up to so many node slots in limbo a quarter of a worker's own ones is many; from then on their number has to double
+/// before it is many again.
+const FEW: u32 = 64;
+
+/// Whether so many node slots in limbo, of as many as the layout gives each worker, are worth the steps of a scan.
+///
+/// Where a scan brings nothing back, as behind a runner that stays entered, the next ones wait until twice as many are
+/// in limbo: so all scans together look at each of them a few times only, and those that come back at once are few.
+#[inline(always)]
+fn is_much(given: u32, limbo: u32) -> bool
+    ensures { result ≡ is_much given limbo }
+{
+    if limbo < FEW {
+        limbo > 0 && given as u64 <= 4 * limbo as u64
+    } else {
+        (limbo / 2).is_power_of_two()
+    }
+}
+
 /// Whether fewer node slots are free than an attempt needs.
+#[inline(always)]
 fn is_lacking<S: Structure>(runner: &Runner<S>) -> bool
     ensures { result ≡ lacks_slots runner.now }
 {
     runner.free_nodes().len() < 2
 }
 
-/// Whether so many of the own node slots are in limbo that a scan is worth its steps: a quarter of those that the
-/// layout gives each worker, and one at least.
+/// Whether so many of the own node slots are in limbo that a scan is worth its steps.
+#[inline(always)]
 fn is_full<S: Structure>(table: &FlockTable<S>, runner: &Runner<S>) -> bool
     requires { IsOf table.now runner.now }
     ensures { result ≡ has_much_in_limbo runner.now }
 {
-    let limbo = runner.limbo_nodes();
-    limbo > 0 && table.layout().nodes as u64 <= 4 * limbo as u64
+    is_much(table.layout().nodes, runner.limbo_nodes())
+}
+
+/// One scan. It is a call of its own, since an attempt seldom makes one, and would keep registers free for it each
+/// time.
+#[inline(never)]
+fn collect_apart<S: Structure>(table: &FlockTable<S>, runner: Runner<S>) -> Runner<S>
+    requires own { IsOf table.now runner }
+    requires tidy { IsTidy runner }
+    ensures own { IsOf table.now result }
+    ensures collects { Collects (S.meaning table.now.structure) runner result }
+{
+    collect(table, runner)
 }
 
 /// One scan where it is due.
+#[inline(always)]
 fn collect_where<S: Structure>(table: &FlockTable<S>, runner: Runner<S>, due: bool) -> Runner<S>
     requires own { IsOf table.now runner }
     requires tidy { IsTidy runner }
@@ -33,10 +65,15 @@ fn collect_where<S: Structure>(table: &FlockTable<S>, runner: Runner<S>, due: bo
     ensures collects { CollectsWhere (S.meaning table.now.structure) due runner result }
     ensures rested { IsRested runner result }
 {
-    if due { collect(table, runner) } else { runner }
+    if due {
+        collect_apart(table, runner)
+    } else {
+        runner
+    }
 }
 
 /// One scan where slots lack.
+#[inline(always)]
 fn refill<S: Structure>(table: &FlockTable<S>, runner: Runner<S>) -> Runner<S>
     requires own { IsOf table.now runner }
     requires tidy { IsTidy runner }
@@ -49,6 +86,7 @@ fn refill<S: Structure>(table: &FlockTable<S>, runner: Runner<S>) -> Runner<S>
 }
 
 /// One sweep where no descriptor is free.
+#[inline(always)]
 fn sweep_where_none<S: Structure>(table: &FlockTable<S>, runner: Runner<S>) -> Runner<S>
     requires own { IsOf table.now runner }
     requires tidy { IsTidy runner }
@@ -63,8 +101,9 @@ fn sweep_where_none<S: Structure>(table: &FlockTable<S>, runner: Runner<S>) -> R
     }
 }
 
-/// Collects once where a quarter of the worker's node slots or more are in limbo, and then up to three times in a row,
-/// as long as two node slots lack. Then it sweeps the guard words where no descriptor is free.
+/// Collects once where many node slots are in limbo, and then up to three times in a row, as long as two node slots
+/// lack. Then it sweeps the guard words where no descriptor is free. Many is a quarter of those that the layout gives
+/// each worker, as long as that is fewer than 64; else it is 64, and again each time that they have doubled.
 ///
 /// Each scan loads all announcements and may take the epoch on, which costs every other runner a cache line; so one is
 /// made only where it is needed. Three in a row bring back all that nobody holds: what was retired in the present epoch

@@ -59,6 +59,7 @@ pub trait Planner: Structure + Sized + Send + Sync {
     /// the walk isn't at its end. Halted comes exactly where the gate halted, which its count of halts
     /// shows. Else the thunk fits the readings, which are of this call. No memory is taken (Ben-David,
     /// Blelloch, Wei, *Lock-free locks revisited*, 2022).
+    #[inline(always)]
     final fn plan<G: Gate, L>(
         &self,
         table: &FlockTable<Self>,

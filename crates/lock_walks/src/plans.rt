@@ -283,6 +283,7 @@ fn refusal<S: Structure, W: Walker>(
 /// The structure is the table's, and the walker walks as the structure plans, for the request's operation. The runner
 /// is entered, in no run, and has loaded no cell since it entered (Ben-David, Blelloch, Wei, *Lock-free locks
 /// revisited*, 2022).
+#[inline(always)]
 pub fn plan_by<S: Structure, W: Walker, G: Gate, L>(
     table: &FlockTable<S>,
     runner: Runner<S>,

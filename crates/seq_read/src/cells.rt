@@ -31,6 +31,7 @@ pub struct Loaded {
 ///
 /// The steps are those of the body of a thunk that was planned since the runner entered. Each cell is tested as it is
 /// loaded, and none is kept, since to clear a place for them took longer than all loads of a read. No memory is taken.
+#[inline(always)]
 pub fn load_cells<S: Structure, G: Gate, L>(
     table: &FlockTable<S>,
     runner: Runner<S>,

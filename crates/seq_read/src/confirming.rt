@@ -20,6 +20,7 @@ use machine_states::structure_laws::Structure;
 use next_steps::looks_are_small;
 
 /// Announces the read with its thunk, and asks the gate behind that.
+#[inline(always)]
 pub fn announce<S: Structure, G: Gate, L>(
     table: &FlockTable<S>,
     runner: Runner<S>,
@@ -41,6 +42,7 @@ pub fn announce<S: Structure, G: Gate, L>(
 }
 
 /// Loads the clock for the read that was announced, and asks the gate behind that.
+#[inline(always)]
 pub fn load_clock<S: Structure, G: Gate, L>(
     table: &FlockTable<S>,
     runner: Runner<S>,
@@ -63,6 +65,7 @@ pub fn load_clock<S: Structure, G: Gate, L>(
 }
 
 /// Loads the thunk's lock once more, and asks the gate behind that.
+#[inline(always)]
 pub fn load_lock<S: Structure, G: Gate, L>(
     table: &FlockTable<S>,
     runner: Runner<S>,
@@ -87,6 +90,7 @@ pub fn load_lock<S: Structure, G: Gate, L>(
 
 /// Writes the reply of the read, whose lock had its word again, and asks the gate behind that. Answers the reply's
 /// word.
+#[inline(always)]
 pub fn write_reply<S: Structure, G: Gate, L>(
     table: &FlockTable<S>,
     runner: Runner<S>,
@@ -114,6 +118,7 @@ pub fn write_reply<S: Structure, G: Gate, L>(
 
 /// Writes the read's stamp behind its reply, by the clock that was loaded, and asks the gate behind that. Answers the
 /// stamp.
+#[inline(always)]
 pub fn write_stamp<S: Structure, G: Gate, L>(
     table: &FlockTable<S>,
     runner: Runner<S>,

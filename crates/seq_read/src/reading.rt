@@ -28,6 +28,7 @@ use machine_states::map_history::{Reply, Request};
 use next_steps::looks_are_small;
 
 /// Writes both words of the request, whose lock had its word again behind the load of the clock, and leaves.
+#[inline(always)]
 fn answer<S: Planner, G: Gate, L>(
     table: &FlockTable<S>,
     runner: Runner<S>,
@@ -72,6 +73,7 @@ fn answer<S: Planner, G: Gate, L>(
 
 /// Loads the clock, and the lock once more; where this has the plan's word still, the read is made, with this reply.
 /// Else it leaves.
+#[inline(always)]
 fn confirm<S: Planner, G: Gate, L>(
     table: &FlockTable<S>,
     runner: Runner<S>,
@@ -117,6 +119,7 @@ fn confirm<S: Planner, G: Gate, L>(
 
 /// Looks at the body of the thunk that was planned, which is handed in: where it changes nothing, its cells are loaded
 /// and tested, and the read is confirmed. Else the runner leaves.
+#[inline(always)]
 fn look_at<S: Planner, G: Gate, L>(
     table: &FlockTable<S>,
     runner: Runner<S>,
@@ -159,6 +162,7 @@ fn look_at<S: Planner, G: Gate, L>(
 }
 
 /// As `look_at`. The asks of a gate that never halts are counted apart, and it is told them in the end.
+#[inline(always)]
 fn look_asked<S: Planner, G: Gate, L>(
     table: &FlockTable<S>,
     runner: Runner<S>,
@@ -229,6 +233,7 @@ fn look_anew<S: Planner, G: Gate, L>(
 
 /// Looks at the body of the thunk that was planned. A body that the runner keeps for its runs is refilled with its
 /// steps, which is cheaper than to make one.
+#[inline(always)]
 fn look<S: Planner, G: Gate, L>(
     table: &FlockTable<S>,
     mut runner: Runner<S>,

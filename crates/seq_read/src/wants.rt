@@ -17,6 +17,7 @@ pub struct Missed {
 }
 
 /// Whether this step is a Want of the cell's register, for another word than was found.
+#[inline(always)]
 fn is_missed(cell: &Loaded, step: &Step) -> bool
     ensures { result ≡ is_missed (cell.now ∷ []) step.now }
 {
@@ -46,6 +47,7 @@ fn missed_by(cell: &Loaded, step: &Step) -> Option<Missed>
 }
 
 /// Where the first of these steps stands that wanted another word of the cell than was found, if one did.
+#[inline(always)]
 fn find_missed(steps: &[Step], cell: &Loaded) -> Option<usize>
     ensures { result ≡ position (is_missed (cell.now ∷ [])) steps.now }
 {
@@ -53,6 +55,7 @@ fn find_missed(steps: &[Step], cell: &Loaded) -> Option<usize>
 }
 
 /// What the first of these steps wanted of the cell for which another word was found, if there is one.
+#[inline(always)]
 fn first_missed(steps: &[Step], cell: &Loaded) -> Option<Missed>
     ensures some { IfSome result (λ x. (step : Action) × IsAmong steps.now step
         × IsMiss (cell.now ∷ []) step x.place x.expected x.read) }
@@ -65,6 +68,7 @@ fn first_missed(steps: &[Step], cell: &Loaded) -> Option<Missed>
 }
 
 /// What these steps missed, with one more cell.
+#[inline(always)]
 pub fn missed_with(missed: Option<Missed>, steps: &[Step], cell: &Loaded) -> Option<Missed>
     ensures { (xs : List Cell) → IsTested steps.now xs missed → IsTested steps.now (xs ++ cell.now ∷ []) result }
 {
