@@ -141,33 +141,45 @@ fn all_served_from(report: &str, line: &str) -> bool {
     }
 }
 
-// Wherever the first runner stops, the second one is served, and the report is legal.
-#[test]
-fn whoever_does_not_stop_is_served(rt: HostRuntime) -> Result<(), Fail> {
-    let alloc = rt.alloc();
+// Wherever the first runner of a pair stops on this table, the second one is served, and the report is legal.
+fn second_ones_are_served<T: Abort + Threads + Wait + Sync>(
+    rt: &T,
+    alloc: Global,
+    table: &str,
+) -> Result<(), Fail> {
     for (row, reads, last) in PAIRS {
         let text = bytes_of(alloc, row)?;
-        for table in TABLES {
-            let words = format!(in alloc; "--table {table} --runners 2 --reads {reads}")?;
-            for ask in 1..=last {
-                let ended = run_stopped(&rt, alloc, &words, ask, &text)?;
-                assert!(rt;
-                    all_served_from(ended.report(), "trace 1\n"),
-                    "{row} on {table} at {ask}"
-                );
-                assert!(rt;
-                    is_legal(alloc, &text, ended.report())?,
-                    "{row} on {table} at {ask}"
-                );
-                assert!(rt;
-                    is_found_legal(&rt, alloc, &text, ended.sink.bytes())?,
-                    "{row} on {table} at {ask}"
-                );
-                assert!(rt; tells_unserved(alloc, &ended)?, "{row} on {table} at {ask}");
-            }
+        let words = format!(in alloc; "--table {table} --runners 2 --reads {reads}")?;
+        for ask in 1..=last {
+            let ended = run_stopped(rt, alloc, &words, ask, &text)?;
+            assert!(rt;
+                all_served_from(ended.report(), "trace 1\n"),
+                "{row} on {table} at {ask}"
+            );
+            assert!(rt;
+                is_legal(alloc, &text, ended.report())?,
+                "{row} on {table} at {ask}"
+            );
+            assert!(rt;
+                is_found_legal(rt, alloc, &text, ended.sink.bytes())?,
+                "{row} on {table} at {ask}"
+            );
+            assert!(rt; tells_unserved(alloc, &ended)?, "{row} on {table} at {ask}");
         }
     }
     Ok(())
+}
+
+#[test]
+fn whoever_does_not_stop_is_served(rt: HostRuntime) -> Result<(), Fail> {
+    second_ones_are_served(&rt, rt.alloc(), "hash")?;
+    second_ones_are_served(&rt, rt.alloc(), "tree")
+}
+
+// The list by itself, for the sake of a test's time.
+#[test]
+fn whoever_does_not_stop_is_served_on_the_list(rt: HostRuntime) -> Result<(), Fail> {
+    second_ones_are_served(&rt, rt.alloc(), "list")
 }
 
 // Four traces on 50 keys.
