@@ -41,8 +41,8 @@ module _ {T : Type 0} (m : Meaning) (w : WordsState T) where
     pub map : m.is_map ≡ true → pairs ≡ map_after_all empty (ops_of history)
     pub replies : m.is_map ≡ true → (e : Stamped) → Contains history e → word_of m w (Reply e.number) ≢ 0
         → word_of m w (Reply e.number) ≡ replies.word_of e.reply
-    -- stamps never fall along a trace, and two equal ones are odd; no request has an entry before the earlier ones of its
-    -- trace
+    -- stamps never fall along a trace, and two equal ones are odd; no request has an entry before the earlier ones of
+    -- its trace
     pub rising : (k n : ℕ) → k < n → asked.trace k ≡ asked.trace n → word_of m w (Stamp n) ≢ 0
         → (word_of m w (Stamp k) ≢ 0) × Follows (word_of m w (Stamp k)) (word_of m w (Stamp n))
     -- it is the only such list

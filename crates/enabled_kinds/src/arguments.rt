@@ -319,7 +319,8 @@ pub fn may_announce_read<S: Structure>(
 ) -> bool
     requires limits { IsWithinLimits layout }
     requires few { length requests.now ≤ 131072 }
-    ensures { result ≡ is_enabled (S.meaning structure.now) layout requests.now runner part.now (kinds.ReadPlan no_thunk) }
+    ensures { result
+        ≡ is_enabled (S.meaning structure.now) layout requests.now runner part.now (kinds.ReadPlan no_thunk) }
 {
     let kind = EventKind::ReadPlan(no_thunk());
     may(part, structure, layout, requests, runner, kind)

@@ -192,7 +192,8 @@ impl ListWalk {
     /// What comes after the predecessor's mark: the lock of the key's node, where it is taken out.
     #[inline(always)]
     fn past_own_mark(&self) -> Stage
-        ensures { stage_of result ≡ cond (takes_out self.now.op && self.now.walk.found) (stage_of NodeLock) (stage_of End) }
+        ensures { stage_of result
+            ≡ cond (takes_out self.now.op && self.now.walk.found) (stage_of NodeLock) (stage_of End) }
     {
         match (self.op, self.found) {
             (Op::Del(_) | Op::Put(_, _), true) => Stage::NodeLock,

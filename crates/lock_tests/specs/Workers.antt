@@ -27,8 +27,8 @@ module _ {T : Type 0} where
     pub reserve : HasReserve r
 
   module _ (m : Meaning) where
-    -- the worker is entered and has read this word of a lock, which it may watch where the word names a section; it knows
-    -- no request's words
+    -- the worker is entered and has read this word of a lock, which it may watch where the word names a section; it
+    -- knows no request's words
     pub record HasRead (place word : ℕ) (r : RunnerState T) : Type 0 where
       pub epoch : ℕ
       pub at : IsAt r (stages.Entered epoch) None

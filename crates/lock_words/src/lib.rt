@@ -1,8 +1,8 @@
 //! What stands of words that sections and walks met at locks and cells, in every state that the machine reaches.
 //!
 //! The definitions stand in specs: `Spent` has the words behind which too few versions are left, `Taken` the words by
-//! which sections leave that find the lock of a Take held, `Stale` that a section which left since it found another word
-//! than the expected one found another one. `laws`, `taken` and `stale` have the laws on contracts.
+//! which sections leave that find the lock of a Take held, `Stale` that a section which left since it found another
+//! word than the expected one found another one. `laws`, `taken` and `stale` have the laws on contracts.
 #![tactic(auto)]
 
 mod laws;

@@ -113,7 +113,8 @@ module _ (m : Meaning) (l : Layout) (w : AgreementState) (r : ℕ) where
   IsLineChunk kinds.Release p q found heads = (place word : ℕ) × (next_of m q ≡ micros.Release place word)
       × (((is_end (next_of m (ended_more q)) ≡ false) × (heads ≡ events.Read place ∷ events.Release r place word ∷ []))
       ⊎ ((is_end (next_of m (ended_more q)) ≡ true)
-      × (heads ≡ events.Read place ∷ events.Release r place word ∷ events.Finish r ∷ retires_own p.published q.descriptor)))
+      × (heads ≡ events.Read place ∷ events.Release r place word ∷ events.Finish r
+      ∷ retires_own p.published q.descriptor)))
   IsLineChunk _ p q found heads = heads ≡ []
 
   -- the events of a step in a run: none where the run has still to load words of its thunk, or its done word

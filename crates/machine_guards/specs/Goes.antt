@@ -31,8 +31,8 @@ use Rattle.machine_guards.specs.Supplied.{GuardsAreSupplied}
 use Rattle.machine_guards.specs.Chunks.{guard_events}
 
 module _ (m : Meaning) (l : Layout) where
-  -- the events of agreement, and of epochs and slots, that this runner's step of this kind is which found this word, lead
-  -- from the one states to the others
+  -- the events of agreement, and of epochs and slots, that this runner's step of this kind is which found this word,
+  -- lead from the one states to the others
   pub record OthersGo (a a' : AgreementState) (e e' : EpochState) (s : Sight) (r : ℕ) (kind : EventKind)
       (found : ℕ) : Type 0 where
     pub heads : List agreement.Event

@@ -54,8 +54,8 @@ module _ (m : Meaning) (l : Layout) (requests : List Request) where
         → HasSeen m w r x false ⊎ CameLate s p x
     pub replied : is_replied x.stage ≡ true → HasReplied m w r p x
 
-  -- the looks of all entered runners. The history has a reply without its stamp only where a runner has, and nothing seen but
-  -- of a look that a runner has
+  -- the looks of all entered runners. The history has a reply without its stamp only where a runner has, and nothing
+  -- seen but of a look that a runner has
   pub record LooksAreKept (s : Sight) (w : HistoryState) : Type 0 where
     pub kept : (r : ℕ) (x : Look) → (s.part r).reads.look ≡ Some x → (g : ℕ) → (s.part r).stage ≡ Entered g
         → LookIsKept s w r (s.part r) x

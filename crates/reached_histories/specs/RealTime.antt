@@ -20,16 +20,16 @@ use Rattle.reached_histories.specs.Requests.{requests_of}
 use Rattle.reached_histories.specs.Sections.{HasOpen}
 
 -- real-time order from one state to a later one, of a request that is answered in the first and of one that isn't asked
--- there: the answered one keeps its stamp, and the other one's is greater once both have theirs, or equal where both are
--- odd. Then both are of reads, at one place of the history, and their order plays no part. A reply without a stamp is
--- that of a read whose worker hasn't written the stamp yet
+-- there: the answered one keeps its stamp, and the other one's is greater once both have theirs, or equal where both
+-- are odd. Then both are of reads, at one place of the history, and their order plays no part. A reply without a stamp
+-- is that of a read whose worker hasn't written the stamp yet
 abbrev pub ComesBefore : Sight → Sight → ℕ → ℕ → Type 0
 ComesBefore s s' k n = s.word (Reply k) ≢ 0 → s'.word (Stamp n) ≢ 0
     → (s.word (Stamp k) ≢ 0 → s'.word (Stamp k) ≡ s.word (Stamp k))
     × (s'.word (Stamp k) ≢ 0 → Follows (s'.word (Stamp k)) (s'.word (Stamp n)))
 
--- a read seeks its request: its reply is written and not its stamp, or the clock was loaded for it and its runner hasn't
--- left since
+-- a read seeks its request: its reply is written and not its stamp, or the clock was loaded for it and its runner
+-- hasn't left since
 abbrev pub IsSought : PartState → Look → Type 0
 IsSought p x = (is_replied x.stage ≡ true) ⊎ ((is_looked x.stage ≡ true) × (g : ℕ) × (p.stage ≡ Entered g))
 

@@ -47,8 +47,8 @@ module _ (m : Meaning) (l : Layout) (requests : List Request) where
     -- who knows both words of a request knows its place in the history
     pub known : m.is_map ≡ true → (r n : ℕ) → is_answered (s.part r).records.known n ≡ true
         → IsKnown s (s.part r).records.known n
-    -- a worker that has no section on the way, and no read's reply without its stamp, knows each request of its own that
-    -- was served
+    -- a worker that has no section on the way, and no read's reply without its stamp, knows each request of its own
+    -- that was served
     pub unserved : (r n : ℕ) → (requests_of m l requests).worker n ≡ r → link_of (s.part r).published ≡ 0
         → is_between (s.part r).reads.look ≡ false → is_answered (s.part r).records.known n ≡ false
         → IsUnserved m l requests s n
@@ -60,8 +60,8 @@ module _ (m : Meaning) (l : Layout) (requests : List Request) where
   ReachedCallersStand = IsWithinLimits l → AreAllowed requests → (w : World) → Reached m l requests w
       → CallersStand (sight m l requests w)
 
-  -- a worker that has no section on the way hasn't asked a request of its own that it doesn't know, where no read of its
-  -- seeks it
+  -- a worker that has no section on the way hasn't asked a request of its own that it doesn't know, where no read of
+  -- its seeks it
   pub record IsToAsk (s : Sight) (r number : ℕ) : Type 0 where
     pub own : (requests_of m l requests).worker number ≡ r
     pub idle : link_of (s.part r).published ≡ 0

@@ -293,7 +293,8 @@ pub fn read_reply_ask<S: Structure>(
     runner: u32,
 ) -> Option<(Spot, Access)>
     requires { 1 ≤ layout.runners }
-    ensures { result ≡ read_reply_ask (S.meaning structure.now) layout requests.now runner part.now part.now.reads.look }
+    ensures { result
+        ≡ read_reply_ask (S.meaning structure.now) layout requests.now runner part.now part.now.reads.look }
 {
     match &part.reads.look {
         None => None,

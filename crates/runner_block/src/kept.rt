@@ -42,8 +42,8 @@ impl RunRoom {
 }
 
 /// What a runner's code keeps of its part: its stage, its lists, the guard words of a sweep in progress, and of the
-/// keeper how many workers were split off. The lists have room for each slot of their kind, so that no step takes memory.
-/// Beside these there is the room for a run: contracts don't see it.
+/// keeper how many workers were split off. The lists have room for each slot of their kind, so that no step takes
+/// memory. Beside these there is the room for a run: contracts don't see it.
 #[derive(Drop)]
 pub struct Kept {
     stage: StageFields,

@@ -1,8 +1,8 @@
 //! What holds of the runners' parts in every state that the machine reaches.
 //!
 //! The definitions stand in specs: `Facts` has walks, limbo lists, joined workers, descriptors and worn slots, `Names`
-//! what lock words name of which a runner is sure, `Keeper` what the keeper has seen, `Worn` that no slot stands twice in a worn
-//! list, `Own` where a worker's own descriptors are. `laws`, `repeats` and `own` have the laws on contracts.
+//! what lock words name of which a runner is sure, `Keeper` what the keeper has seen, `Worn` that no slot stands twice
+//! in a worn list, `Own` where a worker's own descriptors are. `laws`, `repeats` and `own` have the laws on contracts.
 #![tactic(auto)]
 
 mod laws;

@@ -1,8 +1,8 @@
 //! Gates: what a runner is asked by between its atomic steps, and may be stopped by.
 //!
 //! `gate` is what a gate is. `gates` is where each runner of a table gets its gate and to which it gives it back, and
-//! `counts` is what is counted there. `free` has gates that never halt, `planned` gates that halt at an ask with a given
-//! number, and `scripted` gates for tests that wait for one another.
+//! `counts` is what is counted there. `free` has gates that never halt, `planned` gates that halt at an ask with a
+//! given number, and `scripted` gates for tests that wait for one another.
 #![tactic(auto)]
 
 mod counts;

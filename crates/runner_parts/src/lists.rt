@@ -86,13 +86,13 @@ impl Model for Reads {
     } };
 }
 
-/// What a runner keeps for good: the stamp and reply words that it knows, the sections that it ran to their
-/// ends, how many steps it has made and how many of these were exchanges or raises that changed their word;
-/// of the epoch what its own steps last saw or left (0 until one did); whether others' steps crossed its own:
-/// a scan of its met an announcement that wasn't idle, a sweep of its met a guard word that named a descriptor,
-/// or a step of its found the epoch other than its own steps had left it; and of the keeper what its steps since the last join left, in order, how many workers
-/// were split off, which were joined, and whether it joined one when its own steps had met the epoch, so that
-/// they may have crossed the worker's; and whether it has only loaded cells since it entered, and announced a read
+/// What a runner keeps for good: the stamp and reply words that it knows, the sections that it ran to their ends, how
+/// many steps it has made and how many of these were exchanges or raises that changed their word; of the epoch what its
+/// own steps last saw or left (0 until one did); whether others' steps crossed its own: a scan of its met an
+/// announcement that wasn't idle, a sweep of its met a guard word that named a descriptor, or a step of its found the
+/// epoch other than its own steps had left it; and of the keeper what its steps since the last join left, in order, how
+/// many workers were split off, which were joined, and whether it joined one when its own steps had met the epoch, so
+/// that they may have crossed the worker's; and whether it has only loaded cells since it entered, and announced a read
 /// and loaded the clock for it.
 #[derive(Drop)]
 pub struct Records {

@@ -15,8 +15,8 @@ use Rattle.runner_parts.specs.Lists.{nodes_collected, nodes_looked, descriptor_s
 abbrev pub with_stage : PartState → Stage → PartState
 with_stage p stage = record p { stage = stage }
 
--- the lists begin anew; a sweep in progress counts for nothing, since what comes into limbo from now on isn't looked for
--- in it
+-- the lists begin anew; a sweep in progress counts for nothing, since what comes into limbo from now on isn't looked
+-- for in it
 abbrev pub entered : PartState → ℕ → PartState
 entered p found =
     record p { stage = stages.Entered found; guards = with_looked p.guards []; reads = no_reads }

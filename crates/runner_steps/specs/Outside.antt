@@ -43,11 +43,12 @@ enter_again_by false _ = None
 abbrev pub enter_again_ask : PartState → Ask
 enter_again_ask p = enter_again_by (is_between p.reads.look) p.stage
 
--- not while it has a published section that it hasn't run to its end, or its guard word names a descriptor, or the reply
--- of a read of its is without its stamp
+-- not while it has a published section that it hasn't run to its end, or its guard word names a descriptor, or the
+-- reply of a read of its is without its stamp
 abbrev pub idle_ask : ℕ → PartState → Ask
 idle_ask r p =
-    when (is_walking p.stage p.run && (is_none p.published && (is_none p.guards.named && not (is_between p.reads.look))))
+    when (is_walking p.stage p.run
+    && (is_none p.published && (is_none p.guards.named && not (is_between p.reads.look))))
     (spots.Announcement r) (Stores 0)
 
 -- the next announcement, the keeper's last
