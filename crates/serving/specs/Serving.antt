@@ -302,6 +302,10 @@ module _ {T : Type 0} where
       -- so the serving ends with the first halt, whether in an attempt or at the ask behind a served request
       pub let_go : answer ≡ answers.Halted
           → Seen halts (asked_on asks (all_asks_let m planning retry_short requests tries old new tried))
+      -- and by then it had let the runner go on so often at least for each served request, but for the ask behind the
+      -- last one
+      pub least_let : answer ≡ answers.Halted
+          → count * least_asks ≤ all_asks_let m planning retry_short requests tries old new tried + 1
       -- where no attempt was refused since another one came between, so many runs came to their end, and the gate
       -- was asked at most so often
       pub brief : WasCrossed m planning tries old ⊎ ServesBriefly m answer count old new asks asks'
