@@ -405,8 +405,11 @@ module _ {T : Type 0} (m : Meaning) (laws : Laws m) (planning : Planning) (retry
     least_all : (i + full) * 8 ≤ asked + asks_in so_far.services
     least_all = let here = left.least in let before = so_far.least in omega (arith, here, before)
 
-    pub ends_leaves : (answer ≢ answers.All) → Leaves m planning retry_short true requests answer old new asks asks2
-    ends_leaves over = record {
+    -- the gate was seen before the last part of it
+    pub ends_leaves : (Seen : ℕ → Asks → Type 0) (halts halts1 : ℕ) → halts1 ≡ halts → (lets : ℕ)
+        → (answer ≡ answers.Halted → Seen halts1 (asked_on asks1 lets)) → (answer ≡ answers.Halted → full * 8 ≤ lets + 1)
+        → (answer ≢ answers.All) → Leaves m planning retry_short true requests answer old new Seen halts asks asks2
+    ends_leaves Seen halts halts1 went lets let_go let_least over = record {
       count = i + count;
       served = all_served;
       ends = ends_all answer over left.ends;
@@ -417,6 +420,12 @@ module _ {T : Type 0} (m : Meaning) (laws : Laws m) (planning : Planning) (retry
       asked = asked_all;
       least = least_all;
       whole = whole_all;
+      let_go = λ e. (
+        asks_in so_far.services + lets,
+        (let here = let_least e in let before = so_far.least in omega (arith, here, before)),
+        subst (λ (h : ℕ). Seen h (asked_on asks (asks_in so_far.services + lets))) went
+            (subst (Seen halts1) (ap (λ (a : Asks). asked_on a lets) so_far.asked ∙ asked_on_more asks (asks_in so_far.services) lets) (let_go e)),
+      );
       brief = ⊎_elim inl (λ is. inr (record {
         runs = is.0;
         asked = asks_few ((i + count + 1) * most_asks (slots m old.layout))
@@ -501,8 +510,9 @@ module _ {T : Type 0} (m : Meaning) (planning : Planning) (retry_short : Bool) (
     let_go = λ e. absurd (let z = e in cc);
   }
 
-  pub all_leaves : IsAlong m planning requests i old new → Leaves m planning retry_short true requests answers.All old new asks asks'
-  all_leaves along = record {
+  pub all_leaves : (Seen : ℕ → Asks → Type 0) (halts : ℕ) → IsAlong m planning requests i old new
+      → Leaves m planning retry_short true requests answers.All old new Seen halts asks asks'
+  all_leaves Seen halts along = record {
     count = i;
     served = along.served;
     ends = (all, along.tidy);
@@ -513,6 +523,7 @@ module _ {T : Type 0} (m : Meaning) (planning : Planning) (retry_short : Bool) (
     asked = so_far.asked;
     least = so_far.least;
     whole = inl refl;
+    let_go = λ e. absurd (let z = e in cc);
     brief = ⊎_elim inl (λ is. inr (record {
       runs = is.runs;
       asked =
@@ -545,9 +556,10 @@ module _ {T : Type 0} (m : Meaning) (laws : Laws m) (planning : Planning) (retry
       one.service one.of_request one.is one.counted refl all
       (subst (λ (a : Served). IsEnd (q ∷ []) (one.service ∷ []) a) all one.ends).1
 
-  pub one_leaves : (answer ≢ answers.All) → Leaves m planning retry_short true requests answer old new asks asks2
+  pub one_leaves : (answer ≢ answers.All) → Leaves m planning retry_short true requests answer old new Seen halts asks asks2
   one_leaves over = ends_leaves m laws planning retry_short requests old r new t limits allowed of_old of_r of_new may i q at along answer
-      (served_by one.service) (full_by one.service) (asks_by one.service) one.left asks asks1 asks2 steps steps1 steps2 so_far one.asked over
+      (served_by one.service) (full_by one.service) (asks_by one.service) one.left asks asks1 asks2 steps steps1 steps2 so_far one.asked
+      Seen halts halts1 went (asks_let m planning retry_short one.service r new one.is) one.let_go one.let_least over
 
   pub one_freely : (answer ≢ answers.All) → ServesFreely m planning retry_short requests answer old new Seen halts asks asks2 steps steps2
   one_freely over = ends_freely m laws planning retry_short requests old r new t limits allowed of_old of_r of_new may i q at along answer

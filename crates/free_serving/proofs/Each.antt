@@ -87,6 +87,7 @@ module _ {T : Type 0} (m : Meaning) (laws : Laws m) (planning : Planning) (retry
       counted = serves.counted;
       asked = serves.asked ∙ ap (λ n. asked_on asks (serving.asks_in serves.tries + n)) serves.count_is;
       let_go = serves.let_go;
+      let_least = λ e. let least = serves.least_let e in let is = serves.count_is in omega (arith, least, is);
       left = single_leaves m laws planning retry_short q t limits allowed old new of_old of_new answer Seen halts asks asks' steps steps' serves (may.own 0 q refl) spare
           (λ get. absurd (true≢false (sym get ∙ other)));
     }
@@ -122,6 +123,7 @@ module _ {T : Type 0} (m : Meaning) (laws : Laws m) (planning : Planning) (retry
         counted = read.asked.counted;
         asked = all_asked;
         let_go = λ e. absurd (let z = e in cc);
+        let_least = λ e. absurd (let z = e in cc);
         left = done_all m planning retry_short q old laws new limits_new allowed_new get Seen halts halts1 asks asks1 steps steps1 reply stamp read;
       }
 
@@ -135,6 +137,7 @@ module _ {T : Type 0} (m : Meaning) (laws : Laws m) (planning : Planning) (retry
         counted = read.asked.counted;
         asked = all_asked;
         let_go = λ e. subst (Seen halts) read.asked.asked seen;
+        let_least = λ e. (done_halted m planning retry_short q old laws new limits_new allowed_new get Seen halts halts1 asks asks1 steps steps1 reply stamp read).least;
         left = done_halted m planning retry_short q old laws new limits_new allowed_new get Seen halts halts1 asks asks1 steps steps1 reply stamp read;
       }
 
@@ -148,6 +151,7 @@ module _ {T : Type 0} (m : Meaning) (laws : Laws m) (planning : Planning) (retry
       counted = read.asked.counted;
       asked = read.asked.asked;
       let_go = λ e. read.let_go refl;
+      let_least = λ e. omega arith;
       left = cut_leaves m planning retry_short q old laws new limits_new allowed_new get Seen halts halts1 asks asks1 steps steps1 read;
     }
 
@@ -256,6 +260,7 @@ module _ {T : Type 0} (m : Meaning) (laws : Laws m) (planning : Planning) (retry
         let_go = λ e. subst (λ h. Seen h (asked_on asks (read.made + 1 + serving.all_asks_let m planning retry_short (q ∷ []) serves.tries mid new serves.tried))) went
             (subst (Seen halts1) (ap (λ (a : Asks). asked_on a (serving.all_asks_let m planning retry_short (q ∷ []) serves.tries mid new serves.tried)) read.asked.asked
             ∙ asked_on_more asks (read.made + 1) (serving.all_asks_let m planning retry_short (q ∷ []) serves.tries mid new serves.tried)) (serves.let_go e));
+        let_least = λ e. let least = serves.least_let e in let is = serves.count_is in omega (arith, least, is);
         left = both_leaves m planning retry_short q old mid new same (knows_of old mid read.knows) (no_other_of q.number old mid read.no_other) read.finished
             read.made (few_made m planning retry_short q old laws mid (limits_of mid (refl, refl)) (allowed_of mid (refl, refl)) get Seen halts halts1 asks asks1 steps steps1 read_answer read) vain
             (refused_spared m planning q old read_answer mid away read.finished) away.untouched.reached

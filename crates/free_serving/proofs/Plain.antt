@@ -34,7 +34,7 @@ module _ {T : Type 0} (m : Meaning) (planning : Planning) (retry_short : Bool) (
 
   pub plain_leaves : (answer : Served) (Seen : ℕ → Asks → Type 0) (halts : ℕ) (asks asks' : Asks) (steps steps' : ℕ)
       → Serves m planning retry_short requests answer old new Seen halts asks asks' steps steps'
-      → Leaves m planning retry_short false requests answer old new asks asks'
+      → Leaves m planning retry_short false requests answer old new Seen halts asks asks'
   plain_leaves answer Seen halts asks asks' steps steps' serves = record {
     count = serves.count;
     served = record {
@@ -51,6 +51,7 @@ module _ {T : Type 0} (m : Meaning) (planning : Planning) (retry_short : Bool) (
     asked = serves.asked;
     least = serves.least;
     whole = inl refl;
+    let_go = λ e. (serving.all_asks_let m planning retry_short requests serves.tries old new serves.tried, serves.least_let e, serves.let_go e);
     brief = ⊎_elim (λ was. inl (serves.tries, was)) (λ brief. inr (record {
       runs = runs_few answer serves.count (length old.part.records.finished) (length new.part.records.finished) brief.runs;
       asked = brief.asked;

@@ -136,7 +136,7 @@ module _ {T : Type 0} where
 
       -- what a serving of these requests leaves, in which a `get` is read first or not
       pub record Leaves (reads_free : Bool) (requests : List Request) (answer : Served) (old new : RunnerState T)
-          (asks asks' : Asks) : Type 0 where
+          (Seen : ℕ → Asks → Type 0) (halts : ℕ) (asks asks' : Asks) : Type 0 where
         pub count : ℕ
         pub served : AreServed reads_free requests count new
         pub ends : Ends requests answer count old new
@@ -150,6 +150,10 @@ module _ {T : Type 0} where
         pub asked : asks' ≡ asked_on asks made
         pub least : full * least_asks reads_free ≤ made
         pub whole : AreAskedWholly requests answer count full new
+        -- a gate that halted the runner had let it go on before: it was seen with as many halts as at first and with so
+        -- many more asks, enough for each request that was asked about to the end, but for the ask behind the last one
+        pub let_go : answer ≡ answers.Halted → (more : ℕ)
+            × (full * least_asks reads_free ≤ more + 1) × Seen halts (asked_on asks more)
         -- where no other one came between, so many runs came to their end, and the gate was asked at most so often
         pub brief : CameBetween old ⊎ IsBrief m answer count old new asks asks'
         pub read : reads_free ≡ true → AreRead requests count old new

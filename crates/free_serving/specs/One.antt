@@ -1,5 +1,5 @@
 -- What the serving of one request does and leaves, in which a `get` is read first.
-use Rattle.std.specs.Prelude.{◌≡◌, ℕ, ◌*◌, ◌≤◌, ◌⊎◌, [], ◌∷◌, length, Bool, true, false}
+use Rattle.std.specs.Prelude.{◌≡◌, ℕ, ◌+◌, ◌*◌, ◌≤◌, ◌⊎◌, [], ◌∷◌, length, Bool, true, false}
 use Rattle.machine_states.specs.map_history.specs.declared.op.Request.{Request}
 use Rattle.machine_states.specs.body_terms.specs.Counted.{counted_on}
 use Rattle.seq_read.specs.runner_gate.specs.Asks.{Asks, asked_on}
@@ -68,4 +68,6 @@ module _ {T : Type 0} (m : Meaning) (planning : Planning) (retry_short : Bool) (
     pub asked : asks' ≡ asked_on asks (asks_by service)
     pub let_go : answer ≡ answers.Halted
         → Seen halts (asked_on asks (asks_let m planning retry_short service old new is))
+    pub let_least : answer ≡ answers.Halted
+        → full_by service * least_asks true ≤ asks_let m planning retry_short service old new is + 1
     pub left : LeavesOne answer (served_by service) (full_by service) (asks_by service) old new

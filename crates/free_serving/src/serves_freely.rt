@@ -35,7 +35,8 @@ fn serve_each<R: Threads + Wait + Sync, S: Planner, G: Gate, L>(
         requests.now result.1 runner result.0 (IsSeen G.halts G.asks) (G.halts gate.old) (G.asks gate.old)
         (G.asks gate.new) steps.old.count steps.new.count }
     ensures left { Leaves (S.meaning table.now.structure) (S.planning table.now.structure) retry_short true
-        requests.now result.1 runner result.0 (G.asks gate.old) (G.asks gate.new) }
+        requests.now result.1 runner result.0 (IsSeen G.halts G.asks) (G.halts gate.old) (G.asks gate.old)
+        (G.asks gate.new) }
     ensures halted { result.1 ≡ answers.Halted → Rose (G.halts gate.old) (G.halts gate.new) }
     ensures went { result.1 ≢ answers.Halted → G.halts gate.new ≡ G.halts gate.old }
 {
@@ -80,7 +81,8 @@ pub fn serve_freely<R: Threads + Wait + Sync, S: Planner, G: Gate, L>(
         requests.now result.1 runner result.0 (IsSeen G.halts G.asks) (G.halts gate.old) (G.asks gate.old)
         (G.asks gate.new) steps.old.count steps.new.count }
     ensures left { Leaves (S.meaning table.now.structure) (S.planning table.now.structure) retry_short reads_free
-        requests.now result.1 runner result.0 (G.asks gate.old) (G.asks gate.new) }
+        requests.now result.1 runner result.0 (IsSeen G.halts G.asks) (G.halts gate.old) (G.asks gate.old)
+        (G.asks gate.new) }
     ensures halted { result.1 ≡ answers.Halted → Rose (G.halts gate.old) (G.halts gate.new) }
     ensures went { result.1 ≢ answers.Halted → G.halts gate.new ≡ G.halts gate.old }
 {

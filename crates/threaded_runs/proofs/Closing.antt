@@ -98,8 +98,8 @@ module _ {T : Type 0} (m : Meaning) (t : TableState T) (keeper : RunnerState T) 
 
   module _ (is_map : m.is_map ≡ true) (history : HasHistory m t.layout t.requests end) (callers : CallersStand m t.layout t.requests end)
       (worker : ℕ) (own : List Request) (retry_short reads_free : Bool) (planning : Planning) (answer : Served) (old new : RunnerState T)
-      (part : end.part worker ≡ leaves new.part) (asks asks' : Asks)
-      (left : Leaves m planning retry_short reads_free own answer old new asks asks')
+      (part : end.part worker ≡ leaves new.part) (Seen : ℕ → Asks → Type 0) (first : ℕ) (asks asks' : Asks)
+      (left : Leaves m planning retry_short reads_free own answer old new Seen first asks asks')
       (there : (i : ℕ) (q : Request) → slice_get own i ≡ Some q → slice_get t.requests q.number ≡ Some q)
       (trace : (i : ℕ) (q : Request) → slice_get own i ≡ Some q → q.trace % t.layout.runners ≡ worker)
       (once : (i j : ℕ) (q q' : Request) → slice_get own i ≡ Some q → slice_get own j ≡ Some q' → q.number ≡ q'.number → i ≡ j) where

@@ -60,8 +60,8 @@ module _ {T H : Type 0} where
       pub serves : ServesBy m planning retry_short reads_free j.requests.items f.answer j.runner f.runner
           (IsSeen halts asks) (halts j.gate) (asks j.gate) (asks f.gate) 0 steps
       -- and this is left of it, whichever way its requests were served
-      pub left : Leaves m planning retry_short reads_free j.requests.items f.answer j.runner f.runner (asks j.gate)
-          (asks f.gate)
+      pub left : Leaves m planning retry_short reads_free j.requests.items f.answer j.runner f.runner
+          (IsSeen halts asks) (halts j.gate) (asks j.gate) (asks f.gate)
       pub halted : halts j.gate ≡ 0 → f.answer ≡ answers.Halted → 0 < halts f.gate
       pub went : halts j.gate ≡ 0 → f.answer ≢ answers.Halted → halts f.gate ≡ 0
 

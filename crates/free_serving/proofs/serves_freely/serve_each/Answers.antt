@@ -66,7 +66,7 @@ returns-clause-left g c =
     let inv = c.loop-request.invariant in
     let all : c.loop-request.request-index ≡ length c.args.requests.now = (let a = c.loop-request-test.false in let b = c.loop-request.auto.request-index-end in omega (arith, a, b)) in
     all_leaves (g.S.Structure.meaning c.args.table.now.structure) (g.S.Planner.planning c.args.table.now.structure) c.args.retry_short c.args.requests.now
-    c.args.runner c.loop-request.runner c.loop-request.request-index all _ _ _ _ inv.so_far inv.along
+    c.args.runner c.loop-request.runner c.loop-request.request-index all _ _ _ _ inv.so_far _ _ inv.along
 
 pub returns-clause-serves : goal.returns-clause-serves
 returns-clause-serves g c =

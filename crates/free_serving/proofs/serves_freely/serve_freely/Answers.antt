@@ -8,6 +8,6 @@ pub returns-else-reads_free-clause-left : goal.returns-else-reads_free-clause-le
 returns-else-reads_free-clause-left g c =
     let m = g.S.Structure.meaning c.args.table.now.structure in
     let planning = g.S.Planner.planning c.args.table.now.structure in
-    subst (λ b. Leaves m planning c.args.retry_short b c.args.requests.now c.serve.result.1 c.args.runner c.serve.result.0 (g.G.Gate.asks c.args.gate.now) (g.G.Gate.asks c.serve.new.gate))
+    subst (λ b. Leaves m planning c.args.retry_short b c.args.requests.now c.serve.result.1 c.args.runner c.serve.result.0 (IsSeen g.G.Gate.halts g.G.Gate.asks) (g.G.Gate.halts c.args.gate.now) (g.G.Gate.asks c.args.gate.now) (g.G.Gate.asks c.serve.new.gate))
     (sym c.if-reads_free.false)
     (plain_leaves m planning c.args.retry_short c.args.requests.now c.args.runner c.serve.result.0 c.serve.result.1 (IsSeen g.G.Gate.halts g.G.Gate.asks) _ _ _ _ _ c.serve.ensures.serves)
