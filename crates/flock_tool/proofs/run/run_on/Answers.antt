@@ -24,6 +24,6 @@ returns-in_err-halts-clause-unplanned g c = on_err _ c.from_residual.result (λ 
 pub returns-clause-unplanned : goal.returns-clause-unplanned
 returns-clause-unplanned g c =
     on_err_then _ _ c.run_table.result c.run_table.ensures.front
-    (λ front. unplanned_front c.args.plan.now.options.halts c.args.plan.now.layout.runners _ _ c.as_slice-asks.result.now
+    (λ front. unplanned_front c.args.plan.now.options.halts c.args.plan.now.layout.runners _ _ _ _ c.as_slice-asks.result.now
     (ap length c.as_slice-asks.ensures.value ∙ c.in_ok-halts.ensures.length)
     (λ runner low. ap (λ xs. slice_get xs runner) c.as_slice-asks.ensures.value ∙ c.in_ok-halts.ensures.asks runner low) front)
