@@ -2,6 +2,7 @@ use Rattle.std.specs.Prelude.{slice_get}
 use Rattle.std.proofs.Common.{length, refl, sym, subst, ap, ◌∙◌}
 use Rattle.machine_states.specs.map_history.specs.Requests.{AreInOrder}
 use Rattle.flock_tool.proofs.Giving.{has_run_on, if_ok, on_err, on_err_then, unplanned_front}
+use Rattle.flock_tool.proofs.Owned.{if_both, own_on}
 use Rattle.flock_tool.proofs.Traced.{in_any_order}
 use Rattle.flock_tool.proofs.run.run_on.Goals as goal
 
@@ -17,6 +18,13 @@ returns-clause-ran g c =
     has_run_on g.S.Structure.meaning (g.S.Planner.planning c.args.structure).per_pair c.args.structure c.args.plan.now ran.0 ran.1.items _ c.as_slice-requests.result.now c.in_ok-halts.halts.items
     c.as_slice-asks.result.now c.name_below.result c.are_free.result c.as_slice-requests.ensures c.as_slice-asks.ensures.value c.name_below.ensures c.are_free.ensures c.in_ok-halts.ensures.length
     c.in_ok-halts.ensures.asks made served halted plans planned returned)
+
+pub returns-clause-gates : goal.returns-clause-gates
+returns-clause-gates g c =
+    if_both _ _ _ c.run_table.result c.run_table.ensures.words c.run_table.ensures.gates
+    (λ ran made back.
+    own_on _ _ g.S.Structure.meaning c.args.structure c.args.plan.now ran.0 ran.1.items _ c.as_slice-requests.result.now c.in_ok-halts.halts.items
+    c.as_slice-asks.result.now c.are_free.result c.as_slice-asks.ensures.value c.are_free.ensures c.in_ok-halts.ensures.length c.in_ok-halts.ensures.asks made back)
 
 pub returns-in_err-halts-clause-unplanned : goal.returns-in_err-halts-clause-unplanned
 returns-in_err-halts-clause-unplanned g c = on_err _ c.from_residual.result (λ none. refl)
