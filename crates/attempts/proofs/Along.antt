@@ -35,7 +35,7 @@ use Rattle.lock_walks.specs.try_lock.specs.section_runs.proofs.Records.{noted_kn
 use Rattle.lock_walks.specs.try_lock.specs.section_runs.proofs.Told.{HasStamp, stamp_of}
 use Rattle.lock_walks.specs.try_lock.specs.section_runs.proofs.Staying.{run_open, still_of, step_learns, step_stays, learns_more}
 use Rattle.attempts.specs.Learned.{StoodAtStamp, HasLearned}
-use Rattle.attempts.proofs.Knowing.{append_none}
+use Rattle.caller_facts.proofs.Knowing.{append_none}
 use Rattle.attempts.proofs.Placing.{tells, IsOn, is_on, quiet_known}
 
 module _ {T : Type 0} (m : Meaning) (laws : Laws m) (t : TableState T) (limits : IsWithinLimits t.layout) (allowed : AreAllowed t.requests)

@@ -32,16 +32,16 @@ use Rattle.lock_walks.specs.try_lock.specs.declared.section.Section.{Section}
 use Rattle.lock_walks.specs.try_lock.specs.Planning.{Planning}
 use Rattle.lock_walks.specs.try_lock.specs.Reached.{IsSectionOf}
 use Rattle.lock_walks.specs.try_lock.specs.Ends.{EndsSo, IsCutShort}
-use Rattle.attempts.specs.Knowing.{LearnsNoOther}
+use Rattle.caller_facts.specs.Knowing.{LearnsNoOther}
 use Rattle.attempts.specs.Learned.{StoodAtStamp, IsCut}
 use Rattle.attempts.specs.Course.{HasTried, HasEnded}
-use Rattle.attempts.specs.Counted.{IsCounted}
+use Rattle.caller_facts.specs.Counted.{IsCounted}
 use Rattle.attempts.specs.Attempts.{is_halted, has_helped, most_of_run, IsBrief, InOwnRun, HasJustEnded, IsHalted}
 use Rattle.attempts.specs.Rests.{Rests}
 use Rattle.attempts.specs.declared.answers.Attempt.{Attempt}
 use Rattle.attempts.specs.declared.answers.Attempt.TheVariants as answers
-use Rattle.attempts.proofs.Knowing.{knows_on, front_same, no_other_same, no_other_on, no_other_learned, append_none, length_on}
-use Rattle.attempts.proofs.Counting.{counted_steps, asked_then, steps_then, seen_then}
+use Rattle.caller_facts.proofs.Knowing.{knows_on, front_same, no_other_same, no_other_on, no_other_learned, append_none, length_on}
+use Rattle.caller_facts.proofs.Counting.{counted_steps, asked_then, steps_then, seen_then}
 use Rattle.attempts.proofs.Leaving.{ended_knows}
 use Rattle.attempts.proofs.Along.{HasLastStep}
 use Rattle.attempts.proofs.Trying.{unknown_here, is_published, cut_published}

@@ -26,7 +26,7 @@ use Rattle.lock_walks.specs.try_lock.specs.section_runs.proofs.Told.{answered_to
 use Rattle.lock_walks.specs.try_lock.specs.Reached.{IsReached}
 use Rattle.lock_walks.specs.try_lock.specs.Ends.{EndsSo, RanShort, IsCutShort}
 use Rattle.attempts.specs.Learned.{HasLearned, IsCut}
-use Rattle.attempts.proofs.Knowing.{append_none}
+use Rattle.caller_facts.proofs.Knowing.{append_none}
 use Rattle.attempts.proofs.Placing.{IsLast, is_last}
 use Rattle.attempts.proofs.Along.{IsAlong, IsTelling, telling_learned, opened_tells, ran_tells, HasLastStep, ran_last, ran_back}
 use Rattle.attempts.proofs.LastSteps.{last_same, last_quiet, last_left}

@@ -21,8 +21,8 @@ use Rattle.lock_walks.specs.try_lock.specs.Ends.{IsCutShort}
 use Rattle.lock_words.specs.Taken.{HasLeftBy}
 use Rattle.request_facts.specs.Laws.{HasEntry}
 use Rattle.request_facts.specs.Placed.{IsServedAs}
-use Rattle.attempts.specs.Knowing.{KnowsMore, IsOwn, LearnsNoOther}
-use Rattle.attempts.specs.Counted.{IsCounted}
+use Rattle.caller_facts.specs.Knowing.{KnowsMore, IsOwn, LearnsNoOther}
+use Rattle.caller_facts.specs.Counted.{IsCounted}
 use Rattle.attempts.specs.Course.{IsEmptyHanded, LeavesAndLoads}
 use Rattle.attempts.specs.Attempts.{is_halted, is_short, IsBrief, Leaves, leaving_steps, leaving_helps, has_helped, Answers, steps_of, has_published, has_met_held, asks_before}
 use Rattle.attempts.specs.declared.answers.Attempt.{Attempt}

@@ -3,13 +3,14 @@ ghost use Rattle.std.specs.Prelude.{false};
 ghost use Rattle.machine_states.specs.structure_laws.specs.Cells.{slots};
 ghost use Rattle.version_words.specs.RunnerState.{RunnerState};
 ghost use Rattle.version_words.specs.TableState.{IsOf};
-ghost use Rattle.attempts.specs.Counted.{IsSeen};
-ghost use Rattle.attempts.specs.Course.{MayAttempt, HasEntered};
+ghost use Rattle.caller_facts.specs.Counted.{IsSeen};
+ghost use Rattle.attempts.specs.Course.{HasEntered};
+ghost use Rattle.caller_facts.specs.Asking.{MayAttempt};
 ghost use Rattle.attempts.specs.Attempts.{most_of_attempt, Attempts};
 ghost use Rattle.attempts.specs.Rests.{Rests};
 
 use crate::answers::Attempt;
-use crate::asks::goes_on;
+use caller_facts::goes_on;
 use crate::reclaims::reclaim;
 use crate::refusals::plan_refused;
 use crate::reserves::reserve_slots;

@@ -5,8 +5,8 @@ use Rattle.version_words.specs.RunnerState.{RunnerState}
 use Rattle.seq_read.specs.caller_facts.specs.try_lock.specs.Planning.{Planning}
 use Rattle.seq_read.specs.caller_facts.specs.Knowing as of_reads
 use Rattle.seq_read.specs.caller_facts.specs.Asking as asked
-use Rattle.serving.specs.attempts.specs.Knowing.{IsFront, KnowsMore, LearnsNoOther}
-use Rattle.serving.specs.attempts.specs.Course.{MayAttempt}
+use Rattle.serving.specs.attempts.specs.caller_facts.specs.Knowing.{IsFront, KnowsMore, LearnsNoOther}
+use Rattle.serving.specs.attempts.specs.caller_facts.specs.Asking.{MayAttempt}
 
 front_of : {A : Type 0} (front whole : List A) → of_reads.IsFront front whole → IsFront front whole
 front_of front whole is = record { back = is.back; parts = is.parts }

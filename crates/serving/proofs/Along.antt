@@ -28,12 +28,12 @@ use Rattle.attempt_bounds.specs.attempts.specs.try_lock.specs.Reached.{IsReached
 use Rattle.attempt_bounds.specs.attempts.specs.request_facts.specs.Laws.{HasEntry}
 use Rattle.machine_states.specs.body_terms.specs.Counted.{counted_on}
 use Rattle.runner_gate.specs.Asks.{Asks, asked_on}
-use Rattle.attempt_bounds.specs.attempts.specs.Knowing.{KnowsMore, IsOwn}
-use Rattle.attempt_bounds.specs.attempts.specs.Course.{MayAttempt}
+use Rattle.attempt_bounds.specs.attempts.specs.caller_facts.specs.Knowing.{KnowsMore, IsOwn}
+use Rattle.attempt_bounds.specs.attempts.specs.caller_facts.specs.Asking.{MayAttempt}
 use Rattle.attempt_bounds.specs.attempts.specs.Attempts.{asks_more, asks_before, IsServed, IsShort, IsTurnedAway, Stops, AtEntry, InPlan, BehindHold, InOwnRun, InHelpedRun, is_own_run, HasJustEnded, EndsAt, IsHalted, Answers}
 use Rattle.attempt_bounds.specs.attempts.specs.declared.answers.Attempt.{Attempt}
 use Rattle.attempt_bounds.specs.attempts.specs.declared.answers.Attempt.TheVariants as attempts
-use Rattle.attempt_bounds.specs.attempts.proofs.Knowing.{knows_same, knows_on, own_on}
+use Rattle.attempt_bounds.specs.attempts.specs.caller_facts.proofs.Knowing.{knows_same, knows_on, own_on}
 use Rattle.attempt_bounds.specs.Spared.{IsSpared, AttemptsSpareSlots}
 use Rattle.serving.specs.declared.answers.Served.{Served}
 use Rattle.serving.specs.declared.answers.Served.TheVariants as answers

@@ -15,8 +15,9 @@ use Rattle.attempt_bounds.specs.attempts.specs.epoch_slots.specs.Collects.{IsTid
 use Rattle.attempt_bounds.specs.attempts.specs.epoch_slots.specs.declared.reserves.Short.{Short}
 use Rattle.attempt_bounds.specs.attempts.specs.try_lock.specs.Planning.{Planning}
 use Rattle.attempt_bounds.specs.attempts.specs.request_facts.specs.Laws.{HasEntry}
-use Rattle.attempt_bounds.specs.attempts.specs.Knowing.{KnowsMore, IsOwn, LearnsNoOther}
-use Rattle.attempt_bounds.specs.attempts.specs.Course.{MayAttempt, IsRefused}
+use Rattle.attempt_bounds.specs.attempts.specs.caller_facts.specs.Knowing.{KnowsMore, IsOwn, LearnsNoOther}
+use Rattle.attempt_bounds.specs.attempts.specs.Course.{IsRefused}
+use Rattle.attempt_bounds.specs.attempts.specs.caller_facts.specs.Asking.{MayAttempt}
 use Rattle.attempt_bounds.specs.attempts.specs.Attempts.{most_of_attempt, asks_more, asks_before, has_met_held, IsShort, IsTurnedAway, Answers, IsAttempt}
 use Rattle.attempt_bounds.specs.attempts.specs.declared.answers.Attempt.{Attempt}
 use Rattle.attempt_bounds.specs.attempts.specs.declared.answers.Attempt.TheVariants as attempts

@@ -18,12 +18,8 @@ halts_more halts [] answer = refl
 halts_more halts (x ∷ given) answer = halts_more (halts_after halts (halted x)) given answer
 
 -- the gate of a worker halted exactly where its answer is Halted
-pub counted_so : (halts of_gate : ℕ) (answer : Served) → (answer ≡ answers.Halted → 0 < of_gate) → (answer ≢ answers.Halted → of_gate ≡ 0) → halts_after halts of_gate ≡ halts_after halts (halted answer)
-counted_so halts of_gate answers.Halted some none = by_gate of_gate (some refl)
-  where
-    by_gate : (n : ℕ) → 0 < n → halts_after halts n ≡ halts_after halts 1
-    by_gate zero low = absurd (omega (arith, low))
-    by_gate (suc n) low = refl
+pub counted_so : (halts of_gate : ℕ) (answer : Served) → (answer ≡ answers.Halted → of_gate ≡ 1) → (answer ≢ answers.Halted → of_gate ≡ 0) → halts_after halts of_gate ≡ halts_after halts (halted answer)
+counted_so halts of_gate answers.Halted some none = ap (halts_after halts) (some refl)
 counted_so halts of_gate answers.All some none = ap (halts_after halts) (none (λ e. let x = e in cc))
 counted_so halts of_gate (answers.Short short) some none = ap (halts_after halts) (none (λ e. let x = e in cc))
 counted_so halts of_gate (answers.Spent place word) some none = ap (halts_after halts) (none (λ e. let x = e in cc))

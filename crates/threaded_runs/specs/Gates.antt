@@ -8,7 +8,7 @@ use Rattle.version_words.specs.TableState.{WordsState}
 use Rattle.free_serving.specs.serving.specs.declared.answers.Served.{Served}
 use Rattle.free_serving.specs.serving.specs.declared.answers.Served.TheVariants as answers
 use Rattle.free_serving.specs.Left.{least_asks}
-use Rattle.free_serving.specs.serving.specs.attempts.specs.Counted.{IsSeen}
+use Rattle.free_serving.specs.serving.specs.attempts.specs.caller_facts.specs.Counted.{IsSeen}
 use Rattle.threaded_runs.specs.Counts.{halted}
 use Rattle.threaded_runs.specs.Own.{own_requests}
 use Rattle.threaded_runs.specs.Runs.{stamp_of}
@@ -34,11 +34,12 @@ module _ {T H : Type 0} (m : Meaning) (w : WordsState T) (reads_free : Bool) (ha
       × IsSeen halts asks 0 (asked_on (unasked_of worker (slice_index_or entries worker None)) more)
 
   -- this is the gate that was given out for the worker with its entry of these, and the one that it asked: it halted
-  -- exactly where the worker was halted, and was asked so often at least for each of the worker's served requests, but
-  -- for one at most where it was halted, whose section somebody may have run to its end
+  -- once where the worker was halted, so at its last ask, and else never; and it was asked so often at least for each of
+  -- the worker's served requests, but for one at most where it was halted, whose section somebody may have run to its
+  -- end
   pub record IsGateOf (entries : List (Option ℕ)) (worker : ℕ) (answer : Served) (gate : H) : Type 0 where
     pub given : (asks gate).plan ≡ Some (record { runner = worker; halt = slice_index_or entries worker None })
-    pub stopped : answer ≡ answers.Halted → 0 < halts gate
+    pub stopped : answer ≡ answers.Halted → halts gate ≡ 1
     pub went : answer ≢ answers.Halted → halts gate ≡ 0
     pub let_go : answer ≡ answers.Halted → HadLetGo entries worker
     pub often : min (least_asks reads_free * (served_by m w worker - halted answer)) (2 ^ 64 - 1) ≤ (asks gate).count

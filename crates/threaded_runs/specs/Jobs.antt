@@ -7,7 +7,7 @@ use Rattle.version_words.specs.RunnerState.{RunnerState}
 use Rattle.version_words.specs.Shown.{left_part}
 use Rattle.version_words.specs.TableState.{TableState, IsOf}
 use Rattle.settled_tables.specs.settling.specs.try_lock.specs.Planning.{Planning}
-use Rattle.free_serving.specs.serving.specs.attempts.specs.Counted.{IsSeen}
+use Rattle.free_serving.specs.serving.specs.attempts.specs.caller_facts.specs.Counted.{IsSeen}
 use Rattle.free_serving.specs.serving.specs.Serving.{MayServe}
 use Rattle.free_serving.specs.serving.specs.declared.answers.Served.{Served}
 use Rattle.free_serving.specs.serving.specs.declared.answers.Served.TheVariants as answers
@@ -62,7 +62,7 @@ module _ {T H : Type 0} where
       -- and this is left of it, whichever way its requests were served
       pub left : Leaves m planning retry_short reads_free j.requests.items f.answer j.runner f.runner
           (IsSeen halts asks) (halts j.gate) (asks j.gate) (asks f.gate)
-      pub halted : halts j.gate ≡ 0 → f.answer ≡ answers.Halted → 0 < halts f.gate
+      pub halted : halts j.gate ≡ 0 → f.answer ≡ answers.Halted → halts f.gate ≡ 1
       pub went : halts j.gate ≡ 0 → f.answer ≢ answers.Halted → halts f.gate ≡ 0
 
     abbrev pub AllRun : List (Job T H) → List (Finished T H) → Type 0
@@ -73,7 +73,7 @@ module _ {T H : Type 0} where
   pub record IsBack (halts : H → ℕ) (t : TableState T) (worker : ℕ) (f : Finished T H) : Type 0 where
     pub own : IsOf t f.runner
     pub number : f.runner.number ≡ worker
-    pub halted : f.answer ≡ answers.Halted → 0 < halts f.gate
+    pub halted : f.answer ≡ answers.Halted → halts f.gate ≡ 1
     pub went : f.answer ≢ answers.Halted → halts f.gate ≡ 0
 
   abbrev pub AreBack : (H → ℕ) → TableState T → List (Finished T H) → Type 0

@@ -1,8 +1,8 @@
 use Rattle.std.proofs.Common.{List, refl, sym, ap, ◌∙◌, subst}
 use Rattle.machine_states.specs.map_history.specs.declared.op.Request.{Request}
-use Rattle.seq_read.specs.runner_gate.specs.fault_count.specs.Rose.{Rose}
+use Rattle.seq_read.specs.runner_gate.specs.Asks.{HaltedOnce}
 use Rattle.serving.specs.attempt_bounds.specs.Spared.{AttemptsSpareSlots}
-use Rattle.serving.specs.attempts.specs.Counted.{IsSeen}
+use Rattle.serving.specs.attempts.specs.caller_facts.specs.Counted.{IsSeen}
 use Rattle.std.specs.Prelude.{not}
 use Rattle.seq_read.specs.Reads.{is_halted, Reads}
 use Rattle.serving.specs.Serving.{MayServe, Serves}
@@ -76,7 +76,7 @@ returns-else-goes_on-clause-one g c =
 
 pub returns-else-goes_on-clause-halted : goal.returns-else-goes_on-clause-halted
 returns-else-goes_on-clause-halted g c = λ _.
-    subst (λ n. Rose n (g.G.Gate.halts c.goes_on.new.gate)) (c.read-runner.ensures.reads.asked.went (ap (λ a. not (is_halted a)) c.in-Done.is))
+    subst (λ n. HaltedOnce n (g.G.Gate.halts c.goes_on.new.gate)) (c.read-runner.ensures.reads.asked.went (ap (λ a. not (is_halted a)) c.in-Done.is))
     ((c.if-goes_on.ensures 0).halted refl)
 
 pub returns-in-Halted-clause-one : goal.returns-in-Halted-clause-one
@@ -111,6 +111,6 @@ returns-in_default g c =
           (subst (λ (qs : List Request). Serves m planning c.args.retry_short qs c.serve-in_default.result.1 c.read-runner.result.0 c.serve-in_default.result.0 (IsSeen g.G.Gate.halts g.G.Gate.asks)
           (g.G.Gate.halts c.read-runner.new.gate) (g.G.Gate.asks c.read-runner.new.gate) (g.G.Gate.asks c.serve-in_default.new.gate) c.read-runner.new.steps.count c.serve-in_default.new.steps.count)
           c.from_ref-only.ensures.value c.serve-in_default.ensures.serves);
-      halted = λ e. subst (λ n. Rose n (g.G.Gate.halts c.serve-in_default.new.gate)) went (c.serve-in_default.ensures.halted e);
+      halted = λ e. subst (λ n. HaltedOnce n (g.G.Gate.halts c.serve-in_default.new.gate)) went (c.serve-in_default.ensures.halted e);
       went = λ other. c.serve-in_default.ensures.went other ∙ went;
     }

@@ -1,7 +1,7 @@
 use Rattle.std.proofs.Common.{◌≡◌, length, arith, refl, sym, ◌∙◌, subst}
 use Rattle.std.proofs.lemmas.Option.{slice_get-get_or}
-use Rattle.seq_read.specs.runner_gate.specs.fault_count.specs.Rose.{Rose}
-use Rattle.serving.specs.attempts.specs.Counted.{IsSeen}
+use Rattle.seq_read.specs.runner_gate.specs.Asks.{HaltedOnce}
+use Rattle.serving.specs.attempts.specs.caller_facts.specs.Counted.{IsSeen}
 use Rattle.free_serving.proofs.Along.{along_begins, so_far_begins, one_may, one_along, one_so_far, one_leaves, one_freely, all_freely, all_leaves}
 use Rattle.free_serving.proofs.serves_freely.serve_each.Goals as goal
 
@@ -37,7 +37,7 @@ returns-in_default g c =
           (c.requires.own.limits _ refl) (c.requires.own.allowed _ refl) c.requires.own inv.own c.serve_one-next.ensures.own c.requires.next c.loop-request.request-index _
           (slice_get-get_or c.args.requests.now c.loop-request.request-index _ c.loop-request-test.true) inv.along c.serve_one-next.result.1
           (IsSeen g.G.Gate.halts g.G.Gate.asks) _ _ inv.went _ _ _ _ _ _ inv.so_far c.serve_one-next.ensures.one c.in_default.not-All;
-      halted = λ e. subst (λ n. Rose n (g.G.Gate.halts c.serve_one-next.new.gate)) inv.went (c.serve_one-next.ensures.halted e);
+      halted = λ e. subst (λ n. HaltedOnce n (g.G.Gate.halts c.serve_one-next.new.gate)) inv.went (c.serve_one-next.ensures.halted e);
       went = λ other. c.serve_one-next.ensures.went other ∙ inv.went;
     }
 
