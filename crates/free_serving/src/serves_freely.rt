@@ -5,8 +5,7 @@ ghost use Rattle.version_words.specs.TableState.{IsOf};
 ghost use Rattle.serving.specs.attempts.specs.caller_facts.specs.Counted.{IsSeen};
 ghost use Rattle.serving.specs.Serving.{MayServe};
 ghost use Rattle.serving.specs.declared.answers.Served.TheVariants as answers;
-ghost use Rattle.free_serving.specs.Freely.{ServesFreely, ServesBy};
-ghost use Rattle.free_serving.specs.Left.{Leaves};
+ghost use Rattle.free_serving.specs.Freely.{ServesAll};
 
 use crate::one::serve_one;
 use machine_states::body_terms::Steps;
@@ -31,12 +30,9 @@ fn serve_each<R: Threads + Wait + Sync, S: Planner, G: Gate, L>(
     requires own { IsOf table.now runner }
     requires next { MayServe (S.planning table.now.structure) requests.now runner }
     ensures own { IsOf table.now result.0 }
-    ensures serves { ServesFreely (S.meaning table.now.structure) (S.planning table.now.structure) retry_short
+    ensures serves { ServesAll (S.meaning table.now.structure) (S.planning table.now.structure) retry_short true
         requests.now result.1 runner result.0 (IsSeen G.halts G.asks) (G.halts gate.old) (G.asks gate.old)
         (G.asks gate.new) steps.old.count steps.new.count }
-    ensures left { Leaves (S.meaning table.now.structure) (S.planning table.now.structure) retry_short true
-        requests.now result.1 runner result.0 (IsSeen G.halts G.asks) (G.halts gate.old) (G.asks gate.old)
-        (G.asks gate.new) }
     ensures halted { result.1 ≡ answers.Halted → HaltedOnce (G.halts gate.old) (G.halts gate.new) }
     ensures went { result.1 ≢ answers.Halted → G.halts gate.new ≡ G.halts gate.old }
 {
@@ -77,12 +73,9 @@ pub fn serve_freely<R: Threads + Wait + Sync, S: Planner, G: Gate, L>(
     requires own { IsOf table.now runner }
     requires next { MayServe (S.planning table.now.structure) requests.now runner }
     ensures own { IsOf table.now result.0 }
-    ensures serves { ServesBy (S.meaning table.now.structure) (S.planning table.now.structure) retry_short reads_free
+    ensures serves { ServesAll (S.meaning table.now.structure) (S.planning table.now.structure) retry_short reads_free
         requests.now result.1 runner result.0 (IsSeen G.halts G.asks) (G.halts gate.old) (G.asks gate.old)
         (G.asks gate.new) steps.old.count steps.new.count }
-    ensures left { Leaves (S.meaning table.now.structure) (S.planning table.now.structure) retry_short reads_free
-        requests.now result.1 runner result.0 (IsSeen G.halts G.asks) (G.halts gate.old) (G.asks gate.old)
-        (G.asks gate.new) }
     ensures halted { result.1 ≡ answers.Halted → HaltedOnce (G.halts gate.old) (G.halts gate.new) }
     ensures went { result.1 ≢ answers.Halted → G.halts gate.new ≡ G.halts gate.old }
 {

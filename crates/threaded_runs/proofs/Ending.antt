@@ -140,26 +140,26 @@ module _ {T : Type 0} (m : Meaning) (planning : Planning) (retry_short reads_fre
       served_so : HasServed m w retry_short reads_free (own_requests t.layout.runners worker t.requests) f.answer
       served_so = subst (λ (rs : List Request). HasServed m w retry_short reads_free rs f.answer) is_seated.requests
           (has_served m t keeper w closing lawful.planner.serves facts.history facts.callers
-          worker j.requests.items retry_short reads_free planning f.answer j.runner f.runner part _ _ _ _ has_run.left there trace once
-          low has_run.own (has_run.left.knows.number ∙ is_seated.number) facts.descriptors facts.spent facts.worn (facts.worn_once worker) made facts.lists)
+          worker j.requests.items retry_short reads_free planning f.answer j.runner f.runner part _ _ _ _ _ has_run.serves.left there trace once
+          low has_run.own (has_run.serves.left.knows.number ∙ is_seated.number) facts.descriptors facts.spent facts.worn (facts.worn_once worker) made facts.lists)
 
       -- so many of its requests have an entry, and one more at most where it was halted
-      few_own : count_by (λ (q : Request). not (stamp_of m w q == 0)) (own_requests t.layout.runners worker t.requests) ≤ has_run.left.full + halted f.answer
-      few_own = subst (λ (rs : List Request). count_by (λ (q : Request). not (stamp_of m w q == 0)) rs ≤ has_run.left.full + halted f.answer) is_seated.requests
+      few_own : count_by (λ (q : Request). not (stamp_of m w q == 0)) (own_requests t.layout.runners worker t.requests) ≤ has_run.serves.left.full + halted f.answer
+      few_own = subst (λ (rs : List Request). count_by (λ (q : Request). not (stamp_of m w q == 0)) rs ≤ has_run.serves.left.full + halted f.answer) is_seated.requests
           (few_entered m t keeper w closing lawful.planner.serves facts.history facts.callers
-          worker j.requests.items retry_short reads_free planning f.answer j.runner f.runner part _ _ _ _ has_run.left there trace once
-          low has_run.own (has_run.left.knows.number ∙ is_seated.number) facts.descriptors facts.spent facts.worn (facts.worn_once worker) made facts.lists)
+          worker j.requests.items retry_short reads_free planning f.answer j.runner f.runner part _ _ _ _ _ has_run.serves.left there trace once
+          low has_run.own (has_run.serves.left.knows.number ∙ is_seated.number) facts.descriptors facts.spent facts.worn (facts.worn_once worker) made facts.lists)
 
       -- and its gate was asked for each that it served
-      asked_own : min (least_asks reads_free * has_run.left.full) (2 ^ 64 - 1) ≤ (asks f.gate).count
-      asked_own = subst (λ (a : Asks). min (least_asks reads_free * has_run.left.full) (2 ^ 64 - 1) ≤ a.count) (sym has_run.left.asked)
-          (counted_least (asks j.gate).count has_run.left.made (least_asks reads_free * has_run.left.full) (least_turned reads_free has_run.left.full has_run.left.made has_run.left.least))
+      asked_own : min (least_asks reads_free * has_run.serves.left.full) (2 ^ 64 - 1) ≤ (asks f.gate).count
+      asked_own = subst (λ (a : Asks). min (least_asks reads_free * has_run.serves.left.full) (2 ^ 64 - 1) ≤ a.count) (sym has_run.serves.left.asked)
+          (counted_least (asks j.gate).count has_run.serves.left.made (least_asks reads_free * has_run.serves.left.full) (least_turned reads_free has_run.serves.left.full has_run.serves.left.made has_run.serves.left.least))
 
       done_so : (short : Short) → f.answer ≡ stops.Short short → short.kind ≡ slots.Descriptor
           → (d : ℕ) → w.layout.sections * worker ≤ d → d < w.layout.sections * worker + w.layout.sections → word_of m w (DoneWord d) ≡ 1
       done_so short is kind = descriptors_done m t keeper w closing lawful.planner.serves facts.history facts.callers
-          worker j.requests.items retry_short reads_free planning f.answer j.runner f.runner part _ _ _ _ has_run.left there trace once
-          low has_run.own (has_run.left.knows.number ∙ is_seated.number) facts.descriptors facts.spent facts.worn (facts.worn_once worker) made facts.lists
+          worker j.requests.items retry_short reads_free planning f.answer j.runner f.runner part _ _ _ _ _ has_run.serves.left there trace once
+          low has_run.own (has_run.serves.left.knows.number ∙ is_seated.number) facts.descriptors facts.spent facts.worn (facts.worn_once worker) made facts.lists
           facts.own facts.limbo short is kind
 
       -- where it reads each `get` first, each of its own that has an entry has a read's stamp, or was read in vain
@@ -168,8 +168,8 @@ module _ {T : Type 0} (m : Meaning) (planning : Planning) (retry_short reads_fre
           → (stamp_of m w q % 2 ≡ 1) ⊎ ((r : RunnerState T) × (r.layout ≡ t.layout) × (r.requests ≡ t.requests) × WasReadInVain m planning q r)
       read_so free i q at get some = ⊎_elim inl (λ vain. inr (j.runner, is_seated.may.own.layout, is_seated.may.own.requests, vain))
           (read_odd m t keeper w closing lawful.planner.serves facts.history facts.callers
-          worker j.requests.items retry_short reads_free planning f.answer j.runner f.runner part _ _ _ _ has_run.left there trace once
-          low has_run.own (has_run.left.knows.number ∙ is_seated.number) facts.descriptors facts.spent facts.worn (facts.worn_once worker) made facts.lists
+          worker j.requests.items retry_short reads_free planning f.answer j.runner f.runner part _ _ _ _ _ has_run.serves.left there trace once
+          low has_run.own (has_run.serves.left.knows.number ∙ is_seated.number) facts.descriptors facts.spent facts.worn (facts.worn_once worker) made facts.lists
           free i q (subst (λ (rs : List Request). slice_get rs i ≡ Some q) (sym is_seated.requests) at) get some)
 
     -- the worker with this answer is one
@@ -194,9 +194,9 @@ module _ {T : Type 0} (m : Meaning) (planning : Planning) (retry_short reads_fre
         (often_asked reads_free asks before finished answers (λ worker. count_by (λ (q : Request). not (stamp_of m w q == 0)) (own_requests t.layout.runners worker t.requests))
         (each ∙ (sym as_many ∙ sym back))
         (λ worker seat d a. let low : worker < t.layout.runners = subst (λ (n : ℕ). worker < n) (back ∙ as_many) seat in (
-          (has_run worker low).left.full,
-          subst (λ (n : ℕ). min (least_asks reads_free * (has_run worker low).left.full) (2 ^ 64 - 1) ≤ n) (ap (λ (x : Finished T H). (asks x.gate).count) (same_at finished worker _ d seat)) (asked_own worker low),
-          subst (λ (x : Served). count_by (λ (q : Request). not (stamp_of m w q == 0)) (own_requests t.layout.runners worker t.requests) ≤ (has_run worker low).left.full + halted x)
+          (has_run worker low).serves.left.full,
+          subst (λ (n : ℕ). min (least_asks reads_free * (has_run worker low).serves.left.full) (2 ^ 64 - 1) ≤ n) (ap (λ (x : Finished T H). (asks x.gate).count) (same_at finished worker _ d seat)) (asked_own worker low),
+          subst (λ (x : Served). count_by (λ (q : Request). not (stamp_of m w q == 0)) (own_requests t.layout.runners worker t.requests) ≤ (has_run worker low).serves.left.full + halted x)
               (sym (is_kept worker low a).same) (few_own worker low),
         ))
         (served_in m w)
@@ -212,16 +212,16 @@ module _ {T : Type 0} (m : Meaning) (planning : Planning) (retry_short reads_fre
     module _ (entries : List (Option ℕ)) (unhalted : AllUnhalted halts jobs) (given : AllGiven asks entries jobs) where
       gate_is : (worker : ℕ) (low : worker < t.layout.runners) (a : Served) → IsGateOf m w reads_free halts asks entries worker (get_or answers worker a) (f worker low).gate
       gate_is worker low a = record {
-        given = ap (λ (x : Asks). x.plan) (has_run worker low).left.asked ∙ ap (λ (x : Asks). x.plan) (given worker (some_of jobs worker (seat worker low)) (seat worker low));
+        given = ap (λ (x : Asks). x.plan) (has_run worker low).serves.left.asked ∙ ap (λ (x : Asks). x.plan) (given worker (some_of jobs worker (seat worker low)) (seat worker low));
         stopped = λ e. (has_run worker low).halted still (sym same ∙ e);
         went = λ other. (has_run worker low).went still (λ e. other (same ∙ e));
-        let_go = λ e. let was = (has_run worker low).left.let_go (sym same ∙ e) in (
+        let_go = λ e. let was = (has_run worker low).serves.left.let_go (sym same ∙ e) in (
           was.0,
-          let_turned reads_free (has_run worker low).left.full (served_by m w worker) (halted (get_or answers worker a)) was.0 (halted_once (get_or answers worker a)) few was.1,
+          let_turned reads_free (has_run worker low).serves.left.full (served_by m w worker) (halted (get_or answers worker a)) was.0 (halted_once (get_or answers worker a)) few was.1,
           subst (λ (h : ℕ). IsSeen halts asks h (asked_on (unasked_of worker (get_or entries worker None)) was.0)) still
               (subst (λ (x : Asks). IsSeen halts asks (halts (j worker low).gate) (asked_on x was.0)) (given worker (some_of jobs worker (seat worker low)) (seat worker low)) was.2),
         );
-        often = often_so reads_free (has_run worker low).left.full (served_by m w worker) (halted (get_or answers worker a)) (asks (f worker low).gate).count few (asked_own worker low);
+        often = often_so reads_free (has_run worker low).serves.left.full (served_by m w worker) (halted (get_or answers worker a)) (asks (f worker low).gate).count few (asked_own worker low);
       }
         where
           same : get_or answers worker a ≡ (f worker low).answer
@@ -230,11 +230,11 @@ module _ {T : Type 0} (m : Meaning) (planning : Planning) (retry_short reads_fre
           still : halts (j worker low).gate ≡ 0
           still = unhalted worker (some_of jobs worker (seat worker low)) (seat worker low)
 
-          few : served_by m w worker ≤ (has_run worker low).left.full + halted (get_or answers worker a)
-          few = subst (λ (x : Served). served_by m w worker ≤ (has_run worker low).left.full + halted x) (sym same)
-              (subst (λ (l : Layout). count_by (λ (q : Request). not (stamp_of m w q == 0)) (own_requests l.runners worker w.requests) ≤ (has_run worker low).left.full + halted (f worker low).answer)
+          few : served_by m w worker ≤ (has_run worker low).serves.left.full + halted (get_or answers worker a)
+          few = subst (λ (x : Served). served_by m w worker ≤ (has_run worker low).serves.left.full + halted x) (sym same)
+              (subst (λ (l : Layout). count_by (λ (q : Request). not (stamp_of m w q == 0)) (own_requests l.runners worker w.requests) ≤ (has_run worker low).serves.left.full + halted (f worker low).answer)
               (sym closing.layout)
-              (subst (λ (rs : List Request). count_by (λ (q : Request). not (stamp_of m w q == 0)) (own_requests t.layout.runners worker rs) ≤ (has_run worker low).left.full + halted (f worker low).answer)
+              (subst (λ (rs : List Request). count_by (λ (q : Request). not (stamp_of m w q == 0)) (own_requests t.layout.runners worker rs) ≤ (has_run worker low).serves.left.full + halted (f worker low).answer)
               (sym closing.requests) (few_own worker low)))
 
       pub gates_came_back : (before behind : ℕ) → behind ≡ asks_counted asks before finished → GatesCameBack m w reads_free halts asks entries answers before behind

@@ -6,7 +6,6 @@ use Rattle.serving.specs.attempts.specs.caller_facts.specs.Counted.{IsSeen}
 use Rattle.std.specs.Prelude.{not}
 use Rattle.seq_read.specs.Reads.{is_halted, Reads}
 use Rattle.serving.specs.Serving.{MayServe, Serves}
-use Rattle.free_serving.proofs.Bridge.{may_read}
 use Rattle.free_serving.proofs.Each.{may_attempt, under_lock, read_all, read_then_halted, read_halted, may_still, both_ways, refusal_of, going_on}
 use Rattle.free_serving.proofs.one.serve_one.Goals as goal
 
@@ -27,8 +26,7 @@ returns-then-not-is_get-clause-one g c =
 pub read-runner-requires-clause-next : goal.read-runner-requires-clause-next
 read-runner-requires-clause-next g c κs within =
     let planning = g.S.Planner.planning c.args.table.now.structure in
-    may_read planning c.args.request.now c.args.runner
-    (may_attempt planning c.args.request.now c.args.runner c.args.table.now c.requires.own (c.requires.own.allowed _ refl) c.requires.next)
+    may_attempt planning c.args.request.now c.args.runner c.args.table.now c.requires.own (c.requires.own.allowed _ refl) c.requires.next
 
 pub serve-requires-in_default-clause-next : goal.serve-requires-in_default-clause-next
 serve-requires-in_default-clause-next g c κs within =
