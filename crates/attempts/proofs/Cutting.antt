@@ -46,7 +46,8 @@ use Rattle.attempts.proofs.Leaving.{ended_knows}
 use Rattle.attempts.proofs.Along.{HasLastStep}
 use Rattle.attempts.proofs.Trying.{unknown_here, is_published, cut_published}
 use Rattle.attempts.proofs.Telling.{IsAtEnd, IsOn, along, kept, kept_is, end_quiet, end_told, end_left, cut_end, cut_is}
-use Rattle.attempts.proofs.Stamps.{own_stamp_above}
+use Rattle.attempts.proofs.Stamps.{own_stamp_above, own_stamp_even}
+use Rattle.attempts.proofs.RealTime.{above_answered}
 use Rattle.attempts.proofs.Costs.{ended_costs, cut_costs}
 
 -- a runner in a run of the section that it has published: the run's thunk is the one with which it was published
@@ -161,7 +162,19 @@ module _ {T : Type 0} (m : Meaning) (laws : Laws m) (t : TableState T) (limits :
             own_stamp_above m laws t limits allowed planning request thunk section old here tried new end.0 last
             (ap (λ ks. is_answered ks request.number) (sym quiet) ∙ answered)
             new own_new (front_same last.before.part.records.known new.part.records.known quiet) cut.reached stamp knows x entry stamped known;
+        in_time = λ answered stamp knows.
+            above_answered m laws planning request old new (subst IsWithinLimits layout_before limits) (subst AreAllowed requests_before allowed)
+            tried.plans.enters.may (own_new.layout ∙ layout_before) (own_new.requests ∙ requests_before) stamp knows
+            (own_stamp_even m laws t limits allowed planning request thunk section old here tried new end.0 last
+            (ap (λ ks. is_answered ks request.number) (sym quiet) ∙ answered)
+            new own_new (front_same last.before.part.records.known new.part.records.known quiet) cut.reached stamp knows);
       }
+        where
+          layout_before : t.layout ≡ old.layout
+          layout_before = sym own_here.layout ∙ tried.still.layout
+
+          requests_before : t.requests ≡ old.requests
+          requests_before = sym own_here.requests ∙ tried.still.requests
 
     abbrev was_halted : IsHalted m planning request old new
     was_halted = record {

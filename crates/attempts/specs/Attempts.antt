@@ -233,7 +233,8 @@ module _ {T : Type 0} where
 
       -- the own section's run came to its end by the very step behind which the gate halted the runner: one more run is
       -- kept, that of this section. It answered exactly where the runner knows both words of the request; and then the
-      -- stamp is above that of each request that the runner knew to be answered as the attempt began
+      -- stamp is above that of each request that the runner knew to be answered as the attempt began, and of each that
+      -- was answered then, whoever served it
       pub record HasJustEnded (thunk : Thunk) (section : Section) (old published new : RunnerState T) : Type 0 where
         pub finished : FinishedState
         pub kept : new.part.records.finished ≡ published.part.records.finished ++ finished ∷ []
@@ -251,6 +252,10 @@ module _ {T : Type 0} where
             → (stamp : ℕ) → HasEntry new.part.records.known
             (record { request = request.number; reply = false; number = stamp })
             → x.number < stamp
+        pub in_time : is_answered new.part.records.known request.number ≡ true
+            → (stamp : ℕ) → HasEntry new.part.records.known
+            (record { request = request.number; reply = false; number = stamp })
+            → IsAboveAnswered m stamp old new
 
       -- so it is where the runner was halted in its own run
       abbrev pub EndsAt : (old new : RunnerState T) → Stops old new → Type 0
