@@ -32,7 +32,7 @@ use Rattle.version_words.specs.RunnerState.{RunnerState}
 use Rattle.version_words.specs.TableState.{TableState, IsOf}
 use Rattle.version_words.specs.Events.{IsMade}
 use Rattle.lock_walks.specs.runner_facts.specs.next_steps.specs.Rooms.{cell_count}
-use Rattle.lock_walks.specs.try_lock.specs.epoch_slots.specs.Entries.{KeepsOwn, HasLeave}
+use Rattle.caller_facts.specs.epoch_slots.specs.Entries.{KeepsOwn, HasLeave}
 use Rattle.lock_walks.specs.try_lock.specs.commit_log.proofs.Asked.{asked_none}
 use Rattle.lock_walks.specs.try_lock.specs.declared.section.Section.{Section}
 use Rattle.lock_walks.specs.try_lock.specs.declared.planned.Planned.TheVariants as plans

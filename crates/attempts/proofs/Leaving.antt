@@ -27,8 +27,8 @@ use Rattle.lock_walks.specs.runner_facts.specs.Names.{NamesStand}
 use Rattle.machine_facts.specs.Watched.{WasDone}
 use Rattle.version_words.specs.RunnerState.{RunnerState}
 use Rattle.version_words.specs.Stages.{IsAt}
-use Rattle.lock_walks.specs.try_lock.specs.epoch_slots.specs.Entries.{KeepsOwn, Exits}
-use Rattle.lock_walks.specs.try_lock.specs.epoch_slots.proofs.Outside.{guards_made, own_kept_on}
+use Rattle.caller_facts.specs.epoch_slots.specs.Entries.{KeepsOwn, Exits}
+use Rattle.caller_facts.specs.epoch_slots.proofs.Outside.{guards_made, own_kept_on}
 use Rattle.lock_walks.specs.try_lock.specs.commit_log.specs.Asked.{IsAsked}
 use Rattle.lock_walks.specs.try_lock.specs.commit_log.proofs.Asked.{asked_none}
 use Rattle.lock_walks.specs.try_lock.specs.Ends.{EndsSo, IsCutShort}

@@ -3,9 +3,9 @@ use Rattle.std.specs.Prelude.{Bool, true, false}
 use Rattle.std.proofs.Common.{◌≡◌, ℕ, ◌+◌, List, [], ◌∷◌, length, sym, subst, arith}
 use Rattle.machine_states.specs.structure_laws.specs.Meaning.{Meaning}
 use Rattle.version_words.specs.RunnerState.{RunnerState}
-use Rattle.lock_walks.specs.try_lock.specs.epoch_slots.specs.Collects.{Scans, Looks, AreTested, Advances, Collects}
-use Rattle.lock_walks.specs.try_lock.specs.epoch_slots.specs.Entries.{Enters, Exits}
-use Rattle.lock_walks.specs.try_lock.specs.epoch_slots.specs.Sweeps.{Sweeps, HasSwept}
+use Rattle.caller_facts.specs.epoch_slots.specs.Collects.{Scans, Looks, AreTested, Advances, Collects}
+use Rattle.caller_facts.specs.epoch_slots.specs.Entries.{Enters, Exits}
+use Rattle.caller_facts.specs.epoch_slots.specs.Sweeps.{Sweeps, HasSwept}
 use Rattle.lock_walks.specs.try_lock.specs.Reached.{IsReached}
 use Rattle.caller_facts.proofs.Standing.{made_reached}
 

@@ -20,9 +20,9 @@ use Rattle.machine_facts.specs.machine_invariant.specs.Sections.{IsAnswered, IsL
 use Rattle.version_words.specs.RunnerState.{RunnerState}
 use Rattle.version_words.specs.TableState.{TableState, IsOf}
 use Rattle.lock_walks.specs.try_lock.specs.commit_log.specs.Runs.{Ran, Stepped}
-use Rattle.lock_walks.specs.try_lock.specs.section_runs.specs.Opened.{IsOpening}
-use Rattle.lock_walks.specs.try_lock.specs.section_runs.proofs.Staying.{step_stays}
-use Rattle.lock_walks.specs.try_lock.specs.section_runs.proofs.Told.{answered_told}
+use Rattle.caller_facts.specs.section_runs.specs.Opened.{IsOpening}
+use Rattle.caller_facts.specs.section_runs.proofs.Staying.{step_stays}
+use Rattle.caller_facts.specs.section_runs.proofs.Told.{answered_told}
 use Rattle.lock_walks.specs.try_lock.specs.Reached.{IsReached}
 use Rattle.lock_walks.specs.try_lock.specs.Ends.{EndsSo, RanShort, IsCutShort}
 use Rattle.attempts.specs.Learned.{HasLearned, IsCut}

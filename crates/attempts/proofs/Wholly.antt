@@ -28,9 +28,9 @@ use Rattle.machine_states.specs.runner_parts.specs.declared.event.EventKind.TheV
 use Rattle.lock_walks.specs.runner_facts.proofs.Names.{pair_last}
 use Rattle.lock_walks.specs.try_lock.specs.Reached.{IsReached}
 use Rattle.attempts.specs.Reclaims.{Reclaims}
-use Rattle.lock_walks.specs.try_lock.specs.epoch_slots.specs.Entries.{Enters, KeepsOwn}
-use Rattle.lock_walks.specs.try_lock.specs.epoch_slots.specs.Reserves.{counts_of}
-use Rattle.lock_walks.specs.try_lock.specs.epoch_slots.specs.declared.reserves.Short.{Short}
+use Rattle.caller_facts.specs.epoch_slots.specs.Entries.{Enters, KeepsOwn}
+use Rattle.caller_facts.specs.epoch_slots.specs.Reserves.{counts_of}
+use Rattle.caller_facts.specs.epoch_slots.specs.declared.reserves.Short.{Short}
 use Rattle.lock_walks.specs.try_lock.specs.commit_log.specs.Asked.{IsAsked}
 use Rattle.lock_walks.specs.try_lock.specs.commit_log.proofs.Asked.{asked_none}
 use Rattle.lock_walks.specs.try_lock.specs.declared.planned.Planned.{Planned}

@@ -19,12 +19,12 @@ use Rattle.machine_states.specs.runner_parts.specs.State.{FinishedState}
 use Rattle.machine_states.specs.runner_parts.specs.Tests.{is_answered}
 use Rattle.machine_states.specs.Sight.{sight}
 use Rattle.version_words.specs.RunnerState.{RunnerState}
-use Rattle.lock_walks.specs.try_lock.specs.epoch_slots.specs.Collects.{IsTidy}
-use Rattle.lock_walks.specs.try_lock.specs.epoch_slots.specs.Entries.{Exits}
-use Rattle.lock_walks.specs.try_lock.specs.epoch_slots.specs.Reserves.{counts_of}
-use Rattle.lock_walks.specs.try_lock.specs.epoch_slots.specs.declared.reserves.Kind.{Kind}
-use Rattle.lock_walks.specs.try_lock.specs.epoch_slots.specs.declared.reserves.Kind.TheVariants as kinds
-use Rattle.lock_walks.specs.try_lock.specs.epoch_slots.specs.declared.reserves.Short.{Short}
+use Rattle.caller_facts.specs.epoch_slots.specs.Collects.{IsTidy}
+use Rattle.caller_facts.specs.epoch_slots.specs.Entries.{Exits}
+use Rattle.caller_facts.specs.epoch_slots.specs.Reserves.{counts_of}
+use Rattle.caller_facts.specs.epoch_slots.specs.declared.reserves.Kind.{Kind}
+use Rattle.caller_facts.specs.epoch_slots.specs.declared.reserves.Kind.TheVariants as kinds
+use Rattle.caller_facts.specs.epoch_slots.specs.declared.reserves.Short.{Short}
 use Rattle.lock_walks.specs.try_lock.specs.declared.planned.Planned.TheVariants as plans
 use Rattle.lock_walks.specs.try_lock.specs.declared.section.Section.{Section}
 use Rattle.lock_walks.specs.try_lock.specs.Planning.{Planning}

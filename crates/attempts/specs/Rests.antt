@@ -11,8 +11,8 @@ use Rattle.machine_states.specs.Sight.{sight}
 use Rattle.machine_states.specs.epoch_core.specs.declared.stage.Stage.TheVariants as stages
 use Rattle.version_words.specs.RunnerState.{RunnerState}
 use Rattle.version_words.specs.Stages.{IsAt}
-use Rattle.lock_walks.specs.try_lock.specs.epoch_slots.specs.Collects.{IsTidy}
-use Rattle.lock_walks.specs.try_lock.specs.epoch_slots.specs.Entries.{HasLeave}
+use Rattle.caller_facts.specs.epoch_slots.specs.Collects.{IsTidy}
+use Rattle.caller_facts.specs.epoch_slots.specs.Entries.{HasLeave}
 use Rattle.lock_walks.specs.try_lock.specs.commit_log.specs.Asked.{IsAsked}
 use Rattle.lock_walks.specs.try_lock.specs.Planning.{Planning}
 use Rattle.lock_walks.specs.try_lock.specs.Reached.{IsReached}

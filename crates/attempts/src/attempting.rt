@@ -10,12 +10,12 @@ ghost use Rattle.attempts.specs.Attempts.{most_of_attempt, Attempts};
 ghost use Rattle.attempts.specs.Rests.{Rests};
 
 use crate::answers::Attempt;
-use caller_facts::goes_on;
 use crate::reclaims::reclaim;
 use crate::refusals::plan_refused;
 use crate::reserves::reserve_slots;
 use crate::tries::try_section;
 use crate::turns::turn_away;
+use caller_facts::goes_on;
 use lock_walks::Planner;
 use lock_walks::epoch_slots::enter;
 use lock_walks::try_lock::Planned;

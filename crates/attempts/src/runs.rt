@@ -10,10 +10,10 @@ ghost use Rattle.attempts.specs.Attempts.{most_of_run};
 ghost use Rattle.attempts.specs.Rests.{Rests};
 
 use crate::answers::Attempt;
-use caller_facts::goes_on;
 use crate::learns::learn;
 use crate::refusals::section_left;
 use crate::turns::turn_away;
+use caller_facts::goes_on;
 use lock_walks::Planner;
 use lock_walks::try_lock::{RunEnd, Section, run_section};
 use lock_words::{stale_words_differ, taken_names_stand};

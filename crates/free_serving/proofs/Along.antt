@@ -25,8 +25,8 @@ use Rattle.seq_read.specs.caller_facts.specs.try_lock.specs.Reached.{IsReached}
 use Rattle.serving.specs.attempt_bounds.specs.Spared.{IsSpared}
 use Rattle.seq_read.specs.caller_facts.specs.request_facts.specs.Laws.{HasEntry}
 use Rattle.seq_read.specs.caller_facts.specs.epoch_slots.specs.Collects.{IsTidy}
-use Rattle.serving.specs.attempts.specs.caller_facts.specs.Knowing.{KnowsMore, IsOwn}
-use Rattle.serving.specs.attempts.specs.caller_facts.proofs.Knowing.{knows_same, knows_on, own_on}
+use Rattle.seq_read.specs.caller_facts.specs.Knowing.{KnowsMore, IsOwn}
+use Rattle.seq_read.specs.caller_facts.proofs.Knowing.{knows_same, knows_on, own_on}
 use Rattle.serving.specs.Serving.{Try, most_asks, WasCrossed, WasJustServed, WasHalted, MayServe}
 use Rattle.serving.specs.declared.answers.Served.{Served}
 use Rattle.serving.specs.declared.answers.Served.TheVariants as answers

@@ -6,8 +6,8 @@ use Rattle.machine_states.specs.table_words.specs.declared.layout.Layout.{Layout
 use Rattle.machine_states.specs.structure_laws.specs.Meaning.{Meaning}
 use Rattle.machine_states.specs.structure_laws.specs.Cells.{slots}
 use Rattle.version_words.specs.RunnerState.{RunnerState}
-use Rattle.serving.specs.attempts.specs.caller_facts.specs.Knowing.{KnowsMore, LearnsNoOther}
-use Rattle.serving.specs.attempts.specs.caller_facts.proofs.Knowing.{knows_on, no_other_on}
+use Rattle.seq_read.specs.caller_facts.specs.Knowing.{KnowsMore, LearnsNoOther}
+use Rattle.seq_read.specs.caller_facts.proofs.Knowing.{knows_on, no_other_on}
 use Rattle.seq_read.specs.caller_facts.specs.try_lock.specs.Planning.{Planning}
 use Rattle.seq_read.specs.caller_facts.specs.try_lock.specs.Reached.{IsReached}
 use Rattle.serving.specs.attempt_bounds.specs.Spared.{IsSpared}

@@ -19,8 +19,8 @@ use Rattle.serving.specs.attempts.specs.commit_log.proofs.Asked.{counted_more, a
 use Rattle.seq_read.specs.caller_facts.specs.try_lock.specs.Planning.{Planning}
 use Rattle.serving.specs.attempt_bounds.specs.Spared.{AttemptsSpareSlots}
 use Rattle.seq_read.specs.caller_facts.specs.lock_walks.specs.Gets.{GetsAreLight}
-use Rattle.serving.specs.attempts.specs.caller_facts.specs.Knowing.{IsOwn}
-use Rattle.serving.specs.attempts.specs.caller_facts.specs.Asking.{MayAttempt}
+use Rattle.seq_read.specs.caller_facts.specs.Knowing.{IsOwn}
+use Rattle.seq_read.specs.caller_facts.specs.Asking.{MayAttempt}
 use Rattle.seq_read.specs.Reads.{is_halted, IsTurnedAway, Answers, has_answered, Reads}
 use Rattle.seq_read.specs.declared.answers.Read.{Read}
 use Rattle.seq_read.specs.declared.answers.Read.TheVariants as reads

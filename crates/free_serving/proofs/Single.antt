@@ -15,7 +15,7 @@ use Rattle.version_words.specs.RunnerState.{RunnerState}
 use Rattle.version_words.specs.TableState.{TableState, IsOf}
 use Rattle.version_words.specs.machine_invariant.specs.After.{AreAllowed}
 use Rattle.seq_read.specs.caller_facts.specs.request_facts.specs.Laws.{HasEntry}
-use Rattle.serving.specs.attempts.specs.caller_facts.specs.Knowing.{LearnsNoOther, IsOwn}
+use Rattle.seq_read.specs.caller_facts.specs.Knowing.{LearnsNoOther, IsOwn}
 use Rattle.serving.specs.attempts.specs.Attempts.{most_of_attempt}
 use Rattle.seq_read.specs.caller_facts.specs.try_lock.specs.Planning.{Planning}
 use Rattle.serving.specs.attempt_bounds.specs.Spared.{AttemptsSpareSlots}

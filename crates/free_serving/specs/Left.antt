@@ -12,7 +12,7 @@ use Rattle.version_words.specs.RunnerState.{RunnerState}
 use Rattle.seq_read.specs.caller_facts.specs.epoch_slots.specs.Collects.{IsTidy}
 use Rattle.seq_read.specs.caller_facts.specs.try_lock.specs.Planning.{Planning}
 use Rattle.seq_read.specs.caller_facts.specs.request_facts.specs.Laws.{HasEntry}
-use Rattle.serving.specs.attempts.specs.caller_facts.specs.Knowing.{KnowsMore, IsOwn}
+use Rattle.seq_read.specs.caller_facts.specs.Knowing.{KnowsMore, IsOwn}
 use Rattle.serving.specs.attempt_bounds.specs.Spared.{IsSpared}
 use Rattle.seq_read.specs.Course.{IsRefused}
 use Rattle.seq_read.specs.declared.answers.Read.{Read}

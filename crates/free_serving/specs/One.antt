@@ -12,7 +12,7 @@ use Rattle.seq_read.specs.caller_facts.specs.epoch_slots.specs.Collects.{IsTidy}
 use Rattle.seq_read.specs.caller_facts.specs.try_lock.specs.Planning.{Planning}
 use Rattle.seq_read.specs.caller_facts.specs.try_lock.specs.Reached.{IsReached}
 use Rattle.seq_read.specs.caller_facts.specs.request_facts.specs.Laws.{HasEntry}
-use Rattle.serving.specs.attempts.specs.caller_facts.specs.Knowing.{KnowsMore, LearnsNoOther}
+use Rattle.seq_read.specs.caller_facts.specs.Knowing.{KnowsMore, LearnsNoOther}
 use Rattle.serving.specs.attempt_bounds.specs.Spared.{IsSpared}
 use Rattle.serving.specs.Serving.{Try, most_asks, WasCrossed, WasHalted}
 use Rattle.serving.specs.declared.answers.Served.{Served}

@@ -2,7 +2,7 @@
 ghost use Rattle.std.specs.Prelude.{◌≡◌, ◌≢◌, [], ◌∷◌};
 ghost use Rattle.seq_read.specs.runner_gate.specs.Asks.{HaltedOnce};
 ghost use Rattle.version_words.specs.TableState.{IsOf};
-ghost use Rattle.serving.specs.attempts.specs.caller_facts.specs.Counted.{IsSeen};
+ghost use Rattle.seq_read.specs.caller_facts.specs.Counted.{IsSeen};
 ghost use Rattle.serving.specs.Serving.{MayServe};
 ghost use Rattle.serving.specs.declared.answers.Served.TheVariants as answers;
 ghost use Rattle.free_serving.specs.Services.{is_get as is_get_of};

@@ -27,7 +27,7 @@ use Rattle.settled_tables.specs.settling.specs.epoch_slots.specs.declared.reserv
 use Rattle.settled_tables.specs.settling.specs.epoch_slots.specs.declared.reserves.Short.{Short}
 use Rattle.free_serving.specs.Services.{is_get}
 use Rattle.free_serving.specs.Left.{least_asks, WasReadInVain}
-use Rattle.free_serving.specs.serving.specs.attempts.specs.caller_facts.specs.Counted.{IsSeen}
+use Rattle.lone_reads.specs.seq_read.specs.caller_facts.specs.Counted.{IsSeen}
 use Rattle.free_serving.specs.serving.specs.declared.answers.Served.{Served}
 use Rattle.free_serving.specs.serving.specs.declared.answers.Served.TheVariants as stops
 use Rattle.threaded_runs.specs.declared.job.Job.{Job}

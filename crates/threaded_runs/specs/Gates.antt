@@ -8,7 +8,7 @@ use Rattle.version_words.specs.TableState.{WordsState}
 use Rattle.free_serving.specs.serving.specs.declared.answers.Served.{Served}
 use Rattle.free_serving.specs.serving.specs.declared.answers.Served.TheVariants as answers
 use Rattle.free_serving.specs.Left.{least_asks}
-use Rattle.free_serving.specs.serving.specs.attempts.specs.caller_facts.specs.Counted.{IsSeen}
+use Rattle.lone_reads.specs.seq_read.specs.caller_facts.specs.Counted.{IsSeen}
 use Rattle.threaded_runs.specs.Counts.{halted}
 use Rattle.threaded_runs.specs.Own.{own_requests}
 use Rattle.threaded_runs.specs.Runs.{stamp_of}

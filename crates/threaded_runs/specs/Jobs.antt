@@ -7,7 +7,7 @@ use Rattle.version_words.specs.RunnerState.{RunnerState}
 use Rattle.version_words.specs.Shown.{left_part}
 use Rattle.version_words.specs.TableState.{TableState, IsOf}
 use Rattle.settled_tables.specs.settling.specs.try_lock.specs.Planning.{Planning}
-use Rattle.free_serving.specs.serving.specs.attempts.specs.caller_facts.specs.Counted.{IsSeen}
+use Rattle.lone_reads.specs.seq_read.specs.caller_facts.specs.Counted.{IsSeen}
 use Rattle.free_serving.specs.serving.specs.Serving.{MayServe}
 use Rattle.free_serving.specs.serving.specs.declared.answers.Served.{Served}
 use Rattle.free_serving.specs.serving.specs.declared.answers.Served.TheVariants as answers

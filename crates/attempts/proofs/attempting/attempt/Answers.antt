@@ -1,5 +1,5 @@
 use Rattle.std.proofs.Common.{refl, sym, subst}
-use Rattle.lock_walks.specs.try_lock.specs.epoch_slots.specs.Entries.{Enters}
+use Rattle.caller_facts.specs.epoch_slots.specs.Entries.{Enters}
 use Rattle.attempts.specs.Attempts.{Attempts}
 use Rattle.attempts.specs.declared.answers.Attempt.TheVariants as answers
 use Rattle.caller_facts.specs.Counted.{IsCounted, IsSeen}

@@ -2,7 +2,7 @@ use Rattle.std.proofs.Common.{List, refl, sym, ap, ◌∙◌, subst}
 use Rattle.machine_states.specs.map_history.specs.declared.op.Request.{Request}
 use Rattle.seq_read.specs.runner_gate.specs.Asks.{HaltedOnce}
 use Rattle.serving.specs.attempt_bounds.specs.Spared.{AttemptsSpareSlots}
-use Rattle.serving.specs.attempts.specs.caller_facts.specs.Counted.{IsSeen}
+use Rattle.seq_read.specs.caller_facts.specs.Counted.{IsSeen}
 use Rattle.std.specs.Prelude.{not}
 use Rattle.seq_read.specs.Reads.{is_halted, Reads}
 use Rattle.serving.specs.Serving.{MayServe, Serves}

@@ -1,7 +1,7 @@
 use Rattle.std.proofs.Common.{◌≡◌, length, arith, refl, sym, ◌∙◌, subst}
 use Rattle.std.proofs.lemmas.Option.{slice_get-get_or}
 use Rattle.seq_read.specs.runner_gate.specs.Asks.{HaltedOnce}
-use Rattle.serving.specs.attempts.specs.caller_facts.specs.Counted.{IsSeen}
+use Rattle.seq_read.specs.caller_facts.specs.Counted.{IsSeen}
 use Rattle.free_serving.proofs.Along.{along_begins, so_far_begins, one_may, one_along, one_so_far, one_serving, all_serving}
 use Rattle.free_serving.proofs.serves_freely.serve_each.Goals as goal
 

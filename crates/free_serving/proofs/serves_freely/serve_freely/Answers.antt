@@ -1,5 +1,5 @@
 use Rattle.std.proofs.Common.{sym, subst}
-use Rattle.serving.specs.attempts.specs.caller_facts.specs.Counted.{IsSeen}
+use Rattle.seq_read.specs.caller_facts.specs.Counted.{IsSeen}
 use Rattle.free_serving.specs.Freely.{ServesAll}
 use Rattle.free_serving.proofs.Plain.{plain_serving}
 use Rattle.free_serving.proofs.serves_freely.serve_freely.Goals as goal
