@@ -31,6 +31,7 @@ use Rattle.lock_walks.specs.try_lock.specs.Planning.{Planning}
 use Rattle.lock_walks.specs.try_lock.specs.Reached.{IsReached}
 use Rattle.lock_walks.specs.try_lock.specs.Ends.{IsCutShort}
 use Rattle.lock_walks.specs.try_lock.specs.Watches.{Watched}
+use Rattle.caller_facts.specs.Asking.{IsUntouched}
 use Rattle.caller_facts.specs.Knowing.{KnowsMore, LearnsNoOther}
 use Rattle.caller_facts.specs.Counted.{IsCounted}
 use Rattle.attempts.specs.RealTime.{IsAboveAnswered}
