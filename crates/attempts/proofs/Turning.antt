@@ -1,8 +1,7 @@
 -- The answers of an attempt that was turned away.
-use Rattle.std.specs.Prelude.{◌==◌, ◌&&◌, not, Bool, true, false, if◌then◌else◌}
-use Rattle.std.proofs.Common.{◌≡◌, ℕ, ◌+◌, ◌-◌, ◌%◌, ◌≤◌, length, refl, sym, ap, ◌∙◌, subst, arith, Some, None}
+use Rattle.std.specs.Prelude.{◌&&◌, not, Bool, true, false, if◌then◌else◌}
+use Rattle.std.proofs.Common.{◌≡◌, ℕ, ◌+◌, ◌-◌, ◌≤◌, length, refl, sym, ap, ◌∙◌, subst, arith, Some, None}
 use Rattle.std.proofs.lemmas.Bool.{true≢false}
-use Rattle.section_lines.specs.small_lemmas.proofs.Numbers.{tested_equal as same_of}
 use Rattle.machine_states.specs.map_history.specs.declared.op.Request.{Request}
 use Rattle.machine_states.specs.body_terms.specs.Word.{value_of}
 use Rattle.machine_states.specs.table_words.specs.Limits.{IsWithinLimits}
@@ -10,25 +9,17 @@ use Rattle.runner_gate.specs.Asks.{Asks, asked_on}
 use Rattle.machine_states.specs.structure_laws.specs.Meaning.{Meaning}
 use Rattle.machine_states.specs.structure_laws.specs.Laws.{Laws}
 use Rattle.machine_states.specs.runner_parts.specs.declared.entries.Published.{Published}
-use Rattle.machine_states.specs.runner_parts.specs.State.{PartState}
-use Rattle.machine_states.specs.runner_parts.specs.Tests.{is_between, is_answered, are_answered}
-use Rattle.machine_states.specs.Sight.{sight, part_or_first}
+use Rattle.machine_states.specs.runner_parts.specs.Tests.{is_answered}
 use Rattle.machine_facts.specs.machine_invariant.specs.After.{AreAllowed}
-use Rattle.request_facts.specs.reached_histories.specs.Requests.{or_none}
-use Rattle.request_facts.specs.reached_histories.specs.Kept.{link_of}
 use Rattle.version_words.specs.RunnerState.{RunnerState}
 use Rattle.lock_walks.specs.try_lock.specs.Planning.{Planning}
-use Rattle.lock_walks.specs.try_lock.specs.Reached.{IsReached}
 use Rattle.lock_walks.specs.try_lock.specs.Ends.{IsCutShort}
 use Rattle.lock_walks.specs.try_lock.specs.Watches.{Watched}
-use Rattle.request_facts.proofs.Standing.{callers_stand}
 use Rattle.caller_facts.specs.Knowing.{IsOwn}
 use Rattle.attempts.specs.Course.{IsRefused, refused_steps, is_refused_late}
-use Rattle.caller_facts.specs.Asking.{MayAttempt}
 use Rattle.caller_facts.specs.Counted.{IsCounted}
 use Rattle.caller_facts.proofs.Standing.{untouched}
 use Rattle.attempts.specs.Attempts.{is_halted, is_short, is_refusal, IsBrief, leaving_steps, leaving_helps, has_helped, IsTurnedAway, InHelpedRun, IsHalted, Answers, steps_of, has_published, has_met_held, asks_before}
-use Rattle.caller_facts.specs.Asking.{IsUntouched}
 use Rattle.attempts.specs.Rests.{HasTurned, Rests}
 use Rattle.attempts.specs.declared.answers.Attempt.{Attempt}
 use Rattle.attempts.specs.declared.answers.Attempt.TheVariants as answers

@@ -37,7 +37,7 @@ use Rattle.caller_facts.specs.Counted.{IsCounted}
 use Rattle.attempts.specs.RealTime.{IsAboveAnswered}
 use Rattle.attempts.specs.Reclaims.{Reclaims}
 use Rattle.request_facts.specs.Laws.{HasEntry}
-use Rattle.request_facts.specs.Placed.{IsServedAs, IsUnserved}
+use Rattle.request_facts.specs.Placed.{IsServedAs}
 use Rattle.attempts.specs.Course.{HasEntered, HasPlanned, HasTried, HasRun, IsRefused, refused_steps, is_refused_late, LeavesAndLoads, HasHelped, WasHelped, IsOfHelped}
 use Rattle.attempts.specs.declared.answers.Attempt.{Attempt}
 use Rattle.attempts.specs.declared.answers.Attempt.TheVariants as answers

@@ -1,9 +1,9 @@
 -- The course of an attempt: how far it came, and what ended it.
 use mathlib.Core.Logic.{inl, inr}
-use Rattle.std.specs.Prelude.{◌≡◌, ◌≢◌, ℕ, ◌+◌, ◌-◌, ◌≤◌, ◌⊎◌, [], Bool, true, false, length, slice_get, Result, Ok, Err, Some, None}
+use Rattle.std.specs.Prelude.{◌≡◌, ◌≢◌, ℕ, ◌+◌, ◌-◌, ◌≤◌, ◌⊎◌, [], Bool, true, false, length, Result, Ok, Err, None}
 use Rattle.machine_states.specs.map_history.specs.declared.op.Request.{Request}
 use Rattle.machine_states.specs.body_terms.specs.Trail.{Agreed}
-use Rattle.machine_states.specs.body_terms.specs.Word.{value_of, version_of, pack, is_free}
+use Rattle.machine_states.specs.body_terms.specs.Word.{value_of, is_free}
 use Rattle.machine_states.specs.body_terms.specs.declared.outcome.Outcome.{Outcome}
 use Rattle.machine_states.specs.body_terms.specs.declared.outcome.Outcome.TheVariants as outcomes
 use Rattle.machine_states.specs.body_terms.specs.declared.outcome.Refused.{Refused}
@@ -14,12 +14,11 @@ use Rattle.machine_states.specs.structure_laws.specs.Meaning.{Meaning}
 use Rattle.machine_states.specs.Sight.{sight}
 use Rattle.machine_facts.specs.machine_invariant.specs.Sections.{IsLeft}
 use Rattle.machine_states.specs.runner_parts.specs.declared.event.EventKind.TheVariants as kinds
-use Rattle.machine_states.specs.runner_parts.specs.Tests.{is_next, is_answered}
+use Rattle.machine_states.specs.runner_parts.specs.Tests.{is_answered}
 use Rattle.lock_walks.specs.runner_facts.specs.Names.{HasLock}
 use Rattle.machine_facts.specs.Watched.{WasDone}
 use Rattle.version_words.specs.RunnerState.{RunnerState}
 use Rattle.version_words.specs.Events.{Makes, IsMade}
-use Rattle.caller_facts.specs.epoch_slots.specs.Collects.{IsTidy}
 use Rattle.caller_facts.specs.epoch_slots.specs.Entries.{Enters, Exits}
 use Rattle.lock_walks.specs.try_lock.specs.declared.section.Section.{Section}
 use Rattle.lock_walks.specs.try_lock.specs.declared.planned.Planned.{Planned}

@@ -20,7 +20,7 @@ use Rattle.serving.specs.attempts.specs.Attempts.{most_of_attempt}
 use Rattle.seq_read.specs.caller_facts.specs.try_lock.specs.Planning.{Planning}
 use Rattle.serving.specs.attempt_bounds.specs.Spared.{AttemptsSpareSlots}
 use Rattle.serving.specs.Serving as serving
-use Rattle.serving.specs.Serving.{Try, most_asks, WasHalted, IsTry, ServedRuns, Serves}
+use Rattle.serving.specs.Serving.{Try, most_asks, WasCrossed, WasHalted, IsTry, ServedRuns, Serves}
 use Rattle.serving.specs.declared.answers.Served.{Served}
 use Rattle.serving.specs.declared.answers.Served.TheVariants as answers
 use Rattle.serving.proofs.Standing.{entry_on, answered_more, one_stamp}
