@@ -1,6 +1,6 @@
 -- The list's bodies have the shape of a body: the test of each of their steps comes to nothing.
-use Rattle.std.proofs.Common.{◌≡◌, ◌≢◌, ℕ, ◌+◌, ◌*◌, false, cond, refl, ap, arith}
-use Rattle.std.specs.Prelude.{◌==◌, ◌||◌, ◌-◌, ◌^◌, Some, None}
+use Rattle.std.proofs.Common.{◌≡◌, ◌≢◌, ℕ, ◌+◌, false, cond, refl, ap, arith}
+use Rattle.std.specs.Prelude.{◌==◌, ◌||◌, Some, None}
 use Rattle.structure_laws.specs.table_words.specs.small_lemmas.proofs.Numbers.{other_tested}
 use Rattle.structure_laws.specs.body_terms.specs.declared.misshape.Misshape.TheVariants.{StoredTwice}
 use Rattle.structure_laws.specs.body_terms.specs.declared.thunk.Thunk.{Thunk}
@@ -19,18 +19,34 @@ module _ (t : Thunk) where
 
   -- a removal stores in two places
   pub remove_shaped : mark_of (node_in t) ≢ t.lock + 2 → IsShaped (remove_steps t)
-  remove_shaped apart = shaped_by (remove_steps t) (omega arith)
-      (((((((((((((((refl, refl), refl), refl), refl), refl), refl), refl), refl), refl), refl), refl), refl),
-      ap (λ b. cond ((b || false) || false) (Some (StoredTwice 12)) None)
-          (other_tested (mark_of (node_in t)) (t.lock + 2) apart)), refl), refl)
+  remove_shaped apart = shaped_by (remove_steps t) (omega arith) (
+    (
+      (
+        ((((((((((((refl, refl), refl), refl), refl), refl), refl), refl), refl), refl), refl), refl), refl),
+        ap (λ b. cond ((b || false) || false) (Some (StoredTwice 12)) None)
+            (other_tested (mark_of (node_in t)) (t.lock + 2) apart),
+      ),
+      refl,
+    ),
+    refl,
+  )
 
   -- and a replacement in three
   pub replace_shaped : mark_of (node_in t) ≢ t.lock + 2 → next_of (node_in t) ≢ t.lock + 2 → IsShaped (replace_steps t)
-  replace_shaped mark_apart next_apart = shaped_by (replace_steps t) (omega arith)
-      ((((((((((((((((((refl, refl), refl), refl), refl), refl), refl), refl), refl), refl), refl), refl), refl), refl), refl),
-      ap (λ b. cond ((b || false) || false) (Some (StoredTwice 14)) None) (own (node_in t))),
-      λ i. cond ((other_tested (mark_of (node_in t)) (t.lock + 2) mark_apart i
-          || (other_tested (next_of (node_in t)) (t.lock + 2) next_apart i || false)) || false) (Some (StoredTwice 15)) None), refl), refl)
+  replace_shaped mark_apart next_apart = shaped_by (replace_steps t) (omega arith) (
+    (
+      (
+        (
+          ((((((((((((((refl, refl), refl), refl), refl), refl), refl), refl), refl), refl), refl), refl), refl), refl), refl),
+          ap (λ b. cond ((b || false) || false) (Some (StoredTwice 14)) None) (own (node_in t)),
+        ),
+        λ i. cond ((other_tested (mark_of (node_in t)) (t.lock + 2) mark_apart i
+            || (other_tested (next_of (node_in t)) (t.lock + 2) next_apart i || false)) || false) (Some (StoredTwice 15)) None,
+      ),
+      refl,
+    ),
+    refl,
+  )
     where
       own : (n : ℕ) → (mark_of n == next_of n) ≡ false
       own n = other_tested (mark_of n) (next_of n) (λ e. omega (arith, e))

@@ -1,17 +1,16 @@
 -- What a thunk that fits a walk of the list has for numbers, and its form.
-use Rattle.std.proofs.Common.{◌≡◌, ℕ, ◌+◌, ◌*◌, ◌<◌, Bool, true, false, cond, refl, sym, ap, ◌∙◌, inl, inr, arith}
-use Rattle.std.proofs.lemmas.Option.{none-some}
-use Rattle.std.specs.Prelude.{◌==◌, ◌&&◌, ◌^◌, ◌⊎◌, is_none, Option, None, Some, slice_index}
+use Rattle.std.proofs.Common.{◌≡◌, Bool, true, false, refl, ap, ◌∙◌, inl, inr, arith}
+use Rattle.std.specs.Prelude.{◌&&◌, ◌⊎◌, slice_index}
 use Rattle.structure_laws.specs.map_history.specs.declared.op.Op.{Op}
 use Rattle.structure_laws.specs.map_history.specs.declared.op.Op.TheVariants.{Get, Ins, Del, Put, Mov}
-use Rattle.structure_laws.specs.map_history.specs.Keys.{key_of, other_key_of, IsOneKeyed}
+use Rattle.structure_laws.specs.map_history.specs.Keys.{other_key_of, IsOneKeyed}
 use Rattle.bucket_laws.specs.bucket_bodies.specs.section_body.specs.Bucket.{operand}
 use Rattle.structure_laws.specs.body_terms.specs.declared.thunk.Thunk.{Thunk}
 use Rattle.structure_laws.proofs.Changes.{equal_of, both_true}
 use Rattle.bucket_laws.proofs.Fit.{same_list}
 use Rattle.node_laws.proofs.Forms.{no_other, Numbers, numbers_by}
 use Rattle.node_laws.proofs.Forms as forms
-use Rattle.list_bodies.specs.List.{lock_of, node_in, Form, Look, Insert, Remove, Replace, Empty, form_of}
+use Rattle.list_bodies.specs.List.{lock_of, node_in, Look, Insert, Remove, Replace, form_of}
 use Rattle.list_bodies.specs.List.{slot_in, fits_look, fits_insert, fits_remove, fits_replace}
 use Rattle.list_laws.specs.Walk.{Stage, AtLink, AtKey, AtValue, AtLock, AtMark, AtNodeLock, AtNodeMark, AtEnd, Refused}
 use Rattle.list_laws.specs.Walk.{Walk, node_of, is_end, takes_out, form_for, reply_for}

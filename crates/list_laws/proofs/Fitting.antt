@@ -1,8 +1,7 @@
 -- A thunk that fits a walk of the list goes on to fit, and a body without a Store answers what leaves the map as it was.
-use Rattle.std.proofs.Common.{◌≡◌, ℕ, Bool, true, false, cond, refl, sym, ap, ◌∙◌, subst, arith}
-use Rattle.std.specs.Prelude.{[], ◌∷◌, ◌++◌, slice_get, slice_index, Some}
+use Rattle.std.proofs.Common.{◌≡◌, ℕ, true, refl, sym, ap, ◌∙◌, subst, arith}
+use Rattle.std.specs.Prelude.{◌++◌, slice_get, slice_index, Some}
 use Rattle.structure_laws.specs.map_history.specs.declared.op.Op.{Op}
-use Rattle.structure_laws.specs.map_history.specs.declared.op.Op.TheVariants.{Get, Ins, Del, Put, Mov}
 use Rattle.structure_laws.specs.body_terms.specs.declared.value.Value.{Value}
 use Rattle.structure_laws.specs.body_terms.specs.declared.value.Value.TheVariants.{Const, Made}
 use Rattle.structure_laws.specs.body_terms.specs.declared.step.Step.TheVariants.{Store, Answer}
@@ -10,12 +9,11 @@ use Rattle.structure_laws.specs.body_terms.specs.declared.thunk.Thunk.{Thunk}
 use Rattle.structure_laws.specs.table_words.specs.declared.layout.Layout.{Layout}
 use Rattle.structure_laws.specs.Scene.{Readings}
 use Rattle.structure_laws.specs.Fitting.{Leaves, Fitting}
-use Rattle.bucket_laws.specs.Walk.{Bounds, is_wanted}
 use Rattle.node_laws.proofs.Forms.{look_leaves}
 use Rattle.node_laws.proofs.Walked.{walk_on}
 use Rattle.list_bodies.specs.List.{Form, Look, Insert, Remove, Replace, Empty, form_of, body_of}
-use Rattle.list_laws.specs.Walk.{AtEnd, Walk, start, wanted_at, fed, walk, form_for, reply_for, fits_walk}
-use Rattle.list_laws.specs.Nodes.{bounds, walk_of, list}
+use Rattle.list_laws.specs.Walk.{Walk, start, wanted_at, fits_walk}
+use Rattle.list_laws.specs.Nodes.{walk_of, list}
 use Rattle.list_laws.proofs.Fit.{IsFit, fit_of, look_numbers, numbers_of}
 use Rattle.list_laws.proofs.Forms.{look_answer}
 

@@ -1,10 +1,8 @@
 -- A thunk that fits an entered runner's readings has a body of the shape of a body, whose places the readings give.
-use Rattle.std.proofs.Common.{◌≡◌, ◌≢◌, ℕ, zero, suc, ◌+◌, ◌*◌, ◌<◌, ◌≤◌, true, false, refl, sym, ap, ◌∙◌, subst, inl, inr, ⊎_elim, arith}
-use Rattle.std.specs.Prelude.{◌&&◌, not, ◌%◌, ◌^◌, Some, List, [], ◌∷◌, slice_get, slice_index, length}
-use Rattle.std.proofs.lemmas.Bool.{both_ways, cases_eq}
+use Rattle.std.proofs.Common.{◌≡◌, ◌≢◌, ℕ, ◌+◌, ◌*◌, ◌<◌, ◌≤◌, true, false, refl, sym, ap, ◌∙◌, subst, inl, inr, ⊎_elim, arith}
+use Rattle.std.specs.Prelude.{◌&&◌, not, ◌^◌, Some, List, slice_get, slice_index, length}
+use Rattle.std.proofs.lemmas.Bool.{cases_eq}
 use Rattle.structure_laws.specs.table_words.specs.small_lemmas.proofs.Bools.{negated}
-use Rattle.structure_laws.specs.table_words.specs.small_lemmas.proofs.Lists.{some_same}
-use Rattle.structure_laws.specs.table_words.specs.small_lemmas.proofs.Numbers.{equal_tested, other_tested}
 use Rattle.structure_laws.specs.map_history.specs.declared.op.Op.{Op}
 use Rattle.structure_laws.specs.map_history.specs.Keys.{key_of}
 use Rattle.structure_laws.specs.body_terms.specs.Word.{value_of, is_free, is_spent}
@@ -29,7 +27,7 @@ use Rattle.structure_laws.proofs.Costs.{shaped_cost}
 use Rattle.bucket_laws.proofs.TableGives.{reached}
 use Rattle.node_laws.proofs.Cells.{cell_unlocked, lock_locked, five_small, five_unlocked}
 use Rattle.node_laws.proofs.Forms.{put_puts, reply_some}
-use Rattle.list_bodies.specs.List.{lock_of, node_in, node_with, Form, Look, Insert, Remove, Replace}
+use Rattle.list_bodies.specs.List.{lock_of, node_in, Form, Look, Insert, Remove, Replace}
 use Rattle.list_bodies.specs.List.{form_of, body_of, list_steps}
 use Rattle.list_laws.specs.Walk.{Walk, node_of, is_past, takes_out, form_for, operands_for}
 use Rattle.list_laws.specs.Nodes.{is_lock_place, is_link_place, nodes, bounds, walk_of, IsWalk, ListKept, list}

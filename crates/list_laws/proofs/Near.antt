@@ -1,6 +1,6 @@
 -- A walk of the list that reads what stands loads few links, and reads marks of linked nodes alone.
 use Rattle.std.specs.Prelude.{◌==◌, ◌&&◌, not, ◌-◌, ◌%◌, nat_le, nat_lt, cond, Bool, true, false, take, slice_get}
-use Rattle.std.proofs.Common.{◌≡◌, ◌≢◌, ℕ, suc, ◌+◌, ◌*◌, ◌<◌, ◌≤◌, [], ◌∷◌, refl, sym, ap, ◌∙◌, subst, arith, Some}
+use Rattle.std.proofs.Common.{◌≡◌, ◌≢◌, ℕ, suc, ◌+◌, ◌*◌, ◌<◌, ◌≤◌, refl, sym, ap, ◌∙◌, subst, arith, Some}
 use Rattle.std.proofs.lemmas.Bool.Decides.{nat_tests}
 use Rattle.std.proofs.lemmas.Option.{none-some}
 use Rattle.structure_laws.specs.table_words.specs.small_lemmas.proofs.Lists.{same_number}
@@ -17,8 +17,7 @@ use Rattle.structure_laws.specs.Ranks.{lower}
 use Rattle.structure_laws.proofs.Changes.{equal_of}
 use Rattle.structure_laws.proofs.Front.{front_stands}
 use Rattle.structure_laws.proofs.Lower.{lower_few, lower_falls}
-use Rattle.bucket_laws.specs.Walk.{Bounds, is_del, is_wanted}
-use Rattle.bucket_laws.proofs.Walks.{wanted_eq}
+use Rattle.bucket_laws.specs.Walk.{Bounds, is_del}
 use Rattle.node_laws.proofs.Walked.{walk_keeps}
 use Rattle.list_bodies.specs.List.{next_of, mark_of, slot_in}
 use Rattle.list_laws.specs.Line.{Nodes, rank}

@@ -1,9 +1,7 @@
 -- What a body wants was read, and only operations that add a pair, or put one in the place of another, make nodes.
-use Rattle.std.proofs.Common.{◌≡◌, ℕ, suc, ◌+◌, ◌*◌, true, inl, inr, refl, sym, ap, ◌∙◌, subst, arith}
-use Rattle.std.specs.Prelude.{◌&&◌, ◌^◌, None, Some, List, slice_get, slice_index}
+use Rattle.std.proofs.Common.{◌≡◌, ℕ, suc, ◌+◌, true, inl, inr, refl, sym, ap, ◌∙◌, subst, arith}
+use Rattle.std.specs.Prelude.{◌&&◌, Some, List, slice_get, slice_index}
 use Rattle.structure_laws.specs.map_history.specs.declared.op.Op.{Op}
-use Rattle.structure_laws.specs.map_history.specs.declared.op.Op.TheVariants.{Get, Ins, Del, Put, Mov}
-use Rattle.structure_laws.specs.map_history.specs.AtKey.{Gets, change_at}
 use Rattle.bucket_laws.specs.bucket_bodies.specs.section_body.specs.Bucket.{operand}
 use Rattle.structure_laws.specs.body_terms.specs.declared.value.Init.{Init}
 use Rattle.structure_laws.specs.body_terms.specs.declared.step.Step.TheVariants.{Load, Want, Make, Answer}
@@ -11,7 +9,6 @@ use Rattle.structure_laws.specs.body_terms.specs.declared.thunk.Thunk.{Thunk}
 use Rattle.structure_laws.specs.Scene.{Readings}
 use Rattle.structure_laws.specs.Planner.{Adds}
 use Rattle.bucket_laws.specs.Walk.{Bounds}
-use Rattle.bucket_laws.proofs.Fit.{keeps_gets}
 use Rattle.node_laws.proofs.Forms.{new_adds}
 use Rattle.list_bodies.specs.List.{lock_of, next_of, mark_of, Form, Look, Insert, Remove, Replace, Empty}
 use Rattle.list_bodies.specs.List.{form_of, body_of, list_steps}

@@ -1,6 +1,6 @@
 -- The list keeps what it keeps, by one more reading of an entered runner.
-use Rattle.std.specs.Prelude.{◌⊎◌, nat_lt, cond, Bool, true, false, List, Some, [], ◌∷◌, ◌++◌, length, slice_get}
-use Rattle.std.proofs.Common.{◌≡◌, ◌≢◌, ℕ, zero, suc, ◌+◌, ◌*◌, ◌<◌, ◌≤◌, refl, sym, ap, ◌∙◌, subst, inl, inr, ⊎_elim, arith}
+use Rattle.std.specs.Prelude.{nat_lt, Bool, true, false, Some, [], ◌∷◌, ◌++◌, length, slice_get}
+use Rattle.std.proofs.Common.{◌≡◌, ◌≢◌, ℕ, suc, ◌+◌, ◌*◌, ◌<◌, ◌≤◌, refl, sym, ap, ◌∙◌, subst, inl, ⊎_elim, arith}
 use Rattle.std.proofs.lemmas.Option.{none-some}
 use Rattle.structure_laws.specs.table_words.specs.small_lemmas.proofs.Lists.{same_number, get_last}
 use Rattle.structure_laws.specs.table_words.specs.small_lemmas.proofs.Numbers.{tested_less}
@@ -13,14 +13,12 @@ use Rattle.structure_laws.specs.Cells.{IsSafe, IsOutside, IsLoadable}
 use Rattle.structure_laws.specs.Sound.{IsRead, Sound}
 use Rattle.structure_laws.specs.Keeps.{Onward}
 use Rattle.structure_laws.proofs.Changes.{upd_same}
-use Rattle.bucket_laws.specs.Walk.{Bounds, is_wanted}
 use Rattle.bucket_laws.proofs.TableGives.{reached}
-use Rattle.bucket_laws.proofs.Walks.{bool_cases, wanted_eq}
 use Rattle.node_laws.proofs.Walked.{walk_push, by_place}
 use Rattle.list_bodies.specs.List.{key_cell, next_of, value_cell, mark_of, slot_in}
 use Rattle.list_laws.specs.Line.{Nodes, last_key}
 use Rattle.list_laws.specs.Walk.{Stage, AtLink, AtKey, AtValue, AtLock, AtMark, AtNodeLock, AtNodeMark, AtEnd, Refused}
-use Rattle.list_laws.specs.Walk.{Walk, start, node_of, is_past, wanted_at, at_key, fed, walk}
+use Rattle.list_laws.specs.Walk.{Walk, start, node_of, is_past, wanted_at, at_key, fed}
 use Rattle.list_laws.specs.Nodes.{is_link_place, nodes, bounds, walk_of, IsAsRead, IsWalk, ListKept, list}
 use Rattle.list_laws.proofs.Frame.{safe_used, outside_used, IsKeptReader}
 use Rattle.list_laws.proofs.Line.{no_ring}

@@ -1,17 +1,13 @@
 -- With nothing open, each pair of the map keeps one slot in use, at most.
-use Rattle.std.specs.Prelude.{◌-◌, ◌*◌, true, cond, List, [], ◌∷◌, length, None, Some, is_some, slice_get}
-use Rattle.std.specs.Ordering.{nat_cmp}
-use Rattle.std.specs.FinMap.{get, remove, len, empty_of_len, get-empty, len-remove}
-use Rattle.std.proofs.Common.{◌≡◌, ◌≢◌, ℕ, suc, ◌≤◌, refl, sym, ap, ◌∙◌, subst, ⊎_elim, arith}
-use Rattle.std.proofs.lemmas.Cmp.{nat_cmp_total}
+use Rattle.std.specs.Prelude.{◌*◌, true, List, length, Some, slice_get}
+use Rattle.std.specs.FinMap.{len}
+use Rattle.std.proofs.Common.{◌≡◌, ◌≢◌, ℕ, ◌≤◌, sym, ◌∙◌, subst, ⊎_elim, arith}
 use Rattle.std.proofs.lemmas.Option.{none-some}
-use Rattle.structure_laws.specs.table_words.specs.small_lemmas.proofs.Numbers.{suc_equal, zero_not_suc}
 use Rattle.structure_laws.specs.map_history.specs.Replay.{Pairs}
 use Rattle.structure_laws.specs.table_words.specs.declared.layout.Layout.{Layout}
 use Rattle.structure_laws.specs.Scene.{Scene}
 use Rattle.structure_laws.specs.InTurn.{StandsFor}
 use Rattle.structure_laws.specs.Planner.{IsQuiet, AreInUse}
-use Rattle.structure_laws.proofs.Changes.{upd_other}
 use Rattle.bucket_laws.proofs.Planner.{few_slots}
 use Rattle.list_laws.specs.Line.{Nodes}
 use Rattle.list_laws.specs.Nodes.{nodes, list}

@@ -1,13 +1,10 @@
 -- A section of the list at its stamp, with nothing pending, does what the map does.
-use Rattle.std.specs.Prelude.{◌*◌, ◌^◌, is_some, Bool, true, false, Some, None, if◌then◌else◌}
-use Rattle.std.proofs.Common.{◌≡◌, ◌≢◌, ℕ, suc, ◌≤◌, refl, sym, ap, ◌∙◌, ⊎_elim, arith}
-use Rattle.std.specs.FinMap.{get, contains_key}
+use Rattle.std.specs.Prelude.{◌*◌, true, false, Some, None}
+use Rattle.std.proofs.Common.{◌≡◌, ◌≢◌, ℕ, suc, ◌≤◌, sym, ap, ◌∙◌, ⊎_elim, arith}
+use Rattle.std.specs.FinMap.{get}
 use Rattle.structure_laws.specs.table_words.specs.small_lemmas.proofs.Lists.{none_if_never}
-use Rattle.structure_laws.specs.map_history.specs.declared.op.Op.{Op}
-use Rattle.structure_laws.specs.map_history.specs.declared.op.Op.TheVariants.{Get, Ins, Del, Put, Mov}
-use Rattle.structure_laws.specs.map_history.specs.declared.reply.Reply.TheVariants.{New, Dup, Gone, Absent}
 use Rattle.structure_laws.specs.map_history.specs.Keys.{key_of}
-use Rattle.structure_laws.specs.map_history.specs.Replay.{Pairs, found, replaced, reply_of}
+use Rattle.structure_laws.specs.map_history.specs.Replay.{Pairs, reply_of}
 use Rattle.structure_laws.specs.map_history.specs.Words.{word_of}
 use Rattle.structure_laws.specs.body_terms.specs.declared.step.Step.TheVariants.{Stamp, Answer}
 use Rattle.structure_laws.specs.table_words.specs.declared.layout.Layout.{Layout}
@@ -16,12 +13,11 @@ use Rattle.structure_laws.specs.Scene.{Section, Scene}
 use Rattle.structure_laws.specs.Sections.{IsStep}
 use Rattle.structure_laws.specs.InTurn.{StandsFor, AtStamp}
 use Rattle.bucket_laws.specs.Walk.{is_del}
-use Rattle.bucket_laws.proofs.Fit.{PutsIn, keeps_gets}
 use Rattle.bucket_laws.proofs.Maps.{remove_reply, set_reply}
 use Rattle.node_laws.proofs.Forms.{reply_is, new_reply}
 use Rattle.list_bodies.specs.List.{Look, Insert, Remove, Replace, form_of}
 use Rattle.list_laws.specs.Line.{Nodes, Contents}
-use Rattle.list_laws.specs.Walk.{Walk, node_of, is_past, form_for, reply_for}
+use Rattle.list_laws.specs.Walk.{Walk, node_of, is_past}
 use Rattle.list_laws.specs.Nodes.{nodes, walk_of, ListKept, list}
 use Rattle.list_laws.specs.Landing.{HasLanded}
 use Rattle.list_laws.proofs.Fit.{look_numbers}

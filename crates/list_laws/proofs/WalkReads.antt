@@ -1,9 +1,9 @@
 -- What a walk of the list takes from its readings alone.
-use Rattle.std.proofs.Common.{◌≡◌, ℕ, zero, suc, ◌+◌, ◌*◌, ◌<◌, ◌≤◌, Bool, true, false, cond, refl, sym, subst, inl, inr, arith}
-use Rattle.std.specs.Prelude.{◌==◌, ◌&&◌, not, ◌%◌, ◌^◌, ◌⊎◌, nat_le, nat_lt, Some, [], ◌∷◌, slice_get}
+use Rattle.std.proofs.Common.{◌≡◌, ℕ, suc, ◌+◌, ◌*◌, ◌<◌, ◌≤◌, Bool, true, false, cond, refl, sym, subst, inl, inr, arith}
+use Rattle.std.specs.Prelude.{◌==◌, ◌&&◌, not, ◌%◌, ◌^◌, ◌⊎◌, nat_le, nat_lt, Some, slice_get}
 use Rattle.std.specs.List.{list_any}
 use Rattle.std.proofs.lemmas.Option.{none-some}
-use Rattle.structure_laws.specs.table_words.specs.small_lemmas.proofs.Bools.{or_first, or_second, both_hold, true_not_false}
+use Rattle.structure_laws.specs.table_words.specs.small_lemmas.proofs.Bools.{both_hold, true_not_false}
 use Rattle.structure_laws.specs.table_words.specs.small_lemmas.proofs.Lists.{same_number}
 use Rattle.structure_laws.specs.table_words.specs.small_lemmas.proofs.Numbers.{equal_tested, tested_some, tested_not_less}
 use Rattle.structure_laws.specs.map_history.specs.declared.op.Op.{Op}
@@ -11,8 +11,7 @@ use Rattle.structure_laws.specs.map_history.specs.Keys.{key_of}
 use Rattle.structure_laws.specs.body_terms.specs.Word.{value_of}
 use Rattle.structure_laws.specs.Scene.{Readings}
 use Rattle.structure_laws.proofs.Changes.{equal_of, value_small}
-use Rattle.bucket_laws.specs.Walk.{Bounds, is_del, is_wanted}
-use Rattle.bucket_laws.proofs.Walks.{wanted_eq}
+use Rattle.bucket_laws.specs.Walk.{Bounds, is_del}
 use Rattle.shared_laws.proofs.Numbers.{any_of}
 use Rattle.node_laws.proofs.Walked.{walk_keeps}
 use Rattle.list_bodies.specs.List.{lock_of, key_cell, next_of, value_cell, mark_of, slot_in}

@@ -1,7 +1,7 @@
 -- What a thunk has for numbers, by its form, where its operands are those for a walk, and what it answers.
-use Rattle.std.proofs.Common.{◌≡◌, ℕ, suc, ◌+◌, ◌*◌, ◌<◌, Bool, true, false, cond, refl, sym, ap, ◌∙◌, inl, inr, arith}
+use Rattle.std.proofs.Common.{◌≡◌, ℕ, ◌+◌, ◌*◌, ◌<◌, Bool, true, false, cond, refl, sym, ap, ◌∙◌, inl, inr, arith}
 use Rattle.std.proofs.lemmas.Option.{none-some}
-use Rattle.std.specs.Prelude.{◌==◌, ◌&&◌, ◌^◌, ◌⊎◌, is_none, is_some, if◌then◌else◌, List, Option, None, Some}
+use Rattle.std.specs.Prelude.{◌==◌, ◌&&◌, ◌^◌, ◌⊎◌, is_none, is_some, if◌then◌else◌, List, [], ◌∷◌, length, not, Option, None, Some}
 use Rattle.std.specs.FinMap.{get, contains_key}
 use Rattle.structure_laws.specs.map_history.specs.declared.op.Op.{Op}
 use Rattle.structure_laws.specs.map_history.specs.declared.op.Op.TheVariants.{Get, Ins, Del, Put, Mov}
@@ -13,7 +13,7 @@ use Rattle.structure_laws.specs.map_history.specs.Words.{word_of}
 use Rattle.structure_laws.specs.Fitting.{Leaves}
 use Rattle.structure_laws.specs.Planner.{Adds}
 use Rattle.structure_laws.proofs.Changes.{equal_of}
-use Rattle.bucket_laws.specs.Walk.{is_del}
+use Rattle.bucket_laws.specs.Walk.{is_del, same_numbers}
 use Rattle.bucket_laws.proofs.Fit.{PutsIn, keeps_gets}
 use Rattle.shared_laws.proofs.Numbers.{eq_true, eq_false}
 use Rattle.body_steps.specs.Forms.{Form, Look, Insert, Remove, Replace, Empty, form_by}
@@ -25,6 +25,17 @@ no_other (Some key) h = absurd (cc)
 
 pub put_puts : (op : Op) (key value : ℕ) → op ≡ Put key value → PutsIn op key value
 put_puts op key value e = (ap key_of e, ap (change_at None) e)
+
+-- numbers are the same as themselves
+pub same_self : (xs : List ℕ) → same_numbers xs xs ≡ true
+same_self [] = refl
+same_self (x ∷ xs) = (λ i. eq_true x x refl i && same_self xs i)
+
+-- a lock that is ready is free and not spent
+pub free_of : (free spent : Bool) → (free && not spent) ≡ true → (free ≡ true) × (spent ≡ false)
+free_of true true h = absurd (cc)
+free_of true false h = (refl, refl)
+free_of false spent h = absurd (cc)
 
 -- an operation with one key changes nothing, puts a node in, takes one out, or puts one in the place of another
 pub cases : (first : ℕ) (op : Op) (found : Bool) → IsOneKeyed op → (form_from first op found ≡ first) ⊎ (form_from first op found ≡ first + 1)
@@ -237,3 +248,16 @@ module _ (look : ℕ → List ℕ) (insert : ℕ → ℕ → List ℕ) (remove :
   replaces (Put key value) true h = record { key = key; value = value; put = refl; hit = refl; numbers = refl }
   replaces (Put key value) false h = absurd (omega (arith, h))
   replaces (Mov from to) found h = absurd (omega (arith, h))
+
+  -- where those of each form are eight, all are
+  pub eight : ((reply : ℕ) → length (look reply) ≡ 8) → ((key value : ℕ) → length (insert key value) ≡ 8) → length remove ≡ 8
+      → ((key value reply : ℕ) → length (replace key value reply) ≡ 8) → (op : Op) (found : Bool)
+      → length (operands_from look insert remove replace op old found) ≡ 8
+  eight a b c d (Get key) found = a (reply_from (Get key) old found)
+  eight a b c d (Ins key value) true = a (reply_from (Ins key value) old true)
+  eight a b c d (Ins key value) false = b key value
+  eight a b c d (Del key) true = c
+  eight a b c d (Del key) false = a (reply_from (Del key) old false)
+  eight a b c d (Put key value) true = d key value (reply_from (Put key value) old true)
+  eight a b c d (Put key value) false = b key value
+  eight a b c d (Mov from to) found = a (reply_from (Mov from to) old found)

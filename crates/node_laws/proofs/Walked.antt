@@ -1,10 +1,10 @@
 -- What a walk does with more readings, and what it keeps.
-use Rattle.std.proofs.Common.{◌≡◌, ℕ, suc, Bool, true, false, cond, refl, sym, ap, ◌∙◌, inl, inr, ⊎_elim}
-use Rattle.std.specs.Prelude.{◌⊎◌, Option, Some, None, [], ◌∷◌, ◌++◌, slice_get}
+use Rattle.std.proofs.Common.{◌≡◌, ℕ, suc, ◌<◌, ◌≤◌, Bool, true, false, cond, refl, sym, ap, subst, ◌∙◌, inl, inr, ⊎_elim, arith}
+use Rattle.std.specs.Prelude.{◌⊎◌, Option, Some, None, [], ◌∷◌, ◌++◌, length, take, slice_get}
 use Rattle.structure_laws.specs.Scene.{Cells, Readings}
 use Rattle.bucket_laws.specs.Walk.{is_wanted}
 use Rattle.bucket_laws.proofs.Walks.{wanted_eq}
-use Rattle.shared_laws.proofs.Numbers.{bool_cases, get_more}
+use Rattle.shared_laws.proofs.Numbers.{bool_cases, eq_true, get_more}
 use Rattle.node_laws.specs.Walked.{walked}
 
 module _ (W : Type 0) (wanted : W → Option ℕ) (fed : W → ℕ → W) where
@@ -56,6 +56,22 @@ module _ (W : Type 0) (wanted : W → Option ℕ) (fed : W → ℕ → W) where
           → P (cond c (goes (fed w reading.1) readings) w)
       go true e again = again (step w reading (wanted_eq (wanted w) reading.0 e) (each 0 reading refl) at)
       go false e again = at
+
+  -- readings each of which the walk wants are no more than it had left
+  goes_on : (w : W) (place word : ℕ) (readings : Readings) → wanted w ≡ Some place → goes w ((place, word) ∷ readings) ≡ goes (fed w word) readings
+  unfolding walked
+  goes_on w place word readings wants = ap (λ c. cond c (goes (fed w word) readings) w) (ap (λ o. is_wanted o place) wants ∙ eq_true place place refl)
+
+  pub few_left : (left : W → ℕ) → ((w : W) (place word : ℕ) → wanted w ≡ Some place → left (fed w word) < left w) → (w : W) (readings : Readings)
+      → ((i place word : ℕ) → slice_get readings i ≡ Some (place, word) → wanted (goes w (take i readings)) ≡ Some place) → length readings ≤ left w
+  unfolding walked
+  few_left left nearer w [] walks = omega arith
+  few_left left nearer w (reading ∷ readings) walks =
+      let wants = walks 0 reading.0 reading.1 refl in
+      let others = few_left left nearer (fed w reading.1) readings
+      (λ i place word here. subst (λ v. wanted v ≡ Some place) (goes_on w reading.0 reading.1 (take i readings) wants) (walks (suc i) place word here)) in
+      let near = nearer w reading.0 reading.1 wants in
+      omega (arith, others, near)
 
 -- with one more reading, of what stands in its cell: each is one of the old ones, or is of this place
 pub by_place : {A : Type 0} (cells : Cells) (readings : Readings) (p i q v : ℕ) → slice_get (readings ++ (p, cells p) ∷ []) i ≡ Some (q, v)
