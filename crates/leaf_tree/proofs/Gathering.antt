@@ -181,9 +181,11 @@ module _ (slots : ℕ) (cells : Cells) (pairs : Pairs) (stands : TreeStands slot
           by (Some v) e = absurd (other (only_key s q v is_linked leaf from before e))
 
       -- what was gathered are also the pairs below each key of the leaf's place up to its own
-      up_to : (to : ℕ) → c.lo s ≤ to → to ≤ c.hi s → ((q : ℕ) → q < to → (3 ≤ s) × (n.key s ≡ q) → ⊥) → HasPairs pairs to items
+      up_to : (to : ℕ) → c.lo s ≤ to → to ≤ c.hi s → ((q : ℕ) → q < to → (3 ≤ s) × (n.key s ≡ q) → ⊥)
+          → HasPairs pairs to items
       up_to to low high other = none_more pairs so.start to items so.has (let e = parts.2 in omega (arith, e, low))
-          (λ q from before. others_absent q (let e = parts.2 in omega (arith, e, from)) (omega (arith, before, high)) (other q before))
+          (λ q from before. others_absent q (let e = parts.2 in omega (arith, e, from)) (omega (arith, before, high))
+          (other q before))
 
       -- a leaf of a key
       pub gathers_leaf : 3 ≤ s → Gathers (made + 1) waiting (items ++ (n.key s, n.child false s) ∷ [])
@@ -193,7 +195,8 @@ module _ (slots : ℕ) (cells : Cells) (pairs : Pairs) (stands : TreeStands slot
         has = let r = range in pair_more pairs (n.key s) (c.hi s) items
             (up_to (n.key s) r.0 (omega (arith, r.1)) (λ q before same. let e = same.1 in omega (arith, e, before)))
             (n.child false s) (stands.contents.pair s is_linked leaf real) r.1
-            (λ q from before. others_absent q (omega (arith, r.0, from)) before (λ same. let e = same.1 in omega (arith, e, from)));
+            (λ q from before. others_absent q (omega (arith, r.0, from)) before
+            (λ same. let e = same.1 in omega (arith, e, from)));
         many = many_behind;
       }
 

@@ -41,7 +41,8 @@ module _ (t : Thunk) where
           ap (λ b. cond ((b || false) || false) (Some (StoredTwice 14)) None) (own (node_in t)),
         ),
         λ i. cond ((other_tested (mark_of (node_in t)) (t.lock + 2) mark_apart i
-            || (other_tested (next_of (node_in t)) (t.lock + 2) next_apart i || false)) || false) (Some (StoredTwice 15)) None,
+            || (other_tested (next_of (node_in t)) (t.lock + 2) next_apart i || false)) || false)
+            (Some (StoredTwice 15)) None,
       ),
       refl,
     ),

@@ -81,7 +81,8 @@ cases = forms.cases 31
 
 pub look_numbers : (op : Op) (w : Walk) (found : Bool) → form_for op found ≡ 31
     → operands_for op w found ≡ look_operands w (reply_for op w found)
-look_numbers op w = forms.look_numbers (look_operands w) (insert_operands w) (remove_operands w) (replace_operands w) w.value 31 op
+look_numbers op w = forms.look_numbers (look_operands w) (insert_operands w) (remove_operands w)
+    (replace_operands w) w.value 31 op
 
 pub is_look : (t : Thunk) → t.form ≡ 31 → fits_look t ≡ true → form_of t ≡ Look
 is_look t = forms.is_look 31 t.form (fits_look t) (fits_insert t) (fits_remove t) (fits_replace t)
@@ -99,22 +100,28 @@ pub numbers_of : (t : Thunk) → Numbers 31 (form_of t) t.form
 numbers_of t = numbers_by 31 t.form (fits_look t) (fits_insert t) (fits_remove t) (fits_replace t)
 
 abbrev pub Inserts : Op → Walk → Bool → Type 0
-Inserts op w found = forms.Inserts (look_operands w) (insert_operands w) (remove_operands w) (replace_operands w) w.value 31 op found
+Inserts op w found = forms.Inserts (look_operands w) (insert_operands w) (remove_operands w)
+    (replace_operands w) w.value 31 op found
 
 pub inserts : (op : Op) (w : Walk) (found : Bool) → form_for op found ≡ 32 → Inserts op w found
-inserts op w = forms.inserts (look_operands w) (insert_operands w) (remove_operands w) (replace_operands w) w.value 31 op
+inserts op w = forms.inserts (look_operands w) (insert_operands w) (remove_operands w)
+    (replace_operands w) w.value 31 op
 
 abbrev pub Removes : Op → Walk → Bool → Type 0
-Removes op w found = forms.Removes (look_operands w) (insert_operands w) (remove_operands w) (replace_operands w) w.value 31 op found
+Removes op w found = forms.Removes (look_operands w) (insert_operands w) (remove_operands w)
+    (replace_operands w) w.value 31 op found
 
 pub removes : (op : Op) (w : Walk) (found : Bool) → form_for op found ≡ 33 → Removes op w found
-removes op w = forms.removes (look_operands w) (insert_operands w) (remove_operands w) (replace_operands w) w.value 31 op
+removes op w = forms.removes (look_operands w) (insert_operands w) (remove_operands w)
+    (replace_operands w) w.value 31 op
 
 abbrev pub Replaces : Op → Walk → Bool → Type 0
-Replaces op w found = forms.Replaces (look_operands w) (insert_operands w) (remove_operands w) (replace_operands w) w.value 31 op found
+Replaces op w found = forms.Replaces (look_operands w) (insert_operands w) (remove_operands w)
+    (replace_operands w) w.value 31 op found
 
 pub replaces : (op : Op) (w : Walk) (found : Bool) → form_for op found ≡ 34 → Replaces op w found
-replaces op w = forms.replaces (look_operands w) (insert_operands w) (remove_operands w) (replace_operands w) w.value 31 op
+replaces op w = forms.replaces (look_operands w) (insert_operands w) (remove_operands w)
+    (replace_operands w) w.value 31 op
 
 -- a form that takes a node out is for an operation that found it
 pub takes_both : (op : Op) (found : Bool) → ((form_for op found ≡ 33) ⊎ (form_for op found ≡ 34)) → (found ≡ true)

@@ -350,9 +350,11 @@ module _ (layout : Layout) (limits : IsWithinLimits layout) (s : Scene) (sound :
             (replace_store thunk j r n (at j _ h'));
         store_small = λ j r v h. small j r v (replace_store thunk j r v (at j _ h));
         make_whole = λ j r init h. ap (λ (init : Init). length init.cells) (replace_make thunk j r init (at j _ h)).2;
-        make_small = λ j r i init v h cell. five_small (Const (operand thunk 5)) (Of 2) (Const (operand thunk 6)) key tt value i v
+        make_small = λ j r i init v h cell. five_small (Const (operand thunk 5)) (Of 2)
+            (Const (operand thunk 6)) key tt value i v
             (subst (λ (init : Init). slice_get init.cells i ≡ Some v) (replace_make thunk j r init (at j _ h)).2 cell);
-        make_unlocked = λ j r i t init v h cell. five_unlocked (Const (operand thunk 5)) (Of 2) (Const (operand thunk 6)) i t v
+        make_unlocked = λ j r i t init v h cell. five_unlocked (Const (operand thunk 5)) (Of 2)
+            (Const (operand thunk 6)) i t v
             (subst (λ (init : Init). slice_get init.cells i ≡ Some v) (replace_make thunk j r init (at j _ h)).2 cell);
         answers = λ j n h. let is = replace_answer thunk j n (at j _ h) ∙ number_at 7 of.numbers in
             positive n w.value is;

@@ -152,7 +152,8 @@ module _ (slots : ℕ) (cells : Cells) (pairs : Pairs) (stands : ListStands slot
 
   pub read_stands : (readings : Readings) → StandIn list cells readings
       → Stands (walk b op start readings) (walk b op start readings).stage
-  read_stands readings read = walk_keeps _ _ _ (λ w. Stands w w.stage) (λ reading. is_lock_place reading.0 ≡ false → cells reading.0 ≡ reading.1)
+  read_stands readings read = walk_keeps _ _ _ (λ w. Stands w w.stage)
+      (λ reading. is_lock_place reading.0 ≡ false → cells reading.0 ≡ reading.1)
       (λ w reading want here at. fed_stands w w.stage reading.0 reading.1 at want here) start readings
       (λ i reading h. read i reading.0 reading.1 h)
       (stands.line.head, none_yet (below 0) (lower_few stands.linked ahead slots stands.within 0 stands.line.head))

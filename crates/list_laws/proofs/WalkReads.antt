@@ -333,7 +333,8 @@ module _ (all : Readings) where
 
     pub walk_reads : Reads (walk b op start all)
     walk_reads = walk_keeps _ _ _ Reads (λ reading. (i : ℕ) × (slice_get all i ≡ Some reading))
-        (λ w reading want here reads. reads_fed w w.stage reading.0 reading.1 reads refl want (here.0, here.1)) start all
+        (λ w reading want here reads. reads_fed w w.stage reading.0 reading.1 reads refl want
+        (here.0, here.1)) start all
         (λ i reading h. (i, h)) (bare start (inl (omega arith)) (omega arith))
 
     -- a whole walk has read all

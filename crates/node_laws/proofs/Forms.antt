@@ -38,7 +38,8 @@ free_of true false h = (refl, refl)
 free_of false spent h = absurd (cc)
 
 -- an operation with one key changes nothing, puts a node in, takes one out, or puts one in the place of another
-pub cases : (first : ℕ) (op : Op) (found : Bool) → IsOneKeyed op → (form_from first op found ≡ first) ⊎ (form_from first op found ≡ first + 1)
+pub cases : (first : ℕ) (op : Op) (found : Bool) → IsOneKeyed op → (form_from first op found ≡ first)
+    ⊎ (form_from first op found ≡ first + 1)
     ⊎ (form_from first op found ≡ first + 2) ⊎ (form_from first op found ≡ first + 3)
 cases first (Get key) found one = inl refl
 cases first (Ins key value) true one = inl refl
@@ -59,7 +60,8 @@ reply_some (Put key value) old found = omega arith
 reply_some (Mov from to) old found = omega arith
 
 -- a body that looks alone answers what leaves the map as it was
-pub look_leaves : (first : ℕ) (op : Op) (old : ℕ) (found : Bool) → 0 < first → form_from first op found ≡ first → Leaves op (reply_from op old found)
+pub look_leaves : (first : ℕ) (op : Op) (old : ℕ) (found : Bool) → 0 < first → form_from first op found ≡ first
+    → Leaves op (reply_from op old found)
 look_leaves first (Get key) old found some form = tt
 look_leaves first (Ins key value) old found some form = refl
 look_leaves first (Del key) old found some form = refl
@@ -86,12 +88,15 @@ module _ (pairs : Pairs) where
   pub reply_is : (first : ℕ) (op : Op) (old : ℕ) (hit : Bool) → 0 < first → form_from first op hit ≡ first
       → (hit ≡ true → (v : ℕ) × (get pairs (key_of op) ≡ Some v) × (is_del op ≡ false → v ≡ old))
       → (hit ≡ false → get pairs (key_of op) ≡ None) → reply_from op old hit ≡ word_of (reply_of pairs op)
-  reply_is first (Get key) old true pos form some none = let is = some refl in ap (λ o. word_of (found o)) (sym (is.1 ∙ ap Some (is.2 refl)))
+  reply_is first (Get key) old true pos form some none = let is = some refl in
+      ap (λ o. word_of (found o)) (sym (is.1 ∙ ap Some (is.2 refl)))
   reply_is first (Get key) old false pos form some none = ap (λ o. word_of (found o)) (sym (none refl))
-  reply_is first (Ins key value) old true pos form some none = let is = some refl in ap (λ b. word_of (if b then Dup else New)) (sym (there key is.0 is.1))
+  reply_is first (Ins key value) old true pos form some none = let is = some refl in
+      ap (λ b. word_of (if b then Dup else New)) (sym (there key is.0 is.1))
   reply_is first (Ins key value) old false pos form some none = absurd (omega (arith, form))
   reply_is first (Del key) old true pos form some none = absurd (omega (arith, form))
-  reply_is first (Del key) old false pos form some none = ap (λ b. word_of (if b then Gone else Absent)) (sym (gone key (none refl)))
+  reply_is first (Del key) old false pos form some none = ap (λ b. word_of (if b then Gone else Absent))
+      (sym (gone key (none refl)))
   reply_is first (Put key value) old true pos form some none = absurd (omega (arith, form))
   reply_is first (Put key value) old false pos form some none = absurd (omega (arith, form))
   reply_is first (Mov from to) old hit pos form some none = absurd (omega (arith, pos, form))
@@ -111,7 +116,8 @@ module _ (first n : ℕ) (look insert remove replace : Bool) where
   form = form_by first n look insert remove replace
 
   pub is_look : n ≡ first → look ≡ true → form ≡ Look
-  is_look e fits = λ i. cond (eq_true n first e i) (cond (fits i) Look Empty) (cond (n == first + 1) (cond insert Insert Empty)
+  is_look e fits = λ i. cond (eq_true n first e i) (cond (fits i) Look Empty)
+      (cond (n == first + 1) (cond insert Insert Empty)
       (cond (n == first + 2) (cond remove Remove Empty) (cond (n == first + 3) (cond replace Replace Empty) Empty)))
 
   pub is_insert : n ≡ first + 1 → insert ≡ true → form ≡ Insert
@@ -122,7 +128,8 @@ module _ (first n : ℕ) (look insert remove replace : Bool) where
   pub is_remove : n ≡ first + 2 → remove ≡ true → form ≡ Remove
   is_remove e fits = λ i. cond (eq_false n first (λ same. omega (arith, e, same)) i) (cond look Look Empty)
       (cond (eq_false n (first + 1) (λ same. omega (arith, e, same)) i) (cond insert Insert Empty)
-      (cond (eq_true n (first + 2) e i) (cond (fits i) Remove Empty) (cond (n == first + 3) (cond replace Replace Empty) Empty)))
+      (cond (eq_true n (first + 2) e i) (cond (fits i) Remove Empty)
+      (cond (n == first + 3) (cond replace Replace Empty) Empty)))
 
   pub is_replace : n ≡ first + 3 → replace ≡ true → form ≡ Replace
   is_replace e fits = λ i. cond (eq_false n first (λ same. omega (arith, e, same)) i) (cond look Look Empty)
@@ -161,7 +168,8 @@ as_none first n = record {
   replace = λ e. absurd (cc);
 }
 
-number_by : (first n : ℕ) (a p b q c r e s : Bool) → (a ≡ true → n ≡ first) → (b ≡ true → n ≡ first + 1) → (c ≡ true → n ≡ first + 2)
+number_by : (first n : ℕ) (a p b q c r e s : Bool) → (a ≡ true → n ≡ first) → (b ≡ true → n ≡ first + 1)
+    → (c ≡ true → n ≡ first + 2)
     → (e ≡ true → n ≡ first + 3) → Numbers first (cond a (cond p Look Empty) (cond b (cond q Insert Empty)
     (cond c (cond r Remove Empty) (cond e (cond s Replace Empty) Empty)))) n
 number_by first n true true b q c r e s is is' is2 is3 = as_look first n (is refl)
@@ -174,17 +182,22 @@ number_by first n false p false q false r true true is is' is2 is3 = as_replace 
 number_by first n false p false q false r true false is is' is2 is3 = as_none first n
 number_by first n false p false q false r false s is is' is2 is3 = as_none first n
 
-pub numbers_by : (first n : ℕ) (look insert remove replace : Bool) → Numbers first (form_by first n look insert remove replace) n
-numbers_by first n look insert remove replace = number_by first n (n == first) look (n == first + 1) insert (n == first + 2) remove
-    (n == first + 3) replace (equal_of n first) (equal_of n (first + 1)) (equal_of n (first + 2)) (equal_of n (first + 3))
+pub numbers_by : (first n : ℕ) (look insert remove replace : Bool)
+    → Numbers first (form_by first n look insert remove replace) n
+numbers_by first n look insert remove replace = number_by first n (n == first) look (n == first + 1) insert
+    (n == first + 2) remove
+    (n == first + 3) replace (equal_of n first) (equal_of n (first + 1)) (equal_of n (first + 2))
+    (equal_of n (first + 3))
 
 -- what the operands are, by the form
-module _ (look : ℕ → List ℕ) (insert : ℕ → ℕ → List ℕ) (remove : List ℕ) (replace : ℕ → ℕ → ℕ → List ℕ) (old first : ℕ) where
+module _ (look : ℕ → List ℕ) (insert : ℕ → ℕ → List ℕ) (remove : List ℕ) (replace : ℕ → ℕ → ℕ → List ℕ)
+    (old first : ℕ) where
   abbrev numbers_are : Op → Bool → List ℕ → Type 0
   numbers_are op found numbers = operands_from look insert remove replace op old found ≡ numbers
 
   -- of one that changes nothing
-  pub look_numbers : (op : Op) (found : Bool) → form_from first op found ≡ first → numbers_are op found (look (reply_from op old found))
+  pub look_numbers : (op : Op) (found : Bool) → form_from first op found ≡ first
+      → numbers_are op found (look (reply_from op old found))
   look_numbers (Get key) found h = refl
   look_numbers (Ins key value) true h = refl
   look_numbers (Ins key value) false h = absurd (omega (arith, h))
@@ -250,7 +263,8 @@ module _ (look : ℕ → List ℕ) (insert : ℕ → ℕ → List ℕ) (remove :
   replaces (Mov from to) found h = absurd (omega (arith, h))
 
   -- where those of each form are eight, all are
-  pub eight : ((reply : ℕ) → length (look reply) ≡ 8) → ((key value : ℕ) → length (insert key value) ≡ 8) → length remove ≡ 8
+  pub eight : ((reply : ℕ) → length (look reply) ≡ 8) → ((key value : ℕ) → length (insert key value) ≡ 8)
+      → length remove ≡ 8
       → ((key value reply : ℕ) → length (replace key value reply) ≡ 8) → (op : Op) (found : Bool)
       → length (operands_from look insert remove replace op old found) ≡ 8
   eight a b c d (Get key) found = a (reply_from (Get key) old found)

@@ -1,4 +1,5 @@
--- The thunk for a whole walk, by the operation and by whether the walk found its key: its form, its reply, its operands.
+-- The thunk for a whole walk, by the operation and by whether the walk found its key: its form, its reply, its
+-- operands.
 use Rattle.std.specs.Prelude.{ℕ, ◌+◌, ◌*◌, ◌^◌, Bool, true, false, List}
 use Rattle.structure_laws.specs.map_history.specs.declared.op.Op.{Op}
 use Rattle.structure_laws.specs.map_history.specs.declared.op.Op.TheVariants.{Get, Ins, Del, Put, Mov}

@@ -281,7 +281,9 @@ module _ (slots request : ℕ) (memory : PlainMemory) (pairs : Pairs) (op : Op) 
         let ends = look_run (plain_setting (look_steps thunk) (true ∷ []) memory) cells memory.clock (slice_index memory.stamps request) (slice_index memory.replies request) thunk
         (link_wanted (number_at 0 look) (number_at 1 look) (number_at 2 look) look_lock) (mark_wanted (number_at 0 look) (number_at 1 look) (number_at 2 look) look_lock) in
         subst Does (sym (ap (λ f. body_of f thunk) (is_look thunk (fit.form ∙ form) fits))) (record {
-          answer = ends.answered ∙ ap (λ m. Some (Answered m)) (number_at 3 look ∙ reply_is pairs 11 op w.value w.found (omega arith) form (λ hit. (n.child false l, found_is hit, λ del. value_is hit del)) missing_is);
+          answer = ends.answered ∙ ap (λ m. Some (Answered m))
+              (number_at 3 look ∙ reply_is pairs 11 op w.value w.found (omega arith) form
+              (λ hit. (n.child false l, found_is hit, λ del. value_is hit del)) missing_is);
           contents = subst (λ f. TreeStands slots f (map_after pairs op)) (sym ends.left) (record {
             covers = c;
             within = stands.within;

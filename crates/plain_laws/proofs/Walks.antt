@@ -157,6 +157,7 @@ module _ (slots : ℕ) (cells : Cells) (pairs : Pairs) (stands : TreeStands slot
 
   -- a walk that is whole has come to the leaf on the key's path
   pub walk_ends : (readings : Readings) → AreRead cells readings → (walk b op start readings).stage ≡ AtEnd → EndedOf (walk b op start readings)
-  walk_ends readings read at = subst (Knows (walk b op start readings)) at (walk_keeps _ _ _ (λ w. Knows w w.stage) (λ reading. cells reading.0 ≡ reading.1)
+  walk_ends readings read at = subst (Knows (walk b op start readings)) at
+      (walk_keeps _ _ _ (λ w. Knows w w.stage) (λ reading. cells reading.0 ≡ reading.1)
       (λ w reading want here known. knows_fed w w.stage reading.0 reading.1 known want here) start readings
       (λ i reading h. read i reading.0 reading.1 h) refl)

@@ -40,7 +40,8 @@ module _ (has : ℕ → Option ℕ) where
     where
       by : find nat_cmp q (listed has (suc key) n) ≡ None → (o : Option ℕ) → find nat_cmp q (with_pair key o (listed has (suc key) n)) ≡ None
       by rest None = rest
-      by rest (Some v) = ap (λ b. cond b (Some v) (find nat_cmp q (listed has (suc key) n))) (eq_cmp q key ∙ eq_false q key (λ e. omega (arith, e, low))) ∙ rest
+      by rest (Some v) = ap (λ b. cond b (Some v) (find nat_cmp q (listed has (suc key) n)))
+          (eq_cmp q key ∙ eq_false q key (λ e. omega (arith, e, low))) ∙ rest
 
   -- and each of the n keys is found with what it has
   finds : (q key n : ℕ) → key ≤ q → find nat_cmp q (listed has key n) ≡ cond (nat_lt q (key + n)) (has q) None
@@ -55,7 +56,8 @@ module _ (has : ℕ → Option ℕ) where
 
       by_other : (q ≡ key → ⊥) → (o : Option ℕ) → find nat_cmp q (with_pair key o (listed has (suc key) n)) ≡ find nat_cmp q (listed has (suc key) n)
       by_other ne None = refl
-      by_other ne (Some v) = ap (λ b. cond b (Some v) (find nat_cmp q (listed has (suc key) n))) (eq_cmp q key ∙ eq_false q key ne)
+      by_other ne (Some v) = ap (λ b. cond b (Some v) (find nat_cmp q (listed has (suc key) n)))
+          (eq_cmp q key ∙ eq_false q key ne)
 
 -- from one key to the next
 pub next_key : (has : ℕ → Option ℕ) (items : List (ℕ × ℕ)) (key n : ℕ) → key < n → items ++ listed has key (n - key) ≡ (items ++ with_pair key (has key) []) ++ listed has (suc key) (n - suc key)

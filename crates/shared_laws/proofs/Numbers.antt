@@ -32,34 +32,41 @@ pub third : (i r : ℕ) → r < 3 → (3 * i + r) % 3 ≡ r
 third i r h = omega arith
 
 -- an item of a longer list is one of the list, or the last
-pub get_more : {A : Type 0} (xs : List A) (y v : A) (i : ℕ) → slice_get (xs ++ y ∷ []) i ≡ Some v → (slice_get xs i ≡ Some v) ⊎ (y ≡ v)
+pub get_more : {A : Type 0} (xs : List A) (y v : A) (i : ℕ) → slice_get (xs ++ y ∷ []) i ≡ Some v
+    → (slice_get xs i ≡ Some v) ⊎ (y ≡ v)
 get_more [] y v zero h = inr (cc)
 get_more [] y v (suc i) h = absurd (cc)
 get_more (x ∷ xs) y v zero h = inl h
 get_more (x ∷ xs) y v (suc i) h = get_more xs y v i h
 
 -- and an item of the list is one of the longer one
-pub get_longer : {A : Type 0} (xs : List A) (y v : A) (i : ℕ) → slice_get xs i ≡ Some v → slice_get (xs ++ y ∷ []) i ≡ Some v
+pub get_longer : {A : Type 0} (xs : List A) (y v : A) (i : ℕ) → slice_get xs i ≡ Some v
+    → slice_get (xs ++ y ∷ []) i ≡ Some v
 get_longer [] y v i h = absurd (cc)
 get_longer (x ∷ xs) y v zero h = h
 get_longer (x ∷ xs) y v (suc i) h = get_longer xs y v i h
 
 -- where one reading passes a test, one of them does
-pub any_of : (test : ℕ × ℕ → Bool) (readings : Readings) (k : ℕ) (reading : ℕ × ℕ) → slice_get readings k ≡ Some reading → test reading ≡ true → list_any test readings ≡ true
+pub any_of : (test : ℕ × ℕ → Bool) (readings : Readings) (k : ℕ) (reading : ℕ × ℕ)
+    → slice_get readings k ≡ Some reading → test reading ≡ true → list_any test readings ≡ true
 any_of test [] k reading h passes = absurd (cc)
-any_of test (first ∷ readings) zero reading h passes = ap (λ b. b || list_any test readings) (ap test (same first reading h) ∙ passes)
+any_of test (first ∷ readings) zero reading h passes = ap (λ b. b || list_any test readings)
+    (ap test (same first reading h) ∙ passes)
   where
     same : (a b : ℕ × ℕ) → Some a ≡ Some b → a ≡ b
     same a b e = cc
-any_of test (first ∷ readings) (suc k) reading h passes = ap (λ b. test first || b) (any_of test readings k reading h passes) ∙ or_true (test first)
+any_of test (first ∷ readings) (suc k) reading h passes = ap (λ b. test first || b)
+    (any_of test readings k reading h passes) ∙ or_true (test first)
   where
     or_true : (a : Bool) → (a || true) ≡ true
     or_true true = refl
     or_true false = refl
 
 -- a pair that was read is found in readings; the other way is pair_read
-pub read_pair : (readings : Readings) (p w k : ℕ) → slice_get readings k ≡ Some (p, w) → list_any (λ reading. reading.0 == p && reading.1 == w) readings ≡ true
-read_pair readings p w k h = any_of (λ reading. reading.0 == p && reading.1 == w) readings k (p, w) h (λ i. self p i && self w i)
+pub read_pair : (readings : Readings) (p w k : ℕ) → slice_get readings k ≡ Some (p, w)
+    → list_any (λ reading. reading.0 == p && reading.1 == w) readings ≡ true
+read_pair readings p w k h = any_of (λ reading. reading.0 == p && reading.1 == w) readings k (p, w) h
+    (λ i. self p i && self w i)
   where
     self : (n : ℕ) → (n == n) ≡ true
     self n = grind arith

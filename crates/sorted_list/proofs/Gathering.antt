@@ -70,7 +70,8 @@ module _ (slots : ℕ) (cells : Cells) (pairs : Pairs) (stands : ListStands slot
     linked = (next 0 t stands.line.head (λ e. omega (arith, e)) leads).0;
     behind_head = next_behind 0 t stands.line.head (λ e. omega (arith, e)) leads;
     has = none_more pairs 0 (n.key t) [] (none_yet pairs) (omega arith)
-        (λ q from low. none_between 0 t stands.line.head (λ e. omega (arith, e)) leads q (λ some. absurd (some refl)) low);
+        (λ q from low. none_between 0 t stands.line.head (λ e. omega (arith, e)) leads q
+        (λ some. absurd (some refl)) low);
     few = omega arith;
   }
 
@@ -87,8 +88,10 @@ module _ (slots : ℕ) (cells : Cells) (pairs : Pairs) (stands : ListStands slot
     goes_on t inner leads = record {
       linked = (next s t so.linked inner leads).0;
       behind_head = next_behind s t so.linked inner leads;
-      has = pair_more pairs (n.key s) (n.key t) items so.has (n.value s) (stands.contents.pair s so.linked (real s so.behind_head inner))
-          (key_rises s t so.linked inner leads so.behind_head) (λ q above. none_between s t so.linked inner leads q (λ some. above));
+      has = pair_more pairs (n.key s) (n.key t) items so.has (n.value s)
+          (stands.contents.pair s so.linked (real s so.behind_head inner))
+          (key_rises s t so.linked inner leads so.behind_head)
+          (λ q above. none_between s t so.linked inner leads q (λ some. above));
       few = let most = so.few in let more = one_more s t so.linked inner leads in omega (arith, most, more);
     }
       where

@@ -201,7 +201,8 @@ module _ (slots : ℕ) (cells : Cells) (pairs : Pairs) (stands : TreeStands slot
   fed_stands w Refused p word at want reads = absurd (none-some p want)
 
   pub read_stands : (readings : Readings) → StandIn tree cells readings → Stands (walk b op start readings) (walk b op start readings).stage
-  read_stands readings stand = walk_keeps _ _ _ (λ w. Stands w w.stage) (λ reading. is_lock_place reading.0 ≡ false → cells reading.0 ≡ reading.1)
+  read_stands readings stand = walk_keeps _ _ _ (λ w. Stands w w.stage)
+      (λ reading. is_lock_place reading.0 ≡ false → cells reading.0 ≡ reading.1)
       (λ w reading want here at. fed_stands w w.stage reading.0 reading.1 at want here) start readings
       (λ i reading h. stand i reading.0 reading.1 h) (refl, refl)
 

@@ -61,7 +61,8 @@ cases = forms.cases 11
 
 pub look_numbers : (op : Op) (w : Walk) (found : Bool) → form_for op found ≡ 11
     → operands_for op w found ≡ look_operands w (reply_for op w found)
-look_numbers op w = forms.look_numbers (look_operands w) (insert_operands w) (delete_operands w) (replace_operands w) w.value 11 op
+look_numbers op w = forms.look_numbers (look_operands w) (insert_operands w) (delete_operands w)
+    (replace_operands w) w.value 11 op
 
 pub is_look : (t : Thunk) → t.form ≡ 11 → fits_look t ≡ true → form_of t ≡ Look
 is_look t = forms.is_look 11 t.form (fits_look t) (fits_insert t) (fits_delete t) (fits_replace t)
@@ -79,19 +80,24 @@ pub numbers_of : (t : Thunk) → Numbers 11 (form_of t) t.form
 numbers_of t = numbers_by 11 t.form (fits_look t) (fits_insert t) (fits_delete t) (fits_replace t)
 
 abbrev pub Inserts : Op → Walk → Bool → Type 0
-Inserts op w found = forms.Inserts (look_operands w) (insert_operands w) (delete_operands w) (replace_operands w) w.value 11 op found
+Inserts op w found = forms.Inserts (look_operands w) (insert_operands w) (delete_operands w)
+    (replace_operands w) w.value 11 op found
 
 pub inserts : (op : Op) (w : Walk) (found : Bool) → form_for op found ≡ 12 → Inserts op w found
-inserts op w = forms.inserts (look_operands w) (insert_operands w) (delete_operands w) (replace_operands w) w.value 11 op
+inserts op w = forms.inserts (look_operands w) (insert_operands w) (delete_operands w)
+    (replace_operands w) w.value 11 op
 
 pub deletes : (op : Op) (found : Bool) → form_for op found ≡ 13 → (key : ℕ) × (op ≡ Del key) × (found ≡ true)
-deletes op found h = let is = forms.removes (λ reply. []) (λ key value. []) [] (λ key value reply. []) 0 11 op found h in (is.key, is.del, is.hit)
+deletes op found h = let is = forms.removes (λ reply. []) (λ key value. []) []
+    (λ key value reply. []) 0 11 op found h in (is.key, is.del, is.hit)
 
 abbrev pub Replaces : Op → Walk → Bool → Type 0
-Replaces op w found = forms.Replaces (look_operands w) (insert_operands w) (delete_operands w) (replace_operands w) w.value 11 op found
+Replaces op w found = forms.Replaces (look_operands w) (insert_operands w) (delete_operands w)
+    (replace_operands w) w.value 11 op found
 
 pub replaces : (op : Op) (w : Walk) (found : Bool) → form_for op found ≡ 14 → Replaces op w found
-replaces op w = forms.replaces (look_operands w) (insert_operands w) (delete_operands w) (replace_operands w) w.value 11 op
+replaces op w = forms.replaces (look_operands w) (insert_operands w) (delete_operands w)
+    (replace_operands w) w.value 11 op
 
 -- the outer lock is the parent's, but for an operation that takes a leaf out
 pub no_removal : (op : Op) (found : Bool) → (form_for op found ≡ 13 → ⊥) → (is_del op && found) ≡ false

@@ -230,7 +230,8 @@ module _ (layout : Layout) (limits : IsWithinLimits layout) (s : Scene) (sound :
       make_whole = λ j r init h. absurd (no_make j r init h);
       make_small = λ j r i init v h. absurd (no_make j r init h);
       make_unlocked = λ j r i t init v h. absurd (no_make j r init h);
-      answers = λ j n h. let at = look_answer thunk j n (step_at look_body j (Answer n) h) ∙ number_at 3 (look_numbers op w w.found form) in let some = reply_some op w.value w.found in omega arith;
+      answers = λ j n h. let at = look_answer thunk j n (step_at look_body j (Answer n) h)
+          ∙ number_at 3 (look_numbers op w w.found form) in let some = reply_some op w.value w.found in omega arith;
     }
 
   -- the numbers of a new leaf

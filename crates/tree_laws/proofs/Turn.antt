@@ -121,7 +121,8 @@ module _ (layout : Layout) (limits : IsWithinLimits layout) (s : Scene) (pairs :
           let landed = open_section.look_landed layout s before.sound kept d x stamp.here form (omega (arith, at)) in
           look_answer x.thunk j n (open_section.step_as layout s before.sound kept d x stamp.here Look form j (Answer n) h)
           ∙ (open_section.look_reply layout s before.sound kept d x stamp.here form
-          ∙ reply_is pairs 11 x.op w.value w.found (omega arith) (open_section.look_form_is layout s before.sound kept d x stamp.here form)
+          ∙ reply_is pairs 11 x.op w.value w.found (omega arith)
+          (open_section.look_form_is layout s before.sound kept d x stamp.here form)
           (λ hit. (now.child false (node_of w), found_is landed.node.linked hit, λ del. value_is hit del))
           (λ missed. missing_is landed.node.linked landed.node.lo landed.node.hi missed))
       by (open_section.Inserts form) =

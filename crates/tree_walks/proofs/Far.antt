@@ -43,7 +43,8 @@ module _ (readings : Readings) (last : ℕ × ℕ) where
 
   any_more : (f g : ℕ × ℕ → Bool) → ((x : ℕ × ℕ) → f x ≡ true → g x ≡ true) → list_any f readings ≡ true → list_any g all ≡ true
   any_more f g passes any = let found = any_found f readings any in
-      found_any g all found.at found.element (get_longer readings last found.element found.at found.here) (passes found.element found.passes)
+      found_any g all found.at found.element (get_longer readings last found.element found.at found.here)
+      (passes found.element found.passes)
 
   inner_more : (p : ℕ) → shows_inner readings p ≡ true → shows_inner all p ≡ true
   inner_more p shows = any_more (λ reading. reading.0 == p && nat_lt 0 (value_of reading.1)) (λ reading. reading.0 == p && nat_lt 0 (value_of reading.1)) (λ x passes. passes) shows
@@ -159,5 +160,6 @@ far_law layout op limits allowed readings place word wants walked lock mark refu
     let reads = walk_reads readings (bounds layout) op in
     far_at layout limits op allowed (readings ++ (place, word) ∷ []) walked w (from_more readings (place, word) w.last.from reads.last_from) (from_more readings (place, word) w.grand.from reads.grand_from)
     w.stage place word
-    (knows_walked (bounds layout) op (readings ++ (place, word) ∷ []) start readings (λ i reading h. (i, get_longer readings (place, word) reading i h)) refl)
+    (knows_walked (bounds layout) op (readings ++ (place, word) ∷ []) start readings
+    (λ i reading h. (i, get_longer readings (place, word) reading i h)) refl)
     wants (length readings, get_new readings (place, word)) lock mark refused

@@ -17,7 +17,8 @@ use Rattle.tree_walks.proofs.Steps.{nearer}
 
 pub make_few_loads : WalksMakeFewLoads
 make_few_loads layout op readings walks =
-    let few = few_left _ _ _ (λ w. left_at w.stage (bounds layout).links w.links) (λ w place word wants. nearer (bounds layout) op w w.stage place word wants) start readings walks in
+    let few = few_left _ _ _ (λ w. left_at w.stage (bounds layout).links w.links)
+    (λ w place word wants. nearer (bounds layout) op w w.stage place word wants) start readings walks in
     omega (arith, few)
 
 -- form 11

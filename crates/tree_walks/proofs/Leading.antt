@@ -196,7 +196,8 @@ module _ (layout : Layout) (op : Op) where
         operands = eight op w w.found;
         free = ready.0;
         unspent = ready.1;
-        read = ap (λ p. has_pair readings p (word_for op w w.found)) lock ∙ read_pair readings (lock_by op w) (word_for op w w.found) out.0.0 out.0.1;
+        read = ap (λ p. has_pair readings p (word_for op w w.found)) lock
+            ∙ read_pair readings (lock_by op w) (word_for op w w.found) out.0.0 out.0.1;
       }
 
   pub walk_leads : has_one_key op ≡ true → WalkLeads layout op
