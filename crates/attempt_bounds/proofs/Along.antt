@@ -17,7 +17,7 @@ use Rattle.attempts.specs.epoch_slots.specs.Entries.{Enters, Exits}
 use Rattle.attempts.specs.epoch_slots.specs.Collects.{Scans, Looks, AreTested}
 use Rattle.attempts.specs.epoch_slots.specs.Sweeps.{Sweeps}
 use Rattle.attempts.specs.commit_log.specs.Runs.{Ran}
-use Rattle.attempts.specs.try_lock.specs.section_runs.specs.Opened.{Opens, is_opening}
+use Rattle.attempts.specs.caller_facts.specs.section_runs.specs.Opened.{Opens, is_opening}
 use Rattle.attempts.specs.try_lock.specs.Plans.{Loads}
 use Rattle.attempts.specs.try_lock.specs.Prepares.{Stores, SetsWords}
 

@@ -34,7 +34,7 @@ use Rattle.attempts.specs.try_lock.specs.Ends.{EndsSo}
 use Rattle.attempts.specs.try_lock.specs.Publishes.{IsPublished}
 use Rattle.attempts.specs.lock_walks.specs.Steady.{IsSteady}
 use Rattle.attempts.specs.Course.{of_outcome, HasTried, HasEnded}
-use Rattle.attempts.proofs.Knowing.{get_on}
+use Rattle.attempts.specs.caller_facts.proofs.Knowing.{get_on}
 use Rattle.attempts.proofs.Placing.{IsLast, is_last}
 use Rattle.attempt_bounds.specs.Lone.{NobodyCameBetween, IsLone}
 use Rattle.attempt_bounds.proofs.Planned as planned

@@ -21,8 +21,9 @@ use Rattle.attempts.specs.try_lock.specs.declared.planned.Planned.TheVariants as
 use Rattle.attempts.specs.try_lock.specs.Planning.{Planning}
 use Rattle.attempts.specs.try_lock.specs.Plans.{reads_walked, IsWalk, Answers}
 use Rattle.attempts.specs.lock_walks.specs.Steady.{IsSteady}
-use Rattle.attempts.specs.Course.{of_plan, MayAttempt, HasPlanned}
-use Rattle.attempts.proofs.Locks.{allowed_at}
+use Rattle.attempts.specs.Course.{of_plan, HasPlanned}
+use Rattle.attempts.specs.caller_facts.specs.Asking.{MayAttempt}
+use Rattle.attempts.specs.caller_facts.proofs.Shapes.{allowed_at}
 use Rattle.attempt_bounds.specs.Lone.{NobodyCameBetween, IsLone}
 
 -- what no plan is refused by is no answer of an attempt

@@ -28,14 +28,14 @@ use Rattle.version_words.specs.RunnerState.{RunnerState}
 use Rattle.version_words.specs.TableState.{TableState, IsOf}
 use Rattle.lock_walks.specs.try_lock.specs.commit_log.specs.Runs.{IsRunning, Stepped, Ran}
 use Rattle.lock_walks.specs.try_lock.specs.commit_log.proofs.Next.{next_here}
-use Rattle.lock_walks.specs.try_lock.specs.section_runs.specs.Reached.{IsReached, run_or}
-use Rattle.lock_walks.specs.try_lock.specs.section_runs.specs.Opened.{Learns, HasOpened, opening}
-use Rattle.lock_walks.specs.try_lock.specs.section_runs.proofs.Going.{shaped}
-use Rattle.lock_walks.specs.try_lock.specs.section_runs.proofs.Records.{noted_known}
-use Rattle.lock_walks.specs.try_lock.specs.section_runs.proofs.Told.{HasStamp, stamp_of}
-use Rattle.lock_walks.specs.try_lock.specs.section_runs.proofs.Staying.{run_open, still_of, step_learns, step_stays, learns_more}
+use Rattle.caller_facts.specs.section_runs.specs.Reached.{IsReached, run_or}
+use Rattle.caller_facts.specs.section_runs.specs.Opened.{Learns, HasOpened, opening}
+use Rattle.caller_facts.specs.section_runs.proofs.Going.{shaped}
+use Rattle.caller_facts.specs.section_runs.proofs.Records.{noted_known}
+use Rattle.caller_facts.specs.section_runs.proofs.Told.{HasStamp, stamp_of}
+use Rattle.caller_facts.specs.section_runs.proofs.Staying.{run_open, still_of, step_learns, step_stays, learns_more}
 use Rattle.attempts.specs.Learned.{StoodAtStamp, HasLearned}
-use Rattle.attempts.proofs.Knowing.{append_none}
+use Rattle.caller_facts.proofs.Knowing.{append_none}
 use Rattle.attempts.proofs.Placing.{tells, IsOn, is_on, quiet_known}
 
 module _ {T : Type 0} (m : Meaning) (laws : Laws m) (t : TableState T) (limits : IsWithinLimits t.layout) (allowed : AreAllowed t.requests)

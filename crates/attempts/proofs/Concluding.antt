@@ -32,7 +32,7 @@ use Rattle.version_words.specs.RunnerState.{RunnerState}
 use Rattle.version_words.specs.TableState.{TableState, IsOf}
 use Rattle.version_words.specs.Events.{IsMade}
 use Rattle.lock_walks.specs.runner_facts.specs.next_steps.specs.Rooms.{cell_count}
-use Rattle.lock_walks.specs.try_lock.specs.epoch_slots.specs.Entries.{KeepsOwn, HasLeave}
+use Rattle.caller_facts.specs.epoch_slots.specs.Entries.{KeepsOwn, HasLeave}
 use Rattle.lock_walks.specs.try_lock.specs.commit_log.proofs.Asked.{asked_none}
 use Rattle.lock_walks.specs.try_lock.specs.declared.section.Section.{Section}
 use Rattle.lock_walks.specs.try_lock.specs.declared.planned.Planned.TheVariants as plans
@@ -40,23 +40,26 @@ use Rattle.lock_walks.specs.try_lock.specs.Planning.{Planning}
 use Rattle.lock_walks.specs.try_lock.specs.Watches.{MayWatch}
 use Rattle.lock_walks.specs.try_lock.proofs.Guarding.{guard_keeps}
 use Rattle.lock_walks.proofs.Each.{get_last}
-use Rattle.attempts.specs.Knowing.{IsFront, KnowsMore, IsStill, IsOwn}
+use Rattle.caller_facts.specs.Knowing.{IsFront, KnowsMore, IsStill, IsOwn}
 use Rattle.lock_walks.specs.Wants.{WantsWereRead}
-use Rattle.attempts.specs.Course.{of_outcome, IsEmptyHanded, WasRead, HasEnded, HasRun, SectionHasLeft}
+use Rattle.attempts.specs.Course.{of_outcome, IsEmptyHanded, HasEnded, HasRun, SectionHasLeft}
+use Rattle.caller_facts.specs.Asking.{WasRead}
 use Rattle.attempts.specs.Attempts.{IsServed}
 use Rattle.attempts.specs.Rests.{MayLeave, MayLetGo, MayLearn, HasLearnt, HasTurned, Rests}
 use Rattle.attempts.specs.declared.answers.Attempt.{Attempt}
 use Rattle.attempts.specs.declared.answers.Attempt.TheVariants as answers
-use Rattle.attempts.proofs.Knowing.{front_same, front_on, knows_same, knows_on, own_on, no_other_on, no_other_same}
+use Rattle.caller_facts.proofs.Knowing.{front_same, front_on, knows_same, knows_on, own_on, no_other_on, no_other_same}
 use Rattle.attempts.proofs.Leaving.{ended_hand}
-use Rattle.attempts.proofs.Counting.{counted_steps}
+use Rattle.caller_facts.proofs.Counting.{counted_steps}
 use Rattle.attempts.proofs.LettingGo.{gone_leave, gone_hand}
 use Rattle.attempts.proofs.Courses.{planned_reads, ended_go}
 use Rattle.attempts.proofs.Held.{read_within}
-use Rattle.attempts.proofs.Turning.{may_own, may_unknown, turned_rests}
+use Rattle.caller_facts.proofs.Standing.{may_own, may_unknown}
+use Rattle.attempts.proofs.Turning.{turned_rests}
 use Rattle.attempts.proofs.Trying.{rests_from_still}
 use Rattle.attempts.proofs.Expected.{stale_outcome, section_stale, busy_read}
-use Rattle.attempts.proofs.Locks.{allowed_at, planned_shaped}
+use Rattle.caller_facts.proofs.Shapes.{allowed_at}
+use Rattle.attempts.proofs.Locks.{planned_shaped}
 use Rattle.attempts.proofs.Refusing.{left_busy, refusal_of_outcome, busy_outcome}
 use Rattle.attempts.proofs.Along.{ran_back}
 use Rattle.attempts.proofs.Telling.{IsAtEnd, end_quiet, ended_end, left_known, left_is}

@@ -25,7 +25,7 @@ use Rattle.lock_walks.specs.runner_facts.proofs.Names.{pair_last}
 use Rattle.version_words.specs.RunnerState.{RunnerState}
 use Rattle.version_words.specs.Stages.{IsAt}
 use Rattle.version_words.specs.Events.{Makes}
-use Rattle.lock_walks.specs.try_lock.specs.epoch_slots.specs.Entries.{HasLeave}
+use Rattle.caller_facts.specs.epoch_slots.specs.Entries.{HasLeave}
 use Rattle.lock_walks.specs.try_lock.specs.declared.section.Section.{Section}
 use Rattle.lock_walks.specs.try_lock.specs.declared.planned.Planned.{Planned}
 use Rattle.lock_walks.specs.try_lock.specs.declared.planned.Planned.TheVariants as plans

@@ -32,21 +32,22 @@ use Rattle.lock_walks.specs.try_lock.specs.declared.section.Section.{Section}
 use Rattle.lock_walks.specs.try_lock.specs.Planning.{Planning}
 use Rattle.lock_walks.specs.try_lock.specs.Reached.{IsSectionOf}
 use Rattle.lock_walks.specs.try_lock.specs.Ends.{EndsSo, IsCutShort}
-use Rattle.attempts.specs.Knowing.{LearnsNoOther}
+use Rattle.caller_facts.specs.Knowing.{LearnsNoOther}
 use Rattle.attempts.specs.Learned.{StoodAtStamp, IsCut}
 use Rattle.attempts.specs.Course.{HasTried, HasEnded}
-use Rattle.attempts.specs.Counted.{IsCounted}
+use Rattle.caller_facts.specs.Counted.{IsCounted}
 use Rattle.attempts.specs.Attempts.{is_halted, has_helped, most_of_run, IsBrief, InOwnRun, HasJustEnded, IsHalted}
 use Rattle.attempts.specs.Rests.{Rests}
 use Rattle.attempts.specs.declared.answers.Attempt.{Attempt}
 use Rattle.attempts.specs.declared.answers.Attempt.TheVariants as answers
-use Rattle.attempts.proofs.Knowing.{knows_on, front_same, no_other_same, no_other_on, no_other_learned, append_none, length_on}
-use Rattle.attempts.proofs.Counting.{counted_steps, asked_then, steps_then, seen_then}
+use Rattle.caller_facts.proofs.Knowing.{knows_on, front_same, no_other_same, no_other_on, no_other_learned, append_none, length_on}
+use Rattle.caller_facts.proofs.Counting.{counted_steps, asked_then, steps_then, seen_then}
 use Rattle.attempts.proofs.Leaving.{ended_knows}
 use Rattle.attempts.proofs.Along.{HasLastStep}
 use Rattle.attempts.proofs.Trying.{unknown_here, is_published, cut_published}
 use Rattle.attempts.proofs.Telling.{IsAtEnd, IsOn, along, kept, kept_is, end_quiet, end_told, end_left, cut_end, cut_is}
-use Rattle.attempts.proofs.Stamps.{own_stamp_above}
+use Rattle.attempts.proofs.Stamps.{own_stamp_above, own_stamp_even}
+use Rattle.attempts.proofs.RealTime.{above_answered}
 use Rattle.attempts.proofs.Costs.{ended_costs, cut_costs}
 
 -- a runner in a run of the section that it has published: the run's thunk is the one with which it was published
@@ -161,7 +162,19 @@ module _ {T : Type 0} (m : Meaning) (laws : Laws m) (t : TableState T) (limits :
             own_stamp_above m laws t limits allowed planning request thunk section old here tried new end.0 last
             (ap (λ ks. is_answered ks request.number) (sym quiet) ∙ answered)
             new own_new (front_same last.before.part.records.known new.part.records.known quiet) cut.reached stamp knows x entry stamped known;
+        in_time = λ answered stamp knows.
+            above_answered m laws planning request old new (subst IsWithinLimits layout_before limits) (subst AreAllowed requests_before allowed)
+            tried.plans.enters.may (own_new.layout ∙ layout_before) (own_new.requests ∙ requests_before) stamp knows
+            (own_stamp_even m laws t limits allowed planning request thunk section old here tried new end.0 last
+            (ap (λ ks. is_answered ks request.number) (sym quiet) ∙ answered)
+            new own_new (front_same last.before.part.records.known new.part.records.known quiet) cut.reached stamp knows);
       }
+        where
+          layout_before : t.layout ≡ old.layout
+          layout_before = sym own_here.layout ∙ tried.still.layout
+
+          requests_before : t.requests ≡ old.requests
+          requests_before = sym own_here.requests ∙ tried.still.requests
 
     abbrev was_halted : IsHalted m planning request old new
     was_halted = record {

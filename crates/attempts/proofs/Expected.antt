@@ -35,7 +35,8 @@ use Rattle.lock_walks.specs.try_lock.specs.Plans as plan
 use Rattle.lock_walks.specs.try_lock.specs.Publishes.{refused_by}
 use Rattle.lock_walks.proofs.Each.{get_last}
 use Rattle.lock_walks.specs.Wants.{WantsWereRead}
-use Rattle.attempts.specs.Course.{of_plan, of_refusal, of_outcome, WasRead, IsMarked}
+use Rattle.attempts.specs.Course.{of_plan, of_refusal, of_outcome}
+use Rattle.caller_facts.specs.Asking.{WasRead, IsMarked}
 use Rattle.attempts.specs.declared.answers.Attempt.TheVariants as answers
 use Rattle.attempts.proofs.Refusing.{ChecksTake, left_busy}
 

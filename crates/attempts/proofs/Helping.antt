@@ -18,9 +18,9 @@ use Rattle.version_words.specs.RunnerState.{RunnerState}
 use Rattle.attempts.specs.Learned.{StoodAtStamp, HasLearned}
 use Rattle.request_facts.specs.Laws.{CallersStand}
 use Rattle.request_facts.proofs.Standing.{callers_stand}
-use Rattle.attempts.specs.Knowing.{IsOwn}
+use Rattle.caller_facts.specs.Knowing.{IsOwn}
 use Rattle.attempts.specs.Rests.{LearnsNoOwn}
-use Rattle.attempts.proofs.Knowing.{append_none, answered_of_other, answered_on}
+use Rattle.caller_facts.proofs.Knowing.{append_none, answered_of_other, answered_on}
 
 module _ {T : Type 0} (m : Meaning) (laws : Laws m) (old new : RunnerState T) (limits : IsWithinLimits old.layout) (allowed : AreAllowed old.requests)
     (d : ℕ) (t : Thunk) (learned : HasLearned m d t old new) (idle : old.part.published ≡ None) where

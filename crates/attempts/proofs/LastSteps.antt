@@ -22,9 +22,9 @@ use Rattle.machine_facts.specs.machine_invariant.specs.After.{AreAllowed}
 use Rattle.version_words.specs.RunnerState.{RunnerState}
 use Rattle.version_words.specs.TableState.{TableState, IsOf}
 use Rattle.lock_walks.specs.try_lock.specs.commit_log.specs.Runs.{Stepped}
-use Rattle.lock_walks.specs.try_lock.specs.section_runs.proofs.Going.{shaped}
-use Rattle.lock_walks.specs.try_lock.specs.section_runs.proofs.Told.{leaves_left}
-use Rattle.attempts.proofs.Knowing.{append_none}
+use Rattle.caller_facts.specs.section_runs.proofs.Going.{shaped}
+use Rattle.caller_facts.specs.section_runs.proofs.Told.{leaves_left}
+use Rattle.caller_facts.proofs.Knowing.{append_none}
 use Rattle.attempts.proofs.Along.{IsAlong, IsTelling, step_quiet}
 
 -- an outcome that is no answer is that of a check

@@ -29,17 +29,17 @@ use Rattle.version_words.specs.Events.{Makes}
 use Rattle.version_words.specs.ReachedWith.{is_told}
 use Rattle.version_words.specs.Stages.{IsAt}
 use Rattle.version_words.proofs.Stages.{then_knows}
-use Rattle.lock_walks.specs.try_lock.specs.epoch_slots.specs.Collects.{IsTidy}
-use Rattle.lock_walks.specs.try_lock.specs.epoch_slots.specs.Entries.{Exits}
-use Rattle.lock_walks.specs.try_lock.specs.epoch_slots.proofs.Outside.{nodes_made, guards_made, known_made, finished_made}
+use Rattle.caller_facts.specs.epoch_slots.specs.Collects.{IsTidy}
+use Rattle.caller_facts.specs.epoch_slots.specs.Entries.{Exits}
+use Rattle.caller_facts.specs.epoch_slots.proofs.Outside.{nodes_made, guards_made, known_made, finished_made}
 use Rattle.machine_facts.specs.Known.{KnownStand}
 use Rattle.machine_facts.proofs.Following.{facts_after}
 use Rattle.request_facts.specs.Placed.{IsServedAs}
 use Rattle.request_facts.specs.Laws.{HasEntry, IsKnown}
 use Rattle.request_facts.proofs.Standing.{callers_stand}
-use Rattle.attempts.specs.Knowing.{KnowsMore, IsOwn}
+use Rattle.caller_facts.specs.Knowing.{KnowsMore, IsOwn}
 use Rattle.attempts.specs.Rests.{LearnsNoOwn, MayLearn, HasLearnt}
-use Rattle.attempts.proofs.Knowing.{front_same, front_on, front_entry, knows_same, knows_on, own_on, answered_on, answered_of_other, append_none}
+use Rattle.caller_facts.proofs.Knowing.{front_same, front_on, front_entry, knows_same, knows_on, own_on, answered_on, answered_of_other, append_none}
 use Rattle.attempts.proofs.LettingGo.{exits_tidy}
 
 -- what is met is what fits

@@ -27,8 +27,8 @@ use Rattle.lock_walks.specs.runner_facts.specs.Names.{NamesStand}
 use Rattle.machine_facts.specs.Watched.{WasDone}
 use Rattle.version_words.specs.RunnerState.{RunnerState}
 use Rattle.version_words.specs.Stages.{IsAt}
-use Rattle.lock_walks.specs.try_lock.specs.epoch_slots.specs.Entries.{KeepsOwn, Exits}
-use Rattle.lock_walks.specs.try_lock.specs.epoch_slots.proofs.Outside.{guards_made, own_kept_on}
+use Rattle.caller_facts.specs.epoch_slots.specs.Entries.{KeepsOwn, Exits}
+use Rattle.caller_facts.specs.epoch_slots.proofs.Outside.{guards_made, own_kept_on}
 use Rattle.lock_walks.specs.try_lock.specs.commit_log.specs.Asked.{IsAsked}
 use Rattle.lock_walks.specs.try_lock.specs.commit_log.proofs.Asked.{asked_none}
 use Rattle.lock_walks.specs.try_lock.specs.Ends.{EndsSo, IsCutShort}
@@ -36,13 +36,13 @@ use Rattle.lock_walks.specs.try_lock.specs.Reached.{MayHelp}
 use Rattle.lock_walks.specs.try_lock.specs.Watches.{Watched}
 use Rattle.lock_walks.specs.try_lock.proofs.Guarding.{guard_at}
 use Rattle.attempts.specs.Learned.{HasLearned, IsCut}
-use Rattle.attempts.specs.Knowing.{KnowsMore, IsOwn}
+use Rattle.caller_facts.specs.Knowing.{KnowsMore, IsOwn}
 use Rattle.attempts.specs.Course.{IsEmptyHanded, HasGone, HasHelped, IsOfHelped}
 use Rattle.attempts.specs.Attempts.{is_halted, is_refusal, Leaves, leaving_steps, leaving_helps}
 use Rattle.attempts.specs.Rests.{MayLeave, MayLetGo, LearnsNoOwn, HasTurned}
 use Rattle.attempts.specs.declared.answers.Attempt.{Attempt}
 use Rattle.attempts.specs.declared.answers.Attempt.TheVariants as answers
-use Rattle.attempts.proofs.Knowing.{knows_same, knows_on, length_on, own_on}
+use Rattle.caller_facts.proofs.Knowing.{knows_same, knows_on, length_on, own_on}
 use Rattle.attempts.proofs.Reaching.{exits_reached}
 use Rattle.attempts.proofs.Helping.{learns_no_own}
 use Rattle.attempts.proofs.LettingGo.{exits_tidy, gone_keeps, gone_tidy}

@@ -5,9 +5,9 @@ use Rattle.machine_states.specs.runner_parts.specs.declared.event.EventKind.TheV
 use Rattle.machine_states.specs.runner_parts.specs.State.{GuardsState}
 use Rattle.version_words.specs.RunnerState.{RunnerState}
 use Rattle.version_words.specs.Events.{Makes, IsEnabled}
-use Rattle.lock_walks.specs.try_lock.specs.epoch_slots.specs.Collects.{IsTidy}
-use Rattle.lock_walks.specs.try_lock.specs.epoch_slots.specs.Entries.{KeepsOwn, HasLeave, Exits}
-use Rattle.lock_walks.specs.try_lock.specs.epoch_slots.proofs.Outside.{guards_made, own_kept_on}
+use Rattle.caller_facts.specs.epoch_slots.specs.Collects.{IsTidy}
+use Rattle.caller_facts.specs.epoch_slots.specs.Entries.{KeepsOwn, HasLeave, Exits}
+use Rattle.caller_facts.specs.epoch_slots.proofs.Outside.{guards_made, own_kept_on}
 use Rattle.lock_walks.specs.try_lock.proofs.Guarding.{may_let_go, guard_at, guard_named, guard_keeps}
 use Rattle.attempts.specs.Course.{IsEmptyHanded, HasGone}
 use Rattle.attempts.specs.Rests.{MayLetGo}

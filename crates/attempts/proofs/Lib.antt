@@ -1,4 +1,3 @@
-pub mod Knowing
 pub mod Helping
 pub mod LettingGo
 pub mod Reaching
@@ -6,7 +5,6 @@ pub mod Refilling
 pub mod Leaving
 pub mod Held
 pub mod Learning
-pub mod Counting
 pub mod Courses
 pub mod Locks
 pub mod Turning

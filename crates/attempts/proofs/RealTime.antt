@@ -22,9 +22,9 @@ use Rattle.lock_walks.specs.try_lock.specs.Reached.{IsReached}
 use Rattle.request_facts.specs.Laws.{HasEntry, IsToAsk}
 use Rattle.request_facts.specs.reached_histories.specs.RealTime.{IsSought}
 use Rattle.request_facts.proofs.Standing.{answered_come_first, idle_seeks_none}
-use Rattle.attempts.specs.Course.{MayAttempt}
+use Rattle.caller_facts.specs.Asking.{MayAttempt}
 use Rattle.attempts.specs.RealTime.{IsAboveAnswered}
-use Rattle.attempts.proofs.Turning.{may_own, may_unknown}
+use Rattle.caller_facts.proofs.Standing.{may_own, may_unknown}
 
 module _ {T : Type 0} (m : Meaning) (laws : Laws m) (planning : Planning) (request : Request) (old new : RunnerState T)
     (limits : IsWithinLimits old.layout) (allowed : AreAllowed old.requests) (may : MayAttempt planning request old)

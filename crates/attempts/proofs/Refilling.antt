@@ -4,8 +4,8 @@ use Rattle.std.proofs.Common.{◌≡◌, ℕ, ◌<◌, ◌≤◌, length, refl, 
 use Rattle.std.proofs.lemmas.Bool.Decides.{nat_tests}
 use Rattle.machine_states.specs.structure_laws.specs.Meaning.{Meaning}
 use Rattle.version_words.specs.RunnerState.{RunnerState}
-use Rattle.lock_walks.specs.try_lock.specs.epoch_slots.specs.declared.reserves.Kind.{Kind}
-use Rattle.lock_walks.specs.try_lock.specs.epoch_slots.specs.declared.reserves.Kind.TheVariants as kinds
+use Rattle.caller_facts.specs.epoch_slots.specs.declared.reserves.Kind.{Kind}
+use Rattle.caller_facts.specs.epoch_slots.specs.declared.reserves.Kind.TheVariants as kinds
 use Rattle.lock_walks.specs.try_lock.specs.Reached.{IsReached}
 use Rattle.attempts.specs.Attempts.{IsFew}
 use Rattle.attempts.specs.Reclaims.{lacks_slots, lacks_descriptor, CollectsWhere, SweepsWhere, Reclaims}

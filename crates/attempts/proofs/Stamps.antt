@@ -30,9 +30,9 @@ use Rattle.lock_walks.specs.try_lock.specs.declared.section.Section.{Section}
 use Rattle.lock_walks.specs.try_lock.specs.Planning.{Planning}
 use Rattle.lock_walks.specs.try_lock.specs.Reached.{IsReached}
 use Rattle.request_facts.specs.Laws.{HasEntry}
-use Rattle.attempts.specs.Knowing.{IsFront}
+use Rattle.caller_facts.specs.Knowing.{IsFront}
 use Rattle.attempts.specs.Course.{HasTried}
-use Rattle.attempts.proofs.Knowing.{front_entry}
+use Rattle.caller_facts.proofs.Knowing.{front_entry}
 use Rattle.attempts.proofs.Along.{HasLastStep}
 
 -- a known word of a runner stands in a state in which it has its part

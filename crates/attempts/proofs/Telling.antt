@@ -20,13 +20,13 @@ use Rattle.machine_facts.specs.machine_invariant.specs.Sections.{IsAnswered, IsL
 use Rattle.version_words.specs.RunnerState.{RunnerState}
 use Rattle.version_words.specs.TableState.{TableState, IsOf}
 use Rattle.lock_walks.specs.try_lock.specs.commit_log.specs.Runs.{Ran, Stepped}
-use Rattle.lock_walks.specs.try_lock.specs.section_runs.specs.Opened.{IsOpening}
-use Rattle.lock_walks.specs.try_lock.specs.section_runs.proofs.Staying.{step_stays}
-use Rattle.lock_walks.specs.try_lock.specs.section_runs.proofs.Told.{answered_told}
+use Rattle.caller_facts.specs.section_runs.specs.Opened.{IsOpening}
+use Rattle.caller_facts.specs.section_runs.proofs.Staying.{step_stays}
+use Rattle.caller_facts.specs.section_runs.proofs.Told.{answered_told}
 use Rattle.lock_walks.specs.try_lock.specs.Reached.{IsReached}
 use Rattle.lock_walks.specs.try_lock.specs.Ends.{EndsSo, RanShort, IsCutShort}
 use Rattle.attempts.specs.Learned.{HasLearned, IsCut}
-use Rattle.attempts.proofs.Knowing.{append_none}
+use Rattle.caller_facts.proofs.Knowing.{append_none}
 use Rattle.attempts.proofs.Placing.{IsLast, is_last}
 use Rattle.attempts.proofs.Along.{IsAlong, IsTelling, telling_learned, opened_tells, ran_tells, HasLastStep, ran_last, ran_back}
 use Rattle.attempts.proofs.LastSteps.{last_same, last_quiet, last_left}

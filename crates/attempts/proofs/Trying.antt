@@ -20,16 +20,17 @@ use Rattle.lock_walks.specs.try_lock.specs.declared.section.Section.{Section}
 use Rattle.lock_walks.specs.try_lock.specs.declared.planned.Planned.TheVariants as plans
 use Rattle.lock_walks.specs.try_lock.specs.Planning.{Planning}
 use Rattle.lock_walks.specs.try_lock.specs.Publishes.{Publishes}
-use Rattle.attempts.specs.Knowing.{IsStill, IsOwn}
-use Rattle.attempts.specs.Course.{of_refusal, MayAttempt, HasPlanned, HasTried}
+use Rattle.caller_facts.specs.Knowing.{IsStill, IsOwn}
+use Rattle.attempts.specs.Course.{of_refusal, HasPlanned, HasTried}
+use Rattle.caller_facts.specs.Asking.{MayAttempt}
 use Rattle.attempts.specs.Attempts.{is_refusal, has_helped, IsBrief, BehindHold, IsHalted}
-use Rattle.attempts.specs.Counted.{IsCounted}
+use Rattle.caller_facts.specs.Counted.{IsCounted}
 use Rattle.attempts.specs.Rests.{Rests}
 use Rattle.attempts.specs.declared.answers.Attempt.{Attempt}
 use Rattle.attempts.specs.declared.answers.Attempt.TheVariants as answers
-use Rattle.attempts.proofs.Knowing.{knows_same, knows_on, no_other_same, no_other_on, own_on}
+use Rattle.caller_facts.proofs.Knowing.{knows_same, knows_on, no_other_same, no_other_on, own_on}
 use Rattle.attempts.proofs.Courses.{tried_at}
-use Rattle.attempts.proofs.Turning.{may_own, may_unknown}
+use Rattle.caller_facts.proofs.Standing.{may_own, may_unknown}
 
 abbrev pub tried_of : {T : Type 0} (m : Meaning) (planning : Planning) (request : Request) (old : RunnerState T) (readings : Readings) (thunk : Thunk) (r : RunnerState T)
     → HasPlanned m planning request readings (plans.Thunk thunk) old r → (answer : Result Section Refused) (new : RunnerState T)

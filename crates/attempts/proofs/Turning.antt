@@ -22,15 +22,18 @@ use Rattle.lock_walks.specs.try_lock.specs.Reached.{IsReached}
 use Rattle.lock_walks.specs.try_lock.specs.Ends.{IsCutShort}
 use Rattle.lock_walks.specs.try_lock.specs.Watches.{Watched}
 use Rattle.request_facts.proofs.Standing.{callers_stand}
-use Rattle.attempts.specs.Knowing.{IsOwn}
-use Rattle.attempts.specs.Course.{MayAttempt, IsRefused, refused_steps, is_refused_late}
-use Rattle.attempts.specs.Counted.{IsCounted}
-use Rattle.attempts.specs.Attempts.{is_halted, is_short, is_refusal, IsBrief, leaving_steps, leaving_helps, has_helped, IsTurnedAway, InHelpedRun, IsHalted, IsUntouched, Answers, steps_of, has_published, has_met_held, asks_before}
+use Rattle.caller_facts.specs.Knowing.{IsOwn}
+use Rattle.attempts.specs.Course.{IsRefused, refused_steps, is_refused_late}
+use Rattle.caller_facts.specs.Asking.{MayAttempt}
+use Rattle.caller_facts.specs.Counted.{IsCounted}
+use Rattle.caller_facts.proofs.Standing.{untouched}
+use Rattle.attempts.specs.Attempts.{is_halted, is_short, is_refusal, IsBrief, leaving_steps, leaving_helps, has_helped, IsTurnedAway, InHelpedRun, IsHalted, Answers, steps_of, has_published, has_met_held, asks_before}
+use Rattle.caller_facts.specs.Asking.{IsUntouched}
 use Rattle.attempts.specs.Rests.{HasTurned, Rests}
 use Rattle.attempts.specs.declared.answers.Attempt.{Attempt}
 use Rattle.attempts.specs.declared.answers.Attempt.TheVariants as answers
-use Rattle.attempts.proofs.Knowing.{own_on}
-use Rattle.attempts.proofs.Counting.{counted_steps}
+use Rattle.caller_facts.proofs.Knowing.{own_on}
+use Rattle.caller_facts.proofs.Counting.{counted_steps}
 
 pub halted_is : (got : Attempt) → is_halted got ≡ true → got ≡ answers.Halted
 halted_is answers.Halted e = refl
@@ -49,39 +52,6 @@ refusal_long (answers.Spent place word) e = refl
 refusal_long (answers.Done reply stamp) e = refl
 refusal_long answers.Halted e = refl
 refusal_long (answers.Short short) e = absurd (let z = e in cc)
-
-next_test : (a b c : Bool) → (a && (not b && c)) ≡ true → (a ≡ true) × (b ≡ false)
-next_test true false c e = (refl, refl)
-next_test true true c e = absurd (let z = e in cc)
-next_test false b c e = absurd (let z = e in cc)
-
-module _ {T : Type 0} (planning : Planning) (request : Request) (old : RunnerState T) (may : MayAttempt planning request old) where
-  tests : (request.trace % old.layout.runners == old.number ≡ true) × (is_answered old.part.records.known request.number ≡ false)
-  tests = next_test _ _ (are_answered old.part.records.known request.trace request.number old.requests) may.next
-
-  -- the request is the worker's own, and not answered
-  pub may_own : IsOwn old request
-  may_own = record { there = may.there; own = same_of _ _ tests.0 }
-
-  pub may_unknown : is_answered old.part.records.known request.number ≡ false
-  may_unknown = tests.1
-
--- a runner that has nothing to retire, and doesn't know its own request: nobody has served it
-pub untouched : {T : Type 0} (m : Meaning) (laws : Laws m) (r : RunnerState T) (request : Request) → IsWithinLimits r.layout → AreAllowed r.requests
-    → IsReached m r → r.part.published ≡ None → is_between r.part.reads.look ≡ false → IsOwn r request
-    → is_answered r.part.records.known request.number ≡ false → IsUntouched m request.number r
-untouched m laws r request limits allowed reached none settled own unknown = record {
-  unknown = unknown;
-  reached = reached;
-  unserved = (callers_stand m laws r.layout r.requests limits allowed reached.world reached.reached).unserved r.number request.number
-      (ap (λ o. (or_none o).trace % r.layout.runners) own.there ∙ own.own)
-      (ap (λ (p : PartState). link_of p.published) here ∙ ap link_of none)
-      (ap (λ (p : PartState). is_between p.reads.look) here ∙ settled)
-      (ap (λ (p : PartState). is_answered p.records.known request.number) here ∙ unknown);
-}
-  where
-    here : (sight m r.layout r.requests reached.world).part r.number ≡ r.part
-    here = ap part_or_first reached.own
 
 module _ {T : Type 0} (m : Meaning) (laws : Laws m) (planning : Planning) (request : Request) (old here new : RunnerState T) (answer got : Attempt)
     (refusal : is_refusal answer ≡ true) (cause : IsRefused m planning request answer old here) (held : Bool) (before : ℕ)

@@ -28,9 +28,9 @@ use Rattle.machine_states.specs.runner_parts.specs.declared.event.EventKind.TheV
 use Rattle.lock_walks.specs.runner_facts.proofs.Names.{pair_last}
 use Rattle.lock_walks.specs.try_lock.specs.Reached.{IsReached}
 use Rattle.attempts.specs.Reclaims.{Reclaims}
-use Rattle.lock_walks.specs.try_lock.specs.epoch_slots.specs.Entries.{Enters, KeepsOwn}
-use Rattle.lock_walks.specs.try_lock.specs.epoch_slots.specs.Reserves.{counts_of}
-use Rattle.lock_walks.specs.try_lock.specs.epoch_slots.specs.declared.reserves.Short.{Short}
+use Rattle.caller_facts.specs.epoch_slots.specs.Entries.{Enters, KeepsOwn}
+use Rattle.caller_facts.specs.epoch_slots.specs.Reserves.{counts_of}
+use Rattle.caller_facts.specs.epoch_slots.specs.declared.reserves.Short.{Short}
 use Rattle.lock_walks.specs.try_lock.specs.commit_log.specs.Asked.{IsAsked}
 use Rattle.lock_walks.specs.try_lock.specs.commit_log.proofs.Asked.{asked_none}
 use Rattle.lock_walks.specs.try_lock.specs.declared.planned.Planned.{Planned}
@@ -39,21 +39,23 @@ use Rattle.lock_walks.specs.try_lock.specs.declared.section.Section.{Section}
 use Rattle.lock_walks.specs.try_lock.specs.Planning.{Planning}
 use Rattle.lock_walks.specs.try_lock.specs.Plans as plan
 use Rattle.lock_walks.specs.try_lock.specs.Publishes.{Publishes}
-use Rattle.attempts.specs.Knowing.{IsStill}
-use Rattle.attempts.specs.Course.{of_plan, of_refusal, MayAttempt, HasReserve, HasEntered, HasPlanned, HasTried, WasRead, PlanIsRefused, LockIsRefused}
-use Rattle.attempts.specs.Counted.{IsCounted}
+use Rattle.caller_facts.specs.Knowing.{IsStill}
+use Rattle.attempts.specs.Course.{of_plan, of_refusal, HasReserve, HasEntered, HasPlanned, HasTried, PlanIsRefused, LockIsRefused}
+use Rattle.caller_facts.specs.Asking.{MayAttempt, WasRead}
+use Rattle.caller_facts.specs.Counted.{IsCounted}
 use Rattle.attempts.specs.Attempts.{is_halted, is_short, asks_more, runs_of, has_helped, most_of_run, most_of_attempt, IsBrief, IsFew, IsShort, AtEntry, InPlan, IsHalted, Answers, has_published, Attempts}
 use Rattle.attempts.specs.Rests.{MayLeave, HasTurned, Rests}
 use Rattle.attempts.specs.declared.answers.Attempt.{Attempt}
 use Rattle.attempts.specs.declared.answers.Attempt.TheVariants as answers
-use Rattle.attempts.proofs.Knowing.{knows_same, knows_on, no_other_same, no_other_on}
-use Rattle.attempts.proofs.Reaching.{enters_reached, made_reached}
+use Rattle.caller_facts.proofs.Knowing.{knows_same, knows_on, no_other_same, no_other_on}
+use Rattle.attempts.proofs.Reaching.{enters_reached}
 use Rattle.attempts.proofs.Refilling.{short_reached, short_named}
-use Rattle.attempts.proofs.Counting.{counted_steps, asked_then, steps_then, seen_then}
+use Rattle.caller_facts.proofs.Counting.{counted_steps, asked_then, steps_then, seen_then}
 use Rattle.attempts.proofs.Held.{read_within, read_few}
 use Rattle.lock_walks.specs.try_lock.proofs.Guarding.{guard_keeps, guard_reads}
 use Rattle.attempts.proofs.Courses.{at_refused, refused_may_leave, planned_at, planned_reads, planned_leave}
-use Rattle.attempts.proofs.Turning.{untouched, turned_rests}
+use Rattle.caller_facts.proofs.Standing.{untouched, made_reached}
+use Rattle.attempts.proofs.Turning.{turned_rests}
 use Rattle.attempts.proofs.Trying.{tried_of, own_here, unknown_here, refusal_of_lock, runs_from_still, few_from_still, brief_from_still}
 use Rattle.attempts.proofs.Planning.{planned_of}
 use Rattle.attempts.proofs.Expected.{plan_stale, lock_stale}

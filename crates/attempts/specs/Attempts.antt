@@ -19,20 +19,20 @@ use Rattle.machine_states.specs.runner_parts.specs.State.{FinishedState}
 use Rattle.machine_states.specs.runner_parts.specs.Tests.{is_answered}
 use Rattle.machine_states.specs.Sight.{sight}
 use Rattle.version_words.specs.RunnerState.{RunnerState}
-use Rattle.lock_walks.specs.try_lock.specs.epoch_slots.specs.Collects.{IsTidy}
-use Rattle.lock_walks.specs.try_lock.specs.epoch_slots.specs.Entries.{Exits}
-use Rattle.lock_walks.specs.try_lock.specs.epoch_slots.specs.Reserves.{counts_of}
-use Rattle.lock_walks.specs.try_lock.specs.epoch_slots.specs.declared.reserves.Kind.{Kind}
-use Rattle.lock_walks.specs.try_lock.specs.epoch_slots.specs.declared.reserves.Kind.TheVariants as kinds
-use Rattle.lock_walks.specs.try_lock.specs.epoch_slots.specs.declared.reserves.Short.{Short}
+use Rattle.caller_facts.specs.epoch_slots.specs.Collects.{IsTidy}
+use Rattle.caller_facts.specs.epoch_slots.specs.Entries.{Exits}
+use Rattle.caller_facts.specs.epoch_slots.specs.Reserves.{counts_of}
+use Rattle.caller_facts.specs.epoch_slots.specs.declared.reserves.Kind.{Kind}
+use Rattle.caller_facts.specs.epoch_slots.specs.declared.reserves.Kind.TheVariants as kinds
+use Rattle.caller_facts.specs.epoch_slots.specs.declared.reserves.Short.{Short}
 use Rattle.lock_walks.specs.try_lock.specs.declared.planned.Planned.TheVariants as plans
 use Rattle.lock_walks.specs.try_lock.specs.declared.section.Section.{Section}
 use Rattle.lock_walks.specs.try_lock.specs.Planning.{Planning}
 use Rattle.lock_walks.specs.try_lock.specs.Reached.{IsReached}
 use Rattle.lock_walks.specs.try_lock.specs.Ends.{IsCutShort}
 use Rattle.lock_walks.specs.try_lock.specs.Watches.{Watched}
-use Rattle.attempts.specs.Knowing.{KnowsMore, LearnsNoOther}
-use Rattle.attempts.specs.Counted.{IsCounted}
+use Rattle.caller_facts.specs.Knowing.{KnowsMore, LearnsNoOther}
+use Rattle.caller_facts.specs.Counted.{IsCounted}
 use Rattle.attempts.specs.RealTime.{IsAboveAnswered}
 use Rattle.attempts.specs.Reclaims.{Reclaims}
 use Rattle.request_facts.specs.Laws.{HasEntry}
@@ -85,13 +85,6 @@ module _ {T : Type 0} where
   IsFew r kinds.Descriptor = (2 ≤ length r.part.nodes.free) × (length r.part.descriptors.free ≡ 0)
 
   module _ (m : Meaning) where
-    -- in a state that the machine reaches, in which the runner has this part, nobody has served the request; so the
-    -- runner doesn't know it
-    pub record IsUntouched (number : ℕ) (r : RunnerState T) : Type 0 where
-      pub unknown : is_answered r.part.records.known number ≡ false
-      pub reached : IsReached m r
-      pub unserved : IsUnserved m r.layout r.requests (sight m r.layout r.requests reached.world) number
-
     -- after three scans in a row too few node slots were free, or after a sweep no descriptor
     pub record IsShort (short : Short) (number : ℕ) (old new : RunnerState T) : Type 0 where
       pub reclaims : Reclaims m old new
@@ -100,7 +93,7 @@ module _ {T : Type 0} where
       -- where a descriptor lacks, guard words of other runners name all of the runner's own: they are no more than
       -- there are runners. So a runner that has one more of them never lacks one
       pub named : short.kind ≡ kinds.Descriptor → short.limbo ≤ new.layout.runners
-      pub untouched : IsUntouched number new
+      pub untouched : IsUntouched m number new
 
     -- the runner ran the section that this lock's word named to its end, and left. It is the section of
     -- which the word was a lock's word
@@ -143,7 +136,7 @@ module _ {T : Type 0} where
         pub cause : IsRefused m planning request answer old cut
         pub leaves : Leaves answer cut new
         pub tidy : IsTidy new
-        pub untouched : IsUntouched request.number new
+        pub untouched : IsUntouched m request.number new
 
       -- the request is served: the own section answered, the runner knows both words of the request, and
       -- left. The stamp is above that of
@@ -240,7 +233,8 @@ module _ {T : Type 0} where
 
       -- the own section's run came to its end by the very step behind which the gate halted the runner: one more run is
       -- kept, that of this section. It answered exactly where the runner knows both words of the request; and then the
-      -- stamp is above that of each request that the runner knew to be answered as the attempt began
+      -- stamp is above that of each request that the runner knew to be answered as the attempt began, and of each that
+      -- was answered then, whoever served it
       pub record HasJustEnded (thunk : Thunk) (section : Section) (old published new : RunnerState T) : Type 0 where
         pub finished : FinishedState
         pub kept : new.part.records.finished ≡ published.part.records.finished ++ finished ∷ []
@@ -258,6 +252,10 @@ module _ {T : Type 0} where
             → (stamp : ℕ) → HasEntry new.part.records.known
             (record { request = request.number; reply = false; number = stamp })
             → x.number < stamp
+        pub in_time : is_answered new.part.records.known request.number ≡ true
+            → (stamp : ℕ) → HasEntry new.part.records.known
+            (record { request = request.number; reply = false; number = stamp })
+            → IsAboveAnswered m stamp old new
 
       -- so it is where the runner was halted in its own run
       abbrev pub EndsAt : (old new : RunnerState T) → Stops old new → Type 0

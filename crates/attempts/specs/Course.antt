@@ -19,8 +19,8 @@ use Rattle.lock_walks.specs.runner_facts.specs.Names.{HasLock}
 use Rattle.machine_facts.specs.Watched.{WasDone}
 use Rattle.version_words.specs.RunnerState.{RunnerState}
 use Rattle.version_words.specs.Events.{Makes, IsMade}
-use Rattle.lock_walks.specs.try_lock.specs.epoch_slots.specs.Collects.{IsTidy}
-use Rattle.lock_walks.specs.try_lock.specs.epoch_slots.specs.Entries.{Enters, Exits}
+use Rattle.caller_facts.specs.epoch_slots.specs.Collects.{IsTidy}
+use Rattle.caller_facts.specs.epoch_slots.specs.Entries.{Enters, Exits}
 use Rattle.lock_walks.specs.try_lock.specs.declared.section.Section.{Section}
 use Rattle.lock_walks.specs.try_lock.specs.declared.planned.Planned.{Planned}
 use Rattle.lock_walks.specs.try_lock.specs.declared.planned.Planned.TheVariants as plans
@@ -30,7 +30,8 @@ use Rattle.lock_walks.specs.try_lock.specs.Plans.{Answers, IsWalk, HasWalked}
 use Rattle.lock_walks.specs.try_lock.specs.Publishes.{Publishes}
 use Rattle.lock_walks.specs.try_lock.specs.Ends.{EndsSo}
 use Rattle.lock_walks.specs.try_lock.specs.Watches.{Watched}
-use Rattle.attempts.specs.Knowing.{IsStill}
+use Rattle.caller_facts.specs.Asking.{MayAttempt, WasRead, IsMarked}
+use Rattle.caller_facts.specs.Knowing.{IsStill}
 use Rattle.attempts.specs.Reclaims.{Reclaims}
 use Rattle.attempts.specs.declared.answers.Attempt.{Attempt}
 use Rattle.attempts.specs.declared.answers.Attempt.TheVariants as answers
@@ -57,27 +58,7 @@ of_outcome (outcomes.Stale place expected read) = answers.Stale place expected r
 of_outcome (outcomes.Spent place word) = answers.Spent place word
 of_outcome (outcomes.Answered reply) = answers.Halted
 
--- this word was read of this place
-abbrev pub WasRead : Readings → ℕ → ℕ → Type 0
-WasRead readings place word = (i : ℕ) × (slice_get readings i ≡ Some (place, word))
-
--- a mark was read as 1, so its node has been taken out. The word that is told expected is the unmarked one of the
--- version before
-pub record IsMarked (planning : Planning) (readings : Readings) (place expected read : ℕ) : Type 0 where
-  pub mark : planning.is_mark place ≡ true
-  pub seen : WasRead readings place read
-  pub marked : value_of read ≡ 1
-  pub unmarked : expected ≡ pack 0 (version_of read - 1)
-
 module _ {T : Type 0} where
-  -- the request is the worker's next one of its trace, which the structure serves, and the worker is idle
-  -- with an empty hand
-  pub record MayAttempt (planning : Planning) (request : Request) (r : RunnerState T) : Type 0 where
-    pub tidy : IsTidy r
-    pub there : slice_get r.requests request.number ≡ Some request
-    pub next : is_next r.layout r.number r.requests r.part.records.known (Some request) ≡ true
-    pub served : planning.serves request.op ≡ true
-
   -- what an attempt needs of own slots is free
   pub record HasReserve (r : RunnerState T) : Type 0 where
     pub nodes : 2 ≤ length r.part.nodes.free

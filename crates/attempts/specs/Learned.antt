@@ -9,7 +9,7 @@ use Rattle.machine_states.specs.runner_steps.specs.Sections.{thunk_of, next_of}
 use Rattle.machine_states.specs.World.{World, seat_of}
 use Rattle.machine_states.specs.Reached.{Reached}
 use Rattle.version_words.specs.RunnerState.{RunnerState}
-use Rattle.lock_walks.specs.try_lock.specs.section_runs.specs.Opened.{Learns}
+use Rattle.caller_facts.specs.section_runs.specs.Opened.{Learns}
 use Rattle.lock_walks.specs.try_lock.specs.Reached.{IsReached}
 
 module _ {T : Type 0} (m : Meaning) where

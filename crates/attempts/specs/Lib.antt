@@ -1,5 +1,3 @@
-pub mod Knowing
-pub mod Counted
 pub mod Reclaims
 pub mod Course
 pub mod Attempts
@@ -7,8 +5,9 @@ pub mod Learned
 pub mod RealTime
 pub mod Rests
 -- Passed on to the layers above, so that they needn't name these libraries themselves.
+pub use Rattle.caller_facts
 pub use Rattle.lock_walks.specs.try_lock.specs.commit_log
-pub use Rattle.lock_walks.specs.try_lock.specs.epoch_slots
+pub use Rattle.caller_facts.specs.epoch_slots
 pub use Rattle.lock_walks
 pub use Rattle.lock_words
 pub use Rattle.request_facts

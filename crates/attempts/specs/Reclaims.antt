@@ -3,8 +3,8 @@ use Rattle.std.specs.Prelude.{◌≡◌, ℕ, ◌*◌, ◌/◌, ◌&&◌, ◌==�
 use Rattle.std.specs.Int.{is_power_of_two}
 use Rattle.machine_states.specs.structure_laws.specs.Meaning.{Meaning}
 use Rattle.version_words.specs.RunnerState.{RunnerState}
-use Rattle.lock_walks.specs.try_lock.specs.epoch_slots.specs.Collects.{IsTidy, Collects}
-use Rattle.lock_walks.specs.try_lock.specs.epoch_slots.specs.Sweeps.{HasSwept}
+use Rattle.caller_facts.specs.epoch_slots.specs.Collects.{IsTidy, Collects}
+use Rattle.caller_facts.specs.epoch_slots.specs.Sweeps.{HasSwept}
 
 -- so many node slots in limbo, of as many as the layout gives each worker, are worth the steps of a scan: a quarter or
 -- more, as long as that is fewer than 64; else 64 or 65, and again each time that they have doubled

@@ -11,8 +11,8 @@ use Rattle.machine_states.specs.Sight.{sight}
 use Rattle.machine_states.specs.epoch_core.specs.declared.stage.Stage.TheVariants as stages
 use Rattle.version_words.specs.RunnerState.{RunnerState}
 use Rattle.version_words.specs.Stages.{IsAt}
-use Rattle.lock_walks.specs.try_lock.specs.epoch_slots.specs.Collects.{IsTidy}
-use Rattle.lock_walks.specs.try_lock.specs.epoch_slots.specs.Entries.{HasLeave}
+use Rattle.caller_facts.specs.epoch_slots.specs.Collects.{IsTidy}
+use Rattle.caller_facts.specs.epoch_slots.specs.Entries.{HasLeave}
 use Rattle.lock_walks.specs.try_lock.specs.commit_log.specs.Asked.{IsAsked}
 use Rattle.lock_walks.specs.try_lock.specs.Planning.{Planning}
 use Rattle.lock_walks.specs.try_lock.specs.Reached.{IsReached}
@@ -21,8 +21,8 @@ use Rattle.lock_walks.specs.try_lock.specs.Ends.{IsCutShort}
 use Rattle.lock_words.specs.Taken.{HasLeftBy}
 use Rattle.request_facts.specs.Laws.{HasEntry}
 use Rattle.request_facts.specs.Placed.{IsServedAs}
-use Rattle.attempts.specs.Knowing.{KnowsMore, IsOwn, LearnsNoOther}
-use Rattle.attempts.specs.Counted.{IsCounted}
+use Rattle.caller_facts.specs.Knowing.{KnowsMore, IsOwn, LearnsNoOther}
+use Rattle.caller_facts.specs.Counted.{IsCounted}
 use Rattle.attempts.specs.Course.{IsEmptyHanded, LeavesAndLoads}
 use Rattle.attempts.specs.Attempts.{is_halted, is_short, IsBrief, Leaves, leaving_steps, leaving_helps, has_helped, Answers, steps_of, has_published, has_met_held, asks_before}
 use Rattle.attempts.specs.declared.answers.Attempt.{Attempt}

@@ -2,13 +2,11 @@
 //!
 //! `attempting` has the call `attempt`, and its plan; `tries` publishes the planned section, `runs` runs and retires
 //! it. `answers` is what an attempt may come to, `refusals` how refusals of a plan, a publication and a section are
-//! told as such answers, `turns` how a runner leaves with one, `reclaims` collects
-//! where that is due, `reserves` has the own slots that an attempt needs, `asks`
-//! the gate's asks beside those after steps, and `learns` how a request that the runner knows is answered by its words.
+//! told as such answers, `turns` how a runner leaves with one, `reclaims` collects where that is due, `reserves` has the
+//! own slots that an attempt needs, and `learns` how a request that the runner knows is answered by its words.
 #![tactic(auto)]
 
 mod answers;
-mod asks;
 mod attempting;
 mod learns;
 mod reclaims;
@@ -19,7 +17,6 @@ mod tries;
 mod turns;
 
 pub use answers::Attempt;
-pub use asks::goes_on;
 pub use attempting::{attempt, plan_and_try};
 pub use learns::learn;
 pub use reclaims::reclaim;
@@ -30,6 +27,7 @@ pub use tries::try_section;
 pub use turns::turn_away;
 
 // Passed on to the layers above, so that they needn't name these libraries themselves.
+pub use caller_facts::goes_on;
 pub use lock_walks;
 pub use lock_walks::epoch_slots;
 pub use lock_words;

@@ -1,7 +1,7 @@
 //! How a runner comes by free slots before an attempt: it collects and sweeps where it has to.
 ghost use Rattle.std.specs.Prelude.{◌≡◌};
 ghost use Rattle.version_words.specs.TableState.{IsOf};
-ghost use Rattle.lock_walks.specs.try_lock.specs.epoch_slots.specs.Collects.{IsTidy, Collects};
+ghost use Rattle.caller_facts.specs.epoch_slots.specs.Collects.{IsTidy, Collects};
 ghost use Rattle.attempts.specs.Reclaims.{is_much, lacks_slots, lacks_descriptor, has_much_in_limbo, CollectsWhere, SweepsWhere, Reclaims, IsRested};
 
 use lock_walks::epoch_slots::{collect, sweep};

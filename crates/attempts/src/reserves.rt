@@ -1,6 +1,6 @@
 //! The own slots that an attempt needs.
 ghost use Rattle.std.specs.Prelude.{◌≡◌, IfOk, IfErr};
-ghost use Rattle.lock_walks.specs.try_lock.specs.epoch_slots.specs.Reserves.{counts_of};
+ghost use Rattle.caller_facts.specs.epoch_slots.specs.Reserves.{counts_of};
 ghost use Rattle.attempts.specs.Course.{HasReserve};
 ghost use Rattle.attempts.specs.Attempts.{IsFew};
 

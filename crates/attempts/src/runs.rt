@@ -4,16 +4,16 @@ ghost use Rattle.machine_states.specs.body_terms.specs.Trail.{Agreed};
 ghost use Rattle.machine_states.specs.body_terms.specs.declared.thunk.Thunk.{Thunk};
 ghost use Rattle.version_words.specs.RunnerState.{RunnerState};
 ghost use Rattle.version_words.specs.TableState.{IsOf};
-ghost use Rattle.attempts.specs.Counted.{IsSeen};
+ghost use Rattle.caller_facts.specs.Counted.{IsSeen};
 ghost use Rattle.attempts.specs.Course.{HasTried, HasEnded};
 ghost use Rattle.attempts.specs.Attempts.{most_of_run};
 ghost use Rattle.attempts.specs.Rests.{Rests};
 
 use crate::answers::Attempt;
-use crate::asks::goes_on;
 use crate::learns::learn;
 use crate::refusals::section_left;
 use crate::turns::turn_away;
+use caller_facts::goes_on;
 use lock_walks::Planner;
 use lock_walks::try_lock::{RunEnd, Section, run_section};
 use lock_words::{stale_words_differ, taken_names_stand};

@@ -4,7 +4,7 @@ ghost use Rattle.machine_states.specs.structure_laws.specs.Scene.{Readings};
 ghost use Rattle.version_words.specs.RunnerState.{RunnerState};
 ghost use Rattle.version_words.specs.TableState.{IsOf};
 ghost use Rattle.lock_walks.specs.try_lock.specs.declared.planned.Planned.TheVariants as plans;
-ghost use Rattle.attempts.specs.Counted.{IsSeen};
+ghost use Rattle.caller_facts.specs.Counted.{IsSeen};
 ghost use Rattle.attempts.specs.Course.{HasPlanned};
 ghost use Rattle.attempts.specs.Attempts.{most_of_run};
 ghost use Rattle.attempts.specs.Rests.{Rests};

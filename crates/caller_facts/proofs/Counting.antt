@@ -1,9 +1,8 @@
 -- Asking a gate, step by step.
 use Rattle.std.specs.Prelude.{Bool, true}
 use Rattle.std.proofs.Common.{◌≡◌, ℕ, ◌+◌, ◌≤◌, refl, ap, ◌∙◌, subst, arith}
-use Rattle.runner_gate.specs.fault_count.specs.Rose.{Rose}
 use Rattle.machine_states.specs.body_terms.specs.Counted.{counted_on}
-use Rattle.runner_gate.specs.Asks.{Asks, asked_on}
+use Rattle.runner_gate.specs.Asks.{Asks, asked_on, HaltedOnce}
 use Rattle.lock_walks.specs.try_lock.specs.commit_log.specs.Asked.{IsAsked}
 use Rattle.lock_walks.specs.try_lock.specs.commit_log.proofs.Asked.{counted_more, asked_on_more}
 use Rattle.caller_facts.specs.Counted.{IsCounted}
@@ -31,7 +30,7 @@ counted_then n a k b going halts halts' halts'' asks asks' asks'' steps steps' s
           ∙ (let e : (n + a) + (k + b) ≡ (n + k) + (a + b) = omega arith in ap (asked_on asks) e)));
       never_falls = subst (λ h. h ≤ halts'') same two.never_falls;
       went = λ e. two.went e ∙ same;
-      halted = λ e. subst (λ h. Rose h halts'') same (two.halted e);
+      halted = λ e. subst (λ h. HaltedOnce h halts'') same (two.halted e);
     }
 
 -- asks without a step, and then steps

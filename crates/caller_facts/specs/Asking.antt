@@ -33,11 +33,6 @@ module _ {T : Type 0} where
     pub next : is_next r.layout r.number r.requests r.part.records.known (Some request) ≡ true
     pub served : planning.serves request.op ≡ true
 
-  -- no slot is in the hand or half looked at
-  pub record IsEmptyHanded (r : RunnerState T) : Type 0 where
-    pub hand : r.part.nodes.hand ≡ []
-    pub tests : r.part.nodes.tests ≡ []
-
   -- in a state that the machine reaches, in which the runner has this part, nobody has served the request; so the
   -- runner doesn't know it
   pub record IsUntouched (m : Meaning) (number : ℕ) (r : RunnerState T) : Type 0 where

@@ -1,8 +1,7 @@
 -- How often a gate was asked, and how many steps were counted.
 use Rattle.std.specs.Prelude.{◌≡◌, ℕ, ◌+◌, ◌≤◌, Bool, true, false}
-use Rattle.runner_gate.specs.fault_count.specs.Rose.{Rose}
 use Rattle.machine_states.specs.body_terms.specs.Counted.{counted_on}
-use Rattle.runner_gate.specs.Asks.{Asks, asked_on}
+use Rattle.runner_gate.specs.Asks.{Asks, asked_on, HaltedOnce}
 
 -- so many steps were counted, and a gate was asked after each and so many times more. It let the runner go on
 -- each time, or halted it at the last one; and it is that gate still. The numbers are the gate's halts, its
@@ -13,7 +12,7 @@ pub record IsCounted (made more : ℕ) (going : Bool) (halts halts' : ℕ) (asks
   pub asked : asks' ≡ asked_on asks (made + more)
   pub never_falls : halts ≤ halts'
   pub went : going ≡ true → halts' ≡ halts
-  pub halted : going ≡ false → Rose halts halts'
+  pub halted : going ≡ false → HaltedOnce halts halts'
 
 module _ {G : Type 0} where
   -- a gate came to so many halts and to these asks, which tell whose it is. A function that is passed a gate shows

@@ -1,8 +1,7 @@
 -- Asking on.
 use Rattle.std.proofs.Common.{◌≡◌, ℕ, zero, suc, min, ◌+◌, ◌-◌, ◌^◌, ◌≤◌, Bool, true, refl, subst, ap, ◌∙◌, arith}
-use Rattle.runner_gate.specs.fault_count.specs.Rose.{Rose}
 use Rattle.machine_states.specs.body_terms.specs.Counted.{counted_on}
-use Rattle.runner_gate.specs.Asks.{Asks, asked_on}
+use Rattle.runner_gate.specs.Asks.{Asks, asked_on, HaltedOnce}
 use Rattle.commit_log.specs.Asked.{IsAsked}
 
 pub counted_more : (count n k : ℕ) → counted_on (counted_on count n) k ≡ counted_on count (n + k)
@@ -34,7 +33,7 @@ asked_more n k going halts halts' halts'' asks asks' asks'' steps steps' steps''
       asked = two.asked ∙ (ap (λ a. asked_on a k) one.asked ∙ asked_on_more asks n k);
       never_falls = subst (λ h. h ≤ halts'') same two.never_falls;
       went = λ e. two.went e ∙ same;
-      halted = λ e. subst (λ h. Rose h halts'') same (two.halted e);
+      halted = λ e. subst (λ h. HaltedOnce h halts'') same (two.halted e);
     }
 
 pub asked_as : (n k : ℕ) → n ≡ k → (going : Bool) (halts halts' : ℕ) (asks asks' : Asks) (steps steps' : ℕ) → IsAsked n going halts halts' asks asks' steps steps'

@@ -4,7 +4,8 @@ ghost use Rattle.std.specs.Process.{exit_status};
 ghost use Rattle.flock_tool.specs.command_line.specs.Commands.{AreAccepted, IsCommand, texts};
 ghost use Rattle.flock_tool.specs.command_line.specs.declared.command.Command.{Command};
 ghost use Rattle.flock_tool.specs.Alone.{IsValidAlone, NothingStops};
-ghost use Rattle.flock_tool.specs.Commands.{Exits, RefusedEnds};
+ghost use Rattle.flock_tool.specs.Commands.{RefusedEnds};
+ghost use Rattle.flock_tool.specs.Exits.{Exits};
 ghost use Rattle.flock_tool.specs.Runs.{IsRunStatus};
 ghost use Rattle.flock_tool.specs.Streams.{gating, stream};
 
@@ -33,7 +34,8 @@ pub fn run<'a, T: Threads + Wait + Sync, R: Source, K: Sink, F: Sink, G: Gates>(
     gates: &mut G,
 ) -> ExitCode
     // The command ends with this status, as it says of it: what a run left stood behind it, or nothing did.
-    ensures commands { (command : Command) → IsCommand (texts words.now) command → Exits command (exit_status result)
+    ensures commands { (command : Command) → IsCommand (texts words.now) command
+        → Exits G.Gate.halts G.Gate.asks command (exit_status result) (R.left source.old)
         (stream (R.left source.old) (R.left source.new) (R.faults source.old) (R.faults source.new))
         (stream (K.held sink.old) (K.held sink.new) (K.faults sink.old) (K.faults sink.new))
         (stream (F.held faults.old) (F.held faults.new) (F.faults faults.old) (F.faults faults.new))

@@ -6,6 +6,7 @@ use Rattle.std.proofs.lemmas.Option.{slice_get_within}
 use Rattle.machine_states.specs.map_history.specs.declared.op.Request.{Request}
 use Rattle.machine_states.specs.structure_laws.specs.Meaning.{Meaning}
 use Rattle.machine_states.proofs.Steps.{some_same}
+use Rattle.threaded_runs.specs.runner_gate.specs.declared.counts.GatePlan.{GatePlan}
 use Rattle.threaded_runs.specs.Counts.{halts_counted, plans_from, plans_given, returns_counted, GivesFront}
 use Rattle.threaded_runs.specs.Asks.{AreAsked}
 use Rattle.threaded_runs.specs.Lone.{ReadsAlone, ServesAlone}
@@ -46,9 +47,9 @@ front_uncounted plans (suc count) (None ∷ list) none = front_uncounted plans c
 front_uncounted plans (suc count) (Some ask ∷ list) none = let clash = none 0 (Some ask) refl in absurd (cc)
 
 -- where no halt is named, no gate is given with a plan
-pub unplanned_front : (halts : List Halt) (runners plans plans' : ℕ) (asks : List (Option ℕ)) → length asks ≡ runners
-    → ((runner : ℕ) → runner < runners → slice_get asks runner ≡ Some (ask_of halts runner)) → GivesFront plans plans' asks → halts ≡ [] → plans' ≡ plans
-unplanned_front halts runners plans plans' asks each are front none = front.1 ∙ front_uncounted plans front.0 asks
+pub unplanned_front : (halts : List Halt) (runners plans plans' : ℕ) (planned planned' : List GatePlan) (asks : List (Option ℕ)) → length asks ≡ runners
+    → ((runner : ℕ) → runner < runners → slice_get asks runner ≡ Some (ask_of halts runner)) → GivesFront plans plans' planned planned' asks → halts ≡ [] → plans' ≡ plans
+unplanned_front halts runners plans plans' planned planned' asks each are front none = front.1 ∙ front_uncounted plans front.0 asks
     (λ i plan at.
     let low : i < runners = subst (λ n. i < n) each (slice_get_within asks i plan at) in
     some_same plan None (sym at ∙ are i low ∙ ap (λ (hs : List Halt). Some (ask_of hs i)) none))

@@ -18,4 +18,5 @@ pub mod Sizes
 pub mod Whole
 mod OneKeyed
 mod Others
+mod Owned
 mod Traced

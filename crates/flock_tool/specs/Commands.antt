@@ -134,11 +134,6 @@ Ends (commands.Gen plan) = GenEnds plan
 Ends (commands.Load load) = LoadEnds load
 Ends commands.Check = CheckEnds
 
--- the program ended as this command does, with this status, whatever a run left
-abbrev pub Exits : Command → ℕ → (source sink faults : Stream) → Gating → Type 0
-Exits command number source sink faults gates = (back : Option Ran)
-    × Ends command (number, back) source sink faults gates
-
 -- words that are no command are refused, unless memory is wanting before they are known as such: nothing is read,
 -- printed or run, and nothing comes back
 pub record RefusedEnds (result : ℕ × Option Ran) (source sink faults : Stream) (gates : Gating) : Type 0 where

@@ -8,6 +8,7 @@ ghost use Rattle.threaded_runs.specs.Runs.{AreServed};
 ghost use Rattle.command_line.specs.Generated.{AreLoadRanges};
 ghost use Rattle.command_line.specs.Options.{are_free};
 ghost use Rattle.flock_tool.specs.Commands.{LoadRuns};
+ghost use Rattle.flock_tool.specs.Gates.{GatesAreOwn};
 ghost use Rattle.flock_tool.specs.Loads.{EndsLoad, HasLoaded, IsCounted};
 ghost use Rattle.flock_tool.specs.Runs.{words_in, answers_in, meaning_of, waits_out};
 ghost use Rattle.flock_tool.specs.Streams.{gating, stream};
@@ -48,9 +49,13 @@ pub fn load_command<T: Threads + Wait + Sync, K: Sink, F: Sink, G: Gates>(
     gates: &mut G,
 ) -> (u8, Option<Ran>)
     requires { AreLoadRanges load }
-    ensures { LoadRuns load result
+    ensures runs { LoadRuns load result
         (stream (K.held sink.old) (K.held sink.new) (K.faults sink.old) (K.faults sink.new))
         (stream (F.held faults.old) (F.held faults.new) (F.faults faults.old) (F.faults faults.new))
+        (gating (G.halts gates.old) (G.halts gates.new) (G.asks gates.old) (G.asks gates.new)
+        (G.plans gates.old) (G.plans gates.new) (G.planned gates.old) (G.planned gates.new)
+        (G.returned gates.old) (G.returned gates.new)) }
+    ensures gates { GatesAreOwn G.Gate.halts G.Gate.asks load.run.halts (are_free load.run.reads) result
         (gating (G.halts gates.old) (G.halts gates.new) (G.asks gates.old) (G.asks gates.new)
         (G.plans gates.old) (G.plans gates.new) (G.planned gates.old) (G.planned gates.new)
         (G.returned gates.old) (G.returned gates.new)) }

@@ -6,6 +6,7 @@ ghost use Rattle.command_line.specs.Options.{AreInRange, are_free};
 ghost use Rattle.flock_tool.specs.Commands.{RunEnds};
 ghost use Rattle.flock_tool.specs.End.{Tells, stop_line, stop_status};
 ghost use Rattle.flock_tool.specs.Finish.{finish_by, finish_status, TellsFinish};
+ghost use Rattle.flock_tool.specs.Gates.{GatesAreOwn};
 ghost use Rattle.flock_tool.specs.Runs.{words_in, answers_in, meaning_of, waits_out, HasReported, IsRunStatus};
 ghost use Rattle.flock_tool.specs.Streams.{gating, stream};
 
@@ -37,6 +38,10 @@ pub fn run_command<T: Threads + Wait + Sync, R: Source, K: Sink, F: Sink, G: Gat
         (stream (R.left source.old) (R.left source.new) (R.faults source.old) (R.faults source.new))
         (stream (K.held sink.old) (K.held sink.new) (K.faults sink.old) (K.faults sink.new))
         (stream (F.held faults.old) (F.held faults.new) (F.faults faults.old) (F.faults faults.new))
+        (gating (G.halts gates.old) (G.halts gates.new) (G.asks gates.old) (G.asks gates.new)
+        (G.plans gates.old) (G.plans gates.new) (G.planned gates.old) (G.planned gates.new)
+        (G.returned gates.old) (G.returned gates.new)) }
+    ensures gates { GatesAreOwn G.Gate.halts G.Gate.asks options.halts (are_free options.reads) result
         (gating (G.halts gates.old) (G.halts gates.new) (G.asks gates.old) (G.asks gates.new)
         (G.plans gates.old) (G.plans gates.new) (G.planned gates.old) (G.planned gates.new)
         (G.returned gates.old) (G.returned gates.new)) }

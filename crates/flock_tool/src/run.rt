@@ -8,8 +8,9 @@ ghost use Rattle.machine_states.specs.table_words.specs.Limits.{IsWithinLimits};
 ghost use Rattle.version_words.specs.machine_invariant.specs.After.{AreAllowed};
 ghost use Rattle.threaded_runs.specs.closed_words.specs.Histories.{HoldsNoLock};
 ghost use Rattle.leaf_tree.specs.tree_laws.specs.bucket_laws.specs.Walk.{has_one_key};
-ghost use Rattle.command_line.specs.Options.{AreInRange};
+ghost use Rattle.command_line.specs.Options.{AreInRange, are_free};
 ghost use Rattle.load_counts.specs.run_reports.specs.Reports.{HaveContents, Prints};
+ghost use Rattle.flock_tool.specs.Gates.{HaveOwnGates};
 ghost use Rattle.flock_tool.specs.Runs.{words_in, answers_in, meaning_of, HasRunOn, HasRunPlan, StopsReport};
 ghost use Rattle.flock_tool.specs.Streams.{gating, stream};
 
@@ -45,6 +46,11 @@ pub fn run_plan<T: Threads + Wait + Sync, G: Gates>(
     requires ordered { AreInOrder plan.now.traces.requests plan.now.traces.count }
     requires one_key { All (λ (request : Request). has_one_key request.op ≡ true) plan.now.traces.requests }
     ensures ran { IfOk result (λ ran. HasRunPlan plan.now ran
+        (gating (G.halts gates.old) (G.halts gates.new) (G.asks gates.old) (G.asks gates.new)
+        (G.plans gates.old) (G.plans gates.new) (G.planned gates.old) (G.planned gates.new)
+        (G.returned gates.old) (G.returned gates.new))) }
+    ensures gates { IfOk result (λ ran. HaveOwnGates G.Gate.halts G.Gate.asks (meaning_of ran) (words_in ran)
+        (answers_in ran) plan.now.options.halts (are_free plan.now.options.reads)
         (gating (G.halts gates.old) (G.halts gates.new) (G.asks gates.old) (G.asks gates.new)
         (G.plans gates.old) (G.plans gates.new) (G.planned gates.old) (G.planned gates.new)
         (G.returned gates.old) (G.returned gates.new))) }
@@ -87,6 +93,11 @@ where
         plan.now.traces.requests }
     ensures ran { IfOk result (λ ran. HasRunOn S.meaning (S.planning structure).per_pair structure plan.now
         ran.0 ran.1.items
+        (gating (G.halts gates.old) (G.halts gates.new) (G.asks gates.old) (G.asks gates.new)
+        (G.plans gates.old) (G.plans gates.new) (G.planned gates.old) (G.planned gates.new)
+        (G.returned gates.old) (G.returned gates.new))) }
+    ensures gates { IfOk result (λ ran. HaveOwnGates G.Gate.halts G.Gate.asks (S.meaning ran.0.structure) ran.0
+        ran.1.items plan.now.options.halts (are_free plan.now.options.reads)
         (gating (G.halts gates.old) (G.halts gates.new) (G.asks gates.old) (G.asks gates.new)
         (G.plans gates.old) (G.plans gates.new) (G.planned gates.old) (G.planned gates.new)
         (G.returned gates.old) (G.returned gates.new))) }

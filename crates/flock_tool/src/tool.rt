@@ -5,6 +5,7 @@ ghost use Rattle.command_line.specs.declared.command.Command.{Command};
 ghost use Rattle.flock_tool.specs.Alone.{IsValidAlone, KeepsVersions, NothingStops};
 ghost use Rattle.flock_tool.specs.Asks.{AsksFew, AsksOften};
 ghost use Rattle.flock_tool.specs.Commands.{Ends, IsNoCommand, RefusedEnds};
+ghost use Rattle.flock_tool.specs.Gates.{GatesAreOwn, halts_named};
 ghost use Rattle.flock_tool.specs.Reads.{ReadsFirst, reads_freely};
 ghost use Rattle.flock_tool.specs.Runs.{IsRunStatus};
 ghost use Rattle.flock_tool.specs.Streams.{gating, stream};
@@ -86,6 +87,12 @@ pub fn flock<'a, T: Threads + Wait + Sync, R: Source, K: Sink, F: Sink, G: Gates
         (G.returned gates.old) (G.returned gates.new)) }
     // However many runners there are, their gates are asked for each request that is served.
     ensures often { (command : Command) → IsCommand (texts words.now) command → AsksOften (reads_freely command) result
+        (gating (G.halts gates.old) (G.halts gates.new) (G.asks gates.old) (G.asks gates.new)
+        (G.plans gates.old) (G.plans gates.new) (G.planned gates.old) (G.planned gates.new)
+        (G.returned gates.old) (G.returned gates.new)) }
+    // Each runner had the gate that was given out for it: it was halted exactly where this gate halted.
+    ensures gates { (command : Command) → IsCommand (texts words.now) command
+        → GatesAreOwn G.Gate.halts G.Gate.asks (halts_named command) (reads_freely command) result
         (gating (G.halts gates.old) (G.halts gates.new) (G.asks gates.old) (G.asks gates.new)
         (G.plans gates.old) (G.plans gates.new) (G.planned gates.old) (G.planned gates.new)
         (G.returned gates.old) (G.returned gates.new)) }

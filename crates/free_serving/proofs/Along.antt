@@ -25,17 +25,18 @@ use Rattle.seq_read.specs.caller_facts.specs.try_lock.specs.Reached.{IsReached}
 use Rattle.serving.specs.attempt_bounds.specs.Spared.{IsSpared}
 use Rattle.seq_read.specs.caller_facts.specs.request_facts.specs.Laws.{HasEntry}
 use Rattle.seq_read.specs.caller_facts.specs.epoch_slots.specs.Collects.{IsTidy}
-use Rattle.serving.specs.attempts.specs.Knowing.{KnowsMore, IsOwn}
-use Rattle.serving.specs.attempts.proofs.Knowing.{knows_same, knows_on, own_on}
-use Rattle.serving.specs.Serving.{most_asks, WasJustServed, WasHalted, MayServe}
+use Rattle.seq_read.specs.caller_facts.specs.Knowing.{KnowsMore, IsOwn}
+use Rattle.seq_read.specs.caller_facts.proofs.Knowing.{knows_same, knows_on, own_on}
+use Rattle.serving.specs.Serving.{Try, most_asks, WasCrossed, WasJustServed, WasHalted, MayServe}
 use Rattle.serving.specs.declared.answers.Served.{Served}
 use Rattle.serving.specs.declared.answers.Served.TheVariants as answers
 use Rattle.serving.proofs.Standing.{entry_on, answered_more, stamp_of, one_stamp}
 use Rattle.serving.proofs.Trying.{same_layout, same_requests}
-use Rattle.free_serving.specs.Services.{is_get, Service, request_of, served_by, full_by, steps_by, asks_by, steps_in, asks_in, goes_on, GoesOn, IsEnd, IsService, AreDone, asks_let}
-use Rattle.free_serving.specs.Left.{IsBefore, IsOdd, MostRuns, AreServed, AreAskedWholly, WasPublished, CameBetween, WasReadInVain, HasStopped, Ends as EndsAll, Leaves}
+use Rattle.free_serving.specs.Services.{is_get, Service, request_of, served_by, full_by, steps_by, asks_by, steps_in, asks_in, tries_by, tries_in, goes_on, GoesOn, IsEnd, IsService, AreDone, asks_let}
+use Rattle.free_serving.specs.Left.{IsBefore, IsOdd, MostRuns, AreServed, AreAskedWholly, WasPublished, WasReadInVain, HasStopped, Ends as EndsAll, Leaves}
 use Rattle.free_serving.specs.One.{IsServed, Ends, LeavesOne, ServesOne}
-use Rattle.free_serving.specs.Freely.{ServesFreely}
+use Rattle.free_serving.specs.Freely.{ServesAll}
+use Rattle.serving.proofs.Tries.{crossed_then, crossed_now}
 use Rattle.free_serving.proofs.Same.{Same}
 use Rattle.free_serving.proofs.Both.{came_back, vain_back}
 
@@ -110,8 +111,8 @@ module _ {T : Type 0} (m : Meaning) (planning : Planning) where
     pub counted : steps' ≡ counted_on steps (steps_in services)
     pub asked : asks' ≡ asked_on asks (asks_in services)
     pub least : count * 8 ≤ asks_in services
-    pub brief : CameBetween m planning old ⊎ IsBriefSoFar count (asks_in services) old r
-    pub spared : retry_short ≡ false → IsSpared old → CameBetween m planning old ⊎ IsSpared r
+    pub brief : WasCrossed m planning (tries_in services) old ⊎ IsBriefSoFar count (asks_in services) old r
+    pub spared : retry_short ≡ false → IsSpared old → WasCrossed m planning (tries_in services) old ⊎ IsSpared r
 
   pub so_far_begins : (retry_short : Bool) (requests : List Request) (r : RunnerState T) (asks : Asks) (steps : ℕ)
       → IsSoFar retry_short requests 0 r r asks asks steps steps
@@ -162,7 +163,7 @@ module _ {T : Type 0} (m : Meaning) (planning : Planning) where
 module _ {T : Type 0} (m : Meaning) (laws : Laws m) (planning : Planning) (retry_short : Bool) (requests : List Request) (old r new : RunnerState T)
     (t : TableState T) (limits : IsWithinLimits t.layout) (allowed : AreAllowed t.requests) (of_old : IsOf t old) (of_r : IsOf t r) (of_new : IsOf t new)
     (may : MayServe planning requests old) (i : ℕ) (q : Request) (at : slice_get requests i ≡ Some q) (along : IsAlong m planning requests i old r)
-    (answer : Served) (count full asked : ℕ) (left : LeavesOne m planning retry_short q answer count full asked r new) where
+    (answer : Served) (count full asked : ℕ) (tries : List Try) (left : LeavesOne m planning retry_short q answer count full asked tries r new) where
   same : Same old r
   same = (same_layout t old r of_old of_r, same_requests t old r of_old of_r)
 
@@ -272,7 +273,7 @@ module _ {T : Type 0} (m : Meaning) (laws : Laws m) (planning : Planning) (retry
 
   -- the serving goes on
   pub goes_along : answer ≡ answers.All → IsAlong m planning requests (i + 1) old new
-  goes_along all = let ends = subst (λ (a : Served). Ends m planning retry_short q a count r new) all left.ends in record {
+  goes_along all = let ends = subst (λ (a : Served). Ends m planning retry_short q a count tries r new) all left.ends in record {
     served = served_more ends.0;
     unanswered = λ x there. still_open (i + 1) x there (omega arith);
     tidy = ends.1;
@@ -315,28 +316,37 @@ module _ {T : Type 0} (m : Meaning) (laws : Laws m) (planning : Planning) (retry
       nothing : (p : Published) → new.part.published ≡ Some p → (a : Served) → answer ≡ a → count ≡ 1 → ⊥
       nothing p some answers.All e one = over e
       nothing p some answers.Halted e one =
-          let halted = subst (λ (a : Served). Ends m planning retry_short q a count r new) e left.ends in
+          let halted = subst (λ (a : Served). Ends m planning retry_short q a count tries r new) e left.ends in
           let place = halted.published p some in
           none_some place.0 (sym (ap (slice_get (q ∷ [])) (sym one) ∙ place.1))
-      nothing p some (answers.Short short) e one = let stopped = subst (λ (a : Served). Ends m planning retry_short q a count r new) e left.ends in omega (arith, stopped.0, one)
-      nothing p some (answers.Spent place word) e one = let stopped = subst (λ (a : Served). Ends m planning retry_short q a count r new) e left.ends in omega (arith, stopped.0, one)
+      nothing p some (answers.Short short) e one = let stopped = subst (λ (a : Served). Ends m planning retry_short q a count tries r new) e left.ends in omega (arith, stopped.0, one)
+      nothing p some (answers.Spent place word) e one = let stopped = subst (λ (a : Served). Ends m planning retry_short q a count tries r new) e left.ends in omega (arith, stopped.0, one)
 
   module _ (asks asks1 asks2 : Asks) (steps steps1 steps2 : ℕ) (so_far : IsSoFar m planning retry_short requests i old r asks asks1 steps steps1)
       (asked_now : asks2 ≡ asked_on asks1 asked) where
     asked_all : asks2 ≡ asked_on asks (asked + asks_in so_far.services)
     asked_all = asks_further asks asks1 asks2 (asks_in so_far.services) asked so_far.asked asked_now
 
+    abbrev all_tries : List Try
+    all_tries = tries ++ tries_in so_far.services
+
+    came_before : WasCrossed m planning (tries_in so_far.services) old → WasCrossed m planning all_tries old
+    came_before = crossed_then m planning tries (tries_in so_far.services) old
+
+    came_now : WasCrossed m planning tries r → WasCrossed m planning all_tries old
+    came_now came = crossed_now m planning tries (tries_in so_far.services) old (came_back m planning old r same tries came)
+
     -- where few slots were retired lately, unless wants are waited out
-    spared_now : answer ≡ answers.All → retry_short ≡ false → IsSpared old → CameBetween m planning old ⊎ IsSpared new
-    spared_now all unwaited was = ⊎_elim inl
-        (λ here. ⊎_elim (λ came. inl (came_back m planning old r same came)) inr (left.spared all unwaited here))
+    spared_now : answer ≡ answers.All → retry_short ≡ false → IsSpared old → WasCrossed m planning all_tries old ⊎ IsSpared new
+    spared_now all unwaited was = ⊎_elim (λ came. inl (came_before came))
+        (λ here. ⊎_elim (λ came. inl (came_now came)) inr (left.spared all unwaited here))
         (so_far.spared unwaited was)
 
     brief_now : (runs : ℕ → ℕ → Type 0) → ((start before behind : ℕ) → before ≤ start + i → MostRuns answer count before behind → runs start behind)
-        → CameBetween m planning old ⊎ (runs (length old.part.records.finished) (length new.part.records.finished)
+        → WasCrossed m planning all_tries old ⊎ (runs (length old.part.records.finished) (length new.part.records.finished)
         × (asked + asks_in so_far.services ≤ (i + 1) * most_asks (slots m old.layout)))
-    brief_now runs on = ⊎_elim inl
-        (λ before. ⊎_elim (λ came. inl (came_back m planning old r same came))
+    brief_now runs on = ⊎_elim (λ came. inl (came_before came))
+        (λ before. ⊎_elim (λ came. inl (came_now came))
         (λ here. inr (
           on (length old.part.records.finished) (length r.part.records.finished) (length new.part.records.finished) before.runs here.runs,
           one_more i (most_asks (slots m old.layout)) (asks_in so_far.services) asked before.few
@@ -346,12 +356,12 @@ module _ {T : Type 0} (m : Meaning) (laws : Laws m) (planning : Planning) (retry
         so_far.brief
 
     -- the serving ends with it
-    stopped_all : (a : Served) → HasStopped m planning retry_short a q r new → HasStopped m planning retry_short a q old new
+    stopped_all : (a : Served) → HasStopped m planning retry_short a q tries r new → HasStopped m planning retry_short a q all_tries old new
     stopped_all a stopped = record {
       before = stopped.before;
       number = stopped.number ∙ along.knows.number;
-      spared = λ unwaited was. ⊎_elim inl
-          (λ here. ⊎_elim (λ came. inl (came_back m planning old r same came)) inr (stopped.spared unwaited here))
+      spared = λ unwaited was. ⊎_elim (λ came. inl (came_before came))
+          (λ here. ⊎_elim (λ came. inl (came_now came)) inr (stopped.spared unwaited here))
           (so_far.spared unwaited was);
       stops = stopped.stops;
       tidy = stopped.tidy;
@@ -374,7 +384,7 @@ module _ {T : Type 0} (m : Meaning) (laws : Laws m) (planning : Planning) (retry
         only zero x there = (refl, some_same q x there)
         only (suc n) x there = absurd (none_some x (sym there))
 
-    ends_all : (a : Served) → (a ≢ answers.All) → Ends m planning retry_short q a count r new → EndsAll m planning retry_short requests a (i + count) old new
+    ends_all : (a : Served) → (a ≢ answers.All) → Ends m planning retry_short q a count tries r new → EndsAll m planning retry_short requests a (i + count) all_tries old new
     ends_all answers.All over ends = absurd (over refl)
     ends_all answers.Halted over ends = halted_all ends
     ends_all (answers.Short short) over ends = (q, ap (slice_get requests) (let e : i + count ≡ i = omega (arith, ends.0) in e) ∙ at, stopped_all (answers.Short short) ends.1)
@@ -405,8 +415,11 @@ module _ {T : Type 0} (m : Meaning) (laws : Laws m) (planning : Planning) (retry
     least_all : (i + full) * 8 ≤ asked + asks_in so_far.services
     least_all = let here = left.least in let before = so_far.least in omega (arith, here, before)
 
-    pub ends_leaves : (answer ≢ answers.All) → Leaves m planning retry_short true requests answer old new asks asks2
-    ends_leaves over = record {
+    -- the gate was seen before the last part of it
+    ends_leaves : (Seen : ℕ → Asks → Type 0) (halts halts1 : ℕ) → halts1 ≡ halts → (lets : ℕ)
+        → (answer ≡ answers.Halted → Seen halts1 (asked_on asks1 lets)) → (answer ≡ answers.Halted → full * 8 ≤ lets + 1)
+        → (answer ≢ answers.All) → Leaves m planning retry_short true requests answer all_tries old new Seen halts asks asks2
+    ends_leaves Seen halts halts1 went lets let_go let_least over = record {
       count = i + count;
       served = all_served;
       ends = ends_all answer over left.ends;
@@ -417,6 +430,12 @@ module _ {T : Type 0} (m : Meaning) (laws : Laws m) (planning : Planning) (retry
       asked = asked_all;
       least = least_all;
       whole = whole_all;
+      let_go = λ e. (
+        asks_in so_far.services + lets,
+        (let here = let_least e in let before = so_far.least in omega (arith, here, before)),
+        subst (λ (h : ℕ). Seen h (asked_on asks (asks_in so_far.services + lets))) went
+            (subst (Seen halts1) (ap (λ (a : Asks). asked_on a lets) so_far.asked ∙ asked_on_more asks (asks_in so_far.services) lets) (let_go e)),
+      );
       brief = ⊎_elim inl (λ is. inr (record {
         runs = is.0;
         asked = asks_few ((i + count + 1) * most_asks (slots m old.layout))
@@ -427,7 +446,7 @@ module _ {T : Type 0} (m : Meaning) (laws : Laws m) (planning : Planning) (retry
 
     -- and what was done
     module _ (service : Service) (of_request : request_of service ≡ q) (serves : IsService m planning retry_short service r new)
-        (counted_now : steps2 ≡ counted_on steps1 (steps_by service)) (asked_is : asked ≡ asks_by service) where
+        (counted_now : steps2 ≡ counted_on steps1 (steps_by service)) (asked_is : asked ≡ asks_by service) (tries_is : tries ≡ tries_by service) where
       abbrev done_all : AreDone m planning retry_short requests (service ∷ so_far.services) old new
       done_all = (r, so_far.done, so_far.follows, ap (slice_get requests) so_far.many ∙ (at ∙ ap (λ (x : Request). Some x) (sym of_request)), serves)
 
@@ -437,9 +456,13 @@ module _ {T : Type 0} (m : Meaning) (laws : Laws m) (planning : Planning) (retry
       asked_each : asks2 ≡ asked_on asks (asks_in (service ∷ so_far.services))
       asked_each = asked_all ∙ ap (λ n. asked_on asks (n + asks_in so_far.services)) asked_is
 
+      -- in its attempts, where another one came between
+      of_service : WasCrossed m planning all_tries old → WasCrossed m planning (tries_in (service ∷ so_far.services)) old
+      of_service = subst (λ (ts : List Try). WasCrossed m planning (ts ++ tries_in so_far.services) old) tries_is
+
       pub so_far_along : answer ≡ answers.All → goes_on service ≡ true → IsSoFar m planning retry_short requests (i + 1) old new asks asks2 steps steps2
       so_far_along all goes =
-          let one = (subst (λ (a : Served). Ends m planning retry_short q a count r new) all left.ends).0 in record {
+          let one = (subst (λ (a : Served). Ends m planning retry_short q a count tries r new) all left.ends).0 in record {
             services = service ∷ so_far.services;
             done = done_all;
             follows = goes;
@@ -447,12 +470,12 @@ module _ {T : Type 0} (m : Meaning) (laws : Laws m) (planning : Planning) (retry
             counted = counted_all;
             asked = asked_each;
             least = subst (λ n. (i + 1) * 8 ≤ n + asks_in so_far.services) asked_is (let all_asks = least_all in let whole = full_of one all in omega (arith, all_asks, whole));
-            brief = ⊎_elim inl (λ is. inr (record {
+            brief = ⊎_elim (λ came. inl (of_service came)) (λ is. inr (record {
               runs = is.0;
               few = subst (λ n. n + asks_in so_far.services ≤ (i + 1) * most_asks (slots m old.layout)) asked_is is.1;
             })) (brief_now (λ start behind. behind ≤ start + (i + 1)) (λ start before behind was runs.
                 all_runs start before behind was (subst (λ (a : Served). MostRuns a count before behind) all runs) one));
-            spared = spared_now all;
+            spared = λ unwaited was. ⊎_elim (λ came. inl (of_service came)) inr (spared_now all unwaited was);
           }
         where
           full_of : count ≡ 1 → answer ≡ answers.All → full ≡ 1
@@ -477,54 +500,65 @@ module _ {T : Type 0} (m : Meaning) (laws : Laws m) (planning : Planning) (retry
         end_of (answers.Short short) over ends = ends
         end_of (answers.Spent place word) over ends = ends
 
-        pub ends_freely : (answer ≢ answers.All) → IsEnd (q ∷ []) (service ∷ []) answer
-            → ServesFreely m planning retry_short requests answer old new Seen halts asks asks2 steps steps2
-        ends_freely over ends = record {
-          services = service ∷ so_far.services;
-          done = done_all;
-          ends = end_of answer over ends;
-          counted = counted_all;
-          asked = asked_each;
-          let_go = let_go_all;
+        pub ends_serving : (answer ≢ answers.All) → IsEnd (q ∷ []) (service ∷ []) answer
+            → (answer ≡ answers.Halted → full * 8 ≤ asks_let m planning retry_short service r new serves + 1)
+            → ServesAll m planning retry_short true requests answer old new Seen halts asks asks2 steps steps2
+        ends_serving over ends let_least = record {
+          does = record {
+            services = service ∷ so_far.services;
+            done = done_all;
+            ends = end_of answer over ends;
+            counted = counted_all;
+            asked = asked_each;
+            let_go = let_go_all;
+          };
+          tries = tries_in (service ∷ so_far.services);
+          by = refl;
+          left = subst (λ (ts : List Try). Leaves m planning retry_short true requests answer (ts ++ tries_in so_far.services) old new Seen halts asks asks2) tries_is
+              (ends_leaves Seen halts halts1 went (asks_let m planning retry_short service r new serves) let_go let_least over);
         }
 
 -- how the serving ends behind requests that are served
 module _ {T : Type 0} (m : Meaning) (planning : Planning) (retry_short : Bool) (requests : List Request) (old new : RunnerState T) (i : ℕ) (all : i ≡ length requests)
     (asks asks' : Asks) (steps steps' : ℕ) (so_far : IsSoFar m planning retry_short requests i old new asks asks' steps steps') where
-  pub all_freely : (Seen : ℕ → Asks → Type 0) (halts : ℕ) → ServesFreely m planning retry_short requests answers.All old new Seen halts asks asks' steps steps'
-  all_freely Seen halts = record {
-    services = so_far.services;
-    done = so_far.done;
-    ends = (so_far.many ∙ all, so_far.follows);
-    counted = so_far.counted;
-    asked = so_far.asked;
-    let_go = λ e. absurd (let z = e in cc);
-  }
-
-  pub all_leaves : IsAlong m planning requests i old new → Leaves m planning retry_short true requests answers.All old new asks asks'
-  all_leaves along = record {
-    count = i;
-    served = along.served;
-    ends = (all, along.tidy);
-    knows = along.knows;
-    others = along.others;
-    made = asks_in so_far.services;
-    full = i;
-    asked = so_far.asked;
-    least = so_far.least;
-    whole = inl refl;
-    brief = ⊎_elim inl (λ is. inr (record {
-      runs = is.runs;
-      asked =
-          let few = is.few in
-          let more = mul_more i (i + 1) (most_asks (slots m old.layout)) (omega arith) in
-          let is_so : asks'.count ≡ counted_on asks.count (asks_in so_far.services) = ap (λ (a : Asks). a.count) so_far.asked in
-          let low = counted_few asks.count (asks_in so_far.services) in omega (arith, few, more, is_so, low);
-    })) so_far.brief;
-    read = λ free. record {
-      odd = along.odd;
-      next = λ x there get was. absurd (⊎_elim (λ section. none_some section.0 (sym section.1 ∙ along.tidy.at.published))
-          (λ answered. both_ways _ (along.unanswered x there) answered) was);
+  pub all_serving : (Seen : ℕ → Asks → Type 0) (halts : ℕ) → IsAlong m planning requests i old new
+      → ServesAll m planning retry_short true requests answers.All old new Seen halts asks asks' steps steps'
+  all_serving Seen halts along = record {
+    does = record {
+      services = so_far.services;
+      done = so_far.done;
+      ends = (so_far.many ∙ all, so_far.follows);
+      counted = so_far.counted;
+      asked = so_far.asked;
+      let_go = λ e. absurd (let z = e in cc);
+    };
+    tries = tries_in so_far.services;
+    by = refl;
+    left = record {
+      count = i;
+      served = along.served;
+      ends = (all, along.tidy);
+      knows = along.knows;
+      others = along.others;
+      made = asks_in so_far.services;
+      full = i;
+      asked = so_far.asked;
+      least = so_far.least;
+      whole = inl refl;
+      let_go = λ e. absurd (let z = e in cc);
+      brief = ⊎_elim inl (λ is. inr (record {
+        runs = is.runs;
+        asked =
+            let few = is.few in
+            let more = mul_more i (i + 1) (most_asks (slots m old.layout)) (omega arith) in
+            let is_so : asks'.count ≡ counted_on asks.count (asks_in so_far.services) = ap (λ (a : Asks). a.count) so_far.asked in
+            let low = counted_few asks.count (asks_in so_far.services) in omega (arith, few, more, is_so, low);
+      })) so_far.brief;
+      read = λ free. record {
+        odd = along.odd;
+        next = λ x there get was. absurd (⊎_elim (λ section. none_some section.0 (sym section.1 ∙ along.tidy.at.published))
+            (λ answered. both_ways _ (along.unanswered x there) answered) was);
+      };
     };
   }
 
@@ -537,19 +571,15 @@ module _ {T : Type 0} (m : Meaning) (laws : Laws m) (planning : Planning) (retry
     (one : ServesOne m planning retry_short q answer r new Seen halts1 asks1 asks2 steps1 steps2) where
   pub one_along : answer ≡ answers.All → IsAlong m planning requests (i + 1) old new
   one_along all = goes_along m laws planning retry_short requests old r new t limits allowed of_old of_r of_new may i q at along answer
-      (served_by one.service) (full_by one.service) (asks_by one.service) one.left all
+      (served_by one.service) (full_by one.service) (asks_by one.service) (tries_by one.service) one.left all
 
   pub one_so_far : answer ≡ answers.All → IsSoFar m planning retry_short requests (i + 1) old new asks asks2 steps steps2
   one_so_far all = so_far_along m laws planning retry_short requests old r new t limits allowed of_old of_r of_new may i q at along answer
-      (served_by one.service) (full_by one.service) (asks_by one.service) one.left asks asks1 asks2 steps steps1 steps2 so_far one.asked
-      one.service one.of_request one.is one.counted refl all
+      (served_by one.service) (full_by one.service) (asks_by one.service) (tries_by one.service) one.left asks asks1 asks2 steps steps1 steps2 so_far one.asked
+      one.service one.of_request one.is one.counted refl refl all
       (subst (λ (a : Served). IsEnd (q ∷ []) (one.service ∷ []) a) all one.ends).1
 
-  pub one_leaves : (answer ≢ answers.All) → Leaves m planning retry_short true requests answer old new asks asks2
-  one_leaves over = ends_leaves m laws planning retry_short requests old r new t limits allowed of_old of_r of_new may i q at along answer
-      (served_by one.service) (full_by one.service) (asks_by one.service) one.left asks asks1 asks2 steps steps1 steps2 so_far one.asked over
-
-  pub one_freely : (answer ≢ answers.All) → ServesFreely m planning retry_short requests answer old new Seen halts asks asks2 steps steps2
-  one_freely over = ends_freely m laws planning retry_short requests old r new t limits allowed of_old of_r of_new may i q at along answer
-      (served_by one.service) (full_by one.service) (asks_by one.service) one.left asks asks1 asks2 steps steps1 steps2 so_far one.asked
-      one.service one.of_request one.is one.counted refl Seen halts halts1 went one.let_go over one.ends
+  pub one_serving : (answer ≢ answers.All) → ServesAll m planning retry_short true requests answer old new Seen halts asks asks2 steps steps2
+  one_serving over = ends_serving m laws planning retry_short requests old r new t limits allowed of_old of_r of_new may i q at along answer
+      (served_by one.service) (full_by one.service) (asks_by one.service) (tries_by one.service) one.left asks asks1 asks2 steps steps1 steps2 so_far one.asked
+      one.service one.of_request one.is one.counted refl refl Seen halts halts1 went one.let_go over one.ends one.let_least

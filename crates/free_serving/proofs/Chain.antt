@@ -11,8 +11,8 @@ use Rattle.version_words.specs.RunnerState.{RunnerState}
 use Rattle.seq_read.specs.caller_facts.specs.try_lock.specs.Planning.{Planning}
 use Rattle.seq_read.specs.caller_facts.specs.try_lock.specs.Reached.{IsReached}
 use Rattle.serving.specs.attempt_bounds.specs.Spared.{IsSpared, AttemptsSpareSlots}
-use Rattle.serving.specs.attempts.specs.Knowing.{KnowsMore}
-use Rattle.serving.specs.attempts.proofs.Knowing.{knows_same, knows_on}
+use Rattle.seq_read.specs.caller_facts.specs.Knowing.{KnowsMore}
+use Rattle.seq_read.specs.caller_facts.proofs.Knowing.{knows_same, knows_on}
 use Rattle.serving.specs.attempts.specs.Attempts.{asks_more, most_of_attempt, IsAttempt, IsServed, Answers}
 use Rattle.serving.specs.attempts.specs.declared.answers.Attempt.{Attempt}
 use Rattle.serving.specs.attempts.specs.declared.answers.Attempt.TheVariants as attempts

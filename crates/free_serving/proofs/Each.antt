@@ -1,6 +1,6 @@
 -- What `serve_one` comes to, by how its request was served.
 use Rattle.std.specs.Prelude.{◌%◌, ◌⊎◌, Bool, true, false, not, slice_get}
-use Rattle.std.proofs.Common.{◌≡◌, ◌≢◌, ℕ, ◌+◌, ◌≤◌, List, [], ◌∷◌, refl, sym, ap, ◌∙◌, subst, inl, inr, Some, ⊎_elim}
+use Rattle.std.proofs.Common.{◌≡◌, ◌≢◌, ℕ, ◌+◌, ◌≤◌, List, [], ◌∷◌, refl, sym, ap, ◌∙◌, subst, inl, inr, Some, ⊎_elim, arith}
 use Rattle.std.proofs.lemmas.Bool.{true≢false}
 use Rattle.machine_states.specs.map_history.specs.declared.op.Request.{Request}
 use Rattle.machine_states.specs.map_history.specs.declared.reply.Reply.{Reply}
@@ -19,13 +19,13 @@ use Rattle.serving.specs.attempts.specs.commit_log.proofs.Asked.{counted_more, a
 use Rattle.seq_read.specs.caller_facts.specs.try_lock.specs.Planning.{Planning}
 use Rattle.serving.specs.attempt_bounds.specs.Spared.{AttemptsSpareSlots}
 use Rattle.seq_read.specs.caller_facts.specs.lock_walks.specs.Gets.{GetsAreLight}
-use Rattle.serving.specs.attempts.specs.Knowing.{IsOwn}
-use Rattle.serving.specs.attempts.specs.Course.{MayAttempt}
+use Rattle.seq_read.specs.caller_facts.specs.Knowing.{IsOwn}
+use Rattle.seq_read.specs.caller_facts.specs.Asking.{MayAttempt}
 use Rattle.seq_read.specs.Reads.{is_halted, IsTurnedAway, Answers, has_answered, Reads}
 use Rattle.seq_read.specs.declared.answers.Read.{Read}
 use Rattle.seq_read.specs.declared.answers.Read.TheVariants as reads
 use Rattle.serving.specs.Serving as serving
-use Rattle.serving.specs.Serving.{Try, IsTry, MayServe, Serves}
+use Rattle.serving.specs.Serving.{Try, WasCrossed, IsTry, MayServe, Serves}
 use Rattle.serving.specs.declared.answers.Served.{Served}
 use Rattle.serving.specs.declared.answers.Served.TheVariants as answers
 use Rattle.serving.proofs.Along.{along_begins, may_next}
@@ -33,12 +33,11 @@ use Rattle.serving.proofs.Trying.{same_layout, same_requests}
 use Rattle.serving.proofs.Standing.{answered_more}
 use Rattle.serving.proofs.Tries.{or_none}
 use Rattle.free_serving.specs.Services.{is_get, is_refusal, ByRead, HaltedRead, BothWays, UnderLock, IsEnd, IsReading, IsServing}
-use Rattle.free_serving.specs.Left.{CameBetween, WasReadInVain}
+use Rattle.free_serving.specs.Left.{WasReadInVain}
 use Rattle.free_serving.specs.One.{ServesOne}
 use Rattle.free_serving.proofs.Same.{Same}
 use Rattle.free_serving.proofs.Chain.{only_place}
 use Rattle.free_serving.proofs.Light.{most_of_get, attempt_few}
-use Rattle.free_serving.proofs.Bridge.{knows_of, no_other_of, may_read}
 use Rattle.free_serving.proofs.Onward.{refused_spared}
 use Rattle.free_serving.proofs.Reading.{key_of, done_all, done_halted, cut_leaves, few_made}
 use Rattle.free_serving.proofs.Single.{IsWithin, within, single_leaves}
@@ -87,6 +86,7 @@ module _ {T : Type 0} (m : Meaning) (laws : Laws m) (planning : Planning) (retry
       counted = serves.counted;
       asked = serves.asked ∙ ap (λ n. asked_on asks (serving.asks_in serves.tries + n)) serves.count_is;
       let_go = serves.let_go;
+      let_least = λ e. let least = serves.least_let e in let is = serves.count_is in omega (arith, least, is);
       left = single_leaves m laws planning retry_short q t limits allowed old new of_old of_new answer Seen halts asks asks' steps steps' serves (may.own 0 q refl) spare
           (λ get. absurd (true≢false (sym get ∙ other)));
     }
@@ -103,7 +103,7 @@ module _ {T : Type 0} (m : Meaning) (laws : Laws m) (planning : Planning) (retry
     abbrev reading_is : (answer : Read) (read : Reads m planning q answer old new Seen halts halts1 asks asks1 steps steps1) → IsReading m planning q answer read.made old new
     reading_is answer read = record {
       get = get;
-      may = may_read planning q old (may_attempt planning q old t of_old allowed may);
+      may = may_attempt planning q old t of_old allowed may;
       answers = read.answers;
       made_is = read.made_is;
     }
@@ -122,6 +122,7 @@ module _ {T : Type 0} (m : Meaning) (laws : Laws m) (planning : Planning) (retry
         counted = read.asked.counted;
         asked = all_asked;
         let_go = λ e. absurd (let z = e in cc);
+        let_least = λ e. absurd (let z = e in cc);
         left = done_all m planning retry_short q old laws new limits_new allowed_new get Seen halts halts1 asks asks1 steps steps1 reply stamp read;
       }
 
@@ -135,6 +136,7 @@ module _ {T : Type 0} (m : Meaning) (laws : Laws m) (planning : Planning) (retry
         counted = read.asked.counted;
         asked = all_asked;
         let_go = λ e. subst (Seen halts) read.asked.asked seen;
+        let_least = λ e. (done_halted m planning retry_short q old laws new limits_new allowed_new get Seen halts halts1 asks asks1 steps steps1 reply stamp read).least;
         left = done_halted m planning retry_short q old laws new limits_new allowed_new get Seen halts halts1 asks asks1 steps steps1 reply stamp read;
       }
 
@@ -148,6 +150,7 @@ module _ {T : Type 0} (m : Meaning) (laws : Laws m) (planning : Planning) (retry
       counted = read.asked.counted;
       asked = read.asked.asked;
       let_go = λ e. read.let_go refl;
+      let_least = λ e. omega arith;
       left = cut_leaves m planning retry_short q old laws new limits_new allowed_new get Seen halts halts1 asks asks1 steps steps1 read;
     }
 
@@ -199,7 +202,7 @@ module _ {T : Type 0} (m : Meaning) (laws : Laws m) (planning : Planning) (retry
         only i x there = (only_place q x i there).1
 
         still : (y : Request) → is_answered old.part.records.known y.number ≡ true → is_answered mid.part.records.known y.number ≡ true
-        still y was = answered_more old.part.records.known mid.part.records.known (knows_of old mid read.knows).known y.number was
+        still y was = answered_more old.part.records.known mid.part.records.known read.knows.known y.number was
 
     module _ (gets : GetsAreLight m planning) (is_map : m.is_map ≡ true) (new : RunnerState T) (of_new : IsOf t new) (spare : AttemptsSpareSlots T m planning)
         (answer : Served) (asks2 : Asks) (steps2 : ℕ) (went : halts1 ≡ halts)
@@ -220,7 +223,7 @@ module _ {T : Type 0} (m : Meaning) (laws : Laws m) (planning : Planning) (retry
           subst (λ (l : Layout). x.made ≤ most_of_get (slots m l)) same_r.0
           (attempt_few m laws planning gets is_map x.request key.0 key.1 r (limits_of r same_r) (allowed_of r same_r) is.may x.answer x.made x.published s is.is parts.0 parts.1)
 
-      few_asks : CameBetween m planning mid ⊎ IsWithin answer (serving.served_in serves.tries) (serving.asks_in serves.tries + serving.served_in serves.tries)
+      few_asks : WasCrossed m planning serves.tries mid ⊎ IsWithin answer (serving.served_in serves.tries) (serving.asks_in serves.tries + serving.served_in serves.tries)
           (most_of_get (slots m mid.layout) + 3) mid new
       few_asks = within m laws planning retry_short q t limits allowed mid new of_mid of_new answer Seen halts1 asks1 asks2 steps1 steps2 serves own spare
           (most_of_get (slots m mid.layout)) few_each
@@ -240,7 +243,7 @@ module _ {T : Type 0} (m : Meaning) (laws : Laws m) (planning : Planning) (retry
       abbrev reading_too : IsReading m planning q read_answer read.made old mid
       reading_too = record {
         get = get;
-        may = may_read planning q old (may_attempt planning q old t of_old allowed may);
+        may = may_attempt planning q old t of_old allowed may;
         answers = read.answers;
         made_is = read.made_is;
       }
@@ -256,9 +259,10 @@ module _ {T : Type 0} (m : Meaning) (laws : Laws m) (planning : Planning) (retry
         let_go = λ e. subst (λ h. Seen h (asked_on asks (read.made + 1 + serving.all_asks_let m planning retry_short (q ∷ []) serves.tries mid new serves.tried))) went
             (subst (Seen halts1) (ap (λ (a : Asks). asked_on a (serving.all_asks_let m planning retry_short (q ∷ []) serves.tries mid new serves.tried)) read.asked.asked
             ∙ asked_on_more asks (read.made + 1) (serving.all_asks_let m planning retry_short (q ∷ []) serves.tries mid new serves.tried)) (serves.let_go e));
-        left = both_leaves m planning retry_short q old mid new same (knows_of old mid read.knows) (no_other_of q.number old mid read.no_other) read.finished
+        let_least = λ e. let least = serves.least_let e in let is = serves.count_is in omega (arith, least, is);
+        left = both_leaves m planning retry_short q old mid new same read.knows read.no_other read.finished
             read.made (few_made m planning retry_short q old laws mid (limits_of mid (refl, refl)) (allowed_of mid (refl, refl)) get Seen halts halts1 asks asks1 steps steps1 read_answer read) vain
-            (refused_spared m planning q old read_answer mid away read.finished) away.untouched.reached
+            (refused_spared m planning q old read_answer mid away read.finished) away.untouched.reached serves.tries
             answer (serving.served_in serves.tries) (serving.served_in serves.tries) (serving.asks_in serves.tries + serving.served_in serves.tries)
             (single_leaves m laws planning retry_short q t limits allowed mid new of_mid of_new answer Seen halts1 asks1 asks2 steps1 steps2 serves (may_still.own 0 q refl) spare
             (λ is. record { answer = read_answer; refused = record { get = get; before = old; cut = away.cut; layout = sym same.0; requests = sym same.1; refused = away.cause }; refusal = refusal; looks = vain.looks }))

@@ -1,7 +1,6 @@
 mod Same
 mod Chain
 mod Light
-mod Bridge
 mod Onward
 mod Reading
 mod Single

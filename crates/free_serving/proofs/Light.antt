@@ -41,11 +41,12 @@ use Rattle.seq_read.specs.caller_facts.specs.try_lock.specs.declared.planned.Pla
 use Rattle.seq_read.specs.caller_facts.specs.lock_walks.specs.Gets.{GetsAreLight}
 use Rattle.seq_read.specs.caller_facts.specs.section_runs.specs.Reached.{run_of, run_or}
 use Rattle.seq_read.specs.caller_facts.specs.section_runs.specs.Opened.{opening, IsOpening, HasOpened}
-use Rattle.serving.specs.attempts.specs.Course.{MayAttempt, HasPlanned, HasTried, IsRefused, refused_steps}
+use Rattle.serving.specs.attempts.specs.Course.{HasPlanned, HasTried, IsRefused, refused_steps}
+use Rattle.seq_read.specs.caller_facts.specs.Asking.{MayAttempt}
 use Rattle.serving.specs.attempts.specs.Attempts.{has_met_held, is_stop_helping, IsAttempt, Stops, AtEntry, InPlan, BehindHold, InOwnRun, InHelpedRun, stop_steps}
 use Rattle.serving.specs.attempts.specs.declared.answers.Attempt.{Attempt}
 use Rattle.serving.specs.attempts.specs.declared.answers.Attempt.TheVariants as attempts
-use Rattle.serving.specs.attempts.proofs.Locks.{allowed_at}
+use Rattle.seq_read.specs.caller_facts.proofs.Shapes.{allowed_at}
 use Rattle.serving.specs.Serving.{is_crossed}
 
 -- a step that changes nothing costs little, and takes no lock

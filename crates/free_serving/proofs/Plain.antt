@@ -11,30 +11,31 @@ use Rattle.serving.specs.Serving.{Try, Serves}
 use Rattle.serving.specs.declared.answers.Served.{Served}
 use Rattle.serving.specs.declared.answers.Served.TheVariants as answers
 use Rattle.free_serving.specs.Left.{HasStopped, Ends, Leaves}
+use Rattle.free_serving.specs.Freely.{ServesAll}
 use Rattle.free_serving.proofs.Single.{runs_few}
 
 module _ {T : Type 0} (m : Meaning) (planning : Planning) (retry_short : Bool) (requests : List Request) (old new : RunnerState T) where
   stopped_so : (answer : Served) (q : Request) (tries : List Try) → serving.HasStopped m planning retry_short answer q tries old new
-      → HasStopped m planning retry_short answer q old new
+      → HasStopped m planning retry_short answer q tries old new
   stopped_so answer q tries is = record {
     before = is.before;
     number = is.knew.number;
-    spared = λ unwaited was. ⊎_elim (λ crossed. inl (tries, crossed)) inr (is.spared unwaited was);
+    spared = is.spared;
     stops = is.stops;
     tidy = is.tidy;
     unanswered = is.unanswered;
   }
 
   ends_so : (answer : Served) (count : ℕ) (tries : List Try) → serving.Ends m planning retry_short requests answer count tries old new
-      → Ends m planning retry_short requests answer count old new
+      → Ends m planning retry_short requests answer count tries old new
   ends_so answers.All count tries is = is
   ends_so answers.Halted count tries is = is
   ends_so (answers.Short short) count tries is = (is.0, is.1, stopped_so (answers.Short short) is.0 tries is.2)
   ends_so (answers.Spent place word) count tries is = (is.0, is.1, stopped_so (answers.Spent place word) is.0 tries is.2)
 
-  pub plain_leaves : (answer : Served) (Seen : ℕ → Asks → Type 0) (halts : ℕ) (asks asks' : Asks) (steps steps' : ℕ)
-      → Serves m planning retry_short requests answer old new Seen halts asks asks' steps steps'
-      → Leaves m planning retry_short false requests answer old new asks asks'
+  plain_leaves : (answer : Served) (Seen : ℕ → Asks → Type 0) (halts : ℕ) (asks asks' : Asks) (steps steps' : ℕ)
+      → (serves : Serves m planning retry_short requests answer old new Seen halts asks asks' steps steps')
+      → Leaves m planning retry_short false requests answer serves.tries old new Seen halts asks asks'
   plain_leaves answer Seen halts asks asks' steps steps' serves = record {
     count = serves.count;
     served = record {
@@ -51,9 +52,16 @@ module _ {T : Type 0} (m : Meaning) (planning : Planning) (retry_short : Bool) (
     asked = serves.asked;
     least = serves.least;
     whole = inl refl;
-    brief = ⊎_elim (λ was. inl (serves.tries, was)) (λ brief. inr (record {
+    let_go = λ e. (serving.all_asks_let m planning retry_short requests serves.tries old new serves.tried, serves.least_let e, serves.let_go e);
+    brief = ⊎_elim inl (λ brief. inr (record {
       runs = runs_few answer serves.count (length old.part.records.finished) (length new.part.records.finished) brief.runs;
       asked = brief.asked;
     })) serves.brief;
     read = λ free. absurd (let z = free in cc);
   }
+
+  pub plain_serving : (answer : Served) (Seen : ℕ → Asks → Type 0) (halts : ℕ) (asks asks' : Asks) (steps steps' : ℕ)
+      → Serves m planning retry_short requests answer old new Seen halts asks asks' steps steps'
+      → ServesAll m planning retry_short false requests answer old new Seen halts asks asks' steps steps'
+  plain_serving answer Seen halts asks asks' steps steps' serves =
+      record { does = serves; tries = serves.tries; by = refl; left = plain_leaves answer Seen halts asks asks' steps steps' serves }

@@ -33,7 +33,6 @@ use Rattle.serving.proofs.Standing.{one_stamp}
 use Rattle.free_serving.specs.Services.{is_get}
 use Rattle.free_serving.specs.Left.{MostRuns, AreAskedWholly, WasPublished}
 use Rattle.free_serving.specs.One.{IsServed as IsServedOne, Ends, LeavesOne}
-use Rattle.free_serving.proofs.Bridge.{knows_of, no_other_of}
 use Rattle.free_serving.proofs.Chain.{only_place}
 use Rattle.free_serving.proofs.Onward.{served_spared}
 
@@ -102,14 +101,14 @@ module _ {T : Type 0} (m : Meaning) (planning : Planning) (retry_short : Bool) (
       many : 8 ≤ read.made + 1 + 1
       many = let all = read_many reply stamp read.answers.stamped read.answers.read in let is = read.made_is in omega (arith, all, is)
 
-      pub done_leaves : (answer : Served) → Ends m planning retry_short q answer 1 old new → LeavesOne m planning retry_short q answer 1 1 (read.made + 1 + 1) old new
+      pub done_leaves : (answer : Served) → Ends m planning retry_short q answer 1 [] old new → LeavesOne m planning retry_short q answer 1 1 (read.made + 1 + 1) [] old new
       done_leaves answer ends = record {
         most = omega arith;
         served = λ one. read_served laws new limits allowed reply stamp read.answers.placed read.answers.read.above read.answers.read.clock read.answers.read.stamp_is;
         ends = ends;
         reached = inl read.answers.placed.reached;
-        knows = knows_of old new read.knows;
-        no_other = no_other_of q.number old new read.no_other;
+        knows = read.knows;
+        no_other = read.no_other;
         least = let some = many in omega (arith, some);
         whole = inl refl;
         brief = inr (record {
@@ -121,10 +120,10 @@ module _ {T : Type 0} (m : Meaning) (planning : Planning) (retry_short : Bool) (
         next = λ is_get none was. absurd (let z : 1 ≡ 0 = none in omega (arith, z));
       }
 
-      pub done_all : LeavesOne m planning retry_short q answers.All 1 1 (read.made + 1 + 1) old new
+      pub done_all : LeavesOne m planning retry_short q answers.All 1 1 (read.made + 1 + 1) [] old new
       done_all = done_leaves answers.All (refl, read.answers.tidy)
 
-      pub done_halted : LeavesOne m planning retry_short q answers.Halted 1 1 (read.made + 1 + 1) old new
+      pub done_halted : LeavesOne m planning retry_short q answers.Halted 1 1 (read.made + 1 + 1) [] old new
       done_halted = done_leaves answers.Halted (record {
         published = λ x some. absurd (no_section new read.answers.tidy.at.published x some);
         unanswered = λ none x there. absurd (let place = only_place q x 1 there in omega (arith, place.0));
@@ -174,7 +173,7 @@ module _ {T : Type 0} (m : Meaning) (planning : Planning) (retry_short : Bool) (
       unpublished_at false e none (inl section) = no_section new read.answers.unpublished section.0 section.1
       unpublished_at false e none (inr answered) = true≢false (sym answered ∙ (read.answers.answered ∙ e))
 
-      pub cut_leaves : LeavesOne m planning retry_short q answers.Halted count 0 (read.made + 1) old new
+      pub cut_leaves : LeavesOne m planning retry_short q answers.Halted count 0 (read.made + 1) [] old new
       cut_leaves = record {
         most = few_one written;
         served = λ one. served_at read.answers.at (is_written written one);
@@ -183,8 +182,8 @@ module _ {T : Type 0} (m : Meaning) (planning : Planning) (retry_short : Bool) (
           unanswered = λ none x there. inl (unanswered_at written refl x there);
         };
         reached = inl read.answers.reached;
-        knows = knows_of old new read.knows;
-        no_other = no_other_of q.number old new read.no_other;
+        knows = read.knows;
+        no_other = read.no_other;
         least = omega arith;
         whole = wholly written;
         brief = inr (record {

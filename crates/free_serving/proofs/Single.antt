@@ -15,7 +15,7 @@ use Rattle.version_words.specs.RunnerState.{RunnerState}
 use Rattle.version_words.specs.TableState.{TableState, IsOf}
 use Rattle.version_words.specs.machine_invariant.specs.After.{AreAllowed}
 use Rattle.seq_read.specs.caller_facts.specs.request_facts.specs.Laws.{HasEntry}
-use Rattle.serving.specs.attempts.specs.Knowing.{LearnsNoOther, IsOwn}
+use Rattle.seq_read.specs.caller_facts.specs.Knowing.{LearnsNoOther, IsOwn}
 use Rattle.serving.specs.attempts.specs.Attempts.{most_of_attempt}
 use Rattle.seq_read.specs.caller_facts.specs.try_lock.specs.Planning.{Planning}
 use Rattle.serving.specs.attempt_bounds.specs.Spared.{AttemptsSpareSlots}
@@ -25,7 +25,7 @@ use Rattle.serving.specs.declared.answers.Served.{Served}
 use Rattle.serving.specs.declared.answers.Served.TheVariants as answers
 use Rattle.serving.proofs.Standing.{entry_on, answered_more, one_stamp}
 use Rattle.free_serving.specs.Services.{is_get}
-use Rattle.free_serving.specs.Left.{MostRuns, CameBetween, WasReadInVain, HasStopped}
+use Rattle.free_serving.specs.Left.{MostRuns, WasReadInVain, HasStopped}
 use Rattle.free_serving.specs.One.{Ends, IsBrief, LeavesOne}
 use Rattle.free_serving.proofs.Same.{Same}
 use Rattle.free_serving.proofs.Chain.{only_place, HasServed, chain_served, chain_asks, chain_reached, any_attempt}
@@ -92,11 +92,11 @@ module _ {T : Type 0} (m : Meaning) (laws : Laws m) (planning : Planning) (retry
 
   -- how often the gate was asked, where each attempt that isn't crossed counts at most so many steps
   pub within : (most : ℕ) → ((x : Try) (r s : RunnerState T) → Same old r → q ≡ x.request → IsTry m planning x r s → x.crossed ≡ false → x.made ≤ most)
-      → CameBetween m planning old ⊎ IsWithin answer count asked (most + 3) old new
+      → WasCrossed m planning serves.tries old ⊎ IsWithin answer count asked (most + 3) old new
   within most each = ⊎_elim
-      (λ was. inl (serves.tries, was))
+      inl
       (λ brief. ⊎_elim
-      (λ was. inl (serves.tries, was))
+      inl
       (λ few. inr (record {
         runs = subst (λ n. MostRuns answer n (length old.part.records.finished) (length new.part.records.finished)) serves.count_is
             (runs_few answer serves.count (length old.part.records.finished) (length new.part.records.finished) brief.runs);
@@ -105,7 +105,7 @@ module _ {T : Type 0} (m : Meaning) (laws : Laws m) (planning : Planning) (retry
       (chain_asks m planning retry_short q most serves.tries old new serves.tried each))
       serves.brief
 
-  general : CameBetween m planning old ⊎ IsBrief m planning retry_short q answer count asked old new
+  general : WasCrossed m planning serves.tries old ⊎ IsBrief m planning retry_short q answer count asked old new
   general = ⊎_elim inl
       (λ is. inr (record { runs = is.runs; few = let few = is.few in let most = most_is (slots m old.layout) in omega (arith, few, most) }))
       (within (most_of_attempt (slots m old.layout)) (λ x r s same of_q is e. subst (λ (l : Layout). x.made ≤ most_of_attempt (slots m l)) same.0 (any_attempt m planning retry_short q x r s is e)))
@@ -114,17 +114,17 @@ module _ {T : Type 0} (m : Meaning) (laws : Laws m) (planning : Planning) (retry
   none_of n x there same = let zero = (only_place q x n there).0 in let is = serves.count_is in omega (arith, zero, same, is)
 
   abbrev Stops : Served → Type 0
-  Stops a = HasStopped m planning retry_short a q old new
+  Stops a = HasStopped m planning retry_short a q serves.tries old new
 
-  ends_so : (a : Served) → serving.Ends m planning retry_short (q ∷ []) a serves.count serves.tries old new → Ends m planning retry_short q a count old new
+  ends_so : (a : Served) → serving.Ends m planning retry_short (q ∷ []) a serves.count serves.tries old new → Ends m planning retry_short q a count serves.tries old new
   ends_so answers.All is = ((let all = is.0 in let same = serves.count_is in omega (arith, all, same)), is.1)
   ends_so answers.Halted is = subst (λ n. WasHalted (q ∷ []) n new) serves.count_is is
   ends_so (answers.Short short) is = let stopped = is.2 in (
     none_of serves.count is.0 is.1 refl,
-    subst (λ (y : Request). HasStopped m planning retry_short (answers.Short short) y old new) (sym (only_place q is.0 serves.count is.1).1) (record {
+    subst (λ (y : Request). HasStopped m planning retry_short (answers.Short short) y serves.tries old new) (sym (only_place q is.0 serves.count is.1).1) (record {
       before = stopped.before;
       number = stopped.knew.number;
-      spared = λ unwaited was. ⊎_elim (λ crossed. inl (serves.tries, crossed)) (λ spared. inr spared) (stopped.spared unwaited was);
+      spared = stopped.spared;
       stops = stopped.stops;
       tidy = stopped.tidy;
       unanswered = stopped.unanswered;
@@ -132,10 +132,10 @@ module _ {T : Type 0} (m : Meaning) (laws : Laws m) (planning : Planning) (retry
   )
   ends_so (answers.Spent place word) is = let stopped = is.2 in (
     none_of serves.count is.0 is.1 refl,
-    subst (λ (y : Request). HasStopped m planning retry_short (answers.Spent place word) y old new) (sym (only_place q is.0 serves.count is.1).1) (record {
+    subst (λ (y : Request). HasStopped m planning retry_short (answers.Spent place word) y serves.tries old new) (sym (only_place q is.0 serves.count is.1).1) (record {
       before = stopped.before;
       number = stopped.knew.number;
-      spared = λ unwaited was. ⊎_elim (λ crossed. inl (serves.tries, crossed)) (λ spared. inr spared) (stopped.spared unwaited was);
+      spared = stopped.spared;
       stops = stopped.stops;
       tidy = stopped.tidy;
       unanswered = stopped.unanswered;
@@ -146,10 +146,10 @@ module _ {T : Type 0} (m : Meaning) (laws : Laws m) (planning : Planning) (retry
   least_now = let least = serves.least in let is = serves.count_is in omega (arith, least, is)
 
   all_of : answer ≡ answers.All → count ≡ 1
-  all_of e = (subst (λ (a : Served). Ends m planning retry_short q a count old new) e (ends_so answer serves.ends)).0
+  all_of e = (subst (λ (a : Served). Ends m planning retry_short q a count serves.tries old new) e (ends_so answer serves.ends)).0
 
   -- what is left of it; a `get` was read in vain before
-  pub single_leaves : (is_get q.op ≡ true → WasReadInVain m planning q old) → LeavesOne m planning retry_short q answer count count asked old new
+  pub single_leaves : (is_get q.op ≡ true → WasReadInVain m planning q old) → LeavesOne m planning retry_short q answer count count asked serves.tries old new
   single_leaves vain = record {
     most = few_count;
     served = λ one. record {
@@ -164,6 +164,6 @@ module _ {T : Type 0} (m : Meaning) (laws : Laws m) (planning : Planning) (retry
     least = least_now;
     whole = inl refl;
     brief = general;
-    spared = λ all unwaited was. ⊎_elim (λ crossed. inl (serves.tries, crossed)) inr ((done (all_of all)).spared unwaited was spare);
+    spared = λ all unwaited was. (done (all_of all)).spared unwaited was spare;
     next = λ get none was. vain get;
   }

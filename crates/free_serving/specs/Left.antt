@@ -12,7 +12,7 @@ use Rattle.version_words.specs.RunnerState.{RunnerState}
 use Rattle.seq_read.specs.caller_facts.specs.epoch_slots.specs.Collects.{IsTidy}
 use Rattle.seq_read.specs.caller_facts.specs.try_lock.specs.Planning.{Planning}
 use Rattle.seq_read.specs.caller_facts.specs.request_facts.specs.Laws.{HasEntry}
-use Rattle.serving.specs.attempts.specs.Knowing.{KnowsMore, IsOwn}
+use Rattle.seq_read.specs.caller_facts.specs.Knowing.{KnowsMore, IsOwn}
 use Rattle.serving.specs.attempt_bounds.specs.Spared.{IsSpared}
 use Rattle.seq_read.specs.Course.{IsRefused}
 use Rattle.seq_read.specs.declared.answers.Read.{Read}
@@ -93,10 +93,6 @@ module _ {T : Type 0} where
       pub requests : before.requests ≡ r.requests
       pub refused : IsRefused m planning request answer before cut
 
-    -- another one came between: an attempt was refused so
-    abbrev pub CameBetween : RunnerState T → Type 0
-    CameBetween r = (tries : List Try) × WasCrossed m planning tries r
-
     -- a read of this request came to nothing, and so it was attempted; where the structure serves the map, not since
     -- the section of a `get` changes something
     pub record WasReadInVain (request : Request) (r : RunnerState T) : Type 0 where
@@ -116,30 +112,31 @@ module _ {T : Type 0} where
     module _ (retry_short : Bool) where
       -- the serving stopped at this request, which isn't answered. Before the last attempt of it the runner was as
       -- `before` says, and it is idle now with an empty hand
-      pub record HasStopped (answer : Served) (request : Request) (old new : RunnerState T) : Type 0 where
+      pub record HasStopped (answer : Served) (request : Request) (tries : List Try) (old new : RunnerState T)
+          : Type 0 where
         pub before : RunnerState T
         -- it is the same runner
         pub number : before.number ≡ old.number
         -- where few slots were retired lately when the serving began, so it was before that attempt, unless another
-        -- one came between, or wants are waited out
-        pub spared : retry_short ≡ false → IsSpared old → CameBetween old ⊎ IsSpared before
+        -- one came between in one of these attempts, or wants are waited out
+        pub spared : retry_short ≡ false → IsSpared old → WasCrossed m planning tries old ⊎ IsSpared before
         pub stops : Stops m planning retry_short answer request before new
         pub tidy : IsTidy new
         pub unanswered : is_answered new.part.records.known request.number ≡ false
 
       -- how the serving ended behind so many served requests
-      abbrev pub Ends : List Request → Served → ℕ → RunnerState T → RunnerState T → Type 0
-      Ends requests answers.All count old new = (count ≡ length requests) × IsTidy new
-      Ends requests answers.Halted count old new = WasHalted requests count new
-      Ends requests answer count old new = (q : Request) × (slice_get requests count ≡ Some q)
-          × HasStopped answer q old new
+      abbrev pub Ends : List Request → Served → ℕ → List Try → RunnerState T → RunnerState T → Type 0
+      Ends requests answers.All count tries old new = (count ≡ length requests) × IsTidy new
+      Ends requests answers.Halted count tries old new = WasHalted requests count new
+      Ends requests answer count tries old new = (q : Request) × (slice_get requests count ≡ Some q)
+          × HasStopped answer q tries old new
 
-      -- what a serving of these requests leaves, in which a `get` is read first or not
-      pub record Leaves (reads_free : Bool) (requests : List Request) (answer : Served) (old new : RunnerState T)
-          (asks asks' : Asks) : Type 0 where
+      -- what a serving of these requests by these attempts leaves, in which a `get` is read first or not
+      pub record Leaves (reads_free : Bool) (requests : List Request) (answer : Served) (tries : List Try)
+          (old new : RunnerState T) (Seen : ℕ → Asks → Type 0) (halts : ℕ) (asks asks' : Asks) : Type 0 where
         pub count : ℕ
         pub served : AreServed reads_free requests count new
-        pub ends : Ends requests answer count old new
+        pub ends : Ends requests answer count tries old new
         pub knows : KnowsMore old new
         -- its other own requests are as they were
         pub others : (q : Request) → IsOwn old q → ((i : ℕ) → slice_get requests i ≢ Some q)
@@ -150,6 +147,11 @@ module _ {T : Type 0} where
         pub asked : asks' ≡ asked_on asks made
         pub least : full * least_asks reads_free ≤ made
         pub whole : AreAskedWholly requests answer count full new
-        -- where no other one came between, so many runs came to their end, and the gate was asked at most so often
-        pub brief : CameBetween old ⊎ IsBrief m answer count old new asks asks'
+        -- a gate that halted the runner had let it go on before: it was seen with as many halts as at first and with so
+        -- many more asks, enough for each request that was asked about to the end, but for the ask behind the last one
+        pub let_go : answer ≡ answers.Halted → (more : ℕ)
+            × (full * least_asks reads_free ≤ more + 1) × Seen halts (asked_on asks more)
+        -- where no other one came between in one of its attempts, so many runs came to their end, and the gate was asked
+        -- at most so often
+        pub brief : WasCrossed m planning tries old ⊎ IsBrief m answer count old new asks asks'
         pub read : reads_free ≡ true → AreRead requests count old new

@@ -1,5 +1,5 @@
 -- What the serving of one request does and leaves, in which a `get` is read first.
-use Rattle.std.specs.Prelude.{◌≡◌, ℕ, ◌*◌, ◌≤◌, ◌⊎◌, [], ◌∷◌, length, Bool, true, false}
+use Rattle.std.specs.Prelude.{◌≡◌, ℕ, ◌+◌, ◌*◌, ◌≤◌, ◌⊎◌, List, [], ◌∷◌, length, Bool, true, false}
 use Rattle.machine_states.specs.map_history.specs.declared.op.Request.{Request}
 use Rattle.machine_states.specs.body_terms.specs.Counted.{counted_on}
 use Rattle.seq_read.specs.runner_gate.specs.Asks.{Asks, asked_on}
@@ -12,13 +12,13 @@ use Rattle.seq_read.specs.caller_facts.specs.epoch_slots.specs.Collects.{IsTidy}
 use Rattle.seq_read.specs.caller_facts.specs.try_lock.specs.Planning.{Planning}
 use Rattle.seq_read.specs.caller_facts.specs.try_lock.specs.Reached.{IsReached}
 use Rattle.seq_read.specs.caller_facts.specs.request_facts.specs.Laws.{HasEntry}
-use Rattle.serving.specs.attempts.specs.Knowing.{KnowsMore, LearnsNoOther}
+use Rattle.seq_read.specs.caller_facts.specs.Knowing.{KnowsMore, LearnsNoOther}
 use Rattle.serving.specs.attempt_bounds.specs.Spared.{IsSpared}
-use Rattle.serving.specs.Serving.{most_asks, WasHalted}
+use Rattle.serving.specs.Serving.{Try, most_asks, WasCrossed, WasHalted}
 use Rattle.serving.specs.declared.answers.Served.{Served}
 use Rattle.serving.specs.declared.answers.Served.TheVariants as answers
-use Rattle.free_serving.specs.Services.{is_get, Service, request_of, served_by, full_by, steps_by, asks_by, IsEnd, IsService, asks_let}
-use Rattle.free_serving.specs.Left.{Rises, IsOdd, least_asks, MostRuns, AreAskedWholly, WasPublished, CameBetween, WasReadInVain, HasStopped}
+use Rattle.free_serving.specs.Services.{is_get, Service, request_of, served_by, full_by, steps_by, asks_by, tries_by, IsEnd, IsService, asks_let}
+use Rattle.free_serving.specs.Left.{Rises, IsOdd, least_asks, MostRuns, AreAskedWholly, WasPublished, WasReadInVain, HasStopped}
 
 module _ {T : Type 0} (m : Meaning) (planning : Planning) (retry_short : Bool) (request : Request) where
   -- the request is answered, with a stamp behind those that were known; where it is a `get`, the stamp is a read's, or
@@ -32,28 +32,31 @@ module _ {T : Type 0} (m : Meaning) (planning : Planning) (retry_short : Bool) (
         → IsOdd new.part.records.known request ⊎ WasReadInVain m planning request old
 
   -- how it ended, so many requests served of the one
-  abbrev pub Ends : Served → ℕ → RunnerState T → RunnerState T → Type 0
-  Ends answers.All count old new = (count ≡ 1) × IsTidy new
-  Ends answers.Halted count old new = WasHalted (request ∷ []) count new
-  Ends answer count old new = (count ≡ 0) × HasStopped m planning retry_short answer request old new
+  abbrev pub Ends : Served → ℕ → List Try → RunnerState T → RunnerState T → Type 0
+  Ends answers.All count tries old new = (count ≡ 1) × IsTidy new
+  Ends answers.Halted count tries old new = WasHalted (request ∷ []) count new
+  Ends answer count tries old new = (count ≡ 0) × HasStopped m planning retry_short answer request tries old new
 
   -- so many runs came to their end, and the gate was asked at most so often for one request
   pub record IsBrief (answer : Served) (count asked : ℕ) (old new : RunnerState T) : Type 0 where
     pub runs : MostRuns answer count (length old.part.records.finished) (length new.part.records.finished)
     pub few : asked ≤ most_asks (slots m old.layout)
 
-  pub record LeavesOne (answer : Served) (count full asked : ℕ) (old new : RunnerState T) : Type 0 where
+  -- what is left of it, by these attempts
+  pub record LeavesOne (answer : Served) (count full asked : ℕ) (tries : List Try) (old new : RunnerState T)
+      : Type 0 where
     pub most : count ≤ 1
     pub served : count ≡ 1 → IsServed old new
-    pub ends : Ends answer count old new
+    pub ends : Ends answer count tries old new
     -- in a state that the machine reaches it has this part, or it is as it was
     pub reached : IsReached m new ⊎ (new ≡ old)
     pub knows : KnowsMore old new
     pub no_other : LearnsNoOther request.number old new
     pub least : full * least_asks true ≤ asked
     pub whole : AreAskedWholly (request ∷ []) answer count full new
-    pub brief : CameBetween m planning old ⊎ IsBrief answer count asked old new
-    pub spared : answer ≡ answers.All → retry_short ≡ false → IsSpared old → CameBetween m planning old ⊎ IsSpared new
+    pub brief : WasCrossed m planning tries old ⊎ IsBrief answer count asked old new
+    pub spared : answer ≡ answers.All → retry_short ≡ false → IsSpared old
+        → WasCrossed m planning tries old ⊎ IsSpared new
     -- a `get` whose section was published was read in vain before
     pub next : is_get request.op ≡ true → count ≡ 0 → WasPublished request new
         → WasReadInVain m planning request old
@@ -68,4 +71,6 @@ module _ {T : Type 0} (m : Meaning) (planning : Planning) (retry_short : Bool) (
     pub asked : asks' ≡ asked_on asks (asks_by service)
     pub let_go : answer ≡ answers.Halted
         → Seen halts (asked_on asks (asks_let m planning retry_short service old new is))
-    pub left : LeavesOne answer (served_by service) (full_by service) (asks_by service) old new
+    pub let_least : answer ≡ answers.Halted
+        → full_by service * least_asks true ≤ asks_let m planning retry_short service old new is + 1
+    pub left : LeavesOne answer (served_by service) (full_by service) (asks_by service) (tries_by service) old new

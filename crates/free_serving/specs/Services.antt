@@ -1,5 +1,5 @@
 -- What is done for one request of a serving in which a `get` is read first, without its lock.
-use Rattle.std.specs.Prelude.{◌≡◌, ℕ, ◌+◌, List, [], ◌∷◌, length, Bool, true, false, Some, slice_get, if◌then◌else◌}
+use Rattle.std.specs.Prelude.{◌≡◌, ℕ, ◌+◌, List, [], ◌∷◌, ◌++◌, length, Bool, true, false, Some, slice_get, if◌then◌else◌}
 use Rattle.machine_states.specs.map_history.specs.declared.op.Op.{Op}
 use Rattle.machine_states.specs.map_history.specs.declared.op.Op.TheVariants.{Get}
 use Rattle.machine_states.specs.map_history.specs.declared.op.Request.{Request}
@@ -72,6 +72,13 @@ asks_by (BothWays request answer made served tries) =
     made + 1 + (serving.asks_in tries + serving.served_in tries)
 asks_by (UnderLock request served tries) = serving.asks_in tries + serving.served_in tries
 
+-- the attempts in it, the last one first
+abbrev pub tries_by : Service → List Try
+tries_by (ByRead request reply stamp made) = []
+tries_by (HaltedRead request written made) = []
+tries_by (BothWays request answer made served tries) = tries
+tries_by (UnderLock request served tries) = tries
+
 -- in all of these
 abbrev pub served_in : List Service → ℕ
 served_in [] = 0
@@ -84,6 +91,10 @@ steps_in (x ∷ xs) = steps_by x + steps_in xs
 abbrev pub asks_in : List Service → ℕ
 asks_in [] = 0
 asks_in (x ∷ xs) = asks_by x + asks_in xs
+
+abbrev pub tries_in : List Service → List Try
+tries_in [] = []
+tries_in (x ∷ xs) = tries_by x ++ tries_in xs
 
 abbrev pub is_all : Served → Bool
 is_all answers.All = true

@@ -1,8 +1,8 @@
 //! One request, read first where it is a `get`, and served under its lock where that came to nothing.
 ghost use Rattle.std.specs.Prelude.{◌≡◌, ◌≢◌, [], ◌∷◌};
-ghost use Rattle.seq_read.specs.runner_gate.specs.fault_count.specs.Rose.{Rose};
+ghost use Rattle.seq_read.specs.runner_gate.specs.Asks.{HaltedOnce};
 ghost use Rattle.version_words.specs.TableState.{IsOf};
-ghost use Rattle.serving.specs.attempts.specs.Counted.{IsSeen};
+ghost use Rattle.seq_read.specs.caller_facts.specs.Counted.{IsSeen};
 ghost use Rattle.serving.specs.Serving.{MayServe};
 ghost use Rattle.serving.specs.declared.answers.Served.TheVariants as answers;
 ghost use Rattle.free_serving.specs.Services.{is_get as is_get_of};
@@ -47,7 +47,7 @@ pub fn serve_one<R: Threads + Wait + Sync, S: Planner, G: Gate, L>(
     ensures one { ServesOne (S.meaning table.now.structure) (S.planning table.now.structure) retry_short request.now
         result.1 runner result.0 (IsSeen G.halts G.asks) (G.halts gate.old) (G.asks gate.old) (G.asks gate.new)
         steps.old.count steps.new.count }
-    ensures halted { result.1 ≡ answers.Halted → Rose (G.halts gate.old) (G.halts gate.new) }
+    ensures halted { result.1 ≡ answers.Halted → HaltedOnce (G.halts gate.old) (G.halts gate.new) }
     ensures went { result.1 ≢ answers.Halted → G.halts gate.new ≡ G.halts gate.old }
 {
     attempts_spare_slots(table.structure());

@@ -1,12 +1,11 @@
 //! The requests of a worker, served in their order, each `get` read first where that is asked for.
 ghost use Rattle.std.specs.Prelude.{◌≡◌, ◌≢◌, true};
-ghost use Rattle.seq_read.specs.runner_gate.specs.fault_count.specs.Rose.{Rose};
+ghost use Rattle.seq_read.specs.runner_gate.specs.Asks.{HaltedOnce};
 ghost use Rattle.version_words.specs.TableState.{IsOf};
-ghost use Rattle.serving.specs.attempts.specs.Counted.{IsSeen};
+ghost use Rattle.seq_read.specs.caller_facts.specs.Counted.{IsSeen};
 ghost use Rattle.serving.specs.Serving.{MayServe};
 ghost use Rattle.serving.specs.declared.answers.Served.TheVariants as answers;
-ghost use Rattle.free_serving.specs.Freely.{ServesFreely, ServesBy};
-ghost use Rattle.free_serving.specs.Left.{Leaves};
+ghost use Rattle.free_serving.specs.Freely.{ServesAll};
 
 use crate::one::serve_one;
 use machine_states::body_terms::Steps;
@@ -31,12 +30,10 @@ fn serve_each<R: Threads + Wait + Sync, S: Planner, G: Gate, L>(
     requires own { IsOf table.now runner }
     requires next { MayServe (S.planning table.now.structure) requests.now runner }
     ensures own { IsOf table.now result.0 }
-    ensures serves { ServesFreely (S.meaning table.now.structure) (S.planning table.now.structure) retry_short
+    ensures serves { ServesAll (S.meaning table.now.structure) (S.planning table.now.structure) retry_short true
         requests.now result.1 runner result.0 (IsSeen G.halts G.asks) (G.halts gate.old) (G.asks gate.old)
         (G.asks gate.new) steps.old.count steps.new.count }
-    ensures left { Leaves (S.meaning table.now.structure) (S.planning table.now.structure) retry_short true
-        requests.now result.1 runner result.0 (G.asks gate.old) (G.asks gate.new) }
-    ensures halted { result.1 ≡ answers.Halted → Rose (G.halts gate.old) (G.halts gate.new) }
+    ensures halted { result.1 ≡ answers.Halted → HaltedOnce (G.halts gate.old) (G.halts gate.new) }
     ensures went { result.1 ≢ answers.Halted → G.halts gate.new ≡ G.halts gate.old }
 {
     for request in requests {
@@ -76,12 +73,10 @@ pub fn serve_freely<R: Threads + Wait + Sync, S: Planner, G: Gate, L>(
     requires own { IsOf table.now runner }
     requires next { MayServe (S.planning table.now.structure) requests.now runner }
     ensures own { IsOf table.now result.0 }
-    ensures serves { ServesBy (S.meaning table.now.structure) (S.planning table.now.structure) retry_short reads_free
+    ensures serves { ServesAll (S.meaning table.now.structure) (S.planning table.now.structure) retry_short reads_free
         requests.now result.1 runner result.0 (IsSeen G.halts G.asks) (G.halts gate.old) (G.asks gate.old)
         (G.asks gate.new) steps.old.count steps.new.count }
-    ensures left { Leaves (S.meaning table.now.structure) (S.planning table.now.structure) retry_short reads_free
-        requests.now result.1 runner result.0 (G.asks gate.old) (G.asks gate.new) }
-    ensures halted { result.1 ≡ answers.Halted → Rose (G.halts gate.old) (G.halts gate.new) }
+    ensures halted { result.1 ≡ answers.Halted → HaltedOnce (G.halts gate.old) (G.halts gate.new) }
     ensures went { result.1 ≢ answers.Halted → G.halts gate.new ≡ G.halts gate.old }
 {
     if reads_free {

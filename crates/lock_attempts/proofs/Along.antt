@@ -29,16 +29,17 @@ use Rattle.attempts.specs.try_lock.specs.declared.planned.Planned.{Planned}
 use Rattle.attempts.specs.try_lock.specs.declared.planned.Planned.TheVariants as plans
 use Rattle.attempts.specs.lock_walks.specs.Way.{Way}
 use Rattle.attempts.specs.lock_walks.specs.Own.{own_thunk, IsOwn}
-use Rattle.attempts.specs.Knowing.{IsStill}
-use Rattle.attempts.specs.Counted.{IsCounted}
-use Rattle.attempts.specs.Course.{MayAttempt, HasReserve, HasEntered, HasPlanned, HasTried}
+use Rattle.attempts.specs.caller_facts.specs.Knowing.{IsStill}
+use Rattle.attempts.specs.caller_facts.specs.Counted.{IsCounted}
+use Rattle.attempts.specs.Course.{HasReserve, HasEntered, HasPlanned, HasTried}
+use Rattle.attempts.specs.caller_facts.specs.Asking.{MayAttempt}
 use Rattle.attempts.specs.Reclaims.{Reclaims}
 use Rattle.attempts.specs.declared.answers.Attempt.{Attempt}
 use Rattle.attempts.specs.Attempts.{most_of_run, most_of_attempt}
-use Rattle.attempts.proofs.Knowing.{knows_same, knows_on, no_other_same, no_other_on, no_other_learned, length_on}
+use Rattle.attempts.specs.caller_facts.proofs.Knowing.{knows_same, knows_on, no_other_same, no_other_on, no_other_learned, length_on}
 use Rattle.attempts.proofs.Courses.{planned_reads}
 use Rattle.attempts.proofs.Leaving.{ended_knows}
-use Rattle.attempts.proofs.Counting.{asked_then, steps_then}
+use Rattle.attempts.specs.caller_facts.proofs.Counting.{asked_then, steps_then}
 use Rattle.attempts.proofs.Costs.{ended_costs}
 use Rattle.attempts.proofs.Cutting.{ended_rests}
 use Rattle.attempts.proofs.Wholly.{tried_rests, still_planned, going, thunk_rests, attempts_so}

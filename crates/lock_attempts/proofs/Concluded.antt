@@ -39,15 +39,15 @@ use Rattle.attempts.specs.commit_log.proofs.Asked.{asked_none}
 use Rattle.attempts.specs.try_lock.specs.declared.section.Section.{Section}
 use Rattle.attempts.specs.try_lock.specs.Planning.{Planning}
 use Rattle.attempts.specs.try_lock.proofs.Guarding.{guard_keeps}
-use Rattle.attempts.specs.Knowing.{KnowsMore}
+use Rattle.attempts.specs.caller_facts.specs.Knowing.{KnowsMore}
 use Rattle.attempts.specs.Course.{HasEnded, HasRun}
 use Rattle.attempts.specs.Attempts.{is_halted, is_refusal}
 use Rattle.attempts.specs.Rests.{MayLearn}
 use Rattle.attempts.specs.declared.answers.Attempt.{Attempt}
 use Rattle.attempts.specs.declared.answers.Attempt.TheVariants as answers
-use Rattle.attempts.proofs.Knowing.{knows_same, knows_on, no_other_same}
+use Rattle.attempts.specs.caller_facts.proofs.Knowing.{knows_same, knows_on, no_other_same}
 use Rattle.attempts.proofs.Reaching.{exits_reached}
-use Rattle.attempts.proofs.Counting.{counted_steps}
+use Rattle.attempts.specs.caller_facts.proofs.Counting.{counted_steps}
 use Rattle.attempts.proofs.LettingGo.{exits_tidy}
 use Rattle.attempts.proofs.Courses.{ended_go}
 use Rattle.attempts.proofs.Concluding.{may_learn}

@@ -13,12 +13,12 @@ use Rattle.version_words.specs.RunnerState.{RunnerState}
 use Rattle.version_words.specs.TableState.{TableState, IsOf}
 use Rattle.attempts.specs.epoch_slots.specs.Collects.{IsTidy}
 use Rattle.attempts.specs.try_lock.specs.Planning.{Planning}
-use Rattle.attempts.specs.Knowing.{IsFront, KnowsMore, LearnsNoOther}
-use Rattle.attempts.specs.Course.{MayAttempt}
+use Rattle.attempts.specs.caller_facts.specs.Knowing.{IsFront, KnowsMore, LearnsNoOther}
+use Rattle.attempts.specs.caller_facts.specs.Asking.{MayAttempt}
 use Rattle.attempts.specs.Attempts.{is_halted, Answers}
 use Rattle.attempts.specs.declared.answers.Attempt.{Attempt}
 use Rattle.attempts.specs.declared.answers.Attempt.TheVariants as answers
-use Rattle.attempts.proofs.Knowing.{answered_on, knows_same, knows_on, no_other_on}
+use Rattle.attempts.specs.caller_facts.proofs.Knowing.{answered_on, knows_same, knows_on, no_other_on}
 use Rattle.lock_attempts.specs.Sections.{is_done, SectionAttempts}
 use Rattle.lock_attempts.specs.Again.{is_tried_again, AreRefused, Persists}
 

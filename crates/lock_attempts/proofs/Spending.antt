@@ -17,8 +17,8 @@ use Rattle.version_words.specs.RunnerState.{RunnerState}
 use Rattle.version_words.specs.TableState.{TableState, IsOf}
 use Rattle.attempts.specs.epoch_slots.specs.Collects.{IsTidy}
 use Rattle.attempts.specs.try_lock.specs.Planning.{Planning}
-use Rattle.attempts.specs.Knowing.{IsFront, KnowsMore, IsOwn, LearnsNoOther}
-use Rattle.attempts.specs.Course.{MayAttempt}
+use Rattle.attempts.specs.caller_facts.specs.Knowing.{IsFront, KnowsMore, IsOwn, LearnsNoOther}
+use Rattle.attempts.specs.caller_facts.specs.Asking.{MayAttempt}
 use Rattle.attempts.specs.Attempts.{is_halted}
 use Rattle.attempts.specs.declared.answers.Attempt.{Attempt}
 use Rattle.attempts.specs.declared.answers.Attempt.TheVariants as answers

@@ -7,8 +7,8 @@ use Rattle.machine_states.specs.structure_laws.specs.Scene.{Readings}
 use Rattle.machine_states.specs.structure_laws.specs.Meaning.{Meaning}
 use Rattle.version_words.specs.RunnerState.{RunnerState}
 use Rattle.attempts.specs.try_lock.specs.Planning.{Planning}
-use Rattle.attempts.specs.Knowing.{KnowsMore, LearnsNoOther}
-use Rattle.attempts.specs.Course.{MayAttempt}
+use Rattle.attempts.specs.caller_facts.specs.Knowing.{KnowsMore, LearnsNoOther}
+use Rattle.attempts.specs.caller_facts.specs.Asking.{MayAttempt}
 use Rattle.attempts.specs.declared.answers.Attempt.{Attempt}
 use Rattle.attempts.specs.declared.answers.Attempt.TheVariants as answers
 use Rattle.lock_attempts.specs.Sections.{SectionAttempts}

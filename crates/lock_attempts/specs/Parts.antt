@@ -7,8 +7,8 @@ use Rattle.machine_states.specs.structure_laws.specs.Scene.{Readings}
 use Rattle.machine_states.specs.structure_laws.specs.Meaning.{Meaning}
 use Rattle.version_words.specs.RunnerState.{RunnerState}
 use Rattle.attempts.specs.try_lock.specs.Planning.{Planning}
-use Rattle.attempts.specs.Knowing.{KnowsMore, LearnsNoOther}
-use Rattle.attempts.specs.Counted.{IsCounted}
+use Rattle.attempts.specs.caller_facts.specs.Knowing.{KnowsMore, LearnsNoOther}
+use Rattle.attempts.specs.caller_facts.specs.Counted.{IsCounted}
 use Rattle.attempts.specs.Rests.{Rests}
 use Rattle.attempts.specs.declared.answers.Attempt.{Attempt}
 use Rattle.lock_attempts.specs.Sections.{is_done, HasAnswered, answered_steps}

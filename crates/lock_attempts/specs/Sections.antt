@@ -24,8 +24,8 @@ use Rattle.attempts.specs.epoch_slots.specs.Collects.{IsTidy}
 use Rattle.attempts.specs.epoch_slots.specs.Entries.{Exits}
 use Rattle.attempts.specs.try_lock.specs.Planning.{Planning}
 use Rattle.attempts.specs.try_lock.specs.Reached.{IsReached}
-use Rattle.attempts.specs.Knowing.{KnowsMore, LearnsNoOther}
-use Rattle.attempts.specs.Counted.{IsCounted}
+use Rattle.attempts.specs.caller_facts.specs.Knowing.{KnowsMore, LearnsNoOther}
+use Rattle.attempts.specs.caller_facts.specs.Counted.{IsCounted}
 use Rattle.attempts.specs.Course.{HasRun}
 use Rattle.attempts.specs.Attempts.{most_of_attempt, Attempts}
 use Rattle.attempts.specs.declared.answers.Attempt.{Attempt}

@@ -7,7 +7,7 @@ ghost use Rattle.version_words.specs.RunnerState.{RunnerState};
 ghost use Rattle.version_words.specs.TableState.{IsOf};
 ghost use Rattle.attempts.specs.try_lock.specs.Planning.{Planning};
 ghost use Rattle.attempts.specs.try_lock.specs.declared.planned.Planned.TheVariants as plans;
-ghost use Rattle.attempts.specs.Counted.{IsSeen};
+ghost use Rattle.attempts.specs.caller_facts.specs.Counted.{IsSeen};
 ghost use Rattle.attempts.specs.Course.{HasPlanned};
 ghost use Rattle.attempts.specs.Attempts.{most_of_run};
 ghost use Rattle.attempts.specs.lock_walks.specs.Wants.{WantsWereRead};

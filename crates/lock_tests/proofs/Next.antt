@@ -16,7 +16,7 @@ use Rattle.settled_tables.specs.closed_words.specs.version_words.specs.TableStat
 use Rattle.hash_table.specs.try_lock.specs.epoch_slots.specs.Collects.{IsTidy}
 use Rattle.hash_table.specs.try_lock.specs.Planning.{Planning}
 use Rattle.lock_attempts.specs.attempts.specs.Attempts.{Answers, Attempts}
-use Rattle.lock_attempts.specs.attempts.specs.Course.{MayAttempt}
+use Rattle.lock_attempts.specs.attempts.specs.caller_facts.specs.Asking.{MayAttempt}
 use Rattle.lock_attempts.specs.attempts.specs.declared.answers.Attempt.{Attempt}
 use Rattle.lock_attempts.specs.attempts.specs.declared.answers.Attempt.TheVariants as answers
 use Rattle.lock_tests.specs.AttemptScene.{adds, takes, asks, their_requests, IsScene, IsFresh}

@@ -18,7 +18,7 @@ use Rattle.settled_tables.specs.closed_words.specs.version_words.proofs.Stages.{
 use Rattle.hash_table.specs.try_lock.specs.epoch_slots.specs.Collects.{IsTidy}
 use Rattle.hash_table.specs.try_lock.specs.epoch_slots.proofs.Outside.{nodes_made, guards_made, known_made}
 use Rattle.hash_table.specs.try_lock.specs.section_runs.specs.Opened.{Learns}
-use Rattle.lock_attempts.specs.attempts.proofs.Knowing.{answered_of_other}
+use Rattle.lock_attempts.specs.attempts.specs.caller_facts.proofs.Knowing.{answered_of_other}
 use Rattle.lock_tests.specs.Workers.{HasReserve, IsNewWorker}
 use Rattle.lock_tests.specs.Asked.{KnowsOthers, IsDue, IsOnlyWorker, HasServed}
 

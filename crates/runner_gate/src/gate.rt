@@ -1,7 +1,6 @@
 //! Where a runner may be stopped.
 ghost use Rattle.std.specs.Prelude.{◌≡◌, ℕ, ◌≤◌, Bool, true, false};
-ghost use Rattle.fault_count.specs.Rose.{Rose};
-ghost use Rattle.runner_gate.specs.Asks.{Asks, asked_on};
+ghost use Rattle.runner_gate.specs.Asks.{Asks, asked_on, HaltedOnce};
 ghost use Rattle.runner_gate.specs.declared.gate.Pass.TheVariants.{Go, Halt};
 
 use body_terms::StepKind;
@@ -17,8 +16,8 @@ pub enum Pass {
 
 /// What is asked after each atomic step, and may stop the runner there.
 ///
-/// A gate has a count of halts that never falls, and a number of asks. Both may stand still at the last number of 64
-/// bits, so a gate can count in a `u64`. Its asks tell too for which runner it was made, and with which plan, and that
+/// A gate has a count of halts, which each halt raises by one and nothing else changes, and a number of asks. Both may
+/// stand still at the last number of 64 bits, so a gate can count in a `u64`. Its asks tell too for which runner it was made, and with which plan, and that
 /// never changes: so whoever says how often a gate was asked says that it is that gate still.
 pub trait Gate {
     /// How often this gate halted so far.
@@ -33,7 +32,7 @@ pub trait Gate {
     /// Whether the runner goes on after a step of this kind.
     fn after(&mut self, kind: StepKind) -> Pass
         ensures never_falls { halts self.old ≤ halts self.new }
-        ensures halted { result ≡ Halt → Rose (halts self.old) (halts self.new) }
+        ensures halted { result ≡ Halt → HaltedOnce (halts self.old) (halts self.new) }
         ensures went { result ≡ Go → halts self.new ≡ halts self.old }
         ensures asked { asks self.new ≡ asked_on (asks self.old) 1 }
         ensures free { free self.old ≡ true → (result ≡ Go) × (free self.new ≡ true) };

@@ -1,10 +1,9 @@
 //! Gates that halt at an ask with a given number.
 ghost use Rattle.std.specs.Prelude.{◌≡◌, ◌≤◌, ◌+◌, ℕ, List, Option, cond, true};
 ghost use Rattle.std.specs.Option.{is_none};
-ghost use Rattle.fault_count.specs.Rose.{Rose};
 ghost use Rattle.body_terms.specs.Counted.{counted_on};
 ghost use Rattle.runner_gate.specs.declared.gate.Pass.TheVariants.{Go, Halt};
-ghost use Rattle.runner_gate.specs.Asks.{unasked_of, asked_on};
+ghost use Rattle.runner_gate.specs.Asks.{unasked_of, asked_on, HaltedOnce};
 ghost use Rattle.runner_gate.specs.Counts.{plus, halts_after, plans_after, planned_after, none_counted};
 ghost use Rattle.runner_gate.specs.Planned.{asks_of, unasked, given_out, halts_next, asked};
 
@@ -58,7 +57,7 @@ impl Gate for HaltAt {
 
     fn after(&mut self, _kind: StepKind) -> Pass
         ensures never_falls { self.old.halts ≤ self.new.halts }
-        ensures halted { result ≡ Halt → Rose self.old.halts self.new.halts }
+        ensures halted { result ≡ Halt → HaltedOnce self.old.halts self.new.halts }
         ensures went { result ≡ Go → self.new.halts ≡ self.old.halts }
         ensures asked { asks_of self.new ≡ asked_on (asks_of self.old) 1 }
         ensures free { is_none self.old.at ≡ true → (result ≡ Go) × (is_none self.new.at ≡ true) }

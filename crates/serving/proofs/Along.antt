@@ -28,12 +28,12 @@ use Rattle.attempt_bounds.specs.attempts.specs.try_lock.specs.Reached.{IsReached
 use Rattle.attempt_bounds.specs.attempts.specs.request_facts.specs.Laws.{HasEntry}
 use Rattle.machine_states.specs.body_terms.specs.Counted.{counted_on}
 use Rattle.runner_gate.specs.Asks.{Asks, asked_on}
-use Rattle.attempt_bounds.specs.attempts.specs.Knowing.{KnowsMore, IsOwn}
-use Rattle.attempt_bounds.specs.attempts.specs.Course.{MayAttempt}
+use Rattle.attempt_bounds.specs.attempts.specs.caller_facts.specs.Knowing.{KnowsMore, IsOwn}
+use Rattle.attempt_bounds.specs.attempts.specs.caller_facts.specs.Asking.{MayAttempt}
 use Rattle.attempt_bounds.specs.attempts.specs.Attempts.{asks_more, asks_before, IsServed, IsShort, IsTurnedAway, Stops, AtEntry, InPlan, BehindHold, InOwnRun, InHelpedRun, is_own_run, HasJustEnded, EndsAt, IsHalted, Answers}
 use Rattle.attempt_bounds.specs.attempts.specs.declared.answers.Attempt.{Attempt}
 use Rattle.attempt_bounds.specs.attempts.specs.declared.answers.Attempt.TheVariants as attempts
-use Rattle.attempt_bounds.specs.attempts.proofs.Knowing.{knows_same, knows_on, own_on}
+use Rattle.attempt_bounds.specs.attempts.specs.caller_facts.proofs.Knowing.{knows_same, knows_on, own_on}
 use Rattle.attempt_bounds.specs.Spared.{IsSpared, AttemptsSpareSlots}
 use Rattle.serving.specs.declared.answers.Served.{Served}
 use Rattle.serving.specs.declared.answers.Served.TheVariants as answers
@@ -243,6 +243,11 @@ module _ {T : Type 0} (m : Meaning) (laws : Laws m) (planning : Planning) (reque
   least_all : i * least_asks ≤ asks_in all + i
   least_all = least_now (asks_in so_far.tries) (asks_in ps) (asks_in all) i (asks_append ps so_far.tries) so_far.least
 
+  least_let_all : i * least_asks ≤ let_all + 1
+  least_let_all =
+      let sums = asks_append persists.again so_far.tries in let served = none_again in let before = so_far.least in
+      omega (arith, sums, served, before)
+
   -- the last attempt began where the serving of this request did, if no want is waited out and no other one came between
   begun : persists.again ≡ [] → persists.before ≡ r
   begun none = subst (λ ts. AreTried m planning retry_short (q ∷ []) ts r persists.before) none persists.tried
@@ -400,6 +405,7 @@ module _ {T : Type 0} (m : Meaning) (laws : Laws m) (planning : Planning) (reque
     asked = asked_all;
     least = least_all;
     let_go = λ e. absurd (let z = e in cc);
+    least_let = λ e. absurd (let z = e in cc);
     brief = brief;
   }
 
@@ -429,6 +435,7 @@ module _ {T : Type 0} (m : Meaning) (laws : Laws m) (planning : Planning) (reque
     asked = asked_all;
     least = least_all;
     let_go = λ e. absurd (let z = e in cc);
+    least_let = λ e. absurd (let z = e in cc);
     brief = brief;
   }
 
@@ -495,6 +502,7 @@ module _ {T : Type 0} (m : Meaning) (laws : Laws m) (planning : Planning) (reque
     asked = asked_all;
     least = least_all;
     let_go = λ _. let_go_all same;
+    least_let = λ _. least_let_all;
     brief = brief;
   }
 
@@ -595,6 +603,10 @@ module _ {T : Type 0} (m : Meaning) (laws : Laws m) (planning : Planning) (reque
     asked = asks_behind (asks_in all) i asks asks2 asks3 asked_all asked;
     least = least_behind (asks_in so_far.tries) (asks_in ps) (asks_in all) i (asks_append ps so_far.tries) (done_many done) so_far.least;
     let_go = λ _. subst (Seen halts) (asked_all ∙ ap (asked_on asks) before_ask) seen;
+    least_let = λ _.
+        let most = least_behind (asks_in so_far.tries) (asks_in ps) (asks_in all) i (asks_append ps so_far.tries) (done_many done) so_far.least in
+        let whole = before_ask in
+        omega (arith, most, whole);
     brief = ended_brief m planning all (i + 1) old new asks asks3 answers.Halted
         (λ start behind runs. let low : behind ≤ start + ((i + 1) + 1) = omega (arith, runs) in low)
         (served_on m planning old r new (same_layout t old r of_old of_r) (same_requests t old r of_old of_r) asks asks1 asks2 ps so_far.tries i so_far.brief
@@ -632,6 +644,7 @@ module _ {T : Type 0} (m : Meaning) (planning : Planning) (requests : List Reque
     asked = so_far.asked;
     least = so_far.least;
     let_go = λ e. absurd (let z = e in cc);
+    least_let = λ e. absurd (let z = e in cc);
     brief = ended_brief m planning so_far.tries i old new asks asks' answers.All (λ start behind runs. runs) so_far.brief;
   }
 

@@ -12,7 +12,7 @@ use Rattle.attempt_bounds.specs.version_words.specs.RunnerState.{RunnerState}
 use Rattle.attempt_bounds.specs.attempts.specs.try_lock.specs.Planning.{Planning}
 use Rattle.machine_states.specs.body_terms.specs.Counted.{counted_on}
 use Rattle.runner_gate.specs.Asks.{Asks, asked_on}
-use Rattle.attempt_bounds.specs.attempts.specs.Course.{MayAttempt}
+use Rattle.attempt_bounds.specs.attempts.specs.caller_facts.specs.Asking.{MayAttempt}
 use Rattle.attempt_bounds.specs.attempts.specs.Attempts.{is_halted, asks_more, runs_of, most_of_attempt, has_helped, has_met_held, IsAttempt, Attempts}
 use Rattle.attempt_bounds.specs.attempts.specs.declared.answers.Attempt.{Attempt}
 use Rattle.attempt_bounds.specs.attempts.specs.declared.answers.Attempt.TheVariants as attempts

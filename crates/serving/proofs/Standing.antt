@@ -17,8 +17,8 @@ use Rattle.attempt_bounds.specs.one_worker.specs.reached_histories.proofs.First.
 use Rattle.attempt_bounds.specs.version_words.specs.RunnerState.{RunnerState}
 use Rattle.attempt_bounds.specs.attempts.specs.try_lock.specs.Reached.{IsReached}
 use Rattle.attempt_bounds.specs.attempts.specs.request_facts.specs.Laws.{HasEntry}
-use Rattle.attempt_bounds.specs.attempts.specs.Knowing.{IsFront}
-use Rattle.attempt_bounds.specs.attempts.proofs.Knowing.{front_entry, answered_on}
+use Rattle.attempt_bounds.specs.attempts.specs.caller_facts.specs.Knowing.{IsFront}
+use Rattle.attempt_bounds.specs.attempts.specs.caller_facts.proofs.Knowing.{front_entry, answered_on}
 
 -- an entry of what was known is one of what is known
 pub entry_on : (known more : List Known) → IsFront known more → (x : Known) → HasEntry known x → HasEntry more x

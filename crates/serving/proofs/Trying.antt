@@ -11,12 +11,12 @@ use Rattle.attempt_bounds.specs.version_words.specs.RunnerState.{RunnerState}
 use Rattle.attempt_bounds.specs.version_words.specs.TableState.{TableState, IsOf}
 use Rattle.attempt_bounds.specs.attempts.specs.epoch_slots.specs.Collects.{IsTidy}
 use Rattle.attempt_bounds.specs.attempts.specs.try_lock.specs.Planning.{Planning}
-use Rattle.attempt_bounds.specs.attempts.specs.Knowing.{IsFront, KnowsMore, LearnsNoOther}
-use Rattle.attempt_bounds.specs.attempts.specs.Course.{MayAttempt}
+use Rattle.attempt_bounds.specs.attempts.specs.caller_facts.specs.Knowing.{IsFront, KnowsMore, LearnsNoOther}
+use Rattle.attempt_bounds.specs.attempts.specs.caller_facts.specs.Asking.{MayAttempt}
 use Rattle.attempt_bounds.specs.attempts.specs.Attempts.{is_halted, asks_more, asks_before, has_met_held, Answers, Attempts}
 use Rattle.attempt_bounds.specs.attempts.specs.declared.answers.Attempt.{Attempt}
 use Rattle.attempt_bounds.specs.attempts.specs.declared.answers.Attempt.TheVariants as attempts
-use Rattle.attempt_bounds.specs.attempts.proofs.Knowing.{knows_on, knows_same, no_other_on}
+use Rattle.attempt_bounds.specs.attempts.specs.caller_facts.proofs.Knowing.{knows_on, knows_same, no_other_on}
 use Rattle.serving.specs.Serving.{is_tried_again, is_crossed, Try, is_served, GoesOn, served_in, steps_in, asks_in, WasCrossed, IsTry, AreTried, Persists}
 use Rattle.serving.proofs.Lists.{all_weaker, held_more}
 use Rattle.serving.proofs.Standing.{answered_more}

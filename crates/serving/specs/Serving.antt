@@ -15,8 +15,9 @@ use Rattle.attempt_bounds.specs.attempts.specs.epoch_slots.specs.Collects.{IsTid
 use Rattle.attempt_bounds.specs.attempts.specs.epoch_slots.specs.declared.reserves.Short.{Short}
 use Rattle.attempt_bounds.specs.attempts.specs.try_lock.specs.Planning.{Planning}
 use Rattle.attempt_bounds.specs.attempts.specs.request_facts.specs.Laws.{HasEntry}
-use Rattle.attempt_bounds.specs.attempts.specs.Knowing.{KnowsMore, IsOwn, LearnsNoOther}
-use Rattle.attempt_bounds.specs.attempts.specs.Course.{MayAttempt, IsRefused}
+use Rattle.attempt_bounds.specs.attempts.specs.caller_facts.specs.Knowing.{KnowsMore, IsOwn, LearnsNoOther}
+use Rattle.attempt_bounds.specs.attempts.specs.Course.{IsRefused}
+use Rattle.attempt_bounds.specs.attempts.specs.caller_facts.specs.Asking.{MayAttempt}
 use Rattle.attempt_bounds.specs.attempts.specs.Attempts.{most_of_attempt, asks_more, asks_before, has_met_held, IsShort, IsTurnedAway, Answers, IsAttempt}
 use Rattle.attempt_bounds.specs.attempts.specs.declared.answers.Attempt.{Attempt}
 use Rattle.attempt_bounds.specs.attempts.specs.declared.answers.Attempt.TheVariants as attempts
@@ -302,6 +303,10 @@ module _ {T : Type 0} where
       -- so the serving ends with the first halt, whether in an attempt or at the ask behind a served request
       pub let_go : answer ≡ answers.Halted
           → Seen halts (asked_on asks (all_asks_let m planning retry_short requests tries old new tried))
+      -- and by then it had let the runner go on so often at least for each served request, but for the ask behind the
+      -- last one
+      pub least_let : answer ≡ answers.Halted
+          → count * least_asks ≤ all_asks_let m planning retry_short requests tries old new tried + 1
       -- where no attempt was refused since another one came between, so many runs came to their end, and the gate
       -- was asked at most so often
       pub brief : WasCrossed m planning tries old ⊎ ServesBriefly m answer count old new asks asks'

@@ -1,9 +1,9 @@
 //! One request, attempted until it is answered.
 ghost use Rattle.std.specs.Prelude.{◌≡◌, ◌≢◌};
-ghost use Rattle.runner_gate.specs.fault_count.specs.Rose.{Rose};
+ghost use Rattle.runner_gate.specs.Asks.{HaltedOnce};
 ghost use Rattle.attempt_bounds.specs.version_words.specs.TableState.{IsOf};
-ghost use Rattle.attempt_bounds.specs.attempts.specs.Counted.{IsSeen};
-ghost use Rattle.attempt_bounds.specs.attempts.specs.Course.{MayAttempt};
+ghost use Rattle.attempt_bounds.specs.attempts.specs.caller_facts.specs.Counted.{IsSeen};
+ghost use Rattle.attempt_bounds.specs.attempts.specs.caller_facts.specs.Asking.{MayAttempt};
 ghost use Rattle.attempt_bounds.specs.attempts.specs.declared.answers.Attempt.TheVariants as attempts;
 ghost use Rattle.serving.specs.Serving.{is_tried_again, Persists};
 
@@ -56,7 +56,7 @@ pub fn persist<R: Wait, S: Planner, G: Gate, L>(
     ensures persists { Persists (S.meaning table.now.structure) (S.planning table.now.structure) retry_short request.now
         result.1 runner result.0 (IsSeen G.halts G.asks) (G.halts gate.old) (G.asks gate.old) (G.asks gate.new)
         steps.old.count steps.new.count }
-    ensures halted { result.1 ≡ attempts.Halted → Rose (G.halts gate.old) (G.halts gate.new) }
+    ensures halted { result.1 ≡ attempts.Halted → HaltedOnce (G.halts gate.old) (G.halts gate.new) }
     ensures went { result.1 ≢ attempts.Halted → G.halts gate.new ≡ G.halts gate.old }
 {
     for _ in rt.forever() {

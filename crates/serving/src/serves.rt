@@ -1,8 +1,8 @@
 //! The requests of a worker, served in their order.
 ghost use Rattle.std.specs.Prelude.{◌≡◌, ◌≢◌};
-ghost use Rattle.runner_gate.specs.fault_count.specs.Rose.{Rose};
+ghost use Rattle.runner_gate.specs.Asks.{HaltedOnce};
 ghost use Rattle.attempt_bounds.specs.version_words.specs.TableState.{IsOf};
-ghost use Rattle.attempt_bounds.specs.attempts.specs.Counted.{IsSeen};
+ghost use Rattle.attempt_bounds.specs.attempts.specs.caller_facts.specs.Counted.{IsSeen};
 ghost use Rattle.serving.specs.declared.answers.Served.TheVariants as answers;
 ghost use Rattle.serving.specs.Serving.{stop_of, MayServe, Serves};
 
@@ -59,7 +59,7 @@ pub fn serve<R: Threads + Wait + Sync, S: Planner, G: Gate, L>(
     ensures serves { Serves (S.meaning table.now.structure) (S.planning table.now.structure) retry_short requests.now
         result.1 runner result.0 (IsSeen G.halts G.asks) (G.halts gate.old) (G.asks gate.old) (G.asks gate.new)
         steps.old.count steps.new.count }
-    ensures halted { result.1 ≡ answers.Halted → Rose (G.halts gate.old) (G.halts gate.new) }
+    ensures halted { result.1 ≡ answers.Halted → HaltedOnce (G.halts gate.old) (G.halts gate.new) }
     ensures went { result.1 ≢ answers.Halted → G.halts gate.new ≡ G.halts gate.old }
 {
     attempts_spare_slots(table.structure());

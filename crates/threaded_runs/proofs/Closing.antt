@@ -41,7 +41,7 @@ use Rattle.settled_tables.specs.settling.specs.epoch_slots.specs.declared.reserv
 use Rattle.settled_tables.specs.settling.specs.epoch_slots.specs.declared.reserves.Short.{Short}
 use Rattle.settled_tables.specs.settling.specs.try_lock.specs.Planning.{Planning}
 use Rattle.free_serving.specs.serving.specs.attempts.specs.Attempts.{IsFew}
-use Rattle.free_serving.specs.serving.specs.Serving.{WasJustServed, WasHalted, StopsShort}
+use Rattle.free_serving.specs.serving.specs.Serving.{Try, WasJustServed, WasHalted, StopsShort}
 use Rattle.free_serving.specs.Services.{is_get}
 use Rattle.free_serving.specs.Left.{Rises, IsBefore, IsOdd, AreAskedWholly, WasPublished, WasReadInVain, Leaves, Ends}
 use Rattle.free_serving.specs.serving.specs.declared.answers.Served.{Served}
@@ -98,8 +98,8 @@ module _ {T : Type 0} (m : Meaning) (t : TableState T) (keeper : RunnerState T) 
 
   module _ (is_map : m.is_map ≡ true) (history : HasHistory m t.layout t.requests end) (callers : CallersStand m t.layout t.requests end)
       (worker : ℕ) (own : List Request) (retry_short reads_free : Bool) (planning : Planning) (answer : Served) (old new : RunnerState T)
-      (part : end.part worker ≡ leaves new.part) (asks asks' : Asks)
-      (left : Leaves m planning retry_short reads_free own answer old new asks asks')
+      (part : end.part worker ≡ leaves new.part) (Seen : ℕ → Asks → Type 0) (first : ℕ) (asks asks' : Asks)
+      (tries : List Try) (left : Leaves m planning retry_short reads_free own answer tries old new Seen first asks asks')
       (there : (i : ℕ) (q : Request) → slice_get own i ≡ Some q → slice_get t.requests q.number ≡ Some q)
       (trace : (i : ℕ) (q : Request) → slice_get own i ≡ Some q → q.trace % t.layout.runners ≡ worker)
       (once : (i j : ℕ) (q q' : Request) → slice_get own i ≡ Some q → slice_get own j ≡ Some q' → q.number ≡ q'.number → i ≡ j) where
@@ -336,7 +336,7 @@ module _ {T : Type 0} (m : Meaning) (t : TableState T) (keeper : RunnerState T) 
       pub descriptors_done : OwnStand t.layout end → LimboIsDone end → (short : Short) → answer ≡ answers.Short short → short.kind ≡ slots.Descriptor
           → (d : ℕ) → w.layout.sections * worker ≤ d → d < w.layout.sections * worker + w.layout.sections → word_of m w (DoneWord d) ≡ 1
       descriptors_done stands limbo_done short is kind =
-          let ends : Ends m planning retry_short own (answers.Short short) count old new = subst (λ (a : Served). Ends m planning retry_short own a count old new) is left.ends in
+          let ends : Ends m planning retry_short own (answers.Short short) count tries old new = subst (λ (a : Served). Ends m planning retry_short own a count tries old new) is left.ends in
           own_done stands limbo_done short ends.2.stops.cause.few ends.2.tidy kind
 
       is_short : (short : Short) (q : Request) (from : RunnerState T) → StopsShort m planning retry_short short q from new → IsTidy new → IsShortOf m w retry_short short
@@ -413,7 +413,7 @@ module _ {T : Type 0} (m : Meaning) (t : TableState T) (keeper : RunnerState T) 
             inr (refl, λ q e. inl (x, is)),
           ))
 
-      leaves_served : (a : Served) → AreAskedWholly own a count left.full new → Ends m planning retry_short own a count old new → LeavesServed a
+      leaves_served : (a : Served) → AreAskedWholly own a count left.full new → Ends m planning retry_short own a count tries old new → LeavesServed a
       leaves_served answers.All whole ends = (
         record {
           count = count;

@@ -4,7 +4,7 @@ use Rattle.std.proofs.Common.{◌≡◌, ◌≢◌, ℕ, zero, suc, ◌+◌, ◌
 use Rattle.std.proofs.Math.Nat.{min-le_left}
 use Rattle.std.proofs.lemmas.List.{take_more, take_all, length-take}
 use Rattle.settled_tables.specs.settling.specs.runner_gate.specs.Asks.{Asks}
-use Rattle.settled_tables.specs.settling.specs.runner_gate.specs.Counts.{plus, halts_after, plans_after}
+use Rattle.settled_tables.specs.settling.specs.runner_gate.specs.Counts.{plus, halts_after, plans_after, planned_after}
 use Rattle.settled_tables.specs.settling.specs.runner_gate.specs.declared.counts.GatePlan.{GatePlan}
 use Rattle.free_serving.specs.serving.specs.declared.answers.Served.{Served}
 use Rattle.free_serving.specs.serving.specs.declared.answers.Served.TheVariants as answers
@@ -18,12 +18,8 @@ halts_more halts [] answer = refl
 halts_more halts (x ∷ given) answer = halts_more (halts_after halts (halted x)) given answer
 
 -- the gate of a worker halted exactly where its answer is Halted
-pub counted_so : (halts of_gate : ℕ) (answer : Served) → (answer ≡ answers.Halted → 0 < of_gate) → (answer ≢ answers.Halted → of_gate ≡ 0) → halts_after halts of_gate ≡ halts_after halts (halted answer)
-counted_so halts of_gate answers.Halted some none = by_gate of_gate (some refl)
-  where
-    by_gate : (n : ℕ) → 0 < n → halts_after halts n ≡ halts_after halts 1
-    by_gate zero low = absurd (omega (arith, low))
-    by_gate (suc n) low = refl
+pub counted_so : (halts of_gate : ℕ) (answer : Served) → (answer ≡ answers.Halted → of_gate ≡ 1) → (answer ≢ answers.Halted → of_gate ≡ 0) → halts_after halts of_gate ≡ halts_after halts (halted answer)
+counted_so halts of_gate answers.Halted some none = ap (halts_after halts) (some refl)
 counted_so halts of_gate answers.All some none = ap (halts_after halts) (none (λ e. let x = e in cc))
 counted_so halts of_gate (answers.Short short) some none = ap (halts_after halts) (none (λ e. let x = e in cc))
 counted_so halts of_gate (answers.Spent place word) some none = ap (halts_after halts) (none (λ e. let x = e in cc))
@@ -92,15 +88,25 @@ pub all_plans : (halts : List (Option ℕ)) (n : ℕ) → n ≡ length halts →
 all_plans halts n all = take_all n (plans_from 0 halts) (omega (arith, all, length-plans_from 0 halts))
 
 -- where memory is wanting, the first ones have their gates
-pub front_none : (plans : ℕ) (halts : List (Option ℕ)) → GivesFront plans plans halts
-front_none plans halts = (0, refl)
+pub front_none : (plans : ℕ) (planned : List GatePlan) (halts : List (Option ℕ)) → GivesFront plans plans planned planned halts
+front_none plans planned halts = (0, refl, λ empty. empty)
 
-pub front_more : (plans now next : ℕ) (halts : List (Option ℕ)) (n : ℕ) (d : Option ℕ) → n < length halts
-    → now ≡ plans_given plans (take n halts) → next ≡ plans_after now (get_or halts n d) → GivesFront plans next halts
-front_more plans now next halts n d low was is = (n + 1, is ∙ (ap (λ p. plans_after p (get_or halts n d)) was ∙ plans_more plans halts n d low))
+pub front_more : (plans now next : ℕ) (planned held given : List GatePlan) (halts : List (Option ℕ)) (n : ℕ) (d : Option ℕ) → n < length halts
+    → length halts ≤ 16 → now ≡ plans_given plans (take n halts) → next ≡ plans_after now (get_or halts n d)
+    → (planned ≡ [] → held ≡ take n (plans_from 0 halts)) → given ≡ planned_after held n (get_or halts n d) → GivesFront plans next planned given halts
+front_more plans now next planned held given halts n d low few was is were are = (
+  n + 1,
+  is ∙ (ap (λ p. plans_after p (get_or halts n d)) was ∙ plans_more plans halts n d low),
+  λ empty. are ∙ (ap (λ (xs : List GatePlan). planned_after xs n (get_or halts n d)) (were empty) ∙ next_plan halts n d low few),
+)
 
-pub front_all : (plans next : ℕ) (halts : List (Option ℕ)) → next ≡ plans_given plans halts → GivesFront plans next halts
-front_all plans next halts is = (length halts, is ∙ ap (plans_given plans) (sym (take_all (length halts) halts (omega arith))))
+pub front_all : (plans next : ℕ) (planned given : List GatePlan) (halts : List (Option ℕ)) → next ≡ plans_given plans halts
+    → (planned ≡ [] → given ≡ plans_from 0 halts) → GivesFront plans next planned given halts
+front_all plans next planned given halts is are = (
+  length halts,
+  is ∙ ap (plans_given plans) (sym (take_all (length halts) halts (omega arith))),
+  λ empty. are empty ∙ sym (all_plans halts (length halts) refl),
+)
 
 -- one more gate came back
 pub one_returned : (returned n : ℕ) → returns_counted returned (n + 1) ≡ plus (returns_counted returned n) 1

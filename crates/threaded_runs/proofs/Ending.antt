@@ -1,6 +1,6 @@
 -- The end of a run: what the words of the closed table hold, by what the workers and the keeper did.
 use Rattle.std.specs.Prelude.{◌%◌, ◌*◌, ◌-◌, ◌^◌, ◌==◌, ◌⊎◌, min, not, count_by, slice_get, Bool, false}
-use Rattle.std.proofs.Common.{◌≡◌, ◌≢◌, ℕ, suc, ◌+◌, ◌<◌, ◌≤◌, List, length, sym, ap, ◌∙◌, subst, arith, true, Option, Some, get_or, eq-eqb, if◌then◌else◌, ⊎_elim, inl, inr}
+use Rattle.std.proofs.Common.{◌≡◌, ◌≢◌, ℕ, suc, ◌+◌, ◌<◌, ◌≤◌, List, length, sym, ap, ◌∙◌, subst, arith, true, Option, None, Some, get_or, eq-eqb, if◌then◌else◌, ⊎_elim, inl, inr}
 use Rattle.std.proofs.lemmas.Option.{slice_get_within, get_or_from_slice_get}
 use Rattle.std.proofs.Math.Nat.{mod-lt}
 use Rattle.machine_states.specs.map_history.specs.declared.op.Request.{Request}
@@ -14,7 +14,7 @@ use Rattle.machine_states.specs.World.{seat_of}
 use Rattle.machine_states.specs.Reached.{Reached}
 use Rattle.machine_states.specs.runner_steps.specs.After.{leaves}
 use Rattle.machine_states.specs.Sight.{sight}
-use Rattle.settled_tables.specs.settling.specs.runner_gate.specs.Asks.{Asks}
+use Rattle.settled_tables.specs.settling.specs.runner_gate.specs.Asks.{Asks, asked_on, unasked_of}
 use Rattle.free_serving.specs.resource_bounds.specs.Makes as makes
 use Rattle.reached_facts.specs.Facts.{HasFacts, KeepsFacts}
 use Rattle.version_words.specs.RunnerState.{RunnerState}
@@ -27,6 +27,7 @@ use Rattle.settled_tables.specs.settling.specs.epoch_slots.specs.declared.reserv
 use Rattle.settled_tables.specs.settling.specs.epoch_slots.specs.declared.reserves.Short.{Short}
 use Rattle.free_serving.specs.Services.{is_get}
 use Rattle.free_serving.specs.Left.{least_asks, WasReadInVain}
+use Rattle.lone_reads.specs.seq_read.specs.caller_facts.specs.Counted.{IsSeen}
 use Rattle.free_serving.specs.serving.specs.declared.answers.Served.{Served}
 use Rattle.free_serving.specs.serving.specs.declared.answers.Served.TheVariants as stops
 use Rattle.threaded_runs.specs.declared.job.Job.{Job}
@@ -47,6 +48,20 @@ use Rattle.threaded_runs.proofs.Asked.{all_placed, counted_least, often_asked, s
 least_turned : (reads_free : Bool) (n made : ℕ) → n * least_asks reads_free ≤ made → least_asks reads_free * n ≤ made
 least_turned true n made least = let few : n * 8 ≤ made = least in let turned : 8 * n ≤ made = omega (arith, few) in turned
 least_turned false n made least = let few : n * 16 ≤ made = least in let turned : 16 * n ≤ made = omega (arith, few) in turned
+
+-- so many asks before a halt, where others served one request more at most
+let_turned : (reads_free : Bool) (full served halts more : ℕ) → halts ≤ 1 → served ≤ full + halts → full * least_asks reads_free ≤ more + 1
+    → least_asks reads_free * (served - 1) ≤ more + 1
+let_turned true full served halts more one few least =
+    let so : full * 8 ≤ more + 1 = least in let turned : 8 * (served - 1) ≤ more + 1 = omega (arith, one, few, so) in turned
+let_turned false full served halts more one few least =
+    let so : full * 16 ≤ more + 1 = least in let turned : 16 * (served - 1) ≤ more + 1 = omega (arith, one, few, so) in turned
+
+halted_once : (answer : Served) → halted answer ≤ 1
+halted_once stops.Halted = omega arith
+halted_once stops.All = omega arith
+halted_once (stops.Short short) = omega arith
+halted_once (stops.Spent place word) = omega arith
 
 -- what is known of a table that a planner runs on: each state that the machine reaches over it has its facts
 pub record IsLawful {T : Type 0} (m : Meaning) (planning : Planning) (t : TableState T) : Type 0 where
@@ -125,26 +140,26 @@ module _ {T : Type 0} (m : Meaning) (planning : Planning) (retry_short reads_fre
       served_so : HasServed m w retry_short reads_free (own_requests t.layout.runners worker t.requests) f.answer
       served_so = subst (λ (rs : List Request). HasServed m w retry_short reads_free rs f.answer) is_seated.requests
           (has_served m t keeper w closing lawful.planner.serves facts.history facts.callers
-          worker j.requests.items retry_short reads_free planning f.answer j.runner f.runner part _ _ has_run.left there trace once
-          low has_run.own (has_run.left.knows.number ∙ is_seated.number) facts.descriptors facts.spent facts.worn (facts.worn_once worker) made facts.lists)
+          worker j.requests.items retry_short reads_free planning f.answer j.runner f.runner part _ _ _ _ _ has_run.serves.left there trace once
+          low has_run.own (has_run.serves.left.knows.number ∙ is_seated.number) facts.descriptors facts.spent facts.worn (facts.worn_once worker) made facts.lists)
 
       -- so many of its requests have an entry, and one more at most where it was halted
-      few_own : count_by (λ (q : Request). not (stamp_of m w q == 0)) (own_requests t.layout.runners worker t.requests) ≤ has_run.left.full + halted f.answer
-      few_own = subst (λ (rs : List Request). count_by (λ (q : Request). not (stamp_of m w q == 0)) rs ≤ has_run.left.full + halted f.answer) is_seated.requests
+      few_own : count_by (λ (q : Request). not (stamp_of m w q == 0)) (own_requests t.layout.runners worker t.requests) ≤ has_run.serves.left.full + halted f.answer
+      few_own = subst (λ (rs : List Request). count_by (λ (q : Request). not (stamp_of m w q == 0)) rs ≤ has_run.serves.left.full + halted f.answer) is_seated.requests
           (few_entered m t keeper w closing lawful.planner.serves facts.history facts.callers
-          worker j.requests.items retry_short reads_free planning f.answer j.runner f.runner part _ _ has_run.left there trace once
-          low has_run.own (has_run.left.knows.number ∙ is_seated.number) facts.descriptors facts.spent facts.worn (facts.worn_once worker) made facts.lists)
+          worker j.requests.items retry_short reads_free planning f.answer j.runner f.runner part _ _ _ _ _ has_run.serves.left there trace once
+          low has_run.own (has_run.serves.left.knows.number ∙ is_seated.number) facts.descriptors facts.spent facts.worn (facts.worn_once worker) made facts.lists)
 
       -- and its gate was asked for each that it served
-      asked_own : min (least_asks reads_free * has_run.left.full) (2 ^ 64 - 1) ≤ (asks f.gate).count
-      asked_own = subst (λ (a : Asks). min (least_asks reads_free * has_run.left.full) (2 ^ 64 - 1) ≤ a.count) (sym has_run.left.asked)
-          (counted_least (asks j.gate).count has_run.left.made (least_asks reads_free * has_run.left.full) (least_turned reads_free has_run.left.full has_run.left.made has_run.left.least))
+      asked_own : min (least_asks reads_free * has_run.serves.left.full) (2 ^ 64 - 1) ≤ (asks f.gate).count
+      asked_own = subst (λ (a : Asks). min (least_asks reads_free * has_run.serves.left.full) (2 ^ 64 - 1) ≤ a.count) (sym has_run.serves.left.asked)
+          (counted_least (asks j.gate).count has_run.serves.left.made (least_asks reads_free * has_run.serves.left.full) (least_turned reads_free has_run.serves.left.full has_run.serves.left.made has_run.serves.left.least))
 
       done_so : (short : Short) → f.answer ≡ stops.Short short → short.kind ≡ slots.Descriptor
           → (d : ℕ) → w.layout.sections * worker ≤ d → d < w.layout.sections * worker + w.layout.sections → word_of m w (DoneWord d) ≡ 1
       done_so short is kind = descriptors_done m t keeper w closing lawful.planner.serves facts.history facts.callers
-          worker j.requests.items retry_short reads_free planning f.answer j.runner f.runner part _ _ has_run.left there trace once
-          low has_run.own (has_run.left.knows.number ∙ is_seated.number) facts.descriptors facts.spent facts.worn (facts.worn_once worker) made facts.lists
+          worker j.requests.items retry_short reads_free planning f.answer j.runner f.runner part _ _ _ _ _ has_run.serves.left there trace once
+          low has_run.own (has_run.serves.left.knows.number ∙ is_seated.number) facts.descriptors facts.spent facts.worn (facts.worn_once worker) made facts.lists
           facts.own facts.limbo short is kind
 
       -- where it reads each `get` first, each of its own that has an entry has a read's stamp, or was read in vain
@@ -153,8 +168,8 @@ module _ {T : Type 0} (m : Meaning) (planning : Planning) (retry_short reads_fre
           → (stamp_of m w q % 2 ≡ 1) ⊎ ((r : RunnerState T) × (r.layout ≡ t.layout) × (r.requests ≡ t.requests) × WasReadInVain m planning q r)
       read_so free i q at get some = ⊎_elim inl (λ vain. inr (j.runner, is_seated.may.own.layout, is_seated.may.own.requests, vain))
           (read_odd m t keeper w closing lawful.planner.serves facts.history facts.callers
-          worker j.requests.items retry_short reads_free planning f.answer j.runner f.runner part _ _ has_run.left there trace once
-          low has_run.own (has_run.left.knows.number ∙ is_seated.number) facts.descriptors facts.spent facts.worn (facts.worn_once worker) made facts.lists
+          worker j.requests.items retry_short reads_free planning f.answer j.runner f.runner part _ _ _ _ _ has_run.serves.left there trace once
+          low has_run.own (has_run.serves.left.knows.number ∙ is_seated.number) facts.descriptors facts.spent facts.worn (facts.worn_once worker) made facts.lists
           free i q (subst (λ (rs : List Request). slice_get rs i ≡ Some q) (sym is_seated.requests) at) get some)
 
     -- the worker with this answer is one
@@ -179,9 +194,9 @@ module _ {T : Type 0} (m : Meaning) (planning : Planning) (retry_short reads_fre
         (often_asked reads_free asks before finished answers (λ worker. count_by (λ (q : Request). not (stamp_of m w q == 0)) (own_requests t.layout.runners worker t.requests))
         (each ∙ (sym as_many ∙ sym back))
         (λ worker seat d a. let low : worker < t.layout.runners = subst (λ (n : ℕ). worker < n) (back ∙ as_many) seat in (
-          (has_run worker low).left.full,
-          subst (λ (n : ℕ). min (least_asks reads_free * (has_run worker low).left.full) (2 ^ 64 - 1) ≤ n) (ap (λ (x : Finished T H). (asks x.gate).count) (same_at finished worker _ d seat)) (asked_own worker low),
-          subst (λ (x : Served). count_by (λ (q : Request). not (stamp_of m w q == 0)) (own_requests t.layout.runners worker t.requests) ≤ (has_run worker low).left.full + halted x)
+          (has_run worker low).serves.left.full,
+          subst (λ (n : ℕ). min (least_asks reads_free * (has_run worker low).serves.left.full) (2 ^ 64 - 1) ≤ n) (ap (λ (x : Finished T H). (asks x.gate).count) (same_at finished worker _ d seat)) (asked_own worker low),
+          subst (λ (x : Served). count_by (λ (q : Request). not (stamp_of m w q == 0)) (own_requests t.layout.runners worker t.requests) ≤ (has_run worker low).serves.left.full + halted x)
               (sym (is_kept worker low a).same) (few_own worker low),
         ))
         (served_in m w)
@@ -197,10 +212,16 @@ module _ {T : Type 0} (m : Meaning) (planning : Planning) (retry_short reads_fre
     module _ (entries : List (Option ℕ)) (unhalted : AllUnhalted halts jobs) (given : AllGiven asks entries jobs) where
       gate_is : (worker : ℕ) (low : worker < t.layout.runners) (a : Served) → IsGateOf m w reads_free halts asks entries worker (get_or answers worker a) (f worker low).gate
       gate_is worker low a = record {
-        given = ap (λ (x : Asks). x.plan) (has_run worker low).left.asked ∙ ap (λ (x : Asks). x.plan) (given worker (some_of jobs worker (seat worker low)) (seat worker low));
+        given = ap (λ (x : Asks). x.plan) (has_run worker low).serves.left.asked ∙ ap (λ (x : Asks). x.plan) (given worker (some_of jobs worker (seat worker low)) (seat worker low));
         stopped = λ e. (has_run worker low).halted still (sym same ∙ e);
         went = λ other. (has_run worker low).went still (λ e. other (same ∙ e));
-        often = often_so reads_free (has_run worker low).left.full (served_by m w worker) (halted (get_or answers worker a)) (asks (f worker low).gate).count few (asked_own worker low);
+        let_go = λ e. let was = (has_run worker low).serves.left.let_go (sym same ∙ e) in (
+          was.0,
+          let_turned reads_free (has_run worker low).serves.left.full (served_by m w worker) (halted (get_or answers worker a)) was.0 (halted_once (get_or answers worker a)) few was.1,
+          subst (λ (h : ℕ). IsSeen halts asks h (asked_on (unasked_of worker (get_or entries worker None)) was.0)) still
+              (subst (λ (x : Asks). IsSeen halts asks (halts (j worker low).gate) (asked_on x was.0)) (given worker (some_of jobs worker (seat worker low)) (seat worker low)) was.2),
+        );
+        often = often_so reads_free (has_run worker low).serves.left.full (served_by m w worker) (halted (get_or answers worker a)) (asks (f worker low).gate).count few (asked_own worker low);
       }
         where
           same : get_or answers worker a ≡ (f worker low).answer
@@ -209,11 +230,11 @@ module _ {T : Type 0} (m : Meaning) (planning : Planning) (retry_short reads_fre
           still : halts (j worker low).gate ≡ 0
           still = unhalted worker (some_of jobs worker (seat worker low)) (seat worker low)
 
-          few : served_by m w worker ≤ (has_run worker low).left.full + halted (get_or answers worker a)
-          few = subst (λ (x : Served). served_by m w worker ≤ (has_run worker low).left.full + halted x) (sym same)
-              (subst (λ (l : Layout). count_by (λ (q : Request). not (stamp_of m w q == 0)) (own_requests l.runners worker w.requests) ≤ (has_run worker low).left.full + halted (f worker low).answer)
+          few : served_by m w worker ≤ (has_run worker low).serves.left.full + halted (get_or answers worker a)
+          few = subst (λ (x : Served). served_by m w worker ≤ (has_run worker low).serves.left.full + halted x) (sym same)
+              (subst (λ (l : Layout). count_by (λ (q : Request). not (stamp_of m w q == 0)) (own_requests l.runners worker w.requests) ≤ (has_run worker low).serves.left.full + halted (f worker low).answer)
               (sym closing.layout)
-              (subst (λ (rs : List Request). count_by (λ (q : Request). not (stamp_of m w q == 0)) (own_requests t.layout.runners worker rs) ≤ (has_run worker low).left.full + halted (f worker low).answer)
+              (subst (λ (rs : List Request). count_by (λ (q : Request). not (stamp_of m w q == 0)) (own_requests t.layout.runners worker rs) ≤ (has_run worker low).serves.left.full + halted (f worker low).answer)
               (sym closing.requests) (few_own worker low)))
 
       pub gates_came_back : (before behind : ℕ) → behind ≡ asks_counted asks before finished → GatesCameBack m w reads_free halts asks entries answers before behind

@@ -27,9 +27,9 @@ use Rattle.settled_tables.specs.settling.specs.epoch_slots.specs.Reserves.{count
 use Rattle.settled_tables.specs.settling.specs.epoch_slots.specs.declared.reserves.Kind.TheVariants as slots
 use Rattle.settled_tables.specs.settling.specs.epoch_slots.specs.declared.reserves.Short.{Short}
 use Rattle.settled_tables.specs.settling.specs.try_lock.specs.Planning.{Planning}
-use Rattle.free_serving.specs.serving.specs.Serving.{is_crossed, most_asks}
+use Rattle.free_serving.specs.serving.specs.Serving.{Try, WasCrossed, is_crossed, most_asks}
 use Rattle.free_serving.specs.Services.{is_get, is_refusal}
-use Rattle.free_serving.specs.Left.{MostRuns, CameBetween, WasReadInVain, Ends}
+use Rattle.free_serving.specs.Left.{MostRuns, WasReadInVain, Ends}
 use Rattle.lone_reads.specs.seq_read.specs.Course.{IsRefused}
 use Rattle.lone_reads.specs.seq_read.specs.declared.answers.Read.{Read}
 use Rattle.lone_reads.specs.seq_read.specs.declared.answers.Read.TheVariants as reads
@@ -142,36 +142,36 @@ module _ {T H : Type 0} (m : Meaning) (planning : Planning) (retry_short reads_f
   }
 
   -- no attempt was refused since another one came between
-  uncrossed : CameBetween m planning j.runner → ⊥
-  uncrossed came = let is = came.1 in
+  uncrossed : (tries : List Try) → WasCrossed m planning tries j.runner → ⊥
+  uncrossed tries is =
       not_crossed is.answer is.crossed (attempts_go.refused is.request is.answer is.before is.cut (lone_of is.before (is.layout ∙ is_seated.may.own.layout) (is.requests ∙ is_seated.may.own.requests)) is.refused)
 
   few_runs : length p.records.finished ≤ length t.requests + 1
-  few_runs = ⊎_elim (λ crossed. absurd (uncrossed crossed)) (λ brief. by f.answer brief.runs) has_run.left.brief
+  few_runs = ⊎_elim (λ crossed. absurd (uncrossed has_run.serves.tries crossed)) (λ brief. by f.answer brief.runs) has_run.serves.left.brief
     where
-      served : has_run.left.count ≤ length t.requests
-      served = subst (λ (rs : List Request). has_run.left.count ≤ length rs)
-          (is_seated.requests ∙ (ap (λ n. own_requests n 0 t.requests) one ∙ all_own t.requests)) has_run.left.served.few
+      served : has_run.serves.left.count ≤ length t.requests
+      served = subst (λ (rs : List Request). has_run.serves.left.count ≤ length rs)
+          (is_seated.requests ∙ (ap (λ n. own_requests n 0 t.requests) one ∙ all_own t.requests)) has_run.serves.left.served.few
 
-      by : (a : Served) → MostRuns a has_run.left.count (length j.runner.part.records.finished) (length p.records.finished)
+      by : (a : Served) → MostRuns a has_run.serves.left.count (length j.runner.part.records.finished) (length p.records.finished)
           → length p.records.finished ≤ length t.requests + 1
-      by a runs = let most = most_runs a has_run.left.count (length j.runner.part.records.finished) (length p.records.finished) runs in
+      by a runs = let most = most_runs a has_run.serves.left.count (length j.runner.part.records.finished) (length p.records.finished) runs in
           let none : length j.runner.part.records.finished ≡ 0 = ap length is_seated.fresh in omega (arith, most, none, served)
 
   -- each request that the worker has served has its entry
-  all_entered : has_run.left.count ≤ served_in m w
-  all_entered = subst (λ (rs : List Request). has_run.left.count ≤ count_by (λ (q : Request). not (stamp_of m w q == 0)) rs)
+  all_entered : has_run.serves.left.count ≤ served_in m w
+  all_entered = subst (λ (rs : List Request). has_run.serves.left.count ≤ count_by (λ (q : Request). not (stamp_of m w q == 0)) rs)
       (is_seated.requests ∙ (ap (λ n. own_requests n 0 t.requests) one ∙ (all_own t.requests ∙ sym closing.requests)))
-      (front_passes (λ (q : Request). not (stamp_of m w q == 0)) j.requests.items has_run.left.count has_run.left.served.few
+      (front_passes (λ (q : Request). not (stamp_of m w q == 0)) j.requests.items has_run.serves.left.count has_run.serves.left.served.few
       (λ i q low e. ap not (ne_eqb (stamp_of m w q) 0 (known_entry m t keeper w closing reached.history 0 q.number
-      (ap (λ (x : PartState). is_answered x.records.known q.number) p_is ∙ has_run.left.served.answered i q low e)))))
+      (ap (λ (x : PartState). is_answered x.records.known q.number) p_is ∙ has_run.serves.left.served.answered i q low e)))))
 
   few_asks : (asks j.gate).count ≡ 0 → (asks f.gate).count ≤ (served_in m w + 1) * most_asks (cells.slots m w.layout)
-  few_asks none = ⊎_elim (λ crossed. absurd (uncrossed crossed))
-      (λ brief. asks_within (asks j.gate).count (asks f.gate).count has_run.left.count (served_in m w) (most_asks (cells.slots m w.layout))
-      (subst (λ (l : Layout). (asks f.gate).count ≤ (asks j.gate).count + (has_run.left.count + 1) * most_asks (cells.slots m l)) (is_seated.may.own.layout ∙ sym closing.layout) brief.asked)
+  few_asks none = ⊎_elim (λ crossed. absurd (uncrossed has_run.serves.tries crossed))
+      (λ brief. asks_within (asks j.gate).count (asks f.gate).count has_run.serves.left.count (served_in m w) (most_asks (cells.slots m w.layout))
+      (subst (λ (l : Layout). (asks f.gate).count ≤ (asks j.gate).count + (has_run.serves.left.count + 1) * most_asks (cells.slots m l)) (is_seated.may.own.layout ∙ sym closing.layout) brief.asked)
       none all_entered)
-      has_run.left.brief
+      has_run.serves.left.brief
 
   pub asked_alone : (before behind : ℕ) (entries : List (Option ℕ)) → AllGiven asks entries jobs → behind ≡ asks_counted asks before finished → AsksAlone m w before behind
   asked_alone before behind entries given counted = λ _.
@@ -220,9 +220,9 @@ module _ {T H : Type 0} (m : Meaning) (planning : Planning) (retry_short reads_f
 
   module _ (went : answer ≢ stops.Halted) where
     tidy : IsTidy f.runner
-    tidy = by f.answer (λ e. went (same ∙ e)) has_run.left.ends
+    tidy = by f.answer (λ e. went (same ∙ e)) has_run.serves.left.ends
       where
-        by : (a : Served) → a ≢ stops.Halted → Ends m planning retry_short j.requests.items a has_run.left.count j.runner f.runner → IsTidy f.runner
+        by : (a : Served) → a ≢ stops.Halted → Ends m planning retry_short j.requests.items a has_run.serves.left.count has_run.serves.tries j.runner f.runner → IsTidy f.runner
         by stops.All not ends = ends.1
         by (stops.Short short) not ends = ends.2.tidy
         by (stops.Spent place word) not ends = ends.2.tidy
@@ -250,8 +250,8 @@ module _ {T H : Type 0} (m : Meaning) (planning : Planning) (retry_short reads_f
         is_short : f.answer ≡ stops.Short short
         is_short = sym same ∙ get_or_from_slice_get answers 0 (stops.Short short) stops.All is
 
-        ends : Ends m planning retry_short j.requests.items (stops.Short short) has_run.left.count j.runner f.runner
-        ends = subst (λ (a : Served). Ends m planning retry_short j.requests.items a has_run.left.count j.runner f.runner) is_short has_run.left.ends
+        ends : Ends m planning retry_short j.requests.items (stops.Short short) has_run.serves.left.count has_run.serves.tries j.runner f.runner
+        ends = subst (λ (a : Served). Ends m planning retry_short j.requests.items a has_run.serves.left.count has_run.serves.tries j.runner f.runner) is_short has_run.serves.left.ends
 
         counts : short ≡ counts_of f.runner slots.Node
         counts = ends.2.stops.cause.counts ∙ ap (counts_of f.runner) kind
@@ -280,8 +280,8 @@ module _ {T H : Type 0} (m : Meaning) (planning : Planning) (retry_short reads_f
         is_short : f.answer ≡ stops.Short short
         is_short = sym same ∙ get_or_from_slice_get answers 0 (stops.Short short) stops.All is
 
-        ends : Ends m planning retry_short j.requests.items (stops.Short short) has_run.left.count j.runner f.runner
-        ends = subst (λ (a : Served). Ends m planning retry_short j.requests.items a has_run.left.count j.runner f.runner) is_short has_run.left.ends
+        ends : Ends m planning retry_short j.requests.items (stops.Short short) has_run.serves.left.count has_run.serves.tries j.runner f.runner
+        ends = subst (λ (a : Served). Ends m planning retry_short j.requests.items a has_run.serves.left.count has_run.serves.tries j.runner f.runner) is_short has_run.serves.left.ends
 
         low : length p.records.finished < 2 ^ 59
         low = below (length p.records.finished) (length t.requests) t.layout.version_max few_runs
@@ -293,7 +293,7 @@ module _ {T H : Type 0} (m : Meaning) (planning : Planning) (retry_short reads_f
 
         unwaited : retry_short ≡ false → short.limbo ≡ 0
         unwaited is_so = ⊎_elim
-            (λ crossed. absurd (uncrossed crossed))
+            (λ crossed. absurd (uncrossed has_run.serves.tries crossed))
             (λ spared. spare.short short ends.0.number ends.2.before f.runner spared ends.2.stops.cause alone_here low)
             (ends.2.spared is_so (spare.first j.runner is_seated.unmet))
 

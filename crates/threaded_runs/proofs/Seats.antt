@@ -55,7 +55,7 @@ module _ {T H : Type 0} (m : Meaning) (planning : Planning) (retry_short reads_f
       let j = some_of jobs i few in
       let r = run i j d few in let s = seated i j few in let u = unasked i j few in record {
         own = r.own;
-        number = r.left.knows.number ∙ s.number;
+        number = r.serves.left.knows.number ∙ s.number;
         halted = r.halted u;
         went = r.went u;
       }

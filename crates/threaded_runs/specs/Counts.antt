@@ -30,6 +30,8 @@ abbrev pub plans_given : ℕ → List (Option ℕ) → ℕ
 plans_given plans [] = plans
 plans_given plans (halt ∷ halts) = plans_given (plans_after plans halt) halts
 
--- gates were given with the first of these plans, so many of them, one after the other, and with no others
-abbrev pub GivesFront : (plans plans' : ℕ) → List (Option ℕ) → Type 0
-GivesFront plans plans' halts = (count : ℕ) × (plans' ≡ plans_given plans (take count halts))
+-- gates were given for the first workers, so many of them, one after the other, each with its entry of these plans, and
+-- no others
+abbrev pub GivesFront : (plans plans' : ℕ) (planned planned' : List GatePlan) → List (Option ℕ) → Type 0
+GivesFront plans plans' planned planned' halts = (count : ℕ) × (plans' ≡ plans_given plans (take count halts))
+    × (planned ≡ [] → planned' ≡ take count (plans_from 0 halts))

@@ -7,12 +7,11 @@ use Rattle.version_words.specs.RunnerState.{RunnerState}
 use Rattle.version_words.specs.Shown.{left_part}
 use Rattle.version_words.specs.TableState.{TableState, IsOf}
 use Rattle.settled_tables.specs.settling.specs.try_lock.specs.Planning.{Planning}
-use Rattle.free_serving.specs.serving.specs.attempts.specs.Counted.{IsSeen}
+use Rattle.lone_reads.specs.seq_read.specs.caller_facts.specs.Counted.{IsSeen}
 use Rattle.free_serving.specs.serving.specs.Serving.{MayServe}
 use Rattle.free_serving.specs.serving.specs.declared.answers.Served.{Served}
 use Rattle.free_serving.specs.serving.specs.declared.answers.Served.TheVariants as answers
-use Rattle.free_serving.specs.Left.{Leaves}
-use Rattle.free_serving.specs.Freely.{ServesBy}
+use Rattle.free_serving.specs.Freely.{ServesAll}
 use Rattle.threaded_runs.specs.declared.job.Job.{Job}
 use Rattle.threaded_runs.specs.declared.job.Finished.{Finished}
 use Rattle.threaded_runs.specs.Gates.{asks_of_all}
@@ -57,12 +56,10 @@ module _ {T H : Type 0} where
       pub own : IsOf t f.runner
       -- so many steps were counted
       pub steps : ℕ
-      pub serves : ServesBy m planning retry_short reads_free j.requests.items f.answer j.runner f.runner
+      -- with what that leaves, whichever way its requests were served
+      pub serves : ServesAll m planning retry_short reads_free j.requests.items f.answer j.runner f.runner
           (IsSeen halts asks) (halts j.gate) (asks j.gate) (asks f.gate) 0 steps
-      -- and this is left of it, whichever way its requests were served
-      pub left : Leaves m planning retry_short reads_free j.requests.items f.answer j.runner f.runner (asks j.gate)
-          (asks f.gate)
-      pub halted : halts j.gate ≡ 0 → f.answer ≡ answers.Halted → 0 < halts f.gate
+      pub halted : halts j.gate ≡ 0 → f.answer ≡ answers.Halted → halts f.gate ≡ 1
       pub went : halts j.gate ≡ 0 → f.answer ≢ answers.Halted → halts f.gate ≡ 0
 
     abbrev pub AllRun : List (Job T H) → List (Finished T H) → Type 0
@@ -73,7 +70,7 @@ module _ {T H : Type 0} where
   pub record IsBack (halts : H → ℕ) (t : TableState T) (worker : ℕ) (f : Finished T H) : Type 0 where
     pub own : IsOf t f.runner
     pub number : f.runner.number ≡ worker
-    pub halted : f.answer ≡ answers.Halted → 0 < halts f.gate
+    pub halted : f.answer ≡ answers.Halted → halts f.gate ≡ 1
     pub went : f.answer ≢ answers.Halted → halts f.gate ≡ 0
 
   abbrev pub AreBack : (H → ℕ) → TableState T → List (Finished T H) → Type 0

@@ -80,7 +80,8 @@ pub fn make_jobs<S: Planner, G: Gates>(
     ensures plans { IfOk result (λ _. G.plans gates.new ≡ plans_given (G.plans gates.old) halts.now) }
     ensures planned { IfOk result (λ _. G.planned gates.old ≡ [] → G.planned gates.new ≡ plans_from 0 halts.now) }
     ensures returned { IfOk result (λ _. G.returned gates.new ≡ G.returned gates.old) }
-    ensures front { OnErr result (GivesFront (G.plans gates.old) (G.plans gates.new) halts.now) }
+    ensures front { OnErr result (GivesFront (G.plans gates.old) (G.plans gates.new)
+        (G.planned gates.old) (G.planned gates.new) halts.now) }
 {
     let mut jobs = Vec::with_capacity(alloc, halts.len())?;
     for worker in 0..halts.len() {
@@ -116,7 +117,7 @@ pub fn gather<S: Planner, G: Gates>(
     ensures halts { IfOk result (λ x. G.halts gates.new ≡ halts_counted (G.halts gates.old) x.1.items) }
     ensures asks { IfOk result (λ _. G.asks gates.new ≡ asks_counted G.Gate.asks (G.asks gates.old) finished.items) }
     ensures plans { G.plans gates.new ≡ G.plans gates.old }
-    ensures planned { IfOk result (λ _. G.planned gates.new ≡ G.planned gates.old) }
+    ensures planned { G.planned gates.new ≡ G.planned gates.old }
     ensures returned { IfOk result (λ _.
         G.returned gates.new ≡ returns_counted (G.returned gates.old) (vec_len finished)) }
 {

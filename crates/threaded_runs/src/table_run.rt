@@ -71,8 +71,9 @@ where
     ensures returned { IfOk result (λ _. G.returned gates.new ≡ returns_counted (G.returned gates.old) layout.runners) }
     ensures gates { IfOk result (λ x. GatesCameBack (S.meaning structure) x.0 reads_free G.Gate.halts G.Gate.asks
         halts.now x.1.items (G.asks gates.old) (G.asks gates.new)) }
-    // At an Err gates were given with the first entries alone.
-    ensures front { OnErr result (GivesFront (G.plans gates.old) (G.plans gates.new) halts.now) }
+    // At an Err gates were given for the first workers alone, each with its entry.
+    ensures front { OnErr result (GivesFront (G.plans gates.old) (G.plans gates.new)
+        (G.planned gates.old) (G.planned gates.new) halts.now) }
 {
     let (table, keeper) = FlockTable::new(alloc, structure, layout, requests)?;
     table_keeps_its_facts(&table);

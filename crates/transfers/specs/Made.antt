@@ -11,7 +11,7 @@ use Rattle.accounts.specs.Walk.{begun, transfer_planning, transfer_way}
 use Rattle.accounts.specs.Made.{IsMade}
 use Rattle.accounts.specs.declared.table.Accounts.{Accounts}
 use Rattle.accounts.specs.declared.transfer.Transfer.{Transfer}
-use Rattle.lock_attempts.specs.attempts.specs.Knowing.{KnowsMore}
+use Rattle.lock_attempts.specs.attempts.specs.caller_facts.specs.Knowing.{KnowsMore}
 use Rattle.lock_attempts.specs.Sections.{HasAnswered, changed_by}
 use Rattle.lock_attempts.specs.Tickets.{ticket}
 use Rattle.settled_tables.specs.Seats.{IsNewWorker, CameBack}

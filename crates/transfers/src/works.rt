@@ -1,7 +1,7 @@
 //! What a worker does.
 ghost use Rattle.std.specs.Prelude.{◌≡◌, ◌≢◌, ◌+◌, ◌<◌, ◌≤◌, IfOk, IfErr, Err};
 ghost use Rattle.settled_tables.specs.closed_words.specs.version_words.specs.TableState.{IsOf};
-ghost use Rattle.lock_attempts.specs.attempts.specs.Knowing.{KnowsMore};
+ghost use Rattle.lock_attempts.specs.attempts.specs.caller_facts.specs.Knowing.{KnowsMore};
 ghost use Rattle.lock_attempts.specs.attempts.specs.declared.answers.Attempt.TheVariants as answers;
 ghost use Rattle.lock_attempts.specs.Tickets.{ticket, HasTickets};
 ghost use Rattle.settled_tables.specs.Seats.{CameBack};

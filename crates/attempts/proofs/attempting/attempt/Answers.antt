@@ -1,8 +1,8 @@
 use Rattle.std.proofs.Common.{refl, sym, subst}
-use Rattle.lock_walks.specs.try_lock.specs.epoch_slots.specs.Entries.{Enters}
+use Rattle.caller_facts.specs.epoch_slots.specs.Entries.{Enters}
 use Rattle.attempts.specs.Attempts.{Attempts}
 use Rattle.attempts.specs.declared.answers.Attempt.TheVariants as answers
-use Rattle.attempts.specs.Counted.{IsCounted, IsSeen}
+use Rattle.caller_facts.specs.Counted.{IsCounted, IsSeen}
 use Rattle.attempts.proofs.Wholly.{short_attempts, entered_so, entry_halted, attempts_so}
 use Rattle.attempts.proofs.attempting.attempt.Goals as goal
 

@@ -4,7 +4,7 @@ use Rattle.machine_states.specs.Reached.{Reached}
 use Rattle.machine_states.specs.Sight.{sight}
 use Rattle.lock_words.specs.Stale.{StaleStand}
 use Rattle.lock_words.specs.Taken.{TakenStand}
-use Rattle.attempts.specs.Counted.{IsSeen}
+use Rattle.caller_facts.specs.Counted.{IsSeen}
 use Rattle.attempts.specs.Attempts.{is_refusal}
 use Rattle.attempts.specs.Rests.{MayLeave, HasTurned, Rests}
 use Rattle.attempts.proofs.LettingGo.{may_go}

@@ -1,6 +1,6 @@
 use Rattle.std.proofs.Common.{refl, subst}
 use Rattle.attempts.specs.Attempts.{most_of_run}
-use Rattle.attempts.specs.Counted.{IsCounted, IsSeen}
+use Rattle.caller_facts.specs.Counted.{IsCounted, IsSeen}
 use Rattle.attempts.proofs.Courses.{may_run}
 use Rattle.attempts.proofs.Trying.{halted_published}
 use Rattle.attempts.proofs.Cutting.{cut_rests, ended, ended_rests}

@@ -1,18 +1,31 @@
-use Rattle.std.proofs.Common.{◌≡◌, ℕ, Option, sym, ◌∙◌, ⊎_elim, inl, inr, subst, refl, arith}
+use Rattle.std.proofs.Common.{◌≡◌, ℕ, List, Option, sym, ◌∙◌, ⊎_elim, inl, inr, subst, refl, arith}
 use Rattle.flock_tool.specs.command_line.specs.declared.command.Command.{Command}
-use Rattle.flock_tool.specs.Commands.{Ends, Exits}
+use Rattle.flock_tool.specs.threaded_runs.specs.runner_gate.specs.Asks.{Asks}
+use Rattle.flock_tool.specs.Exits.{Exits}
 use Rattle.flock_tool.specs.Runs.{IsRunStatus}
 use Rattle.flock_tool.specs.Streams.{Gating, Stream}
-use Rattle.flock_tool.specs.declared.ran.Ran.{Ran}
 use Rattle.flock.proofs.start.run.Goals as goal
 
 -- the call's status is that of the program
-exits : (command : Command) (number : ℕ) (result : ℕ × Option Ran) (source sink faults : Stream) (gates : Gating) → number ≡ result.0
-    → Ends command result source sink faults gates → Exits command number source sink faults gates
-exits command number result source sink faults gates same ends = (result.1, subst (λ (n : ℕ). Ends command (n, result.1) source sink faults gates) (sym same) ends)
+exits : {H : Type 0} (halts : H → ℕ) (asks : H → Asks) (command : Command) (number status : ℕ) (input : Option (List ℕ)) (source sink faults : Stream)
+    (gates : Gating) → number ≡ status → Exits halts asks command status input source sink faults gates
+    → Exits halts asks command number input source sink faults gates
+exits halts asks command number status input source sink faults gates same is =
+    subst (λ (n : ℕ). Exits halts asks command n input source sink faults gates) (sym same) is
 
 pub returns-clause-commands : goal.returns-clause-commands
-returns-clause-commands g c = λ command is. exits command _ c.flock-status.result _ _ _ _ c.from.ensures (c.flock-status.ensures.commands command is)
+returns-clause-commands g c = λ command is. let left = c.flock-status.ensures in
+    exits g.G.Gate.Gate.halts g.G.Gate.Gate.asks command _ c.flock-status.result.0 _ _ _ _ _ c.from.ensures (record {
+      back = c.flock-status.result.1;
+      ends = left.commands command is;
+      complete = λ valid nothing. left.complete command is valid nothing;
+      versions = left.versions;
+      few = left.asks;
+      often = left.often command is;
+      own = left.gates command is;
+      odd = left.odd command is;
+      none = left.none;
+    })
 
 pub returns-clause-alone : goal.returns-clause-alone
 returns-clause-alone g c = λ command is valid stops.

@@ -3,6 +3,7 @@ use Rattle.command_line.specs.declared.options.RunOptions.{RunOptions}
 use Rattle.flock_tool.proofs.Ends.{read_fault}
 use Rattle.flock_tool.proofs.Giving.{not_ok}
 use Rattle.flock_tool.proofs.Running.{run_lacks, run_refused, run_reported}
+use Rattle.flock_tool.proofs.Owned.{none_own, reported_own}
 use Rattle.flock_tool.proofs.OneKeyed.{have_one_key}
 use Rattle.flock_tool.proofs.report.run_command.Goals as goal
 
@@ -25,3 +26,13 @@ returns-clause-ends g c =
 
 pub run_plan-requires-clause-one_key : goal.run_plan-requires-clause-one_key
 run_plan-requires-clause-one_key g c κs within = have_one_key c.in-Ok.plan.traces c.in-Ok.ensures.planned.format
+
+pub returns-in-Err-clause-gates : goal.returns-in-Err-clause-gates
+returns-in-Err-clause-gates g c = none_own _ _ c.refuse.result _ _ _ c.refuse.ensures.none
+
+pub returns-in_default-clause-gates : goal.returns-in_default-clause-gates
+returns-in_default-clause-gates g c = none_own _ _ c.refuse-in_default.result _ _ _ c.refuse-in_default.ensures.none
+
+pub returns-clause-gates : goal.returns-clause-gates
+returns-clause-gates g c =
+    reported_own _ _ _ _ c.in-Ok.plan c.args.options c.in-Ok.ensures.planned.given c.in-Ok-run_plan.ran c.in-Ok-run_plan.ensures.gates _ _ _ _ c.report.ensures.reported

@@ -5,6 +5,7 @@ use Rattle.flock_tool.proofs.Asking.{asks_often, load_asks, reads_first, run_ask
 use Rattle.flock_tool.proofs.CheckPrinting.{check_few, check_silent, check_writes}
 use Rattle.flock_tool.proofs.Commanding.{back_none, gen_few, load_few, none_accepted, none_status, of_none, of_one, refused_ends}
 use Rattle.flock_tool.proofs.Completing.{load_keeps, none_keeps, run_keeps, whole, whole_alone}
+use Rattle.flock_tool.proofs.Owned.{none_own, own_of_one}
 use Rattle.flock_tool.proofs.Running.{if_none}
 use Rattle.flock_tool.proofs.tool.flock.Goals as goal
 
@@ -122,7 +123,7 @@ pub returns-in-Load-clause-commands : goal.returns-in-Load-clause-commands
 returns-in-Load-clause-commands g c =
     of_one c.load_command.result _ _ _ _ (texts c.args.words.now) (commands.Load c.in-Load.load) (c.words_mean_one_command.ensures (texts c.args.words.now))
     (subst (IsCommand (texts c.args.words.now)) c.in-Load.is c.in-Ok.ensures.read)
-    (record { unread = record { same = refl; steady = refl }; runs = c.load_command.ensures })
+    (record { unread = record { same = refl; steady = refl }; runs = c.load_command.ensures.runs })
 
 pub returns-in-Load-clause-complete : goal.returns-in-Load-clause-complete
 returns-in-Load-clause-complete g c = λ command is. whole c.load_command.result _ _ _ _ command (returns-in-Load-clause-commands g c command is)
@@ -131,10 +132,10 @@ pub returns-in-Load-clause-alone : goal.returns-in-Load-clause-alone
 returns-in-Load-clause-alone g c = λ command is. whole_alone c.load_command.result _ _ _ _ command (returns-in-Load-clause-commands g c command is)
 
 pub returns-in-Load-clause-versions : goal.returns-in-Load-clause-versions
-returns-in-Load-clause-versions g c = load_keeps c.in-Load.load c.load_command.result _ _ _ c.load_command.ensures
+returns-in-Load-clause-versions g c = load_keeps c.in-Load.load c.load_command.result _ _ _ c.load_command.ensures.runs
 
 pub returns-in-Load-clause-asks : goal.returns-in-Load-clause-asks
-returns-in-Load-clause-asks g c = load_asks c.in-Load.load c.load_command.result _ _ _ c.load_command.ensures
+returns-in-Load-clause-asks g c = load_asks c.in-Load.load c.load_command.result _ _ _ c.load_command.ensures.runs
 
 pub returns-in-Load-clause-often : goal.returns-in-Load-clause-often
 returns-in-Load-clause-often g c = λ command is. asks_often command c.load_command.result _ _ _ _ (returns-in-Load-clause-commands g c command is)
@@ -143,22 +144,22 @@ pub returns-in-Load-clause-odd : goal.returns-in-Load-clause-odd
 returns-in-Load-clause-odd g c = λ command is. reads_first command c.load_command.result _ _ _ _ (returns-in-Load-clause-commands g c command is)
 
 pub returns-in-Load-clause-accepted : goal.returns-in-Load-clause-accepted
-returns-in-Load-clause-accepted g c = λ accepted. (load_few c.in-Load.load c.load_command.result _ _ _ c.load_command.ensures).0
+returns-in-Load-clause-accepted g c = λ accepted. (load_few c.in-Load.load c.load_command.result _ _ _ c.load_command.ensures.runs).0
 
 pub returns-in-Load-clause-words : goal.returns-in-Load-clause-words
 returns-in-Load-clause-words g c = λ not. absurd (not (c.in-Ok.command, c.in-Ok.ensures.read))
 
 pub returns-in-Load-clause-none : goal.returns-in-Load-clause-none
-returns-in-Load-clause-none g c = back_none c.load_command.result c.load_command.ensures.ran
+returns-in-Load-clause-none g c = back_none c.load_command.result c.load_command.ensures.runs.ran
 
 pub returns-in-Load-clause-writes : goal.returns-in-Load-clause-writes
-returns-in-Load-clause-writes g c = c.load_command.ensures.steady
+returns-in-Load-clause-writes g c = c.load_command.ensures.runs.steady
 
 pub returns-in-Load-clause-silent : goal.returns-in-Load-clause-silent
-returns-in-Load-clause-silent g c = λ not ten. c.load_command.ensures.silent not
+returns-in-Load-clause-silent g c = λ not ten. c.load_command.ensures.runs.silent not
 
 pub returns-in-Load-clause-statuses : goal.returns-in-Load-clause-statuses
-returns-in-Load-clause-statuses g c = omega (arith, (load_few c.in-Load.load c.load_command.result _ _ _ c.load_command.ensures).1)
+returns-in-Load-clause-statuses g c = omega (arith, (load_few c.in-Load.load c.load_command.result _ _ _ c.load_command.ensures.runs).1)
 
 pub returns-in-Check-clause-commands : goal.returns-in-Check-clause-commands
 returns-in-Check-clause-commands g c =
@@ -221,4 +222,24 @@ pub returns-in-Gen-clause-checks : goal.returns-in-Gen-clause-checks
 returns-in-Gen-clause-checks g c = λ ten. absurd (omega (arith, ten, (gen_few c.in-Gen.plan c.gen_command.result _ _ c.gen_command.ensures).1))
 
 pub returns-in-Load-clause-checks : goal.returns-in-Load-clause-checks
-returns-in-Load-clause-checks g c = λ ten. absurd (omega (arith, ten, (load_few c.in-Load.load c.load_command.result _ _ _ c.load_command.ensures).1))
+returns-in-Load-clause-checks g c = λ ten. absurd (omega (arith, ten, (load_few c.in-Load.load c.load_command.result _ _ _ c.load_command.ensures.runs).1))
+
+-- the gates that the runners had
+pub returns-in-Err-clause-gates : goal.returns-in-Err-clause-gates
+returns-in-Err-clause-gates g c = λ command is. none_own _ _ c.refuse.result _ _ _ c.refuse.ensures.none
+
+pub returns-in-Run-clause-gates : goal.returns-in-Run-clause-gates
+returns-in-Run-clause-gates g c =
+    own_of_one _ _ c.run_command.result _ (texts c.args.words.now) (commands.Run c.in-Run.options) (c.words_mean_one_command.ensures (texts c.args.words.now))
+    (subst (IsCommand (texts c.args.words.now)) c.in-Run.is c.in-Ok.ensures.read) c.run_command.ensures.gates
+
+pub returns-in-Gen-clause-gates : goal.returns-in-Gen-clause-gates
+returns-in-Gen-clause-gates g c = λ command is. tt
+
+pub returns-in-Load-clause-gates : goal.returns-in-Load-clause-gates
+returns-in-Load-clause-gates g c =
+    own_of_one _ _ c.load_command.result _ (texts c.args.words.now) (commands.Load c.in-Load.load) (c.words_mean_one_command.ensures (texts c.args.words.now))
+    (subst (IsCommand (texts c.args.words.now)) c.in-Load.is c.in-Ok.ensures.read) c.load_command.ensures.gates
+
+pub returns-in-Check-clause-gates : goal.returns-in-Check-clause-gates
+returns-in-Check-clause-gates g c = λ command is. tt

@@ -1,12 +1,11 @@
 use Rattle.std.proofs.Common.{List, refl, sym, ap, ◌∙◌, subst}
 use Rattle.machine_states.specs.map_history.specs.declared.op.Request.{Request}
-use Rattle.seq_read.specs.runner_gate.specs.fault_count.specs.Rose.{Rose}
+use Rattle.seq_read.specs.runner_gate.specs.Asks.{HaltedOnce}
 use Rattle.serving.specs.attempt_bounds.specs.Spared.{AttemptsSpareSlots}
-use Rattle.serving.specs.attempts.specs.Counted.{IsSeen}
+use Rattle.seq_read.specs.caller_facts.specs.Counted.{IsSeen}
 use Rattle.std.specs.Prelude.{not}
 use Rattle.seq_read.specs.Reads.{is_halted, Reads}
 use Rattle.serving.specs.Serving.{MayServe, Serves}
-use Rattle.free_serving.proofs.Bridge.{may_read}
 use Rattle.free_serving.proofs.Each.{may_attempt, under_lock, read_all, read_then_halted, read_halted, may_still, both_ways, refusal_of, going_on}
 use Rattle.free_serving.proofs.one.serve_one.Goals as goal
 
@@ -27,8 +26,7 @@ returns-then-not-is_get-clause-one g c =
 pub read-runner-requires-clause-next : goal.read-runner-requires-clause-next
 read-runner-requires-clause-next g c κs within =
     let planning = g.S.Planner.planning c.args.table.now.structure in
-    may_read planning c.args.request.now c.args.runner
-    (may_attempt planning c.args.request.now c.args.runner c.args.table.now c.requires.own (c.requires.own.allowed _ refl) c.requires.next)
+    may_attempt planning c.args.request.now c.args.runner c.args.table.now c.requires.own (c.requires.own.allowed _ refl) c.requires.next
 
 pub serve-requires-in_default-clause-next : goal.serve-requires-in_default-clause-next
 serve-requires-in_default-clause-next g c κs within =
@@ -76,7 +74,7 @@ returns-else-goes_on-clause-one g c =
 
 pub returns-else-goes_on-clause-halted : goal.returns-else-goes_on-clause-halted
 returns-else-goes_on-clause-halted g c = λ _.
-    subst (λ n. Rose n (g.G.Gate.halts c.goes_on.new.gate)) (c.read-runner.ensures.reads.asked.went (ap (λ a. not (is_halted a)) c.in-Done.is))
+    subst (λ n. HaltedOnce n (g.G.Gate.halts c.goes_on.new.gate)) (c.read-runner.ensures.reads.asked.went (ap (λ a. not (is_halted a)) c.in-Done.is))
     ((c.if-goes_on.ensures 0).halted refl)
 
 pub returns-in-Halted-clause-one : goal.returns-in-Halted-clause-one
@@ -111,6 +109,6 @@ returns-in_default g c =
           (subst (λ (qs : List Request). Serves m planning c.args.retry_short qs c.serve-in_default.result.1 c.read-runner.result.0 c.serve-in_default.result.0 (IsSeen g.G.Gate.halts g.G.Gate.asks)
           (g.G.Gate.halts c.read-runner.new.gate) (g.G.Gate.asks c.read-runner.new.gate) (g.G.Gate.asks c.serve-in_default.new.gate) c.read-runner.new.steps.count c.serve-in_default.new.steps.count)
           c.from_ref-only.ensures.value c.serve-in_default.ensures.serves);
-      halted = λ e. subst (λ n. Rose n (g.G.Gate.halts c.serve-in_default.new.gate)) went (c.serve-in_default.ensures.halted e);
+      halted = λ e. subst (λ n. HaltedOnce n (g.G.Gate.halts c.serve-in_default.new.gate)) went (c.serve-in_default.ensures.halted e);
       went = λ other. c.serve-in_default.ensures.went other ∙ went;
     }

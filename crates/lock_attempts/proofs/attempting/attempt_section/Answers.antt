@@ -3,7 +3,7 @@ use Rattle.attempts.specs.epoch_slots.specs.Entries.{Enters}
 use Rattle.attempts.specs.lock_walks.specs.Own.{own_thunk}
 use Rattle.attempts.specs.Attempts.{Attempts}
 use Rattle.attempts.specs.declared.answers.Attempt.TheVariants as answers
-use Rattle.attempts.specs.Counted.{IsCounted, IsSeen}
+use Rattle.attempts.specs.caller_facts.specs.Counted.{IsCounted, IsSeen}
 use Rattle.attempts.proofs.Wholly.{short_attempts, entered_so, entry_halted}
 use Rattle.lock_attempts.proofs.Along.{section_entered}
 use Rattle.lock_attempts.proofs.attempting.attempt_section.Goals as goal

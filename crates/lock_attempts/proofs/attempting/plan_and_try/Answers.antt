@@ -3,10 +3,10 @@ use Rattle.std.specs.Prelude.{slice_get}
 use Rattle.attempts.specs.try_lock.specs.Plans.{is_halted}
 use Rattle.attempts.specs.lock_walks.specs.Own.{own_thunk}
 use Rattle.attempts.specs.Attempts.{is_refusal}
-use Rattle.attempts.specs.Counted.{IsSeen}
+use Rattle.attempts.specs.caller_facts.specs.Counted.{IsSeen}
 use Rattle.attempts.specs.Course.{HasPlanned}
 use Rattle.attempts.specs.Rests.{MayLeave, HasTurned}
-use Rattle.attempts.proofs.Locks.{allowed_at}
+use Rattle.attempts.specs.caller_facts.proofs.Shapes.{allowed_at}
 use Rattle.attempts.proofs.Refusing.{refuses_by, refusal_of_plan}
 use Rattle.attempts.proofs.Wholly.{course, plan_halted, plan_may_leave, refused_rests}
 use Rattle.lock_attempts.proofs.Concluded.{undone}

@@ -4,7 +4,7 @@ use Rattle.machine_states.specs.Reached.{Reached}
 use Rattle.machine_states.specs.Sight.{sight}
 use Rattle.attempts.specs.lock_words.specs.Stale.{StaleStand}
 use Rattle.attempts.specs.lock_words.specs.Taken.{TakenStand}
-use Rattle.attempts.specs.Counted.{IsSeen}
+use Rattle.attempts.specs.caller_facts.specs.Counted.{IsSeen}
 use Rattle.attempts.specs.Attempts.{is_refusal}
 use Rattle.attempts.specs.Rests.{MayLeave, HasTurned}
 use Rattle.attempts.proofs.LettingGo.{may_go}

@@ -1,6 +1,6 @@
 use Rattle.std.proofs.Common.{sym, arith}
 use Rattle.attempts.specs.lock_walks.specs.Own.{own_thunk}
-use Rattle.attempts.specs.Counted.{IsSeen}
+use Rattle.attempts.specs.caller_facts.specs.Counted.{IsSeen}
 use Rattle.lock_attempts.proofs.Repeated.{trying_begins, trying_next, trying_ends}
 use Rattle.lock_attempts.proofs.serving.persist.Goals as goal
 

@@ -1,6 +1,6 @@
 use Rattle.version_words.specs.TableState.{IsOf}
 use Rattle.attempts.specs.lock_walks.specs.Own.{own_thunk}
-use Rattle.attempts.specs.Counted.{IsSeen}
+use Rattle.attempts.specs.caller_facts.specs.Counted.{IsSeen}
 use Rattle.lock_attempts.proofs.Repeated.{IsTrying}
 use Rattle.lock_attempts.proofs.serving.persist.Given as goal
 

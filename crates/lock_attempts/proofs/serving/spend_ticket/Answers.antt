@@ -1,7 +1,7 @@
 use Rattle.std.proofs.Common.{subst, ap}
 use Rattle.std.specs.Prelude.{Err}
 use Rattle.attempts.specs.lock_walks.specs.Own.{own_thunk}
-use Rattle.attempts.specs.Counted.{IsSeen}
+use Rattle.attempts.specs.caller_facts.specs.Counted.{IsSeen}
 use Rattle.lock_attempts.specs.Again.{Persists}
 use Rattle.lock_attempts.specs.Tickets.{ticket}
 use Rattle.lock_attempts.proofs.Spending.{may_spend, used_after, unused_after, not_halted}

@@ -1,6 +1,6 @@
 use Rattle.std.proofs.Common.{Ok, Err, length, refl, sym, ap, ◌∙◌, subst}
 use Rattle.attempts.specs.try_lock.specs.Publishes.{Publishes}
-use Rattle.attempts.specs.Counted.{IsSeen}
+use Rattle.attempts.specs.caller_facts.specs.Counted.{IsSeen}
 use Rattle.attempts.specs.Attempts.{is_refusal}
 use Rattle.attempts.specs.Rests.{MayLeave, HasTurned}
 use Rattle.attempts.proofs.LettingGo.{may_go}

@@ -1,6 +1,6 @@
 use Rattle.std.proofs.Common.{sym, ap, subst}
 use Rattle.machine_states.specs.runner_parts.specs.Tests.{is_answered}
-use Rattle.lock_attempts.specs.attempts.specs.Course.{MayAttempt}
+use Rattle.lock_attempts.specs.attempts.specs.caller_facts.specs.Asking.{MayAttempt}
 use Rattle.lock_tests.proofs.Next.{may_ask, may_ask_again}
 use Rattle.lock_tests.proofs.attempt_scene.ask_twice.Goals as goal
 

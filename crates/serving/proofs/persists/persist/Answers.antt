@@ -1,5 +1,5 @@
 use Rattle.std.proofs.Common.{sym}
-use Rattle.attempt_bounds.specs.attempts.specs.Counted.{IsSeen}
+use Rattle.attempt_bounds.specs.attempts.specs.caller_facts.specs.Counted.{IsSeen}
 use Rattle.serving.proofs.Trying.{trying_begins, trying_on, trying_ends}
 use Rattle.serving.proofs.persists.persist.Goals as goal
 

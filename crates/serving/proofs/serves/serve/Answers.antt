@@ -1,6 +1,6 @@
 use Rattle.std.proofs.Common.{◌≡◌, length, arith, refl, sym, ◌∙◌, subst}
 use Rattle.std.proofs.lemmas.Option.{slice_get-get_or}
-use Rattle.runner_gate.specs.fault_count.specs.Rose.{Rose}
+use Rattle.runner_gate.specs.Asks.{HaltedOnce}
 use Rattle.attempt_bounds.specs.Spared.{AttemptsSpareSlots}
 use Rattle.serving.proofs.Along.{along_begins, may_next, so_far_begins, stopped_serves, goes_along, so_far_along, halted_behind, all_served, went_of, going_of}
 use Rattle.serving.proofs.serves.serve.Goals as goal
@@ -50,7 +50,7 @@ returns-then-not-goes_on-clause-serves g c =
 
 pub returns-then-not-goes_on-clause-halted : goal.returns-then-not-goes_on-clause-halted
 returns-then-not-goes_on-clause-halted g c = λ _.
-    subst (λ n. Rose n (g.G.Gate.halts c.goes_on.new.gate))
+    subst (λ n. HaltedOnce n (g.G.Gate.halts c.goes_on.new.gate))
     (c.persist-next.ensures.went (going_of c.persist-next.result.1 (sym c.in_default.ensures)) ∙ c.loop-request.invariant.went)
     ((c.if-not-goes_on.ensures 0).halted refl)
 

@@ -30,15 +30,17 @@ pub returns-in_err-kept-clause-front : goal.returns-in_err-kept-clause-front
 returns-in_err-kept-clause-front g c =
     let n = c.loop-worker.worker in let low : n < length c.args.halts.now = search rules in
     on_err _ c.from_residual-in_err-kept.result
-    (front_more (g.G.Gates.plans c.args.gates.now) (g.G.Gates.plans c.loop-worker.gates) (g.G.Gates.plans c.gate-gate.new.self) c.args.halts.now n None low c.loop-worker.invariant.6
-    c.gate-gate.ensures.plans)
+    (front_more (g.G.Gates.plans c.args.gates.now) (g.G.Gates.plans c.loop-worker.gates) (g.G.Gates.plans c.gate-gate.new.self)
+    (g.G.Gates.planned c.args.gates.now) (g.G.Gates.planned c.loop-worker.gates) (g.G.Gates.planned c.gate-gate.new.self) c.args.halts.now n None low c.requires.few
+    c.loop-worker.invariant.6 c.gate-gate.ensures.plans c.loop-worker.invariant.7 c.gate-gate.ensures.planned)
 
 pub returns-in_err-push-clause-front : goal.returns-in_err-push-clause-front
 returns-in_err-push-clause-front g c =
     let n = c.loop-worker.worker in let low : n < length c.args.halts.now = search rules in
     on_err _ c.from_residual-in_err-push.result
-    (front_more (g.G.Gates.plans c.args.gates.now) (g.G.Gates.plans c.loop-worker.gates) (g.G.Gates.plans c.gate-gate.new.self) c.args.halts.now n None low c.loop-worker.invariant.6
-    c.gate-gate.ensures.plans)
+    (front_more (g.G.Gates.plans c.args.gates.now) (g.G.Gates.plans c.loop-worker.gates) (g.G.Gates.plans c.gate-gate.new.self)
+    (g.G.Gates.planned c.args.gates.now) (g.G.Gates.planned c.loop-worker.gates) (g.G.Gates.planned c.gate-gate.new.self) c.args.halts.now n None low c.requires.few
+    c.loop-worker.invariant.6 c.gate-gate.ensures.plans c.loop-worker.invariant.7 c.gate-gate.ensures.planned)
 
 pub returns-clause-planned : goal.returns-clause-planned
 returns-clause-planned g c =

@@ -117,16 +117,18 @@ returns-clause-returned g c =
     ∙ (ap (λ (n : ℕ). returns_counted n (vec_len c.in_ok-finished.finished)) c.in_ok-keeper.ensures.returned ∙ ap (returns_counted (g.G.Gates.returned c.args.gates.now)) as_many)
 
 pub returns-in_err-table-clause-front : goal.returns-in_err-table-clause-front
-returns-in_err-table-clause-front g c = on_err _ c.from_residual.result (front_none (g.G.Gates.plans c.args.gates.now) c.args.halts.now)
+returns-in_err-table-clause-front g c = on_err _ c.from_residual.result (front_none (g.G.Gates.plans c.args.gates.now) (g.G.Gates.planned c.args.gates.now) c.args.halts.now)
 
 pub returns-in_err-keeper-clause-front : goal.returns-in_err-keeper-clause-front
 returns-in_err-keeper-clause-front g c = on_err _ c.from_residual-in_err-keeper.result c.in_err-keeper.ensures.front
 
 pub returns-in_err-finished-clause-front : goal.returns-in_err-finished-clause-front
 returns-in_err-finished-clause-front g c =
-    on_err _ c.from_residual-in_err-finished.result (front_all (g.G.Gates.plans c.args.gates.now) (g.G.Gates.plans c.make_jobs.new.gates) c.args.halts.now c.in_ok-keeper.ensures.plans)
+    on_err _ c.from_residual-in_err-finished.result (front_all (g.G.Gates.plans c.args.gates.now) (g.G.Gates.plans c.make_jobs.new.gates) (g.G.Gates.planned c.args.gates.now) (g.G.Gates.planned c.make_jobs.new.gates) c.args.halts.now
+    c.in_ok-keeper.ensures.plans c.in_ok-keeper.ensures.planned)
 
 pub returns-in_err-keeper-2-clause-front : goal.returns-in_err-keeper-2-clause-front
 returns-in_err-keeper-2-clause-front g c =
     on_err _ c.from_residual-in_err-keeper-2.result
-    (front_all (g.G.Gates.plans c.args.gates.now) (g.G.Gates.plans c.gather.new.gates) c.args.halts.now (c.in_err-keeper-2.ensures.plans ∙ c.in_ok-keeper.ensures.plans))
+    (front_all (g.G.Gates.plans c.args.gates.now) (g.G.Gates.plans c.gather.new.gates) (g.G.Gates.planned c.args.gates.now) (g.G.Gates.planned c.gather.new.gates) c.args.halts.now
+    (c.in_err-keeper-2.ensures.plans ∙ c.in_ok-keeper.ensures.plans) (λ empty. c.in_err-keeper-2.ensures.planned ∙ c.in_ok-keeper.ensures.planned empty))

@@ -6,7 +6,7 @@ use Rattle.accounts.specs.account_laws.specs.Accounts.{accounts_of}
 use Rattle.accounts.specs.Walk.{begun}
 use Rattle.accounts.specs.Made.{Makes}
 use Rattle.accounts.specs.declared.table.Accounts.{Accounts}
-use Rattle.lock_attempts.specs.attempts.specs.Counted.{IsSeen}
+use Rattle.lock_attempts.specs.attempts.specs.caller_facts.specs.Counted.{IsSeen}
 use Rattle.lock_attempts.specs.Tickets.{ticket}
 use Rattle.transfers.proofs.Making.{made_if}
 use Rattle.transfers.proofs.works.make_transfer.Goals as goal

@@ -1,7 +1,7 @@
 use Rattle.std.specs.Prelude.{Result, IfOk}
 use Rattle.std.proofs.Common.{◌≡◌, ℕ, ◌+◌, refl, sym, ap, ◌∙◌, subst, arith}
 use Rattle.lock_attempts.specs.attempts.specs.declared.answers.Attempt.{Attempt}
-use Rattle.lock_attempts.specs.attempts.proofs.Knowing.{knows_same}
+use Rattle.lock_attempts.specs.attempts.specs.caller_facts.proofs.Knowing.{knows_same}
 use Rattle.lock_attempts.specs.Tickets.{ticket, tickets_for}
 use Rattle.lock_attempts.specs.declared.tickets.Tickets.{Tickets}
 use Rattle.transfers.specs.Made.{HasMade, HaveMade}
