@@ -3,7 +3,7 @@ use Rattle.std.proofs.Common.{◌≡◌, [], ◌∷◌, Bool, true, false, cond,
 use Rattle.list_walks.specs.structure_laws.specs.Scene.{Readings}
 use Rattle.list_walks.specs.list_laws.specs.bucket_laws.specs.Walk.{is_wanted}
 use Rattle.list_walks.specs.list_laws.specs.node_laws.specs.Walked.{walked}
-use Rattle.list_walks.specs.list_laws.specs.Walk.{Walk, walk}
+use Rattle.list_walks.specs.list_laws.specs.Walk.{Walk}
 use Rattle.list_walks.specs.Walking.{wanted_by, fed_by, followed_by}
 use Rattle.lock_walks.specs.Followed.{followed}
 use Rattle.lock_walks.proofs.Following.{same_test}

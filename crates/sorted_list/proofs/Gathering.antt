@@ -1,23 +1,16 @@
 -- Pairs are gathered node by node, along the links.
-use Rattle.std.proofs.Common.{◌≡◌, ◌≢◌, ℕ, zero, suc, ◌+◌, ◌*◌, ◌<◌, ◌≤◌, ◌⊎◌, inl, inr, ⊎_elim, List, [], ◌∷◌, ◌++◌, Bool, true, false, cond, refl, sym, ap, subst, ◌∙◌, arith, Option, Some, None}
-use Rattle.std.specs.Prelude.{◌==◌, nat_lt, slice_get, T}
-use Rattle.std.specs.Ordering.{nat_cmp, is_lt, eq_by_cmp}
-use Rattle.std.specs.FinMap.{get, entries, entries_sorted, get-entries, nat_cmp-IsAntisymmetric, find, is_sorted}
-use Rattle.std.specs.FinMap.Entries.{below_all, same_entries}
-use Rattle.std.proofs.lemmas.Bool.Decides.{nat_tests}
-use Rattle.std.proofs.lemmas.Bool.{and_from, cases_eq}
-use Rattle.std.proofs.lemmas.Cmp.{nat_cmp_total}
-use Rattle.list_walks.specs.small_lemmas.proofs.Numbers.{less_tested as lt_test, not_less_tested as lt_not, equal_tested as eq_test}
+use Rattle.std.proofs.Common.{◌≡◌, ◌≢◌, ℕ, suc, ◌+◌, ◌*◌, ◌<◌, ◌≤◌, ⊎_elim, List, [], ◌∷◌, ◌++◌, true, refl, ap, arith, Option, Some, None}
+use Rattle.std.specs.FinMap.{get, entries}
+use Rattle.std.proofs.lemmas.Bool.{cases_eq}
 use Rattle.list_walks.specs.structure_laws.specs.map_history.specs.Replay.{Pairs}
 use Rattle.list_walks.specs.structure_laws.specs.Ranks.{lower}
 use Rattle.list_walks.specs.structure_laws.specs.Scene.{Cells}
-use Rattle.list_walks.specs.structure_laws.proofs.Changes.{both_true}
 use Rattle.list_walks.specs.structure_laws.proofs.Lower.{lower_few, lower_falls}
 use Rattle.list_walks.specs.list_laws.specs.shared_laws.proofs.Gathered.{none_yet, none_more, pair_more, all_pairs}
 use Rattle.list_walks.specs.list_laws.specs.Line.{Nodes, rank}
 use Rattle.list_walks.specs.list_laws.specs.Nodes.{nodes, ListStands}
 use Rattle.list_walks.specs.list_laws.proofs.Line.{rank_unmarked, above_head}
-use Rattle.sorted_list.specs.Gathered.{HasPairs, IsGathering}
+use Rattle.sorted_list.specs.Gathered.{IsGathering}
 
 module _ (slots : ℕ) (cells : Cells) (pairs : Pairs) (stands : ListStands slots cells pairs) where
   abbrev n : Nodes

@@ -1,7 +1,5 @@
 -- The pairs of the nodes as they are gathered, along the links.
-use Rattle.std.specs.Prelude.{◌≡◌, ◌≢◌, ℕ, ◌<◌, ◌≤◌, List, true, cond, nat_lt, None, Some, slice_get}
-use Rattle.std.specs.Ordering.{nat_cmp}
-use Rattle.std.specs.FinMap.{get, find, is_sorted}
+use Rattle.std.specs.Prelude.{◌≡◌, ◌≢◌, ℕ, ◌≤◌, List, true}
 use Rattle.list_walks.specs.structure_laws.specs.map_history.specs.Replay.{Pairs}
 use Rattle.list_walks.specs.structure_laws.specs.Ranks.{lower}
 use Rattle.list_walks.specs.structure_laws.specs.Scene.{Cells}
