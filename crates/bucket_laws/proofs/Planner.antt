@@ -36,7 +36,7 @@ abbrev IsAmong : Readings → ℕ → ℕ → Type 0
 IsAmong readings p w = (k : ℕ) × (slice_get readings k ≡ Some (p, w))
 
 -- slots with different keys that the map has are no more than its pairs
-few_slots : (key : ℕ → ℕ) (slots : List ℕ) (pairs : Pairs) → ((i j t u : ℕ) → slice_get slots i ≡ Some t → slice_get slots j ≡ Some u → key t ≡ key u → i ≡ j)
+pub few_slots : (key : ℕ → ℕ) (slots : List ℕ) (pairs : Pairs) → ((i j t u : ℕ) → slice_get slots i ≡ Some t → slice_get slots j ≡ Some u → key t ≡ key u → i ≡ j)
     → ((i t : ℕ) → slice_get slots i ≡ Some t → (v : ℕ) × (get pairs (key t) ≡ Some v)) → length slots ≤ len pairs
 few_slots key [] pairs once there = omega arith
 few_slots key (t ∷ slots) pairs once there =

@@ -14,6 +14,7 @@ use Rattle.tree_walks.specs.small_lemmas.proofs.Numbers.{less_tested as lt_test,
 use Rattle.tree_walks.specs.structure_laws.specs.map_history.specs.Replay.{Pairs}
 use Rattle.tree_walks.specs.structure_laws.specs.Scene.{Cells}
 use Rattle.tree_walks.specs.structure_laws.proofs.Changes.{both_true, or_cases, equal_of}
+use Rattle.tree_walks.specs.tree_laws.specs.shared_laws.proofs.Gathered.{none_yet, none_more, pair_more, all_pairs}
 use Rattle.tree_walks.specs.tree_laws.specs.Search.{Nodes, Covers, IsInner, IsLeaf, key_end}
 use Rattle.tree_walks.specs.tree_laws.specs.Leaves.{nodes, TreeStands}
 use Rattle.leaf_tree.specs.Gathered.{count, AreNext, is_before, HasPairs, IsGathering}
@@ -54,43 +55,6 @@ count_more f g (suc n) s low out is more = dite (ℕ_discrete s n)
     later true false m rest = false_true (m refl)
     later false true m rest = omega (arith, rest)
     later false false m rest = omega (arith, rest)
-
--- one more pair at the end of a list
-eq_cmp : (a b : ℕ) → eq_by_cmp nat_cmp a b ≡ (a == b)
-eq_cmp a b = grind (arith, nat_tests)
-
-less : (a b : ℕ) → a < b → is_lt (nat_cmp a b) ≡ true
-less a b low = grind (arith, nat_tests)
-
-below_more : (k : ℕ) (items : List (ℕ × ℕ)) (x : ℕ × ℕ) → below_all nat_cmp k items ≡ true → k < x.0 → below_all nat_cmp k (items ++ x ∷ []) ≡ true
-below_more k [] x all low = and_from (is_lt (nat_cmp k x.0)) true (less k x.0 low) refl
-below_more k (y ∷ items) x all low = let tests = both_true (is_lt (nat_cmp k y.0)) (below_all nat_cmp k items) all in
-    and_from (is_lt (nat_cmp k y.0)) (below_all nat_cmp k (items ++ x ∷ [])) tests.0 (below_more k items x tests.1 low)
-
-sorted_more : (items : List (ℕ × ℕ)) (x : ℕ × ℕ) → is_sorted nat_cmp items ≡ true → ((i : ℕ) (y : ℕ × ℕ) → slice_get items i ≡ Some y → y.0 < x.0) → is_sorted nat_cmp (items ++ x ∷ []) ≡ true
-sorted_more [] x sorted low = refl
-sorted_more (y ∷ items) x sorted low = let tests = both_true (below_all nat_cmp y.0 items) (is_sorted nat_cmp items) sorted in
-    and_from (below_all nat_cmp y.0 (items ++ x ∷ [])) (is_sorted nat_cmp (items ++ x ∷ [])) (below_more y.0 items x tests.0 (low 0 y refl))
-    (sorted_more items x tests.1 (λ i z at. low (suc i) z at))
-
-abbrev or_else : Option ℕ → Option ℕ → Option ℕ
-or_else (Some v) o = Some v
-or_else None o = o
-
-find_more : (q : ℕ) (items : List (ℕ × ℕ)) (x : ℕ × ℕ) → find nat_cmp q (items ++ x ∷ []) ≡ or_else (find nat_cmp q items) (cond (q == x.0) (Some x.1) None)
-find_more q [] x = ap (λ c. cond c (Some x.1) None) (eq_cmp q x.0)
-find_more q (y ∷ items) x = by (eq_by_cmp nat_cmp q y.0) (find_more q items x)
-  where
-    by : (c : Bool) → find nat_cmp q (items ++ x ∷ []) ≡ or_else (find nat_cmp q items) (cond (q == x.0) (Some x.1) None)
-        → cond c (Some y.1) (find nat_cmp q (items ++ x ∷ [])) ≡ or_else (cond c (Some y.1) (find nat_cmp q items)) (cond (q == x.0) (Some x.1) None)
-    by true rest = refl
-    by false rest = rest
-
-get_more : {A : Type 0} (xs : List A) (y v : A) (i : ℕ) → slice_get (xs ++ y ∷ []) i ≡ Some v → (slice_get xs i ≡ Some v) ⊎ (y ≡ v)
-get_more [] y v zero h = inr (cc)
-get_more [] y v (suc i) h = absurd (cc)
-get_more (x ∷ xs) y v zero h = inl h
-get_more (x ∷ xs) y v (suc i) h = get_more xs y v i h
 
 -- the last of some nodes
 module _ (c : Covers) where
@@ -156,7 +120,7 @@ module _ (slots : ℕ) (cells : Cells) (pairs : Pairs) (stands : TreeStands slot
   begins = record {
     start = 0;
     next = (stands.tree.root, stands.tree.root_hi, sym stands.tree.root_lo);
-    has = record { sorted = refl; low = λ i x at. absurd (cc); finds = λ q. sym (ap (λ b. cond b (get pairs q) None) (lt_not q 0 (omega arith))) };
+    has = none_yet pairs;
     many = λ before s e. omega arith;
   }
 
@@ -208,30 +172,6 @@ module _ (slots : ℕ) (cells : Cells) (pairs : Pairs) (stands : TreeStands slot
           let next = last_next c key_end before t (c.hi s) (subst (λ xs. AreNext c key_end xs (c.hi s)) e parts.0) in
           let from = next.2 in let r = range in later_behind t (omega (arith, r.0, r.1)) (omega (arith, from))
 
-      -- the map's pairs before the end of the leaf's place
-      by_place : (q : ℕ) → (q < c.lo s) ⊎ ((c.lo s ≤ q) × (q < c.hi s)) ⊎ (c.hi s ≤ q)
-      by_place q = tests (nat_lt q (c.lo s)) (nat_lt q (c.hi s)) refl refl
-        where
-          ge_of : (a b : ℕ) → nat_lt a b ≡ false → b ≤ a
-          ge_of a b h = grind (arith, nat_tests)
-
-          tests : (a b : Bool) → nat_lt q (c.lo s) ≡ a → nat_lt q (c.hi s) ≡ b → (q < c.lo s) ⊎ ((c.lo s ≤ q) × (q < c.hi s)) ⊎ (c.hi s ≤ q)
-          tests true b ea eb = inl (lt_of q (c.lo s) ea)
-          tests false true ea eb = inr (inl (ge_of q (c.lo s) ea, lt_of q (c.hi s) eb))
-          tests false false ea eb = inr (inr (ge_of q (c.hi s) eb))
-
-      found_before : (q : ℕ) → q < c.lo s → find nat_cmp q items ≡ get pairs q
-      found_before q low = so.has.finds q ∙ ap (λ b. cond b (get pairs q) None) (lt_test q so.start (let e = parts.2 in omega (arith, e, low)))
-
-      found_behind : (q : ℕ) → c.lo s ≤ q → find nat_cmp q items ≡ None
-      found_behind q high = so.has.finds q ∙ ap (λ b. cond b (get pairs q) None) (lt_not q so.start (let e = parts.2 in omega (arith, e, high)))
-
-      before_end : (q : ℕ) → q < c.hi s → cond (nat_lt q (c.hi s)) (get pairs q) None ≡ get pairs q
-      before_end q low = ap (λ b. cond b (get pairs q) None) (lt_test q (c.hi s) low)
-
-      behind_end : (q : ℕ) → c.hi s ≤ q → cond (nat_lt q (c.hi s)) (get pairs q) None ≡ None
-      behind_end q high = ap (λ b. cond b (get pairs q) None) (lt_not q (c.hi s) high)
-
       -- of the keys of the leaf's place the map has no other than the leaf's
       others_absent : (q : ℕ) → c.lo s ≤ q → q < c.hi s → ((3 ≤ s) × (n.key s ≡ q) → ⊥) → get pairs q ≡ None
       others_absent q from before other = by (get pairs q) refl
@@ -240,62 +180,33 @@ module _ (slots : ℕ) (cells : Cells) (pairs : Pairs) (stands : TreeStands slot
           by None e = refl
           by (Some v) e = absurd (other (only_key s q v is_linked leaf from before e))
 
-      low_items : (i : ℕ) (x : ℕ × ℕ) → slice_get items i ≡ Some x → x.0 < c.hi s
-      low_items i x at = let low = so.has.low i x at in let e = parts.2 in let r = range in omega (arith, low, e, r.0, r.1)
+      -- what was gathered are also the pairs below each key of the leaf's place up to its own
+      up_to : (to : ℕ) → c.lo s ≤ to → to ≤ c.hi s → ((q : ℕ) → q < to → (3 ≤ s) × (n.key s ≡ q) → ⊥)
+          → HasPairs pairs to items
+      up_to to low high other = none_more pairs so.start to items so.has (let e = parts.2 in omega (arith, e, low))
+          (λ q from before. others_absent q (let e = parts.2 in omega (arith, e, from)) (omega (arith, before, high))
+          (other q before))
 
       -- a leaf of a key
       pub gathers_leaf : 3 ≤ s → Gathers (made + 1) waiting (items ++ (n.key s, n.child false s) ∷ [])
       gathers_leaf real = record {
         start = c.hi s;
         next = parts.0;
-        has = record {
-          sorted = sorted_more items (n.key s, n.child false s) so.has.sorted (λ i x at. let low = so.has.low i x at in let e = parts.2 in let r = range in omega (arith, low, e, r.0));
-          low = λ i x at. ⊎_elim (λ before. low_items i x before) (λ same. let r = range in subst (λ (y : ℕ × ℕ). y.0 < c.hi s) same r.1) (get_more items (n.key s, n.child false s) x i at);
-          finds = λ q. find_more q items (n.key s, n.child false s) ∙ finds q;
-        };
+        has = let r = range in pair_more pairs (n.key s) (c.hi s) items
+            (up_to (n.key s) r.0 (omega (arith, r.1)) (λ q before same. let e = same.1 in omega (arith, e, before)))
+            (n.child false s) (stands.contents.pair s is_linked leaf real) r.1
+            (λ q from before. others_absent q (omega (arith, r.0, from)) before
+            (λ same. let e = same.1 in omega (arith, e, from)));
         many = many_behind;
       }
-        where
-          is_not : (a b : ℕ) → a ≢ b → (a == b) ≡ false
-          is_not a b ne = grind (arith, nat_tests)
-
-          kept : (o : Option ℕ) → or_else o None ≡ o
-          kept None = refl
-          kept (Some v) = refl
-
-          finds : (q : ℕ) → or_else (find nat_cmp q items) (cond (q == n.key s) (Some (n.child false s)) None) ≡ cond (nat_lt q (c.hi s)) (get pairs q) None
-          finds q = ⊎_elim
-              (λ low. let r = range in ap (λ b. or_else (find nat_cmp q items) (cond b (Some (n.child false s)) None)) (is_not q (n.key s) (λ e. omega (arith, e, low, r.0)))
-              ∙ (kept (find nat_cmp q items) ∙ (found_before q low ∙ sym (before_end q (omega (arith, low, r.0, r.1))))))
-              (λ rest. ⊎_elim
-              (λ inside. dite (ℕ_discrete q (n.key s))
-              (λ e. ap (λ o. or_else o (cond (q == n.key s) (Some (n.child false s)) None)) (found_behind q inside.0)
-              ∙ (ap (λ b. cond b (Some (n.child false s)) None) (eq_test q (n.key s) e)
-              ∙ sym (before_end q inside.1 ∙ (ap (get pairs) e ∙ stands.contents.pair s is_linked leaf real))))
-              (λ ne. ap (λ o. or_else o (cond (q == n.key s) (Some (n.child false s)) None)) (found_behind q inside.0)
-              ∙ (ap (λ b. cond b (Some (n.child false s)) None) (is_not q (n.key s) ne)
-              ∙ sym (before_end q inside.1 ∙ others_absent q inside.0 inside.1 (λ same. ne (sym same.1))))))
-              (λ high. let r = range in ap (λ o. or_else o (cond (q == n.key s) (Some (n.child false s)) None)) (found_behind q (omega (arith, high, r.0, r.1)))
-              ∙ (ap (λ b. cond b (Some (n.child false s)) None) (is_not q (n.key s) (λ e. omega (arith, e, high, r.1))) ∙ sym (behind_end q high)))
-              rest)
-              (by_place q)
 
       -- a sentinel
       pub gathers_none : s < 3 → Gathers (made + 1) waiting items
       gathers_none sentinel = record {
         start = c.hi s;
         next = parts.0;
-        has = record {
-          sorted = so.has.sorted;
-          low = low_items;
-          finds = λ q. ⊎_elim
-              (λ low. let r = range in found_before q low ∙ sym (before_end q (omega (arith, low, r.0, r.1))))
-              (λ rest. ⊎_elim
-              (λ inside. found_behind q inside.0 ∙ sym (before_end q inside.1 ∙ others_absent q inside.0 inside.1 (λ same. let three = same.0 in omega (arith, three, sentinel))))
-              (λ high. let r = range in found_behind q (omega (arith, high, r.0, r.1)) ∙ sym (behind_end q high))
-              rest)
-              (by_place q);
-        };
+        has = let r = range in up_to (c.hi s) (omega (arith, r.0, r.1)) (omega arith)
+            (λ q before same. let three = same.0 in omega (arith, three, sentinel));
         many = many_behind;
       }
 
@@ -320,25 +231,9 @@ module _ (slots : ℕ) (cells : Cells) (pairs : Pairs) (stands : TreeStands slot
 
   -- where no node waits
   pub gathered : (made : ℕ) (items : List (ℕ × ℕ)) → Gathers made [] items → items ≡ entries pairs
-  gathered made items so = same_entries nat_cmp nat_cmp_total nat_cmp-IsAntisymmetric items (entries pairs) (subst T (sym so.has.sorted) tt) (entries_sorted pairs)
-      (λ q. so.has.finds q ∙ (ap (λ start. cond (nat_lt q start) (get pairs q) None) so.next ∙ (all q ∙ get-entries pairs q)))
-    where
-      all : (q : ℕ) → cond (nat_lt q key_end) (get pairs q) None ≡ get pairs q
-      all q = by (get pairs q) refl
-        where
-          inside : (b : Bool) (v : ℕ) → b ≡ true → cond b (Some v) None ≡ Some v
-          inside true v e = refl
-          inside false v e = false_true e
-
-          nothing : (b : Bool) (o : Option ℕ) → o ≡ None → cond b o None ≡ o
-          nothing true o e = refl
-          nothing false o e = sym e
-
-          by : (o : Option ℕ) → get pairs q ≡ o → cond (nat_lt q key_end) o None ≡ o
-          by None e = nothing (nat_lt q key_end) None refl
-          by (Some v) e =
-              let found = stands.contents.leaf q v e in let range = stands.tree.leaf_key found.0 found.1 found.2 in let top = stands.tree.top found.0 found.1 in let key = found.4 in
-              inside (nat_lt q key_end) v (lt_test q key_end (omega (arith, range.1, top, key)))
+  gathered made items so = all_pairs pairs key_end items (subst (λ start. HasPairs pairs start items) so.next so.has)
+      (λ q v e. let found = stands.contents.leaf q v e in let range = stands.tree.leaf_key found.0 found.1 found.2 in
+      let top = stands.tree.top found.0 found.1 in let key = found.4 in omega (arith, range.1, top, key))
 
   -- once as many nodes were visited as there are slots, none waits
   pub all_gathered : (made : ℕ) (waiting : List ℕ) (items : List (ℕ × ℕ)) → Gathers made waiting items → slots ≤ made → items ≡ entries pairs

@@ -4,6 +4,7 @@ use Rattle.std.specs.Ordering.{nat_cmp}
 use Rattle.std.specs.FinMap.{get, find, is_sorted}
 use Rattle.tree_walks.specs.structure_laws.specs.map_history.specs.Replay.{Pairs}
 use Rattle.tree_walks.specs.structure_laws.specs.Scene.{Cells}
+pub use Rattle.tree_walks.specs.tree_laws.specs.shared_laws.specs.Gathered.{HasPairs}
 use Rattle.tree_walks.specs.tree_laws.specs.Search.{Covers, key_end}
 use Rattle.tree_walks.specs.tree_laws.specs.Leaves.{TreeStands}
 
@@ -22,12 +23,6 @@ module _ (c : Covers) where
   -- a linked node was visited before this one: its place begins before, or is the greater one
   abbrev pub is_before : ℕ → ℕ → Bool
   is_before s t = c.linked t && (nat_lt (c.lo t) (c.lo s) || ((c.lo t == c.lo s) && nat_lt (c.hi s) (c.hi t)))
-
--- these are the map's pairs with keys below this one, in order of key
-pub record HasPairs (pairs : Pairs) (start : ℕ) (items : List (ℕ × ℕ)) : Type 0 where
-  pub sorted : is_sorted nat_cmp items ≡ true
-  pub low : (i : ℕ) (x : ℕ × ℕ) → slice_get items i ≡ Some x → x.0 < start
-  pub finds : (q : ℕ) → find nat_cmp q items ≡ cond (nat_lt q start) (get pairs q) None
 
 -- so many nodes were visited; these wait, and what was gathered has the pairs whose keys lie before their places
 pub record IsGathering (slots : ℕ) (cells : Cells) (pairs : Pairs) (stands : TreeStands slots cells pairs) (made : ℕ)

@@ -1,7 +1,10 @@
 -- The sorted list: the places of its nodes and its bodies.
-use Rattle.std.specs.Prelude.{ℕ, ◌+◌, ◌-◌, ◌*◌, ◌^◌, List, [], ◌∷◌, Bool, ◌&&◌, ◌==◌, cond, nat_lt}
+use Rattle.std.specs.Prelude.{ℕ, ◌+◌, ◌*◌, ◌^◌, List, [], ◌∷◌, Bool, ◌&&◌, nat_lt}
 use Rattle.body_terms.specs.Memory.{cell_of}
 use Rattle.body_terms.specs.Word.{value_of}
+use Rattle.body_steps.specs.Forms.{form_by}
+pub use Rattle.body_steps.specs.Forms.{Form, Look, Insert, Remove, Replace, Empty}
+pub use Rattle.body_steps.specs.Node.{lock_of, key_cell, mark_of, slot_in, is_lock_place, is_mark_place}
 use Rattle.section_body.specs.Bucket.{operand, is_small}
 use Rattle.body_terms.specs.declared.value.Value.{Value}
 use Rattle.body_terms.specs.declared.value.Value.TheVariants.{Const, Of, Made}
@@ -11,24 +14,11 @@ use Rattle.body_terms.specs.declared.step.Step.TheVariants.{Load, Want, Fresh, T
 use Rattle.body_terms.specs.declared.thunk.Thunk.{Thunk}
 
 -- the cells of a node: its lock, its key, its link to the next node, its value, and its mark. There are no fixed cells
-abbrev pub lock_of : ℕ → ℕ
-lock_of slot = cell_of 0 slot 0
-
-abbrev pub key_cell : ℕ → ℕ
-key_cell slot = cell_of 0 slot 1
-
 abbrev pub next_of : ℕ → ℕ
 next_of slot = cell_of 0 slot 2
 
 abbrev pub value_cell : ℕ → ℕ
 value_cell slot = cell_of 0 slot 3
-
-abbrev pub mark_of : ℕ → ℕ
-mark_of slot = cell_of 0 slot 4
-
--- the slot to which a link's word leads
-abbrev pub slot_in : ℕ → ℕ
-slot_in word = value_of word - 1
 
 -- The outer lock is that of a node, the predecessor; its link and its mark stand behind its lock. The operands 1 and 2
 -- are the words that the walk read of this link and of this mark, and operand 0 isn't used.
@@ -89,22 +79,9 @@ fits_remove t = is_small (t.lock + 4) && names_node t
 abbrev pub fits_replace : Thunk → Bool
 fits_replace t = is_small (t.lock + 4) && (names_node t && (is_small (operand t 5) && is_small (operand t 6)))
 
--- what a thunk's section does: it reads alone, puts a new node into the list, takes one out, puts a new one in the
--- place of an old one, or has no body
-pub data Form : Type 0 where
-  Look : Form
-  Insert : Form
-  Remove : Form
-  Replace : Form
-  Empty : Form
-
+-- what a thunk's section does
 abbrev pub form_of : Thunk → Form
-form_of t =
-    cond (t.form == 31) (cond (fits_look t) Look Empty)
-    (cond (t.form == 32) (cond (fits_insert t) Insert Empty)
-    (cond (t.form == 33) (cond (fits_remove t) Remove Empty)
-    (cond (t.form == 34) (cond (fits_replace t) Replace Empty)
-    Empty)))
+form_of t = form_by 31 t.form (fits_look t) (fits_insert t) (fits_remove t) (fits_replace t)
 
 abbrev pub body_of : Form → Thunk → List Step
 body_of Look t = look_steps t

@@ -3,9 +3,9 @@ ghost use Rattle.std.specs.Prelude.{◌≡◌, ◌+◌, ◌*◌, ◌<◌, ◌^�
 ghost use Rattle.list_bodies.specs.List.{list_steps, look_steps, insert_steps, remove_steps, replace_steps};
 ghost use Rattle.list_bodies.specs.List.{fits_look, fits_insert, fits_remove, fits_replace, names_node};
 ghost use Rattle.list_bodies.specs.List.{node_with, node_in, mark_of};
-ghost use Rattle.body_terms.specs.declared.step.Step.TheVariants.{Load, Want, Take, Make, Store, Retire};
 
-use body_terms::{Body, Init, Place, Step, Thunk, Value, Word};
+use body_steps::{answer, load, make, retire, store, take, want};
+use body_terms::{Body, Init, Step, Thunk, Value, Word};
 
 /// The reply word of an insertion of an absent key.
 const NEW: u64 = 1 << 32;
@@ -41,54 +41,6 @@ pub fn list_body_in(thunk: &Thunk, body: &mut Body)
     }
 }
 
-/// The step that loads the cell at `place` into a register.
-fn load(place: Place, into: u8) -> Step
-    ensures { result ≡ Load place into }
-{
-    Step::Load { place, into }
-}
-
-/// The check that a register holds the word with these bits.
-fn want(reg: u8, bits: u64) -> Step
-    ensures { result ≡ Want reg bits }
-{
-    Step::Want {
-        reg,
-        word: Word::from_bits(bits),
-    }
-}
-
-/// The step that takes the lock at `place`, whose free word has these bits.
-fn take(place: Place, bits: u64) -> Step
-    ensures { result ≡ Take place bits }
-{
-    Step::Take {
-        place,
-        word: Word::from_bits(bits),
-    }
-}
-
-/// The step that makes a node of a node slot.
-fn make(init: Init, into: u8) -> Step
-    ensures { result ≡ Make init into }
-{
-    Step::Make { init, into }
-}
-
-/// The step that stores a value over the word in a register.
-fn store(reg: u8, value: Value) -> Step
-    ensures { result ≡ Store reg value }
-{
-    Step::Store { reg, value }
-}
-
-/// The step that retires a node slot.
-fn retire(slot: u32) -> Step
-    ensures { result ≡ Retire slot }
-{
-    Step::Retire { slot }
-}
-
 /// Form 31: a request that changes nothing. The operands behind the first are the word of the predecessor's link, the
 /// word of its mark and the reply word.
 fn fill_look(thunk: &Thunk, body: &mut Body) -> Option<()>
@@ -102,9 +54,7 @@ fn fill_look(thunk: &Thunk, body: &mut Body) -> Option<()>
         load(mark, 1),
         want(1, thunk.operands[2]),
         Step::Stamp,
-        Step::Answer {
-            reply: thunk.operands[3],
-        },
+        answer(thunk.operands[3]),
     ]);
     Some(())
 }
@@ -143,7 +93,7 @@ fn fill_insert(thunk: &Thunk, body: &mut Body) -> Option<()>
         make(node(key, next, value), 2),
         Step::Stamp,
         store(0, Value::Made(2)),
-        Step::Answer { reply: NEW },
+        answer(NEW),
     ]);
     Some(())
 }
@@ -183,7 +133,7 @@ fn fill_remove(thunk: &Thunk, body: &mut Body) -> Option<()>
         store(3, Value::Const(1)),
         store(0, Value::Of(2)),
         retire(old),
-        Step::Answer { reply: GONE },
+        answer(GONE),
     ]);
     Some(())
 }
@@ -217,9 +167,7 @@ fn fill_replace(thunk: &Thunk, body: &mut Body) -> Option<()>
         store(2, Value::Made(4)),
         store(0, Value::Made(4)),
         retire(old),
-        Step::Answer {
-            reply: thunk.operands[7],
-        },
+        answer(thunk.operands[7]),
     ]);
     Some(())
 }

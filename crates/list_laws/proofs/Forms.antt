@@ -96,16 +96,6 @@ module _ (t : Thunk) where
   pub replace_want : (j r w : ℕ) → IsReplace j (Want r w) → WholeWant j r w
   replace_want j r w h = grind arith
 
-  pub insert_fresh : (j r : ℕ) → IsInsert j (Fresh r) → (j ≡ 2) × (r ≡ 0)
-  insert_fresh j r h = (grind arith, grind arith)
-
-  pub remove_fresh : (j r : ℕ) → IsRemove j (Fresh r) → ((j ≡ 2) × (r ≡ 0)) ⊎ ((j ≡ 9) × (r ≡ 3))
-  remove_fresh j r h = grind arith
-
-  pub replace_fresh : (j r : ℕ) → IsReplace j (Fresh r) → ((j ≡ 2) × (r ≡ 0)) ⊎ ((j ≡ 9) × (r ≡ 3))
-      ⊎ ((j ≡ 10) × (r ≡ 2))
-  replace_fresh j r h = grind arith
-
   pub remove_take : (j l w : ℕ) → IsRemove j (Take l w) → (j ≡ 5) × (l ≡ lock_of (node_in t)) × (w ≡ operand t 3)
   remove_take j l w h = (grind arith, grind arith, grind arith)
 
@@ -141,9 +131,6 @@ module _ (t : Thunk) where
   replace_retire j slot h = (grind arith, grind arith)
 
   -- steps that a form doesn't have
-  pub look_fresh : (j r : ℕ) → IsLook j (Fresh r) → ⊥
-  look_fresh j r h = grind arith
-
   pub look_take : (j l w : ℕ) → IsLook j (Take l w) → ⊥
   look_take j l w h = grind arith
 

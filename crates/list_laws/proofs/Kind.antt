@@ -10,10 +10,11 @@ use Rattle.bucket_laws.specs.bucket_bodies.specs.section_body.specs.Bucket.{oper
 use Rattle.structure_laws.specs.body_terms.specs.declared.thunk.Thunk.{Thunk}
 use Rattle.structure_laws.specs.Sections.{IsAllowed}
 use Rattle.bucket_laws.proofs.Fit.{PutsIn, puts_given}
+use Rattle.node_laws.proofs.Forms.{put_puts}
 use Rattle.list_bodies.specs.List.{mark_of, node_in, names_node, Look, Insert, Remove, Replace, form_of}
 use Rattle.list_laws.specs.Walk.{Walk, node_of, form_for, operands_for}
 use Rattle.list_laws.proofs.Fit.{IsFit, cases, is_look, is_insert, is_remove, is_replace, inserts}
-use Rattle.list_laws.proofs.Fit.{replaces, put_puts}
+use Rattle.list_laws.proofs.Fit.{replaces}
 
 small_is : (n : ℕ) → n < 2 ^ 32 → is_small n ≡ true
 small_is n low = less_tested n (2 ^ 32) low

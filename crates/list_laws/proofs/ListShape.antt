@@ -1,10 +1,8 @@
 -- A thunk that fits an entered runner's readings has a body of the shape of a body, whose places the readings give.
-use Rattle.std.proofs.Common.{◌≡◌, ◌≢◌, ℕ, zero, suc, ◌+◌, ◌*◌, ◌<◌, ◌≤◌, true, false, refl, sym, ap, ◌∙◌, subst, inl, inr, ⊎_elim, arith}
-use Rattle.std.specs.Prelude.{◌&&◌, not, ◌%◌, ◌^◌, Some, List, [], ◌∷◌, slice_get, slice_index, length}
-use Rattle.std.proofs.lemmas.Bool.{both_ways, cases_eq}
+use Rattle.std.proofs.Common.{◌≡◌, ◌≢◌, ℕ, ◌+◌, ◌*◌, ◌<◌, ◌≤◌, true, false, refl, sym, ap, ◌∙◌, subst, inl, inr, ⊎_elim, arith}
+use Rattle.std.specs.Prelude.{◌&&◌, not, ◌^◌, Some, List, slice_get, slice_index, length}
+use Rattle.std.proofs.lemmas.Bool.{cases_eq}
 use Rattle.structure_laws.specs.table_words.specs.small_lemmas.proofs.Bools.{negated}
-use Rattle.structure_laws.specs.table_words.specs.small_lemmas.proofs.Lists.{some_same}
-use Rattle.structure_laws.specs.table_words.specs.small_lemmas.proofs.Numbers.{equal_tested, other_tested}
 use Rattle.structure_laws.specs.map_history.specs.declared.op.Op.{Op}
 use Rattle.structure_laws.specs.map_history.specs.Keys.{key_of}
 use Rattle.structure_laws.specs.body_terms.specs.Word.{value_of, is_free, is_spent}
@@ -27,12 +25,14 @@ use Rattle.structure_laws.specs.Shape.{Shaped}
 use Rattle.structure_laws.proofs.Changes.{value_small, both_true}
 use Rattle.structure_laws.proofs.Costs.{shaped_cost}
 use Rattle.bucket_laws.proofs.TableGives.{reached}
-use Rattle.list_bodies.specs.List.{lock_of, node_in, node_with, Form, Look, Insert, Remove, Replace}
+use Rattle.node_laws.proofs.Cells.{cell_unlocked, lock_locked, five_small, five_unlocked}
+use Rattle.node_laws.proofs.Forms.{put_puts, reply_some}
+use Rattle.list_bodies.specs.List.{lock_of, node_in, Form, Look, Insert, Remove, Replace}
 use Rattle.list_bodies.specs.List.{form_of, body_of, list_steps}
 use Rattle.list_laws.specs.Walk.{Walk, node_of, is_past, takes_out, form_for, operands_for}
 use Rattle.list_laws.specs.Nodes.{is_lock_place, is_link_place, nodes, bounds, walk_of, IsWalk, ListKept, list}
 use Rattle.list_laws.proofs.BodyShapes.{look_shaped, insert_shaped, remove_shaped, replace_shaped}
-use Rattle.list_laws.proofs.Fit.{IsFit, fit_of, look_numbers, reply_some, inserts, removes, replaces, put_puts, takes_both}
+use Rattle.list_laws.proofs.Fit.{IsFit, fit_of, look_numbers, inserts, removes, replaces, takes_both}
 use Rattle.list_laws.proofs.Forms.{FrontLoad, WholeLoad, RemoveStore, ReplaceStore}
 use Rattle.list_laws.proofs.Forms.{look_load, look_take, look_make, look_store, look_answer}
 use Rattle.list_laws.proofs.Forms.{insert_load, insert_take, insert_make, insert_store, insert_answer}
@@ -41,36 +41,6 @@ use Rattle.list_laws.proofs.Forms.{replace_load, replace_take, replace_make, rep
 use Rattle.list_laws.proofs.Frame.{safe_used}
 use Rattle.list_laws.proofs.Kind.{Kind, Looks, Inserts_it, Removes_it, Replaces_it, kind, key_low, value_low}
 use Rattle.list_laws.proofs.WalkReads.{IsFrom, HasRead, walk_reads, end_reads}
-
--- cells of a node by their number
-cell_unlocked : (t k : ℕ) → 1 ≤ k → k < 5 → is_lock_place (cell_of 0 t k) ≡ false
-cell_unlocked t k low high = other_tested ((0 + 5 * t + k) % 5) 0 (λ e. omega (arith, low, high, e))
-
-lock_locked : (t : ℕ) → is_lock_place (lock_of t) ≡ true
-lock_locked t = equal_tested ((0 + 5 * t + 0) % 5) 0 (omega arith)
-
--- each first value of a new node has 32 bits, and that of the lock is 0
-node_small : (key value : ℕ) (next : Value) → key < 2 ^ 32 → value < 2 ^ 32 → IsSmall next → (i : ℕ) (v : Value)
-    → slice_get (node_with key next value).cells i ≡ Some v → IsSmall v
-node_small key value next a b c zero v h = subst IsSmall (some_same h) (omega arith)
-node_small key value next a b c (suc zero) v h = subst IsSmall (some_same h) a
-node_small key value next a b c (suc (suc zero)) v h = subst IsSmall (some_same h) c
-node_small key value next a b c (suc (suc (suc zero))) v h = subst IsSmall (some_same h) b
-node_small key value next a b c (suc (suc (suc (suc zero)))) v h = subst IsSmall (some_same h) (omega arith)
-node_small key value next a b c (suc (suc (suc (suc (suc i))))) v h = absurd (cc)
-
-node_unlocked : (key value : ℕ) (next : Value) (i t : ℕ) (v : Value)
-    → slice_get (node_with key next value).cells i ≡ Some v → is_lock_place (cell_of 0 t i) ≡ true → v ≡ Const 0
-node_unlocked key value next zero t v h lock = sym (some_same h)
-node_unlocked key value next (suc i) t v h lock =
-    absurd (both_ways _ (cell_unlocked t (suc i) (omega arith) (short i h)) lock)
-  where
-    short : (i : ℕ) → slice_get (Const key ∷ next ∷ Const value ∷ Const 0 ∷ []) i ≡ Some v → suc i < 5
-    short zero h = omega arith
-    short (suc zero) h = omega arith
-    short (suc (suc zero)) h = omega arith
-    short (suc (suc (suc zero))) h = omega arith
-    short (suc (suc (suc (suc i)))) h = absurd (cc)
 
 module _ (layout : Layout) (limits : IsWithinLimits layout) (s : Scene) (sound : Sound list layout s)
     (kept : ListKept layout s) (r : ℕ) (readings : Readings) (op : Op) (thunk : Thunk)
@@ -232,7 +202,7 @@ module _ (layout : Layout) (limits : IsWithinLimits layout) (s : Scene) (sound :
         make_small = λ j r i init v h. absurd (look_make thunk j r init (at j _ h));
         make_unlocked = λ j r i t init v h. absurd (look_make thunk j r init (at j _ h));
         answers = λ j n h. let is = look_answer thunk j n (at j _ h) ∙ number_at 3 (look_numbers op w w.found number) in
-            let some = reply_some op w w.found in omega (arith, is, some);
+            let some = reply_some op w.value w.found in omega (arith, is, some);
       }
 
   insert_is_shaped : form_of thunk ≡ Insert → form_for op w.found ≡ 32 → Shaped list layout readings thunk
@@ -263,11 +233,11 @@ module _ (layout : Layout) (limits : IsWithinLimits layout) (s : Scene) (sound :
         store_once = λ i j r v n h h'. (insert_store thunk i r v (at i _ h)).0 ∙ sym (insert_store thunk j r n (at j _ h')).0;
         store_small = λ j r v h. subst IsSmall (sym (insert_store thunk j r v (at j _ h)).2) tt;
         make_whole = λ j r init h. ap (λ (init : Init). length init.cells) (insert_make thunk j r init (at j _ h)).2;
-        make_small = λ j r i init v h cell. node_small (operand thunk 3) (operand thunk 4)
-            (Const (value_of (operand thunk 1))) key value (value_small (operand thunk 1)) i v
+        make_small = λ j r i init v h cell. five_small (Const (operand thunk 3))
+            (Const (value_of (operand thunk 1))) (Const (operand thunk 4)) key (value_small (operand thunk 1)) value i v
             (subst (λ (init : Init). slice_get init.cells i ≡ Some v) (insert_make thunk j r init (at j _ h)).2 cell);
-        make_unlocked = λ j r i t init v h cell. node_unlocked (operand thunk 3) (operand thunk 4)
-            (Const (value_of (operand thunk 1))) i t v
+        make_unlocked = λ j r i t init v h cell. five_unlocked (Const (operand thunk 3))
+            (Const (value_of (operand thunk 1))) (Const (operand thunk 4)) i t v
             (subst (λ (init : Init). slice_get init.cells i ≡ Some v) (insert_make thunk j r init (at j _ h)).2 cell);
         answers = λ j n h. let is = insert_answer thunk j n (at j _ h) in omega (arith, is);
       }
@@ -380,9 +350,11 @@ module _ (layout : Layout) (limits : IsWithinLimits layout) (s : Scene) (sound :
             (replace_store thunk j r n (at j _ h'));
         store_small = λ j r v h. small j r v (replace_store thunk j r v (at j _ h));
         make_whole = λ j r init h. ap (λ (init : Init). length init.cells) (replace_make thunk j r init (at j _ h)).2;
-        make_small = λ j r i init v h cell. node_small (operand thunk 5) (operand thunk 6) (Of 2) key value tt i v
+        make_small = λ j r i init v h cell. five_small (Const (operand thunk 5)) (Of 2)
+            (Const (operand thunk 6)) key tt value i v
             (subst (λ (init : Init). slice_get init.cells i ≡ Some v) (replace_make thunk j r init (at j _ h)).2 cell);
-        make_unlocked = λ j r i t init v h cell. node_unlocked (operand thunk 5) (operand thunk 6) (Of 2) i t v
+        make_unlocked = λ j r i t init v h cell. five_unlocked (Const (operand thunk 5)) (Of 2)
+            (Const (operand thunk 6)) i t v
             (subst (λ (init : Init). slice_get init.cells i ≡ Some v) (replace_make thunk j r init (at j _ h)).2 cell);
         answers = λ j n h. let is = replace_answer thunk j n (at j _ h) ∙ number_at 7 of.numbers in
             positive n w.value is;

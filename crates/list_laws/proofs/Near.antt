@@ -1,6 +1,6 @@
 -- A walk of the list that reads what stands loads few links, and reads marks of linked nodes alone.
 use Rattle.std.specs.Prelude.{◌==◌, ◌&&◌, not, ◌-◌, ◌%◌, nat_le, nat_lt, cond, Bool, true, false, take, slice_get}
-use Rattle.std.proofs.Common.{◌≡◌, ◌≢◌, ℕ, suc, ◌+◌, ◌*◌, ◌<◌, ◌≤◌, [], ◌∷◌, refl, sym, ap, ◌∙◌, subst, arith, Some}
+use Rattle.std.proofs.Common.{◌≡◌, ◌≢◌, ℕ, suc, ◌+◌, ◌*◌, ◌<◌, ◌≤◌, refl, sym, ap, ◌∙◌, subst, arith, Some}
 use Rattle.std.proofs.lemmas.Bool.Decides.{nat_tests}
 use Rattle.std.proofs.lemmas.Option.{none-some}
 use Rattle.structure_laws.specs.table_words.specs.small_lemmas.proofs.Lists.{same_number}
@@ -17,8 +17,8 @@ use Rattle.structure_laws.specs.Ranks.{lower}
 use Rattle.structure_laws.proofs.Changes.{equal_of}
 use Rattle.structure_laws.proofs.Front.{front_stands}
 use Rattle.structure_laws.proofs.Lower.{lower_few, lower_falls}
-use Rattle.bucket_laws.specs.Walk.{Bounds, is_del, is_wanted}
-use Rattle.bucket_laws.proofs.Walks.{wanted_eq}
+use Rattle.bucket_laws.specs.Walk.{Bounds, is_del}
+use Rattle.node_laws.proofs.Walked.{walk_keeps}
 use Rattle.list_bodies.specs.List.{next_of, mark_of, slot_in}
 use Rattle.list_laws.specs.Line.{Nodes, rank}
 use Rattle.list_laws.specs.Walk.{Stage, AtLink, AtKey, AtValue, AtLock, AtMark, AtNodeLock, AtNodeMark, AtEnd, Refused}
@@ -150,26 +150,13 @@ module _ (slots : ℕ) (cells : Cells) (pairs : Pairs) (stands : ListStands slot
   fed_stands w AtEnd place word at want read = absurd (none-some place want)
   fed_stands w Refused place word at want read = absurd (none-some place want)
 
-  walked_stands : (w : Walk) (readings : Readings) → Stands w w.stage → StandIn list cells readings
-      → Stands (walk b op w readings) (walk b op w readings).stage
-  unfolding walk
-  walked_stands w [] at read = at
-  walked_stands w (reading ∷ readings) at read = go (is_wanted (wanted_at w w.stage) reading.0) refl
-      (λ next. walked_stands (fed b op w w.stage reading.1) readings next (λ i place word h. read (suc i) place word h))
-    where
-      go : (c : Bool) → is_wanted (wanted_at w w.stage) reading.0 ≡ c
-          → (Stands (fed b op w w.stage reading.1) (fed b op w w.stage reading.1).stage
-          → Stands (walk b op (fed b op w w.stage reading.1) readings) (walk b op (fed b op w w.stage reading.1) readings).stage)
-          → Stands (cond c (walk b op (fed b op w w.stage reading.1) readings) w)
-          (cond c (walk b op (fed b op w w.stage reading.1) readings) w).stage
-      go true e again = again (fed_stands w w.stage reading.0 reading.1 at (wanted_eq (wanted_at w w.stage) reading.0 e)
-          (read 0 reading.0 reading.1 refl))
-      go false e again = at
-
   pub read_stands : (readings : Readings) → StandIn list cells readings
       → Stands (walk b op start readings) (walk b op start readings).stage
-  read_stands readings read = walked_stands start readings
-      (stands.line.head, none_yet (below 0) (lower_few stands.linked ahead slots stands.within 0 stands.line.head)) read
+  read_stands readings read = walk_keeps _ _ _ (λ w. Stands w w.stage)
+      (λ reading. is_lock_place reading.0 ≡ false → cells reading.0 ≡ reading.1)
+      (λ w reading want here at. fed_stands w w.stage reading.0 reading.1 at want here) start readings
+      (λ i reading h. read i reading.0 reading.1 h)
+      (stands.line.head, none_yet (below 0) (lower_few stands.linked ahead slots stands.within 0 stands.line.head))
     where
       none_yet : (a : ℕ) → a < slots → 0 + a < slots
       none_yet a low = omega (arith, low)

@@ -25,7 +25,7 @@ use Rattle.list_bodies.specs.List.{Form, Look, Insert, Remove, Replace, Empty, f
 use Rattle.list_bodies.specs.List.{insert_steps, remove_steps, replace_steps}
 use Rattle.list_laws.specs.Nodes.{is_lock_place, nodes, HasNew, HasMarked, HasTaken, IsNew, ListKept, list}
 use Rattle.list_laws.specs.Nodes.{new_reg, new_next, IsBetween, NewNode, OldNode}
-use Rattle.list_laws.specs.Walk.{walk}
+use Rattle.node_laws.specs.Walked.{walked}
 use Rattle.list_laws.proofs.Forms.{insert_init, replace_init}
 use Rattle.list_laws.proofs.Frame.{IsSameNode, no_change, IsKeptSection, IsKeptReader, passing_kept}
 
@@ -431,7 +431,7 @@ reader_kept layout s r new sound kept own = passing_kept layout s (with_reader s
 
 -- a runner enters, with no readings
 pub keeps_enters : (layout : Layout) (s : Scene) (r : ℕ) → Onward list layout s (with_reader s r (Some []))
-unfolding walk
+unfolding walked
 keeps_enters layout s r sound kept sound' = reader_kept layout s r (Some []) sound kept
     (λ readings e. subst (IsKeptReader layout s (with_reader s r (Some [])) sound kept) (some_same e) none)
   where

@@ -1,9 +1,7 @@
 -- What a body wants was read, and only operations that add a pair, or put one in the place of another, make nodes.
-use Rattle.std.proofs.Common.{◌≡◌, ℕ, suc, ◌+◌, ◌*◌, true, inl, inr, refl, sym, ap, ◌∙◌, subst, arith}
-use Rattle.std.specs.Prelude.{◌&&◌, ◌^◌, None, Some, List, slice_get, slice_index}
+use Rattle.std.proofs.Common.{◌≡◌, ℕ, suc, ◌+◌, true, inl, inr, refl, sym, ap, ◌∙◌, subst, arith}
+use Rattle.std.specs.Prelude.{◌&&◌, Some, List, slice_get, slice_index}
 use Rattle.structure_laws.specs.map_history.specs.declared.op.Op.{Op}
-use Rattle.structure_laws.specs.map_history.specs.declared.op.Op.TheVariants.{Get, Ins, Del, Put, Mov}
-use Rattle.structure_laws.specs.map_history.specs.AtKey.{Gets, change_at}
 use Rattle.bucket_laws.specs.bucket_bodies.specs.section_body.specs.Bucket.{operand}
 use Rattle.structure_laws.specs.body_terms.specs.declared.value.Init.{Init}
 use Rattle.structure_laws.specs.body_terms.specs.declared.step.Step.TheVariants.{Load, Want, Make, Answer}
@@ -11,7 +9,7 @@ use Rattle.structure_laws.specs.body_terms.specs.declared.thunk.Thunk.{Thunk}
 use Rattle.structure_laws.specs.Scene.{Readings}
 use Rattle.structure_laws.specs.Planner.{Adds}
 use Rattle.bucket_laws.specs.Walk.{Bounds}
-use Rattle.bucket_laws.proofs.Fit.{keeps_gets}
+use Rattle.node_laws.proofs.Forms.{new_adds}
 use Rattle.list_bodies.specs.List.{lock_of, next_of, mark_of, Form, Look, Insert, Remove, Replace, Empty}
 use Rattle.list_bodies.specs.List.{form_of, body_of, list_steps}
 use Rattle.list_laws.specs.Walk.{Walk, start, node_of, takes_out, operands_for, fits_walk, walk}
@@ -103,14 +101,6 @@ module _ (b : Bounds) (op : Op) (readings : Readings) (thunk : Thunk)
   pub wants_read : (i j p r n : ℕ) → slice_get (list_steps thunk) i ≡ Some (Load p r)
       → slice_get (list_steps thunk) j ≡ Some (Want r n) → Among p n
   wants_read = reads_in (form_of thunk) refl
-
-  -- an operation that gives a value to an absent key answers that the pair is new
-  new_adds : (op : Op) (value reply : ℕ) → change_at None op ≡ Gets value → reply ≡ 1 * 2 ^ 32 → Adds op reply
-  new_adds (Get key) value reply gets new = absurd (keeps_gets value gets)
-  new_adds (Ins key v) value reply gets new = new
-  new_adds (Del key) value reply gets new = absurd (keeps_gets value gets)
-  new_adds (Put key v) value reply gets new = inl new
-  new_adds (Mov from to) value reply gets new = absurd (keeps_gets value gets)
 
   adds_in : (f : Form) → form_of thunk ≡ f → (i j r reply : ℕ) (init : Init)
       → slice_get (body_of f thunk) i ≡ Some (Make init r) → slice_get (body_of f thunk) j ≡ Some (Answer reply)

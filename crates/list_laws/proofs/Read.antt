@@ -1,6 +1,6 @@
 -- The list keeps what it keeps, by one more reading of an entered runner.
-use Rattle.std.specs.Prelude.{◌⊎◌, nat_lt, cond, Bool, true, false, List, Some, [], ◌∷◌, ◌++◌, length, slice_get}
-use Rattle.std.proofs.Common.{◌≡◌, ◌≢◌, ℕ, zero, suc, ◌+◌, ◌*◌, ◌<◌, ◌≤◌, refl, sym, ap, ◌∙◌, subst, inl, inr, ⊎_elim, arith}
+use Rattle.std.specs.Prelude.{nat_lt, Bool, true, false, Some, [], ◌∷◌, ◌++◌, length, slice_get}
+use Rattle.std.proofs.Common.{◌≡◌, ◌≢◌, ℕ, suc, ◌+◌, ◌*◌, ◌<◌, ◌≤◌, refl, sym, ap, ◌∙◌, subst, inl, ⊎_elim, arith}
 use Rattle.std.proofs.lemmas.Option.{none-some}
 use Rattle.structure_laws.specs.table_words.specs.small_lemmas.proofs.Lists.{same_number, get_last}
 use Rattle.structure_laws.specs.table_words.specs.small_lemmas.proofs.Numbers.{tested_less}
@@ -13,48 +13,18 @@ use Rattle.structure_laws.specs.Cells.{IsSafe, IsOutside, IsLoadable}
 use Rattle.structure_laws.specs.Sound.{IsRead, Sound}
 use Rattle.structure_laws.specs.Keeps.{Onward}
 use Rattle.structure_laws.proofs.Changes.{upd_same}
-use Rattle.bucket_laws.specs.Walk.{Bounds, is_wanted}
 use Rattle.bucket_laws.proofs.TableGives.{reached}
-use Rattle.bucket_laws.proofs.Walks.{bool_cases, wanted_eq}
+use Rattle.node_laws.proofs.Walked.{walk_push, by_place}
 use Rattle.list_bodies.specs.List.{key_cell, next_of, value_cell, mark_of, slot_in}
 use Rattle.list_laws.specs.Line.{Nodes, last_key}
 use Rattle.list_laws.specs.Walk.{Stage, AtLink, AtKey, AtValue, AtLock, AtMark, AtNodeLock, AtNodeMark, AtEnd, Refused}
-use Rattle.list_laws.specs.Walk.{Walk, start, node_of, is_past, wanted_at, at_key, fed, walk}
+use Rattle.list_laws.specs.Walk.{Walk, start, node_of, is_past, wanted_at, at_key, fed}
 use Rattle.list_laws.specs.Nodes.{is_link_place, nodes, bounds, walk_of, IsAsRead, IsWalk, ListKept, list}
 use Rattle.list_laws.proofs.Frame.{safe_used, outside_used, IsKeptReader}
 use Rattle.list_laws.proofs.Line.{no_ring}
 use Rattle.list_laws.proofs.Open.{leads_to}
 use Rattle.list_laws.proofs.Pass.{reader_kept}
 use Rattle.list_laws.proofs.WalkReads.{IsFrom, Reads, walk_reads}
-
--- a reading of a longer list is one of the list, or the last
-get_push : {A : Type 0} (xs : List A) (y v : A) (i : ℕ) → slice_get (xs ++ y ∷ []) i ≡ Some v
-    → (slice_get xs i ≡ Some v) ⊎ (y ≡ v)
-get_push [] y v zero h = inr (let z = h in cc)
-get_push [] y v (suc i) h = absurd (let z = h in cc)
-get_push (x ∷ xs) y v zero h = inl h
-get_push (x ∷ xs) y v (suc i) h = get_push xs y v i h
-
--- one more reading: the walk stays as it was, or goes on by it
-module _ (b : Bounds) (op : Op) (p n : ℕ) where
-  abbrev GoesOn : Walk → Walk → Type 0
-  GoesOn w after = (after ≡ w) ⊎ ((wanted_at w w.stage ≡ Some p) × (after ≡ fed b op w w.stage n))
-
-  pub walk_push : (w : Walk) (readings : Readings) → GoesOn (walk b op w readings)
-      (walk b op w (readings ++ (p, n) ∷ []))
-  unfolding walk
-  walk_push w [] = bool_cases (is_wanted (wanted_at w w.stage) p)
-      (λ e. inr (wanted_eq _ p e, ap (λ c. cond c (fed b op w w.stage n) w) e))
-      (λ e. inl (ap (λ c. cond c (fed b op w w.stage n) w) e))
-  walk_push w (reading ∷ readings) = go (is_wanted (wanted_at w w.stage) reading.0)
-      (walk_push (fed b op w w.stage reading.1) readings)
-    where
-      go : (c : Bool) → GoesOn (walk b op (fed b op w w.stage reading.1) readings)
-          (walk b op (fed b op w w.stage reading.1) (readings ++ (p, n) ∷ []))
-          → GoesOn (cond c (walk b op (fed b op w w.stage reading.1) readings) w)
-          (cond c (walk b op (fed b op w w.stage reading.1) (readings ++ (p, n) ∷ [])) w)
-      go true h = h
-      go false h = inl refl
 
 module _ (layout : Layout) (s : Scene) (sound : Sound list layout s) (kept : ListKept layout s) where
   abbrev now : Nodes
@@ -150,7 +120,7 @@ module _ (layout : Layout) (s : Scene) (sound : Sound list layout s) (kept : Lis
         (λ stays. subst IsGood (sym stays) is)
         (λ goes. subst IsGood (sym goes.1) (fed_good (walk_of layout op readings)
         (walk_of layout op readings).stage p is (walk_reads readings (bounds layout) op) refl goes.0))
-        (walk_push (bounds layout) op p (s.cells p) start readings)
+        (walk_push _ _ _ p (s.cells p) start readings)
 
   -- one more reading stands as it was read
   module _ (readings : Readings) (p : ℕ) (old : IsAsRead now readings) (outside : IsOutside list s p) where
@@ -158,28 +128,21 @@ module _ (layout : Layout) (s : Scene) (sound : Sound list layout s) (kept : Lis
     more = readings ++ (p, s.cells p) ∷ []
 
     -- a reading in it is one of the old ones, or is of this place
-    by_place : {A : Type 0} (i q v : ℕ) → slice_get more i ≡ Some (q, v) → (slice_get readings i ≡ Some (q, v) → A)
+    own_place : {A : Type 0} (i q v : ℕ) → slice_get more i ≡ Some (q, v) → (slice_get readings i ≡ Some (q, v) → A)
         → (p ≡ q → v ≡ s.cells q → A) → A
-    by_place i q v h before now_read = ⊎_elim before (λ last. now_read (place last) (word last))
-        (get_push readings (p, s.cells p) (q, v) i h)
-      where
-        place : ◌≡◌ {A = ℕ × ℕ} (p, s.cells p) (q, v) → p ≡ q
-        place e = ap (λ reading. reading.0) e
-
-        word : ◌≡◌ {A = ℕ × ℕ} (p, s.cells p) (q, v) → v ≡ s.cells q
-        word e = sym (ap (λ reading. reading.1) e) ∙ ap s.cells (place e)
+    own_place i q v h before now_read = by_place s.cells readings p i q v h before now_read
 
     used_of : (t k : ℕ) → 0 < k → k < 5 → p ≡ 0 + 5 * t + k → s.status t ≢ Free
     used_of t k low high e = outside_used s t k low high (subst (IsOutside list s) e outside)
 
     more_read : IsAsRead now more
     more_read = record {
-      key = λ i t w h. by_place i (key_cell t) w h (λ was. old.key i t w was) (λ at is. ap value_of is);
-      value = λ i t w h. by_place i (value_cell t) w h (λ was. old.value i t w was) (λ at is. ap value_of is);
-      next_some = λ i t w h inner. by_place i (next_of t) w h (λ was. old.next_some i t w was inner)
+      key = λ i t w h. own_place i (key_cell t) w h (λ was. old.key i t w was) (λ at is. ap value_of is);
+      value = λ i t w h. own_place i (value_cell t) w h (λ was. old.value i t w was) (λ at is. ap value_of is);
+      next_some = λ i t w h inner. own_place i (next_of t) w h (λ was. old.next_some i t w was inner)
           (λ at is. subst (λ k. 0 < value_of k) (sym is) (kept.next_some t
           (used_of t 2 (omega arith) (omega arith) at) inner));
-      marks = λ i t w h. by_place i (mark_of t) w h (λ was. old.marks i t w was)
+      marks = λ i t w h. own_place i (mark_of t) w h (λ was. old.marks i t w was)
           (λ at is. subst (λ k. value_of k ≤ 1) (sym is) (kept.mark_small t
           (used_of t 4 (omega arith) (omega arith) at)));
     }

@@ -1,41 +1,17 @@
 -- With nothing open, each pair of the map keeps one slot in use, at most.
-use Rattle.std.specs.Prelude.{◌-◌, ◌*◌, true, cond, List, [], ◌∷◌, length, None, Some, is_some, slice_get}
-use Rattle.std.specs.Ordering.{nat_cmp}
-use Rattle.std.specs.FinMap.{get, remove, len, empty_of_len, get-empty, len-remove}
-use Rattle.std.proofs.Common.{◌≡◌, ◌≢◌, ℕ, suc, ◌≤◌, refl, sym, ap, ◌∙◌, subst, ⊎_elim, arith}
-use Rattle.std.proofs.lemmas.Cmp.{nat_cmp_total}
+use Rattle.std.specs.Prelude.{◌*◌, true, List, length, Some, slice_get}
+use Rattle.std.specs.FinMap.{len}
+use Rattle.std.proofs.Common.{◌≡◌, ◌≢◌, ℕ, ◌≤◌, sym, ◌∙◌, subst, ⊎_elim, arith}
 use Rattle.std.proofs.lemmas.Option.{none-some}
-use Rattle.structure_laws.specs.table_words.specs.small_lemmas.proofs.Numbers.{suc_equal, zero_not_suc}
 use Rattle.structure_laws.specs.map_history.specs.Replay.{Pairs}
 use Rattle.structure_laws.specs.table_words.specs.declared.layout.Layout.{Layout}
 use Rattle.structure_laws.specs.Scene.{Scene}
 use Rattle.structure_laws.specs.InTurn.{StandsFor}
 use Rattle.structure_laws.specs.Planner.{IsQuiet, AreInUse}
-use Rattle.structure_laws.proofs.Changes.{upd_other}
-use Rattle.bucket_laws.proofs.Maps.{get_removed}
+use Rattle.bucket_laws.proofs.Planner.{few_slots}
 use Rattle.list_laws.specs.Line.{Nodes}
 use Rattle.list_laws.specs.Nodes.{nodes, list}
 use Rattle.list_laws.proofs.Turn as turn
-
--- slots with different keys that the map has are no more than its pairs
-few_slots : (key : ℕ → ℕ) (slots : List ℕ) (pairs : Pairs)
-    → ((i j t u : ℕ) → slice_get slots i ≡ Some t → slice_get slots j ≡ Some u → key t ≡ key u → i ≡ j)
-    → ((i t : ℕ) → slice_get slots i ≡ Some t → (v : ℕ) × (get pairs (key t) ≡ Some v)) → length slots ≤ len pairs
-few_slots key [] pairs once there = omega arith
-few_slots key (t ∷ slots) pairs once there =
-    let first = there 0 t refl in
-    let size : len (remove pairs (key t)) ≡ len pairs - 1 = len-remove nat_cmp_total pairs (key t)
-    ∙ ap (λ b. cond b (len pairs - 1) (len pairs)) (ap is_some first.1) in
-    let some : len pairs ≢ 0 = λ e. none-some first.0 (sym (ap (λ m. get m (key t)) (empty_of_len pairs e)
-    ∙ get-empty nat_cmp (key t)) ∙ first.1) in
-    let rest : length slots ≤ len (remove pairs (key t)) = few_slots key slots (remove pairs (key t))
-    (λ i j u v at also same. suc_equal i j (once (suc i) (suc j) u v at also same))
-    (λ i u at. let found = there (suc i) u at in (
-      found.0,
-      get_removed pairs (key t) (key u) ∙ upd_other (get pairs) (key t) (key u) None
-          (λ same. zero_not_suc i (sym (once (suc i) 0 u t at refl same))) ∙ found.1,
-    )) in
-    omega arith
 
 module _ (layout : Layout) (s : Scene) (pairs : Pairs) (slots : List ℕ) (before : StandsFor list layout s pairs)
     (quiet : IsQuiet list s) (used : AreInUse list s slots) where

@@ -1,13 +1,10 @@
 -- A section of the list at its stamp, with nothing pending, does what the map does.
-use Rattle.std.specs.Prelude.{◌*◌, ◌^◌, is_some, Bool, true, false, Some, None, if◌then◌else◌}
-use Rattle.std.proofs.Common.{◌≡◌, ◌≢◌, ℕ, suc, ◌≤◌, refl, sym, ap, ◌∙◌, ⊎_elim, arith}
-use Rattle.std.specs.FinMap.{get, contains_key}
+use Rattle.std.specs.Prelude.{◌*◌, true, false, Some, None}
+use Rattle.std.proofs.Common.{◌≡◌, ◌≢◌, ℕ, suc, ◌≤◌, sym, ap, ◌∙◌, ⊎_elim, arith}
+use Rattle.std.specs.FinMap.{get}
 use Rattle.structure_laws.specs.table_words.specs.small_lemmas.proofs.Lists.{none_if_never}
-use Rattle.structure_laws.specs.map_history.specs.declared.op.Op.{Op}
-use Rattle.structure_laws.specs.map_history.specs.declared.op.Op.TheVariants.{Get, Ins, Del, Put, Mov}
-use Rattle.structure_laws.specs.map_history.specs.declared.reply.Reply.TheVariants.{New, Dup, Gone, Absent}
 use Rattle.structure_laws.specs.map_history.specs.Keys.{key_of}
-use Rattle.structure_laws.specs.map_history.specs.Replay.{Pairs, found, replaced, reply_of}
+use Rattle.structure_laws.specs.map_history.specs.Replay.{Pairs, reply_of}
 use Rattle.structure_laws.specs.map_history.specs.Words.{word_of}
 use Rattle.structure_laws.specs.body_terms.specs.declared.step.Step.TheVariants.{Stamp, Answer}
 use Rattle.structure_laws.specs.table_words.specs.declared.layout.Layout.{Layout}
@@ -16,11 +13,11 @@ use Rattle.structure_laws.specs.Scene.{Section, Scene}
 use Rattle.structure_laws.specs.Sections.{IsStep}
 use Rattle.structure_laws.specs.InTurn.{StandsFor, AtStamp}
 use Rattle.bucket_laws.specs.Walk.{is_del}
-use Rattle.bucket_laws.proofs.Fit.{PutsIn, keeps_gets}
 use Rattle.bucket_laws.proofs.Maps.{remove_reply, set_reply}
+use Rattle.node_laws.proofs.Forms.{reply_is, new_reply}
 use Rattle.list_bodies.specs.List.{Look, Insert, Remove, Replace, form_of}
 use Rattle.list_laws.specs.Line.{Nodes, Contents}
-use Rattle.list_laws.specs.Walk.{Walk, node_of, is_past, form_for, reply_for}
+use Rattle.list_laws.specs.Walk.{Walk, node_of, is_past}
 use Rattle.list_laws.specs.Nodes.{nodes, walk_of, ListKept, list}
 use Rattle.list_laws.specs.Landing.{HasLanded}
 use Rattle.list_laws.proofs.Fit.{look_numbers}
@@ -34,39 +31,6 @@ use Rattle.list_laws.proofs.Places as places
 
 pub unfixed : (n : ℕ) → n ≢ 0 → n ≢ 1 → 2 ≤ n
 unfixed n zero one = search arith
-
--- the reply by what is looked up
-module _ (pairs : Pairs) where
-  pub there : (key value : ℕ) → get pairs key ≡ Some value → contains_key pairs key ≡ true
-  there key value h = ap is_some h
-
-  gone : (key : ℕ) → get pairs key ≡ None → contains_key pairs key ≡ false
-  gone key h = ap is_some h
-
-  reply_is : (op : Op) (w : Walk) (hit : Bool) → form_for op hit ≡ 31
-      → (hit ≡ true → (v : ℕ) × (get pairs (key_of op) ≡ Some v) × (is_del op ≡ false → v ≡ w.value))
-      → (hit ≡ false → get pairs (key_of op) ≡ None) → reply_for op w hit ≡ word_of (reply_of pairs op)
-  reply_is (Get key) w true form some none = let is = some refl in
-      ap (λ o. word_of (found o)) (sym (is.1 ∙ ap Some (is.2 refl)))
-  reply_is (Get key) w false form some none = ap (λ o. word_of (found o)) (sym (none refl))
-  reply_is (Ins key value) w true form some none = let is = some refl in
-      ap (λ b. word_of (if b then Dup else New)) (sym (there key is.0 is.1))
-  reply_is (Ins key value) w false form some none = absurd (omega (arith, form))
-  reply_is (Del key) w true form some none = absurd (omega (arith, form))
-  reply_is (Del key) w false form some none =
-      ap (λ b. word_of (if b then Gone else Absent)) (sym (gone key (none refl)))
-  reply_is (Put key value) w true form some none = absurd (omega (arith, form))
-  reply_is (Put key value) w false form some none = absurd (omega (arith, form))
-  reply_is (Mov from to) w hit form some none = absurd (omega (arith, form))
-
-  -- an operation that gives a value to an absent key is answered that the pair is new
-  new_reply : (op : Op) (key value : ℕ) → PutsIn op key value → get pairs (key_of op) ≡ None
-      → 1 * 2 ^ 32 ≡ word_of (reply_of pairs op)
-  new_reply (Get k) key value puts none = absurd (keeps_gets value puts.1)
-  new_reply (Ins k v) key value puts none = ap (λ b. word_of (if b then Dup else New)) (sym (gone k none))
-  new_reply (Del k) key value puts none = absurd (keeps_gets value puts.1)
-  new_reply (Put k v) key value puts none = ap (λ o. word_of (replaced o)) (sym none)
-  new_reply (Mov from to) key value puts none = absurd (keeps_gets value puts.1)
 
 -- what stands is what is kept
 module _ (layout : Layout) (s : Scene) (pairs : Pairs) (before : StandsFor list layout s pairs) where
@@ -177,7 +141,7 @@ module _ (layout : Layout) (s : Scene) (pairs : Pairs) (before : StandsFor list 
             let landed = look_at form in
             look_answer x.thunk j n (open_section.step_as layout s before.sound kept d x stamp.here Look form j (Answer n) h)
             ∙ (open_section.operand_is layout s before.sound kept d x stamp.here 3 (look_numbers x.op w w.found number)
-            ∙ reply_is pairs x.op w w.found number
+            ∙ reply_is pairs 31 x.op w.value w.found (omega arith) number
             (λ hit. (now.value (node_of w), found_is landed hit, λ del. value_is hit del))
             (λ missed. missing_is landed missed))
         by (Inserts_it form number) =

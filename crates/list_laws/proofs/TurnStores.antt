@@ -24,6 +24,7 @@ use Rattle.structure_laws.proofs.Changes.{upd_same, upd_other, equal_of, value-n
 use Rattle.structure_laws.proofs.Limits.{links_small, value-small}
 use Rattle.bucket_laws.specs.Walk.{is_del}
 use Rattle.bucket_laws.proofs.Maps.{get_removed, insert_map, remove_map, set_map}
+use Rattle.node_laws.proofs.Forms.{there}
 use Rattle.list_bodies.specs.List.{key_cell, next_of, value_cell, mark_of, node_in, Form, Look, Insert, Remove, Replace}
 use Rattle.list_bodies.specs.List.{form_of, body_of}
 use Rattle.list_laws.specs.Line.{Nodes, rank, Line, Contents, with_next, IsInsertion}
@@ -133,7 +134,7 @@ module _ (layout : Layout) (limits : IsWithinLimits layout) (s : Scene) (pairs :
           → (q : ℕ) → get pairs q ≡ get (map_after pairs op) q
       unchanged (Get key) hit form some none q = refl
       unchanged (Ins key value) true form some none q = let is = some refl in
-          ap (λ b. get (if b then pairs else insert pairs key value) q) (sym (turn.there pairs key is.0 is.1))
+          ap (λ b. get (if b then pairs else insert pairs key value) q) (sym (there pairs key is.0 is.1))
       unchanged (Ins key value) false form some none q = absurd (omega (arith, form))
       unchanged (Del key) true form some none q = absurd (omega (arith, form))
       unchanged (Del key) false form some none q = sym (get_removed pairs key q ∙ absent q key (none refl))

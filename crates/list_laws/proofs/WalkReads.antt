@@ -1,9 +1,9 @@
 -- What a walk of the list takes from its readings alone.
-use Rattle.std.proofs.Common.{◌≡◌, ℕ, zero, suc, ◌+◌, ◌*◌, ◌<◌, ◌≤◌, Bool, true, false, cond, refl, sym, subst, inl, inr, arith}
-use Rattle.std.specs.Prelude.{◌==◌, ◌&&◌, not, ◌%◌, ◌^◌, ◌⊎◌, nat_le, nat_lt, Some, [], ◌∷◌, slice_get}
+use Rattle.std.proofs.Common.{◌≡◌, ℕ, suc, ◌+◌, ◌*◌, ◌<◌, ◌≤◌, Bool, true, false, cond, refl, sym, subst, inl, inr, arith}
+use Rattle.std.specs.Prelude.{◌==◌, ◌&&◌, not, ◌%◌, ◌^◌, ◌⊎◌, nat_le, nat_lt, Some, slice_get}
 use Rattle.std.specs.List.{list_any}
 use Rattle.std.proofs.lemmas.Option.{none-some}
-use Rattle.structure_laws.specs.table_words.specs.small_lemmas.proofs.Bools.{or_first, or_second, both_hold, true_not_false}
+use Rattle.structure_laws.specs.table_words.specs.small_lemmas.proofs.Bools.{both_hold, true_not_false}
 use Rattle.structure_laws.specs.table_words.specs.small_lemmas.proofs.Lists.{same_number}
 use Rattle.structure_laws.specs.table_words.specs.small_lemmas.proofs.Numbers.{equal_tested, tested_some, tested_not_less}
 use Rattle.structure_laws.specs.map_history.specs.declared.op.Op.{Op}
@@ -11,8 +11,9 @@ use Rattle.structure_laws.specs.map_history.specs.Keys.{key_of}
 use Rattle.structure_laws.specs.body_terms.specs.Word.{value_of}
 use Rattle.structure_laws.specs.Scene.{Readings}
 use Rattle.structure_laws.proofs.Changes.{equal_of, value_small}
-use Rattle.bucket_laws.specs.Walk.{Bounds, is_del, is_wanted}
-use Rattle.bucket_laws.proofs.Walks.{wanted_eq}
+use Rattle.bucket_laws.specs.Walk.{Bounds, is_del}
+use Rattle.shared_laws.proofs.Numbers.{any_of}
+use Rattle.node_laws.proofs.Walked.{walk_keeps}
 use Rattle.list_bodies.specs.List.{lock_of, key_cell, next_of, value_cell, mark_of, slot_in}
 use Rattle.list_laws.specs.Walk.{Stage, AtLink, AtKey, AtValue, AtLock, AtMark, AtNodeLock, AtNodeMark, AtEnd, Refused}
 use Rattle.list_laws.specs.Walk.{Walk, start, node_of, wanted_at, takes_out, is_ready, at_key, fed, walk}
@@ -29,18 +30,6 @@ level AtNodeLock = 5
 level AtNodeMark = 6
 level AtEnd = 7
 level Refused = 0
-
--- where one reading passes a test, one of them does
-any_of : (test : ℕ × ℕ → Bool) (readings : Readings) (i : ℕ) (reading : ℕ × ℕ) → slice_get readings i ≡ Some reading
-    → test reading ≡ true → list_any test readings ≡ true
-any_of test [] i reading h passes = absurd (cc)
-any_of test (first ∷ readings) zero reading h passes = or_first (test first) (list_any test readings)
-    (subst (λ reading. test reading ≡ true) (sym (same first reading h)) passes)
-  where
-    same : (a b : ℕ × ℕ) → Some a ≡ Some b → a ≡ b
-    same a b e = cc
-any_of test (first ∷ readings) (suc i) reading h passes = or_second (test first) (list_any test readings)
-    (any_of test readings i reading h passes)
 
 pub link_place : (t : ℕ) → is_link_place (next_of t) ≡ true
 link_place t = equal_tested ((0 + 5 * t + 2) % 5) 2 (omega arith)
@@ -342,25 +331,11 @@ module _ (all : Readings) where
     reads_fed w AtEnd p word reads at want among = absurd (none-some p want)
     reads_fed w Refused p word reads at want among = absurd (none-some p want)
 
-    -- the walk in readings that all stand in a list
-    reads_walked : (w : Walk) (readings : Readings)
-        → ((i : ℕ) (reading : ℕ × ℕ) → slice_get readings i ≡ Some reading → (j : ℕ) × (slice_get all j ≡ Some reading))
-        → Reads w → Reads (walk b op w readings)
-    unfolding walk
-    reads_walked w [] within reads = reads
-    reads_walked w (reading ∷ readings) within reads = go (is_wanted (wanted_at w w.stage) reading.0) refl
-        (reads_walked (fed b op w w.stage reading.1) readings (λ i other h. within (suc i) other h))
-      where
-        go : (c : Bool) → is_wanted (wanted_at w w.stage) reading.0 ≡ c
-            → (Reads (fed b op w w.stage reading.1) → Reads (walk b op (fed b op w w.stage reading.1) readings))
-            → Reads (cond c (walk b op (fed b op w w.stage reading.1) readings) w)
-        go true e again = let here = within 0 reading refl in
-            again (reads_fed w w.stage reading.0 reading.1 reads refl (wanted_eq (wanted_at w w.stage) reading.0 e)
-            (here.0, here.1))
-        go false e again = reads
-
     pub walk_reads : Reads (walk b op start all)
-    walk_reads = reads_walked start all (λ i reading h. (i, h)) (bare start (inl (omega arith)) (omega arith))
+    walk_reads = walk_keeps _ _ _ Reads (λ reading. (i : ℕ) × (slice_get all i ≡ Some reading))
+        (λ w reading want here reads. reads_fed w w.stage reading.0 reading.1 reads refl want
+        (here.0, here.1)) start all
+        (λ i reading h. (i, h)) (bare start (inl (omega arith)) (omega arith))
 
     -- a whole walk has read all
     pub end_reads : (w : Walk) → w.stage ≡ AtEnd → Reads w → HasRead w 7

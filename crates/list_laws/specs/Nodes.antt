@@ -13,6 +13,7 @@ use Rattle.structure_laws.specs.Scene.{Cells, Readings, Section, Free, Live, Ret
 use Rattle.structure_laws.specs.Meaning.{Meaning}
 use Rattle.structure_laws.specs.Cells.{IsSafe}
 use Rattle.bucket_laws.specs.Walk.{Bounds}
+pub use Rattle.list_bodies.specs.List.{is_lock_place}
 use Rattle.list_bodies.specs.List.{key_cell, next_of, value_cell, mark_of, slot_in, Form, Look, Insert, Remove, Replace}
 use Rattle.list_bodies.specs.List.{Empty, form_of, node_in, list_steps}
 use Rattle.list_laws.specs.Line.{Nodes, Line, Contents, LeadsOn}
@@ -22,10 +23,7 @@ use Rattle.list_laws.specs.Walk.{is_past, Walk, start, node_of, walk, fits_walk}
 abbrev pub first_value : ℕ → ℕ
 first_value place = cond (place == 2) 2 (cond (place == 6) 4294967295 0)
 
--- a node's lock, and its link
-abbrev pub is_lock_place : ℕ → Bool
-is_lock_place place = place % 5 == 0
-
+-- a node's link
 abbrev pub is_link_place : ℕ → Bool
 is_link_place place = place % 5 == 2
 

@@ -1,12 +1,15 @@
 -- The walk of a key along the list, read off a list of readings, and the thunk that is the one for it.
-use Rattle.std.specs.Prelude.{ℕ, suc, ◌+◌, ◌*◌, ◌^◌, Bool, true, false, cond, not, ◌&&◌, ◌==◌, nat_lt, nat_le, List, [], ◌∷◌, Option, None, Some}
+use Rattle.std.specs.Prelude.{ℕ, suc, Bool, true, false, cond, not, ◌&&◌, ◌==◌, nat_lt, nat_le, List, [], ◌∷◌, Option, None, Some}
 use Rattle.structure_laws.specs.map_history.specs.declared.op.Op.{Op}
 use Rattle.structure_laws.specs.map_history.specs.declared.op.Op.TheVariants.{Get, Ins, Del, Put, Mov}
 use Rattle.structure_laws.specs.map_history.specs.Keys.{key_of}
-use Rattle.structure_laws.specs.body_terms.specs.Word.{value_of, is_free, is_spent}
+use Rattle.structure_laws.specs.body_terms.specs.Word.{value_of}
 use Rattle.structure_laws.specs.body_terms.specs.declared.thunk.Thunk.{Thunk}
 use Rattle.structure_laws.specs.Scene.{Readings}
-use Rattle.bucket_laws.specs.Walk.{Bounds, is_del, is_wanted, same_numbers, has_one_key}
+pub use Rattle.node_laws.specs.Walked.{is_ready}
+use Rattle.node_laws.specs.Walked.{walked}
+use Rattle.node_laws.specs.Forms.{form_from, reply_from, operands_from}
+use Rattle.bucket_laws.specs.Walk.{Bounds, is_del, same_numbers, has_one_key}
 use Rattle.list_bodies.specs.List.{lock_of, key_cell, next_of, value_cell, mark_of, slot_in}
 
 -- what the walk loads next; it is at its end, or was refused
@@ -108,10 +111,6 @@ takes_out (Del key) = true
 takes_out (Put key value) = true
 takes_out (Mov from to) = false
 
--- a lock that is free and not spent
-abbrev pub is_ready : Bounds → ℕ → Bool
-is_ready b word = is_free word && not (is_spent b.version_max word)
-
 -- the walk after its node's key is loaded: below the wanted key the node becomes the predecessor, else the walk stops
 abbrev pub at_key : Op → Walk → Bool → ℕ → Walk
 at_key op w true word = record w { stage = AtLink; from = node_of w; key = value_of word }
@@ -137,30 +136,16 @@ fed b op w AtEnd word = w
 fed b op w Refused word = w
 
 -- the walk in a list of readings: its longest prefix that is one
-unfoldable pub walk : Bounds → Op → Walk → Readings → Walk
-walk b op w [] = w
-walk b op w (reading ∷ readings) =
-    cond (is_wanted (wanted_at w w.stage) reading.0) (walk b op (fed b op w w.stage reading.1) readings) w
+abbrev pub walk : Bounds → Op → Walk → Readings → Walk
+walk b op = walked Walk (λ w. wanted_at w w.stage) (λ w word. fed b op w w.stage word)
 
 -- the form of the thunk for a whole walk; 0 where the list doesn't serve the operation
 abbrev pub form_for : Op → Bool → ℕ
-form_for (Get key) found = 31
-form_for (Ins key value) true = 31
-form_for (Ins key value) false = 32
-form_for (Del key) true = 33
-form_for (Del key) false = 31
-form_for (Put key value) true = 34
-form_for (Put key value) false = 32
-form_for (Mov from to) found = 0
+form_for = form_from 31
 
 -- the reply word of an operation that neither adds nor removes a pair
 abbrev pub reply_for : Op → Walk → Bool → ℕ
-reply_for (Get key) w true = 3 * 2 ^ 32 + w.value
-reply_for (Get key) w false = 5 * 2 ^ 32
-reply_for (Ins key value) w found = 2 * 2 ^ 32
-reply_for (Del key) w found = 5 * 2 ^ 32
-reply_for (Put key value) w found = 6 * 2 ^ 32 + w.value
-reply_for (Mov from to) w found = 5 * 2 ^ 32
+reply_for op w = reply_from op w.value
 
 -- the operands of the four forms
 abbrev pub look_operands : Walk → ℕ → List ℕ
@@ -177,14 +162,8 @@ replace_operands w key value reply =
     0 ∷ w.link ∷ w.mark ∷ w.node_lock ∷ w.node_mark ∷ key ∷ value ∷ reply ∷ []
 
 abbrev pub operands_for : Op → Walk → Bool → List ℕ
-operands_for (Get key) w found = look_operands w (reply_for (Get key) w found)
-operands_for (Ins key value) w true = look_operands w (reply_for (Ins key value) w true)
-operands_for (Ins key value) w false = insert_operands w key value
-operands_for (Del key) w true = remove_operands w
-operands_for (Del key) w false = look_operands w (reply_for (Del key) w false)
-operands_for (Put key value) w true = replace_operands w key value (reply_for (Put key value) w true)
-operands_for (Put key value) w false = insert_operands w key value
-operands_for (Mov from to) w found = look_operands w (reply_for (Mov from to) w found)
+operands_for op w found =
+    operands_from (look_operands w) (insert_operands w) (remove_operands w) (replace_operands w) op w.value found
 
 -- the operation has one key, the walk is whole and met no refusal, and the thunk is the one for it; its outer lock is
 -- the predecessor's

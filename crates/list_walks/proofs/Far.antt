@@ -1,5 +1,5 @@
 -- A walk that is refused by no lock and by no mark of 1 is a long one.
-use Rattle.std.proofs.Common.{◌≡◌, ◌≢◌, ℕ, zero, suc, ◌<◌, ◌≤◌, ◌⊎◌, inl, inr, ⊎_elim, List, [], ◌∷◌, ◌++◌, length, Bool, true, false, cond, refl, sym, ap, subst, ◌∙◌, arith, Some}
+use Rattle.std.proofs.Common.{◌≡◌, ◌≢◌, ℕ, suc, ◌<◌, ◌≤◌, ◌⊎◌, inl, inr, ⊎_elim, [], ◌∷◌, ◌++◌, length, Bool, true, false, cond, refl, sym, ap, subst, ◌∙◌, arith, Some}
 use Rattle.std.specs.Prelude.{◌==◌, ◌&&◌, ◌||◌, not, ◌%◌, ◌^◌, nat_lt, nat_le, slice_get}
 use Rattle.std.proofs.lemmas.Bool.Decides.{nat_tests}
 use Rattle.std.proofs.lemmas.Option.{none-some}
@@ -8,6 +8,9 @@ use Rattle.runner_parts.specs.epoch_core.specs.small_lemmas.proofs.Lists.{same_n
 use Rattle.runner_parts.specs.epoch_core.specs.small_lemmas.proofs.Numbers.{tested_most, tested_less, equal_tested, less_tested}
 use Rattle.runner_parts.specs.structure_laws.specs.map_history.specs.declared.op.Op.{Op}
 use Rattle.runner_parts.specs.structure_laws.specs.map_history.specs.Keys.{key_of}
+use Rattle.list_laws.specs.node_laws.proofs.Cells.{lock_cell}
+use Rattle.list_laws.specs.node_laws.proofs.Walked.{walk_keeps}
+use Rattle.list_laws.specs.shared_laws.proofs.Numbers.{get_longer}
 use Rattle.list_laws.specs.section_body.specs.Bucket.{is_small}
 use Rattle.runner_parts.specs.structure_laws.specs.body_terms.specs.Word.{value_of}
 use Rattle.runner_parts.specs.structure_laws.specs.body_terms.proofs.ShapeLemmas.{any_found, found_any}
@@ -16,8 +19,7 @@ use Rattle.runner_parts.specs.structure_laws.specs.table_words.specs.Limits.{IsW
 use Rattle.runner_parts.specs.structure_laws.specs.table_words.specs.Places.{slot_count}
 use Rattle.runner_parts.specs.structure_laws.specs.Scene.{Readings}
 use Rattle.runner_parts.specs.structure_laws.specs.Sections.{IsAllowed}
-use Rattle.list_laws.specs.bucket_laws.specs.Walk.{Bounds, is_del, is_wanted}
-use Rattle.list_laws.specs.bucket_laws.proofs.Walks.{wanted_eq}
+use Rattle.list_laws.specs.bucket_laws.specs.Walk.{Bounds, is_del}
 use Rattle.list_laws.specs.list_bodies.specs.List.{lock_of, key_cell, next_of, mark_of}
 use Rattle.list_laws.specs.Walk.{Stage, AtLink, AtKey, AtValue, AtLock, AtMark, AtNodeLock, AtNodeMark, AtEnd, Refused}
 use Rattle.list_laws.specs.Walk.{Walk, start, node_of, wanted_at, is_end, takes_out, at_key, fed, walk}
@@ -25,20 +27,14 @@ use Rattle.list_laws.specs.Nodes.{bounds, walk_of, is_lock_place, is_link_place,
 use Rattle.list_laws.proofs.WalkReads.{IsAmong, IsFrom, walk_reads}
 use Rattle.list_walks.specs.Walking.{lock_by, is_refused_at, is_refused_in}
 use Rattle.list_walks.specs.Leading.{is_mark_place, FarLaw}
-use Rattle.list_walks.proofs.Leading.{lock_cell, low_slot}
-
--- a list of readings and one more
-get_more : {A : Type 0} (xs : List A) (y v : A) (i : ℕ) → slice_get xs i ≡ Some v → slice_get (xs ++ y ∷ []) i ≡ Some v
-get_more [] y v i h = absurd (cc)
-get_more (x ∷ xs) y v zero h = h
-get_more (x ∷ xs) y v (suc i) h = get_more xs y v i h
+use Rattle.list_walks.proofs.Leading.{low_slot}
 
 from_more : (readings : Readings) (last : ℕ × ℕ) (t : ℕ) → IsFrom readings t → IsFrom (readings ++ last ∷ []) t
 from_more readings last t (inl fixed) = inl fixed
 from_more readings last t (inr given) =
     let found = any_found (λ reading. is_link_place reading.0 && (value_of reading.1 == suc t)) readings given in
     inr (found_any (λ reading. is_link_place reading.0 && (value_of reading.1 == suc t)) (readings ++ last ∷ []) found.at
-    found.element (get_more readings last found.element found.at found.here) found.passes)
+    found.element (get_longer readings last found.element found.at found.here) found.passes)
 
 -- the predecessor is the head, or its key was read and lies below the wanted one
 module _ (b : Bounds) (op : Op) (all : Readings) where
@@ -66,18 +62,8 @@ module _ (b : Bounds) (op : Op) (all : Readings) where
   pub walk_before : (w : Walk) (readings : Readings)
       → ((i : ℕ) (reading : ℕ × ℕ) → slice_get readings i ≡ Some reading → (j : ℕ) × (slice_get all j ≡ Some reading))
       → IsBefore w.from → IsBefore (walk b op w readings).from
-  unfolding walk
-  walk_before w [] within is = is
-  walk_before w (reading ∷ readings) within is = go (is_wanted (wanted_at w w.stage) reading.0) refl
-      (walk_before (fed b op w w.stage reading.1) readings (λ i other h. within (suc i) other h))
-    where
-      go : (c : Bool) → is_wanted (wanted_at w w.stage) reading.0 ≡ c
-          → (IsBefore (fed b op w w.stage reading.1).from → IsBefore (walk b op (fed b op w w.stage reading.1) readings).from)
-          → IsBefore (cond c (walk b op (fed b op w w.stage reading.1) readings) w).from
-      go true e again = let here = within 0 reading refl in
-          again (fed_before w w.stage reading.0 reading.1 (wanted_eq (wanted_at w w.stage) reading.0 e)
-          (here.0, here.1) is)
-      go false e again = is
+  walk_before = walk_keeps _ _ _ (λ w. IsBefore w.from) (λ reading. (j : ℕ) × (slice_get all j ≡ Some reading))
+      (λ w reading want here is. fed_before w w.stage reading.0 reading.1 want (here.0, here.1) is)
 
 -- behind a link that isn't 0
 link_far : (c none far : Bool) → none ≡ false
@@ -176,5 +162,5 @@ far_law layout op limits allowed readings place word wants walked lock mark refu
     far_at layout limits op allowed (readings ++ (place, word) ∷ []) walked w
     (from_more readings (place, word) w.from reads.from)
     (walk_before (bounds layout) op (readings ++ (place, word) ∷ []) start readings
-    (λ i reading h. (i, get_more readings (place, word) reading i h)) (inl refl))
+    (λ i reading h. (i, get_longer readings (place, word) reading i h)) (inl refl))
     w.stage place word wants (length readings, get_last readings (place, word)) lock mark refused

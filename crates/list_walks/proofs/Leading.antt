@@ -1,48 +1,37 @@
 -- The walk of the list leads a plan.
-use Rattle.std.proofs.Common.{◌≡◌, ◌≢◌, ℕ, suc, ◌*◌, ◌<◌, ◌≤◌, ◌⊎◌, inl, inr, List, [], ◌∷◌, length, Bool, true, false, cond, refl, sym, ap, subst, ◌∙◌, arith, Some, None}
-use Rattle.std.specs.Prelude.{◌==◌, ◌&&◌, ◌||◌, not, ◌-◌, ◌/◌, ◌%◌, nat_lt}
+use Rattle.std.proofs.Common.{◌≡◌, ℕ, suc, ◌*◌, ◌<◌, ◌≤◌, ◌⊎◌, inl, inr, [], length, Bool, true, false, cond, refl, sym, ap, subst, ◌∙◌, arith, Some, None}
+use Rattle.std.specs.Prelude.{◌==◌, ◌&&◌, ◌||◌, not, ◌-◌, ◌/◌, nat_lt}
 use Rattle.std.specs.List.{list_any}
 use Rattle.std.proofs.lemmas.Option.{none-some}
 use Rattle.runner_parts.specs.epoch_core.specs.small_lemmas.proofs.Bools.{from_false, both_hold, or_true}
 use Rattle.runner_parts.specs.epoch_core.specs.small_lemmas.proofs.Lists.{same_number}
 use Rattle.runner_parts.specs.epoch_core.specs.small_lemmas.proofs.Numbers.{self_tested, equal_tested, less_tested}
 use Rattle.runner_parts.specs.structure_laws.specs.map_history.specs.declared.op.Op.{Op}
-use Rattle.runner_parts.specs.structure_laws.specs.map_history.specs.declared.op.Op.TheVariants.{Get, Ins, Del, Put, Mov}
+use Rattle.list_laws.specs.node_laws.proofs.Cells.{slot_is, no_cell}
+use Rattle.list_laws.specs.node_laws.proofs.Forms.{same_self, free_of}
+use Rattle.list_laws.specs.node_laws.proofs.Forms as forms
+use Rattle.list_laws.specs.shared_laws.proofs.Numbers.{read_pair}
+use Rattle.list_laws.specs.Walk.{look_operands, insert_operands, remove_operands, replace_operands}
 use Rattle.list_laws.specs.section_body.specs.Bucket.{is_small}
 use Rattle.runner_parts.specs.structure_laws.specs.body_terms.specs.Memory.{cell_of}
 use Rattle.runner_parts.specs.structure_laws.specs.body_terms.specs.Word.{value_of, is_free, is_spent}
-use Rattle.runner_parts.specs.structure_laws.specs.body_terms.proofs.ShapeLemmas.{found_any}
 use Rattle.runner_parts.specs.structure_laws.specs.table_words.specs.declared.layout.Layout.{Layout}
 use Rattle.runner_parts.specs.structure_laws.specs.table_words.specs.Places.{slot_count}
 use Rattle.runner_parts.specs.structure_laws.specs.Scene.{Readings}
-use Rattle.runner_parts.specs.structure_laws.proofs.Changes.{equal_of}
 use Rattle.runner_parts.specs.Tests.{has_pair, is_readable}
-use Rattle.list_laws.specs.bucket_laws.specs.Walk.{Bounds, same_numbers, has_one_key}
+use Rattle.list_laws.specs.bucket_laws.specs.Walk.{Bounds, has_one_key}
 use Rattle.list_laws.specs.bucket_laws.proofs.TableGives.{reached}
 use Rattle.list_laws.specs.list_bodies.specs.List.{lock_of, key_cell, next_of, value_cell, mark_of}
 use Rattle.list_laws.specs.Walk.{Stage, AtLink, AtKey, AtValue, AtLock, AtMark, AtNodeLock, AtNodeMark, AtEnd, Refused}
 use Rattle.list_laws.specs.Walk.{Walk, node_of, wanted_at, is_end, is_ready, takes_out, fed, form_for, operands_for}
 use Rattle.list_laws.specs.Nodes.{list, bounds, walk_of, is_lock_place, is_link_place, ListWalked}
-use Rattle.list_laws.proofs.WalkReads.{level, IsAmong, IsGiven, IsFrom, Reads, walk_reads, end_reads}
+use Rattle.list_laws.proofs.WalkReads.{level, IsGiven, IsFrom, Reads, walk_reads, end_reads}
 use Rattle.list_walks.specs.Walking.{lock_by, is_refused_at, is_refused_in, thunk_by}
 use Rattle.list_walks.specs.Leading.{is_mark_place, first_walk, IsThunkOf, WalkLeads}
 use Rattle.list_walks.proofs.Steps.{walk_nearer}
 
 some_none : {A : Type 0} (a : ℕ) → Some a ≡ None → A
 some_none a e = cc
-
--- which cell of its slot a place is
-cell_is : (t k place : ℕ) → k < 5 → cell_of 0 t k ≡ place → place % 5 ≡ k
-cell_is t k place low e = omega (arith, low, e)
-
-slot_is : (t k place : ℕ) → k < 5 → cell_of 0 t k ≡ place → (place - 0) / 5 ≡ t
-slot_is t k place low e = omega (arith, low, e)
-
-pub lock_cell : (t place : ℕ) → lock_of t ≡ place → is_lock_place place ≡ true
-lock_cell t place e = equal_tested (place % 5) 0 (cell_is t 0 place (omega arith) e)
-
-no_cell : (t k n place : ℕ) → k < 5 → k ≢ n → cell_of 0 t k ≡ place → (place % 5 == n) ≡ true → ⊥
-no_cell t k n place low ne e is = ne (sym (cell_is t k place low e) ∙ equal_of (place % 5) n is)
 
 -- a place that a runner may load
 module _ (layout : Layout) (readings : Readings) where
@@ -177,30 +166,9 @@ module _ (b : Bounds) (op : Op) (w : Walk) where
   ends_at AtEnd false wants goes = absurd (cc)
   ends_at Refused c wants goes = absurd (cc)
 
-same_self : (xs : List ℕ) → same_numbers xs xs ≡ true
-same_self [] = refl
-same_self (x ∷ xs) = both_hold _ _ (self_tested x) (same_self xs)
-
 eight : (op : Op) (w : Walk) (found : Bool) → length (operands_for op w found) ≡ 8
-eight (Get key) w true = refl
-eight (Get key) w false = refl
-eight (Ins key value) w true = refl
-eight (Ins key value) w false = refl
-eight (Del key) w true = refl
-eight (Del key) w false = refl
-eight (Put key value) w true = refl
-eight (Put key value) w false = refl
-eight (Mov from to) w found = refl
-
-free_of : (free spent : Bool) → (free && not spent) ≡ true → (free ≡ true) × (spent ≡ false)
-free_of true true h = absurd (cc)
-free_of true false h = (refl, refl)
-free_of false spent h = absurd (cc)
-
--- a word that was read is among the readings
-read_pair : (readings : Readings) (p w : ℕ) → IsAmong readings p w → has_pair readings p w ≡ true
-read_pair readings p w among = found_any (λ x. x.0 == p && x.1 == w) readings among.0 (p, w) among.1
-    (both_hold _ _ (self_tested p) (self_tested w))
+eight op w = forms.eight (look_operands w) (insert_operands w) (remove_operands w) (replace_operands w) w.value 0
+    (λ reply. refl) (λ key value. refl) refl (λ key value reply. refl) op
 
 module _ (layout : Layout) (op : Op) where
   abbrev walked : Readings → Walk
@@ -222,7 +190,7 @@ module _ (layout : Layout) (op : Op) where
         free = ready.0;
         unspent = ready.1;
         read = ap (λ p. has_pair readings p w.lock) lock
-            ∙ read_pair readings (lock_by w) w.lock (reads.lock_read (omega arith));
+            ∙ (let among = reads.lock_read (omega arith) in read_pair readings (lock_by w) w.lock among.0 among.1);
       }
 
   pub walk_leads : has_one_key op ≡ true → WalkLeads layout op

@@ -39,7 +39,7 @@ module _ (b : Bounds) (op : Op) (w : Walk) where
   key_nearer true word = omega arith
   key_nearer false word = stop_nearer b.links w.links (value_of word == key_of op) (is_del op)
 
-  nearer : (stage : Stage) (place word : ℕ) → wanted_at w stage ≡ Some place
+  pub nearer : (stage : Stage) (place word : ℕ) → wanted_at w stage ≡ Some place
       → left_at (fed b op w stage word).stage b.links (fed b op w stage word).links < left_at stage b.links w.links
   nearer AtLink place word wants =
       link_nearer w.links b.links (value_of word == 0) (nat_le b.links (suc w.links)) refl

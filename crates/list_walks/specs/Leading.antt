@@ -1,5 +1,5 @@
 -- What the walk of the list gives to a plan that it leads.
-use Rattle.std.specs.Prelude.{◌≡◌, ◌≢◌, ◌⊎◌, ℕ, ◌+◌, ◌*◌, ◌<◌, ◌≤◌, ◌%◌, ◌==◌, Bool, true, false, not}
+use Rattle.std.specs.Prelude.{◌≡◌, ◌≢◌, ◌⊎◌, ℕ, ◌+◌, ◌*◌, ◌<◌, ◌≤◌, true, false, not}
 use Rattle.std.specs.Prelude.{[], ◌∷◌, ◌++◌, length, Option, Some, None}
 use Rattle.runner_parts.specs.structure_laws.specs.map_history.specs.declared.op.Op.{Op}
 use Rattle.runner_parts.specs.structure_laws.specs.body_terms.specs.Word.{value_of, is_free, is_spent}
@@ -8,13 +8,10 @@ use Rattle.runner_parts.specs.structure_laws.specs.table_words.specs.declared.la
 use Rattle.runner_parts.specs.structure_laws.specs.table_words.specs.Places.{slot_count}
 use Rattle.runner_parts.specs.structure_laws.specs.Scene.{Readings}
 use Rattle.runner_parts.specs.Tests.{has_pair, is_readable}
+pub use Rattle.list_laws.specs.list_bodies.specs.List.{is_mark_place}
 use Rattle.list_laws.specs.Walk.{Walk, wanted_at, fed, is_ready}
 use Rattle.list_laws.specs.Nodes.{list, bounds, walk_of, is_lock_place, ListWalked}
 use Rattle.list_walks.specs.Walking.{Walking, begun, wanted_by, fed_by, left_by, is_refused_in, thunk_by}
-
--- a node's mark
-abbrev pub is_mark_place : ℕ → Bool
-is_mark_place place = place % 5 == 4
 
 -- the walk of an operation in these readings, and what it wants next
 abbrev pub wanted_in : Layout → Op → Readings → Option ℕ

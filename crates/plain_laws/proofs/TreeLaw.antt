@@ -15,6 +15,7 @@ use Rattle.structure_laws.specs.map_history.specs.declared.reply.Reply.TheVarian
 use Rattle.structure_laws.specs.body_terms.specs.Update.{upd}
 use Rattle.structure_laws.specs.body_terms.specs.Word.{value_of, next_word, held_word, is_free, is_spent}
 use Rattle.structure_laws.specs.body_terms.specs.Memory.{PlainMemory, cell_of}
+use Rattle.tree_laws.specs.node_laws.proofs.Forms.{put_puts, there, reply_is, new_reply}
 use Rattle.tree_laws.specs.section_body.specs.Bucket.{operand, is_small}
 use Rattle.structure_laws.specs.body_terms.specs.Run.{exchanged}
 use Rattle.structure_laws.specs.body_terms.specs.Plain.{plain_setting, plain_run}
@@ -46,13 +47,13 @@ use Rattle.tree_laws.proofs.Alike.{AreAlike, tree_alike, sentinels_alike, conten
 use Rattle.tree_laws.proofs.Apart.{key_apart, mark_apart, key_no_mark, child_no_mark, mark_other}
 use Rattle.tree_laws.proofs.Changed.{changed_alike, other_child, changed_sentinels}
 use Rattle.tree_laws.proofs.Fit.{IsFit, fit_of, look_numbers, is_look, is_insert, is_delete, is_replace, cases}
-use Rattle.tree_laws.proofs.Fit.{Inserts, inserts, deletes, Replaces, replaces, put_puts, look_outer, insert_outer}
+use Rattle.tree_laws.proofs.Fit.{Inserts, inserts, deletes, Replaces, replaces, look_outer, insert_outer}
 use Rattle.tree_laws.proofs.Fit.{replace_outer}
 use Rattle.tree_laws.proofs.Found.{walk_keyed, value_read}
 use Rattle.tree_laws.proofs.Insertion.{insertion_keeps}
 use Rattle.tree_laws.proofs.Removal.{removal_keeps}
 use Rattle.tree_laws.proofs.Replacement as replacement
-use Rattle.tree_laws.proofs.Turn.{there, none_is, reply_is, new_reply}
+use Rattle.tree_laws.proofs.Turn.{none_is}
 use Rattle.tree_laws.proofs.WalkReads.{is_past, is_late, is_marked, is_locked, IsAmong, Reads, walk_reads}
 use Rattle.plain_laws.specs.TreeRuns.{HasContents, IsWalked, IsUnspent, IsOut, AreOut, DoesTheOperation}
 use Rattle.plain_laws.specs.TreeRuns.{RunsDoTheOperations}
@@ -280,7 +281,9 @@ module _ (slots request : ℕ) (memory : PlainMemory) (pairs : Pairs) (op : Op) 
         let ends = look_run (plain_setting (look_steps thunk) (true ∷ []) memory) cells memory.clock (slice_index memory.stamps request) (slice_index memory.replies request) thunk
         (link_wanted (number_at 0 look) (number_at 1 look) (number_at 2 look) look_lock) (mark_wanted (number_at 0 look) (number_at 1 look) (number_at 2 look) look_lock) in
         subst Does (sym (ap (λ f. body_of f thunk) (is_look thunk (fit.form ∙ form) fits))) (record {
-          answer = ends.answered ∙ ap (λ m. Some (Answered m)) (number_at 3 look ∙ reply_is pairs op w w.found form (λ hit. (n.child false l, found_is hit, λ del. value_is hit del)) missing_is);
+          answer = ends.answered ∙ ap (λ m. Some (Answered m))
+              (number_at 3 look ∙ reply_is pairs 11 op w.value w.found (omega arith) form
+              (λ hit. (n.child false l, found_is hit, λ del. value_is hit del)) missing_is);
           contents = subst (λ f. TreeStands slots f (map_after pairs op)) (sym ends.left) (record {
             covers = c;
             within = stands.within;

@@ -1,5 +1,5 @@
 -- A walk over cells that stand as they were read.
-use Rattle.std.proofs.Common.{◌≡◌, ℕ, suc, ◌<◌, ◌≤◌, Bool, true, false, cond, refl, sym, ap, subst, ◌∙◌, arith, [], ◌∷◌, Some}
+use Rattle.std.proofs.Common.{◌≡◌, ℕ, suc, ◌<◌, ◌≤◌, Bool, true, false, cond, refl, sym, ap, subst, ◌∙◌, arith, Some}
 use Rattle.std.specs.Prelude.{◌==◌, nat_le, nat_lt}
 use Rattle.std.proofs.lemmas.Option.{none-some}
 use Rattle.std.proofs.lemmas.Bool.{true≢false}
@@ -12,8 +12,8 @@ use Rattle.structure_laws.specs.map_history.specs.Replay.{Pairs}
 use Rattle.structure_laws.specs.body_terms.specs.Word.{value_of}
 use Rattle.structure_laws.specs.Scene.{Cells, Readings}
 use Rattle.structure_laws.proofs.Changes.{equal_of}
-use Rattle.tree_laws.specs.bucket_laws.specs.Walk.{Bounds, is_del, is_wanted}
-use Rattle.tree_laws.specs.bucket_laws.proofs.Walks.{wanted_eq}
+use Rattle.tree_laws.specs.node_laws.proofs.Walked.{walk_keeps}
+use Rattle.tree_laws.specs.bucket_laws.specs.Walk.{Bounds, is_del}
 use Rattle.plain_laws.specs.Runs.{AreRead}
 use Rattle.tree_laws.specs.tree_bodies.specs.Tree.{key_cell, left_of, right_of, child_of, slot_in}
 use Rattle.tree_laws.specs.Search.{Nodes, Covers, IsInner, IsLeaf}
@@ -155,19 +155,9 @@ module _ (slots : ℕ) (cells : Cells) (pairs : Pairs) (stands : TreeStands slot
   knows_fed w AtEnd p word known want there = absurd (none-some p want)
   knows_fed w Refused p word known want there = absurd (none-some p want)
 
-  knows_walked : (w : Walk) (readings : Readings) → AreRead cells readings → Knows w w.stage → Knows (walk b op w readings) (walk b op w readings).stage
-  unfolding walk
-  knows_walked w [] read known = known
-  knows_walked w (reading ∷ readings) read known = go (is_wanted (wanted_at w w.stage) reading.0) refl
-      (knows_walked (fed b op w w.stage reading.1) readings (λ i place word here. read (suc i) place word here))
-    where
-      go : (t : Bool) → is_wanted (wanted_at w w.stage) reading.0 ≡ t
-          → (Knows (fed b op w w.stage reading.1) (fed b op w w.stage reading.1).stage
-          → Knows (walk b op (fed b op w w.stage reading.1) readings) (walk b op (fed b op w w.stage reading.1) readings).stage)
-          → Knows (cond t (walk b op (fed b op w w.stage reading.1) readings) w) (cond t (walk b op (fed b op w w.stage reading.1) readings) w).stage
-      go true e again = again (knows_fed w w.stage reading.0 reading.1 known (wanted_eq (wanted_at w w.stage) reading.0 e) (read 0 reading.0 reading.1 refl))
-      go false e again = known
-
   -- a walk that is whole has come to the leaf on the key's path
   pub walk_ends : (readings : Readings) → AreRead cells readings → (walk b op start readings).stage ≡ AtEnd → EndedOf (walk b op start readings)
-  walk_ends readings read at = subst (Knows (walk b op start readings)) at (knows_walked start readings read refl)
+  walk_ends readings read at = subst (Knows (walk b op start readings)) at
+      (walk_keeps _ _ _ (λ w. Knows w w.stage) (λ reading. cells reading.0 ≡ reading.1)
+      (λ w reading want here known. knows_fed w w.stage reading.0 reading.1 known want here) start readings
+      (λ i reading h. read i reading.0 reading.1 h) refl)

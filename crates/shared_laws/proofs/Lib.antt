@@ -6,3 +6,4 @@ pub mod Nodeless
 pub mod Numbers
 pub mod Shaping
 pub mod Still
+pub mod Gathered

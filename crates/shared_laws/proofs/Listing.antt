@@ -1,10 +1,9 @@
 -- A map of keys below a bound has the pairs of its keys, in order of key.
-use Rattle.std.proofs.Common.{◌≡◌, ℕ, zero, suc, ◌+◌, ◌<◌, ◌≤◌, ◌==◌, List, [], ◌∷◌, ◌++◌, true, false, cond, refl, sym, ap, subst, ◌∙◌, arith, Option, Some, None}
+use Rattle.std.proofs.Common.{◌≡◌, ℕ, zero, suc, ◌+◌, ◌<◌, ◌≤◌, ◌==◌, List, [], ◌∷◌, ◌++◌, true, cond, refl, sym, ap, subst, ◌∙◌, arith, Option, Some, None}
 use Rattle.std.specs.Prelude.{◌-◌, nat_lt, T}
-use Rattle.std.specs.Ordering.{nat_cmp, is_lt, eq_by_cmp}
+use Rattle.std.specs.Ordering.{nat_cmp, is_lt}
 use Rattle.std.specs.FinMap.{get, entries, entries_sorted, get-entries, nat_cmp-IsAntisymmetric, find, is_sorted}
 use Rattle.std.specs.FinMap.Entries.{below_all, same_entries}
-use Rattle.std.proofs.lemmas.Bool.Decides.{nat_tests}
 use Rattle.std.proofs.lemmas.List.{append_assoc, append-nil}
 use Rattle.std.proofs.lemmas.Cmp.{nat_cmp_total}
 use Rattle.std.proofs.lemmas.Bool.{and_from}
@@ -13,16 +12,8 @@ use native.Mathlib.Decide.{ℕ_discrete}
 use Rattle.structure_laws.specs.table_words.specs.small_lemmas.proofs.Numbers.{self_tested as self}
 use Rattle.structure_laws.specs.map_history.specs.Replay.{Pairs}
 use Rattle.shared_laws.specs.Listing.{with_pair, listed}
-use Rattle.shared_laws.proofs.Numbers.{lt_true, lt_false}
-
-less : (a b : ℕ) → a < b → is_lt (nat_cmp a b) ≡ true
-less a b low = grind (arith, nat_tests)
-
-eq_cmp : (a b : ℕ) → eq_by_cmp nat_cmp a b ≡ (a == b)
-eq_cmp a b = grind (arith, nat_tests)
-
-other : (a b : ℕ) → (a ≡ b → ⊥) → (a == b) ≡ false
-other a b ne = grind arith
+use Rattle.shared_laws.proofs.Gathered.{less, eq_cmp}
+use Rattle.shared_laws.proofs.Numbers.{lt_true, lt_false, eq_false}
 
 module _ (has : ℕ → Option ℕ) where
   -- each is above what is below the first key
@@ -49,7 +40,8 @@ module _ (has : ℕ → Option ℕ) where
     where
       by : find nat_cmp q (listed has (suc key) n) ≡ None → (o : Option ℕ) → find nat_cmp q (with_pair key o (listed has (suc key) n)) ≡ None
       by rest None = rest
-      by rest (Some v) = ap (λ b. cond b (Some v) (find nat_cmp q (listed has (suc key) n))) (eq_cmp q key ∙ other q key (λ e. omega (arith, e, low))) ∙ rest
+      by rest (Some v) = ap (λ b. cond b (Some v) (find nat_cmp q (listed has (suc key) n)))
+          (eq_cmp q key ∙ eq_false q key (λ e. omega (arith, e, low))) ∙ rest
 
   -- and each of the n keys is found with what it has
   finds : (q key n : ℕ) → key ≤ q → find nat_cmp q (listed has key n) ≡ cond (nat_lt q (key + n)) (has q) None
@@ -64,7 +56,8 @@ module _ (has : ℕ → Option ℕ) where
 
       by_other : (q ≡ key → ⊥) → (o : Option ℕ) → find nat_cmp q (with_pair key o (listed has (suc key) n)) ≡ find nat_cmp q (listed has (suc key) n)
       by_other ne None = refl
-      by_other ne (Some v) = ap (λ b. cond b (Some v) (find nat_cmp q (listed has (suc key) n))) (eq_cmp q key ∙ other q key ne)
+      by_other ne (Some v) = ap (λ b. cond b (Some v) (find nat_cmp q (listed has (suc key) n)))
+          (eq_cmp q key ∙ eq_false q key ne)
 
 -- from one key to the next
 pub next_key : (has : ℕ → Option ℕ) (items : List (ℕ × ℕ)) (key n : ℕ) → key < n → items ++ listed has key (n - key) ≡ (items ++ with_pair key (has key) []) ++ listed has (suc key) (n - suc key)

@@ -1,3 +1,4 @@
 pub mod Nodeless
 pub mod Listing
 pub mod Flagged
+pub mod Gathered

@@ -14,6 +14,7 @@ mod keys_in_order;
 mod steps;
 
 pub use at_key::{changes_at, left_at, reply_at};
+pub use body_steps::{answer, load, want};
 pub use flag_and_value::{flag_for, held, value_for};
 pub use keys_in_order::pairs_by_key;
-pub use steps::{answer, load, store, want};
+pub use steps::store;

@@ -2,7 +2,8 @@
 use Rattle.std.proofs.Common.{◌≡◌, [], ◌∷◌, Bool, true, false, cond, refl, ap, ◌∙◌}
 use Rattle.list_walks.specs.structure_laws.specs.Scene.{Readings}
 use Rattle.list_walks.specs.list_laws.specs.bucket_laws.specs.Walk.{is_wanted}
-use Rattle.list_walks.specs.list_laws.specs.Walk.{Walk, walk}
+use Rattle.list_walks.specs.list_laws.specs.node_laws.specs.Walked.{walked}
+use Rattle.list_walks.specs.list_laws.specs.Walk.{Walk}
 use Rattle.list_walks.specs.Walking.{wanted_by, fed_by, followed_by}
 use Rattle.lock_walks.specs.Followed.{followed}
 use Rattle.lock_walks.proofs.Following.{same_test}
@@ -10,7 +11,7 @@ use Rattle.sorted_list.specs.declared.walker.SortedWalk.{SortedWalk}
 use Rattle.sorted_list.specs.Planned.{list_way}
 
 pub in_readings : (w : SortedWalk) (readings : Readings) → followed list_way w readings ≡ record { walk = followed_by w.walk readings }
-unfolding walk
+unfolding walked
 in_readings w [] = refl
 in_readings w (reading ∷ readings) =
     ap (λ b. cond b (followed list_way (record { walk = fed_by w.walk reading.1 }) readings) w) (same_test is_wanted (λ place. refl) (λ wanted place. refl) (wanted_by w.walk) reading.0)

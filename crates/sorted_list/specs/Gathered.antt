@@ -1,18 +1,11 @@
 -- The pairs of the nodes as they are gathered, along the links.
-use Rattle.std.specs.Prelude.{◌≡◌, ◌≢◌, ℕ, ◌<◌, ◌≤◌, List, true, cond, nat_lt, None, Some, slice_get}
-use Rattle.std.specs.Ordering.{nat_cmp}
-use Rattle.std.specs.FinMap.{get, find, is_sorted}
+use Rattle.std.specs.Prelude.{◌≡◌, ◌≢◌, ℕ, ◌≤◌, List, true}
 use Rattle.list_walks.specs.structure_laws.specs.map_history.specs.Replay.{Pairs}
 use Rattle.list_walks.specs.structure_laws.specs.Ranks.{lower}
 use Rattle.list_walks.specs.structure_laws.specs.Scene.{Cells}
+pub use Rattle.list_walks.specs.list_laws.specs.shared_laws.specs.Gathered.{HasPairs}
 use Rattle.list_walks.specs.list_laws.specs.Line.{rank}
 use Rattle.list_walks.specs.list_laws.specs.Nodes.{nodes, ListStands}
-
--- these are the map's pairs with keys below this one, in order of key
-pub record HasPairs (pairs : Pairs) (start : ℕ) (items : List (ℕ × ℕ)) : Type 0 where
-  pub sorted : is_sorted nat_cmp items ≡ true
-  pub low : (i : ℕ) (x : ℕ × ℕ) → slice_get items i ≡ Some x → x.0 < start
-  pub finds : (q : ℕ) → find nat_cmp q items ≡ cond (nat_lt q start) (get pairs q) None
 
 -- so many nodes were passed, each of which ranks below the one that is next; what was gathered has the pairs with keys
 -- below the next one's

@@ -1,7 +1,10 @@
 -- The search tree: the places of its nodes and its bodies.
-use Rattle.std.specs.Prelude.{ℕ, ◌+◌, ◌-◌, ◌*◌, ◌^◌, List, [], ◌∷◌, Bool, ◌&&◌, ◌||◌, ◌==◌, cond, nat_lt}
+use Rattle.std.specs.Prelude.{ℕ, ◌+◌, ◌*◌, ◌^◌, List, [], ◌∷◌, Bool, ◌&&◌, ◌||◌, ◌==◌, cond, nat_lt}
 use Rattle.body_terms.specs.Memory.{cell_of}
 use Rattle.body_terms.specs.Word.{value_of}
+use Rattle.body_steps.specs.Forms.{form_by}
+pub use Rattle.body_steps.specs.Forms.{Form, Look, Insert, Remove as Delete, Replace, Empty}
+pub use Rattle.body_steps.specs.Node.{lock_of, key_cell, mark_of, slot_in, is_lock_place, is_mark_place}
 use Rattle.section_body.specs.Bucket.{operand, is_small}
 use Rattle.body_terms.specs.declared.value.Value.{Value}
 use Rattle.body_terms.specs.declared.value.Value.TheVariants.{Const, Of, Made}
@@ -12,28 +15,15 @@ use Rattle.body_terms.specs.declared.thunk.Thunk.{Thunk}
 
 -- the cells of a node: its lock, its key, its links to the left and to the right, of which a leaf has its value in the
 -- second, and its mark. There are no fixed cells
-abbrev pub lock_of : ℕ → ℕ
-lock_of slot = cell_of 0 slot 0
-
-abbrev pub key_cell : ℕ → ℕ
-key_cell slot = cell_of 0 slot 1
-
 abbrev pub left_of : ℕ → ℕ
 left_of slot = cell_of 0 slot 2
 
 abbrev pub right_of : ℕ → ℕ
 right_of slot = cell_of 0 slot 3
 
-abbrev pub mark_of : ℕ → ℕ
-mark_of slot = cell_of 0 slot 4
-
 -- the link of a node to this side; true is left
 abbrev pub child_of : Bool → ℕ → ℕ
 child_of left slot = cond left (left_of slot) (right_of slot)
-
--- the slot to which a link's word leads
-abbrev pub slot_in : ℕ → ℕ
-slot_in word = value_of word - 1
 
 -- form 11, reads alone: place and word of the link from the parent to the leaf, the parent's mark word, the reply word
 abbrev pub look_steps : Thunk → List Step
@@ -122,22 +112,9 @@ abbrev pub fits_replace : Thunk → Bool
 fits_replace t = is_small (t.lock + 4) && (is_small (operand t 0)
     && (is_small (operand t 3) && (is_small (operand t 4) && nat_lt 0 (value_of (operand t 1)))))
 
--- what a thunk's section does: it reads alone, puts a new leaf into the tree, takes one out, puts a new one in the
--- place of an old one, or has no body
-pub data Form : Type 0 where
-  Look : Form
-  Insert : Form
-  Delete : Form
-  Replace : Form
-  Empty : Form
-
+-- what a thunk's section does
 abbrev pub form_of : Thunk → Form
-form_of t =
-    cond (t.form == 11) (cond (fits_look t) Look Empty)
-    (cond (t.form == 12) (cond (fits_insert t) Insert Empty)
-    (cond (t.form == 13) (cond (fits_delete t) Delete Empty)
-    (cond (t.form == 14) (cond (fits_replace t) Replace Empty)
-    Empty)))
+form_of t = form_by 11 t.form (fits_look t) (fits_insert t) (fits_delete t) (fits_replace t)
 
 abbrev pub body_of : Form → Thunk → List Step
 body_of Look t = look_steps t

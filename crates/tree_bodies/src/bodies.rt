@@ -6,8 +6,8 @@ ghost use Rattle.tree_bodies.specs.Tree.{leaf_with, inner_with, slot_in as link_
 ghost use Rattle.tree_bodies.specs.Tree.{mark_of};
 ghost use Rattle.body_terms.specs.Word.{value_of};
 ghost use Rattle.section_body.specs.Bucket.{operand};
-ghost use Rattle.body_terms.specs.declared.step.Step.TheVariants.{Load, Want, Take, Make, Store, Retire};
 
+use body_steps::{answer, load, make, retire, store, take, want};
 use body_terms::{Body, Init, Place, Step, Thunk, Value, Word};
 
 /// The reply word of an insertion of an absent key.
@@ -44,54 +44,6 @@ pub fn tree_body_in(thunk: &Thunk, body: &mut Body)
     }
 }
 
-/// The step that loads the cell at `place` into a register.
-fn load(place: Place, into: u8) -> Step
-    ensures { result ≡ Load place into }
-{
-    Step::Load { place, into }
-}
-
-/// The check that a register holds the word with these bits.
-fn want(reg: u8, bits: u64) -> Step
-    ensures { result ≡ Want reg bits }
-{
-    Step::Want {
-        reg,
-        word: Word::from_bits(bits),
-    }
-}
-
-/// The step that takes the lock at `place`, whose free word has these bits.
-fn take(place: Place, bits: u64) -> Step
-    ensures { result ≡ Take place bits }
-{
-    Step::Take {
-        place,
-        word: Word::from_bits(bits),
-    }
-}
-
-/// The step that makes a node of a node slot.
-fn make(init: Init, into: u8) -> Step
-    ensures { result ≡ Make init into }
-{
-    Step::Make { init, into }
-}
-
-/// The step that stores a value over the word in a register.
-fn store(reg: u8, value: Value) -> Step
-    ensures { result ≡ Store reg value }
-{
-    Step::Store { reg, value }
-}
-
-/// The step that retires a node slot.
-fn retire(slot: u32) -> Step
-    ensures { result ≡ Retire slot }
-{
-    Step::Retire { slot }
-}
-
 /// Form 11: a request that changes nothing. The operands are the place and the word of the link from the
 /// parent to the leaf, the parent's mark word and the reply word.
 fn fill_look(thunk: &Thunk, body: &mut Body) -> Option<()>
@@ -106,9 +58,7 @@ fn fill_look(thunk: &Thunk, body: &mut Body) -> Option<()>
         load(mark, 1),
         want(1, thunk.operands[2]),
         Step::Stamp,
-        Step::Answer {
-            reply: thunk.operands[3],
-        },
+        answer(thunk.operands[3]),
     ]);
     Some(())
 }
@@ -170,7 +120,7 @@ fn fill_insert(thunk: &Thunk, body: &mut Body) -> Option<()>
         make(parent, 3),
         Step::Stamp,
         store(0, Value::Made(3)),
-        Step::Answer { reply: NEW },
+        answer(NEW),
     ]);
     Some(())
 }
@@ -258,7 +208,7 @@ fn fill_delete(thunk: &Thunk, body: &mut Body) -> Option<()>
         store(0, Value::Of(3)),
         retire(removed.parent),
         retire(removed.leaf),
-        Step::Answer { reply: GONE },
+        answer(GONE),
     ]);
     Some(())
 }
@@ -284,9 +234,7 @@ fn fill_replace(thunk: &Thunk, body: &mut Body) -> Option<()>
         Step::Stamp,
         store(0, Value::Made(2)),
         retire(old),
-        Step::Answer {
-            reply: thunk.operands[5],
-        },
+        answer(thunk.operands[5]),
     ]);
     Some(())
 }

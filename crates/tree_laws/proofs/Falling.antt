@@ -1,6 +1,6 @@
 -- Along a walk of what stands there are fewer and fewer slots below, and its last links stand in linked nodes.
 use Rattle.std.specs.Prelude.{◌==◌, ◌-◌, ◌%◌, cond, nat_lt, nat_le, Bool, true, false}
-use Rattle.std.proofs.Common.{◌≡◌, ℕ, suc, ◌+◌, ◌*◌, ◌<◌, ◌≤◌, [], ◌∷◌, refl, sym, ap, ◌∙◌, arith, Some}
+use Rattle.std.proofs.Common.{◌≡◌, ℕ, suc, ◌+◌, ◌*◌, ◌<◌, ◌≤◌, refl, sym, ap, ◌∙◌, arith, Some}
 use Rattle.std.proofs.lemmas.Option.{none-some}
 use Rattle.structure_laws.specs.table_words.specs.small_lemmas.proofs.Lists.{same_number as some_eq}
 use Rattle.structure_laws.specs.table_words.specs.small_lemmas.proofs.Numbers.{tested_some as not_zero}
@@ -12,9 +12,9 @@ use Rattle.structure_laws.specs.Scene.{Cells, Readings}
 use Rattle.structure_laws.specs.Stand.{StandIn}
 use Rattle.structure_laws.specs.Ranks.{lower}
 use Rattle.structure_laws.proofs.Lower.{lower_few, lower_falls}
-use Rattle.bucket_laws.specs.Walk.{Bounds, is_del, is_wanted}
+use Rattle.bucket_laws.specs.Walk.{Bounds, is_del}
 use Rattle.bucket_laws.proofs.Places.{eq_false}
-use Rattle.bucket_laws.proofs.Walks.{wanted_eq}
+use Rattle.node_laws.proofs.Walked.{walk_keeps}
 use Rattle.tree_bodies.specs.Tree.{lock_of, key_cell, left_of, right_of, mark_of, child_of, slot_in}
 use Rattle.tree_laws.specs.Search.{Nodes, IsInner, low, high}
 use Rattle.tree_laws.specs.Walk.{Stage, AtRoot, AtLeft, AtKey, AtRight, AtValue, AtGrandLock, AtGrandMark, AtLock, AtMark, AtEnd, Refused, Step, step_to, Walk, start, node_of, wanted_at, after_leaf, is_ready, at_key, followed, fed, walk}
@@ -200,25 +200,11 @@ module _ (slots : ℕ) (cells : Cells) (pairs : Pairs) (stands : TreeStands slot
   fed_stands w AtEnd p word at want reads = absurd (none-some p want)
   fed_stands w Refused p word at want reads = absurd (none-some p want)
 
-  walk_stands : (w : Walk) (readings : Readings) → StandIn tree cells readings → Stands w w.stage
-      → Stands (walk b op w readings) (walk b op w readings).stage
-  unfolding walk
-  walk_stands w [] stand at = at
-  walk_stands w (reading ∷ readings) stand at =
-      go (is_wanted (wanted_at w w.stage) reading.0) refl
-      (walk_stands (fed b op w w.stage reading.1) readings (λ i place word here. stand (suc i) place word here))
-    where
-      next : Walk
-      next = fed b op w w.stage reading.1
-
-      go : (c : Bool) → is_wanted (wanted_at w w.stage) reading.0 ≡ c
-          → (Stands next next.stage → Stands (walk b op next readings) (walk b op next readings).stage)
-          → Stands (cond c (walk b op next readings) w) (cond c (walk b op next readings) w).stage
-      go true e again = again (fed_stands w w.stage reading.0 reading.1 at (wanted_eq (wanted_at w w.stage) reading.0 e) (stand 0 reading.0 reading.1 refl))
-      go false e again = at
-
   pub read_stands : (readings : Readings) → StandIn tree cells readings → Stands (walk b op start readings) (walk b op start readings).stage
-  read_stands readings stand = walk_stands start readings stand (refl, refl)
+  read_stands readings stand = walk_keeps _ _ _ (λ w. Stands w w.stage)
+      (λ reading. is_lock_place reading.0 ≡ false → cells reading.0 ≡ reading.1)
+      (λ w reading want here at. fed_stands w w.stage reading.0 reading.1 at want here) start readings
+      (λ i reading h. stand i reading.0 reading.1 h) (refl, refl)
 
   -- a mark that is wanted next is 0
   pub mark_zero : (w : Walk) (stage : Stage) (p : ℕ) → Stands w stage → wanted_at w stage ≡ Some p → p % 5 ≡ 4 → value_of (cells p) ≡ 0

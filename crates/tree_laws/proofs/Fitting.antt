@@ -1,8 +1,7 @@
 -- A thunk that fits a walk of the tree goes on to fit, and a body without a Store answers what leaves the map as it was.
-use Rattle.std.proofs.Common.{◌≡◌, ℕ, Bool, true, false, cond, refl, sym, ap, ◌∙◌, subst, arith}
-use Rattle.std.specs.Prelude.{[], ◌∷◌, ◌++◌, slice_get, slice_index, Some}
+use Rattle.std.proofs.Common.{◌≡◌, ℕ, true, refl, sym, ap, ◌∙◌, subst, arith}
+use Rattle.std.specs.Prelude.{◌++◌, slice_get, slice_index, Some}
 use Rattle.structure_laws.specs.map_history.specs.declared.op.Op.{Op}
-use Rattle.structure_laws.specs.map_history.specs.declared.op.Op.TheVariants.{Get, Ins, Del, Put, Mov}
 use Rattle.structure_laws.specs.body_terms.specs.declared.value.Value.{Value}
 use Rattle.structure_laws.specs.body_terms.specs.declared.value.Value.TheVariants.{Const, Made}
 use Rattle.structure_laws.specs.body_terms.specs.declared.step.Step.TheVariants.{Store, Answer}
@@ -10,39 +9,13 @@ use Rattle.structure_laws.specs.body_terms.specs.declared.thunk.Thunk.{Thunk}
 use Rattle.structure_laws.specs.table_words.specs.declared.layout.Layout.{Layout}
 use Rattle.structure_laws.specs.Scene.{Readings}
 use Rattle.structure_laws.specs.Fitting.{Leaves, Fitting}
-use Rattle.bucket_laws.specs.Walk.{Bounds, is_wanted}
+use Rattle.node_laws.proofs.Forms.{look_leaves}
+use Rattle.node_laws.proofs.Walked.{walk_on}
 use Rattle.tree_bodies.specs.Tree.{Form, Look, Insert, Delete, Replace, Empty, form_of, body_of}
-use Rattle.tree_laws.specs.Walk.{AtEnd, Walk, start, wanted_at, fed, walk, form_for, reply_for, fits_walk}
-use Rattle.tree_laws.specs.Leaves.{bounds, walk_of, tree}
+use Rattle.tree_laws.specs.Walk.{Walk, start, wanted_at, fits_walk}
+use Rattle.tree_laws.specs.Leaves.{walk_of, tree}
 use Rattle.tree_laws.proofs.Fit.{IsFit, fit_of, look_numbers, numbers_of}
 use Rattle.tree_laws.proofs.Forms.{look_answer}
-
--- a body that looks alone answers what leaves the map as it was
-look_leaves : (op : Op) (w : Walk) (found : Bool) → form_for op found ≡ 11 → Leaves op (reply_for op w found)
-look_leaves (Get key) w found form = tt
-look_leaves (Ins key value) w found form = refl
-look_leaves (Del key) w found form = refl
-look_leaves (Put key value) w true form = absurd (omega (arith, form))
-look_leaves (Put key value) w false form = absurd (omega (arith, form))
-look_leaves (Mov from to) w found form = absurd (omega (arith, form))
-
--- of two walks, of which one goes on and the other stops
-either : (one more stopped : Walk) (c : Bool) → (one.stage ≡ AtEnd → more ≡ one)
-    → (cond c one stopped).stage ≡ AtEnd → cond c more stopped ≡ cond c one stopped
-either one more stopped true h e = h e
-either one more stopped false h e = refl
-
-module _ (b : Bounds) (op : Op) where
-  -- a walk at its end wants nothing more
-  at_its_end : (w : Walk) (more : Readings) → w.stage ≡ AtEnd → walk b op w more ≡ w
-  unfolding walk
-  at_its_end w [] e = refl
-  at_its_end w (reading ∷ more) e = ap (λ stage. cond (is_wanted (wanted_at w stage) reading.0) (walk b op (fed b op w w.stage reading.1) more) w) e
-
-  walk_on : (w : Walk) (readings more : Readings) → (walk b op w readings).stage ≡ AtEnd → walk b op w (readings ++ more) ≡ walk b op w readings
-  unfolding walk
-  walk_on w [] more e = at_its_end w more e
-  walk_on w (reading ∷ readings) more e = either _ _ w (is_wanted (wanted_at w w.stage) reading.0) (walk_on (fed b op w w.stage reading.1) readings more) e
 
 module _ (layout : Layout) (op : Op) (thunk : Thunk) (readings : Readings) (fits : tree.fits layout op readings thunk ≡ true) where
   abbrev w : Walk
@@ -52,7 +25,7 @@ module _ (layout : Layout) (op : Op) (thunk : Thunk) (readings : Readings) (fits
   fit = fit_of op w thunk fits
 
   fits_on : (more : Readings) → tree.fits layout op (readings ++ more) thunk ≡ true
-  fits_on more = ap (λ w. fits_walk op w thunk) (walk_on (bounds layout) op start readings more fit.stage) ∙ fits
+  fits_on more = ap (λ w. fits_walk op w thunk) (walk_on _ _ _ start readings more (ap (wanted_at w) fit.stage)) ∙ fits
 
   abbrev Stores : Form → Type 0
   Stores f = (j r : ℕ) (v : Value) → slice_get (body_of f thunk) j ≡ Some (Store r v) → ⊥
@@ -61,7 +34,7 @@ module _ (layout : Layout) (op : Op) (thunk : Thunk) (readings : Readings) (fits
   still_in Look e none j reply h =
       let form = sym fit.form ∙ (numbers_of thunk).look e in
       subst (Leaves op) (sym (look_answer thunk j reply h ∙ ap (λ numbers. slice_index numbers 3) (fit.operands ∙ look_numbers op w w.found form)))
-      (look_leaves op w w.found form)
+      (look_leaves 11 op w.value w.found (omega arith) form)
   still_in Insert e none j reply h = absurd (none 8 0 (Made 3) refl)
   still_in Delete e none j reply h = absurd (none 13 4 (Const 1) refl)
   still_in Replace e none j reply h = absurd (none 7 0 (Made 2) refl)

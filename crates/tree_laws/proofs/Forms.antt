@@ -56,12 +56,6 @@ module _ (t : Thunk) where
       ⊎ ((j ≡ 7) × (r ≡ 2) × (w ≡ operand t 5)) ⊎ ((j ≡ 10) × (r ≡ 4) × (w ≡ operand t 6))
   delete_want j r w h = grind arith
 
-  pub insert_fresh : (j r : ℕ) → IsInsert j (Fresh r) → (j ≡ 2) × (r ≡ 0)
-  insert_fresh j r h = (grind arith, grind arith)
-
-  pub replace_fresh : (j r : ℕ) → IsReplace j (Fresh r) → (j ≡ 2) × (r ≡ 0)
-  replace_fresh j r h = (grind arith, grind arith)
-
   pub replace_make : (j r : ℕ) (init : Init) → IsReplace j (Make init r) → (j ≡ 5) × (r ≡ 2) × (init ≡ leaf_init t)
   replace_make j r init h = (grind arith, grind arith, grind arith)
 
@@ -70,9 +64,6 @@ module _ (t : Thunk) where
 
   pub replace_retire : (j slot : ℕ) → IsReplace j (Retire slot) → (j ≡ 8) × (slot ≡ old_leaf t)
   replace_retire j slot h = (grind arith, grind arith)
-
-  pub delete_fresh : (j r : ℕ) → IsDelete j (Fresh r) → ((j ≡ 2) × (r ≡ 0)) ⊎ ((j ≡ 11) × (r ≡ 4))
-  delete_fresh j r h = grind arith
 
   pub delete_take : (j l w : ℕ) → IsDelete j (Take l w) → (j ≡ 5) × (l ≡ lock_of (parent_in t)) × (w ≡ operand t 3)
   delete_take j l w h = (grind arith, grind arith, grind arith)
@@ -84,9 +75,6 @@ module _ (t : Thunk) where
   insert_store j r v h = (grind arith, grind arith, grind arith)
 
   -- steps that a form doesn't have
-  pub look_fresh : (j r : ℕ) → IsLook j (Fresh r) → ⊥
-  look_fresh j r h = grind arith
-
   pub look_take : (j l w : ℕ) → IsLook j (Take l w) → ⊥
   look_take j l w h = grind arith
 

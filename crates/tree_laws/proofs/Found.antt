@@ -1,5 +1,5 @@
 -- A walk has found its key exactly where the leaf's key that it read is it.
-use Rattle.std.specs.Prelude.{◌==◌, nat_le, nat_lt, cond, Bool, true, false, Some, [], ◌∷◌, slice_get}
+use Rattle.std.specs.Prelude.{◌==◌, nat_le, nat_lt, cond, Bool, true, false, Some, slice_get}
 use Rattle.std.proofs.Common.{◌≡◌, ℕ, suc, refl, sym, ap, ◌∙◌}
 use Rattle.structure_laws.specs.table_words.specs.small_lemmas.proofs.Bools.{false_not_true as false_true}
 use Rattle.structure_laws.specs.table_words.specs.small_lemmas.proofs.Lists.{same_number as some_eq}
@@ -7,8 +7,8 @@ use Rattle.structure_laws.specs.map_history.specs.declared.op.Op.{Op}
 use Rattle.structure_laws.specs.map_history.specs.Keys.{key_of}
 use Rattle.structure_laws.specs.body_terms.specs.Word.{value_of}
 use Rattle.structure_laws.specs.Scene.{Readings}
-use Rattle.bucket_laws.specs.Walk.{Bounds, is_del, is_wanted}
-use Rattle.bucket_laws.proofs.Walks.{wanted_eq}
+use Rattle.bucket_laws.specs.Walk.{Bounds, is_del}
+use Rattle.node_laws.proofs.Walked.{walk_keeps}
 use Rattle.tree_bodies.specs.Tree.{right_of}
 use Rattle.tree_laws.specs.Walk.{Stage, AtRoot, AtLeft, AtKey, AtRight, AtValue, AtGrandLock, AtGrandMark, AtLock, AtMark, AtEnd, Refused, Walk, start, node_of, wanted_at, after_link, after_leaf, is_ready, at_key, fed, walk}
 use Rattle.tree_laws.proofs.WalkReads.{is_late}
@@ -43,20 +43,11 @@ module _ (b : Bounds) (op : Op) where
   fed_keyed w AtEnd word at old late = old late
   fed_keyed w Refused word at old late = old late
 
-  walked_keyed : (w : Walk) (readings : Readings) → IsKeyed w → IsKeyed (walk b op w readings)
-  unfolding walk
-  walked_keyed w [] old = old
-  walked_keyed w (reading ∷ readings) old = go (is_wanted (wanted_at w w.stage) reading.0)
-      (walked_keyed (fed b op w w.stage reading.1) readings (fed_keyed w w.stage reading.1 refl old))
-    where
-      go : (c : Bool) → IsKeyed (walk b op (fed b op w w.stage reading.1) readings)
-          → IsKeyed (cond c (walk b op (fed b op w w.stage reading.1) readings) w)
-      go true again = again
-      go false again = old
-
   pub walk_keyed : (readings : Readings) → is_late (walk b op start readings).stage ≡ true
       → (walk b op start readings).found ≡ ((walk b op start readings).key == key_of op)
-  walk_keyed readings = walked_keyed start readings (λ late. absurd (let z = late in cc))
+  walk_keyed readings = walk_keeps _ _ _ IsKeyed (λ reading. Unit {0})
+      (λ w reading want here old. fed_keyed w w.stage reading.1 refl old) start readings (λ i reading h. tt)
+      (λ late. absurd (let z = late in cc))
 
 -- the walk has loaded the value of its key's leaf, if it loads it; it is at the grandparent's lock or mark
 abbrev is_behind : Stage → Bool
@@ -156,18 +147,7 @@ module _ (all : Readings) (b : Bounds) (op : Op) where
   fed_value w AtEnd p word at want i read old = old
   fed_value w Refused p word at want i read old = old
 
-  walked_value : (w : Walk) (readings : Readings) → ((i : ℕ) (reading : ℕ × ℕ) → slice_get readings i ≡ Some reading → (j : ℕ) × (slice_get all j ≡ Some reading)) → HasValue w
-      → HasValue (walk b op w readings)
-  unfolding walk
-  walked_value w [] within old = old
-  walked_value w (reading ∷ readings) within old = go (is_wanted (wanted_at w w.stage) reading.0) refl
-      (walked_value (fed b op w w.stage reading.1) readings (λ i other h. within (suc i) other h))
-    where
-      go : (c : Bool) → is_wanted (wanted_at w w.stage) reading.0 ≡ c → (HasValue (fed b op w w.stage reading.1) → HasValue (walk b op (fed b op w w.stage reading.1) readings))
-          → HasValue (cond c (walk b op (fed b op w w.stage reading.1) readings) w)
-      go true e again = let here = within 0 reading refl in
-          again (fed_value w w.stage reading.0 reading.1 refl (wanted_eq (wanted_at w w.stage) reading.0 e) here.0 here.1 old)
-      go false e again = old
-
   pub value_read : (walk b op start all).stage ≡ AtEnd → is_del op ≡ false → (walk b op start all).found ≡ true → IsLoaded (walk b op start all)
-  value_read end del found = (walked_value start all (λ i reading h. (i, h)) (none_yet start false_true false_true)).value (ap is_behind end) del found
+  value_read end del found = (walk_keeps _ _ _ HasValue (λ reading. (i : ℕ) × (slice_get all i ≡ Some reading))
+      (λ w reading want here old. fed_value w w.stage reading.0 reading.1 refl want here.0 here.1 old) start all
+      (λ i reading h. (i, h)) (none_yet start false_true false_true)).value (ap is_behind end) del found

@@ -25,7 +25,7 @@ use Rattle.tree_bodies.specs.Tree.{child_of, Form, Insert, Delete, Replace, form
 use Rattle.tree_bodies.specs.Tree.{insert_steps, delete_steps, replace_steps, parent_in, leaf_in, old_leaf}
 use Rattle.tree_laws.specs.Leaves.{is_lock_place, nodes, HasLeaf, HasInner, IsNewLeaf, IsNewInner, TreeKept, tree}
 use Rattle.tree_laws.specs.Leaves.{IsBetween, NewLeaf, NewInner, OldParent, OldLeaf, ReplacedLeaf}
-use Rattle.tree_laws.specs.Walk.{walk}
+use Rattle.node_laws.specs.Walked.{walked}
 use Rattle.tree_laws.proofs.KeepsFrame.{IsSameNode, IsKeptSection, IsKeptReader, passing_kept}
 
 -- each cell of a node stands
@@ -426,7 +426,7 @@ reader_kept layout s r new sound kept own = passing_kept layout s (with_reader s
 
 -- a runner enters, with no readings
 pub keeps_enters : (layout : Layout) (s : Scene) (r : ℕ) → Onward tree layout s (with_reader s r (Some []))
-unfolding walk
+unfolding walked
 keeps_enters layout s r sound kept sound' = reader_kept layout s r (Some []) sound kept
     (λ readings e. subst (IsKeptReader layout s (with_reader s r (Some [])) sound kept) (some_inj e) none)
   where

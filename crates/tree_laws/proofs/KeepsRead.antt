@@ -1,6 +1,6 @@
 -- The tree keeps what it keeps, by one more reading of an entered runner.
-use Rattle.std.specs.Prelude.{◌⊎◌, ◌==◌, ◌-◌, nat_lt, nat_le, cond, Bool, true, false, List, Some, [], ◌∷◌, ◌++◌, length, slice_get}
-use Rattle.std.proofs.Common.{◌≡◌, ◌≢◌, ℕ, zero, suc, ◌+◌, ◌*◌, ◌<◌, ◌≤◌, refl, sym, ap, ◌∙◌, subst, inl, inr, ⊎_elim, arith}
+use Rattle.std.specs.Prelude.{◌⊎◌, ◌==◌, ◌-◌, nat_lt, nat_le, cond, Bool, true, false, Some, [], ◌∷◌, ◌++◌, length, slice_get}
+use Rattle.std.proofs.Common.{◌≡◌, ◌≢◌, ℕ, suc, ◌+◌, ◌*◌, ◌<◌, ◌≤◌, refl, sym, ap, ◌∙◌, subst, inl, inr, ⊎_elim, arith}
 use Rattle.std.proofs.lemmas.Bool.{cases_eq}
 use Rattle.std.proofs.lemmas.Option.{none-some}
 use Rattle.structure_laws.specs.table_words.specs.small_lemmas.proofs.Lists.{same_number as some_eq, get_last as push_last}
@@ -14,12 +14,12 @@ use Rattle.structure_laws.specs.Cells.{IsSafe, IsOutside, IsLoadable}
 use Rattle.structure_laws.specs.Sound.{IsRead}
 use Rattle.structure_laws.specs.Keeps.{Onward}
 use Rattle.structure_laws.proofs.Changes.{upd_same, equal_of}
-use Rattle.bucket_laws.specs.Walk.{Bounds, is_del, is_wanted}
+use Rattle.bucket_laws.specs.Walk.{is_del}
 use Rattle.bucket_laws.proofs.TableGives.{reached}
-use Rattle.bucket_laws.proofs.Walks.{bool_cases, wanted_eq}
+use Rattle.node_laws.proofs.Walked.{walk_push, by_place}
 use Rattle.tree_bodies.specs.Tree.{key_cell, left_of, right_of, mark_of, slot_in}
 use Rattle.tree_laws.specs.Search.{Nodes, IsInner, IsLeaf}
-use Rattle.tree_laws.specs.Walk.{Stage, AtRoot, AtLeft, AtKey, AtRight, AtValue, AtGrandLock, AtGrandMark, AtLock, AtMark, AtEnd, Refused, step_to, Walk, start, node_of, wanted_at, followed, after_leaf, is_ready, at_key, fed, walk}
+use Rattle.tree_laws.specs.Walk.{Stage, AtRoot, AtLeft, AtKey, AtRight, AtValue, AtGrandLock, AtGrandMark, AtLock, AtMark, AtEnd, Refused, step_to, Walk, start, node_of, wanted_at, followed, after_leaf, is_ready, at_key, fed}
 use Rattle.tree_laws.specs.Leaves.{shows_link, nodes, bounds, walk_of, IsAsRead, IsFollowed, IsLeft, Knows, IsWalk, IsTrail, TreeKept, tree}
 use Rattle.tree_laws.proofs.KeepsFrame.{outside_used, IsKeptReader}
 use Rattle.tree_laws.proofs.KeepsPass.{reader_kept}
@@ -28,35 +28,6 @@ use Rattle.tree_laws.proofs.WalkReads.{IsGiven, Reads, is_past, walk_reads}
 
 before : (v : ℕ) → 0 < v → v ≡ suc (v - 1)
 before v some = omega (arith, some)
-
--- a reading of a longer list is one of the list, or the last
-get_push : {A : Type 0} (xs : List A) (y v : A) (i : ℕ) → slice_get (xs ++ y ∷ []) i ≡ Some v
-    → (slice_get xs i ≡ Some v) ⊎ (y ≡ v)
-get_push [] y v zero h = inr (let z = h in cc)
-get_push [] y v (suc i) h = absurd (let z = h in cc)
-get_push (x ∷ xs) y v zero h = inl h
-get_push (x ∷ xs) y v (suc i) h = get_push xs y v i h
-
--- one more reading: the walk stays as it was, or goes on by it
-module _ (b : Bounds) (op : Op) (p n : ℕ) where
-  abbrev GoesOn : Walk → Walk → Type 0
-  GoesOn w after = (after ≡ w) ⊎ ((wanted_at w w.stage ≡ Some p) × (after ≡ fed b op w w.stage n))
-
-  pub walk_push : (w : Walk) (readings : Readings) → GoesOn (walk b op w readings)
-      (walk b op w (readings ++ (p, n) ∷ []))
-  unfolding walk
-  walk_push w [] = bool_cases (is_wanted (wanted_at w w.stage) p)
-      (λ e. inr (wanted_eq _ p e, ap (λ c. cond c (fed b op w w.stage n) w) e))
-      (λ e. inl (ap (λ c. cond c (fed b op w w.stage n) w) e))
-  walk_push w (reading ∷ readings) = go (is_wanted (wanted_at w w.stage) reading.0)
-      (walk_push (fed b op w w.stage reading.1) readings)
-    where
-      go : (c : Bool) → GoesOn (walk b op (fed b op w w.stage reading.1) readings)
-          (walk b op (fed b op w w.stage reading.1) (readings ++ (p, n) ∷ []))
-          → GoesOn (cond c (walk b op (fed b op w w.stage reading.1) readings) w)
-          (cond c (walk b op (fed b op w w.stage reading.1) (readings ++ (p, n) ∷ [])) w)
-      go true h = h
-      go false h = inl refl
 
 module _ (layout : Layout) (s : Scene) (kept : TreeKept layout s) where
   abbrev now : Nodes
@@ -379,7 +350,7 @@ module _ (layout : Layout) (s : Scene) (kept : TreeKept layout s) where
         (λ stays. subst IsGood (sym stays) is)
         (λ goes. subst IsGood (sym goes.1) (fed_good (walk_of layout op readings)
         (walk_of layout op readings).stage p is (walk_reads readings (bounds layout) op) refl goes.0 outside))
-        (walk_push (bounds layout) op p (s.cells p) start readings)
+        (walk_push _ _ _ p (s.cells p) start readings)
 
   -- one more reading stands as it was read
   module _ (readings : Readings) (p : ℕ) (old : IsAsRead now readings) (outside : IsOutside tree s p) where
@@ -387,35 +358,28 @@ module _ (layout : Layout) (s : Scene) (kept : TreeKept layout s) where
     more = readings ++ (p, s.cells p) ∷ []
 
     -- a reading in it is one of the old ones, or is of this place
-    by_place : {A : Type 0} (i q v : ℕ) → slice_get more i ≡ Some (q, v) → (slice_get readings i ≡ Some (q, v) → A)
+    own_place : {A : Type 0} (i q v : ℕ) → slice_get more i ≡ Some (q, v) → (slice_get readings i ≡ Some (q, v) → A)
         → (p ≡ q → v ≡ s.cells q → A) → A
-    by_place i q v h before now_read = ⊎_elim before (λ last. now_read (place last) (word last))
-        (get_push readings (p, s.cells p) (q, v) i h)
-      where
-        place : ◌≡◌ {A = ℕ × ℕ} (p, s.cells p) (q, v) → p ≡ q
-        place e = ap (λ reading. reading.0) e
-
-        word : ◌≡◌ {A = ℕ × ℕ} (p, s.cells p) (q, v) → v ≡ s.cells q
-        word e = sym (ap (λ reading. reading.1) e) ∙ ap s.cells (place e)
+    own_place i q v h before now_read = by_place s.cells readings p i q v h before now_read
 
     used_of : (t k : ℕ) → 0 < k → k < 5 → p ≡ 0 + 5 * t + k → s.status t ≢ Free
     used_of t k low high e = outside_used s t k low high (subst (IsOutside tree s) e outside)
 
     more_read : IsAsRead now more
     more_read = record {
-      inner = λ i t w h some. by_place i (left_of t) w h (λ was. old.inner i t w was some)
+      inner = λ i t w h some. own_place i (left_of t) w h (λ was. old.inner i t w was some)
           (λ at is. subst (λ k. 0 < value_of k) is some);
-      leaf = λ i t w h none. by_place i (left_of t) w h (λ was. old.leaf i t w was none)
+      leaf = λ i t w h none. own_place i (left_of t) w h (λ was. old.leaf i t w was none)
           (λ at is. ap value_of (sym is) ∙ none);
-      key = λ i t w h. by_place i (key_cell t) w h (λ was. old.key i t w was) (λ at is. ap value_of is);
-      value = λ i t w h leaf. by_place i (right_of t) w h (λ was. old.value i t w was leaf) (λ at is. ap value_of is);
-      right = λ i t w h inner. by_place i (right_of t) w h (λ was. old.right i t w was inner)
+      key = λ i t w h. own_place i (key_cell t) w h (λ was. old.key i t w was) (λ at is. ap value_of is);
+      value = λ i t w h leaf. own_place i (right_of t) w h (λ was. old.value i t w was leaf) (λ at is. ap value_of is);
+      right = λ i t w h inner. own_place i (right_of t) w h (λ was. old.right i t w was inner)
           (λ at is. subst (λ k. 0 < value_of k) (sym is) (kept.right_some t
           (used_of t 3 (omega arith) (omega arith) at) inner));
-      under_root = λ i v h. by_place i (left_of 0) v h (λ was. old.under_root i v was)
+      under_root = λ i v h. own_place i (left_of 0) v h (λ was. old.under_root i v was)
           (λ at is. subst (λ k. (value_of k ≡ 2) ⊎ ((t : ℕ) × (value_of k ≡ suc t) × IsInner now t))
           (sym is) under_root_now);
-      marks = λ i t w h inner. by_place i (mark_of t) w h (λ was. old.marks i t w was inner)
+      marks = λ i t w h inner. own_place i (mark_of t) w h (λ was. old.marks i t w was inner)
           (λ at is. subst (λ k. value_of k ≤ 1) (sym is) (kept.mark_small t
           (used_of t 4 (omega arith) (omega arith) at) inner));
     }

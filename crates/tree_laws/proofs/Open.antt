@@ -18,6 +18,7 @@ use Rattle.structure_laws.specs.Cells.{IsSafe}
 use Rattle.structure_laws.specs.Sound.{Sound}
 use Rattle.bucket_laws.specs.Walk.{is_del}
 use Rattle.bucket_laws.proofs.Fit.{PutsIn, puts_given}
+use Rattle.node_laws.proofs.Forms.{put_puts}
 use Rattle.tree_bodies.specs.Tree.{lock_of, mark_of, left_of, right_of, child_of, slot_in, Form, Look, Insert, Delete}
 use Rattle.tree_bodies.specs.Tree.{Replace}
 use Rattle.tree_bodies.specs.Tree.{form_of, body_of, parent_in, leaf_in, sibling_of, is_left, is_right, old_leaf}
@@ -27,7 +28,7 @@ use Rattle.tree_laws.specs.Walk.{operands_for}
 use Rattle.tree_laws.specs.Walk.{lock_for, reply_for}
 use Rattle.tree_laws.specs.Leaves.{nodes, bounds, walk_of, Knows, IsFollowed, IsWalk, HasLeaf, TreeKept, tree}
 use Rattle.tree_laws.specs.Landing.{HasLanded}
-use Rattle.tree_laws.proofs.Fit.{IsFit, cases, look_numbers, numbers_of, inserts, deletes, replaces, put_puts}
+use Rattle.tree_laws.proofs.Fit.{IsFit, cases, look_numbers, numbers_of, inserts, deletes, replaces}
 use Rattle.tree_laws.proofs.Fit.{look_outer, insert_outer, replace_outer, is_look, is_insert, is_delete, is_replace}
 use Rattle.tree_laws.proofs.Forms.{look_store, insert_store, delete_store, replace_store}
 use Rattle.tree_laws.proofs.Landed.{fit, reads, walk, last, on_path, onward, from_safe, has_landed}
@@ -171,7 +172,7 @@ module _ (layout : Layout) (s : Scene) (sound : Sound tree layout s) (kept : Tre
   replace_is_plain form = replace_plain (sym fits.form ∙ (numbers_of x.thunk).replace form)
 
   pub delete_is_removing : form_of x.thunk ≡ Delete → IsRemoving
-  delete_is_removing form = delete_removing (sym fits.form ∙ (numbers_of x.thunk).delete form)
+  delete_is_removing form = delete_removing (sym fits.form ∙ (numbers_of x.thunk).remove form)
 
   -- a word that was loaded and wanted stands as long as the section has not stored to its register's place
   stands : (f : Form) → form_of x.thunk ≡ f → (j k p r word : ℕ) → slice_get (body_of f x.thunk) j ≡ Some (Load p r)

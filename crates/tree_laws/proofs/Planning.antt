@@ -1,9 +1,8 @@
 -- What a body wants was read, and only operations that add a pair, or put one in the place of another, make nodes.
-use Rattle.std.proofs.Common.{◌≡◌, ℕ, ◌+◌, ◌*◌, true, false, cond, inl, inr, refl, sym, ap, ◌∙◌, subst, arith}
-use Rattle.std.specs.Prelude.{◌⊎◌, ◌&&◌, ◌^◌, None, Some, List, slice_get, slice_index}
+use Rattle.std.proofs.Common.{◌≡◌, ℕ, ◌+◌, true, false, cond, inl, inr, refl, sym, ap, ◌∙◌, subst, arith}
+use Rattle.std.specs.Prelude.{◌⊎◌, ◌&&◌, Some, List, slice_get, slice_index}
 use Rattle.structure_laws.specs.map_history.specs.declared.op.Op.{Op}
-use Rattle.structure_laws.specs.map_history.specs.declared.op.Op.TheVariants.{Get, Ins, Del, Put, Mov}
-use Rattle.structure_laws.specs.map_history.specs.AtKey.{Gets, change_at}
+use Rattle.structure_laws.specs.map_history.specs.declared.op.Op.TheVariants.{Del}
 use Rattle.bucket_laws.specs.bucket_bodies.specs.section_body.specs.Bucket.{operand}
 use Rattle.structure_laws.specs.body_terms.specs.declared.value.Init.{Init}
 use Rattle.structure_laws.specs.body_terms.specs.declared.step.Step.TheVariants.{Load, Want, Make, Answer}
@@ -11,7 +10,7 @@ use Rattle.structure_laws.specs.body_terms.specs.declared.thunk.Thunk.{Thunk}
 use Rattle.structure_laws.specs.Scene.{Readings}
 use Rattle.structure_laws.specs.Planner.{Adds}
 use Rattle.bucket_laws.specs.Walk.{Bounds, is_del}
-use Rattle.bucket_laws.proofs.Fit.{keeps_gets}
+use Rattle.node_laws.proofs.Forms.{new_adds}
 use Rattle.tree_bodies.specs.Tree.{lock_of, mark_of, slot_in, Form, Look, Insert, Delete, Replace, Empty, form_of}
 use Rattle.tree_bodies.specs.Tree.{body_of}
 use Rattle.tree_bodies.specs.Tree.{tree_steps, parent_in, sibling_of}
@@ -143,20 +142,12 @@ module _ (b : Bounds) (op : Op) (readings : Readings) (thunk : Thunk) (fits : fi
   reads_in : (f : Form) → form_of thunk ≡ f → Pairs f
   reads_in Look e = look_reads (sym fit.form ∙ (numbers_of thunk).look e)
   reads_in Insert e = insert_reads (sym fit.form ∙ (numbers_of thunk).insert e)
-  reads_in Delete e = delete_reads (sym fit.form ∙ (numbers_of thunk).delete e)
+  reads_in Delete e = delete_reads (sym fit.form ∙ (numbers_of thunk).remove e)
   reads_in Replace e = replace_reads (sym fit.form ∙ (numbers_of thunk).replace e)
   reads_in Empty e = λ i j p r n load want. absurd (let z = load in cc)
 
   pub wants_read : (i j p r n : ℕ) → slice_get (tree_steps thunk) i ≡ Some (Load p r) → slice_get (tree_steps thunk) j ≡ Some (Want r n) → Among p n
   wants_read = reads_in (form_of thunk) refl
-
-  -- an operation that gives a value to an absent key answers that the pair is new
-  new_adds : (op : Op) (value reply : ℕ) → change_at None op ≡ Gets value → reply ≡ 1 * 2 ^ 32 → Adds op reply
-  new_adds (Get key) value reply gets new = absurd (keeps_gets value gets)
-  new_adds (Ins key v) value reply gets new = new
-  new_adds (Del key) value reply gets new = absurd (keeps_gets value gets)
-  new_adds (Put key v) value reply gets new = inl new
-  new_adds (Mov from to) value reply gets new = absurd (keeps_gets value gets)
 
   adds_in : (f : Form) → form_of thunk ≡ f → (i j r reply : ℕ) (init : Init) → slice_get (body_of f thunk) i ≡ Some (Make init r) → slice_get (body_of f thunk) j ≡ Some (Answer reply) → Adds op reply
   adds_in Look e i j r reply init make answer = absurd (look_make thunk i r init make)

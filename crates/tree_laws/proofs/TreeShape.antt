@@ -1,7 +1,6 @@
 -- A thunk that fits an entered runner's readings has a body of the shape of a body, whose places the readings give.
-use Rattle.std.proofs.Common.{◌≡◌, ◌≢◌, ℕ, zero, suc, ◌+◌, ◌*◌, ◌<◌, ◌≤◌, Bool, true, false, cond, refl, sym, ap, ◌∙◌, subst, inl, inr, ⊎_elim, arith}
-use Rattle.std.specs.Prelude.{◌&&◌, ◌||◌, not, ◌-◌, ◌%◌, ◌^◌, ◌⊎◌, nat_lt, Some, List, [], ◌∷◌, slice_get, slice_index, length}
-use Rattle.std.proofs.lemmas.Bool.{both_ways}
+use Rattle.std.proofs.Common.{◌≡◌, ◌≢◌, ℕ, ◌+◌, ◌*◌, ◌<◌, ◌≤◌, Bool, true, false, cond, refl, sym, ap, ◌∙◌, subst, inl, inr, ⊎_elim, arith}
+use Rattle.std.specs.Prelude.{◌&&◌, ◌||◌, not, ◌-◌, ◌^◌, ◌⊎◌, nat_lt, Some, List, slice_get, slice_index, length}
 use Rattle.structure_laws.specs.table_words.specs.small_lemmas.proofs.Bools.{or_first as or_left, or_second as or_right, negated as not_true}
 use Rattle.structure_laws.specs.table_words.specs.small_lemmas.proofs.Numbers.{other_tested as eq_false}
 use Rattle.structure_laws.specs.map_history.specs.declared.op.Op.{Op}
@@ -30,6 +29,8 @@ use Rattle.structure_laws.proofs.Costs.{shaped_cost}
 use Rattle.bucket_laws.specs.Walk.{is_del}
 use Rattle.bucket_laws.proofs.Fit.{PutsIn, puts_given}
 use Rattle.bucket_laws.proofs.TableGives.{reached}
+use Rattle.node_laws.proofs.Cells.{cell_unlocked, lock_locked, five_small, five_unlocked}
+use Rattle.node_laws.proofs.Forms.{put_puts, reply_some}
 use Rattle.tree_bodies.specs.Tree.{lock_of, left_of, right_of, mark_of, child_of, slot_in, Look, Insert, Delete}
 use Rattle.tree_bodies.specs.Tree.{Replace}
 use Rattle.tree_bodies.specs.Tree.{leaf_with, inner_with, parent_in, is_left, is_right, sibling_of, form_of, body_of}
@@ -39,10 +40,9 @@ use Rattle.tree_laws.specs.Walk.{Walk, AtRoot, AtEnd, Refused, step_place, step_
 use Rattle.tree_laws.specs.Walk.{operands_for}
 use Rattle.tree_laws.specs.Leaves.{is_lock_place, shows_link, nodes, bounds, walk_of, IsFollowed, IsWalk, TreeKept, tree}
 use Rattle.tree_laws.proofs.BodyShapes.{look_shaped, insert_shaped, delete_shaped, replace_shaped}
-use Rattle.tree_laws.proofs.Fit.{IsFit, fit_of, cases, look_numbers, reply_some, is_look, is_insert, is_delete}
+use Rattle.tree_laws.proofs.Fit.{IsFit, fit_of, cases, look_numbers, is_look, is_insert, is_delete}
 use Rattle.tree_laws.proofs.Fit.{is_replace}
 use Rattle.tree_laws.proofs.Fit.{look_outer, insert_outer, replace_outer, Inserts, inserts, deletes, Replaces, replaces}
-use Rattle.tree_laws.proofs.Fit.{put_puts}
 use Rattle.tree_laws.proofs.Forms.{replace_load, replace_take, replace_make, replace_store, replace_answer}
 use Rattle.tree_laws.proofs.Forms.{look_load, insert_load, delete_load, look_take, look_make, look_store, look_answer, insert_take, insert_make, insert_store, insert_answer, delete_take, delete_make, delete_store, delete_answer}
 use Rattle.tree_laws.proofs.Shown.{lt_test, shown_now}
@@ -50,13 +50,6 @@ use Rattle.tree_laws.proofs.WalkReads.{is_past, is_late, is_locked, both, eq_tes
 
 small_is : (n : ℕ) → n < 2 ^ 32 → is_small n ≡ true
 small_is n low = grind arith
-
--- cells of a node by their number
-cell_unlocked : (t k : ℕ) → 1 ≤ k → k < 5 → is_lock_place (cell_of 0 t k) ≡ false
-cell_unlocked t k low high = eq_false ((0 + 5 * t + k) % 5) 0 (λ e. omega arith)
-
-lock_locked : (t : ℕ) → is_lock_place (lock_of t) ≡ true
-lock_locked t = eq_test ((0 + 5 * t + 0) % 5) 0 (omega arith)
 
 abbrev side_cell : Bool → ℕ
 side_cell b = cond b 2 3
@@ -237,7 +230,8 @@ module _ (layout : Layout) (limits : IsWithinLimits layout) (s : Scene) (sound :
       make_whole = λ j r init h. absurd (no_make j r init h);
       make_small = λ j r i init v h. absurd (no_make j r init h);
       make_unlocked = λ j r i t init v h. absurd (no_make j r init h);
-      answers = λ j n h. let at = look_answer thunk j n (step_at look_body j (Answer n) h) ∙ number_at 3 (look_numbers op w w.found form) in let some = reply_some op w w.found in omega arith;
+      answers = λ j n h. let at = look_answer thunk j n (step_at look_body j (Answer n) h)
+          ∙ number_at 3 (look_numbers op w w.found form) in let some = reply_some op w.value w.found in omega arith;
     }
 
   -- the numbers of a new leaf
@@ -248,46 +242,6 @@ module _ (layout : Layout) (limits : IsWithinLimits layout) (s : Scene) (sound :
   new_value_low : (key value : ℕ) → PutsIn op key value → operand thunk 4 ≡ value → operand thunk 4 < 2 ^ 32
   new_value_low key value puts at = let low = allowed.value value (puts_given op key value puts) in
       omega (arith, low, at)
-
-  -- each first value of a new node has 32 bits, and that of the lock is 0
-  five_small : (a b c : Value) → IsSmall a → IsSmall b → IsSmall c → (i : ℕ) (v : Value) → slice_get
-      (Const 0 ∷ a ∷ b ∷ c ∷ Const 0 ∷ []) i ≡ Some v → IsSmall v
-  five_small a b c pa pb pc zero v h = subst IsSmall (same h) (omega arith)
-    where
-      same : {x y : Value} → Some x ≡ Some y → x ≡ y
-      same e = cc
-  five_small a b c pa pb pc (suc zero) v h = subst IsSmall (same h) pa
-    where
-      same : {x y : Value} → Some x ≡ Some y → x ≡ y
-      same e = cc
-  five_small a b c pa pb pc (suc (suc zero)) v h = subst IsSmall (same h) pb
-    where
-      same : {x y : Value} → Some x ≡ Some y → x ≡ y
-      same e = cc
-  five_small a b c pa pb pc (suc (suc (suc zero))) v h = subst IsSmall (same h) pc
-    where
-      same : {x y : Value} → Some x ≡ Some y → x ≡ y
-      same e = cc
-  five_small a b c pa pb pc (suc (suc (suc (suc zero)))) v h = subst IsSmall (same h) (omega arith)
-    where
-      same : {x y : Value} → Some x ≡ Some y → x ≡ y
-      same e = cc
-  five_small a b c pa pb pc (suc (suc (suc (suc (suc i))))) v h = absurd (cc)
-
-  five_unlocked : (a b c : Value) (i t : ℕ) (v : Value) → slice_get (Const 0 ∷ a ∷ b ∷ c ∷ Const 0 ∷ []) i ≡ Some v
-      → is_lock_place (cell_of 0 t i) ≡ true → v ≡ Const 0
-  five_unlocked a b c zero t v h lock = sym (same h)
-    where
-      same : {x y : Value} → Some x ≡ Some y → x ≡ y
-      same e = cc
-  five_unlocked a b c (suc i) t v h lock = absurd (both_ways _ (cell_unlocked t (suc i) (omega arith) (short i h)) lock)
-    where
-      short : (i : ℕ) → slice_get (a ∷ b ∷ c ∷ Const 0 ∷ []) i ≡ Some v → suc i < 5
-      short zero h = omega arith
-      short (suc zero) h = omega arith
-      short (suc (suc zero)) h = omega arith
-      short (suc (suc (suc zero))) h = omega arith
-      short (suc (suc (suc (suc i)))) h = absurd (cc)
 
   -- form 12
   module _ (form : form_for op w.found ≡ 12) where

@@ -1,14 +1,14 @@
 -- A section of the tree at its stamp, with nothing pending, does what the map does.
-use Rattle.std.specs.Prelude.{◌==◌, ◌^◌, is_some, Bool, true, false, Option, Some, None, if◌then◌else◌, slice_get}
+use Rattle.std.specs.Prelude.{◌==◌, ◌^◌, true, false, Option, Some, None, if◌then◌else◌, slice_get}
 use Rattle.std.proofs.Common.{◌≡◌, ℕ, ◌*◌, ◌<◌, ◌≤◌, refl, sym, ap, ◌∙◌, subst, inl, ⊎_elim, arith}
 use Rattle.std.proofs.lemmas.Bool.{cases_eq, both_ways}
-use Rattle.std.specs.FinMap.{get, contains_key}
+use Rattle.std.specs.FinMap.{get}
 use Rattle.structure_laws.specs.table_words.specs.small_lemmas.proofs.Numbers.{equal_tested as eq_true}
 use Rattle.structure_laws.specs.map_history.specs.declared.op.Op.{Op}
 use Rattle.structure_laws.specs.map_history.specs.declared.op.Op.TheVariants.{Get, Ins, Del, Put, Mov}
-use Rattle.structure_laws.specs.map_history.specs.declared.reply.Reply.TheVariants.{New, Dup, Gone, Absent}
+use Rattle.structure_laws.specs.map_history.specs.declared.reply.Reply.TheVariants.{Gone, Absent}
 use Rattle.structure_laws.specs.map_history.specs.Keys.{key_of}
-use Rattle.structure_laws.specs.map_history.specs.Replay.{Pairs, found, replaced, reply_of}
+use Rattle.structure_laws.specs.map_history.specs.Replay.{Pairs, reply_of}
 use Rattle.structure_laws.specs.map_history.specs.Words.{word_of}
 use Rattle.structure_laws.specs.body_terms.specs.declared.step.Step.TheVariants.{Stamp, Answer}
 use Rattle.structure_laws.specs.body_terms.specs.declared.thunk.Thunk.{Thunk}
@@ -19,11 +19,11 @@ use Rattle.structure_laws.specs.Sections.{IsStep}
 use Rattle.structure_laws.specs.InTurn.{StandsFor, AtStamp}
 use Rattle.structure_laws.proofs.Changes.{equal_of}
 use Rattle.bucket_laws.specs.Walk.{is_del}
-use Rattle.bucket_laws.proofs.Fit.{PutsIn, keeps_gets}
 use Rattle.bucket_laws.proofs.Maps.{set_reply}
+use Rattle.node_laws.proofs.Forms.{there, reply_is, new_reply}
 use Rattle.tree_bodies.specs.Tree.{Look, Insert, Delete, Replace, look_steps, insert_steps, delete_steps, replace_steps}
 use Rattle.tree_laws.specs.Search.{Nodes, IsLeaf, Contents, ViewsAgree}
-use Rattle.tree_laws.specs.Walk.{Walk, node_of, form_for, reply_for}
+use Rattle.tree_laws.specs.Walk.{Walk, node_of}
 use Rattle.tree_laws.specs.Leaves.{nodes, bounds, walk_of, TreeKept, tree}
 use Rattle.tree_laws.proofs.Forms.{look_answer, insert_answer, delete_answer, replace_answer}
 use Rattle.tree_laws.proofs.Found.{walk_keyed, value_read}
@@ -50,35 +50,6 @@ none_is (Some v) f = absurd (f v refl)
 
 unfixed : (n : ℕ) → (n ≡ 0 → ⊥) → (n ≡ 1 → ⊥) → (n ≡ 2 → ⊥) → 3 ≤ n
 unfixed n zero one two = search arith
-
--- the reply by what is looked up
-module _ (pairs : Pairs) where
-  pub there : (key value : ℕ) → get pairs key ≡ Some value → contains_key pairs key ≡ true
-  there key value h = ap is_some h
-
-  pub gone : (key : ℕ) → get pairs key ≡ None → contains_key pairs key ≡ false
-  gone key h = ap is_some h
-
-  pub reply_is : (op : Op) (w : Walk) (hit : Bool) → form_for op hit ≡ 11 → (hit ≡ true → (v : ℕ) × (get pairs (key_of op) ≡ Some v) × (is_del op ≡ false → v ≡ w.value))
-      → (hit ≡ false → get pairs (key_of op) ≡ None) → reply_for op w hit ≡ word_of (reply_of pairs op)
-  reply_is (Get key) w true form some none = let is = some refl in ap (λ o. word_of (found o)) (sym (is.1 ∙ ap Some (is.2 refl)))
-  reply_is (Get key) w false form some none = ap (λ o. word_of (found o)) (sym (none refl))
-  reply_is (Ins key value) w true form some none = let is = some refl in ap (λ b. word_of (if b then Dup else New)) (sym (there key is.0 is.1))
-  reply_is (Ins key value) w false form some none = absurd (omega (arith, form))
-  reply_is (Del key) w true form some none = absurd (omega (arith, form))
-  reply_is (Del key) w false form some none = ap (λ b. word_of (if b then Gone else Absent)) (sym (gone key (none refl)))
-  reply_is (Put key value) w true form some none = absurd (omega (arith, form))
-  reply_is (Put key value) w false form some none = absurd (omega (arith, form))
-  reply_is (Mov from to) w there form some none = absurd (omega (arith, form))
-
-  -- an operation that gives a value to an absent key is answered that the pair is new
-  pub new_reply : (op : Op) (key value : ℕ) → PutsIn op key value → get pairs (key_of op) ≡ None
-      → 1 * 2 ^ 32 ≡ word_of (reply_of pairs op)
-  new_reply (Get k) key value puts none = absurd (keeps_gets value puts.1)
-  new_reply (Ins k v) key value puts none = ap (λ b. word_of (if b then Dup else New)) (sym (gone k none))
-  new_reply (Del k) key value puts none = absurd (keeps_gets value puts.1)
-  new_reply (Put k v) key value puts none = ap (λ o. word_of (replaced o)) (sym none)
-  new_reply (Mov from to) key value puts none = absurd (keeps_gets value puts.1)
 
 module _ (layout : Layout) (limits : IsWithinLimits layout) (s : Scene) (pairs : Pairs) (d : ℕ) (x : Section)
     (before : StandsFor tree layout s pairs) (stamp : AtStamp tree s d x) where
@@ -150,7 +121,8 @@ module _ (layout : Layout) (limits : IsWithinLimits layout) (s : Scene) (pairs :
           let landed = open_section.look_landed layout s before.sound kept d x stamp.here form (omega (arith, at)) in
           look_answer x.thunk j n (open_section.step_as layout s before.sound kept d x stamp.here Look form j (Answer n) h)
           ∙ (open_section.look_reply layout s before.sound kept d x stamp.here form
-          ∙ reply_is pairs x.op w w.found (open_section.look_form_is layout s before.sound kept d x stamp.here form)
+          ∙ reply_is pairs 11 x.op w.value w.found (omega arith)
+          (open_section.look_form_is layout s before.sound kept d x stamp.here form)
           (λ hit. (now.child false (node_of w), found_is landed.node.linked hit, λ del. value_is hit del))
           (λ missed. missing_is landed.node.linked landed.node.lo landed.node.hi missed))
       by (open_section.Inserts form) =

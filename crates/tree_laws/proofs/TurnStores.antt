@@ -23,6 +23,7 @@ use Rattle.structure_laws.specs.InTurn.{StandsFor, AtStamp, AfterStores, InTurn}
 use Rattle.structure_laws.proofs.Changes.{upd_same, upd_other, equal_of, value-next_word, value_small}
 use Rattle.structure_laws.proofs.Limits.{links_small, value-small}
 use Rattle.bucket_laws.proofs.Maps.{get_removed, insert_map, remove_map}
+use Rattle.node_laws.proofs.Forms.{there}
 use Rattle.tree_bodies.specs.Tree.{key_cell, mark_of, child_of, Form, Look, Insert, Delete, Replace, form_of, body_of}
 use Rattle.tree_laws.specs.Search.{Nodes, Covers, IsInner, IsLeaf, Contents, with_child, RemovalKeeps, InsertionKeeps, thrice, ViewsAgree}
 use Rattle.tree_laws.specs.Walk.{Walk, node_of, form_for}
@@ -36,7 +37,7 @@ use Rattle.tree_laws.proofs.Inserting as inserting
 use Rattle.tree_laws.proofs.Removal.{still, remains}
 use Rattle.tree_laws.proofs.Removing as removing
 use Rattle.tree_laws.proofs.Alike.{AreAlike, tree_alike, sentinels_alike, contents_alike, contents_same, inner_back}
-use Rattle.tree_laws.proofs.Turn.{look_stamp, insert_stamp, delete_stamp, contents, key_there, leaf_unfixed, there, found_is, missing_is, turn_answers}
+use Rattle.tree_laws.proofs.Turn.{look_stamp, insert_stamp, delete_stamp, contents, key_there, leaf_unfixed, found_is, missing_is, turn_answers}
 use Rattle.tree_laws.proofs.Gives.{first_load, fourth_load}
 use Rattle.tree_laws.proofs.ReplaceTurn as replace_turn
 use Rattle.tree_laws.proofs.Open as open_section

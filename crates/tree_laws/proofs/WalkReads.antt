@@ -1,6 +1,6 @@
 -- What a walk of the tree takes from its readings alone.
-use Rattle.std.proofs.Common.{◌≡◌, ℕ, zero, suc, ◌+◌, ◌*◌, ◌<◌, Bool, true, false, cond, refl, sym, ap, ◌∙◌, subst, inl, inr, arith}
-use Rattle.std.specs.Prelude.{◌==◌, ◌&&◌, ◌-◌, ◌%◌, ◌^◌, ◌⊎◌, nat_le, nat_lt, Some, [], ◌∷◌, slice_get}
+use Rattle.std.proofs.Common.{◌≡◌, ℕ, suc, ◌+◌, ◌*◌, ◌<◌, Bool, true, false, cond, refl, sym, ap, ◌∙◌, subst, inl, inr, arith}
+use Rattle.std.specs.Prelude.{◌==◌, ◌&&◌, ◌-◌, ◌%◌, ◌^◌, ◌⊎◌, nat_le, nat_lt, Some, slice_get}
 use Rattle.std.specs.List.{list_any}
 use Rattle.std.proofs.lemmas.Option.{none-some}
 use Rattle.structure_laws.specs.table_words.specs.small_lemmas.proofs.Bools.{or_first as or_left, or_second as or_right}
@@ -11,8 +11,9 @@ use Rattle.structure_laws.specs.map_history.specs.Keys.{key_of}
 use Rattle.structure_laws.specs.body_terms.specs.Word.{value_of}
 use Rattle.structure_laws.specs.Scene.{Readings}
 use Rattle.structure_laws.proofs.Changes.{equal_of, value_small}
-use Rattle.bucket_laws.specs.Walk.{Bounds, is_del, is_wanted}
-use Rattle.bucket_laws.proofs.Walks.{wanted_eq}
+use Rattle.bucket_laws.specs.Walk.{Bounds, is_del}
+use Rattle.shared_laws.proofs.Numbers.{any_of}
+use Rattle.node_laws.proofs.Walked.{walk_keeps}
 use Rattle.tree_bodies.specs.Tree.{lock_of, left_of, right_of, mark_of, child_of, slot_in}
 use Rattle.tree_laws.specs.Walk.{Stage, AtRoot, AtLeft, AtKey, AtRight, AtValue, AtGrandLock, AtGrandMark, AtLock, AtMark, AtEnd, Refused, step_to, Walk, start, node_of, wanted_at, followed, after_leaf, is_ready, at_key, fed, walk}
 use Rattle.tree_laws.specs.Leaves.{is_left_place, is_right_place, shows_inner, shows_link}
@@ -81,15 +82,6 @@ both a b h h' = grind arith
 
 pub eq_test : (a b : ℕ) → a ≡ b → (a == b) ≡ true
 eq_test a b e = grind arith
-
--- where one reading passes a test, one of them does
-any_of : (test : ℕ × ℕ → Bool) (readings : Readings) (i : ℕ) (reading : ℕ × ℕ) → slice_get readings i ≡ Some reading → test reading ≡ true → list_any test readings ≡ true
-any_of test [] i reading h passes = absurd (cc)
-any_of test (first ∷ readings) zero reading h passes = or_left (test first) (list_any test readings) (subst (λ reading. test reading ≡ true) (sym (same first reading h)) passes)
-  where
-    same : (a b : ℕ × ℕ) → Some a ≡ Some b → a ≡ b
-    same a b e = cc
-any_of test (first ∷ readings) (suc i) reading h passes = or_right (test first) (list_any test readings) (any_of test readings i reading h passes)
 
 -- a left link is one; so is the right link of a node that was read to be inner
 left_place : (t : ℕ) → is_left_place (left_of t) ≡ true
@@ -397,40 +389,30 @@ module _ (all : Readings) where
     reads_fed w AtEnd p word reads at want among = absurd (none-some p want)
     reads_fed w Refused p word reads at want among = absurd (none-some p want)
 
-    -- the walk in readings that all stand in a list
-    reads_walked : (w : Walk) (readings : Readings) → ((i : ℕ) (reading : ℕ × ℕ) → slice_get readings i ≡ Some reading → (j : ℕ) × (slice_get all j ≡ Some reading)) → Reads w
-        → Reads (walk b op w readings)
-    unfolding walk
-    reads_walked w [] within reads = reads
-    reads_walked w (reading ∷ readings) within reads = go (is_wanted (wanted_at w w.stage) reading.0) refl
-        (reads_walked (fed b op w w.stage reading.1) readings (λ i other h. within (suc i) other h))
-      where
-        go : (c : Bool) → is_wanted (wanted_at w w.stage) reading.0 ≡ c → (Reads (fed b op w w.stage reading.1) → Reads (walk b op (fed b op w w.stage reading.1) readings))
-            → Reads (cond c (walk b op (fed b op w w.stage reading.1) readings) w)
-        go true e again = let here = within 0 reading refl in again (reads_fed w w.stage reading.0 reading.1 reads refl (wanted_eq (wanted_at w w.stage) reading.0 e) (here.0, here.1))
-        go false e again = reads
-
     pub walk_reads : Reads (walk b op start all)
-    walk_reads = reads_walked start all (λ i reading h. (i, h)) (record {
-      last_from = inl (omega arith);
-      grand_from = inl (omega arith);
-      some = λ past. absurd (cc);
-      node = λ past. absurd (cc);
-      shallow = λ e. refl;
-      joined = λ past. absurd (cc);
-      grand_some = λ past. absurd (cc);
-      last_read = λ past. absurd (cc);
-      grand_read = λ past. absurd (cc);
-      left = λ e. absurd (cc);
-      inner = λ e. absurd (cc);
-      deep = λ late. absurd (cc);
-      lock_read = λ locked. absurd (cc);
-      lock_ready = λ locked. absurd (cc);
-      valued = λ e. absurd (cc);
-      grand_mark_read = λ l. absurd (cc);
-      mark_read = λ e. absurd (cc);
-      unmarked = λ e. absurd (cc);
-      grand_unmarked = λ l. absurd (cc);
-      key_small = omega arith;
-      value_low = omega arith;
-    })
+    walk_reads = walk_keeps _ _ _ Reads (λ reading. (i : ℕ) × (slice_get all i ≡ Some reading))
+        (λ w reading want here reads. reads_fed w w.stage reading.0 reading.1 reads refl want
+        (here.0, here.1)) start all
+        (λ i reading h. (i, h)) (record {
+          last_from = inl (omega arith);
+          grand_from = inl (omega arith);
+          some = λ past. absurd (cc);
+          node = λ past. absurd (cc);
+          shallow = λ e. refl;
+          joined = λ past. absurd (cc);
+          grand_some = λ past. absurd (cc);
+          last_read = λ past. absurd (cc);
+          grand_read = λ past. absurd (cc);
+          left = λ e. absurd (cc);
+          inner = λ e. absurd (cc);
+          deep = λ late. absurd (cc);
+          lock_read = λ locked. absurd (cc);
+          lock_ready = λ locked. absurd (cc);
+          valued = λ e. absurd (cc);
+          grand_mark_read = λ l. absurd (cc);
+          mark_read = λ e. absurd (cc);
+          unmarked = λ e. absurd (cc);
+          grand_unmarked = λ l. absurd (cc);
+          key_small = omega arith;
+          value_low = omega arith;
+        })

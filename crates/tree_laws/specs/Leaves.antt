@@ -13,6 +13,7 @@ use Rattle.structure_laws.specs.Scene.{Cells, Readings, Section, Free, Live, Ret
 use Rattle.structure_laws.specs.Meaning.{Meaning}
 use Rattle.structure_laws.specs.Cells.{IsSafe}
 use Rattle.bucket_laws.specs.Walk.{Bounds}
+pub use Rattle.tree_bodies.specs.Tree.{is_lock_place}
 use Rattle.tree_bodies.specs.Tree.{key_cell, left_of, right_of, mark_of, child_of, slot_in, lock_of, Insert, Delete}
 use Rattle.tree_bodies.specs.Tree.{Replace, form_of, parent_in, leaf_in, sibling_of, old_leaf, tree_steps}
 use Rattle.tree_laws.specs.Search.{Nodes, Covers, IsInner, IsLeaf, SearchTree, HasSentinels, Contents}
@@ -24,10 +25,7 @@ first_value place =
     cond (place == 1) 4294967295 (cond (place == 2) 2 (cond (place == 3) 3
     (cond (place == 6) 4294967294 (cond (place == 11) 4294967295 0))))
 
--- a node's lock, its left link, and the cell behind that: the right link of an inner node, the value of a leaf
-abbrev pub is_lock_place : ℕ → Bool
-is_lock_place place = place % 5 == 0
-
+-- a node's left link, and the cell behind that: the right link of an inner node, the value of a leaf
 abbrev pub is_left_place : ℕ → Bool
 is_left_place place = place % 5 == 2
 

@@ -1,12 +1,14 @@
 -- The walk of a key from the root to a leaf, read off a list of readings, and the thunk that is the one for it.
-use Rattle.std.specs.Prelude.{ℕ, suc, ◌+◌, ◌*◌, ◌^◌, Bool, true, false, cond, not, ◌&&◌, ◌==◌, nat_lt, nat_le, List, [], ◌∷◌, Option, None, Some}
+use Rattle.std.specs.Prelude.{ℕ, suc, Bool, true, false, cond, ◌&&◌, ◌==◌, nat_lt, nat_le, List, [], ◌∷◌, Option, None, Some}
 use Rattle.structure_laws.specs.map_history.specs.declared.op.Op.{Op}
-use Rattle.structure_laws.specs.map_history.specs.declared.op.Op.TheVariants.{Get, Ins, Del, Put, Mov}
 use Rattle.structure_laws.specs.map_history.specs.Keys.{key_of}
-use Rattle.structure_laws.specs.body_terms.specs.Word.{value_of, is_free, is_spent}
+use Rattle.structure_laws.specs.body_terms.specs.Word.{value_of}
 use Rattle.structure_laws.specs.body_terms.specs.declared.thunk.Thunk.{Thunk}
 use Rattle.structure_laws.specs.Scene.{Readings}
-use Rattle.bucket_laws.specs.Walk.{Bounds, is_del, is_wanted, same_numbers, has_one_key}
+pub use Rattle.node_laws.specs.Walked.{is_ready}
+use Rattle.node_laws.specs.Walked.{walked}
+use Rattle.node_laws.specs.Forms.{form_from, reply_from, operands_from}
+use Rattle.bucket_laws.specs.Walk.{Bounds, is_del, same_numbers, has_one_key}
 use Rattle.tree_bodies.specs.Tree.{lock_of, key_cell, left_of, right_of, mark_of, child_of, slot_in}
 
 -- what the walk loads next; it is at its end, or was refused
@@ -125,10 +127,6 @@ abbrev pub after_leaf : Op → Bool → Bool → Stage
 after_leaf op deep true = cond (is_del op) (cond deep AtGrandLock Refused) AtValue
 after_leaf op deep false = AtLock
 
--- a lock that is free and not spent
-abbrev pub is_ready : Bounds → ℕ → Bool
-is_ready b word = is_free word && not (is_spent b.version_max word)
-
 -- the walk after its last node's key is loaded: at a leaf it ends; of an inner node it follows the link on
 -- its key's side
 abbrev pub at_key : Bounds → Op → Walk → Bool → Bool → ℕ → Walk
@@ -159,30 +157,16 @@ fed b op w AtEnd word = w
 fed b op w Refused word = w
 
 -- the walk in a list of readings: its longest prefix that is one
-unfoldable pub walk : Bounds → Op → Walk → Readings → Walk
-walk b op w [] = w
-walk b op w (reading ∷ readings) =
-    cond (is_wanted (wanted_at w w.stage) reading.0) (walk b op (fed b op w w.stage reading.1) readings) w
+abbrev pub walk : Bounds → Op → Walk → Readings → Walk
+walk b op = walked Walk (λ w. wanted_at w w.stage) (λ w word. fed b op w w.stage word)
 
 -- the form of the thunk for a whole walk; 0 where the tree doesn't serve the operation
 abbrev pub form_for : Op → Bool → ℕ
-form_for (Get key) found = 11
-form_for (Ins key value) true = 11
-form_for (Ins key value) false = 12
-form_for (Del key) true = 13
-form_for (Del key) false = 11
-form_for (Put key value) true = 14
-form_for (Put key value) false = 12
-form_for (Mov from to) found = 0
+form_for = form_from 11
 
 -- the reply word of an operation that neither adds nor removes a pair
 abbrev pub reply_for : Op → Walk → Bool → ℕ
-reply_for (Get key) w true = 3 * 2 ^ 32 + w.value
-reply_for (Get key) w false = 5 * 2 ^ 32
-reply_for (Ins key value) w found = 2 * 2 ^ 32
-reply_for (Del key) w found = 5 * 2 ^ 32
-reply_for (Put key value) w found = 6 * 2 ^ 32 + w.value
-reply_for (Mov from to) w found = 5 * 2 ^ 32
+reply_for op w = reply_from op w.value
 
 -- the operands of the four forms
 abbrev pub look_operands : Walk → ℕ → List ℕ
@@ -199,14 +183,8 @@ delete_operands w =
     step_place w.grand ∷ w.grand.word ∷ w.grand_mark ∷ w.lock ∷ step_place w.last ∷ w.last.word ∷ w.mark ∷ 0 ∷ []
 
 abbrev pub operands_for : Op → Walk → Bool → List ℕ
-operands_for (Get key) w found = look_operands w (reply_for (Get key) w found)
-operands_for (Ins key value) w true = look_operands w (reply_for (Ins key value) w true)
-operands_for (Ins key value) w false = insert_operands w key value
-operands_for (Del key) w true = delete_operands w
-operands_for (Del key) w false = look_operands w (reply_for (Del key) w false)
-operands_for (Put key value) w true = replace_operands w key value (reply_for (Put key value) w true)
-operands_for (Put key value) w false = insert_operands w key value
-operands_for (Mov from to) w found = look_operands w (reply_for (Mov from to) w found)
+operands_for op w found =
+    operands_from (look_operands w) (insert_operands w) (delete_operands w) (replace_operands w) op w.value found
 
 -- the outer lock: of the parent of the last node, and for a removal of the parent's parent
 abbrev pub lock_for : Op → Walk → Bool → ℕ

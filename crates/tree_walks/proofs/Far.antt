@@ -1,5 +1,5 @@
 -- A walk that is refused by no lock and by no mark of 1 is a long one.
-use Rattle.std.proofs.Common.{◌≡◌, ◌≢◌, ℕ, zero, suc, ◌<◌, ◌≤◌, inl, inr, ⊎_elim, List, [], ◌∷◌, ◌++◌, length, Bool, true, false, cond, refl, sym, ap, subst, ◌∙◌, arith, Some}
+use Rattle.std.proofs.Common.{◌≡◌, ◌≢◌, ℕ, suc, ◌<◌, ◌≤◌, inl, inr, ⊎_elim, [], ◌∷◌, ◌++◌, length, Bool, true, false, cond, refl, sym, ap, subst, ◌∙◌, arith, Some}
 use Rattle.std.specs.Prelude.{◌==◌, ◌&&◌, ◌||◌, not, ◌-◌, ◌%◌, ◌^◌, nat_lt, nat_le, slice_get}
 use Rattle.std.specs.List.{list_any}
 use Rattle.std.proofs.lemmas.Bool.Decides.{nat_tests}
@@ -10,6 +10,8 @@ use Rattle.runner_parts.specs.epoch_core.specs.small_lemmas.proofs.Lists.{same_n
 use Rattle.runner_parts.specs.epoch_core.specs.small_lemmas.proofs.Numbers.{tested_most as below}
 use Rattle.runner_parts.specs.structure_laws.specs.map_history.specs.declared.op.Op.{Op}
 use Rattle.runner_parts.specs.structure_laws.specs.map_history.specs.Keys.{key_of}
+use Rattle.tree_laws.specs.node_laws.proofs.Cells.{lock_cell}
+use Rattle.tree_laws.specs.shared_laws.proofs.Numbers.{get_longer}
 use Rattle.tree_laws.specs.section_body.specs.Bucket.{is_small}
 use Rattle.runner_parts.specs.structure_laws.specs.body_terms.specs.Word.{value_of}
 use Rattle.runner_parts.specs.structure_laws.specs.body_terms.proofs.ShapeLemmas.{any_found, found_any}
@@ -27,7 +29,7 @@ use Rattle.tree_laws.proofs.WalkReads.{IsAmong, IsGiven, IsFrom, walk_reads}
 use Rattle.tree_walks.specs.Walking.{lock_by, is_refused_at, is_refused_in}
 use Rattle.tree_walks.specs.Leading.{is_mark_place, FarLaw}
 use Rattle.tree_walks.proofs.Knowing.{Knows, knows_walked}
-use Rattle.tree_walks.proofs.Leading.{lock_cell, low_slot}
+use Rattle.tree_walks.proofs.Leading.{low_slot}
 
 not_zero : (a : ℕ) → 0 < a → (a == 0) ≡ false
 not_zero a some = grind (arith, nat_tests)
@@ -35,19 +37,14 @@ not_zero a some = grind (arith, nat_tests)
 is_zero : (a : ℕ) → (a == 0) ≡ true → a ≡ 0
 is_zero a h = grind arith
 
--- a list of readings and one more
-get_more : {A : Type 0} (xs : List A) (y v : A) (i : ℕ) → slice_get xs i ≡ Some v → slice_get (xs ++ y ∷ []) i ≡ Some v
-get_more [] y v i h = absurd (cc)
-get_more (x ∷ xs) y v zero h = h
-get_more (x ∷ xs) y v (suc i) h = get_more xs y v i h
-
 module _ (readings : Readings) (last : ℕ × ℕ) where
   abbrev all : Readings
   all = readings ++ last ∷ []
 
   any_more : (f g : ℕ × ℕ → Bool) → ((x : ℕ × ℕ) → f x ≡ true → g x ≡ true) → list_any f readings ≡ true → list_any g all ≡ true
   any_more f g passes any = let found = any_found f readings any in
-      found_any g all found.at found.element (get_more readings last found.element found.at found.here) (passes found.element found.passes)
+      found_any g all found.at found.element (get_longer readings last found.element found.at found.here)
+      (passes found.element found.passes)
 
   inner_more : (p : ℕ) → shows_inner readings p ≡ true → shows_inner all p ≡ true
   inner_more p shows = any_more (λ reading. reading.0 == p && nat_lt 0 (value_of reading.1)) (λ reading. reading.0 == p && nat_lt 0 (value_of reading.1)) (λ x passes. passes) shows
@@ -163,5 +160,6 @@ far_law layout op limits allowed readings place word wants walked lock mark refu
     let reads = walk_reads readings (bounds layout) op in
     far_at layout limits op allowed (readings ++ (place, word) ∷ []) walked w (from_more readings (place, word) w.last.from reads.last_from) (from_more readings (place, word) w.grand.from reads.grand_from)
     w.stage place word
-    (knows_walked (bounds layout) op (readings ++ (place, word) ∷ []) start readings (λ i reading h. (i, get_more readings (place, word) reading i h)) refl)
+    (knows_walked (bounds layout) op (readings ++ (place, word) ∷ []) start readings
+    (λ i reading h. (i, get_longer readings (place, word) reading i h)) refl)
     wants (length readings, get_new readings (place, word)) lock mark refused

@@ -1,43 +1,25 @@
 -- A walk makes few loads, and the section of a `get` changes nothing.
-use Rattle.std.proofs.Common.{◌≡◌, ℕ, suc, ◌≤◌, [], ◌∷◌, length, Bool, true, false, cond, refl, sym, ap, subst, ◌∙◌, arith, Some}
-use Rattle.std.specs.Prelude.{◌==◌, slice_get, take}
+use Rattle.std.proofs.Common.{◌≡◌, Bool, true, false, cond, refl, sym, subst, arith}
+use Rattle.std.specs.Prelude.{◌==◌}
 use Rattle.std.specs.List.{list_all}
-use Rattle.runner_parts.specs.epoch_core.specs.small_lemmas.proofs.Numbers.{self_tested}
 use Rattle.runner_parts.specs.structure_laws.specs.map_history.specs.declared.op.Op.TheVariants.{Get}
 use Rattle.runner_parts.specs.structure_laws.specs.body_terms.specs.Shape.{is_look}
 use Rattle.runner_parts.specs.structure_laws.specs.body_terms.specs.declared.thunk.Thunk.{Thunk}
-use Rattle.runner_parts.specs.structure_laws.specs.Scene.{Readings}
 use Rattle.runner_parts.specs.structure_laws.proofs.Changes.{both_true, equal_of}
-use Rattle.tree_laws.specs.bucket_laws.specs.Walk.{is_wanted, has_one_key}
+use Rattle.tree_laws.specs.bucket_laws.specs.Walk.{has_one_key}
+use Rattle.tree_laws.specs.node_laws.proofs.Walked.{few_left}
 use Rattle.tree_laws.specs.tree_bodies.specs.Tree.{Look, Empty, body_of, fits_look, tree_steps}
-use Rattle.tree_laws.specs.Walk.{is_end, walk}
-use Rattle.tree_laws.specs.Leaves.{walk_of}
-use Rattle.tree_walks.specs.Walking.{Walking, wanted_by, fed_by, followed_by, left_by}
-use Rattle.tree_walks.specs.Leading.{first_walk}
+use Rattle.tree_laws.specs.Walk.{is_end, start}
+use Rattle.tree_laws.specs.Leaves.{bounds, walk_of}
+use Rattle.tree_walks.specs.Walking.{left_at}
 use Rattle.tree_walks.specs.Gets.{WalksMakeFewLoads, GetsOnlyLook}
-use Rattle.tree_walks.proofs.Steps.{walk_nearer}
-
--- a walk goes on by a reading that it wants
-goes_on : (w : Walking) (place word : ℕ) (readings : Readings) → wanted_by w ≡ Some place → followed_by w ((place, word) ∷ readings) ≡ followed_by (fed_by w word) readings
-unfolding walk
-goes_on w place word readings wants =
-    ap (λ c. record w { walk = cond c (followed_by (fed_by w word) readings).walk w.walk }) (ap (λ o. is_wanted o place) wants ∙ self_tested place)
-
--- readings each of which the walk wants are no more than it had left
-few_left : (w : Walking) (readings : Readings)
-    → ((i place word : ℕ) → slice_get readings i ≡ Some (place, word) → wanted_by (followed_by w (take i readings)) ≡ Some place)
-    → length readings ≤ left_by w
-unfolding walk
-few_left w [] walks = omega arith
-few_left w (reading ∷ readings) walks =
-    let wants = walks 0 reading.0 reading.1 refl in
-    let others = few_left (fed_by w reading.1) readings
-    (λ i place word here. subst (λ v. wanted_by v ≡ Some place) (goes_on w reading.0 reading.1 (take i readings) wants) (walks (suc i) place word here)) in
-    let near = walk_nearer w reading.0 reading.1 wants in
-    omega (arith, others, near)
+use Rattle.tree_walks.proofs.Steps.{nearer}
 
 pub make_few_loads : WalksMakeFewLoads
-make_few_loads layout op readings walks = let few = few_left (first_walk layout op) readings walks in omega (arith, few)
+make_few_loads layout op readings walks =
+    let few = few_left _ _ _ (λ w. left_at w.stage (bounds layout).links w.links)
+    (λ w place word wants. nearer (bounds layout) op w w.stage place word wants) start readings walks in
+    omega (arith, few)
 
 -- form 11
 looks_in : (t : Thunk) → t.form ≡ 11 → list_all is_look (tree_steps t) ≡ true

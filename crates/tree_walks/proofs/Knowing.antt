@@ -1,5 +1,5 @@
 -- What a walk knows of the nodes that it has come by, and of its first lock.
-use Rattle.std.proofs.Common.{◌≡◌, ℕ, suc, Bool, true, false, cond, refl, sym, subst, ◌∙◌, arith, [], ◌∷◌, Some}
+use Rattle.std.proofs.Common.{◌≡◌, ℕ, suc, Bool, true, false, cond, refl, sym, subst, ◌∙◌, arith, Some}
 use Rattle.std.specs.Prelude.{◌==◌, ◌&&◌, nat_le, nat_lt, slice_get}
 use Rattle.std.proofs.lemmas.Option.{none-some}
 use Rattle.std.proofs.lemmas.Bool.{and_from}
@@ -11,8 +11,8 @@ use Rattle.runner_parts.specs.structure_laws.specs.map_history.specs.Keys.{key_o
 use Rattle.runner_parts.specs.structure_laws.specs.body_terms.specs.Word.{value_of}
 use Rattle.runner_parts.specs.structure_laws.specs.body_terms.proofs.ShapeLemmas.{found_any}
 use Rattle.runner_parts.specs.structure_laws.specs.Scene.{Readings}
-use Rattle.tree_laws.specs.bucket_laws.specs.Walk.{Bounds, is_del, is_wanted}
-use Rattle.tree_laws.specs.bucket_laws.proofs.Walks.{wanted_eq}
+use Rattle.tree_laws.specs.node_laws.proofs.Walked.{walk_keeps}
+use Rattle.tree_laws.specs.bucket_laws.specs.Walk.{Bounds, is_del}
 use Rattle.tree_laws.specs.tree_bodies.specs.Tree.{lock_of, left_of}
 use Rattle.tree_laws.specs.Walk.{Stage, AtRoot, AtLeft, AtKey, AtRight, AtValue, AtGrandLock, AtGrandMark, AtLock, AtMark, AtEnd, Refused, Step, Walk, start, node_of, wanted_at, is_ready, after_leaf, followed, at_key, fed, walk}
 use Rattle.tree_laws.specs.Leaves.{shows_inner}
@@ -110,18 +110,8 @@ module _ (b : Bounds) (op : Op) (all : Readings) where
   pub knows_walked : (w : Walk) (readings : Readings)
       → ((i : ℕ) (reading : ℕ × ℕ) → slice_get readings i ≡ Some reading → (j : ℕ) × (slice_get all j ≡ Some reading))
       → Knows w w.stage → Knows (walk b op w readings) (walk b op w readings).stage
-  unfolding walk
-  knows_walked w [] within known = known
-  knows_walked w (reading ∷ readings) within known = go (is_wanted (wanted_at w w.stage) reading.0) refl
-      (knows_walked (fed b op w w.stage reading.1) readings (λ i other h. within (suc i) other h))
-    where
-      go : (c : Bool) → is_wanted (wanted_at w w.stage) reading.0 ≡ c
-          → (Knows (fed b op w w.stage reading.1) (fed b op w w.stage reading.1).stage
-          → Knows (walk b op (fed b op w w.stage reading.1) readings) (walk b op (fed b op w w.stage reading.1) readings).stage)
-          → Knows (cond c (walk b op (fed b op w w.stage reading.1) readings) w) (cond c (walk b op (fed b op w w.stage reading.1) readings) w).stage
-      go true e again = let here = within 0 reading refl in
-          again (knows_fed w w.stage reading.0 reading.1 known (wanted_eq (wanted_at w w.stage) reading.0 e) (here.0, here.1))
-      go false e again = known
+  knows_walked = walk_keeps _ _ _ (λ w. Knows w w.stage) (λ reading. (j : ℕ) × (slice_get all j ≡ Some reading))
+      (λ w reading want here known. knows_fed w w.stage reading.0 reading.1 known want (here.0, here.1))
 
 pub knows : (b : Bounds) (op : Op) (readings : Readings) → Knows b op readings (walk b op start readings) (walk b op start readings).stage
 knows b op readings = knows_walked b op readings start readings (λ i reading h. (i, h)) refl

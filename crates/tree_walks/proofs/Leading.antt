@@ -1,24 +1,26 @@
 -- The walk of the tree leads a plan.
-use Rattle.std.proofs.Common.{◌≡◌, ◌≢◌, ℕ, suc, ◌*◌, ◌<◌, ◌⊎◌, inl, inr, List, [], ◌∷◌, length, Bool, true, false, cond, refl, sym, ap, subst, ◌∙◌, arith, Some, None}
-use Rattle.std.specs.Prelude.{◌==◌, ◌&&◌, ◌||◌, not, ◌-◌, ◌/◌, ◌%◌, nat_lt}
+use Rattle.std.proofs.Common.{◌≡◌, ℕ, suc, ◌*◌, ◌<◌, ◌⊎◌, inl, inr, [], length, Bool, true, false, cond, refl, sym, ap, subst, ◌∙◌, arith, Some, None}
+use Rattle.std.specs.Prelude.{◌==◌, ◌&&◌, ◌||◌, not, ◌-◌, ◌/◌, nat_lt}
 use Rattle.std.specs.List.{list_any}
 use Rattle.std.proofs.lemmas.Option.{none-some}
-use Rattle.std.proofs.lemmas.Bool.{and_from}
 use Rattle.runner_parts.specs.epoch_core.specs.small_lemmas.proofs.Bools.{from_false as false_true}
 use Rattle.runner_parts.specs.epoch_core.specs.small_lemmas.proofs.Lists.{same_number as some_eq}
 use Rattle.runner_parts.specs.epoch_core.specs.small_lemmas.proofs.Numbers.{self_tested as same_test}
 use Rattle.runner_parts.specs.structure_laws.specs.map_history.specs.declared.op.Op.{Op}
-use Rattle.runner_parts.specs.structure_laws.specs.map_history.specs.declared.op.Op.TheVariants.{Get, Ins, Del, Put, Mov}
+use Rattle.tree_laws.specs.node_laws.proofs.Cells.{slot_is, no_cell}
+use Rattle.tree_laws.specs.node_laws.proofs.Forms.{same_self, free_of}
+use Rattle.tree_laws.specs.node_laws.proofs.Forms as forms
+use Rattle.tree_laws.specs.shared_laws.proofs.Numbers.{read_pair}
+use Rattle.tree_laws.specs.Walk.{look_operands, insert_operands, delete_operands, replace_operands}
 use Rattle.tree_laws.specs.section_body.specs.Bucket.{is_small}
 use Rattle.runner_parts.specs.structure_laws.specs.body_terms.specs.Memory.{cell_of}
 use Rattle.runner_parts.specs.structure_laws.specs.body_terms.specs.Word.{value_of, is_free, is_spent}
-use Rattle.runner_parts.specs.structure_laws.specs.body_terms.proofs.ShapeLemmas.{found_any}
 use Rattle.runner_parts.specs.structure_laws.specs.table_words.specs.declared.layout.Layout.{Layout}
 use Rattle.runner_parts.specs.structure_laws.specs.table_words.specs.Places.{slot_count}
 use Rattle.runner_parts.specs.structure_laws.specs.Scene.{Readings}
 use Rattle.runner_parts.specs.structure_laws.proofs.Changes.{both_true, equal_of}
 use Rattle.runner_parts.specs.Tests.{has_pair, is_readable}
-use Rattle.tree_laws.specs.bucket_laws.specs.Walk.{Bounds, is_del, same_numbers, has_one_key}
+use Rattle.tree_laws.specs.bucket_laws.specs.Walk.{Bounds, is_del, has_one_key}
 use Rattle.tree_laws.specs.tree_bodies.specs.Tree.{lock_of, key_cell, left_of, right_of, mark_of}
 use Rattle.tree_laws.specs.Walk.{Stage, AtRoot, AtLeft, AtKey, AtRight, AtValue, AtGrandLock, AtGrandMark, AtLock, AtMark, AtEnd, Refused, Walk, node_of, wanted_at, is_end, is_ready, fed, form_for, operands_for, word_for}
 use Rattle.tree_laws.specs.Leaves.{tree, bounds, walk_of, is_lock_place, shows_link, TreeWalked}
@@ -31,19 +33,6 @@ use Rattle.tree_walks.proofs.Steps.{walk_nearer}
 
 some_none : {A : Type 0} (a : ℕ) → Some a ≡ None → A
 some_none a e = cc
-
--- which cell of its slot a place is
-cell_is : (t k place : ℕ) → k < 5 → cell_of 0 t k ≡ place → place % 5 ≡ k
-cell_is t k place low e = omega (arith, low, e)
-
-slot_is : (t k place : ℕ) → k < 5 → cell_of 0 t k ≡ place → (place - 0) / 5 ≡ t
-slot_is t k place low e = omega (arith, low, e)
-
-pub lock_cell : (t place : ℕ) → lock_of t ≡ place → is_lock_place place ≡ true
-lock_cell t place e = let r = cell_is t 0 place (omega arith) e in grind (arith, r)
-
-no_cell : (t k n place : ℕ) → k < 5 → k ≢ n → cell_of 0 t k ≡ place → (place % 5 == n) ≡ true → ⊥
-no_cell t k n place low ne e is = ne (sym (cell_is t k place low e) ∙ equal_of (place % 5) n is)
 
 -- a place that a runner may load
 module _ (layout : Layout) (readings : Readings) where
@@ -169,29 +158,9 @@ module _ (b : Bounds) (op : Op) (w : Walk) where
   ends_at AtEnd false wants goes = absurd (cc)
   ends_at Refused c wants goes = absurd (cc)
 
-same_self : (xs : List ℕ) → same_numbers xs xs ≡ true
-same_self [] = refl
-same_self (x ∷ xs) = (λ i. same_test x i && same_self xs i)
-
 eight : (op : Op) (w : Walk) (found : Bool) → length (operands_for op w found) ≡ 8
-eight (Get key) w true = refl
-eight (Get key) w false = refl
-eight (Ins key value) w true = refl
-eight (Ins key value) w false = refl
-eight (Del key) w true = refl
-eight (Del key) w false = refl
-eight (Put key value) w true = refl
-eight (Put key value) w false = refl
-eight (Mov from to) w found = refl
-
-free_of : (free spent : Bool) → (free && not spent) ≡ true → (free ≡ true) × (spent ≡ false)
-free_of true true h = absurd (cc)
-free_of true false h = (refl, refl)
-free_of false spent h = absurd (cc)
-
--- a word that was read is among the readings
-read_pair : (readings : Readings) (p w : ℕ) → IsAmong readings p w → has_pair readings p w ≡ true
-read_pair readings p w among = found_any (λ x. x.0 == p && x.1 == w) readings among.0 (p, w) among.1 (and_from (p == p) (w == w) (same_test p) (same_test w))
+eight op w = forms.eight (look_operands w) (insert_operands w) (delete_operands w) (replace_operands w) w.value 0
+    (λ reply. refl) (λ key value. refl) refl (λ key value reply. refl) op
 
 -- the outer lock was read, free and not spent
 module _ (b : Bounds) (op : Op) (readings : Readings) (w : Walk) (reads : Reads readings b op w) (at : w.stage ≡ AtEnd) (grand : HasGrand b op readings w) where
@@ -227,7 +196,8 @@ module _ (layout : Layout) (op : Op) where
         operands = eight op w w.found;
         free = ready.0;
         unspent = ready.1;
-        read = ap (λ p. has_pair readings p (word_for op w w.found)) lock ∙ read_pair readings (lock_by op w) (word_for op w w.found) out.0;
+        read = ap (λ p. has_pair readings p (word_for op w w.found)) lock
+            ∙ read_pair readings (lock_by op w) (word_for op w w.found) out.0.0 out.0.1;
       }
 
   pub walk_leads : has_one_key op ≡ true → WalkLeads layout op

@@ -43,7 +43,7 @@ module _ (b : Bounds) (op : Op) (w : Walk) where
       let low = link_nearer w.links b.links (value_of w.left == 0) (nat_le b.links (suc w.links)) refl in omega (arith, low)
   key_nearer false false word = omega arith
 
-  nearer : (stage : Stage) (place word : ℕ) → wanted_at w stage ≡ Some place
+  pub nearer : (stage : Stage) (place word : ℕ) → wanted_at w stage ≡ Some place
       → left_at (fed b op w stage word).stage b.links (fed b op w stage word).links < left_at stage b.links w.links
   nearer AtRoot place word wants = first_nearer b.links (value_of word == 0) (nat_le b.links 1) refl
   nearer AtLeft place word wants = omega arith
