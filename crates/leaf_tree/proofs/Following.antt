@@ -3,7 +3,7 @@ use Rattle.std.proofs.Common.{◌≡◌, [], ◌∷◌, Bool, true, false, cond,
 use Rattle.tree_walks.specs.structure_laws.specs.Scene.{Readings}
 use Rattle.tree_walks.specs.tree_laws.specs.bucket_laws.specs.Walk.{is_wanted}
 use Rattle.tree_walks.specs.tree_laws.specs.node_laws.specs.Walked.{walked}
-use Rattle.tree_walks.specs.tree_laws.specs.Walk.{Walk, walk}
+use Rattle.tree_walks.specs.tree_laws.specs.Walk.{Walk}
 use Rattle.tree_walks.specs.Walking.{wanted_by, fed_by, followed_by}
 use Rattle.lock_walks.specs.Followed.{followed}
 use Rattle.lock_walks.proofs.Following.{same_test}

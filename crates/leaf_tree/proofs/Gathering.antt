@@ -1,16 +1,12 @@
 -- Leaves are gathered node by node.
-use Rattle.std.proofs.Common.{◌≡◌, ◌≢◌, ℕ, zero, suc, ◌+◌, ◌<◌, ◌≤◌, ◌⊎◌, inl, inr, ⊎_elim, List, [], ◌∷◌, ◌++◌, Bool, true, false, cond, refl, sym, ap, subst, ◌∙◌, arith, Option, Some, None}
-use Rattle.std.specs.Prelude.{◌==◌, ◌&&◌, ◌||◌, nat_lt, slice_get, T}
-use Rattle.std.specs.Ordering.{nat_cmp, is_lt, eq_by_cmp}
-use Rattle.std.specs.FinMap.{get, entries, entries_sorted, get-entries, nat_cmp-IsAntisymmetric, find, is_sorted}
-use Rattle.std.specs.FinMap.Entries.{below_all, same_entries}
-use Rattle.std.proofs.lemmas.Bool.Decides.{nat_tests}
-use Rattle.std.proofs.lemmas.Cmp.{nat_cmp_total}
+use Rattle.std.proofs.Common.{◌≡◌, ℕ, zero, suc, ◌+◌, ◌<◌, ◌≤◌, ◌⊎◌, inl, inr, ⊎_elim, List, [], ◌∷◌, ◌++◌, Bool, true, false, cond, refl, sym, ap, subst, ◌∙◌, arith, Option, Some, None}
+use Rattle.std.specs.Prelude.{◌==◌, ◌&&◌, ◌||◌, nat_lt}
+use Rattle.std.specs.FinMap.{get, entries}
 use Rattle.std.proofs.lemmas.Bool.{and_from}
 use mathlib.Core.Logic.{dite}
 use native.Mathlib.Decide.{ℕ_discrete}
 use Rattle.tree_walks.specs.small_lemmas.proofs.Bools.{or_first as or_left, or_second as or_right, from_false as false_true}
-use Rattle.tree_walks.specs.small_lemmas.proofs.Numbers.{less_tested as lt_test, not_less_tested as lt_not, tested_less as lt_of, equal_tested as eq_test}
+use Rattle.tree_walks.specs.small_lemmas.proofs.Numbers.{less_tested as lt_test, tested_less as lt_of, equal_tested as eq_test}
 use Rattle.tree_walks.specs.structure_laws.specs.map_history.specs.Replay.{Pairs}
 use Rattle.tree_walks.specs.structure_laws.specs.Scene.{Cells}
 use Rattle.tree_walks.specs.structure_laws.proofs.Changes.{both_true, or_cases, equal_of}

@@ -1,7 +1,5 @@
 -- The pairs of the leaves as they are gathered, from the left to the right.
-use Rattle.std.specs.Prelude.{◌≡◌, ℕ, zero, suc, ◌+◌, ◌<◌, ◌≤◌, List, [], ◌∷◌, ◌++◌, Bool, true, cond, ◌&&◌, ◌||◌, ◌==◌, nat_lt, None, Some, slice_get}
-use Rattle.std.specs.Ordering.{nat_cmp}
-use Rattle.std.specs.FinMap.{get, find, is_sorted}
+use Rattle.std.specs.Prelude.{◌≡◌, ℕ, zero, suc, ◌+◌, ◌≤◌, List, [], ◌∷◌, ◌++◌, Bool, true, cond, ◌&&◌, ◌||◌, ◌==◌, nat_lt}
 use Rattle.tree_walks.specs.structure_laws.specs.map_history.specs.Replay.{Pairs}
 use Rattle.tree_walks.specs.structure_laws.specs.Scene.{Cells}
 pub use Rattle.tree_walks.specs.tree_laws.specs.shared_laws.specs.Gathered.{HasPairs}
