@@ -57,7 +57,7 @@ struct Bodies;
 
 impl Shown for Bodies {
     fn shown(alloc: Global, text: &str) -> Result<String, AllocError> {
-        body_of(alloc, &thunk_of(number_of(text)))
+        body_of(alloc, &thunk_of(u64::from(number_of(text))))
     }
 }
 
@@ -158,7 +158,7 @@ struct Line;
 
 impl Shown for Line {
     fn shown(alloc: Global, text: &str) -> Result<String, AllocError> {
-        let micro = micro_at(&bucket_body(&thunk_of(2)), number_of(text) as u32);
+        let micro = micro_at(&bucket_body(&thunk_of(2)), number_of(text));
         format!(in alloc; "{micro:?}")
     }
 }

@@ -32,6 +32,6 @@ pub fn bytes_of(alloc: Global, row: &str) -> Result<Vec<u8>, AllocError> {
 }
 
 /// The number that a text is, and 0 for another text.
-pub fn number_of(text: &str) -> u64 {
+pub fn number_of(text: &str) -> u32 {
     text.parse().unwrap_or(0)
 }

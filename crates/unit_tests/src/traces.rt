@@ -1,4 +1,6 @@
 // What is read of texts, what is generated, and what is printed again.
+ghost use Rattle.command_line.specs.trace_reader.specs.Generator.{IsPlan};
+
 use crate::rows::{Shown, bytes_of, check, number_of};
 use command_line::trace_reader::{Gen, MemorySource, SureSource, generate, read_traces};
 use printed_traces::trace_text;
@@ -55,7 +57,7 @@ struct Failing;
 impl Shown for Failing {
     fn shown(alloc: Global, text: &str) -> Result<String, AllocError> {
         let (failing, text) = text.split_once(' ').unwrap_or(("", text));
-        let fails = Vec::from_array(alloc, [number_of(failing)])?;
+        let fails = Vec::from_array(alloc, [u64::from(number_of(failing))])?;
         let mut source = MemorySource::new(bytes_of(alloc, text)?, Vec::new(alloc), fails);
         let error = read_traces(alloc, &mut source).err();
         format!(in alloc; "{error:?}")
@@ -68,47 +70,51 @@ fn a_failed_read_is_told_behind_the_faults_before_it(rt: HostRuntime) -> Result<
     Ok(())
 }
 
-/// What is printed of so many traces with so many requests each.
-fn printed(alloc: Global, traces: u32, length: u32, apart: bool) -> Result<String, AllocError> {
-    if traces > 3 || length > 3 {
-        return Err(AllocError);
-    }
-    let plan = Gen {
-        seed: 1,
-        traces,
-        length,
-        keys: 100,
-        apart,
-    };
-    let made = generate(alloc, &plan)?;
+/// How many requests are generated, and what is printed of them.
+fn printed(alloc: Global, plan: &Gen) -> Result<String, AllocError>
+    requires { IsPlan plan.now }
+{
+    let made = generate(alloc, plan)?;
     let text = trace_text(alloc, made.requests.as_slice(), made.count)?;
     let text = str::from_utf8(&text).unwrap_or("");
     format!(in alloc; "{} {} {text}", made.format, made.requests.len())
 }
 
+const ONE: Gen = Gen {
+    seed: 1,
+    traces: 1,
+    length: 3,
+    keys: 100,
+    apart: false,
+};
+
 // Three traces of one request draw the same outputs as one of three.
+const THREE: Gen = Gen {
+    seed: 1,
+    traces: 3,
+    length: 1,
+    keys: 100,
+    apart: true,
+};
+
+const NONE: Gen = Gen {
+    seed: 1,
+    traces: 3,
+    length: 0,
+    keys: 100,
+    apart: true,
+};
+
 #[test]
 fn requests_are_generated(rt: HostRuntime) -> Result<(), Fail> {
-    let alloc = rt.alloc();
-    let rows = [
-        (
-            1,
-            3,
-            false,
-            "1 3 flock 1\ntrace\ndel 58\nins 15 150\nget 27\n",
-        ),
-        (
-            3,
-            1,
-            true,
-            "1 3 flock 1\ntrace\ndel 174\ntrace\nins 46 460\ntrace\nget 83\n",
-        ),
-        (3, 0, true, "1 0 flock 1\ntrace\ntrace\ntrace\n"),
-    ];
-    for (traces, length, apart, wanted) in rows {
-        let printed = printed(alloc, traces, length, apart)?;
-        assert!(rt; printed.as_str() == wanted, "{printed}");
-    }
+    let one = printed(rt.alloc(), &ONE)?;
+    assert!(rt; one.as_str() == "1 3 flock 1\ntrace\ndel 58\nins 15 150\nget 27\n");
+    let three = printed(rt.alloc(), &THREE)?;
+    assert!(rt;
+        three.as_str() == "1 3 flock 1\ntrace\ndel 174\ntrace\nins 46 460\ntrace\nget 83\n"
+    );
+    let none = printed(rt.alloc(), &NONE)?;
+    assert!(rt; none.as_str() == "1 0 flock 1\ntrace\ntrace\ntrace\n");
     Ok(())
 }
 
