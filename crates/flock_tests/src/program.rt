@@ -1,4 +1,5 @@
 //! The program over streams in memory. Nothing is promised of these calls: they run.
+use crate::legal;
 use flock_tool::flock;
 use flock_tool::report_text::{MemorySink, Sink};
 use flock_tool::threaded_runs::runner_gate::{Gates, PlannedGates};
@@ -169,7 +170,8 @@ pub fn check<T: Threads + Wait + Sync>(
     run(rt, alloc, "check", input)
 }
 
-/// Whether the program finds this report on this text legal.
+/// Whether this report on this text is legal: the program finds it so, and so does `legal`, which knows nothing of how
+/// either came about.
 pub fn is_legal<T: Threads + Wait + Sync>(
     rt: &T,
     alloc: Global,
@@ -177,5 +179,6 @@ pub fn is_legal<T: Threads + Wait + Sync>(
     report: &[u8],
 ) -> Result<bool, AllocError> {
     let ended = check(rt, alloc, text, report)?;
-    Ok(ended.is(0, b"legal\n", b""))
+    let replayed = legal::is_legal(alloc, text, str::from_utf8(report).unwrap_or(""))?;
+    Ok(ended.is(0, b"legal\n", b"") && replayed)
 }
