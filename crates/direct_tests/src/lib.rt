@@ -3,14 +3,15 @@
 //!
 //! `gates` has gates that follow a script and stop at a planned ask, `runs` the run of a list of requests on a new
 //! table, with the pairs at the end, `texts` the run of a text, and `rows` the tests.
+//!
+//! All of it is read with the tests alone, so that it is proved once.
 #![tactic(auto)]
 
+#[cfg(test)]
 mod gates;
 #[cfg(test)]
 mod rows;
+#[cfg(test)]
 mod runs;
+#[cfg(test)]
 mod texts;
-
-pub use gates::{Stopping, StoppingGates};
-pub use runs::{Ended, run_direct};
-pub use texts::{Row, run_text};

@@ -161,7 +161,6 @@ pub fn is_legal(alloc: Global, text: &[u8], report: &str) -> Result<bool, AllocE
 }
 
 /// The check itself on one text, by hand: which reports it takes and which it refuses.
-#[cfg(test)]
 mod tests {
     use super::is_legal;
     use crate::program::bytes_of;

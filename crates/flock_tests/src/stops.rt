@@ -2,9 +2,7 @@
 //! the keeper settles the table: it runs the section to its end that stands in a lock word, so the
 //! report has the reply of each request that was published before the stop.
 
-use crate::checks::is_found_legal;
-use crate::legal::is_legal;
-use crate::program::{Ended, TABLES, bytes_of, run};
+use crate::program::{Ended, TABLES, bytes_of, is_legal, run};
 use std::alloc::{AllocError, Global};
 use std::process::Abort;
 use std::sync::Wait;
@@ -62,10 +60,10 @@ fn run_stopped<T: Threads + Wait + Sync>(
 fn tells_unserved(alloc: Global, ended: &Ended) -> Result<bool, AllocError> {
     let unserved = ended.report().matches("- unserved\n").count();
     if unserved == 0 {
-        return Ok(ended.status == 0 && ended.faults.bytes().is_empty());
+        return Ok(ended.status == 0 && ended.told.is_empty());
     }
     let told = format!(in alloc; "flock: halted, {unserved} unserved\n")?;
-    Ok(ended.status == 1 && ended.faults.bytes() == told.as_bytes())
+    Ok(ended.status == 1 && ended.told.as_slice() == told.as_bytes())
 }
 
 // What stands before the first of these in a row, and what behind it.
@@ -88,10 +86,10 @@ fn row_stops<T: Abort + Threads + Wait + Sync>(
     let words = format!(in alloc; "--table {table} --runners 1 --reads {reads}")?;
     for ask in first.parse::<u64>()?..=last.parse::<u64>()? {
         let ended = run_stopped(rt, alloc, &words, ask, &text)?;
-        assert!(rt; ended.sink.bytes() == report.as_slice(), "{row} at {ask}");
+        assert!(rt; ended.printed == report, "{row} at {ask}");
         assert!(rt; tells_unserved(alloc, &ended)?, "{row} at {ask}");
     }
-    assert!(rt; is_found_legal(rt, alloc, &text, &report)?, "{row}");
+    assert!(rt; is_legal(rt, alloc, &text, &report)?, "{row}");
     Ok(())
 }
 
@@ -133,12 +131,20 @@ const PAIRS: [(&str, &str, u64); 5] = [
     ),
 ];
 
-// Whether each request was served behind this line of the report.
-fn all_served_from(report: &str, line: &str) -> bool {
-    match report.split_once(line) {
-        Some((_, others)) => !others.contains("unserved"),
-        None => false,
-    }
+// Whether each request was served behind this line of the report, the report is legal, and what was told is so.
+fn others_are_served<T: Threads + Wait + Sync>(
+    rt: &T,
+    alloc: Global,
+    text: &[u8],
+    ended: &Ended,
+    line: &str,
+) -> Result<bool, AllocError> {
+    let others = match ended.report().split_once(line) {
+        Some((_, others)) => others,
+        None => "unserved",
+    };
+    let are_served = !others.contains("unserved") && tells_unserved(alloc, ended)?;
+    Ok(are_served && is_legal(rt, alloc, text, &ended.printed)?)
 }
 
 // Wherever the first runner of a pair stops on this table, the second one is served, and the report is legal.
@@ -146,25 +152,14 @@ fn second_ones_are_served<T: Abort + Threads + Wait + Sync>(
     rt: &T,
     alloc: Global,
     table: &str,
-) -> Result<(), Fail> {
+) -> Result<(), AllocError> {
     for (row, reads, last) in PAIRS {
         let text = bytes_of(alloc, row)?;
         let words = format!(in alloc; "--table {table} --runners 2 --reads {reads}")?;
         for ask in 1..=last {
             let ended = run_stopped(rt, alloc, &words, ask, &text)?;
-            assert!(rt;
-                all_served_from(ended.report(), "trace 1\n"),
-                "{row} on {table} at {ask}"
-            );
-            assert!(rt;
-                is_legal(alloc, &text, ended.report())?,
-                "{row} on {table} at {ask}"
-            );
-            assert!(rt;
-                is_found_legal(rt, alloc, &text, ended.sink.bytes())?,
-                "{row} on {table} at {ask}"
-            );
-            assert!(rt; tells_unserved(alloc, &ended)?, "{row} on {table} at {ask}");
+            let are_served = others_are_served(rt, alloc, &text, &ended, "trace 1\n")?;
+            assert!(rt; are_served, "{row} on {table} at {ask}");
         }
     }
     Ok(())
@@ -173,17 +168,37 @@ fn second_ones_are_served<T: Abort + Threads + Wait + Sync>(
 #[test]
 fn whoever_does_not_stop_is_served(rt: HostRuntime) -> Result<(), Fail> {
     second_ones_are_served(&rt, rt.alloc(), "hash")?;
-    second_ones_are_served(&rt, rt.alloc(), "tree")
+    second_ones_are_served(&rt, rt.alloc(), "tree")?;
+    Ok(())
 }
 
 // The list by itself, for the sake of a test's time.
 #[test]
 fn whoever_does_not_stop_is_served_on_the_list(rt: HostRuntime) -> Result<(), Fail> {
-    second_ones_are_served(&rt, rt.alloc(), "list")
+    second_ones_are_served(&rt, rt.alloc(), "list")?;
+    Ok(())
 }
 
 // Four traces on 50 keys.
 const FOUR: &str = "gen --seed=7 --traces 4 --length 200 --keys 50";
+
+// Whether the others are served, where these runners of four stop, on this table.
+fn four_are_served<T: Threads + Wait + Sync>(
+    rt: &T,
+    alloc: Global,
+    made: &Ended,
+    table: &str,
+    halt: &str,
+    others: &str,
+) -> Result<bool, AllocError> {
+    let inserts = made.report().matches("ins ").count();
+    let nodes = inserts.saturating_mul(2).saturating_add(2);
+    let line = format!(in alloc;
+        "run --table {table} --runners 4 --sections 5 --nodes {nodes} --halt {halt}"
+    )?;
+    let ended = run(rt, alloc, &line, made.printed.clone()?)?;
+    others_are_served(rt, alloc, &made.printed, &ended, others)
+}
 
 // Wherever one of four runners stops, or three of them, each request of the others is served: each runner has one
 // descriptor more than there are runners, and node slots for all insertions, so it doesn't matter that none of those in
@@ -192,22 +207,14 @@ const FOUR: &str = "gen --seed=7 --traces 4 --length 200 --keys 50";
 fn others_are_served_beside_those_that_stop(rt: HostRuntime) -> Result<(), Fail> {
     let alloc = rt.alloc();
     let made = run(&rt, alloc, FOUR, Vec::new(alloc))?;
-    let text = made.sink.bytes();
-    let inserts = made.report().matches("ins ").count();
-    let nodes = inserts.saturating_mul(2).saturating_add(2);
     for table in TABLES {
         for ask in 1..=40 {
             let one = format!(in alloc; "0:{ask}")?;
+            let are_served = four_are_served(&rt, alloc, &made, table, &one, "trace 1\n")?;
+            assert!(rt; are_served, "{table} {one}");
             let three = format!(in alloc; "0:{ask},1:{ask},2:{ask}")?;
-            for (halt, others) in [(one, "trace 1\n"), (three, "trace 3\n")] {
-                let line = format!(in alloc;
-                    "run --table {table} --runners 4 --sections 5 --nodes {nodes} --halt {halt}"
-                )?;
-                let ended = run(&rt, alloc, &line, text.to_vec(alloc)?)?;
-                assert!(&rt; all_served_from(ended.report(), others), "{line}");
-                assert!(&rt; tells_unserved(alloc, &ended)?, "{line}");
-                assert!(&rt; is_legal(alloc, text, ended.report())?, "{line}");
-            }
+            let are_served = four_are_served(&rt, alloc, &made, table, &three, "trace 3\n")?;
+            assert!(rt; are_served, "{table} {three}");
         }
     }
     Ok(())

@@ -1,107 +1,161 @@
-//! Texts that are cut off, and reads and writes that fail, each in turn. In the tables `/` stands
-//! for a line feed.
+//! Texts in one piece and in pieces of one byte, texts that are cut off, and reads and writes that fail, each in turn.
+//! `program` says what the signs in a text stand for.
 ghost use Rattle.std.specs.Prelude.{None};
 
-use crate::program::{Ended, bytes_of, quiet_sink, run_from, status_of};
+use crate::program::{Ended, bytes_of, cut, quiet_sink, run_from, status_of};
 use flock_tool::report_text::{Failed, MemorySink, Sink};
 use flock_tool::threaded_runs::runner_gate::PlannedGates;
 use flock_tool::trace_reader::{MemorySource, SureSource};
+use flock_tool::{StdSink, StdSource};
 use std::alloc::{AllocError, Global};
 use std::process::Abort;
 use std::sync::Wait;
 use std::test::Fail;
 use std::thread::Threads;
 
-const TEXT: &str = "flock 1/trace/ins 5 70/";
-
-// What each prefix of the text gives. Each row: the shortest and the longest one, the status, the
-// report, and what is told.
-const PREFIXES: &str = "\
-0 6 3||flock: line 1: no header/
-7 8 0|final 0/|
-9 12 3||flock: line 2: unknown word/
-13 14 0|trace 0/final 0/|
-15 16 3||flock: line 3: unknown word/
-17 20 3||flock: line 3: missing field/
-21 23 0|trace 0/0 new/final 1/|
+// Each row: the status, a text, the report, and what is told.
+const TEXTS: &str = "\
+0|flock 1/|final 0/|
+0|flock 1/trace/|trace 0/final 0/|
+0|flock 1^/# note^/^/trace^/\tins\t007 1^/get 7|trace 0/0 new/1 val 1/final 1/|
+0|flock 1/trace/ins 4294967293 4294967295/get 4294967293/|trace 0/0 new/1 val 4294967295/final 1/|
+0|/# before the header ~/ flock\t1 /trace/del 000/|trace 0/0 none/final 0/|
+0|flock 1/trace/trace/trace/get 3/|trace 0/trace 1/trace 2/0 none/final 0/|
+0|flock 2/trace/ins 1 2/put 1 3/get 1/del 1/|trace 0/0 new/1 was 2/2 val 3/3 gone/final 0/|
+0|flock 2/trace/put 4294967293 4294967295/put 4294967293 0|trace 0/0 new/1 was 4294967295/final 1/|
+3|||flock: line 1: no header/
+3|trace/get 1/||flock: line 1: no header/
+3|# note//||flock: line 3: no header/
+3|# note||flock: line 2: no header/
+3|flock 3/||flock: line 1: no header/
+3|flock 1 1/||flock: line 1: no header/
+3|flock 1 2/||flock: line 1: no header/
+3|flock ~/||flock: line 1: not ascii/
+3|flock 1/trace/get ~/||flock: line 3: not ascii/
+3|flock 1/trace/put 1/||flock: line 3: unknown word/
+3|flock 1/trace/put 1 2/||flock: line 3: unknown word/
+3|flock 2/trace/mov 1 2/||flock: line 3: unknown word/
+3|flock 2/flock 2/||flock: line 2: unknown word/
+3|flock 2/put 1 2/||flock: line 2: request before trace/
+3|flock 2/trace/put 1/||flock: line 3: missing field/
+3|flock 2/trace/put 4294967294 4294967296/||flock: line 3: key too large/
+3|flock 2/trace/put 1 4294967296/||flock: line 3: value too large/
+3|flock 1/flock 1/||flock: line 2: unknown word/
+3|flock 1/get 1/||flock: line 2: request before trace/
+3|flock 1/get/||flock: line 2: request before trace/
+3|flock 1/trace/ins 5||flock: line 3: missing field/
+3|flock 1/trace/get x y/||flock: line 3: extra field/
+3|flock 1/trace/del 1 2/||flock: line 3: extra field/
+3|flock 1/trace 0/||flock: line 2: extra field/
+3|flock 1/trace/get +1/||flock: line 3: bad number/
+3|flock 1/trace/get 1^x/||flock: line 3: bad number/
+3|flock 1/trace/ins 4294967294 x/||flock: line 3: bad number/
+3|flock 1/trace/ins 4294967294 1/||flock: line 3: key too large/
+3|flock 1/trace/ins 4294967294 4294967296/||flock: line 3: key too large/
+3|flock 1/trace/ins 1 4294967296/||flock: line 3: value too large/
+3|flock 1/trace/get 99999999999999999999999999/||flock: line 3: key too large/
 ";
 
-// Runs a command on a text that comes in pieces of these sizes, of which these reads fail.
+// Runs a command on a text, whose read with this number fails; in one piece, or in pieces of one byte.
 fn run_pieces<T: Threads + Wait + Sync>(
     rt: &T,
     alloc: Global,
     command: &str,
     text: Vec<u8>,
-    pieces: Vec<usize>,
-    fails: Vec<u64>,
+    bytewise: bool,
+    failing: u64,
 ) -> Result<Ended, AllocError> {
-    let mut source = MemorySource::new(text, pieces, fails);
+    let pieces = if bytewise { text.len() } else { 0 };
+    let pieces = vec![in alloc; 1usize; pieces]?;
+    let mut source = MemorySource::new(text, pieces, vec![in alloc; failing; 1]?);
     run_from(rt, alloc, command, &mut source, &mut PlannedGates::new())
 }
 
-// The sizes of so many pieces of one byte.
-fn bytewise(alloc: Global, count: usize) -> Result<Vec<usize>, AllocError> {
-    vec![in alloc; 1usize; count]
-}
-
-// Whether a prefix of the text gives what its row says, in one piece and in pieces of one byte.
-fn prefix_gives<T: Threads + Wait + Sync>(
+// Whether a text comes out as its row says, in one piece and in pieces of one byte; one runner serves it, so its requests
+// are served in their order.
+fn comes_out<T: Threads + Wait + Sync>(
     rt: &T,
     alloc: Global,
-    length: usize,
+    text: Vec<u8>,
     status: &str,
-    report: &str,
-    told: &str,
+    row: &str,
 ) -> Result<bool, AllocError> {
-    let mut text = bytes_of(alloc, TEXT)?;
-    text.truncate(length);
-    let (one, none) = (Vec::new(alloc), Vec::new(alloc));
-    let whole = run_pieces(rt, alloc, "run", text.clone()?, one, none)?;
-    let bytes = bytewise(alloc, length)?;
-    let pieces = run_pieces(rt, alloc, "run", text, bytes, Vec::new(alloc))?;
+    let (report, told) = cut(row);
+    let whole = run_pieces(rt, alloc, "run --runners 1", text.clone()?, false, 0)?;
+    let pieces = run_pieces(rt, alloc, "run --runners 1", text, true, 0)?;
     Ok(whole.is_as(alloc, status, report, told)? && pieces.is_as(alloc, status, report, told)?)
 }
 
 #[test]
+fn a_text_gives_its_report_or_its_first_fault(rt: HostRuntime) -> Result<(), Fail> {
+    let alloc = rt.alloc();
+    for row in TEXTS.lines() {
+        let (status, rest) = cut(row);
+        let (text, rest) = cut(rest);
+        let comes_out = comes_out(&rt, alloc, bytes_of(alloc, text)?, status, rest)?;
+        assert!(rt; comes_out, "{row}");
+    }
+    Ok(())
+}
+
+const TEXT: &str = "flock 1/trace/ins 5 70/";
+
+// What each prefix of the text gives. Each row: the shortest and the longest one, the status, the
+// report, and what is told.
+const PREFIXES: [(usize, usize, &str, &str); 7] = [
+    (0, 6, "3", "|flock: line 1: no header/"),
+    (7, 8, "0", "final 0/|"),
+    (9, 12, "3", "|flock: line 2: unknown word/"),
+    (13, 14, "0", "trace 0/final 0/|"),
+    (15, 16, "3", "|flock: line 3: unknown word/"),
+    (17, 20, "3", "|flock: line 3: missing field/"),
+    (21, 23, "0", "trace 0/0 new/final 1/|"),
+];
+
+#[test]
 fn each_prefix_is_served_or_refused(rt: HostRuntime) -> Result<(), Fail> {
     let alloc = rt.alloc();
-    for row in PREFIXES.lines() {
-        let (lengths, texts) = row.split_once('|').ok_or("no bar")?;
-        let (report, told) = texts.split_once('|').ok_or("no second bar")?;
-        let (first, rest) = lengths.split_once(' ').ok_or("no last length")?;
-        let (last, status) = rest.split_once(' ').ok_or("no status")?;
-        for length in first.parse::<usize>()?..=last.parse::<usize>()? {
-            assert!(rt;
-                prefix_gives(&rt, alloc, length, status, report, told)?,
-                "{row} at {length}"
-            );
+    for (first, last, status, row) in PREFIXES {
+        for length in first..=last {
+            let mut text = bytes_of(alloc, TEXT)?;
+            text.truncate(length);
+            let comes_out = comes_out(&rt, alloc, text, status, row)?;
+            assert!(rt; comes_out, "{length}");
         }
     }
     Ok(())
 }
 
-// The text takes 24 reads of one byte, the last of which is the end of the input.
+// Commands, what they read, and how they end where no read fails. What is checked is read whole first, so there a read
+// that fails comes before a bad line.
+const READ: [(&str, &str, &str, &str); 3] = [
+    ("run", TEXT, "0", "trace 0/0 new/final 1/|"),
+    ("check", "flock 1/report/final 0/", "0", "legal/|"),
+    (
+        "check",
+        "foo/report/final 0/xxxx/",
+        "3",
+        "|flock: line 1: no header/",
+    ),
+];
+
+// A text takes as many reads of one byte as it has bytes, and one that gives the end of the input.
 #[test]
 fn each_read_fails_in_turn(rt: HostRuntime) -> Result<(), Fail> {
     let alloc = rt.alloc();
-    for failing in 1..=25u64 {
-        let fails = vec![in alloc; failing; 1]?;
-        let ended = run_pieces(
-            &rt,
-            alloc,
-            "run",
-            bytes_of(alloc, TEXT)?,
-            bytewise(alloc, 23)?,
-            fails,
-        )?;
-        if failing <= 24 {
-            assert!(rt; ended.is(8, b"", b"flock: read fault\n"), "at {failing}");
-        } else {
+    for (command, text, status, row) in READ {
+        let (printed, told) = cut(row);
+        let text = bytes_of(alloc, text)?;
+        let reads = (text.len() as u64).saturating_add(1);
+        for failing in 1..=reads {
+            let ended = run_pieces(&rt, alloc, command, text.clone()?, true, failing)?;
             assert!(rt;
-                ended.is(0, b"trace 0\n0 new\nfinal 1\n", b""),
-                "at {failing}"
+                ended.is(8, b"", b"flock: read fault\n"),
+                "{command} at {failing}"
             );
         }
+        let ended = run_pieces(&rt, alloc, command, text, true, reads.saturating_add(1))?;
+        assert!(rt; ended.is_as(alloc, status, printed, told)?, "{command}");
     }
     Ok(())
 }
@@ -109,47 +163,9 @@ fn each_read_fails_in_turn(rt: HostRuntime) -> Result<(), Fail> {
 // The place of the bad line is earlier than that of the read that fails.
 #[test]
 fn a_bad_line_before_a_failed_read_is_told(rt: HostRuntime) -> Result<(), Fail> {
-    let alloc = rt.alloc();
-    let fails = vec![in alloc; 2u64; 1]?;
-    let ended = run_pieces(
-        &rt,
-        alloc,
-        "run",
-        bytes_of(alloc, "flock 1/foo/")?,
-        Vec::new(alloc),
-        fails,
-    )?;
+    let text = bytes_of(rt.alloc(), "flock 1/foo/")?;
+    let ended = run_pieces(&rt, rt.alloc(), "run", text, false, 2)?;
     assert!(rt; ended.is(3, b"", b"flock: line 2: unknown word\n"));
-    Ok(())
-}
-
-// What is checked is read whole first, so a read that fails comes before a bad line.
-#[test]
-fn each_read_of_a_check_fails_in_turn(rt: HostRuntime) -> Result<(), Fail> {
-    let alloc = rt.alloc();
-    for (text, status, printed, told) in [
-        ("flock 1/report/final 0/", 0, "legal/", ""),
-        (
-            "foo/report/final 0/xxxx/",
-            3,
-            "",
-            "flock: line 1: no header/",
-        ),
-    ] {
-        let text = bytes_of(alloc, text)?;
-        let reads = (text.len() as u64).saturating_add(1);
-        for failing in 1..=reads.saturating_add(1) {
-            let fails = vec![in alloc; failing; 1]?;
-            let pieces = bytewise(alloc, text.len())?;
-            let ended = run_pieces(&rt, alloc, "check", text.clone()?, pieces, fails)?;
-            if failing <= reads {
-                assert!(rt; ended.is(8, b"", b"flock: read fault\n"), "at {failing}");
-            } else {
-                let (printed, told) = (bytes_of(alloc, printed)?, bytes_of(alloc, told)?);
-                assert!(rt; ended.is(status, &printed, &told), "at {failing}");
-            }
-        }
-    }
     Ok(())
 }
 
@@ -174,15 +190,48 @@ impl Sink for Narrow {
 }
 
 // Commands, what they read, and what they print.
-const PRINTED: [(&str, &str, &[u8]); 3] = [
+const PRINTED: [(&str, &str, &str); 4] = [
     (
         "run",
         "flock 1/trace/ins 5 70/get 5/del 5/get 5/",
-        b"trace 0\n0 new\n1 val 70\n2 gone\n3 none\nfinal 0\n",
+        "trace 0/0 new/1 val 70/2 gone/3 none/final 0/",
     ),
-    ("check", "flock 1/report/final 0/", b"legal\n"),
-    ("check", "flock 1/report/final 1/", b"line 1: final\n"),
+    ("check", "flock 1/report/final 0/", "legal/"),
+    ("check", "flock 1/report/final 1/", "line 1: final/"),
+    (
+        "gen --seed=1 --traces 1 --length 3 --keys 100",
+        "",
+        "flock 1/trace/del 58/ins 15 150/get 27/",
+    ),
 ];
+
+// Runs a command over a sink with these faults, which takes one byte at a time.
+fn run_narrow<T: Threads + Wait + Sync>(
+    rt: &T,
+    alloc: Global,
+    command: &str,
+    text: Vec<u8>,
+    behind: MemorySink,
+) -> Result<Ended, AllocError> {
+    let words: Vec<&str> = command.split_whitespace().collect(alloc)?;
+    let mut source = SureSource::new(text, Vec::new(alloc));
+    let (mut sink, mut faults) = (Narrow { behind }, quiet_sink(alloc));
+    let gates = &mut PlannedGates::new();
+    let status = status_of(
+        rt,
+        alloc,
+        &words,
+        &mut source,
+        &mut sink,
+        &mut faults,
+        gates,
+    );
+    Ok(Ended {
+        status,
+        printed: sink.behind.bytes().to_vec(alloc)?,
+        told: faults.bytes().to_vec(alloc)?,
+    })
+}
 
 // Whether a command whose write with this number fails, or takes nothing, ends with status 9 and
 // leaves what the writes before it took of what it prints.
@@ -190,33 +239,17 @@ fn write_fails<T: Threads + Wait + Sync>(
     rt: &T,
     alloc: Global,
     command: &str,
-    text: &str,
-    printed: &[u8],
+    text: &[u8],
+    taken: &[u8],
     failing: u64,
-    fails: Vec<u64>,
-    empty: Vec<u64>,
 ) -> Result<bool, AllocError> {
-    let mut source = SureSource::new(bytes_of(alloc, text)?, Vec::new(alloc));
-    let mut faults = quiet_sink(alloc);
-    let mut sink = Narrow {
-        behind: MemorySink::new(alloc, fails, empty),
-    };
-    let gates = &mut PlannedGates::new();
-    let status = status_of(
-        rt,
-        alloc,
-        &[command],
-        &mut source,
-        &mut sink,
-        &mut faults,
-        gates,
-    );
-    let taken = printed.iter().take(failing.saturating_sub(1) as usize);
-    Ok(
-        status == 9
-            && sink.behind.bytes().iter().eq(taken)
-            && faults.bytes() == b"flock: write fault\n".as_slice(),
-    )
+    let call = vec![in alloc; failing; 1]?;
+    let fails = MemorySink::new(alloc, call.clone()?, Vec::new(alloc));
+    let failed = run_narrow(rt, alloc, command, text.to_vec(alloc)?, fails)?;
+    let takes_nothing = MemorySink::new(alloc, Vec::new(alloc), call);
+    let stopped = run_narrow(rt, alloc, command, text.to_vec(alloc)?, takes_nothing)?;
+    let told = b"flock: write fault\n";
+    Ok(failed.is(9, taken, told) && stopped.is(9, taken, told))
 }
 
 // What is printed takes as many writes as it has bytes.
@@ -224,19 +257,50 @@ fn write_fails<T: Threads + Wait + Sync>(
 fn each_write_fails_or_takes_nothing_in_turn(rt: HostRuntime) -> Result<(), Fail> {
     let alloc = rt.alloc();
     for (command, text, printed) in PRINTED {
-        for failing in 1..=printed.len() as u64 {
-            let call = vec![in alloc; failing; 1]?;
-            let (fails, none) = (call.clone()?, Vec::new(alloc));
-            assert!(rt;
-                write_fails(&rt, alloc, command, text, printed, failing, fails, none)?,
-                "{command} at {failing}"
-            );
-            let none = Vec::new(alloc);
-            assert!(rt;
-                write_fails(&rt, alloc, command, text, printed, failing, none, call)?,
-                "{command}, empty at {failing}"
-            );
+        let (text, printed) = (bytes_of(alloc, text)?, bytes_of(alloc, printed)?);
+        let mut taken = Vec::new(alloc);
+        for byte in printed.iter() {
+            let failing = (taken.len() as u64).saturating_add(1);
+            let write_fails = write_fails(&rt, alloc, command, &text, &taken, failing)?;
+            assert!(rt; write_fails, "{command} at {failing}");
+            taken.push(*byte)?;
         }
     }
+    Ok(())
+}
+
+#[test]
+fn failing_faults_change_no_status(rt: HostRuntime) -> Result<(), Fail> {
+    let alloc = rt.alloc();
+    let mut source = SureSource::new(b"trace\n".to_vec(alloc)?, Vec::new(alloc));
+    let mut sink = quiet_sink(alloc);
+    let mut faults = MemorySink::new(alloc, vec![in alloc; 1u64; 1]?, Vec::new(alloc));
+    let gates = &mut PlannedGates::new();
+    let words = ["run"];
+    let status = status_of(
+        &rt,
+        alloc,
+        &words,
+        &mut source,
+        &mut sink,
+        &mut faults,
+        gates,
+    );
+    assert!(rt; status == 3 && faults.bytes().is_empty());
+    Ok(())
+}
+
+#[test]
+fn a_reader_is_a_source_and_a_writer_is_a_sink(rt: HostRuntime) -> Result<(), Fail> {
+    let alloc = rt.alloc();
+    let text = bytes_of(alloc, "flock 1/trace/")?;
+    let mut source = StdSource::new(text.as_slice());
+    let ended = run_from(&rt, alloc, "run", &mut source, &mut PlannedGates::new())?;
+    assert!(rt; ended.is(0, b"trace 0\nfinal 0\n", b""));
+    let mut written: Vec<u8> = Vec::new(alloc);
+    let mut sink = StdSink::new(&mut written);
+    let taken = sink.write(b"final 0\n");
+    drop(sink);
+    assert!(rt; taken.is_ok() && written.as_slice() == b"final 0\n".as_slice());
     Ok(())
 }

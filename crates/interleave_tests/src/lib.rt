@@ -2,11 +2,15 @@
 //!
 //! `rows` has helpers that make steps, and the rows; `random` has the random schedules, on the
 //! machine of `two_workers`, and `plain_runs` the runs in one go that they are compared with.
+//!
+//! All of it is read with the tests alone, so that it is proved once.
 #![tactic(auto)]
 
-pub mod plain_runs;
+#[cfg(test)]
+mod plain_runs;
 #[cfg(test)]
 mod random;
 #[cfg(test)]
 mod rows;
-pub mod two_workers;
+#[cfg(test)]
+mod two_workers;

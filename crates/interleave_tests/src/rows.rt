@@ -8,7 +8,7 @@ use machine_states::body_terms::{Outcome, Thunk, Word};
 use machine_states::map_history::{Op, Request};
 use machine_states::runner_parts::{Part, thunk_words};
 use machine_states::table_words::Layout;
-use std::alloc::AllocError;
+use std::alloc::{AllocError, Global};
 
 /// The first word of a cell: value 0, version 1.
 const FIRST: u64 = 4294967296;
@@ -67,6 +67,11 @@ fn requests() -> [Request; 4]
             op,
         },
     ]
+}
+
+/// The machine with two workers and the keeper, in its first state.
+fn begins(alloc: Global) -> Result<Machine<Tray>, AllocError> {
+    Machine::new(alloc, Tray, layout(2), &requests())
 }
 
 /// Makes this step, and says whether it was enabled.
@@ -306,10 +311,10 @@ fn a_runner_enters_and_leaves(rt: HostRuntime) -> Result<(), AllocError> {
     assert!(rt; leaves);
     let mut machine = Machine::new(rt.alloc(), Tray, layout(1), &[])?;
     assert!(rt; enters(&mut machine, 0));
-    assert_eq!(rt; machine.announcement(0), 1);
+    assert!(rt; machine.announcement(0) == 1);
     assert!(rt; goes(&mut machine, 0, EventKind::Idle));
-    assert_eq!(rt; machine.announcement(0), 0);
-    assert_eq!(rt; machine.epoch(), 1);
+    assert!(rt; machine.announcement(0) == 0);
+    assert!(rt; machine.epoch() == 1);
     Ok(())
 }
 
@@ -331,8 +336,7 @@ fn a_list_that_begins_with_announce_is_refused_at_its_start(
 
 #[test]
 fn idle_enables_six_kinds(rt: HostRuntime) -> Result<(), AllocError> {
-    let requests = requests();
-    let mut machine = Machine::new(rt.alloc(), Tray, layout(2), &requests)?;
+    let mut machine = begins(rt.alloc())?;
     let kinds = match machine.step(Event {
         runner: 0,
         kind: EventKind::Announce,
@@ -340,14 +344,13 @@ fn idle_enables_six_kinds(rt: HostRuntime) -> Result<(), AllocError> {
         Err(StepError::NotEnabled { enabled }) => enabled,
         _ => 0,
     };
-    assert_eq!(rt; kinds, 1 | 1 << 4 | 1 << 11 | 1 << 12 | 1 << 26 | 1 << 38);
+    assert!(rt; kinds == 1 | 1 << 4 | 1 << 11 | 1 << 12 | 1 << 26 | 1 << 38);
     Ok(())
 }
 
 #[test]
 fn requests_are_published_once_and_in_their_order(rt: HostRuntime) -> Result<(), AllocError> {
-    let requests = requests();
-    let mut machine = Machine::new(rt.alloc(), Tray, layout(2), &requests)?;
+    let mut machine = begins(rt.alloc())?;
     let second = thunk(101, 1, 7);
     assert!(rt; prepares(&mut machine, 0, 0, &second));
     assert!(rt;
@@ -362,7 +365,7 @@ fn requests_are_published_once_and_in_their_order(rt: HostRuntime) -> Result<(),
     );
     assert!(rt; leaves(&mut machine, 0));
     assert!(rt; publishes(&mut machine, 0, 1, thunk(101, 0, 7)));
-    assert_eq!(rt; runs(&mut machine, 0, 1), 22);
+    assert!(rt; runs(&mut machine, 0, 1) == 22);
     assert!(rt; leaves(&mut machine, 0));
     let word = Word::from_bits(12884901888);
     let again = Thunk {
@@ -393,26 +396,24 @@ fn requests_are_published_once_and_in_their_order(rt: HostRuntime) -> Result<(),
 fn a_number_is_stored_once_and_a_late_helper_changes_nothing(
     rt: HostRuntime,
 ) -> Result<(), AllocError> {
-    let requests = requests();
-    let mut machine = Machine::new(rt.alloc(), Tray, layout(2), &requests)?;
+    let mut machine = begins(rt.alloc())?;
     let number = thunk(101, 0, 7);
     assert!(rt; publishes(&mut machine, 0, 0, number));
     assert!(rt; watches(&mut machine, 1, 0));
-    assert_eq!(rt; runs(&mut machine, 0, 0), 22);
-    assert_eq!(rt; machine.cell(1).bits(), 8589934599);
-    assert_eq!(rt; machine.cell(0).bits(), 12884901888);
+    assert!(rt; runs(&mut machine, 0, 0) == 22);
+    assert!(rt; machine.cell(1).bits() == 8589934599);
+    assert!(rt; machine.cell(0).bits() == 12884901888);
     assert!(rt; ends(machine.part(0), Outcome::Answered(FIRST), &[FIRST], false));
-    assert_eq!(rt; runs(&mut machine, 1, 0), 22);
+    assert!(rt; runs(&mut machine, 1, 0) == 22);
     assert!(rt; ends(machine.part(1), Outcome::Answered(FIRST), &[FIRST], true));
-    assert_eq!(rt; machine.cell(1).bits(), 8589934599);
-    assert_eq!(rt; machine.cell(0).bits(), 12884901888);
+    assert!(rt; machine.cell(1).bits() == 8589934599);
+    assert!(rt; machine.cell(0).bits() == 12884901888);
     Ok(())
 }
 
 #[test]
 fn two_runners_store_a_number_once(rt: HostRuntime) -> Result<(), AllocError> {
-    let requests = requests();
-    let mut machine = Machine::new(rt.alloc(), Tray, layout(2), &requests)?;
+    let mut machine = begins(rt.alloc())?;
     let number = thunk(101, 0, 7);
     assert!(rt; publishes(&mut machine, 0, 0, number));
     assert!(rt; watches(&mut machine, 1, 0));
@@ -425,21 +426,20 @@ fn two_runners_store_a_number_once(rt: HostRuntime) -> Result<(), AllocError> {
         )
     );
     assert!(rt; plays(&mut machine, "1 store"));
-    assert_eq!(rt; machine.cell(1).bits(), 8589934599);
+    assert!(rt; machine.cell(1).bits() == 8589934599);
     assert!(rt; plays(&mut machine, "0 store"));
-    assert_eq!(rt; machine.cell(1).bits(), 8589934599);
-    assert_eq!(rt; machine.log_word(0, 0), FIRST);
-    assert_eq!(rt; machine.log_word(0, 1), 0);
+    assert!(rt; machine.cell(1).bits() == 8589934599);
+    assert!(rt; machine.log_word(0, 0) == FIRST);
+    assert!(rt; machine.log_word(0, 1) == 0);
     Ok(())
 }
 
 #[test]
 fn a_section_that_finds_another_word_leaves(rt: HostRuntime) -> Result<(), AllocError> {
-    let requests = requests();
-    let mut machine = Machine::new(rt.alloc(), Tray, layout(2), &requests)?;
+    let mut machine = begins(rt.alloc())?;
     let link = thunk(102, 0, 21474836480);
     assert!(rt; publishes(&mut machine, 0, 0, link));
-    assert_eq!(rt; runs(&mut machine, 0, 0), 17);
+    assert!(rt; runs(&mut machine, 0, 0) == 17);
     let outcome = machine.part(0).records.finished.first().map(|x| x.outcome);
     let stale = Outcome::Stale {
         place: 2,
@@ -453,20 +453,18 @@ fn a_section_that_finds_another_word_leaves(rt: HostRuntime) -> Result<(), Alloc
 
 #[test]
 fn a_node_is_made(rt: HostRuntime) -> Result<(), AllocError> {
-    let requests = requests();
-    let mut machine = Machine::new(rt.alloc(), Tray, layout(2), &requests)?;
+    let mut machine = begins(rt.alloc())?;
     let link = thunk(102, 0, FIRST);
     assert!(rt; publishes(&mut machine, 0, 0, link));
-    assert_eq!(rt; runs(&mut machine, 0, 0), 33);
-    assert_eq!(rt; machine.cell(2).bits(), 8589934593);
+    assert!(rt; runs(&mut machine, 0, 0) == 33);
+    assert!(rt; machine.cell(2).bits() == 8589934593);
     assert!(rt; machine.is_live(0) && !machine.is_live(1));
     Ok(())
 }
 
 #[test]
 fn a_lock_that_is_held_refuses(rt: HostRuntime) -> Result<(), AllocError> {
-    let requests = requests();
-    let mut machine = Machine::new(rt.alloc(), Tray, layout(2), &requests)?;
+    let mut machine = begins(rt.alloc())?;
     let mine = thunk(101, 0, 7);
     let other = thunk(101, 2, 8);
     assert!(rt; prepares(&mut machine, 0, 0, &mine));
@@ -501,7 +499,7 @@ fn a_lock_that_is_held_refuses(rt: HostRuntime) -> Result<(), AllocError> {
             }
         )
     );
-    assert_eq!(rt; machine.cell(0).value(), 1);
+    assert!(rt; machine.cell(0).value() == 1);
     assert!(rt; !goes(&mut machine, 1, EventKind::Idle));
     assert!(rt; leaves(&mut machine, 1));
     assert!(rt; !goes(&mut machine, 0, EventKind::Guard(None)));
@@ -511,8 +509,7 @@ fn a_lock_that_is_held_refuses(rt: HostRuntime) -> Result<(), AllocError> {
 
 #[test]
 fn two_runners_make_one_node(rt: HostRuntime) -> Result<(), AllocError> {
-    let requests = requests();
-    let mut machine = Machine::new(rt.alloc(), Tray, layout(2), &requests)?;
+    let mut machine = begins(rt.alloc())?;
     assert!(rt; publishes(&mut machine, 0, 0, thunk(102, 0, FIRST)) && watches(&mut machine, 1, 0));
     assert!(rt; opens(&mut machine, 0, 0) && opens(&mut machine, 1, 0));
     assert!(rt; plays(&mut machine, "0 load, 0 commit") && fills_slot(&mut machine, 0, 0));
@@ -525,22 +522,21 @@ fn two_runners_make_one_node(rt: HostRuntime) -> Result<(), AllocError> {
         )
     );
     assert!(rt; plays(&mut machine, "0 store, 1 store"));
-    assert_eq!(rt; machine.log_word(0, 0), FIRST);
-    assert_eq!(rt; machine.log_word(0, 1), 3);
-    assert_eq!(rt; machine.cell(2).bits(), 8589934595);
+    assert!(rt; machine.log_word(0, 0) == FIRST);
+    assert!(rt; machine.log_word(0, 1) == 3);
+    assert!(rt; machine.cell(2).bits() == 8589934595);
     assert!(rt; machine.is_live(2) && !machine.is_live(0) && machine.is_free(0, 0));
     for place in 3..8u32 {
-        assert_eq!(rt; machine.cell(place).bits(), 8589934592);
+        assert!(rt; machine.cell(place).bits() == 8589934592);
     }
     Ok(())
 }
 
 #[test]
 fn a_node_is_taken_out(rt: HostRuntime) -> Result<(), AllocError> {
-    let requests = requests();
-    let mut machine = Machine::new(rt.alloc(), Tray, layout(2), &requests)?;
+    let mut machine = begins(rt.alloc())?;
     assert!(rt; publishes(&mut machine, 0, 0, thunk(102, 0, FIRST)));
-    assert_eq!(rt; runs(&mut machine, 0, 0), 33);
+    assert!(rt; runs(&mut machine, 0, 0) == 33);
     assert!(rt; leaves(&mut machine, 0));
     let mut unlink = thunk(103, 1, machine.cell(2).bits());
     unlink.word = machine.cell(0);
@@ -559,25 +555,25 @@ fn a_node_is_taken_out(rt: HostRuntime) -> Result<(), AllocError> {
             "0 epoch, 0 retire, 0 answer, 0 done, 0 release"
         )
     );
-    assert_eq!(rt; machine.part(0).records.events.saturating_sub(before), 24);
-    assert_eq!(rt; machine.cell(2).bits(), 12884901888);
+    assert!(rt; machine.part(0).records.events.saturating_sub(before) == 24);
+    assert!(rt; machine.cell(2).bits() == 12884901888);
     assert!(rt; !machine.is_live(0) && !machine.is_free(0, 0));
     Ok(())
 }
 
 #[test]
 fn the_epoch_waits_for_an_old_announcement(rt: HostRuntime) -> Result<(), AllocError> {
-    let mut machine = Machine::new(rt.alloc(), Tray, layout(2), &[])?;
+    let mut machine = begins(rt.alloc())?;
     assert!(rt; enters(&mut machine, 0));
     assert!(rt; collects(&mut machine, 1));
-    assert_eq!(rt; machine.epoch(), 2);
+    assert!(rt; machine.epoch() == 2);
     assert!(rt; collects(&mut machine, 1));
-    assert_eq!(rt; machine.epoch(), 2);
+    assert!(rt; machine.epoch() == 2);
     assert!(rt; goes(&mut machine, 0, EventKind::Idle));
     assert!(rt; collects(&mut machine, 1));
-    assert_eq!(rt; machine.epoch(), 3);
+    assert!(rt; machine.epoch() == 3);
     assert!(rt; enters(&mut machine, 0));
-    assert_eq!(rt; machine.announcement(0), 3);
+    assert!(rt; machine.announcement(0) == 3);
     Ok(())
 }
 
@@ -590,11 +586,10 @@ fn has_descriptors(part: &Part, free: &[u32], limbo: &[u32]) -> bool {
 fn a_descriptor_that_no_guard_names_is_free_behind_a_sweep(
     rt: HostRuntime,
 ) -> Result<(), AllocError> {
-    let requests = requests();
-    let mut machine = Machine::new(rt.alloc(), Tray, layout(2), &requests)?;
+    let mut machine = begins(rt.alloc())?;
     assert!(rt; publishes(&mut machine, 0, 0, thunk(101, 0, 7)));
     assert!(rt; looks(&mut machine, 1));
-    assert_eq!(rt; runs(&mut machine, 0, 0), 22);
+    assert!(rt; runs(&mut machine, 0, 0) == 22);
     assert!(rt; leaves(&mut machine, 0));
     assert!(rt; plays(&mut machine, "0 sweep 0, 0 sweep 1"));
     assert!(rt; has_descriptors(machine.part(0), &[1], &[0]));
@@ -608,23 +603,22 @@ fn a_descriptor_that_no_guard_names_is_free_behind_a_sweep(
     };
     assert!(rt; publishes(&mut machine, 0, 0, next));
     assert!(rt; plays(&mut machine, "1 look"));
-    assert_eq!(rt; runs(&mut machine, 1, 0), 22);
-    assert_eq!(rt; machine.cell(1).bits(), 12884901896);
+    assert!(rt; runs(&mut machine, 1, 0) == 22);
+    assert!(rt; machine.cell(1).bits() == 12884901896);
     Ok(())
 }
 
 #[test]
 fn a_descriptor_that_a_guard_names_stays_in_limbo(rt: HostRuntime) -> Result<(), AllocError> {
-    let requests = requests();
-    let mut machine = Machine::new(rt.alloc(), Tray, layout(2), &requests)?;
+    let mut machine = begins(rt.alloc())?;
     assert!(rt; publishes(&mut machine, 0, 0, thunk(101, 0, 7)));
     assert!(rt; watches(&mut machine, 1, 0));
-    assert_eq!(rt; runs(&mut machine, 0, 0), 22);
+    assert!(rt; runs(&mut machine, 0, 0) == 22);
     assert!(rt; leaves(&mut machine, 0));
     assert!(rt; plays(&mut machine, "0 sweep 0, 0 sweep 1, 0 sweep 2"));
     assert!(rt; has_descriptors(machine.part(0), &[1], &[0]));
-    assert_eq!(rt; runs(&mut machine, 1, 0), 22);
-    assert_eq!(rt; machine.cell(1).bits(), 8589934599);
+    assert!(rt; runs(&mut machine, 1, 0) == 22);
+    assert!(rt; machine.cell(1).bits() == 8589934599);
     assert!(rt; plays(&mut machine, "1 clear, 0 sweep 0, 0 sweep 1, 0 sweep 2"));
     assert!(rt; has_descriptors(machine.part(0), &[1, 0], &[]));
     Ok(())
@@ -632,13 +626,12 @@ fn a_descriptor_that_a_guard_names_stays_in_limbo(rt: HostRuntime) -> Result<(),
 
 #[test]
 fn no_run_of_a_section_whose_lock_has_moved_on(rt: HostRuntime) -> Result<(), AllocError> {
-    let requests = requests();
-    let mut machine = Machine::new(rt.alloc(), Tray, layout(2), &requests)?;
+    let mut machine = begins(rt.alloc())?;
     assert!(rt; publishes(&mut machine, 0, 0, thunk(101, 0, 7)));
     assert!(rt; looks(&mut machine, 1));
     assert!(rt; plays(&mut machine, "1 guard 0"));
     assert!(rt; !goes(&mut machine, 1, EventKind::LoadThunk(Some(0))));
-    assert_eq!(rt; runs(&mut machine, 0, 0), 22);
+    assert!(rt; runs(&mut machine, 0, 0) == 22);
     assert!(rt; plays(&mut machine, "1 look"));
     assert!(rt; !goes(&mut machine, 1, EventKind::LoadThunk(Some(0))));
     assert!(rt; leaves(&mut machine, 1));
@@ -647,7 +640,7 @@ fn no_run_of_a_section_whose_lock_has_moved_on(rt: HostRuntime) -> Result<(), Al
 
 #[test]
 fn a_sweep_begins_anew_behind_an_entry(rt: HostRuntime) -> Result<(), AllocError> {
-    let mut machine = Machine::new(rt.alloc(), Tray, layout(2), &[])?;
+    let mut machine = begins(rt.alloc())?;
     assert!(rt; !goes(&mut machine, 0, EventKind::LoadGuard(1)));
     assert!(rt; plays(&mut machine, "0 sweep 0, 0 sweep 1"));
     assert!(rt; enters(&mut machine, 0));
@@ -665,8 +658,7 @@ fn learned(part: &Part) -> u64 {
 
 #[test]
 fn a_read_writes_its_reply_and_its_stamp(rt: HostRuntime) -> Result<(), AllocError> {
-    let requests = requests();
-    let mut machine = Machine::new(rt.alloc(), Tray, layout(2), &requests)?;
+    let mut machine = begins(rt.alloc())?;
     let read = thunk(7, 0, 0);
     assert!(rt; looks(&mut machine, 0) && goes(&mut machine, 0, EventKind::ReadPlan(read)));
     assert!(rt; !goes(&mut machine, 0, EventKind::ReadReply));
@@ -675,18 +667,17 @@ fn a_read_writes_its_reply_and_its_stamp(rt: HostRuntime) -> Result<(), AllocErr
     assert!(rt; goes(&mut machine, 0, EventKind::LoadCell(Some(0))));
     assert!(rt; !goes(&mut machine, 0, EventKind::ReadStamp));
     assert!(rt; goes(&mut machine, 0, EventKind::ReadReply));
-    assert_eq!(rt; learned(machine.part(0)), 4294967296);
+    assert!(rt; learned(machine.part(0)) == 4294967296);
     assert!(rt; !goes(&mut machine, 0, EventKind::Idle));
     assert!(rt; goes(&mut machine, 0, EventKind::ReadStamp));
-    assert_eq!(rt; learned(machine.part(0)), 1);
+    assert!(rt; learned(machine.part(0)) == 1);
     assert!(rt; goes(&mut machine, 0, EventKind::Idle));
     Ok(())
 }
 
 #[test]
 fn no_read_behind_a_lock_that_was_taken_in_between(rt: HostRuntime) -> Result<(), AllocError> {
-    let requests = requests();
-    let mut machine = Machine::new(rt.alloc(), Tray, layout(2), &requests)?;
+    let mut machine = begins(rt.alloc())?;
     let read = thunk(7, 0, 0);
     assert!(rt; looks(&mut machine, 0) && goes(&mut machine, 0, EventKind::ReadPlan(read)));
     assert!(rt; goes(&mut machine, 0, EventKind::ReadClock));

@@ -16,8 +16,8 @@ use Rattle.settled_tables.specs.closed_words.specs.version_words.specs.RunnerSta
 use Rattle.settled_tables.specs.closed_words.specs.version_words.specs.TableState.{TableState, IsOf}
 use Rattle.hash_table.specs.try_lock.specs.declared.section.Section.{Section}
 use Rattle.hash_table.specs.try_lock.specs.Publishes.{MayPublish, Publishes}
-use Rattle.lock_tests.specs.declared.turns.Offer.{Offer}
-use Rattle.lock_tests.specs.declared.turns.Offer.TheVariants.{Published}
+use Rattle.lock_tests.specs.declared.offers.Offer.{Offer}
+use Rattle.lock_tests.specs.declared.offers.Offer.TheVariants.{Published}
 use Rattle.lock_tests.specs.Scenes.{two_requests, IsScene}
 use Rattle.lock_tests.specs.Workers.{HasRead, MayRun, MayRunFor, IsEmptyHanded}
 

@@ -8,11 +8,12 @@ ghost use Rattle.hash_table.specs.try_lock.specs.declared.section.Section.{Secti
 ghost use Rattle.lock_attempts.specs.attempts.specs.Reclaims.{IsRested};
 ghost use Rattle.lock_tests.specs.Workers.{MayRun, MayRunFor};
 ghost use Rattle.lock_tests.specs.Asked.{KnowsOthers, IsDue, HasServed, IsOnlyWorker};
-ghost use Rattle.lock_tests.specs.declared.turns.Offer.TheVariants.{Published};
+ghost use Rattle.lock_tests.specs.declared.offers.Offer.TheVariants.{Published};
 ghost use Rattle.lock_tests.specs.declared.courses.Served.TheVariants as served;
 ghost use Rattle.lock_tests.specs.declared.courses.Course.{Course as Came};
 
-use crate::turns::{Offer, Turn, run_own};
+use crate::offers::Offer;
+use crate::turns::{Turn, run_own};
 use hash_table::lock_walks::Planner;
 use hash_table::lock_walks::epoch_slots::{Short, collect, enter, sweep};
 use hash_table::lock_walks::section_runs::RunEnd;

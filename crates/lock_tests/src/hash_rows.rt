@@ -4,8 +4,9 @@ ghost use Rattle.leaf_tree.specs.tree_laws.specs.bucket_laws.specs.Walk.{has_one
 ghost use Rattle.machine_states.specs.map_history.specs.Keys.{key_of};
 
 use crate::hash_scene::{new_table, pairs_of, plan_and_publish};
+use crate::offers::Offer;
 use crate::scripts::scripted;
-use crate::turns::{Offer, Turn, run_own, side_by_side, watch_lock};
+use crate::turns::{Turn, run_own, side_by_side, watch_lock};
 use crate::workers::{crew, gather};
 use machine_states::body_terms::{Outcome, StepKind};
 use machine_states::map_history::Op;

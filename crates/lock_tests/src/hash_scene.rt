@@ -10,10 +10,10 @@ ghost use Rattle.settled_tables.specs.closed_words.specs.version_words.specs.Sta
 ghost use Rattle.hash_table.specs.try_lock.specs.declared.section.Section.{Section};
 ghost use Rattle.hash_table.specs.try_lock.specs.Contents.{StandFor};
 ghost use Rattle.lock_tests.specs.Workers.{IsReady, MayRun};
-ghost use Rattle.lock_tests.specs.declared.turns.Offer.TheVariants.{Published};
+ghost use Rattle.lock_tests.specs.declared.offers.Offer.TheVariants.{Published};
 ghost use Rattle.lock_tests.specs.HashScene.{IsScene, asked};
 
-use crate::turns::Offer;
+use crate::offers::Offer;
 use crate::{closing, courses};
 use hash_table::HashTable;
 use hash_table::lock_walks::version_words::{FlockTable, Runner, Words};

@@ -6,34 +6,40 @@
 //! table of one bucket, `tree_scene` a search tree with one worker, `attempt_scene` two workers that attempt their
 //! requests on any structure, and `bank` workers that move money between accounts. The tests stand in `rows`,
 //! `hash_rows`, `tree_rows`, `attempt_rows` and `bank_rows`.
+//!
+//! All but the type that `proofs/` cites is read with the tests alone, so that it is proved once.
 #![tactic(auto)]
 
 #[cfg(test)]
 mod attempt_rows;
-pub mod attempt_scene;
-pub mod bank;
+#[cfg(test)]
+mod attempt_scene;
+#[cfg(test)]
+mod bank;
 #[cfg(test)]
 mod bank_rows;
+#[cfg(test)]
 mod closing;
+#[cfg(test)]
 mod courses;
 #[cfg(test)]
 mod hash_rows;
-pub mod hash_scene;
+#[cfg(test)]
+mod hash_scene;
+pub mod offers;
 #[cfg(test)]
 mod rows;
+#[cfg(test)]
 mod scenes;
+#[cfg(test)]
 mod scripts;
+#[cfg(test)]
 mod traces;
 #[cfg(test)]
 mod tree_rows;
-pub mod tree_scene;
+#[cfg(test)]
+mod tree_scene;
+#[cfg(test)]
 mod turns;
+#[cfg(test)]
 mod workers;
-
-pub use closing::pairs_of;
-pub use courses::{Course, Served, plan_and_publish, scan_and_sweep, serve_in_turn};
-pub use scenes::{come_in, new_table, offer, visit};
-pub use scripts::scripted;
-pub use traces::one_trace;
-pub use turns::{Offer, Turn, help_held, read_lock, run_own, side_by_side, watch_lock};
-pub use workers::{crew, gather, gather_one, split};

@@ -9,9 +9,10 @@ ghost use Rattle.settled_tables.specs.closed_words.specs.version_words.specs.Sta
 ghost use Rattle.lock_tests.specs.Scenes.{two_requests};
 
 use crate::courses::scan_and_sweep;
+use crate::offers::Offer;
 use crate::scenes::{come_in, new_table, offer, visit};
 use crate::scripts::scripted;
-use crate::turns::{Offer, Turn, help_held, read_lock, run_own, side_by_side, watch_lock};
+use crate::turns::{Turn, help_held, read_lock, run_own, side_by_side, watch_lock};
 use crate::workers::{crew, gather};
 use hash_table::lock_walks::epoch_slots::{Kind, Short, collect, exit, reserve};
 use hash_table::lock_walks::section_runs::RunEnd;

@@ -7,10 +7,10 @@ ghost use Rattle.settled_tables.specs.closed_words.specs.version_words.specs.Tab
 ghost use Rattle.settled_tables.specs.closed_words.specs.version_words.specs.Stages.{IsKeeper, HasJoined};
 ghost use Rattle.lock_tests.specs.Scenes.{IsScene};
 ghost use Rattle.lock_tests.specs.Workers.{HasRead, IsEmptyHanded, MayRun};
-ghost use Rattle.lock_tests.specs.declared.turns.Offer.TheVariants.{Published};
+ghost use Rattle.lock_tests.specs.declared.offers.Offer.TheVariants.{Published};
 ghost use Rattle.hash_table.specs.try_lock.specs.declared.section.Section.{Section};
 
-use crate::turns::Offer;
+use crate::offers::Offer;
 use hash_table::lock_walks::epoch_slots::{enter, exit};
 use hash_table::lock_walks::try_lock::publish;
 use hash_table::lock_walks::version_words::{FlockTable, Runner};

@@ -13,22 +13,11 @@ use hash_table::lock_walks::epoch_slots::{enter, exit};
 use hash_table::lock_walks::section_runs::RunEnd;
 use hash_table::lock_walks::try_lock::{Section, help, run_section, watch};
 use hash_table::lock_walks::version_words::{FlockTable, Runner};
-use machine_states::body_terms::{Outcome, Place, Refused, Steps, Word};
+use machine_states::body_terms::{Outcome, Place, Steps, Word};
 use machine_states::structure_laws::Structure;
 use settled_tables::settling::runner_gate::Gate;
 use std::thread;
 use std::thread::Threads;
-
-/// What came of a worker's offer.
-#[derive(Clone, Copy, Debug, PartialEq, Eq)]
-pub enum Offer {
-    /// Its section is published.
-    Published(Section),
-    /// Another section was, or the lock's word has changed.
-    Refused(Refused),
-    /// It wasn't made.
-    None,
-}
 
 /// How a run of a section ended, and how many steps it made.
 #[derive(Drop, Debug)]

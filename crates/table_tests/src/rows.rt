@@ -57,23 +57,6 @@ fn both_busy<R: Threads + Sync>(
 }
 
 #[test]
-fn an_entered_runner_holds_the_epoch_back(rt: HostRuntime) -> Result<(), AllocError> {
-    let (table, keeper) = new_table(rt.alloc())?;
-    let (keeper, first, second) = crew(&table, rt.alloc(), keeper)?;
-    let (first, epoch) = enter(&table, first);
-    let (second, once) = collect(&table, second);
-    let (second, twice) = collect(&table, second);
-    let first = exit(&table, first, epoch);
-    let (second, again) = collect(&table, second);
-    let (second, last) = enter(&table, second);
-    assert!(&rt; epoch == 1 && once && !twice && again && last == 3);
-    assert!(&rt; second.entered() == Some(3) && first.entered().is_none());
-    let words = gather(table, keeper, first, second);
-    assert!(&rt; words.entry(0).is_none() && words.cell(1).bits() == 4294967296);
-    Ok(())
-}
-
-#[test]
 fn two_threads_enter_leave_and_scan(rt: HostRuntime) -> Result<(), AllocError> {
     let (table, keeper) = new_table(rt.alloc())?;
     let (keeper, first, second) = crew(&table, rt.alloc(), keeper)?;
@@ -123,16 +106,6 @@ fn an_idle_worker_stores_into_a_free_descriptor_and_loads_it(
     assert!(&rt; word == 9 && other == 5 && unstored == 0);
     let (first, stamp) = entry(&table, first, 0);
     assert!(&rt; stamp == 0);
-    let words = gather(table, keeper, first, second);
-    assert!(&rt; words.entry(0).is_none());
-    Ok(())
-}
-
-#[test]
-fn a_new_worker_has_two_node_slots_and_none_in_limbo(rt: HostRuntime) -> Result<(), AllocError> {
-    let (table, keeper) = new_table(rt.alloc())?;
-    let (keeper, first, second) = crew(&table, rt.alloc(), keeper)?;
-    assert!(&rt; first.free_nodes().len() == 2 && first.limbo_nodes() == 0 && first.worn() == 0);
     let words = gather(table, keeper, first, second);
     assert!(&rt; words.entry(0).is_none());
     Ok(())

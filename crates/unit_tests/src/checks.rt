@@ -1,184 +1,93 @@
-// What the check of a report answers, and how an input is read and parted.
-use command_line::trace_reader::{MemorySource, SureSource, Traces, read_traces};
-use report_check::{BadReport, InputError, Verdict, check_report, read_all, split_report};
+// What the check of a report answers, and how an input is parted.
+use crate::rows::{Shown, bytes_of, check};
+use command_line::trace_reader::{SureSource, read_traces};
+use report_check::{check_report, split_report};
 use std::alloc::{AllocError, Global};
 use std::test::Fail;
 
-const TEXT: &str = "flock 1\ntrace\nins 5 70\nins 5 80\nget 5\n";
+// A text, and behind a bar a report: legal, or the first line that fails and how. A reply to `put` tells the value before
+// it; of two wrong replies the one is told that stands first.
+const JUDGED: &str = "\
+flock 1/trace/ins 5 70/ins 5 80/get 5/|trace 0/0 new/1 dup/2 val 70/final 1/ => Legal
+flock 1/trace/ins 5 70/ins 5 80/get 5/|trace 0/0 new/- unserved/- unserved/final 1/ => Legal
+flock 1/trace/ins 5 70/ins 5 80/get 5/|trace 0/0 new/1 dup/2 val 80/final 1/ => Fails { line: 4, kind: Reply }
+flock 1/trace/ins 5 70/ins 5 80/get 5/|trace 0/0 new/2 dup/1 val 70/final 1/ => Fails { line: 4, kind: Rank }
+flock 1/trace/ins 5 70/ins 5 80/get 5/|trace 0/0 new/- unserved/1 val 70/final 1/ => Fails { line: 4, kind: Rank }
+flock 1/trace/ins 5 70/ins 5 80/get 5/|trace 0/0 new/1 dup/2 val 70/final 2/ => Fails { line: 5, kind: Final }
+flock 1/trace/ins 5 70/ins 5 80/get 5/|trace 0/0 new/1 dup/2 val 70/ => Fails { line: 5, kind: Form }
+flock 1/trace/ins 5 70/ins 5 80/get 5/| => Fails { line: 1, kind: Form }
+flock 1/trace/ins 5 70/ins 5 80/get 5/|trace 00/0 new/1 dup/2 val 70/final 1/ => Fails { line: 1, kind: Form }
+flock 1/trace/ins 5 70/ins 5 80/get 5/|trace 0/00 new/1 dup/2 val 70/final 1/ => Fails { line: 2, kind: Form }
+flock 1/trace/ins 5 70/ins 5 80/get 5/|trace 0/0 new/1 dup/2 val 4294967296/final 1/ => Fails { line: 4, kind: Form }
+flock 1/trace/ins 5 70/ins 5 80/get 5/|trace 0/0 new/1 dup/2 val 70/final 1 => Fails { line: 5, kind: Form }
+flock 1/trace/ins 5 70/ins 5 80/get 5/|trace 0/0 new/1 dup/2 val 70/final 1// => Fails { line: 6, kind: Form }
+flock 1/trace/ins 5 70/ins 5 80/get 5/|trace 0/0 new/3 dup/2 val 70/final 1/ => Fails { line: 3, kind: Rank }
+flock 1/trace/ins 5 70/ins 5 80/get 5/|trace 0/0 new/0 dup/2 val 70/final 1/ => Fails { line: 3, kind: Rank }
+flock 1/trace/ins 5 70/get 5/|trace 0/123456789012345678901234567890 new/1 val 70/final 1/ => Fails { line: 2, kind: Rank }
+flock 1/trace/ins 5 70/get 5/trace/del 5/|trace 0/0 new/1 val 70/trace 1/2 gone/final 0/ => Legal
+flock 1/trace/ins 5 70/get 5/trace/del 5/|trace 0/0 new/2 none/trace 1/1 gone/final 0/ => Legal
+flock 1/trace/ins 5 70/get 5/trace/del 5/|trace 0/1 new/2 val 70/trace 1/0 none/final 1/ => Legal
+flock 1/trace/ins 5 70/get 5/trace/del 5/|trace 0/0 new/- unserved/trace 1/1 gone/final 0/ => Legal
+flock 1/trace/ins 5 70/get 5/trace/del 5/|trace 0/- unserved/- unserved/trace 1/- unserved/final 0/ => Legal
+flock 1/trace/ins 5 70/get 5/trace/del 5/|trace 0/0 new/1 val 70/trace 1/2 gone/final 1/ => Fails { line: 6, kind: Final }
+flock 1/trace/ins 5 70/get 5/trace/del 5/|trace 0/0 new/1 val 71/trace 1/2 gone/final 0/ => Fails { line: 3, kind: Reply }
+flock 1/trace/ins 5 70/get 5/trace/del 5/|trace 0/0 new/1 none/trace 1/2 gone/final 0/ => Fails { line: 3, kind: Reply }
+flock 1/trace/ins 5 70/get 5/trace/del 5/|trace 0/1 new/0 none/trace 1/2 gone/final 0/ => Fails { line: 3, kind: Rank }
+flock 1/trace/ins 5 70/get 5/trace/del 5/|trace 0/0 new/1 val 70/trace 1/1 gone/final 0/ => Fails { line: 5, kind: Rank }
+flock 1/trace/ins 5 70/get 5/trace/del 5/|trace 0/0 new/1 val 70/trace 1/3 gone/final 0/ => Fails { line: 5, kind: Rank }
+flock 1/trace/ins 5 70/get 5/trace/del 5/|trace 0/- unserved/0 none/trace 1/1 none/final 0/ => Fails { line: 3, kind: Rank }
+flock 1/trace/ins 5 70/get 5/trace/del 5/|trace 0/0 new/1 val 70/trace 1/02 gone/final 0/ => Fails { line: 5, kind: Form }
+flock 1/trace/ins 5 70/get 5/trace/del 5/|trace 0/0 new/1 val 70/trace 1/2 gone/final 0 => Fails { line: 6, kind: Form }
+flock 1/trace/ins 5 70/get 5/trace/del 5/|trace 0/0 new/1 val 70/trace 1/2 gone/final 0// => Fails { line: 7, kind: Form }
+flock 1/trace/ins 5 70/get 5/trace/del 5/|trace 0/0 new/1 val 70/2 gone/trace 1/final 0/ => Fails { line: 4, kind: Form }
+flock 1/trace/ins 5 70/get 5/trace/del 5/|trace 0/0 new/1 val 70/trace 1/final 0/ => Fails { line: 5, kind: Form }
+flock 1/trace/ins 5 70/get 5/trace/del 5/|trace 0/0 new/1 val 70/trace 1/2 gone/trace 2/final 0/ => Fails { line: 6, kind: Form }
+flock 1/|final 0/ => Legal
+flock 2/trace/put 5 70/put 5 80/|trace 0/0 new/1 was 70/final 1/ => Legal
+flock 2/trace/put 5 70/put 5 80/|trace 0/0 new/1 was 80/final 1/ => Fails { line: 3, kind: Reply }
+flock 2/trace/put 5 70/put 5 80/|trace 0/0 new/1 val 70/final 1/ => Fails { line: 3, kind: Reply }
+flock 2/trace/put 5 70/put 5 80/|trace 0/0 new/1 was 4294967296/final 1/ => Fails { line: 3, kind: Form }
+flock 1/trace/get 1/trace/get 1/|trace 0/1 gone/trace 1/0 gone/final 0/ => Fails { line: 2, kind: Reply }
+";
 
-fn text_of(alloc: Global, text: &str) -> Result<Vec<u8>, AllocError> {
-    let mut bytes = Vec::new(alloc);
-    bytes.extend_from_slice(text.as_bytes())?;
-    Ok(bytes)
-}
+struct Judged;
 
-// Whether the report on this text gets this verdict.
-fn is_judged(
-    alloc: Global,
-    text: &str,
-    report: &str,
-    expected: Verdict,
-) -> Result<bool, AllocError> {
-    let mut source = SureSource::new(text_of(alloc, text)?, Vec::new(alloc));
-    let Ok(traces) = read_traces(alloc, &mut source) else {
-        return Ok(false);
-    };
-    let verdict = check_report(alloc, &traces, report.as_bytes())?;
-    Ok(verdict == expected)
-}
-
-fn fails(line: u32, kind: BadReport) -> Verdict {
-    Verdict::Fails { line, kind }
-}
-
-// Reports on the text that are legal.
-const LEGAL: [&str; 2] = [
-    "trace 0\n0 new\n1 dup\n2 val 70\nfinal 1\n",
-    "trace 0\n0 new\n- unserved\n- unserved\nfinal 1\n",
-];
-
-// Reports on the text that aren't, with the first line that fails and how.
-const FAILING: [(&str, u32, BadReport); 14] = [
-    (
-        "trace 0\n0 new\n1 dup\n2 val 80\nfinal 1\n",
-        4,
-        BadReport::Reply,
-    ),
-    (
-        "trace 0\n0 new\n2 dup\n1 val 70\nfinal 1\n",
-        4,
-        BadReport::Rank,
-    ),
-    (
-        "trace 0\n0 new\n- unserved\n1 val 70\nfinal 1\n",
-        4,
-        BadReport::Rank,
-    ),
-    (
-        "trace 0\n0 new\n1 dup\n2 val 70\nfinal 2\n",
-        5,
-        BadReport::Final,
-    ),
-    ("trace 0\n0 new\n1 dup\n2 val 70\n", 5, BadReport::Form),
-    ("", 1, BadReport::Form),
-    (
-        "trace 00\n0 new\n1 dup\n2 val 70\nfinal 1\n",
-        1,
-        BadReport::Form,
-    ),
-    (
-        "trace 0\n00 new\n1 dup\n2 val 70\nfinal 1\n",
-        2,
-        BadReport::Form,
-    ),
-    (
-        "trace 0\n0 new\n1 dup\n2 val 4294967296\nfinal 1\n",
-        4,
-        BadReport::Form,
-    ),
-    (
-        "trace 0\n0 new\n1 dup\n2 val 70\nfinal 1",
-        5,
-        BadReport::Form,
-    ),
-    (
-        "trace 0\n0 new\n1 dup\n2 val 70\nfinal 1\n\n",
-        6,
-        BadReport::Form,
-    ),
-    (
-        "trace 0\n0 new\n3 dup\n2 val 70\nfinal 1\n",
-        3,
-        BadReport::Rank,
-    ),
-    (
-        "trace 0\n0 new\n0 dup\n2 val 70\nfinal 1\n",
-        3,
-        BadReport::Rank,
-    ),
-    (
-        "trace 0\n123456789012345678901234567890 new\n1 dup\n2 val 70\nfinal 1\n",
-        2,
-        BadReport::Rank,
-    ),
-];
-
-#[test]
-fn each_test_finds_its_first_failing_line(rt: HostRuntime) -> Result<(), Fail> {
-    let alloc = rt.alloc();
-    for report in LEGAL {
-        assert!(rt; is_judged(alloc, TEXT, report, Verdict::Legal)?);
+impl Shown for Judged {
+    fn shown(alloc: Global, text: &str) -> Result<String, AllocError> {
+        let (text, report) = text.split_once('|').unwrap_or((text, ""));
+        let mut source = SureSource::new(bytes_of(alloc, text)?, Vec::new(alloc));
+        let Ok(traces) = read_traces(alloc, &mut source) else {
+            return format!(in alloc; "refused");
+        };
+        let verdict = check_report(alloc, &traces, &bytes_of(alloc, report)?)?;
+        format!(in alloc; "{verdict:?}")
     }
-    for (report, line, kind) in FAILING {
-        assert!(rt; is_judged(alloc, TEXT, report, fails(line, kind))?);
-    }
-    assert!(rt; is_judged(alloc, "flock 1\n", "final 0\n", Verdict::Legal)?);
-    Ok(())
 }
 
 #[test]
-fn a_reply_to_put_tells_the_value_before(rt: HostRuntime) -> Result<(), Fail> {
-    let alloc = rt.alloc();
-    let text = "flock 2\ntrace\nput 5 70\nput 5 80\n";
-    let rows = [
-        ("trace 0\n0 new\n1 was 70\nfinal 1\n", Verdict::Legal),
-        (
-            "trace 0\n0 new\n1 was 80\nfinal 1\n",
-            fails(3, BadReport::Reply),
-        ),
-        (
-            "trace 0\n0 new\n1 val 70\nfinal 1\n",
-            fails(3, BadReport::Reply),
-        ),
-        (
-            "trace 0\n0 new\n1 was 4294967296\nfinal 1\n",
-            fails(3, BadReport::Form),
-        ),
-    ];
-    for (report, verdict) in rows {
-        assert!(rt; is_judged(alloc, text, report, verdict)?);
-    }
+fn a_report_is_legal_or_has_a_first_failing_line(rt: HostRuntime) -> Result<(), Fail> {
+    check::<Judged>(&rt, rt.alloc(), JUDGED)?;
     Ok(())
 }
 
-#[test]
-fn the_first_wrong_reply_is_by_line(rt: HostRuntime) -> Result<(), Fail> {
-    let alloc = rt.alloc();
-    let text = "flock 1\ntrace\nget 1\ntrace\nget 1\n";
-    let report = "trace 0\n1 gone\ntrace 1\n0 gone\nfinal 0\n";
-    assert!(rt; is_judged(alloc, text, report, fails(2, BadReport::Reply))?);
-    Ok(())
+// Where the first line begins and ends whose only field is `report`.
+const PARTED: &str = "\
+flock 1/\t report ^/report/ => Some((8, 19))
+report => Some((0, 6))
+flock 1/report 1/reports/#report => None
+";
+
+struct Parted;
+
+impl Shown for Parted {
+    fn shown(alloc: Global, text: &str) -> Result<String, AllocError> {
+        let parts = split_report(&bytes_of(alloc, text)?);
+        format!(in alloc; "{parts:?}")
+    }
 }
 
 #[test]
 fn the_first_report_line_parts(rt: HostRuntime) -> Result<(), Fail> {
-    assert!(rt; split_report(b"flock 1\n\t report \r\nreport\n") == Some((8, 19)));
-    assert!(rt; split_report(b"report") == Some((0, 6)));
-    assert!(rt; split_report(b"flock 1\nreport 1\nreports\n#report").is_none());
-    Ok(())
-}
-
-#[test]
-fn an_input_is_read_whole(rt: HostRuntime) -> Result<(), Fail> {
-    let alloc = rt.alloc();
-    let mut source = SureSource::new(text_of(alloc, TEXT)?, vec![in alloc; 1usize, 7usize]?);
-    assert!(rt;
-        read_all(alloc, &mut source)
-            .ok()
-            .ok_or("not read")?
-            .as_slice()
-            == TEXT.as_bytes()
-    );
-    let mut failing = MemorySource::new(
-        text_of(alloc, TEXT)?,
-        vec![in alloc; 3usize]?,
-        vec![in alloc; 2u64]?,
-    );
-    assert!(rt; read_all(alloc, &mut failing).err() == Some(InputError::ReadFault));
-    let large = SureSource::new(vec![in alloc; b'#'; 8_388_609]?, Vec::new(alloc));
-    let mut large = large;
-    assert!(rt;
-        read_all(alloc, &mut large).err() == Some(InputError::TooLarge { bytes: 8_388_609 })
-    );
+    check::<Parted>(&rt, rt.alloc(), PARTED)?;
     Ok(())
 }

@@ -1,5 +1,7 @@
-// Command lines, what they mean, and those that are refused. In the tables a space parts the words of a line.
-use command_line::{Command, Halts, Reads, RunOptions, TableKind, read_words};
+// Command lines, what they mean, and those that are refused. In the tables a space parts the words of a line; the last
+// one that is refused has none.
+use crate::rows::{Shown, check};
+use command_line::{Command, RunOptions, read_words};
 use std::alloc::{AllocError, Global};
 use std::process::Abort;
 use std::test::Fail;
@@ -83,6 +85,7 @@ load --seed 7 --traces 1 --length 3 --keys 1 --reads fre
 check --table hash
 check --reads free
 check --help
+
 ";
 
 const ACCEPTED: &str = "\
@@ -104,14 +107,14 @@ load --reads=free --seed=1 --traces 8 --length 4000 --keys 1000
 check
 ";
 
-// Lines, and behind a bar what they mean, as `Debug` shows it.
+// Lines, and what they mean, as `Debug` shows it.
 const MEANT: &str = "\
-run|Run(RunOptions { table: Hash, runners: None, bucket_bits: None, nodes: None, sections: 64, version_max: 4294967295, reads: Lock, halts: Halts { items: [] } })
-run --reads=free|Run(RunOptions { table: Hash, runners: None, bucket_bits: None, nodes: None, sections: 64, version_max: 4294967295, reads: Free, halts: Halts { items: [] } })
-run --halt=2:10,0:7 --nodes 18 --runners=3 --buckets 256 --reads lock --sections=5 --version-max 9 --table=tree|Run(RunOptions { table: Tree, runners: Some(3), bucket_bits: Some(8), nodes: Some(18), sections: 5, version_max: 9, reads: Lock, halts: Halts { items: [Halt { runner: 2, ask: 10 }, Halt { runner: 0, ask: 7 }] } })
-gen --keys 100 --seed=1 --length 3 --traces 2|Gen(Gen { seed: 1, traces: 2, length: 3, keys: 100, apart: false })
-load --traces 2 --keys=100 --nodes=7 --reads free --seed=1 --length 3|Load(LoadOptions { plan: Gen { seed: 1, traces: 2, length: 3, keys: 100, apart: true }, run: RunOptions { table: Hash, runners: None, bucket_bits: None, nodes: Some(7), sections: 64, version_max: 4294967295, reads: Free, halts: Halts { items: [] } } })
-check|Check
+run => Some(Run(RunOptions { table: Hash, runners: None, bucket_bits: None, nodes: None, sections: 64, version_max: 4294967295, reads: Lock, halts: Halts { items: [] } }))
+run --reads=free => Some(Run(RunOptions { table: Hash, runners: None, bucket_bits: None, nodes: None, sections: 64, version_max: 4294967295, reads: Free, halts: Halts { items: [] } }))
+run --halt=2:10,0:7 --nodes 18 --runners=3 --buckets 256 --reads lock --sections=5 --version-max 9 --table=tree => Some(Run(RunOptions { table: Tree, runners: Some(3), bucket_bits: Some(8), nodes: Some(18), sections: 5, version_max: 9, reads: Lock, halts: Halts { items: [Halt { runner: 2, ask: 10 }, Halt { runner: 0, ask: 7 }] } }))
+gen --keys 100 --seed=1 --length 3 --traces 2 => Some(Gen(Gen { seed: 1, traces: 2, length: 3, keys: 100, apart: false }))
+load --traces 2 --keys=100 --nodes=7 --reads free --seed=1 --length 3 => Some(Load(LoadOptions { plan: Gen { seed: 1, traces: 2, length: 3, keys: 100, apart: true }, run: RunOptions { table: Hash, runners: None, bucket_bits: None, nodes: Some(7), sections: 64, version_max: 4294967295, reads: Free, halts: Halts { items: [] } } }))
+check => Some(Check)
 ";
 
 fn read(alloc: Global, line: &str) -> Result<Option<Command>, AllocError> {
@@ -119,16 +122,7 @@ fn read(alloc: Global, line: &str) -> Result<Option<Command>, AllocError> {
     read_words(alloc, &words)
 }
 
-// What the line means, as `Debug` shows it.
-fn shown(alloc: Global, line: &str) -> Result<String, AllocError> {
-    let command = read(alloc, line)?;
-    match command {
-        Some(command) => format!(in alloc; "{command:?}"),
-        None => format!(in alloc; "refused"),
-    }
-}
-
-fn check_table(
+fn check_lines(
     rt: &impl Abort,
     alloc: Global,
     table: &str,
@@ -142,73 +136,63 @@ fn check_table(
 }
 
 #[test]
-fn other_words_are_refused(rt: HostRuntime) -> Result<(), Fail> {
-    let alloc = rt.alloc();
-    check_table(&rt, alloc, REFUSED, false)?;
-    assert!(&rt; read(alloc, "")?.is_none());
+fn words_are_accepted_in_both_forms_and_others_are_refused(rt: HostRuntime) -> Result<(), Fail> {
+    check_lines(&rt, rt.alloc(), ACCEPTED, true)?;
+    check_lines(&rt, rt.alloc(), REFUSED, false)?;
     Ok(())
 }
 
-#[test]
-fn words_are_accepted_in_both_forms(rt: HostRuntime) -> Result<(), Fail> {
-    check_table(&rt, rt.alloc(), ACCEPTED, true)?;
-    Ok(())
+struct Meant;
+
+impl Shown for Meant {
+    fn shown(alloc: Global, text: &str) -> Result<String, AllocError> {
+        let command = read(alloc, text)?;
+        format!(in alloc; "{command:?}")
+    }
 }
 
 #[test]
 fn an_option_has_its_value_or_its_default(rt: HostRuntime) -> Result<(), Fail> {
-    for row in MEANT.lines() {
-        let (line, meant) = row.split_once('|').ok_or("no bar")?;
-        let shown = shown(rt.alloc(), line)?;
-        assert_eq!(rt; shown.as_str(), meant);
-    }
+    check::<Meant>(&rt, rt.alloc(), MEANT)?;
     Ok(())
 }
 
-fn options_with(alloc: Global, runners: Option<u32>, nodes: Option<u32>) -> RunOptions {
-    RunOptions {
-        table: TableKind::Hash,
-        runners,
-        bucket_bits: None,
-        nodes,
-        sections: 64,
-        version_max: u32::MAX,
-        reads: Reads::Lock,
-        halts: Halts::new(alloc),
+// Lines, and the runners for 0, 3 and 64 traces, the node slots for two and for 131,072 insertions, at which ask each of
+// three runners is halted, and whether a halt is of the first one.
+const DEFAULTS: &str = "\
+run => 1, 3, 16, 14, 16384, [None, None, None], false
+run --runners 3 --nodes 18 => 3, 3, 3, 18, 18, [None, None, None], false
+run --halt=1:10 => 1, 3, 16, 14, 16384, [None, Some(10), None], false
+run --halt=2:10,0:7 => 1, 3, 16, 14, 16384, [Some(7), None, Some(10)], true
+";
+
+/// What these options are for texts of so many traces and insertions.
+fn shown_options(alloc: Global, options: &RunOptions) -> Result<String, AllocError> {
+    let few = options.runners_for(0);
+    let runners = options.runners_for(3);
+    let many = options.runners_for(64);
+    let nodes = options.nodes_for(3, 2);
+    let most = options.nodes_for(131_072, 16);
+    let asks = options.halts.asks(alloc, 3)?;
+    let below = options.halts.name_below(1);
+    format!(in alloc; "{few}, {runners}, {many}, {nodes}, {most}, {asks:?}, {below}")
+}
+
+struct Defaults;
+
+impl Shown for Defaults {
+    fn shown(alloc: Global, text: &str) -> Result<String, AllocError> {
+        match read(alloc, text)? {
+            Some(Command::Run(options)) => shown_options(alloc, &options),
+            _ => format!(in alloc; "no run"),
+        }
     }
 }
 
 #[test]
-fn a_default_depends_on_the_text(rt: HostRuntime) -> Result<(), Fail> {
-    let options = options_with(rt.alloc(), None, None);
-    let runners = [
-        options.runners_for(0),
-        options.runners_for(3),
-        options.runners_for(64),
-    ];
-    assert_eq!(rt; runners, [1, 3, 16]);
-    let nodes = [options.nodes_for(3, 2), options.nodes_for(131_072, 16)];
-    assert_eq!(rt; nodes, [14, 16_384]);
-    let options = options_with(rt.alloc(), Some(3), Some(18));
-    assert_eq!(rt; [options.runners_for(1), options.nodes_for(1, 3)], [3, 18]);
-    Ok(())
-}
-
-fn halts_of(command: Command) -> Option<Halts> {
-    match command {
-        Command::Run(options) => Some(options.halts),
-        _ => None,
-    }
-}
-
-#[test]
-fn a_halt_is_found_by_its_runner(rt: HostRuntime) -> Result<(), Fail> {
-    let alloc = rt.alloc();
-    let command = read(alloc, "run --halt=2:10,0:7")?.ok_or("refused")?;
-    let halts = halts_of(command).ok_or("no run")?;
-    let asks = halts.asks(alloc, 3)?;
-    assert_eq!(rt; asks.as_slice(), [Some(7), None, Some(10)].as_slice());
-    assert_eq!(rt; halts.ask_of(1), None);
-    assert!(rt; halts.name_below(1));
+fn a_default_depends_on_the_text_and_a_halt_is_found_by_its_runner(
+    rt: HostRuntime,
+) -> Result<(), Fail> {
+    check::<Defaults>(&rt, rt.alloc(), DEFAULTS)?;
     Ok(())
 }

@@ -18,9 +18,9 @@ fn halts<G: Gate>(gate: &mut G) -> [bool; 3] {
 
 #[test]
 fn a_gate_halts_at_its_number_and_at_each_later_ask(rt: HostRuntime) {
-    assert_eq!(rt; halts(&mut HaltAt::new(Some(2))), [false, true, true]);
-    assert_eq!(rt; halts(&mut HaltAt::new(None)), [false, false, false]);
-    assert_eq!(rt; halts(&mut Free::new()), [false, false, false]);
+    assert!(rt; halts(&mut HaltAt::new(Some(2))) == [false, true, true]);
+    assert!(rt; halts(&mut HaltAt::new(None)) == [false, false, false]);
+    assert!(rt; halts(&mut Free::new()) == [false, false, false]);
 }
 
 /// At which asks the gate of runner 3 halts, where it is planned to at its third; then the gate is given back.
@@ -33,14 +33,8 @@ fn halts_as_planned<G: Gates>(gates: &mut G) -> [bool; 3] {
 
 #[test]
 fn gates_follow_their_plan_or_never_halt(rt: HostRuntime) {
-    assert_eq!(rt;
-        halts_as_planned(&mut PlannedGates::new()),
-        [false, false, true]
-    );
-    assert_eq!(rt;
-        halts_as_planned(&mut FreeGates::new()),
-        [false, false, false]
-    );
+    assert!(rt; halts_as_planned(&mut PlannedGates::new()) == [false, false, true]);
+    assert!(rt; halts_as_planned(&mut FreeGates::new()) == [false, false, false]);
 }
 
 /// A script in which the gate of 0, at `at`, waits for that of 1 at `Hold`, and the gate of 1, as it enters, for that
@@ -97,7 +91,7 @@ fn a_gate_that_waits_in_vain_halts(rt: HostRuntime) -> Result<(), Fail> {
     let pauses = crossed(StepKind::Walk).to_vec(rt.alloc())?;
     let mut gates = ScriptedGates::with_limit(rt.alloc(), pauses, 10_000)?;
     let mut gate = gates.gate(0, None);
-    assert_eq!(rt; halts(&mut gate), [false, true, false]);
+    assert!(rt; halts(&mut gate) == [false, true, false]);
     gates.back(gate);
     Ok(())
 }

@@ -1,6 +1,7 @@
 //! Tests of single crates: worked rows of what no contract says, each public call once on its happy path.
 //!
-//! They stand here, since a crate with tests of its own is proved twice.
+//! They stand here, since a crate with tests of its own is proved twice. Most are tables of texts: the call is made on
+//! each, and what it gives is shown as a text (`rows`), so that each function that is proved is a small one.
 #![tactic(auto)]
 
 #[cfg(test)]
@@ -12,14 +13,12 @@ mod command_lines;
 #[cfg(test)]
 mod gates;
 #[cfg(test)]
-mod generated_texts;
-#[cfg(test)]
 mod maps;
 #[cfg(test)]
 mod plain_runs;
 #[cfg(test)]
 mod reports;
 #[cfg(test)]
-mod texts;
+mod rows;
 #[cfg(test)]
 mod traces;

@@ -1,61 +1,47 @@
-// Each call once, with ample memory.
+// Each call of `map_history` once, with ample memory.
 use map_history::{Book, Op, Reply};
 use std::test::Fail;
 
+// Operations on one map, with their replies: a repeated key keeps its value; a key is set whatever stood there; a value
+// moves to an absent key alone.
+const ASKED: [(Op, Reply); 20] = [
+    (Op::Ins(5, 70), Reply::New),
+    (Op::Ins(5, 80), Reply::Dup),
+    (Op::Get(5), Reply::Val(70)),
+    (Op::Del(5), Reply::Gone),
+    (Op::Del(5), Reply::Absent),
+    (Op::Get(5), Reply::Absent),
+    (Op::Put(5, 70), Reply::New),
+    (Op::Put(5, 80), Reply::Was(70)),
+    (Op::Get(5), Reply::Val(80)),
+    (Op::Del(5), Reply::Gone),
+    (Op::Put(5, 90), Reply::New),
+    (Op::Mov(1, 2), Reply::Absent),
+    (Op::Ins(1, 10), Reply::New),
+    (Op::Mov(1, 1), Reply::Dup),
+    (Op::Mov(1, 2), Reply::Moved),
+    (Op::Get(1), Reply::Absent),
+    (Op::Get(2), Reply::Val(10)),
+    (Op::Ins(1, 20), Reply::New),
+    (Op::Mov(1, 2), Reply::Dup),
+    (Op::Get(2), Reply::Val(10)),
+];
+
 #[test]
-fn a_repeated_key_keeps_its_value(rt: HostRuntime) -> Result<(), Fail> {
+fn operations_have_their_replies(rt: HostRuntime) -> Result<(), Fail> {
     let mut book = Book::new(rt.alloc());
-    let asked = [
-        (Op::Ins(5, 70), Reply::New),
-        (Op::Ins(5, 80), Reply::Dup),
-        (Op::Get(5), Reply::Val(70)),
-        (Op::Del(5), Reply::Gone),
-        (Op::Del(5), Reply::Absent),
-        (Op::Get(5), Reply::Absent),
-    ];
-    for (op, reply) in asked {
-        assert_eq!(rt; book.apply(op)?, reply);
-    }
     assert!(rt; book.is_empty());
+    for (op, reply) in ASKED {
+        let found = book.apply(op)?;
+        assert!(rt; found == reply, "{op:?}");
+    }
+    assert!(rt; book.len() == 3);
     Ok(())
 }
 
-#[test]
-fn a_key_is_set_whatever_stood_there(rt: HostRuntime) -> Result<(), Fail> {
-    let mut book = Book::new(rt.alloc());
-    let asked = [
-        (Op::Put(5, 70), Reply::New),
-        (Op::Put(5, 80), Reply::Was(70)),
-        (Op::Get(5), Reply::Val(80)),
-        (Op::Del(5), Reply::Gone),
-        (Op::Put(5, 90), Reply::New),
-    ];
-    for (op, reply) in asked {
-        assert_eq!(rt; book.apply(op)?, reply);
-    }
-    assert_eq!(rt; book.len(), 1);
-    Ok(())
-}
-
-#[test]
-fn a_value_moves_to_an_absent_key_alone(rt: HostRuntime) -> Result<(), Fail> {
-    let mut book = Book::new(rt.alloc());
-    let asked = [
-        (Op::Mov(1, 2), Reply::Absent),
-        (Op::Ins(1, 10), Reply::New),
-        (Op::Mov(1, 1), Reply::Dup),
-        (Op::Mov(1, 2), Reply::Moved),
-        (Op::Get(1), Reply::Absent),
-        (Op::Get(2), Reply::Val(10)),
-        (Op::Ins(1, 20), Reply::New),
-        (Op::Mov(1, 2), Reply::Dup),
-        (Op::Get(2), Reply::Val(10)),
-    ];
-    for (op, reply) in asked {
-        assert_eq!(rt; book.apply(op)?, reply);
-    }
-    assert_eq!(rt; book.len(), 2);
-    Ok(())
+/// Whether the reply has this word, and comes back from it.
+fn has_word(reply: Reply, word: u64) -> bool {
+    reply.word() == word && Reply::from_word(word) == Some(reply)
 }
 
 #[test]
@@ -70,21 +56,23 @@ fn replies_come_back_from_their_words(rt: HostRuntime) {
         (Reply::Moved, 30_064_771_072),
     ];
     for (reply, word) in words {
-        assert_eq!(rt; reply.word(), word);
-        assert_eq!(rt; Reply::from_word(word), Some(reply));
+        assert!(rt; has_word(reply, word), "{word}");
     }
-    assert_eq!(rt; Reply::from_word(0), None);
-    assert_eq!(rt; Reply::from_word((4 << 32) + 1), None);
-    assert_eq!(rt; Reply::from_word((7 << 32) + 1), None);
-    assert_eq!(rt; Reply::from_word(8 << 32), None);
+    for word in [0, (4 << 32) + 1, (7 << 32) + 1, 8 << 32] {
+        assert!(rt; Reply::from_word(word).is_none(), "{word}");
+    }
 }
 
 #[test]
 fn an_operation_depends_on_its_keys(rt: HostRuntime) {
-    for op in [Op::Get(9), Op::Ins(9, 1), Op::Del(9), Op::Put(9, 1)] {
-        assert_eq!(rt; op.key(), 9);
-        assert_eq!(rt; op.other_key(), None);
+    let rows = [
+        (Op::Get(9), None),
+        (Op::Ins(9, 1), None),
+        (Op::Del(9), None),
+        (Op::Put(9, 1), None),
+        (Op::Mov(9, 7), Some(7)),
+    ];
+    for (op, other) in rows {
+        assert!(rt; op.key() == 9 && op.other_key() == other, "{op:?}");
     }
-    assert_eq!(rt; Op::Mov(9, 7).key(), 9);
-    assert_eq!(rt; Op::Mov(9, 7).other_key(), Some(7));
 }

@@ -1,0 +1,37 @@
+//! Tables of rows: a text, and behind ` => ` what has to be shown of it. In a text `/` stands for a line feed and `^` for
+//! a carriage return.
+use std::alloc::{AllocError, Global};
+use std::process::Abort;
+
+/// What a public call makes of the text of a row, shown as a text.
+pub trait Shown {
+    fn shown(alloc: Global, text: &str) -> Result<String, AllocError>;
+}
+
+/// Runs each row of a table, and compares.
+pub fn check<S: Shown>(rt: &impl Abort, alloc: Global, table: &str) -> Result<(), AllocError> {
+    for row in table.lines() {
+        let (text, wanted) = row.split_once(" => ").unwrap_or((row, ""));
+        let shown = S::shown(alloc, text)?;
+        assert!(rt; shown.as_str() == wanted, "{text} => {shown}");
+    }
+    Ok(())
+}
+
+/// The bytes of a row's text.
+pub fn bytes_of(alloc: Global, row: &str) -> Result<Vec<u8>, AllocError> {
+    let mut bytes = row.as_bytes().to_vec(alloc)?;
+    for byte in bytes.iter_mut() {
+        *byte = match *byte {
+            b'/' => b'\n',
+            b'^' => b'\r',
+            other => other,
+        };
+    }
+    Ok(bytes)
+}
+
+/// The number that a text is, and 0 for another text.
+pub fn number_of(text: &str) -> u32 {
+    text.parse().unwrap_or(0)
+}
