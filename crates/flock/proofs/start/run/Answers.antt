@@ -1,21 +1,13 @@
 use Rattle.std.proofs.Common.{◌≡◌, ℕ, List, Option, sym, ◌∙◌, ⊎_elim, inl, inr, subst, refl, arith}
 use Rattle.flock_tool.specs.command_line.specs.declared.command.Command.{Command}
-use Rattle.flock_tool.specs.threaded_runs.specs.runner_gate.specs.Asks.{Asks}
 use Rattle.flock_tool.specs.Exits.{Exits}
 use Rattle.flock_tool.specs.Runs.{IsRunStatus}
 use Rattle.flock_tool.specs.Streams.{Gating, Stream}
 use Rattle.flock.proofs.start.run.Goals as goal
 
--- the call's status is that of the program
-exits : {H : Type 0} (halts : H → ℕ) (asks : H → Asks) (command : Command) (number status : ℕ) (input : Option (List ℕ)) (source sink faults : Stream)
-    (gates : Gating) → number ≡ status → Exits halts asks command status input source sink faults gates
-    → Exits halts asks command number input source sink faults gates
-exits halts asks command number status input source sink faults gates same is =
-    subst (λ (n : ℕ). Exits halts asks command n input source sink faults gates) (sym same) is
-
 pub returns-clause-commands : goal.returns-clause-commands
 returns-clause-commands g c = λ command is. let left = c.flock-status.ensures in
-    exits g.G.Gate.Gate.halts g.G.Gate.Gate.asks command _ c.flock-status.result.0 _ _ _ _ _ c.from.ensures (record {
+    subst (λ (n : ℕ). Exits g.G.Gate.Gate.halts g.G.Gate.Gate.asks command n _ _ _ _ _) (sym c.from.ensures) (record {
       back = c.flock-status.result.1;
       ends = left.commands command is;
       complete = λ valid nothing. left.complete command is valid nothing;
