@@ -72,6 +72,39 @@ remove_next bucket n on rank chains p t on_p link =
       key_once = grind arith;
     }
 
+-- a slot in no chain takes the place of one behind a head, or behind a node
+pub replace_first : (bucket : ℕ → ℕ) (n : Nodes) (on : ℕ → Bool) (rank : ℕ → ℕ) (chains : Chains bucket n on rank)
+    (i gone t : ℕ) → n.head i ≡ suc gone → on gone ≡ true → on t ≡ false → bucket (n.key t) ≡ bucket (n.key gone)
+    → n.next t ≡ n.next gone → ((u : ℕ) → on u ≡ true → n.key u ≢ n.key t)
+    → Chains bucket (with_head n i (suc t)) (upd (upd on gone false) t true) (upd rank t (rank gone))
+replace_first bucket n on rank chains i gone t leads there out beside link new =
+    record {
+      head_on = grind arith;
+      head_top = grind arith;
+      head_none = grind arith;
+      next_on = grind arith;
+      next_top = grind arith;
+      next_none = grind arith;
+      rank_once = grind arith;
+      key_once = grind arith;
+    }
+
+pub replace_next : (bucket : ℕ → ℕ) (n : Nodes) (on : ℕ → Bool) (rank : ℕ → ℕ) (chains : Chains bucket n on rank)
+    (p gone t : ℕ) → on p ≡ true → n.next p ≡ suc gone → on gone ≡ true → on t ≡ false
+    → bucket (n.key t) ≡ bucket (n.key gone) → n.next t ≡ n.next gone → ((u : ℕ) → on u ≡ true → n.key u ≢ n.key t)
+    → Chains bucket (with_next n p (suc t)) (upd (upd on gone false) t true) (upd rank t (rank gone))
+replace_next bucket n on rank chains p gone t on_p leads there out beside link new =
+    record {
+      head_on = grind arith;
+      head_top = grind arith;
+      head_none = grind arith;
+      next_on = grind arith;
+      next_top = grind arith;
+      next_none = grind arith;
+      rank_once = grind arith;
+      key_once = grind arith;
+    }
+
 -- the contents after an insert
 pub insert_contents : (n : Nodes) (on : ℕ → Bool) (lookup : ℕ → Option ℕ) (contents : Contents n on lookup) (i t : ℕ) → on t ≡ false → lookup (n.key t) ≡ None
     → Contents (with_head n i (suc t)) (upd on t true) (upd lookup (n.key t) (Some (n.value t)))
@@ -166,3 +199,12 @@ set_contents n on lookup contents t v on_t once = record {
 
     other_value : (f : ℕ → ℕ) (k x v : ℕ) → x ≢ k → upd f k v x ≡ f x
     other_value f k x v ne = grind arith
+
+-- contents are those of any memory that agrees on the slots in the chains
+pub contents_agree : (n n' : Nodes) (on : ℕ → Bool) (lookup : ℕ → Option ℕ) → Contents n on lookup
+    → ((u : ℕ) → on u ≡ true → n'.key u ≡ n.key u) → ((u : ℕ) → on u ≡ true → n'.value u ≡ n.value u)
+    → Contents n' on lookup
+contents_agree n n' on lookup contents keys values = record {
+  pair = λ t on_t. ap lookup (keys t on_t) ∙ contents.pair t on_t ∙ ap Some (sym (values t on_t));
+  slot = λ key value h. let there = contents.slot key value h in (there.0, there.1, keys there.0 there.1 ∙ there.2);
+}

@@ -89,7 +89,7 @@ module _ (buckets : ℕ) (bucket : ℕ → ℕ) where
     knows_on Refused known = tt
 
   -- a word was read at the place of the operation's edition
-  abbrev IsAmong : Op → Readings → ℕ → Type 0
+  abbrev pub IsAmong : Op → Readings → ℕ → Type 0
   IsAmong op readings w = (k : ℕ) × (slice_get readings k ≡ Some (bucket_edition (bucket (key_of op)), w))
 
   -- a walk past its edition has read it
@@ -97,7 +97,7 @@ module _ (buckets : ℕ) (bucket : ℕ → ℕ) where
     abbrev IsSeen : Walk → Type 0
     IsSeen w = w.stage ≢ AtEdition → IsAmong op all w.edition
 
-    first_fed : (w : Walk) (p n i : ℕ) (stage : Stage) → stage ≡ AtEdition
+    pub first_fed : (w : Walk) (p n i : ℕ) (stage : Stage) → stage ≡ AtEdition
         → wanted_at buckets bucket (bucket (key_of op)) w stage ≡ Some p → slice_get all i ≡ Some (p, n)
         → IsAmong op all (fed buckets bucket b op w stage n).edition
     first_fed w p n i stage first want at =

@@ -73,19 +73,19 @@ module _ (buckets : ℕ) (bucket : ℕ → ℕ) (small : (key : ℕ) → bucket 
       (there.0, omega (arith, most, below)))
       few
 
-  link_unlocked : (w : Walk) → Few w AtLink → (table buckets bucket).is_lock w.place ≡ false
+  link_unlocked : (w : Walk) → Few w AtLink → (table false buckets bucket).is_lock w.place ≡ false
   link_unlocked w few = ⊎_elim
       (λ first. ap (λ p. nat_lt p (3 * buckets) && (p % 3 == 0)) first.1 ∙ head_unlocked (bucket (key_of op)))
       (λ later. ap (λ p. nat_lt p (3 * buckets) && (p % 3 == 0)) later.1 ∙ cell_unlocked w.slot 3) few
 
-  few_fed : (w : Walk) (stage : Stage) (p word : ℕ) → Few w stage → wanted_at buckets bucket (bucket (key_of op)) w stage ≡ Some p
-      → ((table buckets bucket).is_lock p ≡ false → cells p ≡ word)
+  pub few_fed : (w : Walk) (stage : Stage) (p word : ℕ) → Few w stage → wanted_at buckets bucket (bucket (key_of op)) w stage ≡ Some p
+      → ((table false buckets bucket).is_lock p ≡ false → cells p ≡ word)
       → Few (fed buckets bucket b op w stage word) (fed buckets bucket b op w stage word).stage
   few_fed w AtEdition p word few want reads = inl (few, refl)
   few_fed w AtLink p word few want reads = by (value_of word == 0) (nat_le b.links (suc w.links)) refl
     where
       found : cells w.place ≡ word
-      found = ap cells (some_eq w.place p want) ∙ reads (ap (table buckets bucket).is_lock (sym (some_eq w.place p want)) ∙ link_unlocked w few)
+      found = ap cells (some_eq w.place p want) ∙ reads (ap (table false buckets bucket).is_lock (sym (some_eq w.place p want)) ∙ link_unlocked w few)
 
       one_more : suc w.links ≤ slots + 1
       one_more = ⊎_elim (λ first. let none = first.0 in omega (arith, none)) (λ later. let most = later.0.few in omega (arith, most)) few
@@ -119,7 +119,7 @@ module _ (buckets : ℕ) (bucket : ℕ → ℕ) (small : (key : ℕ) → bucket 
   few_fed w AtEnd p word few want reads = absurd (none-some p want)
   few_fed w Refused p word few want reads = absurd (none-some p want)
 
-  few_walked : (w : Walk) (readings : Readings) → StandIn (table buckets bucket) cells readings → Few w w.stage
+  few_walked : (w : Walk) (readings : Readings) → StandIn (table false buckets bucket) cells readings → Few w w.stage
       → Few (walk buckets bucket b op w readings) (walk buckets bucket b op w readings).stage
   unfolding walk
   few_walked w [] stand few = few
@@ -136,5 +136,5 @@ module _ (buckets : ℕ) (bucket : ℕ → ℕ) (small : (key : ℕ) → bucket 
       go true e again = again (few_fed w w.stage reading.0 reading.1 few (wanted_eq (wanted_at buckets bucket (bucket (key_of op)) w w.stage) reading.0 e) (stand 0 reading.0 reading.1 refl))
       go false e again = few
 
-  pub few_read : (readings : Readings) → StandIn (table buckets bucket) cells readings → (walk buckets bucket b op start readings).links ≤ slots + 1
+  pub few_read : (readings : Readings) → StandIn (table false buckets bucket) cells readings → (walk buckets bucket b op start readings).links ≤ slots + 1
   few_read readings stand = let w = walk buckets bucket b op start readings in few_links w w.stage (few_walked start readings stand refl)

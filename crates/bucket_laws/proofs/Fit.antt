@@ -1,5 +1,5 @@
 -- What a thunk that fits a walk has for operands.
-use Rattle.std.proofs.Common.{◌≡◌, ℕ, ◌+◌, Bool, true, false, refl, sym, ap, ◌∙◌, subst, arith}
+use Rattle.std.proofs.Common.{◌≡◌, ℕ, ◌+◌, ◌≤◌, Bool, true, false, refl, sym, ap, ◌∙◌, subst, arith}
 use Rattle.std.specs.Prelude.{◌==◌, ◌*◌, ◌^◌, List, [], ◌∷◌, None, Some, is_none, Option, slice_index}
 use Rattle.structure_laws.specs.table_words.specs.small_lemmas.proofs.Bools.{both_of as both_true}
 use Rattle.structure_laws.specs.table_words.specs.small_lemmas.proofs.Numbers.{tested_equal as equal_of}
@@ -12,11 +12,11 @@ use Rattle.structure_laws.specs.body_terms.specs.Memory.{cell_of}
 use Rattle.structure_laws.specs.body_terms.specs.declared.thunk.Thunk.{Thunk}
 use Rattle.bucket_laws.specs.Walk.{Stage, AtEdition, AtLink, AtKey, AtValue, AtNext, AtLock, AtEnd, Refused, Walk, is_del, is_end, same_numbers, form_for, operands_for, fits_walk}
 
-no_other : (other : Option ℕ) → is_none other ≡ true → other ≡ None
+pub no_other : (other : Option ℕ) → is_none other ≡ true → other ≡ None
 no_other None h = refl
 no_other (Some key) h = absurd (cc)
 
-at_end : (stage : Stage) → is_end stage ≡ true → stage ≡ AtEnd
+pub at_end : (stage : Stage) → is_end stage ≡ true → stage ≡ AtEnd
 at_end AtEnd h = refl
 at_end AtEdition h = absurd (cc)
 at_end AtLink h = absurd (cc)
@@ -106,6 +106,17 @@ set_operands buckets (Del key) w false h = absurd (omega arith)
 set_operands buckets (Put key value) w true h = (refl, (key, value, refl, refl, refl, refl))
 set_operands buckets (Put key value) w false h = absurd (omega arith)
 set_operands buckets (Mov from to) w there h = absurd (omega arith)
+
+-- the forms over one key
+pub form_few : (op : Op) (found : Bool) → form_for op found ≤ 4
+form_few (Get key) found = omega arith
+form_few (Ins key value) true = omega arith
+form_few (Ins key value) false = omega arith
+form_few (Del key) true = omega arith
+form_few (Del key) false = omega arith
+form_few (Put key value) true = omega arith
+form_few (Put key value) false = omega arith
+form_few (Mov from to) found = omega arith
 
 module _ (buckets : ℕ) (bucket : ℕ → ℕ) where
   -- a thunk that fits a walk

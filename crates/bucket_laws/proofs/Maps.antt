@@ -1,7 +1,7 @@
 -- The map after an operation, as a look-up; and the reply, by what is looked up.
 use Rattle.std.proofs.Common.{◌≡◌, ℕ, ◌*◌, Bool, true, false, cond, refl, sym, ap, ◌∙◌, arith, ◌+◌}
 use Rattle.std.proofs.lemmas.Cmp.{nat_cmp_total}
-use Rattle.std.specs.Prelude.{◌==◌, ◌^◌, Option, Some, None, if◌then◌else◌, is_some, slice_index}
+use Rattle.std.specs.Prelude.{◌==◌, ◌&&◌, not, ◌^◌, Option, Some, None, if◌then◌else◌, is_some, slice_index}
 use Rattle.std.specs.Ordering.{nat_cmp, eq_by_cmp}
 use Rattle.std.specs.FinMap.{get, contains_key, insert, remove, get-insert, get-remove}
 use mathlib.Core.Logic.{dite}
@@ -11,7 +11,7 @@ use Rattle.structure_laws.specs.map_history.specs.declared.op.Op.TheVariants.{Ge
 use Rattle.structure_laws.specs.map_history.specs.declared.reply.Reply.TheVariants.{New, Dup, Gone, Absent}
 use Rattle.structure_laws.specs.map_history.specs.Keys.{key_of}
 use Rattle.structure_laws.specs.map_history.specs.AtKey.{Gets}
-use Rattle.structure_laws.specs.map_history.specs.Replay.{Pairs, found, replaced, reply_of, map_after}
+use Rattle.structure_laws.specs.map_history.specs.Replay.{Pairs, found, replaced, moved, after_move, reply_of, map_after}
 use Rattle.structure_laws.specs.map_history.specs.Words.{word_of}
 use Rattle.structure_laws.specs.body_terms.specs.Update.{upd}
 use Rattle.structure_laws.proofs.Changes.{upd_same, upd_other}
@@ -103,3 +103,47 @@ remove_map pairs (Ins key value) del q = absurd (cc)
 remove_map pairs (Del key) del q = sym (get_removed pairs key q)
 remove_map pairs (Put key value) del q = absurd (cc)
 remove_map pairs (Mov from to) del q = absurd (cc)
+
+-- the reply where both keys of a `mov` are there, and the map then
+dup : (pairs : Pairs) (from to : ℕ) → ((v : ℕ) × (get pairs from ≡ Some v)) → ((v : ℕ) × (get pairs to ≡ Some v))
+    → (2 * 2 ^ 32 ≡ word_of (reply_of pairs (Mov from to))) × (pairs ≡ map_after pairs (Mov from to))
+dup pairs from to first second = (
+  ap (λ o. word_of (moved (Some first.0) o)) (sym second.1)
+      ∙ ap (λ o. word_of (moved o (get pairs to))) (sym first.1),
+  ap (λ o. after_move pairs from to (Some first.0) o) (sym second.1)
+      ∙ ap (λ o. after_move pairs from to o (get pairs to)) (sym first.1),
+)
+
+-- where the value doesn't move
+pub still_moved : (pairs : Pairs) (from to : ℕ) (there there' same : Bool)
+    → (there ≡ true → (v : ℕ) × (get pairs from ≡ Some v)) → (there ≡ false → get pairs from ≡ None)
+    → (same ≡ true → to ≡ from) → (same ≡ false → there' ≡ true → (v : ℕ) × (get pairs to ≡ Some v))
+    → (there && (not there' && not same)) ≡ false
+    → (cond there (2 * 2 ^ 32) (5 * 2 ^ 32) ≡ word_of (reply_of pairs (Mov from to)))
+    × (pairs ≡ map_after pairs (Mov from to))
+still_moved pairs from to false there' same some none one other stays = (
+  ap (λ o. word_of (moved o (get pairs to))) (sym (none refl)),
+  ap (λ o. after_move pairs from to o (get pairs to)) (sym (none refl)),
+)
+still_moved pairs from to true there' true some none one other stays = dup pairs from to (some refl)
+    ((some refl).0, ap (get pairs) (one refl) ∙ (some refl).1)
+still_moved pairs from to true true false some none one other stays = dup pairs from to (some refl) (other refl refl)
+still_moved pairs from to true false false some none one other stays = absurd (cc)
+
+-- and where it moves
+pub moved_reply : (pairs : Pairs) (from to v : ℕ) → get pairs from ≡ Some v → get pairs to ≡ None
+    → 7 * 2 ^ 32 ≡ word_of (reply_of pairs (Mov from to))
+moved_reply pairs from to v some none = ap (λ o. word_of (moved (Some v) o)) (sym none)
+    ∙ ap (λ o. word_of (moved o (get pairs to))) (sym some)
+
+pub moved_map : (pairs : Pairs) (from to v : ℕ) → get pairs from ≡ Some v → get pairs to ≡ None → (q : ℕ)
+    → upd (upd (get pairs) from None) to (Some v) q ≡ get (map_after pairs (Mov from to)) q
+moved_map pairs from to v some none q =
+    upd_agree (upd (get pairs) from None) (get (remove pairs from)) to (Some v) q
+    (sym (get_removed pairs from q))
+    ∙ sym (get_inserted (remove pairs from) to v q)
+    ∙ ap (λ o. get (after_move pairs from to (Some v) o) q) (sym none)
+    ∙ ap (λ o. get (after_move pairs from to o (get pairs to)) q) (sym some)
+  where
+    upd_agree : (f g : ℕ → Option ℕ) (k : ℕ) (v : Option ℕ) (q : ℕ) → f q ≡ g q → upd f k v q ≡ upd g k v q
+    upd_agree f g k v q same = ap (λ r. cond (q == k) v r) same

@@ -76,3 +76,15 @@ module _ (buckets : ℕ) (bucket : ℕ → ℕ) (cells : Cells) where
       (fun_ext (λ u. other p (cell_at buckets bucket u 1) word (cell u 1 (omega arith) (omega arith))))
       (fun_ext (λ u. other p (cell_at buckets bucket u 2) word (cell u 2 (omega arith) (omega arith))))
       (fun_ext (λ u. other p (cell_at buckets bucket u 3) word (cell u 3 (omega arith) (omega arith))))
+
+-- memories that agree on the heads and on the keys, values and links of nodes have the same nodes
+pub nodes_agree : (buckets : ℕ) (bucket : ℕ → ℕ) (cells cells' : Cells)
+    → ((j : ℕ) → j < buckets → cells (bucket_head j) ≡ cells' (bucket_head j))
+    → ((u k : ℕ) → 1 ≤ k → k ≤ 3 → cells (cell_at buckets bucket u k) ≡ cells' (cell_at buckets bucket u k))
+    → nodes buckets bucket cells ≡ nodes buckets bucket cells'
+nodes_agree buckets bucket cells cells' heads cell = nodes_same _ _ _ _ _ _ _ _
+    (fun_ext (λ j. clip_same j buckets (value_of (cells (bucket_head j))) (value_of (cells' (bucket_head j)))
+    (λ lower. ap value_of (heads j lower))))
+    (fun_ext (λ u. ap value_of (cell u 1 (omega arith) (omega arith))))
+    (fun_ext (λ u. ap value_of (cell u 2 (omega arith) (omega arith))))
+    (fun_ext (λ u. ap value_of (cell u 3 (omega arith) (omega arith))))

@@ -1,7 +1,8 @@
--- What the hash table gives to those who plan sections on it.
-use Rattle.std.proofs.Common.{◌≡◌, ◌≢◌, ℕ, suc, ◌*◌, ◌<◌, ◌≤◌, true, cond, List, [], ◌∷◌, length, refl, sym, ap, ◌∙◌, subst, inl, ⊎_elim, arith}
+-- What a table gives to those who plan sections on it.
+use Rattle.std.proofs.Common.{◌≡◌, ◌≢◌, ℕ, suc, ◌*◌, ◌<◌, ◌≤◌, Bool, true, false, cond, List, [], ◌∷◌, length, refl, sym}
+use Rattle.std.proofs.Common.{ap, ◌∙◌, subst, inl, ⊎_elim, arith}
 use Rattle.std.proofs.lemmas.Cmp.{nat_cmp_total}
-use Rattle.std.specs.Prelude.{◌-◌, ◌^◌, Some, None, is_some, slice_get}
+use Rattle.std.specs.Prelude.{◌-◌, ◌^◌, Contains, Some, None, is_some, slice_get}
 use Rattle.std.specs.Ordering.{nat_cmp}
 use Rattle.std.specs.FinMap.{get, remove, len, empty_of_len, get-empty, len-remove}
 use Rattle.std.proofs.lemmas.Option.{none-some}
@@ -9,7 +10,6 @@ use Rattle.structure_laws.specs.table_words.specs.small_lemmas.proofs.Lists.{non
 use Rattle.structure_laws.specs.table_words.specs.small_lemmas.proofs.Numbers.{suc_equal, zero_not_suc}
 use Rattle.structure_laws.specs.map_history.specs.declared.op.Op.{Op}
 use Rattle.structure_laws.specs.map_history.specs.declared.op.Op.TheVariants.{Get, Ins, Del, Put, Mov}
-use Rattle.structure_laws.specs.map_history.specs.Keys.{key_of}
 use Rattle.structure_laws.specs.map_history.specs.Replay.{Pairs}
 use Rattle.bucket_bodies.specs.section_body.specs.Bucket.{bucket_index, bucket_edition}
 use Rattle.structure_laws.specs.body_terms.specs.declared.value.Init.{Init}
@@ -21,15 +21,19 @@ use Rattle.structure_laws.specs.Scene.{Readings, Scene}
 use Rattle.structure_laws.specs.InTurn.{StandsFor}
 use Rattle.structure_laws.specs.Planner.{Adds, IsQuiet, AreInUse, PlannerLaws}
 use Rattle.structure_laws.proofs.Changes.{upd_other}
-use Rattle.bucket_laws.specs.Walk.{AtEdition, AtEnd}
-use Rattle.bucket_laws.specs.Halves.{Insert}
-use Rattle.bucket_laws.specs.Buckets.{nodes, bounds, walk_of, BucketsKept, BucketsStand, table, buckets_meaning}
+use Rattle.bucket_laws.specs.Walk.{AtEdition, AtLock, AtEnd}
+use Rattle.bucket_laws.specs.TwoWalk.{side_op}
+use Rattle.bucket_laws.specs.Halves.{Own, Half, look_half, remove_half, set_half, look_two_half, Form, Reads}
+use Rattle.bucket_laws.specs.Halves.{Inserts, Removes, Sets, ReadsTwo, Moves, Renames, Empty, form_of, halves_of, steps}
+use Rattle.bucket_laws.specs.Buckets.{nodes, bounds, walk_by, bucket_by, BucketsKept, BucketsStand, table, buckets_meaning}
+use Rattle.bucket_laws.specs.Buckets.{moves_meaning}
 use Rattle.bucket_laws.proofs.Chain.{same_on}
-use Rattle.bucket_laws.proofs.Fit.{PutsIn, keeps_gets, fit_of}
-use Rattle.bucket_laws.proofs.Halves.{half_is, number_is, answer_for, step_of, half_step}
+use Rattle.bucket_laws.proofs.Fit.{PutsIn, keeps_gets, form_few}
+use Rattle.bucket_laws.proofs.HalfFit.{OneCase, AnswerOf, op_fit, op_case}
+use Rattle.bucket_laws.proofs.Halves.{number_is, answer_of, step_of, load_is, of_one, of_two, of_none, some_form}
 use Rattle.bucket_laws.proofs.Maps.{get_removed}
-use Rattle.bucket_laws.proofs.TableLaws.{bucket_small}
-use Rattle.bucket_laws.proofs.Elsewhere.{edition_seen}
+use Rattle.bucket_laws.proofs.TableLaws.{bucket_small, buckets_few}
+use Rattle.bucket_laws.proofs.TwoWalks.{side_seen}
 
 -- a word was read at a place
 abbrev IsAmong : Readings → ℕ → ℕ → Type 0
@@ -52,46 +56,97 @@ few_slots key (t ∷ slots) pairs once there =
     )) in
     omega arith
 
-module _ (buckets : ℕ) (bucket : ℕ → ℕ) (small : (key : ℕ) → bucket key < buckets) (layout : Layout) where
-  want_read : (readings : Readings) (op : Op) (thunk : Thunk) → (table buckets bucket).fits layout op readings thunk ≡ true → (i j p r w : ℕ)
-      → slice_get ((table buckets bucket).body thunk) i ≡ Some (Load p r) → slice_get ((table buckets bucket).body thunk) j ≡ Some (Want r w) → IsAmong readings p w
+module _ (two : Bool) (buckets : ℕ) (bucket : ℕ → ℕ) (small : (key : ℕ) → bucket key < buckets)
+    (few : 3 * buckets ≤ 12288) (layout : Layout) where
+  -- a word that a body wants is the edition that the walk of a key read
+  want_read : (readings : Readings) (op : Op) (thunk : Thunk) → (table two buckets bucket).fits layout op readings thunk ≡ true → (i j p r w : ℕ)
+      → slice_get (steps two thunk) i ≡ Some (Load p r) → slice_get (steps two thunk) j ≡ Some (Want r w)
+      → IsAmong readings p w
   want_read readings op thunk fits i j p r w load want =
-      let fit = fit_of buckets bucket op (walk_of buckets bucket layout op readings) thunk fits in
-      let wanted = step_of thunk j (Want r w) want in
-      let read = edition_seen buckets bucket small (bounds buckets bucket layout) op readings
-      (λ e. end_edition (sym fit.stage ∙ e)) in
-      let lock = fit.lock in
-      let half = half_is thunk wanted.0 wanted.1 in
-      let same = half.lock in
-      let place : p ≡ bucket_edition (bucket (key_of op)) = ⊎_elim (λ edition. let at = edition.2 in omega arith)
-      (λ target. absurd (half.registers.0 (sym wanted.2.0 ∙ target.2)))
-      (half_step thunk wanted.0 wanted.1 i (Load p r) load) in
-      subst (λ p. IsAmong readings p w) (sym place)
-      (subst (λ w. IsAmong readings (bucket_edition (bucket (key_of op))) w) (sym (wanted.2.1 ∙ fit.edition)) read)
+      let fit = op_fit two buckets bucket small few (bounds buckets bucket layout) op readings thunk fits in
+      let wanted = step_of two thunk j (Want r w) want in
+      let g = wanted.0 in
+      let sees = (fit.halves g wanted.1).sees in
+      let side = sees.0 in
+      let read = side_seen buckets bucket small (bounds buckets bucket layout) op readings side
+      (λ first. ⊎_elim (λ lock. at_lock (sym lock ∙ first)) (λ end. at_end (sym end ∙ first)) sees.1.whole) in
+      let place = ((load_is two thunk g wanted.1 i p r load).1 wanted.3).1 in
+      let lock = sees.1.place in
+      let edition : p ≡ bucket_edition (bucket_by buckets bucket op side) = omega arith in
+      subst (λ p. IsAmong readings p w) (sym edition)
+      (subst (λ w. IsAmong readings (bucket_edition (bucket_by buckets bucket op side)) w)
+      (sym (wanted.4 ∙ sees.1.word)) read)
     where
-      end_edition : AtEnd ≡ AtEdition → ⊥
-      end_edition e = cc
+      at_lock : AtLock ≡ AtEdition → ⊥
+      at_lock e = cc
 
-  make_adds : (readings : Readings) (op : Op) (thunk : Thunk) → (table buckets bucket).fits layout op readings thunk ≡ true → (i j r reply : ℕ) (init : Init)
-      → slice_get ((table buckets bucket).body thunk) i ≡ Some (Make init r) → slice_get ((table buckets bucket).body thunk) j ≡ Some (Answer reply) → Adds op reply
+      at_end : AtEnd ≡ AtEdition → ⊥
+      at_end e = cc
+
+  adds_new : (op : Op) (key v reply : ℕ) → PutsIn op key v → reply ≡ 1 * 2 ^ 32 → Adds op reply
+  adds_new (Get k) key v reply is added = absurd (keeps_gets v is.1)
+  adds_new (Ins k value) key v reply is added = added
+  adds_new (Del k) key v reply is added = absurd (keeps_gets v is.1)
+  adds_new (Put k value) key v reply is added = inl added
+  adds_new (Mov from to) key v reply is added = absurd (keeps_gets v is.1)
+
+  -- a body that makes a node is of an operation that adds a pair
+  module _ (readings : Readings) (op : Op) (thunk : Thunk) (h : Half) (makes : h.made < h.change) where
+    not_made : (a : Half) → a ≡ h → (a.made < a.change → ⊥) → ⊥
+    not_made a same none = none (subst (λ h. h.made < h.change) (sym same) makes)
+
+    one_adds : OneCase two buckets bucket small few (bounds buckets bucket layout) op readings thunk → (f : Form)
+        → form_of two thunk ≡ f → Contains (halves_of f thunk) h → Adds (side_op op Own) (answer_of f thunk)
+    one_adds one Reads form has = absurd (not_made (look_half thunk) (of_one (look_half thunk) h has) (λ lt. omega arith))
+    one_adds one Inserts form has =
+        let insert = (one.1.insert (number_is two thunk Inserts form (λ e. cc))).1 in
+        adds_new (side_op op Own) insert.0 insert.1 (1 * 2 ^ 32) insert.2 refl
+    one_adds one Removes form has =
+        absurd (not_made (remove_half thunk) (of_one (remove_half thunk) h has) (λ lt. omega arith))
+    one_adds one Sets form has = absurd (not_made (set_half thunk) (of_one (set_half thunk) h has) (λ lt. omega arith))
+    one_adds one ReadsTwo form has = absurd (
+        let low = form_few (side_op op Own) (walk_by buckets bucket layout op readings Own).found in
+        let same = one.1.form in let number = number_is two thunk ReadsTwo form (λ e. cc) in omega arith)
+    one_adds one Moves form has = absurd (
+        let low = form_few (side_op op Own) (walk_by buckets bucket layout op readings Own).found in
+        let same = one.1.form in let number = number_is two thunk Moves form (λ e. cc) in omega arith)
+    one_adds one Renames form has = absurd (
+        let low = form_few (side_op op Own) (walk_by buckets bucket layout op readings Own).found in
+        let same = one.1.form in let number = number_is two thunk Renames form (λ e. cc) in omega arith)
+    one_adds one Empty form has = absurd (of_none h has)
+
+    mov_adds : (moved : Bool) (from to : ℕ) (f : Form) → Contains (halves_of f thunk) h
+        → AnswerOf f (walk_by buckets bucket layout op readings Own) thunk moved → Adds (Mov from to) (answer_of f thunk)
+    mov_adds moved from to Reads has answer =
+        absurd (not_made (look_half thunk) (of_one (look_half thunk) h has) (λ lt. omega arith))
+    mov_adds moved from to Inserts has answer = absurd answer
+    mov_adds moved from to Removes has answer = absurd answer
+    mov_adds moved from to Sets has answer = absurd answer
+    mov_adds moved from to ReadsTwo has answer = absurd (⊎_elim
+        (λ e. not_made (look_two_half true thunk) e (λ lt. omega arith))
+        (λ e. not_made (look_two_half false thunk) e (λ lt. omega arith))
+        (of_two (look_two_half true thunk) (look_two_half false thunk) h has))
+    mov_adds moved from to Moves has answer = refl
+    mov_adds moved from to Renames has answer = refl
+    mov_adds moved from to Empty has answer = absurd answer
+
+  make_adds : (readings : Readings) (op : Op) (thunk : Thunk) → (table two buckets bucket).fits layout op readings thunk ≡ true
+      → (i j r reply : ℕ) (init : Init)
+      → slice_get (steps two thunk) i ≡ Some (Make init r) → slice_get (steps two thunk) j ≡ Some (Answer reply)
+      → Adds op reply
   make_adds readings op thunk fits i j r reply init make answer =
-      let fit = fit_of buckets bucket op (walk_of buckets bucket layout op readings) thunk fits in
-      let made = step_of thunk i (Make init r) make in
-      let kind = (half_is thunk made.0 made.1).insert.1 made.2.0 in
-      let insert = (fit.insert (number_is thunk made.0 made.1 Insert kind)).1 in
-      let added : reply ≡ 1 * 2 ^ 32 = half_step thunk made.0 made.1 j (Answer reply) answer
-      ∙ ap (λ k. answer_for k thunk) kind in
-      adds_new op insert.0 insert.1 reply insert.2 added
-    where
-      adds_new : (op : Op) (key v reply : ℕ) → PutsIn op key v → reply ≡ 1 * 2 ^ 32 → Adds op reply
-      adds_new (Get k) key v reply is added = absurd (keeps_gets v is.1)
-      adds_new (Ins k value) key v reply is added = added
-      adds_new (Del k) key v reply is added = absurd (keeps_gets v is.1)
-      adds_new (Put k value) key v reply is added = inl added
-      adds_new (Mov from to) key v reply is added = absurd (keeps_gets v is.1)
+      let made = step_of two thunk i (Make init r) make in
+      let form = form_of two thunk in
+      subst (Adds op) (sym (step_of two thunk j (Answer reply) answer)) (⊎_elim
+      (λ one. subst (λ op. Adds op (answer_of form thunk)) one.0
+      (one_adds readings op thunk made.0 made.2 one form refl made.1))
+      (λ mov. subst (λ op. Adds op (answer_of form thunk)) (sym mov.is)
+      (mov_adds readings op thunk made.0 made.2 mov.moved mov.from mov.to form made.1
+      (mov.answer form refl (some_form two thunk i (Make init r) make))))
+      (op_case two buckets bucket small few (bounds buckets bucket layout) op readings thunk fits))
 
-  module _ (s : Scene) (pairs : Pairs) (slots : List ℕ) (before : StandsFor (table buckets bucket) layout s pairs) (quiet : IsQuiet (table buckets bucket) s) (used : AreInUse (table buckets bucket) s slots) where
-    abbrev kept : BucketsKept buckets bucket layout s
+  module _ (s : Scene) (pairs : Pairs) (slots : List ℕ) (before : StandsFor (table two buckets bucket) layout s pairs) (quiet : IsQuiet (table two buckets bucket) s) (used : AreInUse (table two buckets bucket) s slots) where
+    abbrev kept : BucketsKept two buckets bucket layout s
     kept = before.kept
 
     abbrev stands : BucketsStand buckets bucket (slot_count layout 0) s.cells pairs
@@ -110,13 +165,15 @@ module _ (buckets : ℕ) (bucket : ℕ → ℕ) (small : (key : ℕ) → bucket 
         (λ i t at. ((nodes buckets bucket s.cells).value t, stands.contents.pair t (on i t at))) in
         omega arith
 
-pub buckets_plan : (bits : ℕ) → bits ≤ 12 → PlannerLaws (buckets_meaning bits) 1
-buckets_plan bits few = record {
+-- the table, whether it moves keys or not
+table_plan : (two : Bool) (bits : ℕ) → bits ≤ 12
+    → PlannerLaws (table two (2 ^ bits) (λ key. bucket_index key bits)) 1
+table_plan two bits low = record {
   serves = refl;
   over = λ layout limits. record {
-    want_read = λ readings op thunk allowed. want_read buckets bucket small layout readings op thunk;
-    make_adds = λ readings op thunk allowed. make_adds buckets bucket small layout readings op thunk;
-    sized = λ s pairs slots before quiet used. sized buckets bucket small layout s pairs slots before quiet used;
+    want_read = λ readings op thunk allowed. want_read two buckets bucket small few layout readings op thunk;
+    make_adds = λ readings op thunk allowed. make_adds two buckets bucket small few layout readings op thunk;
+    sized = λ s pairs slots before quiet used. sized two buckets bucket small few layout s pairs slots before quiet used;
   };
 }
   where
@@ -127,4 +184,13 @@ buckets_plan bits few = record {
     bucket key = bucket_index key bits
 
     small : (key : ℕ) → bucket key < buckets
-    small key = bucket_small bits key few
+    small key = bucket_small bits key low
+
+    few : 3 * buckets ≤ 12288
+    few = buckets_few bits low
+
+pub buckets_plan : (bits : ℕ) → bits ≤ 12 → PlannerLaws (buckets_meaning bits) 1
+buckets_plan bits low = table_plan false bits low
+
+pub moves_plan : (bits : ℕ) → bits ≤ 12 → PlannerLaws (moves_meaning bits) 1
+moves_plan bits low = table_plan true bits low

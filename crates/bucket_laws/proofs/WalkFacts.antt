@@ -3,7 +3,7 @@ use Rattle.std.proofs.Common.{◌≡◌, ◌≢◌, ℕ, zero, suc, ◌<◌, Boo
 use Rattle.std.specs.Prelude.{◌==◌, ◌&&◌, not, ◌-◌, ◌^◌, ◌⊎◌, nat_le, Option, Some, None, [], ◌∷◌, slice_get}
 use Rattle.std.specs.List.{list_any}
 use Rattle.std.proofs.lemmas.Option.{none-some}
-use Rattle.std.proofs.lemmas.Bool.{and_from}
+use Rattle.std.proofs.lemmas.Bool.{and_from, both_ways}
 use Rattle.structure_laws.specs.table_words.specs.small_lemmas.proofs.Bools.{or_first as or_left, or_second as or_right}
 use Rattle.structure_laws.specs.table_words.specs.small_lemmas.proofs.Lists.{same_number as some_eq}
 use Rattle.structure_laws.specs.table_words.specs.small_lemmas.proofs.Numbers.{equal_tested as eq_test, tested_other as is_not}
@@ -61,10 +61,11 @@ module _ (buckets : ℕ) (bucket : ℕ → ℕ) (small : (key : ℕ) → bucket 
     pub head_small : w.head < 2 ^ 32
     pub slot_small : w.slot < 2 ^ 32
     pub next_small : w.next < 2 ^ 32
+    pub value_small : w.value < 2 ^ 32
 
-  facts_fed : (all : Readings) (b : Bounds) (op : Op) (w : Walk) (stage : Stage) (p word i : ℕ) → WalkFacts all op w → w.stage ≡ stage → wanted_at buckets bucket (bucket (key_of op)) w stage ≡ Some p
+  pub facts_fed : (all : Readings) (b : Bounds) (op : Op) (w : Walk) (stage : Stage) (p word i : ℕ) → WalkFacts all op w → w.stage ≡ stage → wanted_at buckets bucket (bucket (key_of op)) w stage ≡ Some p
       → slice_get all i ≡ Some (p, word) → WalkFacts all op (fed buckets bucket b op w stage word)
-  facts_fed all b op w AtEdition p word i facts at want h = record { place = λ ne. inl refl; slot = λ e. ⊎_elim (λ key. absurd (let is = key in cc)) (⊎_elim (λ value. absurd (let is = value in cc)) (⊎_elim (λ next. absurd (let is = next in cc)) (λ found. facts.slot (inr (inr (inr found)))))) e; head_small = facts.head_small; slot_small = facts.slot_small; next_small = facts.next_small }
+  facts_fed all b op w AtEdition p word i facts at want h = record { place = λ ne. inl refl; slot = λ e. ⊎_elim (λ key. absurd (let is = key in cc)) (⊎_elim (λ value. absurd (let is = value in cc)) (⊎_elim (λ next. absurd (let is = next in cc)) (λ found. facts.slot (inr (inr (inr found)))))) e; head_small = facts.head_small; slot_small = facts.slot_small; next_small = facts.next_small; value_small = facts.value_small }
   facts_fed all b op w AtLink p word i facts at want h = record {
     place = λ ne. facts.place (λ e. link_edition (sym at ∙ e));
     slot = λ e. let some = is_not (value_of word) 0 (not_none (value_of word == 0) (nat_le b.links (suc w.links)) (at_key (value_of word == 0) (nat_le b.links (suc w.links)) e)) in
@@ -72,6 +73,7 @@ module _ (buckets : ℕ) (bucket : ℕ → ℕ) (small : (key : ℕ) → bucket 
     head_small = pick (w.place == bucket_head (bucket (key_of op))) (value_of word) w.head (value_small word) facts.head_small;
     slot_small = let low = value_small word in omega arith;
     next_small = facts.next_small;
+    value_small = facts.value_small;
   }
     where
       link_edition : AtLink ≡ AtEdition → ⊥
@@ -106,14 +108,15 @@ module _ (buckets : ℕ) (bucket : ℕ → ℕ) (small : (key : ℕ) → bucket 
       key_edition e = cc
 
       pick : (c : Bool) → WalkFacts all op (cond c (record w { stage = AtValue }) (record w { stage = AtLink; place = cell_at buckets bucket w.slot 3 }))
-      pick true = record { place = λ ne. facts.place (λ e. key_edition (sym at ∙ e)); slot = λ e. facts.slot (inl at); head_small = facts.head_small; slot_small = facts.slot_small; next_small = facts.next_small }
-      pick false = record { place = λ ne. inr (w.slot, facts.slot (inl at), refl); slot = λ e. facts.slot (inl at); head_small = facts.head_small; slot_small = facts.slot_small; next_small = facts.next_small }
+      pick true = record { place = λ ne. facts.place (λ e. key_edition (sym at ∙ e)); slot = λ e. facts.slot (inl at); head_small = facts.head_small; slot_small = facts.slot_small; next_small = facts.next_small; value_small = facts.value_small }
+      pick false = record { place = λ ne. inr (w.slot, facts.slot (inl at), refl); slot = λ e. facts.slot (inl at); head_small = facts.head_small; slot_small = facts.slot_small; next_small = facts.next_small; value_small = facts.value_small }
   facts_fed all b op w AtValue p word i facts at want h = record {
     place = λ ne. facts.place (λ e. value_edition (sym at ∙ e));
     slot = λ e. facts.slot (inr (inl at));
     head_small = facts.head_small;
     slot_small = facts.slot_small;
     next_small = facts.next_small;
+    value_small = value_small word;
   }
     where
       value_edition : AtValue ≡ AtEdition → ⊥
@@ -124,6 +127,7 @@ module _ (buckets : ℕ) (bucket : ℕ → ℕ) (small : (key : ℕ) → bucket 
     head_small = facts.head_small;
     slot_small = facts.slot_small;
     next_small = value_small word;
+    value_small = facts.value_small;
   }
     where
       next_edition : AtNext ≡ AtEdition → ⊥
@@ -134,6 +138,7 @@ module _ (buckets : ℕ) (bucket : ℕ → ℕ) (small : (key : ℕ) → bucket 
     head_small = facts.head_small;
     slot_small = facts.slot_small;
     next_small = facts.next_small;
+    value_small = facts.value_small;
   }
     where
       lock_edition : AtLock ≡ AtEdition → ⊥
@@ -170,6 +175,24 @@ module _ (buckets : ℕ) (bucket : ℕ → ℕ) (small : (key : ℕ) → bucket 
       go true e again = let here = within 0 reading refl in again (facts_fed all b op w w.stage reading.0 reading.1 here.0 facts refl (wanted_eq (wanted_at buckets bucket (bucket (key_of op)) w w.stage) reading.0 e) here.1)
       go false e again = facts
 
+  -- a walk that hasn't begun, and one that begins at its head
+  pub no_node : (w : Walk) → w.found ≡ false → (w.stage ≡ AtEdition) ⊎ (w.stage ≡ AtLink) → IsAtNode w → ⊥
+  no_node w found early at = ⊎_elim (λ first. by AtEdition first (λ e. cc) (λ e. cc) (λ e. cc))
+      (λ link. by AtLink link (λ e. cc) (λ e. cc) (λ e. cc)) early
+    where
+      by : (stage : Stage) → w.stage ≡ stage → (stage ≡ AtKey → ⊥) → (stage ≡ AtValue → ⊥) → (stage ≡ AtNext → ⊥) → ⊥
+      by stage is key value next = ⊎_elim (λ e. key (sym is ∙ e)) (⊎_elim (λ e. value (sym is ∙ e))
+          (⊎_elim (λ e. next (sym is ∙ e)) (λ e. both_ways w.found found e))) at
+
+  pub start_facts : (all : Readings) (op : Op) → WalkFacts all op start
+  start_facts all op = record {
+    place = λ ne. absurd (ne refl);
+    slot = λ e. absurd (no_node start refl (inl refl) e);
+    head_small = omega arith;
+    slot_small = omega arith;
+    next_small = omega arith;
+    value_small = omega arith;
+  }
+
   pub walk_facts : (b : Bounds) (op : Op) (readings : Readings) → WalkFacts readings op (walk buckets bucket b op start readings)
-  walk_facts b op readings = facts_walked readings b op start readings (λ i reading h. (i, h))
-      (record { place = λ ne. absurd (ne refl); slot = λ e. ⊎_elim (λ key. absurd (let is = key in cc)) (⊎_elim (λ value. absurd (let is = value in cc)) (⊎_elim (λ next. absurd (let is = next in cc)) (λ found. absurd (let is = found in cc)))) e; head_small = omega arith; slot_small = omega arith; next_small = omega arith })
+  walk_facts b op readings = facts_walked readings b op start readings (λ i reading h. (i, h)) (start_facts readings op)

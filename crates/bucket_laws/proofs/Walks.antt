@@ -39,7 +39,7 @@ module _ (buckets : ℕ) (bucket : ℕ → ℕ) (small : (key : ℕ) → bucket 
       (λ head. chains.head_on (bucket key) w.slot (head_is cells key ∙ ap (λ p. value_of (cells p)) (sym head) ∙ reached.1))
       (λ link. let there = chains.next_on link.0 w.slot link.1.0 (ap (λ p. value_of (cells p)) (sym link.2) ∙ reached.1) in (there.0, there.1 ∙ link.1.1)) reached.0
 
-  ahead_head : (cells : Cells) (on : ℕ → Bool) (rank : ℕ → ℕ) → Chains bucket (nodes buckets bucket cells) on rank → (key : ℕ) → IsAhead buckets bucket cells on rank key (value_of (cells (bucket_head (bucket key))))
+  pub ahead_head : (cells : Cells) (on : ℕ → Bool) (rank : ℕ → ℕ) → Chains bucket (nodes buckets bucket cells) on rank → (key : ℕ) → IsAhead buckets bucket cells on rank key (value_of (cells (bucket_head (bucket key))))
   ahead_head cells on rank chains key u on_u same = split (value_of (cells (bucket_head (bucket key)))) refl
     where
       split : (link : ℕ) → value_of (cells (bucket_head (bucket key))) ≡ link → (t : ℕ) × (link ≡ suc t) × (rank u ≤ rank t)

@@ -7,7 +7,10 @@
 mod laws;
 mod steady;
 
-pub use laws::{buckets_meet_the_laws, buckets_meet_the_planners_laws};
+pub use laws::{
+    buckets_meet_the_laws, buckets_meet_the_planners_laws, moves_meet_the_laws,
+    moves_meet_the_planners_laws,
+};
 pub use steady::bucket_walks_are_short;
 
 // Passed on to the layers above, so that they needn't name these libraries themselves.

@@ -7,15 +7,16 @@ use Rattle.structure_laws.specs.map_history.specs.declared.op.Op.TheVariants.{Ge
 use Rattle.structure_laws.specs.body_terms.specs.Shape.{is_look}
 use Rattle.structure_laws.specs.body_terms.specs.declared.thunk.Thunk.{Thunk}
 use Rattle.bucket_laws.specs.bucket_bodies.specs.section_body.specs.Bucket.{bucket_index, read_steps, fits_read}
-use Rattle.bucket_laws.specs.bucket_bodies.specs.Table.{table_steps}
+use Rattle.bucket_laws.specs.Halves.{steps}
 use Rattle.structure_laws.specs.table_words.specs.declared.layout.Layout.{Layout}
 use Rattle.structure_laws.specs.table_words.specs.Places.{slot_count}
 use Rattle.structure_laws.specs.Scene.{Readings}
 use Rattle.structure_laws.proofs.Changes.{both_true, equal_of}
 use Rattle.bucket_laws.specs.Walk.{start, is_end, has_one_key}
 use Rattle.bucket_laws.specs.Buckets.{bounds, walk_of}
-use Rattle.bucket_walks.specs.Few.{WalksMakeFewLoads, GetsOnlyLook, IsBucketWalk}
+use Rattle.bucket_walks.specs.Few.{WalksMakeFewLoads, GetsOnlyLook, IsBucketWalk, MovesMakeFewLoads, MovesGetsOnlyLook}
 use Rattle.bucket_walks.proofs.Steps.{nearer, few_left}
+use Rattle.bucket_walks.proofs.TwoSteps.{two_nearer}
 
 pub make_few_loads : (bits : ℕ) → WalksMakeFewLoads bits
 make_few_loads bits = record {
@@ -30,8 +31,13 @@ pub get_few : (bits : ℕ) (layout : Layout) (op : Op) (readings : Readings) →
 get_few bits layout op readings walks = let few = (make_few_loads bits).few layout op readings walks in omega (arith, few)
 
 -- form 1
-looks_in : (t : Thunk) → t.form ≡ 1 → list_all is_look (table_steps t) ≡ true
-looks_in t one = subst (λ form. list_all is_look (table_steps (record t { form = form })) ≡ true) (sym one) (by (fits_read t))
+looks_in : (two : Bool) (t : Thunk) → t.form ≡ 1 → list_all is_look (steps two t) ≡ true
+looks_in true t one = subst (λ form. list_all is_look (steps true (record t { form = form })) ≡ true) (sym one) (by (fits_read t))
+  where
+    by : (b : Bool) → list_all is_look (cond b (read_steps t) []) ≡ true
+    by true = refl
+    by false = refl
+looks_in false t one = subst (λ form. list_all is_look (steps false (record t { form = form })) ≡ true) (sym one) (by (fits_read t))
   where
     by : (b : Bool) → list_all is_look (cond b (read_steps t) []) ≡ true
     by true = refl
@@ -43,4 +49,19 @@ only_look bits layout key readings thunk fits =
     let whole = both_true (has_one_key (Get key)) _ fits in
     let parts = both_true (is_end w.stage) _ whole.1 in
     let form = both_true (thunk.form == 1) _ parts.1 in
-    looks_in thunk (equal_of thunk.form 1 form.0)
+    looks_in false thunk (equal_of thunk.form 1 form.0)
+
+-- so it is on the table that moves keys, too
+pub moves_only_look : (bits : ℕ) → MovesGetsOnlyLook bits
+moves_only_look bits layout key readings thunk fits =
+    let w = walk_of (2 ^ bits) (λ k. bucket_index k bits) layout (Get key) readings in
+    let whole = both_true (has_one_key (Get key)) _ fits in
+    let parts = both_true (is_end w.stage) _ whole.1 in
+    let form = both_true (thunk.form == 1) _ parts.1 in
+    looks_in true thunk (equal_of thunk.form 1 form.0)
+
+pub moves_few : (bits : ℕ) → MovesMakeFewLoads bits
+moves_few bits = record {
+  nearer = λ b from to w place word wants. two_nearer (2 ^ bits) (λ key. bucket_index key bits) from to b w place word wants;
+  few = λ layout. omega arith;
+}

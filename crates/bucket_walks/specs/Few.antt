@@ -11,8 +11,9 @@ use Rattle.structure_laws.specs.table_words.specs.declared.layout.Layout.{Layout
 use Rattle.structure_laws.specs.table_words.specs.Places.{slot_count}
 use Rattle.structure_laws.specs.Scene.{Readings}
 use Rattle.bucket_laws.specs.Walk.{Walk, Bounds, wanted_at, fed}
-use Rattle.bucket_laws.specs.Buckets.{buckets_meaning, walk_of}
-use Rattle.bucket_walks.specs.Left.{left_in}
+use Rattle.bucket_laws.specs.TwoWalk.{OnFirst, TwoWalk, two_start, two_wanted, two_fed}
+use Rattle.bucket_laws.specs.Buckets.{buckets_meaning, moves_meaning, walk_of, bounds}
+use Rattle.bucket_walks.specs.Left.{left_in, two_left}
 
 module _ (bits : ℕ) where
   -- the bucket of a key
@@ -42,3 +43,18 @@ module _ (bits : ℕ) where
   GetsOnlyLook = (layout : Layout) (key : ℕ) (readings : Readings) (thunk : Thunk)
       → (buckets_meaning bits).fits layout (Get key) readings thunk ≡ true
       → list_all is_look ((buckets_meaning bits).body thunk) ≡ true
+
+  -- each load brings a walk over two keys nearer to its end, and it has few left at first
+  pub record MovesMakeFewLoads : Type 0 where
+    pub nearer : (b : Bounds) (from to : ℕ) (w : TwoWalk) (place word : ℕ)
+        → two_wanted (2 ^ bits) bucket from to w w.part ≡ Some place
+        → two_left b (two_fed (2 ^ bits) bucket from to b w w.part word)
+        (two_fed (2 ^ bits) bucket from to b w w.part word).part < two_left b w w.part
+    pub few : (layout : Layout) → two_left (bounds (2 ^ bits) bucket layout) two_start OnFirst
+        ≤ 4 * slot_count layout 0 + 42
+
+  -- a thunk that fits a `get` has a body that changes nothing, also on the table that moves keys
+  abbrev pub MovesGetsOnlyLook : Type 0
+  MovesGetsOnlyLook = (layout : Layout) (key : ℕ) (readings : Readings) (thunk : Thunk)
+      → (moves_meaning bits).fits layout (Get key) readings thunk ≡ true
+      → list_all is_look ((moves_meaning bits).body thunk) ≡ true

@@ -5,7 +5,9 @@
 
 mod laws;
 
-pub use laws::{bucket_gets_only_look, bucket_walks_make_few_loads};
+pub use laws::{
+    bucket_gets_only_look, bucket_walks_make_few_loads, moves_gets_only_look, moves_make_few_loads,
+};
 
 // Passed on to the layers above, so that they needn't name these libraries themselves.
 pub use bucket_laws;

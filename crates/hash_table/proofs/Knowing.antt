@@ -29,7 +29,7 @@ any_of {X} f (y ∷ xs) zero x here passes = ap (λ b. b || list_any f xs) (ap (
     test (Some z) = f z
 any_of f (y ∷ xs) (suc i) x here passes = or_right (f y) (list_any f xs) (any_of f xs i x here passes)
 
-free_of : (free spent : Bool) → (free && not spent) ≡ true → (free ≡ true) × (spent ≡ false)
+pub free_of : (free spent : Bool) → (free && not spent) ≡ true → (free ≡ true) × (spent ≡ false)
 free_of true true h = absurd (cc)
 free_of true false h = (refl, refl)
 free_of false spent h = absurd (cc)

@@ -34,7 +34,7 @@ use Rattle.hash_table.proofs.Knowing.{Knows, knows}
 
 -- where a place stands
 module _ (buckets : ℕ) (bucket : ℕ → ℕ) where
-  no_lock : (i r : ℕ) → 1 ≤ r → r ≤ 2 → (nat_lt (3 * i + r) (3 * buckets) && ((3 * i + r) % 3 == 0)) ≡ false
+  pub no_lock : (i r : ℕ) → 1 ≤ r → r ≤ 2 → (nat_lt (3 * i + r) (3 * buckets) && ((3 * i + r) % 3 == 0)) ≡ false
   no_lock i r some few = let rest = third i r (omega (arith, few)) in
       and_false (nat_lt (3 * i + r) (3 * buckets)) ((3 * i + r) % 3 == 0) (eq_false ((3 * i + r) % 3) 0 (λ e. omega (arith, rest, some, e)))
     where
@@ -42,21 +42,21 @@ module _ (buckets : ℕ) (bucket : ℕ → ℕ) where
       and_false true b e = e
       and_false false b e = refl
 
-  no_lock_cell : (slot k : ℕ) → (nat_lt (cell_at buckets bucket slot k) (3 * buckets) && (cell_at buckets bucket slot k % 3 == 0)) ≡ false
+  pub no_lock_cell : (slot k : ℕ) → (nat_lt (cell_at buckets bucket slot k) (3 * buckets) && (cell_at buckets bucket slot k % 3 == 0)) ≡ false
   no_lock_cell slot k = ap (λ b. b && (cell_at buckets bucket slot k % 3 == 0)) (lt_false (cell_at buckets bucket slot k) (3 * buckets) (omega arith))
 
-  lock_here : (i : ℕ) → i < buckets → (nat_lt (3 * i) (3 * buckets) && (3 * i % 3 == 0)) ≡ true
+  pub lock_here : (i : ℕ) → i < buckets → (nat_lt (3 * i) (3 * buckets) && (3 * i % 3 == 0)) ≡ true
   lock_here i low = let rest : 3 * i % 3 ≡ 0 = omega arith in let below = lt_true (3 * i) (3 * buckets) (omega (arith, low)) in (λ j. below j && (rest j == 0))
 
   -- a fixed cell may be read, and so may a cell of a slot that the readings reach
-  fixed_readable : (readings : Readings) (p : ℕ) → p < 3 * buckets → is_readable (table buckets bucket) readings p ≡ true
+  pub fixed_readable : (readings : Readings) (p : ℕ) → p < 3 * buckets → is_readable (table false buckets bucket) readings p ≡ true
   fixed_readable readings p low = ap (λ b. b || ((nat_lt p (3 * buckets) && (p % 3 == 0)) || (nat_lt ((p - 3 * buckets) / 5) 0 || reaches readings ((p - 3 * buckets) / 5)))) (lt_true p (3 * buckets) low)
     where
       reaches : Readings → ℕ → Bool
       reaches readings slot = list_any (λ reading. is_link_place buckets bucket reading.0 && (value_of reading.1 == suc slot)) readings
 
-  cell_readable : (readings : Readings) (small : (key : ℕ) → bucket key < buckets) (slot k : ℕ) → k < 5 → Gives buckets bucket small readings slot
-      → is_readable (table buckets bucket) readings (cell_at buckets bucket slot k) ≡ true
+  pub cell_readable : (readings : Readings) (small : (key : ℕ) → bucket key < buckets) (slot k : ℕ) → k < 5 → Gives buckets bucket small readings slot
+      → is_readable (table false buckets bucket) readings (cell_at buckets bucket slot k) ≡ true
   cell_readable readings small slot k low gives = lasts (nat_lt (cell_at buckets bucket slot k) (3 * buckets)) (nat_lt (cell_at buckets bucket slot k) (3 * buckets) && (cell_at buckets bucket slot k % 3 == 0))
       (nat_lt ((cell_at buckets bucket slot k - 3 * buckets) / 5) 0) _
       (ap (λ t. list_any (λ reading. is_link_place buckets bucket reading.0 && (value_of reading.1 == suc t)) readings) (slot_at (3 * buckets) slot k low) ∙ gives)
@@ -65,28 +65,28 @@ module _ (buckets : ℕ) (bucket : ℕ → ℕ) where
       lasts a b c d e = grind (arith, e)
 
 -- whether a walk is refused
-link_refuses : (none far : Bool) (answer : Planned) → is_refused_at (cond none AtLock (cond far Refused AtKey))
+pub link_refuses : (none far : Bool) (answer : Planned) → is_refused_at (cond none AtLock (cond far Refused AtKey))
     ≡ is_some (if (is_refused_at (cond none AtLock (cond far Refused AtKey)) && far) then Some answer else None)
 link_refuses true far answer = refl
 link_refuses false true answer = refl
 link_refuses false false answer = refl
 
-key_refuses : (w : Walk) (place : ℕ) (far c : Bool) (answer : Planned) → is_refused_at (cond c (record w { stage = AtValue }) (record w { stage = AtLink; place = place })).stage
+pub key_refuses : (w : Walk) (place : ℕ) (far c : Bool) (answer : Planned) → is_refused_at (cond c (record w { stage = AtValue }) (record w { stage = AtLink; place = place })).stage
     ≡ is_some (if (is_refused_at (cond c (record w { stage = AtValue }) (record w { stage = AtLink; place = place })).stage && far) then Some answer else None)
 key_refuses w place far true answer = refl
 key_refuses w place far false answer = refl
 
-value_refuses : (far c : Bool) (answer : Planned) → is_refused_at (cond c AtNext AtLock) ≡ is_some (if (is_refused_at (cond c AtNext AtLock) && far) then Some answer else None)
+pub value_refuses : (far c : Bool) (answer : Planned) → is_refused_at (cond c AtNext AtLock) ≡ is_some (if (is_refused_at (cond c AtNext AtLock) && far) then Some answer else None)
 value_refuses far true answer = refl
 value_refuses far false answer = refl
 
-lock_refuses : (free spent : Bool) (a b : Planned) → is_refused_at (cond (free && not spent) AtEnd Refused) ≡ is_some (if free then (if spent then Some a else None) else Some b)
+pub lock_refuses : (free spent : Bool) (a b : Planned) → is_refused_at (cond (free && not spent) AtEnd Refused) ≡ is_some (if free then (if spent then Some a else None) else Some b)
 lock_refuses true true a b = refl
 lock_refuses true false a b = refl
 lock_refuses false spent a b = refl
 
 -- no mark refuses, and no lock
-unlocked : (lock : Bool) (b : Bool) (o : Option Planned) (a : Planned) (far : Bool) → lock ≡ false → b ≡ is_some (if far then Some a else None)
+pub unlocked : (lock : Bool) (b : Bool) (o : Option Planned) (a : Planned) (far : Bool) → lock ≡ false → b ≡ is_some (if far then Some a else None)
     → b ≡ is_some (if lock then o else (if far then Some a else None))
 unlocked true b o a far e h = absurd (cc)
 unlocked false b o a far e h = h
@@ -96,16 +96,16 @@ same_self [] = refl
 same_self (x ∷ xs) = (λ i. self x i && same_self xs i)
 
 module _ (bits : ℕ) (few : bits ≤ 12) (layout : Layout) (op : Op) where
-  abbrev hash : ℕ → ℕ
+  abbrev pub hash : ℕ → ℕ
   hash key = bucket_index key bits
 
   abbrev first : Walking
   first = begun bits op (slot_count layout 0 + 8) layout.version_max
 
-  abbrev limits : Bounds
+  abbrev pub limits : Bounds
   limits = bounds (2 ^ bits) hash layout
 
-  small : (key : ℕ) → hash key < 2 ^ bits
+  abbrev pub small : (key : ℕ) → hash key < 2 ^ bits
   small key = bucket_small bits key few
 
   here : (readings : Readings) → IsLedBy bucket_way first readings → fed_all bucket_way first readings ≡ record first { walk = walk_in bits layout op readings }
@@ -116,26 +116,26 @@ module _ (bits : ℕ) (few : bits ≤ 12) (layout : Layout) (op : Op) where
   steady w (x ∷ readings) = steady (fed_by w x.1) readings
 
   -- the slots that the readings reach are the layout's
-  within : (readings : Readings) → (readings ≡ []) ⊎ LinksWithin (2 ^ bits) hash layout readings → (t : ℕ) → Gives (2 ^ bits) hash small readings t → t < slot_count layout 0
+  pub within : (readings : Readings) → (readings ≡ []) ⊎ LinksWithin (2 ^ bits) hash layout readings → (t : ℕ) → Gives (2 ^ bits) hash small readings t → t < slot_count layout 0
   within readings (inl none) t gives = absurd (never (ap (λ rs. list_any (λ reading. is_link_place (2 ^ bits) hash reading.0 && (value_of reading.1 == suc t)) rs) (sym none) ∙ gives))
     where
       never : false ≡ true → ⊥
       never e = cc
   within readings (inr walked) t gives = let link = reached (is_link_place (2 ^ bits) hash) readings t gives in walked link.0 link.1 link.2 t link.3 link.4 link.5
 
-  abbrev IsLow : Readings → ℕ → Type 0
+  abbrev pub IsLow : Readings → ℕ → Type 0
   IsLow readings place = (is_readable (buckets_meaning bits) readings place ≡ true) × (place < 3 * 2 ^ bits + 5 * slot_count layout 0)
 
-  fixed_low : (readings : Readings) (r place : ℕ) → r < 3 → 3 * hash (key_of op) + r ≡ place → IsLow readings place
+  pub fixed_low : (readings : Readings) (r place : ℕ) → r < 3 → 3 * hash (key_of op) + r ≡ place → IsLow readings place
   fixed_low readings r place low same = let below = small (key_of op) in let fixed : place < 3 * 2 ^ bits = omega (arith, below, low, same) in
       (fixed_readable (2 ^ bits) hash readings place fixed, omega (arith, fixed))
 
-  cell_low : (readings : Readings) (slot k place : ℕ) → ((t : ℕ) → Gives (2 ^ bits) hash small readings t → t < slot_count layout 0) → k < 5 → Gives (2 ^ bits) hash small readings slot
+  pub cell_low : (readings : Readings) (slot k place : ℕ) → ((t : ℕ) → Gives (2 ^ bits) hash small readings t → t < slot_count layout 0) → k < 5 → Gives (2 ^ bits) hash small readings slot
       → cell_at (2 ^ bits) hash slot k ≡ place → IsLow readings place
   cell_low readings slot k place inside low gives same = subst (IsLow readings) same
       (cell_readable (2 ^ bits) hash readings small slot k low gives, (let t = inside slot gives in omega (arith, t, low)))
 
-  readable_at : (readings : Readings) (w : Walk) (stage : Stage) (place : ℕ) → ((t : ℕ) → Gives (2 ^ bits) hash small readings t → t < slot_count layout 0)
+  pub readable_at : (readings : Readings) (w : Walk) (stage : Stage) (place : ℕ) → ((t : ℕ) → Gives (2 ^ bits) hash small readings t → t < slot_count layout 0)
       → Knows (2 ^ bits) hash small limits op readings w stage → wanted_at (2 ^ bits) hash (hash (key_of op)) w stage ≡ Some place → IsLow readings place
   readable_at readings w AtEdition place inside known wants = fixed_low readings 1 place (omega arith) (some_eq _ place wants)
   readable_at readings w AtLink place inside (inl head) wants = fixed_low readings 2 place (omega arith) (sym head ∙ some_eq w.place place wants)
@@ -148,20 +148,20 @@ module _ (bits : ℕ) (few : bits ≤ 12) (layout : Layout) (op : Op) where
   readable_at readings w Refused place inside known wants = absurd (none-some place wants)
 
   -- the walk is refused exactly where the reading refuses
-  abbrev Agrees : Walk → Stage → ℕ → ℕ → Type 0
+  abbrev pub Agrees : Walk → Stage → ℕ → ℕ → Type 0
   Agrees w stage place word = is_refused_at (fed (2 ^ bits) hash limits op w stage word).stage
       ≡ is_some (if (nat_lt place (3 * 2 ^ bits) && (place % 3 == 0)) then refused_by_lock layout.version_max place word
       else (if (is_refused_at (fed (2 ^ bits) hash limits op w stage word).stage && nat_le limits.links (fed (2 ^ bits) hash limits op w stage word).links)
       then Some (answers.Far (slot_count layout 0 + 8)) else None))
 
-  abbrev IsLockPlace : ℕ → Bool
+  abbrev pub IsLockPlace : ℕ → Bool
   IsLockPlace place = nat_lt place (3 * 2 ^ bits) && (place % 3 == 0)
 
-  link_unlocked : (readings : Readings) (w : Walk) → Knows (2 ^ bits) hash small limits op readings w AtLink → IsLockPlace w.place ≡ false
+  pub link_unlocked : (readings : Readings) (w : Walk) → Knows (2 ^ bits) hash small limits op readings w AtLink → IsLockPlace w.place ≡ false
   link_unlocked readings w (inl head) = ap IsLockPlace head ∙ no_lock (2 ^ bits) hash (hash (key_of op)) 2 (omega arith) (omega arith)
   link_unlocked readings w (inr node) = ap IsLockPlace node.2 ∙ no_lock_cell (2 ^ bits) hash node.0 3
 
-  agrees_at : (readings : Readings) (w : Walk) (stage : Stage) (place word : ℕ) → Knows (2 ^ bits) hash small limits op readings w stage
+  pub agrees_at : (readings : Readings) (w : Walk) (stage : Stage) (place word : ℕ) → Knows (2 ^ bits) hash small limits op readings w stage
       → wanted_at (2 ^ bits) hash (hash (key_of op)) w stage ≡ Some place → Agrees w stage place word
   agrees_at readings w AtEdition place word known wants = unlocked (IsLockPlace place) false (refused_by_lock layout.version_max place word) (answers.Far (slot_count layout 0 + 8)) false
       (ap IsLockPlace (sym (some_eq _ place wants)) ∙ no_lock (2 ^ bits) hash (hash (key_of op)) 1 (omega arith) (omega arith)) refl
@@ -181,7 +181,7 @@ module _ (bits : ℕ) (few : bits ≤ 12) (layout : Layout) (op : Op) where
   agrees_at readings w AtEnd place word known wants = absurd (none-some place wants)
   agrees_at readings w Refused place word known wants = absurd (none-some place wants)
 
-  goes_at : (w : Walk) (stage : Stage) (place : ℕ) → wanted_at (2 ^ bits) hash (hash (key_of op)) w stage ≡ Some place → is_refused_at stage ≡ false
+  pub goes_at : (w : Walk) (stage : Stage) (place : ℕ) → wanted_at (2 ^ bits) hash (hash (key_of op)) w stage ≡ Some place → is_refused_at stage ≡ false
   goes_at w AtEdition place wants = refl
   goes_at w AtLink place wants = refl
   goes_at w AtKey place wants = refl
@@ -194,7 +194,7 @@ module _ (bits : ℕ) (few : bits ≤ 12) (layout : Layout) (op : Op) where
   some_none : {A : Type 0} (p : ℕ) → Some p ≡ None → A
   some_none p e = cc
 
-  ends_at : (w : Walk) (stage : Stage) → wanted_at (2 ^ bits) hash (hash (key_of op)) w stage ≡ None → is_refused_at stage ≡ false → stage ≡ AtEnd
+  pub ends_at : (w : Walk) (stage : Stage) → wanted_at (2 ^ bits) hash (hash (key_of op)) w stage ≡ None → is_refused_at stage ≡ false → stage ≡ AtEnd
   ends_at w AtEdition wants goes = some_none _ wants
   ends_at w AtLink wants goes = some_none w.place wants
   ends_at w AtKey wants goes = some_none _ wants
@@ -207,7 +207,7 @@ module _ (bits : ℕ) (few : bits ≤ 12) (layout : Layout) (op : Op) where
   fits_so : has_one_key op ≡ true → (w : Walk) (number : ℕ) → w.stage ≡ AtEnd → fits_walk (2 ^ bits) hash op w (thunk_by (record first { walk = w }) number) ≡ true
   fits_so served w number at = (λ i. served i && (is_end (at i) && (self (form_for op w.found) i && (self (bucket_lock (hash (key_of op))) i && (self w.word i && same_self (operands_for (2 ^ bits) op w w.found) i)))))
 
-  eight : (o : Op) (w : Walk) (found : Bool) → length (operands_for (2 ^ bits) o w found) ≡ 8
+  pub eight : (o : Op) (w : Walk) (found : Bool) → length (operands_for (2 ^ bits) o w found) ≡ 8
   eight (Get key) w true = refl
   eight (Get key) w false = refl
   eight (Ins key value) w true = refl

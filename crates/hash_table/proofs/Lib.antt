@@ -1,7 +1,7 @@
-mod Places
-mod Knowing
+pub mod Places
+pub mod Knowing
 pub mod Following
-mod Leads
-mod Gathering
-mod Ordering
-mod Standing
+pub mod Leads
+pub mod Gathering
+pub mod Ordering
+pub mod Standing

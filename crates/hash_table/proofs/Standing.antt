@@ -1,6 +1,6 @@
 -- The words of a closed table, chain by chain.
-use Rattle.std.proofs.Common.{◌≡◌, ℕ, suc, ◌+◌, ◌*◌, ◌-◌, ◌^◌, ◌<◌, ◌≤◌, List, ◌∷◌, ◌++◌, [], refl, sym, ap, subst, ◌∙◌, arith, cond}
-use Rattle.std.specs.Prelude.{nat_lt}
+use Rattle.std.proofs.Common.{◌≡◌, ℕ, suc, ◌+◌, ◌*◌, ◌-◌, ◌^◌, ◌<◌, ◌≤◌, List, ◌∷◌, ◌++◌, [], refl, sym, ap, subst, ◌∙◌, arith, cond, Option, Some}
+use Rattle.std.specs.Prelude.{nat_lt, slice_get}
 use Rattle.machine_states.specs.map_history.specs.Replay.{Pairs}
 use Rattle.bucket_walks.specs.section_body.specs.Bucket.{bucket_index}
 use Rattle.machine_states.specs.body_terms.specs.Memory.{cell_of}
@@ -14,6 +14,9 @@ use Rattle.lock_walks.specs.version_words.specs.TableState.{WordsState, word_of}
 use Rattle.lock_walks.specs.try_lock.specs.Contents.{StandFor}
 use Rattle.hash_table.specs.Stands.{HasGathered, Gathers}
 use Rattle.hash_table.proofs.Gathering.{gathering_begins, gathering_more, gathered_more, chain_ends}
+
+no_item : (i t : ℕ) → ◌≡◌ {A = Option ℕ} (slice_get [] i) (Some t) → ⊥
+no_item i t here = cc
 
 module _ {T : Type 0} (bits : ℕ) (words : WordsState T) (pairs : Pairs) (stand : StandFor (buckets_meaning bits) words pairs) where
   abbrev word_at : ℕ → ℕ
@@ -29,6 +32,19 @@ module _ {T : Type 0} (bits : ℕ) (words : WordsState T) (pairs : Pairs) (stand
     where
       head : cond (nat_lt bucket (2 ^ bits)) (value_of (stand.cells (3 * bucket + 2))) 0 ≡ link
       head = ap (λ b. cond b (value_of (stand.cells (3 * bucket + 2))) 0) (lt_true bucket (2 ^ bits) low) ∙ (ap value_of (stand.same (3 * bucket + 2) (omega (arith, low))) ∙ sym is)
+
+  -- at first nothing is gathered
+  pub nothing : (items : List (ℕ × ℕ)) → items ≡ [] → HasGathered bits words pairs stand 0 items
+  nothing items none = record {
+    seen = [];
+    are = record {
+      pairs = none;
+      once = λ i j t here there. absurd (no_item i t here);
+      in_chain = λ t among. absurd (no_item among.0 t among.1);
+    };
+    low = λ t among. absurd (no_item among.0 t among.1);
+    all = λ t on low. absurd (omega (arith, low));
+  }
 
   pub ends : (bucket made : ℕ) (items : List (ℕ × ℕ)) → Gathers bits words pairs stand bucket 0 made items → HasGathered bits words pairs stand (bucket + 1) items
   ends bucket made items so = gathered_more (λ key. bucket_index key bits) (nodes (2 ^ bits) (λ key. bucket_index key bits) stand.cells) stand.stands.on stand.stands.rank stand.stands.chains bucket made items so

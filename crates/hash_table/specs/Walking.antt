@@ -2,7 +2,7 @@
 use Rattle.std.specs.Prelude.{ℕ, ◌^◌, ◌<◌, Bool, true, false, Option}
 use Rattle.machine_states.specs.map_history.specs.declared.op.Op.{Op}
 use Rattle.machine_states.specs.map_history.specs.Keys.{key_of}
-use Rattle.bucket_walks.specs.section_body.specs.Bucket.{bucket_index, bucket_lock}
+use Rattle.bucket_walks.specs.section_body.specs.Bucket.{bucket_index, bucket_lock, bucket_head}
 use Rattle.machine_states.specs.body_terms.specs.declared.thunk.Thunk.{Thunk}
 use Rattle.bucket_walks.specs.bucket_laws.specs.Walk.{Walk, Bounds, start, is_end, form_for, operands_for, wanted_at, fed}
 use Rattle.bucket_walks.specs.bucket_laws.specs.Walk as walks
@@ -60,6 +60,20 @@ is_refused_at _ = false
 
 abbrev pub is_refused_of : Walking → Bool
 is_refused_of w = is_refused_at w.walk.stage
+
+-- it has loaded all but its lock
+abbrev pub is_walked_at : walks.Stage → Bool
+is_walked_at walks.AtLock = true
+is_walked_at _ = false
+
+abbrev pub is_walked_of : Walking → Bool
+is_walked_of w = is_walked_at w.walk.stage
+
+-- a walk that goes on behind the edition of its bucket
+abbrev pub behind_edition : Walking → ℕ → Walking
+behind_edition w edition = record w {
+  walk = record start { stage = walks.AtLink; edition = edition; place = bucket_head (bucket_by w) };
+}
 
 abbrev pub is_end_of : Walking → Bool
 is_end_of w = is_end w.walk.stage

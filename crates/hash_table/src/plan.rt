@@ -1,5 +1,5 @@
 //! Requests are planned on the hash table.
-ghost use Rattle.std.specs.Prelude.{◌≡◌, IfOk};
+ghost use Rattle.std.specs.Prelude.{◌≡◌, false, IfOk};
 ghost use Rattle.std.specs.FinMap.{entries};
 ghost use Rattle.machine_states.specs.map_history.specs.Replay.{Pairs};
 ghost use Rattle.machine_states.specs.map_history.specs.declared.op.Op.TheVariants.{Get};
@@ -41,7 +41,7 @@ impl Planner for HashTable {
         ensures contents { IfOk result (λ items. (pairs : Pairs)
             → StandFor (buckets_meaning self.now.bits) words.now pairs → items.items ≡ entries pairs) }
     {
-        self.pairs(alloc, words)
+        self.pairs_in(alloc, words)
     }
 
     ghost plans_lawfully = { λ s. buckets_plan s.bits s.few };
@@ -52,7 +52,7 @@ impl Planner for HashTable {
           (is_refused_at (walk_in s.bits layout op readings).stage) walk.stands.stands walk.read;
     } };
 
-    ghost retires_few = { λ s. few_retires };
+    ghost retires_few = { λ s. few_retires false };
 
     ghost gets_are_light = { λ s. record {
       looks = λ is_map. only_look s.bits;

@@ -3,8 +3,9 @@ ghost use Rattle.std.specs.Prelude.{◌≡◌, ◌+◌, ◌*◌, ◌<◌, ◌≤
 ghost use Rattle.machine_states.specs.map_history.specs.Keys.{key_of};
 ghost use Rattle.machine_states.specs.map_history.specs.Words.{word_of};
 ghost use Rattle.bucket_walks.specs.section_body.specs.Bucket.{bucket_index};
-ghost use Rattle.bucket_walks.specs.bucket_laws.specs.Walk.{AtLink, AtKey, AtNext, AtLock, Refused, operands_for, form_for, is_del, same_numbers, fits_walk};
-ghost use Rattle.hash_table.specs.Walking.{stage_of, is_refused_of, begun, fed_by, wanted_by, thunk_by};
+ghost use Rattle.bucket_walks.specs.bucket_laws.specs.Walk.{start, AtLink, AtKey, AtNext, AtLock, Refused, operands_for, form_for, is_del, same_numbers, fits_walk};
+ghost use Rattle.bucket_walks.specs.bucket_laws.specs.TwoWalk.{is_takable};
+ghost use Rattle.hash_table.specs.Walking.{stage_of, is_refused_of, is_walked_of, behind_edition, begun, fed_by, wanted_by, thunk_by};
 
 use bucket_walks::section_body::bucket_of;
 use machine_states::body_terms::{Thunk, Word};
@@ -112,7 +113,7 @@ impl BucketWalk {
     }
 
     /// The place of the bucket's lock.
-    fn lock(&self) -> u32
+    pub fn lock(&self) -> u32
         ensures here { result ≡ 3 * bucket_index (key_of self.now.op) self.now.bits }
         ensures low { result < 12288 }
     {
@@ -224,18 +225,92 @@ impl BucketWalk {
         ensures { self.new ≡ fed_by self.old word }
     {
         self.word = word;
-        let spent = u64::from(word.version()) + 2 > u64::from(self.version_max);
-        self.stage = if word.value() == 0 && !spent {
+        self.stage = if self.can_take(word) {
             Stage::End
         } else {
             Stage::Refused
         };
     }
 
+    /// Whether a lock with this word is free and not spent.
+    #[inline(always)]
+    pub fn can_take(&self, word: Word) -> bool
+        ensures { result ≡ is_takable self.now.bounds word }
+    {
+        let spent = u64::from(word.version()) + 2 > u64::from(self.version_max);
+        word.value() == 0 && !spent
+    }
+
     /// Whether it loads a link next, and the key of its node then.
     #[inline(always)]
     pub fn is_on_links(&self) -> bool {
         self.stage == Stage::Link
+    }
+
+    /// Goes on behind the edition of its bucket, which was read as this word: of a walk that has loaded nothing.
+    pub fn skip_edition(&mut self, edition: Word)
+        requires { self.old.walk ≡ start }
+        ensures { self.new ≡ behind_edition self.old edition }
+    {
+        self.edition = edition;
+        self.place = u64::from(self.lock()) + 2;
+        self.stage = Stage::Link;
+    }
+
+    /// Whether it has loaded all but its lock.
+    pub fn is_walked(&self) -> bool
+        ensures { result ≡ is_walked_of self.now }
+    {
+        self.stage == Stage::Lock
+    }
+
+    /// The word of the edition that it has read.
+    pub fn edition(&self) -> Word
+        ensures { result ≡ self.now.walk.edition }
+    {
+        self.edition
+    }
+
+    /// The link in the head of its bucket, as it has read it.
+    pub fn head(&self) -> u32
+        ensures { result ≡ self.now.walk.head }
+    {
+        self.head
+    }
+
+    /// The place of the last link that it has loaded.
+    pub fn place(&self) -> u64
+        ensures { result ≡ self.now.walk.place }
+    {
+        self.place
+    }
+
+    /// The slot to which the last link leads.
+    pub fn slot(&self) -> u32
+        ensures { result ≡ self.now.walk.slot }
+    {
+        self.slot
+    }
+
+    /// The value of the key's node.
+    pub fn value(&self) -> u32
+        ensures { result ≡ self.now.walk.value }
+    {
+        self.value
+    }
+
+    /// The next link of the key's node.
+    pub fn next(&self) -> u32
+        ensures { result ≡ self.now.walk.next }
+    {
+        self.next
+    }
+
+    /// Whether it has found the key.
+    pub fn has_found(&self) -> bool
+        ensures { result ≡ self.now.walk.found }
+    {
+        self.found
     }
 
     /// Whether the walk was refused.

@@ -5,6 +5,6 @@ use Rattle.hash_table.specs.Stands.{Gathers}
 use Rattle.hash_table.proofs.table.HashTable.gather.Given as goal
 
 abbrev pub invariant-loop-made : goal.invariant-loop-made
-invariant-loop-made l = record {
+invariant-loop-made g l = record {
   gathers : (pairs : Pairs) (stand : StandFor (buckets_meaning l.self.bits) l.words pairs) → Gathers l.self.bits l.words pairs stand l.bucket l.link l._made l.items.items;
 }

@@ -6,10 +6,16 @@ use Rattle.bucket_walks.specs.bucket_laws.proofs.TableLaws.{bucket_small}
 use Rattle.hash_table.specs.Stands.{HasGathered}
 use Rattle.hash_table.proofs.Places.{few_buckets}
 use Rattle.hash_table.proofs.Ordering.{are_entries}
-use Rattle.hash_table.proofs.table.HashTable.pairs.Goals as goal
+use Rattle.hash_table.proofs.Standing.{nothing}
+use Rattle.hash_table.proofs.table.HashTable.pairs_in.Goals as goal
+
+pub loop-bucket-init : goal.loop-bucket-init
+loop-bucket-init g c = record {
+  gathered = λ pairs stand. nothing c.args.self.now.bits c.args.words.now pairs stand c.new-items.result.items c.new-items.ensures.items;
+}
 
 pub returns : goal.returns
-returns c = record {
+returns g c = record {
   contents = λ pairs stand.
       let bits = c.args.self.now.bits in
       let all : c.loop-bucket.bucket ≡ 2 ^ bits = (let few = few_buckets bits c.args.self.now.few in let end = c.loop-bucket-test.false in let past = c.loop-bucket.auto.bucket-end in omega (arith, few, end, past)) in
