@@ -2,8 +2,8 @@
 //!
 //! `attempting` has the call `attempt`, and its plan; `tries` publishes the planned section, `runs` runs and retires
 //! it. `answers` is what an attempt may come to, `refusals` how refusals of a plan, a publication and a section are
-//! told as such answers, `turns` how a runner leaves with one, `reclaims` collects where that is due, `reserves` has the
-//! own slots that an attempt needs, and `learns` how a request that the runner knows is answered by its words.
+//! told as such answers, `turns` how a runner leaves with one, `reclaims` collects where that is due, `reserves` has
+//! the own slots that an attempt needs, and `learns` how a request that the runner knows is answered by its words.
 #![tactic(auto)]
 
 mod answers;

@@ -2,7 +2,7 @@
 ghost use Rattle.std.specs.Prelude.{◌≡◌, IfOk};
 ghost use Rattle.map_history.specs.Requests.{AreInOrder};
 ghost use Rattle.trace_reader.specs.Answer.{AreTracesOf};
-ghost use Rattle.trace_reader.specs.Formats.{AreOfFormat, format_for};
+ghost use Rattle.trace_reader.specs.Formats.{format_for};
 ghost use Rattle.trace_reader.specs.Printed.{HasSmallValue, HaveSmallValues, printed};
 
 use crate::line::{push_beginnings, push_header, push_line};
@@ -12,13 +12,13 @@ use trace_reader::printed_text_is_read;
 
 /// The text of a header and of so many traces with these requests, which stand in the order of their traces.
 ///
-/// The header names the least format that has the requests. Where that is one that is read, `read_traces` reads these
-/// requests from the text again, and the same number of traces. The Err is want of memory.
+/// The header names the least format that has the requests. `read_traces` reads these requests from the text again, and
+/// the same number of traces. The Err is want of memory.
 pub fn trace_text(alloc: Global, requests: &[Request], traces: u32) -> Result<Vec<u8>, AllocError>
     requires { AreInOrder requests.now traces }
     ensures text { IfOk result (λ text. text.items ≡ printed requests.now traces) }
-    ensures read { IfOk result (λ text. AreOfFormat 2 requests.now
-        → AreTracesOf (record { format = format_for requests.now; count = traces; requests = requests.now })
+    ensures read { IfOk result (λ text.
+        AreTracesOf (record { format = format_for requests.now; count = traces; requests = requests.now })
         text.items) }
 {
     values_fit(requests);

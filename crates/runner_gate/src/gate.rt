@@ -17,8 +17,9 @@ pub enum Pass {
 /// What is asked after each atomic step, and may stop the runner there.
 ///
 /// A gate has a count of halts, which each halt raises by one and nothing else changes, and a number of asks. Both may
-/// stand still at the last number of 64 bits, so a gate can count in a `u64`. Its asks tell too for which runner it was made, and with which plan, and that
-/// never changes: so whoever says how often a gate was asked says that it is that gate still.
+/// stand still at the last number of 64 bits, so a gate can count in a `u64`. Its asks tell too for which runner it was
+/// made, and with which plan, and that never changes: so whoever says how often a gate was asked says that it is that
+/// gate still.
 pub trait Gate {
     /// How often this gate halted so far.
     ghost halts: { Self → ℕ };

@@ -1,25 +1,21 @@
 -- The formats of operations, of what lines ask, and of requests.
-use Rattle.std.proofs.Common.{◌≡◌, ℕ, zero, suc, ◌-◌, ◌≤◌, Bool, true, false, cond, List, [], ◌∷◌, ◌++◌, Option, None, Some, length, refl, sym, subst, arith}
-use Rattle.std.specs.Prelude.{codes, fold, max}
-use Rattle.std.specs.Str.{bytes_eq}
+use Rattle.std.proofs.Common.{◌≡◌, ℕ, zero, suc, ◌-◌, ◌≤◌, Bool, true, List, [], ◌∷◌, ◌++◌, Option, None, Some, length, refl, sym, subst, arith, inl, inr, ⊎_elim}
+use Rattle.std.specs.Prelude.{fold, max}
 use Rattle.std.proofs.lemmas.List.Elements.{All-append}
 use Rattle.map_history.specs.declared.op.Op.{Op}
 use Rattle.map_history.specs.declared.op.Op.TheVariants.{Get, Ins, Del, Put, Mov}
 use Rattle.map_history.specs.declared.op.Request.{Request}
-use Rattle.map_history.specs.Keys.{key_of, least_format, DependsOn, IsOneKeyed, is_format_1}
+use Rattle.map_history.specs.Keys.{least_format, DependsOn, IsOneKeyed, is_format_1}
 use Rattle.map_history.specs.Requests.{AreOfFormat1}
-use Rattle.map_history.proofs.Cells.{key_is}
 use Rattle.trace_reader.specs.declared.line.Line.{Line}
 use Rattle.trace_reader.specs.declared.line.Line.TheVariants.{Skipped, Header, Trace, Ask}
 use Rattle.trace_reader.specs.declared.traces.Traces.{Traces}
-use Rattle.trace_reader.specs.Fields.{value_of, fields_of}
 use Rattle.trace_reader.specs.Formats.{AreOfFormat, format_for}
-use Rattle.trace_reader.specs.Line.{field, asked_by_words, asked}
 use Rattle.trace_reader.specs.Reader.{AreAskedIn, TracesAfter}
-use Rattle.trace_reader.specs.Said.{IsAskedIn, IsPlaced, format_after}
+use Rattle.trace_reader.specs.Said.{HasLowKeys, IsAskedIn, IsPlaced, format_after}
 use Rattle.trace_reader.proofs.Ordered.{All-one}
 
--- an operation of a format that is read has one key
+-- an operation of format 1 or 2 has one key
 pub one_keyed : (op : Op) → least_format op ≤ 2 → IsOneKeyed op
 one_keyed (Get key) low = refl
 one_keyed (Ins key value) low = refl
@@ -42,37 +38,31 @@ within_1 (Del key) is = omega arith
 within_1 (Put key value) is = absurd (cc)
 within_1 (Mov from to) is = absurd (cc)
 
--- where its first key is small, so is each key on which it depends
-pub keys_low : (op : Op) → IsOneKeyed op → key_of op ≤ 4294967293 → (key : ℕ) → DependsOn op key → key ≤ 4294967293
-keys_low op one low key on = subst (λ n. n ≤ 4294967293) (key_is op key one on) low
+-- each operation can be asked in some format that is read
+pub some_format : (op : Op) → least_format op ≤ 3
+some_format (Get key) = omega arith
+some_format (Ins key value) = omega arith
+some_format (Del key) = omega arith
+some_format (Put key value) = omega arith
+some_format (Mov from to) = omega arith
 
-some_same : (a b : Op) → Some a ≡ Some b → a ≡ b
-some_same a b e = cc
-
-none_some : (op : Op) → None ≡ Some op → ⊥
-none_some op e = cc
-
-by_words : (words : List (List ℕ)) (op : Op) → asked_by_words words ≡ Some op → IsOneKeyed op
-by_words [] op e = absurd (none_some op e)
-by_words (word ∷ numbers) op e = by (bytes_eq word (codes "get")) (bytes_eq word (codes "del")) (bytes_eq word (codes "ins")) (bytes_eq word (codes "put")) e
+-- the keys on which an operation depends
+pub keys_low : (op : Op) → HasLowKeys op → (key : ℕ) → DependsOn op key → key ≤ 4294967293
+keys_low (Get own) low key on = ⊎_elim (λ is. omega (arith, is, low)) (λ none. absurd (cc)) on
+keys_low (Ins own value) low key on = ⊎_elim (λ is. omega (arith, is, low)) (λ none. absurd (cc)) on
+keys_low (Del own) low key on = ⊎_elim (λ is. omega (arith, is, low)) (λ none. absurd (cc)) on
+keys_low (Put own value) low key on = ⊎_elim (λ is. omega (arith, is, low)) (λ none. absurd (cc)) on
+keys_low (Mov from to) low key on = ⊎_elim (λ is. omega (arith, is, low.0)) (λ is. subst (λ n. n ≤ 4294967293) (some_same to key is) low.1) on
   where
-    first : ℕ
-    first = value_of (field numbers 0)
+    some_same : (a b : ℕ) → ◌≡◌ {A = Option ℕ} (Some a) (Some b) → a ≡ b
+    some_same a b e = cc
 
-    second : ℕ
-    second = value_of (field numbers 1)
-
-    by : (a b c d : Bool) → cond a (Some (Get first)) (cond b (Some (Del first)) (cond c (Some (Ins first second)) (cond d (Some (Put first second)) None))) ≡ Some op
-        → IsOneKeyed op
-    by true b c d e = subst IsOneKeyed (some_same _ op e) refl
-    by false true c d e = subst IsOneKeyed (some_same _ op e) refl
-    by false false true d e = subst IsOneKeyed (some_same _ op e) refl
-    by false false false true e = subst IsOneKeyed (some_same _ op e) refl
-    by false false false false e = absurd (none_some op e)
-
--- so has what a line asks
-pub asked_one_keyed : (line : List ℕ) (op : Op) → asked line ≡ Some op → IsOneKeyed op
-asked_one_keyed line op e = by_words (fields_of line) op e
+pub low_keys : (op : Op) → ((key : ℕ) → DependsOn op key → key ≤ 4294967293) → HasLowKeys op
+low_keys (Get key) low = low key (inl refl)
+low_keys (Ins key value) low = low key (inl refl)
+low_keys (Del key) low = low key (inl refl)
+low_keys (Put key value) low = low key (inl refl)
+low_keys (Mov from to) low = (low from (inl refl), low to (inr refl))
 
 -- the format that requests need, from request to request
 abbrev needed : ℕ → Request → ℕ
@@ -98,6 +88,9 @@ format_for_some requests = reaches 1 requests
 
 pub format_for_covers : (requests : List Request) → AreOfFormat (format_for requests) requests
 format_for_covers requests = covers 1 requests
+
+pub format_for_low : (requests : List Request) → format_for requests ≤ 3
+format_for_low requests = stays 1 3 requests (omega arith) (λ k d early. some_format _)
 
 pub format_for_within : (bound : ℕ) (requests : List Request) → 1 ≤ bound → AreOfFormat bound requests → format_for requests ≤ bound
 format_for_within bound requests some each = stays 1 bound requests some each

@@ -6,11 +6,11 @@ use Rattle.std.proofs.lemmas.List.FromFn.{get_or-map-range_with_len, length-map-
 use Rattle.std.proofs.lemmas.Nat.{div_below, div-add-mod', le-div, mod_below, mul-le}
 use Rattle.map_history.specs.declared.op.Request.{Request}
 use Rattle.map_history.specs.declared.op.Op.TheVariants.{Get, Ins, Del}
-use Rattle.map_history.specs.Keys.{key_of, is_format_1}
+use Rattle.map_history.specs.Keys.{is_format_1}
 use Rattle.map_history.specs.Requests.{AreInOrder, AreOfFormat1}
-use Rattle.map_history.proofs.Cells.{format_1_one_keyed}
 use Rattle.trace_reader.proofs.Formats.{keys_low}
 use Rattle.trace_reader.specs.declared.generator.Gen.{Gen}
+use Rattle.trace_reader.specs.Said.{HasLowKeys}
 use Rattle.trace_reader.specs.Generator.{IsPlan, generated, generated_at, key_by, next_state, op_by, output_at, state_after}
 
 -- one draw more
@@ -46,13 +46,13 @@ key_small plan trace output is within = by_form plan.apart refl
         let key = ap (λ b. cond b (output % plan.keys * plan.traces + trace) (output % plan.keys)) form in
         omega (arith, key, below, is.keys)
 
-op_key : (output key : ℕ) → key_of (op_by output key) ≡ key
-op_key output key = by_tests (nat_lt (output % 4) 2) (output % 4 == 2) refl refl
+op_low : (output key : ℕ) → key ≤ 4294967293 → HasLowKeys (op_by output key)
+op_low output key low = by_tests (nat_lt (output % 4) 2) (output % 4 == 2)
   where
-    by_tests : (a b : Bool) → nat_lt (output % 4) 2 ≡ a → (output % 4 == 2) ≡ b → key_of (op_by output key) ≡ key
-    by_tests true b is also = ap (λ a. key_of (cond a (Ins key (10 * key)) (cond (output % 4 == 2) (Del key) (Get key)))) is
-    by_tests false true is also = ap (λ a. key_of (cond a (Ins key (10 * key)) (cond (output % 4 == 2) (Del key) (Get key)))) is ∙ ap (λ b. key_of (cond b (Del key) (Get key))) also
-    by_tests false false is also = ap (λ a. key_of (cond a (Ins key (10 * key)) (cond (output % 4 == 2) (Del key) (Get key)))) is ∙ ap (λ b. key_of (cond b (Del key) (Get key))) also
+    by_tests : (a b : Bool) → HasLowKeys (cond a (Ins key (10 * key)) (cond b (Del key) (Get key)))
+    by_tests true b = low
+    by_tests false true = low
+    by_tests false false = low
 
 pub op_format : (output key : ℕ) → is_format_1 (op_by output key) ≡ true
 op_format output key = by_tests (nat_lt (output % 4) 2) (output % 4 == 2)
@@ -85,6 +85,6 @@ generated_in_order plan is =
       rising = λ i j d le early. rw (at i d (omega (arith, size)), at j d (omega (arith, size))) (later_trace plan.length i j (no_product plan.traces plan.length j (omega (arith, size))) le);
       keys = λ k d early. rw (at k d (omega (arith, size))) (
           let output = output_at plan.seed (2 * k + 1) in
-          let key : key_of (generated_at plan k).op ≡ key_by plan (k / plan.length) output = op_key (output_at plan.seed (2 * k)) (key_by plan (k / plan.length) output) in
-          keys_low (generated_at plan k).op (format_1_one_keyed (generated_at plan k).op (op_format (output_at plan.seed (2 * k)) (key_by plan (k / plan.length) output))) (omega (arith, key, key_small plan (k / plan.length) output is (trace_within plan k (omega (arith, size))))));
+          keys_low (generated_at plan k).op
+          (op_low (output_at plan.seed (2 * k)) (key_by plan (k / plan.length) output) (key_small plan (k / plan.length) output is (trace_within plan k (omega (arith, size))))));
     }

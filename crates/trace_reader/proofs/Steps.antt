@@ -15,7 +15,7 @@ use Rattle.trace_reader.specs.Said.{Says, IsPlaced, format_after, is_begin, oper
 use Rattle.trace_reader.specs.Answer.{AreTracesIn}
 use Rattle.trace_reader.specs.Reader.{AreAskedIn, AreRead, StandsBehind, IsRefusedFor, TracesAfter, ExcessOf}
 use Rattle.trace_reader.proofs.Asked.{AreTracesIn-none, AreTracesIn-trace, AreTracesIn-ask, format_in-push, length-requests_in}
-use Rattle.trace_reader.proofs.Formats.{asked_one_keyed, formats_behind, keys_low}
+use Rattle.trace_reader.proofs.Formats.{formats_behind, keys_low}
 use Rattle.trace_reader.proofs.Ordered.{AreInOrder-trace, AreInOrder-ask}
 use Rattle.trace_reader.proofs.Refusals.{NoneRefused-push}
 use Rattle.map_history.specs.Requests.{AreInOrder}
@@ -78,12 +78,12 @@ traces_behind (Ask op) before after lines line begins asks (same, more, few) are
 same_order : (before after : Traces) → after.count ≡ before.count → after.requests ≡ before.requests → AreInOrder before.requests before.count → AreInOrder after.requests after.count
 same_order before after same still are = rw (same, still) are
 
-ordered_behind : (said : Line) (format : Option ℕ) (before after : Traces) (line : List ℕ) → asked line ≡ operation_in said → IsPlaced said format (ltb 0 before.count) → TracesAfter said before after → AreInOrder before.requests before.count → AreInOrder after.requests after.count
-ordered_behind Skipped format before after line asks placed (same, still) are = same_order before after same still are
-ordered_behind (Header number) format before after line asks placed (same, still) are = same_order before after same still are
-ordered_behind Trace format before after line asks placed (more, few, still) are = rw still (AreInOrder-trace before.requests before.count after.count more few are)
-ordered_behind (Ask op) format before after line asks (headed, begun, small) (same, more, few) are =
-    rw same (AreInOrder-ask before.requests after.requests before.count op (ltb-true _ _ begun) (keys_low op (asked_one_keyed line op asks) small) more few are)
+ordered_behind : (said : Line) (format : Option ℕ) (before after : Traces) → IsPlaced said format (ltb 0 before.count) → TracesAfter said before after → AreInOrder before.requests before.count → AreInOrder after.requests after.count
+ordered_behind Skipped format before after placed (same, still) are = same_order before after same still are
+ordered_behind (Header number) format before after placed (same, still) are = same_order before after same still are
+ordered_behind Trace format before after placed (more, few, still) are = rw still (AreInOrder-trace before.requests before.count after.count more few are)
+ordered_behind (Ask op) format before after (headed, begun, low) (same, more, few) are =
+    rw same (AreInOrder-ask before.requests after.requests before.count op (ltb-true _ _ begun) (keys_low op low) more few are)
 
 -- a line that is taken in
 pub line_more : (finished : ℕ) (format : Option ℕ) (before : Traces) (finished_after : ℕ) (next : Option ℕ) (read : Traces) (lines : List (List ℕ)) (line : List ℕ) (said : Line) → AreRead finished format before lines → Says said format (ltb 0 before.count) line → TracesAfter said before read → next ≡ format_after format said → finished_after ≡ finished + 1 → AreRead finished_after next read (lines ++ line ∷ [])
@@ -92,7 +92,7 @@ line_more finished format before finished_after next read lines line said behind
   header = headed ∙ sym says.header ∙ ap (λ f. option_or f (header_in line)) behind.header ∙ sym (format_in-push lines line);
   none_refused = NoneRefused-push lines line behind.none_refused (excess_known finished format before lines line said behind says ∙ no_excess said before read taken);
   traces = traces_behind said before read lines line says.trace says.operation taken behind.traces;
-  ordered = ordered_behind said format before read line says.operation says.placed taken behind.ordered;
+  ordered = ordered_behind said format before read says.placed taken behind.ordered;
   formats = subst (λ f. AreAskedIn f read.requests) (sym headed) (formats_behind said format (ltb 0 before.count) before read says.placed taken behind.formats);
 }
 

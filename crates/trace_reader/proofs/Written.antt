@@ -13,8 +13,8 @@ use Rattle.std.proofs.lemmas.Slice.Eq.{bytes_eq-Decides}
 use Rattle.std.proofs.Math.Seq.{take-append_seam}
 use Rattle.small_lemmas.proofs.Bools.{negated as not_true}
 use Rattle.map_history.specs.declared.op.Op.{Op}
-use Rattle.map_history.specs.declared.op.Op.TheVariants.{Get, Ins, Del, Put}
-use Rattle.map_history.specs.Keys.{key_of, least_format}
+use Rattle.map_history.specs.declared.op.Op.TheVariants.{Get, Ins, Del, Put, Mov}
+use Rattle.map_history.specs.Keys.{least_format}
 use Rattle.trace_reader.specs.declared.line.Line.TheVariants.{Ask}
 use Rattle.trace_reader.specs.declared.traces.BadLine.TheVariants.{BadNumber, KeyTooLarge, NotAscii, UnknownWord, ValueTooLarge}
 use Rattle.trace_reader.specs.Fields.{content_of, fields_in, fields_of, is_blank, is_comment, is_number, value_of}
@@ -22,7 +22,7 @@ use Rattle.trace_reader.specs.Line.{asked_by, asked_by_words, begun_by_words, co
 use Rattle.trace_reader.specs.Lines.{IsOneLine}
 use Rattle.trace_reader.specs.Plain.{AreDigits, BeginWithNumber, BeginWithPair, BeginWithRequest, IsRequestAt, text_of}
 use Rattle.trace_reader.specs.declared.plain.Word.{Word}
-use Rattle.trace_reader.specs.Said.{Says}
+use Rattle.trace_reader.specs.Said.{HasLowKeys, Says}
 use Rattle.trace_reader.proofs.Digits.{are_number, digit_bounds}
 
 -- what lines are printed with: from a space to a tilde
@@ -94,7 +94,7 @@ record SaysSo (op : Op) (format : ℕ) (line word : List ℕ) (numbers : List (L
   trace : is_trace word ≡ false
   operation : asked_by word numbers ≡ Some op
 
-said : (op : Op) (format : ℕ) (line word : List ℕ) (numbers : List (List ℕ)) → SaysSo op format line word numbers → least_format op ≤ format → key_of op ≤ 4294967293 → Says (Ask op) (Some format) true line
+said : (op : Op) (format : ℕ) (line word : List ℕ) (numbers : List (List ℕ)) → SaysSo op format line word numbers → least_format op ≤ format → HasLowKeys op → Says (Ask op) (Some format) true line
 said op format line word numbers so known small =
     let counted : counts line ≡ true = ap words_count so.fields ∙ ap not so.comment in
     record {
@@ -122,6 +122,17 @@ two_numbers digits more key value are also small fits =
     ∙ ap (λ b. cond b (Some KeyTooLarge) (cond (nat_lt 4294967295 (value_of more)) (Some ValueTooLarge) None)) (le-ltb 4294967293 key small)
     ∙ ap (λ n. cond (nat_lt 4294967295 n) (Some ValueTooLarge) None) also.value
     ∙ ap (λ b. cond b (Some ValueTooLarge) None) (le-ltb 4294967295 value fits)
+
+two_keys : (digits more : List ℕ) (from to : ℕ) → AreDigits from digits → AreDigits to more → from ≤ 4294967293 → to ≤ 4294967293
+    → cond (not (is_number digits && (is_number more && true))) (Some BadNumber) (cond (nat_lt 4294967293 (value_of digits)) (Some KeyTooLarge) (cond (nat_lt 4294967293 (value_of more)) (Some KeyTooLarge) (cond (nat_lt 4294967295 (value_of more)) (Some ValueTooLarge) None))) ≡ None
+two_keys digits more from to are also small low =
+    ap (λ b. cond (not (b && (is_number more && true))) (Some BadNumber) (cond (nat_lt 4294967293 (value_of digits)) (Some KeyTooLarge) (cond (nat_lt 4294967293 (value_of more)) (Some KeyTooLarge) (cond (nat_lt 4294967295 (value_of more)) (Some ValueTooLarge) None)))) (are_number from digits are)
+    ∙ ap (λ b. cond (not (b && true)) (Some BadNumber) (cond (nat_lt 4294967293 (value_of digits)) (Some KeyTooLarge) (cond (nat_lt 4294967293 (value_of more)) (Some KeyTooLarge) (cond (nat_lt 4294967295 (value_of more)) (Some ValueTooLarge) None)))) (are_number to more also)
+    ∙ ap (λ n. cond (nat_lt 4294967293 n) (Some KeyTooLarge) (cond (nat_lt 4294967293 (value_of more)) (Some KeyTooLarge) (cond (nat_lt 4294967295 (value_of more)) (Some ValueTooLarge) None))) are.value
+    ∙ ap (λ b. cond b (Some KeyTooLarge) (cond (nat_lt 4294967293 (value_of more)) (Some KeyTooLarge) (cond (nat_lt 4294967295 (value_of more)) (Some ValueTooLarge) None))) (le-ltb 4294967293 from small)
+    ∙ ap (λ n. cond (nat_lt 4294967293 n) (Some KeyTooLarge) (cond (nat_lt 4294967295 n) (Some ValueTooLarge) None)) also.value
+    ∙ ap (λ b. cond b (Some KeyTooLarge) (cond (nat_lt 4294967295 to) (Some ValueTooLarge) None)) (le-ltb 4294967293 to low)
+    ∙ ap (λ b. cond b (Some ValueTooLarge) None) (le-ltb 4294967295 to (omega (arith, low)))
 
 -- the line of a look-up and of a deletion, with these digits
 abbrev pub get_line : List ℕ → List ℕ
@@ -164,7 +175,7 @@ del_said format key digits known are small =
       operation = ap (λ n. Some (Del n)) are.value;
     }) known small
 
--- a line with a word, a key and a value
+-- a line with a word and two numbers
 abbrev pub pair_line : List ℕ → List ℕ → List ℕ → List ℕ
 pair_line word digits more = word ++ 32 ∷ (digits ++ 32 ∷ more)
 
@@ -194,7 +205,7 @@ pair_fields word key value digits more one are also =
 
 -- what it says, where the format has the word
 pair_said : (op : Op) (format : ℕ) (word : List ℕ) (key value : ℕ) (digits more : List ℕ) → IsLetters word → is_comment (word ∷ digits ∷ more ∷ []) ≡ false → AreDigits key digits → AreDigits value more
-    → first_found (tests_of format true word (digits ∷ more ∷ [])) ≡ None → is_trace word ≡ false → asked_by word (digits ∷ more ∷ []) ≡ Some op → least_format op ≤ format → key_of op ≤ 4294967293
+    → first_found (tests_of format true word (digits ∷ more ∷ [])) ≡ None → is_trace word ≡ false → asked_by word (digits ∷ more ∷ []) ≡ Some op → least_format op ≤ format → HasLowKeys op
     → Says (Ask op) (Some format) true (pair_line word digits more)
 pair_said op format word key value digits more one comment are also fault trace asks known small =
     let printed = pair_printed word digits more one.printed are.each also.each in
@@ -208,18 +219,24 @@ pair_said op format word key value digits more one comment are also fault trace 
       operation = asks;
     }) known small
 
--- the line of an insertion, and of a `put`
+-- the line of an insertion, of a `put` and of a `mov`
 abbrev pub ins_line : List ℕ → List ℕ → List ℕ
 ins_line digits more = pair_line (codes "ins") digits more
 
 abbrev pub put_line : List ℕ → List ℕ → List ℕ
 put_line digits more = pair_line (codes "put") digits more
 
+abbrev pub mov_line : List ℕ → List ℕ → List ℕ
+mov_line digits more = pair_line (codes "mov") digits more
+
 pub ins_one_line : (key value : ℕ) (digits more : List ℕ) → AreDigits key digits → AreDigits value more → IsOneLine (ins_line digits more)
 ins_one_line key value digits more are also = pair_one_line (codes "ins") key value digits more refl are also
 
 pub put_one_line : (key value : ℕ) (digits more : List ℕ) → AreDigits key digits → AreDigits value more → IsOneLine (put_line digits more)
 put_one_line key value digits more are also = pair_one_line (codes "put") key value digits more refl are also
+
+pub mov_one_line : (from to : ℕ) (digits more : List ℕ) → AreDigits from digits → AreDigits to more → IsOneLine (mov_line digits more)
+mov_one_line from to digits more are also = pair_one_line (codes "mov") from to digits more refl are also
 
 pub ins_said : (format key value : ℕ) (digits more : List ℕ) → 1 ≤ format → AreDigits key digits → AreDigits value more → key ≤ 4294967293 → value ≤ 4294967295 → Says (Ask (Ins key value)) (Some format) true (ins_line digits more)
 ins_said format key value digits more known are also small fits =
@@ -230,8 +247,14 @@ ins_said format key value digits more known are also small fits =
 pub put_said : (format key value : ℕ) (digits more : List ℕ) → 2 ≤ format → AreDigits key digits → AreDigits value more → key ≤ 4294967293 → value ≤ 4294967295 → Says (Ask (Put key value)) (Some format) true (put_line digits more)
 put_said format key value digits more known are also small fits =
     pair_said (Put key value) format (codes "put") key value digits more (record { printed = refl; letters = refl; some = refl }) refl are also
-    (ap (λ b. cond (not b) (Some UnknownWord) (first_found (request_tests true 2 (digits ∷ more ∷ [])))) (le-leb 2 format known) ∙ two_numbers digits more key value are also small fits) refl
+    (ap (λ b. cond (not b) (Some UnknownWord) (first_found (request_tests true 2 false (digits ∷ more ∷ [])))) (le-leb 2 format known) ∙ two_numbers digits more key value are also small fits) refl
     (ap (λ n. Some (Put n (value_of more))) are.value ∙ ap (λ n. Some (Put key n)) also.value) known small
+
+pub mov_said : (format from to : ℕ) (digits more : List ℕ) → 3 ≤ format → AreDigits from digits → AreDigits to more → from ≤ 4294967293 → to ≤ 4294967293 → Says (Ask (Mov from to)) (Some format) true (mov_line digits more)
+mov_said format from to digits more known are also small low =
+    pair_said (Mov from to) format (codes "mov") from to digits more (record { printed = refl; letters = refl; some = refl }) refl are also
+    (ap (λ b. cond (not b) (Some UnknownWord) (first_found (request_tests true 2 true (digits ∷ more ∷ [])))) (le-leb 3 format known) ∙ two_keys digits more from to are also small low) refl
+    (ap (λ n. Some (Mov n (value_of more))) are.value ∙ ap (λ n. Some (Mov from n)) also.value) known (small, low)
 
 -- bytes that begin with a word of four bytes
 pub word_first : (bytes word numbers : List ℕ) (is one : Word) → IsSplitAt bytes 4 word numbers → bytes_eq word (text_of is) ≡ true → is ≡ one → bytes ≡ text_of one ++ numbers
@@ -257,7 +280,7 @@ del_read format bytes number key rest known is begin = record {
   cut = is ∙ ap (λ l. codes "del " ++ l) begin.cut;
 }
 
--- the digits of a key and of a value, with a blank between them and a line feed behind them
+-- the digits of two numbers, with a blank between them and a line feed behind them
 pair_cut : (bytes : List ℕ) (key value : ℕ) (rest : List ℕ) (pair : BeginWithPair bytes key value rest) → bytes ≡ (pair.first.digits ++ 32 ∷ pair.second.digits) ++ 10 ∷ rest
 pair_cut bytes key value rest pair =
     pair.first.cut ∙ ap (λ l. pair.first.digits ++ 32 ∷ l) pair.second.cut ∙ sym (append_assoc pair.first.digits (32 ∷ pair.second.digits) (10 ∷ rest))
@@ -276,6 +299,14 @@ put_read format bytes numbers key value rest known is pair = record {
   one = put_one_line key value pair.first.digits pair.second.digits pair.first.are pair.second.are;
   says = put_said format key value pair.first.digits pair.second.digits known pair.first.are pair.second.are (omega (arith, pair.first.small)) (omega (arith, pair.second.small));
   cut = is ∙ ap (λ l. codes "put " ++ l) (pair_cut numbers key value rest pair);
+}
+
+pub mov_read : (format : ℕ) (bytes numbers : List ℕ) (from to : ℕ) (rest : List ℕ) → 3 ≤ format → bytes ≡ codes "mov " ++ numbers → BeginWithPair numbers from to rest → BeginWithRequest (Some format) bytes (Mov from to) rest
+mov_read format bytes numbers from to rest known is pair = record {
+  line = mov_line pair.first.digits pair.second.digits;
+  one = mov_one_line from to pair.first.digits pair.second.digits pair.first.are pair.second.are;
+  says = mov_said format from to pair.first.digits pair.second.digits known pair.first.are pair.second.are (omega (arith, pair.first.small)) (omega (arith, pair.second.small));
+  cut = is ∙ ap (λ l. codes "mov " ++ l) (pair_cut numbers from to rest pair);
 }
 
 -- a request stands where its line ends

@@ -5,7 +5,7 @@ use Rattle.map_history.specs.Keys.{least_format}
 
 -- a format that is read
 abbrev pub IsFormat : ℕ → Type 0
-IsFormat format = (1 ≤ format) × (format ≤ 2)
+IsFormat format = (1 ≤ format) × (format ≤ 3)
 
 -- each request can be asked in a text of this format
 abbrev pub AreOfFormat : ℕ → List Request → Type 0

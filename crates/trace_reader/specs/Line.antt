@@ -4,7 +4,7 @@ use Rattle.std.specs.List.{list_all, slice_index_or}
 use Rattle.std.specs.Char.{is_ascii}
 use Rattle.std.specs.Str.{bytes_eq}
 use Rattle.map_history.specs.declared.op.Op.{Op}
-use Rattle.map_history.specs.declared.op.Op.TheVariants.{Get, Ins, Del, Put}
+use Rattle.map_history.specs.declared.op.Op.TheVariants.{Get, Ins, Del, Put, Mov}
 use Rattle.trace_reader.specs.declared.traces.BadLine.{BadLine}
 use Rattle.trace_reader.specs.declared.traces.BadLine.TheVariants.{NotAscii, NoHeader, UnknownWord, RequestBeforeTrace, MissingField, ExtraField, BadNumber, KeyTooLarge, ValueTooLarge}
 use Rattle.trace_reader.specs.Fields.{content_of, fields_of, is_comment, is_number, value_of}
@@ -25,11 +25,19 @@ wanted_by word =
     else if bytes_eq word (codes "del") then Some 1
     else if bytes_eq word (codes "ins") then Some 2
     else if bytes_eq word (codes "put") then Some 2
+    else if bytes_eq word (codes "mov") then Some 2
     else None
 
--- the format has the word: `put` is of format 2 alone
+-- both numbers behind the word are keys: behind every other the second is a value
+abbrev pub has_two_keys : List ℕ → Bool
+has_two_keys word = bytes_eq word (codes "mov")
+
+-- the format has the word: `put` came with format 2, and `mov` with format 3
 abbrev pub has_word : (format : ℕ) → List ℕ → Bool
-has_word format word = if bytes_eq word (codes "put") then nat_le 2 format else is_some (wanted_by word)
+has_word format word =
+    if bytes_eq word (codes "put") then nat_le 2 format
+    else if bytes_eq word (codes "mov") then nat_le 3 format
+    else is_some (wanted_by word)
 
 abbrev pub is_trace : List ℕ → Bool
 is_trace word = bytes_eq word (codes "trace")
@@ -43,14 +51,15 @@ abbrev pub first_found : List (Bool × BadLine) → Option BadLine
 first_found [] = None
 first_found (test ∷ tests) = if test.0 then Some test.1 else first_found tests
 
--- the tests of a request with so many numbers, in their order
-abbrev pub request_tests : Bool → ℕ → List (List ℕ) → List (Bool × BadLine)
-request_tests begun wanted numbers =
+-- the tests of a request with so many numbers, of which the second is a key too or a value, in their order
+abbrev pub request_tests : (begun : Bool) (wanted : ℕ) (two_keys : Bool) → List (List ℕ) → List (Bool × BadLine)
+request_tests begun wanted two_keys numbers =
     (not begun, RequestBeforeTrace)
     ∷ (nat_lt (length numbers) wanted, MissingField)
     ∷ (nat_lt wanted (length numbers), ExtraField)
     ∷ (not (list_all is_number numbers), BadNumber)
     ∷ (nat_lt 4294967293 (value_of (field numbers 0)), KeyTooLarge)
+    ∷ (two_keys && nat_lt 4294967293 (value_of (field numbers 1)), KeyTooLarge)
     ∷ (nat_lt 4294967295 (value_of (field numbers 1)), ValueTooLarge)
     ∷ []
 
@@ -58,7 +67,7 @@ request_tests begun wanted numbers =
 abbrev pub tests_of : (format : ℕ) → Bool → List ℕ → List (List ℕ) → List (Bool × BadLine)
 tests_of format begun word numbers =
     (not (has_word format word), UnknownWord)
-    ∷ request_tests (if is_trace word then true else begun) (unwrap_or (wanted_by word) 0) numbers
+    ∷ request_tests (if is_trace word then true else begun) (unwrap_or (wanted_by word) 0) (has_two_keys word) numbers
 
 abbrev pub fault_of_words : (format : ℕ) → Bool → List (List ℕ) → Option BadLine
 fault_of_words format begun [] = None
@@ -67,9 +76,12 @@ fault_of_words format begun (word ∷ numbers) = first_found (tests_of format be
 -- the format that a field names
 abbrev pub format_named : List ℕ → Option ℕ
 format_named number =
-    if bytes_eq number (codes "1") then Some 1 else if bytes_eq number (codes "2") then Some 2 else None
+    if bytes_eq number (codes "1") then Some 1
+    else if bytes_eq number (codes "2") then Some 2
+    else if bytes_eq number (codes "3") then Some 3
+    else None
 
--- the format that these fields name as a header: it is `flock 1` or `flock 2`
+-- the format that these fields name as a header: it is `flock 1`, `flock 2` or `flock 3`
 abbrev pub header_of : List (List ℕ) → Option ℕ
 header_of fields =
     if length fields == 2 && bytes_eq (field fields 0) (codes "flock") then format_named (field fields 1) else None
@@ -100,6 +112,7 @@ asked_by word numbers =
     else if bytes_eq word (codes "del") then Some (Del (value_of (field numbers 0)))
     else if bytes_eq word (codes "ins") then Some (Ins (value_of (field numbers 0)) (value_of (field numbers 1)))
     else if bytes_eq word (codes "put") then Some (Put (value_of (field numbers 0)) (value_of (field numbers 1)))
+    else if bytes_eq word (codes "mov") then Some (Mov (value_of (field numbers 0)) (value_of (field numbers 1)))
     else None
 
 abbrev pub asked_by_words : List (List ℕ) → Option Op

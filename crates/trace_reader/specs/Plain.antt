@@ -5,7 +5,7 @@ use Rattle.std.specs.List.{list_all}
 use Rattle.map_history.specs.declared.op.Op.{Op}
 use Rattle.trace_reader.specs.declared.line.Line.TheVariants.{Ask}
 use Rattle.trace_reader.specs.declared.plain.Word.{Word}
-use Rattle.trace_reader.specs.declared.plain.Word.TheVariants.{Get, Ins, Del, Put}
+use Rattle.trace_reader.specs.declared.plain.Word.TheVariants.{Get, Ins, Del, Put, Mov}
 use Rattle.trace_reader.specs.Fields.{value_of}
 use Rattle.trace_reader.specs.Lines.{IsOneLine}
 use Rattle.trace_reader.specs.Said.{Says}
@@ -35,6 +35,7 @@ text_of Get = codes "get "
 text_of Ins = codes "ins "
 text_of Del = codes "del "
 text_of Put = codes "put "
+text_of Mov = codes "mov "
 
 -- the least format that has it
 abbrev pub format_of_word : Word → ℕ
@@ -42,6 +43,7 @@ format_of_word Get = 1
 format_of_word Ins = 1
 format_of_word Del = 1
 format_of_word Put = 2
+format_of_word Mov = 3
 
 -- the bytes begin with a line that asks this behind such a header, and behind its line feed is the rest
 pub record BeginWithRequest (format : Option ℕ) (bytes : List ℕ) (op : Op) (rest : List ℕ) : Type 0 where

@@ -2,7 +2,8 @@
 use Rattle.std.specs.Prelude.{◌≡◌, ℕ, ◌≤◌, Bool, true, false, List, Option, None, Some, is_some}
 use Rattle.std.specs.Option.{option_or}
 use Rattle.map_history.specs.declared.op.Op.{Op}
-use Rattle.map_history.specs.Keys.{key_of, least_format}
+use Rattle.map_history.specs.declared.op.Op.TheVariants.{Get, Ins, Del, Put, Mov}
+use Rattle.map_history.specs.Keys.{least_format}
 use Rattle.trace_reader.specs.declared.line.Line.{Line}
 use Rattle.trace_reader.specs.declared.line.Line.TheVariants.{Skipped, Header, Trace, Ask}
 use Rattle.trace_reader.specs.Formats.{IsFormat}
@@ -32,12 +33,20 @@ abbrev pub IsAskedIn : Option ℕ → Op → Type 0
 IsAskedIn None op = ⊥
 IsAskedIn (Some format) op = least_format op ≤ format
 
+-- the keys on which it depends may be asked
+abbrev pub HasLowKeys : Op → Type 0
+HasLowKeys (Get key) = key ≤ 4294967293
+HasLowKeys (Ins key value) = key ≤ 4294967293
+HasLowKeys (Del key) = key ≤ 4294967293
+HasLowKeys (Put key value) = key ≤ 4294967293
+HasLowKeys (Mov from to) = (from ≤ 4294967293) × (to ≤ 4294967293)
+
 -- where such a line may stand
 abbrev pub IsPlaced : Line → (format : Option ℕ) (begun : Bool) → Type 0
 IsPlaced Skipped format begun = Unit {0}
 IsPlaced (Header number) format begun = (format ≡ None) × IsFormat number
 IsPlaced Trace format begun = is_some format ≡ true
-IsPlaced (Ask op) format begun = IsAskedIn format op × (begun ≡ true) × (key_of op ≤ 4294967293)
+IsPlaced (Ask op) format begun = IsAskedIn format op × (begun ≡ true) × HasLowKeys op
 
 -- the line has no fault, and says this
 pub record Says (said : Line) (format : Option ℕ) (begun : Bool) (line : List ℕ) : Type 0 where

@@ -1,6 +1,6 @@
 // What one line says.
-ghost use Rattle.std.specs.Prelude.{◌≡◌, ◌≢◌, ◌≤◌, ◌<◌, ◌∷◌, [], true, None, Some, IfErr, IfOk, IfNone, IfSome, OnOk, length, nat_le, not};
-ghost use Rattle.map_history.specs.declared.op.Op.TheVariants.{Put};
+ghost use Rattle.std.specs.Prelude.{◌≡◌, ◌≢◌, ◌≤◌, ◌<◌, ◌∷◌, [], true, None, Some, IfErr, IfOk, IfNone, IfSome, OnOk, false, length, nat_le, not};
+ghost use Rattle.map_history.specs.declared.op.Op.TheVariants.{Mov, Put};
 ghost use Rattle.trace_reader.specs.Fields.{fields_in, value_of};
 ghost use Rattle.trace_reader.specs.Formats.{IsFormat};
 ghost use Rattle.trace_reader.specs.Line.{fault_of, fault_of_words, field, first_found, format_named, header_of, request_tests};
@@ -47,7 +47,7 @@ pub fn read_line(line: &[u8], format: Option<u32>, begun: bool) -> Result<Line, 
     }
 }
 
-// The format that a header names: it is `flock 1` or `flock 2`.
+// The format that a header names: it is `flock 1`, `flock 2` or `flock 3`.
 fn read_header(word: &[u8], rest: &[u8]) -> Result<u32, BadLine>
     ensures fault { IfErr result (λ kind. (kind ≡ BadLine.NoHeader)
         × (header_of (word.now ∷ fields_in rest.now) ≡ None)) }
@@ -68,6 +68,7 @@ fn read_format(number: &[u8]) -> Option<u32>
     match number {
         b"1" => Some(1),
         b"2" => Some(2),
+        b"3" => Some(3),
         _ => None,
     }
 }
@@ -95,17 +96,18 @@ fn read_words(word: &[u8], rest: &[u8], format: u32, begun: bool) -> Result<Line
         b"get" => Ok(Line::Ask(Op::Get(read_key(rest, begun)?))),
         b"del" => Ok(Line::Ask(Op::Del(read_key(rest, begun)?))),
         b"ins" => {
-            let (key, value) = read_pair(rest, begun)?;
+            let (key, value) = read_pair(rest, begun, false)?;
             Ok(Line::Ask(Op::Ins(key, value)))
         }
         b"put" => read_put(rest, format, begun),
+        b"mov" => read_mov(rest, format, begun),
         _ => Err(BadLine::UnknownWord),
     }
 }
 
 // Nothing stands behind `trace`.
 fn read_trace(rest: &[u8]) -> Result<Line, BadLine>
-    ensures fault { IfErr result (λ kind. first_found (request_tests true 0 (fields_in rest.now)) ≡ Some kind) }
+    ensures fault { IfErr result (λ kind. first_found (request_tests true 0 false (fields_in rest.now)) ≡ Some kind) }
     ensures said { IfOk result (λ said. (said ≡ Line.Trace) × (fields_in rest.now ≡ [])) }
 {
     match first_field(rest) {
@@ -116,8 +118,8 @@ fn read_trace(rest: &[u8]) -> Result<Line, BadLine>
 
 // The key of a request that has no value.
 fn read_key(rest: &[u8], begun: bool) -> Result<u32, BadLine>
-    ensures fault { IfErr result (λ kind. first_found (request_tests begun 1 (fields_in rest.now)) ≡ Some kind) }
-    ensures none { OnOk result (first_found (request_tests begun 1 (fields_in rest.now)) ≡ None) }
+    ensures fault { IfErr result (λ kind. first_found (request_tests begun 1 false (fields_in rest.now)) ≡ Some kind) }
+    ensures none { OnOk result (first_found (request_tests begun 1 false (fields_in rest.now)) ≡ None) }
     ensures key { IfOk result (λ key. (key ≡ value_of (field (fields_in rest.now) 0)) × (key ≤ 4294967293)) }
     ensures begun { OnOk result (begun ≡ true) }
 {
@@ -157,9 +159,9 @@ fn value_in_range(value: u64) -> Result<u32, BadLine>
 // What stands behind `put`, a word that a text of format 1 doesn't know.
 fn read_put(rest: &[u8], format: u32, begun: bool) -> Result<Line, BadLine>
     ensures fault { IfErr result (λ kind. first_found ((not (nat_le 2 format), BadLine.UnknownWord)
-        ∷ request_tests begun 2 (fields_in rest.now)) ≡ Some kind) }
+        ∷ request_tests begun 2 false (fields_in rest.now)) ≡ Some kind) }
     ensures none { OnOk result (first_found ((not (nat_le 2 format), BadLine.UnknownWord)
-        ∷ request_tests begun 2 (fields_in rest.now)) ≡ None) }
+        ∷ request_tests begun 2 false (fields_in rest.now)) ≡ None) }
     ensures said { IfOk result (λ said. said
         ≡ Line.Ask (Put (value_of (field (fields_in rest.now) 0)) (value_of (field (fields_in rest.now) 1)))) }
     ensures key { OnOk result (value_of (field (fields_in rest.now) 0) ≤ 4294967293) }
@@ -169,27 +171,53 @@ fn read_put(rest: &[u8], format: u32, begun: bool) -> Result<Line, BadLine>
     if format < 2 {
         return Err(BadLine::UnknownWord);
     }
-    let (key, value) = read_pair(rest, begun)?;
+    let (key, value) = read_pair(rest, begun, false)?;
     Ok(Line::Ask(Op::Put(key, value)))
 }
 
-// The key and the value of an `ins` or a `put`.
-fn read_pair(rest: &[u8], begun: bool) -> Result<(u32, u32), BadLine>
-    ensures fault { IfErr result (λ kind. first_found (request_tests begun 2 (fields_in rest.now)) ≡ Some kind) }
-    ensures none { OnOk result (first_found (request_tests begun 2 (fields_in rest.now)) ≡ None) }
+// What stands behind `mov`, a word that came with format 3.
+fn read_mov(rest: &[u8], format: u32, begun: bool) -> Result<Line, BadLine>
+    ensures fault { IfErr result (λ kind. first_found ((not (nat_le 3 format), BadLine.UnknownWord)
+        ∷ request_tests begun 2 true (fields_in rest.now)) ≡ Some kind) }
+    ensures none { OnOk result (first_found ((not (nat_le 3 format), BadLine.UnknownWord)
+        ∷ request_tests begun 2 true (fields_in rest.now)) ≡ None) }
+    ensures said { IfOk result (λ said. said
+        ≡ Line.Ask (Mov (value_of (field (fields_in rest.now) 0)) (value_of (field (fields_in rest.now) 1)))) }
+    ensures from { OnOk result (value_of (field (fields_in rest.now) 0) ≤ 4294967293) }
+    ensures to { OnOk result (value_of (field (fields_in rest.now) 1) ≤ 4294967293) }
+    ensures format { OnOk result (3 ≤ format) }
+    ensures begun { OnOk result (begun ≡ true) }
+{
+    if format < 3 {
+        return Err(BadLine::UnknownWord);
+    }
+    let (from, to) = read_pair(rest, begun, true)?;
+    Ok(Line::Ask(Op::Mov(from, to)))
+}
+
+// The two numbers of a request: a key, and a second key or a value.
+fn read_pair(rest: &[u8], begun: bool, two_keys: bool) -> Result<(u32, u32), BadLine>
+    ensures fault { IfErr result (λ kind. first_found (request_tests begun 2 two_keys (fields_in rest.now))
+        ≡ Some kind) }
+    ensures none { OnOk result (first_found (request_tests begun 2 two_keys (fields_in rest.now)) ≡ None) }
     ensures key { IfOk result (λ pair. (pair.0 ≡ value_of (field (fields_in rest.now) 0)) × (pair.0 ≤ 4294967293)) }
-    ensures value { IfOk result (λ pair. pair.1 ≡ value_of (field (fields_in rest.now) 1)) }
+    ensures second { IfOk result (λ pair. pair.1 ≡ value_of (field (fields_in rest.now) 1)) }
+    ensures keys { IfOk result (λ pair. two_keys ≡ true → pair.1 ≤ 4294967293) }
     ensures begun { OnOk result (begun ≡ true) }
 {
     if !begun {
         return Err(BadLine::RequestBeforeTrace);
     }
-    let (key, rest) = first_field(rest).ok_or(BadLine::MissingField)?;
-    let (value, rest) = first_field(rest).ok_or(BadLine::MissingField)?;
+    let (first, rest) = first_field(rest).ok_or(BadLine::MissingField)?;
+    let (second, rest) = first_field(rest).ok_or(BadLine::MissingField)?;
     if first_field(rest).is_some() {
         return Err(BadLine::ExtraField);
     }
-    let key = number(key).ok_or(BadLine::BadNumber)?;
-    let value = number(value).ok_or(BadLine::BadNumber)?;
-    Ok((key_in_range(key)?, value_in_range(value)?))
+    let first = number(first).ok_or(BadLine::BadNumber)?;
+    let second = number(second).ok_or(BadLine::BadNumber)?;
+    let key = key_in_range(first)?;
+    if two_keys {
+        return Ok((key, key_in_range(second)?));
+    }
+    Ok((key, value_in_range(second)?))
 }

@@ -51,16 +51,20 @@ fn plain_op(bytes: &[u8], format: u32) -> Option<(Op, &[u8])>
             let (key, value, rest) = plain_pair(numbers)?;
             Some((Op::Put(key, value), rest))
         }
+        Word::Mov => {
+            let (from, to, rest) = plain_pair(numbers)?;
+            Some((Op::Mov(from, to), rest))
+        }
     }
 }
 
-// The key and the value with which the bytes begin, and what stands behind their line.
+// The two numbers with which the bytes begin, and what stands behind their line.
 fn plain_pair(bytes: &[u8]) -> Option<(u32, u32, &[u8])>
     ensures { IfSome result (λ found. BeginWithPair bytes.now found.0 found.1 found.2.now) }
 {
-    let (key, more) = number_before(bytes, b' ')?;
-    let (value, rest) = number_before(more, b'\n')?;
-    Some((key, value, rest))
+    let (first, more) = number_before(bytes, b' ')?;
+    let (second, rest) = number_before(more, b'\n')?;
+    Some((first, second, rest))
 }
 
 // The word with which a request begins.
@@ -70,6 +74,7 @@ enum Word {
     Ins,
     Del,
     Put,
+    Mov,
 }
 
 // The word that these bytes are, with the blank behind it, where the format has it.
@@ -83,6 +88,7 @@ fn word_of(bytes: &[u8], format: u32) -> Option<Word>
         b"ins " => Some(Word::Ins),
         b"del " => Some(Word::Del),
         b"put " if format >= 2 => Some(Word::Put),
+        b"mov " if format >= 3 => Some(Word::Mov),
         _ => None,
     }
 }

@@ -11,7 +11,7 @@ use std::alloc::{AllocError, AllocFailed, Global};
 /// The requests of a text, in its order, how many traces it has, and its format.
 #[derive(Debug, Drop)]
 pub struct Traces {
-    /// The number that its header names, 1 or 2.
+    /// The number that its header names, 1 to 3.
     pub format: u32,
     pub count: u32,
     pub requests: Requests,
@@ -83,9 +83,10 @@ impl Traces {
 pub enum BadLine {
     /// A byte above 127.
     NotAscii,
-    /// The first line that counts is neither `flock 1` nor `flock 2`.
+    /// The first line that counts is neither `flock 1` nor `flock 2` nor `flock 3`.
     NoHeader,
-    /// The first field isn't `trace`, `get`, `ins` or `del`, nor `put` in a text of format 2.
+    /// The first field isn't `trace`, `get`, `ins` or `del`, nor `put` in a text of format 2 or 3, nor `mov` in one of
+    /// format 3.
     UnknownWord,
     /// A request before the first `trace`.
     RequestBeforeTrace,

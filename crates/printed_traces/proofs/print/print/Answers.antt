@@ -1,9 +1,9 @@
-use Rattle.std.proofs.Common.{◌∙◌, List, ℕ, arith, refl, sym, subst}
+use Rattle.std.proofs.Common.{◌∙◌, List, ℕ, refl, sym, subst}
 use Rattle.map_history.specs.Requests.{AreOfFormat1}
 use Rattle.std.proofs.lemmas.Result.{err_from_is_err_and}
 use Rattle.report_text.specs.Sink.{Extends, ExtendsInPart}
 use Rattle.trace_reader.specs.Formats.{format_for}
-use Rattle.trace_reader.proofs.Formats.{first_within, format_for_1}
+use Rattle.trace_reader.proofs.Formats.{format_for_1}
 use Rattle.printed_traces.proofs.Printed.{is_gen_text, is_read}
 use Rattle.printed_traces.proofs.print.print.Goals as goal
 
@@ -24,4 +24,4 @@ returns-clause-read g c =
     let is = is_gen_text c.args.plan.now c.in_ok-traces.traces.count c.as_slice.result.now c.in_ok-text.text.items c.in_ok-text.text.items c.in_ok-traces.ensures.count requests refl c.in_ok-text.ensures.text in
     let first : AreOfFormat1 c.as_slice.result.now = subst AreOfFormat1 (sym c.as_slice.ensures) c.in_ok-traces.ensures.format in
     is_read c.args.plan.now (format_for c.as_slice.result.now) c.in_ok-traces.traces.count c.as_slice.result.now c.in_ok-text.text.items (format_for_1 c.as_slice.result.now first) c.in_ok-traces.ensures.count requests is
-    (c.in_ok-text.ensures.read (first_within 2 c.as_slice.result.now (omega arith) first))
+    c.in_ok-text.ensures.read

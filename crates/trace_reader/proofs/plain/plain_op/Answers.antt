@@ -1,7 +1,7 @@
 use Rattle.std.proofs.Common.{subst, ◌≤◌}
-use Rattle.trace_reader.specs.declared.plain.Word.TheVariants.{Get, Ins, Del, Put}
+use Rattle.trace_reader.specs.declared.plain.Word.TheVariants.{Get, Ins, Del, Put, Mov}
 use Rattle.trace_reader.specs.Plain.{format_of_word}
-use Rattle.trace_reader.proofs.Written.{del_read, get_read, ins_read, put_read, word_first}
+use Rattle.trace_reader.proofs.Written.{del_read, get_read, ins_read, mov_read, put_read, word_first}
 use Rattle.trace_reader.proofs.plain.plain_op.Goals as goal
 
 pub returns-in_ok-key-in-Ins : goal.returns-in_ok-key-in-Ins
@@ -27,3 +27,9 @@ returns-in_ok-key-in-Put c =
     put_read c.args.format c.args.bytes.now c.in_ok-word.numbers.now c.in_ok-key-in-Put.key c.in_ok-key-in-Put.value c.in_ok-key-in-Put.rest.now (subst (λ word. format_of_word word ≤ c.args.format) c.in-Put.is c.in_ok-word_of.ensures.format)
     (word_first c.args.bytes.now c.in_ok-word.word.now c.in_ok-word.numbers.now c.in_ok-word_of.field-0 Put c.in_ok-word.ensures.cases c.in_ok-word_of.ensures.text c.in-Put.is)
     c.in_ok-key-in-Put.ensures
+
+pub returns-in_ok-from-in-Mov : goal.returns-in_ok-from-in-Mov
+returns-in_ok-from-in-Mov c =
+    mov_read c.args.format c.args.bytes.now c.in_ok-word.numbers.now c.in_ok-from-in-Mov.from c.in_ok-from-in-Mov.to c.in_ok-from-in-Mov.rest.now (subst (λ word. format_of_word word ≤ c.args.format) c.in-Mov.is c.in_ok-word_of.ensures.format)
+    (word_first c.args.bytes.now c.in_ok-word.word.now c.in_ok-word.numbers.now c.in_ok-word_of.field-0 Mov c.in_ok-word.ensures.cases c.in_ok-word_of.ensures.text c.in-Mov.is)
+    c.in_ok-from-in-Mov.ensures
