@@ -32,14 +32,14 @@ use Rattle.serving.proofs.Along.{along_begins, may_next}
 use Rattle.serving.proofs.Trying.{same_layout, same_requests}
 use Rattle.serving.proofs.Standing.{answered_more}
 use Rattle.serving.proofs.Tries.{or_none}
-use Rattle.free_serving.specs.Services.{is_get, is_refusal, ByRead, HaltedRead, BothWays, UnderLock, IsEnd, IsReading, IsServing}
+use Rattle.free_serving.specs.Services.{is_get, is_refusal, ByRead, HaltedRead, SpentRead, BothWays, UnderLock, IsEnd, IsReading, IsServing}
 use Rattle.free_serving.specs.Left.{WasReadInVain}
 use Rattle.free_serving.specs.One.{ServesOne}
 use Rattle.free_serving.proofs.Same.{Same}
 use Rattle.free_serving.proofs.Chain.{only_place}
 use Rattle.free_serving.proofs.Light.{most_of_get, attempt_few}
 use Rattle.free_serving.proofs.Onward.{refused_spared}
-use Rattle.free_serving.proofs.Reading.{key_of, done_all, done_halted, cut_leaves, few_made}
+use Rattle.free_serving.proofs.Reading.{key_of, done_all, done_halted, cut_leaves, spent_leaves, few_made}
 use Rattle.free_serving.proofs.Single.{IsWithin, within, single_leaves}
 use Rattle.free_serving.proofs.Both.{both_leaves}
 
@@ -154,13 +154,28 @@ module _ {T : Type 0} (m : Meaning) (laws : Laws m) (planning : Planning) (retry
       left = cut_leaves m planning retry_short q old laws new limits_new allowed_new get Seen halts halts1 asks asks1 steps steps1 read;
     }
 
+    -- or it met a lock with too few versions left
+    pub read_spent : (place word : ℕ) → Reads m planning q (reads.Spent place word) old new Seen halts halts1 asks asks1 steps steps1
+        → ServesOne m planning retry_short q (answers.Spent place word) old new Seen halts asks asks1 steps steps1
+    read_spent place word read = record {
+      service = SpentRead q place word read.made;
+      of_request = refl;
+      is = reading_is (reads.Spent place word) read;
+      ends = refl;
+      counted = read.asked.counted;
+      asked = read.asked.asked;
+      let_go = λ e. absurd (let z = e in cc);
+      let_least = λ e. absurd (let z = e in cc);
+      left = spent_leaves m planning retry_short q old laws new limits_new allowed_new get Seen halts halts1 asks asks1 steps steps1 place word read;
+    }
+
   -- a read that was refused, and left the runner idle
   turned : (answer : Read) (old new : RunnerState T) → is_refusal answer ≡ true → Answers m planning q answer old new → IsTurnedAway m planning q answer old new
   turned (reads.Locked at) old new e is = is
   turned (reads.Busy place word) old new e is = is
   turned (reads.Stale place expected read) old new e is = is
   turned (reads.Far loads) old new e is = is
-  turned (reads.Spent place word) old new e is = is
+  turned (reads.Spent place word) old new e is = absurd (true≢false (sym e))
   turned (reads.Done reply stamp) old new e is = absurd (true≢false (sym e))
   turned reads.Halted old new e is = absurd (true≢false (sym e))
 
@@ -269,15 +284,16 @@ module _ {T : Type 0} (m : Meaning) (laws : Laws m) (planning : Planning) (retry
             few_asks;
       }
 
--- an answer that isn't Done or Halted is a refusal
-pub refusal_of : (answer : Read) → ((reply : Reply) (stamp : ℕ) → answer ≢ reads.Done reply stamp) → (answer ≢ reads.Halted) → is_refusal answer ≡ true
-refusal_of (reads.Done reply stamp) not_done not_halted = absurd (not_done reply stamp refl)
-refusal_of reads.Halted not_done not_halted = absurd (not_halted refl)
-refusal_of (reads.Locked at) not_done not_halted = refl
-refusal_of (reads.Busy place word) not_done not_halted = refl
-refusal_of (reads.Stale place expected read) not_done not_halted = refl
-refusal_of (reads.Far loads) not_done not_halted = refl
-refusal_of (reads.Spent place word) not_done not_halted = refl
+-- an answer that isn't Done, Spent or Halted is a refusal
+pub refusal_of : (answer : Read) → ((reply : Reply) (stamp : ℕ) → answer ≢ reads.Done reply stamp) → ((place word : ℕ) → answer ≢ reads.Spent place word)
+    → (answer ≢ reads.Halted) → is_refusal answer ≡ true
+refusal_of (reads.Done reply stamp) not_done not_spent not_halted = absurd (not_done reply stamp refl)
+refusal_of reads.Halted not_done not_spent not_halted = absurd (not_halted refl)
+refusal_of (reads.Locked at) not_done not_spent not_halted = refl
+refusal_of (reads.Busy place word) not_done not_spent not_halted = refl
+refusal_of (reads.Stale place expected read) not_done not_spent not_halted = refl
+refusal_of (reads.Far loads) not_done not_spent not_halted = refl
+refusal_of (reads.Spent place word) not_done not_spent not_halted = absurd (not_spent place word refl)
 
 -- the gate of a read that wasn't halted is as it was
 pub going_on : (answer : Read) → is_refusal answer ≡ true → not (is_halted answer) ≡ true

@@ -7,21 +7,28 @@ use Rattle.machine_states.specs.structure_laws.specs.Meaning.{Meaning}
 use Rattle.version_words.specs.RunnerState.{RunnerState}
 use Rattle.seq_read.specs.caller_facts.specs.try_lock.specs.Planning.{Planning}
 use Rattle.serving.specs.Serving as serving
-use Rattle.serving.specs.Serving.{Try, Serves}
+use Rattle.serving.specs.Serving.{Try, Stops, Serves}
 use Rattle.serving.specs.declared.answers.Served.{Served}
 use Rattle.serving.specs.declared.answers.Served.TheVariants as answers
-use Rattle.free_serving.specs.Left.{HasStopped, Ends, Leaves}
+use Rattle.free_serving.specs.Left.{StopsAt, HasStopped, Ends, Leaves}
 use Rattle.free_serving.specs.Freely.{ServesAll}
 use Rattle.free_serving.proofs.Single.{runs_few}
 
 module _ {T : Type 0} (m : Meaning) (planning : Planning) (retry_short : Bool) (requests : List Request) (old new : RunnerState T) where
+  stops_so : (answer : Served) (before : RunnerState T) (q : Request) → Stops m planning retry_short answer q before new
+      → StopsAt m planning retry_short answer q before new
+  stops_so answers.All before q is = is
+  stops_so answers.Halted before q is = is
+  stops_so (answers.Short short) before q is = is
+  stops_so (answers.Spent place word) before q is = inl is
+
   stopped_so : (answer : Served) (q : Request) (tries : List Try) → serving.HasStopped m planning retry_short answer q tries old new
       → HasStopped m planning retry_short answer q tries old new
   stopped_so answer q tries is = record {
     before = is.before;
     number = is.knew.number;
     spared = is.spared;
-    stops = is.stops;
+    stops = stops_so answer is.before q is.stops;
     tidy = is.tidy;
     unanswered = is.unanswered;
   }

@@ -193,3 +193,37 @@ module _ {T : Type 0} (m : Meaning) (planning : Planning) (retry_short : Bool) (
         spared = λ all. absurd (let z = all in cc);
         next = λ is_get none was. absurd (unpublished_at written refl none was);
       }
+
+    -- or it met a lock with too few versions left, and the serving stops at it
+    module _ (place word : ℕ) (read : Reads m planning q (reads.Spent place word) old new Seen halts halts' asks asks' steps steps') where
+      unpublished : WasPublished q new → ⊥
+      unpublished (inl section) = no_section new read.answers.tidy.at.published section.0 section.1
+      unpublished (inr answered) = true≢false (sym answered ∙ read.answers.untouched.unknown)
+
+      pub spent_leaves : LeavesOne m planning retry_short q (answers.Spent place word) 0 0 (read.made + 1) [] old new
+      spent_leaves = record {
+        most = omega arith;
+        served = λ one. absurd (let z : 0 ≡ 1 = one in omega (arith, z));
+        ends = (
+          refl,
+          record {
+            before = old;
+            number = refl;
+            spared = λ unwaited was. inr was;
+            stops = inr read.answers;
+            tidy = read.answers.tidy;
+            unanswered = read.answers.untouched.unknown;
+          },
+        );
+        reached = inl read.answers.untouched.reached;
+        knows = read.knows;
+        no_other = read.no_other;
+        least = omega arith;
+        whole = inl refl;
+        brief = inr (record {
+          runs = let same = ap length read.finished in omega (arith, same);
+          few = read_within read.made (slots m old.layout) 1 (few_made (reads.Spent place word) read) (omega arith);
+        });
+        spared = λ all. absurd (let z = all in cc);
+        next = λ is_get none was. absurd (unpublished was);
+      }

@@ -136,7 +136,7 @@ module _ {T : Type 0} (m : Meaning) (laws : Laws m) (planning : Planning) (retry
       before = stopped.before;
       number = stopped.knew.number;
       spared = stopped.spared;
-      stops = stopped.stops;
+      stops = inl stopped.stops;
       tidy = stopped.tidy;
       unanswered = stopped.unanswered;
     }),

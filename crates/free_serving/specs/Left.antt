@@ -15,6 +15,7 @@ use Rattle.seq_read.specs.caller_facts.specs.request_facts.specs.Laws.{HasEntry}
 use Rattle.seq_read.specs.caller_facts.specs.Knowing.{KnowsMore, IsOwn}
 use Rattle.serving.specs.attempt_bounds.specs.Spared.{IsSpared}
 use Rattle.seq_read.specs.Course.{IsRefused}
+use Rattle.seq_read.specs.Reads.{IsTurnedAway}
 use Rattle.seq_read.specs.declared.answers.Read.{Read}
 use Rattle.seq_read.specs.declared.answers.Read.TheVariants as reads
 use Rattle.serving.specs.Serving as serving
@@ -110,8 +111,15 @@ module _ {T : Type 0} where
           → WasReadInVain q old
 
     module _ (retry_short : Bool) where
-      -- the serving stopped at this request, which isn't answered. Before the last attempt of it the runner was as
-      -- `before` says, and it is idle now with an empty hand
+      -- why the serving stopped at this request: an attempt stopped it, or a read met a lock with too few versions left
+      abbrev pub StopsAt : Served → Request → RunnerState T → RunnerState T → Type 0
+      StopsAt (answers.Spent place word) request old new =
+          Stops m planning retry_short (answers.Spent place word) request old new
+          ⊎ IsTurnedAway m planning request (reads.Spent place word) old new
+      StopsAt answer request old new = Stops m planning retry_short answer request old new
+
+      -- the serving stopped at this request, which isn't answered. Before the last attempt or read of it the runner was
+      -- as `before` says, and it is idle now with an empty hand
       pub record HasStopped (answer : Served) (request : Request) (tries : List Try) (old new : RunnerState T)
           : Type 0 where
         pub before : RunnerState T
@@ -120,7 +128,7 @@ module _ {T : Type 0} where
         -- where few slots were retired lately when the serving began, so it was before that attempt, unless another
         -- one came between in one of these attempts, or wants are waited out
         pub spared : retry_short ≡ false → IsSpared old → WasCrossed m planning tries old ⊎ IsSpared before
-        pub stops : Stops m planning retry_short answer request before new
+        pub stops : StopsAt answer request before new
         pub tidy : IsTidy new
         pub unanswered : is_answered new.part.records.known request.number ≡ false
 
@@ -151,7 +159,7 @@ module _ {T : Type 0} where
         -- many more asks, enough for each request that was asked about to the end, but for the ask behind the last one
         pub let_go : answer ≡ answers.Halted → (more : ℕ)
             × (full * least_asks reads_free ≤ more + 1) × Seen halts (asked_on asks more)
-        -- where no other one came between in one of its attempts, so many runs came to their end, and the gate was asked
-        -- at most so often
+        -- where no other one came between in one of its attempts, so many runs came to their end, and the gate was
+        -- asked at most so often
         pub brief : WasCrossed m planning tries old ⊎ IsBrief m answer count old new asks asks'
         pub read : reads_free ≡ true → AreRead requests count old new

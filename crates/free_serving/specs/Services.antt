@@ -21,9 +21,11 @@ abbrev pub is_get : Op → Bool
 is_get (Get key) = true
 is_get _ = false
 
--- a read with this answer served nothing, and the runner left: its request is served under its lock then
+-- a read with this answer served nothing, and the runner left: its request is served under its lock then. Behind a lock
+-- with too few versions left it isn't: there an attempt would stop too
 abbrev pub is_refusal : Read → Bool
 is_refusal (reads.Done reply stamp) = false
+is_refusal (reads.Spent place word) = false
 is_refusal reads.Halted = false
 is_refusal _ = true
 
@@ -33,6 +35,8 @@ pub data Service : Type 0 where
   ByRead : Request → Reply → (stamp made : ℕ) → Service
   -- a gate halted its read behind so many counted steps, with its stamp written or not
   HaltedRead : Request → Bool → (made : ℕ) → Service
+  -- its read met this word of this lock, behind which too few versions are left, in so many counted steps
+  SpentRead : Request → (place word made : ℕ) → Service
   -- its read was refused so, behind so many counted steps; then it was served under its lock, with this answer, by
   -- these attempts
   BothWays : Request → Read → (made : ℕ) → Served → List Try → Service
@@ -42,6 +46,7 @@ pub data Service : Type 0 where
 abbrev pub request_of : Service → Request
 request_of (ByRead request reply stamp made) = request
 request_of (HaltedRead request written made) = request
+request_of (SpentRead request place word made) = request
 request_of (BothWays request answer made served tries) = request
 request_of (UnderLock request served tries) = request
 
@@ -49,6 +54,7 @@ request_of (UnderLock request served tries) = request
 abbrev pub served_by : Service → ℕ
 served_by (ByRead request reply stamp made) = 1
 served_by (HaltedRead request written made) = if written then 1 else 0
+served_by (SpentRead request place word made) = 0
 served_by (BothWays request answer made served tries) = serving.served_in tries
 served_by (UnderLock request served tries) = serving.served_in tries
 
@@ -60,6 +66,7 @@ full_by x = served_by x
 abbrev pub steps_by : Service → ℕ
 steps_by (ByRead request reply stamp made) = made
 steps_by (HaltedRead request written made) = made
+steps_by (SpentRead request place word made) = made
 steps_by (BothWays request answer made served tries) = made + serving.steps_in tries
 steps_by (UnderLock request served tries) = serving.steps_in tries
 
@@ -68,6 +75,7 @@ steps_by (UnderLock request served tries) = serving.steps_in tries
 abbrev pub asks_by : Service → ℕ
 asks_by (ByRead request reply stamp made) = made + 1 + 1
 asks_by (HaltedRead request written made) = made + 1
+asks_by (SpentRead request place word made) = made + 1
 asks_by (BothWays request answer made served tries) =
     made + 1 + (serving.asks_in tries + serving.served_in tries)
 asks_by (UnderLock request served tries) = serving.asks_in tries + serving.served_in tries
@@ -76,6 +84,7 @@ asks_by (UnderLock request served tries) = serving.asks_in tries + serving.serve
 abbrev pub tries_by : Service → List Try
 tries_by (ByRead request reply stamp made) = []
 tries_by (HaltedRead request written made) = []
+tries_by (SpentRead request place word made) = []
 tries_by (BothWays request answer made served tries) = tries
 tries_by (UnderLock request served tries) = tries
 
@@ -104,6 +113,7 @@ is_all _ = false
 abbrev pub goes_on : Service → Bool
 goes_on (ByRead request reply stamp made) = true
 goes_on (HaltedRead request written made) = false
+goes_on (SpentRead request place word made) = false
 goes_on (BothWays request answer made served tries) = is_all served
 goes_on (UnderLock request served tries) = is_all served
 
@@ -111,11 +121,12 @@ abbrev pub GoesOn : List Service → Type 0
 GoesOn [] = Unit {0}
 GoesOn (x ∷ xs) = goes_on x ≡ true
 
--- the serving ended with this answer behind a last service: a gate halted the runner in a read or behind it, or the
--- serving under the lock ended so
+-- the serving ended with this answer behind a last service: a gate halted the runner in a read or behind it, the read
+-- met a lock with too few versions left, or the serving under the lock ended so
 abbrev pub EndsWith : Service → Served → Type 0
 EndsWith (ByRead request reply stamp made) answer = answer ≡ answers.Halted
 EndsWith (HaltedRead request written made) answer = answer ≡ answers.Halted
+EndsWith (SpentRead request place word made) answer = answer ≡ answers.Spent place word
 EndsWith (BothWays request answer made served tries) other = other ≡ served
 EndsWith (UnderLock request served tries) other = other ≡ served
 
@@ -147,6 +158,7 @@ module _ {T : Type 0} (m : Meaning) (planning : Planning) where
     IsService (ByRead request reply stamp made) old new = IsReading request (reads.Done reply stamp) made old new
     IsService (HaltedRead request written made) old new = (is : IsReading request reads.Halted made old new)
         × (written ≡ has_answered m planning request old new is.answers.at)
+    IsService (SpentRead request place word made) old new = IsReading request (reads.Spent place word) made old new
     IsService (BothWays request answer made served tries) old new = (is_refusal answer ≡ true)
         × (mid : RunnerState T) × IsReading request answer made old mid × IsServing request served tries mid new
     IsService (UnderLock request served tries) old new =
@@ -157,6 +169,7 @@ module _ {T : Type 0} (m : Meaning) (planning : Planning) where
     asks_let (ByRead request reply stamp made) old new is = made + 1
     asks_let (HaltedRead request written made) old new is =
         asks_before m planning request reads.Halted old new is.0.answers
+    asks_let (SpentRead request place word made) old new is = made + 1
     asks_let (BothWays request answer made served tries) old new is =
         made + 1 + all_asks_let m planning retry_short (request ∷ []) tries is.1 new is.3.tried
     asks_let (UnderLock request served tries) old new is =

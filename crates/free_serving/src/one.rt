@@ -29,7 +29,7 @@ fn is_get(op: Op) -> bool
 }
 
 /// Serves one request: a `get` is read once, and any other one, or one whose read came to nothing, is served under its
-/// lock.
+/// lock. Where the read met a lock with too few versions left, the serving stops there, as an attempt would.
 ///
 /// `All` comes exactly where the request was answered and no ask halted.
 pub fn serve_one<R: Threads + Wait + Sync, S: Planner, G: Gate, L>(
@@ -64,6 +64,7 @@ pub fn serve_one<R: Threads + Wait + Sync, S: Planner, G: Gate, L>(
                 (runner, Served::Halted)
             }
         }
+        Read::Spent { place, word } => (runner, Served::Spent { place, word }),
         Read::Halted => (runner, Served::Halted),
         _ => serve(rt, table, runner, only, retry_short, gate, steps),
     }

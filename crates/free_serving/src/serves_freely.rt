@@ -47,16 +47,17 @@ fn serve_each<R: Threads + Wait + Sync, S: Planner, G: Gate, L>(
 }
 
 /// Serves a worker's requests in their order: where `reads_free` doesn't hold, as `serve` does. Where it does, each
-/// `get` is read once, without its lock, and the gate asked once more behind a read that served it; a `get` whose read
-/// came to nothing, and each other request, is served by `serve`, under its lock.
+/// `get` is read once, without its lock, and the gate asked once more behind a read that served it; where the read met
+/// a lock with too few versions left, the serving ends with `Spent`. A `get` whose read came to nothing else, and each
+/// other request, is served by `serve`, under its lock.
 ///
 /// The requests are the worker's own, each once, and of each trace in its order; none of them is answered yet. The
 /// worker is idle.
 ///
-/// `All` comes exactly where each request was answered and no ask halted. `Short` and `Spent` are those of the `serve`
-/// that came last, since a read takes no slot and no version, and `Halted` comes only where the gate's count of halts
-/// rose in this call, and with the first halt. The requests behind the one at which it stopped are unserved, and so is
-/// that one at `Short` and `Spent`.
+/// `All` comes exactly where each request was answered and no ask halted. `Short` is that of the `serve` that came
+/// last, since a read takes no slot; `Spent` is that of the read or of the `serve` that came last; and `Halted` comes
+/// only where the gate's count of halts rose in this call, and with the first halt. The requests behind the one at
+/// which it stopped are unserved, and so is that one at `Short` and `Spent`.
 ///
 /// It may wait for other runners, so what is promised holds if it returns. It takes no memory (after Hemminger's
 /// seqlocks, and Ben-David, Blelloch, Wei, *Lock-free locks revisited*, 2022).

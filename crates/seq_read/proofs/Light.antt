@@ -1,7 +1,7 @@
 -- A read of a `get`: its plan loads few cells, and its body changes nothing.
-use Rattle.std.specs.Prelude.{true, false, if◌then◌else◌, Bool}
+use Rattle.std.specs.Prelude.{true, false, if◌then◌else◌, Bool, not, position, Option, Some, None}
 use Rattle.std.specs.List.{list_all}
-use Rattle.std.proofs.Common.{◌≡◌, ℕ, zero, suc, List, [], ◌∷◌, ◌+◌, ◌*◌, ◌≤◌, length, sym, ap, subst, ◌∙◌}
+use Rattle.std.proofs.Common.{◌≡◌, ℕ, zero, suc, List, [], ◌∷◌, ◌+◌, ◌*◌, ◌≤◌, length, refl, sym, ap, subst, ◌∙◌}
 use Rattle.machine_states.specs.map_history.specs.declared.op.Op.TheVariants.{Get}
 use Rattle.machine_states.specs.map_history.specs.declared.op.Request.{Request}
 use Rattle.machine_states.specs.body_terms.specs.Shape.{IsStep, is_look}
@@ -25,6 +25,7 @@ use Rattle.caller_facts.specs.try_lock.specs.Planning.{Planning}
 use Rattle.caller_facts.specs.try_lock.specs.Plans.{IsWalk}
 use Rattle.seq_read.specs.Course.{of_plan, of_lock, HasPlanned, IsRefused, ByPlan, ByBody, ByCell, ByLock}
 use Rattle.seq_read.specs.declared.answers.Read.TheVariants as answers
+use Rattle.seq_read.proofs.Finding.{first_change_is}
 
 -- no refusal of a plan, and no other word of the lock, is told as Locked
 no_plan : (at : ℕ) (refusal : Planned) → answers.Locked at ≡ of_plan refusal → ⊥
@@ -42,6 +43,9 @@ no_lock at thunk word e = by (is_free word) e
     by true e = cc
     by false e = cc
 
+true_false : true ≡ false → ⊥
+true_false e = cc
+
 -- each step of a body that changes nothing
 all_look : (steps : List Step) (i : ℕ) (step : Step) → list_all is_look steps ≡ true → IsStep steps i step → is_look step ≡ true
 all_look [] i step looks here = absurd (cc)
@@ -56,13 +60,27 @@ module _ {T : Type 0} (m : Meaning) (planning : Planning) (light : GetsAreLight 
       (ap planning.serves (sym get) ∙ is.enters.may.served)
       (subst (λ op. IsWalk m planning old.layout op readings) get is.walk)
 
+  -- no step of its body changes anything
+  body_looks : m.is_map ≡ true → (readings : Readings) (thunk : Thunk) (r : RunnerState T)
+      → HasPlanned m planning request readings (plans.Thunk thunk) old r → list_all is_look (m.body thunk) ≡ true
+  body_looks map readings thunk r is =
+      light.looks map old.layout key readings thunk (subst (λ op. m.fits old.layout op readings thunk ≡ true) get is.answers.fits)
+
   pub get_looks : m.is_map ≡ true → (at : ℕ) (cut : RunnerState T) → IsRefused m planning request (answers.Locked at) old cut → ⊥
   get_looks map at cut (ByPlan is) = no_plan at is.refusal is.same
   get_looks map at cut (ByBody change same is) =
-      let looks = light.looks map old.layout key is.readings is.thunk (subst (λ op. m.fits old.layout op is.readings is.thunk ≡ true) get is.plans.answers.fits) in
+      let looks = body_looks map is.readings is.thunk cut is.plans in
       true_false (sym (all_look (m.body is.thunk) change is.first.step looks is.first.here) ∙ is.first.changes)
-    where
-      true_false : true ≡ false → ⊥
-      true_false e = cc
   get_looks map at cut (ByCell place expected read same is) = cc
   get_looks map at cut (ByLock is) = no_lock at is.thunk is.word is.same
+
+  -- so there is no first one that does
+  pub get_changes_none : m.is_map ≡ true → (readings : Readings) (thunk : Thunk) (r : RunnerState T)
+      → HasPlanned m planning request readings (plans.Thunk thunk) old r → position (λ step. not (is_look step)) (m.body thunk) ≡ None
+  get_changes_none map readings thunk r is = by (position (λ step. not (is_look step)) (m.body thunk)) refl
+    where
+      by : (o : Option ℕ) → position (λ step. not (is_look step)) (m.body thunk) ≡ o → o ≡ None
+      by None e = refl
+      by (Some at) e =
+          let first = first_change_is (m.body thunk) at e in
+          absurd (true_false (sym (all_look (m.body thunk) at first.step (body_looks map readings thunk r is) first.here) ∙ first.changes))

@@ -26,6 +26,8 @@ use Rattle.caller_facts.specs.Asking.{MayAttempt, IsMarked}
 use Rattle.seq_read.specs.Wants.{IsFirstChange, IsUnmet}
 use Rattle.seq_read.specs.declared.answers.Read.{Read}
 use Rattle.seq_read.specs.declared.answers.Read.TheVariants as answers
+use Rattle.seq_read.specs.declared.answers.Looked.{Looked}
+use Rattle.seq_read.specs.declared.answers.Looked.TheVariants as looks
 
 -- a refused plan as a read's answer; a thunk is none yet
 abbrev pub of_plan : Planned → Read
@@ -35,6 +37,14 @@ of_plan (plans.Stale place expected read) = answers.Stale place expected read
 of_plan (plans.Far loads) = answers.Far loads
 of_plan (plans.Thunk thunk) = answers.Halted
 of_plan plans.Halted = answers.Halted
+
+-- what a look at a planned body came to, as its read's answer
+abbrev pub read_of : Looked → Read
+read_of (looks.Done reply stamp) = answers.Done reply stamp
+read_of (looks.Locked at) = answers.Locked at
+read_of (looks.Busy place word) = answers.Busy place word
+read_of (looks.Stale place expected read) = answers.Stale place expected read
+read_of looks.Halted = answers.Halted
 
 -- another word of the thunk's lock than the plan's as a read's answer: it names a descriptor, or it is free
 abbrev pub of_lock : Thunk → ℕ → Read

@@ -1,4 +1,6 @@
 //! What a read of a request answers.
+ghost use Rattle.std.specs.Prelude.{◌≡◌};
+ghost use Rattle.seq_read.specs.Course.{read_of};
 
 use machine_states::body_terms::{Place, Word};
 use machine_states::map_history::Reply;
@@ -37,4 +39,48 @@ pub enum Read {
     },
     /// The gate halted the runner.
     Halted,
+}
+
+/// What a look at a planned body came to. Its plan wasn't refused, so it is never `Far` and never `Spent`.
+#[derive(Clone, Copy, Debug, PartialEq, Eq)]
+pub enum Looked {
+    Done {
+        reply: Reply,
+        stamp: u64,
+    },
+    Locked {
+        at: u32,
+    },
+    Busy {
+        place: Place,
+        word: Word,
+    },
+    Stale {
+        place: Place,
+        expected: Word,
+        read: Word,
+    },
+    Halted,
+}
+
+/// What a look came to, as the answer of its read.
+#[inline(always)]
+pub fn as_read(looked: Looked) -> Read
+    ensures { result ≡ read_of looked }
+{
+    match looked {
+        Looked::Done { reply, stamp } => Read::Done { reply, stamp },
+        Looked::Locked { at } => Read::Locked { at },
+        Looked::Busy { place, word } => Read::Busy { place, word },
+        Looked::Stale {
+            place,
+            expected,
+            read,
+        } => Read::Stale {
+            place,
+            expected,
+            read,
+        },
+        Looked::Halted => Read::Halted,
+    }
 }

@@ -1,5 +1,6 @@
 //! One read of a request without a lock.
-ghost use Rattle.std.specs.Prelude.{◌≡◌, ◌≤◌, length};
+ghost use Rattle.std.specs.Prelude.{◌≡◌, ◌≤◌, length, position, not};
+ghost use Rattle.machine_states.specs.body_terms.specs.Shape.{is_look};
 ghost use Rattle.machine_states.specs.structure_laws.specs.Scene.{Readings};
 ghost use Rattle.machine_states.specs.runner_steps.specs.Sections.{reply_in};
 ghost use Rattle.caller_facts.specs.version_words.specs.RunnerState.{RunnerState};
@@ -7,11 +8,11 @@ ghost use Rattle.caller_facts.specs.version_words.specs.TableState.{IsOf};
 ghost use Rattle.caller_facts.specs.try_lock.specs.declared.planned.Planned.TheVariants as plans;
 ghost use Rattle.caller_facts.specs.Counted.{IsSeen};
 ghost use Rattle.caller_facts.specs.Asking.{MayAttempt};
-ghost use Rattle.seq_read.specs.Course.{HasPlanned, HasFound, HasLock, loaded_steps, locked_steps};
+ghost use Rattle.seq_read.specs.Course.{read_of, HasPlanned, HasFound, HasLock, loaded_steps, locked_steps};
 ghost use Rattle.seq_read.specs.Reads.{Reads};
 ghost use Rattle.seq_read.specs.Parts.{Rests};
 
-use crate::answers::Read;
+use crate::answers::{Looked, Read, as_read};
 use crate::bodies::{first_change, reply_of};
 use crate::cells::load_cells;
 use crate::confirming::{announce, load_clock, load_lock, write_reply, write_stamp};
@@ -24,7 +25,7 @@ use caller_facts::runner_gate::Gate;
 use caller_facts::try_lock::Planned;
 use caller_facts::try_lock::commit_log::{Unasked, tell};
 use machine_states::body_terms::{Body, Step, StepKind, Steps, Thunk};
-use machine_states::map_history::{Reply, Request};
+use machine_states::map_history::{Op, Reply, Request};
 use next_steps::looks_are_small;
 
 /// Writes both words of the request, whose lock had its word again behind the load of the clock, and leaves.
@@ -38,7 +39,7 @@ fn answer<S: Planner, G: Gate, L>(
     reply: u64,
     gate: &mut G,
     steps: &mut Steps<L>,
-) -> (Runner<S>, Read)
+) -> (Runner<S>, Looked)
     requires own { IsOf table.now runner }
     requires unmoved { (found : Readings) × (old : RunnerState S)
         × HasLock (S.meaning table.now.structure) (S.planning table.now.structure) request.now thunk.now found clock
@@ -51,22 +52,22 @@ fn answer<S: Planner, G: Gate, L>(
         → Rests (S.meaning table.now.structure) (S.planning table.now.structure) request.now
         (locked_steps (S.meaning table.now.structure) (S.planning table.now.structure) request.now thunk.now found clock
         thunk.now.word old runner locks)
-        result.1 old result.0 (IsSeen G.halts G.asks)
+        (read_of result.1) old result.0 (IsSeen G.halts G.asks)
         (G.halts gate.old) (G.halts gate.new) (G.asks gate.old) (G.asks gate.new) steps.old.count steps.new.count }
 {
     let _ = request;
     looks_are_small(table.structure());
     let (runner, word, going) = write_reply(table, runner, thunk, reply, gate, steps);
     if !going {
-        return (runner, Read::Halted);
+        return (runner, Looked::Halted);
     }
     let (runner, stamp, going) = write_stamp(table, runner, thunk, clock, gate, steps);
     if !going {
-        return (runner, Read::Halted);
+        return (runner, Looked::Halted);
     }
     let runner = exit(table, runner);
     match Reply::from_word(word) {
-        Some(reply) => (runner, Read::Done { reply, stamp }),
+        Some(reply) => (runner, Looked::Done { reply, stamp }),
         None => unreachable!(),
     }
 }
@@ -82,7 +83,7 @@ fn confirm<S: Planner, G: Gate, L>(
     reply: u64,
     gate: &mut G,
     steps: &mut Steps<L>,
-) -> (Runner<S>, Read)
+) -> (Runner<S>, Looked)
     requires own { IsOf table.now runner }
     requires found { (found : Readings) × (old : RunnerState S)
         × HasFound (S.meaning table.now.structure) (S.planning table.now.structure) request.now thunk.now found old
@@ -95,26 +96,49 @@ fn confirm<S: Planner, G: Gate, L>(
         → Rests (S.meaning table.now.structure) (S.planning table.now.structure) request.now
         (loaded_steps (S.meaning table.now.structure) (S.planning table.now.structure) request.now thunk.now found
         old runner finds.loads)
-        result.1 old result.0 (IsSeen G.halts G.asks)
+        (read_of result.1) old result.0 (IsSeen G.halts G.asks)
         (G.halts gate.old) (G.halts gate.new) (G.asks gate.old) (G.asks gate.new) steps.old.count steps.new.count }
 {
     looks_are_small(table.structure());
     let (runner, going) = announce(table, runner, thunk, gate, steps);
     if !going {
-        return (runner, Read::Halted);
+        return (runner, Looked::Halted);
     }
     let (runner, clock, going) = load_clock(table, runner, thunk, gate, steps);
     if !going {
-        return (runner, Read::Halted);
+        return (runner, Looked::Halted);
     }
     let (runner, word, going) = load_lock(table, runner, thunk, gate, steps);
     if !going {
-        return (runner, Read::Halted);
+        return (runner, Looked::Halted);
     }
     if word != thunk.word {
         return (exit(table, runner), lock_moved(thunk, word));
     }
     answer(table, runner, request, thunk, clock, reply, gate, steps)
+}
+
+/// Where the first step of the planned thunk's body stands that changes something, if one does. The body of a `get`
+/// isn't looked through: where the structure serves the map, it changes nothing.
+#[inline(always)]
+fn change_in<S: Planner>(
+    table: &FlockTable<S>,
+    request: &Request,
+    thunk: &Thunk,
+    body: &[Step],
+) -> Option<usize>
+    requires planned { (readings : Readings) × (old : RunnerState S) × (r : RunnerState S)
+        × HasPlanned (S.meaning table.now.structure) (S.planning table.now.structure) request.now readings
+        (plans.Thunk thunk.now) old r }
+    requires body { body.now ≡ (S.meaning table.now.structure).body thunk.now }
+    ensures { result ≡ position (λ step. not (is_look step)) body.now }
+{
+    let _ = table;
+    let _ = thunk;
+    match request.op {
+        Op::Get(_) if S::MAP => None,
+        _ => first_change(body),
+    }
 }
 
 /// Looks at the body of the thunk that was planned, which is handed in: where it changes nothing, its cells are loaded
@@ -128,7 +152,7 @@ fn look_at<S: Planner, G: Gate, L>(
     body: &[Step],
     gate: &mut G,
     steps: &mut Steps<L>,
-) -> (Runner<S>, Read)
+) -> (Runner<S>, Looked)
     requires own { IsOf table.now runner }
     requires planned { (readings : Readings) × (old : RunnerState S)
         × HasPlanned (S.meaning table.now.structure) (S.planning table.now.structure) request.now readings
@@ -140,18 +164,18 @@ fn look_at<S: Planner, G: Gate, L>(
         → HasPlanned (S.meaning table.now.structure) (S.planning table.now.structure) request.now readings
         (plans.Thunk thunk.now) old runner
         → Rests (S.meaning table.now.structure) (S.planning table.now.structure) request.now (length readings)
-        result.1 old result.0 (IsSeen G.halts G.asks)
+        (read_of result.1) old result.0 (IsSeen G.halts G.asks)
         (G.halts gate.old) (G.halts gate.new) (G.asks gate.old) (G.asks gate.new) steps.old.count steps.new.count }
 {
-    if let Some(at) = first_change(body) {
-        return (exit(table, runner), Read::Locked { at: at as u32 });
+    if let Some(at) = change_in(table, request, thunk, body) {
+        return (exit(table, runner), Looked::Locked { at: at as u32 });
     }
     let (runner, missed, going) = load_cells(table, runner, body, gate, steps);
     if !going {
-        return (runner, Read::Halted);
+        return (runner, Looked::Halted);
     }
     if let Some(missed) = missed {
-        let stale = Read::Stale {
+        let stale = Looked::Stale {
             place: missed.place,
             expected: missed.expected,
             read: missed.read,
@@ -171,7 +195,7 @@ fn look_asked<S: Planner, G: Gate, L>(
     body: &[Step],
     gate: &mut G,
     steps: &mut Steps<L>,
-) -> (Runner<S>, Read)
+) -> (Runner<S>, Looked)
     requires own { IsOf table.now runner }
     requires planned { (readings : Readings) × (old : RunnerState S)
         × HasPlanned (S.meaning table.now.structure) (S.planning table.now.structure) request.now readings
@@ -183,7 +207,7 @@ fn look_asked<S: Planner, G: Gate, L>(
         → HasPlanned (S.meaning table.now.structure) (S.planning table.now.structure) request.now readings
         (plans.Thunk thunk.now) old runner
         → Rests (S.meaning table.now.structure) (S.planning table.now.structure) request.now (length readings)
-        result.1 old result.0 (IsSeen G.halts G.asks)
+        (read_of result.1) old result.0 (IsSeen G.halts G.asks)
         (G.halts gate.old) (G.halts gate.new) (G.asks gate.old) (G.asks gate.new) steps.old.count steps.new.count }
 {
     if !gate.is_free() {
@@ -205,7 +229,7 @@ fn look_anew<S: Planner, G: Gate, L>(
     thunk: &Thunk,
     gate: &mut G,
     steps: &mut Steps<L>,
-) -> (Runner<S>, Read)
+) -> (Runner<S>, Looked)
     requires own { IsOf table.now runner }
     requires planned { (readings : Readings) × (old : RunnerState S)
         × HasPlanned (S.meaning table.now.structure) (S.planning table.now.structure) request.now readings
@@ -215,7 +239,7 @@ fn look_anew<S: Planner, G: Gate, L>(
         → HasPlanned (S.meaning table.now.structure) (S.planning table.now.structure) request.now readings
         (plans.Thunk thunk.now) old runner
         → Rests (S.meaning table.now.structure) (S.planning table.now.structure) request.now (length readings)
-        result.1 old result.0 (IsSeen G.halts G.asks)
+        (read_of result.1) old result.0 (IsSeen G.halts G.asks)
         (G.halts gate.old) (G.halts gate.new) (G.asks gate.old) (G.asks gate.new) steps.old.count steps.new.count }
 {
     let mut body = Body::empty();
@@ -241,7 +265,7 @@ fn look<S: Planner, G: Gate, L>(
     thunk: &Thunk,
     gate: &mut G,
     steps: &mut Steps<L>,
-) -> (Runner<S>, Read)
+) -> (Runner<S>, Looked)
     requires own { IsOf table.now runner }
     requires planned { (readings : Readings) × (old : RunnerState S)
         × HasPlanned (S.meaning table.now.structure) (S.planning table.now.structure) request.now readings
@@ -251,7 +275,7 @@ fn look<S: Planner, G: Gate, L>(
         → HasPlanned (S.meaning table.now.structure) (S.planning table.now.structure) request.now readings
         (plans.Thunk thunk.now) old runner
         → Rests (S.meaning table.now.structure) (S.planning table.now.structure) request.now (length readings)
-        result.1 old result.0 (IsSeen G.halts G.asks)
+        (read_of result.1) old result.0 (IsSeen G.halts G.asks)
         (G.halts gate.old) (G.halts gate.new) (G.asks gate.old) (G.asks gate.new) steps.old.count steps.new.count }
 {
     let Some(mut room) = runner.take_room() else {
@@ -312,7 +336,10 @@ pub fn read<S: Planner, G: Gate, L>(
     }
     let (runner, planned) = table.structure().plan(table, runner, request, gate, steps);
     match planned {
-        Planned::Thunk(thunk) => look(table, runner, request, &thunk, gate, steps),
+        Planned::Thunk(thunk) => {
+            let (runner, looked) = look(table, runner, request, &thunk, gate, steps);
+            (runner, as_read(looked))
+        }
         Planned::Halted => (runner, Read::Halted),
         refused => (exit(table, runner), plan_refused(refused)),
     }

@@ -1,8 +1,8 @@
 //! Refusals as answers of a read.
 ghost use Rattle.std.specs.Prelude.{◌≡◌};
-ghost use Rattle.seq_read.specs.Course.{of_plan, of_lock};
+ghost use Rattle.seq_read.specs.Course.{read_of, of_plan, of_lock};
 
-use crate::answers::Read;
+use crate::answers::{Looked, Read};
 use caller_facts::try_lock::Planned;
 use machine_states::body_terms::{Thunk, Word};
 
@@ -27,18 +27,18 @@ pub fn plan_refused(planned: Planned) -> Read
     }
 }
 
-/// Another word of the thunk's lock than that of the plan as a read's answer.
-pub fn lock_moved(thunk: &Thunk, word: Word) -> Read
-    ensures { result ≡ of_lock thunk.now word }
+/// Another word of the thunk's lock than that of the plan as what a look came to.
+pub fn lock_moved(thunk: &Thunk, word: Word) -> Looked
+    ensures { read_of result ≡ of_lock thunk.now word }
 {
     if word.value() == 0 {
-        Read::Stale {
+        Looked::Stale {
             place: thunk.lock,
             expected: thunk.word,
             read: word,
         }
     } else {
-        Read::Busy {
+        Looked::Busy {
             place: thunk.lock,
             word,
         }

@@ -28,7 +28,7 @@ use Rattle.attempt_bounds.specs.attempts.specs.epoch_slots.proofs.Outside.{reads
 use Rattle.attempt_bounds.specs.attempts.specs.try_lock.specs.declared.planned.Planned.{Planned}
 use Rattle.attempt_bounds.specs.attempts.specs.try_lock.specs.declared.planned.Planned.TheVariants as plans
 use Rattle.attempt_bounds.specs.attempts.specs.try_lock.specs.Planning.{Planning}
-use Rattle.attempt_bounds.specs.attempts.specs.try_lock.specs.Plans.{refused_at, refused_by_lock}
+use Rattle.attempt_bounds.specs.attempts.specs.try_lock.specs.Plans.{refused_at, refused_by_lock, IsRefused, HasWalked}
 use Rattle.attempt_bounds.specs.attempts.specs.try_lock.specs.Publishes.{refused_by}
 use Rattle.attempt_bounds.specs.attempts.specs.try_lock.proofs.Guarding.{guard_at, guard_reads, guard_keeps}
 use Rattle.attempt_bounds.specs.attempts.specs.Course.{of_plan, of_refusal, of_outcome, HasPlanned, HasTried, HasLeft}
@@ -106,46 +106,57 @@ refused_found l expected found word = by (is_free found) (is_spent l.version_max
     by true false late e = absurd (let z = e in cc)
     by false spent late e = absurd (let z = e in cc)
 
-module _ {T : Type 0} (m : Meaning) (planning : Planning) (request : Request) (place word : ℕ) (old new : RunnerState T)
-    (layout : new.layout ≡ old.layout) (away : IsTurnedAway m planning request (attempts.Spent place word) old new) where
+module _ {T : Type 0} (m : Meaning) (place word : ℕ) (new : RunnerState T) where
   -- it is a lock's free word that the runner has read since it entered, behind which too few versions are left
-  abbrev WasRead : Type 0
+  abbrev pub WasRead : Type 0
   WasRead = (m.is_lock place ≡ true) × (is_free word ≡ true) × IsLate new.layout word × (has_pair new.part.reads.cells place word ≡ true)
 
-  -- or by which a section left that it has run to its end
-  abbrev HasEnded : Type 0
-  HasEnded = (i : ℕ) × (f : FinishedState) × (slice_get new.part.records.finished i ≡ Some f) × (f.outcome ≡ outcomes.Spent place word)
+  module _ (cut : RunnerState T) (exits : Exits m cut new) (resting : cut.part.run ≡ None) where
+    -- the exit keeps what was read
+    reads_kept : new.part.reads ≡ cut.part.reads
+    reads_kept = reads_made m kinds.Idle exits.announce.found cut new exits.announce.event resting
 
+    was_read : (l : Layout) (p w : ℕ) → l ≡ new.layout → p ≡ place → w ≡ word → m.is_lock p ≡ true → is_free w ≡ true → IsLate l w
+        → has_pair cut.part.reads.cells p w ≡ true → WasRead
+    was_read l p w same is_place is_word lock free late has = (
+      subst (λ k. m.is_lock k ≡ true) is_place lock,
+      subst (λ k. is_free k ≡ true) is_word free,
+      subst (λ k. IsLate k word) same (subst (IsLate l) is_word late),
+      (λ i. has_pair (reads_kept i).cells (sym is_place i) (sym is_word i)) ∙ has,
+    )
+
+    -- by it a plan was refused, behind whose loads the runner left
+    pub plan_read : (planning : Planning) (l : Layout) (op : Op) (readings : Readings) (p w : ℕ) (entered : RunnerState T) → HasWalked m readings entered cut
+        → IsRefused m planning l op readings (plans.Spent p w) → l ≡ new.layout → p ≡ place → w ≡ word → WasRead
+    plan_read planning l op readings p w entered walked why same is_place is_word =
+        let is = refused_spent m planning l op why.before why.place why.word p w why.cause in
+        was_read l why.place why.word same (is.0 ∙ is_place) (is.1 ∙ is_word) is.4 is.2 is.3
+        (ap (λ (r : ReadsState). has_pair r.cells why.place why.word) walked.reads
+        ∙ has_more entered.part.reads.cells readings why.place why.word
+        (ap (λ xs. has_pair xs why.place why.word) why.last ∙ has_more why.before ((why.place, why.word) ∷ []) why.place why.word (has_here why.place why.word)))
+
+module _ {T : Type 0} (m : Meaning) (planning : Planning) (request : Request) (place word : ℕ) (old new : RunnerState T)
+    (layout : new.layout ≡ old.layout) (away : IsTurnedAway m planning request (attempts.Spent place word) old new) where
   abbrev cut : RunnerState T
   cut = away.cut
 
   exits : Exits m cut new
   exits = away.leaves
 
-  -- the exit keeps what was read
-  reads_kept : cut.part.run ≡ None → new.part.reads ≡ cut.part.reads
-  reads_kept resting = reads_made m kinds.Idle exits.announce.found cut new exits.announce.event resting
+  -- it is a word that the runner has read
+  abbrev IsRead : Type 0
+  IsRead = WasRead m place word new
 
-  of_read : (l : Layout) (p w : ℕ) → l ≡ old.layout → p ≡ place → w ≡ word → m.is_lock p ≡ true → is_free w ≡ true → IsLate l w → cut.part.run ≡ None
-      → has_pair cut.part.reads.cells p w ≡ true → WasRead
-  of_read l p w same is_place is_word lock free late resting has = (
-    subst (λ k. m.is_lock k ≡ true) is_place lock,
-    subst (λ k. is_free k ≡ true) is_word free,
-    subst (λ k. IsLate k word) (same ∙ sym layout) (subst (IsLate l) is_word late),
-    (λ i. has_pair (reads_kept resting i).cells (sym is_place i) (sym is_word i)) ∙ has,
-  )
+  -- or by which a section left that it has run to its end
+  abbrev HasEnded : Type 0
+  HasEnded = (i : ℕ) × (f : FinishedState) × (slice_get new.part.records.finished i ≡ Some f) × (f.outcome ≡ outcomes.Spent place word)
 
   by_plan : (readings : Readings) (refusal : Planned) → HasPlanned m planning request readings refusal old cut
-      → attempts.Spent place word ≡ of_plan refusal → WasRead
+      → attempts.Spent place word ≡ of_plan refusal → IsRead
   by_plan readings (plans.Spent p w) planned same =
-      let why = planned.answers in
-      let is = refused_spent m planning old.layout request.op why.before why.place why.word p w why.cause in
       let ends = spent_same place p word w same in
-      of_read old.layout why.place why.word refl (is.0 ∙ sym ends.0) (is.1 ∙ sym ends.1) is.4 is.2 is.3
-      (planned.walked.at planned.enters.enters.epoch None planned.enters.enters.at).resting
-      (ap (λ (r : ReadsState). has_pair r.cells why.place why.word) planned.walked.reads
-      ∙ has_more planned.entered.part.reads.cells readings why.place why.word
-      (ap (λ xs. has_pair xs why.place why.word) why.last ∙ has_more why.before ((why.place, why.word) ∷ []) why.place why.word (has_here why.place why.word)))
+      plan_read m place word new cut exits (planned.walked.at planned.enters.enters.epoch None planned.enters.enters.at).resting
+      planning old.layout request.op readings p w planned.entered planned.walked planned.answers (sym layout) (sym ends.0) (sym ends.1)
   by_plan readings (plans.Busy p w) planned same = absurd (let z = same in cc)
   by_plan readings (plans.Stale p expected read) planned same = absurd (let z = same in cc)
   by_plan readings (plans.Far loads) planned same = absurd (let z = same in cc)
@@ -153,7 +164,7 @@ module _ {T : Type 0} (m : Meaning) (planning : Planning) (request : Request) (p
   by_plan readings plans.Halted planned same = absurd (let z = same in cc)
 
   by_lock_word : (thunk : Thunk) (refusal : Refused) (guarded : RunnerState T) → HasTried m planning request thunk (Err refusal) old guarded
-      → IsMade m (kinds.Guard None) guarded cut → m.is_lock thunk.lock ≡ true → attempts.Spent place word ≡ of_refusal thunk.lock refusal → WasRead
+      → IsMade m (kinds.Guard None) guarded cut → m.is_lock thunk.lock ≡ true → attempts.Spent place word ≡ of_refusal thunk.lock refusal → IsRead
   by_lock_word thunk (refusals.Spent w) guarded tried goes lock same =
       let publishes = tried.publishes in
       let refused = publishes.refused in
@@ -161,8 +172,8 @@ module _ {T : Type 0} (m : Meaning) (planning : Planning) (request : Request) (p
       let ends = spent_same place thunk.lock word w same in
       let epoch = tried.plans.enters.enters.epoch in
       let at = refused.at epoch (tried.plans.walked.at epoch None tried.plans.enters.enters.at) in
-      of_read tried.planned.layout thunk.lock publishes.found tried.plans.still.layout (sym ends.0) (is.0 ∙ sym ends.1) lock is.1 is.2
-      (guard_at m None goes.found guarded cut goes.event epoch at).resting
+      was_read m place word new cut exits (guard_at m None goes.found guarded cut goes.event epoch at).resting
+      tried.planned.layout thunk.lock publishes.found (tried.plans.still.layout ∙ sym layout) (sym ends.0) (is.0 ∙ sym ends.1) lock is.1 is.2
       (ap (λ (s : ReadsState). has_pair s.cells thunk.lock publishes.found) (guard_reads m None goes.found guarded cut goes.event at.resting)
       ∙ (ap (λ xs. has_pair xs thunk.lock publishes.found) publishes.read
       ∙ has_more tried.planned.part.reads.cells ((thunk.lock, publishes.found) ∷ []) thunk.lock publishes.found (has_here thunk.lock publishes.found)))
@@ -187,7 +198,7 @@ module _ {T : Type 0} (m : Meaning) (planning : Planning) (request : Request) (p
   by_section thunk (outcomes.Answered reply) left same = absurd (let z = same in cc)
 
   -- what the runner keeps of the word by which it was turned away
-  pub spent_is_kept : WasRead ⊎ HasEnded
+  pub spent_is_kept : IsRead ⊎ HasEnded
   spent_is_kept = ⊎_elim
       (λ plan. inl (by_plan plan.readings plan.refusal plan.plans plan.same))
       (λ rest. ⊎_elim

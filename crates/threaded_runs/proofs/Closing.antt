@@ -50,6 +50,7 @@ use Rattle.free_serving.specs.resource_bounds.specs.Makes.{added, slots_left}
 use Rattle.threaded_runs.specs.Runs.{stamp_of, AreEntered, AreWornOut, IsShortOf, HasServed}
 use Rattle.threaded_runs.specs.Counts.{halted}
 use Rattle.threaded_runs.proofs.Picked.{front_only}
+use Rattle.threaded_runs.proofs.Spending.{kept_read}
 use Rattle.threaded_runs.proofs.Stopping.{IsKeptSpent, kept_spent}
 use mathlib.Core.Path.{fun_ext}
 use Rattle.machine_states.specs.body_terms.specs.Memory.{cell_of}
@@ -439,7 +440,9 @@ module _ {T : Type 0} (m : Meaning) (t : TableState T) (keeper : RunnerState T) 
           count = count;
           entered = entered_stopped stopped.tidy.at.published (λ q e. same_request ends.0 q ends.1 e stopped.unanswered);
           cause = slice_get_within own count ends.0 ends.1;
-          shown = spent_at place word (kept_spent m planning ends.0 place word stopped.before new stopped.stops);
+          shown = spent_at place word (⊎_elim
+              (kept_spent m planning ends.0 place word stopped.before new)
+              (kept_read m planning ends.0 place word stopped.before new) stopped.stops);
         },
         no_more (answers.Spent place word) whole,
         inl refl,

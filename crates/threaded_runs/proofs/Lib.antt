@@ -3,11 +3,11 @@ mod Counting
 mod Seats
 mod Owning
 mod Stopping
+mod Spending
 mod Asked
 mod Gates
 pub mod Sparing
 mod Closing
 mod Ending
 mod Alone
-mod Spending
 mod Lone

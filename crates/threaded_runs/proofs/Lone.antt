@@ -1,6 +1,6 @@
 -- The end of a run with one worker.
 use Rattle.std.specs.Prelude.{◌*◌, Bool, slice_get, ◌==◌, not, count_by}
-use Rattle.std.proofs.Common.{◌≡◌, ◌≢◌, ℕ, ◌+◌, ◌^◌, ◌<◌, ◌≤◌, List, length, refl, sym, ap, ◌∙◌, subst, arith, ⊎_elim, inl, inr, true, false, Option, Some, get_or, ne_eqb}
+use Rattle.std.proofs.Common.{◌≡◌, ◌≢◌, ℕ, ◌+◌, ◌^◌, ◌<◌, ◌≤◌, List, length, refl, sym, ap, ◌∙◌, subst, arith, ⊎_elim, true, false, Option, Some, get_or, ne_eqb}
 use Rattle.std.proofs.lemmas.Nat.{mul-le}
 use Rattle.std.proofs.lemmas.Option.{slice_get-get_or, get_or_from_slice_get}
 use Rattle.machine_states.specs.map_history.specs.declared.op.Request.{Request}
@@ -49,8 +49,7 @@ use Rattle.threaded_runs.specs.declared.job.Finished.{Finished}
 use Rattle.threaded_runs.specs.Own.{own_requests}
 use Rattle.threaded_runs.specs.Jobs.{AllSeated, AllGiven, AllRun, AllKept, HasRun, IsSeated, asks_counted}
 use Rattle.threaded_runs.specs.Asks.{AsksAlone}
-use Rattle.threaded_runs.specs.Lone.{AreServedAlone, ReachesSpent, ReadsAlone}
-use Rattle.threaded_runs.proofs.Spending.{read_spent}
+use Rattle.threaded_runs.specs.Lone.{AreServedAlone, ReadsAlone}
 use Rattle.threaded_runs.specs.Runs.{AreEntered, HasServed, served_in, stamp_of}
 use Rattle.threaded_runs.proofs.Seats.{some_of}
 use Rattle.threaded_runs.proofs.Closing.{end, known_entry, part_is}
@@ -179,14 +178,13 @@ module _ {T H : Type 0} (m : Meaning) (planning : Planning) (retry_short reads_f
       (asks_of_one asks before finished (some_of finished 0 (subst (λ (n : ℕ). 0 < n) (sym back) seat)) (back ∙ (as_many ∙ one)))
       (few_asks (ap (λ (a : Asks). a.count) (given 0 (some_of jobs 0 seat) seat)))
 
-  -- where each `get` is read first, each that has an entry has a read's stamp, or its read met a lock with too few versions
-  -- left
+  -- where each `get` is read first, each that has an entry has a read's stamp: no read came to nothing
   module _ (reads_go : LoneReadsAreServed T m planning) where
     own_is : own_requests t.layout.runners 0 t.requests ≡ w.requests
     own_is = ap (λ n. own_requests n 0 t.requests) one ∙ (all_own t.requests ∙ sym closing.requests)
 
-    met_spent : (q : Request) (r : RunnerState T) → r.layout ≡ t.layout → r.requests ≡ t.requests → WasReadInVain m planning q r → ReachesSpent m w.layout w.requests
-    met_spent q r layout requests vain = by vain.answer refl
+    not_in_vain : (q : Request) (r : RunnerState T) → r.layout ≡ t.layout → r.requests ≡ t.requests → WasReadInVain m planning q r → ⊥
+    not_in_vain q r layout requests vain = by vain.answer refl
       where
         was : IsRefused m planning q vain.answer vain.refused.before vain.refused.cut
         was = vain.refused.refused
@@ -200,21 +198,17 @@ module _ {T H : Type 0} (m : Meaning) (planning : Planning) (retry_short reads_f
         nobody : ReadMetNobody vain.answer
         nobody = reads_go.refused q vain.answer vain.refused.before vain.refused.cut reader was
 
-        by : (a : Read) → vain.answer ≡ a → ReachesSpent m w.layout w.requests
-        by (reads.Spent place word) e =
-            subst (λ (l : Layout). ReachesSpent m l w.requests) (vain.refused.layout ∙ (layout ∙ sym closing.layout))
-            (subst (λ (rs : List Request). ReachesSpent m vain.refused.before.layout rs) (vain.refused.requests ∙ (requests ∙ sym closing.requests))
-            (read_spent m planning q vain.refused.before vain.refused.cut place word
-            (subst (λ (a : Read). IsRefused m planning q a vain.refused.before vain.refused.cut) e was)))
+        by : (a : Read) → vain.answer ≡ a → ⊥
         by (reads.Busy place word) e = absurd (subst ReadMetNobody e nobody)
         by (reads.Stale place expected read) e = absurd (subst ReadMetNobody e nobody)
         by (reads.Far loads) e = absurd (subst ReadMetNobody e nobody)
         by (reads.Locked step) e = absurd (vain.looks lawful.planner.serves step e)
         by (reads.Done reply stamp) e = absurd (let z = sym (ap is_refusal e) ∙ vain.refusal in cc)
+        by (reads.Spent place word) e = absurd (let z = sym (ap is_refusal e) ∙ vain.refusal in cc)
         by reads.Halted e = absurd (let z = sym (ap is_refusal e) ∙ vain.refusal in cc)
 
     pub reads_alone : ReadsAlone m w reads_free
-    reads_alone free only i key q there get some = ⊎_elim inl (λ vain. inr (met_spent q vain.0 vain.1 vain.2 vain.3))
+    reads_alone free only i key q there get some = ⊎_elim (λ odd. odd) (λ vain. absurd (not_in_vain q vain.0 vain.1 vain.2 vain.3))
         (read_so m planning retry_short reads_free t lawful gathered keeper w own number settles closing halts asks jobs finished answers each as_many back seated run kept history 0 low
         free i q (ap (λ (rs : List Request). slice_get rs i) own_is ∙ there) (ap is_get get) some)
 

@@ -34,9 +34,9 @@ module _ {T H : Type 0} (m : Meaning) (w : WordsState T) (reads_free : Bool) (ha
       × IsSeen halts asks 0 (asked_on (unasked_of worker (slice_index_or entries worker None)) more)
 
   -- this is the gate that was given out for the worker with its entry of these, and the one that it asked: it halted
-  -- once where the worker was halted, so at its last ask, and else never; and it was asked so often at least for each of
-  -- the worker's served requests, but for one at most where it was halted, whose section somebody may have run to its
-  -- end
+  -- once where the worker was halted, so at its last ask, and else never; and it was asked so often at least for each
+  -- of the worker's served requests, but for one at most where it was halted, whose section somebody may have run to
+  -- its end
   pub record IsGateOf (entries : List (Option ℕ)) (worker : ℕ) (answer : Served) (gate : H) : Type 0 where
     pub given : (asks gate).plan ≡ Some (record { runner = worker; halt = slice_index_or entries worker None })
     pub stopped : answer ≡ answers.Halted → halts gate ≡ 1

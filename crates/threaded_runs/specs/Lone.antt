@@ -1,15 +1,11 @@
 -- What a run leaves where there is one worker.
-use Rattle.std.specs.Prelude.{◌≡◌, ◌≢◌, ℕ, ◌+◌, ◌*◌, ◌%◌, ◌≤◌, ◌⊎◌, Bool, true, List, length, Some, slice_get}
+use Rattle.std.specs.Prelude.{◌≡◌, ◌≢◌, ℕ, ◌+◌, ◌*◌, ◌%◌, ◌≤◌, Bool, true, List, length, Some, slice_get}
 use Rattle.machine_states.specs.map_history.specs.declared.op.Op.TheVariants.{Get}
 use Rattle.machine_states.specs.map_history.specs.declared.op.Request.{Request}
 use Rattle.map_sizes.specs.Sizes.{peak}
-use Rattle.machine_states.specs.body_terms.specs.Word.{version_of, is_free, is_spent}
-use Rattle.machine_states.specs.table_words.specs.declared.layout.Layout.{Layout}
+use Rattle.machine_states.specs.body_terms.specs.Word.{version_of}
 use Rattle.machine_states.specs.table_words.specs.declared.spot.Spot.TheVariants.{Cell}
 use Rattle.machine_states.specs.structure_laws.specs.Meaning.{Meaning}
-use Rattle.machine_states.specs.World.{World}
-use Rattle.machine_states.specs.Reached.{Reached}
-use Rattle.machine_states.specs.Sight.{sight}
 use Rattle.version_words.specs.TableState.{WordsState, word_of}
 use Rattle.settled_tables.specs.settling.specs.epoch_slots.specs.declared.reserves.Kind.TheVariants as kinds
 use Rattle.settled_tables.specs.settling.specs.epoch_slots.specs.declared.reserves.Short.{Short}
@@ -36,19 +32,9 @@ module _ {T : Type 0} (m : Meaning) (per_pair : ℕ) (w : WordsState T) where
   abbrev pub ServesAlone : List Served → Type 0
   ServesAlone given = w.layout.runners ≡ 1 → slice_get given 0 ≢ Some answers.Halted → AreServedAlone given
 
--- the machine reaches a state over these requests in which a lock is free and has too few versions left
-pub record ReachesSpent (m : Meaning) (layout : Layout) (requests : List Request) : Type 0 where
-  pub world : World
-  pub reached : Reached m layout requests world
-  pub place : ℕ
-  pub lock : m.is_lock place ≡ true
-  pub free : is_free ((sight m layout requests world).word (Cell place)) ≡ true
-  pub spent : is_spent layout.version_max ((sight m layout requests world).word (Cell place)) ≡ true
-
 module _ {T : Type 0} (m : Meaning) (w : WordsState T) where
   -- with one worker, where each `get` is read first: each `get` that has an entry has a read's stamp, an odd one,
-  -- whatever the worker answered; unless its read met such a lock, and its section was run all the same
+  -- whatever the worker answered
   abbrev pub ReadsAlone : Bool → Type 0
   ReadsAlone reads_free = reads_free ≡ true → w.layout.runners ≡ 1 → (i key : ℕ) (q : Request)
-      → slice_get w.requests i ≡ Some q → q.op ≡ Get key → stamp_of m w q ≢ 0
-      → (stamp_of m w q % 2 ≡ 1) ⊎ ReachesSpent m w.layout w.requests
+      → slice_get w.requests i ≡ Some q → q.op ≡ Get key → stamp_of m w q ≢ 0 → stamp_of m w q % 2 ≡ 1

@@ -6,7 +6,7 @@ use Rattle.seq_read.specs.caller_facts.specs.Counted.{IsSeen}
 use Rattle.std.specs.Prelude.{not}
 use Rattle.seq_read.specs.Reads.{is_halted, Reads}
 use Rattle.serving.specs.Serving.{MayServe, Serves}
-use Rattle.free_serving.proofs.Each.{may_attempt, under_lock, read_all, read_then_halted, read_halted, may_still, both_ways, refusal_of, going_on}
+use Rattle.free_serving.proofs.Each.{may_attempt, under_lock, read_all, read_then_halted, read_halted, read_spent, may_still, both_ways, refusal_of, going_on}
 use Rattle.free_serving.proofs.one.serve_one.Goals as goal
 
 pub returns-then-not-is_get-clause-one : goal.returns-then-not-is_get-clause-one
@@ -37,7 +37,7 @@ serve-requires-in_default-clause-next g c κs within =
     subst (λ (qs : List Request). MayServe planning qs c.read-runner.result.0) (sym c.from_ref-only.ensures.value)
     (may_still m (met.laws t.structure) planning c.args.retry_short c.args.request.now t (c.requires.own.limits _ refl) (c.requires.own.allowed _ refl)
     (sym c.if-not-is_get.ensures) c.args.runner c.read-runner.result.0 c.requires.own c.read-runner.ensures.own c.requires.next
-    (IsSeen g.G.Gate.halts g.G.Gate.asks) _ _ _ _ _ _ c.read-runner.result.1 (refusal_of c.read-runner.result.1 c.in_default.not-Done c.in_default.not-Halted) c.read-runner.ensures.reads)
+    (IsSeen g.G.Gate.halts g.G.Gate.asks) _ _ _ _ _ _ c.read-runner.result.1 (refusal_of c.read-runner.result.1 c.in_default.not-Done c.in_default.not-Spent c.in_default.not-Halted) c.read-runner.ensures.reads)
 
 pub returns-then-goes_on-clause-one : goal.returns-then-goes_on-clause-one
 returns-then-goes_on-clause-one g c =
@@ -77,6 +77,22 @@ returns-else-goes_on-clause-halted g c = λ _.
     subst (λ n. HaltedOnce n (g.G.Gate.halts c.goes_on.new.gate)) (c.read-runner.ensures.reads.asked.went (ap (λ a. not (is_halted a)) c.in-Done.is))
     ((c.if-goes_on.ensures 0).halted refl)
 
+pub returns-in-Spent-clause-one : goal.returns-in-Spent-clause-one
+returns-in-Spent-clause-one g c =
+    let met = g.met.S.Structure g.world.𝓛 g.world.𝓜 g.world.𝓡 ((λ s allowed. allowed), (λ patient. patient), (λ alone. alone), (λ cuts. cuts)) in
+    let t = c.args.table.now in
+    let m = g.S.Structure.meaning t.structure in
+    let planning = g.S.Planner.planning t.structure in
+    read_spent m (met.laws t.structure) planning c.args.retry_short c.args.request.now t (c.requires.own.limits _ refl) (c.requires.own.allowed _ refl)
+    (sym c.if-not-is_get.ensures) c.args.runner c.read-runner.result.0 c.requires.own c.read-runner.ensures.own c.requires.next
+    (IsSeen g.G.Gate.halts g.G.Gate.asks) _ _ _ _ _ _ c.in-Spent.place c.in-Spent.word
+    (subst (λ a. Reads m planning c.args.request.now a c.args.runner c.read-runner.result.0 (IsSeen g.G.Gate.halts g.G.Gate.asks)
+    (g.G.Gate.halts c.args.gate.now) (g.G.Gate.halts c.read-runner.new.gate) (g.G.Gate.asks c.args.gate.now) (g.G.Gate.asks c.read-runner.new.gate)
+    c.args.steps.now.count c.read-runner.new.steps.count) c.in-Spent.is c.read-runner.ensures.reads)
+
+pub returns-in-Spent-clause-went : goal.returns-in-Spent-clause-went
+returns-in-Spent-clause-went g c = λ other. c.read-runner.ensures.reads.asked.went (ap (λ a. not (is_halted a)) c.in-Spent.is)
+
 pub returns-in-Halted-clause-one : goal.returns-in-Halted-clause-one
 returns-in-Halted-clause-one g c =
     let met = g.met.S.Structure g.world.𝓛 g.world.𝓜 g.world.𝓡 ((λ s allowed. allowed), (λ patient. patient), (λ alone. alone), (λ cuts. cuts)) in
@@ -98,7 +114,7 @@ returns-in_default g c =
     let m = g.S.Structure.meaning t.structure in
     let planning = g.S.Planner.planning t.structure in
     let spare = subst (λ s. AttemptsSpareSlots g.row.S.Denot (g.S.Structure.meaning s) (g.S.Planner.planning s)) c.structure.ensures c.attempts_spare_slots.ensures in
-    let refusal = refusal_of c.read-runner.result.1 c.in_default.not-Done c.in_default.not-Halted in
+    let refusal = refusal_of c.read-runner.result.1 c.in_default.not-Done c.in_default.not-Spent c.in_default.not-Halted in
     let went = c.read-runner.ensures.reads.asked.went (going_on c.read-runner.result.1 refusal) in
     record {
       own = c.serve-in_default.ensures.own;

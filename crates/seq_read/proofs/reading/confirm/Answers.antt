@@ -3,7 +3,7 @@ use Rattle.machine_states.specs.table_words.specs.Limits.{IsWithinLimits}
 use Rattle.caller_facts.specs.version_words.specs.machine_invariant.specs.After.{AreAllowed}
 use Rattle.caller_facts.specs.section_runs.specs.commit_log.specs.Asked.{IsAsked}
 use Rattle.caller_facts.specs.Counted.{IsSeen}
-use Rattle.seq_read.specs.Course.{HasLock, loaded_steps}
+use Rattle.seq_read.specs.Course.{read_of, HasLock, loaded_steps}
 use Rattle.seq_read.specs.Parts.{Rests}
 use Rattle.seq_read.proofs.Courses.{announced_of, clock_of, lock_of, may_leave}
 use Rattle.seq_read.proofs.Writing.{LooksStand}
@@ -100,4 +100,4 @@ returns-clause-rests g c =
     (g.G.Gate.halts c.args.gate.now) (g.G.Gate.halts c.announce-runner.new.gate) (g.G.Gate.asks c.args.gate.now) (g.G.Gate.asks c.announce-runner.new.gate) c.args.steps.now.count c.announce-runner.new.steps.count
     (subst (λ b. IsAsked 1 b (g.G.Gate.halts c.args.gate.now) (g.G.Gate.halts c.announce-runner.new.gate) (g.G.Gate.asks c.args.gate.now) (g.G.Gate.asks c.announce-runner.new.gate) c.args.steps.now.count c.announce-runner.new.steps.count) c.if-not-going.false c.announce-runner.ensures.asked) c.load_clock-runner.result.1 c.load_clock-runner.result.0 c.load_clock-runner.ensures.event (g.G.Gate.halts c.load_clock-runner.new.gate) (g.G.Gate.asks c.load_clock-runner.new.gate) c.load_clock-runner.new.steps.count
     (subst (λ b. IsAsked 1 b (g.G.Gate.halts c.announce-runner.new.gate) (g.G.Gate.halts c.load_clock-runner.new.gate) (g.G.Gate.asks c.announce-runner.new.gate) (g.G.Gate.asks c.load_clock-runner.new.gate) c.announce-runner.new.steps.count c.load_clock-runner.new.steps.count) c.if-not-going-2.false c.load_clock-runner.ensures.asked) c.load_lock-runner.result.1 c.load_lock-runner.result.0 c.load_lock-runner.ensures.event (g.G.Gate.halts c.load_lock-runner.new.gate) (g.G.Gate.asks c.load_lock-runner.new.gate) c.load_lock-runner.new.steps.count
-    (subst (λ b. IsAsked 1 b (g.G.Gate.halts c.load_clock-runner.new.gate) (g.G.Gate.halts c.load_lock-runner.new.gate) (g.G.Gate.asks c.load_clock-runner.new.gate) (g.G.Gate.asks c.load_lock-runner.new.gate) c.load_clock-runner.new.steps.count c.load_lock-runner.new.steps.count) c.if-not-going-3.false c.load_lock-runner.ensures.asked) (words_agree c.load_lock-runner.result.1 c.args.thunk.now.word (sym c.ne.ensures ∙ c.if-ne.false)) c.answer.result.1 c.answer.result.0 _ _ _ (c.answer.ensures.rests found old)
+    (subst (λ b. IsAsked 1 b (g.G.Gate.halts c.load_clock-runner.new.gate) (g.G.Gate.halts c.load_lock-runner.new.gate) (g.G.Gate.asks c.load_clock-runner.new.gate) (g.G.Gate.asks c.load_lock-runner.new.gate) c.load_clock-runner.new.steps.count c.load_lock-runner.new.steps.count) c.if-not-going-3.false c.load_lock-runner.ensures.asked) (words_agree c.load_lock-runner.result.1 c.args.thunk.now.word (sym c.ne.ensures ∙ c.if-ne.false)) (read_of c.answer.result.1) c.answer.result.0 _ _ _ (c.answer.ensures.rests found old)

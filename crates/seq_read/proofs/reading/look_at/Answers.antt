@@ -6,6 +6,7 @@ use Rattle.machine_states.specs.table_words.specs.Limits.{IsWithinLimits}
 use Rattle.machine_states.specs.runner_steps.specs.Sections.{reply_in}
 use Rattle.caller_facts.specs.version_words.specs.machine_invariant.specs.After.{AreAllowed}
 use Rattle.caller_facts.specs.Counted.{IsSeen}
+use Rattle.seq_read.specs.Course.{read_of}
 use Rattle.seq_read.specs.Wants.{readings_of, is_missed, IsAmong}
 use Rattle.seq_read.specs.Parts.{MayLoad, HasLoadedCells}
 use Rattle.seq_read.proofs.Courses.{may_leave}
@@ -22,7 +23,7 @@ returns-in-Some-clause-rests g c =
     let m = g.S.Structure.meaning c.args.table.now.structure in
     λ readings old is.
     body_rests m (met.laws c.args.table.now.structure) (g.S.Planner.planning c.args.table.now.structure) c.args.request.now old (subst IsWithinLimits (sym c.requires.own.layout ∙ is.reading.still.layout) (c.requires.own.limits _ refl)) (subst AreAllowed (sym c.requires.own.requests ∙ is.reading.still.requests) (c.requires.own.allowed _ refl)) c.args.thunk.now readings c.args.runner is (IsSeen g.G.Gate.halts g.G.Gate.asks) c.in-Some.at
-    (ap (position (λ step. not (is_look step))) (sym c.requires.body) ∙ (sym c.first_change.ensures ∙ c.in-Some.is))
+    (ap (position (λ step. not (is_look step))) (sym c.requires.body) ∙ (sym c.change_in.ensures ∙ c.in-Some.is))
     c.exit.result c.exit.ensures.exits (g.G.Gate.halts c.args.gate.now) (g.G.Gate.asks c.args.gate.now) c.args.steps.now.count
 
 pub load_cells-runner-requires-clause-may : goal.load_cells-runner-requires-clause-may
@@ -36,7 +37,7 @@ load_cells-runner-requires-clause-may g c κs within =
       e.0,
       e.1,
       subst (λ b. MayLoad m (g.S.Planner.planning c.args.table.now.structure) c.args.request.now b c.args.thunk.now e.0 e.1 c.args.runner) (sym c.requires.body)
-          (may_load_so m (met.laws c.args.table.now.structure) (g.S.Planner.planning c.args.table.now.structure) c.args.request.now e.1 (subst IsWithinLimits (sym c.requires.own.layout ∙ e.2.reading.still.layout) (c.requires.own.limits _ refl)) (subst AreAllowed (sym c.requires.own.requests ∙ e.2.reading.still.requests) (c.requires.own.allowed _ refl)) c.args.thunk.now e.0 c.args.runner e.2 (IsSeen g.G.Gate.halts g.G.Gate.asks) (ap (position (λ step. not (is_look step))) (sym c.requires.body) ∙ (sym c.first_change.ensures ∙ c.in_default.is))),
+          (may_load_so m (met.laws c.args.table.now.structure) (g.S.Planner.planning c.args.table.now.structure) c.args.request.now e.1 (subst IsWithinLimits (sym c.requires.own.layout ∙ e.2.reading.still.layout) (c.requires.own.limits _ refl)) (subst AreAllowed (sym c.requires.own.requests ∙ e.2.reading.still.requests) (c.requires.own.allowed _ refl)) c.args.thunk.now e.0 c.args.runner e.2 (IsSeen g.G.Gate.halts g.G.Gate.asks) (ap (position (λ step. not (is_look step))) (sym c.requires.body) ∙ (sym c.change_in.ensures ∙ c.in_default.is))),
     )
 
 pub returns-then-not-going-clause-rests : goal.returns-then-not-going-clause-rests
@@ -44,14 +45,14 @@ returns-then-not-going-clause-rests g c =
     let met = g.met.S.Structure g.world.𝓛 g.world.𝓜 g.world.𝓡 ((λ s allowed. allowed), (λ patient. patient), (λ alone. alone), (λ cuts. cuts)) in
     let m = g.S.Structure.meaning c.args.table.now.structure in
     λ readings old is.
-    cells_cut m (met.laws c.args.table.now.structure) (g.S.Planner.planning c.args.table.now.structure) c.args.request.now old (subst IsWithinLimits (sym c.requires.own.layout ∙ is.reading.still.layout) (c.requires.own.limits _ refl)) (subst AreAllowed (sym c.requires.own.requests ∙ is.reading.still.requests) (c.requires.own.allowed _ refl)) c.args.thunk.now readings c.args.runner is (IsSeen g.G.Gate.halts g.G.Gate.asks) (ap (position (λ step. not (is_look step))) (sym c.requires.body) ∙ (sym c.first_change.ensures ∙ c.in_default.is)) c.load_cells-runner.ensures.loaded.0 c.load_cells-runner.result.2 c.load_cells-runner.result.0 (g.G.Gate.halts c.args.gate.now) (g.G.Gate.halts c.load_cells-runner.new.gate) (g.G.Gate.asks c.args.gate.now) (g.G.Gate.asks c.load_cells-runner.new.gate) c.args.steps.now.count c.load_cells-runner.new.steps.count (subst (λ b. HasLoadedCells m b c.load_cells-runner.ensures.loaded.0 c.load_cells-runner.result.2 c.args.runner c.load_cells-runner.result.0 (IsSeen g.G.Gate.halts g.G.Gate.asks) (g.G.Gate.halts c.args.gate.now) (g.G.Gate.halts c.load_cells-runner.new.gate) (g.G.Gate.asks c.args.gate.now) (g.G.Gate.asks c.load_cells-runner.new.gate) c.args.steps.now.count c.load_cells-runner.new.steps.count) c.requires.body c.load_cells-runner.ensures.loaded.2) c.if-not-going.true
+    cells_cut m (met.laws c.args.table.now.structure) (g.S.Planner.planning c.args.table.now.structure) c.args.request.now old (subst IsWithinLimits (sym c.requires.own.layout ∙ is.reading.still.layout) (c.requires.own.limits _ refl)) (subst AreAllowed (sym c.requires.own.requests ∙ is.reading.still.requests) (c.requires.own.allowed _ refl)) c.args.thunk.now readings c.args.runner is (IsSeen g.G.Gate.halts g.G.Gate.asks) (ap (position (λ step. not (is_look step))) (sym c.requires.body) ∙ (sym c.change_in.ensures ∙ c.in_default.is)) c.load_cells-runner.ensures.loaded.0 c.load_cells-runner.result.2 c.load_cells-runner.result.0 (g.G.Gate.halts c.args.gate.now) (g.G.Gate.halts c.load_cells-runner.new.gate) (g.G.Gate.asks c.args.gate.now) (g.G.Gate.asks c.load_cells-runner.new.gate) c.args.steps.now.count c.load_cells-runner.new.steps.count (subst (λ b. HasLoadedCells m b c.load_cells-runner.ensures.loaded.0 c.load_cells-runner.result.2 c.args.runner c.load_cells-runner.result.0 (IsSeen g.G.Gate.halts g.G.Gate.asks) (g.G.Gate.halts c.args.gate.now) (g.G.Gate.halts c.load_cells-runner.new.gate) (g.G.Gate.asks c.args.gate.now) (g.G.Gate.asks c.load_cells-runner.new.gate) c.args.steps.now.count c.load_cells-runner.new.steps.count) c.requires.body c.load_cells-runner.ensures.loaded.2) c.if-not-going.true
 
 pub exit-requires-in-Some-missed-clause-entered : goal.exit-requires-in-Some-missed-clause-entered
 exit-requires-in-Some-missed-clause-entered g c κs within =
     let met = g.met.S.Structure g.world.𝓛 g.world.𝓜 g.world.𝓡 ((λ s allowed. allowed), (λ patient. patient), (λ alone. alone), (λ cuts. cuts)) in
     let m = g.S.Structure.meaning c.args.table.now.structure in
     let e = c.requires.planned in
-    let was = loaded m (met.laws c.args.table.now.structure) (g.S.Planner.planning c.args.table.now.structure) c.args.request.now e.1 (subst IsWithinLimits (sym c.requires.own.layout ∙ e.2.reading.still.layout) (c.requires.own.limits _ refl)) (subst AreAllowed (sym c.requires.own.requests ∙ e.2.reading.still.requests) (c.requires.own.allowed _ refl)) c.args.thunk.now e.0 c.args.runner e.2 (IsSeen g.G.Gate.halts g.G.Gate.asks) (ap (position (λ step. not (is_look step))) (sym c.requires.body) ∙ (sym c.first_change.ensures ∙ c.in_default.is)) c.load_cells-runner.ensures.loaded.0 c.load_cells-runner.result.2 c.load_cells-runner.result.0 (g.G.Gate.halts c.args.gate.now) (g.G.Gate.halts c.load_cells-runner.new.gate) (g.G.Gate.asks c.args.gate.now) (g.G.Gate.asks c.load_cells-runner.new.gate) c.args.steps.now.count c.load_cells-runner.new.steps.count (subst (λ b. HasLoadedCells m b c.load_cells-runner.ensures.loaded.0 c.load_cells-runner.result.2 c.args.runner c.load_cells-runner.result.0 (IsSeen g.G.Gate.halts g.G.Gate.asks) (g.G.Gate.halts c.args.gate.now) (g.G.Gate.halts c.load_cells-runner.new.gate) (g.G.Gate.asks c.args.gate.now) (g.G.Gate.asks c.load_cells-runner.new.gate) c.args.steps.now.count c.load_cells-runner.new.steps.count) c.requires.body c.load_cells-runner.ensures.loaded.2) in
+    let was = loaded m (met.laws c.args.table.now.structure) (g.S.Planner.planning c.args.table.now.structure) c.args.request.now e.1 (subst IsWithinLimits (sym c.requires.own.layout ∙ e.2.reading.still.layout) (c.requires.own.limits _ refl)) (subst AreAllowed (sym c.requires.own.requests ∙ e.2.reading.still.requests) (c.requires.own.allowed _ refl)) c.args.thunk.now e.0 c.args.runner e.2 (IsSeen g.G.Gate.halts g.G.Gate.asks) (ap (position (λ step. not (is_look step))) (sym c.requires.body) ∙ (sym c.change_in.ensures ∙ c.in_default.is)) c.load_cells-runner.ensures.loaded.0 c.load_cells-runner.result.2 c.load_cells-runner.result.0 (g.G.Gate.halts c.args.gate.now) (g.G.Gate.halts c.load_cells-runner.new.gate) (g.G.Gate.asks c.args.gate.now) (g.G.Gate.asks c.load_cells-runner.new.gate) c.args.steps.now.count c.load_cells-runner.new.steps.count (subst (λ b. HasLoadedCells m b c.load_cells-runner.ensures.loaded.0 c.load_cells-runner.result.2 c.args.runner c.load_cells-runner.result.0 (IsSeen g.G.Gate.halts g.G.Gate.asks) (g.G.Gate.halts c.args.gate.now) (g.G.Gate.halts c.load_cells-runner.new.gate) (g.G.Gate.asks c.args.gate.now) (g.G.Gate.asks c.load_cells-runner.new.gate) c.args.steps.now.count c.load_cells-runner.new.steps.count) c.requires.body c.load_cells-runner.ensures.loaded.2) in
     may_leave (g.S.Planner.planning c.args.table.now.structure) c.args.request.now e.1 c.load_cells-runner.result.0 e.2.enters.may was.reading
 
 pub returns-in-Some-missed-clause-rests : goal.returns-in-Some-missed-clause-rests
@@ -60,7 +61,7 @@ returns-in-Some-missed-clause-rests g c =
     let m = g.S.Structure.meaning c.args.table.now.structure in
     λ readings old is.
     let miss = missed_is c.args.body.now c.load_cells-runner.ensures.loaded.0 c.load_cells-runner.result.1 c.in-Some-missed.missed c.in-Some-missed.is c.load_cells-runner.ensures.loaded.1 in
-    cell_rests m (met.laws c.args.table.now.structure) (g.S.Planner.planning c.args.table.now.structure) c.args.request.now old (subst IsWithinLimits (sym c.requires.own.layout ∙ is.reading.still.layout) (c.requires.own.limits _ refl)) (subst AreAllowed (sym c.requires.own.requests ∙ is.reading.still.requests) (c.requires.own.allowed _ refl)) c.args.thunk.now readings c.args.runner is (IsSeen g.G.Gate.halts g.G.Gate.asks) (ap (position (λ step. not (is_look step))) (sym c.requires.body) ∙ (sym c.first_change.ensures ∙ c.in_default.is)) c.load_cells-runner.ensures.loaded.0 c.load_cells-runner.result.2 c.load_cells-runner.result.0 (g.G.Gate.halts c.args.gate.now) (g.G.Gate.halts c.load_cells-runner.new.gate) (g.G.Gate.asks c.args.gate.now) (g.G.Gate.asks c.load_cells-runner.new.gate) c.args.steps.now.count c.load_cells-runner.new.steps.count (subst (λ b. HasLoadedCells m b c.load_cells-runner.ensures.loaded.0 c.load_cells-runner.result.2 c.args.runner c.load_cells-runner.result.0 (IsSeen g.G.Gate.halts g.G.Gate.asks) (g.G.Gate.halts c.args.gate.now) (g.G.Gate.halts c.load_cells-runner.new.gate) (g.G.Gate.asks c.args.gate.now) (g.G.Gate.asks c.load_cells-runner.new.gate) c.args.steps.now.count c.load_cells-runner.new.steps.count) c.requires.body c.load_cells-runner.ensures.loaded.2) c.if-not-going.false miss.0
+    cell_rests m (met.laws c.args.table.now.structure) (g.S.Planner.planning c.args.table.now.structure) c.args.request.now old (subst IsWithinLimits (sym c.requires.own.layout ∙ is.reading.still.layout) (c.requires.own.limits _ refl)) (subst AreAllowed (sym c.requires.own.requests ∙ is.reading.still.requests) (c.requires.own.allowed _ refl)) c.args.thunk.now readings c.args.runner is (IsSeen g.G.Gate.halts g.G.Gate.asks) (ap (position (λ step. not (is_look step))) (sym c.requires.body) ∙ (sym c.change_in.ensures ∙ c.in_default.is)) c.load_cells-runner.ensures.loaded.0 c.load_cells-runner.result.2 c.load_cells-runner.result.0 (g.G.Gate.halts c.args.gate.now) (g.G.Gate.halts c.load_cells-runner.new.gate) (g.G.Gate.asks c.args.gate.now) (g.G.Gate.asks c.load_cells-runner.new.gate) c.args.steps.now.count c.load_cells-runner.new.steps.count (subst (λ b. HasLoadedCells m b c.load_cells-runner.ensures.loaded.0 c.load_cells-runner.result.2 c.args.runner c.load_cells-runner.result.0 (IsSeen g.G.Gate.halts g.G.Gate.asks) (g.G.Gate.halts c.args.gate.now) (g.G.Gate.halts c.load_cells-runner.new.gate) (g.G.Gate.asks c.args.gate.now) (g.G.Gate.asks c.load_cells-runner.new.gate) c.args.steps.now.count c.load_cells-runner.new.steps.count) c.requires.body c.load_cells-runner.ensures.loaded.2) c.if-not-going.false miss.0
     (subst (λ b. IsAmong b miss.0) c.requires.body miss.1)
     c.in-Some-missed.missed.place c.in-Some-missed.missed.expected c.in-Some-missed.missed.read
     miss.2
@@ -71,7 +72,7 @@ reply_of-requires g c =
     let met = g.met.S.Structure g.world.𝓛 g.world.𝓜 g.world.𝓡 ((λ s allowed. allowed), (λ patient. patient), (λ alone. alone), (λ cuts. cuts)) in
     let m = g.S.Structure.meaning c.args.table.now.structure in
     let e = c.requires.planned in
-    subst IsShaped (sym c.requires.body) (may_load_so m (met.laws c.args.table.now.structure) (g.S.Planner.planning c.args.table.now.structure) c.args.request.now e.1 (subst IsWithinLimits (sym c.requires.own.layout ∙ e.2.reading.still.layout) (c.requires.own.limits _ refl)) (subst AreAllowed (sym c.requires.own.requests ∙ e.2.reading.still.requests) (c.requires.own.allowed _ refl)) c.args.thunk.now e.0 c.args.runner e.2 (IsSeen g.G.Gate.halts g.G.Gate.asks) (ap (position (λ step. not (is_look step))) (sym c.requires.body) ∙ (sym c.first_change.ensures ∙ c.in_default.is))).shaped
+    subst IsShaped (sym c.requires.body) (may_load_so m (met.laws c.args.table.now.structure) (g.S.Planner.planning c.args.table.now.structure) c.args.request.now e.1 (subst IsWithinLimits (sym c.requires.own.layout ∙ e.2.reading.still.layout) (c.requires.own.limits _ refl)) (subst AreAllowed (sym c.requires.own.requests ∙ e.2.reading.still.requests) (c.requires.own.allowed _ refl)) c.args.thunk.now e.0 c.args.runner e.2 (IsSeen g.G.Gate.halts g.G.Gate.asks) (ap (position (λ step. not (is_look step))) (sym c.requires.body) ∙ (sym c.change_in.ensures ∙ c.in_default.is))).shaped
 
 pub confirm-requires-clause-found : goal.confirm-requires-clause-found
 confirm-requires-clause-found g c κs within =
@@ -80,7 +81,7 @@ confirm-requires-clause-found g c κs within =
     let e = c.requires.planned in (
       readings_of c.load_cells-runner.ensures.loaded.0,
       e.1,
-      found_so m (met.laws c.args.table.now.structure) (g.S.Planner.planning c.args.table.now.structure) c.args.request.now e.1 (subst IsWithinLimits (sym c.requires.own.layout ∙ e.2.reading.still.layout) (c.requires.own.limits _ refl)) (subst AreAllowed (sym c.requires.own.requests ∙ e.2.reading.still.requests) (c.requires.own.allowed _ refl)) c.args.thunk.now e.0 c.args.runner e.2 (IsSeen g.G.Gate.halts g.G.Gate.asks) (ap (position (λ step. not (is_look step))) (sym c.requires.body) ∙ (sym c.first_change.ensures ∙ c.in_default.is)) c.load_cells-runner.ensures.loaded.0 c.load_cells-runner.result.2 c.load_cells-runner.result.0 (g.G.Gate.halts c.args.gate.now) (g.G.Gate.halts c.load_cells-runner.new.gate) (g.G.Gate.asks c.args.gate.now) (g.G.Gate.asks c.load_cells-runner.new.gate) c.args.steps.now.count c.load_cells-runner.new.steps.count (subst (λ b. HasLoadedCells m b c.load_cells-runner.ensures.loaded.0 c.load_cells-runner.result.2 c.args.runner c.load_cells-runner.result.0 (IsSeen g.G.Gate.halts g.G.Gate.asks) (g.G.Gate.halts c.args.gate.now) (g.G.Gate.halts c.load_cells-runner.new.gate) (g.G.Gate.asks c.args.gate.now) (g.G.Gate.asks c.load_cells-runner.new.gate) c.args.steps.now.count c.load_cells-runner.new.steps.count) c.requires.body c.load_cells-runner.ensures.loaded.2) c.if-not-going.false
+      found_so m (met.laws c.args.table.now.structure) (g.S.Planner.planning c.args.table.now.structure) c.args.request.now e.1 (subst IsWithinLimits (sym c.requires.own.layout ∙ e.2.reading.still.layout) (c.requires.own.limits _ refl)) (subst AreAllowed (sym c.requires.own.requests ∙ e.2.reading.still.requests) (c.requires.own.allowed _ refl)) c.args.thunk.now e.0 c.args.runner e.2 (IsSeen g.G.Gate.halts g.G.Gate.asks) (ap (position (λ step. not (is_look step))) (sym c.requires.body) ∙ (sym c.change_in.ensures ∙ c.in_default.is)) c.load_cells-runner.ensures.loaded.0 c.load_cells-runner.result.2 c.load_cells-runner.result.0 (g.G.Gate.halts c.args.gate.now) (g.G.Gate.halts c.load_cells-runner.new.gate) (g.G.Gate.asks c.args.gate.now) (g.G.Gate.asks c.load_cells-runner.new.gate) c.args.steps.now.count c.load_cells-runner.new.steps.count (subst (λ b. HasLoadedCells m b c.load_cells-runner.ensures.loaded.0 c.load_cells-runner.result.2 c.args.runner c.load_cells-runner.result.0 (IsSeen g.G.Gate.halts g.G.Gate.asks) (g.G.Gate.halts c.args.gate.now) (g.G.Gate.halts c.load_cells-runner.new.gate) (g.G.Gate.asks c.args.gate.now) (g.G.Gate.asks c.load_cells-runner.new.gate) c.args.steps.now.count c.load_cells-runner.new.steps.count) c.requires.body c.load_cells-runner.ensures.loaded.2) c.if-not-going.false
           (ap (list_any (is_missed c.load_cells-runner.ensures.loaded.0)) (sym c.requires.body) ∙ c.load_cells-runner.ensures.loaded.1.none c.in_default-missed.is),
     )
 
@@ -93,8 +94,8 @@ returns-clause-rests g c =
     let met = g.met.S.Structure g.world.𝓛 g.world.𝓜 g.world.𝓡 ((λ s allowed. allowed), (λ patient. patient), (λ alone. alone), (λ cuts. cuts)) in
     let m = g.S.Structure.meaning c.args.table.now.structure in
     λ readings old is.
-    found_rests m (met.laws c.args.table.now.structure) (g.S.Planner.planning c.args.table.now.structure) c.args.request.now old (subst IsWithinLimits (sym c.requires.own.layout ∙ is.reading.still.layout) (c.requires.own.limits _ refl)) (subst AreAllowed (sym c.requires.own.requests ∙ is.reading.still.requests) (c.requires.own.allowed _ refl)) c.args.thunk.now readings c.args.runner is (IsSeen g.G.Gate.halts g.G.Gate.asks) (ap (position (λ step. not (is_look step))) (sym c.requires.body) ∙ (sym c.first_change.ensures ∙ c.in_default.is)) c.load_cells-runner.ensures.loaded.0 c.load_cells-runner.result.2 c.load_cells-runner.result.0 (g.G.Gate.halts c.args.gate.now) (g.G.Gate.halts c.load_cells-runner.new.gate) (g.G.Gate.asks c.args.gate.now) (g.G.Gate.asks c.load_cells-runner.new.gate) c.args.steps.now.count c.load_cells-runner.new.steps.count (subst (λ b. HasLoadedCells m b c.load_cells-runner.ensures.loaded.0 c.load_cells-runner.result.2 c.args.runner c.load_cells-runner.result.0 (IsSeen g.G.Gate.halts g.G.Gate.asks) (g.G.Gate.halts c.args.gate.now) (g.G.Gate.halts c.load_cells-runner.new.gate) (g.G.Gate.asks c.args.gate.now) (g.G.Gate.asks c.load_cells-runner.new.gate) c.args.steps.now.count c.load_cells-runner.new.steps.count) c.requires.body c.load_cells-runner.ensures.loaded.2) c.if-not-going.false
+    found_rests m (met.laws c.args.table.now.structure) (g.S.Planner.planning c.args.table.now.structure) c.args.request.now old (subst IsWithinLimits (sym c.requires.own.layout ∙ is.reading.still.layout) (c.requires.own.limits _ refl)) (subst AreAllowed (sym c.requires.own.requests ∙ is.reading.still.requests) (c.requires.own.allowed _ refl)) c.args.thunk.now readings c.args.runner is (IsSeen g.G.Gate.halts g.G.Gate.asks) (ap (position (λ step. not (is_look step))) (sym c.requires.body) ∙ (sym c.change_in.ensures ∙ c.in_default.is)) c.load_cells-runner.ensures.loaded.0 c.load_cells-runner.result.2 c.load_cells-runner.result.0 (g.G.Gate.halts c.args.gate.now) (g.G.Gate.halts c.load_cells-runner.new.gate) (g.G.Gate.asks c.args.gate.now) (g.G.Gate.asks c.load_cells-runner.new.gate) c.args.steps.now.count c.load_cells-runner.new.steps.count (subst (λ b. HasLoadedCells m b c.load_cells-runner.ensures.loaded.0 c.load_cells-runner.result.2 c.args.runner c.load_cells-runner.result.0 (IsSeen g.G.Gate.halts g.G.Gate.asks) (g.G.Gate.halts c.args.gate.now) (g.G.Gate.halts c.load_cells-runner.new.gate) (g.G.Gate.asks c.args.gate.now) (g.G.Gate.asks c.load_cells-runner.new.gate) c.args.steps.now.count c.load_cells-runner.new.steps.count) c.requires.body c.load_cells-runner.ensures.loaded.2) c.if-not-going.false
     (ap (list_any (is_missed c.load_cells-runner.ensures.loaded.0)) (sym c.requires.body) ∙ c.load_cells-runner.ensures.loaded.1.none c.in_default-missed.is)
-    c.confirm.result.1 c.confirm.result.0 _ _ _
-    (c.confirm.ensures.rests (readings_of c.load_cells-runner.ensures.loaded.0) old (found_so m (met.laws c.args.table.now.structure) (g.S.Planner.planning c.args.table.now.structure) c.args.request.now old (subst IsWithinLimits (sym c.requires.own.layout ∙ is.reading.still.layout) (c.requires.own.limits _ refl)) (subst AreAllowed (sym c.requires.own.requests ∙ is.reading.still.requests) (c.requires.own.allowed _ refl)) c.args.thunk.now readings c.args.runner is (IsSeen g.G.Gate.halts g.G.Gate.asks) (ap (position (λ step. not (is_look step))) (sym c.requires.body) ∙ (sym c.first_change.ensures ∙ c.in_default.is)) c.load_cells-runner.ensures.loaded.0 c.load_cells-runner.result.2 c.load_cells-runner.result.0 (g.G.Gate.halts c.args.gate.now) (g.G.Gate.halts c.load_cells-runner.new.gate) (g.G.Gate.asks c.args.gate.now) (g.G.Gate.asks c.load_cells-runner.new.gate) c.args.steps.now.count c.load_cells-runner.new.steps.count (subst (λ b. HasLoadedCells m b c.load_cells-runner.ensures.loaded.0 c.load_cells-runner.result.2 c.args.runner c.load_cells-runner.result.0 (IsSeen g.G.Gate.halts g.G.Gate.asks) (g.G.Gate.halts c.args.gate.now) (g.G.Gate.halts c.load_cells-runner.new.gate) (g.G.Gate.asks c.args.gate.now) (g.G.Gate.asks c.load_cells-runner.new.gate) c.args.steps.now.count c.load_cells-runner.new.steps.count) c.requires.body c.load_cells-runner.ensures.loaded.2) c.if-not-going.false
+    (read_of c.confirm.result.1) c.confirm.result.0 _ _ _
+    (c.confirm.ensures.rests (readings_of c.load_cells-runner.ensures.loaded.0) old (found_so m (met.laws c.args.table.now.structure) (g.S.Planner.planning c.args.table.now.structure) c.args.request.now old (subst IsWithinLimits (sym c.requires.own.layout ∙ is.reading.still.layout) (c.requires.own.limits _ refl)) (subst AreAllowed (sym c.requires.own.requests ∙ is.reading.still.requests) (c.requires.own.allowed _ refl)) c.args.thunk.now readings c.args.runner is (IsSeen g.G.Gate.halts g.G.Gate.asks) (ap (position (λ step. not (is_look step))) (sym c.requires.body) ∙ (sym c.change_in.ensures ∙ c.in_default.is)) c.load_cells-runner.ensures.loaded.0 c.load_cells-runner.result.2 c.load_cells-runner.result.0 (g.G.Gate.halts c.args.gate.now) (g.G.Gate.halts c.load_cells-runner.new.gate) (g.G.Gate.asks c.args.gate.now) (g.G.Gate.asks c.load_cells-runner.new.gate) c.args.steps.now.count c.load_cells-runner.new.steps.count (subst (λ b. HasLoadedCells m b c.load_cells-runner.ensures.loaded.0 c.load_cells-runner.result.2 c.args.runner c.load_cells-runner.result.0 (IsSeen g.G.Gate.halts g.G.Gate.asks) (g.G.Gate.halts c.args.gate.now) (g.G.Gate.halts c.load_cells-runner.new.gate) (g.G.Gate.asks c.args.gate.now) (g.G.Gate.asks c.load_cells-runner.new.gate) c.args.steps.now.count c.load_cells-runner.new.steps.count) c.requires.body c.load_cells-runner.ensures.loaded.2) c.if-not-going.false
     (ap (list_any (is_missed c.load_cells-runner.ensures.loaded.0)) (sym c.requires.body) ∙ c.load_cells-runner.ensures.loaded.1.none c.in_default-missed.is)))
