@@ -4,7 +4,7 @@ ghost use Rattle.std.specs.Process.{exit_status};
 ghost use Rattle.flock_tool.specs.command_line.specs.Commands.{AreAccepted, IsCommand, texts};
 ghost use Rattle.flock_tool.specs.command_line.specs.declared.command.Command.{Command};
 ghost use Rattle.flock_tool.specs.Alone.{IsValidAlone, NothingStops};
-ghost use Rattle.flock_tool.specs.Commands.{RefusedEnds};
+ghost use Rattle.flock_tool.specs.Commands.{NameAnotherTable, RefusedEnds};
 ghost use Rattle.flock_tool.specs.Exits.{Exits};
 ghost use Rattle.flock_tool.specs.Runs.{IsRunStatus};
 ghost use Rattle.flock_tool.specs.Streams.{gating, stream};
@@ -50,7 +50,8 @@ pub fn run<'a, T: Threads + Wait + Sync, R: Source, K: Sink, F: Sink, G: Gates>(
         (G.plans gates.old) (G.plans gates.new) (G.planned gates.old) (G.planned gates.new)
         (G.returned gates.old) (G.returned gates.new))
         → (exit_status result ≡ 0) ⊎ (exit_status result ≡ 7) }
-    ensures accepted { AreAccepted (texts words.now) → exit_status result ≢ 2 }
+    ensures accepted { AreAccepted (texts words.now) → exit_status result ≡ 2
+        → NameAnotherTable (texts words.now) (R.left source.old) }
     ensures words { (AreAccepted (texts words.now) → ⊥) → RefusedEnds (exit_status result, None)
         (stream (R.left source.old) (R.left source.new) (R.faults source.old) (R.faults source.new))
         (stream (K.held sink.old) (K.held sink.new) (K.faults sink.old) (K.faults sink.new))

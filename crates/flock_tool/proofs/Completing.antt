@@ -31,12 +31,13 @@ use Rattle.threaded_runs.specs.Room.{HasEnoughSlots, HasEnoughVersions}
 use Rattle.flock_tool.specs.Complete.{Completes, IsAnswered}
 use Rattle.flock_tool.specs.Finish.{finish_by, finish_status}
 use Rattle.flock_tool.specs.Loads.{HasCounted, HasLoadRun}
-use Rattle.flock_tool.specs.Plans.{AsksTooMuch, LoadAsksTooMuch, all_nodes, all_requests, layout_by}
+use Rattle.flock_tool.specs.Plans.{AsksAnotherTable, AsksTooMuch, IsForAnotherTable, LoadAsksTooMuch, all_nodes, all_requests, layout_by}
 use Rattle.flock_tool.specs.Runs.{words_in, answers_in, meaning_of, per_pair_in, waits_out, HasEnded, HasRun, IsRunOf, IsRunStatus}
 use Rattle.flock_tool.specs.Streams.{Gating, Stream}
 use Rattle.flock_tool.specs.Valid.{HasRoom, IsValid, IsWhole, NothingFails}
 use Rattle.flock_tool.specs.declared.ran.Ran.{Ran}
 use Rattle.flock_tool.specs.declared.ran.Ran.TheVariants as tables
+use Rattle.flock_tool.proofs.Ends.{GrammaticalAt, also_another}
 use Rattle.flock_tool.proofs.EnoughAlone.{never_five, never_six}
 
 -- where none is unserved, each entry is there
@@ -86,8 +87,8 @@ not_of true is = absurd (cc)
 not_of false is = λ clash. absurd (cc)
 
 -- a run of these options and requests
-module _ (options : RunOptions) (traces : Traces) (count : ℕ) (count_is : count ≡ traces.count) (ran : Ran)
-    (requests : (words_in ran).requests ≡ traces.requests) (run : IsRunOf options count ran) where
+module _ {format : ℕ} (options : RunOptions) (traces : Traces) (count : ℕ) (count_is : count ≡ traces.count)
+    (ran : Ran) (requests : (words_in ran).requests ≡ traces.requests) (run : IsRunOf options format count ran) where
   layout : (words_in ran).layout ≡ layout_by options traces.count traces.requests
   layout = run.layout ∙ ap (layout_by options count) requests ∙ ap (λ n. layout_by options n traces.requests) count_is
 
@@ -108,6 +109,7 @@ module _ (options : RunOptions) (traces : Traces) (count : ℕ) (count_is : coun
 
   few_per_pair : (back : Ran) → per_pair_in back ≤ 2
   few_per_pair (tables.Hash words answers) = omega arith
+  few_per_pair (tables.Move words answers) = omega arith
   few_per_pair (tables.Tree words answers) = omega arith
   few_per_pair (tables.List words answers) = omega arith
 
@@ -186,15 +188,15 @@ module _ (result : ℕ × Option Ran) (source sink faults : Stream) (gates : Gat
       by (inr (inl nine)) = let said = ends.prints.judged (inr (inr nine)) in absurd (fine.written (said.1.1.in_part nine).1)
       by (inr (inr seven)) = inr seven
 
-  -- a run of a text in the grammar, with no more node slots than the limit, is whole where nothing stops it and its status is neither 5
-  -- nor 6
+  -- a run of a text in the grammar on a table that serves it, with no more node slots than the limit, is whole where nothing stops it
+  -- and its status is neither 5 nor 6
   run_done : (options : RunOptions) → RunEnds options result source sink faults gates → NothingStops source sink gates
-      → (text : List ℕ) (traces : Traces) → source.before ≡ Some text → AreTracesOf traces text
+      → (text : List ℕ) (traces : Traces) → source.before ≡ Some text → AreTracesOf traces text → (IsForAnotherTable options traces → ⊥)
       → all_nodes (layout_by options traces.count traces.requests) ≤ 262144
-      → ((ran : Ran) (count : ℕ) → count ≡ traces.count → (words_in ran).requests ≡ traces.requests → IsRunOf options count ran
+      → ((ran : Ran) (format count : ℕ) → count ≡ traces.count → (words_in ran).requests ≡ traces.requests → IsRunOf options format count ran
       → HasEnded ran count (waits_out options.halts (words_in ran).layout.runners) result.0 sink faults → result.1 ≡ Some ran → (result.0 ≢ 5) × (result.0 ≢ 6))
       → IsWhole result ⊎ (result.0 ≡ 7)
-  run_done options ends fine text traces tells are room avoids = by (at _ (ends.grammatical fine.read) are.accepted)
+  run_done options ends fine text traces tells are served room avoids = by (at _ (ends.grammatical fine.read) are.accepted)
     where
       at : (P : List ℕ → Type 0) → IfSome source.before P → P text
       at P given = subst (λ left. IfSome left P) tells given
@@ -205,6 +207,9 @@ module _ (result : ℕ × Option Ran) (source sink faults : Stream) (gates : Gat
           let same = asks.count ∙ ap (λ n. all_nodes (layout_by options n asks.traces.requests)) (others.count ∙ sym are.count)
           ∙ ap (λ (r : List Request). all_nodes (layout_by options traces.count r)) (others.requests ∙ sym are.requests) in
           let much = asks.much in omega (arith, same, room, much)
+
+      same_table : AsksAnotherTable options source.before → ⊥
+      same_table asks = served (also_another options traces asks.traces text are (at (AreTracesOf asks.traces) asks.text) asks.another)
 
       on : (ran : Ran) → result.1 ≡ Some ran → IsRunStatus result.0 → IsWhole result
       on ran back status = record { status = is_0; answered = to_back (λ r. IsAnswered (meaning_of r) (words_in r)) result.1 ran back all }
@@ -218,22 +223,22 @@ module _ (result : ℕ × Option Ran) (source sink faults : Stream) (gates : Gat
 
           is_0 : result.0 ≡ 0
           is_0 =
-              let not = avoids ran ended.0 (read.count ∙ sym are.count) (read.requests ∙ sym are.requests) ended.1.run ended.2 back in
+              let not = avoids ran ended.1.format ended.0 (read.count ∙ sym are.count) (read.requests ∙ sym are.requests) ended.1.run ended.2 back in
               zero_of result.0 status (λ one. fine.went (ends.halted one)) not.0 not.1 (λ nine. fine.written (ends.write nine).0)
 
           all : IsAnswered (meaning_of ran) (words_in ran)
           all = let report = ended.2.is_report in
               answered (meaning_of ran) (words_in ran) report.entries report.shown (sym report.counted ∙ ended.2.all is_0)
 
-      by : IsRunStatus result.0 ⊎ (result.0 ≡ 7) ⊎ ((result.0 ≡ 4) × (count : ℕ) × AsksTooMuch options source.before count)
-          → IsWhole result ⊎ (result.0 ≡ 7)
+      by : GrammaticalAt options source.before result.0 → IsWhole result ⊎ (result.0 ≡ 7)
       by (inl status) = let back = some_of result.1 (ends.ran.1 status) in inl (on back.0 back.1 status)
       by (inr (inl seven)) = inr seven
-      by (inr (inr (four, slots, asks))) = absurd (few slots asks)
+      by (inr (inr (inl (four, slots, asks)))) = absurd (few slots asks)
+      by (inr (inr (inr (two, asks)))) = absurd (same_table asks)
 
   load_done : (load : LoadOptions) → LoadEnds load result source sink faults gates → NothingStops source sink gates
       → all_requests load.plan ≤ 131072 → all_nodes (layout_by load.run load.plan.traces (generated load.plan)) ≤ 262144
-      → ((ran : Ran) → (words_in ran).requests ≡ generated load.plan → IsRunOf load.run load.plan.traces ran
+      → ((ran : Ran) → (words_in ran).requests ≡ generated load.plan → IsRunOf load.run 1 load.plan.traces ran
       → HasCounted ran (waits_out load.run.halts (words_in ran).layout.runners) result.0 sink faults → result.1 ≡ Some ran → (result.0 ≢ 5) × (result.0 ≢ 6))
       → IsWhole result ⊎ (result.0 ≡ 7)
   load_done load ends fine few room avoids = by ends.runs.statuses
@@ -268,8 +273,8 @@ module _ (result : ℕ × Option Ran) (source sink faults : Stream) (gates : Gat
   -- what is valid is done whole where nothing fails, or memory is wanting
   pub whole : (command : Command) → Ends command result source sink faults gates → IsValid command source.before → NothingFails result.1 source sink gates
       → IsWhole result ⊎ (result.0 ≡ 7)
-  whole (commands.Run options) ends (text, traces, tells, are, room) fine = run_done options ends (stops_none fine) text traces tells are room.few
-      (λ ran count counted requests run ended back. let enough = ended.enough in (
+  whole (commands.Run options) ends (text, traces, tells, are, served, room) fine = run_done options ends (stops_none fine) text traces tells are served room.few
+      (λ ran format count counted requests run ended back. let enough = ended.enough in (
         not_five options traces count counted ran requests run room result.0 enough,
         enough.versions (of_back (λ r. HasEnoughVersions (meaning_of r) (words_in r)) result.1 ran back fine.versions),
       ))
@@ -284,8 +289,8 @@ module _ (result : ℕ × Option Ran) (source sink faults : Stream) (gates : Gat
   -- and with one runner
   pub whole_alone : (command : Command) → Ends command result source sink faults gates → IsValidAlone command source.before
       → NothingStops source sink gates → IsWhole result ⊎ (result.0 ≡ 7)
-  whole_alone (commands.Run options) ends (text, traces, tells, are, room) fine = run_done options ends fine text traces tells are room.few
-      (λ ran count counted requests run ended back. avoids options traces count counted ran requests run room result.0 ended.unserved ended.status)
+  whole_alone (commands.Run options) ends (text, traces, tells, are, served, room) fine = run_done options ends fine text traces tells are served room.few
+      (λ ran format count counted requests run ended back. avoids options traces count counted ran requests run room result.0 ended.unserved ended.status)
   whole_alone (commands.Gen plan) ends valid fine = absurd valid
   whole_alone commands.Check ends valid fine = absurd valid
   whole_alone (commands.Load load) ends (few, room) fine = load_done load ends fine few room.few

@@ -35,7 +35,7 @@ use Rattle.flock_tool.proofs.Whole.{all_served}
 
 -- a run of a plan is one of its options and requests
 pub run_of : (plan : Plan) (ran : Ran) (gates : Gating) → plan.layout ≡ layout_by plan.options plan.traces.count plan.traces.requests
-    → HasRunPlan plan ran gates → IsRunOf plan.options plan.traces.count ran
+    → HasRunPlan plan ran gates → IsRunOf plan.options plan.traces.format plan.traces.count ran
 run_of plan ran gates layout r = record {
   table = r.table;
   layout = r.layout ∙ layout ∙ ap (layout_by plan.options plan.traces.count) (sym r.requests);
@@ -74,7 +74,9 @@ pub load_run_is : (load : LoadOptions) (plan : Plan) (ran : Ran) (gates : Gating
     → HasLoadRun load ran gates
 load_run_is load plan ran gates p r = record {
   requests = r.requests ∙ p.requests;
-  run = subst (λ (o : RunOptions). IsRunOf o load.plan.traces ran) p.given (subst (λ n. IsRunOf plan.options n ran) p.count (run_of plan ran gates p.layout r));
+  run = subst (λ (o : RunOptions). IsRunOf o 1 load.plan.traces ran) p.given
+      (subst (λ n. IsRunOf plan.options 1 n ran) p.count
+      (subst (λ n. IsRunOf plan.options n plan.traces.count ran) p.header (run_of plan ran gates p.layout r)));
   asked = subst (λ (o : RunOptions). AreAsked (meaning_of ran) (words_in ran) (are_free o.reads) (answers_in ran) gates.asks_before gates.asks_after) p.given r.asked;
   given = subst (λ (o : RunOptions). AreGiven o.halts (words_in ran).layout.runners (answers_in ran) gates) p.given (given_of plan ran gates r);
 }

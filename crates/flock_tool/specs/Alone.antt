@@ -7,7 +7,7 @@ use Rattle.command_line.specs.trace_reader.specs.declared.traces.Traces.{Traces}
 use Rattle.command_line.specs.declared.command.Command.{Command}
 use Rattle.command_line.specs.declared.command.Command.TheVariants as commands
 use Rattle.command_line.specs.declared.options.RunOptions.{RunOptions}
-use Rattle.flock_tool.specs.Plans.{all_nodes, all_requests, layout_by}
+use Rattle.flock_tool.specs.Plans.{IsForAnotherTable, all_nodes, all_requests, layout_by}
 use Rattle.flock_tool.specs.Runs.{words_in}
 use Rattle.flock_tool.specs.Streams.{Fails, Gating, Halts, Stream}
 use Rattle.flock_tool.specs.declared.ran.Ran.{Ran}
@@ -25,7 +25,8 @@ pub record HasLoneRoom (options : RunOptions) (traces : Traces) : Type 0 where
 -- a run is asked for within the limits, with room for one runner
 abbrev pub IsValidAlone : Command → Option (List ℕ) → Type 0
 IsValidAlone (commands.Run options) left =
-    (text : List ℕ) × (traces : Traces) × (left ≡ Some text) × AreTracesOf traces text × HasLoneRoom options traces
+    (text : List ℕ) × (traces : Traces) × (left ≡ Some text) × AreTracesOf traces text
+    × (IsForAnotherTable options traces → ⊥) × HasLoneRoom options traces
 IsValidAlone (commands.Gen plan) left = ⊥
 IsValidAlone (commands.Load load) left =
     (all_requests load.plan ≤ 131072)

@@ -1,17 +1,18 @@
 -- What each command leaves, by its status.
 use Rattle.std.specs.Prelude.{◌≡◌, ◌≢◌, ◌↔◌, ◌⊎◌, ◌<◌, ◌≤◌, ℕ, List, [], Option, IfSome, IsSome, None, codes}
 use Rattle.machine_states.specs.map_history.specs.declared.op.Entry.{Entry}
-use Rattle.command_line.specs.trace_reader.specs.Answer.{StopsBefore}
+use Rattle.command_line.specs.trace_reader.specs.Answer.{AreTracesOf, StopsBefore}
 use Rattle.command_line.specs.trace_reader.specs.Text.{IsAccepted, IsFirstRefusal}
 use Rattle.command_line.specs.trace_reader.specs.declared.generator.Gen.{Gen}
 use Rattle.command_line.specs.trace_reader.specs.declared.traces.BadLine.{BadLine}
 use Rattle.command_line.specs.trace_reader.specs.declared.traces.TraceError.{TraceError}
 use Rattle.command_line.specs.trace_reader.specs.declared.traces.TraceError.TheVariants.{ReadFault, Memory, TooLarge, Malformed, TooManyTraces, TooManyRequests}
+use Rattle.command_line.specs.trace_reader.specs.declared.traces.Traces.{Traces}
 use Rattle.load_counts.specs.run_reports.specs.report_text.specs.Sink.{Extends, ExtendsInPart}
 use Rattle.printed_traces.specs.Ends.{IsRead, Prints, PrintsInPart}
 use Rattle.load_counts.specs.run_reports.specs.Reports.{HaveEntries}
 use Rattle.load_counts.specs.Apart.{load_text}
-use Rattle.command_line.specs.Commands.{AreAccepted}
+use Rattle.command_line.specs.Commands.{AreAccepted, IsCommand}
 use Rattle.command_line.specs.Written.{Text}
 use Rattle.command_line.specs.declared.command.Command.{Command}
 use Rattle.command_line.specs.declared.command.Command.TheVariants as commands
@@ -24,7 +25,7 @@ use Rattle.flock_tool.specs.declared.status.Stop.TheVariants.{Words, Nodes, Writ
 use Rattle.flock_tool.specs.Checks.{CheckPrints}
 use Rattle.flock_tool.specs.End.{IsLimit, error_line, error_status, nodes_line}
 use Rattle.flock_tool.specs.Loads.{HasCounted, HasLoadRun}
-use Rattle.flock_tool.specs.Plans.{AsksTooMuch, LoadAsksTooMuch, all_requests}
+use Rattle.flock_tool.specs.Plans.{AsksAnotherTable, AsksTooMuch, IsForAnotherTable, LoadAsksTooMuch, all_requests}
 use Rattle.flock_tool.specs.Runs.{words_in, meaning_of, waits_out, AreServedInOrder, HasEnded, HasRun, IsRunStatus}
 use Rattle.flock_tool.specs.Streams.{Fails, Gating, Halts, IsIdle, IsUntouched, Stream, Told}
 
@@ -43,18 +44,23 @@ pub record RunEnds (options : RunOptions) (result : ℕ × Option Ran) (source s
       → (entries : List (Option Entry)) → HaveEntries (meaning_of ran) (words_in ran) entries
       → AreServedInOrder entries)
   pub halted : result.0 ≡ 1 → Halts gates
-  -- where the text is refused nothing is run
-  pub idle : (result.0 ≡ 3) ⊎ (result.0 ≡ 4) ⊎ (result.0 ≡ 8) → IsIdle gates
+  -- where the text is refused, or is for another table than the words name, nothing is run
+  pub idle : (result.0 ≡ 2) ⊎ (result.0 ≡ 3) ⊎ (result.0 ≡ 4) ⊎ (result.0 ≡ 8) → IsIdle gates
   -- where the words name no halt, no gate is given with a plan
   pub unplanned : options.halts ≡ [] → gates.plans_after ≡ gates.plans_before
-  -- where no fault is counted, a text in the grammar is run, unless the runners would have too many node slots or
-  -- memory is wanting, and any other is refused for its first refusal
+  -- where no fault is counted, a text in the grammar is run, unless it is for another table, the runners would have
+  -- too many node slots or memory is wanting, and any other is refused for its first refusal
   pub grammatical : (Fails source → ⊥) → IfSome source.before (λ text. IsAccepted text
       → IsRunStatus result.0 ⊎ (result.0 ≡ 7)
-      ⊎ ((result.0 ≡ 4) × (count : ℕ) × AsksTooMuch options source.before count))
+      ⊎ ((result.0 ≡ 4) × (count : ℕ) × AsksTooMuch options source.before count)
+      ⊎ ((result.0 ≡ 2) × AsksAnotherTable options source.before))
+  -- one for another table never is
+  pub another : (Fails source → ⊥) → IfSome source.before (λ text. (traces : Traces) → AreTracesOf traces text
+      → IsForAnotherTable options traces → (result.0 ≡ 2) ⊎ (result.0 ≡ 7))
   pub refused : (Fails source → ⊥) → IfSome source.before (λ text. (error : TraceError) → IsFirstRefusal text error
       → (result.0 ≡ error_status error) ⊎ (result.0 ≡ 7))
   -- what each other status says, and what is told at it
+  pub words : result.0 ≡ 2 → AsksAnotherTable options source.before × Told (codes "flock: words refused\n") faults
   pub malformed : result.0 ≡ 3 → (line : ℕ) × (kind : BadLine)
       × (IfSome source.before (λ text. IsFirstRefusal text (Malformed line kind))
       × Told (error_line (Malformed line kind)) faults)
@@ -133,6 +139,12 @@ Ends (commands.Run options) = RunEnds options
 Ends (commands.Gen plan) = GenEnds plan
 Ends (commands.Load load) = LoadEnds load
 Ends commands.Check = CheckEnds
+
+-- these words are `run`, and name another table than one that serves the text
+pub record NameAnotherTable (words : List Text) (left : Option (List ℕ)) : Type 0 where
+  pub options : RunOptions
+  pub command : IsCommand words (commands.Run options)
+  pub another : AsksAnotherTable options left
 
 -- words that are no command are refused, unless memory is wanting before they are known as such: nothing is read,
 -- printed or run, and nothing comes back

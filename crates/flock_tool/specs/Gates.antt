@@ -21,9 +21,9 @@ halts_named (commands.Load load) = load.run.halts
 halts_named commands.Check = []
 
 module _ {H : Type 0} (halts : H → ℕ) (asks : H → Asks) where
-  -- each runner had the gate that was given out for it with the ask at which the words name it to halt, if they do: this
-  -- gate halted exactly where the runner was halted, had let it go on before, and was asked about each of its requests
-  -- that is served
+  -- each runner had the gate that was given out for it with the ask at which the words name it to halt, if they do:
+  -- this gate halted exactly where the runner was halted, had let it go on before, and was asked about each of its
+  -- requests that is served
   pub record HaveOwnGates {T : Type 0} (m : Meaning) (w : WordsState T) (answers : List Served) (named : List Halt)
       (reads_free : Bool) (gates : Gating) : Type 0 where
     pub entries : List (Option ℕ)

@@ -64,10 +64,10 @@ pub record EndsLoad (ran : Ran) (waits : Bool) (result : ℕ × Option Ran) (sin
 abbrev pub HasLoaded : Ran → Bool → ℕ × Option Ran → (sink faults : Stream) → Type 0
 HasLoaded ran waits result sink faults = EndsLoad ran waits result sink faults ⊎ LacksMemory result sink faults
 
--- a run that the options of `load` ask for; its gates were given out and came back
+-- a run that the options of `load` ask for, whose requests are of format 1; its gates were given out and came back
 pub record HasLoadRun (load : LoadOptions) (ran : Ran) (gates : Gating) : Type 0 where
   pub requests : (words_in ran).requests ≡ generated load.plan
-  pub run : IsRunOf load.run load.plan.traces ran
+  pub run : IsRunOf load.run 1 load.plan.traces ran
   pub asked : AreAsked (meaning_of ran) (words_in ran) (are_free load.run.reads) (answers_in ran) gates.asks_before
       gates.asks_after
   pub given : AreGiven load.run.halts (words_in ran).layout.runners (answers_in ran) gates

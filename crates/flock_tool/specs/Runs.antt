@@ -1,11 +1,13 @@
 -- What a run of the program leaves.
 use Rattle.std.specs.Prelude.{◌≡◌, ◌≢◌, ◌<◌, ◌≤◌, ◌⊎◌, ℕ, Bool, not, List, [], Option, IfSome, None, Some, false, true, codes, length, slice_get}
 use Rattle.machine_states.specs.map_history.specs.declared.op.Entry.{Entry}
+use Rattle.machine_states.specs.map_history.specs.declared.op.Request.{Request}
 use Rattle.machine_states.specs.structure_laws.specs.Meaning.{Meaning}
-use Rattle.leaf_tree.specs.tree_laws.specs.bucket_laws.specs.Buckets.{buckets_meaning}
+use Rattle.leaf_tree.specs.tree_laws.specs.bucket_laws.specs.Buckets.{buckets_meaning, moves_meaning}
 use Rattle.command_line.specs.trace_reader.specs.Answer.{AreTracesOf}
 use Rattle.load_counts.specs.run_reports.specs.report_text.specs.Sink.{Extends, ExtendsInPart}
 use Rattle.hash_table.specs.declared.table.HashTable.{HashTable}
+use Rattle.key_move.specs.declared.table.MoveTable.{MoveTable}
 use Rattle.leaf_tree.specs.declared.tree.LeafTree.{LeafTree}
 use Rattle.leaf_tree.specs.tree_laws.specs.Leaves.{tree}
 use Rattle.sorted_list.specs.declared.list.SortedList.{SortedList}
@@ -35,43 +37,76 @@ use Rattle.flock_tool.specs.declared.status.Stop.{Stop}
 use Rattle.flock_tool.specs.declared.status.Stop.TheVariants as stops
 use Rattle.flock_tool.specs.declared.status.Stop.TheVariants.{Words, Nodes, WriteFault}
 use Rattle.flock_tool.specs.declared.ran.Ran.{Ran}
-use Rattle.flock_tool.specs.declared.ran.Ran.TheVariants.{Hash, Tree}
 use Rattle.flock_tool.specs.declared.ran.Ran.TheVariants as tables
 
--- which structure kept the map
+-- a table after a run: which structure kept the map, what its words mean, how many node slots a pair of the map keeps
+-- in use at most, the closed words, and what the runners answered, in the order of their numbers
+pub record Closed : Type 1 where
+  pub structure : Type 0
+  pub meaning : Meaning
+  pub per_pair : ℕ
+  pub words : WordsState structure
+  pub answers : List Served
+
+-- what is said of every table alike is said of this, so a further table costs a line here and one in `IsTableOf`
+abbrev pub closed_of : Ran → Closed
+closed_of (tables.Hash words answers) = record {
+  structure = HashTable;
+  meaning = buckets_meaning words.structure.bits;
+  per_pair = 1;
+  words = words;
+  answers = answers.items;
+}
+closed_of (tables.Move words answers) = record {
+  structure = MoveTable;
+  meaning = moves_meaning words.structure.bits;
+  per_pair = 1;
+  words = words;
+  answers = answers.items;
+}
+closed_of (tables.Tree words answers) = record {
+  structure = LeafTree;
+  meaning = tree;
+  per_pair = 2;
+  words = words;
+  answers = answers.items;
+}
+closed_of (tables.List words answers) = record {
+  structure = SortedList;
+  meaning = list;
+  per_pair = 1;
+  words = words;
+  answers = answers.items;
+}
+
 abbrev pub structure_in : Ran → Type 0
-structure_in (Hash words answers) = HashTable
-structure_in (Tree words answers) = LeafTree
-structure_in (tables.List words answers) = SortedList
-
--- the closed words, and what the runners answered, in the order of their numbers
-abbrev pub words_in : (ran : Ran) → WordsState (structure_in ran)
-words_in (Hash words answers) = words
-words_in (Tree words answers) = words
-words_in (tables.List words answers) = words
-
-abbrev pub answers_in : Ran → List Served
-answers_in (Hash words answers) = answers.items
-answers_in (Tree words answers) = answers.items
-answers_in (tables.List words answers) = answers.items
+structure_in ran = (closed_of ran).structure
 
 abbrev pub meaning_of : Ran → Meaning
-meaning_of (Hash words answers) = buckets_meaning words.structure.bits
-meaning_of (Tree words answers) = tree
-meaning_of (tables.List words answers) = list
+meaning_of ran = (closed_of ran).meaning
 
--- how many node slots a pair of the map keeps in use, at most
 abbrev pub per_pair_in : Ran → ℕ
-per_pair_in (Hash words answers) = 1
-per_pair_in (Tree words answers) = 2
-per_pair_in (tables.List words answers) = 1
+per_pair_in ran = (closed_of ran).per_pair
 
--- the table was of the kind and of the size that the options name
-abbrev pub IsTableOf : RunOptions → Ran → Type 0
-IsTableOf options (Hash words answers) =
-    (options.table ≡ kinds.Hash) × (words.structure.bits ≡ bits_by options.bucket_bits (inserts words.requests))
-IsTableOf options (Tree words answers) = options.table ≡ kinds.Tree
-IsTableOf options (tables.List words answers) = options.table ≡ kinds.List
+abbrev pub words_in : (ran : Ran) → WordsState (structure_in ran)
+words_in ran = (closed_of ran).words
+
+abbrev pub answers_in : Ran → List Served
+answers_in ran = (closed_of ran).answers
+
+-- so many buckets, given as a power of two, are those that the options name
+abbrev pub AreBucketsOf : RunOptions → List Request → ℕ → Type 0
+AreBucketsOf options requests bits = bits ≡ bits_by options.bucket_bits (inserts requests)
+
+-- the table was of the kind and of the size that the options name: for a text of format 3 the hash table is the one
+-- that moves keys, too
+abbrev pub IsTableOf : RunOptions → ℕ → Ran → Type 0
+IsTableOf options format (tables.Hash words answers) =
+    (options.table ≡ kinds.Hash) × (format ≢ 3) × AreBucketsOf options words.requests words.structure.bits
+IsTableOf options format (tables.Move words answers) =
+    (options.table ≡ kinds.Hash) × (format ≡ 3) × AreBucketsOf options words.requests words.structure.bits
+IsTableOf options format (tables.Tree words answers) = (options.table ≡ kinds.Tree) × (format ≢ 3)
+IsTableOf options format (tables.List words answers) = (options.table ≡ kinds.List) × (format ≢ 3)
 
 -- for each runner a gate was given, in order of number, with the ask at which it is named to halt, if it is
 pub record AreHaltsOf (halts : List Halt) (runners : ℕ) (planned : List GatePlan) : Type 0 where
@@ -92,9 +127,9 @@ pub record AreGiven (halts : List Halt) (runners : ℕ) (answers : List Served) 
 abbrev pub waits_out : List Halt → ℕ → Bool
 waits_out halts runners = not (names_below halts runners)
 
--- the run was of these options, traces and requests
-pub record IsRunOf (options : RunOptions) (traces : ℕ) (ran : Ran) : Type 0 where
-  pub table : IsTableOf options ran
+-- the run was of these options, of a text of this format, and of these traces and requests
+pub record IsRunOf (options : RunOptions) (format traces : ℕ) (ran : Ran) : Type 0 where
+  pub table : IsTableOf options format ran
   pub layout : (words_in ran).layout ≡ layout_by options traces (words_in ran).requests
   -- every runner has served its own traces, and has the cause of its answer
   pub served : AreServed (meaning_of ran) (words_in ran)
@@ -117,7 +152,7 @@ module _ {T : Type 0} (meaning : T → Meaning) (per_pair : ℕ) where
 
 -- the run was of this plan; its gates were given out and came back
 pub record HasRunPlan (plan : Plan) (ran : Ran) (gates : Gating) : Type 0 where
-  pub table : IsTableOf plan.options ran
+  pub table : IsTableOf plan.options plan.traces.format ran
   pub layout : (words_in ran).layout ≡ plan.layout
   pub requests : (words_in ran).requests ≡ plan.traces.requests
   pub served : AreServed (meaning_of ran) (words_in ran)
@@ -138,7 +173,7 @@ pub record HasRun (options : RunOptions) (left : Option (List ℕ)) (traces : �
     count = traces;
     requests = (words_in ran).requests;
   }))
-  pub run : IsRunOf options traces ran
+  pub run : IsRunOf options format traces ran
   pub asked : AreAsked (meaning_of ran) (words_in ran) (are_free options.reads) (answers_in ran) gates.asks_before
       gates.asks_after
   pub given : AreGiven options.halts (words_in ran).layout.runners (answers_in ran) gates

@@ -12,7 +12,7 @@ use Rattle.command_line.specs.declared.command.Command.TheVariants as commands
 use Rattle.command_line.specs.declared.options.RunOptions.{RunOptions}
 use Rattle.threaded_runs.specs.Room.{HasEnoughVersions}
 use Rattle.flock_tool.specs.Complete.{IsAnswered}
-use Rattle.flock_tool.specs.Plans.{all_nodes, all_requests, layout_by}
+use Rattle.flock_tool.specs.Plans.{IsForAnotherTable, all_nodes, all_requests, layout_by}
 use Rattle.flock_tool.specs.Runs.{meaning_of, words_in}
 use Rattle.flock_tool.specs.Streams.{Fails, Gating, Halts, Stream}
 use Rattle.flock_tool.specs.declared.ran.Ran.{Ran}
@@ -24,11 +24,13 @@ pub record HasRoom (options : RunOptions) (traces : Traces) : Type 0 where
   pub few : all_nodes (layout_by options traces.count traces.requests) ≤ 262144
   pub enough : 2 * inserts traces.requests + 2 ≤ (layout_by options traces.count traces.requests).nodes
 
--- what is asked for is within the limits: the text of `run` is in the grammar, `gen` and `load` generate no more
--- requests than the limit, and what is run has room; the input of `check` has a legal report
+-- what is asked for is within the limits: the text of `run` is in the grammar and for the table that the words name,
+-- `gen` and `load` generate no more requests than the limit, and what is run has room; the input of `check` has a legal
+-- report
 abbrev pub IsValid : Command → Option (List ℕ) → Type 0
 IsValid (commands.Run options) left =
-    (text : List ℕ) × (traces : Traces) × (left ≡ Some text) × AreTracesOf traces text × HasRoom options traces
+    (text : List ℕ) × (traces : Traces) × (left ≡ Some text) × AreTracesOf traces text
+    × (IsForAnotherTable options traces → ⊥) × HasRoom options traces
 IsValid (commands.Gen plan) left = all_requests plan ≤ 131072
 IsValid (commands.Load load) left =
     (all_requests load.plan ≤ 131072)

@@ -28,6 +28,7 @@ pub use tool::flock;
 // Passed on to the layers above, so that they needn't name these libraries themselves.
 pub use command_line::trace_reader;
 pub use hash_table;
+pub use key_move;
 pub use leaf_tree;
 pub use load_counts;
 pub use printed_traces::report_text;

@@ -15,7 +15,7 @@ ghost use Rattle.flock_tool.specs.Streams.{gating, stream};
 
 use crate::finish::{is_whole, status_of_finish, tell_finish};
 use crate::plan::{Plan, load_plan};
-use crate::ran::Ran;
+use crate::ran::{Ran, on_table};
 use crate::report::{finish_of_run, refuse};
 use crate::run::{run_is_allowed, run_plan, size_of};
 use crate::status::{Stop, status_of, tell};
@@ -92,11 +92,7 @@ fn count_run(alloc: Global, ran: &Ran, requests: u32) -> Result<Counted, AllocEr
     requires free { HoldsNoLock (meaning_of ran.now) (words_in ran.now) }
     ensures { IfOk result (IsCounted (meaning_of ran.now) (words_in ran.now)) }
 {
-    match ran {
-        Ran::Hash(words, _) => count_on(alloc, words, requests),
-        Ran::Tree(words, _) => count_on(alloc, words, requests),
-        Ran::List(words, _) => count_on(alloc, words, requests),
-    }
+    on_table!(ran, (words, _) => count_on(alloc, words, requests))
 }
 
 // Counts the closed words of a run, and prints and tells what they come to.

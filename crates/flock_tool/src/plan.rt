@@ -1,5 +1,5 @@
 // What the options of a command and the text, or the generator, ask for.
-ghost use Rattle.std.specs.Prelude.{◌≡◌, ◌≤◌, ◌<◌, ◌^◌, length, Err, IfOk, IfErr, IfSome};
+ghost use Rattle.std.specs.Prelude.{◌≡◌, ◌↔◌, ◌≤◌, ◌<◌, ◌^◌, length, Err, IfOk, IfErr, IfSome, IsTrue};
 ghost use Rattle.threaded_runs.specs.runner_gate.specs.fault_count.specs.Rose.{Rose};
 ghost use Rattle.machine_states.specs.table_words.specs.Limits.{IsWithinLimits};
 ghost use Rattle.threaded_runs.specs.free_serving.specs.resource_bounds.specs.Makes.{inserts};
@@ -9,6 +9,7 @@ ghost use Rattle.command_line.specs.Generated.{AreLoadRanges};
 ghost use Rattle.command_line.specs.Options.{AreInRange};
 ghost use Rattle.flock_tool.specs.declared.status.Stop.TheVariants.{Text};
 ghost use Rattle.flock_tool.specs.Plans.{
+  IsForAnotherTable,
   IsPlanned,
   IsRefusedPlan,
   IsLoadPlanned,
@@ -21,7 +22,7 @@ ghost use Rattle.flock_tool.specs.Plans.{
 
 use crate::status::Stop;
 use command_line::trace_reader::{MAX_REQUESTS, Source, TraceError, Traces, generate, read_traces};
-use command_line::{LoadOptions, RunOptions};
+use command_line::{LoadOptions, RunOptions, TableKind};
 use machine_states::map_history::Request;
 use machine_states::table_words::Layout;
 use std::alloc::Global;
@@ -37,26 +38,46 @@ pub struct Plan {
     pub layout: Layout,
 }
 
-/// Reads the text that is run with these options. Refused by its first refusal, or for too many node slots, in this
-/// order.
+/// Reads the text that is run with these options. Refused by its first refusal, since it is for another table than they
+/// name, or for too many node slots, in this order.
 pub fn plan_of<R: Source>(alloc: Global, options: RunOptions, source: &mut R) -> Result<Plan, Stop>
     requires { AreInRange options }
     ensures planned { IfOk result (IsPlanned options (R.left source.old)) }
     ensures limits { IfOk result (λ plan. IsWithinLimits plan.layout) }
     ensures refused { IfErr result (IsRefusedPlan options (R.left source.old)) }
     ensures must { (Rose (R.faults source.old) (R.faults source.new) → ⊥)
-        → IfSome (R.left source.old) (MustPlan result) }
+        → IfSome (R.left source.old) (MustPlan options result) }
     ensures read { result ≡ Err (Text ReadFault) → Rose (R.faults source.old) (R.faults source.new)
         × StopsBefore (R.left source.old) (R.left source.new) }
     ensures reads { (result ≡ Err (Text ReadFault) → ⊥) → R.faults source.new ≡ R.faults source.old }
 {
     let traces = read_traces(alloc, source)?;
+    if is_for_another_table(&options, &traces) {
+        return Err(Stop::Words);
+    }
     let layout = layout_of(&options, &traces)?;
     Ok(Plan {
         options,
         traces,
         layout,
     })
+}
+
+// Whether the words name a table that doesn't serve this text: one of format 3 may ask for a `mov`.
+fn is_for_another_table(options: &RunOptions, traces: &Traces) -> bool
+    ensures { IsTrue result ↔ IsForAnotherTable options.now traces.now }
+{
+    match options.table {
+        TableKind::Hash => false,
+        TableKind::Tree | TableKind::List => moves_keys(traces),
+    }
+}
+
+/// Whether a request of this text may be a `mov`, which only the table that moves keys serves.
+pub(crate) fn moves_keys(traces: &Traces) -> bool
+    ensures { IsTrue result ↔ (traces.now.format ≡ 3) }
+{
+    traces.format == 3
 }
 
 /// Generates the requests that are run with these options. Refused for too many requests, or for too many node slots,

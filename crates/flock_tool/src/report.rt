@@ -48,7 +48,6 @@ pub fn run_command<T: Threads + Wait + Sync, R: Source, K: Sink, F: Sink, G: Gat
     ensures reads { result.0 ≢ 8 → R.faults source.new ≡ R.faults source.old }
     ensures writes { result.0 ≢ 9 → K.faults sink.new ≡ K.faults sink.old }
     ensures silent { (IsRunStatus result.0 → ⊥) → K.held sink.new ≡ K.held sink.old }
-    ensures accepted { result.0 ≢ 2 }
     ensures statuses { result.0 ≤ 9 }
 {
     let plan = match plan_of(alloc, options, source) {

@@ -1,5 +1,5 @@
 // The run itself, and its report.
-ghost use Rattle.std.specs.Prelude.{◌≡◌, All, IfOk, IfErr, OnErr, OnOk, [], true};
+ghost use Rattle.std.specs.Prelude.{◌≡◌, ◌≢◌, ◌≤◌, length, All, IfOk, IfErr, OnErr, OnOk, [], true};
 ghost use Rattle.std.specs.FinMap.{len};
 ghost use Rattle.machine_states.specs.map_history.specs.declared.op.Request.{Request};
 ghost use Rattle.machine_states.specs.map_history.specs.Replay.{Pairs};
@@ -11,15 +11,17 @@ ghost use Rattle.leaf_tree.specs.tree_laws.specs.bucket_laws.specs.Walk.{has_one
 ghost use Rattle.command_line.specs.Options.{AreInRange, are_free};
 ghost use Rattle.load_counts.specs.run_reports.specs.Reports.{HaveContents, Prints};
 ghost use Rattle.flock_tool.specs.Gates.{HaveOwnGates};
-ghost use Rattle.flock_tool.specs.Runs.{words_in, answers_in, meaning_of, HasRunOn, HasRunPlan, StopsReport};
+ghost use Rattle.flock_tool.specs.Plans.{IsForAnotherTable};
+ghost use Rattle.flock_tool.specs.Runs.{AreBucketsOf, words_in, answers_in, meaning_of, HasRunOn, HasRunPlan, StopsReport};
 ghost use Rattle.flock_tool.specs.Streams.{gating, stream};
 
-use crate::plan::{Plan, insertions};
-use crate::ran::Ran;
+use crate::plan::{Plan, insertions, moves_keys};
+use crate::ran::{Ran, on_table};
 use crate::status::Stop;
 use command_line::TableKind;
 use hash_table::HashTable;
 use hash_table::lock_walks::Planner;
+use key_move::MoveTable;
 use leaf_tree::LeafTree;
 use load_counts::run_reports::{contents_stand, print_words};
 use printed_traces::report_text::Sink;
@@ -32,9 +34,10 @@ use threaded_runs::runner_gate::Gates;
 use threaded_runs::serving::Served;
 use version_words::{Words, words_are_reached};
 
-/// Runs the requests of a plan on one table of the structure that its options name. A runner that lacks slots tries
-/// again while some of its own are in limbo, unless the words name a halt for a runner that is there: a halted runner
-/// would keep them there. Each `get` is read without a lock where the options say so. The Err is want of memory.
+/// Runs the requests of a plan on one table of the structure that its options name, those of a text that moves keys on
+/// the hash table that serves it. A runner that lacks slots tries again while some of its own are in limbo, unless the
+/// words name a halt for a runner that is there: a halted runner would keep them there. Each `get` is read without a
+/// lock where the options say so. The Err is want of memory.
 pub fn run_plan<T: Threads + Wait + Sync, G: Gates>(
     rt: &T,
     alloc: Global,
@@ -44,7 +47,9 @@ pub fn run_plan<T: Threads + Wait + Sync, G: Gates>(
     requires ranges { AreInRange plan.now.options }
     requires limits { IsWithinLimits plan.now.layout }
     requires ordered { AreInOrder plan.now.traces.requests plan.now.traces.count }
-    requires one_key { All (λ (request : Request). has_one_key request.op ≡ true) plan.now.traces.requests }
+    requires served { IsForAnotherTable plan.now.options plan.now.traces → ⊥ }
+    requires one_key { plan.now.traces.format ≢ 3
+        → All (λ (request : Request). has_one_key request.op ≡ true) plan.now.traces.requests }
     ensures ran { IfOk result (λ ran. HasRunPlan plan.now ran
         (gating (G.halts gates.old) (G.halts gates.new) (G.asks gates.old) (G.asks gates.new)
         (G.plans gates.old) (G.plans gates.new) (G.planned gates.old) (G.planned gates.new)
@@ -57,11 +62,13 @@ pub fn run_plan<T: Threads + Wait + Sync, G: Gates>(
     ensures unplanned { OnErr result (plan.now.options.halts ≡ [] → G.plans gates.new ≡ G.plans gates.old) }
 {
     match plan.options.table {
+        TableKind::Hash if moves_keys(&plan.traces) => {
+            let table = MoveTable::new(bucket_bits(plan));
+            let (words, answers) = run_on(rt, alloc, table, plan, gates)?;
+            Ok(Ran::Move(words, answers))
+        }
         TableKind::Hash => {
-            let bits = plan
-                .options
-                .bits_for(insertions(plan.traces.requests.as_slice()));
-            let table = HashTable::new(bits);
+            let table = HashTable::new(bucket_bits(plan));
             let (words, answers) = run_on(rt, alloc, table, plan, gates)?;
             Ok(Ran::Hash(words, answers))
         }
@@ -74,6 +81,17 @@ pub fn run_plan<T: Threads + Wait + Sync, G: Gates>(
             Ok(Ran::List(words, answers))
         }
     }
+}
+
+// How many buckets the hash table of this plan has, as a power of two.
+fn bucket_bits(plan: &Plan) -> u32
+    requires ranges { AreInRange plan.now.options }
+    requires few { length plan.now.traces.requests ≤ 131072 }
+    ensures bits { AreBucketsOf plan.now.options plan.now.traces.requests result }
+    ensures few { result ≤ 12 }
+{
+    let requests = plan.traces.requests.as_slice();
+    plan.options.bits_for(insertions(requests))
 }
 
 // Runs the requests of a plan on one table of this structure, which serves each of them.
@@ -137,22 +155,14 @@ pub fn run_is_allowed(ran: &Ran)
     ensures limits { IsWithinLimits (words_in ran.now).layout }
     ensures requests { AreAllowed (words_in ran.now).requests }
 {
-    match ran {
-        Ran::Hash(words, _) => words_are_reached(words),
-        Ran::Tree(words, _) => words_are_reached(words),
-        Ran::List(words, _) => words_are_reached(words),
-    }
+    on_table!(ran, (words, _) => words_are_reached(words))
 }
 
 /// What each runner answered, in the order of their numbers.
 pub fn answers(ran: &Ran) -> &[Served]
     ensures { result.now ≡ answers_in ran.now }
 {
-    match ran {
-        Ran::Hash(_, answers) | Ran::Tree(_, answers) | Ran::List(_, answers) => {
-            answers.as_slice()
-        }
-    }
+    on_table!(ran, (_, answers) => answers.as_slice())
 }
 
 // Prints the report on a closed table, and answers how many requests are unserved.
@@ -199,9 +209,5 @@ pub fn print_run<K: Sink>(alloc: Global, plan: &Plan, ran: &Ran, sink: &mut K) -
         (stream (K.held sink.old) (K.held sink.new) (K.faults sink.old) (K.faults sink.new))) }
     ensures steady { OnOk result (K.faults sink.new ≡ K.faults sink.old) }
 {
-    match ran {
-        Ran::Hash(words, _) => print_on(alloc, plan, words, sink),
-        Ran::Tree(words, _) => print_on(alloc, plan, words, sink),
-        Ran::List(words, _) => print_on(alloc, plan, words, sink),
-    }
+    on_table!(ran, (words, _) => print_on(alloc, plan, words, sink))
 }

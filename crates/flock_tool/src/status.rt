@@ -14,7 +14,7 @@ use std::alloc::AllocError;
 /// Why the program ended before its report was printed whole.
 #[derive(Clone, Copy, Debug, PartialEq, Eq)]
 pub enum Stop {
-    /// The words are no command.
+    /// The words are no command, or name another table than one that serves the text.
     Words,
     /// The text was not read, or memory was wanting.
     Text(TraceError),

@@ -4,7 +4,7 @@ ghost use Rattle.command_line.specs.Commands.{AreAccepted, HasRanges, IsCommand,
 ghost use Rattle.command_line.specs.declared.command.Command.{Command};
 ghost use Rattle.flock_tool.specs.Alone.{IsValidAlone, KeepsVersions, NothingStops};
 ghost use Rattle.flock_tool.specs.Asks.{AsksFew, AsksOften};
-ghost use Rattle.flock_tool.specs.Commands.{Ends, IsNoCommand, RefusedEnds};
+ghost use Rattle.flock_tool.specs.Commands.{Ends, IsNoCommand, NameAnotherTable, RefusedEnds};
 ghost use Rattle.flock_tool.specs.Gates.{GatesAreOwn, halts_named};
 ghost use Rattle.flock_tool.specs.Reads.{ReadsFirst, reads_freely};
 ghost use Rattle.flock_tool.specs.Runs.{IsRunStatus};
@@ -34,11 +34,12 @@ use threaded_runs::runner_gate::Gates;
 /// words of its table come back, with what each runner answered.
 ///
 /// The status is 0 where all went well and every request was answered or the report is legal, 1 where
-/// a gate halted its runner and a request is unserved, 2 where the words are refused, 3 where the text
-/// isn't in the grammar or has no report to be checked, 4 where an input or what is to be generated is
-/// past a limit or the runners would have too many node slots, 5 where a runner lacked slots, 6 where
-/// one lacked versions, 7 for want of memory, 8 where the source failed, 9 where the sink did, and 10
-/// where a report that is checked isn't legal. The report of `run` is printed whole at 0, 1, 5 and 6,
+/// a gate halted its runner and a request is unserved, 2 where the words are refused or name another
+/// table than one that serves the text, as the tree and the list do for a text of format 3, 3 where
+/// the text isn't in the grammar or has no report to be checked, 4 where an input or what is to be
+/// generated is past a limit or the runners would have too many node slots, 5 where a runner lacked
+/// slots, 6 where one lacked versions, 7 for want of memory, 8 where the source failed, 9 where the
+/// sink did, and 10 where a report that is checked isn't legal. The report of `run` is printed whole at 0, 1, 5 and 6,
 /// the verdict of `check` at 0 and 10, the other texts at 0 alone; at 9 the sink holds a part, and
 /// otherwise nothing is added to it.
 ///
@@ -99,8 +100,10 @@ pub fn flock<'a, T: Threads + Wait + Sync, R: Source, K: Sink, F: Sink, G: Gates
     // Where reads take no lock, each `get` that one runner has served has a read's stamp.
     ensures odd { (command : Command) → IsCommand (texts words.now) command
         → ReadsFirst (reads_freely command) result }
-    // All words but those of a command are refused, and these never are.
-    ensures accepted { AreAccepted (texts words.now) → result.0 ≢ 2 }
+    // All words but those of a command are refused, and these only where they name another table than
+    // one that serves the text.
+    ensures accepted { AreAccepted (texts words.now) → result.0 ≡ 2
+        → NameAnotherTable (texts words.now) (R.left source.old) }
     ensures words { (AreAccepted (texts words.now) → ⊥) → RefusedEnds result
         (stream (R.left source.old) (R.left source.new) (R.faults source.old) (R.faults source.new))
         (stream (K.held sink.old) (K.held sink.new) (K.faults sink.old) (K.faults sink.new))

@@ -35,6 +35,9 @@ pub returns-clause-alone : goal.returns-clause-alone
 returns-clause-alone g c = λ command is valid stops.
     ⊎_elim (λ whole. inl (c.from.ensures ∙ whole.status)) (λ seven. inr (c.from.ensures ∙ seven)) (c.flock-status.ensures.alone command is valid stops)
 
+pub returns-clause-accepted : goal.returns-clause-accepted
+returns-clause-accepted g c = λ accepted two. c.flock-status.ensures.accepted accepted (sym c.from.ensures ∙ two)
+
 pub returns-clause-words : goal.returns-clause-words
 returns-clause-words g c = λ not. let ends = c.flock-status.ensures.words not in record {
   status = ⊎_elim (λ two. inl (c.from.ensures ∙ two)) (λ seven. inr (c.from.ensures ∙ seven)) ends.status;

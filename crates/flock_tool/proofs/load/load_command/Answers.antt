@@ -26,7 +26,10 @@ returns-clause-runs g c =
     (λ much. not_both _ _ (c.in-Ok.ensures.must much)) c.report_load.ensures
 
 pub run_plan-requires-clause-one_key : goal.run_plan-requires-clause-one_key
-run_plan-requires-clause-one_key g c κs within = generated_have_one_key c.in-Ok.plan.traces.requests c.in-Ok.ensures.planned.format
+run_plan-requires-clause-one_key g c κs within = λ _. generated_have_one_key c.in-Ok.plan.traces.requests c.in-Ok.ensures.planned.format
+
+pub run_plan-requires-clause-served : goal.run_plan-requires-clause-served
+run_plan-requires-clause-served g c κs within = λ is_for. absurd (omega (arith, is_for.0, c.in-Ok.ensures.planned.header))
 
 pub returns-in-Err-clause-gates : goal.returns-in-Err-clause-gates
 returns-in-Err-clause-gates g c = none_own _ _ c.refuse.result _ _ _ c.refuse.ensures.none

@@ -33,7 +33,7 @@ pub returns-in-Err-clause-odd : goal.returns-in-Err-clause-odd
 returns-in-Err-clause-odd g c = λ command is. reads_first command c.refuse.result _ _ _ _ (returns-in-Err-clause-commands g c command is)
 
 pub returns-in-Err-clause-accepted : goal.returns-in-Err-clause-accepted
-returns-in-Err-clause-accepted g c = λ accepted two. none_accepted (texts c.args.words.now) c.in-Err.stop c.in-Err.ensures.refused accepted (sym c.refuse.ensures.status ∙ two)
+returns-in-Err-clause-accepted g c = λ accepted two. absurd (none_accepted (texts c.args.words.now) c.in-Err.stop c.in-Err.ensures.refused accepted (sym c.refuse.ensures.status ∙ two))
 
 pub returns-in-Err-clause-words : goal.returns-in-Err-clause-words
 returns-in-Err-clause-words g c = λ _.
@@ -71,6 +71,13 @@ returns-in-Run-clause-often g c = λ command is. asks_often command c.run_comman
 pub returns-in-Run-clause-odd : goal.returns-in-Run-clause-odd
 returns-in-Run-clause-odd g c = λ command is. reads_first command c.run_command.result _ _ _ _ (returns-in-Run-clause-commands g c command is)
 
+pub returns-in-Run-clause-accepted : goal.returns-in-Run-clause-accepted
+returns-in-Run-clause-accepted g c = λ accepted two. record {
+  options = c.in-Run.options;
+  command = subst (IsCommand (texts c.args.words.now)) c.in-Run.is c.in-Ok.ensures.read;
+  another = (c.run_command.ensures.ends.words two).0;
+}
+
 pub returns-in-Run-clause-words : goal.returns-in-Run-clause-words
 returns-in-Run-clause-words g c = λ not. absurd (not (c.in-Ok.command, c.in-Ok.ensures.read))
 
@@ -102,7 +109,7 @@ pub returns-in-Gen-clause-odd : goal.returns-in-Gen-clause-odd
 returns-in-Gen-clause-odd g c = λ command is. reads_first command _ _ _ _ _ (returns-in-Gen-clause-commands g c command is)
 
 pub returns-in-Gen-clause-accepted : goal.returns-in-Gen-clause-accepted
-returns-in-Gen-clause-accepted g c = λ accepted. (gen_few c.in-Gen.plan c.gen_command.result _ _ c.gen_command.ensures).0
+returns-in-Gen-clause-accepted g c = λ accepted two. absurd ((gen_few c.in-Gen.plan c.gen_command.result _ _ c.gen_command.ensures).0 two)
 
 pub returns-in-Gen-clause-words : goal.returns-in-Gen-clause-words
 returns-in-Gen-clause-words g c = λ not. absurd (not (c.in-Ok.command, c.in-Ok.ensures.read))
@@ -144,7 +151,7 @@ pub returns-in-Load-clause-odd : goal.returns-in-Load-clause-odd
 returns-in-Load-clause-odd g c = λ command is. reads_first command c.load_command.result _ _ _ _ (returns-in-Load-clause-commands g c command is)
 
 pub returns-in-Load-clause-accepted : goal.returns-in-Load-clause-accepted
-returns-in-Load-clause-accepted g c = λ accepted. (load_few c.in-Load.load c.load_command.result _ _ _ c.load_command.ensures.runs).0
+returns-in-Load-clause-accepted g c = λ accepted two. absurd ((load_few c.in-Load.load c.load_command.result _ _ _ c.load_command.ensures.runs).0 two)
 
 pub returns-in-Load-clause-words : goal.returns-in-Load-clause-words
 returns-in-Load-clause-words g c = λ not. absurd (not (c.in-Ok.command, c.in-Ok.ensures.read))
@@ -186,7 +193,7 @@ pub returns-in-Check-clause-odd : goal.returns-in-Check-clause-odd
 returns-in-Check-clause-odd g c = λ command is. reads_first command _ _ _ _ _ (returns-in-Check-clause-commands g c command is)
 
 pub returns-in-Check-clause-accepted : goal.returns-in-Check-clause-accepted
-returns-in-Check-clause-accepted g c = λ accepted. (check_few c.check_command.result _ _ _ c.check_command.ensures).0
+returns-in-Check-clause-accepted g c = λ accepted two. absurd ((check_few c.check_command.result _ _ _ c.check_command.ensures).0 two)
 
 pub returns-in-Check-clause-words : goal.returns-in-Check-clause-words
 returns-in-Check-clause-words g c = λ not. absurd (not (c.in-Ok.command, c.in-Ok.ensures.read))
