@@ -86,6 +86,33 @@ const ON_ONE_TABLE: &str = "\
 5 run --nodes 0 --runners 1|flock 1/{63*trace/}trace/{131072*get 1/}#{3407478*x}/|{63*trace &/}trace 63/{131072*- unserved/}final 0/|flock: slots: runner 0 node free 0 limbo 0 worn 0/
 ";
 
+// Texts of format 3, which only the hash table serves: among 64 buckets, in one, and, where the place counts, in the
+// middle of a chain; with few node slots, of which a moved pair takes one more until the one that it had is free again;
+// with a lock's word that is worn out. Behind them what is told where the words name another table, which comes behind
+// the faults of a text and before its node slots.
+const MOVES: &str = "\
+0 run|flock 3/|final 0/|
+0 run|flock 3/trace/ins 1 10/mov 1 2/get 1/get 2/mov 1 3/mov 2 2/|trace 0/0 new/1 moved/2 none/3 val 10/4 none/5 dup/final 1/|
+0 run --buckets 1|flock 3/trace/ins 1 10/mov 1 2/get 1/get 2/mov 1 3/mov 2 2/|trace 0/0 new/1 moved/2 none/3 val 10/4 none/5 dup/final 1/|
+0 run --table hash --reads free|flock 3/trace/ins 1 10/mov 1 2/get 1/get 2/mov 1 3/mov 2 2/|trace 0/0 new/1 moved/2 none/3 val 10/4 none/5 dup/final 1/|
+0 run|flock 3/trace/ins 1 10/ins 2 20/mov 1 2/mov 2 1/put 2 21/mov 2 3/get 3/|trace 0/0 new/1 new/2 dup/3 dup/4 was 20/5 moved/6 val 21/final 2/|
+0 run --buckets 1|flock 3/trace/ins 1 1/ins 2 2/ins 3 3/mov 2 4/get 2/get 4/mov 3 2/mov 1 3/del 4/get 2/get 3/|trace 0/0 new/1 new/2 new/3 moved/4 none/5 val 2/6 moved/7 moved/8 gone/9 val 3/10 val 1/final 2/|
+0 run --runners 1|flock 3/trace/ins 1 10/mov 3 1/trace/mov 1 3/get 3/|trace 0/0 new/1 none/trace 1/2 moved/3 val 10/final 1/|
+0 run --nodes 18|flock 3/trace/ins 1 10/{100*mov 1 2/mov 2 1/}get 1/|trace 0/& new/{100*& moved/& moved/}201 val 10/final 1/|
+0 run --buckets 1 --nodes 18|flock 3/trace/ins 1 10/{100*mov 1 2/mov 2 1/}get 1/|trace 0/& new/{100*& moved/& moved/}201 val 10/final 1/|
+1 run --runners 2 --halt 1:1|flock 3/trace/ins 1 1/trace/mov 1 2/|trace 0/0 new/trace 1/- unserved/final 1/|flock: halted, 1 unserved/
+6 run --buckets 1 --version-max 5|flock 3/trace/mov 1 2/mov 1 2/mov 1 2/|trace 0/0 none/1 none/- unserved/final 0/|flock: versions: place 0 value 0 version 5/
+4 run --runners 2 --nodes 131073|flock 3/trace/ins 1 10/trace/get 1/||flock: limit: nodes 262146/
+0 check|flock 3/trace/ins 1 10/mov 1 2/get 2/report/trace 0/0 new/1 moved/2 val 10/final 1/|legal/|
+10 check|flock 3/trace/ins 1 10/mov 1 2/get 2/report/trace 0/0 new/1 moved/2 none/final 1/|line 4: reply/|
+2 run --table tree|flock 3/trace/ins 1 10/mov 1 2/get 1/get 2/mov 1 3/mov 2 2/||flock: words refused/
+2 run --table list|flock 3/trace/ins 1 10/mov 1 2/get 1/get 2/mov 1 3/mov 2 2/||flock: words refused/
+2 run --table tree|flock 3/||flock: words refused/
+2 run --table list --runners 2 --nodes 131073|flock 3/trace/ins 1 10/trace/get 1/||flock: words refused/
+3 run --table tree|flock 3/trace/mov 1 2/mov 1/||flock: line 4: missing field/
+3 run --table list|flock 4/||flock: line 1: no header/
+";
+
 // Whether a row comes out as it says, with these words behind its own, and the program finds the report legal that a run
 // printed.
 fn comes_out<T: Threads + Wait + Sync>(
@@ -138,6 +165,12 @@ fn rows_come_out_on_each_table(rt: HostRuntime) -> Result<(), Fail> {
     all_come_out(&rt, rt.alloc(), ON_EACH_TABLE, "--table hash")?;
     all_come_out(&rt, rt.alloc(), ON_EACH_TABLE, "--table tree")?;
     all_come_out(&rt, rt.alloc(), ON_EACH_TABLE, "--table list")?;
+    Ok(())
+}
+
+#[test]
+fn keys_are_moved_on_the_hash_table_alone(rt: HostRuntime) -> Result<(), Fail> {
+    all_come_out(&rt, rt.alloc(), MOVES, "")?;
     Ok(())
 }
 

@@ -1,5 +1,6 @@
 //! Several runners: scripts by which they run beside one another, and reports that are legal whoever came first. In the
 //! tables bars part the columns.
+use crate::legal::keeps_sum;
 use crate::program::{TABLES, bytes_of, cut, is_legal, run, run_from};
 use body_terms::StepKind;
 use flock_tool::threaded_runs::runner_gate::{Pause, ScriptedGates};
@@ -149,6 +150,45 @@ fn crowd_is_served<T: Threads + Wait + Sync>(
 fn crowds_have_legal_reports(rt: HostRuntime) -> Result<(), Fail> {
     for row in CROWDS.lines() {
         let is_served = crowd_is_served(&rt, rt.alloc(), row)?;
+        assert!(rt; is_served, "{row}");
+    }
+    Ok(())
+}
+
+// Runners that move the same keys to and fro, many times, with insertions before and reads between. Each row: the words,
+// how many pairs are left, and the text. Where a key may be moved to before it is inserted, any number may be left.
+const MOVES: &str = "\
+--runners 2|1|flock 3/trace/ins 1 1/mov 1 2/mov 2 1/trace/mov 1 2/mov 2 1/
+--runners 2 --buckets 1|1|flock 3/trace/ins 1 1/mov 1 2/mov 2 1/trace/mov 1 2/mov 2 1/
+--runners 2 --reads free|any|flock 3/trace/ins 1 10/ins 2 20/{100*mov 1 3/mov 2 4/get 3/mov 3 2/mov 4 1/}trace/{100*mov 3 1/get 1/mov 4 2/mov 1 4/mov 2 3/}
+--runners 2 --buckets 2|any|flock 3/trace/ins 1 10/ins 2 20/{100*mov 1 3/mov 2 4/get 3/mov 3 2/mov 4 1/}trace/{100*mov 3 1/get 1/mov 4 2/mov 1 4/mov 2 3/}
+--runners 2 --buckets 1|any|flock 3/trace/ins 1 10/ins 2 20/{100*mov 1 3/mov 2 4/get 3/mov 3 2/mov 4 1/}trace/{100*mov 3 1/get 1/mov 4 2/mov 1 4/mov 2 3/}
+--runners 16 --buckets 4|any|flock 3/trace/ins 1 10/trace/ins 2 20/trace/ins 3 30/{61*trace/mov 1 4/get 4/mov 2 1/mov 3 2/mov 4 3/get 0/}
+";
+
+// Whether each request of a row is served, the report is legal, and the sum of the values stays what it is.
+fn moves_are_served<T: Threads + Wait + Sync>(
+    rt: &T,
+    alloc: Global,
+    row: &str,
+) -> Result<bool, AllocError> {
+    let (words, row) = cut(row);
+    let (size, text) = cut(row);
+    let (line, last) = (
+        format!(in alloc; "run {words}")?,
+        format!(in alloc; "\nfinal {size}\n")?,
+    );
+    let text = bytes_of(alloc, text)?;
+    let ended = run(rt, alloc, &line, text.clone()?)?;
+    let is_whole = ended.status == 0 && (size == "any" || ended.report().ends_with(&*last));
+    let is_kept = keeps_sum(alloc, &text, ended.report())?;
+    Ok(is_whole && is_kept && is_legal(rt, alloc, &text, &ended.printed)?)
+}
+
+#[test]
+fn moved_values_are_never_lost(rt: HostRuntime) -> Result<(), Fail> {
+    for row in MOVES.lines() {
+        let is_served = moves_are_served(&rt, rt.alloc(), row)?;
         assert!(rt; is_served, "{row}");
     }
     Ok(())

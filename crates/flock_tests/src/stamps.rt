@@ -60,7 +60,7 @@ where
     Ok(stamps)
 }
 
-/// The stamps of a text's requests on the hash table, or on the tree. None where the text is refused.
+/// The stamps of a text's requests on the hash table, or on the tree. None where the text is refused, or may move keys.
 pub fn stamps_of<T: Threads + Wait + Sync>(
     rt: &T,
     alloc: Global,
@@ -72,6 +72,9 @@ pub fn stamps_of<T: Threads + Wait + Sync>(
     let Ok(traces) = read_traces(alloc, &mut source) else {
         return Ok(None);
     };
+    if traces.format == 3 {
+        return Ok(None);
+    }
     let requests = traces.requests.as_slice();
     let stamps = if on_tree {
         stamps_on(rt, alloc, LeafTree::new(), requests, reads_free)?

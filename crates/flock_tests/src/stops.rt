@@ -2,6 +2,7 @@
 //! the keeper settles the table: it runs the section to its end that stands in a lock word, so the
 //! report has the reply of each request that was published before the stop.
 
+use crate::legal::keeps_sum;
 use crate::program::{Ended, TABLES, bytes_of, is_legal, run};
 use std::alloc::{AllocError, Global};
 use std::process::Abort;
@@ -11,7 +12,7 @@ use std::thread::Threads;
 
 // The stops of the one runner. Each row: the table, the first and the last ask at which the runner
 // stops, the text, and the report. A request is answered from the ask on that comes behind the
-// exchange by which its section is published.
+// exchange by which its section is published. Of the keys that are moved 1 and 56 lie in one bucket, 1 and 2 in two.
 const STOPS: &str = "\
 hash 1 4|flock 1/trace/get 1/|trace 0/- unserved/final 0/
 hash 5 28|flock 1/trace/get 1/|trace 0/0 none/final 0/
@@ -33,6 +34,10 @@ tree 7 63|flock 2/trace/put 5 70/put 5 80/|trace 0/0 new/- unserved/final 1/
 tree 64 103|flock 2/trace/put 5 70/put 5 80/|trace 0/0 new/1 was 70/final 1/
 list 6 50|flock 2/trace/put 5 70/put 5 80/|trace 0/0 new/- unserved/final 1/
 list 51 101|flock 2/trace/put 5 70/put 5 80/|trace 0/0 new/1 was 70/final 1/
+hash 5 52|flock 3/trace/ins 1 10/mov 1 2/|trace 0/0 new/- unserved/final 1/
+hash 53 108|flock 3/trace/ins 1 10/mov 1 2/|trace 0/0 new/1 moved/final 1/
+hash 5 52|flock 3/trace/ins 1 10/mov 1 56/|trace 0/0 new/- unserved/final 1/
+hash 53 96|flock 3/trace/ins 1 10/mov 1 56/|trace 0/0 new/1 moved/final 1/
 ";
 
 // The same where the requests that only read are served without a lock: such a request is answered from the ask on that
@@ -104,30 +109,52 @@ fn one_runner_stops_at_each_ask(rt: HostRuntime) -> Result<(), Fail> {
     Ok(())
 }
 
+// Two runners, of which the first one stops: their text, the words, and the last ask at which it stops.
+type Pair = (&'static str, &'static str, u64);
+
 // Two runners on one key, two that set it, two that put their keys in and take them out, one that reads a key which the
-// first one puts in, and one that puts a key in which the first one reads; how reads are served, and the last ask at
-// which the first runner stops.
-const PAIRS: [(&str, &str, u64); 5] = [
-    ("flock 1/trace/ins 5 70/trace/ins 5 80/", "lock", 60),
+// first one puts in, and one that puts a key in which the first one reads.
+const PAIRS: [Pair; 5] = [
+    ("flock 1/trace/ins 5 70/trace/ins 5 80/", "--reads lock", 60),
     (
         "flock 2/trace/put 5 70/put 5 71/trace/put 5 80/get 5/",
-        "lock",
+        "--reads lock",
         110,
     ),
     (
         "flock 1/trace/ins 2 2/del 2/trace/ins 1 1/del 1/",
-        "lock",
+        "--reads lock",
         140,
     ),
     (
         "flock 1/trace/ins 5 70/del 5/trace/get 5/get 5/",
-        "free",
+        "--reads free",
         110,
     ),
     (
         "flock 1/trace/get 5/get 5/trace/ins 5 80/get 5/",
-        "free",
+        "--reads free",
         25,
+    ),
+];
+
+// Two runners that move the same keys to and fro, among many buckets and in one, and in two beside reads without a
+// lock. The asks are those of an insertion and of the `mov` behind it.
+const MOVING: [Pair; 3] = [
+    (
+        "flock 3/trace/ins 1 10/mov 1 2/mov 2 1/trace/ins 3 30/mov 3 2/mov 1 3/mov 2 4/",
+        "--buckets 64",
+        110,
+    ),
+    (
+        "flock 3/trace/ins 1 10/mov 1 2/mov 2 1/trace/ins 3 30/mov 3 2/mov 1 3/mov 2 4/",
+        "--buckets 1",
+        100,
+    ),
+    (
+        "flock 3/trace/ins 1 10/mov 1 2/mov 2 1/trace/get 1/get 2/mov 1 3/get 3/",
+        "--buckets 2 --reads free",
+        110,
     ),
 ];
 
@@ -147,19 +174,24 @@ fn others_are_served<T: Threads + Wait + Sync>(
     Ok(are_served && is_legal(rt, alloc, text, &ended.printed)?)
 }
 
-// Wherever the first runner of a pair stops on this table, the second one is served, and the report is legal.
+// Wherever the first runner of a pair stops on this table, the second one is served, and the report is legal. Where
+// they move their keys, the sum of the values stays what it is.
 fn second_ones_are_served<T: Abort + Threads + Wait + Sync>(
     rt: &T,
     alloc: Global,
     table: &str,
+    pairs: &[Pair],
 ) -> Result<(), AllocError> {
-    for (row, reads, last) in PAIRS {
+    for (row, more, last) in pairs {
         let text = bytes_of(alloc, row)?;
-        let words = format!(in alloc; "--table {table} --runners 2 --reads {reads}")?;
-        for ask in 1..=last {
+        let moves = row.starts_with("flock 3");
+        let words = format!(in alloc; "--table {table} --runners 2 {more}")?;
+        for ask in 1..=*last {
             let ended = run_stopped(rt, alloc, &words, ask, &text)?;
             let are_served = others_are_served(rt, alloc, &text, &ended, "trace 1\n")?;
             assert!(rt; are_served, "{row} on {table} at {ask}");
+            let is_kept = !moves || keeps_sum(alloc, &text, ended.report())?;
+            assert!(rt; is_kept, "{row} at {ask}");
         }
     }
     Ok(())
@@ -167,15 +199,21 @@ fn second_ones_are_served<T: Abort + Threads + Wait + Sync>(
 
 #[test]
 fn whoever_does_not_stop_is_served(rt: HostRuntime) -> Result<(), Fail> {
-    second_ones_are_served(&rt, rt.alloc(), "hash")?;
-    second_ones_are_served(&rt, rt.alloc(), "tree")?;
+    second_ones_are_served(&rt, rt.alloc(), "hash", &PAIRS)?;
+    second_ones_are_served(&rt, rt.alloc(), "tree", &PAIRS)?;
     Ok(())
 }
 
 // The list by itself, for the sake of a test's time.
 #[test]
 fn whoever_does_not_stop_is_served_on_the_list(rt: HostRuntime) -> Result<(), Fail> {
-    second_ones_are_served(&rt, rt.alloc(), "list")?;
+    second_ones_are_served(&rt, rt.alloc(), "list", &PAIRS)?;
+    Ok(())
+}
+
+#[test]
+fn whoever_does_not_stop_while_keys_are_moved_is_served(rt: HostRuntime) -> Result<(), Fail> {
+    second_ones_are_served(&rt, rt.alloc(), "hash", &MOVING)?;
     Ok(())
 }
 

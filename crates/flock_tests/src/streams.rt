@@ -23,23 +23,33 @@ const TEXTS: &str = "\
 0|flock 1/trace/trace/trace/get 3/|trace 0/trace 1/trace 2/0 none/final 0/|
 0|flock 2/trace/ins 1 2/put 1 3/get 1/del 1/|trace 0/0 new/1 was 2/2 val 3/3 gone/final 0/|
 0|flock 2/trace/put 4294967293 4294967295/put 4294967293 0|trace 0/0 new/1 was 4294967295/final 1/|
+0|flock 3/trace/ins 1 10/mov 1 2/get 1/get 2/mov 1 3/mov 2 2/|trace 0/0 new/1 moved/2 none/3 val 10/4 none/5 dup/final 1/|
+0|flock 3/trace/put 4294967293 1/\tmov 04294967293  0^/get 0|trace 0/0 new/1 moved/2 val 1/final 1/|
 3|||flock: line 1: no header/
 3|trace/get 1/||flock: line 1: no header/
 3|# note//||flock: line 3: no header/
 3|# note||flock: line 2: no header/
-3|flock 3/||flock: line 1: no header/
+3|flock 4/||flock: line 1: no header/
 3|flock 1 1/||flock: line 1: no header/
 3|flock 1 2/||flock: line 1: no header/
 3|flock ~/||flock: line 1: not ascii/
 3|flock 1/trace/get ~/||flock: line 3: not ascii/
 3|flock 1/trace/put 1/||flock: line 3: unknown word/
 3|flock 1/trace/put 1 2/||flock: line 3: unknown word/
+3|flock 1/trace/mov 1 2/||flock: line 3: unknown word/
 3|flock 2/trace/mov 1 2/||flock: line 3: unknown word/
 3|flock 2/flock 2/||flock: line 2: unknown word/
 3|flock 2/put 1 2/||flock: line 2: request before trace/
 3|flock 2/trace/put 1/||flock: line 3: missing field/
 3|flock 2/trace/put 4294967294 4294967296/||flock: line 3: key too large/
 3|flock 2/trace/put 1 4294967296/||flock: line 3: value too large/
+3|flock 3/mov 1 2/||flock: line 2: request before trace/
+3|flock 3/trace/mov 1/||flock: line 3: missing field/
+3|flock 3/trace/mov 1 2 3/||flock: line 3: extra field/
+3|flock 3/trace/mov 1 4294967294x/||flock: line 3: bad number/
+3|flock 3/trace/mov 4294967294 1/||flock: line 3: key too large/
+3|flock 3/trace/mov 1 4294967294/||flock: line 3: key too large/
+3|flock 3/trace/put 1 4294967296/||flock: line 3: value too large/
 3|flock 1/flock 1/||flock: line 2: unknown word/
 3|flock 1/get 1/||flock: line 2: request before trace/
 3|flock 1/get/||flock: line 2: request before trace/
@@ -54,6 +64,14 @@ const TEXTS: &str = "\
 3|flock 1/trace/ins 4294967294 4294967296/||flock: line 3: key too large/
 3|flock 1/trace/ins 1 4294967296/||flock: line 3: value too large/
 3|flock 1/trace/get 99999999999999999999999999/||flock: line 3: key too large/
+";
+
+// The same with words that name a table which serves no text of format 3: such a text is read up to its end.
+const FOR_ANOTHER_TABLE: &str = "\
+2|flock 3/||flock: words refused/
+2|flock 3/trace/ins 1 10/mov 1 2/get 1/get 2/mov 1 3/mov 2 2/||flock: words refused/
+2|flock 3/trace/get 1||flock: words refused/
+3|flock 3/trace/mov 1||flock: line 3: missing field/
 ";
 
 // Runs a command on a text, whose read with this number fails; in one piece, or in pieces of one byte.
@@ -71,29 +89,38 @@ fn run_pieces<T: Threads + Wait + Sync>(
     run_from(rt, alloc, command, &mut source, &mut PlannedGates::new())
 }
 
-// Whether a text comes out as its row says, in one piece and in pieces of one byte; one runner serves it, so its requests
-// are served in their order.
+// Whether a text comes out as its row says with these words, in one piece and in pieces of one byte.
 fn comes_out<T: Threads + Wait + Sync>(
     rt: &T,
     alloc: Global,
+    words: &str,
     text: Vec<u8>,
     status: &str,
     row: &str,
 ) -> Result<bool, AllocError> {
     let (report, told) = cut(row);
-    let whole = run_pieces(rt, alloc, "run --runners 1", text.clone()?, false, 0)?;
-    let pieces = run_pieces(rt, alloc, "run --runners 1", text, true, 0)?;
+    let whole = run_pieces(rt, alloc, words, text.clone()?, false, 0)?;
+    let pieces = run_pieces(rt, alloc, words, text, true, 0)?;
     Ok(whole.is_as(alloc, status, report, told)? && pieces.is_as(alloc, status, report, told)?)
 }
 
+// One runner serves a text, so its requests are served in their order.
 #[test]
 fn a_text_gives_its_report_or_its_first_fault(rt: HostRuntime) -> Result<(), Fail> {
     let alloc = rt.alloc();
-    for row in TEXTS.lines() {
-        let (status, rest) = cut(row);
-        let (text, rest) = cut(rest);
-        let comes_out = comes_out(&rt, alloc, bytes_of(alloc, text)?, status, rest)?;
-        assert!(rt; comes_out, "{row}");
+    for (words, table) in [
+        ("run --runners 1", TEXTS),
+        ("run --runners 1 --buckets 1", TEXTS),
+        ("run --table tree", FOR_ANOTHER_TABLE),
+        ("run --table list", FOR_ANOTHER_TABLE),
+    ] {
+        for row in table.lines() {
+            let (status, rest) = cut(row);
+            let (text, rest) = cut(rest);
+            let text = bytes_of(alloc, text)?;
+            let comes_out = comes_out(&rt, alloc, words, text, status, rest)?;
+            assert!(rt; comes_out, "{words}: {row}");
+        }
     }
     Ok(())
 }
@@ -119,7 +146,7 @@ fn each_prefix_is_served_or_refused(rt: HostRuntime) -> Result<(), Fail> {
         for length in first..=last {
             let mut text = bytes_of(alloc, TEXT)?;
             text.truncate(length);
-            let comes_out = comes_out(&rt, alloc, text, status, row)?;
+            let comes_out = comes_out(&rt, alloc, "run --runners 1", text, status, row)?;
             assert!(rt; comes_out, "{length}");
         }
     }

@@ -4,14 +4,12 @@ ghost use Rattle.machine_states.specs.map_history.specs.Requests.{AreInOrder};
 ghost use Rattle.machine_states.specs.table_words.specs.Limits.{IsWithinLimits};
 
 use interleave_core::{Event, EventKind, Machine, ScheduleError, StepError, Tray, all_schedules};
-use machine_states::body_terms::{Outcome, Thunk, Word};
+use machine_states::body_terms::{Thunk, Word};
 use machine_states::map_history::{Op, Request};
 use machine_states::runner_parts::{Part, thunk_words};
 use machine_states::table_words::Layout;
 use std::alloc::{AllocError, Global};
-
-/// The first word of a cell: value 0, version 1.
-const FIRST: u64 = 4294967296;
+use std::process::Abort;
 
 /// The first descriptor, behind the ten node slots of two workers and the keeper.
 const DESCRIPTORS: u32 = 10;
@@ -26,17 +24,6 @@ fn layout(runners: u32) -> Layout
         nodes: 2,
         sections: 2,
         version_max: 4294967295,
-    }
-}
-
-/// A thunk behind the lock at place 0.
-fn thunk(form: u64, request: u32, operand: u64) -> Thunk {
-    Thunk {
-        form,
-        request,
-        lock: 0,
-        word: Word::from_bits(FIRST),
-        operands: [operand, 0, 0, 0, 0, 0, 0, 0],
     }
 }
 
@@ -69,24 +56,32 @@ fn requests() -> [Request; 4]
     ]
 }
 
-/// The machine with two workers and the keeper, in its first state.
-fn begins(alloc: Global) -> Result<Machine<Tray>, AllocError> {
-    Machine::new(alloc, Tray, layout(2), &requests())
+/// The machine with the keeper and with one worker at least.
+#[derive(Drop)]
+struct Played {
+    state: Machine<Tray>,
+    ghost some: { 1 ≤ state.layout.runners },
+}
+
+/// It with two workers, in its first state.
+fn begins(alloc: Global) -> Result<Played, AllocError> {
+    let state = Machine::new(alloc, Tray, layout(2), &requests())?;
+    Ok(Played { state })
 }
 
 /// Makes this step, and says whether it was enabled.
-fn goes(machine: &mut Machine<Tray>, runner: u32, kind: EventKind) -> bool {
-    machine.step(Event { runner, kind }).is_ok()
+fn goes(machine: &mut Played, runner: u32, kind: EventKind) -> bool {
+    machine.state.step(Event { runner, kind }).is_ok()
 }
 
-fn enters(machine: &mut Machine<Tray>, runner: u32) -> bool {
+fn enters(machine: &mut Played, runner: u32) -> bool {
     goes(machine, runner, EventKind::EnterLoad)
         && goes(machine, runner, EventKind::Announce)
         && goes(machine, runner, EventKind::EnterAgain)
 }
 
 /// Enters, reads the lock, stores the words of a free descriptor, and guards it.
-fn prepares(machine: &mut Machine<Tray>, runner: u32, descriptor: u32, thunk: &Thunk) -> bool {
+fn prepares(machine: &mut Played, runner: u32, descriptor: u32, thunk: &Thunk) -> bool {
     if !enters(machine, runner) || !goes(machine, runner, EventKind::LoadCell(Some(0))) {
         return false;
     }
@@ -105,32 +100,21 @@ fn prepares(machine: &mut Machine<Tray>, runner: u32, descriptor: u32, thunk: &T
     goes(machine, runner, EventKind::Guard(Some(descriptor)))
 }
 
-/// Prepares a descriptor with the thunk, and publishes it.
-fn publishes(machine: &mut Machine<Tray>, runner: u32, descriptor: u32, thunk: Thunk) -> bool {
-    prepares(machine, runner, descriptor, &thunk)
-        && goes(machine, runner, EventKind::Hold { thunk, descriptor })
-}
-
 /// Enters, and reads the lock.
-fn looks(machine: &mut Machine<Tray>, runner: u32) -> bool {
+fn looks(machine: &mut Played, runner: u32) -> bool {
     enters(machine, runner) && goes(machine, runner, EventKind::LoadCell(Some(0)))
 }
 
 /// Enters, reads the lock, guards this descriptor, and reads the lock once more: as a helper of the
 /// section that the lock names.
-fn watches(machine: &mut Machine<Tray>, runner: u32, descriptor: u32) -> bool {
+fn watches(machine: &mut Played, runner: u32, descriptor: u32) -> bool {
     looks(machine, runner)
         && goes(machine, runner, EventKind::Guard(Some(descriptor)))
         && goes(machine, runner, EventKind::LoadCell(Some(0)))
 }
 
-/// Clears the guard, and becomes idle.
-fn leaves(machine: &mut Machine<Tray>, runner: u32) -> bool {
-    goes(machine, runner, EventKind::Guard(None)) && goes(machine, runner, EventKind::Idle)
-}
-
 /// Scans all announcements of two workers and the keeper, and advances the epoch where that is enabled.
-fn collects(machine: &mut Machine<Tray>, runner: u32) -> bool {
+fn collects(machine: &mut Played, runner: u32) -> bool {
     if !goes(machine, runner, EventKind::ScanEpoch) {
         return false;
     }
@@ -143,52 +127,8 @@ fn collects(machine: &mut Machine<Tray>, runner: u32) -> bool {
     true
 }
 
-/// The kind of step that has this name: one of a run's; or outside runs a load of the lock, a guard or a word of a
-/// sweep with this number, the end of a guard, or the end of an entry.
-fn kind_of(name: &str, number: u32) -> EventKind {
-    match name {
-        "look" => EventKind::LoadCell(Some(0)),
-        "guard" => EventKind::Guard(Some(number)),
-        "clear" => EventKind::Guard(None),
-        "leave" => EventKind::Idle,
-        "sweep" => EventKind::LoadGuard(number),
-        "load" => EventKind::LoadCell(None),
-        "commit" => EventKind::Commit,
-        "make" => EventKind::MakeCommit,
-        "clock" => EventKind::ClockLoad,
-        "stamp" => EventKind::StampExchange,
-        "raise" => EventKind::ClockRaise,
-        "epoch" => EventKind::EpochForRetire,
-        "retire" => EventKind::RetireCommit,
-        "answer" => EventKind::ReplyExchange,
-        "done" => EventKind::SetDone,
-        "release" => EventKind::Release,
-        _ => EventKind::ExchangeCell,
-    }
-}
-
-/// Makes these steps, in turn: each is a runner, a name, and a number where its kind has one.
-fn plays(machine: &mut Machine<Tray>, steps: &str) -> bool {
-    for step in steps.split(", ") {
-        let Some((runner, words)) = step.split_once(' ') else {
-            return false;
-        };
-        let (name, number) = words.split_once(' ').unwrap_or((words, "0"));
-        let Ok(runner) = runner.parse::<u32>() else {
-            return false;
-        };
-        let Ok(number) = number.parse::<u32>() else {
-            return false;
-        };
-        if !goes(machine, runner, kind_of(name, number)) {
-            return false;
-        }
-    }
-    true
-}
-
 /// Makes the ten private steps of a Make that fills this slot with zeros.
-fn fills_slot(machine: &mut Machine<Tray>, runner: u32, slot: u32) -> bool {
+fn fills_slot(machine: &mut Played, runner: u32, slot: u32) -> bool {
     let number = Word::pack(0, 2).bits();
     for word in 0..5u32 {
         if !goes(machine, runner, EventKind::PrivateLoad { slot, word }) {
@@ -205,18 +145,8 @@ fn fills_slot(machine: &mut Machine<Tray>, runner: u32, slot: u32) -> bool {
     true
 }
 
-/// Whether the latest run of this part ended so.
-fn ends(part: &Part, outcome: Outcome, trail: &[u64], late: bool) -> bool {
-    match part.records.finished.last() {
-        None => false,
-        Some(last) => last.outcome == outcome
-            && last.trail.as_slice() == trail
-            && last.late == late,
-    }
-}
-
 /// Loads the thunk words and the done word.
-fn opens(machine: &mut Machine<Tray>, runner: u32, descriptor: u32) -> bool {
+fn opens(machine: &mut Played, runner: u32, descriptor: u32) -> bool {
     if !goes(machine, runner, EventKind::LoadThunk(Some(descriptor))) {
         return false;
     }
@@ -230,7 +160,7 @@ fn opens(machine: &mut Machine<Tray>, runner: u32, descriptor: u32) -> bool {
 
 /// Makes a private step of a Make that fills a node of zeros, and none outside a run, where a
 /// request's word may be loaded.
-fn fills(machine: &mut Machine<Tray>, runner: u32) -> bool {
+fn fills(machine: &mut Played, runner: u32) -> bool {
     if goes(
         machine,
         runner,
@@ -259,7 +189,7 @@ fn fills(machine: &mut Machine<Tray>, runner: u32) -> bool {
 }
 
 /// Makes the one step that comes next in a run.
-fn goes_on(machine: &mut Machine<Tray>, runner: u32) -> bool {
+fn goes_on(machine: &mut Played, runner: u32) -> bool {
     for kind in [
         EventKind::Commit,
         EventKind::LoadCell(None),
@@ -281,7 +211,7 @@ fn goes_on(machine: &mut Machine<Tray>, runner: u32) -> bool {
 }
 
 /// Opens the section, runs it to its end, and counts the steps.
-fn runs(machine: &mut Machine<Tray>, runner: u32, descriptor: u32) -> u32 {
+fn runs(machine: &mut Played, runner: u32, descriptor: u32) -> u32 {
     if !opens(machine, runner, descriptor) {
         return 0;
     }
@@ -309,12 +239,13 @@ fn a_runner_enters_and_leaves(rt: HostRuntime) -> Result<(), AllocError> {
         Err(_) => false,
     };
     assert!(rt; leaves);
-    let mut machine = Machine::new(rt.alloc(), Tray, layout(1), &[])?;
+    let state = Machine::new(rt.alloc(), Tray, layout(1), &[])?;
+    let mut machine = Played { state };
     assert!(rt; enters(&mut machine, 0));
-    assert!(rt; machine.announcement(0) == 1);
+    assert!(rt; machine.state.announcement(0) == 1);
     assert!(rt; goes(&mut machine, 0, EventKind::Idle));
-    assert!(rt; machine.announcement(0) == 0);
-    assert!(rt; machine.epoch() == 1);
+    assert!(rt; machine.state.announcement(0) == 0);
+    assert!(rt; machine.state.epoch() == 1);
     Ok(())
 }
 
@@ -337,7 +268,7 @@ fn a_list_that_begins_with_announce_is_refused_at_its_start(
 #[test]
 fn idle_enables_six_kinds(rt: HostRuntime) -> Result<(), AllocError> {
     let mut machine = begins(rt.alloc())?;
-    let kinds = match machine.step(Event {
+    let kinds = match machine.state.step(Event {
         runner: 0,
         kind: EventKind::Announce,
     }) {
@@ -348,307 +279,173 @@ fn idle_enables_six_kinds(rt: HostRuntime) -> Result<(), AllocError> {
     Ok(())
 }
 
-#[test]
-fn requests_are_published_once_and_in_their_order(rt: HostRuntime) -> Result<(), AllocError> {
-    let mut machine = begins(rt.alloc())?;
-    let second = thunk(101, 1, 7);
-    assert!(rt; prepares(&mut machine, 0, 0, &second));
-    assert!(rt;
-        !goes(
-            &mut machine,
-            0,
-            EventKind::Hold {
-                thunk: second,
-                descriptor: 0
-            }
-        )
-    );
-    assert!(rt; leaves(&mut machine, 0));
-    assert!(rt; publishes(&mut machine, 0, 1, thunk(101, 0, 7)));
-    assert!(rt; runs(&mut machine, 0, 1) == 22);
-    assert!(rt; leaves(&mut machine, 0));
-    let word = Word::from_bits(12884901888);
-    let again = Thunk {
-        word,
-        ..thunk(101, 0, 7)
-    };
-    assert!(rt; prepares(&mut machine, 0, 0, &again));
-    assert!(rt;
-        !goes(
-            &mut machine,
-            0,
-            EventKind::Hold {
-                thunk: again,
-                descriptor: 0
-            }
-        )
-    );
-    assert!(rt; leaves(&mut machine, 0));
-    let next = Thunk {
-        word,
-        ..thunk(101, 1, 7)
-    };
-    assert!(rt; publishes(&mut machine, 0, 0, next));
-    Ok(())
-}
-
-#[test]
-fn a_number_is_stored_once_and_a_late_helper_changes_nothing(
-    rt: HostRuntime,
-) -> Result<(), AllocError> {
-    let mut machine = begins(rt.alloc())?;
-    let number = thunk(101, 0, 7);
-    assert!(rt; publishes(&mut machine, 0, 0, number));
-    assert!(rt; watches(&mut machine, 1, 0));
-    assert!(rt; runs(&mut machine, 0, 0) == 22);
-    assert!(rt; machine.cell(1).bits() == 8589934599);
-    assert!(rt; machine.cell(0).bits() == 12884901888);
-    assert!(rt; ends(machine.part(0), Outcome::Answered(FIRST), &[FIRST], false));
-    assert!(rt; runs(&mut machine, 1, 0) == 22);
-    assert!(rt; ends(machine.part(1), Outcome::Answered(FIRST), &[FIRST], true));
-    assert!(rt; machine.cell(1).bits() == 8589934599);
-    assert!(rt; machine.cell(0).bits() == 12884901888);
-    Ok(())
-}
-
-#[test]
-fn two_runners_store_a_number_once(rt: HostRuntime) -> Result<(), AllocError> {
-    let mut machine = begins(rt.alloc())?;
-    let number = thunk(101, 0, 7);
-    assert!(rt; publishes(&mut machine, 0, 0, number));
-    assert!(rt; watches(&mut machine, 1, 0));
-    assert!(rt; opens(&mut machine, 0, 0) && opens(&mut machine, 1, 0));
-    assert!(rt; plays(&mut machine, "0 load, 1 load, 1 commit, 0 commit"));
-    assert!(rt;
-        plays(
-            &mut machine,
-            "0 clock, 0 stamp, 0 raise, 1 clock, 1 stamp, 1 raise"
-        )
-    );
-    assert!(rt; plays(&mut machine, "1 store"));
-    assert!(rt; machine.cell(1).bits() == 8589934599);
-    assert!(rt; plays(&mut machine, "0 store"));
-    assert!(rt; machine.cell(1).bits() == 8589934599);
-    assert!(rt; machine.log_word(0, 0) == FIRST);
-    assert!(rt; machine.log_word(0, 1) == 0);
-    Ok(())
-}
-
-#[test]
-fn a_section_that_finds_another_word_leaves(rt: HostRuntime) -> Result<(), AllocError> {
-    let mut machine = begins(rt.alloc())?;
-    let link = thunk(102, 0, 21474836480);
-    assert!(rt; publishes(&mut machine, 0, 0, link));
-    assert!(rt; runs(&mut machine, 0, 0) == 17);
-    let outcome = machine.part(0).records.finished.first().map(|x| x.outcome);
-    let stale = Outcome::Stale {
-        place: 2,
-        expected: Word::from_bits(21474836480),
-        read: Word::from_bits(FIRST),
-    };
-    assert!(rt; outcome == Some(stale));
-    assert!(rt; machine.is_free(0, 0));
-    Ok(())
-}
-
-#[test]
-fn a_node_is_made(rt: HostRuntime) -> Result<(), AllocError> {
-    let mut machine = begins(rt.alloc())?;
-    let link = thunk(102, 0, FIRST);
-    assert!(rt; publishes(&mut machine, 0, 0, link));
-    assert!(rt; runs(&mut machine, 0, 0) == 33);
-    assert!(rt; machine.cell(2).bits() == 8589934593);
-    assert!(rt; machine.is_live(0) && !machine.is_live(1));
-    Ok(())
-}
-
-#[test]
-fn a_lock_that_is_held_refuses(rt: HostRuntime) -> Result<(), AllocError> {
-    let mut machine = begins(rt.alloc())?;
-    let mine = thunk(101, 0, 7);
-    let other = thunk(101, 2, 8);
-    assert!(rt; prepares(&mut machine, 0, 0, &mine));
-    assert!(rt; prepares(&mut machine, 1, 2, &other));
-    assert!(rt;
-        !goes(
-            &mut machine,
-            1,
-            EventKind::Hold {
-                thunk: mine,
-                descriptor: 2
-            }
-        )
-    );
-    assert!(rt;
-        goes(
-            &mut machine,
-            0,
-            EventKind::Hold {
-                thunk: mine,
-                descriptor: 0
-            }
-        )
-    );
-    assert!(rt;
-        goes(
-            &mut machine,
-            1,
-            EventKind::Hold {
-                thunk: other,
-                descriptor: 2
-            }
-        )
-    );
-    assert!(rt; machine.cell(0).value() == 1);
-    assert!(rt; !goes(&mut machine, 1, EventKind::Idle));
-    assert!(rt; leaves(&mut machine, 1));
-    assert!(rt; !goes(&mut machine, 0, EventKind::Guard(None)));
-    assert!(rt; !goes(&mut machine, 0, EventKind::Idle));
-    Ok(())
-}
-
-#[test]
-fn two_runners_make_one_node(rt: HostRuntime) -> Result<(), AllocError> {
-    let mut machine = begins(rt.alloc())?;
-    assert!(rt; publishes(&mut machine, 0, 0, thunk(102, 0, FIRST)) && watches(&mut machine, 1, 0));
-    assert!(rt; opens(&mut machine, 0, 0) && opens(&mut machine, 1, 0));
-    assert!(rt; plays(&mut machine, "0 load, 0 commit") && fills_slot(&mut machine, 0, 0));
-    assert!(rt; plays(&mut machine, "1 load, 1 commit") && fills_slot(&mut machine, 1, 2));
-    assert!(rt; plays(&mut machine, "1 make, 0 make"));
-    assert!(rt;
-        plays(
-            &mut machine,
-            "0 clock, 0 stamp, 0 raise, 1 clock, 1 stamp, 1 raise"
-        )
-    );
-    assert!(rt; plays(&mut machine, "0 store, 1 store"));
-    assert!(rt; machine.log_word(0, 0) == FIRST);
-    assert!(rt; machine.log_word(0, 1) == 3);
-    assert!(rt; machine.cell(2).bits() == 8589934595);
-    assert!(rt; machine.is_live(2) && !machine.is_live(0) && machine.is_free(0, 0));
-    for place in 3..8u32 {
-        assert!(rt; machine.cell(place).bits() == 8589934592);
+/// The number that a word of a row stands for: `7@2` is the word with value 7 and version 2.
+fn number_of(text: &str) -> u64 {
+    match text.split_once('@') {
+        Some((value, version)) => {
+            let (value, version) = (value.parse().unwrap_or(0), version.parse().unwrap_or(0));
+            Word::pack(value, version).bits()
+        }
+        None => text.parse().unwrap_or(0),
     }
-    Ok(())
 }
 
-#[test]
-fn a_node_is_taken_out(rt: HostRuntime) -> Result<(), AllocError> {
-    let mut machine = begins(rt.alloc())?;
-    assert!(rt; publishes(&mut machine, 0, 0, thunk(102, 0, FIRST)));
-    assert!(rt; runs(&mut machine, 0, 0) == 33);
-    assert!(rt; leaves(&mut machine, 0));
-    let mut unlink = thunk(103, 1, machine.cell(2).bits());
-    unlink.word = machine.cell(0);
-    assert!(rt; publishes(&mut machine, 0, 1, unlink));
-    let before = machine.part(0).records.events;
-    assert!(rt; opens(&mut machine, 0, 1));
-    assert!(rt;
-        plays(
-            &mut machine,
-            "0 load, 0 commit, 0 clock, 0 stamp, 0 raise, 0 store"
-        )
-    );
-    assert!(rt;
-        plays(
-            &mut machine,
-            "0 epoch, 0 retire, 0 answer, 0 done, 0 release"
-        )
-    );
-    assert!(rt; machine.part(0).records.events.saturating_sub(before) == 24);
-    assert!(rt; machine.cell(2).bits() == 12884901888);
-    assert!(rt; !machine.is_live(0) && !machine.is_free(0, 0));
-    Ok(())
+/// The same as a word of a row.
+fn word_text(alloc: Global, number: u64) -> Result<String, AllocError> {
+    let word = Word::from_bits(number);
+    let (value, version) = (word.value(), word.version());
+    format!(in alloc; "{value:?}@{version:?}")
 }
 
-#[test]
-fn the_epoch_waits_for_an_old_announcement(rt: HostRuntime) -> Result<(), AllocError> {
-    let mut machine = begins(rt.alloc())?;
-    assert!(rt; enters(&mut machine, 0));
-    assert!(rt; collects(&mut machine, 1));
-    assert!(rt; machine.epoch() == 2);
-    assert!(rt; collects(&mut machine, 1));
-    assert!(rt; machine.epoch() == 2);
-    assert!(rt; goes(&mut machine, 0, EventKind::Idle));
-    assert!(rt; collects(&mut machine, 1));
-    assert!(rt; machine.epoch() == 3);
-    assert!(rt; enters(&mut machine, 0));
-    assert!(rt; machine.announcement(0) == 3);
-    Ok(())
+/// A step of a row: who makes it, its name, and its numbers: first of all a descriptor, a slot, a place or another
+/// runner's number, and behind it the form, the request, the operand and the lock's word of a thunk.
+#[derive(Clone, Copy)]
+struct Line<'a> {
+    runner: u32,
+    name: &'a str,
+    numbers: [u64; 5],
 }
 
-/// Whether these descriptors of this runner's are free, and these retired and not free again.
-fn has_descriptors(part: &Part, free: &[u32], limbo: &[u32]) -> bool {
-    part.descriptors.free.as_slice() == free && part.descriptors.limbo.as_slice() == limbo
+impl<'a> Line<'a> {
+    fn new(text: &'a str) -> Line<'a> {
+        let (runner, rest) = text.split_once(' ').unwrap_or((text, ""));
+        let (name, rest) = rest.split_once(' ').unwrap_or((rest, ""));
+        let mut numbers = [0; 5];
+        let mut at = 0;
+        for word in rest.split(' ') {
+            if at < 5 {
+                numbers[at] = number_of(word);
+                at += 1;
+            }
+        }
+        Line {
+            runner: runner.parse().unwrap_or(0),
+            name,
+            numbers,
+        }
+    }
+
+    /// Its first number.
+    fn first(&self) -> u32 {
+        u32::try_from(self.numbers[0]).unwrap_or(0)
+    }
+
+    /// Its thunk, behind the lock at place 0.
+    fn thunk(&self) -> Thunk {
+        let [_, form, request, operand, word] = self.numbers;
+        Thunk {
+            form,
+            request: u32::try_from(request).unwrap_or(0),
+            lock: 0,
+            word: Word::from_bits(word),
+            operands: [operand, 0, 0, 0, 0, 0, 0, 0],
+        }
+    }
 }
 
-#[test]
-fn a_descriptor_that_no_guard_names_is_free_behind_a_sweep(
-    rt: HostRuntime,
-) -> Result<(), AllocError> {
-    let mut machine = begins(rt.alloc())?;
-    assert!(rt; publishes(&mut machine, 0, 0, thunk(101, 0, 7)));
-    assert!(rt; looks(&mut machine, 1));
-    assert!(rt; runs(&mut machine, 0, 0) == 22);
-    assert!(rt; leaves(&mut machine, 0));
-    assert!(rt; plays(&mut machine, "0 sweep 0, 0 sweep 1"));
-    assert!(rt; has_descriptors(machine.part(0), &[1], &[0]));
-    assert!(rt; plays(&mut machine, "0 sweep 2"));
-    assert!(rt; has_descriptors(machine.part(0), &[1, 0], &[]));
-    // The helper has read the lock in the old section's time, and runs the new one.
-    assert!(rt; plays(&mut machine, "1 guard 0"));
-    let next = Thunk {
-        word: machine.cell(0),
-        ..thunk(101, 1, 8)
+/// The kind of a single step.
+fn kind_of(line: &Line) -> Option<EventKind> {
+    let kind = match line.name {
+        "look" => EventKind::LoadCell(Some(0)),
+        "guard" => EventKind::Guard(Some(line.first())),
+        "clear" => EventKind::Guard(None),
+        "leave" => EventKind::Idle,
+        "sweep" => EventKind::LoadGuard(line.first()),
+        "hold" => EventKind::Hold {
+            thunk: line.thunk(),
+            descriptor: line.first(),
+        },
+        "thunk" => EventKind::LoadThunk(Some(line.first())),
+        "load" => EventKind::LoadCell(None),
+        "commit" => EventKind::Commit,
+        "make" => EventKind::MakeCommit,
+        "clock" => EventKind::ClockLoad,
+        "stamp" => EventKind::StampExchange,
+        "raise" => EventKind::ClockRaise,
+        "store" => EventKind::ExchangeCell,
+        "epoch" => EventKind::EpochForRetire,
+        "retire" => EventKind::RetireCommit,
+        "answer" => EventKind::ReplyExchange,
+        "done" => EventKind::SetDone,
+        "release" => EventKind::Release,
+        "plan" => EventKind::ReadPlan(line.thunk()),
+        "plan_clock" => EventKind::ReadClock,
+        "plan_reply" => EventKind::ReadReply,
+        "plan_stamp" => EventKind::ReadStamp,
+        _ => return None,
     };
-    assert!(rt; publishes(&mut machine, 0, 0, next));
-    assert!(rt; plays(&mut machine, "1 look"));
-    assert!(rt; runs(&mut machine, 1, 0) == 22);
-    assert!(rt; machine.cell(1).bits() == 12884901896);
-    Ok(())
+    Some(kind)
 }
 
-#[test]
-fn a_descriptor_that_a_guard_names_stays_in_limbo(rt: HostRuntime) -> Result<(), AllocError> {
-    let mut machine = begins(rt.alloc())?;
-    assert!(rt; publishes(&mut machine, 0, 0, thunk(101, 0, 7)));
-    assert!(rt; watches(&mut machine, 1, 0));
-    assert!(rt; runs(&mut machine, 0, 0) == 22);
-    assert!(rt; leaves(&mut machine, 0));
-    assert!(rt; plays(&mut machine, "0 sweep 0, 0 sweep 1, 0 sweep 2"));
-    assert!(rt; has_descriptors(machine.part(0), &[1], &[0]));
-    assert!(rt; runs(&mut machine, 1, 0) == 22);
-    assert!(rt; machine.cell(1).bits() == 8589934599);
-    assert!(rt; plays(&mut machine, "1 clear, 0 sweep 0, 0 sweep 1, 0 sweep 2"));
-    assert!(rt; has_descriptors(machine.part(0), &[1, 0], &[]));
-    Ok(())
+/// What a worker is at and keeps.
+fn part_of(machine: &Played, runner: u32) -> &Part {
+    if runner == 0 {
+        machine.state.part(0)
+    } else {
+        machine.state.part(1)
+    }
 }
 
-#[test]
-fn no_run_of_a_section_whose_lock_has_moved_on(rt: HostRuntime) -> Result<(), AllocError> {
-    let mut machine = begins(rt.alloc())?;
-    assert!(rt; publishes(&mut machine, 0, 0, thunk(101, 0, 7)));
-    assert!(rt; looks(&mut machine, 1));
-    assert!(rt; plays(&mut machine, "1 guard 0"));
-    assert!(rt; !goes(&mut machine, 1, EventKind::LoadThunk(Some(0))));
-    assert!(rt; runs(&mut machine, 0, 0) == 22);
-    assert!(rt; plays(&mut machine, "1 look"));
-    assert!(rt; !goes(&mut machine, 1, EventKind::LoadThunk(Some(0))));
-    assert!(rt; leaves(&mut machine, 1));
-    Ok(())
+/// Whether this slot is among the worker's free ones.
+fn is_free(machine: &Played, runner: u32, slot: u32) -> bool {
+    if runner == 0 {
+        machine.state.is_free(0, slot)
+    } else {
+        machine.state.is_free(1, slot)
+    }
 }
 
-#[test]
-fn a_sweep_begins_anew_behind_an_entry(rt: HostRuntime) -> Result<(), AllocError> {
-    let mut machine = begins(rt.alloc())?;
-    assert!(rt; !goes(&mut machine, 0, EventKind::LoadGuard(1)));
-    assert!(rt; plays(&mut machine, "0 sweep 0, 0 sweep 1"));
-    assert!(rt; enters(&mut machine, 0));
-    assert!(rt; !goes(&mut machine, 0, EventKind::LoadGuard(2)));
-    assert!(rt; plays(&mut machine, "0 leave"));
-    assert!(rt; !goes(&mut machine, 0, EventKind::LoadGuard(2)));
-    assert!(rt; plays(&mut machine, "0 sweep 0"));
-    Ok(())
+/// Makes several steps, and says whether all were enabled; or answers a question about a slot.
+fn acts(machine: &mut Played, line: &Line) -> Option<bool> {
+    let (runner, first) = (line.runner, line.first());
+    let done = match line.name {
+        "enter" => enters(machine, runner),
+        "prepare" => prepares(machine, runner, first, &line.thunk()),
+        "watch" => watches(machine, runner, first),
+        "open" => opens(machine, runner, first),
+        "fill" => fills_slot(machine, runner, first),
+        "collect" => collects(machine, runner),
+        "live" => machine.state.is_live(first),
+        "free" => is_free(machine, runner, first),
+        _ => return None,
+    };
+    Some(done)
+}
+
+/// How the latest run of this part ended, its trail, and whether it was late.
+fn ended(alloc: Global, part: &Part) -> Result<String, AllocError> {
+    match part.records.finished.last() {
+        None => Ok(String::new(alloc)),
+        Some(last) => {
+            let (outcome, trail) = (last.outcome, &last.trail);
+            let late = if last.late { ", late" } else { "" };
+            format!(in alloc; "{outcome:?} {trail:?}{late}")
+        }
+    }
+}
+
+/// The word of this cell, among the first eight.
+fn cell(machine: &Played, place: u32) -> u64 {
+    if place < 8 {
+        machine.state.cell(place).bits()
+    } else {
+        0
+    }
+}
+
+/// The word with this index of the first descriptor's log.
+fn log_word(machine: &Played, index: u32) -> u64 {
+    if index < 64 {
+        machine.state.log_word(0, index)
+    } else {
+        0
+    }
+}
+
+/// The worker's free descriptors, and those that it has retired and that aren't free again.
+fn descriptors(alloc: Global, part: &Part) -> Result<String, AllocError> {
+    let (free, limbo) = (&part.descriptors.free, &part.descriptors.limbo);
+    format!(in alloc; "{free:?} {limbo:?}")
 }
 
 /// The number of the word that this runner came to know last; 0 where it knows none.
@@ -656,34 +453,196 @@ fn learned(part: &Part) -> u64 {
     part.records.known.last().map(|x| x.number).unwrap_or(0)
 }
 
-#[test]
-fn a_read_writes_its_reply_and_its_stamp(rt: HostRuntime) -> Result<(), AllocError> {
-    let mut machine = begins(rt.alloc())?;
-    let read = thunk(7, 0, 0);
-    assert!(rt; looks(&mut machine, 0) && goes(&mut machine, 0, EventKind::ReadPlan(read)));
-    assert!(rt; !goes(&mut machine, 0, EventKind::ReadReply));
-    assert!(rt; goes(&mut machine, 0, EventKind::ReadClock));
-    assert!(rt; !goes(&mut machine, 0, EventKind::ReadReply));
-    assert!(rt; goes(&mut machine, 0, EventKind::LoadCell(Some(0))));
-    assert!(rt; !goes(&mut machine, 0, EventKind::ReadStamp));
-    assert!(rt; goes(&mut machine, 0, EventKind::ReadReply));
-    assert!(rt; learned(machine.part(0)) == 4294967296);
-    assert!(rt; !goes(&mut machine, 0, EventKind::Idle));
-    assert!(rt; goes(&mut machine, 0, EventKind::ReadStamp));
-    assert!(rt; learned(machine.part(0)) == 1);
-    assert!(rt; goes(&mut machine, 0, EventKind::Idle));
+/// A number of the machine or of a worker's: the steps of a run that it makes now; the epoch, and its announcement; how
+/// many steps it has made, and the word that it came to know last.
+fn count_of(machine: &mut Played, line: &Line) -> u64 {
+    match line.name {
+        "run" => u64::from(runs(machine, line.runner, line.first())),
+        "now" => machine.state.epoch(),
+        "announced" if line.runner == 0 => machine.state.announcement(0),
+        "announced" => machine.state.announcement(1),
+        "events" => part_of(machine, line.runner).records.events,
+        _ => learned(part_of(machine, line.runner)),
+    }
+}
+
+/// What the step or the question of this line shows.
+fn shown(alloc: Global, machine: &mut Played, line: &Line) -> Result<String, AllocError> {
+    match line.name {
+        "cell" => word_text(alloc, cell(machine, line.first())),
+        "log" => word_text(alloc, log_word(machine, line.first())),
+        "ended" => ended(alloc, part_of(machine, line.runner)),
+        "descriptors" => descriptors(alloc, part_of(machine, line.runner)),
+        _ => {
+            let count = count_of(machine, line);
+            format!(in alloc; "{count:?}")
+        }
+    }
+}
+
+/// Plays a line: behind its text, what it shows; nothing where it is steps that were all enabled, or a true answer.
+fn play_line(alloc: Global, machine: &mut Played, text: &str) -> Result<String, AllocError> {
+    let line = Line::new(text);
+    let done = match kind_of(&line) {
+        Some(kind) => Some(goes(machine, line.runner, kind)),
+        None => acts(machine, &line),
+    };
+    match done {
+        Some(true) => format!(in alloc; "{text}"),
+        Some(false) => format!(in alloc; "{text}: no"),
+        None => {
+            let shown = shown(alloc, machine, &line)?;
+            format!(in alloc; "{text}: {shown}")
+        }
+    }
+}
+
+/// Plays the lines of a row, each up to what it is to show, and gives the row with what each showed.
+fn play(alloc: Global, row: &str) -> Result<String, AllocError> {
+    let mut machine = begins(alloc)?;
+    let mut lines = Vec::new(alloc);
+    for line in row.split("; ") {
+        let (text, _) = line.split_once(": ").unwrap_or((line, ""));
+        lines.push(play_line(alloc, &mut machine, text)?)?;
+    }
+    lines.as_slice().join(alloc, "; ")
+}
+
+/// Plays a row, and compares.
+fn check(rt: &impl Abort, alloc: Global, row: &str) -> Result<(), AllocError> {
+    let played = play(alloc, row)?;
+    assert!(rt; played.as_str() == row, "{played}");
     Ok(())
 }
 
 #[test]
+fn requests_are_published_once_and_in_their_order(rt: HostRuntime) -> Result<(), AllocError> {
+    let row =
+        "0 prepare 0 101 1 7 0@1; 0 hold 0 101 1 7 0@1: no; 0 clear; 0 leave; 0 prepare 1 101 0 7 0@1; 0 hold 1 \
+        101 0 7 0@1; 0 run 1: 22; 0 clear; 0 leave; 0 prepare 0 101 0 7 0@3; 0 hold 0 101 0 7 0@3: no; 0 clear; \
+        0 leave; 0 prepare 0 101 1 7 0@3; 0 hold 0 101 1 7 0@3";
+    check(&rt, rt.alloc(), row)
+}
+
+#[test]
+fn a_number_is_stored_once_and_a_late_helper_changes_nothing(
+    rt: HostRuntime,
+) -> Result<(), AllocError> {
+    let row =
+        "0 prepare 0 101 0 7 0@1; 0 hold 0 101 0 7 0@1; 1 watch 0; 0 run 0: 22; 0 cell 1: 7@2; 0 cell 0: 0@3; 0 \
+        ended: Answered(4294967296) [4294967296]; 1 run 0: 22; 1 ended: Answered(4294967296) [4294967296], late; \
+        0 cell 1: 7@2; 0 cell 0: 0@3";
+    check(&rt, rt.alloc(), row)
+}
+
+#[test]
+fn two_runners_store_a_number_once(rt: HostRuntime) -> Result<(), AllocError> {
+    let row =
+        "0 prepare 0 101 0 7 0@1; 0 hold 0 101 0 7 0@1; 1 watch 0; 0 open 0; 1 open 0; 0 load; 1 load; 1 commit; \
+        0 commit; 0 clock; 0 stamp; 0 raise; 1 clock; 1 stamp; 1 raise; 1 store; 0 cell 1: 7@2; 0 store; 0 cell \
+        1: 7@2; 0 log 0: 0@1; 0 log 1: 0@0";
+    check(&rt, rt.alloc(), row)
+}
+
+#[test]
+fn a_section_that_finds_another_word_leaves(rt: HostRuntime) -> Result<(), AllocError> {
+    let row =
+        "0 prepare 0 102 0 0@5 0@1; 0 hold 0 102 0 0@5 0@1; 0 run 0: 17; 0 ended: Stale { place: 2, expected: \
+        Word { number: 21474836480 }, read: Word { number: 4294967296 } } [4294967296]; 0 free 0";
+    check(&rt, rt.alloc(), row)
+}
+
+#[test]
+fn a_node_is_made(rt: HostRuntime) -> Result<(), AllocError> {
+    let row =
+        "0 prepare 0 102 0 0@1 0@1; 0 hold 0 102 0 0@1 0@1; 0 run 0: 33; 0 cell 2: 1@2; 0 live 0; 0 live 1: no";
+    check(&rt, rt.alloc(), row)
+}
+
+#[test]
+fn a_lock_that_is_held_refuses(rt: HostRuntime) -> Result<(), AllocError> {
+    let row =
+        "0 prepare 0 101 0 7 0@1; 1 prepare 2 101 2 8 0@1; 1 hold 2 101 0 7 0@1: no; 0 hold 0 101 0 7 0@1; 1 hold \
+        2 101 2 8 0@1; 0 cell 0: 1@2; 1 leave: no; 1 clear; 1 leave; 0 clear: no; 0 leave: no";
+    check(&rt, rt.alloc(), row)
+}
+
+#[test]
+fn two_runners_make_one_node(rt: HostRuntime) -> Result<(), AllocError> {
+    let row =
+        "0 prepare 0 102 0 0@1 0@1; 0 hold 0 102 0 0@1 0@1; 1 watch 0; 0 open 0; 1 open 0; 0 load; 0 commit; 0 \
+        fill 0; 1 load; 1 commit; 1 fill 2; 1 make; 0 make; 0 clock; 0 stamp; 0 raise; 1 clock; 1 stamp; 1 \
+        raise; 0 store; 1 store; 0 log 0: 0@1; 0 log 1: 3@0; 0 cell 2: 3@2; 0 live 2; 0 live 0: no; 0 free 0; 0 \
+        cell 3: 0@2; 0 cell 4: 0@2; 0 cell 5: 0@2; 0 cell 6: 0@2; 0 cell 7: 0@2";
+    check(&rt, rt.alloc(), row)
+}
+
+#[test]
+fn a_node_is_taken_out(rt: HostRuntime) -> Result<(), AllocError> {
+    // The last section makes 24 steps. Before it there are 202, with the load by which `runs` sees that a run is over.
+    let row =
+        "0 prepare 0 102 0 0@1 0@1; 0 hold 0 102 0 0@1 0@1; 0 run 0: 33; 0 clear; 0 leave; 0 prepare 1 103 1 1@2 \
+        0@3; 0 hold 1 103 1 1@2 0@3; 0 events: 202; 0 open 1; 0 load; 0 commit; 0 clock; 0 stamp; 0 raise; 0 \
+        store; 0 epoch; 0 retire; 0 answer; 0 done; 0 release; 0 events: 226; 0 cell 2: 0@3; 0 live 0: no; 0 \
+        free 0: no";
+    check(&rt, rt.alloc(), row)
+}
+
+#[test]
+fn the_epoch_waits_for_an_old_announcement(rt: HostRuntime) -> Result<(), AllocError> {
+    let row =
+        "0 enter; 1 collect; 0 now: 2; 1 collect; 0 now: 2; 0 leave; 1 collect; 0 now: 3; 0 enter; 0 announced: 3";
+    check(&rt, rt.alloc(), row)
+}
+
+#[test]
+fn a_descriptor_that_no_guard_names_is_free_behind_a_sweep(
+    rt: HostRuntime,
+) -> Result<(), AllocError> {
+    // The helper has read the lock in the old section's time, and runs the new one.
+    let row =
+        "0 prepare 0 101 0 7 0@1; 0 hold 0 101 0 7 0@1; 1 enter; 1 look; 0 run 0: 22; 0 clear; 0 leave; 0 sweep \
+        0; 0 sweep 1; 0 descriptors: [1] [0]; 0 sweep 2; 0 descriptors: [1, 0] []; 1 guard 0; 0 prepare 0 101 1 \
+        8 0@3; 0 hold 0 101 1 8 0@3; 1 look; 1 run 0: 22; 0 cell 1: 8@3";
+    check(&rt, rt.alloc(), row)
+}
+
+#[test]
+fn a_descriptor_that_a_guard_names_stays_in_limbo(rt: HostRuntime) -> Result<(), AllocError> {
+    let row =
+        "0 prepare 0 101 0 7 0@1; 0 hold 0 101 0 7 0@1; 1 watch 0; 0 run 0: 22; 0 clear; 0 leave; 0 sweep 0; 0 \
+        sweep 1; 0 sweep 2; 0 descriptors: [1] [0]; 1 run 0: 22; 0 cell 1: 7@2; 1 clear; 0 sweep 0; 0 sweep 1; 0 \
+        sweep 2; 0 descriptors: [1, 0] []";
+    check(&rt, rt.alloc(), row)
+}
+
+#[test]
+fn no_run_of_a_section_whose_lock_has_moved_on(rt: HostRuntime) -> Result<(), AllocError> {
+    let row =
+        "0 prepare 0 101 0 7 0@1; 0 hold 0 101 0 7 0@1; 1 enter; 1 look; 1 guard 0; 1 thunk 0: no; 0 run 0: 22; 1 \
+        look; 1 thunk 0: no; 1 clear; 1 leave";
+    check(&rt, rt.alloc(), row)
+}
+
+#[test]
+fn a_sweep_begins_anew_behind_an_entry(rt: HostRuntime) -> Result<(), AllocError> {
+    let row =
+        "0 sweep 1: no; 0 sweep 0; 0 sweep 1; 0 enter; 0 sweep 2: no; 0 leave; 0 sweep 2: no; 0 sweep 0";
+    check(&rt, rt.alloc(), row)
+}
+
+#[test]
+fn a_read_writes_its_reply_and_its_stamp(rt: HostRuntime) -> Result<(), AllocError> {
+    let row =
+        "0 enter; 0 look; 0 plan 0 7 0 0 0@1; 0 plan_reply: no; 0 plan_clock; 0 plan_reply: no; 0 look; 0 \
+        plan_stamp: no; 0 plan_reply; 0 learned: 4294967296; 0 leave: no; 0 plan_stamp; 0 learned: 1; 0 leave";
+    check(&rt, rt.alloc(), row)
+}
+
+#[test]
 fn no_read_behind_a_lock_that_was_taken_in_between(rt: HostRuntime) -> Result<(), AllocError> {
-    let mut machine = begins(rt.alloc())?;
-    let read = thunk(7, 0, 0);
-    assert!(rt; looks(&mut machine, 0) && goes(&mut machine, 0, EventKind::ReadPlan(read)));
-    assert!(rt; goes(&mut machine, 0, EventKind::ReadClock));
-    assert!(rt; publishes(&mut machine, 1, 2, thunk(101, 2, 7)));
-    assert!(rt; goes(&mut machine, 0, EventKind::LoadCell(Some(0))));
-    assert!(rt; !goes(&mut machine, 0, EventKind::ReadReply));
-    assert!(rt; goes(&mut machine, 0, EventKind::Idle));
-    Ok(())
+    let row =
+        "0 enter; 0 look; 0 plan 0 7 0 0 0@1; 0 plan_clock; 1 prepare 2 101 2 7 0@1; 1 hold 2 101 2 7 0@1; 0 \
+        look; 0 plan_reply: no; 0 leave";
+    check(&rt, rt.alloc(), row)
 }

@@ -1,22 +1,11 @@
 -- Requests: which one a worker may plan and publish, and which it has served.
-use Rattle.std.specs.Prelude.{◌≡◌, ◌≢◌, ℕ, ◌<◌, ◌≤◌, ◌%◌, List, map, length, true, false, Some, slice_get, slice_index_or}
-use Rattle.std.specs.List.{range_with_len}
-use Rattle.machine_states.specs.map_history.specs.declared.op.Op.{Op}
-use Rattle.machine_states.specs.map_history.specs.declared.op.Op.TheVariants.{Get}
+use Rattle.std.specs.Prelude.{◌≡◌, ◌≢◌, ℕ, ◌<◌, ◌≤◌, List, true, false, Some, slice_get}
 use Rattle.machine_states.specs.map_history.specs.declared.op.Request.{Request}
 use Rattle.machine_states.specs.runner_parts.specs.declared.entries.Known.{Known}
 use Rattle.machine_states.specs.runner_parts.specs.Tests.{is_answered, is_next}
 use Rattle.settled_tables.specs.closed_words.specs.version_words.specs.RunnerState.{RunnerState}
 use Rattle.hash_table.specs.try_lock.specs.epoch_slots.specs.Collects.{IsTidy}
 use Rattle.lock_tests.specs.Workers.{HasReserve}
-
--- the request with this number, where these operations are asked in turn
-abbrev pub request_at : List Op → ℕ → Request
-request_at ops k = record { trace = 0; number = k; op = slice_index_or ops (k % length ops) (Get 0) }
-
--- so many requests of one trace
-abbrev pub trace_of : List Op → ℕ → List Request
-trace_of ops count = map (request_at ops) (range_with_len 0 count)
 
 -- of requests but this one the same are known to be answered
 abbrev pub KnowsOthers : ℕ → List Known → List Known → Type 0

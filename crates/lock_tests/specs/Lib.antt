@@ -3,6 +3,5 @@ pub mod Workers
 pub mod Asked
 pub mod Closing
 pub mod HashScene
-pub mod TreeScene
 pub mod AttemptScene
 pub mod Bank

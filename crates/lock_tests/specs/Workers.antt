@@ -8,7 +8,7 @@ use Rattle.machine_states.specs.runner_parts.specs.Tests.{has_pair}
 use Rattle.settled_tables.specs.closed_words.specs.version_words.specs.RunnerState.{RunnerState}
 use Rattle.settled_tables.specs.closed_words.specs.version_words.specs.Stages.{IsAt}
 use Rattle.hash_table.specs.try_lock.specs.epoch_slots.specs.Collects.{IsTidy}
-use Rattle.hash_table.specs.try_lock.specs.Reached.{IsReached, MayRunSection}
+use Rattle.hash_table.specs.try_lock.specs.Reached.{IsReached, MayHelp, MayRunSection}
 use Rattle.hash_table.specs.try_lock.specs.Watches.{MayWatch}
 use Rattle.hash_table.specs.try_lock.specs.declared.section.Section.{Section}
 -- two node slots and one descriptor are free; no slot is in the runner's hand, and no sweep in progress
@@ -49,3 +49,8 @@ module _ {T : Type 0} where
     pub record MayRunFor (number : ℕ) (section : Section) (r : RunnerState T) : Type 0 where
       pub run : MayRun section r
       pub request : run.thunk.request ≡ number
+
+    -- the first worker may run this section, and the second one help the section that this word of a lock names
+    pub record MayMeet (section : Section) (held : ℕ) (first second : RunnerState T) : Type 0 where
+      pub runs : MayRun section first
+      pub helps : MayHelp m second held

@@ -1,5 +1,5 @@
 //! What the words of a closed table hold.
-ghost use Rattle.std.specs.Prelude.{◌≡◌, ◌<◌, ◌&&◌, ◌==◌, not, true, IfOk};
+ghost use Rattle.std.specs.Prelude.{◌≡◌, ◌<◌, ◌&&◌, ◌==◌, not, true, IfOk, IfSome};
 ghost use Rattle.std.specs.FinMap.{entries};
 ghost use Rattle.machine_states.specs.map_history.specs.Replay.{Pairs};
 ghost use Rattle.machine_states.specs.body_terms.specs.Word.{value_of};
@@ -7,14 +7,22 @@ ghost use Rattle.machine_states.specs.table_words.specs.declared.spot.Spot.TheVa
 ghost use Rattle.settled_tables.specs.closed_words.specs.version_words.specs.TableState.{word_of};
 ghost use Rattle.hash_table.specs.try_lock.specs.Contents.{StandFor};
 ghost use Rattle.settled_tables.specs.closed_words.specs.Histories.{HoldsNoLock};
-ghost use Rattle.lock_tests.specs.Closing.{cells_of};
+ghost use Rattle.lock_tests.specs.Closing.{cells_in, cells_of};
 
 use hash_table::lock_walks::Planner;
-use hash_table::lock_walks::version_words::Words;
+use hash_table::lock_walks::version_words::{FlockTable, Words};
 use machine_states::body_terms::Place;
 use machine_states::structure_laws::Structure;
 use settled_tables::closed_words::closed_words_have_a_history;
 use std::alloc::{AllocError, Global};
+
+/// How many cells a table has. None where that is no number of 32 bits.
+pub fn cell_count<S: Structure>(table: &FlockTable<S>) -> Option<u32>
+    ensures { IfSome result (λ cells. cells ≡ cells_in (S.meaning table.now.structure) table.now.layout) }
+{
+    let fixed = table.structure().fixed_cells();
+    fixed.checked_add(table.node_slots().checked_mul(5)?)
+}
 
 /// Whether this cell is a lock that names a descriptor.
 fn is_held<S: Structure>(words: &Words<S>, place: Place) -> bool

@@ -1,6 +1,5 @@
 //! A worker's requests from plan to answer.
-ghost use Rattle.std.specs.Prelude.{◌≡◌, ◌+◌, ◌<◌, length, true, All, Some, IfOk, IfSome, slice_get};
-ghost use Rattle.machine_states.specs.map_history.specs.declared.op.Request.{Request};
+ghost use Rattle.std.specs.Prelude.{◌≡◌, ◌+◌, ◌<◌, length, true, Some, IfOk, IfSome, slice_get};
 ghost use Rattle.machine_states.specs.runner_parts.specs.Tests.{is_answered};
 ghost use Rattle.settled_tables.specs.closed_words.specs.version_words.specs.TableState.{IsOf};
 ghost use Rattle.hash_table.specs.try_lock.specs.epoch_slots.specs.Collects.{IsTidy};
@@ -21,13 +20,13 @@ use hash_table::lock_walks::try_lock::{Planned, publish};
 use hash_table::lock_walks::version_words::{FlockTable, Runner};
 use lock_attempts::attempts::reserve_slots;
 use machine_states::body_terms::Steps;
-use machine_states::map_history::Request;
+use machine_states::map_history::{Reply, Request};
 use machine_states::structure_laws::Structure;
 use settled_tables::settling::runner_gate::Free;
 use std::alloc::{AllocError, Global};
 
 /// What came of a request.
-#[derive(Drop)]
+#[derive(Drop, Debug)]
 pub struct Course {
     /// How many loads its plan made.
     pub loads: u64,
@@ -38,21 +37,35 @@ pub struct Course {
 }
 
 impl Course {
-    /// Whether its plan made so many loads and its section so many steps, and this is its reply word.
-    pub fn came_to(&self, loads: u64, steps: u64, reply: u64) -> bool {
-        self.loads == loads && self.turn.steps == steps && self.entry.1 == reply
+    /// As a text: the steps of its section, and its reply or else its reply word.
+    fn shown(&self, alloc: Global) -> Result<String, AllocError> {
+        let (steps, word) = (self.turn.steps, self.entry.1);
+        match Reply::from_word(word) {
+            Some(reply) => format!(in alloc; "{steps:?} {reply:?}"),
+            None => format!(in alloc; "{steps:?} {word:?}"),
+        }
     }
 }
 
 /// How far a worker came with its next request.
-#[derive(Drop)]
+#[derive(Drop, Debug)]
 pub enum Served {
     /// It is answered.
     Answered(Course),
     /// Too few slots were free, and nothing was tried.
     Short(Short),
-    /// Its plan or its publication was refused, or its section had no effect.
+    /// The structure doesn't serve it, its plan or its publication was refused, or its section had no effect.
     Refused,
+}
+
+impl Served {
+    /// As a text: the course of the request, or which slots were too few.
+    pub fn shown(&self, alloc: Global) -> Result<String, AllocError> {
+        match self {
+            Served::Answered(course) => course.shown(alloc),
+            other => format!(in alloc; "{other:?}"),
+        }
+    }
 }
 
 /// Enters, plans the request, and publishes its section, with the number of loads of the plan. No offer is made where
@@ -158,7 +171,8 @@ pub fn scan_and_sweep<S: Structure>(table: &FlockTable<S>, runner: Runner<S>) ->
     }
 }
 
-/// The worker collects and sweeps, and serves its next request where two node slots and a descriptor are free.
+/// The worker collects and sweeps, and serves its next request where the structure serves it, and two node slots and a
+/// descriptor are free.
 fn serve_next<S: Planner>(
     table: &FlockTable<S>,
     runner: Runner<S>,
@@ -168,11 +182,13 @@ fn serve_next<S: Planner>(
     requires alone { IsOnlyWorker runner }
     requires request { slice_get table.now.requests request.now.number ≡ Some request.now }
     requires before { HasServed request.now.number runner }
-    requires served { (S.planning table.now.structure).serves request.now.op ≡ true }
     ensures own { IsOf table.now result.0 }
     ensures number { result.0.number ≡ runner.number }
     ensures after { (course : Came) → result.1 ≡ served.Answered course → HasServed (request.now.number + 1) result.0 }
 {
+    if !table.structure().serves(request.op) {
+        return (runner, Served::Refused);
+    }
     let runner = scan_and_sweep(table, runner);
     match reserve_slots(runner) {
         Ok(runner) => serve_due(table, runner, request),
@@ -192,8 +208,6 @@ pub fn serve_in_turn<S: Planner>(
     requires alone { IsOnlyWorker runner }
     requires all { requests.now ≡ table.now.requests }
     requires before { HasServed 0 runner }
-    requires served { All (λ (request : Request). (S.planning table.now.structure).serves request.op ≡ true)
-        requests.now }
     ensures own { IfOk result (λ x. IsOf table.now x.0) }
     ensures number { IfOk result (λ x. x.0.number ≡ runner.number) }
 {

@@ -14,6 +14,7 @@ ghost use Rattle.lock_tests.specs.declared.offers.Offer.TheVariants.{Published};
 ghost use Rattle.lock_tests.specs.HashScene.{IsScene, asked};
 
 use crate::offers::Offer;
+use crate::workers::{Crew, make_crew};
 use crate::{closing, courses};
 use hash_table::HashTable;
 use hash_table::lock_walks::version_words::{FlockTable, Runner, Words};
@@ -41,7 +42,7 @@ fn request_of(number: u32, ops: (Op, Op)) -> Request
 }
 
 /// A table of one bucket with two workers, and one request for each.
-pub fn new_table(
+fn new_table(
     alloc: Global,
     ops: (Op, Op),
 ) -> Result<(FlockTable<HashTable>, Runner<HashTable>), AllocError>
@@ -71,6 +72,17 @@ pub fn new_table(
     ];
     let (table, keeper) = FlockTable::new(alloc, HashTable::new(0), layout, &requests)?;
     Ok((table, keeper))
+}
+
+/// Such a table with its workers.
+pub fn new_crew(alloc: Global, ops: (Op, Op)) -> Result<Crew<HashTable>, AllocError>
+    requires keys { (key_of ops.0 ≤ 4294967293) × (key_of ops.1 ≤ 4294967293) }
+    requires one_key { (has_one_key ops.0 ≡ true) × (has_one_key ops.1 ≡ true) }
+    ensures scene { IfOk result (λ crew. IsScene ops.0 ops.1 crew.table) }
+    ensures workers { IfOk result (λ crew. IsReady 0 crew.first × IsReady 1 crew.second) }
+{
+    let (table, keeper) = new_table(alloc, ops)?;
+    make_crew(alloc, table, keeper)
 }
 
 /// Enters, plans the worker's request, and publishes its section, with the number of loads of the plan. No offer is

@@ -1,11 +1,12 @@
 //! Worked rows of the locks' calls and of attempts on the shared table, in turn and on two real threads, as tests.
 //!
 //! `workers` has a table's keeper with two workers, before and after their work; `turns` the runs of one section by its
-//! publisher and by another worker; `courses` a worker's requests from plan to answer; `scripts` the gates that bring
-//! both into an order. `scenes` has the table of the test structure and offers of its sections, `hash_scene` a hash
-//! table of one bucket, `tree_scene` a search tree with one worker, `attempt_scene` two workers that attempt their
-//! requests on any structure, and `bank` workers that move money between accounts. The tests stand in `rows`,
-//! `hash_rows`, `tree_rows`, `attempt_rows` and `bank_rows`.
+//! publisher and by another worker, and `watched` both of them; `courses` a worker's requests from plan to answer;
+//! `scripts` the gates that bring both into an order. `scenes` has the table of the test structure and offers of its
+//! sections, `hash_scene` a hash table of one bucket, `lone_scene` the only worker of a table of any structure,
+//! `attempt_scene` two workers that attempt their requests on any structure, and `bank` workers that move money between
+//! accounts. The tests stand in `rows`, `hash_rows`, `tree_rows`, `move_rows`, `attempt_rows` and `bank_rows`; what comes
+//! of most rows is shown as a text, and compared in `texts`.
 //!
 //! All but the type that `proofs/` cites is read with the tests alone, so that it is proved once.
 #![tactic(auto)]
@@ -26,6 +27,10 @@ mod courses;
 mod hash_rows;
 #[cfg(test)]
 mod hash_scene;
+#[cfg(test)]
+mod lone_scene;
+#[cfg(test)]
+mod move_rows;
 pub mod offers;
 #[cfg(test)]
 mod rows;
@@ -34,12 +39,12 @@ mod scenes;
 #[cfg(test)]
 mod scripts;
 #[cfg(test)]
-mod traces;
+mod texts;
 #[cfg(test)]
 mod tree_rows;
 #[cfg(test)]
-mod tree_scene;
-#[cfg(test)]
 mod turns;
+#[cfg(test)]
+mod watched;
 #[cfg(test)]
 mod workers;

@@ -6,11 +6,12 @@ ghost use Rattle.hash_table.specs.try_lock.specs.epoch_slots.specs.Entries.{HasL
 ghost use Rattle.settled_tables.specs.closed_words.specs.version_words.specs.TableState.{IsOf};
 ghost use Rattle.settled_tables.specs.closed_words.specs.version_words.specs.Stages.{IsKeeper, HasJoined};
 ghost use Rattle.lock_tests.specs.Scenes.{IsScene};
-ghost use Rattle.lock_tests.specs.Workers.{HasRead, IsEmptyHanded, MayRun};
+ghost use Rattle.lock_tests.specs.Workers.{HasRead, IsEmptyHanded, IsReady, MayRun};
 ghost use Rattle.lock_tests.specs.declared.offers.Offer.TheVariants.{Published};
 ghost use Rattle.hash_table.specs.try_lock.specs.declared.section.Section.{Section};
 
 use crate::offers::Offer;
+use crate::workers::{Crew, make_crew};
 use hash_table::lock_walks::epoch_slots::{enter, exit};
 use hash_table::lock_walks::try_lock::publish;
 use hash_table::lock_walks::version_words::{FlockTable, Runner};
@@ -21,11 +22,7 @@ use machine_states::table_words::Layout;
 use std::alloc::{AllocError, Global};
 
 /// A table with two node slots and one descriptor for each of two workers, and one request for each.
-pub fn new_table(
-    alloc: Global,
-    version_max: u32,
-) -> Result<(FlockTable<Tray>, Runner<Tray>), AllocError>
-    requires { 2 < version_max }
+fn new_table(alloc: Global) -> Result<(FlockTable<Tray>, Runner<Tray>), AllocError>
     ensures own { IfOk result (λ x. IsOf x.0 x.1) }
     ensures keeper { IfOk result (λ x. IsKeeper x.1 0 × HasJoined x.1 0) }
     ensures scene { IfOk result (λ x. IsScene x.0) }
@@ -34,7 +31,7 @@ pub fn new_table(
         runners: 2,
         nodes: 2,
         sections: 1,
-        version_max,
+        version_max: 4294967295,
     };
     let requests = [
         Request {
@@ -50,6 +47,15 @@ pub fn new_table(
     ];
     let (table, keeper) = FlockTable::new(alloc, Tray, layout, &requests)?;
     Ok((table, keeper))
+}
+
+/// Such a table with its workers.
+pub fn new_crew(alloc: Global) -> Result<Crew<Tray>, AllocError>
+    ensures scene { IfOk result (λ crew. IsScene crew.table) }
+    ensures workers { IfOk result (λ crew. IsReady 0 crew.first × IsReady 1 crew.second) }
+{
+    let (table, keeper) = new_table(alloc)?;
+    make_crew(alloc, table, keeper)
 }
 
 /// Enters. The worker may leave again.

@@ -1,217 +1,131 @@
-//! Tests.
+//! Tests on the search tree.
+use crate::lone_scene::{Row, serve_lines};
+use crate::texts::check;
+use leaf_tree::LeafTree;
+use std::alloc::{AllocError, Global};
 
-use crate::courses::{Course, Served};
-use crate::tree_scene::{Row, serve_trace};
-use hash_table::lock_walks::epoch_slots::{Kind, Short};
-use machine_states::body_terms::{Outcome, Word};
-use machine_states::map_history::Op;
-use std::alloc::AllocError;
-
-/// The reply words of an added pair, of a key that was there, of a pair that was taken out, and of an absent key.
-const NEW: u64 = 4294967296;
-
-const DUP: u64 = 8589934592;
-
-const GONE: u64 = 17179869184;
-
-const ABSENT: u64 = 21474836480;
-
-/// The number that stands in memory for this value and this version.
-fn word(value: u32, version: u32) -> u64 {
-    Word::pack(value, version).bits()
+/// The requests of these lines on a new tree, by one worker with so many node slots.
+fn row_of(alloc: Global, nodes: u8, lines: &str) -> Result<Row, AllocError> {
+    serve_lines(alloc, LeafTree::new(), nodes, lines)
 }
 
-/// The reply word of a get that found this value.
-fn val(value: u32) -> u64 {
-    word(value, 3)
+/// That row as a text.
+fn grown(alloc: Global, nodes: u8, lines: &str) -> Result<String, AllocError> {
+    row_of(alloc, nodes, lines)?.shown(alloc)
 }
 
-/// The reply word of a put that found this value.
-fn was(value: u32) -> u64 {
-    word(value, 6)
+/// That row as a text, with the loads of each plan.
+fn planned(alloc: Global, nodes: u8, lines: &str) -> Result<String, AllocError> {
+    row_of(alloc, nodes, lines)?.shown_with_loads(alloc)
 }
 
-impl Row {
-    /// What came of this request, where it was answered.
-    fn course(&self, request: usize) -> Option<&Course> {
-        match self.served.as_slice().get(request) {
-            Some(Served::Answered(course)) => Some(course),
-            _ => None,
-        }
-    }
-
-    /// Whether each request was answered, after so many loads of its plan and steps of its section, and with this reply
-    /// word.
-    fn came_to(&self, figures: &[(u64, u64, u64)]) -> bool {
-        self.served.len() == figures.len()
-            && figures.iter().enumerate().all(|(i, &(loads, steps, reply))| match self.course(i) {
-                Some(course) => course.came_to(loads, steps, reply),
-                None => false,
-            })
-    }
+/// The course of an insertion and a removal, and then the last one's in full.
+fn removed(alloc: Global) -> Result<String, AllocError> {
+    let row = row_of(alloc, 10, "ins 1 1\ndel 1\n")?;
+    let (shown, last) = (row.shown_with_loads(alloc)?, row.last(alloc)?);
+    format!(in alloc; "{shown}\n{last}")
 }
 
 #[test]
 fn a_removal_has_nine_log_words_and_retires_two_slots(rt: HostRuntime) -> Result<(), AllocError> {
-    let row = serve_trace(rt.alloc(), 10, &[Op::Ins(1, 1), Op::Del(1)], 2)?;
-    assert!(&rt; row.came_to(&[(5, 46, NEW), (9, 41, GONE)]));
-    let trail = [
-        word(5, 2),
-        word(0, 1),
-        word(0, 2),
-        word(2, 3),
-        word(4, 2),
-        word(2, 2),
-        word(0, 2),
-        5,
-        4,
-    ];
-    match row.course(1) {
-        Some(course) => {
-            let gone = Outcome::Answered(GONE);
-            assert!(&rt; course.turn.came_to(&gone, &trail, false) && course.entry == (4, GONE));
-        }
-        None => assert!(&rt; false),
-    }
-    assert!(&rt; row.free == 8 && row.limbo == 2 && row.pairs.is_empty());
-    Ok(())
+    // Its trail has the words (5, 2), which are value and version, (0, 1), (0, 2), (2, 3), (4, 2), (2, 2) and (0, 2),
+    // and then the two slots. Eight node slots are free, and two in limbo.
+    let trail = "4: 41 Answered(17179869184) [8589934597, 4294967296, 8589934592, 12884901890, \
+        8589934596, 8589934594, 8589934592, 5, 4]";
+    let shown = ["[5, 9]", "46 New, 41 Gone", "10 slots, []", trail, "(8, 2)"];
+    check(&rt, rt.alloc(), removed(rt.alloc()), &shown)
 }
 
 #[test]
 fn a_request_that_changes_nothing_makes_23_steps(rt: HostRuntime) -> Result<(), AllocError> {
-    let ops = [
-        Op::Ins(5, 70),
-        Op::Ins(5, 80),
-        Op::Get(5),
-        Op::Get(6),
-        Op::Del(6),
-    ];
-    let row = serve_trace(rt.alloc(), 10, &ops, 5)?;
-    assert!(&rt;
-        row.came_to(&[
-            (5, 46, NEW),
-            (8, 23, DUP),
-            (8, 23, val(70)),
-            (7, 23, ABSENT),
-            (7, 23, ABSENT),
-        ])
-    );
-    assert!(&rt; row.pairs.as_slice() == [(5, 70)].as_slice());
-    Ok(())
+    let row = planned(rt.alloc(), 10, "ins 5 70\nins 5 80\nget 5\nget 6\ndel 6\n");
+    let told = "46 New, 23 Dup, 23 Val(70), 23 Absent, 23 Absent";
+    check(
+        &rt,
+        rt.alloc(),
+        row,
+        &["[5, 8, 8, 7, 7]", told, "8 slots, [(5, 70)]"],
+    )
 }
 
 #[test]
 fn a_put_of_a_present_key_makes_a_leaf_and_retires_one(rt: HostRuntime) -> Result<(), AllocError> {
-    let ops = [Op::Put(5, 70), Op::Put(5, 80), Op::Get(5)];
-    let row = serve_trace(rt.alloc(), 10, &ops, 3)?;
-    assert!(&rt; row.came_to(&[(5, 46, NEW), (8, 37, was(70)), (8, 23, val(80))]));
-    assert!(&rt; row.free as u64 + row.limbo as u64 == 8);
-    assert!(&rt; row.pairs.as_slice() == [(5, 80)].as_slice());
-    Ok(())
+    let row = planned(rt.alloc(), 10, "put 5 70\nput 5 80\nget 5\n");
+    let told = "46 New, 37 Was(70), 23 Val(80)";
+    check(
+        &rt,
+        rt.alloc(),
+        row,
+        &["[5, 8, 8]", told, "8 slots, [(5, 80)]"],
+    )
 }
 
 #[test]
 fn an_inner_node_takes_the_parents_place(rt: HostRuntime) -> Result<(), AllocError> {
-    let ops = [
-        Op::Ins(2, 2),
-        Op::Ins(1, 1),
-        Op::Ins(3, 3),
-        Op::Del(1),
-        Op::Get(2),
-        Op::Get(3),
-    ];
-    let row = serve_trace(rt.alloc(), 10, &ops, 6)?;
-    assert!(&rt;
-        row.came_to(&[
-            (5, 46, NEW),
-            (7, 46, NEW),
-            (10, 46, NEW),
-            (11, 41, GONE),
-            (10, 23, val(2)),
-            (11, 23, val(3)),
-        ])
+    let row = planned(
+        rt.alloc(),
+        10,
+        "ins 2 2\nins 1 1\nins 3 3\ndel 1\nget 2\nget 3\n",
     );
-    assert!(&rt; row.pairs.as_slice() == [(2, 2), (3, 3)].as_slice());
-    Ok(())
+    let told = "46 New, 46 New, 46 New, 41 Gone, 23 Val(2), 23 Val(3)";
+    check(
+        &rt,
+        rt.alloc(),
+        row,
+        &["[5, 7, 10, 11, 10, 11]", told, "6 slots, [(2, 2), (3, 3)]"],
+    )
+}
+
+/// A hundred insertions and removals of one key in turn, of which those that are as they should be are left out.
+fn hundred_rounds(alloc: Global) -> Result<String, AllocError> {
+    let lines = "ins 1 1\ndel 1\n".repeat(alloc, 100)?;
+    let shown = planned(alloc, 18, &lines)?;
+    let (loads, told) = (
+        "5, 9, ".repeat(alloc, 99)?,
+        "46 New, 41 Gone, ".repeat(alloc, 99)?,
+    );
+    shown
+        .replace(alloc, loads.as_str(), "")?
+        .replace(alloc, told.as_str(), "")
 }
 
 #[test]
 fn slots_are_used_again(rt: HostRuntime) -> Result<(), AllocError> {
-    let row = serve_trace(rt.alloc(), 18, &[Op::Ins(1, 1), Op::Del(1)], 200)?;
-    for i in 0..100 {
-        match (row.course(2 * i), row.course(2 * i + 1)) {
-            (Some(added), Some(gone)) => {
-                assert!(&rt;
-                    added.came_to(5, 46, NEW) && gone.came_to(9, 41, GONE),
-                    "at {i}"
-                );
-            }
-            _ => assert!(&rt; false, "at {i}"),
-        }
-    }
-    assert!(&rt; row.pairs.is_empty() && row.free as u64 + row.limbo as u64 == 18);
-    Ok(())
+    let row = hundred_rounds(rt.alloc());
+    check(
+        &rt,
+        rt.alloc(),
+        row,
+        &["[5, 9]", "46 New, 41 Gone", "18 slots, []"],
+    )
 }
 
 #[test]
 fn a_third_insertion_lacks_slots(rt: HostRuntime) -> Result<(), AllocError> {
-    let ops = [Op::Ins(1, 1), Op::Ins(2, 2), Op::Ins(3, 3)];
-    let row = serve_trace(rt.alloc(), 4, &ops, 3)?;
-    let none = Short {
-        kind: Kind::Node,
-        free: 0,
-        limbo: 0,
-        worn: 0,
-    };
-    match row.served.as_slice() {
-        [
-            Served::Answered(_),
-            Served::Answered(_),
-            Served::Short(short),
-        ] => {
-            assert!(&rt; *short == none);
-        }
-        _ => assert!(&rt; false),
-    }
-    assert!(&rt; row.pairs.as_slice() == [(1, 1), (2, 2)].as_slice());
-    Ok(())
+    let row = grown(rt.alloc(), 4, "ins 1 1\nins 2 2\nins 3 3\n");
+    let told = "46 New, 46 New, Short(Short { kind: Node, free: 0, limbo: 0, worn: 0 })";
+    check(&rt, rt.alloc(), row, &[told, "0 slots, [(1, 1), (2, 2)]"])
+}
+
+/// Seven insertions.
+const GROW: &str = "ins 4 40\nins 2 20\nins 6 60\nins 1 10\nins 3 30\nins 5 50\nins 7 70\n";
+
+/// The tree after these, and after removals too, of left and right leaves of left and right parents.
+fn grown_and_less(alloc: Global) -> Result<String, AllocError> {
+    let less = format!(in alloc; "{GROW}del 1\ndel 7\ndel 5\ndel 4\n")?;
+    let (grown, less) = (grown(alloc, 16, GROW)?, grown(alloc, 16, &less)?);
+    format!(in alloc; "{grown}\n{less}")
 }
 
 #[test]
 fn pairs_are_in_order_of_key_after_removals_on_all_sides(
     rt: HostRuntime,
 ) -> Result<(), AllocError> {
-    let ops = [
-        Op::Ins(4, 40),
-        Op::Ins(2, 20),
-        Op::Ins(6, 60),
-        Op::Ins(1, 10),
-        Op::Ins(3, 30),
-        Op::Ins(5, 50),
-        Op::Ins(7, 70),
-        Op::Del(1),
-        Op::Del(7),
-        Op::Del(5),
-        Op::Del(4),
+    let shown = [
+        "46 New, 46 New, 46 New, 46 New, 46 New, 46 New, 46 New",
+        "2 slots, [(1, 10), (2, 20), (3, 30), (4, 40), (5, 50), (6, 60), (7, 70)]",
+        "46 New, 46 New, 46 New, 46 New, 46 New, 46 New, 46 New, 41 Gone, 41 Gone, 41 Gone, 41 Gone",
+        "10 slots, [(2, 20), (3, 30), (6, 60)]",
     ];
-    let grown = serve_trace(rt.alloc(), 16, &ops, 7)?;
-    let pairs = [
-        (1, 10),
-        (2, 20),
-        (3, 30),
-        (4, 40),
-        (5, 50),
-        (6, 60),
-        (7, 70),
-    ];
-    assert!(&rt; grown.pairs.as_slice() == pairs.as_slice());
-    let row = serve_trace(rt.alloc(), 16, &ops, 11)?;
-    for i in 7..11 {
-        match row.course(i) {
-            Some(course) => assert!(&rt; course.turn.steps == 41 && course.entry.1 == GONE),
-            None => assert!(&rt; false),
-        }
-    }
-    assert!(&rt; row.pairs.as_slice() == [(2, 20), (3, 30), (6, 60)].as_slice());
-    Ok(())
+    check(&rt, rt.alloc(), grown_and_less(rt.alloc()), &shown)
 }

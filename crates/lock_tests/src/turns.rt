@@ -1,4 +1,4 @@
-//! Runs of a section by its publisher and by another worker, in turn or on two threads.
+//! Runs of a section by its publisher and by another worker.
 ghost use Rattle.std.specs.Prelude.{◌≡◌, ◌<◌, ℕ, true, Some};
 ghost use Rattle.machine_states.specs.body_terms.specs.Trail.{Agreed};
 ghost use Rattle.machine_states.specs.body_terms.specs.declared.outcome.Outcome.{Outcome as Ending};
@@ -13,11 +13,10 @@ use hash_table::lock_walks::epoch_slots::{enter, exit};
 use hash_table::lock_walks::section_runs::RunEnd;
 use hash_table::lock_walks::try_lock::{Section, help, run_section, watch};
 use hash_table::lock_walks::version_words::{FlockTable, Runner};
-use machine_states::body_terms::{Outcome, Place, Steps, Word};
+use machine_states::body_terms::{Place, Steps, Word};
 use machine_states::structure_laws::Structure;
 use settled_tables::settling::runner_gate::Gate;
-use std::thread;
-use std::thread::Threads;
+use std::alloc::{AllocError, Global};
 
 /// How a run of a section ended, and how many steps it made.
 #[derive(Drop, Debug)]
@@ -27,13 +26,16 @@ pub struct Turn {
 }
 
 impl Turn {
-    /// Whether the run came to its end with this outcome and this trail.
-    pub fn came_to(&self, outcome: &Outcome, words: &[u64], late: bool) -> bool {
+    /// The run as a text: how many steps it made, how it ended and with which trail, and whether it was late.
+    pub fn shown(&self, alloc: Global) -> Result<String, AllocError> {
+        let steps = self.steps;
         match &self.end {
-            RunEnd::Done(found, trail) => {
-                *found == *outcome && trail.words.as_slice() == words && trail.late == late
+            RunEnd::Done(outcome, trail) => {
+                let words = trail.words.as_slice();
+                let late = if trail.late { ", late" } else { "" };
+                format!(in alloc; "{steps:?} {outcome:?} {words:?}{late}")
             }
-            RunEnd::Halted => false,
+            RunEnd::Halted => format!(in alloc; "{steps:?} Halted"),
         }
     }
 }
@@ -129,41 +131,4 @@ pub fn help_held<S: Structure, G: Gate>(
     let (runner, end) = help(table, runner, held, gate, &mut steps);
     let steps = steps.count;
     (runner, Turn { end, steps })
-}
-
-/// Both at one section, each on a thread of its own: its publisher, and the other one by the word of the lock that it
-/// has watched.
-pub fn side_by_side<R: Threads + Sync, S: Structure, G: Gate + Send + Drop>(
-    rt: &R,
-    table: &FlockTable<S>,
-    first: (Runner<S>, Section, G),
-    second: (Runner<S>, Word, G),
-) -> ((Runner<S>, Turn), (Runner<S>, Turn))
-    requires own { IsOf table.now first.0 × IsOf table.now second.0 }
-    requires next { MayRun (S.meaning table.now.structure) first.1 first.0 }
-    requires watched { MayHelp (S.meaning table.now.structure) second.0 second.1 }
-    ensures own { IsOf table.now result.0.0 × IsOf table.now result.1.0 }
-    ensures numbers { (result.0.0.number ≡ first.0.number) × (result.1.0.number ≡ second.0.number) }
-    ensures tidy { (outcome : Ending) (trail : Agreed) → result.0.1.end ≡ Done outcome trail → IsTidy result.0.0 }
-{
-    let (runner, section, gate) = first;
-    let (helper, held, other_gate) = second;
-    thread::join(
-        rt,
-        move || -> (Runner<S>, Turn)
-            requires { IsOf table.now runner × MayRun (S.meaning table.now.structure) section runner }
-            ensures { IsOf table.entry.now result.0 × (result.0.number ≡ runner.number)
-                × ((outcome : Ending) (trail : Agreed) → result.1.end ≡ Done outcome trail → IsTidy result.0) }
-        {
-            let mut gate = gate;
-            run_own(table, runner, section, &mut gate)
-        },
-        move || -> (Runner<S>, Turn)
-            requires { IsOf table.now helper × MayHelp (S.meaning table.now.structure) helper held }
-            ensures { IsOf table.entry.now result.0 × (result.0.number ≡ helper.number) }
-        {
-            let mut gate = other_gate;
-            help_held(table, helper, held, &mut gate)
-        },
-    )
 }

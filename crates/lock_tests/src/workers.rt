@@ -1,6 +1,5 @@
 //! A table's keeper and its two workers, before and after their work.
 ghost use Rattle.std.specs.Prelude.{◌≡◌, ◌+◌, ◌<◌, IfOk};
-ghost use Rattle.hash_table.specs.try_lock.specs.epoch_slots.specs.Collects.{IsTidy};
 ghost use Rattle.settled_tables.specs.closed_words.specs.version_words.specs.TableState.{IsOf};
 ghost use Rattle.settled_tables.specs.closed_words.specs.version_words.specs.Stages.{IsKeeper, HasJoined};
 ghost use Rattle.lock_tests.specs.Workers.{IsNewWorker, IsReady, HasReserve};
@@ -41,26 +40,41 @@ pub fn split<S: Structure>(
     }
 }
 
-/// The keeper and two workers, each of which has two free node slots and a free descriptor.
-pub fn crew<S: Structure>(
-    table: &FlockTable<S>,
+/// A table with its keeper and its two workers, wherever they stand.
+#[derive(Drop)]
+pub struct Crew<S: Structure> {
+    pub table: FlockTable<S>,
+    pub keeper: Runner<S>,
+    pub first: Runner<S>,
+    pub second: Runner<S>,
+    ghost own: { IsOf table keeper × IsOf table first × IsOf table second },
+    ghost kept: { IsKeeper keeper 2 × HasJoined keeper 0 },
+    ghost numbers: { (first.number ≡ 0) × (second.number ≡ 1) },
+    ghost two: { table.layout.runners ≡ 2 },
+}
+
+/// The table with its two workers, each of which has two free node slots and a free descriptor.
+pub fn make_crew<S: Structure>(
     alloc: Global,
+    table: FlockTable<S>,
     keeper: Runner<S>,
-) -> Result<(Runner<S>, Runner<S>, Runner<S>), AllocError>
-    requires own { IsOf table.now keeper }
+) -> Result<Crew<S>, AllocError>
+    requires own { IsOf table keeper }
     requires keeper { IsKeeper keeper 0 × HasJoined keeper 0 }
-    requires two { table.now.layout.runners ≡ 2 }
-    ensures own { IfOk result (λ x. IsOf table.now x.0 × IsOf table.now x.1 × IsOf table.now x.2) }
-    ensures keeper { IfOk result (λ x. IsKeeper x.0 2 × HasJoined x.0 0) }
-    ensures workers { IfOk result (λ x. IsReady 0 x.1 × IsReady 1 x.2) }
-    ensures tidy { IfOk result (λ x. IsTidy x.1 × IsTidy x.2) }
-    ensures numbers { IfOk result (λ x. (x.1.number ≡ 0) × (x.2.number ≡ 1)) }
+    requires two { table.layout.runners ≡ 2 }
+    ensures table { IfOk result (λ crew. crew.table ≡ table) }
+    ensures workers { IfOk result (λ crew. IsReady 0 crew.first × IsReady 1 crew.second) }
 {
-    let (keeper, first) = split(table, alloc, keeper, 0)?;
-    let (keeper, second) = split(table, alloc, keeper, 1)?;
+    let (keeper, first) = split(&table, alloc, keeper, 0)?;
+    let (keeper, second) = split(&table, alloc, keeper, 1)?;
     let first = with_reserve(first)?;
     let second = with_reserve(second)?;
-    Ok((keeper, first, second))
+    Ok(Crew {
+        table,
+        keeper,
+        first,
+        second,
+    })
 }
 
 /// The keeper after it joined this worker, whose number is the given one.
@@ -80,24 +94,23 @@ fn join<S: Structure>(
     table.join_runner(keeper, worker)
 }
 
-/// The words after both workers were joined, wherever they stand.
-pub fn gather<S: Structure>(
-    table: FlockTable<S>,
-    keeper: Runner<S>,
-    first: Runner<S>,
-    second: Runner<S>,
-) -> Words<S>
-    requires own { IsOf table keeper × IsOf table first × IsOf table second }
-    requires keeper { IsKeeper keeper 2 × HasJoined keeper 0 }
-    requires numbers { (first.number ≡ 0) × (second.number ≡ 1) }
-    requires two { table.layout.runners ≡ 2 }
-    ensures structure { result.structure ≡ table.structure }
-    ensures requests { result.requests ≡ table.requests }
-    ensures layout { result.layout ≡ table.layout }
-{
-    let keeper = join(&table, keeper, first, 0);
-    let keeper = join(&table, keeper, second, 1);
-    table.close(keeper)
+impl<S: Structure> Crew<S> {
+    /// The words after both workers were joined, wherever they stand.
+    pub fn gather(self) -> Words<S>
+        ensures structure { result.structure ≡ self.table.structure }
+        ensures requests { result.requests ≡ self.table.requests }
+        ensures layout { result.layout ≡ self.table.layout }
+    {
+        let Crew {
+            table,
+            keeper,
+            first,
+            second,
+        } = self;
+        let keeper = join(&table, keeper, first, 0);
+        let keeper = join(&table, keeper, second, 1);
+        table.close(keeper)
+    }
 }
 
 /// The words after the only worker was joined, wherever it stands.

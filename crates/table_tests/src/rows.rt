@@ -1,5 +1,5 @@
 //! Tests.
-ghost use Rattle.std.specs.Prelude.{◌≡◌, ◌<◌, None};
+ghost use Rattle.std.specs.Prelude.{◌≡◌, ◌<◌, None, length};
 ghost use Rattle.machine_states.specs.epoch_core.specs.declared.stage.Stage.TheVariants as stages;
 ghost use Rattle.version_words.specs.TableState.{IsOf};
 ghost use Rattle.version_words.specs.Stages.{IsAt};
@@ -8,10 +8,10 @@ use crate::walks::{
     collect, crew, enter, entry, exit, fetch, gather, look, new_table, put, slot_of,
 };
 use interleave_core::Tray;
-use std::alloc::AllocError;
+use std::alloc::{AllocError, Global};
 use std::thread;
 use std::thread::Threads;
-use version_words::{FlockTable, Runner};
+use version_words::{FlockTable, Runner, Words};
 
 /// A worker's share of work on a thread: it enters and leaves, and scans, so many times.
 fn busy(table: &FlockTable<Tray>, runner: Runner<Tray>, times: u32) -> Runner<Tray>
@@ -56,57 +56,97 @@ fn both_busy<R: Threads + Sync>(
     )
 }
 
+/// What a runner has, as a text: its number, its free node slots and descriptors, the slots in its hand, how many are
+/// worn, and how many node slots and descriptors are in limbo.
+fn kept(alloc: Global, runner: &Runner<Tray>) -> Result<String, AllocError> {
+    let (nodes, descriptors) = (runner.free_nodes(), runner.free_descriptors());
+    let (number, hand, worn) = (runner.number(), runner.hand(), runner.worn());
+    let limbo = (runner.limbo_nodes(), runner.limbo_descriptors());
+    format!(in alloc; "{number:?}: {nodes:?} {descriptors:?} {hand:?} {worn:?} {limbo:?}")
+}
+
+/// What a table is of, as a text: how many node slots its keeper has, and how many workers it has; and its structure.
+fn made(
+    alloc: Global,
+    table: &FlockTable<Tray>,
+    keeper: &Runner<Tray>,
+) -> Result<String, AllocError> {
+    let (slots, workers) = (keeper.free_nodes().len(), table.layout().runners);
+    let structure = table.structure();
+    format!(in alloc; "{slots:?} {workers:?} {structure:?}")
+}
+
+/// What a closed table has, as a text: the entry of its request, the number and the link, and its structure.
+fn left(alloc: Global, words: &Words<Tray>) -> Result<String, AllocError>
+    requires { 0 < length words.now.requests }
+{
+    let (entry, structure) = (words.entry(0), words.structure());
+    let (number, link) = (words.cell(1).bits(), words.cell(2).bits());
+    format!(in alloc; "{entry:?} {number:?} {link:?} {structure:?}")
+}
+
+/// Both workers are busy on threads. What each of them and the table then has, and what is left, each on a line.
+fn worked<R: Threads + Sync>(rt: &R, alloc: Global) -> Result<String, AllocError> {
+    let (table, keeper) = new_table(alloc)?;
+    let (keeper, first, second) = crew(&table, alloc, keeper)?;
+    let (first, second) = both_busy(rt, &table, first, second);
+    let (one, two) = (kept(alloc, &first)?, kept(alloc, &second)?);
+    let made = made(alloc, &table, &keeper)?;
+    let left = left(alloc, &gather(table, keeper, first, second))?;
+    format!(in alloc; "{one}\n{two}\n{made}\n{left}")
+}
+
 #[test]
 fn two_threads_enter_leave_and_scan(rt: HostRuntime) -> Result<(), AllocError> {
-    let (table, keeper) = new_table(rt.alloc())?;
-    let (keeper, first, second) = crew(&table, rt.alloc(), keeper)?;
-    let (first, second) = both_busy(&rt, &table, first, second);
-    assert!(&rt; first.number() == 0 && second.number() == 1);
-    assert!(&rt;
-        first.free_nodes() == [1, 0].as_slice() && second.free_nodes() == [3, 2].as_slice()
-    );
-    assert!(&rt;
-        first.free_descriptors() == [0].as_slice() && second.free_descriptors() == [1].as_slice()
-    );
-    assert!(&rt; first.hand().is_empty() && first.worn() == 0);
-    assert!(&rt; second.limbo_nodes() == 0 && second.limbo_descriptors() == 0);
-    assert!(&rt; keeper.free_nodes().len() == 6 && table.layout().runners == 2);
-    assert!(&rt; *table.structure() == Tray);
-    let words = gather(table, keeper, first, second);
-    assert!(&rt; words.entry(0).is_none() && words.cell(2).bits() == 4294967296);
-    assert!(&rt; *words.structure() == Tray);
+    let row = worked(&rt, rt.alloc())?;
+    let shown = "0: [1, 0] [0] [] 0 (0, 0)\n1: [3, 2] [1] [] 0 (0, 0)\n6 2 Tray\n\
+        None 4294967296 4294967296 Tray";
+    assert!(&rt; row.as_str() == shown, "{row}");
     Ok(())
+}
+
+/// A worker loads the number in an entry. The word, and what is left.
+fn looked(alloc: Global) -> Result<String, AllocError> {
+    let (table, keeper) = new_table(alloc)?;
+    let (keeper, first, second) = crew(&table, alloc, keeper)?;
+    let (first, epoch) = enter(&table, first);
+    let (first, word) = look(&table, first, epoch, 1);
+    let first = exit(&table, first, epoch);
+    let left = left(alloc, &gather(table, keeper, first, second))?;
+    let word = word.bits();
+    format!(in alloc; "{word:?}\n{left}")
 }
 
 #[test]
 fn an_entered_runner_loads_a_cell(rt: HostRuntime) -> Result<(), AllocError> {
-    let (table, keeper) = new_table(rt.alloc())?;
-    let (keeper, first, second) = crew(&table, rt.alloc(), keeper)?;
-    let (first, epoch) = enter(&table, first);
-    let (first, word) = look(&table, first, epoch, 1);
-    assert!(&rt; word.bits() == 4294967296);
-    let first = exit(&table, first, epoch);
-    let words = gather(table, keeper, first, second);
-    assert!(&rt; words.cell(1).bits() == 4294967296);
+    let row = looked(rt.alloc())?;
+    let shown = "4294967296\nNone 4294967296 4294967296 Tray";
+    assert!(&rt; row.as_str() == shown, "{row}");
     Ok(())
 }
 
-#[test]
-fn an_idle_worker_stores_into_a_free_descriptor_and_loads_it(
-    rt: HostRuntime,
-) -> Result<(), AllocError> {
-    let (table, keeper) = new_table(rt.alloc())?;
-    let (keeper, first, second) = crew(&table, rt.alloc(), keeper)?;
+/// Each worker stores into a word of its free descriptor. What is loaded of both and of another word; the request's
+/// stamp; and what is left.
+fn stored(alloc: Global) -> Result<String, AllocError> {
+    let (table, keeper) = new_table(alloc)?;
+    let (keeper, first, second) = crew(&table, alloc, keeper)?;
     let (slot, next) = (slot_of(&table, 0), slot_of(&table, 1));
     let first = put(&table, first, 0, slot, 0, 9);
     let second = put(&table, second, 1, next, 76, 5);
     let (first, word) = fetch(&table, first, 0, slot, 0);
     let (second, other) = fetch(&table, second, 1, next, 76);
     let (second, unstored) = fetch(&table, second, 1, next, 12);
-    assert!(&rt; word == 9 && other == 5 && unstored == 0);
     let (first, stamp) = entry(&table, first, 0);
-    assert!(&rt; stamp == 0);
-    let words = gather(table, keeper, first, second);
-    assert!(&rt; words.entry(0).is_none());
+    let left = left(alloc, &gather(table, keeper, first, second))?;
+    format!(in alloc; "{word:?} {other:?} {unstored:?}, {stamp:?}\n{left}")
+}
+
+#[test]
+fn an_idle_worker_stores_into_a_free_descriptor_and_loads_it(
+    rt: HostRuntime,
+) -> Result<(), AllocError> {
+    let row = stored(rt.alloc())?;
+    let shown = "9 5 0, 0\nNone 4294967296 4294967296 Tray";
+    assert!(&rt; row.as_str() == shown, "{row}");
     Ok(())
 }

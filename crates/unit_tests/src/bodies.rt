@@ -1,5 +1,6 @@
 // Worked rows of sections' bodies, and each call once.
 use crate::rows::{Shown, check, number_of};
+use bucket_bodies::move_body;
 use section_body::{
     Body, Init, Misshape, Step, Steps, Thunk, Trail, Value, Word, bucket_body, bucket_body_in,
     bucket_of, cost, micro_at,
@@ -64,6 +65,64 @@ impl Shown for Bodies {
 #[test]
 fn the_hash_tables_bodies_have_their_costs(rt: HostRuntime) -> Result<(), Fail> {
     check::<Bodies>(&rt, rt.alloc(), BODIES)?;
+    Ok(())
+}
+
+/// Thunks over two keys: in the buckets 0 and 1 with the first key in the higher one, and in bucket 0 alone. `half`
+/// says of form 22 which head is loaded first.
+fn thunk_over_two(form: u64, half: u64) -> Thunk {
+    let mut thunk = thunk_of(form);
+    thunk.operands = match form {
+        21 => [1 << 32, 1 << 32, 1 << 32, 3, 0, 0, 0, 5 << 32],
+        22 => [
+            1 << 32,
+            1 << 32,
+            1 << 32,
+            (half << 32) + 3,
+            8,
+            0,
+            (70 << 32) + 9,
+            0,
+        ],
+        _ => [1 << 32, 2, 0, 0, 9, 70, 0, 0],
+    };
+    thunk
+}
+
+/// The same of the body over two keys, and its tenth step. The text is the form and the half.
+fn move_of(alloc: Global, text: &str) -> Result<String, AllocError> {
+    let (form, half) = text.split_once(" ").unwrap_or((text, "0"));
+    let thunk = thunk_over_two(u64::from(number_of(form)), u64::from(number_of(half)));
+    let body = move_body(&thunk);
+    let (steps, checked, costs, tenth) = (
+        body.steps.len(),
+        body.check(),
+        cost(&body),
+        body.steps.get(9),
+    );
+    format!(in alloc; "{steps} {checked:?} {costs} {tenth:?}")
+}
+
+// The forms over two keys; of form 22 the first bucket may be the lower one.
+const MOVES: &str = "\
+21 => 7 Ok(()) 29 None
+22 => 19 Ok(()) 50 Some(Load { place: 2, into: 3 })
+22 1 => 19 Ok(()) 50 Some(Load { place: 5, into: 3 })
+22 2 => 19 Ok(()) 50 Some(Load { place: 2, into: 3 })
+23 => 11 Ok(()) 38 Some(Retire { slot: 0 })
+";
+
+struct Moves;
+
+impl Shown for Moves {
+    fn shown(alloc: Global, text: &str) -> Result<String, AllocError> {
+        move_of(alloc, text)
+    }
+}
+
+#[test]
+fn the_bodies_over_two_keys_have_their_costs(rt: HostRuntime) -> Result<(), Fail> {
+    check::<Moves>(&rt, rt.alloc(), MOVES)?;
     Ok(())
 }
 

@@ -47,6 +47,11 @@ flock 2/trace/put 5 70/put 5 80/|trace 0/0 new/1 was 70/final 1/ => Legal
 flock 2/trace/put 5 70/put 5 80/|trace 0/0 new/1 was 80/final 1/ => Fails { line: 3, kind: Reply }
 flock 2/trace/put 5 70/put 5 80/|trace 0/0 new/1 val 70/final 1/ => Fails { line: 3, kind: Reply }
 flock 2/trace/put 5 70/put 5 80/|trace 0/0 new/1 was 4294967296/final 1/ => Fails { line: 3, kind: Form }
+flock 3/trace/ins 1 10/mov 1 2/get 2/mov 1 3/mov 2 2/|trace 0/0 new/1 moved/2 val 10/3 none/4 dup/final 1/ => Legal
+flock 3/trace/ins 1 10/mov 1 2/get 2/|trace 0/0 new/1 dup/2 val 10/final 1/ => Fails { line: 3, kind: Reply }
+flock 3/trace/ins 1 10/mov 1 2/get 2/|trace 0/0 new/1 moved/2 none/final 1/ => Fails { line: 4, kind: Reply }
+flock 3/trace/ins 1 10/mov 1 2/get 2/|trace 0/0 new/1 moved 10/2 val 10/final 1/ => Fails { line: 3, kind: Form }
+flock 3/trace/ins 1 10/mov 1 2/get 2/|trace 0/0 new/1 moved/2 val 10/final 2/ => Fails { line: 5, kind: Final }
 flock 1/trace/get 1/trace/get 1/|trace 0/1 gone/trace 1/0 gone/final 0/ => Fails { line: 2, kind: Reply }
 ";
 

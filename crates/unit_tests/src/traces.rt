@@ -14,12 +14,21 @@ Request { trace: 1, number: 1, op: Get(42) }, Request { trace: 1, number: 2, op:
 flock 2/trace/put 1 2/put\t1 3/ins 1 4/put 1 5 => 2, 1, [Request { trace: 0, number: 0, op: Put(1, 2) }, \
 Request { trace: 0, number: 1, op: Put(1, 3) }, Request { trace: 0, number: 2, op: Ins(1, 4) }, \
 Request { trace: 0, number: 3, op: Put(1, 5) }]
+flock 3/trace/mov 1 2/mov\t4294967293 7 => 3, 1, [Request { trace: 0, number: 0, op: Mov(1, 2) }, \
+Request { trace: 0, number: 1, op: Mov(4294967293, 7) }]
 flock 1/trace/put 1/ => Malformed { line: 3, kind: UnknownWord }
 flock 1/trace/put 1 2/ => Malformed { line: 3, kind: UnknownWord }
 flock 2/trace/put 1/ => Malformed { line: 3, kind: MissingField }
 flock 2/trace/put 4294967294 1/ => Malformed { line: 3, kind: KeyTooLarge }
 flock 2/trace/mov 1 2/ => Malformed { line: 3, kind: UnknownWord }
-flock 3/ => Malformed { line: 1, kind: NoHeader }
+flock 3/mov 1 2/ => Malformed { line: 2, kind: RequestBeforeTrace }
+flock 3/trace/mov 1/ => Malformed { line: 3, kind: MissingField }
+flock 3/trace/mov 1 2 3/ => Malformed { line: 3, kind: ExtraField }
+flock 3/trace/mov 4294967294 x/ => Malformed { line: 3, kind: BadNumber }
+flock 3/trace/mov 4294967294 1/ => Malformed { line: 3, kind: KeyTooLarge }
+flock 3/trace/mov 1 4294967294/ => Malformed { line: 3, kind: KeyTooLarge }
+flock 3/trace/mov 1 4294967296/ => Malformed { line: 3, kind: KeyTooLarge }
+flock 4/ => Malformed { line: 1, kind: NoHeader }
 flock 2 2/ => Malformed { line: 1, kind: NoHeader }
 ";
 
@@ -122,6 +131,8 @@ fn requests_are_generated(rt: HostRuntime) -> Result<(), Fail> {
 const AGAIN: &str = "\
 flock 1/trace/del 58/ins 15 150/get 27/ => flock 1/trace/del 58/ins 15 150/get 27/
 flock 2/trace/ins 5 70/put 5 80/trace/ => flock 2/trace/ins 5 70/put 5 80/trace/
+flock 3/trace/mov 5 6/put 5 80/ => flock 3/trace/mov 5 6/put 5 80/
+flock 3/trace/put 5 80/ => flock 2/trace/put 5 80/
 flock 2/trace/get 5/ => flock 1/trace/get 5/
 flock 1/trace/trace/ => flock 1/trace/trace/
 ";
