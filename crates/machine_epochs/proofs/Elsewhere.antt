@@ -1,16 +1,18 @@
 -- The kinds of step that change neither the epoch, nor an announcement, nor a stage.
 use Rattle.std.specs.Prelude.{cond, Bool, true, false}
 use Rattle.std.proofs.Common.{◌≡◌, ℕ, ◌-◌, List, refl, ap, subst, Option, Some, None}
+use Rattle.section_lines.specs.small_lemmas.proofs.Bools.{not_both}
 use Rattle.machine_states.specs.map_history.specs.declared.op.Request.{Request}
 use Rattle.machine_states.specs.body_terms.specs.declared.micro.Micro.{Micro}
 use Rattle.machine_states.specs.body_terms.specs.declared.micro.Micro.TheVariants as micros
 use Rattle.machine_states.specs.table_words.specs.declared.layout.Layout.{Layout}
 use Rattle.machine_states.specs.table_words.specs.declared.spot.Spot.{Spot}
-use Rattle.machine_states.specs.table_words.specs.declared.spot.Spot.TheVariants.{Seat, Epoch, Clock, Announcement, Guard, Stamp, Reply, Cell, ThunkWord, DoneWord, LogWord}
+use Rattle.machine_states.specs.table_words.specs.declared.spot.Spot.TheVariants.{Epoch, Announcement, Guard, ThunkWord, DoneWord, LogWord}
 use Rattle.machine_states.specs.table_words.specs.declared.access.Access.{Access}
 use Rattle.machine_states.specs.table_words.specs.declared.access.Access.TheVariants.{Loads, Exchanges}
 use Rattle.machine_states.specs.table_words.specs.Access.{written}
 use Rattle.machine_states.specs.table_words.specs.Seen.{put}
+use Rattle.machine_states.specs.table_words.proofs.Seen.{put_elsewhere}
 use Rattle.machine_states.specs.structure_laws.specs.Meaning.{Meaning}
 use Rattle.machine_states.specs.runner_parts.specs.declared.event.EventKind.{EventKind}
 use Rattle.machine_states.specs.runner_parts.specs.declared.event.EventKind.TheVariants as kinds
@@ -52,17 +54,10 @@ abbrev pub Quiet : Spot × Access → Type 0
 Quiet x = (f : Spot → ℕ) → (put f x.0 (written x.1 (f x.0)) Epoch ≡ f Epoch) × ((r : ℕ) → put f x.0 (written x.1 (f x.0)) (Announcement r) ≡ f (Announcement r))
 
 quiet_word : (a : Spot) (access : Access) → is_entry_word a ≡ false → Quiet (a, access)
-quiet_word Epoch access e = absurd (let x = e in cc)
-quiet_word (Announcement r) access e = absurd (let x = e in cc)
-quiet_word Seat access e = λ f. (refl, λ r. refl)
-quiet_word Clock access e = λ f. (refl, λ r. refl)
-quiet_word (Guard r) access e = λ f. (refl, λ r. refl)
-quiet_word (Stamp q) access e = λ f. (refl, λ r. refl)
-quiet_word (Reply q) access e = λ f. (refl, λ r. refl)
-quiet_word (Cell p) access e = λ f. (refl, λ r. refl)
-quiet_word (ThunkWord d j) access e = λ f. (refl, λ r. refl)
-quiet_word (DoneWord d) access e = λ f. (refl, λ r. refl)
-quiet_word (LogWord d k) access e = λ f. (refl, λ r. refl)
+quiet_word a access e f = (
+  put_elsewhere f a _ Epoch (λ same. not_both (sym (ap is_entry_word same)) e),
+  λ r. put_elsewhere f a _ (Announcement r) (λ same. not_both (sym (ap is_entry_word same)) e),
+)
 
 quiet_load : (a : Spot) → Quiet (a, Loads)
 quiet_load a f = (ap (λ (g : Spot → ℕ). g Epoch) (put_same f a), λ r. ap (λ (g : Spot → ℕ). g (Announcement r)) (put_same f a))

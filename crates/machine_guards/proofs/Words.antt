@@ -1,17 +1,19 @@
 -- Which steps leave the guard words as they are.
 use Rattle.std.specs.Prelude.{◌-◌, nat_lt, cond, Bool, true, false}
 use Rattle.std.proofs.Common.{◌≡◌, ℕ, List, refl, sym, ap, ◌∙◌, Option, Some, None}
+use Rattle.machine_states.specs.epoch_core.specs.small_lemmas.proofs.Bools.{not_both}
 use Rattle.machine_states.specs.map_history.specs.declared.op.Request.{Request}
 use Rattle.machine_states.specs.body_terms.specs.Memory.{cell_of}
 use Rattle.machine_states.specs.body_terms.specs.declared.micro.Micro.{Micro}
 use Rattle.machine_states.specs.body_terms.specs.declared.micro.Micro.TheVariants as micros
 use Rattle.machine_states.specs.table_words.specs.declared.layout.Layout.{Layout}
 use Rattle.machine_states.specs.table_words.specs.declared.spot.Spot.{Spot}
-use Rattle.machine_states.specs.table_words.specs.declared.spot.Spot.TheVariants.{Seat, Epoch, Clock, Announcement, Guard, Stamp, Reply, Cell, ThunkWord, DoneWord, LogWord}
+use Rattle.machine_states.specs.table_words.specs.declared.spot.Spot.TheVariants.{Guard, Cell, ThunkWord, DoneWord, LogWord}
 use Rattle.machine_states.specs.table_words.specs.declared.access.Access.{Access}
 use Rattle.machine_states.specs.table_words.specs.declared.access.Access.TheVariants.{Loads}
 use Rattle.machine_states.specs.table_words.specs.Places.{slot_count}
 use Rattle.machine_states.specs.table_words.specs.Seen.{put}
+use Rattle.machine_states.specs.table_words.proofs.Seen.{put_elsewhere}
 use Rattle.machine_states.specs.structure_laws.specs.Meaning.{Meaning}
 use Rattle.machine_states.specs.epoch_core.specs.declared.stage.Stage.{Stage}
 use Rattle.machine_states.specs.epoch_core.specs.declared.stage.Stage.TheVariants.{Idle, Announced, Loaded, Scanning}
@@ -235,17 +237,7 @@ no_guard m l rs r kind p None k = outside m l rs r kind p k
 no_guard m l rs r kind p (Some q) k = inside m l q kind p.nodes.free
 
 elsewhere : (f : Spot → ℕ) (a : Spot) (v i : ℕ) → is_guard a ≡ false → put f a v (Guard i) ≡ f (Guard i)
-elsewhere f Seat v i apart = refl
-elsewhere f Epoch v i apart = refl
-elsewhere f Clock v i apart = refl
-elsewhere f (Announcement r) v i apart = refl
-elsewhere f (Guard r) v i apart = absurd (let y = apart in cc)
-elsewhere f (Stamp q) v i apart = refl
-elsewhere f (Reply q) v i apart = refl
-elsewhere f (Cell p) v i apart = refl
-elsewhere f (ThunkWord d j) v i apart = refl
-elsewhere f (DoneWord d) v i apart = refl
-elsewhere f (LogWord d k) v i apart = refl
+elsewhere f a v i apart = put_elsewhere f a v (Guard i) (λ same. not_both (sym (ap is_guard same)) apart)
 
 -- so it leaves them all
 pub guards_left : (m : Meaning) (l : Layout) (rs : List Request) (r : ℕ) (kind : EventKind) (p : PartState) (o : Option RunState) (x : Spot × Access)

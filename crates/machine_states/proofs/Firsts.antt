@@ -6,7 +6,7 @@ use Rattle.std.proofs.Math.ListN.{length-set}
 use Rattle.std.proofs.lemmas.Bool.Decides.{nat_tests}
 use Rattle.runner_steps.specs.table_words.specs.declared.sizes.Sizes.{Sizes}
 use Rattle.runner_steps.specs.table_words.specs.declared.spot.Spot.{Spot}
-use Rattle.runner_steps.specs.table_words.specs.declared.spot.Spot.TheVariants.{Seat, Epoch, Clock, Announcement, Guard, Stamp, Reply, Cell, ThunkWord, DoneWord, LogWord}
+use Rattle.runner_steps.specs.table_words.specs.declared.spot.Spot.TheVariants.{Seat, Epoch, Clock, Announcement, Guard, Stamp, Reply, Cell, ThunkWord, DoneWord, LogWord, LinkWord, BlockWord, BlockLink, Board}
 use Rattle.runner_steps.specs.table_words.specs.Places.{size, address, Fits}
 use Rattle.runner_steps.specs.table_words.specs.Seen.{seen, put}
 use Rattle.runner_steps.specs.table_words.proofs.Seen as words
@@ -61,6 +61,10 @@ module _ (m : Meaning) (s : Sizes) where
   epoch_filled f nought (ThunkWord d j) h = nought (ThunkWord d j) h
   epoch_filled f nought (DoneWord d) h = nought (DoneWord d) h
   epoch_filled f nought (LogWord d k) h = nought (LogWord d k) h
+  epoch_filled f nought (LinkWord d) h = nought (LinkWord d) h
+  epoch_filled f nought (BlockWord b k) h = nought (BlockWord b k) h
+  epoch_filled f nought (BlockLink b) h = nought (BlockLink b) h
+  epoch_filled f nought (Board i) h = nought (Board i) h
 
   -- the words of a table that is all 0, but for the epoch
   pub begins : (ws : List ℕ) → ws ≡ slice_set (replicate (size s) 0) (address s Epoch) 1 → IsFilled m s 0 ws
@@ -88,6 +92,10 @@ module _ (m : Meaning) (s : Sizes) where
   more f n so_far (ThunkWord d j) h = so_far (ThunkWord d j) h
   more f n so_far (DoneWord d) h = so_far (DoneWord d) h
   more f n so_far (LogWord d k) h = so_far (LogWord d k) h
+  more f n so_far (LinkWord d) h = so_far (LinkWord d) h
+  more f n so_far (BlockWord b k) h = so_far (BlockWord b k) h
+  more f n so_far (BlockLink b) h = so_far (BlockLink b) h
+  more f n so_far (Board i) h = so_far (Board i) h
 
   -- one more cell is filled
   pub filled_more : (n : ℕ) (old ws : List ℕ) → IsFilled m s n old → n < s.cells → ws ≡ slice_set old (address s (Cell n)) (first_word m n) → IsFilled m s (n + 1) ws

@@ -5,7 +5,7 @@ use Rattle.std.proofs.lemmas.Bool.Decides.{nat_tests}
 use Rattle.std.proofs.lemmas.Bool.{cases_eq}
 use mathlib.Core.Path.{fun_ext}
 use Rattle.runner_steps.specs.table_words.specs.declared.spot.Spot.{Spot}
-use Rattle.runner_steps.specs.table_words.specs.declared.spot.Spot.TheVariants.{Seat, Epoch, Clock, Announcement, Guard, Stamp, Reply, Cell, ThunkWord, DoneWord, LogWord}
+use Rattle.runner_steps.specs.table_words.specs.declared.spot.Spot.TheVariants.{Seat, Epoch, Clock, Announcement, Guard, Stamp, Reply, Cell, ThunkWord, DoneWord, LogWord, LinkWord, BlockWord, BlockLink, Board}
 use Rattle.runner_steps.specs.table_words.specs.Seen.{upd, put}
 use Rattle.runner_steps.specs.table_words.specs.Access.{written}
 use Rattle.runner_steps.specs.table_words.specs.declared.access.Access.TheVariants.{Exchanges}
@@ -70,6 +70,14 @@ put_same_at f (DoneWord i) (DoneWord i') = one_same (λ x. f (DoneWord x)) i i'
 put_same_at f (DoneWord i) b = refl
 put_same_at f (LogWord i j) (LogWord i' j') = two_same (λ x y. f (LogWord x y)) i j i' j'
 put_same_at f (LogWord i j) b = refl
+put_same_at f (LinkWord i) (LinkWord i') = one_same (λ x. f (LinkWord x)) i i'
+put_same_at f (LinkWord i) b = refl
+put_same_at f (BlockWord i j) (BlockWord i' j') = two_same (λ x y. f (BlockWord x y)) i j i' j'
+put_same_at f (BlockWord i j) b = refl
+put_same_at f (BlockLink i) (BlockLink i') = one_same (λ x. f (BlockLink x)) i i'
+put_same_at f (BlockLink i) b = refl
+put_same_at f (Board i) (Board i') = one_same (λ x. f (Board x)) i i'
+put_same_at f (Board i) b = refl
 
 -- a load changes no word
 pub put_same : (f : Spot → ℕ) (a : Spot) → put f a (f a) ≡ f

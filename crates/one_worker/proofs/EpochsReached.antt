@@ -7,7 +7,7 @@ use Rattle.std.proofs.lemmas.Bool.Decides.{nat_tests}
 use Rattle.machine_states.specs.map_history.specs.declared.op.Request.{Request}
 use Rattle.machine_states.specs.table_words.specs.declared.layout.Layout.{Layout}
 use Rattle.machine_states.specs.table_words.specs.declared.spot.Spot.{Spot}
-use Rattle.machine_states.specs.table_words.specs.declared.spot.Spot.TheVariants.{Seat, Epoch, Clock, Announcement, Guard, Stamp, Reply, Cell, ThunkWord, DoneWord, LogWord}
+use Rattle.machine_states.specs.table_words.specs.declared.spot.Spot.TheVariants.{Seat, Epoch, Clock, Announcement, Guard, Stamp, Reply, Cell, ThunkWord, DoneWord, LogWord, LinkWord, BlockWord, BlockLink, Board}
 use Rattle.machine_states.specs.table_words.specs.declared.access.Access.{Access}
 use Rattle.machine_states.specs.table_words.specs.declared.access.Access.TheVariants.{Loads}
 use Rattle.machine_states.specs.table_words.specs.Access.{written}
@@ -58,6 +58,10 @@ elsewhere (Cell i) = inr (record { kept = λ f v. refl; seen = λ n e. refl; unm
 elsewhere (ThunkWord i j) = inr (record { kept = λ f v. refl; seen = λ n e. refl; unmoved = λ n e. refl })
 elsewhere (DoneWord i) = inr (record { kept = λ f v. refl; seen = λ n e. refl; unmoved = λ n e. refl })
 elsewhere (LogWord i j) = inr (record { kept = λ f v. refl; seen = λ n e. refl; unmoved = λ n e. refl })
+elsewhere (LinkWord i) = inr (record { kept = λ f v. refl; seen = λ n e. refl; unmoved = λ n e. refl })
+elsewhere (BlockWord i j) = inr (record { kept = λ f v. refl; seen = λ n e. refl; unmoved = λ n e. refl })
+elsewhere (BlockLink i) = inr (record { kept = λ f v. refl; seen = λ n e. refl; unmoved = λ n e. refl })
+elsewhere (Board i) = inr (record { kept = λ f v. refl; seen = λ n e. refl; unmoved = λ n e. refl })
 
 one_else : (i r v w : ℕ) → i ≢ r → cond (i == r) v w ≡ w
 one_else i r v w ne = grind (arith, nat_tests)

@@ -1,23 +1,22 @@
 -- Once all workers are joined, what the keeper left last in a word stands there; and the keeper publishes nothing.
-use Rattle.std.specs.Prelude.{◌==◌, ◌&&◌, ◌%◌, cond, not, nat_lt, nat_le, slice_get, is_none, Bool, true, false, if◌then◌else◌}
+use Rattle.std.specs.Prelude.{◌==◌, ◌&&◌, ◌%◌, not, nat_lt, nat_le, slice_get, is_none, Bool, true, false, if◌then◌else◌}
 use Rattle.std.proofs.Common.{◌≡◌, ◌≢◌, ℕ, zero, suc, ◌<◌, ◌≤◌, List, [], ◌∷◌, ◌++◌, length, ⊎_elim, sym, refl, ap, ◌∙◌, subst, arith, Option, Some, None}
 use Rattle.std.proofs.lemmas.Bool.Decides.{nat_tests}
 use Rattle.std.proofs.lemmas.Bool.{cases_lt, and_parts}
 use Rattle.std.proofs.lemmas.Nat.{mod_below}
 use Rattle.section_lines.specs.small_lemmas.proofs.Lists.{get_last}
-use Rattle.section_lines.specs.small_lemmas.proofs.Numbers.{chosen_here as one_here}
 use Rattle.machine_states.specs.map_history.specs.declared.op.Request.{Request}
 use Rattle.machine_states.specs.body_terms.specs.Line.{is_end}
 use Rattle.machine_states.specs.body_terms.specs.declared.micro.Micro.{Micro}
 use Rattle.machine_states.specs.body_terms.specs.declared.thunk.Thunk.{Thunk}
 use Rattle.machine_states.specs.table_words.specs.declared.layout.Layout.{Layout}
 use Rattle.machine_states.specs.table_words.specs.declared.spot.Spot.{Spot}
-use Rattle.machine_states.specs.table_words.specs.declared.spot.Spot.TheVariants.{Seat, Epoch, Clock, Announcement, Guard, Stamp, Reply, Cell, ThunkWord, DoneWord, LogWord}
 use Rattle.machine_states.specs.table_words.specs.declared.access.Access.{Access}
 use Rattle.machine_states.specs.table_words.specs.Access.{written}
 use Rattle.machine_states.specs.table_words.specs.Limits.{IsWithinLimits}
 use Rattle.machine_states.specs.table_words.specs.Places.{slot_count}
 use Rattle.machine_states.specs.table_words.specs.Seen.{upd, put}
+use Rattle.machine_states.specs.table_words.proofs.Seen.{put_here, put_elsewhere}
 use Rattle.machine_states.specs.structure_laws.specs.Meaning.{Meaning}
 use Rattle.machine_states.specs.structure_laws.specs.Laws.{Laws}
 use Rattle.machine_states.specs.epoch_core.specs.Moves.{is_clear}
@@ -61,52 +60,6 @@ get_kept [] f y i e = absurd (let z = e in cc)
 get_kept (x ∷ xs) f y zero e = e
 get_kept (x ∷ xs) f y (suc i) e = get_kept xs f y i e
 
-two_here : (i j v w w' : ℕ) → cond (i == i) (cond (j == j) v w) w' ≡ v
-two_here i j v w w' = grind (arith, nat_tests)
-
-pub put_here : (f : Spot → ℕ) (a : Spot) (v : ℕ) → put f a v a ≡ v
-put_here f Seat v = refl
-put_here f Epoch v = refl
-put_here f Clock v = refl
-put_here f (Announcement i) v = one_here i v _
-put_here f (Guard i) v = one_here i v _
-put_here f (Stamp i) v = one_here i v _
-put_here f (Reply i) v = one_here i v _
-put_here f (Cell i) v = one_here i v _
-put_here f (ThunkWord i j) v = two_here i j v _ _
-put_here f (DoneWord i) v = one_here i v _
-put_here f (LogWord i j) v = two_here i j v _ _
-
-one_else : (i i' v w : ℕ) → i' ≢ i → cond (i' == i) v w ≡ w
-one_else i i' v w ne = grind (arith, nat_tests)
-
-two_else : (i j i' j' v w : ℕ) → (i' ≡ i → j' ≡ j → ⊥) → cond (i' == i) (cond (j' == j) v w) w ≡ w
-two_else i j i' j' v w ne = grind (arith, nat_tests)
-
-put_else : (f : Spot → ℕ) (a b : Spot) (v : ℕ) → a ≢ b → put f a v b ≡ f b
-put_else f Seat Seat v ne = absurd (ne refl)
-put_else f Seat b v ne = refl
-put_else f Epoch Epoch v ne = absurd (ne refl)
-put_else f Epoch b v ne = refl
-put_else f Clock Clock v ne = absurd (ne refl)
-put_else f Clock b v ne = refl
-put_else f (Announcement i) (Announcement i') v ne = one_else i i' v _ (λ e. ne (ap (λ n. Announcement n) (sym e)))
-put_else f (Announcement i) b v ne = refl
-put_else f (Guard i) (Guard i') v ne = one_else i i' v _ (λ e. ne (ap (λ n. Guard n) (sym e)))
-put_else f (Guard i) b v ne = refl
-put_else f (Stamp i) (Stamp i') v ne = one_else i i' v _ (λ e. ne (ap (λ n. Stamp n) (sym e)))
-put_else f (Stamp i) b v ne = refl
-put_else f (Reply i) (Reply i') v ne = one_else i i' v _ (λ e. ne (ap (λ n. Reply n) (sym e)))
-put_else f (Reply i) b v ne = refl
-put_else f (Cell i) (Cell i') v ne = one_else i i' v _ (λ e. ne (ap (λ n. Cell n) (sym e)))
-put_else f (Cell i) b v ne = refl
-put_else f (ThunkWord i j) (ThunkWord i' j') v ne = two_else i j i' j' v _ (λ e e'. ne (λ k. ThunkWord (sym e k) (sym e' k)))
-put_else f (ThunkWord i j) b v ne = refl
-put_else f (DoneWord i) (DoneWord i') v ne = one_else i i' v _ (λ e. ne (ap (λ n. DoneWord n) (sym e)))
-put_else f (DoneWord i) b v ne = refl
-put_else f (LogWord i j) (LogWord i' j') v ne = two_else i j i' j' v _ (λ e e'. ne (λ k. LogWord (sym e k) (sym e' k)))
-put_else f (LogWord i j) b v ne = refl
-
 -- what the keeper's step adds
 left_pushed : (before : List Left) (kind : EventKind) (spot : Spot) (n : ℕ) → is_join kind ≡ false
     → left_more kind spot n before ≡ before ++ record { spot = spot; number = n } ∷ []
@@ -135,7 +88,7 @@ module _ (l : Layout) (r : ℕ) (is : r ≡ l.runners) where
 one_more : (word : Spot → ℕ) (left : List Left) (x0 : Left) → ((x : Left) → IsLastLeft left x → word x.spot ≡ x.number) → (x : Left)
     → IsLastLeft (left ++ x0 ∷ []) x → put word x0.spot x0.number x.spot ≡ x.number
 one_more word left x0 old x last = ⊎_elim
-    (λ before. put_else word x0.spot x.spot x0.number (last.last (length left) x0 before.0 (get_last left x0))
+    (λ before. put_elsewhere word x0.spot x0.number x.spot (λ e. last.last (length left) x0 before.0 (get_last left x0) (sym e))
     ∙ old x (record { at = last.at; here = before.1; last = λ i y later e. last.last i y later (get_kept left x0 y i e) }))
     (λ now. subst (λ (y : Left). put word x0.spot x0.number y.spot ≡ y.number) now.1 (put_here word x0.spot x0.number))
     (get_more left x0 x last.at last.here)

@@ -2,7 +2,7 @@
 use Rattle.std.specs.Prelude.{ℕ, List, ◌==◌, slice_index, cond}
 use Rattle.table_words.specs.declared.sizes.Sizes.{Sizes}
 use Rattle.table_words.specs.declared.spot.Spot.{Spot}
-use Rattle.table_words.specs.declared.spot.Spot.TheVariants.{Seat, Epoch, Clock, Announcement, Guard, Stamp, Reply, Cell, ThunkWord, DoneWord, LogWord}
+use Rattle.table_words.specs.declared.spot.Spot.TheVariants.{Seat, Epoch, Clock, Announcement, Guard, Stamp, Reply, Cell, ThunkWord, DoneWord, LogWord, LinkWord, BlockWord, BlockLink, Board}
 use Rattle.table_words.specs.Places.{address, fits}
 
 -- a function that is changed at one number
@@ -22,6 +22,10 @@ blank (Cell p) = 4294967296
 blank (ThunkWord d j) = 0
 blank (DoneWord d) = 0
 blank (LogWord d k) = 0
+blank (LinkWord d) = 0
+blank (BlockWord b k) = 0
+blank (BlockLink b) = 0
+blank (Board i) = 0
 
 -- the word at a spot
 abbrev pub seen : Sizes → List ℕ → Spot → ℕ
@@ -52,3 +56,12 @@ put f (DoneWord d) v (DoneWord d') = cond (d' == d) v (f (DoneWord d'))
 put f (DoneWord d) v b = f b
 put f (LogWord d k) v (LogWord d' k') = cond (d' == d) (cond (k' == k) v (f (LogWord d' k'))) (f (LogWord d' k'))
 put f (LogWord d k) v b = f b
+put f (LinkWord d) v (LinkWord d') = cond (d' == d) v (f (LinkWord d'))
+put f (LinkWord d) v b = f b
+put f (BlockWord b k) v (BlockWord b' k') =
+    cond (b' == b) (cond (k' == k) v (f (BlockWord b' k'))) (f (BlockWord b' k'))
+put f (BlockWord b k) v a = f a
+put f (BlockLink b) v (BlockLink b') = cond (b' == b) v (f (BlockLink b'))
+put f (BlockLink b) v a = f a
+put f (Board i) v (Board i') = cond (i' == i) v (f (Board i'))
+put f (Board i) v b = f b

@@ -10,13 +10,27 @@ use crate::layout::Layout;
 /// processor by the other.
 pub const LINE_WORDS: usize = 16;
 
-/// How many workers, requests, cells and descriptors a table has words for.
+/// A section's log is kept in parts of so many words: the first part stands in its descriptor, and each further one in
+/// a block that is linked to the part before it.
+pub const PART_WORDS: usize = 64;
+
+/// The words of one descriptor: twelve thunk words, a done word, a part of the log and its link.
+pub const DESCRIPTOR_WORDS: usize = 14 + PART_WORDS;
+
+/// The words of one block: a part of a log and its link.
+pub const BLOCK_WORDS: usize = PART_WORDS + 1;
+
+/// The words of the board.
+pub const BOARD_WORDS: usize = 64;
+
+/// How many workers, requests, cells, descriptors and blocks a table has words for.
 #[derive(Clone, Copy, PartialEq, Eq, Debug)]
 pub struct Sizes {
     pub runners: u32,
     pub requests: u32,
     pub cells: u32,
     pub descriptors: u32,
+    pub blocks: u32,
 }
 
 impl Sizes {
@@ -35,6 +49,7 @@ impl Sizes {
             requests,
             cells: fixed_cells + 5 * slots,
             descriptors: layout.sections * workers + workers,
+            blocks: 0,
         }
     }
 
@@ -43,6 +58,11 @@ impl Sizes {
         ensures { result ≡ size self }
     {
         let entries = LINE_WORDS * (5 + 2 * self.runners as usize) + 2 * self.requests as usize;
-        entries + self.cells as usize + 77 * self.descriptors as usize
+        let descriptors = DESCRIPTOR_WORDS * self.descriptors as usize;
+        entries
+            + self.cells as usize
+            + descriptors
+            + BLOCK_WORDS * self.blocks as usize
+            + BOARD_WORDS
     }
 }

@@ -13,6 +13,8 @@ mod command_lines;
 #[cfg(test)]
 mod gates;
 #[cfg(test)]
+mod logs;
+#[cfg(test)]
 mod maps;
 #[cfg(test)]
 mod plain_runs;

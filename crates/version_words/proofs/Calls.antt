@@ -42,6 +42,10 @@ not_nought s (spots.Cell p) e h = omega arith
 not_nought s (spots.ThunkWord d j) e h = omega arith
 not_nought s (spots.DoneWord d) e h = omega arith
 not_nought s (spots.LogWord d j) e h = omega arith
+not_nought s (spots.LinkWord d) e h = omega arith
+not_nought s (spots.BlockWord b j) e h = omega arith
+not_nought s (spots.BlockLink b) e h = omega arith
+not_nought s (spots.Board i) e h = omega arith
 
 -- what contracts see of a table
 abbrev pub seen_table : {T : Type 0} → TableId → Setup T → TableState T

@@ -15,7 +15,7 @@ use Rattle.machine_states.specs.table_words.specs.declared.access.Access.TheVari
 use Rattle.machine_states.specs.table_words.specs.declared.sizes.Sizes.{Sizes}
 use Rattle.machine_states.specs.table_words.specs.Access.{written}
 use Rattle.machine_states.specs.table_words.specs.Limits.{IsWithinLimits}
-use Rattle.machine_states.specs.table_words.specs.Places.{address, descriptor_at}
+use Rattle.machine_states.specs.table_words.specs.Places.{address, descriptor_at, descriptor_words}
 use Rattle.machine_states.specs.structure_laws.specs.Meaning.{Meaning}
 use Rattle.machine_states.specs.structure_laws.specs.Laws.{Laws}
 use Rattle.machine_states.specs.runner_parts.specs.declared.event.EventKind.TheVariants as kinds
@@ -237,9 +237,9 @@ module _ {T : Type 0} (mean : T → Meaning) (s : T) (descriptor index found num
   opening_kept at asked made = by_run p.run refl at asked made
 
 -- the name of the step is that of the event
-named_by : (s : Sizes) (o : Option RunState) (d index : ℕ) → index ≡ opened_of o → open_of o ((address s (spots.ThunkWord d index) - descriptor_at s 0) / 77) ≡ open_of o d
+named_by : (s : Sizes) (o : Option RunState) (d index : ℕ) → index ≡ opened_of o → open_of o ((address s (spots.ThunkWord d index) - descriptor_at s 0) / descriptor_words) ≡ open_of o d
 named_by s (Some q) d index at = refl
-named_by s None d index at = ap (λ n. kinds.LoadThunk (Some ((address s (spots.ThunkWord d n) - descriptor_at s 0) / 77))) at ∙ ap (λ n. kinds.LoadThunk (Some n)) (grind arith)
+named_by s None d index at = ap (λ n. kinds.LoadThunk (Some ((address s (spots.ThunkWord d n) - descriptor_at s 0) / descriptor_words))) at ∙ ap (λ n. kinds.LoadThunk (Some n)) (grind arith)
 
-pub thunk_named : (s s' : Sizes) (p : PartState) (d index : ℕ) → s ≡ s' → index ≡ opened_of p.run → open_of p.run ((address s (spots.ThunkWord d index) - descriptor_at s' 0) / 77) ≡ open_of p.run d
-thunk_named s s' p d index same at = ap (λ (z : Sizes). open_of p.run ((address s (spots.ThunkWord d index) - descriptor_at z 0) / 77)) (sym same) ∙ named_by s p.run d index at
+pub thunk_named : (s s' : Sizes) (p : PartState) (d index : ℕ) → s ≡ s' → index ≡ opened_of p.run → open_of p.run ((address s (spots.ThunkWord d index) - descriptor_at s' 0) / descriptor_words) ≡ open_of p.run d
+thunk_named s s' p d index same at = ap (λ (z : Sizes). open_of p.run ((address s (spots.ThunkWord d index) - descriptor_at z 0) / descriptor_words)) (sym same) ∙ named_by s p.run d index at

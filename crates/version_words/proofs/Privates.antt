@@ -18,7 +18,7 @@ use Rattle.machine_states.specs.table_words.specs.declared.spot.Spot.{Spot}
 use Rattle.machine_states.specs.table_words.specs.declared.spot.Spot.TheVariants as spots
 use Rattle.machine_states.specs.table_words.specs.declared.access.Access.{Access}
 use Rattle.machine_states.specs.table_words.specs.declared.access.Access.TheVariants.{Stores}
-use Rattle.machine_states.specs.table_words.specs.Places.{address, Fits, slot_count, cells_at, descriptor_at}
+use Rattle.machine_states.specs.table_words.specs.Places.{address, Fits, slot_count, cells_at, descriptor_at, descriptor_words}
 use Rattle.machine_states.specs.structure_laws.specs.Meaning.{Meaning}
 use Rattle.machine_states.specs.runner_parts.specs.declared.event.EventKind.{EventKind}
 use Rattle.machine_states.specs.runner_parts.specs.declared.event.EventKind.TheVariants as kinds
@@ -48,7 +48,7 @@ use Rattle.version_words.proofs.Inside.{HasOpenRun, PlacesRun, both_true, goes_i
 -- where a descriptor's word stands
 pub record StandsAt (s : Sizes) (d word at : ℕ) : Type 0 where
   pub is : at ≡ descriptor_at s d + word
-  pub few : word < 77
+  pub few : word < descriptor_words
 
 stands_by : (s : Sizes) (d word : ℕ) (b b' : Bool) → nat_lt word 12 ≡ b → word == 12 ≡ b' → Fits s (if b then spots.ThunkWord d word else (if b' then spots.DoneWord d else spots.LogWord d (word - 13)))
     → StandsAt s d word (address s (if b then spots.ThunkWord d word else (if b' then spots.DoneWord d else spots.LogWord d (word - 13))))
@@ -62,7 +62,7 @@ word_stands s d word fits = stands_by s d word (nat_lt word 12) (word == 12) ref
 fifth : (a f slot word at : ℕ) → at ≡ a + (f + 5 * slot + word) → word < 5 → ((at - (a + f)) / 5 ≡ slot) × ((at - (a + f)) % 5 ≡ word)
 fifth a f slot word at is few = (grind arith, grind arith)
 
-within : (a d word at : ℕ) → at ≡ a + 77 * d + word → word < 77 → ((at - (a + 77 * 0)) / 77 ≡ d) × ((at - (a + 77 * 0)) % 77 ≡ word)
+within : (a d word at : ℕ) → at ≡ a + descriptor_words * d + word → word < descriptor_words → ((at - (a + descriptor_words * 0)) / descriptor_words ≡ d) × ((at - (a + descriptor_words * 0)) % descriptor_words ≡ word)
 within a d word at is few = (grind arith, grind arith)
 
 module _ (m : Meaning) (l : Layout) (rs : List Request) where
@@ -83,8 +83,8 @@ module _ (m : Meaning) (l : Layout) (rs : List Request) where
       let inside : nat_lt at (descriptor_at s 0) ≡ true = grind (arith, nat_tests, fits) in
       let f = fifth (cells_at s) m.fixed_cells slot word at refl few in
       record {
-        slot_is = ap (λ (b : Bool). if b then (at - (cells_at s + m.fixed_cells)) / 5 else slots + (at - descriptor_at s 0) / 77) inside ∙ f.0;
-        word_is = ap (λ (b : Bool). if b then (at - (cells_at s + m.fixed_cells)) % 5 else (at - descriptor_at s 0) % 77) inside ∙ f.1;
+        slot_is = ap (λ (b : Bool). if b then (at - (cells_at s + m.fixed_cells)) / 5 else slots + (at - descriptor_at s 0) / descriptor_words) inside ∙ f.0;
+        word_is = ap (λ (b : Bool). if b then (at - (cells_at s + m.fixed_cells)) % 5 else (at - descriptor_at s 0) % descriptor_words) inside ∙ f.1;
       }
 
   there_word : (slot word : ℕ) → slots ≤ slot → Fits s (descriptor_spot (slot - slots) word) → IsThere slot word (address s (descriptor_spot (slot - slots) word))
@@ -94,8 +94,8 @@ module _ (m : Meaning) (l : Layout) (rs : List Request) where
       let behind : nat_lt at (descriptor_at s 0) ≡ false = grind (arith, nat_tests, a) in
       let f = within (cells_at s + s.cells) (slot - slots) word at a st.few in
       record {
-        slot_is = ap (λ (b : Bool). if b then (at - (cells_at s + m.fixed_cells)) / 5 else slots + (at - descriptor_at s 0) / 77) behind ∙ (ap (λ n. slots + n) f.0 ∙ omega (arith, past));
-        word_is = ap (λ (b : Bool). if b then (at - (cells_at s + m.fixed_cells)) % 5 else (at - descriptor_at s 0) % 77) behind ∙ f.1;
+        slot_is = ap (λ (b : Bool). if b then (at - (cells_at s + m.fixed_cells)) / 5 else slots + (at - descriptor_at s 0) / descriptor_words) behind ∙ (ap (λ n. slots + n) f.0 ∙ omega (arith, past));
+        word_is = ap (λ (b : Bool). if b then (at - (cells_at s + m.fixed_cells)) % 5 else (at - descriptor_at s 0) % descriptor_words) behind ∙ f.1;
       }
 
   there_by : (slot word : ℕ) (b : Bool) → nat_lt slot slots ≡ b → (slot < slots → word < 5) → Fits s (if b then spots.Cell (cell_of m.fixed_cells slot word) else descriptor_spot (slot - slots) word)

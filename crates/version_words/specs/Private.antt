@@ -5,7 +5,7 @@ use Rattle.machine_states.specs.body_terms.specs.Memory.{cell_of}
 use Rattle.machine_states.specs.table_words.specs.declared.layout.Layout.{Layout}
 use Rattle.machine_states.specs.table_words.specs.declared.spot.Spot.{Spot}
 use Rattle.machine_states.specs.table_words.specs.declared.spot.Spot.TheVariants.{Cell}
-use Rattle.machine_states.specs.table_words.specs.Places.{slot_count, cells_at, descriptor_at}
+use Rattle.machine_states.specs.table_words.specs.Places.{slot_count, cells_at, descriptor_at, descriptor_words}
 use Rattle.machine_states.specs.structure_laws.specs.Meaning.{Meaning}
 use Rattle.machine_states.specs.runner_steps.specs.Outside.{descriptor_spot}
 use Rattle.machine_states.specs.runner_steps.specs.Asks.{sizes_for}
@@ -23,9 +23,10 @@ private_spot m l slot word = let slots = slot_count l m.fixed_slots in
 abbrev pub slot_at : Meaning → Layout → List Request → ℕ → ℕ
 slot_at m l requests at = let s = sizes_for m l requests in
     if nat_lt at (descriptor_at s 0) then (at - (cells_at s + m.fixed_cells)) / 5
-    else slot_count l m.fixed_slots + (at - descriptor_at s 0) / 77
+    else slot_count l m.fixed_slots + (at - descriptor_at s 0) / descriptor_words
 
 -- which of the slot's words stands there
 abbrev pub word_at : Meaning → Layout → List Request → ℕ → ℕ
 word_at m l requests at = let s = sizes_for m l requests in
-    if nat_lt at (descriptor_at s 0) then (at - (cells_at s + m.fixed_cells)) % 5 else (at - descriptor_at s 0) % 77
+    if nat_lt at (descriptor_at s 0) then (at - (cells_at s + m.fixed_cells)) % 5
+    else (at - descriptor_at s 0) % descriptor_words

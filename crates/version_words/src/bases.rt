@@ -2,7 +2,7 @@
 ghost use Rattle.std.specs.Prelude.{◌≡◌};
 ghost use Rattle.machine_states.specs.table_words.specs.Places.{address, Fits};
 
-use machine_states::table_words::{Sizes, Spot};
+use machine_states::table_words::{BLOCK_WORDS, DESCRIPTOR_WORDS, PART_WORDS, Sizes, Spot};
 use std::marker::Model;
 
 /// How many words fill a line of 128 bytes, as `Spot::address` has it.
@@ -64,20 +64,31 @@ impl Bases {
             Spot::ThunkWord(descriptor, word) => self.descriptor_at(descriptor) + word as usize,
             Spot::DoneWord(descriptor) => self.descriptor_at(descriptor) + 12,
             Spot::LogWord(descriptor, word) => self.descriptor_at(descriptor) + 13 + word as usize,
+            Spot::LinkWord(descriptor) => self.descriptor_at(descriptor) + 13 + PART_WORDS,
+            Spot::BlockWord(block, word) => self.block_at(block) + word as usize,
+            Spot::BlockLink(block) => self.block_at(block) + PART_WORDS,
+            Spot::Board(word) => self.block_at(self.sizes.blocks) + word as usize,
         }
     }
 }
 
 impl Bases {
     ghost use Rattle.std.specs.Prelude.{◌≡◌, ◌+◌};
-    ghost use Rattle.machine_states.specs.table_words.specs.Places.{descriptor_at};
+    ghost use Rattle.machine_states.specs.table_words.specs.Places.{descriptor_at, block_at};
 
     /// Where the words of this descriptor begin.
     #[inline(always)]
     pub fn descriptor_at(&self, descriptor: u32) -> usize
         ensures { result ≡ descriptor_at self.now descriptor }
     {
-        self.descriptors + 77 * descriptor as usize
+        self.descriptors + DESCRIPTOR_WORDS * descriptor as usize
+    }
+
+    /// Where the words of this block begin.
+    fn block_at(&self, block: u32) -> usize
+        ensures { result ≡ block_at self.now block }
+    {
+        self.descriptor_at(self.sizes.descriptors) + BLOCK_WORDS * block as usize
     }
 
     /// Where this word stands of a descriptor whose words begin here.

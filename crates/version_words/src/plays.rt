@@ -185,12 +185,12 @@ pub struct LoadThunk;
 
 impl Named for LoadThunk {
     ghost use Rattle.std.specs.Prelude.{◌+◌, ◌-◌, ◌/◌, length};
-    ghost use Rattle.machine_states.specs.table_words.specs.Places.{descriptor_at};
+    ghost use Rattle.machine_states.specs.table_words.specs.Places.{descriptor_at, descriptor_words};
     ghost use Rattle.machine_states.specs.runner_steps.specs.Asks.{sizes_for};
     ghost use Rattle.version_words.specs.Naming.{open_of};
 
     ghost naming = { λ m layout requests part step.
-        open_of part.run ((step.word - descriptor_at (sizes_for m layout requests) 0) / 77) };
+        open_of part.run ((step.word - descriptor_at (sizes_for m layout requests) 0) / descriptor_words) };
 }
 
 /// In a run the cell is the one that comes next; outside it is read off the step's word.
