@@ -79,7 +79,7 @@ fn thunk_over_two(form: u64, half: u64) -> Thunk {
             1 << 32,
             1 << 32,
             (half << 32) + 3,
-            5,
+            8,
             0,
             (70 << 32) + 9,
             0,
@@ -109,7 +109,7 @@ const MOVES: &str = "\
 22 => 19 Ok(()) 50 Some(Load { place: 2, into: 3 })
 22 1 => 19 Ok(()) 50 Some(Load { place: 5, into: 3 })
 22 2 => 19 Ok(()) 50 Some(Load { place: 2, into: 3 })
-23 => 11 Ok(()) 38 Some(Answer { reply: 0 })
+23 => 11 Ok(()) 38 Some(Retire { slot: 0 })
 ";
 
 struct Moves;
