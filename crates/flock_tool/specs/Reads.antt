@@ -15,7 +15,6 @@ reads_freely (commands.Load load) = are_free load.run.reads
 reads_freely commands.Check = false
 
 -- where a run of one runner came back, at whatever status, and its reads took no lock, each `get` that has an entry
--- has a read's stamp, an odd one; unless over these requests the machine reaches a state in which a lock is free and
--- has too few versions left
+-- has a read's stamp, an odd one
 abbrev pub ReadsFirst : Bool → ℕ × Option Ran → Type 0
 ReadsFirst reads_free result = IfSome result.1 (λ ran. ReadsAlone (meaning_of ran) (words_in ran) reads_free)

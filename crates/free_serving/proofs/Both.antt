@@ -18,6 +18,7 @@ use Rattle.serving.specs.declared.answers.Served.TheVariants as answers
 use Rattle.serving.proofs.Standing.{entry_on, answered_more}
 use Rattle.serving.proofs.Tries.{crossed_back}
 use Rattle.seq_read.specs.declared.answers.Read.{Read}
+use Rattle.free_serving.specs.Services.{is_refusal}
 use Rattle.free_serving.specs.Left.{MostRuns, WasRefused, WasReadInVain, HasStopped}
 use Rattle.free_serving.specs.One.{Ends, LeavesOne}
 use Rattle.free_serving.proofs.Same.{Same}
@@ -47,7 +48,7 @@ module _ {T : Type 0} (m : Meaning) (planning : Planning) (a b : RunnerState T) 
   came_back tries came = crossed_back m planning tries a b same.0 same.1 came
 
   pub vain_back : (request : Request) → WasReadInVain m planning request b → WasReadInVain m planning request a
-  vain_back request is = record { answer = is.answer; refused = refused_back request is.answer is.refused; refusal = is.refusal; looks = is.looks }
+  vain_back request is = record { answer = is.answer; refused = refused_back request is.answer is.refused; refusal = subst (λ (l : Layout). is_refusal l.runners is.answer ≡ true) same.0 is.refusal; looks = is.looks }
 
 module _ {T : Type 0} (m : Meaning) (planning : Planning) (retry_short : Bool) (q : Request) (old mid new : RunnerState T) (same : Same old mid)
     (knows : KnowsMore old mid) (no_other : LearnsNoOther q.number old mid) (finished : mid.part.records.finished ≡ old.part.records.finished)

@@ -1,7 +1,7 @@
 -- What `serve_one` comes to, by how its request was served.
-use Rattle.std.specs.Prelude.{◌%◌, ◌⊎◌, Bool, true, false, not, slice_get}
-use Rattle.std.proofs.Common.{◌≡◌, ◌≢◌, ℕ, ◌+◌, ◌≤◌, List, [], ◌∷◌, refl, sym, ap, ◌∙◌, subst, inl, inr, Some, ⊎_elim, arith}
-use Rattle.std.proofs.lemmas.Bool.{true≢false}
+use Rattle.std.specs.Prelude.{◌%◌, ◌⊎◌, ◌==◌, Bool, true, false, not, slice_get, if◌then◌else◌}
+use Rattle.std.proofs.Common.{◌≡◌, ◌≢◌, ℕ, ◌+◌, ◌≤◌, List, [], ◌∷◌, refl, sym, ap, ◌∙◌, subst, inl, inr, Some, None, ⊎_elim, arith}
+use Rattle.std.proofs.lemmas.Bool.{true≢false, eqb-true}
 use Rattle.machine_states.specs.map_history.specs.declared.op.Request.{Request}
 use Rattle.machine_states.specs.map_history.specs.declared.reply.Reply.{Reply}
 use Rattle.machine_states.specs.table_words.specs.Limits.{IsWithinLimits}
@@ -32,7 +32,7 @@ use Rattle.serving.proofs.Along.{along_begins, may_next}
 use Rattle.serving.proofs.Trying.{same_layout, same_requests}
 use Rattle.serving.proofs.Standing.{answered_more}
 use Rattle.serving.proofs.Tries.{or_none}
-use Rattle.free_serving.specs.Services.{is_get, is_refusal, ByRead, HaltedRead, SpentRead, BothWays, UnderLock, IsEnd, IsReading, IsServing}
+use Rattle.free_serving.specs.Services.{is_get, is_refusal, met_alone, ByRead, HaltedRead, SpentRead, BothWays, UnderLock, IsEnd, IsReading, IsServing}
 use Rattle.free_serving.specs.Left.{WasReadInVain}
 use Rattle.free_serving.specs.One.{ServesOne}
 use Rattle.free_serving.proofs.Same.{Same}
@@ -154,34 +154,34 @@ module _ {T : Type 0} (m : Meaning) (laws : Laws m) (planning : Planning) (retry
       left = cut_leaves m planning retry_short q old laws new limits_new allowed_new get Seen halts halts1 asks asks1 steps steps1 read;
     }
 
-    -- or it met a lock with too few versions left
-    pub read_spent : (place word : ℕ) → Reads m planning q (reads.Spent place word) old new Seen halts halts1 asks asks1 steps steps1
+    -- or it met a lock with too few versions left, and it is the one runner
+    pub read_spent : (place word : ℕ) → (old.layout.runners ≡ 1) → Reads m planning q (reads.Spent place word) old new Seen halts halts1 asks asks1 steps steps1
         → ServesOne m planning retry_short q (answers.Spent place word) old new Seen halts asks asks1 steps steps1
-    read_spent place word read = record {
+    read_spent place word alone read = record {
       service = SpentRead q place word read.made;
       of_request = refl;
-      is = reading_is (reads.Spent place word) read;
+      is = (alone, reading_is (reads.Spent place word) read);
       ends = refl;
       counted = read.asked.counted;
       asked = read.asked.asked;
       let_go = λ e. absurd (let z = e in cc);
       let_least = λ e. absurd (let z = e in cc);
-      left = spent_leaves m planning retry_short q old laws new limits_new allowed_new get Seen halts halts1 asks asks1 steps steps1 place word read;
+      left = spent_leaves m planning retry_short q old laws new limits_new allowed_new get Seen halts halts1 asks asks1 steps steps1 alone place word read;
     }
 
   -- a read that was refused, and left the runner idle
-  turned : (answer : Read) (old new : RunnerState T) → is_refusal answer ≡ true → Answers m planning q answer old new → IsTurnedAway m planning q answer old new
+  turned : (answer : Read) (old new : RunnerState T) → is_refusal old.layout.runners answer ≡ true → Answers m planning q answer old new → IsTurnedAway m planning q answer old new
   turned (reads.Locked at) old new e is = is
   turned (reads.Busy place word) old new e is = is
   turned (reads.Stale place expected read) old new e is = is
   turned (reads.Far loads) old new e is = is
-  turned (reads.Spent place word) old new e is = absurd (true≢false (sym e))
+  turned (reads.Spent place word) old new e is = is
   turned (reads.Done reply stamp) old new e is = absurd (true≢false (sym e))
   turned reads.Halted old new e is = absurd (true≢false (sym e))
 
   module _ (get : is_get q.op ≡ true) (old mid : RunnerState T) (of_old : IsOf t old) (of_mid : IsOf t mid) (may : MayServe planning (q ∷ []) old)
       (Seen : ℕ → Asks → Type 0) (halts halts1 : ℕ) (asks asks1 : Asks) (steps steps1 : ℕ)
-      (read_answer : Read) (refusal : is_refusal read_answer ≡ true) (read : Reads m planning q read_answer old mid Seen halts halts1 asks asks1 steps steps1) where
+      (read_answer : Read) (refusal : is_refusal old.layout.runners read_answer ≡ true) (read : Reads m planning q read_answer old mid Seen halts halts1 asks asks1 steps steps1) where
     away : IsTurnedAway m planning q read_answer old mid
     away = turned read_answer old mid refusal read.answers
 
@@ -280,27 +280,46 @@ module _ {T : Type 0} (m : Meaning) (laws : Laws m) (planning : Planning) (retry
             (refused_spared m planning q old read_answer mid away read.finished) away.untouched.reached serves.tries
             answer (serving.served_in serves.tries) (serving.served_in serves.tries) (serving.asks_in serves.tries + serving.served_in serves.tries)
             (single_leaves m laws planning retry_short q t limits allowed mid new of_mid of_new answer Seen halts1 asks1 asks2 steps1 steps2 serves (may_still.own 0 q refl) spare
-            (λ is. record { answer = read_answer; refused = record { get = get; before = old; cut = away.cut; layout = sym same.0; requests = sym same.1; refused = away.cause }; refusal = refusal; looks = vain.looks }))
+            (λ is. record { answer = read_answer; refused = record { get = get; before = old; cut = away.cut; layout = sym same.0; requests = sym same.1; refused = away.cause }; refusal = subst (λ (l : Layout). is_refusal l.runners read_answer ≡ true) (sym same.0) refusal; looks = vain.looks }))
             few_asks;
       }
 
--- an answer that isn't Done, Spent or Halted is a refusal
-pub refusal_of : (answer : Read) → ((reply : Reply) (stamp : ℕ) → answer ≢ reads.Done reply stamp) → ((place word : ℕ) → answer ≢ reads.Spent place word)
-    → (answer ≢ reads.Halted) → is_refusal answer ≡ true
-refusal_of (reads.Done reply stamp) not_done not_spent not_halted = absurd (not_done reply stamp refl)
-refusal_of reads.Halted not_done not_spent not_halted = absurd (not_halted refl)
-refusal_of (reads.Locked at) not_done not_spent not_halted = refl
-refusal_of (reads.Busy place word) not_done not_spent not_halted = refl
-refusal_of (reads.Stale place expected read) not_done not_spent not_halted = refl
-refusal_of (reads.Far loads) not_done not_spent not_halted = refl
-refusal_of (reads.Spent place word) not_done not_spent not_halted = absurd (not_spent place word refl)
+-- the runner is alone, and its read met this lock
+pub alone_met : (runners : ℕ) (answer : Read) (place word : ℕ) → met_alone runners answer ≡ Some (place, word)
+    → (runners ≡ 1) × (answer ≡ reads.Spent place word)
+alone_met runners (reads.Spent place word) place' word' some = by (runners == 1) refl some
+  where
+    by : (b : Bool) → (runners == 1) ≡ b → (if b then Some (place, word) else None) ≡ Some (place', word') → (runners ≡ 1) × (reads.Spent place word ≡ reads.Spent place' word')
+    by true one e = (eqb-true runners 1 one, let z = e in cc)
+    by false one e = absurd (let z = e in cc)
+alone_met runners (reads.Done reply stamp) place word some = absurd (let z = some in cc)
+alone_met runners (reads.Locked at) place word some = absurd (let z = some in cc)
+alone_met runners (reads.Busy at held) place word some = absurd (let z = some in cc)
+alone_met runners (reads.Stale at expected read) place word some = absurd (let z = some in cc)
+alone_met runners (reads.Far loads) place word some = absurd (let z = some in cc)
+alone_met runners reads.Halted place word some = absurd (let z = some in cc)
+
+-- any other answer that isn't Done or Halted is a refusal
+pub refusal_of : (runners : ℕ) (answer : Read) → ((reply : Reply) (stamp : ℕ) → answer ≢ reads.Done reply stamp)
+    → (answer ≢ reads.Halted) → met_alone runners answer ≡ None → is_refusal runners answer ≡ true
+refusal_of runners (reads.Done reply stamp) not_done not_halted none = absurd (not_done reply stamp refl)
+refusal_of runners reads.Halted not_done not_halted none = absurd (not_halted refl)
+refusal_of runners (reads.Locked at) not_done not_halted none = refl
+refusal_of runners (reads.Busy place word) not_done not_halted none = refl
+refusal_of runners (reads.Stale place expected read) not_done not_halted none = refl
+refusal_of runners (reads.Far loads) not_done not_halted none = refl
+refusal_of runners (reads.Spent place word) not_done not_halted none = by (runners == 1) none
+  where
+    by : (b : Bool) → (if b then Some (place, word) else None) ≡ None → not b ≡ true
+    by true e = absurd (let z = e in cc)
+    by false e = refl
 
 -- the gate of a read that wasn't halted is as it was
-pub going_on : (answer : Read) → is_refusal answer ≡ true → not (is_halted answer) ≡ true
-going_on reads.Halted e = absurd (true≢false (sym e))
-going_on (reads.Done reply stamp) e = refl
-going_on (reads.Locked at) e = refl
-going_on (reads.Busy place word) e = refl
-going_on (reads.Stale place expected read) e = refl
-going_on (reads.Far loads) e = refl
-going_on (reads.Spent place word) e = refl
+pub going_on : (runners : ℕ) (answer : Read) → is_refusal runners answer ≡ true → not (is_halted answer) ≡ true
+going_on runners reads.Halted e = absurd (true≢false (sym e))
+going_on runners (reads.Done reply stamp) e = refl
+going_on runners (reads.Locked at) e = refl
+going_on runners (reads.Busy place word) e = refl
+going_on runners (reads.Stale place expected read) e = refl
+going_on runners (reads.Far loads) e = refl
+going_on runners (reads.Spent place word) e = refl

@@ -194,8 +194,8 @@ module _ {T : Type 0} (m : Meaning) (planning : Planning) (retry_short : Bool) (
         next = λ is_get none was. absurd (unpublished_at written refl none was);
       }
 
-    -- or it met a lock with too few versions left, and the serving stops at it
-    module _ (place word : ℕ) (read : Reads m planning q (reads.Spent place word) old new Seen halts halts' asks asks' steps steps') where
+    -- or the one runner's read met a lock with too few versions left, and the serving stops at it
+    module _ (alone : old.layout.runners ≡ 1) (place word : ℕ) (read : Reads m planning q (reads.Spent place word) old new Seen halts halts' asks asks' steps steps') where
       unpublished : WasPublished q new → ⊥
       unpublished (inl section) = no_section new read.answers.tidy.at.published section.0 section.1
       unpublished (inr answered) = true≢false (sym answered ∙ read.answers.untouched.unknown)
@@ -210,7 +210,7 @@ module _ {T : Type 0} (m : Meaning) (planning : Planning) (retry_short : Bool) (
             before = old;
             number = refl;
             spared = λ unwaited was. inr was;
-            stops = inr read.answers;
+            stops = inr (alone, read.answers);
             tidy = read.answers.tidy;
             unanswered = read.answers.untouched.unknown;
           },

@@ -99,7 +99,7 @@ module _ {T : Type 0} where
     pub record WasReadInVain (request : Request) (r : RunnerState T) : Type 0 where
       pub answer : Read
       pub refused : WasRefused request answer r
-      pub refusal : is_refusal answer ≡ true
+      pub refusal : is_refusal r.layout.runners answer ≡ true
       pub looks : m.is_map ≡ true → (at : ℕ) → answer ≢ reads.Locked at
 
     -- which of the served requests have a read's stamp: each `get`, unless its read came to nothing. So the read of the
@@ -111,11 +111,12 @@ module _ {T : Type 0} where
           → WasReadInVain q old
 
     module _ (retry_short : Bool) where
-      -- why the serving stopped at this request: an attempt stopped it, or a read met a lock with too few versions left
+      -- why the serving stopped at this request: an attempt stopped it, or the one runner's read met a lock with too few
+      -- versions left
       abbrev pub StopsAt : Served → Request → RunnerState T → RunnerState T → Type 0
       StopsAt (answers.Spent place word) request old new =
           Stops m planning retry_short (answers.Spent place word) request old new
-          ⊎ IsTurnedAway m planning request (reads.Spent place word) old new
+          ⊎ ((old.layout.runners ≡ 1) × IsTurnedAway m planning request (reads.Spent place word) old new)
       StopsAt answer request old new = Stops m planning retry_short answer request old new
 
       -- the serving stopped at this request, which isn't answered. Before the last attempt or read of it the runner was

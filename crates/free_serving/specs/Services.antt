@@ -1,5 +1,5 @@
 -- What is done for one request of a serving in which a `get` is read first, without its lock.
-use Rattle.std.specs.Prelude.{◌≡◌, ℕ, ◌+◌, List, [], ◌∷◌, ◌++◌, length, Bool, true, false, Some, slice_get, if◌then◌else◌}
+use Rattle.std.specs.Prelude.{◌≡◌, ℕ, ◌+◌, ◌==◌, List, [], ◌∷◌, ◌++◌, length, Bool, true, false, not, Option, Some, None, slice_get, if◌then◌else◌}
 use Rattle.machine_states.specs.map_history.specs.declared.op.Op.{Op}
 use Rattle.machine_states.specs.map_history.specs.declared.op.Op.TheVariants.{Get}
 use Rattle.machine_states.specs.map_history.specs.declared.op.Request.{Request}
@@ -21,13 +21,19 @@ abbrev pub is_get : Op → Bool
 is_get (Get key) = true
 is_get _ = false
 
--- a read with this answer served nothing, and the runner left: its request is served under its lock then. Behind a lock
--- with too few versions left it isn't: there an attempt would stop too
-abbrev pub is_refusal : Read → Bool
-is_refusal (reads.Done reply stamp) = false
-is_refusal (reads.Spent place word) = false
-is_refusal reads.Halted = false
-is_refusal _ = true
+-- where a runner that is alone meets a lock with too few versions left: an attempt would find it as it stands, so the
+-- serving ends there
+abbrev pub met_alone : ℕ → Read → Option (ℕ × ℕ)
+met_alone runners (reads.Spent place word) = if runners == 1 then Some (place, word) else None
+met_alone runners _ = None
+
+-- a read with this answer served nothing, and the runner, one of so many, left: its request is served under its lock
+-- then
+abbrev pub is_refusal : ℕ → Read → Bool
+is_refusal runners (reads.Done reply stamp) = false
+is_refusal runners (reads.Spent place word) = not (runners == 1)
+is_refusal runners reads.Halted = false
+is_refusal runners _ = true
 
 -- what was done for one request
 pub data Service : Type 0 where
@@ -35,7 +41,7 @@ pub data Service : Type 0 where
   ByRead : Request → Reply → (stamp made : ℕ) → Service
   -- a gate halted its read behind so many counted steps, with its stamp written or not
   HaltedRead : Request → Bool → (made : ℕ) → Service
-  -- its read met this word of this lock, behind which too few versions are left, in so many counted steps
+  -- the one runner's read met this word of this lock, behind which too few versions are left, in so many counted steps
   SpentRead : Request → (place word made : ℕ) → Service
   -- its read was refused so, behind so many counted steps; then it was served under its lock, with this answer, by
   -- these attempts
@@ -121,8 +127,8 @@ abbrev pub GoesOn : List Service → Type 0
 GoesOn [] = Unit {0}
 GoesOn (x ∷ xs) = goes_on x ≡ true
 
--- the serving ended with this answer behind a last service: a gate halted the runner in a read or behind it, the read
--- met a lock with too few versions left, or the serving under the lock ended so
+-- the serving ended with this answer behind a last service: a gate halted the runner in a read or behind it, the one
+-- runner's read met a lock with too few versions left, or the serving under the lock ended so
 abbrev pub EndsWith : Service → Served → Type 0
 EndsWith (ByRead request reply stamp made) answer = answer ≡ answers.Halted
 EndsWith (HaltedRead request written made) answer = answer ≡ answers.Halted
@@ -158,8 +164,9 @@ module _ {T : Type 0} (m : Meaning) (planning : Planning) where
     IsService (ByRead request reply stamp made) old new = IsReading request (reads.Done reply stamp) made old new
     IsService (HaltedRead request written made) old new = (is : IsReading request reads.Halted made old new)
         × (written ≡ has_answered m planning request old new is.answers.at)
-    IsService (SpentRead request place word made) old new = IsReading request (reads.Spent place word) made old new
-    IsService (BothWays request answer made served tries) old new = (is_refusal answer ≡ true)
+    IsService (SpentRead request place word made) old new =
+        (old.layout.runners ≡ 1) × IsReading request (reads.Spent place word) made old new
+    IsService (BothWays request answer made served tries) old new = (is_refusal old.layout.runners answer ≡ true)
         × (mid : RunnerState T) × IsReading request answer made old mid × IsServing request served tries mid new
     IsService (UnderLock request served tries) old new =
         (is_get request.op ≡ false) × IsServing request served tries old new

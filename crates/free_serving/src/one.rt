@@ -5,10 +5,10 @@ ghost use Rattle.version_words.specs.TableState.{IsOf};
 ghost use Rattle.seq_read.specs.caller_facts.specs.Counted.{IsSeen};
 ghost use Rattle.serving.specs.Serving.{MayServe};
 ghost use Rattle.serving.specs.declared.answers.Served.TheVariants as answers;
-ghost use Rattle.free_serving.specs.Services.{is_get as is_get_of};
+ghost use Rattle.free_serving.specs.Services.{is_get as is_get_of, met_alone as met_alone_of};
 ghost use Rattle.free_serving.specs.One.{ServesOne};
 
-use machine_states::body_terms::{StepKind, Steps};
+use machine_states::body_terms::{Place, StepKind, Steps, Word};
 use machine_states::map_history::{Op, Request};
 use seq_read::lock_walks::Planner;
 use seq_read::runner_gate::Gate;
@@ -28,8 +28,19 @@ fn is_get(op: Op) -> bool
     matches!(op, Op::Get(_))
 }
 
+/// The lock, and its word, at which the read of a runner that is alone ended for want of versions. An attempt would find
+/// it as it stands, so the serving ends there, too.
+fn met_alone(runners: u32, answer: &Read) -> Option<(Place, Word)>
+    ensures { result ≡ met_alone_of runners answer.now }
+{
+    match *answer {
+        Read::Spent { place, word } if runners == 1 => Some((place, word)),
+        _ => None,
+    }
+}
+
 /// Serves one request: a `get` is read once, and any other one, or one whose read came to nothing, is served under its
-/// lock. Where the read met a lock with too few versions left, the serving stops there, as an attempt would.
+/// lock. Where one runner is alone, and its read met a lock with too few versions left, the serving stops there.
 ///
 /// `All` comes exactly where the request was answered and no ask halted.
 pub fn serve_one<R: Threads + Wait + Sync, S: Planner, G: Gate, L>(
@@ -64,8 +75,10 @@ pub fn serve_one<R: Threads + Wait + Sync, S: Planner, G: Gate, L>(
                 (runner, Served::Halted)
             }
         }
-        Read::Spent { place, word } => (runner, Served::Spent { place, word }),
         Read::Halted => (runner, Served::Halted),
-        _ => serve(rt, table, runner, only, retry_short, gate, steps),
+        _ => match met_alone(table.layout().runners, &answer) {
+            Some((place, word)) => (runner, Served::Spent { place, word }),
+            None => serve(rt, table, runner, only, retry_short, gate, steps),
+        },
     }
 }

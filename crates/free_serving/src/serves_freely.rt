@@ -47,9 +47,9 @@ fn serve_each<R: Threads + Wait + Sync, S: Planner, G: Gate, L>(
 }
 
 /// Serves a worker's requests in their order: where `reads_free` doesn't hold, as `serve` does. Where it does, each
-/// `get` is read once, without its lock, and the gate asked once more behind a read that served it; where the read met
-/// a lock with too few versions left, the serving ends with `Spent`. A `get` whose read came to nothing else, and each
-/// other request, is served by `serve`, under its lock.
+/// `get` is read once, without its lock, and the gate asked once more behind a read that served it; a `get` whose read
+/// came to nothing, and each other request, is served by `serve`, under its lock. Where the worker is alone, and its
+/// read met a lock with too few versions left, the serving ends with `Spent` at once.
 ///
 /// The requests are the worker's own, each once, and of each trace in its order; none of them is answered yet. The
 /// worker is idle.

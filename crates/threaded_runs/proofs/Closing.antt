@@ -442,7 +442,7 @@ module _ {T : Type 0} (m : Meaning) (t : TableState T) (keeper : RunnerState T) 
           cause = slice_get_within own count ends.0 ends.1;
           shown = spent_at place word (⊎_elim
               (kept_spent m planning ends.0 place word stopped.before new)
-              (kept_read m planning ends.0 place word stopped.before new) stopped.stops);
+              (λ read. kept_read m planning ends.0 place word stopped.before new read.1) stopped.stops);
         },
         no_more (answers.Spent place word) whole,
         inl refl,

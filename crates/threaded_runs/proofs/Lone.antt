@@ -198,14 +198,17 @@ module _ {T H : Type 0} (m : Meaning) (planning : Planning) (retry_short reads_f
         nobody : ReadMetNobody vain.answer
         nobody = reads_go.refused q vain.answer vain.refused.before vain.refused.cut reader was
 
+        refusal : is_refusal 1 vain.answer ≡ true
+        refusal = subst (λ n. is_refusal n vain.answer ≡ true) (ap (λ (l : Layout). l.runners) layout ∙ one) vain.refusal
+
         by : (a : Read) → vain.answer ≡ a → ⊥
         by (reads.Busy place word) e = absurd (subst ReadMetNobody e nobody)
         by (reads.Stale place expected read) e = absurd (subst ReadMetNobody e nobody)
         by (reads.Far loads) e = absurd (subst ReadMetNobody e nobody)
         by (reads.Locked step) e = absurd (vain.looks lawful.planner.serves step e)
-        by (reads.Done reply stamp) e = absurd (let z = sym (ap is_refusal e) ∙ vain.refusal in cc)
-        by (reads.Spent place word) e = absurd (let z = sym (ap is_refusal e) ∙ vain.refusal in cc)
-        by reads.Halted e = absurd (let z = sym (ap is_refusal e) ∙ vain.refusal in cc)
+        by (reads.Done reply stamp) e = absurd (let z = sym (ap (is_refusal 1) e) ∙ refusal in cc)
+        by (reads.Spent place word) e = absurd (let z = sym (ap (is_refusal 1) e) ∙ refusal in cc)
+        by reads.Halted e = absurd (let z = sym (ap (is_refusal 1) e) ∙ refusal in cc)
 
     pub reads_alone : ReadsAlone m w reads_free
     reads_alone free only i key q there get some = ⊎_elim (λ odd. odd) (λ vain. absurd (not_in_vain q vain.0 vain.1 vain.2 vain.3))
