@@ -1,10 +1,10 @@
-//! Worked rows of the whole program, as tests: `flock` of `flock_tool` over streams in memory, on the hash table, on the
-//! search tree and on the sorted list.
+//! Worked rows of the whole program, as tests: `flock` of `flock_tool` over streams in memory, on the hash table, on
+//! the search tree and on the sorted list.
 //!
-//! `program` runs the program on a text, and `legal` is a check of reports that knows nothing of it. `rows` has tables of
-//! commands with what they print and tell, `streams` texts in pieces, and reads and writes that fail, `scripts` several
-//! runners, `stops` runners that are stopped at an ask, `stamps` the stamps of one runner's requests, and `counts` the
-//! printed counts of replies.
+//! `program` runs the program on a text, and `legal` is a check of reports that knows nothing of it. `rows` has tables
+//! of commands with what they print and tell, `streams` texts in pieces, and reads and writes that fail, `scripts`
+//! several runners, `stops` runners that are stopped at an ask, `stamps` the stamps of one runner's requests, and
+//! `counts` the printed counts of replies.
 #![tactic(auto)]
 
 #[cfg(test)]

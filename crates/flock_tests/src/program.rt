@@ -50,8 +50,8 @@ pub fn cut(row: &str) -> (&str, &str) {
     row.split_once('|').unwrap_or((row, ""))
 }
 
-/// Adds a part of a row's text: in it `/` stands for a line feed, `^` for a carriage return and `~` for a byte above 127,
-/// `@` for the number of the repetition and `&` for a number that is one higher each time.
+/// Adds a part of a row's text: in it `/` stands for a line feed, `^` for a carriage return and `~` for a byte above
+/// 127, `@` for the number of the repetition and `&` for a number that is one higher each time.
 fn add(
     bytes: &mut Vec<u8>,
     part: &str,

@@ -7,9 +7,9 @@ use std::sync::Wait;
 use std::test::Fail;
 use std::thread::Threads;
 
-// Rows that come out alike on each table, served by one runner. The last four have few node slots, which are used again:
-// a pair that goes in and out, a key that is set again and again, for which the tree makes a leaf each time and the list
-// a node, and slots whose cells come to the last version, which are worn once they come back.
+// Rows that come out alike on each table, served by one runner. The last four have few node slots, which are used
+// again: a pair that goes in and out, a key that is set again and again, for which the tree makes a leaf each time and
+// the list a node, and slots whose cells come to the last version, which are worn once they come back.
 const ON_EACH_TABLE: &str = "\
 0 run|flock 1/trace/ins 5 70/get 5/del 5/get 5/|trace 0/0 new/1 val 70/2 gone/3 none/final 0/|
 0 run --sections 1|flock 1/trace/ins 5 70/get 5/del 5/get 5/|trace 0/0 new/1 val 70/2 gone/3 none/final 0/|
@@ -35,8 +35,8 @@ const ON_EACH_TABLE: &str = "\
 ";
 
 // On the tree each pair takes two node slots, on the hash table and on the list one. The commands of the other rows run
-// nothing, or on the hash table alone; the last ones are at the limits on traces, requests and bytes, from above and all
-// from below at once.
+// nothing, or on the hash table alone; the last ones are at the limits on traces, requests and bytes, from above and
+// all from below at once.
 const ON_ONE_TABLE: &str = "\
 5 run --table tree --nodes 4|flock 1/trace/ins 1 1/ins 2 2/ins 3 3/|trace 0/0 new/1 new/- unserved/final 2/|flock: slots: runner 0 node free 0 limbo 0 worn 0/
 0 run --table hash --nodes 4|flock 1/trace/ins 1 1/ins 2 2/ins 3 3/|trace 0/0 new/1 new/2 new/final 3/|
@@ -113,8 +113,8 @@ const MOVES: &str = "\
 3 run --table list|flock 4/||flock: line 1: no header/
 ";
 
-// Whether a row comes out as it says, with these words behind its own, and the program finds the report legal that a run
-// printed.
+// Whether a row comes out as it says, with these words behind its own, and the program finds the report legal that a
+// run printed.
 fn comes_out<T: Threads + Wait + Sync>(
     rt: &T,
     alloc: Global,

@@ -13,14 +13,14 @@ use std::thread::Threads;
 // Each row: the script, the words, the text and the report. In the script a runner waits at its first ask of one kind
 // until another was asked with another kind, and halts where it waits in vain.
 //
-// First, runner 0 publishes and waits until runner 1 is through, and runner 1 enters only when it has: so runner 1 meets
-// the lock held and runs the section in it to its end. Workers of one thread wait in vain, in either order, and so do
-// those of whom one holds a mutex meanwhile. Then runner 1 helps runner 0's section, and runner 2 helps runner 1's: three
-// threads, each inside its attempt while the next one goes on. A reader that meets a lock held serves its request under
-// it, and helps the section in it: it never reads what stands there meanwhile. Two readers go on while the other one is
-// inside its read: both stamps are the same, so their order is that of the text, whoever came first. And a reader has
-// loaded its cells and announced its read when another runner puts the key in: its second reading of the lock isn't the
-// first one, so it serves the request under the lock.
+// First, runner 0 publishes and waits until runner 1 is through, and runner 1 enters only when it has: so runner 1
+// meets the lock held and runs the section in it to its end. Workers of one thread wait in vain, in either order, and
+// so do those of whom one holds a mutex meanwhile. Then runner 1 helps runner 0's section, and runner 2 helps runner
+// 1's: three threads, each inside its attempt while the next one goes on. A reader that meets a lock held serves its
+// request under it, and helps the section in it: it never reads what stands there meanwhile. Two readers go on while
+// the other one is inside its read: both stamps are the same, so their order is that of the text, whoever came first.
+// And a reader has loaded its cells and announced its read when another runner puts the key in: its second reading of
+// the lock isn't the first one, so it serves the request under the lock.
 const SCRIPTS: &str = "\
 1 Entered 0 Hold, 0 Hold 1 Served|--runners 2|flock 1/trace/ins 5 70/get 5/trace/ins 5 80/|trace 0/0 new/2 val 70/trace 1/1 dup/final 1/
 0 Hold 1 Served, 1 Entered 0 Hold, 1 Hold 2 Served, 2 Entered 1 Hold|--runners 3|flock 1/trace/ins 5 70/get 5/trace/ins 5 80/trace/get 5/|trace 0/0 new/3 val 70/trace 1/1 dup/trace 2/2 val 70/final 1/
@@ -155,8 +155,9 @@ fn crowds_have_legal_reports(rt: HostRuntime) -> Result<(), Fail> {
     Ok(())
 }
 
-// Runners that move the same keys to and fro, many times, with insertions before and reads between. Each row: the words,
-// how many pairs are left, and the text. Where a key may be moved to before it is inserted, any number may be left.
+// Runners that move the same keys to and fro, many times, with insertions before and reads between. Each row: the
+// words, how many pairs are left, and the text. Where a key may be moved to before it is inserted, any number may be
+// left.
 const MOVES: &str = "\
 --runners 2|1|flock 3/trace/ins 1 1/mov 1 2/mov 2 1/trace/mov 1 2/mov 2 1/
 --runners 2 --buckets 1|1|flock 3/trace/ins 1 1/mov 1 2/mov 2 1/trace/mov 1 2/mov 2 1/

@@ -111,8 +111,8 @@ module _ {T : Type 0} where
           → WasReadInVain q old
 
     module _ (retry_short : Bool) where
-      -- why the serving stopped at this request: an attempt stopped it, or the one runner's read met a lock with too few
-      -- versions left
+      -- why the serving stopped at this request: an attempt stopped it, or the one runner's read met a lock with too
+      -- few versions left
       abbrev pub StopsAt : Served → Request → RunnerState T → RunnerState T → Type 0
       StopsAt (answers.Spent place word) request old new =
           Stops m planning retry_short (answers.Spent place word) request old new

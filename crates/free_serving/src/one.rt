@@ -28,8 +28,8 @@ fn is_get(op: Op) -> bool
     matches!(op, Op::Get(_))
 }
 
-/// The lock, and its word, at which the read of a runner that is alone ended for want of versions. An attempt would find
-/// it as it stands, so the serving ends there, too.
+/// The lock, and its word, at which the read of a runner that is alone ended for want of versions. An attempt would
+/// find it as it stands, so the serving ends there, too.
 fn met_alone(runners: u32, answer: &Read) -> Option<(Place, Word)>
     ensures { result ≡ met_alone_of runners answer.now }
 {

@@ -5,8 +5,8 @@ use report_check::{check_report, split_report};
 use std::alloc::{AllocError, Global};
 use std::test::Fail;
 
-// A text, and behind a bar a report: legal, or the first line that fails and how. A reply to `put` tells the value before
-// it; of two wrong replies the one is told that stands first.
+// A text, and behind a bar a report: legal, or the first line that fails and how. A reply to `put` tells the value
+// before it; of two wrong replies the one is told that stands first.
 const JUDGED: &str = "\
 flock 1/trace/ins 5 70/ins 5 80/get 5/|trace 0/0 new/1 dup/2 val 70/final 1/ => Legal
 flock 1/trace/ins 5 70/ins 5 80/get 5/|trace 0/0 new/- unserved/- unserved/final 1/ => Legal

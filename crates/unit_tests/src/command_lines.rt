@@ -157,8 +157,8 @@ fn an_option_has_its_value_or_its_default(rt: HostRuntime) -> Result<(), Fail> {
     Ok(())
 }
 
-// Lines, and the runners for 0, 3 and 64 traces, the node slots for two and for 131,072 insertions, at which ask each of
-// three runners is halted, and whether a halt is of the first one.
+// Lines, and the runners for 0, 3 and 64 traces, the node slots for two and for 131,072 insertions, at which ask each
+// of three runners is halted, and whether a halt is of the first one.
 const DEFAULTS: &str = "\
 run => 1, 3, 16, 14, 16384, [None, None, None], false
 run --runners 3 --nodes 18 => 3, 3, 3, 18, 18, [None, None, None], false

@@ -1,5 +1,5 @@
-//! Tables of rows: a text, and behind ` => ` what has to be shown of it. In a text `/` stands for a line feed and `^` for
-//! a carriage return.
+//! Tables of rows: a text, and behind ` => ` what has to be shown of it. In a text `/` stands for a line feed and `^`
+//! for a carriage return.
 use std::alloc::{AllocError, Global};
 use std::process::Abort;
 
