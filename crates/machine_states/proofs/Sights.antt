@@ -143,7 +143,7 @@ module _ (m : Meaning) (l : Layout) (rs : List Request) where
       }
 
       inside : Fits sizes x.0
-      inside = (unless_gone sizes p.gone _ x asked).2
+      inside = (unless_gone sizes p.gone (ask_by m l rs event.runner event.kind p p.run) x asked).2
 
       some_runner : event.runner ≤ l.runners
       some_runner = seat_some w.parts event.runner p whole.parts here
