@@ -13,10 +13,11 @@ use Rattle.structure_laws.specs.table_words.specs.Places.{slot_count}
 use Rattle.structure_laws.specs.Scene.{Readings}
 use Rattle.structure_laws.proofs.Changes.{both_true, equal_of}
 use Rattle.bucket_laws.specs.Walk.{start, is_end, has_one_key}
+use Rattle.bucket_laws.specs.TwoWalk.{two_start}
 use Rattle.bucket_laws.specs.Buckets.{bounds, walk_of}
 use Rattle.bucket_walks.specs.Few.{WalksMakeFewLoads, GetsOnlyLook, IsBucketWalk, MovesMakeFewLoads, MovesGetsOnlyLook}
 use Rattle.bucket_walks.proofs.Steps.{nearer, few_left}
-use Rattle.bucket_walks.proofs.TwoSteps.{two_nearer}
+use Rattle.bucket_walks.proofs.TwoSteps.{two_nearer, two_few_left}
 
 pub make_few_loads : (bits : ℕ) → WalksMakeFewLoads bits
 make_few_loads bits = record {
@@ -63,5 +64,7 @@ moves_only_look bits layout key readings thunk fits =
 pub moves_few : (bits : ℕ) → MovesMakeFewLoads bits
 moves_few bits = record {
   nearer = λ b from to w place word wants. two_nearer (2 ^ bits) (λ key. bucket_index key bits) from to b w place word wants;
-  few = λ layout. omega arith;
+  few = λ layout from to readings walks.
+      let few = two_few_left (2 ^ bits) (λ key. bucket_index key bits) from to (bounds (2 ^ bits) (λ key. bucket_index key bits) layout) two_start readings walks in
+      omega (arith, few);
 }

@@ -1,14 +1,16 @@
 -- Each load brings a walk over two keys nearer to its end.
-use Rattle.std.proofs.Common.{◌≡◌, ℕ, ◌+◌, ◌*◌, ◌<◌, ◌≤◌, Bool, true, false, cond, arith, Some}
-use Rattle.std.specs.Prelude.{◌==◌, ◌-◌}
+use Rattle.std.proofs.Common.{◌≡◌, ℕ, suc, ◌+◌, ◌*◌, ◌<◌, ◌≤◌, [], ◌∷◌, length, Bool, true, false, cond, refl, ap, subst, ◌∙◌, arith, Some}
+use Rattle.std.specs.Prelude.{◌==◌, slice_get, take}
 use Rattle.std.proofs.lemmas.Option.{none-some}
+use Rattle.structure_laws.specs.table_words.specs.small_lemmas.proofs.Numbers.{self_tested}
 use Rattle.structure_laws.specs.map_history.specs.declared.op.Op.TheVariants.{Get, Del}
+use Rattle.structure_laws.specs.Scene.{Readings}
 use Rattle.bucket_laws.specs.bucket_bodies.specs.section_body.specs.Bucket.{bucket_head}
 use Rattle.bucket_laws.specs.Walk.{Stage, AtEdition, AtLink, AtKey, AtValue, AtNext, AtLock, AtEnd, Refused, Walk, Bounds}
-use Rattle.bucket_laws.specs.Walk.{start}
+use Rattle.bucket_laws.specs.Walk.{start, is_wanted}
 use Rattle.bucket_laws.specs.TwoWalk.{Part, OnFirst, OnSecond, AtLower, AtHigher, AtBoth, Stopped, TwoWalk, is_one}
 use Rattle.bucket_laws.specs.TwoWalk.{is_takable, after_first, second_at, after_second, first_fed, second_fed, two_wanted}
-use Rattle.bucket_laws.specs.TwoWalk.{two_fed}
+use Rattle.bucket_laws.specs.TwoWalk.{two_fed, two_walk}
 use Rattle.bucket_walks.specs.Left.{left_in, two_left}
 use Rattle.bucket_walks.proofs.Steps.{nearer}
 
@@ -96,3 +98,28 @@ module _ (buckets : ℕ) (bucket : ℕ → ℕ) (from to : ℕ) (b : Bounds) whe
   pub two_nearer : (w : TwoWalk) (place word : ℕ) → two_wanted buckets bucket from to w w.part ≡ Some place
       → Nearer w w.part word
   two_nearer w place word wants = nearer_at w w.part place word wants
+
+  abbrev walked : TwoWalk → Readings → TwoWalk
+  walked w readings = two_walk buckets bucket from to b w readings
+
+  -- a walk goes on by a reading that it wants
+  goes_on : (w : TwoWalk) (place word : ℕ) (readings : Readings) → two_wanted buckets bucket from to w w.part ≡ Some place
+      → walked w ((place, word) ∷ readings) ≡ walked (two_fed buckets bucket from to b w w.part word) readings
+  unfolding two_walk
+  goes_on w place word readings wants =
+      ap (λ c. cond c (walked (two_fed buckets bucket from to b w w.part word) readings) w) (ap (λ o. is_wanted o place) wants ∙ self_tested place)
+
+  -- readings each of which the walk wants are no more than it had left
+  pub two_few_left : (w : TwoWalk) (readings : Readings)
+      → ((i place word : ℕ) → slice_get readings i ≡ Some (place, word)
+      → two_wanted buckets bucket from to (walked w (take i readings)) (walked w (take i readings)).part ≡ Some place)
+      → length readings ≤ two_left b w w.part
+  unfolding two_walk
+  two_few_left w [] walks = omega arith
+  two_few_left w (reading ∷ readings) walks =
+      let wants = walks 0 reading.0 reading.1 refl in
+      let others = two_few_left (two_fed buckets bucket from to b w w.part reading.1) readings
+      (λ i place word here. subst (λ (v : TwoWalk). two_wanted buckets bucket from to v v.part ≡ Some place)
+      (goes_on w reading.0 reading.1 (take i readings) wants) (walks (suc i) place word here)) in
+      let near = two_nearer w reading.0 reading.1 wants in
+      omega (arith, others, near)

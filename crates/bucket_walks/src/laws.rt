@@ -17,7 +17,8 @@ pub fn bucket_gets_only_look(bits: u32)
     let _any = bits;
 }
 
-/// Each load brings a walk over two keys nearer to its end, whatever it reads, so it makes at most 4N + 42 loads.
+/// Each load brings a walk over two keys nearer to its end, whatever it reads, so it makes at most 4N + 42 loads, N
+/// being the number of node slots.
 pub fn moves_make_few_loads(bits: u32)
     ensures { MovesMakeFewLoads bits }
 {
