@@ -1,6 +1,6 @@
 -- The kinds of step that change neither the epoch, nor an announcement, nor a stage.
 use Rattle.std.specs.Prelude.{cond, Bool, true, false}
-use Rattle.std.proofs.Common.{◌≡◌, ℕ, ◌-◌, List, refl, ap, subst, Option, Some, None}
+use Rattle.std.proofs.Common.{◌≡◌, ℕ, ◌-◌, List, refl, sym, ap, subst, Option, Some, None}
 use Rattle.section_lines.specs.small_lemmas.proofs.Bools.{not_both}
 use Rattle.machine_states.specs.map_history.specs.declared.op.Request.{Request}
 use Rattle.machine_states.specs.body_terms.specs.declared.micro.Micro.{Micro}
