@@ -1,6 +1,6 @@
 -- What `serve_one` comes to, by how its request was served.
 use Rattle.std.specs.Prelude.{◌%◌, ◌⊎◌, ◌==◌, Bool, true, false, not, slice_get, if◌then◌else◌}
-use Rattle.std.proofs.Common.{◌≡◌, ◌≢◌, ℕ, ◌+◌, ◌≤◌, List, [], ◌∷◌, refl, sym, ap, ◌∙◌, subst, inl, inr, Some, None, ⊎_elim, arith}
+use Rattle.std.proofs.Common.{◌≡◌, ◌≢◌, ℕ, ◌+◌, ◌≤◌, List, [], ◌∷◌, refl, sym, ap, ◌∙◌, subst, inl, inr, Option, Some, None, ⊎_elim, arith}
 use Rattle.std.proofs.lemmas.Bool.{true≢false, eqb-true}
 use Rattle.machine_states.specs.map_history.specs.declared.op.Request.{Request}
 use Rattle.machine_states.specs.map_history.specs.declared.reply.Reply.{Reply}
@@ -313,6 +313,13 @@ refusal_of runners (reads.Spent place word) not_done not_halted none = by (runne
     by : (b : Bool) → (if b then Some (place, word) else None) ≡ None → not b ≡ true
     by true e = absurd (let z = e in cc)
     by false e = refl
+
+-- so it is where these are the layouts of a runner and of its table
+pub refused : (own told whole : Layout) → own ≡ whole → told ≡ whole → (answer : Read)
+    → ((reply : Reply) (stamp : ℕ) → answer ≢ reads.Done reply stamp) → (answer ≢ reads.Halted)
+    → (met : Option (ℕ × ℕ)) → met ≡ met_alone told.runners answer → met ≡ None → is_refusal own.runners answer ≡ true
+refused own told whole own_is told_is answer not_done not_halted met is none = refusal_of own.runners answer not_done not_halted
+    (subst (λ (l : Layout). met_alone l.runners answer ≡ None) (told_is ∙ sym own_is) (sym is ∙ none))
 
 -- the gate of a read that wasn't halted is as it was
 pub going_on : (runners : ℕ) (answer : Read) → is_refusal runners answer ≡ true → not (is_halted answer) ≡ true
