@@ -5,7 +5,7 @@ use Rattle.runner_block.specs.declared.block.Block.{Block}
 use Rattle.runner_block.specs.Blocks.{block_stored}
 use Rattle.version_words.specs.Kept.{IsKept}
 use Rattle.version_words.specs.Events.{IsEnabled, Makes, seen_seat}
-use Rattle.version_words.proofs.Privates.{few_cells, store_event, store_named, store_kept}
+use Rattle.version_words.proofs.Privates.{few_cells, store_blind, store_event, store_named, store_kept}
 use Rattle.version_words.proofs.table.FlockTable.private_store.Goals as goal
 
 pub private_spot-spot-requires-after_bounds : goal.private_spot-spot-requires-after_bounds
@@ -17,6 +17,13 @@ store-requires-clause-named g c =
     let own = subst (λ r. IsOf c.args.self.now r) (sym c.runner.view_is) c.requires.own in
     let next = subst (IsEnabled m (PrivateStore c.args.slot c.args.word c.args.number)) (sym c.runner.view_is) c.requires.next in
     λ κs lives. store_named m c.args.self.now r own c.args.slot c.args.word c.args.number next c.private_spot-spot.result c.private_spot-spot.ensures
+
+pub store-requires-clause-blind : goal.store-requires-clause-blind
+store-requires-clause-blind g c =
+    let m = g.S.Structure.meaning c.args.self.now.structure in let seat = c.runner.inside.seat in let r = seen_seat seat.table_id seat.me in
+    let own = subst (λ r. IsOf c.args.self.now r) (sym c.runner.view_is) c.requires.own in
+    let next = subst (IsEnabled m (PrivateStore c.args.slot c.args.word c.args.number)) (sym c.runner.view_is) c.requires.next in
+    λ κs lives. store_blind m c.args.self.now r own c.args.slot c.args.word c.args.number next c.private_spot-spot.result c.private_spot-spot.ensures
 
 pub invariant_of-runner : goal.invariant_of-runner
 invariant_of-runner g c =
