@@ -49,6 +49,10 @@ module _ (cells : ℕ → ℕ) (fixed f : ℕ) (leaf : ℕ → ℕ) where
   pub one_own : (cell : ℕ) → cell < 5 → filled_one (cell_of fixed f cell) ≡ leaf cell
   one_own cell low = five_at cells (cell_of fixed f) leaf (slot_apart fixed f) cell low
 
+  -- a fixed cell
+  pub one_low : (p : ℕ) → p < fixed → filled_one p ≡ cells p
+  one_low p low = five_other cells (cell_of fixed f) leaf p (λ other less e. omega (arith, low, e))
+
   pub one_other : (s cell : ℕ) → cell < 5 → s ≢ f → filled_one (cell_of fixed s cell) ≡ cells (cell_of fixed s cell)
   one_other s cell low ne = five_other cells (cell_of fixed f) leaf (cell_of fixed s cell)
       (λ other less e. ne (slots cell other low less e))

@@ -1,6 +1,8 @@
 pub mod Forms
-pub mod Law
 mod Walks
 mod TreeForms
 mod Filled
+mod Table
+pub mod Law
 mod TreeLaw
+mod MoveLaw

@@ -1,0 +1,6 @@
+-- The law.
+use Rattle.plain_laws.specs.MoveRuns.{RunsDoTheOperations}
+use Rattle.plain_laws.proofs.Table.{Holds}
+
+pub runs_do_the_operations : RunsDoTheOperations
+runs_do_the_operations = ?
