@@ -3,7 +3,10 @@ use Rattle.std.proofs.Common.{◌≡◌, ◌≢◌, ℕ, zero, suc, ◌<◌, ref
 use Rattle.structure_laws.specs.body_terms.specs.Update.{upd}
 use Rattle.structure_laws.specs.body_terms.specs.Memory.{cell_of}
 use Rattle.structure_laws.proofs.Changes.{upd_same, upd_other}
-use Rattle.plain_laws.proofs.TreeForms.{five}
+
+-- five cells of a slot get these words
+abbrev pub five : (ℕ → ℕ) → (ℕ → ℕ) → (ℕ → ℕ) → ℕ → ℕ
+five f place word = upd (upd (upd (upd (upd f (place 0) (word 0)) (place 1) (word 1)) (place 2) (word 2)) (place 3) (word 3)) (place 4) (word 4)
 
 module _ (f place word : ℕ → ℕ) where
   abbrev one : ℕ → ℕ

@@ -1,8 +1,9 @@
+mod Filled
 pub mod Forms
+mod Table
 mod Walks
 mod TreeForms
-mod Filled
-mod Table
 pub mod Law
 mod TreeLaw
+mod MoveForms
 mod MoveLaw
