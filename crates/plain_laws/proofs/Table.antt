@@ -41,13 +41,13 @@ abbrev pub made_cells : Cells → ℕ → ℕ → ℕ → ℕ → ℕ → ℕ �
 made_cells cells fixed t key value next = filled_one cells fixed t (node_words cells fixed t key value next)
 
 module _ (buckets : ℕ) (bucket : ℕ → ℕ) (small : (key : ℕ) → bucket key < buckets) (slots : ℕ) where
-  abbrev key_at : Cells → ℕ → ℕ
+  abbrev pub key_at : Cells → ℕ → ℕ
   key_at cells t = value_of (cells (cell_at buckets bucket t 1))
 
-  abbrev value_at : Cells → ℕ → ℕ
+  abbrev pub value_at : Cells → ℕ → ℕ
   value_at cells t = value_of (cells (cell_at buckets bucket t 2))
 
-  abbrev next_at : Cells → ℕ → ℕ
+  abbrev pub next_at : Cells → ℕ → ℕ
   next_at cells t = value_of (cells (cell_at buckets bucket t 3))
 
   -- the chains stand in these cells, these slots stand in them, and the pairs are those that this looks up
