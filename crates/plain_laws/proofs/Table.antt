@@ -24,6 +24,7 @@ use Rattle.tree_laws.specs.bucket_laws.proofs.Chain.{replace_next, chains_agree,
 use Rattle.tree_laws.specs.bucket_laws.proofs.Chain.{remove_contents, set_contents}
 use Rattle.tree_laws.specs.bucket_laws.proofs.NodeChanges.{clip_same, clip_in, head_changed, next_changed}
 use Rattle.tree_laws.specs.bucket_laws.proofs.NodeChanges.{value_changed, none_changed}
+use Rattle.tree_laws.specs.bucket_laws.proofs.Places.{one_slot}
 use Rattle.tree_laws.specs.bucket_laws.proofs.TableTurn.{upd_within, upd_on}
 use Rattle.tree_laws.specs.bucket_laws.proofs.Walks.{reached_on}
 use Rattle.plain_laws.proofs.Filled.{filled_one, one_own, one_other, one_low}
@@ -31,6 +32,10 @@ use Rattle.plain_laws.proofs.Filled.{filled_one, one_own, one_other, one_low}
 -- contents go by what is looked up
 contents_same : (n : Nodes) (on : ℕ → Bool) (lookup lookup' : ℕ → Option ℕ) → Contents n on lookup → ((key : ℕ) → lookup key ≡ lookup' key) → Contents n on lookup'
 contents_same n on lookup lookup' contents same = record { pair = λ t on_t. sym (same (n.key t)) ∙ contents.pair t on_t; slot = λ key value h. contents.slot key value (same key ∙ h) }
+
+-- what isn't looked up isn't without one more key either
+pub none_still : (lookup : ℕ → Option ℕ) (k q : ℕ) → lookup q ≡ None → upd lookup k None q ≡ None
+none_still lookup k q none = dite (ℕ_discrete q k) (λ e. upd_same lookup k q None e) (λ ne. upd_other lookup k q None ne ∙ none)
 
 -- the words of a new node with this key, value and next link
 abbrev pub node_words : Cells → ℕ → ℕ → ℕ → ℕ → ℕ → ℕ → ℕ
@@ -96,6 +101,20 @@ module _ (buckets : ℕ) (bucket : ℕ → ℕ) (small : (key : ℕ) → bucket 
     led_on i p t low link leads = ⊎_elim
         (λ head. holds.chains.head_on i t (head_at i low ∙ ap (λ p. value_of (cells p)) (sym head) ∙ leads))
         (λ node. let there = holds.chains.next_on node.0 t node.1.0 (ap (λ p. value_of (cells p)) (sym node.2) ∙ leads) in (there.0, there.1 ∙ node.1.1))
+        link
+
+    -- a link of a chain isn't the head of another bucket, and no cell of a slot that stands in no chain
+    pub no_head : (i j p : ℕ) → j < buckets → i ≢ j → IsLinkOf buckets bucket cells on i p → bucket_head j ≢ p
+    no_head i j p low apart link same = ⊎_elim
+        (λ head. apart (omega (arith, same, head)))
+        (λ node. let at = node.2 in omega (arith, same, low, at))
+        link
+
+    pub no_cell : (i p t cell : ℕ) → i < buckets → on t ≡ false → cell < 5 → IsLinkOf buckets bucket cells on i p
+        → cell_at buckets bucket t cell ≢ p
+    no_cell i p t cell low out small link same = ⊎_elim
+        (λ head. omega (arith, low, same, head))
+        (λ node. both_ways (on node.0) (ap on (one_slot (3 * buckets) node.0 t 3 cell (omega arith) small (sym node.2 ∙ sym same)) ∙ out) node.1.0)
         link
 
     -- a node leaves its chain
@@ -170,12 +189,6 @@ module _ (buckets : ℕ) (bucket : ℕ → ℕ) (small : (key : ℕ) → bucket 
         abbrev lookup_after : ℕ → Option ℕ
         lookup_after = upd (upd lookup (key_at cells gone) None) (key_at cells t) (Some (value_at cells t))
 
-        -- where its key isn't looked up before, it isn't without the old one either
-        still_none : upd lookup (key_at cells gone) None (key_at cells t) ≡ None
-        still_none = dite (ℕ_discrete (key_at cells t) (key_at cells gone))
-            (λ e. upd_same lookup (key_at cells gone) (key_at cells t) None e)
-            (λ ne. upd_other lookup (key_at cells gone) (key_at cells t) None ne ∙ none)
-
         still_out : upd on gone false t ≡ false
         still_out = dite (ℕ_discrete t gone) (λ e. upd_same on gone t false e) (λ ne. upd_other on gone t false ne ∙ out)
 
@@ -189,7 +202,8 @@ module _ (buckets : ℕ) (bucket : ℕ → ℕ) (small : (key : ℕ) → bucket 
               (contents_agree (with_head n 0 (suc t)) m on_after lookup_after
               (insert_contents n (upd on gone false) (upd lookup (key_at cells gone) None)
               (remove_contents n n on lookup holds.contents gone refl refl old.0
-              (λ u on_u e. holds.chains.key_once u gone on_u old.0 e)) 0 t still_out still_none)
+              (λ u on_u e. holds.chains.key_once u gone on_u old.0 e)) 0 t still_out
+              (none_still lookup (key_at cells gone) (key_at cells t) none))
               (λ u there. ap (λ f. f u) keys) (λ u there. ap (λ f. f u) values));
         }
 
