@@ -1,5 +1,5 @@
 -- The runs of the three bodies over two keys.
-use Rattle.std.proofs.Common.{◌≡◌, ◌≢◌, ℕ, ◌+◌, ◌*◌, List, [], ◌∷◌, refl, sym, subst, Some, None}
+use Rattle.std.proofs.Common.{◌≡◌, ◌≢◌, ℕ, ◌+◌, ◌*◌, List, [], ◌∷◌, refl, sym, subst}
 use Rattle.std.specs.Prelude.{◌^◌}
 use Rattle.structure_laws.specs.body_terms.specs.Word.{value_of, version_of, next_word}
 use Rattle.tree_laws.specs.section_body.specs.Bucket.{operand}

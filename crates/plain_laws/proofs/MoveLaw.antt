@@ -4,16 +4,15 @@ use Rattle.std.specs.Prelude.{◌==◌, ◌&&◌, ◌||◌, ◌⊎◌, ◌^◌, 
 use Rattle.std.specs.FinMap.{get}
 use Rattle.std.proofs.lemmas.Bool.{both_ways}
 use Rattle.structure_laws.specs.table_words.specs.small_lemmas.proofs.Bools.{both_of}
-use Rattle.structure_laws.specs.table_words.specs.small_lemmas.proofs.Numbers.{tested_equal, tested_other, equal_tested, other_tested}
+use Rattle.structure_laws.specs.table_words.specs.small_lemmas.proofs.Numbers.{tested_equal, tested_other, other_tested}
 use Rattle.structure_laws.specs.map_history.specs.declared.op.Op.{Op}
 use Rattle.structure_laws.specs.map_history.specs.declared.op.Op.TheVariants.{Get, Ins, Del, Put, Mov}
-use Rattle.structure_laws.specs.map_history.specs.Keys.{key_of}
 use Rattle.structure_laws.specs.map_history.specs.Replay.{Pairs, reply_of, map_after}
 use Rattle.structure_laws.specs.map_history.specs.Words.{word_of}
 use Rattle.structure_laws.specs.body_terms.specs.Update.{upd}
-use Rattle.structure_laws.specs.body_terms.specs.Word.{value_of, version_of, next_word, is_free}
+use Rattle.structure_laws.specs.body_terms.specs.Word.{value_of, next_word, is_free}
 use Rattle.structure_laws.specs.body_terms.specs.Memory.{PlainMemory}
-use Rattle.structure_laws.specs.body_terms.specs.Run.{Setting, exchanged}
+use Rattle.structure_laws.specs.body_terms.specs.Run.{exchanged}
 use Rattle.structure_laws.specs.body_terms.specs.Plain.{plain_setting, plain_run}
 use Rattle.structure_laws.specs.body_terms.specs.declared.outcome.Outcome.TheVariants.{Answered}
 use Rattle.structure_laws.specs.body_terms.specs.declared.step.Step.{Step}
@@ -26,25 +25,25 @@ use Rattle.tree_laws.specs.bucket_laws.specs.bucket_bodies.specs.Two.{low_half, 
 use Rattle.tree_laws.specs.bucket_laws.specs.bucket_bodies.specs.Two.{look_two_steps, move_steps, rename_steps, two_steps}
 use Rattle.tree_laws.specs.bucket_laws.specs.bucket_bodies.specs.Two.{fits_look_two, fits_move, fits_rename}
 use Rattle.tree_laws.specs.bucket_laws.specs.Chain.{Chains}
-use Rattle.tree_laws.specs.bucket_laws.specs.Halves.{Side, Own, Other, Half, look_half, rename_half, look_two_half}
-use Rattle.tree_laws.specs.bucket_laws.specs.Halves.{taking_half, putting_half, Form, Reads, ReadsTwo, Moves, Renames, Empty}
+use Rattle.tree_laws.specs.bucket_laws.specs.Halves.{Half, look_half, rename_half, look_two_half}
+use Rattle.tree_laws.specs.bucket_laws.specs.Halves.{taking_half, putting_half, Form, Reads, ReadsTwo, Moves, Renames}
 use Rattle.tree_laws.specs.bucket_laws.specs.Halves.{form_of, steps_of, halves_of}
 use Rattle.tree_laws.specs.bucket_laws.specs.Walk.{Stage, AtEdition, AtLink, AtLock, AtEnd, Walk, start, Bounds, cell_at, walk, fits_walk}
 use Rattle.tree_laws.specs.bucket_laws.specs.TwoWalk.{Part, OnFirst, OnSecond, AtLower, AtHigher, AtBoth, Stopped, TwoWalk, two_start}
 use Rattle.tree_laws.specs.bucket_laws.specs.TwoWalk.{lower_of, higher_of, is_one, two_wanted, after_first, second_at, first_fed, two_fed}
-use Rattle.tree_laws.specs.bucket_laws.specs.TwoWalk.{two_walk, moves, high_lock, one_operands, both_operands, fits_two, side_op, side_of_two}
+use Rattle.tree_laws.specs.bucket_laws.specs.TwoWalk.{two_walk, moves, one_operands, both_operands, side_op, side_of_two}
 use Rattle.tree_laws.specs.bucket_laws.specs.Buckets.{nodes, BucketsStand, Knows, IsLinkOf, IsFound}
 use Rattle.tree_laws.specs.bucket_laws.proofs.Fit.{fit_of, form_few}
-use Rattle.tree_laws.specs.bucket_laws.proofs.HalfFit.{HalfFit, OpFit, TwoFit, two_fit_of, mov_fit, two_answer, AnswerOf, not_true}
+use Rattle.tree_laws.specs.bucket_laws.proofs.HalfFit.{OpFit, TwoFit, two_fit_of, mov_fit, two_answer, not_true}
 use Rattle.tree_laws.specs.bucket_laws.proofs.Halves.{number_of, fits_for, form_is, steps_are}
 use Rattle.tree_laws.specs.bucket_laws.proofs.Maps.{still_moved, moved_reply, moved_map}
 use Rattle.tree_laws.specs.bucket_laws.proofs.TableLaws.{buckets_few}
 use Rattle.tree_laws.specs.bucket_laws.proofs.TwoWalks.{two_each, side_seen}
 use Rattle.tree_laws.specs.bucket_laws.proofs.Walks.{ahead_head}
 use Rattle.plain_laws.specs.Runs.{cells_of, HasSmallNumbers, AreRead, bucket, HasContents, IsOut, DoesTheOperation}
-use Rattle.plain_laws.specs.MoveRuns.{IsWalked, MoveIsUnspent, RenameIsUnspent, IsUnspent, Makes, RunsDoTheOperations}
-use Rattle.plain_laws.proofs.Forms.{IsGot, is_got, read_run}
-use Rattle.plain_laws.proofs.MoveForms.{Passes, moved_cells, renamed_cells, look_two_run, move_run, rename_run}
+use Rattle.plain_laws.specs.MoveRuns.{IsWalked, IsUnspent, Makes, RunsDoTheOperations}
+use Rattle.plain_laws.proofs.Forms.{is_got, read_run}
+use Rattle.plain_laws.proofs.MoveForms.{moved_cells, renamed_cells, look_two_run, move_run, rename_run}
 use Rattle.plain_laws.proofs.Law.{small_is, exchanges_write, link_is, link_apart, link_place, within, KnowsNow, knows_read, runs_do}
 use Rattle.plain_laws.proofs.Table.{Holds, holds_of, stands_by, key_at, value_at, next_at, made_cells, made_holds, fixed_stays, node_stays}
 use Rattle.plain_laws.proofs.Table.{link_stays, made_key, made_value, made_next, edition_holds, removed_holds, put_holds, renamed_holds}

@@ -4,7 +4,7 @@ use Rattle.std.specs.Prelude.{◌==◌, ◌&&◌, ◌||◌, ◌-◌, ◌^◌, �
 use Rattle.std.specs.FinMap.{get, insert}
 use Rattle.std.proofs.lemmas.Bool.Decides.{nat_tests}
 use Rattle.std.proofs.lemmas.Bool.{cases_eq, and_from, both_ways}
-use Rattle.structure_laws.specs.table_words.specs.small_lemmas.proofs.Bools.{both_of, from_false as false_true}
+use Rattle.structure_laws.specs.table_words.specs.small_lemmas.proofs.Bools.{both_of}
 use Rattle.structure_laws.specs.table_words.specs.small_lemmas.proofs.Numbers.{equal_tested as eq_true, other_tested as eq_false}
 use Rattle.structure_laws.specs.map_history.specs.declared.op.Op.{Op}
 use Rattle.structure_laws.specs.map_history.specs.declared.op.Op.TheVariants.{Get, Ins, Del, Put, Mov}
