@@ -1,11 +1,12 @@
 -- The runs of the hash table's four bodies, and what the runs of all bodies have in common.
-use Rattle.std.proofs.Common.{◌≡◌, ◌≢◌, ℕ, ◌+◌, ◌*◌, List, [], ◌∷◌, refl, sym, ap, ◌∙◌, subst, arith, Some, None}
+use Rattle.std.proofs.Common.{◌≡◌, ◌≢◌, ℕ, ◌+◌, ◌*◌, ◌<◌, List, [], ◌∷◌, refl, sym, ap, ◌∙◌, subst, Some, None}
 use Rattle.std.specs.Prelude.{true, false, cond, not, ◌==◌, ◌^◌, slice_index}
 use Rattle.std.proofs.lemmas.Bool.{and_from}
-use Rattle.std.proofs.lemmas.Bool.Decides.{nat_tests}
+use Rattle.structure_laws.specs.table_words.specs.small_lemmas.proofs.Numbers.{equal_tested, other_tested, less_tested}
+use Rattle.structure_laws.specs.body_terms.specs.Update.{upd}
 use Rattle.structure_laws.specs.body_terms.specs.Word.{value_of, version_of, next_word, held_word, is_free, is_spent}
 use Rattle.structure_laws.specs.body_terms.specs.Memory.{cell_of}
-use Rattle.tree_laws.specs.section_body.specs.Bucket.{operand, read_steps, insert_steps, remove_steps}
+use Rattle.tree_laws.specs.section_body.specs.Bucket.{operand, is_small, read_steps, insert_steps, remove_steps}
 use Rattle.tree_laws.specs.bucket_laws.specs.bucket_bodies.specs.Table.{set_steps}
 use Rattle.structure_laws.specs.body_terms.specs.Line.{line}
 use Rattle.structure_laws.specs.body_terms.specs.Run.{Setting, Run, ran, exchanged, is_takable, refusal}
@@ -14,21 +15,29 @@ use Rattle.structure_laws.specs.body_terms.specs.declared.micro.Source.TheVarian
 use Rattle.structure_laws.specs.body_terms.specs.declared.micro.Micro.{Micro}
 use Rattle.structure_laws.specs.body_terms.specs.declared.micro.Micro.TheVariants.{LoadCell, Commit, CheckFresh, PrivateLoad, PrivateStore, MakeCommit, ClockLoad, StampExchange, ClockRaise, ExchangeCell, EpochForRetire, RetireCommit, ReplyExchange}
 use Rattle.structure_laws.specs.body_terms.specs.declared.thunk.Thunk.{Thunk}
+use Rattle.structure_laws.proofs.Changes.{upd_other}
 use Rattle.plain_laws.proofs.Filled.{five}
+
+-- a number below 2 ^ 32 fits
+pub small_is : (n : ℕ) → n < 2 ^ 32 → is_small n ≡ true
+small_is n low = less_tested n (2 ^ 32) low
+
+-- an exchange from what stands there writes
+pub exchange_writes : (cells : ℕ → ℕ) (p old new : ℕ) → cells p ≡ old → exchanged cells p old new ≡ upd cells p new
+exchange_writes cells p old new same = ap (λ c. upd cells p (cond c new (cells p))) (equal_tested (cells p) old same)
+
+-- two exchanges, each from what stands there
+pub exchanges_write : (cells : ℕ → ℕ) (p q old new was now : ℕ) → cells p ≡ old → cells q ≡ was → q ≢ p → exchanged (exchanged cells p old new) q was now ≡ upd (upd cells p new) q now
+exchanges_write cells p q old new was now first second apart =
+    ap (λ f. exchanged f q was now) (exchange_writes cells p old new first) ∙ exchange_writes (upd cells p new) q was now (upd_other cells p q new apart ∙ second)
 
 -- the check of a Want passes where the word is the wanted one
 pub word_passes : (place word read : ℕ) → read ≡ word → cond (read == word) None (Some (Stale place word read)) ≡ None
-word_passes place word read same = ap (λ b. cond b None (Some (Stale place word read))) (equal read word same)
-  where
-    equal : (a b : ℕ) → a ≡ b → (a == b) ≡ true
-    equal a b e = grind (arith, nat_tests)
+word_passes place word read same = ap (λ b. cond b None (Some (Stale place word read))) (equal_tested read word same)
 
 -- the check of a Fresh passes where the version isn't the greatest
 pub fresh_passes : (place read max : ℕ) → version_of read ≢ max → cond (version_of read == max) (Some (Spent place read)) None ≡ None
-fresh_passes place read max ne = ap (λ b. cond b (Some (Spent place read)) None) (unequal (version_of read) max ne)
-  where
-    unequal : (a b : ℕ) → a ≢ b → (a == b) ≡ false
-    unequal a b ne = grind (arith, nat_tests)
+fresh_passes place read max ne = ap (λ b. cond b (Some (Spent place read)) None) (other_tested (version_of read) max ne)
 
 -- the lock of a Take whose words stand here in the log, and from which this free word is wanted, is got
 pub record IsGot (s : Setting) (log word : ℕ) : Type 0 where
@@ -41,13 +50,10 @@ pub is_got : (s : Setting) (log word : ℕ) → s.refused log ≡ false → s.ta
     → IsGot s log word
 is_got s log word unheld same held free unspent = record {
   unheld = unheld;
-  takable = ap (is_takable s word) same ∙ and_from (word == word) _ (equal word word refl)
+  takable = ap (is_takable s word) same ∙ and_from (word == word) _ (equal_tested word word refl)
       (and_from (is_free word) (not (is_spent s.version_max word)) free (ap not unspent));
-  got = equal (s.taken (log + 1)) (held_word s.descriptor word) held;
+  got = equal_tested (s.taken (log + 1)) (held_word s.descriptor word) held;
 }
-  where
-    equal : (a b : ℕ) → a ≡ b → (a == b) ≡ true
-    equal a b e = grind (arith, nat_tests)
 
 -- so both of its checks pass
 pub free_passes : (s : Setting) (place log word : ℕ) → IsGot s log word → cond (s.refused log)

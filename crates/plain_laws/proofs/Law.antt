@@ -1,8 +1,7 @@
 -- The law of the plain runs.
-use Rattle.std.proofs.Common.{◌≡◌, ◌≢◌, ℕ, suc, ◌+◌, ◌*◌, ◌<◌, ◌≤◌, Bool, true, false, cond, List, [], ◌∷◌, refl, sym, ap, ◌∙◌, subst, inl, ⊎_elim, arith, Some, None, Option}
+use Rattle.std.proofs.Common.{◌≡◌, ◌≢◌, ℕ, suc, ◌+◌, ◌*◌, ◌<◌, ◌≤◌, Bool, true, false, cond, List, [], refl, sym, ap, ◌∙◌, subst, inl, ⊎_elim, arith, Some, None, Option}
 use Rattle.std.specs.Prelude.{◌==◌, ◌&&◌, ◌^◌, slice_index}
 use Rattle.std.specs.FinMap.{get}
-use Rattle.std.proofs.lemmas.Bool.Decides.{nat_tests}
 use Rattle.structure_laws.specs.table_words.specs.small_lemmas.proofs.Numbers.{equal_tested as equal_number, other_tested as other_number}
 use Rattle.structure_laws.specs.map_history.specs.declared.op.Op.{Op}
 use Rattle.structure_laws.specs.map_history.specs.declared.op.Op.TheVariants.{Put}
@@ -11,42 +10,25 @@ use Rattle.structure_laws.specs.map_history.specs.Replay.{Pairs, map_after}
 use Rattle.structure_laws.specs.body_terms.specs.Update.{upd}
 use Rattle.structure_laws.specs.body_terms.specs.Word.{value_of, next_word}
 use Rattle.structure_laws.specs.body_terms.specs.Memory.{PlainMemory}
-use Rattle.tree_laws.specs.section_body.specs.Bucket.{bucket_edition, bucket_head, operand, is_small, fits_read, fits_insert, fits_remove, read_steps, insert_steps, remove_steps, bucket_steps}
+use Rattle.tree_laws.specs.section_body.specs.Bucket.{bucket_edition, bucket_head, operand, fits_read, fits_insert, fits_remove, read_steps, insert_steps, remove_steps, bucket_steps}
 use Rattle.tree_laws.specs.bucket_laws.specs.bucket_bodies.specs.Table.{fits_set, set_steps, table_steps}
 use Rattle.structure_laws.specs.body_terms.specs.Run.{exchanged}
 use Rattle.structure_laws.specs.body_terms.specs.Plain.{plain_setting, plain_run}
 use Rattle.structure_laws.specs.body_terms.specs.declared.outcome.Outcome.TheVariants.{Answered}
 use Rattle.structure_laws.specs.body_terms.specs.declared.step.Step.{Step}
 use Rattle.structure_laws.specs.body_terms.specs.declared.thunk.Thunk.{Thunk}
-use Rattle.structure_laws.specs.Scene.{Readings}
-use Rattle.structure_laws.proofs.Changes.{upd_other, value-next_word, value_small}
-use Rattle.tree_laws.specs.bucket_laws.specs.Chain.{Chains}
-use Rattle.tree_laws.specs.bucket_laws.specs.Walk.{Walk, Bounds, AtEdition, AtEnd, start, walk, fed, wanted_at, is_wanted, is_del, cell_at, form_for}
-use Rattle.tree_laws.specs.bucket_laws.specs.Buckets.{nodes, BucketsStand, Knows, IsLinkOf, IsFound}
+use Rattle.structure_laws.proofs.Changes.{value-next_word, value_small}
+use Rattle.tree_laws.specs.bucket_laws.specs.Walk.{Walk, AtEdition, AtEnd, start, walk, is_del, cell_at, form_for}
+use Rattle.tree_laws.specs.bucket_laws.specs.Buckets.{BucketsStand, Knows, IsLinkOf, IsFound}
 use Rattle.tree_laws.specs.bucket_laws.proofs.Elsewhere.{edition_seen}
 use Rattle.tree_laws.specs.bucket_laws.proofs.Fit.{IsFit, PutsIn, fit_of, puts_given, insert_operands, remove_operands, set_operands}
 use Rattle.tree_laws.specs.bucket_laws.proofs.Maps.{read_reply, insert_reply, remove_reply, set_reply, read_map, insert_map, remove_map, set_map}
-use Rattle.tree_laws.specs.bucket_laws.proofs.TableLaws.{form_cases, bucket_small, buckets_few}
-use Rattle.tree_laws.specs.bucket_laws.proofs.Walks.{wanted_eq, knows_fed}
-use Rattle.plain_laws.specs.Runs.{cells_of, HasSmallNumbers, AreRead, bucket, HasContents, IsWalked, IsUnspent, IsOut, DoesTheOperation, RunsDoTheOperations}
-use Rattle.plain_laws.proofs.Forms.{inserted_cells, removed_cells, set_cells, read_run, insert_run, remove_run, set_run}
+use Rattle.tree_laws.specs.bucket_laws.proofs.TableLaws.{form_cases, buckets_few}
+use Rattle.plain_laws.specs.Runs.{cells_of, HasSmallNumbers, bucket, HasContents, IsWalked, IsUnspent, IsOut, DoesTheOperation, RunsDoTheOperations}
+use Rattle.plain_laws.proofs.Follows.{within, follows}
+use Rattle.plain_laws.proofs.Forms.{small_is, exchanges_write, inserted_cells, removed_cells, set_cells, read_run, insert_run, remove_run, set_run}
 use Rattle.plain_laws.proofs.Table.{Holds, holds_of, stands_by, key_at, value_at, next_at, made_cells, made_holds, fixed_stays, made_key, made_value, made_next}
-use Rattle.plain_laws.proofs.Table.{edition_holds, put_holds, removed_holds, set_holds, found_on, found_is, missing_is}
-
--- an exchange from what stands there writes
-exchange_writes : (cells : ℕ → ℕ) (p old new : ℕ) → cells p ≡ old → exchanged cells p old new ≡ upd cells p new
-exchange_writes cells p old new same = ap (λ c. upd cells p (cond c new (cells p))) (equal (cells p) old same)
-  where
-    equal : (a b : ℕ) → a ≡ b → (a == b) ≡ true
-    equal a b e = grind (arith, nat_tests)
-
--- two exchanges, each from what stands there
-pub exchanges_write : (cells : ℕ → ℕ) (p q old new was now : ℕ) → cells p ≡ old → cells q ≡ was → q ≢ p → exchanged (exchanged cells p old new) q was now ≡ upd (upd cells p new) q now
-exchanges_write cells p q old new was now first second apart =
-    ap (λ f. exchanged f q was now) (exchange_writes cells p old new first) ∙ exchange_writes (upd cells p new) q was now (upd_other cells p q new apart ∙ second)
-
-pub small_is : (n : ℕ) → n < 2 ^ 32 → is_small n ≡ true
-small_is n low = grind (arith, nat_tests)
+use Rattle.plain_laws.proofs.Table.{link_to, no_edition, edition_holds, put_holds, removed_holds, set_holds, found_on, found_is, missing_is}
 
 all_true : (a b c d : Bool) → a ≡ true → b ≡ true → c ≡ true → d ≡ true → (a && (b && (c && d))) ≡ true
 all_true a b c d p q r t = rw (p, q, r, t) refl
@@ -81,51 +63,7 @@ remove_body t form fits =
     apart_2 : (n : ℕ) → n ≡ 3 → n ≡ 2 → ⊥
     apart_2 n e f = omega arith
 
--- the value of a link to the new node, as a Store writes it
-pub link_is : (word t : ℕ) → suc t < 2 ^ 32 → value_of (next_word word (value_of (t + 1))) ≡ suc t
-link_is word t low = value-next_word word (value_of (t + 1)) (value_small (t + 1)) ∙ small_value (t + 1) (suc t) (omega arith) low
-  where
-    small_value : (n m : ℕ) → n ≡ m → m < 2 ^ 32 → value_of n ≡ m
-    small_value n m e low = omega arith
-
-module _ (bits : ℕ) (few : bits ≤ 12) where
-  abbrev buckets : ℕ
-  buckets = 2 ^ bits
-
-  pub within : (key : ℕ) → bucket bits key < buckets
-  within key = bucket_small bits key few
-
-  module _ (cells : ℕ → ℕ) (on : ℕ → Bool) (rank : ℕ → ℕ) (chains : Chains (bucket bits) (nodes buckets (bucket bits) cells) on rank) (bounds : Bounds) (op : Op) where
-    abbrev pub KnowsNow : Walk → Type 0
-    KnowsNow w = Knows buckets (bucket bits) cells on rank op w w.stage
-
-    -- a load of the place that the walk wants, which gives what stands there
-    pub knows_read : (w : Walk) (p n : ℕ) → wanted_at buckets (bucket bits) (bucket bits (key_of op)) w w.stage ≡ Some p
-        → cells p ≡ n → KnowsNow w → KnowsNow (fed buckets (bucket bits) bounds op w w.stage n)
-    knows_read w p n want is known = subst (λ k. KnowsNow (fed buckets (bucket bits) bounds op w w.stage k)) is
-        (knows_fed buckets (bucket bits) within bounds cells on rank chains op w w.stage p want known)
-
-    -- so a walk over these cells knows what stands there
-    pub follows : (w : Walk) (readings : Readings) → AreRead cells readings → KnowsNow w → KnowsNow (walk buckets (bucket bits) bounds op w readings)
-    unfolding walk
-    follows w [] read known = known
-    follows w (reading ∷ readings) read known =
-        go (is_wanted (wanted_at buckets (bucket bits) (bucket bits (key_of op)) w w.stage) reading.0) refl (follows next readings (λ i place word at. read (suc i) place word at))
-      where
-        next : Walk
-        next = fed buckets (bucket bits) bounds op w w.stage reading.1
-
-        go : (c : Bool) → is_wanted (wanted_at buckets (bucket bits) (bucket bits (key_of op)) w w.stage) reading.0 ≡ c → (KnowsNow next → KnowsNow (walk buckets (bucket bits) bounds op next readings)) → KnowsNow (cond c (walk buckets (bucket bits) bounds op next readings) w)
-        go true e later = later (knows_read w reading.0 reading.1 (wanted_eq _ reading.0 e) (read 0 reading.0 reading.1 refl) known)
-        go false e later = known
-
--- a link of a chain is no edition, and its place is small
-pub link_apart : (bits buckets : ℕ) (cells : ℕ → ℕ) (on : ℕ → Bool) (i j : ℕ) → j < buckets → (p : ℕ) → IsLinkOf buckets (bucket bits) cells on i p → bucket_edition j ≢ p
-link_apart bits buckets cells on i j low p link same = ⊎_elim
-    (λ head. omega (arith, same, head))
-    (λ node. let at = node.2 in omega (arith, same, low, at))
-    link
-
+-- the place of a link is small
 pub link_place : (bits slots : ℕ) (memory : PlainMemory) (pairs : Pairs) (contents : HasContents bits slots memory pairs) (i : ℕ) → i < 2 ^ bits → (p : ℕ)
     → IsLinkOf (2 ^ bits) (bucket bits) (cells_of memory) contents.stands.on i p → p < 2 ^ 32
 link_place bits slots memory pairs contents i low p link = ⊎_elim
@@ -269,7 +207,7 @@ module _ (bits slots request : ℕ) (memory : PlainMemory) (pairs : Pairs) (op :
     stands_after : Left after
     stands_after =
         let put = put_holds (2 ^ bits) (bucket bits) small slots filled (get pairs) stands.on stands.rank filled_holds t link_word free.within free.out
-        (link_is (cells (thunk.lock + 2)) t free.linked) (ap (get pairs) key_is ∙ none) own own_low (ap (bucket bits) key_is) first in
+        (link_to (cells (thunk.lock + 2)) t free.linked) (ap (get pairs) key_is ∙ none) own own_low (ap (bucket bits) key_is) first in
         stands_by (2 ^ bits) (bucket bits) small slots after _ _ _ (map_after pairs op)
         (edition_holds (2 ^ bits) (bucket bits) small slots (upd filled (bucket_head own) link_word) _ _ _ put.1 own edition_word own_low)
         (λ q. ap (λ k. upd (get pairs) k (Some (value_at (2 ^ bits) (bucket bits) small slots filled t)) q) (key_is ∙ named.2.0) ∙ (ap (λ v. upd (get pairs) named.0 (Some v) q) value_is
@@ -337,7 +275,7 @@ module _ (bits slots request : ℕ) (memory : PlainMemory) (pairs : Pairs) (op :
         let ends = remove_run (plain_setting (remove_steps thunk) got memory) cells memory.clock (slice_index memory.stamps request) (slice_index memory.replies request) thunk wanted (unspent.edition (λ one. let own = fit.form ∙ form in omega arith)) (unspent.link (fit.form ∙ form)) in
         let written : removed_cells (plain_setting (remove_steps thunk) got memory) cells memory.clock (slice_index memory.stamps request) (slice_index memory.replies request) thunk ≡ left =
         exchanges_write cells (operand thunk 1) (thunk.lock + 1) (cells (operand thunk 1)) new_link (cells (thunk.lock + 1)) new_edition refl refl
-        (λ e. link_apart bits (2 ^ bits) cells stands.on own own own_low (operand thunk 1) link (sym edition_place ∙ e))
+        (λ e. no_edition (2 ^ bits) (bucket bits) small slots cells (get pairs) stands.on stands.rank holds own own (operand thunk 1) own_low link (sym edition_place ∙ e))
         ∙ ap (λ p. upd (upd cells (operand thunk 1) new_link) p new_edition) edition_place in
         subst Does (sym (kept_body thunk (λ four. let own = fit.form ∙ form in omega arith) ∙ remove_body thunk (fit.form ∙ form) removal_fits)) (record {
           answer = ends.answered ∙ ap (λ n. Some (Answered n)) (remove_reply pairs op x.value removal.1.0 (looks_found removal.0));

@@ -1,6 +1,7 @@
 mod Filled
 pub mod Forms
 mod Table
+mod Follows
 mod Walks
 mod TreeForms
 pub mod Law

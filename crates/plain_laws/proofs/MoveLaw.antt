@@ -17,37 +17,35 @@ use Rattle.structure_laws.specs.body_terms.specs.Plain.{plain_setting, plain_run
 use Rattle.structure_laws.specs.body_terms.specs.declared.outcome.Outcome.TheVariants.{Answered}
 use Rattle.structure_laws.specs.body_terms.specs.declared.step.Step.{Step}
 use Rattle.structure_laws.specs.body_terms.specs.declared.thunk.Thunk.{Thunk}
-use Rattle.structure_laws.specs.Scene.{Readings}
 use Rattle.structure_laws.proofs.Changes.{upd_other, value-next_word, value_small}
 use Rattle.tree_laws.specs.section_body.specs.Bucket.{bucket_lock, bucket_edition, bucket_head, operand, read_steps}
 use Rattle.tree_laws.specs.bucket_laws.specs.bucket_bodies.specs.Table.{table_steps}
 use Rattle.tree_laws.specs.bucket_laws.specs.bucket_bodies.specs.Two.{low_half, high_half, higher_lock, takes_lower, target_lock}
 use Rattle.tree_laws.specs.bucket_laws.specs.bucket_bodies.specs.Two.{look_two_steps, move_steps, rename_steps, two_steps}
 use Rattle.tree_laws.specs.bucket_laws.specs.bucket_bodies.specs.Two.{fits_look_two, fits_move, fits_rename}
-use Rattle.tree_laws.specs.bucket_laws.specs.Chain.{Chains}
 use Rattle.tree_laws.specs.bucket_laws.specs.Halves.{Half, look_half, rename_half, look_two_half}
 use Rattle.tree_laws.specs.bucket_laws.specs.Halves.{taking_half, putting_half, Form, Reads, ReadsTwo, Moves, Renames}
 use Rattle.tree_laws.specs.bucket_laws.specs.Halves.{form_of, steps_of, halves_of}
-use Rattle.tree_laws.specs.bucket_laws.specs.Walk.{Stage, AtEdition, AtLink, AtLock, AtEnd, Walk, start, Bounds, cell_at, walk, fits_walk}
-use Rattle.tree_laws.specs.bucket_laws.specs.TwoWalk.{Part, OnFirst, OnSecond, AtLower, AtHigher, AtBoth, Stopped, TwoWalk, two_start}
-use Rattle.tree_laws.specs.bucket_laws.specs.TwoWalk.{lower_of, higher_of, is_one, two_wanted, after_first, second_at, first_fed, two_fed}
+use Rattle.tree_laws.specs.bucket_laws.specs.Walk.{Stage, AtEdition, AtLock, AtEnd, start, cell_at, walk, fits_walk}
+use Rattle.tree_laws.specs.bucket_laws.specs.TwoWalk.{TwoWalk, two_start}
+use Rattle.tree_laws.specs.bucket_laws.specs.TwoWalk.{lower_of, higher_of, is_one}
 use Rattle.tree_laws.specs.bucket_laws.specs.TwoWalk.{two_walk, moves, one_operands, both_operands, side_op, side_of_two}
-use Rattle.tree_laws.specs.bucket_laws.specs.Buckets.{nodes, BucketsStand, Knows, IsLinkOf, IsFound}
+use Rattle.tree_laws.specs.bucket_laws.specs.Buckets.{BucketsStand, Knows, IsLinkOf, IsFound}
 use Rattle.tree_laws.specs.bucket_laws.proofs.Fit.{fit_of, form_few}
 use Rattle.tree_laws.specs.bucket_laws.proofs.HalfFit.{OpFit, TwoFit, two_fit_of, mov_fit, two_answer, not_true}
 use Rattle.tree_laws.specs.bucket_laws.proofs.Halves.{number_of, fits_for, form_is, steps_are}
 use Rattle.tree_laws.specs.bucket_laws.proofs.Maps.{still_moved, moved_reply, moved_map}
 use Rattle.tree_laws.specs.bucket_laws.proofs.TableLaws.{buckets_few}
-use Rattle.tree_laws.specs.bucket_laws.proofs.TwoWalks.{two_each, side_seen}
-use Rattle.tree_laws.specs.bucket_laws.proofs.Walks.{ahead_head}
-use Rattle.plain_laws.specs.Runs.{cells_of, HasSmallNumbers, AreRead, bucket, HasContents, IsOut, DoesTheOperation}
+use Rattle.tree_laws.specs.bucket_laws.proofs.TwoWalks.{side_seen}
+use Rattle.plain_laws.specs.Runs.{cells_of, HasSmallNumbers, bucket, HasContents, IsOut, DoesTheOperation}
 use Rattle.plain_laws.specs.MoveRuns.{IsWalked, IsUnspent, Makes, RunsDoTheOperations}
-use Rattle.plain_laws.proofs.Forms.{is_got, read_run}
+use Rattle.plain_laws.proofs.Forms.{small_is, exchanges_write, is_got, read_run}
 use Rattle.plain_laws.proofs.MoveForms.{moved_cells, renamed_cells, look_two_run, move_run, rename_run}
-use Rattle.plain_laws.proofs.Law.{small_is, exchanges_write, link_is, link_apart, link_place, within, KnowsNow, knows_read, runs_do}
+use Rattle.plain_laws.proofs.Follows.{within, KnowBoth, both_known}
+use Rattle.plain_laws.proofs.Law.{link_place, runs_do}
 use Rattle.plain_laws.proofs.Table.{Holds, holds_of, stands_by, key_at, value_at, next_at, made_cells, made_holds, fixed_stays, node_stays}
 use Rattle.plain_laws.proofs.Table.{link_stays, made_key, made_value, made_next, edition_holds, removed_holds, put_holds, renamed_holds}
-use Rattle.plain_laws.proofs.Table.{no_head, no_cell, none_still, found_on, found_is, missing_is}
+use Rattle.plain_laws.proofs.Table.{link_to, no_edition, no_head, no_cell, none_still, found_on, found_is, missing_is}
 
 -- a body over one key is that of the hash table
 one_body : (t : Thunk) → t.form ≤ 4 → two_steps t ≡ table_steps t
@@ -81,40 +79,6 @@ two_wants : (cells : ℕ → ℕ) (c : Bool) (low high a b : ℕ) → cells (con
     → (cells (low + 1) ≡ a) × (cells (high + 1) ≡ b)
 two_wants cells true low high a b first second = (first, second)
 two_wants cells false low high a b first second = (second, first)
-
-module _ (bits : ℕ) (few : bits ≤ 12) (cells : ℕ → ℕ) (on : ℕ → Bool) (rank : ℕ → ℕ) (chains : Chains (bucket bits) (nodes (2 ^ bits) (bucket bits) cells) on rank) (b : Bounds) (from to : ℕ) where
-  -- what both walks know
-  abbrev KnowBoth : TwoWalk → Type 0
-  KnowBoth w = KnowsNow bits few cells on rank chains b (Del from) w.first × KnowsNow bits few cells on rank chains b (Get to) w.second
-
-  second_begins : (part : Part) (first : Walk) → KnowsNow bits few cells on rank chains b (Get to) (second_at (2 ^ bits) (bucket bits) from to part first)
-  second_begins OnFirst first = tt
-  second_begins OnSecond first = by (is_one (2 ^ bits) (bucket bits) from to)
-    where
-      by : (one : Bool) → KnowsNow bits few cells on rank chains b (Get to) (cond one (record start { stage = AtLink; edition = first.edition; place = bucket_head (bucket bits to) }) start)
-      by true = (inl refl, ahead_head (2 ^ bits) (bucket bits) (within bits few) cells on rank chains to, λ ne. absurd (ne refl))
-      by false = tt
-  second_begins AtLower first = tt
-  second_begins AtHigher first = tt
-  second_begins AtBoth first = tt
-  second_begins Stopped first = tt
-
-  know_fed : (w : TwoWalk) (part : Part) (p n : ℕ) → KnowBoth w → two_wanted (2 ^ bits) (bucket bits) from to w part ≡ Some p → cells p ≡ n
-      → KnowBoth (two_fed (2 ^ bits) (bucket bits) from to b w part n)
-  know_fed w OnFirst p n known want is =
-      let first = first_fed (2 ^ bits) (bucket bits) from to b w.first n in (
-        knows_read bits few cells on rank chains b (Del from) w.first p n want is known.0,
-        second_begins (after_first (2 ^ bits) (bucket bits) from to first.stage) first,
-      )
-  know_fed w OnSecond p n known want is = (known.0, knows_read bits few cells on rank chains b (Get to) w.second p n want is known.1)
-  know_fed w AtLower p n known want is = known
-  know_fed w AtHigher p n known want is = known
-  know_fed w AtBoth p n known want is = known
-  know_fed w Stopped p n known want is = known
-
-  both_known : (readings : Readings) → AreRead cells readings → KnowBoth (two_walk (2 ^ bits) (bucket bits) from to b two_start readings)
-  both_known readings read = two_each (2 ^ bits) (bucket bits) from to b readings KnowBoth
-      (λ w p n i known want at. know_fed w w.part p n known want (read i p n at)) two_start readings (λ i p n at. (i, at)) (tt, tt)
 
 module _ (bits slots request : ℕ) (memory : PlainMemory) (pairs : Pairs) (from to : ℕ) (thunk : Thunk) (contents : HasContents bits slots memory pairs) (numbers : HasSmallNumbers (Mov from to)) (walked : IsWalked bits memory (Mov from to) thunk) (unspent : IsUnspent bits memory thunk) where
   abbrev cells : ℕ → ℕ
@@ -518,9 +482,9 @@ module _ (bits slots request : ℕ) (memory : PlainMemory) (pairs : Pairs) (from
           (made_same (thunk.lock + 1) (let at = low_place in let low = l_low in omega (arith, at, low)))
           (made_same (higher_lock thunk + 1) (let at = high_place in let low = k_low in omega (arith, at, low)))
           (λ e. no_head buckets (bucket bits) small slots cells (get pairs) stands.on stands.rank holds i j p (small to) apart link_here (sym target_is ∙ e))
-          (λ e. link_apart bits buckets cells stands.on i l l_low p link_here (sym low_place ∙ e))
+          (λ e. no_edition buckets (bucket bits) small slots cells (get pairs) stands.on stands.rank holds i l p l_low link_here (sym low_place ∙ e))
           (λ e. let first = low_place in let second = target_is in omega (arith, e, first, second))
-          (λ e. link_apart bits buckets cells stands.on i k k_low p link_here (sym high_place ∙ e))
+          (λ e. no_edition buckets (bucket bits) small slots cells (get pairs) stands.on stands.rank holds i k p k_low link_here (sym high_place ∙ e))
           (λ e. let first = high_place in let second = target_is in omega (arith, e, first, second))
           (λ e. two_apart (nat_lt i j) i j apart (let first = low_place in let second = high_place in omega (arith, e, first, second)))
           ∙ (λ z. upd (upd (upd (upd (made (3 * buckets)) p off) (target_is z) in_head) (low_place z) low_word) (high_place z) high_word))
@@ -539,76 +503,76 @@ module _ (bits slots request : ℕ) (memory : PlainMemory) (pairs : Pairs) (from
             contents = subst Left (sym (ends.left ∙ written))
                 (moved_stands free (low_half thunk 6) (high_half thunk 6) (high_half thunk 5) p has_key has_value next_low is_link off in_head low_word high_word apart
                 (value-next_word (cells p) (low_half thunk 5) (subst (λ n. n < 2 ^ 32) (sym off_is) next_small) ∙ off_is)
-                (link_is (cells (target_lock thunk + 2)) (slice_index memory.free 0) free.linked) first_is);
+                (link_to (cells (target_lock thunk + 2)) (slice_index memory.free 0) free.linked) first_is);
           })
 
     -- within its bucket
     module _ (is : one ≡ true) (makes : Makes thunk → IsOut bits slots memory pairs contents) where
-      its_number : thunk.form ≡ 23
-      its_number = numbered true true is goes
+      rename_number : thunk.form ≡ 23
+      rename_number = numbered true true is goes
 
-      its_slot : IsOut bits slots memory pairs contents
-      its_slot = makes (inr (inr its_number))
+      rename_free : IsOut bits slots memory pairs contents
+      rename_free = makes (inr (inr rename_number))
 
-      its_link : operand thunk 1 ≡ w.first.place
-      its_link = number_at 1 true true is goes
+      rename_link : operand thunk 1 ≡ w.first.place
+      rename_link = number_at 1 true true is goes
 
-      its_next : operand thunk 3 ≡ w.first.next
-      its_next = number_at 3 true true is goes
+      rename_next : operand thunk 3 ≡ w.first.next
+      rename_next = number_at 3 true true is goes
 
-      its_key : operand thunk 4 ≡ to
-      its_key = number_at 4 true true is goes
+      rename_key : operand thunk 4 ≡ to
+      rename_key = number_at 4 true true is goes
 
-      its_value : operand thunk 5 ≡ w.first.value
-      its_value = number_at 5 true true is goes
+      rename_value : operand thunk 5 ≡ w.first.value
+      rename_value = number_at 5 true true is goes
 
-      its_low : operand thunk 3 < 2 ^ 32
-      its_low = subst (λ n. n < 2 ^ 32) (sym its_next) next_small
+      rename_low : operand thunk 3 < 2 ^ 32
+      rename_low = subst (λ n. n < 2 ^ 32) (sym rename_next) next_small
 
       rename_fits : fits_rename thunk ≡ true
-      rename_fits = (λ z. small_is (thunk.lock + 2) lock_small z && (small_is (operand thunk 1) (subst (λ n. n < 2 ^ 32) (sym its_link) place_small) z
+      rename_fits = (λ z. small_is (thunk.lock + 2) lock_small z && (small_is (operand thunk 1) (subst (λ n. n < 2 ^ 32) (sym rename_link) place_small) z
           && (small_is (operand thunk 2) (subst (λ n. n < 2 ^ 32) (sym (number_at 2 true true is goes)) fit.slot_small) z
-          && (small_is (operand thunk 3) its_low z && (small_is (operand thunk 4) (subst (λ n. n < 2 ^ 32) (sym its_key) to_small) z
-          && small_is (operand thunk 5) (subst (λ n. n < 2 ^ 32) (sym its_value) fit.value_small) z)))))
+          && (small_is (operand thunk 3) rename_low z && (small_is (operand thunk 4) (subst (λ n. n < 2 ^ 32) (sym rename_key) to_small) z
+          && small_is (operand thunk 5) (subst (λ n. n < 2 ^ 32) (sym rename_value) fit.value_small) z)))))
 
-      its_form : form_of true thunk ≡ Renames
-      its_form = formed Renames its_number rename_fits
+      rename_form : form_of true thunk ≡ Renames
+      rename_form = formed Renames rename_number rename_fits
 
-      its_place : thunk.lock + 1 ≡ bucket_edition l
-      its_place = ap (λ lock. lock + 1) lock_is
+      rename_place : thunk.lock + 1 ≡ bucket_edition l
+      rename_place = ap (λ lock. lock + 1) lock_is
 
       abbrev in_link : ℕ
       in_link = next_word (cells (operand thunk 1)) (value_of (slice_index memory.free 0 + 1))
 
-      abbrev its_word : ℕ
-      its_word = next_word (cells (thunk.lock + 1)) 0
+      abbrev rename_word : ℕ
+      rename_word = next_word (cells (thunk.lock + 1)) 0
 
-      abbrev with_new : ℕ → ℕ → ℕ
-      with_new fixed = made_cells cells fixed (slice_index memory.free 0) (operand thunk 4) (operand thunk 5) (operand thunk 3)
+      abbrev rename_made : ℕ → ℕ → ℕ
+      rename_made fixed = made_cells cells fixed (slice_index memory.free 0) (operand thunk 4) (operand thunk 5) (operand thunk 3)
 
-      its_chain : IsLinkOf buckets (bucket bits) cells stands.on i (operand thunk 1)
-      its_chain = link its_slot (operand thunk 4) (operand thunk 5) (operand thunk 3) (operand thunk 1) its_key its_value its_low its_link
+      rename_chain : IsLinkOf buckets (bucket bits) cells stands.on i (operand thunk 1)
+      rename_chain = link rename_free (operand thunk 4) (operand thunk 5) (operand thunk 3) (operand thunk 1) rename_key rename_value rename_low rename_link
 
-      renamed_written : renamed_cells (plain_setting (rename_steps thunk) (true ∷ []) memory) cells memory.clock (slice_index memory.stamps request) (slice_index memory.replies request) thunk
-          ≡ upd (upd (with_new (3 * buckets)) (operand thunk 1) in_link) (bucket_edition l) its_word
-      renamed_written =
-          ap (λ fixed. exchanged (exchanged (with_new fixed) (operand thunk 1) (cells (operand thunk 1)) in_link) (thunk.lock + 1) (cells (thunk.lock + 1)) its_word) contents.fixed
-          ∙ (exchanges_write (with_new (3 * buckets)) (operand thunk 1) (thunk.lock + 1) (cells (operand thunk 1)) in_link (cells (thunk.lock + 1)) its_word
-          (link_same its_slot (operand thunk 4) (operand thunk 5) (operand thunk 3) (operand thunk 1) its_key its_value its_low its_link).1
-          (fixed_same its_slot (operand thunk 4) (operand thunk 5) (operand thunk 3) (operand thunk 1) its_key its_value its_low its_link (thunk.lock + 1) (let at = its_place in let low = l_low in omega (arith, at, low)))
-          (λ e. link_apart bits buckets cells stands.on i l l_low (operand thunk 1) its_chain (sym its_place ∙ e))
-          ∙ ap (λ place. upd (upd (with_new (3 * buckets)) (operand thunk 1) in_link) place its_word) its_place)
+      rename_written : renamed_cells (plain_setting (rename_steps thunk) (true ∷ []) memory) cells memory.clock (slice_index memory.stamps request) (slice_index memory.replies request) thunk
+          ≡ upd (upd (rename_made (3 * buckets)) (operand thunk 1) in_link) (bucket_edition l) rename_word
+      rename_written =
+          ap (λ fixed. exchanged (exchanged (rename_made fixed) (operand thunk 1) (cells (operand thunk 1)) in_link) (thunk.lock + 1) (cells (thunk.lock + 1)) rename_word) contents.fixed
+          ∙ (exchanges_write (rename_made (3 * buckets)) (operand thunk 1) (thunk.lock + 1) (cells (operand thunk 1)) in_link (cells (thunk.lock + 1)) rename_word
+          (link_same rename_free (operand thunk 4) (operand thunk 5) (operand thunk 3) (operand thunk 1) rename_key rename_value rename_low rename_link).1
+          (fixed_same rename_free (operand thunk 4) (operand thunk 5) (operand thunk 3) (operand thunk 1) rename_key rename_value rename_low rename_link (thunk.lock + 1) (let at = rename_place in let low = l_low in omega (arith, at, low)))
+          (λ e. no_edition buckets (bucket bits) small slots cells (get pairs) stands.on stands.rank holds i l (operand thunk 1) l_low rename_chain (sym rename_place ∙ e))
+          ∙ ap (λ place. upd (upd (rename_made (3 * buckets)) (operand thunk 1) in_link) place rename_word) rename_place)
 
       rename_case : Does (two_steps thunk)
       rename_case =
-          let fresh = unspent.rename its_number in
+          let fresh = unspent.rename rename_number in
           let ends = rename_run (plain_setting (rename_steps thunk) (true ∷ []) memory) cells memory.clock (slice_index memory.stamps request) (slice_index memory.replies request) thunk
-          (half_edition (rename_half thunk) (has_of Renames its_form (rename_half thunk) (0, omega arith, refl))) fresh.edition fresh.link in
-          subst Does (sym (body Renames its_form)) (record {
+          (half_edition (rename_half thunk) (has_of Renames rename_form (rename_half thunk) (0, omega arith, refl))) fresh.edition fresh.link in
+          subst Does (sym (body Renames rename_form)) (record {
             answer = ends.answered ∙ moved_answer;
-            contents = subst Left (sym (ends.left ∙ renamed_written))
-                (renamed_stands its_slot (operand thunk 4) (operand thunk 5) (operand thunk 3) (operand thunk 1) its_key its_value its_low its_link in_link its_word
-                (tested_equal i j is) (link_is (cells (operand thunk 1)) (slice_index memory.free 0) its_slot.linked) its_next);
+            contents = subst Left (sym (ends.left ∙ rename_written))
+                (renamed_stands rename_free (operand thunk 4) (operand thunk 5) (operand thunk 3) (operand thunk 1) rename_key rename_value rename_low rename_link in_link rename_word
+                (tested_equal i j is) (link_to (cells (operand thunk 1)) (slice_index memory.free 0) rename_free.linked) rename_next);
           })
 
   mov_case : (Makes thunk → IsOut bits slots memory pairs contents) → Does (two_steps thunk)

@@ -58,20 +58,13 @@ use Rattle.tree_laws.proofs.WalkReads.{is_past, is_late, is_marked, is_locked, I
 use Rattle.plain_laws.specs.TreeRuns.{HasContents, IsWalked, IsUnspent, IsOut, AreOut, DoesTheOperation}
 use Rattle.plain_laws.specs.TreeRuns.{RunsDoTheOperations}
 use Rattle.plain_laws.proofs.Walks.{IsLink, Ended, walk_ends}
-use Rattle.plain_laws.proofs.Forms.{is_got}
+use Rattle.plain_laws.proofs.Forms.{small_is, exchange_writes, is_got}
 use Rattle.plain_laws.proofs.TreeForms.{Passes, leaf_values, inner_values, inner_for, insert_with, inserted_cells}
 use Rattle.plain_laws.proofs.TreeForms.{removed_cells, replaced_cells, look_run, insert_run, delete_run, replace_run}
 use Rattle.plain_laws.proofs.Filled.{filled, filled_inner, filled_leaf, filled_other, filled_one, one_own, one_other}
 
-small_is : (n : ℕ) → n < 2 ^ 32 → is_small n ≡ true
-small_is n low = grind (arith, nat_tests)
-
 some_is : (n : ℕ) → 0 < n → nat_lt 0 n ≡ true
 some_is n low = grind (arith, nat_tests)
-
--- an exchange from what stands there writes
-exchange_writes : (cells : ℕ → ℕ) (p old new : ℕ) → cells p ≡ old → exchanged cells p old new ≡ upd cells p new
-exchange_writes cells p old new same = ap (λ c. upd cells p (cond c new (cells p))) (eq_true (cells p) old same)
 
 -- one value of a function that is true changes to true
 upd_true : (f : ℕ → Bool) (x u : ℕ) → f u ≡ true → upd f x true u ≡ true
