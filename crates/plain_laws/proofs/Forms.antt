@@ -1,6 +1,6 @@
 -- The runs of the hash table's four bodies, and what the runs of all bodies have in common.
 use Rattle.std.proofs.Common.{◌≡◌, ◌≢◌, ℕ, ◌+◌, ◌*◌, ◌<◌, List, [], ◌∷◌, refl, sym, ap, ◌∙◌, subst, Some, None}
-use Rattle.std.specs.Prelude.{true, false, cond, not, ◌==◌, ◌^◌, slice_index}
+use Rattle.std.specs.Prelude.{Bool, true, false, cond, not, ◌==◌, ◌^◌, slice_index}
 use Rattle.std.proofs.lemmas.Bool.{and_from}
 use Rattle.structure_laws.specs.table_words.specs.small_lemmas.proofs.Numbers.{equal_tested, other_tested, less_tested}
 use Rattle.structure_laws.specs.body_terms.specs.Update.{upd}
@@ -16,6 +16,8 @@ use Rattle.structure_laws.specs.body_terms.specs.declared.micro.Micro.{Micro}
 use Rattle.structure_laws.specs.body_terms.specs.declared.micro.Micro.TheVariants.{LoadCell, Commit, CheckFresh, PrivateLoad, PrivateStore, MakeCommit, ClockLoad, StampExchange, ClockRaise, ExchangeCell, EpochForRetire, RetireCommit, ReplyExchange}
 use Rattle.structure_laws.specs.body_terms.specs.declared.thunk.Thunk.{Thunk}
 use Rattle.structure_laws.proofs.Changes.{upd_other}
+use Rattle.tree_laws.specs.bucket_laws.specs.Halves.{Form, form_of, steps_of, steps}
+use Rattle.tree_laws.specs.bucket_laws.proofs.Halves.{steps_are}
 use Rattle.plain_laws.proofs.Filled.{five}
 
 -- a number below 2 ^ 32 fits
@@ -30,6 +32,10 @@ exchange_writes cells p old new same = ap (λ c. upd cells p (cond c new (cells 
 pub exchanges_write : (cells : ℕ → ℕ) (p q old new was now : ℕ) → cells p ≡ old → cells q ≡ was → q ≢ p → exchanged (exchanged cells p old new) q was now ≡ upd (upd cells p new) q now
 exchanges_write cells p q old new was now first second apart =
     ap (λ f. exchanged f q was now) (exchange_writes cells p old new first) ∙ exchange_writes (upd cells p new) q was now (upd_other cells p q new apart ∙ second)
+
+-- the body of a thunk of this form
+pub body_of : (two : Bool) (f : Form) (t : Thunk) → form_of two t ≡ f → steps two t ≡ steps_of f t
+body_of two f t is = steps_are two t ∙ ap (λ f. steps_of f t) is
 
 -- the check of a Want passes where the word is the wanted one
 pub word_passes : (place word read : ℕ) → read ≡ word → cond (read == word) None (Some (Stale place word read)) ≡ None

@@ -1,8 +1,7 @@
 -- The law of the plain runs.
-use Rattle.std.proofs.Common.{◌≡◌, ◌≢◌, ℕ, suc, ◌+◌, ◌*◌, ◌<◌, ◌≤◌, Bool, true, false, cond, List, [], refl, sym, ap, ◌∙◌, subst, inl, ⊎_elim, arith, Some, None, Option}
-use Rattle.std.specs.Prelude.{◌==◌, ◌&&◌, ◌^◌, slice_index}
+use Rattle.std.proofs.Common.{◌≡◌, ◌≢◌, ℕ, suc, ◌+◌, ◌*◌, ◌<◌, ◌≤◌, Bool, true, false, List, [], refl, sym, ap, ◌∙◌, subst, inl, ⊎_elim, arith, Some, None, Option}
+use Rattle.std.specs.Prelude.{◌&&◌, ◌^◌, slice_index}
 use Rattle.std.specs.FinMap.{get}
-use Rattle.structure_laws.specs.table_words.specs.small_lemmas.proofs.Numbers.{equal_tested as equal_number, other_tested as other_number}
 use Rattle.structure_laws.specs.map_history.specs.declared.op.Op.{Op}
 use Rattle.structure_laws.specs.map_history.specs.declared.op.Op.TheVariants.{Put}
 use Rattle.structure_laws.specs.map_history.specs.Keys.{key_of, value_given}
@@ -10,7 +9,7 @@ use Rattle.structure_laws.specs.map_history.specs.Replay.{Pairs, map_after}
 use Rattle.structure_laws.specs.body_terms.specs.Update.{upd}
 use Rattle.structure_laws.specs.body_terms.specs.Word.{value_of, next_word}
 use Rattle.structure_laws.specs.body_terms.specs.Memory.{PlainMemory}
-use Rattle.tree_laws.specs.section_body.specs.Bucket.{bucket_edition, bucket_head, operand, fits_read, fits_insert, fits_remove, read_steps, insert_steps, remove_steps, bucket_steps}
+use Rattle.tree_laws.specs.section_body.specs.Bucket.{bucket_edition, bucket_head, operand, fits_read, fits_insert, fits_remove, read_steps, insert_steps, remove_steps}
 use Rattle.tree_laws.specs.bucket_laws.specs.bucket_bodies.specs.Table.{fits_set, set_steps, table_steps}
 use Rattle.structure_laws.specs.body_terms.specs.Run.{exchanged}
 use Rattle.structure_laws.specs.body_terms.specs.Plain.{plain_setting, plain_run}
@@ -21,47 +20,19 @@ use Rattle.structure_laws.proofs.Changes.{value-next_word, value_small}
 use Rattle.tree_laws.specs.bucket_laws.specs.Walk.{Walk, AtEdition, AtEnd, start, walk, is_del, cell_at, form_for}
 use Rattle.tree_laws.specs.bucket_laws.specs.Buckets.{BucketsStand, Knows, IsLinkOf, IsFound}
 use Rattle.tree_laws.specs.bucket_laws.proofs.Elsewhere.{edition_seen}
+use Rattle.tree_laws.specs.bucket_laws.specs.Halves.{Form, Reads, Inserts, Removes, Sets, steps_of}
+use Rattle.tree_laws.specs.bucket_laws.proofs.Halves.{IsOverTwo, number_of, fits_for, form_is}
 use Rattle.tree_laws.specs.bucket_laws.proofs.Fit.{IsFit, PutsIn, fit_of, puts_given, insert_operands, remove_operands, set_operands}
 use Rattle.tree_laws.specs.bucket_laws.proofs.Maps.{read_reply, insert_reply, remove_reply, set_reply, read_map, insert_map, remove_map, set_map}
 use Rattle.tree_laws.specs.bucket_laws.proofs.TableLaws.{form_cases, buckets_few}
 use Rattle.plain_laws.specs.Runs.{cells_of, HasSmallNumbers, bucket, HasContents, IsWalked, IsUnspent, IsOut, DoesTheOperation, RunsDoTheOperations}
 use Rattle.plain_laws.proofs.Follows.{within, follows}
-use Rattle.plain_laws.proofs.Forms.{small_is, exchanges_write, inserted_cells, removed_cells, set_cells, read_run, insert_run, remove_run, set_run}
+use Rattle.plain_laws.proofs.Forms.{small_is, body_of, exchanges_write, inserted_cells, removed_cells, set_cells, read_run, insert_run, remove_run, set_run}
 use Rattle.plain_laws.proofs.Table.{Holds, holds_of, stands_by, key_at, value_at, next_at, made_cells, made_holds, fixed_stays, made_key, made_value, made_next}
 use Rattle.plain_laws.proofs.Table.{link_to, no_edition, edition_holds, put_holds, removed_holds, set_holds, found_on, found_is, missing_is}
 
 all_true : (a b c d : Bool) → a ≡ true → b ≡ true → c ≡ true → d ≡ true → (a && (b && (c && d))) ≡ true
 all_true a b c d p q r t = rw (p, q, r, t) refl
-
--- the body of each form
-kept_body : (t : Thunk) → t.form ≢ 4 → table_steps t ≡ bucket_steps t
-kept_body t ne = ap (λ b. cond b (cond (fits_set t) (set_steps t) []) (bucket_steps t)) (other_number t.form 4 ne)
-
-set_body : (t : Thunk) → t.form ≡ 4 → fits_set t ≡ true → table_steps t ≡ set_steps t
-set_body t form fits = ap (λ b. cond b (cond (fits_set t) (set_steps t) []) (bucket_steps t)) (equal_number t.form 4 form) ∙ ap (λ b. cond b (set_steps t) []) fits
-
-read_body : (t : Thunk) → t.form ≡ 1 → fits_read t ≡ true → bucket_steps t ≡ read_steps t
-read_body t form fits = ap (λ b. cond b (cond (fits_read t) (read_steps t) []) (cond (t.form == 2) (cond (fits_insert t) (insert_steps t) []) (cond (t.form == 3) (cond (fits_remove t) (remove_steps t) []) []))) (equal_number t.form 1 form) ∙ ap (λ b. cond b (read_steps t) []) fits
-
-insert_body : (t : Thunk) → t.form ≡ 2 → fits_insert t ≡ true → bucket_steps t ≡ insert_steps t
-insert_body t form fits =
-    ap (λ b. cond b (cond (fits_read t) (read_steps t) []) (cond (t.form == 2) (cond (fits_insert t) (insert_steps t) []) (cond (t.form == 3) (cond (fits_remove t) (remove_steps t) []) []))) (other_number t.form 1 (λ e. apart t.form form e))
-    ∙ (ap (λ b. cond b (cond (fits_insert t) (insert_steps t) []) (cond (t.form == 3) (cond (fits_remove t) (remove_steps t) []) [])) (equal_number t.form 2 form) ∙ ap (λ b. cond b (insert_steps t) []) fits)
-  where
-    apart : (n : ℕ) → n ≡ 2 → n ≡ 1 → ⊥
-    apart n e f = omega arith
-
-remove_body : (t : Thunk) → t.form ≡ 3 → fits_remove t ≡ true → bucket_steps t ≡ remove_steps t
-remove_body t form fits =
-    ap (λ b. cond b (cond (fits_read t) (read_steps t) []) (cond (t.form == 2) (cond (fits_insert t) (insert_steps t) []) (cond (t.form == 3) (cond (fits_remove t) (remove_steps t) []) []))) (other_number t.form 1 (λ e. apart_1 t.form form e))
-    ∙ (ap (λ b. cond b (cond (fits_insert t) (insert_steps t) []) (cond (t.form == 3) (cond (fits_remove t) (remove_steps t) []) [])) (other_number t.form 2 (λ e. apart_2 t.form form e))
-    ∙ (ap (λ b. cond b (cond (fits_remove t) (remove_steps t) []) []) (equal_number t.form 3 form) ∙ ap (λ b. cond b (remove_steps t) []) fits))
-  where
-    apart_1 : (n : ℕ) → n ≡ 3 → n ≡ 1 → ⊥
-    apart_1 n e f = omega arith
-
-    apart_2 : (n : ℕ) → n ≡ 3 → n ≡ 2 → ⊥
-    apart_2 n e f = omega arith
 
 -- the place of a link is small
 pub link_place : (bits slots : ℕ) (memory : PlainMemory) (pairs : Pairs) (contents : HasContents bits slots memory pairs) (i : ℕ) → i < 2 ^ bits → (p : ℕ)
@@ -132,6 +103,10 @@ module _ (bits slots request : ℕ) (memory : PlainMemory) (pairs : Pairs) (op :
   abbrev Does : List Step → Type 0
   Does steps = DoesTheOperation bits slots pairs op (plain_run steps request memory got)
 
+  -- the body of the thunk's form
+  body : (f : Form) → (IsOverTwo f → ⊥) → form_for op x.found ≡ number_of f → fits_for f thunk ≡ true → table_steps thunk ≡ steps_of f thunk
+  body f one number fits = body_of false f thunk (form_is false f thunk (λ two. absurd (one two)) (fit.form ∙ number) fits)
+
   abbrev Left : (ℕ → ℕ) → Type 0
   Left left = BucketsStand (2 ^ bits) (bucket bits) slots left (map_after pairs op)
 
@@ -140,7 +115,7 @@ module _ (bits slots request : ℕ) (memory : PlainMemory) (pairs : Pairs) (op :
   read_case form =
       let fits : fits_read thunk ≡ true = small_is (thunk.lock + 1) (let at = fit.lock in let low = own_low in let most = few in omega arith) in
       let ends = read_run (plain_setting (read_steps thunk) got memory) cells memory.clock (slice_index memory.stamps request) (slice_index memory.replies request) thunk wanted in
-      subst Does (sym (kept_body thunk (λ four. let own = fit.form ∙ form in omega arith) ∙ read_body thunk (fit.form ∙ form) fits)) (record {
+      subst Does (sym (body Reads (λ two. two) form fits)) (record {
         answer = ends.answered ∙ ap (λ n. Some (Answered n)) (ap (λ ns. slice_index ns 1) fit.operands ∙ read_reply (2 ^ bits) pairs op x x.found form looks_found looks_missing);
         contents = subst Left (sym ends.left) (stands_by (2 ^ bits) (bucket bits) small slots cells (get pairs) stands.on stands.rank (map_after pairs op) holds
             (read_map pairs op x.value x.found form looks_found looks_missing));
@@ -221,7 +196,7 @@ module _ (bits slots request : ℕ) (memory : PlainMemory) (pairs : Pairs) (op :
         ∙ exchanges_write filled (thunk.lock + 2) (thunk.lock + 1) (cells (thunk.lock + 2)) link_word (cells (thunk.lock + 1)) edition_word
         (stays (thunk.lock + 2) (let at = fit.lock in let low = own_low in omega arith)) (stays (thunk.lock + 1) (let at = fit.lock in let low = own_low in omega arith)) (λ e. omega arith)
         ∙ (λ i. upd (upd filled (head_place i) link_word) (edition_place i) edition_word) in
-        subst Does (sym (kept_body thunk (λ four. let own = fit.form ∙ form in omega arith) ∙ insert_body thunk (fit.form ∙ form) fits)) (record {
+        subst Does (sym (body Inserts (λ two. two) form fits)) (record {
           answer = ends.answered ∙ ap (λ n. Some (Answered n)) (insert_reply pairs op x.found form none);
           contents = subst Left (sym (ends.left ∙ written)) stands_after;
         })
@@ -277,7 +252,7 @@ module _ (bits slots request : ℕ) (memory : PlainMemory) (pairs : Pairs) (op :
         exchanges_write cells (operand thunk 1) (thunk.lock + 1) (cells (operand thunk 1)) new_link (cells (thunk.lock + 1)) new_edition refl refl
         (λ e. no_edition (2 ^ bits) (bucket bits) small slots cells (get pairs) stands.on stands.rank holds own own (operand thunk 1) own_low link (sym edition_place ∙ e))
         ∙ ap (λ p. upd (upd cells (operand thunk 1) new_link) p new_edition) edition_place in
-        subst Does (sym (kept_body thunk (λ four. let own = fit.form ∙ form in omega arith) ∙ remove_body thunk (fit.form ∙ form) removal_fits)) (record {
+        subst Does (sym (body Removes (λ two. two) form removal_fits)) (record {
           answer = ends.answered ∙ ap (λ n. Some (Answered n)) (remove_reply pairs op x.value removal.1.0 (looks_found removal.0));
           contents = subst Left (sym (ends.left ∙ written)) stands_left;
         })
@@ -329,7 +304,7 @@ module _ (bits slots request : ℕ) (memory : PlainMemory) (pairs : Pairs) (op :
         let written : set_cells (plain_setting (set_steps thunk) got memory) cells memory.clock (slice_index memory.stamps request) (slice_index memory.replies request) thunk ≡ set_left =
         exchanges_write cells (operand thunk 1) (thunk.lock + 1) (cells (operand thunk 1)) new_word (cells (thunk.lock + 1)) set_edition refl refl set_apart
         ∙ (λ i. upd (upd cells (setting.4 i) new_word) (edition_place i) set_edition) in
-        subst Does (sym (set_body thunk (fit.form ∙ form) set_fits)) (record {
+        subst Does (sym (body Sets (λ two. two) form set_fits)) (record {
           answer = ends.answered ∙ ap (λ n. Some (Answered n)) (setting.6 ∙ set_reply pairs op setting.1 setting.2 x.value setting.3 (looks_found setting.0));
           contents = subst Left (sym (ends.left ∙ written)) set_stands;
         })

@@ -33,13 +33,13 @@ use Rattle.tree_laws.specs.bucket_laws.specs.TwoWalk.{two_walk, moves, one_opera
 use Rattle.tree_laws.specs.bucket_laws.specs.Buckets.{BucketsStand, Knows, IsLinkOf, IsFound}
 use Rattle.tree_laws.specs.bucket_laws.proofs.Fit.{fit_of, form_few}
 use Rattle.tree_laws.specs.bucket_laws.proofs.HalfFit.{OpFit, TwoFit, two_fit_of, mov_fit, two_answer, not_true}
-use Rattle.tree_laws.specs.bucket_laws.proofs.Halves.{number_of, fits_for, form_is, steps_are}
+use Rattle.tree_laws.specs.bucket_laws.proofs.Halves.{number_of, fits_for, form_is}
 use Rattle.tree_laws.specs.bucket_laws.proofs.Maps.{still_moved, moved_reply, moved_map}
 use Rattle.tree_laws.specs.bucket_laws.proofs.TableLaws.{buckets_few}
 use Rattle.tree_laws.specs.bucket_laws.proofs.TwoWalks.{side_seen}
 use Rattle.plain_laws.specs.Runs.{cells_of, HasSmallNumbers, bucket, HasContents, IsOut, DoesTheOperation}
 use Rattle.plain_laws.specs.MoveRuns.{IsWalked, IsUnspent, Makes, RunsDoTheOperations}
-use Rattle.plain_laws.proofs.Forms.{small_is, exchanges_write, is_got, read_run}
+use Rattle.plain_laws.proofs.Forms.{small_is, body_of, exchanges_write, is_got, read_run}
 use Rattle.plain_laws.proofs.MoveForms.{moved_cells, renamed_cells, look_two_run, move_run, rename_run}
 use Rattle.plain_laws.proofs.Follows.{within, KnowBoth, both_known}
 use Rattle.plain_laws.proofs.Law.{link_place, runs_do}
@@ -189,7 +189,7 @@ module _ (bits slots request : ℕ) (memory : PlainMemory) (pairs : Pairs) (from
   formed f number fits = form_is true f thunk (λ is. refl) number fits
 
   body : (f : Form) → form_of true thunk ≡ f → two_steps thunk ≡ steps_of f thunk
-  body f is = steps_are true thunk ∙ ap (λ f. steps_of f thunk) is
+  body f is = body_of true f thunk is
 
   -- and the operands
   number_at : (n : ℕ) (c d : Bool) → one ≡ c → m ≡ d → operand thunk n ≡ slice_index (cond c (one_operands buckets (bucket bits) from to w d) (both_operands buckets (bucket bits) from to w d)) n
