@@ -3,7 +3,10 @@ use Rattle.std.proofs.Common.{◌≡◌, ◌≢◌, ℕ, zero, suc, ◌<◌, ref
 use Rattle.structure_laws.specs.body_terms.specs.Update.{upd}
 use Rattle.structure_laws.specs.body_terms.specs.Memory.{cell_of}
 use Rattle.structure_laws.proofs.Changes.{upd_same, upd_other}
-use Rattle.plain_laws.proofs.TreeForms.{five}
+
+-- five cells of a slot get these words
+abbrev pub five : (ℕ → ℕ) → (ℕ → ℕ) → (ℕ → ℕ) → ℕ → ℕ
+five f place word = upd (upd (upd (upd (upd f (place 0) (word 0)) (place 1) (word 1)) (place 2) (word 2)) (place 3) (word 3)) (place 4) (word 4)
 
 module _ (f place word : ℕ → ℕ) where
   abbrev one : ℕ → ℕ
@@ -48,6 +51,10 @@ module _ (cells : ℕ → ℕ) (fixed f : ℕ) (leaf : ℕ → ℕ) where
 
   pub one_own : (cell : ℕ) → cell < 5 → filled_one (cell_of fixed f cell) ≡ leaf cell
   one_own cell low = five_at cells (cell_of fixed f) leaf (slot_apart fixed f) cell low
+
+  -- a fixed cell
+  pub one_low : (p : ℕ) → p < fixed → filled_one p ≡ cells p
+  one_low p low = five_other cells (cell_of fixed f) leaf p (λ other less e. omega (arith, low, e))
 
   pub one_other : (s cell : ℕ) → cell < 5 → s ≢ f → filled_one (cell_of fixed s cell) ≡ cells (cell_of fixed s cell)
   one_other s cell low ne = five_other cells (cell_of fixed f) leaf (cell_of fixed s cell)

@@ -1,6 +1,10 @@
+mod Filled
 pub mod Forms
-pub mod Law
+mod Table
+mod Follows
 mod Walks
 mod TreeForms
-mod Filled
+pub mod Law
 mod TreeLaw
+mod MoveForms
+mod MoveLaw

@@ -1,13 +1,11 @@
 -- The runs of the search tree's four bodies.
-use Rattle.std.proofs.Common.{◌≡◌, ◌≢◌, ℕ, ◌+◌, ◌*◌, Bool, true, false, cond, List, [], ◌∷◌, refl, sym, ap, subst, Some, None}
-use Rattle.std.specs.Prelude.{◌==◌, ◌^◌, slice_index}
-use Rattle.structure_laws.specs.body_terms.specs.Update.{upd}
-use Rattle.structure_laws.specs.body_terms.specs.Word.{value_of, version_of, next_word, held_word}
+use Rattle.std.proofs.Common.{◌≡◌, ◌≢◌, ℕ, ◌+◌, ◌*◌, Bool, true, false, List, [], ◌∷◌, refl, sym, subst, None}
+use Rattle.std.specs.Prelude.{◌^◌, slice_index}
+use Rattle.structure_laws.specs.body_terms.specs.Word.{value_of, version_of, next_word}
 use Rattle.structure_laws.specs.body_terms.specs.Memory.{cell_of}
 use Rattle.tree_laws.specs.section_body.specs.Bucket.{operand}
 use Rattle.structure_laws.specs.body_terms.specs.Line.{line}
-use Rattle.structure_laws.specs.body_terms.specs.Run.{Setting, Run, ran, exchanged, is_takable, refusal}
-use Rattle.structure_laws.specs.body_terms.specs.declared.outcome.Outcome.TheVariants.{Busy}
+use Rattle.structure_laws.specs.body_terms.specs.Run.{Setting, Run, ran, exchanged}
 use Rattle.structure_laws.specs.body_terms.specs.declared.micro.Source.TheVariants.{Fixed, Agreed}
 use Rattle.structure_laws.specs.body_terms.specs.declared.micro.Micro.{Micro}
 use Rattle.structure_laws.specs.body_terms.specs.declared.micro.Micro.TheVariants.{LoadCell, Commit, CheckWord, CheckFresh, NestedLoad, NestedCommit, CheckFree, NestedHold, OutcomeLoad, OutcomeCommit, CheckHeld, PrivateLoad, PrivateStore, MakeCommit, ClockLoad, StampExchange, ClockRaise, ExchangeCell, EpochForRetire, RetireCommit, ReplyExchange}
@@ -16,14 +14,11 @@ use Rattle.structure_laws.specs.body_terms.specs.declared.step.Step.TheVariants.
 use Rattle.structure_laws.specs.body_terms.specs.declared.value.Init.{Init}
 use Rattle.structure_laws.specs.body_terms.specs.declared.value.Value.TheVariants.{Const, Made}
 use Rattle.structure_laws.specs.body_terms.specs.declared.thunk.Thunk.{Thunk}
-use Rattle.plain_laws.proofs.Forms.{Ends, word_passes, fresh_passes}
+use Rattle.plain_laws.proofs.Filled.{five}
+use Rattle.plain_laws.proofs.Forms.{Ends, IsGot, word_passes, fresh_passes, free_passes, held_passes}
 use Rattle.tree_laws.specs.tree_bodies.specs.Tree.{lock_of, mark_of, leaf_init, inner_with, parent_in, leaf_in}
 use Rattle.tree_laws.specs.tree_bodies.specs.Tree.{sibling_of}
 use Rattle.tree_laws.specs.tree_bodies.specs.Tree.{old_leaf, look_steps, delete_steps, replace_steps}
-
--- five cells of a slot get these words
-abbrev pub five : (ℕ → ℕ) → (ℕ → ℕ) → (ℕ → ℕ) → ℕ → ℕ
-five f place word = upd (upd (upd (upd (upd f (place 0) (word 0)) (place 1) (word 1)) (place 2) (word 2)) (place 3) (word 3)) (place 4) (word 4)
 
 -- the new inner node by the side of the new leaf, and the body with it
 abbrev pub inner_for : Bool → Thunk → Init
@@ -180,24 +175,13 @@ module _ (s : Setting) (cells : ℕ → ℕ) (clock stamp reply : ℕ) (t : Thun
     pub link : cells (operand t 0) ≡ operand t 1
     pub fresh_link : version_of (cells (operand t 0)) ≢ s.version_max
     pub mark : cells (t.lock + 4) ≡ operand t 2
-    pub open_lock : s.refused 2 ≡ false
-    pub takable : is_takable s (operand t 3) (s.taken 2) ≡ true
-    pub got : (s.taken 3 == held_word s.descriptor (operand t 3)) ≡ true
+    pub lock : IsGot s 2 (operand t 3)
     pub leaf : cells (operand t 4) ≡ operand t 5
     pub parent : cells (mark_of (parent_in t)) ≡ operand t 6
     pub fresh_parent : version_of (cells (mark_of (parent_in t))) ≢ s.version_max
 
   abbrev Removes : Run → Type 0
   Removes r = Ends (4 * 2 ^ 32) removed_cells r
-
-  free_passes : s.refused 2 ≡ false → is_takable s (operand t 3) (s.taken 2) ≡ true
-      → cond (s.refused 2) (Some (Busy (lock_of (parent_in t)) (s.taken 2))) (cond (is_takable s (operand t 3) (s.taken 2)) None (Some (refusal s (lock_of (parent_in t)) (operand t 3) (s.taken 2)))) ≡ None
-  free_passes unlocked takable =
-      (λ i. cond (unlocked i) (Some (Busy (lock_of (parent_in t)) (s.taken 2))) (cond (takable i) None (Some (refusal s (lock_of (parent_in t)) (operand t 3) (s.taken 2)))))
-
-  held_passes : (s.taken 3 == held_word s.descriptor (operand t 3)) ≡ true
-      → cond (s.taken 3 == held_word s.descriptor (operand t 3)) None (Some (refusal s (lock_of (parent_in t)) (operand t 3) (s.taken 3))) ≡ None
-  held_passes got = ap (λ b. cond b None (Some (refusal s (lock_of (parent_in t)) (operand t 3) (s.taken 3)))) got
 
   pub delete_run : Passes → Removes (ran s begun (line (delete_steps t)))
   delete_run passes =
@@ -208,9 +192,9 @@ module _ (s : Setting) (cells : ℕ → ℕ) (clock stamp reply : ℕ) (t : Thun
       (subst (λ o. Removes (ran s (record begun { trail = link ∷ mark ∷ []; outcome = o }) second))
       (sym (word_passes (t.lock + 4) (operand t 2) mark passes.mark))
       (subst (λ o. Removes (ran s (record begun { trail = link ∷ mark ∷ s.taken 2 ∷ []; outcome = o }) held))
-      (sym (free_passes passes.open_lock passes.takable))
+      (sym (free_passes s (lock_of (parent_in t)) 2 (operand t 3) passes.lock))
       (subst (λ o. Removes (ran s (record begun { trail = link ∷ mark ∷ s.taken 2 ∷ s.taken 3 ∷ []; outcome = o }) third))
-      (sym (held_passes passes.got))
+      (sym (held_passes s (lock_of (parent_in t)) 2 (operand t 3) passes.lock))
       (subst (λ o. Removes (ran s (record begun { trail = link ∷ mark ∷ s.taken 2 ∷ s.taken 3 ∷ leaf_link ∷ []; outcome = o }) fourth))
       (sym (word_passes (operand t 4) (operand t 5) leaf_link passes.leaf))
       (subst (λ o. Removes (ran s (record begun { trail = link ∷ mark ∷ s.taken 2 ∷ s.taken 3 ∷ leaf_link ∷ sibling ∷ parent_mark ∷ []; outcome = o }) fifth))

@@ -4,7 +4,7 @@ use Rattle.std.specs.Prelude.{◌==◌, ◌&&◌, ◌||◌, ◌-◌, ◌^◌, �
 use Rattle.std.specs.FinMap.{get, insert}
 use Rattle.std.proofs.lemmas.Bool.Decides.{nat_tests}
 use Rattle.std.proofs.lemmas.Bool.{cases_eq, and_from, both_ways}
-use Rattle.structure_laws.specs.table_words.specs.small_lemmas.proofs.Bools.{from_false as false_true}
+use Rattle.structure_laws.specs.table_words.specs.small_lemmas.proofs.Bools.{both_of}
 use Rattle.structure_laws.specs.table_words.specs.small_lemmas.proofs.Numbers.{equal_tested as eq_true, other_tested as eq_false}
 use Rattle.structure_laws.specs.map_history.specs.declared.op.Op.{Op}
 use Rattle.structure_laws.specs.map_history.specs.declared.op.Op.TheVariants.{Get, Ins, Del, Put, Mov}
@@ -13,7 +13,7 @@ use Rattle.structure_laws.specs.map_history.specs.Replay.{Pairs, map_after, repl
 use Rattle.structure_laws.specs.map_history.specs.Words.{word_of}
 use Rattle.structure_laws.specs.map_history.specs.declared.reply.Reply.TheVariants.{Gone, Absent}
 use Rattle.structure_laws.specs.body_terms.specs.Update.{upd}
-use Rattle.structure_laws.specs.body_terms.specs.Word.{value_of, next_word, held_word, is_free, is_spent}
+use Rattle.structure_laws.specs.body_terms.specs.Word.{value_of, next_word, is_free}
 use Rattle.structure_laws.specs.body_terms.specs.Memory.{PlainMemory, cell_of}
 use Rattle.tree_laws.specs.node_laws.proofs.Forms.{put_puts, there, reply_is, new_reply}
 use Rattle.tree_laws.specs.section_body.specs.Bucket.{operand, is_small}
@@ -58,19 +58,13 @@ use Rattle.tree_laws.proofs.WalkReads.{is_past, is_late, is_marked, is_locked, I
 use Rattle.plain_laws.specs.TreeRuns.{HasContents, IsWalked, IsUnspent, IsOut, AreOut, DoesTheOperation}
 use Rattle.plain_laws.specs.TreeRuns.{RunsDoTheOperations}
 use Rattle.plain_laws.proofs.Walks.{IsLink, Ended, walk_ends}
+use Rattle.plain_laws.proofs.Forms.{small_is, exchange_writes, is_got}
 use Rattle.plain_laws.proofs.TreeForms.{Passes, leaf_values, inner_values, inner_for, insert_with, inserted_cells}
 use Rattle.plain_laws.proofs.TreeForms.{removed_cells, replaced_cells, look_run, insert_run, delete_run, replace_run}
 use Rattle.plain_laws.proofs.Filled.{filled, filled_inner, filled_leaf, filled_other, filled_one, one_own, one_other}
 
-small_is : (n : ℕ) → n < 2 ^ 32 → is_small n ≡ true
-small_is n low = grind (arith, nat_tests)
-
 some_is : (n : ℕ) → 0 < n → nat_lt 0 n ≡ true
 some_is n low = grind (arith, nat_tests)
-
--- an exchange from what stands there writes
-exchange_writes : (cells : ℕ → ℕ) (p old new : ℕ) → cells p ≡ old → exchanged cells p old new ≡ upd cells p new
-exchange_writes cells p old new same = ap (λ c. upd cells p (cond c new (cells p))) (eq_true (cells p) old same)
 
 -- one value of a function that is true changes to true
 upd_true : (f : ℕ → Bool) (x u : ℕ) → f u ≡ true → upd f x true u ≡ true
@@ -895,21 +889,15 @@ module _ (slots request : ℕ) (memory : PlainMemory) (pairs : Pairs) (op : Op) 
     lock_word = number_at 3 gone_numbers
 
     lock_free : is_free (operand thunk 3) ≡ true
-    lock_free = ap is_free lock_word ∙ free_of (is_free w.lock) (is_spent walked.bounds.version_max w.lock) (reads.lock_ready (ap is_locked fit.stage))
-      where
-        free_of : (free spent : Bool) → (free && not spent) ≡ true → free ≡ true
-        free_of true spent e = refl
-        free_of false spent e = false_true e
+    lock_free = ap is_free lock_word ∙ (both_of (is_free w.lock) _ (reads.lock_ready (ap is_locked fit.stage))).0
 
     passes : Passes (plain_setting (delete_steps thunk) (true ∷ []) memory) cells memory.clock (slice_index memory.stamps request) (slice_index memory.replies request) thunk
     passes = record {
       link = ap cells (number_at 0 gone_numbers) ∙ (grand_there ∙ sym (number_at 1 gone_numbers));
       fresh_link = unspent.link (λ e. let form' = fit.form ∙ form in omega (arith, e, form'));
       mark = ap cells (place thunk.lock g delete_lock) ∙ (stood (mark_of g) w.grand_mark (reads.grand_mark_read (ap is_marked fit.stage) is_removal removes.2) ∙ sym (number_at 2 gone_numbers));
-      open_lock = refl;
-      takable = and_from (operand thunk 3 == operand thunk 3) _ (eq_true (operand thunk 3) (operand thunk 3) refl) (and_from (is_free (operand thunk 3)) (not (is_spent memory.version_max (operand thunk 3))) lock_free
-          (ap not (unspent.lock (fit.form ∙ form))));
-      got = eq_true (held_word 0 (operand thunk 3)) (held_word 0 (operand thunk 3)) refl;
+      lock = is_got (plain_setting (delete_steps thunk) (true ∷ []) memory) 2 (operand thunk 3) refl refl refl lock_free
+          (unspent.lock (fit.form ∙ form));
       leaf = ap cells (number_at 4 gone_numbers) ∙ (link_there ∙ sym (number_at 5 gone_numbers));
       parent = ap (λ s. cells (mark_of s)) parent_named ∙ (stood (mark_of p) w.mark (reads.mark_read fit.stage) ∙ sym (number_at 6 gone_numbers));
       fresh_parent = unspent.mark (fit.form ∙ form);
