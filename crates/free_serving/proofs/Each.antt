@@ -32,7 +32,7 @@ use Rattle.serving.proofs.Along.{along_begins, may_next}
 use Rattle.serving.proofs.Trying.{same_layout, same_requests}
 use Rattle.serving.proofs.Standing.{answered_more}
 use Rattle.serving.proofs.Tries.{or_none}
-use Rattle.free_serving.specs.Services.{is_get, is_refusal, met_alone, ByRead, HaltedRead, SpentRead, BothWays, UnderLock, IsEnd, IsReading, IsServing}
+use Rattle.free_serving.specs.Services.{is_get, is_refusal, ends_alone, ByRead, HaltedRead, SpentRead, BothWays, UnderLock, IsEnd, IsReading, IsServing}
 use Rattle.free_serving.specs.Left.{WasReadInVain}
 use Rattle.free_serving.specs.One.{ServesOne}
 use Rattle.free_serving.proofs.Same.{Same}
@@ -284,24 +284,32 @@ module _ {T : Type 0} (m : Meaning) (laws : Laws m) (planning : Planning) (retry
             few_asks;
       }
 
--- the runner is alone, and its read met this lock
-pub alone_met : (runners : ℕ) (answer : Read) (place word : ℕ) → met_alone runners answer ≡ Some (place, word)
-    → (runners ≡ 1) × (answer ≡ reads.Spent place word)
-alone_met runners (reads.Spent place word) place' word' some = by (runners == 1) refl some
+abbrev served_in : Option Served → Served
+served_in (Some served) = served
+served_in None = answers.Halted
+
+-- the runner is alone, its read met this lock, and the serving ended with it
+abbrev pub MetAlone : ℕ → Read → Served → Type 0
+MetAlone runners answer served = (place : ℕ) × (word : ℕ) × (runners ≡ 1) × (answer ≡ reads.Spent place word)
+    × (served ≡ answers.Spent place word)
+
+pub alone_met : (runners : ℕ) (answer : Read) (served : Served) → ends_alone runners answer ≡ Some served → MetAlone runners answer served
+alone_met runners (reads.Spent place word) served some = by (runners == 1) refl some
   where
-    by : (b : Bool) → (runners == 1) ≡ b → (if b then Some (place, word) else None) ≡ Some (place', word') → (runners ≡ 1) × (reads.Spent place word ≡ reads.Spent place' word')
-    by true one e = (eqb-true runners 1 one, let z = e in cc)
+    by : (b : Bool) → (runners == 1) ≡ b → if◌then◌else◌ {A = Option Served} b (Some (answers.Spent place word)) None ≡ Some served
+        → MetAlone runners (reads.Spent place word) served
+    by true one e = (place, word, eqb-true runners 1 one, refl, ap served_in (sym e))
     by false one e = absurd (let z = e in cc)
-alone_met runners (reads.Done reply stamp) place word some = absurd (let z = some in cc)
-alone_met runners (reads.Locked at) place word some = absurd (let z = some in cc)
-alone_met runners (reads.Busy at held) place word some = absurd (let z = some in cc)
-alone_met runners (reads.Stale at expected read) place word some = absurd (let z = some in cc)
-alone_met runners (reads.Far loads) place word some = absurd (let z = some in cc)
-alone_met runners reads.Halted place word some = absurd (let z = some in cc)
+alone_met runners (reads.Done reply stamp) served some = absurd (let z = some in cc)
+alone_met runners (reads.Locked at) served some = absurd (let z = some in cc)
+alone_met runners (reads.Busy at held) served some = absurd (let z = some in cc)
+alone_met runners (reads.Stale at expected read) served some = absurd (let z = some in cc)
+alone_met runners (reads.Far loads) served some = absurd (let z = some in cc)
+alone_met runners reads.Halted served some = absurd (let z = some in cc)
 
 -- any other answer that isn't Done or Halted is a refusal
 pub refusal_of : (runners : ℕ) (answer : Read) → ((reply : Reply) (stamp : ℕ) → answer ≢ reads.Done reply stamp)
-    → (answer ≢ reads.Halted) → met_alone runners answer ≡ None → is_refusal runners answer ≡ true
+    → (answer ≢ reads.Halted) → ends_alone runners answer ≡ None → is_refusal runners answer ≡ true
 refusal_of runners (reads.Done reply stamp) not_done not_halted none = absurd (not_done reply stamp refl)
 refusal_of runners reads.Halted not_done not_halted none = absurd (not_halted refl)
 refusal_of runners (reads.Locked at) not_done not_halted none = refl
@@ -310,16 +318,16 @@ refusal_of runners (reads.Stale place expected read) not_done not_halted none = 
 refusal_of runners (reads.Far loads) not_done not_halted none = refl
 refusal_of runners (reads.Spent place word) not_done not_halted none = by (runners == 1) none
   where
-    by : (b : Bool) → (if b then Some (place, word) else None) ≡ None → not b ≡ true
+    by : (b : Bool) → if◌then◌else◌ {A = Option Served} b (Some (answers.Spent place word)) None ≡ None → not b ≡ true
     by true e = absurd (let z = e in cc)
     by false e = refl
 
 -- so it is where these are the layouts of a runner and of its table
 pub refused : (own told whole : Layout) → own ≡ whole → told ≡ whole → (answer : Read)
     → ((reply : Reply) (stamp : ℕ) → answer ≢ reads.Done reply stamp) → (answer ≢ reads.Halted)
-    → (met : Option (ℕ × ℕ)) → met ≡ met_alone told.runners answer → met ≡ None → is_refusal own.runners answer ≡ true
+    → (met : Option Served) → met ≡ ends_alone told.runners answer → met ≡ None → is_refusal own.runners answer ≡ true
 refused own told whole own_is told_is answer not_done not_halted met is none = refusal_of own.runners answer not_done not_halted
-    (subst (λ (l : Layout). met_alone l.runners answer ≡ None) (told_is ∙ sym own_is) (sym is ∙ none))
+    (subst (λ (l : Layout). ends_alone l.runners answer ≡ None) (told_is ∙ sym own_is) (sym is ∙ none))
 
 -- the gate of a read that wasn't halted is as it was
 pub going_on : (runners : ℕ) (answer : Read) → is_refusal runners answer ≡ true → not (is_halted answer) ≡ true

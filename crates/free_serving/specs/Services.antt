@@ -23,9 +23,9 @@ is_get _ = false
 
 -- where a runner that is alone meets a lock with too few versions left: an attempt would find it as it stands, so the
 -- serving ends there
-abbrev pub met_alone : ℕ → Read → Option (ℕ × ℕ)
-met_alone runners (reads.Spent place word) = if runners == 1 then Some (place, word) else None
-met_alone runners _ = None
+abbrev pub ends_alone : ℕ → Read → Option Served
+ends_alone runners (reads.Spent place word) = if runners == 1 then Some (answers.Spent place word) else None
+ends_alone runners _ = None
 
 -- a read with this answer served nothing, and the runner, one of so many, left: its request is served under its lock
 -- then

@@ -5,10 +5,10 @@ ghost use Rattle.version_words.specs.TableState.{IsOf};
 ghost use Rattle.seq_read.specs.caller_facts.specs.Counted.{IsSeen};
 ghost use Rattle.serving.specs.Serving.{MayServe};
 ghost use Rattle.serving.specs.declared.answers.Served.TheVariants as answers;
-ghost use Rattle.free_serving.specs.Services.{is_get as is_get_of, met_alone as met_alone_of};
+ghost use Rattle.free_serving.specs.Services.{is_get as is_get_of, ends_alone as ends_alone_of};
 ghost use Rattle.free_serving.specs.One.{ServesOne};
 
-use machine_states::body_terms::{Place, StepKind, Steps, Word};
+use machine_states::body_terms::{StepKind, Steps};
 use machine_states::map_history::{Op, Request};
 use seq_read::lock_walks::Planner;
 use seq_read::runner_gate::Gate;
@@ -28,13 +28,13 @@ fn is_get(op: Op) -> bool
     matches!(op, Op::Get(_))
 }
 
-/// The lock, and its word, at which the read of a runner that is alone ended for want of versions. An attempt would
-/// find it as it stands, so the serving ends there, too.
-fn met_alone(runners: u32, answer: &Read) -> Option<(Place, Word)>
-    ensures { result ≡ met_alone_of runners answer.now }
+/// How the serving ends where a runner that is alone met a lock with too few versions left in its read. An attempt would
+/// find it as it stands.
+fn ends_alone(runners: u32, answer: &Read) -> Option<Served>
+    ensures { result ≡ ends_alone_of runners answer.now }
 {
     match *answer {
-        Read::Spent { place, word } if runners == 1 => Some((place, word)),
+        Read::Spent { place, word } if runners == 1 => Some(Served::Spent { place, word }),
         _ => None,
     }
 }
@@ -76,8 +76,8 @@ pub fn serve_one<R: Threads + Wait + Sync, S: Planner, G: Gate, L>(
             }
         }
         Read::Halted => (runner, Served::Halted),
-        _ => match met_alone(table.layout().runners, &answer) {
-            Some((place, word)) => (runner, Served::Spent { place, word }),
+        _ => match ends_alone(table.layout().runners, &answer) {
+            Some(served) => (runner, served),
             None => serve(rt, table, runner, only, retry_short, gate, steps),
         },
     }

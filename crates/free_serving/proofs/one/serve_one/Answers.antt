@@ -7,6 +7,7 @@ use Rattle.seq_read.specs.caller_facts.specs.Counted.{IsSeen}
 use Rattle.std.specs.Prelude.{not}
 use Rattle.seq_read.specs.Reads.{is_halted, Reads}
 use Rattle.serving.specs.Serving.{MayServe, Serves}
+use Rattle.free_serving.specs.One.{ServesOne}
 use Rattle.free_serving.proofs.Each.{may_attempt, under_lock, read_all, read_then_halted, read_halted, read_spent, may_still, both_ways, alone_met, refused, going_on}
 use Rattle.free_serving.proofs.one.serve_one.Goals as goal
 
@@ -38,7 +39,7 @@ serve-requires-in-None-clause-next g c κs within =
     subst (λ (qs : List Request). MayServe planning qs c.read-runner.result.0) (sym c.from_ref-only.ensures.value)
     (may_still m (met.laws t.structure) planning c.args.retry_short c.args.request.now t (c.requires.own.limits _ refl) (c.requires.own.allowed _ refl)
     (sym c.if-not-is_get.ensures) c.args.runner c.read-runner.result.0 c.requires.own c.read-runner.ensures.own c.requires.next
-    (IsSeen g.G.Gate.halts g.G.Gate.asks) _ _ _ _ _ _ c.read-runner.result.1 (refused c.args.runner.layout c.layout.result t.layout c.requires.own.layout c.layout.ensures c.read-runner.result.1 c.in_default.not-Done c.in_default.not-Halted _ c.met_alone.ensures c.in-None.is) c.read-runner.ensures.reads)
+    (IsSeen g.G.Gate.halts g.G.Gate.asks) _ _ _ _ _ _ c.read-runner.result.1 (refused c.args.runner.layout c.layout.result t.layout c.requires.own.layout c.layout.ensures c.read-runner.result.1 c.in_default.not-Done c.in_default.not-Halted _ c.ends_alone.ensures c.in-None.is) c.read-runner.ensures.reads)
 
 pub returns-then-goes_on-clause-one : goal.returns-then-goes_on-clause-one
 returns-then-goes_on-clause-one g c =
@@ -84,19 +85,27 @@ returns-in-Some-clause-one g c =
     let t = c.args.table.now in
     let m = g.S.Structure.meaning t.structure in
     let planning = g.S.Planner.planning t.structure in
-    let alone = alone_met c.layout.result.runners c.read-runner.result.1 c.in-Some.place c.in-Some.word (sym c.met_alone.ensures ∙ c.in-Some.is) in
-    read_spent m (met.laws t.structure) planning c.args.retry_short c.args.request.now t (c.requires.own.limits _ refl) (c.requires.own.allowed _ refl)
+    let alone = alone_met c.layout.result.runners c.read-runner.result.1 c.in-Some.served (sym c.ends_alone.ensures ∙ c.in-Some.is) in
+    subst (λ a. ServesOne m planning c.args.retry_short c.args.request.now a c.args.runner c.read-runner.result.0 (IsSeen g.G.Gate.halts g.G.Gate.asks)
+    (g.G.Gate.halts c.args.gate.now) (g.G.Gate.asks c.args.gate.now) (g.G.Gate.asks c.read-runner.new.gate) c.args.steps.now.count c.read-runner.new.steps.count)
+    (sym alone.4)
+    (read_spent m (met.laws t.structure) planning c.args.retry_short c.args.request.now t (c.requires.own.limits _ refl) (c.requires.own.allowed _ refl)
     (sym c.if-not-is_get.ensures) c.args.runner c.read-runner.result.0 c.requires.own c.read-runner.ensures.own c.requires.next
-    (IsSeen g.G.Gate.halts g.G.Gate.asks) _ _ _ _ _ _ c.in-Some.place c.in-Some.word
-    (ap (λ (l : Layout). l.runners) (c.requires.own.layout ∙ sym c.layout.ensures) ∙ alone.0)
+    (IsSeen g.G.Gate.halts g.G.Gate.asks) _ _ _ _ _ _ alone.0 alone.1
+    (ap (λ (l : Layout). l.runners) (c.requires.own.layout ∙ sym c.layout.ensures) ∙ alone.2)
     (subst (λ a. Reads m planning c.args.request.now a c.args.runner c.read-runner.result.0 (IsSeen g.G.Gate.halts g.G.Gate.asks)
     (g.G.Gate.halts c.args.gate.now) (g.G.Gate.halts c.read-runner.new.gate) (g.G.Gate.asks c.args.gate.now) (g.G.Gate.asks c.read-runner.new.gate)
-    c.args.steps.now.count c.read-runner.new.steps.count) alone.1 c.read-runner.ensures.reads)
+    c.args.steps.now.count c.read-runner.new.steps.count) alone.3 c.read-runner.ensures.reads))
+
+pub returns-in-Some-clause-halted : goal.returns-in-Some-clause-halted
+returns-in-Some-clause-halted g c = λ halted.
+    let alone = alone_met c.layout.result.runners c.read-runner.result.1 c.in-Some.served (sym c.ends_alone.ensures ∙ c.in-Some.is) in
+    absurd (let z = sym alone.4 ∙ halted in cc)
 
 pub returns-in-Some-clause-went : goal.returns-in-Some-clause-went
 returns-in-Some-clause-went g c = λ other.
-    let alone = alone_met c.layout.result.runners c.read-runner.result.1 c.in-Some.place c.in-Some.word (sym c.met_alone.ensures ∙ c.in-Some.is) in
-    c.read-runner.ensures.reads.asked.went (ap (λ a. not (is_halted a)) alone.1)
+    let alone = alone_met c.layout.result.runners c.read-runner.result.1 c.in-Some.served (sym c.ends_alone.ensures ∙ c.in-Some.is) in
+    c.read-runner.ensures.reads.asked.went (ap (λ a. not (is_halted a)) alone.3)
 
 pub returns-in-Halted-clause-one : goal.returns-in-Halted-clause-one
 returns-in-Halted-clause-one g c =
@@ -119,7 +128,7 @@ returns-in-None g c =
     let m = g.S.Structure.meaning t.structure in
     let planning = g.S.Planner.planning t.structure in
     let spare = subst (λ s. AttemptsSpareSlots g.row.S.Denot (g.S.Structure.meaning s) (g.S.Planner.planning s)) c.structure.ensures c.attempts_spare_slots.ensures in
-    let refusal = refused c.args.runner.layout c.layout.result t.layout c.requires.own.layout c.layout.ensures c.read-runner.result.1 c.in_default.not-Done c.in_default.not-Halted _ c.met_alone.ensures c.in-None.is in
+    let refusal = refused c.args.runner.layout c.layout.result t.layout c.requires.own.layout c.layout.ensures c.read-runner.result.1 c.in_default.not-Done c.in_default.not-Halted _ c.ends_alone.ensures c.in-None.is in
     let went = c.read-runner.ensures.reads.asked.went (going_on c.args.runner.layout.runners c.read-runner.result.1 refusal) in
     record {
       own = c.serve-in-None.ensures.own;
