@@ -32,9 +32,10 @@ build_checked() {
   stop_by interrupted
   printf 'flock: building the program once without proofs, in about a minute\n' >&2
 
-  mkdir "$room/cases" "$room/files"
-  : > "$room/cases/long"
-  printf '%s\n' load --seed=1 --traces=1 --length=131072 --keys=32768 --buckets=1 > "$room/cases/long.args"
+  {
+    mkdir "$room/cases" "$room/files" && : > "$room/cases/long" &&
+      printf '%s\n' load --seed=1 --traces=1 --length=131072 --keys=32768 --buckets=1 > "$room/cases/long.args"
+  } 2> /dev/null || cannot "no file can be written in $out"
   (cd "$top/crates/flock" && TMPDIR=$room/files exec rt try --cases "$room/cases") > "$room/log" 2>&1 < /dev/null &
   trying=$!
   echo "$trying" > "$room/runs"

@@ -118,7 +118,7 @@ toolchain() {
 # here; with no toolchain here it is taken as it is.
 built() {
   local at=$out/$1-$2 here
-  [ -x "$at/flock" ] || return 1
+  [ -x "$at/flock" ] && [ -s "$at/flock" ] || return 1
   here=$(toolchain)
   [ -z "$here" ] || [ "$here" = "$(cat "$at/toolchain" 2> /dev/null)" ] || return 1
   printf '%s\n' "$at/flock"

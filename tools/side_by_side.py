@@ -54,6 +54,15 @@ def prepare(logs: pathlib.Path) -> None:
         sys.exit("the command rt is not here")
 
 
+def say(*lines: str, to=None) -> None:
+    """Prints lines to standard output, or to another stream; where nobody takes them the work goes on without."""
+    stream = to or sys.stdout
+    try:
+        print(*lines, sep="\n", file=stream, flush=True)
+    except OSError:
+        os.dup2(os.open(os.devnull, os.O_WRONLY), stream.fileno())
+
+
 class SideBySide:
     """Runs commands in the body of a `with`; what still runs at its end is ended."""
 
