@@ -120,115 +120,120 @@ fn order_of(alloc: Global, rows: &[Row<'_>]) -> Result<Option<Vec<usize>>, Alloc
     Ok(Some(order))
 }
 
-/// What a plain map holds while the requests are served one by one.
-#[derive(Drop)]
-struct Replay {
-    book: Book,
-    /// The sum of the values that insertions have put in.
-    put_in: u64,
-    /// Whether the values of the lowest keys came to that sum after each request.
-    keeps_sum: bool,
-}
-
-/// The keys whose values are summed up.
-const SUMMED: u32 = 5;
-
-impl Replay {
-    fn new(alloc: Global) -> Self {
-        Self {
-            book: Book::new(alloc),
-            put_in: 0,
-            keeps_sum: true,
-        }
-    }
-
-    /// Serves one more request.
-    fn apply(&mut self, op: Op) -> Result<Reply, AllocError> {
-        let reply = self.book.apply(op)?;
-        if let (Op::Ins(_, value), Reply::New) = (op, reply) {
-            self.put_in = self.put_in.saturating_add(u64::from(value));
-        }
-        let sum = self.sum()?;
-        self.keeps_sum &= sum == self.put_in;
-        Ok(reply)
-    }
-
-    /// The sum of the values of the lowest keys.
-    fn sum(&mut self) -> Result<u64, AllocError> {
-        let mut sum: u64 = 0;
-        for key in 0..SUMMED {
-            if let Reply::Val(value) = self.book.apply(Op::Get(key))? {
-                sum = sum.saturating_add(u64::from(value));
-            }
-        }
-        Ok(sum)
-    }
-}
-
-/// What a plain map holds that serves the requests in this order. None where it doesn't give the printed replies, or
-/// doesn't hold so many pairs in the end.
-fn replayed(
+/// Whether a plain map that serves the requests in this order gives the printed replies, and holds
+/// so many pairs in the end.
+fn is_replayed(
     alloc: Global,
     requests: &[Request],
     rows: &[Row<'_>],
     order: &[usize],
     size: usize,
-) -> Result<Option<Replay>, AllocError> {
-    let mut replay = Replay::new(alloc);
+) -> Result<bool, AllocError> {
+    let mut book = Book::new(alloc);
     for place in order {
         let (Some(request), Some(row)) = (requests.get(*place), rows.get(*place)) else {
-            return Ok(None);
+            return Ok(false);
         };
-        if !is_printed(replay.apply(request.op)?, row.reply) {
-            return Ok(None);
+        if !is_printed(book.apply(request.op)?, row.reply) {
+            return Ok(false);
         }
     }
-    if replay.book.len() == size {
-        Ok(Some(replay))
-    } else {
-        Ok(None)
-    }
+    Ok(book.len() == size)
 }
 
-/// The replay of a report that is legal for the requests of a text in the grammar, and None of any other.
-fn replay_of(alloc: Global, text: &[u8], report: &str) -> Result<Option<Replay>, AllocError> {
+/// Whether a report is legal for the requests of a text in the grammar.
+pub fn is_legal(alloc: Global, text: &[u8], report: &str) -> Result<bool, AllocError> {
     let mut source = SureSource::new(text.to_vec(alloc)?, Vec::new(alloc));
     let Ok(traces) = read_traces(alloc, &mut source) else {
-        return Ok(None);
+        return Ok(false);
     };
     let Some((rows, size)) = rows_of(alloc, &traces, report)? else {
-        return Ok(None);
+        return Ok(false);
     };
     let Some(order) = order_of(alloc, &rows)? else {
-        return Ok(None);
+        return Ok(false);
     };
     let rises = rows
         .iter()
         .zip(rows.iter().skip(1))
         .all(|(earlier, later)| may_follow(earlier, later));
-    if !rises {
+    Ok(rises && is_replayed(alloc, traces.requests.as_slice(), &rows, &order, size)?)
+}
+
+/// The printed values of a report: the sum of those that its insertions put in, the trace of its last request that isn't
+/// a `get`, and the sum of those that this trace reads behind that request. Nothing changes behind it: so where a text's
+/// traces end with `get`s of all keys, and nothing is taken out or set, both sums are one.
+#[derive(Clone, Copy)]
+pub struct Sums {
+    pub put_in: usize,
+    pub trace: u32,
+    pub read: usize,
+}
+
+/// The value that a request put in.
+fn inserted(request: &Request, row: &Row<'_>) -> usize {
+    match request.op {
+        Op::Ins(_, value) if row.reply == "new" => value as usize,
+        _ => 0,
+    }
+}
+
+/// The value that a row of this trace read behind this rank.
+fn read_behind(row: &Row<'_>, trace: u32, rank: usize) -> usize {
+    match row.rank {
+        Some(own) if row.trace == trace && rank < own => {
+            number_behind("val", Some(row.reply)).unwrap_or(0)
+        }
+        _ => 0,
+    }
+}
+
+/// The later one of two traces with a rank each: this one, or that of a request which was served and isn't a `get`.
+fn later(last: Option<(u32, usize)>, request: &Request, row: &Row<'_>) -> Option<(u32, usize)> {
+    match (request.op, row.rank, last) {
+        (Op::Get(_), _, _) | (_, None, _) => last,
+        (_, Some(rank), Some((_, before))) if rank < before => last,
+        (_, Some(rank), _) => Some((row.trace, rank)),
+    }
+}
+
+/// The sums of these requests and rows. None where each served request is a `get`.
+fn summed(requests: &[Request], rows: &[Row<'_>]) -> Option<Sums> {
+    let (mut put_in, mut last) = (0usize, None);
+    for (number, row) in rows.iter().enumerate() {
+        if let Some(request) = requests.get(number) {
+            put_in = put_in.saturating_add(inserted(request, row));
+            last = later(last, request, row);
+        }
+    }
+    let (trace, rank) = last?;
+    let mut read = 0usize;
+    for row in rows {
+        read = read.saturating_add(read_behind(row, trace, rank));
+    }
+    Some(Sums {
+        put_in,
+        trace,
+        read,
+    })
+}
+
+/// The sums of a report on a text in the grammar. None where a line isn't what stands in its place, or where each served
+/// request is a `get`.
+pub fn sums_of(alloc: Global, text: &[u8], report: &str) -> Result<Option<Sums>, AllocError> {
+    let mut source = SureSource::new(text.to_vec(alloc)?, Vec::new(alloc));
+    let Ok(traces) = read_traces(alloc, &mut source) else {
         return Ok(None);
-    }
-    replayed(alloc, traces.requests.as_slice(), &rows, &order, size)
-}
-
-/// Whether a report is legal for the requests of a text in the grammar.
-pub fn is_legal(alloc: Global, text: &[u8], report: &str) -> Result<bool, AllocError> {
-    Ok(replay_of(alloc, text, report)?.is_some())
-}
-
-/// Whether a report is legal, and at each place of its history the values of the keys 0 to 4 come to the sum of those
-/// that insertions have put in: where nothing is taken out or set, a `mov` among these keys leaves the sum as it is.
-pub fn keeps_sum(alloc: Global, text: &[u8], report: &str) -> Result<bool, AllocError> {
-    match replay_of(alloc, text, report)? {
-        Some(replay) => Ok(replay.keeps_sum),
-        None => Ok(false),
-    }
+    };
+    let Some((rows, _)) = rows_of(alloc, &traces, report)? else {
+        return Ok(None);
+    };
+    Ok(summed(traces.requests.as_slice(), &rows))
 }
 
 /// The check itself on one text, by hand: which reports it takes and which it refuses.
 mod tests {
-    use super::{is_legal, keeps_sum};
+    use super::{is_legal, sums_of};
     use crate::program::{bytes_of, cut};
     use std::test::Fail;
 
@@ -259,27 +264,32 @@ trace 0/0 new/1 val 70/trace 1/2 gone/trace 2/final 0/
 
 ";
 
-    // A pair is moved, and one is added and moved; each row says whether the sum is kept.
+    // Each row: what insertions put in, the trace of the last request that isn't a `get`, and what that trace reads
+    // behind it; the text, and a report. In the second one a value was lost, in the third one it is there twice.
     const SUMS: &str = "\
-yes|flock 3/trace/ins 1 10/mov 1 2/ins 1 5/mov 1 4/|trace 0/0 new/1 moved/2 new/3 moved/final 2/
-yes|flock 3/trace/ins 1 10/ins 1 20/mov 1 2/|trace 0/0 new/1 dup/- unserved/final 1/
-no|flock 3/trace/ins 1 10/mov 1 2/|trace 0/0 new/1 none/final 1/
-no|flock 3/trace/ins 1 10/mov 1 5/|trace 0/0 new/1 moved/final 1/
-no|flock 1/trace/ins 1 10/del 1/|trace 0/0 new/1 gone/final 0/
+10 0 10|flock 3/trace/ins 1 10/mov 1 2/get 1/get 2/|trace 0/0 new/1 moved/2 none/3 val 10/final 1/
+10 0 0|flock 3/trace/ins 1 10/mov 1 2/get 1/get 2/|trace 0/0 new/1 moved/2 none/3 none/final 1/
+10 0 20|flock 3/trace/ins 1 10/mov 1 2/get 1/get 2/|trace 0/0 new/1 moved/2 val 10/3 val 10/final 1/
+10 1 10|flock 3/trace/ins 1 10/get 1/trace/ins 1 5/get 1/|trace 0/0 new/1 val 10/trace 1/2 dup/3 val 10/final 1/
+15 1 15|flock 3/trace/ins 1 10/mov 1 2/get 2/get 1/trace/ins 1 5/get 1/get 2/|trace 0/0 new/1 moved/4 val 10/5 val 5/trace 1/2 new/3 val 5/6 val 10/final 2/
+10 0 0|flock 3/trace/ins 1 10/mov 1 2/get 2/trace/get 2/|trace 0/0 new/2 moved/- unserved/trace 1/1 none/final 1/
+none|flock 3/trace/get 1/trace/ins 1 5/|trace 0/0 none/trace 1/- unserved/final 0/
+none|flock 3/trace/get 1/|trace 0/0 none/final/
 ";
 
     #[test]
-    fn a_sum_is_kept_by_moves_alone(rt: HostRuntime) -> Result<(), Fail> {
+    fn values_are_summed_up_behind_the_last_change(rt: HostRuntime) -> Result<(), Fail> {
         let alloc = rt.alloc();
         for row in SUMS.lines() {
             let (wanted, texts) = cut(row);
             let (text, report) = cut(texts);
             let (text, report) = (bytes_of(alloc, text)?, bytes_of(alloc, report)?);
-            let report = str::from_utf8(&report).unwrap_or("");
-            assert!(rt;
-                keeps_sum(alloc, &text, report)? == (wanted == "yes"),
-                "{row}"
-            );
+            let sums = sums_of(alloc, &text, str::from_utf8(&report).unwrap_or(""))?;
+            let found = match sums {
+                Some(sums) => format!(in alloc; "{} {} {}", sums.put_in, sums.trace, sums.read)?,
+                None => format!(in alloc; "none")?,
+            };
+            assert!(rt; found.as_str() == wanted, "{row}: {found}");
         }
         Ok(())
     }

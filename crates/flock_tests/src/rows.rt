@@ -88,8 +88,10 @@ const ON_ONE_TABLE: &str = "\
 
 // Texts of format 3, which only the hash table serves: among 64 buckets, in one, and, where the place counts, in the
 // middle of a chain; with few node slots, of which a moved pair takes one more until the one that it had is free again;
-// with a lock's word that is worn out. Behind them what is told where the words name another table, which comes behind
-// the faults of a text and before its node slots.
+// with a lock's word that is worn out. Of 64 buckets key 1 lies in number 39, whose lock stands at place 117, and key 2
+// in number 15, whose lock stands at 45: a `mov` between them reads both locks, whichever way it goes, the lower one
+// first. Behind these rows what is told where the words name another table, which comes behind the faults of a text and
+// before its node slots.
 const MOVES: &str = "\
 0 run|flock 3/|final 0/|
 0 run|flock 3/trace/ins 1 10/mov 1 2/get 1/get 2/mov 1 3/mov 2 2/|trace 0/0 new/1 moved/2 none/3 val 10/4 none/5 dup/final 1/|
@@ -102,6 +104,10 @@ const MOVES: &str = "\
 0 run --buckets 1 --nodes 18|flock 3/trace/ins 1 10/{100*mov 1 2/mov 2 1/}get 1/|trace 0/& new/{100*& moved/& moved/}201 val 10/final 1/|
 1 run --runners 2 --halt 1:1|flock 3/trace/ins 1 1/trace/mov 1 2/|trace 0/0 new/trace 1/- unserved/final 1/|flock: halted, 1 unserved/
 6 run --buckets 1 --version-max 5|flock 3/trace/mov 1 2/mov 1 2/mov 1 2/|trace 0/0 none/1 none/- unserved/final 0/|flock: versions: place 0 value 0 version 5/
+6 run --buckets 64 --version-max 5|flock 3/trace/get 2/get 2/mov 1 2/|trace 0/0 none/1 none/- unserved/final 0/|flock: versions: place 45 value 0 version 5/
+6 run --buckets 64 --version-max 5|flock 3/trace/get 1/get 1/mov 1 2/|trace 0/0 none/1 none/- unserved/final 0/|flock: versions: place 117 value 0 version 5/
+6 run --buckets 64 --version-max 5|flock 3/trace/get 1/get 1/get 2/get 2/mov 1 2/|trace 0/0 none/1 none/2 none/3 none/- unserved/final 0/|flock: versions: place 45 value 0 version 5/
+6 run --buckets 64 --version-max 5|flock 3/trace/get 1/get 1/get 2/get 2/mov 2 1/|trace 0/0 none/1 none/2 none/3 none/- unserved/final 0/|flock: versions: place 45 value 0 version 5/
 4 run --runners 2 --nodes 131073|flock 3/trace/ins 1 10/trace/get 1/||flock: limit: nodes 262146/
 0 check|flock 3/trace/ins 1 10/mov 1 2/get 2/report/trace 0/0 new/1 moved/2 val 10/final 1/|legal/|
 10 check|flock 3/trace/ins 1 10/mov 1 2/get 2/report/trace 0/0 new/1 moved/2 none/final 1/|line 4: reply/|

@@ -18,7 +18,14 @@ fn words_have_a_value_and_a_version(rt: HostRuntime) {
 
 #[test]
 fn keys_have_their_buckets(rt: HostRuntime) {
-    for (key, b, bucket) in [(1, 6, 39), (5, 6, 5), (7, 6, 20), (7, 0, 0)] {
+    for (key, b, bucket) in [
+        (1, 6, 39),
+        (2, 6, 15),
+        (5, 6, 5),
+        (7, 6, 20),
+        (56, 6, 39),
+        (7, 0, 0),
+    ] {
         assert!(rt; bucket_of(key, b) == bucket, "{key}");
     }
 }
@@ -68,8 +75,9 @@ fn the_hash_tables_bodies_have_their_costs(rt: HostRuntime) -> Result<(), Fail> 
     Ok(())
 }
 
-/// Thunks over two keys: in the buckets 0 and 1 with the first key in the higher one, and in bucket 0 alone. `half`
-/// says of form 22 which head is loaded first.
+/// Thunks over two keys: in the buckets 0 and 1, and of form 23 in bucket 0 alone. `half` is what form 22 has in the high
+/// half of its fourth operand: 1 where the first key lies in the lower bucket, so that the head that is loaded, which is
+/// that of the second key's bucket, is the higher one. Any other number says that it is the lower one.
 fn thunk_over_two(form: u64, half: u64) -> Thunk {
     let mut thunk = thunk_of(form);
     thunk.operands = match form {
@@ -103,7 +111,7 @@ fn move_of(alloc: Global, text: &str) -> Result<String, AllocError> {
     format!(in alloc; "{steps} {checked:?} {costs} {tenth:?}")
 }
 
-// The forms over two keys; of form 22 the first bucket may be the lower one.
+// The forms over two keys; of form 22 the first key's bucket may be the lower one, as 1 says alone.
 const MOVES: &str = "\
 21 => 7 Ok(()) 29 None
 22 => 19 Ok(()) 50 Some(Load { place: 2, into: 3 })
