@@ -160,9 +160,9 @@ pub fn is_legal(alloc: Global, text: &[u8], report: &str) -> Result<bool, AllocE
     Ok(rises && is_replayed(alloc, traces.requests.as_slice(), &rows, &order, size)?)
 }
 
-/// The printed values of a report: the sum of those that its insertions put in, the trace of its last request that isn't
-/// a `get`, and the sum of those that this trace reads behind that request. Nothing changes behind it: so where a text's
-/// traces end with `get`s of all keys, and nothing is taken out or set, both sums are one.
+/// The printed values of a report: the sum of those that its insertions put in, the trace of its last request that
+/// isn't a `get`, and the sum of those that this trace reads behind that request. Nothing changes behind it: so where a
+/// text's traces end with `get`s of all keys, and nothing is taken out or set, both sums are one.
 #[derive(Clone, Copy)]
 pub struct Sums {
     pub put_in: usize,
@@ -218,8 +218,8 @@ fn summed(requests: &[Request], rows: &[Row<'_>]) -> Option<Sums> {
     })
 }
 
-/// The sums of a report on a text in the grammar. None where a line isn't what stands in its place, or where each served
-/// request is a `get`.
+/// The sums of a report on a text in the grammar. None where a line isn't what stands in its place, or where each
+/// served request is a `get`.
 pub fn sums_of(alloc: Global, text: &[u8], report: &str) -> Result<Option<Sums>, AllocError> {
     let mut source = SureSource::new(text.to_vec(alloc)?, Vec::new(alloc));
     let Ok(traces) = read_traces(alloc, &mut source) else {

@@ -158,10 +158,11 @@ fn crowds_have_legal_reports(rt: HostRuntime) -> Result<(), Fail> {
 }
 
 // The same while keys are moved, on the hash table, which alone serves that. Runner 2 puts key 1 in, and runner 0
-// publishes its `mov` and waits in it until runner 1 is through, which enters only then: so runner 1 meets a lock of the
-// `mov` held and runs it to its end, before its own request, which needs the value where it was moved to. Runner 0 waits
-// once behind the exchange of its outer lock, once behind that of the nested one, and once behind its first store, while
-// the map has neither key in its chains. In one bucket there is no nested lock. In the last row runner 1 is helped, too.
+// publishes its `mov` and waits in it until runner 1 is through, which enters only then: so runner 1 meets a lock of
+// the `mov` held and runs it to its end, before its own request, which needs the value where it was moved to. Runner 0
+// waits once behind the exchange of its outer lock, once behind that of the nested one, and once behind its first
+// store, while the map has neither key in its chains. In one bucket there is no nested lock. In the last row runner 1
+// is helped, too.
 const MOVE_SCRIPTS: &str = "\
 0 Entered 2 Served, 1 Entered 0 Hold, 0 Hold 1 Served|--runners 3 --buckets 64|flock 3/trace/mov 1 2/get 1/get 2/trace/get 2/trace/ins 1 10/|trace 0/1 moved/3 none/4 val 10/trace 1/2 val 10/trace 2/0 new/final 1/
 0 Entered 2 Served, 1 Entered 0 Hold, 0 Hold 1 Served|--runners 3 --buckets 64|flock 3/trace/mov 1 2/get 1/get 2/trace/mov 2 1/trace/ins 1 10/|trace 0/1 moved/3 val 10/4 none/trace 1/2 moved/trace 2/0 new/final 1/

@@ -28,8 +28,8 @@ fn is_get(op: Op) -> bool
     matches!(op, Op::Get(_))
 }
 
-/// How the serving ends where a runner that is alone met a lock with too few versions left in its read. An attempt would
-/// find it as it stands.
+/// How the serving ends where a runner that is alone met a lock with too few versions left in its read. An attempt
+/// would find it as it stands.
 fn ends_alone(runners: u32, answer: &Read) -> Option<Served>
     ensures { result ≡ ends_alone_of runners answer.now }
 {

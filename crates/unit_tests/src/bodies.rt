@@ -75,9 +75,9 @@ fn the_hash_tables_bodies_have_their_costs(rt: HostRuntime) -> Result<(), Fail> 
     Ok(())
 }
 
-/// Thunks over two keys: in the buckets 0 and 1, and of form 23 in bucket 0 alone. `half` is what form 22 has in the high
-/// half of its fourth operand: 1 where the first key lies in the lower bucket, so that the head that is loaded, which is
-/// that of the second key's bucket, is the higher one. Any other number says that it is the lower one.
+/// Thunks over two keys: in the buckets 0 and 1, and of form 23 in bucket 0 alone. `half` is what form 22 has in the
+/// high half of its fourth operand: 1 where the first key lies in the lower bucket, so that the head that is loaded,
+/// which is that of the second key's bucket, is the higher one. Any other number says that it is the lower one.
 fn thunk_over_two(form: u64, half: u64) -> Thunk {
     let mut thunk = thunk_of(form);
     thunk.operands = match form {
