@@ -1,15 +1,15 @@
 -- The law of the plain runs of the sorted list.
-use Rattle.std.proofs.Common.{◌≡◌, ◌≢◌, ℕ, suc, ◌+◌, ◌*◌, ◌<◌, ◌≤◌, Bool, true, false, [], ◌∷◌, List, refl, sym, ap, ◌∙◌, subst, inl, inr, ⊎_elim, arith, Some, None}
+use Rattle.std.proofs.Common.{◌≡◌, ◌≢◌, ℕ, suc, ◌+◌, ◌*◌, ◌<◌, Bool, true, false, [], ◌∷◌, List, refl, sym, ap, ◌∙◌, subst, inl, inr, ⊎_elim, arith, Some, None}
 use Rattle.std.specs.Prelude.{◌==◌, ◌&&◌, ◌-◌, ◌^◌, ◌⊎◌, cond, slice_index}
 use Rattle.std.specs.FinMap.{get}
-use Rattle.std.proofs.lemmas.Bool.{cases_eq, both_ways}
+use Rattle.std.proofs.lemmas.Bool.{both_ways}
 use Rattle.structure_laws.specs.table_words.specs.small_lemmas.proofs.Bools.{both_of}
 use Rattle.structure_laws.specs.map_history.specs.declared.op.Op.{Op}
 use Rattle.structure_laws.specs.map_history.specs.Keys.{key_of}
 use Rattle.structure_laws.specs.map_history.specs.Replay.{Pairs, map_after}
 use Rattle.structure_laws.specs.body_terms.specs.Update.{upd}
 use Rattle.structure_laws.specs.body_terms.specs.Word.{value_of, next_word, is_free}
-use Rattle.structure_laws.specs.body_terms.specs.Memory.{PlainMemory, cell_of}
+use Rattle.structure_laws.specs.body_terms.specs.Memory.{PlainMemory}
 use Rattle.structure_laws.specs.body_terms.specs.Run.{Setting, exchanged}
 use Rattle.structure_laws.specs.body_terms.specs.Plain.{plain_setting, plain_run}
 use Rattle.structure_laws.specs.body_terms.specs.declared.outcome.Outcome.TheVariants.{Answered}
@@ -23,10 +23,10 @@ use Rattle.tree_laws.specs.node_laws.proofs.Forms.{put_puts, reply_is, new_reply
 use Rattle.tree_laws.specs.bucket_laws.specs.Walk.{is_del}
 use Rattle.tree_laws.specs.bucket_laws.proofs.Fit.{PutsIn}
 use Rattle.tree_laws.specs.bucket_laws.proofs.Maps.{insert_map, remove_map, remove_reply, set_map, set_reply}
-use Rattle.list_laws.specs.list_bodies.specs.List.{lock_of, next_of, mark_of, node_in, Form, Look, Insert, Remove, Replace}
+use Rattle.list_laws.specs.list_bodies.specs.List.{next_of, mark_of, node_in, Form, Look, Insert, Remove, Replace}
 use Rattle.list_laws.specs.list_bodies.specs.List.{form_of, body_of, look_steps, insert_steps, remove_steps}
 use Rattle.list_laws.specs.list_bodies.specs.List.{replace_steps, list_steps}
-use Rattle.list_laws.specs.Line.{Nodes, rank, last_key, Line, Contents, with_next, IsInsertion, IsRemoval}
+use Rattle.list_laws.specs.Line.{Nodes, rank, last_key, Line, Contents, with_next, IsInsertion}
 use Rattle.list_laws.specs.Walk.{Walk, start, node_of, walk, takes_out, form_for, operands_for}
 use Rattle.list_laws.specs.Nodes.{nodes, ListStands}
 use Rattle.list_laws.proofs.Changes.{link_next, link_key, link_value, link_mark, link_line}
@@ -45,8 +45,7 @@ use Rattle.plain_laws.proofs.Filled.{valued_slot}
 use Rattle.plain_laws.proofs.Forms.{IsGot, exchange_writes, exchanges_write, is_got}
 use Rattle.plain_laws.proofs.ListForms.{Passes, inserted_cells, removed_cells, replaced_cells}
 use Rattle.plain_laws.proofs.ListForms.{look_run, insert_run, remove_run, replace_run}
-use Rattle.plain_laws.proofs.ListNodes.{made, made_nodes, new_low, stays, same_node, made_line, made_map}
-use Rattle.plain_laws.proofs.ListNodes.{own_key, own_next, own_value, own_mark, own_rank}
+use Rattle.plain_laws.proofs.ListNodes.{made, HasNew, has_new}
 use Rattle.plain_laws.proofs.ListWalks.{HasEnded, walk_ends}
 use Rattle.plain_laws.proofs.Table.{link_to}
 use Rattle.plain_laws.proofs.Unchanged.{unchanged}
@@ -195,26 +194,26 @@ module _ (slots request : ℕ) (memory : PlainMemory) (pairs : Pairs) (op : Op) 
     abbrev m : Nodes
     m = nodes with_new
 
-    same : (t : ℕ) → linked t ≡ true → IsSameNode n m t
-    same = same_node slots cells pairs stands f k next v free.out
+    made_it : HasNew slots cells pairs stands f k next v free.out
+    made_it = has_new slots cells pairs stands f k next v free.out
 
     -- it comes between the predecessor and the node
     place : IsInsertion m linked from node f
     place =
-        let new = own_rank slots cells pairs stands f k next v free.out k_low in
+        let new = made_it.rank_is k_low in
         let is = k_is in
         record {
           before = its.from;
           no_tail = its.from_tail;
-          next = (same from its.from).next ∙ its.link_leads;
+          next = (made_it.same from its.from).next ∙ its.link_leads;
           out = free.out;
-          links = own_next slots cells pairs stands f k next v free.out (value_small (operand thunk 1))
+          links = made_it.next_is (value_small (operand thunk 1))
               ∙ (ap value_of fit.link ∙ leads_to (value_of w.link) its.link_some);
           from = let before = its.before_rank in
-              let old = same_rank n m from (same from its.from).key (same from its.from).mark in
+              let old = same_rank n m from (made_it.same from its.from).key (made_it.same from its.from).mark in
               omega (arith, before, old, new, is);
           to = let above = its.missing_key of.missing in let high = rank_low n node its.node_head in
-              let old = same_rank n m node (same node its.node).key (same node its.node).mark in
+              let old = same_rank n m node (made_it.same node its.node).key (made_it.same node its.node).mark in
               omega (arith, above, high, old, new, is);
         }
 
@@ -231,18 +230,18 @@ module _ (slots request : ℕ) (memory : PlainMemory) (pairs : Pairs) (op : Op) 
       within = λ t on. ⊎_elim (λ e. subst (λ k. k < slots) (sym e) free.within) (stands.within t) (on_or linked f t on);
       line = link_line with_new from link_word (suc f) (upd linked f true)
           (link_to (cells (thunk.lock + 2)) f (narrow f free.within))
-          (insertion_keeps m linked (made_line slots cells pairs stands f k next v free.out) from node f place);
+          (insertion_keeps m linked made_it.line from node f place);
       unmarked = λ t on. link_mark with_new from link_word t ∙ ⊎_elim
-          (λ e. ap m.mark e ∙ own_mark slots cells pairs stands f k next v free.out)
-          (λ was. (same t was).mark ∙ stands.unmarked t was) (on_or linked f t on);
+          (λ e. ap m.mark e ∙ made_it.mark_is)
+          (λ was. (made_it.same t was).mark ∙ stands.unmarked t was) (on_or linked f t on);
       contents = contents_as m (nodes after) (upd linked f true) (upd (get pairs) of.key (Some of.value))
-          (get (map_after pairs op)) (λ t on. (link_key with_new from link_word t, link_value with_new from link_word t))
+          (get (map_after pairs op))
+          (λ t on. (link_key with_new from link_word t, link_value with_new from link_word t))
           (insert_map pairs op of.key of.value of.puts none)
-          (contents_insert m linked (get pairs) (made_map slots cells pairs stands f k next v free.out) f of.key of.value
-          none (own_key slots cells pairs stands f k next v free.out k_low ∙ number_at 3 of.numbers)
-          (own_value slots cells pairs stands f k next v free.out
-          (value_fits of.key of.value 4 of.puts (number_at 4 of.numbers)) ∙ number_at 4 of.numbers)
-          (new_low slots cells pairs stands f k next v free.out));
+          (contents_insert m linked (get pairs) made_it.map f of.key of.value none
+          (made_it.key_is k_low ∙ number_at 3 of.numbers)
+          (made_it.value_is (value_fits of.key of.value 4 of.puts (number_at 4 of.numbers)) ∙ number_at 4 of.numbers)
+          made_it.low);
     }
       where
         none : get pairs of.key ≡ None
@@ -258,7 +257,7 @@ module _ (slots request : ℕ) (memory : PlainMemory) (pairs : Pairs) (op : Op) 
         ap (λ fixed. exchanged (valued_slot cells fixed f (0 ∷ k ∷ next ∷ v ∷ 0 ∷ [])) (thunk.lock + 2)
         (cells (thunk.lock + 2)) link_word) contents.fixed
         ∙ (exchange_writes with_new (thunk.lock + 2) (cells (thunk.lock + 2)) link_word (ap with_new from_place
-        ∙ (stays slots cells pairs stands f k next v free.out from 2 (omega arith) its.from ∙ ap cells (sym from_place)))
+        ∙ (made_it.stays from 2 (omega arith) its.from ∙ ap cells (sym from_place)))
         ∙ ap (λ p. upd with_new p link_word) from_place) in
         subst Does (body_is Insert form) (record {
           answer = ends.answered ∙ ap (λ m. Some (Answered m)) (new_reply pairs op of.key of.value of.puts
@@ -285,8 +284,8 @@ module _ (slots request : ℕ) (memory : PlainMemory) (pairs : Pairs) (op : Op) 
     goes = ⊎_elim (λ remove. inl (fit.form ∙ remove)) (λ replace. inr (fit.form ∙ replace)) takes
 
     -- what its body wants
-    module _ (body : List Step) (lock_word : operand thunk 3 ≡ w.node_lock) (mark_word : operand thunk 4 ≡ w.node_mark)
-        where
+    module _ (body : List Step) (lock_word : operand thunk 3 ≡ w.node_lock)
+        (mark_word : operand thunk 4 ≡ w.node_mark) where
       lock_free : is_free (operand thunk 3) ≡ true
       lock_free = ap is_free lock_word
           ∙ (both_of (is_free w.node_lock) _ (its.reads.node_lock_ready (omega arith) takes_it)).0
@@ -299,7 +298,8 @@ module _ (slots request : ℕ) (memory : PlainMemory) (pairs : Pairs) (op : Op) 
         mark = mark_wanted;
         lock = got;
         node = ap (λ s. cells (mark_of s)) fit.node
-            ∙ (its.stood (mark_of node) w.node_mark (its.reads.node_mark_read (omega arith) takes_it) ∙ sym mark_word);
+            ∙ (its.stood (mark_of node) w.node_mark (its.reads.node_mark_read (omega arith) takes_it)
+            ∙ sym mark_word);
         fresh_node = unspent.mark goes;
       }
 
@@ -441,14 +441,8 @@ module _ (slots request : ℕ) (memory : PlainMemory) (pairs : Pairs) (op : Op) 
     abbrev b : Nodes
     b = nodes base
 
-    as_it_was : (t : ℕ) → linked t ≡ true → IsSameNode n b t
-    as_it_was = same_node slots cells pairs stands g gk gn gv free.out
-
-    base_line : Line b linked
-    base_line = made_line slots cells pairs stands g gk gn gv free.out
-
-    base_map : Contents b linked (get pairs)
-    base_map = made_map slots cells pairs stands g gk gn gv free.out
+    swap_made : HasNew slots cells pairs stands g gk gn gv free.out
+    swap_made = has_new slots cells pairs stands g gk gn gv free.out
 
     abbrev c : ℕ
     c = behind (inr number)
@@ -468,11 +462,11 @@ module _ (slots request : ℕ) (memory : PlainMemory) (pairs : Pairs) (op : Op) 
         (λ was. let is = off_was linked node t was in (is.0, inr is.1)) (on_or out g t on)
 
     same_ranks : (t : ℕ) → linked t ≡ true → rank b t ≡ rank n t
-    same_ranks t on = same_rank n b t (as_it_was t on).key (as_it_was t on).mark
+    same_ranks t on = same_rank n b t (swap_made.same t on).key (swap_made.same t on).mark
 
     -- the new node has the old one's rank
     new_rank : rank b g ≡ rank n node
-    new_rank = own_rank slots cells pairs stands g gk gn gv free.out gk_low
+    new_rank = swap_made.rank_is gk_low
         ∙ (ap (λ k. suc (suc (2 * k))) (gk_is ∙ sym (its.found_key put.hit))
         ∙ sym (rank_unmarked n node its.node_head (stands.unmarked node its.node)))
 
@@ -484,7 +478,7 @@ module _ (slots request : ℕ) (memory : PlainMemory) (pairs : Pairs) (op : Op) 
       next = upd_same b.next from from (suc c) refl;
       out = upd_other linked node g false (not_new node its.node) ∙ free.out;
       links = upd_other b.next from g (suc c) (not_new from its.from)
-          ∙ (own_next slots cells pairs stands g gk gn gv free.out (value_small old_next)
+          ∙ (swap_made.next_is (value_small old_next)
           ∙ old_next_is (inr number));
       from = let less = its.rises in let new = new_rank in let old = same_ranks from its.from in
           omega (arith, less, new, old);
@@ -539,24 +533,21 @@ module _ (slots request : ℕ) (memory : PlainMemory) (pairs : Pairs) (op : Op) 
       within = λ t on. ⊎_elim (λ e. subst (λ k. k < slots) (sym e) free.within) (stands.within t) (swapped_is t on).1;
       line = line_same (with_next (with_next b from (suc c)) from (suc g)) (nodes then_cells) swapped
           (λ t on. let ne = (swapped_is t on).0 in (then_key t, then_next t ne, then_mark t ne))
-          (insertion_keeps (with_next b from (suc c)) out (gone_line (inr number) b as_it_was base_line base_map)
+          (insertion_keeps (with_next b from (suc c)) out (gone_line (inr number) b swap_made.same swap_made.line swap_made.map)
           from c g swap);
       unmarked = λ t on. let is = swapped_is t on in then_mark t is.0 ∙ ⊎_elim
-          (λ e. ap b.mark e ∙ own_mark slots cells pairs stands g gk gn gv free.out)
-          (λ was. (as_it_was t was).mark ∙ stands.unmarked t was) is.1;
+          (λ e. ap b.mark e ∙ swap_made.mark_is)
+          (λ was. (swap_made.same t was).mark ∙ stands.unmarked t was) is.1;
       contents = contents_as b (nodes then_cells) swapped (upd (upd (get pairs) key None) key (Some put.value))
           (get (map_after pairs op)) (λ t on. (then_key t, then_value t))
           (λ q. upd_twice (get pairs) key None (Some put.value) q ∙ set_map pairs op put.key put.value put.put q)
-          (contents_insert b out (upd (get pairs) key None) (gone_map (inr number) b as_it_was base_line base_map) g key
+          (contents_insert b out (upd (get pairs) key None) (gone_map (inr number) b swap_made.same swap_made.line swap_made.map) g key
           put.value (upd_same (get pairs) key key None refl)
-          (own_key slots cells pairs stands g gk gn gv free.out gk_low ∙ gk_is)
-          (own_value slots cells pairs stands g gk gn gv free.out
+          (swap_made.key_is gk_low ∙ gk_is)
+          (swap_made.value_is
           (value_fits put.key put.value 6 gives (number_at 6 put.numbers)) ∙ number_at 6 put.numbers)
-          (new_low slots cells pairs stands g gk gn gv free.out));
+          swap_made.low);
     }
-
-    stood_in : (t cell : ℕ) → cell < 5 → linked t ≡ true → base (cell_of 0 t cell) ≡ cells (cell_of 0 t cell)
-    stood_in = stays slots cells pairs stands g gk gn gv free.out
 
     replace_case : Does (list_steps thunk)
     replace_case =
@@ -568,7 +559,7 @@ module _ (slots request : ℕ) (memory : PlainMemory) (pairs : Pairs) (op : Op) 
         (slice_index memory.replies request) thunk
         (passes (inr number) (replace_steps thunk) lock_word mark_word got) (unspent.next (fit.form ∙ number)) in
         let link_stood : base (next_of from) ≡ cells (thunk.lock + 2) =
-        stood_in from 2 (omega arith) its.from ∙ ap cells (sym from_place) in
+        swap_made.stays from 2 (omega arith) its.from ∙ ap cells (sym from_place) in
         let written : replaced_cells (set (replace_steps thunk)) cells memory.clock (slice_index memory.stamps request)
         (slice_index memory.replies request) thunk ≡ then_cells =
         (λ i. exchanged (exchanged (exchanged
@@ -579,8 +570,8 @@ module _ (slots request : ℕ) (memory : PlainMemory) (pairs : Pairs) (op : Op) 
         ∙ (ap (λ left. exchanged left (next_of from) (cells (thunk.lock + 2)) new_word)
         (exchanges_write base (mark_of node) (next_of node) (cells (mark_of (node_in thunk))) mark_new
         old_next on_word
-        (stood_in node 4 (omega arith) its.node ∙ ap (λ s. cells (mark_of s)) (sym fit.node))
-        (stood_in node 2 (omega arith) its.node ∙ ap (λ s. cells (next_of s)) (sym fit.node)) (next_not_mark node node))
+        (swap_made.stays node 4 (omega arith) its.node ∙ ap (λ s. cells (mark_of s)) (sym fit.node))
+        (swap_made.stays node 2 (omega arith) its.node ∙ ap (λ s. cells (next_of s)) (sym fit.node)) (next_not_mark node node))
         ∙ exchange_writes with_on (next_of from) (cells (thunk.lock + 2)) new_word
         (upd_other with_mark (next_of node) (next_of from) on_word (next_apart from node (apart (inr number)))
         ∙ (upd_other base (mark_of node) (next_of from) mark_new (next_not_mark from node)

@@ -1,5 +1,5 @@
 -- A walk of the list over cells that stand as they were read ends in its key's place.
-use Rattle.std.proofs.Common.{◌≡◌, ◌≢◌, ℕ, suc, ◌+◌, ◌*◌, ◌<◌, ◌≤◌, Bool, true, false, Some, None, refl, sym, ap, ◌∙◌, subst, ⊎_elim, arith}
+use Rattle.std.proofs.Common.{◌≡◌, ◌≢◌, ℕ, suc, ◌*◌, ◌<◌, ◌≤◌, Bool, true, false, Some, None, refl, sym, ap, ◌∙◌, subst, ⊎_elim, arith}
 use Rattle.std.specs.Prelude.{nat_lt}
 use Rattle.std.specs.FinMap.{get}
 use Rattle.std.proofs.lemmas.Bool.{cases_eq}
@@ -49,7 +49,8 @@ module _ (slots : ℕ) (cells : Cells) (pairs : Pairs) (stands : ListStands slot
   fed_below : (w : Walk) (stage : Stage) (place word : ℕ) → IsBelow w → wanted_at w stage ≡ Some place
       → cells place ≡ word → IsBelow (fed b op w stage word)
   fed_below w AtLink place word below want there = below
-  fed_below w AtKey place word below want there = key_below w (nat_lt (value_of word) key) place word refl below want there
+  fed_below w AtKey place word below want there = key_below w (nat_lt (value_of word) key) place word refl below want
+      there
   fed_below w AtValue place word below want there = below
   fed_below w AtLock place word below want there = below
   fed_below w AtMark place word below want there = below

@@ -1,6 +1,6 @@
 -- What a table in buckets holds in its cells, and what each change that a body makes does to that.
 use Rattle.std.proofs.Common.{◌≡◌, ◌≢◌, ℕ, suc, ◌+◌, ◌*◌, ◌<◌, Bool, true, false, List, Option, Some, None, refl, sym, ap, ◌∙◌, subst, inl, inr, ⊎_elim, arith}
-use Rattle.std.specs.Prelude.{[], ◌∷◌, ◌^◌, slice_index}
+use Rattle.std.specs.Prelude.{[], ◌∷◌, ◌^◌}
 use Rattle.std.specs.FinMap.{get}
 use Rattle.std.proofs.lemmas.Option.{none-some}
 use Rattle.std.proofs.lemmas.Bool.{both_ways}
@@ -12,7 +12,6 @@ use Rattle.structure_laws.specs.map_history.specs.Keys.{key_of}
 use Rattle.structure_laws.specs.map_history.specs.Replay.{Pairs}
 use Rattle.structure_laws.specs.body_terms.specs.Update.{upd}
 use Rattle.structure_laws.specs.body_terms.specs.Word.{value_of, next_word}
-use Rattle.structure_laws.specs.body_terms.specs.Memory.{cell_of}
 use Rattle.structure_laws.specs.Scene.{Cells}
 use Rattle.structure_laws.proofs.Changes.{upd_same, upd_other, value-next_word, value_small}
 use Rattle.tree_laws.specs.section_body.specs.Bucket.{bucket_edition, bucket_head}

@@ -1,5 +1,5 @@
 -- The runs of the search tree's four bodies.
-use Rattle.std.proofs.Common.{◌≡◌, ◌≢◌, ℕ, ◌+◌, ◌*◌, Bool, true, false, List, [], ◌∷◌, refl, sym, subst, None}
+use Rattle.std.proofs.Common.{◌≡◌, ◌≢◌, ℕ, ◌+◌, ◌*◌, Bool, true, false, List, [], ◌∷◌, refl, sym, subst}
 use Rattle.std.specs.Prelude.{◌^◌, slice_index}
 use Rattle.structure_laws.specs.body_terms.specs.Word.{value_of, version_of, next_word}
 use Rattle.structure_laws.specs.body_terms.specs.Memory.{cell_of}

@@ -1,21 +1,19 @@
 -- The law of the plain runs.
-use Rattle.std.proofs.Common.{◌≡◌, ◌≢◌, ℕ, suc, ◌+◌, ◌*◌, ◌<◌, ◌≤◌, Bool, true, false, cond, [], ◌∷◌, List, refl, sym, ap, ◌∙◌, subst, inl, inr, ⊎_elim, arith, Some, None}
-use Rattle.std.specs.Prelude.{◌==◌, ◌&&◌, ◌||◌, ◌-◌, ◌^◌, ◌⊎◌, not, nat_lt, drop, slice_index, if◌then◌else◌}
-use Rattle.std.specs.FinMap.{get, insert}
+use Rattle.std.proofs.Common.{◌≡◌, ◌≢◌, ℕ, suc, ◌+◌, ◌<◌, ◌≤◌, Bool, true, false, cond, [], ◌∷◌, List, refl, sym, ap, ◌∙◌, subst, inl, inr, ⊎_elim, arith, Some, None}
+use Rattle.std.specs.Prelude.{◌==◌, ◌&&◌, ◌||◌, ◌-◌, ◌^◌, ◌⊎◌, not, nat_lt, drop, slice_index}
+use Rattle.std.specs.FinMap.{get}
 use Rattle.std.proofs.lemmas.Bool.Decides.{nat_tests}
 use Rattle.std.proofs.lemmas.Bool.{cases_eq, and_from, both_ways}
 use Rattle.structure_laws.specs.table_words.specs.small_lemmas.proofs.Bools.{both_of}
 use Rattle.structure_laws.specs.table_words.specs.small_lemmas.proofs.Numbers.{equal_tested as eq_true, other_tested as eq_false}
 use Rattle.structure_laws.specs.map_history.specs.declared.op.Op.{Op}
-use Rattle.structure_laws.specs.map_history.specs.declared.op.Op.TheVariants.{Get, Ins, Del, Put, Mov}
+use Rattle.structure_laws.specs.map_history.specs.declared.op.Op.TheVariants.{Del}
 use Rattle.structure_laws.specs.map_history.specs.Keys.{key_of}
-use Rattle.structure_laws.specs.map_history.specs.Replay.{Pairs, map_after, reply_of}
-use Rattle.structure_laws.specs.map_history.specs.Words.{word_of}
-use Rattle.structure_laws.specs.map_history.specs.declared.reply.Reply.TheVariants.{Gone, Absent}
+use Rattle.structure_laws.specs.map_history.specs.Replay.{Pairs, map_after}
 use Rattle.structure_laws.specs.body_terms.specs.Update.{upd}
 use Rattle.structure_laws.specs.body_terms.specs.Word.{value_of, next_word, is_free}
 use Rattle.structure_laws.specs.body_terms.specs.Memory.{PlainMemory, cell_of}
-use Rattle.tree_laws.specs.node_laws.proofs.Forms.{put_puts, there, reply_is, new_reply}
+use Rattle.tree_laws.specs.node_laws.proofs.Forms.{put_puts, reply_is, new_reply}
 use Rattle.tree_laws.specs.section_body.specs.Bucket.{operand, is_small}
 use Rattle.structure_laws.specs.body_terms.specs.Run.{exchanged}
 use Rattle.structure_laws.specs.body_terms.specs.Plain.{plain_setting, plain_run}
