@@ -36,7 +36,8 @@ module _ (s : Setting) (cells : ℕ → ℕ) (clock stamp reply : ℕ) (t : Thun
 
   abbrev stored : List Micro
   stored = making 2 (operand t 3) (Fixed (value_of (operand t 1))) (operand t 4)
-      (ClockLoad ∷ StampExchange ∷ ClockRaise ∷ ExchangeCell (t.lock + 2) 0 (Agreed 2) ∷ ReplyExchange (1 * 2 ^ 32) ∷ [])
+      (ClockLoad ∷ StampExchange ∷ ClockRaise ∷ ExchangeCell (t.lock + 2) 0 (Agreed 2) ∷
+      ReplyExchange (1 * 2 ^ 32) ∷ [])
 
   pub insert_run : link ≡ operand t 1 → mark ≡ operand t 2 → version_of link ≢ s.version_max
       → Ends (1 * 2 ^ 32) inserted_cells (ran s at_first (line (insert_steps t)))

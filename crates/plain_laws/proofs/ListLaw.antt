@@ -340,8 +340,8 @@ module _ (slots request : ℕ) (memory : PlainMemory) (pairs : Pairs) (op : Op) 
 
   -- a removal
   module _ (form : form_of thunk ≡ Remove) (number : form_for op w.found ≡ 33) where
-    goner : Removes op w w.found
-    goner = removes op w w.found number
+    removal : Removes op w w.found
+    removal = removes op w w.found number
 
     abbrev gone : ℕ → Bool
     gone = upd linked node false
@@ -382,14 +382,14 @@ module _ (slots request : ℕ) (memory : PlainMemory) (pairs : Pairs) (op : Op) 
           (gone_line (inl number) n (λ t on. no_change n t) stands.line stands.contents);
       unmarked = λ t on. let was = off_was linked node t on in left_mark t was.0 ∙ stands.unmarked t was.1;
       contents = contents_as n (nodes left) gone (upd (get pairs) key None) (get (map_after pairs op))
-          (λ t on. (left_key t, left_value t)) (remove_map pairs op (ap is_del goner.del))
+          (λ t on. (left_key t, left_value t)) (remove_map pairs op (ap is_del removal.del))
           (gone_map (inl number) n (λ t on. no_change n t) stands.line stands.contents);
     }
 
     remove_case : Does (list_steps thunk)
     remove_case =
-        let lock_word = number_at 3 goner.numbers in
-        let mark_word = number_at 4 goner.numbers in
+        let lock_word = number_at 3 removal.numbers in
+        let mark_word = number_at 4 removal.numbers in
         let got = is_got (set (remove_steps thunk)) 2 (operand thunk 3) refl refl refl
         (lock_free (inl number) (remove_steps thunk) lock_word mark_word) (unspent.lock (goes (inl number))) in
         let ends = remove_run (set (remove_steps thunk)) cells memory.clock (slice_index memory.stamps request)
@@ -404,7 +404,7 @@ module _ (slots request : ℕ) (memory : PlainMemory) (pairs : Pairs) (op : Op) 
         (next_not_mark from node) in
         subst Does (body_is Remove form) (record {
           answer = ends.answered ∙ ap (λ m. Some (Answered m)) (remove_reply pairs op (n.value node)
-              (ap is_del goner.del) (its.found_is goner.hit));
+              (ap is_del removal.del) (its.found_is removal.hit));
           contents = subst Left (sym (ends.left ∙ written)) remove_stands;
         })
 
@@ -417,32 +417,32 @@ module _ (slots request : ℕ) (memory : PlainMemory) (pairs : Pairs) (op : Op) 
     gives : PutsIn op put.key put.value
     gives = put_puts op put.key put.value put.put
 
-    abbrev g : ℕ
-    g = slice_index memory.free 0
+    abbrev new : ℕ
+    new = slice_index memory.free 0
 
-    abbrev gk : ℕ
-    gk = operand thunk 5
+    abbrev new_key : ℕ
+    new_key = operand thunk 5
 
-    abbrev gn : ℕ
-    gn = value_of old_next
+    abbrev new_next : ℕ
+    new_next = value_of old_next
 
-    abbrev gv : ℕ
-    gv = operand thunk 6
+    abbrev new_value : ℕ
+    new_value = operand thunk 6
 
-    gk_low : gk < 2 ^ 32
-    gk_low = key_small put.key put.value 5 gives (number_at 5 put.numbers)
+    new_key_low : new_key < 2 ^ 32
+    new_key_low = key_small put.key put.value 5 gives (number_at 5 put.numbers)
 
-    gk_is : gk ≡ key
-    gk_is = number_at 5 put.numbers ∙ sym gives.0
+    new_key_is : new_key ≡ key
+    new_key_is = number_at 5 put.numbers ∙ sym gives.0
 
     abbrev base : Cells
-    base = made slots cells pairs stands g gk gn gv free.out
+    base = made slots cells pairs stands new new_key new_next new_value free.out
 
     abbrev b : Nodes
     b = nodes base
 
-    swap_made : HasNew slots cells pairs stands g gk gn gv free.out
-    swap_made = has_new slots cells pairs stands g gk gn gv free.out
+    made_new : HasNew slots cells pairs stands new new_key new_next new_value free.out
+    made_new = has_new slots cells pairs stands new new_key new_next new_value free.out
 
     abbrev c : ℕ
     c = behind (inr number)
@@ -450,40 +450,45 @@ module _ (slots request : ℕ) (memory : PlainMemory) (pairs : Pairs) (op : Op) 
     abbrev out : ℕ → Bool
     out = upd linked node false
 
-    abbrev swapped : ℕ → Bool
-    swapped = upd out g true
+    out_line : Line (with_next b from (suc c)) out
+    out_line = gone_line (inr number) b made_new.same made_new.line made_new.map
 
-    not_new : (t : ℕ) → linked t ≡ true → g ≢ t
+    out_map : Contents b out (upd (get pairs) key None)
+    out_map = gone_map (inr number) b made_new.same made_new.line made_new.map
+
+    abbrev swapped : ℕ → Bool
+    swapped = upd out new true
+
+    not_new : (t : ℕ) → linked t ≡ true → new ≢ t
     not_new t on e = both_ways _ free.out (ap linked e ∙ on)
 
     -- what stays linked isn't the old node
-    swapped_is : (t : ℕ) → swapped t ≡ true → (t ≢ node) × ((t ≡ g) ⊎ (linked t ≡ true))
+    swapped_is : (t : ℕ) → swapped t ≡ true → (t ≢ node) × ((t ≡ new) ⊎ (linked t ≡ true))
     swapped_is t on = ⊎_elim (λ e. ((λ z. not_new node its.node (sym e ∙ z)), inl e))
-        (λ was. let is = off_was linked node t was in (is.0, inr is.1)) (on_or out g t on)
+        (λ was. let is = off_was linked node t was in (is.0, inr is.1)) (on_or out new t on)
 
     same_ranks : (t : ℕ) → linked t ≡ true → rank b t ≡ rank n t
-    same_ranks t on = same_rank n b t (swap_made.same t on).key (swap_made.same t on).mark
+    same_ranks t on = same_rank n b t (made_new.same t on).key (made_new.same t on).mark
 
     -- the new node has the old one's rank
-    new_rank : rank b g ≡ rank n node
-    new_rank = swap_made.rank_is gk_low
-        ∙ (ap (λ k. suc (suc (2 * k))) (gk_is ∙ sym (its.found_key put.hit))
+    new_rank : rank b new ≡ rank n node
+    new_rank = made_new.rank_is new_key_low
+        ∙ (ap (λ k. suc (suc (2 * k))) (new_key_is ∙ sym (its.found_key put.hit))
         ∙ sym (rank_unmarked n node its.node_head (stands.unmarked node its.node)))
 
     -- and comes in its place
-    swap : IsInsertion (with_next b from (suc c)) out from c g
+    swap : IsInsertion (with_next b from (suc c)) out from c new
     swap = record {
       before = off_still linked node from (apart (inr number)) its.from;
       no_tail = its.from_tail;
       next = upd_same b.next from from (suc c) refl;
-      out = upd_other linked node g false (not_new node its.node) ∙ free.out;
-      links = upd_other b.next from g (suc c) (not_new from its.from)
-          ∙ (swap_made.next_is (value_small old_next)
-          ∙ old_next_is (inr number));
-      from = let less = its.rises in let new = new_rank in let old = same_ranks from its.from in
-          omega (arith, less, new, old);
-      to = let next = above (inr number) in let less = next.1 in let new = new_rank in
-          let old = same_ranks c next.0 in omega (arith, less, new, old);
+      out = upd_other linked node new false (not_new node its.node) ∙ free.out;
+      links = upd_other b.next from new (suc c) (not_new from its.from)
+          ∙ (made_new.next_is (value_small old_next) ∙ old_next_is (inr number));
+      from = let less = its.rises in let own = new_rank in let other = same_ranks from its.from in
+          omega (arith, less, own, other);
+      to = let next = above (inr number) in let less = next.1 in let own = new_rank in
+          let other = same_ranks c next.0 in omega (arith, less, own, other);
     }
 
     -- the cells that it leaves
@@ -491,16 +496,16 @@ module _ (slots request : ℕ) (memory : PlainMemory) (pairs : Pairs) (op : Op) 
     with_mark = upd base (mark_of node) mark_new
 
     abbrev on_word : ℕ
-    on_word = next_word old_next (value_of (g + 1))
+    on_word = next_word old_next (value_of (new + 1))
 
     abbrev with_on : Cells
     with_on = upd with_mark (next_of node) on_word
 
     abbrev new_word : ℕ
-    new_word = next_word (cells (thunk.lock + 2)) (value_of (g + 1))
+    new_word = next_word (cells (thunk.lock + 2)) (value_of (new + 1))
 
-    new_word_is : value_of new_word ≡ suc g
-    new_word_is = link_to (cells (thunk.lock + 2)) g (narrow g free.within)
+    new_word_is : value_of new_word ≡ suc new
+    new_word_is = link_to (cells (thunk.lock + 2)) new (narrow new free.within)
 
     abbrev then_cells : Cells
     then_cells = upd with_on (next_of from) new_word
@@ -523,30 +528,27 @@ module _ (slots request : ℕ) (memory : PlainMemory) (pairs : Pairs) (op : Op) 
         ∙ (upd_other (nodes with_mark).next node t (value_of on_word) ne
         ∙ mark_next base node mark_new t)
 
-    then_next : (t : ℕ) → t ≢ node → (nodes then_cells).next t ≡ upd (upd b.next from (suc c)) from (suc g) t
+    then_next : (t : ℕ) → t ≢ node → (nodes then_cells).next t ≡ upd (upd b.next from (suc c)) from (suc new) t
     then_next t ne = link_next with_on from new_word t
-        ∙ ((λ i. cond (t == from) (new_word_is i) (on_next t ne i)) ∙ sym (upd_twice b.next from (suc c) (suc g) t))
+        ∙ ((λ i. cond (t == from) (new_word_is i) (on_next t ne i)) ∙ sym (upd_twice b.next from (suc c) (suc new) t))
 
     replace_stands : Left then_cells
     replace_stands = record {
       linked = swapped;
       within = λ t on. ⊎_elim (λ e. subst (λ k. k < slots) (sym e) free.within) (stands.within t) (swapped_is t on).1;
-      line = line_same (with_next (with_next b from (suc c)) from (suc g)) (nodes then_cells) swapped
+      line = line_same (with_next (with_next b from (suc c)) from (suc new)) (nodes then_cells) swapped
           (λ t on. let ne = (swapped_is t on).0 in (then_key t, then_next t ne, then_mark t ne))
-          (insertion_keeps (with_next b from (suc c)) out (gone_line (inr number) b swap_made.same swap_made.line swap_made.map)
-          from c g swap);
-      unmarked = λ t on. let is = swapped_is t on in then_mark t is.0 ∙ ⊎_elim
-          (λ e. ap b.mark e ∙ swap_made.mark_is)
-          (λ was. (swap_made.same t was).mark ∙ stands.unmarked t was) is.1;
+          (insertion_keeps (with_next b from (suc c)) out out_line from c new swap);
+      unmarked = λ t on. let is = swapped_is t on in then_mark t is.0 ∙ ⊎_elim (λ e. ap b.mark e ∙ made_new.mark_is)
+          (λ was. (made_new.same t was).mark ∙ stands.unmarked t was) is.1;
       contents = contents_as b (nodes then_cells) swapped (upd (upd (get pairs) key None) key (Some put.value))
           (get (map_after pairs op)) (λ t on. (then_key t, then_value t))
           (λ q. upd_twice (get pairs) key None (Some put.value) q ∙ set_map pairs op put.key put.value put.put q)
-          (contents_insert b out (upd (get pairs) key None) (gone_map (inr number) b swap_made.same swap_made.line swap_made.map) g key
-          put.value (upd_same (get pairs) key key None refl)
-          (swap_made.key_is gk_low ∙ gk_is)
-          (swap_made.value_is
-          (value_fits put.key put.value 6 gives (number_at 6 put.numbers)) ∙ number_at 6 put.numbers)
-          swap_made.low);
+          (contents_insert b out (upd (get pairs) key None) out_map new key put.value
+          (upd_same (get pairs) key key None refl) (made_new.key_is new_key_low ∙ new_key_is)
+          (made_new.value_is (value_fits put.key put.value 6 gives (number_at 6 put.numbers))
+          ∙ number_at 6 put.numbers)
+          made_new.low);
     }
 
     replace_case : Does (list_steps thunk)
@@ -559,19 +561,19 @@ module _ (slots request : ℕ) (memory : PlainMemory) (pairs : Pairs) (op : Op) 
         (slice_index memory.replies request) thunk
         (passes (inr number) (replace_steps thunk) lock_word mark_word got) (unspent.next (fit.form ∙ number)) in
         let link_stood : base (next_of from) ≡ cells (thunk.lock + 2) =
-        swap_made.stays from 2 (omega arith) its.from ∙ ap cells (sym from_place) in
+        made_new.stays from 2 (omega arith) its.from ∙ ap cells (sym from_place) in
         let written : replaced_cells (set (replace_steps thunk)) cells memory.clock (slice_index memory.stamps request)
         (slice_index memory.replies request) thunk ≡ then_cells =
         (λ i. exchanged (exchanged (exchanged
-        (valued_slot cells (contents.fixed i) g (0 ∷ gk ∷ gn ∷ gv ∷ 0 ∷ []))
+        (valued_slot cells (contents.fixed i) new (0 ∷ new_key ∷ new_next ∷ new_value ∷ 0 ∷ []))
         (mark_of (fit.node i)) (cells (mark_of (node_in thunk))) mark_new)
         (next_of (fit.node i)) old_next on_word)
         (from_place i) (cells (thunk.lock + 2)) new_word)
         ∙ (ap (λ left. exchanged left (next_of from) (cells (thunk.lock + 2)) new_word)
-        (exchanges_write base (mark_of node) (next_of node) (cells (mark_of (node_in thunk))) mark_new
-        old_next on_word
-        (swap_made.stays node 4 (omega arith) its.node ∙ ap (λ s. cells (mark_of s)) (sym fit.node))
-        (swap_made.stays node 2 (omega arith) its.node ∙ ap (λ s. cells (next_of s)) (sym fit.node)) (next_not_mark node node))
+        (exchanges_write base (mark_of node) (next_of node) (cells (mark_of (node_in thunk))) mark_new old_next on_word
+        (made_new.stays node 4 (omega arith) its.node ∙ ap (λ s. cells (mark_of s)) (sym fit.node))
+        (made_new.stays node 2 (omega arith) its.node ∙ ap (λ s. cells (next_of s)) (sym fit.node))
+        (next_not_mark node node))
         ∙ exchange_writes with_on (next_of from) (cells (thunk.lock + 2)) new_word
         (upd_other with_mark (next_of node) (next_of from) on_word (next_apart from node (apart (inr number)))
         ∙ (upd_other base (mark_of node) (next_of from) mark_new (next_not_mark from node)
