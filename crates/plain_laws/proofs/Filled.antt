@@ -48,10 +48,10 @@ slot_apart : (fixed f : ℕ) (i j : ℕ) → i < j → j < 5 → cell_of fixed f
 slot_apart fixed f i j less low e = omega (arith, e, less)
 
 module _ (cells : ℕ → ℕ) (fixed f : ℕ) (leaf : ℕ → ℕ) where
-  abbrev pub filled_one : ℕ → ℕ
+  abbrev filled_one : ℕ → ℕ
   filled_one = five cells (cell_of fixed f) leaf
 
-  pub one_own : (cell : ℕ) → cell < 5 → filled_one (cell_of fixed f cell) ≡ leaf cell
+  one_own : (cell : ℕ) → cell < 5 → filled_one (cell_of fixed f cell) ≡ leaf cell
   one_own cell low = five_at cells (cell_of fixed f) leaf (slot_apart fixed f) cell low
 
   -- a fixed cell
