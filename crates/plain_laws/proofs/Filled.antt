@@ -1,8 +1,10 @@
 -- One slot that was filled, or two.
-use Rattle.std.proofs.Common.{◌≡◌, ◌≢◌, ℕ, zero, suc, ◌<◌, refl, ◌∙◌, arith}
+use Rattle.std.proofs.Common.{◌≡◌, ◌≢◌, ℕ, zero, suc, ◌<◌, List, refl, ap, ◌∙◌, arith}
+use Rattle.std.specs.Prelude.{◌^◌, slice_index}
 use Rattle.structure_laws.specs.body_terms.specs.Update.{upd}
 use Rattle.structure_laws.specs.body_terms.specs.Memory.{cell_of}
-use Rattle.structure_laws.proofs.Changes.{upd_same, upd_other}
+use Rattle.structure_laws.specs.body_terms.specs.Word.{value_of, next_word}
+use Rattle.structure_laws.proofs.Changes.{upd_same, upd_other, value-next_word}
 
 -- five cells of a slot get these words
 abbrev pub five : (ℕ → ℕ) → (ℕ → ℕ) → (ℕ → ℕ) → ℕ → ℕ
@@ -46,10 +48,10 @@ slot_apart : (fixed f : ℕ) (i j : ℕ) → i < j → j < 5 → cell_of fixed f
 slot_apart fixed f i j less low e = omega (arith, e, less)
 
 module _ (cells : ℕ → ℕ) (fixed f : ℕ) (leaf : ℕ → ℕ) where
-  abbrev pub filled_one : ℕ → ℕ
+  abbrev filled_one : ℕ → ℕ
   filled_one = five cells (cell_of fixed f) leaf
 
-  pub one_own : (cell : ℕ) → cell < 5 → filled_one (cell_of fixed f cell) ≡ leaf cell
+  one_own : (cell : ℕ) → cell < 5 → filled_one (cell_of fixed f cell) ≡ leaf cell
   one_own cell low = five_at cells (cell_of fixed f) leaf (slot_apart fixed f) cell low
 
   -- a fixed cell
@@ -62,6 +64,20 @@ module _ (cells : ℕ → ℕ) (fixed f : ℕ) (leaf : ℕ → ℕ) where
     where
       slots : (cell other : ℕ) → cell < 5 → other < 5 → cell_of fixed s cell ≡ cell_of fixed f other → s ≡ f
       slots cell other low less e = omega (arith, low, less, e)
+
+-- a slot whose cells each get one more word, with these values
+module _ (cells : ℕ → ℕ) (fixed f : ℕ) (values : List ℕ) where
+  abbrev pub value_words : ℕ → ℕ
+  value_words cell = next_word (cells (cell_of fixed f cell)) (slice_index values cell)
+
+  abbrev pub valued_slot : ℕ → ℕ
+  valued_slot = filled_one cells fixed f value_words
+
+  pub slot_value : (cell v : ℕ) → cell < 5 → slice_index values cell ≡ v → v < 2 ^ 32
+      → value_of (valued_slot (cell_of fixed f cell)) ≡ v
+  slot_value cell v low is small = ap value_of (one_own cells fixed f value_words cell low)
+      ∙ (ap (λ u. value_of (next_word (cells (cell_of fixed f cell)) u)) is
+      ∙ value-next_word (cells (cell_of fixed f cell)) v small)
 
 module _ (cells : ℕ → ℕ) (fixed f t : ℕ) (leaf inner : ℕ → ℕ) (differ : t ≢ f) where
   abbrev pub filled : ℕ → ℕ

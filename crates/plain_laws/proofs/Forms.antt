@@ -11,6 +11,7 @@ use Rattle.tree_laws.specs.bucket_laws.specs.bucket_bodies.specs.Table.{set_step
 use Rattle.structure_laws.specs.body_terms.specs.Line.{line}
 use Rattle.structure_laws.specs.body_terms.specs.Run.{Setting, Run, ran, exchanged, is_takable, refusal}
 use Rattle.structure_laws.specs.body_terms.specs.declared.outcome.Outcome.TheVariants.{Answered, Busy, Stale, Spent}
+use Rattle.structure_laws.specs.body_terms.specs.declared.micro.Source.{Source}
 use Rattle.structure_laws.specs.body_terms.specs.declared.micro.Source.TheVariants.{Fixed, Agreed}
 use Rattle.structure_laws.specs.body_terms.specs.declared.micro.Micro.{Micro}
 use Rattle.structure_laws.specs.body_terms.specs.declared.micro.Micro.TheVariants.{LoadCell, Commit, CheckFresh, PrivateLoad, PrivateStore, MakeCommit, ClockLoad, StampExchange, ClockRaise, ExchangeCell, EpochForRetire, RetireCommit, ReplyExchange}
@@ -72,16 +73,16 @@ pub held_passes : (s : Setting) (place log word : ℕ) → IsGot s log word
     → cond (s.taken (log + 1) == held_word s.descriptor word) None (Some (refusal s place word (s.taken (log + 1)))) ≡ None
 held_passes s place log word lock = ap (λ b. cond b None (Some (refusal s place word (s.taken (log + 1))))) lock.got
 
--- the cells with those of a new node with this key, value and next link
+-- the cells with those of a new node: its key, and the values of its next two cells
 abbrev pub node_made : Setting → (ℕ → ℕ) → ℕ → ℕ → ℕ → ℕ → ℕ → ℕ
-node_made s cells log key value next = five cells (cell_of s.fixed_cells (s.slot log))
-    (λ cell. next_word (s.first log cell) (slice_index (0 ∷ key ∷ value ∷ next ∷ 0 ∷ []) cell))
+node_made s cells log key second third = five cells (cell_of s.fixed_cells (s.slot log))
+    (λ cell. next_word (s.first log cell) (slice_index (0 ∷ key ∷ second ∷ third ∷ 0 ∷ []) cell))
 
--- the steps that make it
-abbrev pub making : ℕ → ℕ → ℕ → ℕ → List Micro → List Micro
-making log key value next rest =
+-- the steps that make it; the first of these two values may be one that was agreed on
+abbrev pub making : ℕ → ℕ → Source → ℕ → List Micro → List Micro
+making log key second third rest =
     PrivateLoad 0 log ∷ PrivateStore 0 log (Fixed 0) ∷ PrivateLoad 1 log ∷ PrivateStore 1 log (Fixed key) ∷
-    PrivateLoad 2 log ∷ PrivateStore 2 log (Fixed value) ∷ PrivateLoad 3 log ∷ PrivateStore 3 log (Fixed next) ∷
+    PrivateLoad 2 log ∷ PrivateStore 2 log second ∷ PrivateLoad 3 log ∷ PrivateStore 3 log (Fixed third) ∷
     PrivateLoad 4 log ∷ PrivateStore 4 log (Fixed 0) ∷ MakeCommit log ∷ rest
 
 -- a run that ends with this answer and leaves these cells
@@ -121,7 +122,7 @@ module _ (s : Setting) (cells : ℕ → ℕ) (clock stamp reply : ℕ) (t : Thun
       (sym (word_passes (t.lock + 1) (operand t 0) edition same)) (record { answered = refl; left = refl })
 
   abbrev made_node : List Micro
-  made_node = making 2 (operand t 1) (operand t 2) (operand t 3) (ClockLoad ∷ StampExchange ∷ ClockRaise ∷
+  made_node = making 2 (operand t 1) (Fixed (operand t 2)) (operand t 3) (ClockLoad ∷ StampExchange ∷ ClockRaise ∷
       ExchangeCell (t.lock + 2) 1 (Agreed 2) ∷ ExchangeCell (t.lock + 1) 0 (Fixed 0) ∷ ReplyExchange (1 * 2 ^ 32) ∷ [])
 
   pub insert_run : edition ≡ operand t 0 → version_of edition ≢ s.version_max → version_of head ≢ s.version_max → Ends (1 * 2 ^ 32) inserted_cells (ran s begun (line (insert_steps t)))

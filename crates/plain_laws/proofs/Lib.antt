@@ -1,5 +1,7 @@
 mod Filled
+mod Unchanged
 pub mod Forms
+mod Fronts
 mod Table
 mod Follows
 mod Walks
@@ -8,3 +10,7 @@ pub mod Law
 mod TreeLaw
 mod MoveForms
 mod MoveLaw
+mod ListForms
+mod ListWalks
+mod ListNodes
+mod ListLaw

@@ -82,7 +82,7 @@ module _ (s : Setting) (cells : ℕ → ℕ) (clock stamp reply : ℕ) (t : Thun
       (higher_lock t + 1) higher (next_word higher 0)
 
   abbrev stored : List Micro
-  stored = making 6 (low_half t 6) (high_half t 6) (high_half t 5) (ClockLoad ∷ StampExchange ∷ ClockRaise ∷
+  stored = making 6 (low_half t 6) (Fixed (high_half t 6)) (high_half t 5) (ClockLoad ∷ StampExchange ∷ ClockRaise ∷
       ExchangeCell (low_half t 4) 4 (Fixed (low_half t 5)) ∷ ExchangeCell (target_lock t + 2) 5 (Agreed 6) ∷
       ExchangeCell (t.lock + 1) 0 (Fixed 0) ∷ ExchangeCell (higher_lock t + 1) 3 (Fixed 0) ∷
       EpochForRetire (high_half t 4) 7 ∷ RetireCommit (high_half t 4) 7 ∷ ReplyExchange (7 * 2 ^ 32) ∷ [])
@@ -140,7 +140,7 @@ module _ (s : Setting) (cells : ℕ → ℕ) (clock stamp reply : ℕ) (t : Thun
       (t.lock + 1) lower (next_word lower 0)
 
   abbrev renamed : List Micro
-  renamed = making 2 (operand t 4) (operand t 5) (operand t 3) (ClockLoad ∷ StampExchange ∷ ClockRaise ∷
+  renamed = making 2 (operand t 4) (Fixed (operand t 5)) (operand t 3) (ClockLoad ∷ StampExchange ∷ ClockRaise ∷
       ExchangeCell (operand t 1) 1 (Agreed 2) ∷ ExchangeCell (t.lock + 1) 0 (Fixed 0) ∷
       EpochForRetire (operand t 2) 3 ∷ RetireCommit (operand t 2) 3 ∷ ReplyExchange (7 * 2 ^ 32) ∷ [])
 

@@ -1,6 +1,6 @@
 -- What a table in buckets holds in its cells, and what each change that a body makes does to that.
-use Rattle.std.proofs.Common.{◌≡◌, ◌≢◌, ℕ, suc, ◌+◌, ◌*◌, ◌<◌, Bool, true, false, Option, Some, None, refl, sym, ap, ◌∙◌, subst, inl, inr, ⊎_elim, arith}
-use Rattle.std.specs.Prelude.{[], ◌∷◌, ◌^◌, slice_index}
+use Rattle.std.proofs.Common.{◌≡◌, ◌≢◌, ℕ, suc, ◌+◌, ◌*◌, ◌<◌, Bool, true, false, List, Option, Some, None, refl, sym, ap, ◌∙◌, subst, inl, inr, ⊎_elim, arith}
+use Rattle.std.specs.Prelude.{[], ◌∷◌, ◌^◌}
 use Rattle.std.specs.FinMap.{get}
 use Rattle.std.proofs.lemmas.Option.{none-some}
 use Rattle.std.proofs.lemmas.Bool.{both_ways}
@@ -12,7 +12,6 @@ use Rattle.structure_laws.specs.map_history.specs.Keys.{key_of}
 use Rattle.structure_laws.specs.map_history.specs.Replay.{Pairs}
 use Rattle.structure_laws.specs.body_terms.specs.Update.{upd}
 use Rattle.structure_laws.specs.body_terms.specs.Word.{value_of, next_word}
-use Rattle.structure_laws.specs.body_terms.specs.Memory.{cell_of}
 use Rattle.structure_laws.specs.Scene.{Cells}
 use Rattle.structure_laws.proofs.Changes.{upd_same, upd_other, value-next_word, value_small}
 use Rattle.tree_laws.specs.section_body.specs.Bucket.{bucket_edition, bucket_head}
@@ -27,7 +26,7 @@ use Rattle.tree_laws.specs.bucket_laws.proofs.NodeChanges.{value_changed, none_c
 use Rattle.tree_laws.specs.bucket_laws.proofs.Places.{one_slot}
 use Rattle.tree_laws.specs.bucket_laws.proofs.TableTurn.{upd_within, upd_on}
 use Rattle.tree_laws.specs.bucket_laws.proofs.Walks.{reached_on}
-use Rattle.plain_laws.proofs.Filled.{filled_one, one_own, one_other, one_low}
+use Rattle.plain_laws.proofs.Filled.{one_other, one_low, value_words, valued_slot, slot_value}
 
 -- contents go by what is looked up
 contents_same : (n : Nodes) (on : ℕ → Bool) (lookup lookup' : ℕ → Option ℕ) → Contents n on lookup → ((key : ℕ) → lookup key ≡ lookup' key) → Contents n on lookup'
@@ -44,13 +43,9 @@ link_to word t low = value-next_word word (value_of (t + 1)) (value_small (t + 1
     small_value : (n m : ℕ) → n ≡ m → m < 2 ^ 32 → value_of n ≡ m
     small_value n m e low = omega arith
 
--- the words of a new node with this key, value and next link
-abbrev pub node_words : Cells → ℕ → ℕ → ℕ → ℕ → ℕ → ℕ → ℕ
-node_words cells fixed t key value next cell = next_word (cells (cell_of fixed t cell)) (slice_index (0 ∷ key ∷ value ∷ next ∷ 0 ∷ []) cell)
-
--- the cells in which it is made
+-- the cells in which a new node with this key, value and next link is made
 abbrev pub made_cells : Cells → ℕ → ℕ → ℕ → ℕ → ℕ → ℕ → ℕ
-made_cells cells fixed t key value next = filled_one cells fixed t (node_words cells fixed t key value next)
+made_cells cells fixed t key value next = valued_slot cells fixed t (0 ∷ key ∷ value ∷ next ∷ 0 ∷ [])
 
 module _ (buckets : ℕ) (bucket : ℕ → ℕ) (small : (key : ℕ) → bucket key < buckets) (slots : ℕ) where
   abbrev pub key_at : Cells → ℕ → ℕ
@@ -266,8 +261,11 @@ module _ (buckets : ℕ) (bucket : ℕ → ℕ) (small : (key : ℕ) → bucket 
         abbrev filled : Cells
         filled = made_cells cells (3 * buckets) t key value next
 
+        abbrev values : List ℕ
+        values = 0 ∷ key ∷ value ∷ next ∷ 0 ∷ []
+
         abbrev words : ℕ → ℕ
-        words = node_words cells (3 * buckets) t key value next
+        words = value_words cells (3 * buckets) t values
 
         -- cells that aren't the new node's stay
         pub fixed_stays : (p : ℕ) → p < 3 * buckets → filled p ≡ cells p
@@ -305,10 +303,10 @@ module _ (buckets : ℕ) (bucket : ℕ → ℕ) (small : (key : ℕ) → bucket 
 
         -- and what it holds
         pub made_key : key < 2 ^ 32 → key_at filled t ≡ key
-        made_key low = ap value_of (one_own cells (3 * buckets) t words 1 (omega arith)) ∙ value-next_word _ key low
+        made_key = slot_value cells (3 * buckets) t values 1 key (omega arith) refl
 
         pub made_value : value < 2 ^ 32 → value_at filled t ≡ value
-        made_value low = ap value_of (one_own cells (3 * buckets) t words 2 (omega arith)) ∙ value-next_word _ value low
+        made_value = slot_value cells (3 * buckets) t values 2 value (omega arith) refl
 
         pub made_next : next < 2 ^ 32 → next_at filled t ≡ next
-        made_next low = ap value_of (one_own cells (3 * buckets) t words 3 (omega arith)) ∙ value-next_word _ next low
+        made_next = slot_value cells (3 * buckets) t values 3 next (omega arith) refl

@@ -1,5 +1,5 @@
 -- The runs of the search tree's four bodies.
-use Rattle.std.proofs.Common.{◌≡◌, ◌≢◌, ℕ, ◌+◌, ◌*◌, Bool, true, false, List, [], ◌∷◌, refl, sym, subst, None}
+use Rattle.std.proofs.Common.{◌≡◌, ◌≢◌, ℕ, ◌+◌, ◌*◌, Bool, true, false, List, [], ◌∷◌, refl, sym, subst}
 use Rattle.std.specs.Prelude.{◌^◌, slice_index}
 use Rattle.structure_laws.specs.body_terms.specs.Word.{value_of, version_of, next_word}
 use Rattle.structure_laws.specs.body_terms.specs.Memory.{cell_of}
@@ -8,14 +8,15 @@ use Rattle.structure_laws.specs.body_terms.specs.Line.{line}
 use Rattle.structure_laws.specs.body_terms.specs.Run.{Setting, Run, ran, exchanged}
 use Rattle.structure_laws.specs.body_terms.specs.declared.micro.Source.TheVariants.{Fixed, Agreed}
 use Rattle.structure_laws.specs.body_terms.specs.declared.micro.Micro.{Micro}
-use Rattle.structure_laws.specs.body_terms.specs.declared.micro.Micro.TheVariants.{LoadCell, Commit, CheckWord, CheckFresh, NestedLoad, NestedCommit, CheckFree, NestedHold, OutcomeLoad, OutcomeCommit, CheckHeld, PrivateLoad, PrivateStore, MakeCommit, ClockLoad, StampExchange, ClockRaise, ExchangeCell, EpochForRetire, RetireCommit, ReplyExchange}
+use Rattle.structure_laws.specs.body_terms.specs.declared.micro.Micro.TheVariants.{LoadCell, Commit, CheckWord, CheckFresh, PrivateLoad, PrivateStore, MakeCommit, ClockLoad, StampExchange, ClockRaise, ExchangeCell, EpochForRetire, RetireCommit, ReplyExchange}
 use Rattle.structure_laws.specs.body_terms.specs.declared.step.Step.{Step}
 use Rattle.structure_laws.specs.body_terms.specs.declared.step.Step.TheVariants.{Load, Want, Fresh, Make, Stamp, Store, Answer}
 use Rattle.structure_laws.specs.body_terms.specs.declared.value.Init.{Init}
 use Rattle.structure_laws.specs.body_terms.specs.declared.value.Value.TheVariants.{Const, Made}
 use Rattle.structure_laws.specs.body_terms.specs.declared.thunk.Thunk.{Thunk}
 use Rattle.plain_laws.proofs.Filled.{five}
-use Rattle.plain_laws.proofs.Forms.{Ends, IsGot, word_passes, fresh_passes, free_passes, held_passes}
+use Rattle.plain_laws.proofs.Forms.{Ends, IsGot, begun, word_passes, fresh_passes}
+use Rattle.plain_laws.proofs.Fronts.{look_ends, front_passes, taking, take_passes}
 use Rattle.tree_laws.specs.tree_bodies.specs.Tree.{lock_of, mark_of, leaf_init, inner_with, parent_in, leaf_in}
 use Rattle.tree_laws.specs.tree_bodies.specs.Tree.{sibling_of}
 use Rattle.tree_laws.specs.tree_bodies.specs.Tree.{old_leaf, look_steps, delete_steps, replace_steps}
@@ -38,8 +39,8 @@ inner_values true t leaf = 0 ∷ operand t 5 ∷ leaf ∷ value_of (operand t 1)
 inner_values false t leaf = 0 ∷ operand t 3 ∷ value_of (operand t 1) ∷ leaf ∷ 0 ∷ []
 
 module _ (s : Setting) (cells : ℕ → ℕ) (clock stamp reply : ℕ) (t : Thunk) where
-  abbrev pub begun : Run
-  begun = record { cells = cells; clock = clock; stamp = stamp; reply = reply; trail = []; made = []; retired = []; outcome = None }
+  abbrev at_first : Run
+  at_first = begun s cells clock stamp reply t
 
   abbrev link : ℕ
   link = cells (operand t 0)
@@ -48,15 +49,9 @@ module _ (s : Setting) (cells : ℕ → ℕ) (clock stamp reply : ℕ) (t : Thun
   mark = cells (t.lock + 4)
 
   -- one that reads alone
-  abbrev answers : List Micro
-  answers = ClockLoad ∷ StampExchange ∷ ClockRaise ∷ ReplyExchange (operand t 3) ∷ []
-
-  pub look_run : link ≡ operand t 1 → mark ≡ operand t 2 → Ends (operand t 3) cells (ran s begun (line (look_steps t)))
-  look_run same unmarked =
-      subst (λ o. Ends (operand t 3) cells (ran s (record begun { trail = link ∷ []; outcome = o }) (LoadCell (t.lock + 4) 1 ∷ Commit (t.lock + 4) 1 ∷ CheckWord (t.lock + 4) 1 (operand t 2) ∷ answers)))
-      (sym (word_passes (operand t 0) (operand t 1) link same))
-      (subst (λ o. Ends (operand t 3) cells (ran s (record begun { trail = link ∷ mark ∷ []; outcome = o }) answers))
-      (sym (word_passes (t.lock + 4) (operand t 2) mark unmarked)) (record { answered = refl; left = refl }))
+  pub look_run : link ≡ operand t 1 → mark ≡ operand t 2
+      → Ends (operand t 3) cells (ran s at_first (line (look_steps t)))
+  look_run = look_ends s cells clock stamp reply t (operand t 0)
 
   -- one that puts a leaf in
   abbrev pub made_leaf : ℕ → ℕ
@@ -83,34 +78,12 @@ module _ (s : Setting) (cells : ℕ → ℕ) (clock stamp reply : ℕ) (t : Thun
       PrivateLoad 0 3 ∷ PrivateStore 0 3 (Fixed 0) ∷ PrivateLoad 1 3 ∷ PrivateStore 1 3 (Fixed (operand t 3)) ∷ PrivateLoad 2 3 ∷ PrivateStore 2 3 (Fixed (value_of (operand t 1))) ∷
       PrivateLoad 3 3 ∷ PrivateStore 3 3 (Agreed 2) ∷ PrivateLoad 4 3 ∷ PrivateStore 4 3 (Fixed 0) ∷ stored
 
-  -- what comes before the Makes passes
-  abbrev front : List Micro → List Micro
-  front rest =
-      LoadCell (operand t 0) 0 ∷ Commit (operand t 0) 0 ∷ CheckWord (operand t 0) 0 (operand t 1) ∷
-      CheckFresh (operand t 0) 0 ∷ LoadCell (t.lock + 4) 1 ∷ Commit (t.lock + 4) 1 ∷
-      CheckWord (t.lock + 4) 1 (operand t 2) ∷ rest
-
-  front_passes : (answer : ℕ) (left : ℕ → ℕ) (rest : List Micro) → link ≡ operand t 1 → mark ≡ operand t 2
-      → version_of link ≢ s.version_max → Ends answer left (ran s (record begun { trail = link ∷ mark ∷ [] }) rest)
-      → Ends answer left (ran s begun (front rest))
-  front_passes answer left rest same unmarked unspent ends =
-      subst (λ o. Ends answer left (ran s (record begun { trail = link ∷ []; outcome = o }) (CheckFresh
-      (operand t 0) 0 ∷
-      LoadCell (t.lock + 4) 1 ∷ Commit (t.lock + 4) 1 ∷ CheckWord (t.lock + 4) 1 (operand t 2) ∷ rest)))
-      (sym (word_passes (operand t 0) (operand t 1) link same))
-      (subst (λ o. Ends answer left (ran s (record begun { trail = link ∷ []; outcome = o })
-      (LoadCell (t.lock + 4) 1 ∷ Commit (t.lock + 4) 1 ∷ CheckWord (t.lock + 4) 1 (operand t 2) ∷ rest)))
-      (sym (fresh_passes (operand t 0) link s.version_max unspent))
-      (subst (λ o. Ends answer left (ran s (record begun { trail = link ∷ mark ∷ []; outcome = o }) rest))
-      (sym (word_passes (t.lock + 4) (operand t 2) mark unmarked)) ends))
-
   pub insert_run : (side : Bool) → link ≡ operand t 1 → mark ≡ operand t 2 → version_of link ≢ s.version_max
-      → Ends (1 * 2 ^ 32) (inserted_cells side) (ran s begun (line (insert_with t (inner_for side t))))
-  insert_run true same unmarked unspent = front_passes (1 * 2 ^ 32) (inserted_cells true)
-      (made_nodes true) same unmarked
-      unspent (record { answered = refl; left = refl })
-  insert_run false same unmarked unspent = front_passes (1 * 2 ^ 32) (inserted_cells false) (made_nodes false) same
-      unmarked unspent (record { answered = refl; left = refl })
+      → Ends (1 * 2 ^ 32) (inserted_cells side) (ran s at_first (line (insert_with t (inner_for side t))))
+  insert_run true same unmarked unspent = front_passes s cells clock stamp reply t (operand t 0) (1 * 2 ^ 32)
+      (inserted_cells true) (made_nodes true) same unmarked unspent (record { answered = refl; left = refl })
+  insert_run false same unmarked unspent = front_passes s cells clock stamp reply t (operand t 0) (1 * 2 ^ 32)
+      (inserted_cells false) (made_nodes false) same unmarked unspent (record { answered = refl; left = refl })
 
   -- one that puts a leaf in the place of another
   abbrev pub replaced_cells : ℕ → ℕ
@@ -125,9 +98,9 @@ module _ (s : Setting) (cells : ℕ → ℕ) (clock stamp reply : ℕ) (t : Thun
       ReplyExchange (operand t 5) ∷ []
 
   pub replace_run : link ≡ operand t 1 → mark ≡ operand t 2 → version_of link ≢ s.version_max
-      → Ends (operand t 5) replaced_cells (ran s begun (line (replace_steps t)))
-  replace_run same unmarked unspent = front_passes (operand t 5) replaced_cells made_one same unmarked unspent
-      (record { answered = refl; left = refl })
+      → Ends (operand t 5) replaced_cells (ran s at_first (line (replace_steps t)))
+  replace_run same unmarked unspent = front_passes s cells clock stamp reply t (operand t 0) (operand t 5)
+      replaced_cells made_one same unmarked unspent (record { answered = refl; left = refl })
 
   -- one that takes a leaf out
   abbrev leaf_link : ℕ
@@ -158,18 +131,6 @@ module _ (s : Setting) (cells : ℕ → ℕ) (clock stamp reply : ℕ) (t : Thun
   abbrev third : List Micro
   third = LoadCell (operand t 4) 4 ∷ Commit (operand t 4) 4 ∷ CheckWord (operand t 4) 4 (operand t 5) ∷ fourth
 
-  abbrev held : List Micro
-  held =
-      NestedHold (lock_of (parent_in t)) (operand t 3) ∷ OutcomeLoad (lock_of (parent_in t)) 3 ∷ OutcomeCommit (lock_of (parent_in t)) 3 ∷
-      CheckHeld (lock_of (parent_in t)) 3 (operand t 3) ∷ third
-
-  abbrev second : List Micro
-  second =
-      NestedLoad (lock_of (parent_in t)) 2 ∷ NestedCommit (lock_of (parent_in t)) 2 ∷ CheckFree (lock_of (parent_in t)) 2 (operand t 3) ∷ held
-
-  abbrev first : List Micro
-  first = LoadCell (t.lock + 4) 1 ∷ Commit (t.lock + 4) 1 ∷ CheckWord (t.lock + 4) 1 (operand t 2) ∷ second
-
   -- what the body wants, and that its further lock is got
   pub record Passes : Type 0 where
     pub link : cells (operand t 0) ≡ operand t 1
@@ -183,22 +144,23 @@ module _ (s : Setting) (cells : ℕ → ℕ) (clock stamp reply : ℕ) (t : Thun
   abbrev Removes : Run → Type 0
   Removes r = Ends (4 * 2 ^ 32) removed_cells r
 
-  pub delete_run : Passes → Removes (ran s begun (line (delete_steps t)))
-  delete_run passes =
-      subst (λ o. Removes (ran s (record begun { trail = link ∷ []; outcome = o }) (CheckFresh (operand t 0) 0 ∷ first)))
-      (sym (word_passes (operand t 0) (operand t 1) link passes.link))
-      (subst (λ o. Removes (ran s (record begun { trail = link ∷ []; outcome = o }) first))
-      (sym (fresh_passes (operand t 0) link s.version_max passes.fresh_link))
-      (subst (λ o. Removes (ran s (record begun { trail = link ∷ mark ∷ []; outcome = o }) second))
-      (sym (word_passes (t.lock + 4) (operand t 2) mark passes.mark))
-      (subst (λ o. Removes (ran s (record begun { trail = link ∷ mark ∷ s.taken 2 ∷ []; outcome = o }) held))
-      (sym (free_passes s (lock_of (parent_in t)) 2 (operand t 3) passes.lock))
-      (subst (λ o. Removes (ran s (record begun { trail = link ∷ mark ∷ s.taken 2 ∷ s.taken 3 ∷ []; outcome = o }) third))
-      (sym (held_passes s (lock_of (parent_in t)) 2 (operand t 3) passes.lock))
-      (subst (λ o. Removes (ran s (record begun { trail = link ∷ mark ∷ s.taken 2 ∷ s.taken 3 ∷ leaf_link ∷ []; outcome = o }) fourth))
+  -- its agreed words up to the leaf's link, and up to the parent's mark
+  abbrev with_leaf : List ℕ
+  with_leaf = link ∷ mark ∷ s.taken 2 ∷ s.taken 3 ∷ leaf_link ∷ []
+
+  abbrev with_parent : List ℕ
+  with_parent = link ∷ mark ∷ s.taken 2 ∷ s.taken 3 ∷ leaf_link ∷ sibling ∷ parent_mark ∷ []
+
+  pub delete_run : Passes → Removes (ran s at_first (line (delete_steps t)))
+  delete_run passes = front_passes s cells clock stamp reply t (operand t 0) (4 * 2 ^ 32) removed_cells
+      (taking s cells clock stamp reply t (operand t 0) (lock_of (parent_in t)) third)
+      passes.link passes.mark passes.fresh_link
+      (take_passes s cells clock stamp reply t (operand t 0) (lock_of (parent_in t)) (4 * 2 ^ 32) removed_cells third
+      passes.lock
+      (subst (λ o. Removes (ran s (record at_first { trail = with_leaf; outcome = o }) fourth))
       (sym (word_passes (operand t 4) (operand t 5) leaf_link passes.leaf))
-      (subst (λ o. Removes (ran s (record begun { trail = link ∷ mark ∷ s.taken 2 ∷ s.taken 3 ∷ leaf_link ∷ sibling ∷ parent_mark ∷ []; outcome = o }) fifth))
+      (subst (λ o. Removes (ran s (record at_first { trail = with_parent; outcome = o }) fifth))
       (sym (word_passes (mark_of (parent_in t)) (operand t 6) parent_mark passes.parent))
-      (subst (λ o. Removes (ran s (record begun { trail = link ∷ mark ∷ s.taken 2 ∷ s.taken 3 ∷ leaf_link ∷ sibling ∷ parent_mark ∷ []; outcome = o }) taken_out))
+      (subst (λ o. Removes (ran s (record at_first { trail = with_parent; outcome = o }) taken_out))
       (sym (fresh_passes (mark_of (parent_in t)) parent_mark s.version_max passes.fresh_parent))
-      (record { answered = refl; left = refl }))))))))
+      (record { answered = refl; left = refl })))))

@@ -1,21 +1,19 @@
 -- The law of the plain runs.
-use Rattle.std.proofs.Common.{◌≡◌, ◌≢◌, ℕ, suc, ◌+◌, ◌*◌, ◌<◌, ◌≤◌, Bool, true, false, cond, [], ◌∷◌, List, refl, sym, ap, ◌∙◌, subst, inl, inr, ⊎_elim, arith, Some, None}
-use Rattle.std.specs.Prelude.{◌==◌, ◌&&◌, ◌||◌, ◌-◌, ◌^◌, ◌⊎◌, not, nat_lt, drop, slice_index, if◌then◌else◌}
-use Rattle.std.specs.FinMap.{get, insert}
+use Rattle.std.proofs.Common.{◌≡◌, ◌≢◌, ℕ, suc, ◌+◌, ◌<◌, ◌≤◌, Bool, true, false, cond, [], ◌∷◌, List, refl, sym, ap, ◌∙◌, subst, inl, inr, ⊎_elim, arith, Some, None}
+use Rattle.std.specs.Prelude.{◌==◌, ◌&&◌, ◌||◌, ◌-◌, ◌^◌, ◌⊎◌, not, nat_lt, drop, slice_index}
+use Rattle.std.specs.FinMap.{get}
 use Rattle.std.proofs.lemmas.Bool.Decides.{nat_tests}
 use Rattle.std.proofs.lemmas.Bool.{cases_eq, and_from, both_ways}
 use Rattle.structure_laws.specs.table_words.specs.small_lemmas.proofs.Bools.{both_of}
 use Rattle.structure_laws.specs.table_words.specs.small_lemmas.proofs.Numbers.{equal_tested as eq_true, other_tested as eq_false}
 use Rattle.structure_laws.specs.map_history.specs.declared.op.Op.{Op}
-use Rattle.structure_laws.specs.map_history.specs.declared.op.Op.TheVariants.{Get, Ins, Del, Put, Mov}
+use Rattle.structure_laws.specs.map_history.specs.declared.op.Op.TheVariants.{Del}
 use Rattle.structure_laws.specs.map_history.specs.Keys.{key_of}
-use Rattle.structure_laws.specs.map_history.specs.Replay.{Pairs, map_after, reply_of}
-use Rattle.structure_laws.specs.map_history.specs.Words.{word_of}
-use Rattle.structure_laws.specs.map_history.specs.declared.reply.Reply.TheVariants.{Gone, Absent}
+use Rattle.structure_laws.specs.map_history.specs.Replay.{Pairs, map_after}
 use Rattle.structure_laws.specs.body_terms.specs.Update.{upd}
 use Rattle.structure_laws.specs.body_terms.specs.Word.{value_of, next_word, is_free}
 use Rattle.structure_laws.specs.body_terms.specs.Memory.{PlainMemory, cell_of}
-use Rattle.tree_laws.specs.node_laws.proofs.Forms.{put_puts, there, reply_is, new_reply}
+use Rattle.tree_laws.specs.node_laws.proofs.Forms.{put_puts, reply_is, new_reply}
 use Rattle.tree_laws.specs.section_body.specs.Bucket.{operand, is_small}
 use Rattle.structure_laws.specs.body_terms.specs.Run.{exchanged}
 use Rattle.structure_laws.specs.body_terms.specs.Plain.{plain_setting, plain_run}
@@ -27,7 +25,7 @@ use Rattle.structure_laws.specs.Sections.{IsAllowed}
 use Rattle.structure_laws.proofs.Changes.{upd_same, upd_other, value-next_word, value_small, equal_of}
 use Rattle.tree_laws.specs.bucket_laws.specs.Walk.{is_del}
 use Rattle.tree_laws.specs.bucket_laws.proofs.Fit.{PutsIn, puts_given}
-use Rattle.tree_laws.specs.bucket_laws.proofs.Maps.{get_removed, insert_map, remove_map, set_map, set_reply}
+use Rattle.tree_laws.specs.bucket_laws.proofs.Maps.{insert_map, remove_map, remove_reply, set_map, set_reply}
 use Rattle.plain_laws.specs.Runs.{cells_of}
 use Rattle.tree_laws.specs.tree_bodies.specs.Tree.{lock_of, key_cell, left_of, right_of, mark_of, child_of, slot_in}
 use Rattle.tree_laws.specs.tree_bodies.specs.Tree.{body_of}
@@ -61,7 +59,8 @@ use Rattle.plain_laws.proofs.Walks.{IsLink, Ended, walk_ends}
 use Rattle.plain_laws.proofs.Forms.{small_is, exchange_writes, is_got}
 use Rattle.plain_laws.proofs.TreeForms.{Passes, leaf_values, inner_values, inner_for, insert_with, inserted_cells}
 use Rattle.plain_laws.proofs.TreeForms.{removed_cells, replaced_cells, look_run, insert_run, delete_run, replace_run}
-use Rattle.plain_laws.proofs.Filled.{filled, filled_inner, filled_leaf, filled_other, filled_one, one_own, one_other}
+use Rattle.plain_laws.proofs.Filled.{filled, filled_inner, filled_leaf, filled_other, one_other, value_words, valued_slot, slot_value}
+use Rattle.plain_laws.proofs.Unchanged.{unchanged}
 
 some_is : (n : ℕ) → 0 < n → nat_lt 0 n ≡ true
 some_is n low = grind (arith, nat_tests)
@@ -82,21 +81,6 @@ thrice_cases f x y z u e = ⊎_elim (λ same. inl same)
 
 unfixed : (n : ℕ) → (n ≡ 0 → ⊥) → (n ≡ 1 → ⊥) → (n ≡ 2 → ⊥) → 3 ≤ n
 unfixed n zero one two = search arith
-
--- the map after an operation that changes nothing
-unchanged : (pairs : Pairs) (op : Op) (hit : Bool) → form_for op hit ≡ 11 → (hit ≡ true → (v : ℕ) × (get pairs (key_of op) ≡ Some v)) → (hit ≡ false → get pairs (key_of op) ≡ None)
-    → (q : ℕ) → get pairs q ≡ get (map_after pairs op) q
-unchanged pairs (Get key) hit form some none q = refl
-unchanged pairs (Ins key value) true form some none q = let is = some refl in ap (λ b. get (if b then pairs else insert pairs key value) q) (sym (there pairs key is.0 is.1))
-unchanged pairs (Ins key value) false form some none q = absurd (omega (arith, form))
-unchanged pairs (Del key) true form some none q = absurd (omega (arith, form))
-unchanged pairs (Del key) false form some none q = sym (get_removed pairs key q ∙ absent q key (none refl))
-  where
-    absent : (q key : ℕ) → get pairs key ≡ None → upd (get pairs) key None q ≡ get pairs q
-    absent q key h = ⊎_elim (λ e. upd_same (get pairs) key q None e ∙ (sym h ∙ ap (get pairs) (sym e))) (λ ne. upd_other (get pairs) key q None ne) (cases_eq q key)
-unchanged pairs (Put key value) true form some none q = absurd (omega (arith, form))
-unchanged pairs (Put key value) false form some none q = absurd (omega (arith, form))
-unchanged pairs (Mov from to) there form some none q = absurd (omega (arith, form))
 
 module _ (slots request : ℕ) (memory : PlainMemory) (pairs : Pairs) (op : Op) (thunk : Thunk) (contents : HasContents slots memory pairs) (allowed : IsAllowed op) (walked : IsWalked memory op thunk)
     (unspent : IsUnspent memory thunk) where
@@ -284,7 +268,7 @@ module _ (slots request : ℕ) (memory : PlainMemory) (pairs : Pairs) (op : Op) 
             tree = stands.tree;
             sentinels = stands.sentinels;
             unmarked = stands.unmarked;
-            contents = contents_same n c (get pairs) (get (map_after pairs op)) stands.contents (unchanged pairs op w.found form (λ hit. (n.child false l, found_is hit)) missing_is);
+            contents = contents_same n c (get pairs) (get (map_after pairs op)) stands.contents (unchanged 11 pairs op w.found (omega arith) form (λ hit. (n.child false l, found_is hit)) missing_is);
           });
         })
 
@@ -559,10 +543,10 @@ module _ (slots request : ℕ) (memory : PlainMemory) (pairs : Pairs) (op : Op) 
 
     -- the cells with the new leaf
     abbrev new_word : ℕ → ℕ
-    new_word cell = next_word (cells (cell_of memory.fixed_cells new cell)) (slice_index (leaf_values thunk) cell)
+    new_word = value_words cells memory.fixed_cells new (leaf_values thunk)
 
     abbrev one_made : Cells
-    one_made = filled_one cells memory.fixed_cells new new_word
+    one_made = valued_slot cells memory.fixed_cells new (leaf_values thunk)
 
     abbrev then_made : Nodes
     then_made = nodes one_made
@@ -570,9 +554,7 @@ module _ (slots request : ℕ) (memory : PlainMemory) (pairs : Pairs) (op : Op) 
     new_cell : (cell v : ℕ) → cell < 5 → slice_index (leaf_values thunk) cell ≡ v → v < 2 ^ 32
         → value_of (one_made (cell_of 0 new cell)) ≡ v
     new_cell cell v few is_v small = ap (λ p. value_of (one_made p)) (own_place new cell)
-        ∙ (ap value_of (one_own cells memory.fixed_cells new new_word cell few)
-        ∙ (ap (λ u. value_of (next_word (cells (cell_of memory.fixed_cells new cell)) u)) is_v
-        ∙ value-next_word (cells (cell_of memory.fixed_cells new cell)) v small))
+        ∙ slot_value cells memory.fixed_cells new (leaf_values thunk) cell v few is_v small
 
     not_new : (s : ℕ) → c.linked s ≡ true → s ≢ new
     not_new s on e = absurd (both_ways _ (ap c.linked e ∙ free.out) on)
@@ -878,13 +860,6 @@ module _ (slots request : ℕ) (memory : PlainMemory) (pairs : Pairs) (op : Op) 
           (λ q. ap (λ k. upd (get pairs) k None q) (key_there removes.2) ∙ remove_map pairs op is_removal q);
     }
 
-    gone_reply : (op : Op) (k : ℕ) → op ≡ Del k → get pairs (key_of op) ≡ Some (n.child false l) → 4 * 2 ^ 32 ≡ word_of (reply_of pairs op)
-    gone_reply (Get gone_key) k e found = absurd (let z = e in cc)
-    gone_reply (Ins gone_key value) k e found = absurd (let z = e in cc)
-    gone_reply (Del gone_key) k e found = ap (λ b. word_of (if b then Gone else Absent)) (sym (there pairs gone_key (n.child false l) found))
-    gone_reply (Put key value) k e found = absurd (let z = e in cc)
-    gone_reply (Mov from to) k e found = absurd (let z = e in cc)
-
     lock_word : operand thunk 3 ≡ w.lock
     lock_word = number_at 3 gone_numbers
 
@@ -926,7 +901,8 @@ module _ (slots request : ℕ) (memory : PlainMemory) (pairs : Pairs) (op : Op) 
         (upd_other cells (mark_of p) (operand thunk 0) marked (λ e. child_no_mark gside g p (sym (number_at 0 gone_numbers) ∙ e)))
         ∙ ap (λ q. upd (upd cells (mark_of p) marked) q new_link) (number_at 0 gone_numbers)) in
         subst Does (sym (ap (λ f. body_of f thunk) (is_delete thunk (fit.form ∙ form) delete_fits))) (record {
-          answer = ends.answered ∙ ap (λ m. Some (Answered m)) (gone_reply op removes.0 removes.1 (found_is removes.2));
+          answer = ends.answered ∙ ap (λ m. Some (Answered m)) (remove_reply pairs op
+              (n.child false l) is_removal (found_is removes.2));
           contents = subst (λ f. TreeStands slots f (map_after pairs op)) (sym (ends.left ∙ written)) remove_stands;
         })
 

@@ -1,3 +1,4 @@
 pub mod Runs
 pub mod TreeRuns
 pub mod MoveRuns
+pub mod ListRuns
