@@ -34,14 +34,18 @@ const ON_EACH_TABLE: &str = "\
 0 run --nodes 18|flock 2/trace/put 1 0/{100*put 1 @/put 1 0/}|trace 0/& new/{100*& was 0/& was @/}final 1/|
 ";
 
-// On the tree each pair takes two node slots, on the hash table and on the list one. The commands of the other rows run
-// nothing, or on the hash table alone; the last ones are at the limits on traces, requests and bytes, from above and
-// all from below at once.
+// On the tree each pair takes two node slots, on the hash table and on the list one. A `get` that is read meets a lock
+// that is worn out: a runner that is alone ends there, and one of two attempts it first. The commands of the other rows
+// run nothing, or on the hash table alone; the last ones are at the limits on traces, requests and bytes, from above
+// and all from below at once.
 const ON_ONE_TABLE: &str = "\
 5 run --table tree --nodes 4|flock 1/trace/ins 1 1/ins 2 2/ins 3 3/|trace 0/0 new/1 new/- unserved/final 2/|flock: slots: runner 0 node free 0 limbo 0 worn 0/
 0 run --table hash --nodes 4|flock 1/trace/ins 1 1/ins 2 2/ins 3 3/|trace 0/0 new/1 new/2 new/final 3/|
 0 run --table list --nodes 4|flock 1/trace/ins 2 2/ins 1 1/ins 3 3/|trace 0/0 new/1 new/2 new/final 3/|
 6 run --buckets 4096 --nodes 3 --version-max 5|flock 1/trace/{20*ins @ @/del @/}|*|flock: versions: runner 0 node free 1 limbo 0 worn 1/
+6 run --reads free --buckets 1 --version-max 3|flock 1/trace/ins 1 1/get 1/get 2/|trace 0/0 new/- unserved/- unserved/final 1/|flock: versions: place 0 value 0 version 3/
+6 run --reads free --runners 2 --buckets 1 --version-max 3|flock 1/trace/ins 1 1/get 1/trace/|trace 0/0 new/- unserved/trace 1/final 1/|flock: versions: place 0 value 0 version 3/
+6 run --table tree --reads free --runners 1 --version-max 3|flock 1/trace/ins 1 1/get 1/|trace 0/0 new/- unserved/final 1/|flock: versions: place 20 value 0 version 2/
 0 run --table hash --sections 4 --nodes 4|flock 1/trace/ins 1 1/del 1/ins 2 2/|trace 0/0 new/1 gone/2 new/final 1/|
 0 run --runners 1 --halt 1:1|flock 1/trace/get 1/|trace 0/0 none/final 0/|
 5 run --nodes 4|flock 1/trace/ins 1 1/ins 2 2/ins 3 3/ins 4 4/|trace 0/0 new/1 new/2 new/- unserved/final 3/|flock: slots: runner 0 node free 1 limbo 0 worn 0/
