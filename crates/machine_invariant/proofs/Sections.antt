@@ -17,7 +17,6 @@ use Rattle.machine_states.specs.epoch_core.specs.State.{EpochState, Role}
 use Rattle.machine_states.specs.epoch_core.specs.Events.{slot_of}
 use Rattle.machine_states.specs.epoch_core.specs.History as epochs
 use Rattle.agreement_core.specs.State.{AgreementState}
-use Rattle.agreement_core.specs.Checks.{stored_word}
 use Rattle.agreement_core.specs.PlainRuns.{IsOfBody}
 use Rattle.agreement_core.specs.History.{History, written, IsExact, HasAnswered, HasLeft, HappenedOnce, NothingHappened}
 use Rattle.agreement_core.proofs.Standing.{agree, not_future, cells_stand, locks_stand, takes_stand, done_late, holds_nothing}

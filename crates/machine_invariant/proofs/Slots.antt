@@ -32,6 +32,7 @@ use Rattle.machine_invariant.proofs.Asked.{entered_at}
 use Rattle.machine_states.specs.runner_parts.specs.State.{GuardsState}
 use Rattle.machine_states.specs.runner_steps.specs.Outside.{is_sure_of}
 use Rattle.machine_guards.specs.machine_agreement.specs.machine_epochs.proofs.OutsideAsked.{named_is}
+use Rattle.machine_states.specs.table_words.specs.declared.spot.Spot.TheVariants.{LogWord}
 
 -- a slot that isn't in limbo at all, and one that is there once
 limbo_none : (t : ℕ) (xs : List Retired) → ((y : ℕ) → times_retired t y (map shows.entry_of xs) ≡ 0) → times_limbo t xs ≡ 0

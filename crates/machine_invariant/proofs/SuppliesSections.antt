@@ -190,6 +190,7 @@ module _ (m : Meaning) (laws : Laws m) (l : Layout) (limits : IsWithinLimits l) 
     pub sections_supplied : supplied.AgreementIsSupplied m l a s r kind (s.word x.0)
     sections_supplied = record {
       alone = λ q place log is opened next at undone. alone q is place log opened next at;
+      logged = λ q k is opened commits. sym (commit_finds m l rs a g.epochs s whole.logs r kind x asked q is opened k commits);
       private = λ q t cell number is is_store. private_in q is t cell number is_store (is_open_run q) refl;
       unused = unused;
       live = live;
