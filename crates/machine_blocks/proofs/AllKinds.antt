@@ -167,9 +167,11 @@ module _ (m : Meaning) (l : Layout) (rs : List Request) (a a' : AgreementState) 
         let at_slot : tails.0 ≡ k = some_same tails.0 k (sym (ap commits_to tails.2) ∙ mine) in
         let slot_word : h.0 ≡ slot = some_same h.0 slot (sym h.1 ∙ heads.3) in
         let slot_slot : tails.1 ≡ slot = some_same tails.1 slot (sym tails.3 ∙ heads.3) in
-        let is : (LogWord d k, Exchanges 0 (slot + 1)) ≡ x = sym (λ i. (LogWord d (at_word i), Exchanges 0 (slot_word i + 1))) ∙ h.2.is in
+        let is : (LogWord d k, Exchanges 0 (slot + 1)) ≡ x = ap (λ n. (LogWord d n, Exchanges 0 (slot + 1))) (sym at_word)
+        ∙ (ap (λ n. (LogWord d h.2.log, Exchanges 0 (n + 1))) (sym slot_word) ∙ h.2.is) in
         commits k (slot + 1) is (agreement.MakeCommit r k (suc slot)) (suc slot) heads.4 refl (more slot)
-        (epochs.MakeCommit r d k slot q.worn) (suc slot) (tails.4 ∙ (λ i. epochs.MakeCommit r d (at_slot i) (slot_slot i) q.worn ∷ [])) (λ i j. refl) (more slot)
+        (epochs.MakeCommit r d k slot q.worn) (suc slot)
+        (tails.4 ∙ (ap (λ n. epochs.MakeCommit r d n tails.1 q.worn ∷ []) at_slot ∙ ap (λ n. epochs.MakeCommit r d k n q.worn ∷ []) slot_slot)) (λ i j. refl) (more slot)
       where
         more : (n : ℕ) → suc n ≡ n + 1
         more n = omega arith
@@ -181,7 +183,8 @@ module _ (m : Meaning) (l : Layout) (rs : List Request) (a a' : AgreementState) 
         let slot = heads.0 in
         let k = heads.1 in
         let same = retired_slot h.0 slot h.1.log k (sym h.1.step ∙ heads.2) in
-        let is : (LogWord d k, Exchanges 0 (slot + 1)) ≡ x = sym (λ i. (LogWord d (same.1 i), Exchanges 0 (same.0 i + 1))) ∙ h.1.is in
+        let is : (LogWord d k, Exchanges 0 (slot + 1)) ≡ x = ap (λ n. (LogWord d n, Exchanges 0 (slot + 1))) (sym same.1)
+        ∙ (ap (λ n. (LogWord d h.1.log, Exchanges 0 (n + 1))) (sym same.0) ∙ h.1.is) in
         let here : micro_at (line_of m q) q.at ≡ micros.RetireCommit slot k = next_in_line m q (micros.RetireCommit slot k) refl heads.2 in
         let is_now : e.retire r ≡ record { loaded = true; descriptor = d; index = k; slot = slot; epoch = q.word } =
         (joined.tied r).retire ∙ (ap (retiring_of m) at ∙ ap (retire_before q) here) in
