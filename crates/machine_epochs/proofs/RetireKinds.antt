@@ -240,6 +240,9 @@ module _ (m : Meaning) (l : Layout) (w : EpochState) (s : Sight) (old : IsJoined
       let k = h.1.log in
       let few : (q.descriptor < (counts_of m l).descriptors) × (k < part_words) = subst (λ (y : Spot × Access). Fits (sizes_for m l rs) y.0) (sym h.1.is) fits in
       let μ : Micro = micros.RetireCommit h.0 k in
-      for_step m l w s old r q at is_open kinds.RetireCommit records micro x μ (LogWord q.descriptor k, Exchanges 0 (h.0 + 1)) h.1.step h.1.is
-      (_, (h.0, k, refl, refl), retires m l w s old r q at is_open h.0 k (next_in_line m q μ refl (ahead ∙ h.1.step)) few.0 few.1
-      (logged k (ap commits_to h.1.step) ∙ ap (λ (y : Spot × Access). s.word y.0) (sym h.1.is)) records)
+      for_step m l w s old r q at is_open kinds.RetireCommit records micro x μ (LogWord q.descriptor k, Exchanges 0 (h.0 + 1)) h.1.step h.1.is (
+        _,
+        (h.0, k, refl, refl),
+        retires m l w s old r q at is_open h.0 k (next_in_line m q μ refl (ahead ∙ h.1.step)) few.0 few.1
+            (logged k (ap commits_to h.1.step) ∙ ap (λ (y : Spot × Access). s.word y.0) (sym h.1.is)) records,
+      )
