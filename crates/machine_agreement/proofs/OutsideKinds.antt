@@ -116,7 +116,7 @@ module _ (m : Meaning) (l : Layout) (rs : List Request) (w : AgreementState) (s 
       quiet kinds.Announce x refl (subst (λ (y : Spot × Access). SameWords m l s.word (word_of y)) h.2 (elsewhere h.0)) (noted_part kinds.Announce x stages.Announced p.nodes p.records refl)
     where
       elsewhere : (e : ℕ) → SameWords m l s.word (word_of (spots.Announcement r, Stores e))
-      elsewhere e = record { cells = λ i. refl; clock = refl; stamp = λ i. refl; reply = λ i. refl; thunks = λ d j. refl; done = λ d. refl; log = λ d k. refl }
+      elsewhere e = record { cells = λ i. refl; clock = refl; stamp = λ i. refl; reply = λ i. refl; thunks = λ d j. refl; done = λ d. refl }
 
   pub enter_again : (x : Spot × Access) → outside_ask m l rs r kinds.EnterAgain p ≡ Some x → To kinds.EnterAgain x
   enter_again x e = let h = asked.enter_again_asked p x e in quiet kinds.EnterAgain x refl (loads spots.Epoch x h.1)
@@ -149,7 +149,7 @@ module _ (m : Meaning) (l : Layout) (rs : List Request) (w : AgreementState) (s 
       (look_part (kinds.ReadPlan thunk) x (Some (plan_by thunk)) p.records refl)
     where
       elsewhere : SameWords m l s.word (word_of (spots.Announcement r, Exchanges 0 0))
-      elsewhere = record { cells = λ i. refl; clock = refl; stamp = λ i. refl; reply = λ i. refl; thunks = λ d j. refl; done = λ d. refl; log = λ d k. refl }
+      elsewhere = record { cells = λ i. refl; clock = refl; stamp = λ i. refl; reply = λ i. refl; thunks = λ d j. refl; done = λ d. refl }
 
   pub read_clock : (x : Spot × Access) → outside_ask m l rs r kinds.ReadClock p ≡ Some x → To kinds.ReadClock x
   read_clock x e = quiet kinds.ReadClock x refl (loads spots.Clock x (reads_asked.read_clock_asked p x e).is)
