@@ -243,8 +243,8 @@ module _ (m : Meaning) (l : Layout) (rs : List Request) (a a' : AgreementState) 
 
 module _ (m : Meaning) (l : Layout) (rs : List Request) (a a' : AgreementState) (e e' : EpochState) (s : Sight) (of_sections : IsJoinedToAgreement m l a s)
     (joined : IsJoinedToEpochs m l e s) (old : LogsStand a e s) (r : ℕ) (x : Spot × Access) (fits : Fits (sizes_for m l rs) x.0) where
-  abbrev p : PartState
-  p = s.part r
+  abbrev own : PartState
+  own = s.part r
 
   abbrev Others : EventKind → Type 0
   Others kind = OthersGo m l a a' e e' s r kind (s.word x.0)
@@ -252,18 +252,18 @@ module _ (m : Meaning) (l : Layout) (rs : List Request) (a a' : AgreementState) 
   abbrev Stands : EventKind → Type 0
   Stands kind = LogsStand a' e' (sight_after m l s r kind x)
 
-  outside_kept : p.run ≡ None → (kind : EventKind) → outside_ask m l rs r kind p ≡ Some x → Others kind → Stands kind
+  outside_kept : own.run ≡ None → (kind : EventKind) → outside_ask m l rs r kind own ≡ Some x → Others kind → Stands kind
   outside_kept none (kinds.PrivateStore slot word number) ask go =
       let kind = kinds.PrivateStore slot word number in
       let n = slot - slot_count l m.fixed_slots in
       store_by m l rs a a' e e' s of_sections joined old r x fits kind go n word number (nat_lt word 12) (word == 12)
       (heads_out m l rs a a' e e' s of_sections joined old r x fits kind go none).1
       (tails_out m l rs a a' e e' s of_sections joined old r x fits kind go none)
-      (outside.private_store_asked m l slot word number p x ask).1
+      (outside.private_store_asked m l slot word number own x ask).1
   outside_kept none kind ask go = quiet m l rs a a' e e' s of_sections joined old r x fits kind go none refl ask
 
-  module _ (q : RunState) (at : p.run ≡ Some q) where
-    line_kept : is_open_run q ≡ true → (kind : EventKind) → line_ask m l kind p.nodes.free q (next_of m q) ≡ Some x → Others kind → Stands kind
+  module _ (q : RunState) (at : own.run ≡ Some q) where
+    line_kept : is_open_run q ≡ true → (kind : EventKind) → line_ask m l kind own.nodes.free q (next_of m q) ≡ Some x → Others kind → Stands kind
     line_kept opened kinds.Commit ask go = commit m l rs a a' e e' s of_sections joined old r x fits kinds.Commit go q at
         (heads_in m l rs a a' e e' s of_sections joined old r x fits kinds.Commit go q at true opened)
         (tails_in m l rs a a' e e' s of_sections joined old r x fits kinds.Commit go q at true opened) ask
@@ -287,11 +287,11 @@ module _ (m : Meaning) (l : Layout) (rs : List Request) (a a' : AgreementState) 
     opening_all opened kind ask go = some_none x ask
 
     inside_kept : (b : Bool) → is_open_run q ≡ b → (kind : EventKind)
-        → (if b then line_ask m l kind p.nodes.free q (next_of m q) else opening_ask kind q) ≡ Some x → Others kind → Stands kind
+        → (if b then line_ask m l kind own.nodes.free q (next_of m q) else opening_ask kind q) ≡ Some x → Others kind → Stands kind
     inside_kept true opened kind ask go = line_kept opened kind ask go
     inside_kept false opened kind ask go = opening_all opened kind ask go
 
-  by_run : (o : Option RunState) → p.run ≡ o → (kind : EventKind) → ask_by m l rs r kind p o ≡ Some x → Others kind → Stands kind
+  by_run : (o : Option RunState) → own.run ≡ o → (kind : EventKind) → ask_by m l rs r kind own o ≡ Some x → Others kind → Stands kind
   by_run None none kind ask go = outside_kept none kind ask go
   by_run (Some q) at kind ask go = inside_kept q at (is_open_run q) refl kind ask go
 

@@ -1,6 +1,6 @@
 -- Which steps leave the log words as they are, and on which word a commit is.
 use Rattle.std.specs.Prelude.{Bool, true, false, if◌then◌else◌}
-use Rattle.std.proofs.Common.{◌≡◌, ℕ, List, sym, ap, ◌∙◌, subst, ⊎_elim, Some, None, refl}
+use Rattle.std.proofs.Common.{◌≡◌, ℕ, List, sym, ap, ◌∙◌, subst, ⊎_elim, Some, None, refl, ◌+◌}
 use Rattle.machine_states.specs.map_history.specs.declared.op.Request.{Request}
 use Rattle.machine_states.specs.body_terms.specs.declared.micro.Micro.{Micro}
 use Rattle.machine_states.specs.table_words.specs.declared.layout.Layout.{Layout}
