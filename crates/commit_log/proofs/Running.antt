@@ -15,7 +15,7 @@ use Rattle.machine_states.specs.runner_steps.specs.Asks.{line_ask}
 use Rattle.version_words.specs.machine_invariant.specs.machine_agreement.proofs.LineAsked.{line_asked}
 use Rattle.machine_states.specs.runner_steps.specs.AfterInRun.{goes_on, ended_more}
 use Rattle.version_words.specs.machine_invariant.specs.After.{AreAllowed}
-use Rattle.version_words.specs.machine_invariant.specs.LogWords.{commits_to}
+use Rattle.version_words.specs.machine_invariant.specs.machine_agreement.specs.machine_epochs.specs.Roles.{commits_to}
 use Rattle.next_steps.specs.Steps.{slot_in, kind_at, ask_at, has_slot}
 use Rattle.next_steps.specs.Stages.{filling_slot, run_behind, IsBehind}
 use Rattle.next_steps.proofs.Stages.{in_table, may_step, commits_behind, then_stepped}

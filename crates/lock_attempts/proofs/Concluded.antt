@@ -115,14 +115,13 @@ module _ {T : Type 0} (m : Meaning) (laws : Laws m) (t : TableState T) (limits :
       let first : phase (x.code i) ≡ 1 = ap phase code in
       let low = before_end rules is.ends.components.agreement joined.sound d is.ends.used ended i (omega (arith, first)) in
       let passed = (joined.sound.sections d is.ends.used).section.in_log.passed i low (ap is_check code) in
-      sym ((joined.sections d).log log)
-      ∙ tested_equal (x.log log) word (sym (ap (passes rules d x.log) code) ∙ passed)
+      tested_equal (x.log log) word (sym (ap (passes rules d x.log) code) ∙ passed)
 
   -- what the exchange at each place of its line changed
   changed : (i : ℕ) → is.ends.components.changes.moved (is.ends.components.changes.section d) i
       ≡ change_of (log_of m is.ends.components.agreement s d) (step_at m is.ends.components.agreement s d i)
   changed i = is.ends.facts.exact.changes.moved d i is.ends.used
-      ∙ (by (is_exchange (x.code i)) refl ∙ (λ j. change_of (λ k. (joined.sections d).log k j) ((joined.thunks d is.ends.used).code i j)))
+      ∙ (by (is_exchange (x.code i)) refl ∙ ap (change_of x.log) ((joined.thunks d is.ends.used).code i))
     where
       none : (b : Bool) → change_of x.log (x.code i) ≡ [] → cond b (change_of x.log (x.code i)) [] ≡ change_of x.log (x.code i)
       none true e = refl

@@ -181,7 +181,7 @@ module _ (m : Meaning) (l : Layout) (rs : List Request) (s s' : Sight) (r : ℕ)
   published : (t : Thunk) → outside_ask m l rs r (kinds.Hold t d) p ≡ Some x → IsEmpty
   published t e k =
       let h = hold_asked m l rs r t d p x e in
-      let empty : s.word (LogWord d k) ≡ 0 = log_is m l st.beside.epochs s st.whole.slots r t d h.free h.prepared k in
+      let empty : s.word (LogWord d k) ≡ 0 = log_is m l st.beside.epochs s st.whole.slots r t d h.free h.prepared st.beside.agreement st.whole.logs k in
       ap (λ (y : Sight). y.word (LogWord d k)) st.step.next
       ∙ (subst (λ (y : Spot × Access). put s.word y.0 (written y.1 (s.word y.0)) (LogWord d k) ≡ s.word (LogWord d k)) h.is refl ∙ empty)
 

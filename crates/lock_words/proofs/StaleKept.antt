@@ -234,7 +234,7 @@ module _ (m : Meaning) (laws : Laws m) (l : Layout) (limits : IsWithinLimits l) 
             log = held.log;
             hold = in_section before.0 ∙ before.2;
             commit = in_section at ∙ before.3;
-            agreed = sym ((st.whole.sections.sections q.descriptor).log held.log) ∙ word;
+            agreed = st.whole.logs.own q.descriptor held.log ∙ word;
           })
           (λ zero. omega (arith, some, word, zero)) in
           let equal = ap version_of same in

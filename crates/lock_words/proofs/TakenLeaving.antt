@@ -126,7 +126,7 @@ module _ (m : Meaning) (l : Layout) (b : Beside) (s : Sight) (whole : IsWhole m 
     at = i;
     log = log;
     commits = subst (λ (micro : Micro). CommitsLock micro place log) (code_is m l b s whole q.descriptor used i) commits;
-    agreed = sym ((whole.sections.sections q.descriptor).log log)
+    agreed = whole.logs.own q.descriptor log
         ∙ (sym (agreed m l a s whole.sections r q runs full i log low commit slot) ∙ is);
   }
 

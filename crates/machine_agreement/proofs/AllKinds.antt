@@ -61,13 +61,13 @@ module _ (m : Meaning) (l : Layout) (rs : List Request) (w : AgreementState) (s 
         (heads, subst (λ o. IsChunk m l w r kind p o (s.word x.0) heads) (sym at) (subst (λ c. IsInsideChunk m l w r c kind p q (s.word x.0) heads) (sym is) chunk), goes)
 
     line_goes : (kind : EventKind) (x : Spot × Access) → is_open_run q ≡ true → AgreementIsSupplied m l w s r kind (s.word x.0) → asks m l rs r kind p ≡ Some x → line_ask m l kind p.nodes.free q (next_of m q) ≡ Some x → LineTo kind x
-    line_goes kinds.Commit x open_q u e k = loads.commit m l rs w s old r q at open_q x e
+    line_goes kinds.Commit x open_q u e k = loads.commit m l rs w s old r q at open_q x (λ log. u.logged q log at open_q) e
     line_goes (kinds.LoadCell None) x open_q u e k = loads.load_cell m l rs w s old r q at open_q x e (λ place log is. u.alone q place log at open_q is)
     line_goes kinds.ExchangeCell x open_q u e k = stores.exchange_cell m l rs w s old r q at open_q x e
     line_goes (kinds.PrivateLoad slot word) x open_q u e k = stores.private_load m l rs w s old r q at open_q slot word x e
     line_goes (kinds.PrivateStore slot word number) x open_q u e k = stores.private_store m l rs w s old r q at open_q slot word number x e (u.private q slot word number at refl)
-    line_goes kinds.MakeCommit x open_q u e k = loads.make_commit m l rs w s old r q at open_q x e
-    line_goes kinds.RetireCommit x open_q u e k = loads.retire_commit m l rs w s old r q at open_q x e
+    line_goes kinds.MakeCommit x open_q u e k = loads.make_commit m l rs w s old r q at open_q x (λ log. u.logged q log at open_q) e
+    line_goes kinds.RetireCommit x open_q u e k = loads.retire_commit m l rs w s old r q at open_q x (λ log. u.logged q log at open_q) e
     line_goes kinds.EpochForRetire x open_q u e k = loads.epoch_load m l rs w s old r q at open_q x e
     line_goes kinds.SetDone x open_q u e k = ends.set_done m l rs w s old r q at open_q x e
     line_goes kinds.Release x open_q u e k = releases.release m l rs w s old r q at open_q x u.live e
@@ -78,7 +78,7 @@ module _ (m : Meaning) (l : Layout) (rs : List Request) (w : AgreementState) (s 
     line_goes kinds.NestedLoad x open_q u e k = loads.nested_load m l rs w s old r q at open_q x e
     line_goes kinds.NestedHold x open_q u e k = stores.nested_hold m l rs w s old r q at open_q x e
     line_goes kinds.OutcomeLoad x open_q u e k = loads.outcome_load m l rs w s old r q at open_q x e
-    line_goes kinds.OutcomeCommit x open_q u e k = loads.outcome_commit m l rs w s old r q at open_q x e
+    line_goes kinds.OutcomeCommit x open_q u e k = loads.outcome_commit m l rs w s old r q at open_q x (λ log. u.logged q log at open_q) e
     line_goes _ x open_q u e k = some_none x k
 
     -- a run that has still to load words of its thunk
@@ -169,7 +169,7 @@ module _ (m : Meaning) (l : Layout) (rs : List Request) (w : AgreementState) (s 
             let s1 : Sight = record { word = word'; part = upd s.part r known } in
             let here : upd s.part r known worker ≡ s.part worker = upd_else s.part r known worker other in
             let two = quiet_joined m l w s1 one worker word' (leaves (s.part worker))
-            (record { cells = λ i. refl; clock = refl; stamp = λ i. refl; reply = λ i. refl; thunks = λ d j. refl; done = λ d. refl; log = λ d k. refl })
+            (record { cells = λ i. refl; clock = refl; stamp = λ i. refl; reply = λ i. refl; thunks = λ d j. refl; done = λ d. refl })
             (record {
               run = ap (λ (y : PartState). y.run) (sym here);
               finished = ap (λ (y : PartState). y.records.finished) (sym here);

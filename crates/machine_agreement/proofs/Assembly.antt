@@ -112,10 +112,7 @@ module _ (m : Meaning) (l : Layout) where
         joined = record {
           sound = lead_sound (heads ++ passes) w w2 leads2 old.sound;
           words = subst (λ (x : Shared). ShowsWords x word') (sym further.shared) words;
-          sections = λ d. let same = further.sections d in record {
-            log = λ k. ap (λ (x : Section). x.log k) same ∙ (sections d).log k;
-            done = ap (λ (x : Section). x.done) same ∙ (sections d).done;
-          };
+          sections = λ d. record { done = ap (λ (x : Section). x.done) (further.sections d) ∙ (sections d).done };
           thunks = λ d used. subst (IsOfThunk m (w2.section d)) (sym (same_thunk_in s.word word' d thunks))
               (same_thunk m (w2.section d) (w.section d) (thunk_in s.word d) (step2.text d) (old.thunks d (ap (λ (f : ℕ → Bool). f d) (sym step2.used) ∙ used)));
           tied = upd_split s.part r p' (λ i p. IsTied m l w2 word' i p)

@@ -60,7 +60,7 @@ module _ (w : AgreementState) (r : ℕ) where
 
   pub goes_on_sections : (word : ℕ) (f : Spot → ℕ) → ((d : ℕ) → ShowsSection (w.section d) f d) → (d : ℕ) → ShowsSection ((goes_on w r word).section d) f d
   goes_on_sections word f old = upd_split w.section (w.run r).descriptor (came (section_of w r) (suc ((w.run r).at))) (λ i x. ShowsSection x f i)
-      (let o = old (w.run r).descriptor in record { log = o.log; done = o.done }) (λ i ne. old i)
+      (record { done = (old (w.run r).descriptor).done }) (λ i ne. old i)
 
   -- the section of the run after a commit
   abbrev after_agreeing : ℕ → ℕ → Section
@@ -112,21 +112,12 @@ module _ (w : AgreementState) (r : ℕ) where
     ended = is.ended ∙ ap (nat_le 1) (sym e);
   })
 
-  two_here : (f : ℕ → ℕ) (k v j : ℕ) (g : ℕ → ℕ) → ((i : ℕ) → f i ≡ g i) → upd f k v j ≡ cond (j == k) v (g j)
-  two_here f k v j g same = ap (cond (j == k) v) (same j)
-
-  -- the log words after a commit
-  pub agrees_sections : (d log proposal agreed : ℕ) (f f' : Spot → ℕ) → (w.run r).descriptor ≡ d → written_once ((section_of w r).log log) proposal ≡ agreed
-      → ((k : ℕ) → f' (spots.LogWord d k) ≡ cond (k == log) agreed (f (spots.LogWord d k))) → ((i k : ℕ) → i ≢ d → f' (spots.LogWord i k) ≡ f (spots.LogWord i k)) → ((i : ℕ) → f' (spots.DoneWord i) ≡ f (spots.DoneWord i))
+  -- the done words are as before after a commit
+  pub agrees_sections : (log proposal : ℕ) (f f' : Spot → ℕ) → ((i : ℕ) → f' (spots.DoneWord i) ≡ f (spots.DoneWord i))
       → ((i : ℕ) → ShowsSection (w.section i) f i) → (i : ℕ) → ShowsSection ((agrees w r log proposal).section i) f' i
-  agrees_sections d log proposal agreed f f' own word here others done old = upd_split w.section (w.run r).descriptor (after_agreeing log proposal) (λ i x. ShowsSection x f' i)
-      (record {
-        log = λ k. ap (λ v. upd ((section_of w r).log) log v k) word
-            ∙ (two_here ((section_of w r).log) log agreed k (λ j. f (spots.LogWord d j)) (λ j. (old (w.run r).descriptor).log j ∙ ap (λ e. f (spots.LogWord e j)) own)
-            ∙ (sym (here k) ∙ ap (λ e. f' (spots.LogWord e k)) (sym own)));
-        done = (old (w.run r).descriptor).done ∙ sym (done (w.run r).descriptor);
-      })
-      (λ i ne. let o = old i in record { log = λ k. o.log k ∙ sym (others i k (λ e. ne (e ∙ sym own))); done = o.done ∙ sym (done i) })
+  agrees_sections log proposal f f' done old = upd_split w.section (w.run r).descriptor (after_agreeing log proposal) (λ i x. ShowsSection x f' i)
+      (record { done = (old (w.run r).descriptor).done ∙ sym (done (w.run r).descriptor) })
+      (λ i ne. record { done = (old i).done ∙ sym (done i) })
 
 -- a word that was read stays read
 seen_more : (f : ℕ → ℕ → Bool) (p word place found : ℕ) → f place found ≡ true → upd2 f p word true place found ≡ true

@@ -77,7 +77,7 @@ module _ (m : Meaning) (l : Layout) (w : AgreementState) (s : Sight) (old : IsJo
         joined = record {
           sound = old.sound;
           words = (let x = old.words in record { cells = x.cells; clock = x.clock; stamp = x.stamp; reply = x.reply });
-          sections = λ k. record { log = (old.sections k).log; done = (old.sections k).done };
+          sections = λ k. record { done = (old.sections k).done };
           thunks = λ k used. subst (IsOfThunk m (w.section k)) (sym (same_thunk_at word' k (λ i. other k i (λ same. let both = sym used ∙ (ap w.used same ∙ unused) in absurd (cc))))) (old.thunks k used);
           tied = upd_split s.part r p' (λ i p. IsTied m l w word' i p)
               (same_tied w word' r (s.part r) p' refl refl (λ k. refl) run records
@@ -121,8 +121,8 @@ module _ (m : Meaning) (l : Layout) (w : AgreementState) (s : Sight) (old : IsJo
       changed_goes (events.StoreDone d number ∷ []) w1 (put s.word (spots.DoneWord d) number) p' (record { enabled = (unused, tt); there = refl }) refl refl refl refl
       run records reads_same (let x = old.words in record { cells = x.cells; clock = x.clock; stamp = x.stamp; reply = x.reply })
       (upd_split w.section d (record (w.section d) { done = number }) (λ i y. ShowsSection y (put s.word (spots.DoneWord d) number) i)
-      (record { log = (old.sections d).log; done = sym (ap (λ b. cond b number (s.word (spots.DoneWord d))) (at d)) })
-      (λ i ne. record { log = (old.sections i).log; done = (old.sections i).done ∙ sym (ap (λ b. cond b number (s.word (spots.DoneWord i))) (other i d ne)) }))
+      (record { done = sym (ap (λ b. cond b number (s.word (spots.DoneWord d))) (at d)) })
+      (λ i ne. record { done = (old.sections i).done ∙ sym (ap (λ b. cond b number (s.word (spots.DoneWord i))) (other i d ne)) }))
       (thunks_kept m l w w1 s (put s.word (spots.DoneWord d) number) old refl
       (upd_split w.section d (record (w.section d) { done = number }) (λ i y. HasSameText y (w.section i)) (record { lock = refl; word = refl; request = refl; code = refl; slot = refl }) (λ i ne. record { lock = refl; word = refl; request = refl; code = refl; slot = refl }))
       (λ i j. refl)) (λ i j. refl)
@@ -141,17 +141,11 @@ module _ (m : Meaning) (l : Layout) (w : AgreementState) (s : Sight) (old : IsJo
       changed_goes (events.StoreLog d k number ∷ []) w1 (put s.word (spots.LogWord d k) number) p' (record { enabled = (unused, tt); there = refl }) refl refl refl refl
       run records reads_same (let x = old.words in record { cells = x.cells; clock = x.clock; stamp = x.stamp; reply = x.reply })
       (upd_split w.section d x1 (λ i y. ShowsSection y (put s.word (spots.LogWord d k) number) i)
-      (record { done = (old.sections d).done; log = λ j. ap (cond (j == k) number) ((old.sections d).log j) ∙ sym (ap (λ b. cond b (cond (j == k) number (s.word (spots.LogWord d j))) (s.word (spots.LogWord d j))) (at d)) })
-      (λ i ne. record { done = (old.sections i).done; log = λ j. (old.sections i).log j ∙ sym (ap (λ b. cond b (cond (j == k) number (s.word (spots.LogWord i j))) (s.word (spots.LogWord i j))) (other i d ne)) }))
+      (record { done = (old.sections d).done })
+      (λ i ne. record { done = (old.sections i).done }))
       (thunks_kept m l w w1 s (put s.word (spots.LogWord d k) number) old refl
       (upd_split w.section d x1 (λ i y. HasSameText y (w.section i)) (record { lock = refl; word = refl; request = refl; code = refl; slot = refl }) (λ i ne. record { lock = refl; word = refl; request = refl; code = refl; slot = refl }))
       (λ i j. refl)) (λ i j. refl)
-    where
-      at : (n : ℕ) → (n == n) ≡ true
-      at n = grind (arith, nat_tests)
-
-      other : (i n : ℕ) → i ≢ n → (i == n) ≡ false
-      other i n ne = grind (arith, nat_tests)
 
   -- a run begins with the first word of a published descriptor
   pub run_begins : (d : ℕ) (p' : PartState) → (s.part r).run ≡ None → w.used d ≡ true → p'.run ≡ Some (opened d (s.word (spots.ThunkWord d 0))) → p'.published ≡ (s.part r).published
@@ -164,7 +158,7 @@ module _ (m : Meaning) (l : Layout) (w : AgreementState) (s : Sight) (old : IsJo
       (record { there = refl; enabled = ((subst (ShowsRun (w.run r)) none (old.tied r).run, used), tt) })
       (record { others = λ i ne. upd_else w.run r (begun d) i ne; finishes = λ i ne. refl; finished = λ i k ne. refl; seen = λ a b e. e })
       (let x = old.words in record { cells = λ i. x.cells i ∙ sym (words.cells i); clock = x.clock ∙ sym words.clock; stamp = λ i. x.stamp i ∙ sym (words.stamp i); reply = λ i. x.reply i ∙ sym (words.reply i) })
-      (λ i. record { log = λ k. (old.sections i).log k ∙ sym (words.log i k); done = (old.sections i).done ∙ sym (words.done i) })
+      (λ i. record { done = (old.sections i).done ∙ sym (words.done i) })
       (thunks_kept m l w w1 s word' old refl (λ i. record { lock = refl; word = refl; request = refl; code = refl; slot = refl }) words.thunks) words.thunks
       (record {
         run = subst (ShowsRun (w1.run r)) (sym run) (subst (λ (y : Run). IsRunOf y first) (sym fresh) (record { running = refl; descriptor = refl; at = refl; word = refl; count = refl; trail = λ k. refl; ended = refl }));
@@ -197,7 +191,7 @@ module _ (m : Meaning) (l : Layout) (w : AgreementState) (s : Sight) (old : IsJo
       plain_goes m l [] w w s r word' p' old (lead_none m l w)
       (record { others = λ i ne. refl; finishes = λ i ne. refl; finished = λ i k ne. refl; seen = λ a b e. e })
       (let x = old.words in record { cells = λ i. x.cells i ∙ sym (words.cells i); clock = x.clock ∙ sym words.clock; stamp = λ i. x.stamp i ∙ sym (words.stamp i); reply = λ i. x.reply i ∙ sym (words.reply i) })
-      (λ i. record { log = λ k. (old.sections i).log k ∙ sym (words.log i k); done = (old.sections i).done ∙ sym (words.done i) })
+      (λ i. record { done = (old.sections i).done ∙ sym (words.done i) })
       (thunks_kept m l w w s word' old refl (λ i. record { lock = refl; word = refl; request = refl; code = refl; slot = refl }) words.thunks) words.thunks
       (record {
         run = subst (ShowsRun (w.run r)) (sym run) (record { running = here.running; descriptor = here.descriptor; at = here.at; word = here.word; count = here.count; trail = here.trail; ended = here.ended });
@@ -255,7 +249,7 @@ module _ (m : Meaning) (l : Layout) (w : AgreementState) (s : Sight) (old : IsJo
 
   -- a section is published: the outer lock stood free with the thunk's word, and names the descriptor from now on
   module _ (d : ℕ) (t : Thunk) (p' : PartState) (none : (s.part r).run ≡ None) (unused : w.used d ≡ false) (found : s.word (spots.Cell t.lock) ≡ t.word) (words_of : thunk_in s.word d ≡ t)
-      (line_of_t : IsPublishable c d t.lock t.word (micro_at (line (m.body t))) (committed (line (m.body t)))) (undone : s.word (spots.DoneWord d) ≡ 0) (unlogged : (k : ℕ) → s.word (spots.LogWord d k) ≡ 0)
+      (line_of_t : IsPublishable c d t.lock t.word (micro_at (line (m.body t))) (committed (line (m.body t)))) (undone : s.word (spots.DoneWord d) ≡ 0) (unlogged : (k : ℕ) → (w.section d).log k ≡ 0)
       (run : p'.run ≡ None) (records : p'.records.finished ≡ (s.part r).records.finished)
       (cells : p'.reads.cells ≡ (s.part r).reads.cells ++ (t.lock, s.word (spots.Cell t.lock)) ∷ []) where
     abbrev word' : Spot → ℕ
@@ -276,7 +270,7 @@ module _ (m : Meaning) (l : Layout) (w : AgreementState) (s : Sight) (old : IsJo
     leads : LeadBy m l (events.Read t.lock ∷ publish ∷ []) w w1
     leads = record {
       there = refl;
-      enabled = (tt, ((unused, old.words.cells t.lock ∙ found, line_of_t, (old.sections d).done ∙ undone, λ k. (old.sections d).log k ∙ unlogged k), tt));
+      enabled = (tt, ((unused, old.words.cells t.lock ∙ found, line_of_t, (old.sections d).done ∙ undone, unlogged), tt));
     }
 
     pub publishes : Goes m l r (events.Read t.lock ∷ publish ∷ []) w (record { word = word'; part = table.upd s.part r p' })
@@ -286,7 +280,7 @@ module _ (m : Meaning) (l : Layout) (w : AgreementState) (s : Sight) (old : IsJo
       joined = record {
         sound = lead_sound m l (events.Read t.lock ∷ publish ∷ []) w w1 leads old.sound;
         words = record { clock = old.words.clock; stamp = old.words.stamp; reply = old.words.reply; cells = λ i. ap (cond (i == t.lock) (held_word d t.word)) (old.words.cells i) };
-        sections = upd_split w.section d section1 (λ i y. ShowsSection y word' i) (record { log = (old.sections d).log; done = (old.sections d).done }) (λ i ne. record { log = (old.sections i).log; done = (old.sections i).done });
+        sections = upd_split w.section d section1 (λ i y. ShowsSection y word' i) (record { done = (old.sections d).done }) (λ i ne. record { done = (old.sections i).done });
         thunks = λ i used. ⊎_elim
             (λ e. subst (λ k. IsOfThunk m (w1.section k) (thunk_in word' k)) (sym e)
             (subst (λ (y : Section). IsOfThunk m y (thunk_in word' d)) (sym (upd_here w.section d section1)) (subst (IsOfThunk m section1) (sym words_of)

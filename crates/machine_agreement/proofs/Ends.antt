@@ -112,8 +112,8 @@ module _ (m : Meaning) (l : Layout) (rs : List Request) (w : AgreementState) (s 
   -- the done word after it
   done_sections : (new : ℕ) → written_once ((section_of w r).done) 1 ≡ new → (d : ℕ) → ShowsSection ((events.after w (events.SetDone r)).section d) (put s.word (spots.DoneWord q.descriptor) new) d
   done_sections new same = upd_split w.section (w.run r).descriptor (record (section_of w r) { done = written_once ((section_of w r).done) 1 }) (λ i y. ShowsSection y (put s.word (spots.DoneWord q.descriptor) new) i)
-      (record { log = (old.sections ((w.run r).descriptor)).log; done = same ∙ sym (ap (λ b. cond b new (s.word (spots.DoneWord ((w.run r).descriptor)))) (at ((w.run r).descriptor) q.descriptor run_here.descriptor)) })
-      (λ i ne. record { log = (old.sections i).log; done = (old.sections i).done ∙ sym (ap (λ b. cond b new (s.word (spots.DoneWord i))) (other i q.descriptor (λ e. ne (e ∙ sym run_here.descriptor)))) })
+      (record { done = same ∙ sym (ap (λ b. cond b new (s.word (spots.DoneWord ((w.run r).descriptor)))) (at ((w.run r).descriptor) q.descriptor run_here.descriptor)) })
+      (λ i ne. record { done = (old.sections i).done ∙ sym (ap (λ b. cond b new (s.word (spots.DoneWord i))) (other i q.descriptor (λ e. ne (e ∙ sym run_here.descriptor)))) })
     where
       at : (i d : ℕ) → i ≡ d → (i == d) ≡ true
       at i d e = grind (arith, nat_tests)

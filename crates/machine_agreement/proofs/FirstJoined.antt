@@ -103,7 +103,7 @@ module _ (m : Meaning) (l : Layout) (rs : List Request) (w : World) (start : IsF
         free = free;
       });
       words = record { cells = λ p. refl; clock = sym (nought spots.Clock refl refl); stamp = λ q. sym (nought (spots.Stamp q) refl refl); reply = λ q. sym (nought (spots.Reply q) refl refl) };
-      sections = λ d. record { log = λ k. sym (nought (spots.LogWord d k) refl refl); done = sym (nought (spots.DoneWord d) refl refl) };
+      sections = λ d. record { done = sym (nought (spots.DoneWord d) refl refl) };
       thunks = λ d used. absurd (let no = used in cc);
       tied = part_tied cells;
     }

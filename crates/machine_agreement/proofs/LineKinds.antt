@@ -1,7 +1,6 @@
 -- The steps of a run's line, joined: loads and commits.
-use Rattle.std.specs.Prelude.{◌==◌, Bool, true, false, cond, if◌then◌else◌}
-use Rattle.std.proofs.Common.{◌≡◌, ◌≢◌, ℕ, ◌+◌, List, [], ◌∷◌, ◌++◌, length, sym, refl, ap, ◌∙◌, subst, arith, Some}
-use Rattle.std.proofs.lemmas.Bool.Decides.{nat_tests}
+use Rattle.std.specs.Prelude.{Bool, true, false, if◌then◌else◌}
+use Rattle.std.proofs.Common.{◌≡◌, ℕ, ◌+◌, List, [], ◌∷◌, ◌++◌, length, sym, refl, ap, ◌∙◌, subst, Some}
 use Rattle.machine_states.specs.map_history.specs.declared.op.Request.{Request}
 use Rattle.machine_states.specs.body_terms.specs.declared.micro.Micro.{Micro}
 use Rattle.machine_states.specs.body_terms.specs.Line.{is_event}
@@ -137,15 +136,10 @@ module _ (m : Meaning) (l : Layout) where
     own_descriptor : (w.run r).descriptor ≡ q.descriptor
     own_descriptor = (places.run_here m l w s old r q is).descriptor
 
-    same_test : (n : ℕ) → (n == n) ≡ true
-    same_test n = grind (arith, nat_tests)
-
-    else_test : (i n : ℕ) → i ≢ n → (i == n) ≡ false
-    else_test i n ne = grind (arith, nat_tests)
-
     -- a word is committed by a step of the run
     module _ (kind : EventKind) (k proposal number : ℕ) (micro : Micro) (e : events.Event) (next : next_of m q ≡ micro) (event : is_event micro ≡ true) (inner : is_of_end micro ≡ false)
-        (is_commit : events.after w e ≡ agrees w r k proposal) (same : proposal ≡ number) (enabled : events.Enabled c w e) where
+        (is_commit : events.after w e ≡ agrees w r k proposal) (same : proposal ≡ number) (logged : (w.section q.descriptor).log k ≡ s.word (spots.LogWord q.descriptor k))
+        (enabled : events.Enabled c w e) where
       abbrev log : Spot
       log = spots.LogWord q.descriptor k
 
@@ -153,13 +147,10 @@ module _ (m : Meaning) (l : Layout) where
       agreed = written_once (s.word log) number
 
       agreed_same : written_once ((section_of w r).log k) proposal ≡ agreed
-      agreed_same = ap (λ d. written_once ((w.section d).log k) proposal) own_descriptor ∙ (ap (λ n. written_once n proposal) ((old.sections q.descriptor).log k) ∙ ap (written_once (s.word log)) same)
+      agreed_same = ap (λ d. written_once ((w.section d).log k) proposal) own_descriptor ∙ (ap (λ n. written_once n proposal) logged ∙ ap (written_once (s.word log)) same)
 
       commit_sections : (d : ℕ) → ShowsSection ((agrees w r k proposal).section d) (word_after (log, Exchanges 0 number)) d
-      commit_sections = agrees_sections w r q.descriptor k proposal agreed s.word (word_after (log, Exchanges 0 number)) own_descriptor agreed_same
-          (λ j. ap (λ b. cond b (cond (j == k) agreed (s.word (spots.LogWord q.descriptor j))) (s.word (spots.LogWord q.descriptor j))) (same_test q.descriptor))
-          (λ i j ne. ap (λ b. cond b (cond (j == k) agreed (s.word (spots.LogWord i j))) (s.word (spots.LogWord i j))) (else_test i q.descriptor ne))
-          (λ i. refl) old.sections
+      commit_sections = agrees_sections w r k proposal s.word (word_after (log, Exchanges 0 number)) (λ i. refl) old.sections
 
       pub commit_goes : (q1 : RunState) → q1.descriptor ≡ q.descriptor → q1.at ≡ q.at + 1 → q1.word ≡ q.word → q1.trail ≡ q.trail ++ agreed ∷ [] → q1.ended ≡ q.ended → q1.opened ≡ q.opened
           → IsOwnPart m l (s.part r) (line_after m l kind (s.part r) q micro (s.word log)) q1

@@ -1,6 +1,6 @@
 -- The loads and the commits of a run's line, each kind of step joined.
 use Rattle.std.specs.Prelude.{Bool, true, false, if◌then◌else◌}
-use Rattle.std.proofs.Common.{◌≡◌, ℕ, suc, ◌+◌, List, [], ◌∷◌, ◌++◌, refl, ap, subst, arith, inl, inr, ⊎_elim, Some, None}
+use Rattle.std.proofs.Common.{◌≡◌, ℕ, suc, ◌+◌, List, [], ◌∷◌, ◌++◌, refl, ap, subst, arith, inl, inr, ⊎_elim, Some, None, ◌∙◌, sym}
 use Rattle.machine_states.specs.map_history.specs.declared.op.Request.{Request}
 use Rattle.machine_states.specs.body_terms.specs.declared.micro.Micro.{Micro}
 use Rattle.machine_states.specs.body_terms.specs.declared.micro.Micro.TheVariants as micros
@@ -29,6 +29,8 @@ use Rattle.machine_agreement.proofs.LineAsked as asked
 use Rattle.machine_agreement.specs.Chunks.{IsLineChunk}
 use Rattle.machine_agreement.specs.Goes.{Goes}
 use Rattle.machine_agreement.proofs.LineKinds.{load_goes, number_goes, commit_goes, all}
+use Rattle.machine_states.specs.table_words.specs.declared.access.Access.TheVariants.{Exchanges}
+use Rattle.machine_epochs.specs.Roles.{commits_to}
 
 module _ (m : Meaning) (l : Layout) (rs : List Request) (w : AgreementState) (s : Sight) (old : IsJoinedToAgreement m l w s) (r : ℕ) (q : RunState) (is : (s.part r).run ≡ Some q) (opened : is_open_run q ≡ true) where
   -- the step leads to a joined state, by the events of its kind
@@ -92,14 +94,23 @@ module _ (m : Meaning) (l : Layout) (rs : List Request) (w : AgreementState) (s 
   own_word : (w.run r).word ≡ q.word
   own_word = (places.run_here m l w s old r q is).word
 
-  pub commit : (x : Spot × Access) → asks m l rs r kinds.Commit (s.part r) ≡ Some x → After kinds.Commit x
-  commit x e =
+  -- a commit on this word finds what the section's log has there
+  abbrev FindsLog : Spot × Access → Type 0
+  FindsLog x = (k : ℕ) → commits_to (next_of m q) ≡ Some k → (w.section q.descriptor).log k ≡ s.word x.0
+
+  logged_at : (x : Spot × Access) (micro : Micro) (k number : ℕ) → FindsLog x → next_of m q ≡ micro → commits_to micro ≡ Some k → (spots.LogWord q.descriptor k, Exchanges 0 number) ≡ x
+      → (w.section q.descriptor).log k ≡ s.word (spots.LogWord q.descriptor k)
+  logged_at x micro k number finds next there is_word = finds k (ap commits_to next ∙ there) ∙ ap (λ (y : Spot × Access). s.word y.0) (sym is_word)
+
+  pub commit : (x : Spot × Access) → FindsLog x → asks m l rs r kinds.Commit (s.part r) ≡ Some x → After kinds.Commit x
+  commit x finds e =
       let h = asked.commit_asked q x (next_of m q) (asked.line_asked m l rs r kinds.Commit (s.part r) q x e is opened) in
       subst (After kinds.Commit) h.3 (⊎_elim
       (λ word. (
         events.Commit r h.0 h.1 ∷ [],
         (h.0, h.1, inl (word, refl)),
         commit_goes m l rs w s old r q is opened kinds.Commit h.1 ((w.run r).word) q.word (micros.Commit h.0 h.1) (events.Commit r h.0 h.1) word refl refl refl own_word
+            (logged_at x (micros.Commit h.0 h.1) h.1 q.word finds word refl h.3)
             (before (micros.Commit h.0 h.1) refl refl word)
             (record q { at = q.at + 1; trail = q.trail ++ written_once (s.word (spots.LogWord q.descriptor h.1)) q.word ∷ [] }) refl refl refl refl refl refl (record { run = refl; published = refl; finished = refl }) refl,
       ))
@@ -107,28 +118,31 @@ module _ (m : Meaning) (l : Layout) (rs : List Request) (w : AgreementState) (s 
         events.NestedCommit r h.0 h.1 ∷ [],
         (h.0, h.1, inr (lock, refl)),
         commit_goes m l rs w s old r q is opened kinds.Commit h.1 ((w.run r).word) q.word (micros.NestedCommit h.0 h.1) (events.NestedCommit r h.0 h.1) lock refl refl refl own_word
+            (logged_at x (micros.NestedCommit h.0 h.1) h.1 q.word finds lock refl h.3)
             (before (micros.NestedCommit h.0 h.1) refl refl lock)
             (record q { at = q.at + 1; trail = q.trail ++ written_once (s.word (spots.LogWord q.descriptor h.1)) q.word ∷ [] }) refl refl refl refl refl refl (record { run = refl; published = refl; finished = refl }) refl,
       )) h.2)
 
-  pub outcome_commit : (x : Spot × Access) → asks m l rs r kinds.OutcomeCommit (s.part r) ≡ Some x → After kinds.OutcomeCommit x
-  outcome_commit x e =
+  pub outcome_commit : (x : Spot × Access) → FindsLog x → asks m l rs r kinds.OutcomeCommit (s.part r) ≡ Some x → After kinds.OutcomeCommit x
+  outcome_commit x finds e =
       let h = asked.outcome_commit_asked q x (next_of m q) (asked.line_asked m l rs r kinds.OutcomeCommit (s.part r) q x e is opened) in
       subst (After kinds.OutcomeCommit) h.3 (
         events.OutcomeCommit r h.0 h.1 ∷ [],
         (h.0, h.1, h.2, refl),
         commit_goes m l rs w s old r q is opened kinds.OutcomeCommit h.1 ((w.run r).word) q.word (micros.OutcomeCommit h.0 h.1) (events.OutcomeCommit r h.0 h.1) h.2 refl refl refl own_word
+            (logged_at x (micros.OutcomeCommit h.0 h.1) h.1 q.word finds h.2 refl h.3)
             (before (micros.OutcomeCommit h.0 h.1) refl refl h.2)
             (record q { at = q.at + 1; trail = q.trail ++ written_once (s.word (spots.LogWord q.descriptor h.1)) q.word ∷ [] }) refl refl refl refl refl refl (record { run = refl; published = refl; finished = refl }) refl,
       )
 
-  pub retire_commit : (x : Spot × Access) → asks m l rs r kinds.RetireCommit (s.part r) ≡ Some x → After kinds.RetireCommit x
-  retire_commit x e =
+  pub retire_commit : (x : Spot × Access) → FindsLog x → asks m l rs r kinds.RetireCommit (s.part r) ≡ Some x → After kinds.RetireCommit x
+  retire_commit x finds e =
       let h = asked.retire_commit_asked q x (next_of m q) (asked.line_asked m l rs r kinds.RetireCommit (s.part r) q x e is opened) in
       subst (After kinds.RetireCommit) h.3 (
         events.RetireCommit r h.0 h.1 ∷ [],
         (h.0, h.1, h.2, refl),
         commit_goes m l rs w s old r q is opened kinds.RetireCommit h.1 (suc h.0) (h.0 + 1) (micros.RetireCommit h.0 h.1) (events.RetireCommit r h.0 h.1) h.2 refl refl refl (let e : suc h.0 ≡ h.0 + 1 = omega arith in e)
+            (logged_at x (micros.RetireCommit h.0 h.1) h.1 (h.0 + 1) finds h.2 refl h.3)
             (before (micros.RetireCommit h.0 h.1) refl refl h.2)
             (record q { at = q.at + 1; trail = q.trail ++ written_once (s.word (spots.LogWord q.descriptor h.1)) (h.0 + 1) ∷ [] }) refl refl refl refl refl refl (record { run = refl; published = refl; finished = refl }) refl,
       )
@@ -137,8 +151,8 @@ module _ (m : Meaning) (l : Layout) (rs : List Request) (w : AgreementState) (s 
   make_after : (k slot found : ℕ) → q.made ≡ Some slot → line_after m l kinds.MakeCommit (s.part r) q (micros.MakeCommit k) found ≡ make_committed m l (s.part r) q (Some slot) found
   make_after k slot found made = ap (λ o. make_committed m l (s.part r) q o found) made
 
-  pub make_commit : (x : Spot × Access) → asks m l rs r kinds.MakeCommit (s.part r) ≡ Some x → After kinds.MakeCommit x
-  make_commit x e =
+  pub make_commit : (x : Spot × Access) → FindsLog x → asks m l rs r kinds.MakeCommit (s.part r) ≡ Some x → After kinds.MakeCommit x
+  make_commit x finds e =
       let h = asked.make_commit_asked q x (next_of m q) (asked.line_asked m l rs r kinds.MakeCommit (s.part r) q x e is opened) in
       let found = s.word (spots.LogWord q.descriptor h.0) in
       let next = make_after h.0 h.1 found h.3 in
@@ -146,6 +160,7 @@ module _ (m : Meaning) (l : Layout) (rs : List Request) (w : AgreementState) (s 
         events.MakeCommit r h.0 (suc h.1) ∷ [],
         (h.0, h.1, h.2, h.3, refl),
         commit_goes m l rs w s old r q is opened kinds.MakeCommit h.0 (suc h.1) (h.1 + 1) (micros.MakeCommit h.0) (events.MakeCommit r h.0 (suc h.1)) h.2 refl refl refl (let e : suc h.1 ≡ h.1 + 1 = omega arith in e)
+            (logged_at x (micros.MakeCommit h.0) h.0 (h.1 + 1) finds h.2 refl h.4)
             (before (micros.MakeCommit h.0) refl refl h.2, λ none. absurd (omega arith))
             (record q { made = None; worn = false; at = q.at + 1; trail = q.trail ++ written_once found (h.1 + 1) ∷ [] }) refl refl refl refl refl refl
             (record { run = ap (λ (p : PartState). p.run) next; published = ap (λ (p : PartState). p.published) next; finished = ap (λ (p : PartState). p.records.finished) next })

@@ -52,18 +52,17 @@ module _ (m : Meaning) (l : Layout) where
     pub reply : (q : ℕ) → word' (spots.Reply q) ≡ word (spots.Reply q)
     pub thunks : ThunksStay word word'
     pub done : (d : ℕ) → word' (spots.DoneWord d) ≡ word (spots.DoneWord d)
-    pub log : (d k : ℕ) → word' (spots.LogWord d k) ≡ word (spots.LogWord d k)
 
   -- a load changes no word
   pub load_same : (word : Spot → ℕ) (a : Spot) → SameWords word (put word a (word a))
   load_same word a = subst (SameWords word) (sym (put_same word a))
-      (record { cells = λ p. refl; clock = refl; stamp = λ q. refl; reply = λ q. refl; thunks = λ d j. refl; done = λ d. refl; log = λ d k. refl })
+      (record { cells = λ p. refl; clock = refl; stamp = λ q. refl; reply = λ q. refl; thunks = λ d j. refl; done = λ d. refl })
 
   shows_same : (x : Shared) (word word' : Spot → ℕ) → SameWords word word' → ShowsWords x word → ShowsWords x word'
   shows_same x word word' same old = record { cells = λ p. old.cells p ∙ sym (same.cells p); clock = old.clock ∙ sym same.clock; stamp = λ q. old.stamp q ∙ sym (same.stamp q); reply = λ q. old.reply q ∙ sym (same.reply q) }
 
   section_same : (x : Section) (word word' : Spot → ℕ) (d : ℕ) → SameWords word word' → ShowsSection x word d → ShowsSection x word' d
-  section_same x word word' d same old = record { log = λ k. old.log k ∙ sym (same.log d k); done = old.done ∙ sym (same.done d) }
+  section_same x word word' d same old = record { done = old.done ∙ sym (same.done d) }
 
   -- a part that keeps what the component sees is tied as before, with what else it has read
   tied_same : (w w' : AgreementState) (word : Spot → ℕ) (r : ℕ) (p p' : PartState) → w'.run ≡ w.run → w'.finishes ≡ w.finishes → w'.finished ≡ w.finished
@@ -111,7 +110,7 @@ module _ (m : Meaning) (l : Layout) where
           reply = λ i. ap (λ k. cond (i == n) (written_once k reply) (w.shared.reply i)) (x.reply n)
               ∙ ap (cond (i == n) (written_once (s.word (spots.Reply n)) reply)) (x.reply i);
         })
-        (λ d. record { log = (old.sections d).log; done = (old.sections d).done })
+        (λ d. record { done = (old.sections d).done })
         (thunks_kept m l w w1 s word' old refl (λ d. record { lock = refl; word = refl; request = refl; code = refl; slot = refl }) (λ d j. refl)) (λ d j. refl)
         (tied_word w1 s.word word' r p' (λ d j. refl) (tied_same w w1 s.word r (s.part r) p' refl refl refl same.run same.finished
         (λ a b has. (old.tied r).read a b (same.read a b has)) (old.tied r)))
@@ -131,7 +130,7 @@ module _ (m : Meaning) (l : Layout) where
           stamp = λ i. ap (λ k. cond (i == n) (written_once k stamp) (w.shared.stamp i)) (x.stamp n)
               ∙ ap (cond (i == n) (written_once (s.word (spots.Stamp n)) stamp)) (x.stamp i);
         })
-        (λ d. record { log = (old.sections d).log; done = (old.sections d).done })
+        (λ d. record { done = (old.sections d).done })
         (thunks_kept m l w w1 s word' old refl (λ d. record { lock = refl; word = refl; request = refl; code = refl; slot = refl }) (λ d j. refl)) (λ d j. refl)
         (tied_word w1 s.word word' r p' (λ d j. refl) (tied_same w w1 s.word r (s.part r) p' refl refl refl same.run same.finished
         (λ a b has. (old.tied r).read a b (same.read a b has)) (old.tied r)))

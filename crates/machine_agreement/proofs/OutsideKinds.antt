@@ -116,7 +116,7 @@ module _ (m : Meaning) (l : Layout) (rs : List Request) (w : AgreementState) (s 
       quiet kinds.Announce x refl (subst (λ (y : Spot × Access). SameWords m l s.word (word_of y)) h.2 (elsewhere h.0)) (noted_part kinds.Announce x stages.Announced p.nodes p.records refl)
     where
       elsewhere : (e : ℕ) → SameWords m l s.word (word_of (spots.Announcement r, Stores e))
-      elsewhere e = record { cells = λ i. refl; clock = refl; stamp = λ i. refl; reply = λ i. refl; thunks = λ d j. refl; done = λ d. refl; log = λ d k. refl }
+      elsewhere e = record { cells = λ i. refl; clock = refl; stamp = λ i. refl; reply = λ i. refl; thunks = λ d j. refl; done = λ d. refl }
 
   pub enter_again : (x : Spot × Access) → outside_ask m l rs r kinds.EnterAgain p ≡ Some x → To kinds.EnterAgain x
   enter_again x e = let h = asked.enter_again_asked p x e in quiet kinds.EnterAgain x refl (loads spots.Epoch x h.1)
@@ -125,7 +125,7 @@ module _ (m : Meaning) (l : Layout) (rs : List Request) (w : AgreementState) (s 
   pub exit : (x : Spot × Access) → outside_ask m l rs r kinds.Idle p ≡ Some x → To kinds.Idle x
   exit x e = let h = asked.idle_asked r p x e in
       quiet kinds.Idle x refl (subst (λ (y : Spot × Access). SameWords m l s.word (word_of y)) h.3
-      (record { cells = λ i. refl; clock = refl; stamp = λ i. refl; reply = λ i. refl; thunks = λ d j. refl; done = λ d. refl; log = λ d k. refl })) (noted_part kinds.Idle x stages.Idle p.nodes p.records refl)
+      (record { cells = λ i. refl; clock = refl; stamp = λ i. refl; reply = λ i. refl; thunks = λ d j. refl; done = λ d. refl })) (noted_part kinds.Idle x stages.Idle p.nodes p.records refl)
 
   pub scan_epoch : (x : Spot × Access) → outside_ask m l rs r kinds.ScanEpoch p ≡ Some x → To kinds.ScanEpoch x
   scan_epoch x e = let h = asked.enter_load_asked p.stage x e in quiet kinds.ScanEpoch x refl (loads spots.Epoch x h.1) (noted_part kinds.ScanEpoch x (stages.Scanning (s.word x.0) 0 true) p.nodes p.records refl)
@@ -149,7 +149,7 @@ module _ (m : Meaning) (l : Layout) (rs : List Request) (w : AgreementState) (s 
       (look_part (kinds.ReadPlan thunk) x (Some (plan_by thunk)) p.records refl)
     where
       elsewhere : SameWords m l s.word (word_of (spots.Announcement r, Exchanges 0 0))
-      elsewhere = record { cells = λ i. refl; clock = refl; stamp = λ i. refl; reply = λ i. refl; thunks = λ d j. refl; done = λ d. refl; log = λ d k. refl }
+      elsewhere = record { cells = λ i. refl; clock = refl; stamp = λ i. refl; reply = λ i. refl; thunks = λ d j. refl; done = λ d. refl }
 
   pub read_clock : (x : Spot × Access) → outside_ask m l rs r kinds.ReadClock p ≡ Some x → To kinds.ReadClock x
   read_clock x e = quiet kinds.ReadClock x refl (loads spots.Clock x (reads_asked.read_clock_asked p x e).is)
@@ -330,7 +330,7 @@ module _ (m : Meaning) (l : Layout) (rs : List Request) (w : AgreementState) (s 
   advance x e =
       let h = asked.advance_asked l p.stage x e in
       quiet kinds.Advance x refl (subst (λ (y : Spot × Access). SameWords m l s.word (word_of y)) h.5
-      (record { cells = λ i. refl; clock = refl; stamp = λ i. refl; reply = λ i. refl; thunks = λ d j. refl; done = λ d. refl; log = λ d k. refl })) (by_stage p.stage)
+      (record { cells = λ i. refl; clock = refl; stamp = λ i. refl; reply = λ i. refl; thunks = λ d j. refl; done = λ d. refl })) (by_stage p.stage)
     where
       Same : PartState → Type 0
       Same q = IsSamePart m l p (noting l r kinds.Advance x.0 x.1 (s.word x.0) q)
@@ -353,7 +353,7 @@ module _ (m : Meaning) (l : Layout) (rs : List Request) (w : AgreementState) (s 
   pub guard : (d : Option ℕ) (x : Spot × Access) → outside_ask m l rs r (kinds.Guard d) p ≡ Some x → To (kinds.Guard d) x
   guard d x e = let h = asked.guard_asked l r d p x e in
       quiet (kinds.Guard d) x refl (subst (λ (y : Spot × Access). SameWords m l s.word (word_of y)) h.is
-      (record { cells = λ i. refl; clock = refl; stamp = λ i. refl; reply = λ i. refl; thunks = λ d j. refl; done = λ d. refl; log = λ d k. refl }))
+      (record { cells = λ i. refl; clock = refl; stamp = λ i. refl; reply = λ i. refl; thunks = λ d j. refl; done = λ d. refl }))
       (record { run = refl; finished = noted_finished l r (kinds.Guard d) x.0 x.1 (s.word x.0) p.records; read = λ a b h. h })
 
   -- the part after one more guard word was read

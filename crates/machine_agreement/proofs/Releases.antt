@@ -193,7 +193,7 @@ module _ (m : Meaning) (l : Layout) (rs : List Request) (w : AgreementState) (s 
     }
 
     sections : (d : ℕ) → ShowsSection (w1.section d) word' d
-    sections d = record { log = (old.sections d).log; done = (old.sections d).done }
+    sections d = record { done = (old.sections d).done }
 
     same_text : (d : ℕ) → HasSameText (w1.section d) (w.section d)
     same_text d = record { lock = refl; word = refl; request = refl; code = refl; slot = refl }

@@ -146,7 +146,7 @@ module _ (m : Meaning) (l : Layout) (rs : List Request) (w : AgreementState) (s 
             (one m l rs w s old r q is opened (events.PrivateStore r word h.0 h.1 p number) (before (micros.PrivateStore word h.0 h.1) refl refl h.2, supplied))
             (own_then w (goes_on w r ((w.run r).word)) w1 r (goes_on_own w r ((w.run r).word)) (with_cell_own (goes_on w r ((w.run r).word)) r p number))
             (moved_run (w.run r).word run_here.word) refl refl refl (record { run = refl; published = refl; finished = refl })
-            (changed_words w.shared p number number refl refl refl refl refl) (goes_on_sections w r ((w.run r).word) (put s.word (spots.Cell p) number) (λ d. let o = old.sections d in record { log = o.log; done = o.done })) (λ d j. refl)
+            (changed_words w.shared p number number refl refl refl refl refl) (goes_on_sections w r ((w.run r).word) (put s.word (spots.Cell p) number) (λ d. record { done = (old.sections d).done })) (λ d j. refl)
             (λ place found has. (old.tied r).read place found has),
       )
     where
@@ -188,7 +188,7 @@ module _ (m : Meaning) (l : Layout) (rs : List Request) (w : AgreementState) (s 
         (own_then w w0 w1 r (reads_own w r p) (own_then w0 (goes_on w0 r ((w.run r).word)) w1 r (goes_on_own w0 r ((w.run r).word)) (with_cell_own (goes_on w0 r ((w.run r).word)) r p new)))
         (behind_run w0 (w.run r).word refl run_here.word) refl refl refl own
         (changed_words w0.shared p new (exchanged (s.word (spots.Cell p)) old_word new_word) refl refl refl refl same)
-        (goes_on_sections w0 r ((w.run r).word) (put s.word (spots.Cell p) (exchanged (s.word (spots.Cell p)) old_word new_word)) (λ d. let o = old.sections d in record { log = o.log; done = o.done })) (λ d j. refl)
+        (goes_on_sections w0 r ((w.run r).word) (put s.word (spots.Cell p) (exchanged (s.word (spots.Cell p)) old_word new_word)) (λ d. record { done = (old.sections d).done })) (λ d j. refl)
         (reads_more w p (s.word (spots.Cell p)) (s.part r).reads.cells _ (old.words.cells p) cells (λ place found has. (old.tied r).read place found has))
 
   before_read : (p : ℕ) (micro : Micro) → IsBefore w r micro → IsBefore (reads w p) r micro
@@ -270,7 +270,7 @@ module _ (m : Meaning) (l : Layout) (rs : List Request) (w : AgreementState) (s 
               reply = old.words.reply;
               stamp = λ i. ap (λ k. upd w.shared.stamp k mine i) own_request ∙ (ap (λ k. upd w.shared.stamp request k i) same ∙ ap (cond (i == request) stamp) (old.words.stamp i));
             })
-            (goes_on_sections w r mine (put s.word (spots.Stamp request) stamp) (λ d. let o = old.sections d in record { log = o.log; done = o.done })) (λ d j. refl)
+            (goes_on_sections w r mine (put s.word (spots.Stamp request) stamp) (λ d. record { done = (old.sections d).done })) (λ d j. refl)
             (λ place word has. (old.tied r).read place word (subst (λ xs. has_pair xs place word ≡ true) (ap (λ (p : PartState). p.reads.cells) next) has)),
       )
 
@@ -287,7 +287,7 @@ module _ (m : Meaning) (l : Layout) (rs : List Request) (w : AgreementState) (s 
             (own_then w (goes_on w r n) w1 r (goes_on_own w r n) (own_shared (goes_on w r n) r (record (w.shared) { clock = max w.shared.clock (n / 2) }) (λ p word seen. seen)))
             (behind_run w n refl run_here.word) refl refl refl (record { run = refl; published = refl; finished = refl })
             (record { cells = old.words.cells; stamp = old.words.stamp; reply = old.words.reply; clock = ap (λ k. max k (n / 2)) old.words.clock ∙ ap (λ k. max (s.word spots.Clock) (k / 2)) run_here.word })
-            (goes_on_sections w r n (put s.word spots.Clock (max (s.word spots.Clock) (q.word / 2))) (λ d. let o = old.sections d in record { log = o.log; done = o.done })) (λ d j. refl)
+            (goes_on_sections w r n (put s.word spots.Clock (max (s.word spots.Clock) (q.word / 2))) (λ d. record { done = (old.sections d).done })) (λ d j. refl)
             (λ place word has. (old.tied r).read place word has),
       )
 
@@ -315,6 +315,6 @@ module _ (m : Meaning) (l : Layout) (rs : List Request) (w : AgreementState) (s 
               stamp = old.words.stamp;
               reply = λ i. ap (λ k. upd w.shared.reply k mine i) own_request ∙ (ap (λ k. upd w.shared.reply request k i) same ∙ ap (cond (i == request) reply) (old.words.reply i));
             })
-            (goes_on_sections w r n (put s.word (spots.Reply request) reply) (λ d. let o = old.sections d in record { log = o.log; done = o.done })) (λ d j. refl)
+            (goes_on_sections w r n (put s.word (spots.Reply request) reply) (λ d. record { done = (old.sections d).done })) (λ d j. refl)
             (λ place word has. (old.tied r).read place word has),
       )

@@ -5,7 +5,7 @@ use Rattle.machine_states.specs.body_terms.specs.declared.micro.Micro.{Micro}
 use Rattle.machine_states.specs.body_terms.specs.Line.{ending}
 use Rattle.machine_states.specs.table_words.specs.declared.layout.Layout.{Layout}
 use Rattle.machine_states.specs.table_words.specs.declared.spot.Spot.{Spot}
-use Rattle.machine_states.specs.table_words.specs.declared.spot.Spot.TheVariants.{Clock, Stamp, Reply, Cell, ThunkWord, DoneWord, LogWord}
+use Rattle.machine_states.specs.table_words.specs.declared.spot.Spot.TheVariants.{Clock, Stamp, Reply, Cell, ThunkWord, DoneWord}
 use Rattle.machine_states.specs.structure_laws.specs.Meaning.{Meaning}
 use Rattle.machine_states.specs.runner_parts.specs.State.{RunState, FinishedState, PartState}
 use Rattle.machine_states.specs.runner_parts.specs.Tests.{has_pair}
@@ -55,9 +55,8 @@ pub record ShowsWords (x : Shared) (word : Spot → ℕ) : Type 0 where
   pub stamp : (q : ℕ) → x.stamp q ≡ word (Stamp q)
   pub reply : (q : ℕ) → x.reply q ≡ word (Reply q)
 
--- the component's section of a descriptor has the machine's words
+-- the component's section of a descriptor has the machine's done word. Where the words of its log stand isn't said here
 pub record ShowsSection (x : Section) (word : Spot → ℕ) (d : ℕ) : Type 0 where
-  pub log : (k : ℕ) → x.log k ≡ word (LogWord d k)
   pub done : x.done ≡ word (DoneWord d)
 
 module _ (m : Meaning) (l : Layout) where

@@ -6,7 +6,7 @@ use Rattle.machine_states.specs.body_terms.specs.declared.thunk.Thunk.{Thunk}
 use Rattle.machine_states.specs.body_terms.specs.Line.{line, micro_at, committed}
 use Rattle.machine_states.specs.body_terms.specs.Memory.{cell_of}
 use Rattle.machine_states.specs.table_words.specs.declared.layout.Layout.{Layout}
-use Rattle.machine_states.specs.table_words.specs.declared.spot.Spot.TheVariants.{DoneWord, LogWord}
+use Rattle.machine_states.specs.table_words.specs.declared.spot.Spot.TheVariants.{DoneWord}
 use Rattle.machine_states.specs.structure_laws.specs.Meaning.{Meaning}
 use Rattle.machine_states.specs.runner_parts.specs.declared.event.EventKind.{EventKind}
 use Rattle.machine_states.specs.runner_parts.specs.declared.event.EventKind.TheVariants as kinds
@@ -20,6 +20,7 @@ use Rattle.machine_states.specs.runner_steps.specs.Sections.{is_open_run, next_o
 use Rattle.agreement_core.specs.State.{AgreementState, section_of}
 use Rattle.agreement_core.specs.Events.{IsAlone, IsPrivateStore, IsPublishable}
 use Rattle.machine_states.specs.Sight.{Sight}
+use Rattle.machine_epochs.specs.Roles.{commits_to}
 use Rattle.machine_epochs.specs.Slots.{thunk_in}
 use Rattle.machine_scenes.specs.Shown.{rules_of}
 
@@ -33,7 +34,7 @@ pub record MayPublish (m : Meaning) (l : Layout) (w : AgreementState) (s : Sight
     (d : ℕ) : Type 0 where
   pub words : thunk_in s.word d ≡ t
   pub undone : s.word (DoneWord d) ≡ 0
-  pub unlogged : (k : ℕ) → s.word (LogWord d k) ≡ 0
+  pub unlogged : (k : ℕ) → (w.section d).log k ≡ 0
   pub publishable : IsPublishable (rules_of m l) d t.lock t.word (micro_at (line (m.body t)))
       (committed (line (m.body t)))
 
@@ -44,6 +45,9 @@ module _ (m : Meaning) (l : Layout) where
     pub alone : (q : RunState) (p k : ℕ) → (s.part r).run ≡ Some q → is_open_run q ≡ true
         → next_of m q ≡ LoadCell p k → (w.run r).at ≡ (section_of w r).edge → (section_of w r).done ≡ 0
         → IsAlone w ((w.run r).descriptor) p
+    -- a commit of a run finds the word that the section's log has there
+    pub logged : (q : RunState) (k : ℕ) → (s.part r).run ≡ Some q → is_open_run q ≡ true
+        → commits_to (next_of m q) ≡ Some k → (w.section q.descriptor).log k ≡ found
     -- a Make's store into a cell of its slot
     pub private : (q : RunState) (slot cell number : ℕ) → (s.part r).run ≡ Some q
         → kind ≡ kinds.PrivateStore slot cell number

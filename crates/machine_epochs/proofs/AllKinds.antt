@@ -78,8 +78,8 @@ module _ (m : Meaning) (l : Layout) (rs : List Request) (w : EpochState) (s : Si
       line_goes kinds.ExchangeCell u e = runs.exchange_cell m l w s old r q at is_open _ (next_of m q) refl x e
       line_goes (kinds.PrivateLoad slot word) u e = slots.fill_load m l w s old r q at is_open _ (next_of m q) refl x slot word e
       line_goes (kinds.PrivateStore slot word number) u e = slots.fill_store m l w s old r q at is_open _ (next_of m q) refl x slot word number e
-      line_goes kinds.MakeCommit u e = slots.make_commit m l w s old r q at is_open _ (next_of m q) refl x rs fits e
-      line_goes kinds.RetireCommit u e = retires.retire_commit m l w s old r q at is_open _ (next_of m q) refl x rs fits e
+      line_goes kinds.MakeCommit u e = slots.make_commit m l w s old r q at is_open _ (next_of m q) refl x rs fits (λ k. u.logged q k at is_open) e
+      line_goes kinds.RetireCommit u e = retires.retire_commit m l w s old r q at is_open _ (next_of m q) refl x rs fits (λ k. u.logged q k at is_open) e
       line_goes kinds.EpochForRetire u e = retires.epoch_for_retire m l w s old r q at is_open _ (next_of m q) refl x (λ slot k is. u.retires q slot k at is_open is) e
       line_goes kinds.SetDone u e = ends.set_done m l w s old r q at is_open _ (next_of m q) refl x rs fits e
       line_goes kinds.Release u e = ends.release m l w s old r q at is_open _ (next_of m q) refl x e
@@ -124,7 +124,7 @@ module _ (m : Meaning) (l : Layout) (rs : List Request) (w : EpochState) (s : Si
     outside_goes (kinds.LoadEntry request reply) j u e = outside.load_entry m l w s old r none _ request reply x e
     outside_goes (kinds.PrivateLoad slot word) j u e = stores.private_load m l w s old r none rs _ slot word x fits e
     outside_goes (kinds.PrivateStore slot word number) j u e = stores.private_store m l w s old r none rs _ slot word number x fits e
-    outside_goes (kinds.Hold thunk d) j u e = sections.hold m l w s old r none _ x rs thunk d e
+    outside_goes (kinds.Hold thunk d) j u e = sections.hold m l w s old r none _ x rs thunk d (λ k. u.unlogged thunk d k refl none) e
     outside_goes (kinds.LoadThunk (Some d)) j u e = outside.load_thunk m l w s old r none _ d x e
     outside_goes (kinds.ReadPlan thunk) j u e = outside.read_plan m l w s old r none _ thunk x e
     outside_goes kinds.ReadClock j u e = outside.read_clock m l w s old r none _ x e

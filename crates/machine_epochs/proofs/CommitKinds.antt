@@ -1,6 +1,6 @@
 -- The commits of words.
 use Rattle.std.specs.Prelude.{◌==◌, ◌||◌, cond, Bool, true, false}
-use Rattle.std.proofs.Common.{◌≡◌, ◌≢◌, ℕ, ◌<◌, ◌≤◌, List, [], ◌∷◌, ◌++◌, refl, sym, ap, ◌∙◌, subst, arith, Some, ⊎_elim, inl, inr}
+use Rattle.std.proofs.Common.{◌≡◌, ◌≢◌, ℕ, ◌<◌, ◌≤◌, List, [], ◌∷◌, ◌++◌, refl, sym, ◌∙◌, subst, arith, Some, ⊎_elim, inl, inr}
 use Rattle.std.proofs.lemmas.Bool.Decides.{nat_tests}
 use Rattle.machine_states.specs.map_history.specs.declared.op.Request.{Request}
 use Rattle.machine_states.specs.body_terms.specs.declared.micro.Micro.{Micro}
@@ -13,7 +13,7 @@ use Rattle.machine_states.specs.table_words.specs.declared.spot.Spot.TheVariants
 use Rattle.machine_states.specs.table_words.specs.declared.access.Access.{Access}
 use Rattle.machine_states.specs.table_words.specs.declared.access.Access.TheVariants.{Exchanges}
 use Rattle.machine_states.specs.table_words.specs.Access.{exchanged}
-use Rattle.machine_states.specs.table_words.specs.Places.{Fits}
+use Rattle.machine_states.specs.table_words.specs.Places.{Fits, part_words}
 use Rattle.machine_states.specs.table_words.specs.Seen.{put}
 use Rattle.machine_states.specs.structure_laws.specs.Meaning.{Meaning}
 use Rattle.machine_states.specs.runner_parts.specs.declared.event.EventKind.{EventKind}
@@ -55,16 +55,14 @@ row_only f r i t row ne h = grind (arith, nat_tests)
 pub row_back : (r : ℕ) (holds comes had : Bool) → (holds ≡ true → had ≡ true) → cond (r == r) (holds || comes) holds ≡ true → (had || comes) ≡ true
 row_back r holds comes had h e = grind (arith, nat_tests)
 
-past_log : (b : Bool) (k k' v x : ℕ) → k < 64 → 64 ≤ k' → x ≡ 0 → cond b (cond (k' == k) v x) x ≡ 0
-past_log b k k' v x low high e = grind (arith, nat_tests)
+-- a word that is written in the room of a descriptor stands before what is past it
+pub past_log : (b : Bool) (n k k' v x : ℕ) → k < n → n ≤ k' → x ≡ 0 → cond b (cond (k' == k) v x) x ≡ 0
+past_log b n k k' v x low high e = grind (arith, nat_tests)
 
 module _ (m : Meaning) (l : Layout) (w : EpochState) (s : Sight) (old : IsJoinedToEpochs m l w s) where
-  -- the logs after a commit that proposes this word
-  pub log_agrees : (d k v d' k' : ℕ) → upd2 w.log d k (written_once (w.log d k) v) d' k' ≡ put s.word (LogWord d k) (exchanged (s.word (LogWord d k)) 0 v) (LogWord d' k')
-  log_agrees d k v d' k' = λ i. cond (d' == d) (cond (k' == k) (written_once (old.log d k i) v) (old.log d' k' i)) (old.log d' k' i)
-
-  pub log_past : (d k v d' k' : ℕ) → k < 64 → 64 ≤ k' → put s.word (LogWord d k) v (LogWord d' k') ≡ 0
-  log_past d k v d' k' low high = past_log (d' == d) k k' v (s.word (LogWord d' k')) low high (old.past d' k' high)
+  -- past the room of a descriptor the logs are empty after a commit too
+  pub log_past : (d k v d' k' : ℕ) → k < part_words → part_words ≤ k' → upd2 w.log d k v d' k' ≡ 0
+  log_past d k v d' k' low high = past_log (d' == d) part_words k k' v (w.log d' k') low high (old.past d' k' high)
 
   module _ (r : ℕ) (q : RunState) (at : (s.part r).run ≡ Some q) (is_open : is_open_run q ≡ true) where
     abbrev p : PartState
@@ -78,7 +76,7 @@ module _ (m : Meaning) (l : Layout) (w : EpochState) (s : Sight) (old : IsJoined
 
     -- a commit of a word by which the runner comes to hold these slots
     module _ (micro : Micro) (ahead : next_of m q ≡ micro) (inner : is_of_end micro ≡ false) (other : is_of_retire micro ≡ false)
-        (k : ℕ) (role : w.role d k ≡ Agrees) (few : d < (counts_of m l).descriptors) (low : k < 64) where
+        (k : ℕ) (role : w.role d k ≡ Agrees) (few : d < (counts_of m l).descriptors) (low : k < part_words) where
       abbrev f : Spot → ℕ
       f = put s.word (LogWord d k) (exchanged (s.word (LogWord d k)) 0 q.word)
 
@@ -108,7 +106,6 @@ module _ (m : Meaning) (l : Layout) (w : EpochState) (s : Sight) (old : IsJoined
             out = λ i h. h;
             seen_epoch = refl;
             seen_announced = λ i. refl;
-            log = λ i j. log_agrees d k q.word i j;
             past = λ i j high. log_past d k _ i j low high;
           })
           (λ i ne. record {
@@ -124,7 +121,7 @@ module _ (m : Meaning) (l : Layout) (w : EpochState) (s : Sight) (old : IsJoined
           (sym (map_same lists_of s.part r _ refl))
 
     module _ (rs : List Request) (records : RecordsState) (micro : Micro) (ahead : next_of m q ≡ micro) (x : Spot × Access) (fits : Fits (sizes_for m l rs) x.0) where
-      for_log : (proposal log : ℕ) → (LogWord d log, Exchanges 0 proposal) ≡ x → (d < (counts_of m l).descriptors) × (log < 64)
+      for_log : (proposal log : ℕ) → (LogWord d log, Exchanges 0 proposal) ≡ x → (d < (counts_of m l).descriptors) × (log < part_words)
       for_log proposal log e = subst (λ (y : Spot × Access). Fits (sizes_for m l rs) y.0) (sym e) fits
 
       code_is : (μ : Micro) → micro ≡ μ → is_of_end μ ≡ false → micro_at (line (m.body (thunk_of q.opened))) q.at ≡ μ

@@ -142,8 +142,7 @@ module _ (m : Meaning) (l : Layout) (w : EpochState) (s : Sight) (old : IsJoined
       → ◌≡◌ {A = ℕ → Lists} (listed w (λ i. lists_of (s.part i)) e) (λ i. lists_of (upd s.part r p' i)) → KeepsSlots (after (counts_of m l) w e) f p' → Goes m l (e ∷ []) w (next m l w s old r f p')
   enters e f p' goes lists k =
       goes_with m l w s old r (e ∷ []) (goes.0, tt) f p' lists goes.1
-      (λ d i. k.log d i ∙ (old.log d i ∙ sym (k.same.log d i)))
-      (λ d i high. k.same.log d i ∙ old.past d i high)
+      (λ d i high. k.log d i ∙ old.past d i high)
       (λ d i out. k.role d i ∙ (old.roles d i (k.out _ out) ∙ ap (λ (t : Thunk). role_at (m.body t) i) (sym (thunk_same f s.word d (k.same.thunk d)))))
       (once m l w s old r p' (as_published m l w s old r p' k.published))
       (record {

@@ -25,7 +25,7 @@ use Rattle.machine_states.specs.World.{World}
 use Rattle.machine_states.specs.First as states
 use Rattle.machine_states.specs.First.{first_part, keeper_part, worker_part, falling}
 use Rattle.machine_states.specs.Sight.{Sight, sight}
-use Rattle.machine_states.proofs.FirstSights.{first_part_of, first_parts, unannounced, unlogged}
+use Rattle.machine_states.proofs.FirstSights.{first_part_of, first_parts, unannounced}
 use Rattle.machine_epochs.specs.Entries.{counts_of}
 use Rattle.machine_epochs.specs.Slots.{lists_of}
 use Rattle.machine_epochs.specs.Firsts.{owner_of, first_place}
@@ -199,8 +199,7 @@ module _ (m : Meaning) (l : Layout) where
         announced = λ r. sym (unannounced m l rs w start r);
         stage = λ r. of_part (λ q. points.Idle ≡ q.stage) (λ nodes descriptors. refl) r;
       };
-      log = λ d k. sym (unlogged m l rs w start d k);
-      past = λ d k high. unlogged m l rs w start d k;
+      past = λ d k high. refl;
       roles = λ d k out. absurd (let x = sym (ap is_out (at_descriptor m l d)) ∙ out in cc);
       published_once = λ r r' x x' e e' same. absurd (none-some _ (sym (of_part (λ q. q.published ≡ None) (λ nodes descriptors. refl) r) ∙ e));
       tied = λ r. of_part (λ q. IsTied m l begun s.word r q) (tied s.word r) r;

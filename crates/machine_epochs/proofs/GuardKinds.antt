@@ -99,7 +99,7 @@ module _ (m : Meaning) (l : Layout) (w : EpochState) (s : Sight) (old : IsJoined
         goes_with m l w s old r (events.Unguard r ∷ []) (ap (λ (y : Retiring). y.loaded) ((old.tied r).retire ∙ ap (retiring_of m) none), tt) f moved
         (sym (map_same lists_of s.part r moved refl))
         (record { epoch = old.entries.epoch; announced = old.entries.announced; stage = stages_stay m l w s old r f moved refl })
-        old.log old.past old.roles
+        old.past old.roles
         (once m l w s old r moved (as_published m l w s old r moved refl))
         (record {
           run_held = λ q e. absurd (none-some _ (sym none ∙ e));
@@ -206,8 +206,7 @@ module _ (m : Meaning) (l : Layout) (w : EpochState) (s : Sight) (old : IsJoined
           announced = λ i. old.entries.announced i ∙ sym (same.announced i);
           stage = stages_stay m l w s old r seen freed refl;
         })
-        (λ d k. old.log d k ∙ sym (same.log d k))
-        (λ d k high. same.log d k ∙ old.past d k high)
+        old.past
         (λ d k out. old.roles d k (swept_out _ r _ out) ∙ ap (λ (t : Thunk). role_at (m.body t) k) (sym (thunk_same seen s.word d (same.thunk d))))
         (once m l w s old r freed (as_published m l w s old r freed refl))
         (record {

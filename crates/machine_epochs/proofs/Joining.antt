@@ -6,6 +6,7 @@ use Rattle.machine_states.specs.table_words.specs.declared.spot.Spot.{Spot}
 use Rattle.machine_states.specs.table_words.specs.declared.spot.Spot.TheVariants.{Epoch, Clock, Announcement, Stamp, Reply, Cell, ThunkWord, DoneWord, LogWord}
 use Rattle.machine_states.specs.table_words.specs.declared.access.Access.TheVariants.{Exchanges}
 use Rattle.machine_states.specs.table_words.specs.Access.{written}
+use Rattle.machine_states.specs.table_words.specs.Places.{part_words}
 use Rattle.machine_states.specs.table_words.specs.Seen.{upd, put}
 use Rattle.machine_states.specs.body_terms.specs.declared.thunk.Thunk.{Thunk}
 use Rattle.machine_states.specs.structure_laws.specs.Meaning.{Meaning}
@@ -209,8 +210,7 @@ module _ (m : Meaning) (l : Layout) where
         announced = λ i. old.entries.announced i ∙ sym (same.announced i);
         stage = stages_stay f p stage;
       };
-      log = λ d k. old.log d k ∙ sym (same.log d k);
-      past = λ d k h. same.log d k ∙ old.past d k h;
+      past = old.past;
       roles = λ d k out. old.roles d k out ∙ ap (λ (t : Thunk). role_at (m.body t) k) (sym (thunk_same f s.word d (same.thunk d)));
       published_once = once p back;
       tied = all_tied w f p own (λ i ne. record {
@@ -231,17 +231,16 @@ module _ (m : Meaning) (l : Layout) where
     -- a step of these events of the component, by which a runner's part becomes this one
     pub goes_with : (es : List events.Event) → AllEnabled c w es → (f : Spot → ℕ) (p : PartState)
         → ◌≡◌ {A = ℕ → Lists} (listed_all c w (λ i. lists_of (s.part i)) es) (λ i. lists_of (upd s.part r p i))
-        → ShowsEntries (after_all c w es) (next f p) → ((d k : ℕ) → (after_all c w es).log d k ≡ f (LogWord d k)) → ((d k : ℕ) → 64 ≤ k → f (LogWord d k) ≡ 0)
+        → ShowsEntries (after_all c w es) (next f p) → ((d k : ℕ) → part_words ≤ k → (after_all c w es).log d k ≡ 0)
         → ((d k : ℕ) → is_out ((after_all c w es).location (slot_of c d)) ≡ true → (after_all c w es).role d k ≡ role_at (m.body (thunk_in f d)) k)
         → ((i i' : ℕ) (x x' : Published) → (upd s.part r p i).published ≡ Some x → (upd s.part r p i').published ≡ Some x' → x.descriptor ≡ x'.descriptor → i ≡ i')
         → IsTied m l (after_all c w es) f r p → ((i : ℕ) → i ≢ r → IsElsewhere w (after_all c w es) s.word f i (s.part i)) → Goes m l es w (next f p)
-    goes_with es ok f p lists entries log past roles apart own others = record {
+    goes_with es ok f p lists entries past roles apart own others = record {
       enabled = ok;
       joined = record {
         sound = keeps_all c w es ok old.sound;
         listed = subst (IsListed c (after_all c w es)) lists (lists_follow_all c w (λ i. lists_of (s.part i)) es ok old.sound old.listed);
         entries = entries;
-        log = log;
         past = past;
         roles = roles;
         published_once = apart;

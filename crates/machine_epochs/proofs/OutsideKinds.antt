@@ -225,8 +225,7 @@ module _ (m : Meaning) (l : Layout) (w : EpochState) (s : Sight) (old : IsJoined
           announced = λ i. old.entries.announced i ∙ sym (same.announced i);
           stage = stages_stay m l w s old r f p' refl;
         })
-        (λ d k. old.log d k ∙ sym (same.log d k))
-        (λ d k high. same.log d k ∙ old.past d k high)
+        old.past
         (λ d k out. old.roles d k out ∙ ap (λ (t : Thunk). role_at (m.body t) k) (sym (thunk_same f s.word d (same.thunk d))))
         (once m l w s old r p' (as_published m l w s old r p' refl))
         (record {
@@ -337,8 +336,7 @@ module _ (m : Meaning) (l : Layout) (w : EpochState) (s : Sight) (old : IsJoined
           announced = λ i. old.entries.announced i ∙ sym (same.announced i);
           stage = stages_stay m l w s old r f back refl;
         })
-        (λ d k. old.log d k ∙ sym (same.log d k))
-        (λ d k high. same.log d k ∙ old.past d k high)
+        old.past
         (λ d k out. old.roles d k (ap is_out (sym (descriptor_place d)) ∙ out) ∙ ap (λ (u : Thunk). role_at (m.body u) k) (sym (thunk_same f s.word d (same.thunk d))))
         (once m l w s old r back (as_published m l w s old r back refl))
         (record {

@@ -1,6 +1,6 @@
 -- The kinds of step of a Retire.
 use Rattle.std.specs.Prelude.{◌==◌, cond, if◌then◌else◌, Bool, true, false}
-use Rattle.std.proofs.Common.{◌≡◌, ◌≢◌, ℕ, suc, ◌+◌, ◌<◌, List, [], ◌∷◌, ◌++◌, map, refl, sym, ap, ◌∙◌, subst, arith, add-one, Some}
+use Rattle.std.proofs.Common.{◌≡◌, ◌≢◌, ℕ, suc, ◌+◌, ◌<◌, List, [], ◌∷◌, ◌++◌, map, refl, sym, ap, ◌∙◌, subst, arith, Some}
 use Rattle.std.proofs.lemmas.Bool.Decides.{nat_tests}
 use Rattle.machine_states.specs.map_history.specs.declared.op.Request.{Request}
 use Rattle.machine_states.specs.body_terms.specs.declared.micro.Micro.{Micro}
@@ -13,7 +13,7 @@ use Rattle.machine_states.specs.table_words.specs.declared.spot.Spot.TheVariants
 use Rattle.machine_states.specs.table_words.specs.declared.access.Access.{Access}
 use Rattle.machine_states.specs.table_words.specs.declared.access.Access.TheVariants.{Loads, Exchanges}
 use Rattle.machine_states.specs.table_words.specs.Access.{exchanged}
-use Rattle.machine_states.specs.table_words.specs.Places.{Fits}
+use Rattle.machine_states.specs.table_words.specs.Places.{Fits, part_words}
 use Rattle.machine_states.specs.table_words.specs.Seen.{upd, put}
 use Rattle.machine_states.specs.structure_laws.specs.Meaning.{Meaning}
 use Rattle.machine_states.specs.runner_parts.specs.declared.event.EventKind.TheVariants as kinds
@@ -45,8 +45,9 @@ use Rattle.machine_epochs.proofs.RunPlaces.{next_in_line, open_run, goes_on_unre
 use Rattle.machine_epochs.proofs.Places.{apart, log_elsewhere, run_role}
 use Rattle.machine_epochs.proofs.Joining.{but_load, descriptor_same, IsElsewhere, Goes, next}
 use Rattle.machine_epochs.proofs.RunKinds.{KeepsRun, KeepsRest, run_goes, Leads, for_step}
-use Rattle.machine_epochs.proofs.CommitKinds.{log_agrees, log_past}
+use Rattle.machine_epochs.proofs.CommitKinds.{log_past}
 use Rattle.machine_epochs.proofs.SlotKinds.{other_place, kept_place, live_hand}
+use Rattle.machine_epochs.specs.Roles.{commits_to}
 
 other_retire : (f : ℕ → Retiring) (r i : ℕ) (x : Retiring) → i ≢ r → upd f r x i ≡ f i
 other_retire f r i x ne = grind (arith, nat_tests)
@@ -111,7 +112,6 @@ module _ (m : Meaning) (l : Layout) (w : EpochState) (s : Sight) (old : IsJoined
           out = λ i h. h;
           seen_epoch = refl;
           seen_announced = λ i. refl;
-          log = old.log;
           past = old.past;
         })
         (λ i ne. record {
@@ -127,7 +127,8 @@ module _ (m : Meaning) (l : Layout) (w : EpochState) (s : Sight) (old : IsJoined
         (sym (map_same lists_of s.part r _ refl))
 
   -- its commit
-  module _ (here : micro_at (line_of m q) q.at ≡ micros.RetireCommit slot k) (few : d < (counts_of m l).descriptors) (low : k < 64) where
+  module _ (here : micro_at (line_of m q) q.at ≡ micros.RetireCommit slot k) (few : d < (counts_of m l).descriptors) (low : k < part_words)
+      (logged : w.log d k ≡ s.word (LogWord d k)) where
     abbrev found : ℕ
     found = s.word (LogWord d k)
 
@@ -180,7 +181,7 @@ module _ (m : Meaning) (l : Layout) (w : EpochState) (s : Sight) (old : IsJoined
     lists_by false = refl
 
     own_lists : retired_lists (w.log d k) slot q.word (lists_of p) ≡ lists_of own
-    own_lists = ap (λ n. retired_lists n slot q.word (lists_of p)) (old.log d k) ∙ lists_by (found == 0)
+    own_lists = ap (λ n. retired_lists n slot q.word (lists_of p)) logged ∙ lists_by (found == 0)
 
     pub retires : (records : RecordsState) → Goes m l (events.RetireCommit r ∷ []) w (next m l w s old r f (record own { records = records }))
     retires records =
@@ -207,7 +208,6 @@ module _ (m : Meaning) (l : Layout) (w : EpochState) (s : Sight) (old : IsJoined
           out = λ i h. ap is_out (sym (descriptor_place i)) ∙ h;
           seen_epoch = refl;
           seen_announced = λ i. refl;
-          log = λ i j. ap (λ n. upd2 w.log d k (written_once (w.log d k) n) i j) (sym (add-one slot)) ∙ log_agrees m l w s old d k (slot + 1) i j;
           past = λ i j high. log_past m l w s old d k _ i j low high;
         }))
         (λ i ne. subst (λ (x : Retiring). IsElsewhere m l w (committed x) s.word f i (s.part i)) (sym is_now) (record {
@@ -233,11 +233,16 @@ module _ (m : Meaning) (l : Layout) (w : EpochState) (s : Sight) (old : IsJoined
       for_step m l w s old r q at is_open kinds.EpochForRetire records micro x μ (Epoch, Loads) h.2 h.3
       (_, (h.0, h.1, refl, refl), loads_epoch m l w s old r q at is_open h.0 h.1 (next_in_line m q μ refl (ahead ∙ h.2)) (may h.0 h.1 h.2) records)
 
-  pub retire_commit : (rs : List Request) → Fits (sizes_for m l rs) x.0 → retire_commit_ask q micro ≡ Some x → Leads m l w s old r q at is_open kinds.RetireCommit records micro x
-  retire_commit rs fits e =
+  pub retire_commit : (rs : List Request) → Fits (sizes_for m l rs) x.0 → ((k : ℕ) → commits_to micro ≡ Some k → w.log q.descriptor k ≡ s.word x.0)
+      → retire_commit_ask q micro ≡ Some x → Leads m l w s old r q at is_open kinds.RetireCommit records micro x
+  retire_commit rs fits logged e =
       let h = asked.retire_commit_asked q x micro e in
       let k = h.1.log in
-      let few : (q.descriptor < (counts_of m l).descriptors) × (k < 64) = subst (λ (y : Spot × Access). Fits (sizes_for m l rs) y.0) (sym h.1.is) fits in
+      let few : (q.descriptor < (counts_of m l).descriptors) × (k < part_words) = subst (λ (y : Spot × Access). Fits (sizes_for m l rs) y.0) (sym h.1.is) fits in
       let μ : Micro = micros.RetireCommit h.0 k in
-      for_step m l w s old r q at is_open kinds.RetireCommit records micro x μ (LogWord q.descriptor k, Exchanges 0 (h.0 + 1)) h.1.step h.1.is
-      (_, (h.0, k, refl, refl), retires m l w s old r q at is_open h.0 k (next_in_line m q μ refl (ahead ∙ h.1.step)) few.0 few.1 records)
+      for_step m l w s old r q at is_open kinds.RetireCommit records micro x μ (LogWord q.descriptor k, Exchanges 0 (h.0 + 1)) h.1.step h.1.is (
+        _,
+        (h.0, k, refl, refl),
+        retires m l w s old r q at is_open h.0 k (next_in_line m q μ refl (ahead ∙ h.1.step)) few.0 few.1
+            (logged k (ap commits_to h.1.step) ∙ ap (λ (y : Spot × Access). s.word y.0) (sym h.1.is)) records,
+      )

@@ -1,4 +1,4 @@
--- The kinds of step by which a run goes on and no slot and no log word changes.
+-- The kinds of step by which a run goes on and no slot and no log changes.
 use Rattle.std.specs.Prelude.{cond, Bool, true, false, slice_index}
 use Rattle.std.proofs.Common.{◌≡◌, ◌≢◌, ℕ, ◌+◌, ◌<◌, ◌≤◌, List, length, refl, sym, ap, ◌∙◌, subst, arith, Some, None}
 use Rattle.machine_states.specs.body_terms.specs.declared.micro.Micro.{Micro}
@@ -7,10 +7,11 @@ use Rattle.machine_states.specs.body_terms.specs.Line.{micro_at}
 use Rattle.machine_states.specs.body_terms.specs.Run.{settled, written_once}
 use Rattle.machine_states.specs.table_words.specs.declared.layout.Layout.{Layout}
 use Rattle.machine_states.specs.table_words.specs.declared.spot.Spot.{Spot}
-use Rattle.machine_states.specs.table_words.specs.declared.spot.Spot.TheVariants.{Epoch, Announcement, Cell, Clock, Stamp, Reply, ThunkWord, LogWord}
+use Rattle.machine_states.specs.table_words.specs.declared.spot.Spot.TheVariants.{Epoch, Announcement, Cell, Clock, Stamp, Reply, ThunkWord}
 use Rattle.machine_states.specs.table_words.specs.declared.access.Access.{Access}
 use Rattle.machine_states.specs.table_words.specs.declared.access.Access.TheVariants.{Loads}
 use Rattle.machine_states.specs.table_words.specs.Access.{written}
+use Rattle.machine_states.specs.table_words.specs.Places.{part_words}
 use Rattle.machine_states.specs.table_words.specs.Seen.{upd, put}
 use Rattle.machine_states.specs.structure_laws.specs.Meaning.{Meaning}
 use Rattle.machine_states.specs.runner_parts.specs.declared.event.EventKind.{EventKind}
@@ -133,8 +134,7 @@ module _ (m : Meaning) (l : Layout) (w : EpochState) (s : Sight) (old : IsJoined
     pub out : (d : ℕ) → is_out (w'.location (slot_of (counts_of m l) d)) ≡ true → is_out (w.location (slot_of (counts_of m l) d)) ≡ true
     pub seen_epoch : f Epoch ≡ s.word Epoch
     pub seen_announced : (i : ℕ) → f (Announcement i) ≡ s.word (Announcement i)
-    pub log : (d k : ℕ) → w'.log d k ≡ f (LogWord d k)
-    pub past : (d k : ℕ) → 64 ≤ k → f (LogWord d k) ≡ 0
+    pub past : (d k : ℕ) → part_words ≤ k → w'.log d k ≡ 0
 
   -- a step of the run that is these events of the component
   pub run_goes : (es : List events.Event) → AllEnabled (counts_of m l) w es → (f : Spot → ℕ) (q' : RunState) (p' : PartState) → KeepsRun (after_all (counts_of m l) w es) f q' p'
@@ -148,7 +148,7 @@ module _ (m : Meaning) (l : Layout) (w : EpochState) (s : Sight) (old : IsJoined
         announced = λ i. rest.announced i ∙ (old.entries.announced i ∙ sym (rest.seen_announced i));
         stage = λ i. rest.stage i ∙ stages_stay m l w s old r f p' k.moved.stage i;
       })
-      rest.log rest.past
+      rest.past
       (λ d j out. rest.role d j ∙ (old.roles d j (rest.out d out) ∙ ap (λ (t : Thunk). role_at (m.body t) j) (sym (thunk_same f s.word d (k.thunk d)))))
       (once m l w s old r p' (as_published m l w s old r p' k.moved.published)) (run_tied (after_all (counts_of m l) w es) f q' p' k) others
 

@@ -1,9 +1,8 @@
 -- The publication of a section.
 use Rattle.std.specs.Prelude.{◌==◌, ◌&&◌, ◌||◌, not, cond, ◌^◌, ◌%◌, Bool, true, false, nat_lt, replicate, slice_index}
 use Rattle.std.specs.List.{filter}
-use Rattle.std.proofs.Common.{◌≡◌, ◌≢◌, ℕ, zero, suc, ◌+◌, ◌-◌, ◌<◌, ◌≤◌, List, [], ◌∷◌, length, refl, sym, ap, ◌∙◌, subst, arith, ◌⊎◌, ⊎_elim, inl, inr, Option, Some, None}
+use Rattle.std.proofs.Common.{◌≡◌, ◌≢◌, ℕ, zero, suc, ◌+◌, ◌-◌, ◌<◌, List, [], ◌∷◌, length, refl, sym, ap, ◌∙◌, subst, arith, ◌⊎◌, ⊎_elim, inl, inr, Option, Some, None}
 use Rattle.std.proofs.lemmas.Bool.{cases_eq}
-use Rattle.std.proofs.lemmas.List.{length-replicate}
 use Rattle.std.proofs.lemmas.Bool.Decides.{nat_tests}
 use Rattle.section_lines.specs.small_lemmas.proofs.Numbers.{tested_equal as same_word, tested_other as other_word}
 use Rattle.machine_states.specs.map_history.specs.declared.op.Request.{Request}
@@ -211,7 +210,8 @@ module _ (m : Meaning) (l : Layout) (w : EpochState) (s : Sight) (old : IsJoined
   here = slot_of (counts_of m l) d
 
   -- the section is published
-  module _ (few : d < (counts_of m l).descriptors) (free : has (s.part r).descriptors.free d ≡ true) (prepared : is_prepared (s.part r).descriptors.stored d t ≡ true) (unpublished : (s.part r).published ≡ None) (named : (s.part r).guards.named ≡ Some d) where
+  module _ (few : d < (counts_of m l).descriptors) (free : has (s.part r).descriptors.free d ≡ true) (prepared : is_prepared (s.part r).descriptors.stored d t ≡ true) (unpublished : (s.part r).published ≡ None) (named : (s.part r).guards.named ≡ Some d)
+      (empty : (k : ℕ) → w.log d k ≡ 0) where
     abbrev mine : Published
     mine = published_by t d p
 
@@ -227,18 +227,6 @@ module _ (m : Meaning) (l : Layout) (w : EpochState) (s : Sight) (old : IsJoined
     second : (a b : Bool) → (a && b) ≡ true → b ≡ true
     second true b e = e
     second false b e = absurd (let x = e in cc)
-
-    log_word : (k : ℕ) → k < 64 → s.word (LogWord d k) ≡ 0
-    log_word k low = ap s.word (sym (log_spot d k)) ∙ (old.tied r).stored d (13 + k) 0 free
-        (ap (λ n. last_stored p.descriptors.stored d n None) (let h : 13 + k ≡ 12 + (1 + k) = omega arith in h)
-        ∙ (stored_index p.descriptors.stored d (replicate 65 0) 12 (1 + k) (let h = length-replicate {A = ℕ} 65 0 in omega arith) (second _ _ prepared)
-        ∙ ap (λ n. Some n) (replicate_index 65 0 (1 + k) (omega arith))))
-
-    empty : (k : ℕ) → w.log d k ≡ 0
-    empty k = old.log d k ∙ ⊎_elim (λ low. log_word k low) (λ high. old.past d k high) (order k 64)
-      where
-        order : (a b : ℕ) → (a < b) ⊎ (b ≤ a)
-        order a b = search arith
 
     -- the guard word names it, and so no other one is sure
     named_one : (d' : ℕ) (sure : Bool) → (sure && is_some_of p.guards.named d') ≡ true → d' ≡ d
@@ -289,7 +277,7 @@ module _ (m : Meaning) (l : Layout) (w : EpochState) (s : Sight) (old : IsJoined
         goes_with m l w s old r (events.Publish r d roles ∷ []) ((entered, at_free, empty), tt) f holding
         (sym (map_upd lists_of s.part r holding))
         (record { epoch = old.entries.epoch; announced = old.entries.announced; stage = stages_stay m l w s old r f holding refl })
-        old.log old.past
+        old.past
         (λ d' k out. ⊎_elim
         (λ same. row_here w.role d d' k roles same ∙ (ap (λ (u : Thunk). role_at (m.body u) k) (sym (prepared_thunk m l w s old r t d free prepared)) ∙ ap (λ n. role_at (m.body (thunk_in s.word n)) k) (sym same)))
         (λ other. row_other w.role d d' k roles other ∙ old.roles d' k (ap is_out (sym (other_place w.location here (slot_of (counts_of m l) d') Live (slot_apart (counts_of m l).nodes d d' other))) ∙ out))
@@ -350,8 +338,9 @@ module _ (m : Meaning) (l : Layout) (w : EpochState) (s : Sight) (old : IsJoined
   abbrev now : PartState
   now = s.part r
 
-  pub hold : (rs : List Request) (t : Thunk) (d : ℕ) → hold_ask m l rs r t d now ≡ Some x → Leads m l w s old r none (kinds.Hold t d) records x
-  hold rs t d e =
+  pub hold : (rs : List Request) (t : Thunk) (d : ℕ) → ((k : ℕ) → s.word x.0 ≡ t.word → w.log d k ≡ 0) → hold_ask m l rs r t d now ≡ Some x
+      → Leads m l w s old r none (kinds.Hold t d) records x
+  hold rs t d unlogged e =
       let h = asked.hold_asked m l rs r t d now x e in
       subst (Leads m l w s old r none (kinds.Hold t d) records) h.is (by_test h (s.word (Cell t.lock) == t.word) refl)
     where
@@ -371,5 +360,10 @@ module _ (m : Meaning) (l : Layout) (w : EpochState) (s : Sight) (old : IsJoined
 
       by_test : asked.HoldAsked m l rs t d now x → (b : Bool) → (s.word (Cell t.lock) == t.word) ≡ b
           → GoesBy m l (IsOutsideChunk m l r (kinds.Hold t d) now (s.word (Cell t.lock))) w (next m l w s old r (put s.word (Cell t.lock) (written (Exchanges t.word (held_word d t.word)) (s.word (Cell t.lock)))) (record (cond b (won (s.word (Cell t.lock))) (lost (s.word (Cell t.lock)))) { records = records }))
-      by_test h true is = (_, inl (same_word _ _ is, refl), publishes m l w s old r none t d records _ (entered h.entry h.entered) h.few h.free h.prepared h.unpublished h.named)
+      by_test h true is = (
+        _,
+        inl (same_word _ _ is, refl),
+        publishes m l w s old r none t d records _ (entered h.entry h.entered) h.few h.free h.prepared h.unpublished h.named
+            (λ k. unlogged k (ap (λ (y : Spot × Access). s.word y.0) (sym h.is) ∙ same_word _ _ is)),
+      )
       by_test h false is = let stay = loses m l w s old r none t d records _ (entered h.entry h.entered) in (stay.0, inr (other_word _ _ is, stay.1), stay.2)

@@ -1,6 +1,6 @@
 -- The kinds of step of a run by which node slots change their places.
 use Rattle.std.specs.Prelude.{◌==◌, ◌||◌, cond, if◌then◌else◌, Bool, true, false, slice_index}
-use Rattle.std.proofs.Common.{◌≡◌, ◌≢◌, ℕ, zero, suc, ◌+◌, ◌-◌, ◌<◌, List, [], ◌∷◌, ◌++◌, length, refl, sym, ap, ◌∙◌, subst, arith, add-one, ◌⊎◌, inl, inr, Option, Some, None}
+use Rattle.std.proofs.Common.{◌≡◌, ◌≢◌, ℕ, zero, suc, ◌+◌, ◌-◌, ◌<◌, List, [], ◌∷◌, ◌++◌, length, refl, sym, ap, ◌∙◌, subst, arith, ◌⊎◌, inl, inr, Option, Some, None}
 use Rattle.std.proofs.lemmas.Bool.Decides.{nat_tests}
 use Rattle.section_lines.specs.small_lemmas.proofs.Numbers.{tested_equal as same_slot}
 use Rattle.machine_states.specs.map_history.specs.declared.op.Request.{Request}
@@ -15,7 +15,7 @@ use Rattle.machine_states.specs.table_words.specs.declared.spot.Spot.TheVariants
 use Rattle.machine_states.specs.table_words.specs.declared.access.Access.{Access}
 use Rattle.machine_states.specs.table_words.specs.declared.access.Access.TheVariants.{Loads, Stores, Exchanges}
 use Rattle.machine_states.specs.table_words.specs.Access.{exchanged}
-use Rattle.machine_states.specs.table_words.specs.Places.{Fits}
+use Rattle.machine_states.specs.table_words.specs.Places.{Fits, part_words}
 use Rattle.machine_states.specs.table_words.specs.Seen.{upd, put}
 use Rattle.machine_states.specs.structure_laws.specs.Meaning.{Meaning}
 use Rattle.machine_states.specs.runner_parts.specs.declared.event.EventKind.TheVariants as kinds
@@ -34,7 +34,6 @@ use Rattle.machine_states.specs.epoch_core.specs.Events.{slot_of}
 use Rattle.machine_states.specs.epoch_core.specs.Events as events
 use Rattle.machine_states.specs.epoch_core.specs.History.{is_out}
 use Rattle.machine_states.specs.epoch_core.specs.Sound.{is_for_nodes}
-use Rattle.machine_states.specs.epoch_core.specs.Update.{upd2}
 use Rattle.machine_states.specs.epoch_core.specs.Lists.{Lists, made_lists, tested_lists}
 use Rattle.machine_states.specs.Sight.{Sight}
 use Rattle.machine_states.proofs.Updates.{map_upd}
@@ -47,7 +46,8 @@ use Rattle.machine_epochs.proofs.RunPlaces.{is_of_end, next_in_line, open_run}
 use Rattle.machine_epochs.proofs.Places.{free_node, apart, log_elsewhere, run_role}
 use Rattle.machine_epochs.proofs.Joining.{but_cell, descriptor_same, Goes, GoesBy, next}
 use Rattle.machine_epochs.proofs.RunKinds.{is_of_retire, run_goes, still, steps, goes_on, Leads, for_step}
-use Rattle.machine_epochs.proofs.CommitKinds.{log_agrees, log_past}
+use Rattle.machine_epochs.proofs.CommitKinds.{log_past}
+use Rattle.machine_epochs.specs.Roles.{commits_to}
 
 -- a place changes at one slot
 pub other_place : (f : ℕ → Location) (t i : ℕ) (p : Location) → i ≢ t → upd f t p i ≡ f i
@@ -112,7 +112,8 @@ module _ (m : Meaning) (l : Layout) (w : EpochState) (s : Sight) (old : IsJoined
 
   -- a Make's commit, and where its slot is then
   module _ (slot k : ℕ) (in_hand : w.location slot ≡ Hand r) (micro : Micro) (ahead : next_of m q ≡ micro) (inner : is_of_end micro ≡ false) (other : is_of_retire micro ≡ false)
-      (role : w.role q.descriptor k ≡ Makes) (few : q.descriptor < (counts_of m l).descriptors) (low : k < 64) where
+      (role : w.role q.descriptor k ≡ Makes) (few : q.descriptor < (counts_of m l).descriptors) (low : k < part_words)
+      (logged : w.log q.descriptor k ≡ s.word (LogWord q.descriptor k)) where
     abbrev found : ℕ
     found = s.word (LogWord q.descriptor k)
 
@@ -139,7 +140,7 @@ module _ (m : Meaning) (l : Layout) (w : EpochState) (s : Sight) (old : IsJoined
     lists_by false = back_lists p slot q.worn
 
     own_lists : made_lists (w.log q.descriptor k) q.worn slot (lists_of p) ≡ lists_of (record p { nodes = runs.made p q slot found })
-    own_lists = ap (λ n. made_lists n q.worn slot (lists_of p)) (old.log q.descriptor k) ∙ lists_by (found == 0)
+    own_lists = ap (λ n. made_lists n q.worn slot (lists_of p)) logged ∙ lists_by (found == 0)
 
     pub makes : (records : RecordsState) → Goes m l (events.MakeCommit r q.descriptor k slot q.worn ∷ []) w (next m l w s old r f (record p { run = Some agreed; nodes = runs.made p q slot found; records = records }))
     makes records =
@@ -165,7 +166,6 @@ module _ (m : Meaning) (l : Layout) (w : EpochState) (s : Sight) (old : IsJoined
           out = λ d h. ap is_out (sym (descriptor_place slot place d node)) ∙ h;
           seen_epoch = refl;
           seen_announced = λ i. refl;
-          log = λ d i. ap (λ n. upd2 w.log q.descriptor k (written_once (w.log q.descriptor k) n) d i) (sym (add-one slot)) ∙ log_agrees m l w s old q.descriptor k (slot + 1) d i;
           past = λ d i high. log_past m l w s old q.descriptor k _ d i low high;
         })
         (λ i ne. record {
@@ -213,7 +213,6 @@ module _ (m : Meaning) (l : Layout) (w : EpochState) (s : Sight) (old : IsJoined
           out = λ d h. ap is_out (sym (descriptor_place slot (Hand r) d node)) ∙ h;
           seen_epoch = refl;
           seen_announced = λ i. refl;
-          log = old.log;
           past = old.past;
         })
         (λ i ne. record {
@@ -256,16 +255,18 @@ module _ (m : Meaning) (l : Layout) (w : EpochState) (s : Sight) (old : IsJoined
         (runs.goes_on m l (record q { worn = q.worn || version_of number == l.version_max }) q.word) (record { descriptor = refl; opened = refl }) refl q.trail refl _
         (record { stage = refl; published = refl; descriptors = refl; guards = refl; walk = refl }) refl refl)
 
-    pub make_commit : (rs : List Request) → Fits (sizes_for m l rs) x.0 → make_commit_ask q micro ≡ Some x → Leads m l w s old r q at is_open kinds.MakeCommit records micro x
-    make_commit rs fits e =
+    pub make_commit : (rs : List Request) → Fits (sizes_for m l rs) x.0 → ((k : ℕ) → commits_to micro ≡ Some k → w.log q.descriptor k ≡ s.word x.0)
+        → make_commit_ask q micro ≡ Some x → Leads m l w s old r q at is_open kinds.MakeCommit records micro x
+    make_commit rs fits logged e =
         let h = asked.make_commit_asked q x micro e in
         let k = h.2.log in
-        let few : (q.descriptor < (counts_of m l).descriptors) × (k < 64) = subst (λ (y : Spot × Access). Fits (sizes_for m l rs) y.0) (sym h.2.is) fits in
+        let few : (q.descriptor < (counts_of m l).descriptors) × (k < part_words) = subst (λ (y : Spot × Access). Fits (sizes_for m l rs) y.0) (sym h.2.is) fits in
         let here : micro_at (line (m.body (thunk_of q.opened))) q.at ≡ micros.MakeCommit k = next_in_line m q (micros.MakeCommit k) refl (ahead ∙ h.2.step) in
         for_step m l w s old r q at is_open kinds.MakeCommit records micro x (micros.MakeCommit k) (LogWord q.descriptor k, Exchanges 0 (h.0 + 1)) h.2.step h.2.is (
           _,
           (k, h.0, refl, h.1, refl),
           subst (λ (o : Option ℕ). Goes m l (events.MakeCommit r q.descriptor k h.0 q.worn ∷ []) w (next m l w s old r (put s.word (LogWord q.descriptor k) (exchanged (s.word (LogWord q.descriptor k)) 0 (h.0 + 1))) (record (runs.make_committed m l p q o (s.word (LogWord q.descriptor k))) { records = records }))) (sym h.1)
               (makes h.0 k ((old.tied r).run_made q h.0 at h.1) (micros.MakeCommit k) (ahead ∙ h.2.step) refl refl
-              (run_role m l w s old r q at (open_run q is_open) k Makes (roles.make_role (m.body (thunk_of q.opened)) q.at k here)) few.0 few.1 records),
+              (run_role m l w s old r q at (open_run q is_open) k Makes (roles.make_role (m.body (thunk_of q.opened)) q.at k here)) few.0 few.1
+              (logged k (ap commits_to h.2.step) ∙ ap (λ (y : Spot × Access). s.word y.0) (sym h.2.is)) records),
         )

@@ -10,7 +10,7 @@ use Rattle.machine_states.specs.table_words.specs.declared.sizes.Sizes.{Sizes}
 use Rattle.machine_states.specs.table_words.specs.declared.spot.Spot.{Spot}
 use Rattle.machine_states.specs.table_words.specs.declared.spot.Spot.TheVariants.{Epoch, Announcement, ThunkWord, DoneWord, LogWord}
 use Rattle.machine_states.specs.table_words.specs.declared.access.Access.{Access}
-use Rattle.machine_states.specs.table_words.specs.Places.{Fits, slot_count}
+use Rattle.machine_states.specs.table_words.specs.Places.{Fits, slot_count, part_words}
 use Rattle.machine_states.specs.table_words.specs.Seen.{put}
 use Rattle.machine_states.specs.structure_laws.specs.Meaning.{Meaning}
 use Rattle.machine_states.specs.runner_parts.specs.declared.event.EventKind.TheVariants as kinds
@@ -39,6 +39,7 @@ use Rattle.machine_epochs.proofs.OutsideAsked as asked
 use Rattle.machine_epochs.proofs.Places.{free_descriptor, held_unfree}
 use Rattle.machine_epochs.proofs.Joining.{but_load, thunk_same, IsElsewhere, Goes, GoesBy, next, as_published, once, stages_stay, goes_with}
 use Rattle.machine_epochs.proofs.OutsideKinds.{Leads, node_load, unlooked}
+use Rattle.machine_epochs.proofs.CommitKinds.{log_past}
 
 hits : (a b : Bool) (v x : ℕ) → cond a (cond b v x) x ≡ cond (a && b) v x
 hits true b v x = refl
@@ -152,16 +153,15 @@ module _ (m : Meaning) (l : Layout) (w : EpochState) (s : Sight) (old : IsJoined
 
     stores : (es : List events.Event) → AllEnabled (counts_of m l) w es → (log : ℕ → ℕ → ℕ) → after_all (counts_of m l) w es ≡ record w { log = log }
         → listed_all (counts_of m l) w (λ i. lists_of (s.part i)) es ≡ (λ i. lists_of (s.part i))
-        → ((d' k : ℕ) → log d' k ≡ f (LogWord d' k)) → ((d' k : ℕ) → 64 ≤ k → f (LogWord d' k) ≡ 0) → Goes m l es w (next m l w s old r f p')
-    stores es ok log is lists logs past =
+        → ((d' k : ℕ) → part_words ≤ k → log d' k ≡ 0) → Goes m l es w (next m l w s old r f p')
+    stores es ok log is lists past =
         goes_with m l w s old r es ok f p' (lists ∙ sym (map_same lists_of s.part r p' refl))
         (subst (λ (v : EpochState). ShowsEntries v (next m l w s old r f p')) (sym is) (record {
           epoch = old.entries.epoch ∙ sym epoch;
           announced = λ i. old.entries.announced i ∙ sym (announced i);
           stage = stages_stay m l w s old r f p' refl;
         }))
-        (λ d' k. ap (λ (v : EpochState). v.log d' k) is ∙ logs d' k)
-        past
+        (λ d' k high. ap (λ (v : EpochState). v.log d' k) is ∙ past d' k high)
         (λ d' k out. ap (λ (v : EpochState). v.role d' k) is ∙ roles d' k (ap (λ (v : EpochState). is_out (v.location (slot_of (counts_of m l) d'))) (sym is) ∙ out))
         (once m l w s old r p' (as_published m l w s old r p' refl))
         (subst (λ (v : EpochState). IsTied m l v f r p') (sym is) (record {
@@ -197,21 +197,17 @@ module _ (m : Meaning) (l : Layout) (w : EpochState) (s : Sight) (old : IsJoined
   thunk_else : (a b j k v x : ℕ) → a ≢ b → cond (a == b) (cond (j == k) v x) x ≡ x
   thunk_else a b j k v x ne = grind (arith, nat_tests)
 
-  log_past' : (b : Bool) (k k' v x : ℕ) → k < 64 → 64 ≤ k' → x ≡ 0 → cond b (cond (k' == k) v x) x ≡ 0
-  log_past' b k k' v x low high e = grind (arith, nat_tests)
-
   -- the store, by the word that it meets
   store_by : (b b' : Bool) (sizes : Sizes) → ((d' j : ℕ) → put s.word (spot_by b b' d word) number (descriptor_spot d' j) ≡ cond (d' == d && j == word) number (s.word (descriptor_spot d' j)))
       → Fits sizes (spot_by b b' d word)
       → GoesBy m l (λ es. es ≡ cond b [] (cond b' [] (events.StoreLog r d (word - 13) number ∷ []))) w (next m l w s old r (put s.word (spot_by b b' d word) number) p')
-  store_by true b' sizes spot fits = (_, refl, stores _ spot (λ d' j ne. thunk_else d' d j word number _ ne) refl (λ i. refl) [] tt w.log refl refl old.log old.past)
-  store_by false true sizes spot fits = (_, refl, stores _ spot (λ d' j ne. refl) refl (λ i. refl) [] tt w.log refl refl old.log old.past)
+  store_by true b' sizes spot fits = (_, refl, stores _ spot (λ d' j ne. thunk_else d' d j word number _ ne) refl (λ i. refl) [] tt w.log refl refl old.past)
+  store_by false true sizes spot fits = (_, refl, stores _ spot (λ d' j ne. refl) refl (λ i. refl) [] tt w.log refl refl old.past)
   store_by false false sizes spot fits = (
     _,
     refl,
     stores _ spot (λ d' j ne. refl) refl (λ i. refl) (events.StoreLog r d (word - 13) number ∷ []) (at_free, tt) (upd2 w.log d (word - 13) number) refl refl
-        (λ d' k i. cond (d' == d) (cond (k == word - 13) number (old.log d' k i)) (old.log d' k i))
-        (λ d' k high. log_past' (d' == d) (word - 13) k number _ fits.1 high (old.past d' k high)),
+        (λ d' k high. log_past m l w s old d (word - 13) number d' k fits.1 high),
   )
 
   pub stores_there : (rs : List Request) → Fits (sizes_for m l rs) (descriptor_spot d word) → GoesBy m l (λ es. es ≡ stored r d word number) w (next m l w s old r (put s.word (descriptor_spot d word) number) p')
@@ -224,7 +220,7 @@ module _ (m : Meaning) (l : Layout) (w : EpochState) (s : Sight) (old : IsJoined
       let same = but_load s.word a in
       stores (put s.word a (s.word a))
       (λ d' j. subst (λ n. put s.word a n (descriptor_spot d' j) ≡ cond (d' == d && j == word) number (s.word (descriptor_spot d' j))) found (put_spot s.word d word number d' j))
-      (λ d' j ne. same.thunk d' j) same.epoch same.announced [] tt w.log refl refl (λ d' k. old.log d' k ∙ sym (same.log d' k)) (λ d' k high. same.log d' k ∙ old.past d' k high)
+      (λ d' j ne. same.thunk d' j) same.epoch same.announced [] tt w.log refl refl old.past
 
 fits_few : (sizes : Sizes) (d word : ℕ) (b b' : Bool) → Fits sizes (spot_by b b' d word) → d < sizes.descriptors
 fits_few sizes d word true b' h = h.0

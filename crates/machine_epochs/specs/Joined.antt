@@ -2,7 +2,8 @@
 use Rattle.std.specs.Prelude.{ℕ, ◌<◌, ◌≤◌, ◌≡◌, true, length, slice_index, None, Some}
 use Rattle.machine_states.specs.table_words.specs.declared.layout.Layout.{Layout}
 use Rattle.machine_states.specs.table_words.specs.declared.spot.Spot.{Spot}
-use Rattle.machine_states.specs.table_words.specs.declared.spot.Spot.TheVariants.{ThunkWord, LogWord}
+use Rattle.machine_states.specs.table_words.specs.declared.spot.Spot.TheVariants.{ThunkWord}
+use Rattle.machine_states.specs.table_words.specs.Places.{part_words}
 use Rattle.machine_states.specs.structure_laws.specs.Meaning.{Meaning}
 use Rattle.machine_states.specs.runner_parts.specs.declared.entries.Published.{Published}
 use Rattle.machine_states.specs.runner_parts.specs.State.{RunState, PartState}
@@ -56,9 +57,8 @@ module _ (m : Meaning) (l : Layout) where
     pub sound : IsSound (counts_of m l) w
     pub listed : IsListed (counts_of m l) w (λ r. lists_of (s.part r))
     pub entries : ShowsEntries w s
-    -- the logs are the log words, which are 0 past the last one
-    pub log : (d k : ℕ) → w.log d k ≡ s.word (LogWord d k)
-    pub past : (d k : ℕ) → 64 ≤ k → s.word (LogWord d k) ≡ 0
+    -- no log goes on behind the last word for which a descriptor has room. Where its words stand isn't said here
+    pub past : (d k : ℕ) → part_words ≤ k → w.log d k ≡ 0
     -- a descriptor that isn't free again commits what its thunk's body does
     pub roles : (d k : ℕ) → is_out (w.location (slot_of (counts_of m l) d)) ≡ true
         → w.role d k ≡ role_at (m.body (thunk_in s.word d)) k

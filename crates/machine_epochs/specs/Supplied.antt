@@ -2,6 +2,7 @@
 use Rattle.std.specs.Prelude.{ℕ, ◌+◌, ◌-◌, ◌<◌, ◌≡◌, Bool, true, false, not, ◌==◌, ◌&&◌, ◌||◌, nat_lt, nat_le, [], ◌∷◌, ◌++◌, Option, Some, None}
 use Rattle.machine_states.specs.body_terms.specs.Word.{value_of, is_free}
 use Rattle.machine_states.specs.body_terms.specs.declared.micro.Micro.TheVariants.{EpochForRetire}
+use Rattle.machine_states.specs.body_terms.specs.declared.thunk.Thunk.{Thunk}
 use Rattle.machine_states.specs.table_words.specs.declared.layout.Layout.{Layout}
 use Rattle.machine_states.specs.table_words.specs.declared.spot.Spot.{Spot}
 use Rattle.machine_states.specs.structure_laws.specs.Scene.{Readings}
@@ -18,6 +19,7 @@ use Rattle.machine_states.specs.epoch_core.specs.declared.location.Location.TheV
 use Rattle.machine_states.specs.epoch_core.specs.State.{Counts, EpochState, IsPending, MayHold}
 use Rattle.machine_states.specs.Sight.{Sight}
 use Rattle.machine_epochs.specs.Entries.{counts_of}
+use Rattle.machine_epochs.specs.Roles.{commits_to}
 
 -- the readings reach this node slot
 abbrev pub reaches_node : Meaning → Counts → Readings → ℕ → Bool
@@ -55,6 +57,12 @@ module _ (m : Meaning) (l : Layout) where
     -- what the runner comes to hold, it may hold
     pub held : (t : ℕ) → comes_by m (counts_of m l) kind (s.part r) (s.part r).run (s.word spot) t ≡ true
         → w.holds r t ≡ false → MayHold w r t
+    -- a commit of a run finds the word that the section's log has there
+    pub logged : (q : RunState) (k : ℕ) → (s.part r).run ≡ Some q → is_open_run q ≡ true
+        → commits_to (next_of m q) ≡ Some k → w.log q.descriptor k ≡ s.word spot
+    -- a section that is published now has an empty log
+    pub unlogged : (t : Thunk) (d k : ℕ) → kind ≡ kinds.Hold t d → (s.part r).run ≡ None → s.word spot ≡ t.word
+        → w.log d k ≡ 0
     -- a Retire before which its run stands may be made
     pub retires : (q : RunState) (slot index : ℕ) → (s.part r).run ≡ Some q → is_open_run q ≡ true
         → next_of m q ≡ EpochForRetire slot index

@@ -1,10 +1,8 @@
 -- What is kept of runs that came to their end is what the plain run of the section's body gives.
 use Rattle.std.proofs.Common.{◌≡◌, ◌≢◌, ℕ, zero, suc, true, cond, List, [], ◌∷◌, refl, sym, ap, ◌∙◌, ⊎_elim, arith, Option, Some, None}
 use Rattle.std.specs.Prelude.{count_by}
-use mathlib.Core.Path.{fun_ext}
 use Rattle.std.proofs.lemmas.List.Sums.{sum_by-cons}
 use Rattle.machine_states.specs.body_terms.specs.Line.{line, micro_at, is_check, is_end}
-use Rattle.machine_states.specs.body_terms.specs.Plain.{first_values}
 use Rattle.machine_states.specs.body_terms.specs.Run.{Setting, Run, leaves}
 use Rattle.machine_states.specs.body_terms.specs.Shape.{IsStep, IsShaped, is_answer}
 use Rattle.machine_states.specs.body_terms.specs.declared.outcome.Outcome.{Outcome}
@@ -28,7 +26,7 @@ use Rattle.machine_states.specs.Sight.{Sight}
 use Rattle.machine_invariant.specs.machine_agreement.specs.machine_scenes.specs.Shown.{rules_of}
 use Rattle.machine_invariant.specs.Along.{Components}
 use Rattle.machine_invariant.specs.States.{StateIsSound}
-use Rattle.machine_invariant.specs.Trails.{thunk_at, agreed_words, IsEndOf}
+use Rattle.machine_invariant.specs.Trails.{thunk_at, IsEndOf}
 use Rattle.machine_invariant.specs.Sections.{IsAnswered, IsLeft}
 use Rattle.machine_facts.specs.Outcomes.{plain_run, OutcomesAgree}
 use Rattle.machine_facts.proofs.Outcomes.{end_of, OutcomesKept}
@@ -106,7 +104,6 @@ module _ (m : Meaning) (l : Layout) (s : Sight) (k : Components) (sound : StateI
     -- the kept trail is what was agreed
     trail_is : f.trail ≡ agreed_trail
     trail_is = sound.sections.in_trails.whole r d f used end
-        ∙ ap (first_values (agreed_words m a s d)) (sym (fun_ext (λ i. (sound.sections.joined.sections d).log i)))
 
     ended : f.outcome ≡ outcome_or (leaves (setting_of l d) agreed_trail (micro_at (line body) ((a.section d).edge))) (reply_in body)
     ended = kept.ended r d f used end ∙ ap (end_of m l a s d) trail_is

@@ -116,7 +116,7 @@ module _ (m : Meaning) (laws : Laws m) (l : Layout) (limits : IsWithinLimits l) 
 
     words : WordsStand k.agreement.used (sight m l rs w).word (sight m l rs v).word
     words = words_stand m l rs k (sight m l rs w) (sight m l rs v) stands.whole.sections stands.exact stands.alike e.runner e.kind step one.es one.vs
-        (one.events changes wins) one.whole.sections
+        (one.events changes wins) one.whole.sections stands.whole.logs one.whole.logs
 
     stands_after : Stands (sight m l rs v) beside j.changes j.wins
     stands_after = record {

@@ -46,10 +46,9 @@ module _ (m : Meaning) (l : Layout) (g : Beside) (s : Sight) (whole : IsWhole m 
   log_is =
       let within = slice_get_within q.trail got.log (held_word d free) got.agreed in
       let prefix = (trails_agree m l a s whole.sections).prefix r q is in
-      (whole.sections.sections d).log got.log
-      ∙ (sym (get_or-first_values (length q.trail) (log_of m a s d) got.log within)
+      sym (get_or-first_values (length q.trail) (log_of m a s d) got.log within)
       ∙ (ap (λ (xs : List ℕ). slice_index xs got.log) (sym prefix)
-      ∙ get_or_from_slice_get q.trail got.log (held_word d free) 0 got.agreed))
+      ∙ get_or_from_slice_get q.trail got.log (held_word d free) 0 got.agreed)
 
   -- a word that isn't 0 was agreed on below the edge
   below : suc (suc got.at) < (a.section d).edge

@@ -28,6 +28,7 @@ use Rattle.machine_facts.specs.Steps.{WordsStand}
 use Rattle.machine_facts.specs.States.{NumberAlike}
 use Rattle.machine_facts.proofs.Agreement.{entries_all}
 use Rattle.machine_facts.proofs.Going.{goes}
+use Rattle.machine_invariant.specs.machine_blocks.specs.Stands.{LogsStand}
 
 some_of : (n : ℕ) → n ≢ 0 → 0 < n
 some_of n ne = grind arith
@@ -35,7 +36,8 @@ some_of n ne = grind arith
 module _ (m : Meaning) (l : Layout) (rs : List Request) (k : Components) (s s' : Sight) (joined : IsJoinedToAgreement m l k.agreement s)
     (exact : AreExact m l k) (alike : NumberAlike k) (r : ℕ) (kind : EventKind) (step : Steps m l rs s s' r kind)
     (es : List agreement.Event) (vs : List _) (are : AreEventsOf m l rs k s r kind es vs)
-    (joined' : IsJoinedToAgreement m l (components_after m l k es vs).agreement s') where
+    (joined' : IsJoinedToAgreement m l (components_after m l k es vs).agreement s')
+    (logs : LogsStand k.agreement k.epochs s) (logs' : LogsStand (components_after m l k es vs).agreement (components_after m l k es vs).epochs s') where
   abbrev j : Components
   j = components_after m l k es vs
 
@@ -71,12 +73,11 @@ module _ (m : Meaning) (l : Layout) (rs : List Request) (k : Components) (s s' :
 
   log_stands : (d i : ℕ) → k.agreement.used d ≡ true → s.word (LogWord d i) ≢ 0 → s'.word (LogWord d i) ≡ s.word (LogWord d i)
   log_stands d i used some =
-      let old = (joined.sections d).log i in
-      let new = (joined'.sections d).log i in
-      sym new ∙ ⊎_elim
-      (λ lasts. lasts.goes.log i (subst (λ n. 0 < n) (sym old) (some_of _ some)))
+      let old = logs.own d i in
+      logs'.own d i ∙ ⊎_elim
+      (λ lasts. lasts.goes.log i (subst (λ n. 0 < n) old (some_of _ some)))
       (λ same. ap (λ x. x.log i) same)
-      (goes m l rs k s joined exact alike r kind es vs are d used) ∙ old
+      (goes m l rs k s joined exact alike r kind es vs are d used) ∙ sym old
 
   done_stands : (d : ℕ) → k.agreement.used d ≡ true → s.word (DoneWord d) ≢ 0 → s'.word (DoneWord d) ≡ s.word (DoneWord d)
   done_stands d used some =
@@ -89,12 +90,10 @@ module _ (m : Meaning) (l : Layout) (rs : List Request) (k : Components) (s s' :
 
   whole_stands : (d i : ℕ) → k.agreement.used d ≡ true → s.word (DoneWord d) ≢ 0 → s'.word (LogWord d i) ≡ s.word (LogWord d i)
   whole_stands d i used some =
-      let old = (joined.sections d).log i in
-      let new = (joined'.sections d).log i in
-      sym new ∙ ⊎_elim
+      logs'.own d i ∙ ⊎_elim
       (λ lasts. lasts.log (λ z. some (sym ((joined.sections d).done) ∙ z)) i)
       (λ same. ap (λ x. x.log i) same)
-      (goes m l rs k s joined exact alike r kind es vs are d used) ∙ old
+      (goes m l rs k s joined exact alike r kind es vs are d used) ∙ sym (logs.own d i)
 
   pub words_stand : WordsStand k.agreement.used s.word s'.word
   words_stand =

@@ -38,6 +38,7 @@ use Rattle.machine_slots.proofs.Stores.{first_held, first_filled}
 use Rattle.machine_invariant.specs.Whole.{Beside, states_of, made_of, IsWhole}
 use Rattle.machine_invariant.proofs.Basics.{not_both}
 use Rattle.machine_guards.proofs.First.{first_stands}
+use Rattle.machine_blocks.proofs.First.{first_stand}
 
 -- nothing is published at first
 abbrev pub no_publications : List Request → Publications
@@ -131,4 +132,5 @@ module _ (m : Meaning) (laws : Laws m) (l : Layout) (limits : IsWithinLimits l) 
     filled = subst (λ (j : States). SlotsAreFilled m c j (made_of s)) same_states
         (first_filled m c (first_place m l) (no_publications rs) (made_of s));
     guards = first_stands m l rs w start;
+    logs = first_stand m l rs w start;
   }

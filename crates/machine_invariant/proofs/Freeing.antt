@@ -245,7 +245,7 @@ module _ (m : Meaning) (laws : Laws m) (l : Layout) (limits : IsWithinLimits l) 
         let tied = tied_freed m l g s looked_sight whole.tied whole.slots whole.guards r words a' (freed (rules_of m l) g.agreement ds passes still)
         (freed_live (rules_of m l) g.agreement ds passes still) quiet thunks in
         parts_whole m laws l limits (led m l g r leave go.passes sweep g.publications) s looked_sight go.joined go.joined_slots tied
-        (λ i. (s.part i).reads.walk) quiet.stay.walk quiet.made two go.guards
+        (λ i. (s.part i).reads.walk) quiet.stay.walk quiet.made two go.guards go.logs
 
     pub load_guard_whole : (pieces : Pieces m l g s looked_sight r look x) → KeepsWhole m l g s looked_sight r look x pieces
     load_guard_whole pieces = by (is_last_guard l p.guards.looked)

@@ -15,12 +15,12 @@ use Rattle.machine_states.specs.epoch_core.specs.State.{Role, Retires}
 use Rattle.machine_states.specs.epoch_core.specs.Sound.{IsLogged}
 use Rattle.machine_states.specs.Sight.{Sight}
 use Rattle.machine_guards.specs.machine_agreement.specs.machine_epochs.specs.Entries.{counts_of}
-use Rattle.machine_guards.specs.machine_agreement.specs.machine_epochs.specs.Roles.{role_at}
+use Rattle.machine_guards.specs.machine_agreement.specs.machine_epochs.specs.Roles.{role_at, commits_to}
 use Rattle.machine_guards.specs.machine_agreement.specs.machine_epochs.specs.Slots.{thunk_in}
 use Rattle.machine_guards.specs.machine_agreement.specs.machine_epochs.proofs.Places.{held_out, run_thunk, run_role}
 use Rattle.machine_guards.specs.machine_agreement.specs.machine_epochs.proofs.Roles.{make_role, retire_role}
 use Rattle.machine_invariant.specs.Whole.{Beside, IsWhole}
-use Rattle.machine_invariant.specs.LogWords.{commits_to, LogWordsSay}
+use Rattle.machine_invariant.specs.LogWords.{LogWordsSay}
 use Rattle.machine_invariant.proofs.Trails.{run_is, run_used}
 
 -- a commit goes to the log word whose number is how many words the steps below it commit
@@ -44,7 +44,7 @@ module _ (m : Meaning) (l : Layout) (g : Beside) (s : Sight) (whole : IsWhole m 
     allowed k role e =
         let held = (whole.slots.tied r).run_held q at in
         let old = whole.slots.sound.logged q.descriptor k (held_out m l g.epochs s whole.slots r _ held) in
-        subst (λ word. IsLogged (counts_of m l) role word) (whole.slots.log q.descriptor k)
+        subst (λ word. IsLogged (counts_of m l) role word) (whole.logs.same q.descriptor k ∙ sym (whole.logs.own q.descriptor k))
         (subst (λ x. IsLogged (counts_of m l) x (g.epochs.log q.descriptor k))
         (run_role m l g.epochs s whole.slots r q at loaded k role e) old)
 

@@ -248,7 +248,7 @@ module _ (m : Meaning) (laws : Laws m) (l : Layout) (limits : IsWithinLimits l) 
           enabled = go.enabled.0;
           takes = go.enabled_slots.0;
           node = (hands r slot mine).0;
-          word = whole.slots.log d log ∙ sym ((whole.sections.sections d).log log);
+          word = whole.logs.same d log;
           filled = may_make_filled m l c (states_of g s) whole.kept (made_of s) whole.filled r log slot go.enabled.0.0 mine;
         } in
         passes_stand m laws l limits r go.passes (steps.after m l c (states_of g s) (Make r log slot q.worn))

@@ -41,6 +41,7 @@ use Rattle.machine_invariant.proofs.Parts.{outside_made}
 use Rattle.machine_invariant.proofs.Sights.{after_is}
 use Rattle.machine_invariant.proofs.Pieces.{Pieces}
 use Rattle.machine_states.specs.body_terms.specs.declared.thunk.Thunk.{Thunk}
+use Rattle.machine_blocks.specs.Stands.{LogsStand}
 
 -- a descriptor's place, where one has changed
 module _ (c : Counts) (f : ℕ → Location) (d n : ℕ) (v : Location) where
@@ -94,8 +95,8 @@ module _ (m : Meaning) (laws : Laws m) (l : Layout) (limits : IsWithinLimits l) 
       → (walk : ℕ → Readings) → ((i : ℕ) → (s'.part i).reads.walk ≡ walk i)
       → ((i : ℕ) (q : RunState) → (s'.part i).run ≡ Some q → q.made ≡ made_of s i)
       → Stands m laws l limits from (record (states_of g' s') { walk = walk }) (made_of s)
-      → GuardsStand m l g'.agreement g'.epochs s' → IsWholeAfter m l from g' s'
-  parts_whole g' s s' joined joined' tied walk same made stands guards =
+      → GuardsStand m l g'.agreement g'.epochs s' → LogsStand g'.agreement g'.epochs s' → IsWholeAfter m l from g' s'
+  parts_whole g' s s' joined joined' tied walk same made stands guards logs =
       let new = with_walk m laws l limits (record (states_of g' s') { walk = walk }) (made_of s)
       (λ i. (s'.part i).reads.walk) same stands in
       record {
@@ -109,6 +110,7 @@ module _ (m : Meaning) (laws : Laws m) (l : Layout) (limits : IsWithinLimits l) 
           filled = filled_other m laws l limits (states_of g' s') (made_of s) (made_of s')
               (λ r running. let q = in_run m l g'.agreement s' joined r running in ap made_in q.1 ∙ made r q.0 q.1) new.filled;
           guards = guards;
+          logs = logs;
         };
       }
 
@@ -130,16 +132,17 @@ module _ (m : Meaning) (laws : Laws m) (l : Layout) (limits : IsWithinLimits l) 
         walk = walk;
       }) (made_of s)
       → GuardsStand m l (agreement_schedules.after_all (rules_of m l) g.agreement es) e' s'
+      → LogsStand (agreement_schedules.after_all (rules_of m l) g.agreement es) e' s'
       → IsWholeAfter m l from (record {
         agreement = agreement_schedules.after_all
             (rules_of m l) g.agreement es;
         epochs = e';
         publications = g.publications;
       }) s'
-  onward_whole g s s' whole es still joined e' joined' places published thunks walk same made stands guards =
+  onward_whole g s s' whole es still joined e' joined' places published thunks walk same made stands guards logs =
       let w = agreement_schedules.after_all (rules_of m l) g.agreement es in
       let uses = all_still (rules_of m l) g.agreement es still in
       parts_whole (record { agreement = w; epochs = e'; publications = g.publications }) s s' joined joined'
       (tied_onward m l g.agreement w g.epochs e' g.publications s s' whole.tied
       (λ d. ap (λ (f : ℕ → Bool). f d) uses.used) (λ d. ap (λ (f : ℕ → Bool). f d) uses.live) places published (λ d used. thunks d))
-      walk same made stands guards
+      walk same made stands guards logs

@@ -31,6 +31,9 @@ use Rattle.machine_invariant.proofs.SuppliesSections.{sections_supplied}
 use Rattle.machine_invariant.proofs.SuppliesSlots.{HoldsMet, slots_supplied, guards_supplied}
 use Rattle.machine_invariant.proofs.Limbo.{SweepsSafely}
 use Rattle.machine_guards.specs.Stands.{GuardsStand}
+use Rattle.machine_guards.specs.Goes.{OthersGo}
+use Rattle.machine_blocks.specs.Stands.{LogsStand}
+use Rattle.machine_blocks.proofs.AllKinds.{logs_kept}
 use Rattle.machine_guards.proofs.AllKinds as guards_kinds
 use Rattle.machine_guards.proofs.Safe.{sweep_safe}
 
@@ -49,6 +52,9 @@ module _ (m : Meaning) (l : Layout) where
     pub joined_slots : joins.IsJoinedToEpochs m l (epoch_schedules.after_all (counts_of m l) g.epochs events) s'
     -- guards stand there
     pub guards : GuardsStand m l (agreement_schedules.after_all (rules_of m l) g.agreement (heads ++ replicate passes (agreement.Pass r)))
+        (epoch_schedules.after_all (counts_of m l) g.epochs events) s'
+    -- and so do the logs
+    pub logs : LogsStand (agreement_schedules.after_all (rules_of m l) g.agreement (heads ++ replicate passes (agreement.Pass r)))
         (epoch_schedules.after_all (counts_of m l) g.epochs events) s'
 
   -- the states after these events of agreement, so many checks that pass behind them, and these events of epochs and slots
@@ -91,6 +97,8 @@ module _ (m : Meaning) (l : Layout) where
     pub joined_slots : joins.IsJoinedToEpochs m l (epoch_schedules.after_all (counts_of m l) g.epochs events) s'
     pub guards : GuardsStand m l (agreement_schedules.after_all (rules_of m l) g.agreement (heads ++ replicate passes (agreement.Pass r)))
         (epoch_schedules.after_all (counts_of m l) g.epochs events) s'
+    pub logs : LogsStand (agreement_schedules.after_all (rules_of m l) g.agreement (heads ++ replicate passes (agreement.Pass r)))
+        (epoch_schedules.after_all (counts_of m l) g.epochs events) s'
 
   module _ (g : Beside) (s s' : Sight) (r : ℕ) (kind : EventKind) (x : Spot × Access) (pieces : Pieces g s s' r kind x)
       (heads : List agreement.Event) (events : List epochs.Event) (same : pieces.heads ≡ heads) (same' : pieces.events ≡ events) where
@@ -109,6 +117,11 @@ module _ (m : Meaning) (l : Layout) where
           (subst (λ es. GuardsStand m l (agreement_schedules.after_all (rules_of m l) g.agreement
           (es ++ replicate pieces.passes (agreement.Pass r))) (epoch_schedules.after_all (counts_of m l) g.epochs pieces.events) s') same
           pieces.guards);
+      logs = subst (λ vs. LogsStand (agreement_schedules.after_all (rules_of m l) g.agreement
+          (heads ++ replicate pieces.passes (agreement.Pass r))) (epoch_schedules.after_all (counts_of m l) g.epochs vs) s') same'
+          (subst (λ es. LogsStand (agreement_schedules.after_all (rules_of m l) g.agreement
+          (es ++ replicate pieces.passes (agreement.Pass r))) (epoch_schedules.after_all (counts_of m l) g.epochs pieces.events) s') same
+          pieces.logs);
     }
 
     -- the step keeps the whole invariant, where the states to which these events lead meet it
@@ -179,9 +192,8 @@ module _ (m : Meaning) (laws : Laws m) (l : Layout) (limits : IsWithinLimits l) 
       let a = sections_kinds.step_goes m l rs g.agreement s whole.sections r s' kind step
       (sections_supplied m laws l limits rs few allowed g s whole r kind step.ask step.asked swept) in
       let after = agreement_schedules.after_all (rules_of m l) g.agreement (a.0 ++ replicate a.2.leads.passes (agreement.Pass r)) in
-      let goes = guards_kinds.step_goes m l rs g.agreement after g.epochs (epoch_schedules.after_all (counts_of m l) g.epochs e.0) s s' r kind
-      whole.sections whole.slots whole.guards step (guards_supplied m laws l limits rs few allowed g s whole r kind step.ask step.asked)
-      (record {
+      let slots_after = epoch_schedules.after_all (counts_of m l) g.epochs e.0 in
+      let others : OthersGo m l g.agreement after g.epochs slots_after s r kind (s.word (step.ask.0)) = record {
         heads = a.0;
         in_sections = a.1;
         leads = record { passes = a.2.leads.passes; enabled = a.2.leads.enabled; there = refl };
@@ -189,7 +201,9 @@ module _ (m : Meaning) (laws : Laws m) (l : Layout) (limits : IsWithinLimits l) 
         in_slots = e.1;
         enabled = e.2.enabled;
         there = refl;
-      }) in
+      } in
+      let goes = guards_kinds.step_goes m l rs g.agreement after g.epochs slots_after s s' r kind whole.sections whole.slots whole.guards step
+      (guards_supplied m laws l limits rs few allowed g s whole r kind step.ask step.asked) others in
       record {
         heads = a.0;
         in_sections = a.1;
@@ -201,4 +215,5 @@ module _ (m : Meaning) (laws : Laws m) (l : Layout) (limits : IsWithinLimits l) 
         enabled_slots = e.2.enabled;
         joined_slots = e.2.joined;
         guards = goes.stands;
+        logs = logs_kept m l rs g.agreement after g.epochs slots_after s s' r kind whole.sections whole.slots whole.logs step others;
       }

@@ -91,7 +91,7 @@ module _ (m : Meaning) (laws : Laws m) (l : Layout) (limits : IsWithinLimits l) 
   calm_whole calm steady quiet thunks other apart =
       keeps_quietly m l g s s' r kind x pieces (no_hold m l kind (s.word x.0) other) apart
       (quiet_whole m laws l limits g s s' whole quiet thunks es (calm_heads calm).still pieces.enabled pieces.joined
-      pieces.events steady.alone steady.leaves pieces.enabled_slots pieces.joined_slots pieces.guards)
+      pieces.events steady.alone steady.leaves pieces.enabled_slots pieces.joined_slots pieces.guards pieces.logs)
 
 module _ (m : Meaning) (laws : Laws m) (l : Layout) (limits : IsWithinLimits l) (rs : List Request) (g : Beside) (s : Sight)
     (whole : IsWhole m l g s) (r : ℕ) (x : Spot × Access) where

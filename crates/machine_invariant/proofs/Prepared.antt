@@ -15,6 +15,10 @@ use Rattle.machine_guards.specs.machine_agreement.specs.machine_epochs.specs.Slo
 use Rattle.machine_guards.specs.machine_agreement.specs.machine_epochs.specs.Joined.{IsJoinedToEpochs}
 use Rattle.machine_guards.specs.machine_agreement.specs.machine_epochs.proofs.SectionKinds.{stored_index, replicate_index, prepared_thunk, thunk_again, log_spot}
 use Rattle.machine_invariant.proofs.Basics.{both}
+use Rattle.agreement_core.specs.State.{AgreementState}
+use Rattle.machine_states.specs.table_words.specs.Places.{part_words}
+use Rattle.machine_blocks.specs.Stands.{LogsStand}
+use Rattle.machine_blocks.proofs.Keeping.{past}
 
 module _ (m : Meaning) (l : Layout) (w : EpochState) (s : Sight) (old : IsJoinedToEpochs m l w s) (r : ℕ) (t : Thunk) (d : ℕ)
     (free : has (s.part r).descriptors.free d ≡ true) (prepared : is_prepared (s.part r).descriptors.stored d t ≡ true) where
@@ -38,5 +42,9 @@ module _ (m : Meaning) (l : Layout) (w : EpochState) (s : Sight) (old : IsJoined
       behind k = omega arith
 
   -- and an empty log
-  pub log_is : (k : ℕ) → s.word (LogWord d k) ≡ 0
-  log_is k = ⊎_elim (λ low. log_at k low) (λ high. old.past d k high) (cases_lt k 64)
+  module _ (a : AgreementState) (logs : LogsStand a w s) where
+    pub log_is : (k : ℕ) → s.word (LogWord d k) ≡ 0
+    log_is k = ⊎_elim (λ low. log_at k low) (λ high. logs.own d k ∙ past a w s logs d k high) (cases_lt k part_words)
+
+    pub unlogged : (k : ℕ) → (a.section d).log k ≡ 0
+    unlogged k = sym (logs.own d k) ∙ log_is k

@@ -32,6 +32,7 @@ use Rattle.machine_invariant.proofs.Runs.{AllAre, is_calm, InHands, Stands, agre
 use Rattle.machine_invariant.proofs.Jointly.{no_steps, IsWholeAfter}
 use Rattle.machine_invariant.proofs.Ties.{tied_onward}
 use Rattle.machine_states.specs.body_terms.specs.declared.thunk.Thunk.{Thunk}
+use Rattle.machine_blocks.specs.Stands.{LogsStand}
 
 -- an event of agreement that publishes, retires and frees nothing, and has nothing to do with a Make's slot, a Retire or
 -- a read without a lock
@@ -150,12 +151,13 @@ module _ (m : Meaning) (laws : Laws m) (l : Layout) (limits : IsWithinLimits l) 
       → (fs : List epochs.Event) → AllAre is_alone fs → AllAre leaves_descriptors fs → epoch_schedules.AllEnabled c g.epochs fs
       → joins.IsJoinedToEpochs m l (epoch_schedules.after_all c g.epochs fs) s'
       → GuardsStand m l (agreement_schedules.after_all (rules_of m l) g.agreement es) (epoch_schedules.after_all c g.epochs fs) s'
+      → LogsStand (agreement_schedules.after_all (rules_of m l) g.agreement es) (epoch_schedules.after_all c g.epochs fs) s'
       → IsWholeAfter m l (states_of g s) (record {
         agreement = agreement_schedules.after_all (rules_of m l) g.agreement es;
         epochs = epoch_schedules.after_all c g.epochs fs;
         publications = g.publications;
       }) s'
-  quiet_whole g s s' whole quiet thunks es still ok joined fs alone leaves ok' joined' guards =
+  quiet_whole g s s' whole quiet thunks es still ok joined fs alone leaves ok' joined' guards logs =
       let w = agreement_schedules.after_all (rules_of m l) g.agreement es in
       let e = epoch_schedules.after_all c g.epochs fs in
       let uses = all_still (rules_of m l) g.agreement es still in
@@ -177,5 +179,6 @@ module _ (m : Meaning) (laws : Laws m) (l : Layout) (limits : IsWithinLimits l) 
               (made_of s) (made_of s')
               (λ r running. let q = in_run m l w s' joined r running in ap made_in q.1 ∙ quiet.made r q.0 q.1) new.filled;
           guards = guards;
+          logs = logs;
         };
       }

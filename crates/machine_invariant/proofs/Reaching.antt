@@ -43,7 +43,6 @@ module _ (m : Meaning) (l : Layout) (w : EpochState) (r : ℕ) (slots : ℕ → 
     sound = keeps (counts_of m l) w (Reach r slots) ok old.sound;
     listed = lists_follow (counts_of m l) w (λ i. lists_of (s.part i)) (Reach r slots) ok old.sound old.listed;
     entries = record { epoch = old.entries.epoch; announced = old.entries.announced; stage = old.entries.stage };
-    log = old.log;
     past = old.past;
     roles = old.roles;
     published_once = old.published_once;
@@ -90,4 +89,5 @@ module _ (m : Meaning) (laws : Laws m) (l : Layout) (limits : IsWithinLimits l) 
       held = held_after;
       filled = record { filled = whole.filled.filled; looked = whole.filled.looked };
       guards = stands_by_places m l g.agreement g.agreement g.epochs (after (counts_of m l) g.epochs (Reach i slots)) s (λ d. refl) (λ d. refl) whole.guards;
+      logs = record { same = whole.logs.same; own = whole.logs.own; logs = whole.logs.logs };
     }

@@ -92,7 +92,7 @@ module _ (m : Meaning) (laws : Laws m) (l : Layout) (limits : IsWithinLimits l) 
         (λ d. ap (λ (f : ℕ → Bool). f d) (uses.used ∙ first.used)) (λ d. ap (λ (f : ℕ → Bool). f d) (uses.live ∙ first.live))
         (λ d. refl) quiet.stay.published (λ d used. thunks d) in
         parts_whole m laws l limits (record { agreement = w; epochs = g.epochs; publications = g.publications }) s read_sight go.joined go.joined_slots
-        tied (λ i. (s.part i).reads.walk) quiet.stay.walk quiet.made two go.guards
+        tied (λ i. (s.part i).reads.walk) quiet.stay.walk quiet.made two go.guards go.logs
 
   pub read_reply_whole : asks m l rs r kinds.ReadReply p ≡ Some x → p.run ≡ None
       → (pieces : Pieces m l g s (sight_after m l s r kinds.ReadReply x) r kinds.ReadReply x)

@@ -10,14 +10,13 @@ use Rattle.machine_states.specs.body_terms.specs.declared.micro.Micro.{Micro}
 use Rattle.machine_states.specs.body_terms.specs.declared.micro.Micro.TheVariants.{MakeCommit, RetireCommit}
 use Rattle.agreement_core.specs.section_lines.specs.Line.{phase, IsCounted}
 use Rattle.machine_states.specs.table_words.specs.declared.layout.Layout.{Layout}
-use Rattle.machine_states.specs.table_words.specs.declared.spot.Spot.TheVariants.{Stamp, Reply, DoneWord}
+use Rattle.machine_states.specs.table_words.specs.declared.spot.Spot.TheVariants.{Stamp, Reply, DoneWord, LogWord}
 use Rattle.machine_states.specs.structure_laws.specs.Meaning.{Meaning}
 use Rattle.machine_states.specs.runner_parts.specs.declared.entries.Published.{Published}
 use Rattle.machine_states.specs.epoch_core.specs.State.{EpochState, Role}
 use Rattle.machine_states.specs.epoch_core.specs.Events.{slot_of}
 use Rattle.machine_states.specs.epoch_core.specs.History as epochs
 use Rattle.agreement_core.specs.State.{AgreementState}
-use Rattle.agreement_core.specs.Checks.{stored_word}
 use Rattle.agreement_core.specs.PlainRuns.{IsOfBody}
 use Rattle.agreement_core.specs.History.{History, written, IsExact, HasAnswered, HasLeft, HappenedOnce, NothingHappened}
 use Rattle.agreement_core.proofs.Standing.{agree, not_future, cells_stand, locks_stand, takes_stand, done_late, holds_nothing}
@@ -36,6 +35,8 @@ use Rattle.machine_invariant.proofs.Slots.{commits_won}
 use Rattle.machine_invariant.proofs.Lines.{lines_same, follows_same}
 use Rattle.machine_invariant.proofs.Unwon.{none_made, none_retired, empty_of}
 use Rattle.machine_invariant.proofs.Trails.{trails_agree, locks_name, cells_past}
+use Rattle.machine_blocks.specs.Stands.{LogsStand}
+use Rattle.machine_guards.specs.machine_agreement.specs.machine_epochs.specs.Roles.{role_at}
 
 agreed_one : (word : ℕ) → 0 < word → epochs.agreed_slot word ≡ (word - 1) ∷ []
 agreed_one word some = grind arith
@@ -110,10 +111,6 @@ module _ (m : Meaning) (l : Layout) (a : AgreementState) (s : Sight) (joined : I
   none : (d : ℕ) → IsLeft m a s d → NothingHappened changes (changes.section d)
   none d x = nothing (rules_of m l) a joined.sound changes exact d x.used (left d x)
 
-  -- the log
-  log_is : (d : ℕ) → (a.section d).log ≡ log_of m a s d
-  log_is d = fun_ext (λ k. (joined.sections d).log k)
-
   -- a section that answered has agreed on each word of its line
   agreed_on : (d i k : ℕ) → IsAnswered m a s d → is_commit ((a.section d).code i) ≡ true → phase ((a.section d).code i) < 7
       → k ≡ (a.section d).slot i → 0 < log_of m a s d k
@@ -122,17 +119,29 @@ module _ (m : Meaning) (l : Layout) (a : AgreementState) (s : Sight) (joined : I
       let below = before_end (rules_of m l) a joined.sound d x.used (answered d x) i early in
       let more = own.published.line.counted.slot_commit i commit in
       let rises = own.published.line.counted.slot_rises (suc i) ((a.section d).edge) below in
-      subst (λ n. 0 < n) ((joined.sections d).log k) (own.section.in_log.full k (omega arith))
+      own.section.in_log.full k (omega arith)
 
   module _ (e : EpochState) (wins : epochs.History) (won : CommitsAreWonOnce m l e.location s wins)
-      (tie : (d : ℕ) → a.used d ≡ epochs.is_out (e.location (slot_of (counts_of m l) d))) where
+      (tie : (d : ℕ) → a.used d ≡ epochs.is_out (e.location (slot_of (counts_of m l) d)))
+      (logged : (d k : ℕ) → s.word (LogWord d k) ≡ log_of m a s d k) where
+    -- which commits won, by the logs
+    won_made : (d k : ℕ) → a.used d ≡ true → wins.made (wins.section d) k
+        ≡ cond (epochs.is_makes (role_at (m.body (thunk_at m a s d)) k)) (epochs.agreed_slot (log_of m a s d k)) []
+    won_made d k used = won.made d k (sym (tie d) ∙ used)
+        ∙ ap (λ n. cond (epochs.is_makes (role_at (m.body (thunk_at m a s d)) k)) (epochs.agreed_slot n) []) (logged d k)
+
+    won_retired : (d k : ℕ) → a.used d ≡ true → length (wins.retired (wins.section d) k)
+        ≡ cond (epochs.is_retires (role_at (m.body (thunk_at m a s d)) k)) (epochs.agreed_count (log_of m a s d k)) 0
+    won_retired d k used = won.retired d k (sym (tie d) ∙ used)
+        ∙ ap (λ n. cond (epochs.is_retires (role_at (m.body (thunk_at m a s d)) k)) (epochs.agreed_count n) 0) (logged d k)
+
     made_once : (d i k : ℕ) → IsAnswered m a s d → step_at m a s d i ≡ MakeCommit k → wins.made (wins.section d) k
         ≡ (log_of m a s d k - 1) ∷ []
     made_once d i k x step =
         let code : (a.section d).code i ≡ MakeCommit k = (of_thunk d x.used).code i ∙ step in
         let here = (joined.sound.sections d x.used).published.line.counted.make_log i k code in
         let two : phase ((a.section d).code i) ≡ 2 = ap phase code in
-        won.made d k (sym (tie d) ∙ x.used)
+        won_made d k x.used
         ∙ ap (λ (role : Role). cond (epochs.is_makes role) (epochs.agreed_slot (log_of m a s d k)) [])
         (make_role (m.body (thunk_at m a s d)) i k step)
         ∙ agreed_one _ (agreed_on d i k x (ap is_commit code) (omega arith) here)
@@ -146,7 +155,7 @@ module _ (m : Meaning) (l : Layout) (a : AgreementState) (s : Sight) (joined : I
         let here = line.counted.retire_log i t k code in
         let before = line.ordered.retire_before i t k code in
         let five : phase ((a.section d).code i) ≡ 5 = ap phase code in
-        only_one _ (won.retired d k (sym (tie d) ∙ x.used)
+        only_one _ (won_retired d k x.used
         ∙ ap (λ (role : Role). cond (epochs.is_retires role) (epochs.agreed_count (log_of m a s d k)) 0)
         (retire_role (m.body (thunk_at m a s d)) before.0 t k (sym (is.code before.0) ∙ before.2))
         ∙ counted_one _ (agreed_on d i k x (ap is_commit code) (omega arith) here))
@@ -165,17 +174,15 @@ module _ (m : Meaning) (l : Layout) (a : AgreementState) (s : Sight) (joined : I
         let rises = in_line.in_phases.phases i ((a.section d).edge) (let z = lt in omega arith) in
         let here = ap phase (is.code i) in omega arith in
         let empty : (j : ℕ) → (a.section d).slot ((a.section d).edge) ≤ j → log_of m a s d j ≡ 0 = λ j le.
-        sym ((joined.sections d).log j) ∙ own.section.in_log.empty j le in
-        let out = sym (tie d) ∙ x.used in (
-          won.made d k out ∙ none_made body ((a.section d).slot) counted ((a.section d).edge) early (log_of m a s d) empty k,
-          empty_of _ (won.retired d k out ∙ none_retired body ((a.section d).slot) counted ((a.section d).edge) early (log_of m a s d) empty k),
+        own.section.in_log.empty j le in (
+          won_made d k x.used ∙ none_made body ((a.section d).slot) counted ((a.section d).edge) early (log_of m a s d) empty k,
+          empty_of _ (won_retired d k x.used ∙ none_retired body ((a.section d).slot) counted ((a.section d).edge) early (log_of m a s d) empty k),
         )
 
     effects_once : EffectsComeOnce m a s changes wins
     effects_once = record {
       over = over;
-      stored = λ d i place k value x step. (once d x).moved i place k value ((of_thunk d x.used).code i ∙ step)
-          ∙ ap (λ (log : ℕ → ℕ). record { place = place; old = log k; new = stored_word log k value } ∷ []) (log_is d);
+      stored = λ d i place k value x step. (once d x).moved i place k value ((of_thunk d x.used).code i ∙ step);
       stamped = λ d x. let is = of_thunk d x.used in
           subst (λ q. changes.stamps q ≡ s.word (Stamp q) ∷ []) is.request
           ((once d x).stamp ∙ ap (λ n. n ∷ []) (joined.words.stamp ((a.section d).request)));
@@ -195,13 +202,13 @@ module _ (m : Meaning) (l : Layout) (a : AgreementState) (s : Sight) (joined : I
 
 -- a state of the machine with which a state of agreement is joined, and one of epochs and slots that says the same of descriptors
 pub sections_sound : (m : Meaning) (l : Layout) (a : AgreementState) (e : EpochState) (s : Sight) → IsJoinedToAgreement m l a s
-    → slots.IsJoinedToEpochs m l e s
+    → slots.IsJoinedToEpochs m l e s → LogsStand a e s
     → (changes : History) → IsExact a changes → (wins : epochs.History) → epochs.IsExact (counts_of m l) e wins
     → ((d : ℕ) → a.used d ≡ epochs.is_out (e.location (slot_of (counts_of m l) d)))
     → ((d : ℕ) → a.used d ≡ true → (t : Thunk) × IsOfThunk m (a.section d) t × IsShaped (m.body t))
     → ((d : ℕ) → a.live d ≡ true → (r : ℕ) × (x : Published) × ((s.part r).published ≡ Some x) × (x.descriptor ≡ d))
     → PublishedStand m a s → SectionsAreSound m l a s changes wins
-sections_sound m l a e s joined with_slots changes exact wins wins_exact tie shaped publishers published = record {
+sections_sound m l a e s joined with_slots logs changes exact wins wins_exact tie shaped publishers published = record {
   joined = joined;
   exact = exact;
   laws = laws_hold m l a s joined changes exact shaped;
@@ -209,5 +216,5 @@ sections_sound m l a e s joined with_slots changes exact wins wins_exact tie sha
   in_locks = locks_name m l a s joined publishers;
   in_published = published;
   in_cells = cells_past m l a s joined;
-  in_effects = effects_once m l a s joined changes exact e wins (commits_won m l e s with_slots wins wins_exact) tie;
+  in_effects = effects_once m l a s joined changes exact e wins (commits_won m l e s with_slots (λ d k. logs.same d k ∙ sym (logs.own d k)) wins wins_exact) tie logs.own;
 }

@@ -180,7 +180,7 @@ module _ (m : Meaning) (laws : Laws m) (l : Layout) (limits : IsWithinLimits l) 
           parts_whole m laws l limits (led m l g r heads go.passes events g.publications) s released go.joined go.joined_slots
           (tied_retired m l g s whole.tied r y at q.descriptor own released_part released.word a'
           (λ n. ap (λ (f : ℕ → Bool). f n) uses.used) (λ n. ap (λ (f : ℕ → Bool). f n) uses.live) go.enabled_slots.0.1 thunks)
-          (λ i. (s.part i).reads.walk) walks made_behind two go.guards
+          (λ i. (s.part i).reads.walk) walks made_behind two go.guards go.logs
 
     abbrev over : ℕ → ℕ → List agreement.Event → List agreement.Event
     over place word more = agreement.Read place ∷ agreement.Release r place word ∷ agreement.Finish r ∷ more

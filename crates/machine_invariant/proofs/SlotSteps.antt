@@ -136,5 +136,6 @@ module _ (m : Meaning) (laws : Laws m) (l : Layout) (limits : IsWithinLimits l) 
             held = new.held;
             filled = new.filled;
             guards = go.guards;
+            logs = go.logs;
           };
         }

@@ -55,8 +55,9 @@ use Rattle.machine_slots.proofs.Stores.{private_store_is}
 use Rattle.machine_invariant.specs.Whole.{Beside, states_of, made_in, made_of, IsWhole}
 use Rattle.machine_invariant.proofs.Basics.{not_both, by_bool, both, below_test, same_test}
 use Rattle.machine_invariant.proofs.Asked.{source_same, entered_at}
-use Rattle.machine_invariant.proofs.Prepared.{thunk_is, done_is, log_is}
+use Rattle.machine_invariant.proofs.Prepared.{thunk_is, done_is, unlogged}
 use Rattle.machine_invariant.proofs.Limbo.{SweepsSafely, has_filter, limbo_unlive}
+use Rattle.machine_blocks.proofs.Words.{commit_finds}
 
 some_product : (a b n k : ℕ) → a ≤ n → b ≤ k → a * b ≤ n * k
 some_product a b n k h h' = grind arith
@@ -153,7 +154,7 @@ module _ (m : Meaning) (laws : Laws m) (l : Layout) (limits : IsWithinLimits l) 
       record {
         words = thunk_is m l g.epochs s whole.slots r t d h.free h.prepared h.eight (omega arith) (few_places t.lock lock);
         undone = done_is m l g.epochs s whole.slots r t d h.free h.prepared;
-        unlogged = log_is m l g.epochs s whole.slots r t d h.free h.prepared;
+        unlogged = unlogged m l g.epochs s whole.slots r t d h.free h.prepared a whole.logs;
         publishable = hold_publishable t d holds;
       }
     where
@@ -189,6 +190,7 @@ module _ (m : Meaning) (laws : Laws m) (l : Layout) (limits : IsWithinLimits l) 
     pub sections_supplied : supplied.AgreementIsSupplied m l a s r kind (s.word x.0)
     sections_supplied = record {
       alone = λ q place log is opened next at undone. alone q is place log opened next at;
+      logged = λ q k is opened commits. sym (commit_finds m l rs a g.epochs s whole.logs r kind x asked q is opened k commits);
       private = λ q t cell number is is_store. private_in q is t cell number is_store (is_open_run q) refl;
       unused = unused;
       live = live;

@@ -26,7 +26,7 @@ use Rattle.machine_states.specs.runner_parts.specs.declared.event.EventKind.TheV
 use Rattle.machine_states.specs.runner_parts.specs.State.{RunState, GuardsState, PartState}
 use Rattle.machine_states.specs.runner_parts.specs.Tests.{is_readable}
 use Rattle.machine_states.specs.runner_steps.specs.Asks.{asks, ask_by, outside_ask, line_ask, opening_ask}
-use Rattle.machine_states.specs.runner_steps.specs.Outside.{read_ask}
+use Rattle.machine_states.specs.runner_steps.specs.Outside.{read_ask, hold_ask}
 use Rattle.machine_states.specs.runner_steps.specs.Sections.{is_open_run, next_of}
 use Rattle.agreement_core.specs.State.{AgreementState}
 use Rattle.agreement_core.specs.Events.{IsBefore}
@@ -53,6 +53,10 @@ use Rattle.machine_invariant.specs.Whole.{Beside, states_of, IsWhole}
 use Rattle.machine_invariant.proofs.Basics.{not_both, by_bool, both, below_test, same_test}
 use Rattle.machine_invariant.proofs.Asked.{asked_by, entered_at}
 use Rattle.machine_invariant.proofs.Limbo.{SweepsSafely}
+use Rattle.machine_states.specs.body_terms.specs.declared.thunk.Thunk.{Thunk}
+use Rattle.machine_guards.specs.machine_agreement.specs.machine_epochs.specs.Roles.{commits_to}
+use Rattle.machine_blocks.proofs.Words.{commit_finds}
+use Rattle.machine_invariant.proofs.Prepared.{unlogged}
 
 -- a lock's word that names the guarded descriptor with this slot number has that descriptor in its value
 names : (c : Counts) (g : GuardsState) (word t : ℕ) → sees_slot c g word t ≡ true → (d : ℕ) × (slot_of c d ≡ t) × (value_of word ≡ suc d)
@@ -234,8 +238,7 @@ module _ (m : Meaning) (laws : Laws m) (l : Layout) (limits : IsWithinLimits l) 
     -- a Retire before which the run stands may be made
     retires : (t k : ℕ) → is_open_run q ≡ true → next ≡ micros.EpochForRetire t k → MayRetire c g.epochs q.descriptor k t
     retires t k opened ahead =
-        let may = supplies.retirable r t k (before_next (micros.EpochForRetire t k) opened refl refl ahead)
-        (whole.slots.log d k ∙ sym ((whole.sections.sections d).log k)) in
+        let may = supplies.retirable r t k (before_next (micros.EpochForRetire t k) opened refl refl ahead) (whole.logs.same d k) in
         subst (λ n. MayRetire c g.epochs n k t) here.descriptor (record { node = may.node; live = may.live; once = may.once })
 
   held : HoldsMet m l g s r kind → (t : ℕ) → (run : Option RunState) → p.run ≡ run → comes_by m c kind p run (s.word x.0) t ≡ true
@@ -244,11 +247,25 @@ module _ (m : Meaning) (laws : Laws m) (l : Layout) (limits : IsWithinLimits l) 
       (asked_by m l r kind p rs x _ at asked) asked met t comes out
   held met t (Some q) at comes out = absurd (let y = comes in cc)
 
+  -- a commit of the run finds what the log has there
+  logged : (q : RunState) (k : ℕ) → p.run ≡ Some q → is_open_run q ≡ true → commits_to (next_of m q) ≡ Some k
+      → g.epochs.log q.descriptor k ≡ s.word x.0
+  logged q k is opened commits = whole.logs.same q.descriptor k ∙ sym (commit_finds m l rs a g.epochs s whole.logs r kind x asked q is opened k commits)
+
+  -- the log of a section that is published now is empty
+  empty_log : (t : Thunk) (d k : ℕ) → kind ≡ kinds.Hold t d → p.run ≡ None → g.epochs.log d k ≡ 0
+  empty_log t d k is none =
+      let holds : hold_ask m l rs r t d p ≡ Some x = ap (λ y. outside_ask m l rs r y p) (sym is) ∙ asked_by m l r kind p rs x None none asked in
+      let h = outside.hold_asked m l rs r t d p x holds in
+      whole.logs.same d k ∙ unlogged m l g.epochs s whole.slots r t d h.free h.prepared a whole.logs k
+
   -- all of it, where a runner that reads a cell holds what it meets there
   pub slots_supplied : HoldsMet m l g s r kind → SweepsSafely l s r kind (s.word x.0) → supplied.EpochsAreSupplied m l g.epochs s r kind x.0
   slots_supplied met swept = record {
     unread = supplies.unread;
     held = λ t comes out. held met t p.run refl comes out;
+    logged = logged;
+    unlogged = λ t d k is none same. empty_log t d k is none;
     retires = λ q t k is opened ahead. retires q is t k opened ahead;
     swept = swept;
   }

@@ -49,7 +49,7 @@ module _ (m : Meaning) (l : Layout) (a : AgreementState) (s : Sight) (joined : I
       let run = run_is r q is in
       let trails = all.trails r run.running in
       sym (run.trail k) ∙ trails.agreed k (subst (λ n. k < n) (sym run.count) lt)
-      ∙ ap (λ n. (a.section n).log k) run.descriptor ∙ (joined.sections q.descriptor).log k
+      ∙ ap (λ n. (a.section n).log k) run.descriptor
 
   run_short : (r : ℕ) (q : RunState) → (s.part r).run ≡ Some q → length q.trail ≤ agreed_words m a s q.descriptor
   run_short r q is =
@@ -79,8 +79,7 @@ module _ (m : Meaning) (l : Layout) (a : AgreementState) (s : Sight) (joined : I
       let kept = kept_is r e.at f e.kept in
       let whole = all.whole r e.at d kept.0 used (end_is r d f used e) in
       first_of f.trail (agreed_words m a s d) (log_of m a s d) (sym kept.1.count ∙ whole.count ∙ counts d used)
-      (λ k lt. sym (kept.1.trail k) ∙ whole.agreed k (subst (λ n. k < n) (sym (whole.count ∙ counts d used)) lt)
-      ∙ (joined.sections d).log k)
+      (λ k lt. sym (kept.1.trail k) ∙ whole.agreed k (subst (λ n. k < n) (sym (whole.count ∙ counts d used)) lt))
 
   ended : (r d : ℕ) (f : FinishedState) → a.used d ≡ true → IsEndOf m a s r d f → HoldsNothing (rules_of m l) a d
   ended r d f used e = holds_nothing (rules_of m l) a joined.sound r e.at d ((kept_is r e.at f e.kept).0) used (end_is r d f used e)
@@ -97,9 +96,8 @@ module _ (m : Meaning) (l : Layout) (a : AgreementState) (s : Sight) (joined : I
 
   pub trails_agree : TrailsAgree m a s
   trails_agree = record {
-    full = λ d k used lt. subst (λ n. 0 < n) ((joined.sections d).log k)
-        ((all.logs d used).full k (subst (λ n. k < n) (sym (counts d used)) lt));
-    empty = λ d k used le. sym ((joined.sections d).log k) ∙ (all.logs d used).empty k (subst (λ n. n ≤ k) (sym (counts d used)) le);
+    full = λ d k used lt. (all.logs d used).full k (subst (λ n. k < n) (sym (counts d used)) lt);
+    empty = λ d k used le. (all.logs d used).empty k (subst (λ n. n ≤ k) (sym (counts d used)) le);
     running = run_used;
     short = run_short;
     prefix = λ r q is. first_of q.trail (length q.trail) (log_of m a s q.descriptor) refl (λ k lt. run_log r k q is lt);

@@ -108,7 +108,7 @@ module _ (m : Meaning) (laws : Laws m) (l : Layout) (limits : IsWithinLimits l) 
         (upd_split s.part r read_part
         (λ i y. y.reads.walk ≡ upd (λ i. (s.part i).reads.walk) r (p.reads.walk ++ (place, g.agreement.shared.cells place) ∷ []) i)
         (walked ∙ sym (upd_same (λ i. (s.part i).reads.walk) r r _ refl)) (λ i ne. sym (upd_other (λ i. (s.part i).reads.walk) r i _ ne)))
-        (made_outside m l s r kind x refl none) three go.guards
+        (made_outside m l s r kind x refl none) three go.guards go.logs
 
     pub load_cell_whole : (pieces : Pieces m l g s read_sight r kind x) → KeepsWhole m l g s read_sight r kind x pieces
     load_cell_whole pieces = keeps_by m l g s read_sight r kind x pieces (agreement.Read place ∷ []) reach

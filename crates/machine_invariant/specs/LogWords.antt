@@ -1,9 +1,8 @@
 -- What the log words and the done word of a section may be that a runner runs, and to which log word it commits next.
-use Rattle.std.specs.Prelude.{◌≡◌, ℕ, suc, ◌≤◌, ◌⊎◌, List, length, Option, Some, None}
+use Rattle.std.specs.Prelude.{◌≡◌, ℕ, suc, ◌≤◌, ◌⊎◌, List, length, Some}
 use Rattle.machine_states.specs.map_history.specs.declared.op.Request.{Request}
 use Rattle.machine_states.specs.body_terms.specs.Line.{micro_at, committed}
-use Rattle.machine_states.specs.body_terms.specs.declared.micro.Micro.{Micro}
-use Rattle.machine_states.specs.body_terms.specs.declared.micro.Micro.TheVariants.{Commit, NestedCommit, OutcomeCommit, MakeCommit, RetireCommit}
+use Rattle.machine_states.specs.body_terms.specs.declared.micro.Micro.TheVariants.{MakeCommit, RetireCommit}
 use Rattle.machine_states.specs.table_words.specs.Limits.{IsWithinLimits}
 use Rattle.machine_states.specs.table_words.specs.declared.layout.Layout.{Layout}
 use Rattle.machine_states.specs.table_words.specs.declared.spot.Spot.TheVariants.{DoneWord, LogWord}
@@ -14,18 +13,10 @@ use Rattle.machine_states.specs.runner_parts.specs.declared.event.Event.{Event}
 use Rattle.machine_states.specs.World.{World}
 use Rattle.machine_states.specs.Schedules.{IsAfter}
 use Rattle.machine_states.specs.Sight.{Sight, sight}
+use Rattle.machine_guards.specs.machine_agreement.specs.machine_epochs.specs.Roles.{commits_to}
 use Rattle.machine_invariant.specs.After.{AreAllowed}
 use Rattle.machine_invariant.specs.Slots.{node_count}
 use Rattle.machine_invariant.specs.Whole.{Beside, IsWhole}
-
--- the place in the log to which a step commits, if it does
-abbrev pub commits_to : Micro → Option ℕ
-commits_to (Commit place log) = Some log
-commits_to (NestedCommit place log) = Some log
-commits_to (OutcomeCommit place log) = Some log
-commits_to (MakeCommit log) = Some log
-commits_to (RetireCommit slot log) = Some log
-commits_to _ = None
 
 -- what the log words say at the Makes and Retires of a run that has loaded its thunk and the done word, how
 -- far its trail goes, and what the done word of any run says

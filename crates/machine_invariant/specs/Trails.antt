@@ -1,5 +1,4 @@
--- Agreement in the machine's own words: the log words, the runs' trails, and what is kept of runs that came
--- to their end.
+-- Agreement in the machine's own words: the logs, the runs' trails, and what is kept of runs that came to their end.
 use Rattle.std.specs.Prelude.{◌≡◌, ◌≢◌, ℕ, suc, ◌<◌, ◌≤◌, ◌⊎◌, true, length, slice_get, Some}
 use Rattle.machine_states.specs.body_terms.specs.Line.{line, committed, micro_at}
 use Rattle.machine_states.specs.body_terms.specs.Plain.{first_values}
@@ -7,7 +6,7 @@ use Rattle.machine_states.specs.body_terms.specs.Word.{value_of, version_of, hel
 use Rattle.machine_states.specs.body_terms.specs.declared.thunk.Thunk.{Thunk}
 use Rattle.machine_states.specs.body_terms.specs.declared.micro.Micro.{Micro}
 use Rattle.machine_states.specs.body_terms.specs.declared.micro.Micro.TheVariants.{NestedHold}
-use Rattle.machine_states.specs.table_words.specs.declared.spot.Spot.TheVariants.{Cell, DoneWord, LogWord}
+use Rattle.machine_states.specs.table_words.specs.declared.spot.Spot.TheVariants.{Cell, DoneWord}
 use Rattle.machine_states.specs.structure_laws.specs.Meaning.{Meaning}
 use Rattle.machine_states.specs.runner_parts.specs.declared.entries.Published.{Published}
 use Rattle.machine_states.specs.runner_parts.specs.State.{RunState, FinishedState}
@@ -16,10 +15,10 @@ use Rattle.agreement_core.specs.State.{AgreementState}
 use Rattle.machine_states.specs.Sight.{Sight}
 use Rattle.machine_guards.specs.machine_agreement.specs.machine_epochs.specs.Slots.{thunk_in}
 
--- `a` says of each descriptor whether a section was published there and the descriptor isn't free again,
--- and how far its runs have come
+-- `a` says of each descriptor whether a section was published there and the descriptor isn't free again, how far its
+-- runs have come, and which words its log has. `LogsStand` of machine_blocks says where these stand
 module _ (m : Meaning) (a : AgreementState) (s : Sight) where
-  -- the thunk in a descriptor's words, its body's line, and the descriptor's log words
+  -- the thunk in a descriptor's words, its body's line, and its section's log
   abbrev pub thunk_at : ℕ → Thunk
   thunk_at d = thunk_in s.word d
 
@@ -27,7 +26,7 @@ module _ (m : Meaning) (a : AgreementState) (s : Sight) where
   step_at d = micro_at (line (m.body (thunk_at d)))
 
   abbrev pub log_of : ℕ → ℕ → ℕ
-  log_of d k = s.word (LogWord d k)
+  log_of d k = (a.section d).log k
 
   -- how many words the section has agreed on: as many as the line commits up to where its runs have come
   abbrev pub agreed_words : ℕ → ℕ

@@ -20,6 +20,7 @@ use Rattle.machine_guards.specs.machine_agreement.specs.machine_scenes.specs.Kep
 use Rattle.machine_guards.specs.machine_agreement.specs.Joined as sections
 use Rattle.machine_slots.specs.Hands.{Made, LocksAreHeld, SlotsAreFilled}
 use Rattle.machine_guards.specs.Stands.{GuardsStand}
+use Rattle.machine_blocks.specs.Stands.{LogsStand}
 
 -- what stands beside the machine's state: the components' states, and what was published
 pub record Beside : Type 0 where
@@ -82,3 +83,5 @@ module _ (m : Meaning) (l : Layout) where
     pub filled : SlotsAreFilled m (counts_of m l) (states_of g s) (made_of s)
     -- a descriptor of which a runner is sure is given out to nobody
     pub guards : GuardsStand m l g.agreement g.epochs s
+    -- where the words of the sections' logs stand
+    pub logs : LogsStand g.agreement g.epochs s

@@ -47,7 +47,7 @@ use Rattle.machine_invariant.specs.machine_agreement.specs.machine_epochs.proofs
 use Rattle.machine_invariant.specs.machine_agreement.proofs.RunPlaces.{opened_thunk, of_thunk, before}
 use Rattle.machine_invariant.specs.After.{AreAllowed}
 use Rattle.machine_invariant.specs.Whole.{Beside, made_in, IsWhole}
-use Rattle.machine_invariant.specs.LogWords.{commits_to}
+use Rattle.machine_invariant.specs.machine_agreement.specs.machine_epochs.specs.Roles.{commits_to}
 use Rattle.machine_invariant.proofs.After.{reached_whole}
 use Rattle.next_steps.specs.Steps.{slot_in, kind_at, ask_at, opening_kind, opened_next, has_slot}
 use Rattle.next_steps.specs.Rooms.{ClockIsSmall, cell_count, ThunkFits, ThunksFit, filling, RoomsStand}

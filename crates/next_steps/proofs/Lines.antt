@@ -22,7 +22,7 @@ use Rattle.machine_states.specs.runner_steps.specs.Sections.{thunk_of, line_limi
 use Rattle.machine_states.specs.Sight.{Sight}
 use Rattle.machine_invariant.specs.machine_agreement.proofs.RunPlaces.{not_ended}
 use Rattle.machine_invariant.specs.Whole.{Beside, IsWhole}
-use Rattle.machine_invariant.specs.LogWords.{commits_to}
+use Rattle.machine_invariant.specs.machine_agreement.specs.machine_epochs.specs.Roles.{commits_to}
 use Rattle.next_steps.proofs.Runs.{section, here, section_sound, run_sound, shaped, code}
 use Rattle.next_steps.proofs.Releases.{fewer_releases}
 use Rattle.next_steps.proofs.Ends.{HasNext}

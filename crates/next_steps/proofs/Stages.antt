@@ -27,7 +27,7 @@ use Rattle.machine_invariant.specs.machine_agreement.specs.machine_epochs.proofs
 use Rattle.machine_invariant.specs.machine_agreement.proofs.LineKinds.{noted_finished}
 use Rattle.machine_invariant.specs.machine_agreement.proofs.LineAsked.{line_asked, stamp_asked, make_commit_asked}
 use Rattle.machine_invariant.specs.After.{AreAllowed}
-use Rattle.machine_invariant.specs.LogWords.{commits_to}
+use Rattle.machine_invariant.specs.machine_agreement.specs.machine_epochs.specs.Roles.{commits_to}
 use Rattle.machine_invariant.proofs.After.{log_words_after}
 use Rattle.next_steps.specs.Steps.{slot_in, kind_at, ask_at, opening_kind, opened_next, has_slot}
 use Rattle.next_steps.specs.Enabled.{Meets, IsInTable, NextIsEnabled}

@@ -19,7 +19,7 @@ use Rattle.machine_states.specs.runner_steps.specs.AfterInRun.{goes_on, agrees, 
 use Rattle.machine_states.specs.runner_steps.specs.After.{after}
 use Rattle.machine_states.specs.World.{World, seat_of}
 use Rattle.machine_states.specs.Reached.{Reached}
-use Rattle.machine_invariant.specs.LogWords.{commits_to}
+use Rattle.machine_invariant.specs.machine_agreement.specs.machine_epochs.specs.Roles.{commits_to}
 use Rattle.next_steps.specs.Steps.{slot_in, kind_at, ask_at, opening_kind, opened_next, has_slot}
 use Rattle.next_steps.specs.Enabled.{Meets, IsInTable}
 

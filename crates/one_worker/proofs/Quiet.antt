@@ -163,7 +163,7 @@ module _ (m : Meaning) (l : Layout) (rs : List Request) (g : Beside) (s : Sight)
         let more = in_line.counted.slot_commit q.at (ap is_commit (code _ at)) in
         let rises = in_line.counted.slot_rises (suc q.at) section.edge (omega (arith, behind)) in
         let full = sound.section.in_log.full h.0 (omega (arith, place, more, rises)) in
-        let same : section.log h.0 ≡ 0 = (whole.sections.sections q.descriptor).log h.0 ∙ (ap (λ (u : Spot × Access). f u.0) h.4 ∙ none) in
+        let same : section.log h.0 ≡ 0 = sym (whole.logs.own q.descriptor h.0) ∙ (ap (λ (u : Spot × Access). f u.0) h.4 ∙ none) in
         absurd (omega (arith, full, same))
 
     own_slot : (made : Option ℕ) (t : ℕ) → is_slot made t ≡ true → made ≡ Some t

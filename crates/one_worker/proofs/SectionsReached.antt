@@ -388,7 +388,8 @@ module _ (m : Meaning) (l : Layout) (limits : IsWithinLimits l) (rs : List Reque
     goes_new = subst (λ n. Goes m s' n x'.thunk) (sym descriptor_is) (subst (λ u. Goes m s' d u) (sym thunk_of_it)
         (published m l rs per_pair (planner.over l limits) s' after d t used' thunk_there
         (other_word (spots.DoneWord d) (λ p same lock. absurd (let z = same in cc)) ∙ done_is m l before.beside.epochs s whole_before.slots r t d ha.free ha.prepared)
-        (λ k. other_word (spots.LogWord d k) (λ p same lock. absurd (let z = same in cc)) ∙ log_is m l before.beside.epochs s whole_before.slots r t d ha.free ha.prepared k)
+        (λ k. other_word (spots.LogWord d k) (λ p same lock. absurd (let z = same in cc)) ∙ log_is m l before.beside.epochs s whole_before.slots r t d ha.free ha.prepared
+        before.beside.agreement whole_before.logs k)
         publisher no_run cell_stands lock_stands))
 
   goes_step : Goes m s' x'.descriptor x'.thunk

@@ -79,7 +79,7 @@ module _ (m : Meaning) (l : Layout) (rs : List Request) (s : Sight) (before : Ha
   code_back i micro e = sym (code_is i _ refl) ∙ e
 
   pub log_same : (k : ℕ) → x.log k ≡ s.word (spots.LogWord d k)
-  log_same k = (whole.sections.sections d).log k
+  log_same k = sym (whole.logs.own d k)
 
   -- a commit that is passed is agreed
   pub passed_some : (i k : ℕ) (micro : Micro) → x.code i ≡ micro → is_commit micro ≡ true → log_of micro ≡ k → i < x.edge → s.word (spots.LogWord d k) ≢ 0

@@ -306,7 +306,7 @@ module _ (m : Meaning) (laws : Laws m) (l : Layout) (limits : IsWithinLimits l) 
             let more = line.counted.slot_commit q0.at (ap is_commit code) in
             let rises = line.counted.slot_rises (suc q0.at) (a.section d).edge (omega (arith, less)) in
             let full = sound.section.in_log.full k (omega (arith, log, more, rises)) in
-            let same = (stands.whole.sections.sections d).log k in omega (arith, full, same, none)))
+            let same = stands.whole.logs.own d k in omega (arith, full, same, none)))
             (λ le. omega (arith, le, behind, place))
             (order q0.at (a.section d).edge)
 

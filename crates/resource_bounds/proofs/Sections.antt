@@ -100,7 +100,7 @@ module _ (m : Meaning) (l : Layout) (rs : List Request) (s : Sight) (stands : Ha
   stamp_rank = ap rank in_line.stamped.stamps
 
   log_is : (k : ℕ) → x.log k ≡ s.word (spots.LogWord d k)
-  log_is k = (whole.sections.sections d).log k
+  log_is k = sym (whole.logs.own d k)
 
   -- the request of the section
   request_is : h.request d ≡ t.request
