@@ -156,6 +156,8 @@ def main() -> int:
     if len(sys.argv) > 1 and sys.argv[1] == "run":
         return run(sys.argv[2:])
     if len(sys.argv) > 1 and sys.argv[1] in ("table", "keep"):
+        if not log.is_file():
+            sys.exit(f"gate.py: there is no log {log}; bench/gate.py run writes bench/gate.log")
         (table if sys.argv[1] == "table" else keep)(log)
         return 0
     print(__doc__, file=sys.stderr)

@@ -1,6 +1,7 @@
 //! The kinds whose events carry arguments.
 ghost use Rattle.std.specs.Prelude.{◌≡◌, ◌<◌, ◌≤◌, ◌+◌, ◌^◌, ◌&&◌, nat_lt, ℕ, Bool, Some, None, true, false, length};
 ghost use Rattle.std.specs.List.{list_any};
+ghost use Rattle.runner_steps.specs.map_history.specs.Requests.{most_requests};
 ghost use Rattle.runner_steps.specs.table_words.specs.Limits.{IsWithinLimits};
 ghost use Rattle.runner_steps.specs.table_words.specs.Places.{slot_count, descriptor_count};
 ghost use Rattle.runner_steps.specs.Asks.{sizes_for};
@@ -29,7 +30,7 @@ pub fn may<S: Structure>(
     kind: EventKind,
 ) -> bool
     requires limits { IsWithinLimits layout }
-    requires few { length requests.now ≤ 131072 }
+    requires few { length requests.now ≤ most_requests }
     ensures { result ≡ is_enabled (S.meaning structure.now) layout requests.now runner part.now kind }
 {
     asks(part, structure, layout, requests, runner, &kind).is_some()
@@ -44,7 +45,7 @@ pub fn may_scan<S: Structure>(
     runner: u32,
 ) -> bool
     requires limits { IsWithinLimits layout }
-    requires few { length requests.now ≤ 131072 }
+    requires few { length requests.now ≤ most_requests }
     ensures scanning { (e : ℕ) (next : ℕ) (clear : Bool) → part.now.stage ≡ Scanning e next clear
         → result ≡ is_enabled (S.meaning structure.now) layout requests.now runner part.now (kinds.ScanOne next) }
     ensures no_scan { ((e : ℕ) (next : ℕ) (clear : Bool) → part.now.stage ≡ Scanning e next clear → ⊥)
@@ -76,7 +77,7 @@ pub fn may_walk<S: Structure>(
     runner: u32,
 ) -> bool
     requires limits { IsWithinLimits layout }
-    requires few { length requests.now ≤ 131072 }
+    requires few { length requests.now ≤ most_requests }
     ensures found { result ≡ true
         → (place : ℕ)
         × (is_enabled (S.meaning structure.now) layout requests.now runner part.now (kinds.LoadCell (Some place))
@@ -105,7 +106,7 @@ fn may_look<S: Structure>(
     slots: &[u32],
 ) -> bool
     requires limits { IsWithinLimits layout }
-    requires few { length requests.now ≤ 131072 }
+    requires few { length requests.now ≤ most_requests }
     ensures { result ≡ list_any (λ slot.
         is_enabled (S.meaning structure.now) layout requests.now runner part.now (kinds.PrivateLoad slot 0)) slots.now }
 {
@@ -130,7 +131,7 @@ pub fn may_look_free<S: Structure>(
     runner: u32,
 ) -> bool
     requires limits { IsWithinLimits layout }
-    requires few { length requests.now ≤ 131072 }
+    requires few { length requests.now ≤ most_requests }
     ensures { result ≡ list_any (λ slot.
         is_enabled (S.meaning structure.now) layout requests.now runner part.now (kinds.PrivateLoad slot 0))
         part.now.nodes.free }
@@ -147,7 +148,7 @@ pub fn may_look_hand<S: Structure>(
     runner: u32,
 ) -> bool
     requires limits { IsWithinLimits layout }
-    requires few { length requests.now ≤ 131072 }
+    requires few { length requests.now ≤ most_requests }
     ensures { result ≡ list_any (λ slot.
         is_enabled (S.meaning structure.now) layout requests.now runner part.now (kinds.PrivateLoad slot 0))
         part.now.nodes.hand }
@@ -165,7 +166,7 @@ pub fn may_reread<S: Structure>(
     runner: u32,
 ) -> bool
     requires limits { IsWithinLimits layout }
-    requires few { length requests.now ≤ 131072 }
+    requires few { length requests.now ≤ most_requests }
     ensures { result ≡ list_any (λ d. nat_lt d (descriptor_count layout)
         && is_enabled (S.meaning structure.now) layout requests.now runner part.now
         (kinds.PrivateLoad (slot_count layout (S.meaning structure.now).fixed_slots + d) 0)) part.now.descriptors.free }
@@ -194,7 +195,7 @@ pub fn may_prepare<S: Structure>(
     runner: u32,
 ) -> bool
     requires limits { IsWithinLimits layout }
-    requires few { length requests.now ≤ 131072 }
+    requires few { length requests.now ≤ most_requests }
     ensures { result ≡ list_any (λ d. nat_lt d (descriptor_count layout)
         && is_enabled (S.meaning structure.now) layout requests.now runner part.now
         (kinds.PrivateStore (slot_count layout (S.meaning structure.now).fixed_slots + d) 0 0))
@@ -227,7 +228,7 @@ pub fn may_begin<S: Structure>(
     runner: u32,
 ) -> bool
     requires limits { IsWithinLimits layout }
-    requires few { length requests.now ≤ 131072 }
+    requires few { length requests.now ≤ most_requests }
     ensures { result ≡ is_enabled_if (S.meaning structure.now) layout requests.now runner part.now
         (begun part.now.guards.named) }
 {
@@ -279,7 +280,7 @@ pub fn may_publish<S: Structure>(
     runner: u32,
 ) -> bool
     requires limits { IsWithinLimits layout }
-    requires few { length requests.now ≤ 131072 }
+    requires few { length requests.now ≤ most_requests }
     ensures { result ≡ list_any (λ d.
         is_enabled (S.meaning structure.now) layout requests.now runner part.now
         (kinds.Hold (stored_thunk part.now.descriptors.stored d) d)) part.now.descriptors.free }
@@ -318,7 +319,7 @@ pub fn may_announce_read<S: Structure>(
     runner: u32,
 ) -> bool
     requires limits { IsWithinLimits layout }
-    requires few { length requests.now ≤ 131072 }
+    requires few { length requests.now ≤ most_requests }
     ensures { result
         ≡ is_enabled (S.meaning structure.now) layout requests.now runner part.now (kinds.ReadPlan no_thunk) }
 {
@@ -335,7 +336,7 @@ pub fn may_look_guard<S: Structure>(
     runner: u32,
 ) -> bool
     requires limits { IsWithinLimits layout }
-    requires few { length requests.now ≤ 131072 }
+    requires few { length requests.now ≤ most_requests }
     ensures found { result ≡ true
         → (n : ℕ)
         × (is_enabled (S.meaning structure.now) layout requests.now runner part.now (kinds.LoadGuard n) ≡ true) }
@@ -360,7 +361,7 @@ pub fn may_join<S: Structure>(
     runner: u32,
 ) -> bool
     requires limits { IsWithinLimits layout }
-    requires few { length requests.now ≤ 131072 }
+    requires few { length requests.now ≤ most_requests }
     ensures found { result ≡ true
         → (worker : ℕ)
         × (is_enabled (S.meaning structure.now) layout requests.now runner part.now (kinds.Join worker) ≡ true) }

@@ -1,6 +1,7 @@
 //! The kinds of step that a runner may make next.
 ghost use Rattle.std.specs.Prelude.{◌≡◌, ◌≤◌, ◌||◌, length};
 ghost use Rattle.std.specs.List.{list_any};
+ghost use Rattle.runner_steps.specs.map_history.specs.Requests.{most_requests};
 ghost use Rattle.runner_steps.specs.table_words.specs.Limits.{IsWithinLimits};
 ghost use Rattle.enabled_kinds.specs.May.{Tells, AreEnabled, is_enabled_if};
 
@@ -25,7 +26,7 @@ fn may_if<S: Structure>(
     kind: Option<EventKind>,
 ) -> bool
     requires limits { IsWithinLimits layout }
-    requires few { length requests.now ≤ 131072 }
+    requires few { length requests.now ≤ most_requests }
     ensures { result ≡ is_enabled_if (S.meaning structure.now) layout requests.now runner part.now kind }
 {
     match kind {
@@ -43,7 +44,7 @@ fn may_load_cell<S: Structure>(
     runner: u32,
 ) -> bool
     requires limits { IsWithinLimits layout }
-    requires few { length requests.now ≤ 131072 }
+    requires few { length requests.now ≤ most_requests }
     ensures { Tells (S.meaning structure.now) layout requests.now runner part.now 9 result }
 {
     let inside = may(
@@ -67,7 +68,7 @@ fn may_load_private<S: Structure>(
     runner: u32,
 ) -> bool
     requires limits { IsWithinLimits layout }
-    requires few { length requests.now ≤ 131072 }
+    requires few { length requests.now ≤ most_requests }
     ensures { Tells (S.meaning structure.now) layout requests.now runner part.now 11 result }
 {
     let free = may_look_free(part, structure, layout, requests, runner);
@@ -87,7 +88,7 @@ fn may_store_private<S: Structure>(
     runner: u32,
 ) -> bool
     requires limits { IsWithinLimits layout }
-    requires few { length requests.now ≤ 131072 }
+    requires few { length requests.now ≤ most_requests }
     ensures { Tells (S.meaning structure.now) layout requests.now runner part.now 12 result }
 {
     let descriptor = may_prepare(part, structure, layout, requests, runner);
@@ -105,7 +106,7 @@ fn may_load_thunk<S: Structure>(
     runner: u32,
 ) -> bool
     requires limits { IsWithinLimits layout }
-    requires few { length requests.now ≤ 131072 }
+    requires few { length requests.now ≤ most_requests }
     ensures { Tells (S.meaning structure.now) layout requests.now runner part.now 16 result }
 {
     let further = may(
@@ -129,7 +130,7 @@ fn may_load_clock<S: Structure>(
     runner: u32,
 ) -> bool
     requires limits { IsWithinLimits layout }
-    requires few { length requests.now ≤ 131072 }
+    requires few { length requests.now ≤ most_requests }
     ensures { Tells (S.meaning structure.now) layout requests.now runner part.now 21 result }
 {
     let inside = may(
@@ -161,7 +162,7 @@ fn may_make<S: Structure>(
     number: u32,
 ) -> bool
     requires limits { IsWithinLimits layout }
-    requires few { length requests.now ≤ 131072 }
+    requires few { length requests.now ≤ most_requests }
     ensures { Tells (S.meaning structure.now) layout requests.now runner part.now number result }
 {
     match number {
@@ -207,7 +208,7 @@ pub fn enabled<S: Structure>(
     runner: u32,
 ) -> u64
     requires limits { IsWithinLimits layout }
-    requires few { length requests.now ≤ 131072 }
+    requires few { length requests.now ≤ most_requests }
     ensures { AreEnabled (S.meaning structure.now) layout requests.now runner part.now result }
 {
     let mut bits = 0;

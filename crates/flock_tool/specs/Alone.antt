@@ -1,5 +1,7 @@
 -- Completeness with one runner, whose slots are used again.
 use Rattle.std.specs.Prelude.{◌≡◌, ◌≢◌, ◌≤◌, ◌+◌, ◌*◌, ℕ, List, Option, IfSome, Some, length}
+use Rattle.machine_states.specs.table_words.specs.Limits.{most_nodes}
+use Rattle.machine_states.specs.map_history.specs.Requests.{most_requests}
 use Rattle.threaded_runs.specs.map_sizes.specs.Sizes.{peak}
 use Rattle.command_line.specs.trace_reader.specs.Answer.{AreTracesOf}
 use Rattle.command_line.specs.trace_reader.specs.Generator.{generated}
@@ -17,7 +19,7 @@ use Rattle.flock_tool.specs.declared.ran.Ran.{Ran}
 -- request, and eight more
 pub record HasLoneRoom (options : RunOptions) (traces : Traces) : Type 0 where
   pub one : (layout_by options traces.count traces.requests).runners ≡ 1
-  pub few : all_nodes (layout_by options traces.count traces.requests) ≤ 262144
+  pub few : all_nodes (layout_by options traces.count traces.requests) ≤ most_nodes
   pub some : 1 ≤ (layout_by options traces.count traces.requests).sections
   pub slots : 2 * peak traces.requests + 16 ≤ (layout_by options traces.count traces.requests).nodes
   pub versions : 8 * length traces.requests + 8 ≤ (layout_by options traces.count traces.requests).version_max
@@ -29,7 +31,7 @@ IsValidAlone (commands.Run options) left =
     × (IsForAnotherTable options traces → ⊥) × HasLoneRoom options traces
 IsValidAlone (commands.Gen plan) left = ⊥
 IsValidAlone (commands.Load load) left =
-    (all_requests load.plan ≤ 131072)
+    (all_requests load.plan ≤ most_requests)
     × HasLoneRoom load.run (record { format = 1; count = load.plan.traces; requests = generated load.plan })
 IsValidAlone commands.Check left = ⊥
 

@@ -1,5 +1,6 @@
 -- What each command leaves, by its status.
 use Rattle.std.specs.Prelude.{◌≡◌, ◌≢◌, ◌↔◌, ◌⊎◌, ◌<◌, ◌≤◌, ℕ, List, [], Option, IfSome, IsSome, None, codes}
+use Rattle.machine_states.specs.map_history.specs.Requests.{most_requests}
 use Rattle.machine_states.specs.map_history.specs.declared.op.Entry.{Entry}
 use Rattle.command_line.specs.trace_reader.specs.Answer.{AreTracesOf, StopsBefore}
 use Rattle.command_line.specs.trace_reader.specs.Text.{IsAccepted, IsFirstRefusal}
@@ -79,8 +80,9 @@ pub record GenPrints (plan : Gen) (number : ℕ) (sink faults : Stream) : Type 0
   -- the text is that of the generator's requests, and the grammar relates it to them
   pub printed : number ≡ 0 → Prints plan sink.before sink.after × IsRead plan × IsUntouched faults
   -- too many requests are refused, and no fewer
-  pub limit : number ≡ 4 → (131072 < all_requests plan) × Told (error_line (TooManyRequests (all_requests plan))) faults
-  pub many : 131072 < all_requests plan → (number ≡ 4) ⊎ (number ≡ 7)
+  pub limit : number ≡ 4
+      → (most_requests < all_requests plan) × Told (error_line (TooManyRequests (all_requests plan))) faults
+  pub many : most_requests < all_requests plan → (number ≡ 4) ⊎ (number ≡ 7)
   pub memory : number ≡ 7 → Told (codes "flock: memory\n") faults
   pub write : number ≡ 9
       → Fails sink × PrintsInPart plan sink.before sink.after × Told (codes "flock: write fault\n") faults
@@ -108,13 +110,13 @@ pub record LoadRuns (load : LoadOptions) (result : ℕ × Option Ran) (sink faul
   -- too many requests are refused, or else, where they are no more than the limit, too many node slots, and nothing
   -- else
   pub limit : result.0 ≡ 4
-      → ((131072 < all_requests load.plan) × Told (error_line (TooManyRequests (all_requests load.plan))) faults)
-      ⊎ ((all_requests load.plan ≤ 131072)
+      → ((most_requests < all_requests load.plan) × Told (error_line (TooManyRequests (all_requests load.plan))) faults)
+      ⊎ ((all_requests load.plan ≤ most_requests)
       × ((count : ℕ) × (LoadAsksTooMuch load count × Told (nodes_line count) faults)))
   -- and then nothing is run
   pub idle : result.0 ≡ 4 → IsIdle gates
   pub unplanned : load.run.halts ≡ [] → gates.plans_after ≡ gates.plans_before
-  pub many : 131072 < all_requests load.plan → (result.0 ≡ 4) ⊎ (result.0 ≡ 7)
+  pub many : most_requests < all_requests load.plan → (result.0 ≡ 4) ⊎ (result.0 ≡ 7)
   pub memory : result.0 ≡ 7 → Told (codes "flock: memory\n") faults
   pub write : result.0 ≡ 9
       → Fails sink × ExtendsInPart sink.before (load_text load.plan) sink.after

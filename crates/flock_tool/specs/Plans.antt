@@ -1,7 +1,8 @@
 -- What the options of a command and a text, or the generator, ask for.
 use Rattle.std.specs.Prelude.{◌≡◌, ◌≢◌, ℕ, ◌*◌, ◌<◌, ◌≤◌, ◌⊎◌, List, Option, Result, Err, IsOk, IfSome}
+use Rattle.machine_states.specs.table_words.specs.Limits.{most_nodes}
 use Rattle.machine_states.specs.map_history.specs.declared.op.Request.{Request}
-use Rattle.machine_states.specs.map_history.specs.Requests.{AreInOrder, AreOfFormat1}
+use Rattle.machine_states.specs.map_history.specs.Requests.{AreInOrder, AreOfFormat1, most_requests}
 use Rattle.machine_states.specs.table_words.specs.declared.layout.Layout.{Layout}
 use Rattle.threaded_runs.specs.free_serving.specs.resource_bounds.specs.Makes.{inserts}
 use Rattle.command_line.specs.trace_reader.specs.Answer.{AreTracesOf, IsRefusal}
@@ -58,7 +59,7 @@ pub record IsPlanned (options : RunOptions) (left : Option (List ℕ)) (plan : P
 abbrev pub IsTooMuch : Layout → Stop → Type 0
 IsTooMuch layout Words = ⊥
 IsTooMuch layout (stops.Text error) = ⊥
-IsTooMuch layout (Nodes count) = (count ≡ all_nodes layout) × (262144 < count)
+IsTooMuch layout (Nodes count) = (count ≡ all_nodes layout) × (most_nodes < count)
 IsTooMuch layout WriteFault = ⊥
 
 -- they ask for so many node slots, which are more than the limit, of a table that serves the text
@@ -67,7 +68,7 @@ pub record AsksTooMuch (options : RunOptions) (left : Option (List ℕ)) (slots 
   pub text : IfSome left (AreTracesOf traces)
   pub served : IsForAnotherTable options traces → ⊥
   pub count : slots ≡ all_nodes (layout_by options traces.count traces.requests)
-  pub much : 262144 < slots
+  pub much : most_nodes < slots
 
 -- why there is no plan
 abbrev pub IsRefusedPlan : RunOptions → Option (List ℕ) → Stop → Type 0
@@ -105,7 +106,7 @@ pub record IsLoadPlanned (load : LoadOptions) (plan : Plan) : Type 0 where
 -- they ask for so many node slots, which are more than the limit
 pub record LoadAsksTooMuch (load : LoadOptions) (slots : ℕ) : Type 0 where
   pub count : slots ≡ all_nodes (layout_by load.run load.plan.traces (generated load.plan))
-  pub much : 262144 < slots
+  pub much : most_nodes < slots
 
 -- why there is no plan for them: too many requests, or else too many node slots, or want of memory
 abbrev pub IsRefusedLoad : LoadOptions → Stop → Type 0
@@ -115,6 +116,6 @@ IsRefusedLoad load (stops.Text Memory) = Unit {0}
 IsRefusedLoad load (stops.Text (TooLarge bytes)) = ⊥
 IsRefusedLoad load (stops.Text (Malformed line kind)) = ⊥
 IsRefusedLoad load (stops.Text (TooManyTraces count)) = ⊥
-IsRefusedLoad load (stops.Text (TooManyRequests count)) = (count ≡ all_requests load.plan) × (131072 < count)
-IsRefusedLoad load (Nodes count) = (all_requests load.plan ≤ 131072) × LoadAsksTooMuch load count
+IsRefusedLoad load (stops.Text (TooManyRequests count)) = (count ≡ all_requests load.plan) × (most_requests < count)
+IsRefusedLoad load (Nodes count) = (all_requests load.plan ≤ most_requests) × LoadAsksTooMuch load count
 IsRefusedLoad load WriteFault = ⊥

@@ -1,5 +1,7 @@
 -- Completeness: what is asked for within the limits, with slots enough, is done whole.
 use Rattle.std.specs.Prelude.{◌≡◌, ◌≤◌, ◌+◌, ◌*◌, ℕ, List, Option, IfSome, Some, false}
+use Rattle.machine_states.specs.table_words.specs.Limits.{most_nodes}
+use Rattle.machine_states.specs.map_history.specs.Requests.{most_requests}
 use Rattle.command_line.specs.trace_reader.specs.Answer.{AreTracesOf}
 use Rattle.command_line.specs.trace_reader.specs.Generator.{generated}
 use Rattle.command_line.specs.trace_reader.specs.declared.traces.Traces.{Traces}
@@ -21,7 +23,7 @@ use Rattle.flock_tool.specs.declared.ran.Ran.{Ran}
 -- each request that inserts, and two more
 pub record HasRoom (options : RunOptions) (traces : Traces) : Type 0 where
   pub unhalted : names_below options.halts (runners_by options.runners traces.count) ≡ false
-  pub few : all_nodes (layout_by options traces.count traces.requests) ≤ 262144
+  pub few : all_nodes (layout_by options traces.count traces.requests) ≤ most_nodes
   pub enough : 2 * inserts traces.requests + 2 ≤ (layout_by options traces.count traces.requests).nodes
 
 -- what is asked for is within the limits: the text of `run` is in the grammar and for the table that the words name,
@@ -31,9 +33,9 @@ abbrev pub IsValid : Command → Option (List ℕ) → Type 0
 IsValid (commands.Run options) left =
     (text : List ℕ) × (traces : Traces) × (left ≡ Some text) × AreTracesOf traces text
     × (IsForAnotherTable options traces → ⊥) × HasRoom options traces
-IsValid (commands.Gen plan) left = all_requests plan ≤ 131072
+IsValid (commands.Gen plan) left = all_requests plan ≤ most_requests
 IsValid (commands.Load load) left =
-    (all_requests load.plan ≤ 131072)
+    (all_requests load.plan ≤ most_requests)
     × HasRoom load.run (record { format = 1; count = load.plan.traces; requests = generated load.plan })
 IsValid commands.Check left = (input : List ℕ) × (left ≡ Some input) × HasLegalReport input
 

@@ -1,5 +1,6 @@
 // What the options of a command and the text, or the generator, ask for.
 ghost use Rattle.std.specs.Prelude.{◌≡◌, ◌↔◌, ◌≤◌, ◌<◌, ◌^◌, length, Err, IfOk, IfErr, IfSome, IsTrue};
+ghost use Rattle.machine_states.specs.map_history.specs.Requests.{most_requests};
 ghost use Rattle.threaded_runs.specs.runner_gate.specs.fault_count.specs.Rose.{Rose};
 ghost use Rattle.machine_states.specs.table_words.specs.Limits.{IsWithinLimits};
 ghost use Rattle.threaded_runs.specs.free_serving.specs.resource_bounds.specs.Makes.{inserts};
@@ -87,7 +88,8 @@ pub fn load_plan(alloc: Global, load: LoadOptions) -> Result<Plan, Stop>
     ensures planned { IfOk result (IsLoadPlanned load) }
     ensures limits { IfOk result (λ plan. IsWithinLimits plan.layout) }
     ensures refused { IfErr result (IsRefusedLoad load) }
-    ensures must { 131072 < all_requests load.plan → result ≡ Err (Text (TooManyRequests (all_requests load.plan))) }
+    ensures must { most_requests < all_requests load.plan
+        → result ≡ Err (Text (TooManyRequests (all_requests load.plan))) }
 {
     let count = load.plan.traces * load.plan.length;
     if count > MAX_REQUESTS {
@@ -106,7 +108,7 @@ pub fn load_plan(alloc: Global, load: LoadOptions) -> Result<Plan, Stop>
 // The numbers that fix the table, where the runners have no more node slots together than the limit.
 fn layout_of(options: &RunOptions, traces: &Traces) -> Result<Layout, Stop>
     requires ranges { AreInRange options.now }
-    requires few { length traces.now.requests ≤ 131072 }
+    requires few { length traces.now.requests ≤ most_requests }
     ensures layout { IfOk result (λ layout. layout ≡ layout_by options.now traces.now.count traces.now.requests) }
     ensures limits { IfOk result IsWithinLimits }
     ensures much { IfErr result (IsTooMuch (layout_by options.now traces.now.count traces.now.requests)) }
@@ -135,7 +137,7 @@ fn has_32_bits(number: u32)
 
 /// How many of the requests may add a pair.
 pub(crate) fn insertions(requests: &[Request]) -> u32
-    requires { length requests.now ≤ 131072 }
+    requires { length requests.now ≤ most_requests }
     ensures { result ≡ inserts requests.now }
 {
     requests

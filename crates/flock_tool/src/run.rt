@@ -3,7 +3,7 @@ ghost use Rattle.std.specs.Prelude.{◌≡◌, ◌≢◌, ◌≤◌, length, All
 ghost use Rattle.std.specs.FinMap.{len};
 ghost use Rattle.machine_states.specs.map_history.specs.declared.op.Request.{Request};
 ghost use Rattle.machine_states.specs.map_history.specs.Replay.{Pairs};
-ghost use Rattle.machine_states.specs.map_history.specs.Requests.{AreInOrder};
+ghost use Rattle.machine_states.specs.map_history.specs.Requests.{AreInOrder, most_requests};
 ghost use Rattle.machine_states.specs.table_words.specs.Limits.{IsWithinLimits};
 ghost use Rattle.version_words.specs.machine_invariant.specs.After.{AreAllowed};
 ghost use Rattle.threaded_runs.specs.closed_words.specs.Histories.{HoldsNoLock};
@@ -86,7 +86,7 @@ pub fn run_plan<T: Threads + Wait + Sync, G: Gates>(
 // How many buckets the hash table of this plan has, as a power of two.
 fn bucket_bits(plan: &Plan) -> u32
     requires ranges { AreInRange plan.now.options }
-    requires few { length plan.now.traces.requests ≤ 131072 }
+    requires few { length plan.now.traces.requests ≤ most_requests }
     ensures bits { AreBucketsOf plan.now.options plan.now.traces.requests result }
     ensures few { result ≤ 12 }
 {

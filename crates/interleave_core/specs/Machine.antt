@@ -1,5 +1,6 @@
 -- What contracts see of a machine.
 use Rattle.std.specs.Prelude.{◌≡◌, ℕ, ◌≤◌, ◌+◌, List, length}
+use Rattle.machine_states.specs.map_history.specs.Requests.{most_requests}
 use Rattle.machine_states.specs.map_history.specs.declared.op.Request.{Request}
 use Rattle.machine_states.specs.table_words.specs.declared.layout.Layout.{Layout}
 use Rattle.machine_states.specs.table_words.specs.Limits.{IsWithinLimits}
@@ -19,7 +20,7 @@ pub record MachineState (T : Type 0) : Type 0 where
 -- the machine has all words and all parts
 pub record HasShape (m : Meaning) (l : Layout) (requests : List Request) (w : World) : Type 0 where
   pub limits : IsWithinLimits l
-  pub few : length requests ≤ 131072
+  pub few : length requests ≤ most_requests
   pub words : size (sizes_for m l requests) ≤ length w.words
   pub parts : length w.parts ≡ l.runners + 1
 

@@ -1,5 +1,6 @@
 // How often each kind of reply stands among entries.
 ghost use Rattle.std.specs.Prelude.{◌≡◌, ◌≤◌, count_by, length};
+ghost use Rattle.structure_laws.specs.map_history.specs.Requests.{most_requests};
 ghost use Rattle.load_counts.specs.Apart.{unserved_in};
 ghost use Rattle.load_counts.specs.Counts.{counts_in, has, is_of};
 
@@ -32,7 +33,7 @@ enum Kind {
 
 /// Counts the replies of at most 131,072 entries.
 pub fn count_replies(entries: &[Option<Entry>]) -> Counts
-    requires { length entries.now ≤ 131072 }
+    requires { length entries.now ≤ most_requests }
     ensures { result ≡ counts_in entries.now }
 {
     Counts {
@@ -46,7 +47,7 @@ pub fn count_replies(entries: &[Option<Entry>]) -> Counts
 
 /// How many of at most 131,072 requests have no entry.
 pub fn count_unserved(entries: &[Option<Entry>]) -> u32
-    requires { length entries.now ≤ 131072 }
+    requires { length entries.now ≤ most_requests }
     ensures { result ≡ unserved_in entries.now }
 {
     entries.iter().filter(|entry| entry.is_none()).count() as u32
@@ -54,7 +55,7 @@ pub fn count_unserved(entries: &[Option<Entry>]) -> u32
 
 // How many entries have a reply of this kind.
 fn count(entries: &[Option<Entry>], kind: Kind) -> u32
-    requires { length entries.now ≤ 131072 }
+    requires { length entries.now ≤ most_requests }
     ensures { result ≡ count_by (has kind) entries.now }
 {
     entries.iter().filter(|entry| has(kind, **entry)).count() as u32

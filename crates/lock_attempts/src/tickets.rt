@@ -1,6 +1,6 @@
 //! Tickets: requests of one section each.
 ghost use Rattle.std.specs.Prelude.{◌≡◌, ◌+◌, ◌-◌, ◌*◌, ◌<◌, ◌≤◌, IfOk, []};
-ghost use Rattle.machine_states.specs.map_history.specs.Requests.{AreInOrder};
+ghost use Rattle.machine_states.specs.map_history.specs.Requests.{AreInOrder, most_requests};
 ghost use Rattle.version_words.specs.TableState.{IsOf};
 ghost use Rattle.attempts.specs.epoch_slots.specs.Collects.{IsTidy};
 ghost use Rattle.lock_attempts.specs.Tickets.{tickets_for, HasTickets};
@@ -31,7 +31,7 @@ impl Tickets {
 pub fn make_tickets(alloc: Global, workers: u32, each: u32) -> Result<Vec<Request>, AllocError>
     requires some { 0 < each }
     requires workers { workers ≤ 16 }
-    requires few { workers * each ≤ 131072 }
+    requires few { workers * each ≤ most_requests }
     ensures tickets { IfOk result (λ tickets. tickets.items ≡ tickets_for workers each) }
     ensures ordered { IfOk result (λ tickets. AreInOrder tickets.items 64) }
 {
@@ -55,7 +55,7 @@ pub fn tickets_of<S: Structure>(table: &FlockTable<S>, worker: &Runner<S>, each:
     requires new { worker.now.part.records.known ≡ [] }
     requires number { worker.now.number < table.now.layout.runners }
     requires some { 0 < each }
-    requires few { table.now.layout.runners * each ≤ 131072 }
+    requires few { table.now.layout.runners * each ≤ most_requests }
     requires tickets { table.now.requests ≡ tickets_for table.now.layout.runners each }
     ensures tickets { HasTickets result worker.now }
     ensures trace { result.trace ≡ worker.now.number }

@@ -1,5 +1,6 @@
 -- How the printing of generated requests ends.
 use Rattle.std.specs.Prelude.{◌≡◌, ℕ, ◌*◌, ◌<◌, ◌≤◌, List, Option}
+use Rattle.map_history.specs.Requests.{most_requests}
 use Rattle.report_text.specs.fault_count.specs.Rose.{Rose}
 use Rattle.report_text.specs.Sink.{Extends, ExtendsInPart}
 use Rattle.trace_reader.specs.Answer.{AreTracesOf}
@@ -13,7 +14,7 @@ use Rattle.printed_traces.specs.declared.print.PrintStop.TheVariants.{TooManyReq
 pub record IsPlanInRange (plan : Gen) : Type 0 where
   pub seed : plan.seed ≤ 2147483647
   pub traces : plan.traces ≤ 64
-  pub count : plan.length ≤ 131072
+  pub count : plan.length ≤ most_requests
   pub some_keys : 1 ≤ plan.keys
   pub keys : plan.keys ≤ 32768
 
@@ -35,7 +36,7 @@ PrintsInPart plan before after = ExtendsInPart before (gen_text plan) after
 -- why it stopped, and what it left
 abbrev pub Stops : PrintStop → Gen → (before after : Option (List ℕ)) → (faults_before faults_after : ℕ) → Type 0
 Stops (TooManyRequests count) plan before after faults_before faults_after =
-    (count ≡ plan.traces * plan.length) × (131072 < count) × (after ≡ before) × (faults_after ≡ faults_before)
+    (count ≡ plan.traces * plan.length) × (most_requests < count) × (after ≡ before) × (faults_after ≡ faults_before)
 Stops Memory plan before after faults_before faults_after = (after ≡ before) × (faults_after ≡ faults_before)
 Stops WriteFault plan before after faults_before faults_after =
     Rose faults_before faults_after × PrintsInPart plan before after

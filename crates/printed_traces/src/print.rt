@@ -1,5 +1,6 @@
 // The printing of generated requests.
 ghost use Rattle.std.specs.Prelude.{◌≡◌, ◌*◌, ◌<◌, ◌≤◌, Err, IfErr, OnOk};
+ghost use Rattle.map_history.specs.Requests.{most_requests};
 ghost use Rattle.report_text.specs.fault_count.specs.Rose.{Rose};
 ghost use Rattle.trace_reader.specs.Generator.{IsPlan};
 ghost use Rattle.printed_traces.specs.Ends.{IsPlanInRange, IsRead, Prints, Stops};
@@ -49,7 +50,7 @@ pub fn print_generated<K: Sink>(alloc: Global, plan: &Gen, sink: &mut K) -> Resu
     ensures steady { OnOk result (K.faults sink.new ≡ K.faults sink.old) }
     ensures stops { IfErr result (λ stop. Stops stop plan.now (K.held sink.old) (K.held sink.new) (K.faults sink.old)
         (K.faults sink.new)) }
-    ensures limit { 131072 < plan.now.traces * plan.now.length
+    ensures limit { most_requests < plan.now.traces * plan.now.length
         → result ≡ Err (TooManyRequests (plan.now.traces * plan.now.length)) }
 {
     let count = plan.traces * plan.length;

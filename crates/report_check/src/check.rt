@@ -1,6 +1,7 @@
 // The check of a report: its lines, their ranks, their replies, and its final number.
 ghost use Rattle.std.specs.Prelude.{◌≡◌, ◌<◌, ◌≤◌, ◌^◌, ◌-◌, All, IfOk, length, min};
 ghost use Rattle.std.specs.List.Sorted.{IsNonDecreasingBy};
+ghost use Rattle.history_orders.specs.map_history.specs.Requests.{most_requests};
 ghost use Rattle.report_check.specs.Said.{IsFormOf};
 ghost use Rattle.report_check.specs.Verdicts.{IsLegalReport, Judges};
 
@@ -15,7 +16,7 @@ use trace_reader::Traces;
 /// Holds a report against the requests of a text. It is legal, or the first of four tests that fails gives the kind,
 /// and its first failing line the number. The Err is want of memory.
 pub fn check_report(alloc: Global, traces: &Traces, report: &[u8]) -> Result<Verdict, AllocError>
-    requires few { length traces.now.requests ≤ 131072 }
+    requires few { length traces.now.requests ≤ most_requests }
     requires rising { IsNonDecreasingBy (λ request. request.trace) traces.now.requests }
     requires below { All (λ request. request.trace < traces.now.count) traces.now.requests }
     ensures judged { IfOk result (λ verdict. Judges verdict traces.now.count traces.now.requests report.now) }
@@ -33,7 +34,7 @@ fn check_lines(
     requests: &[Request],
     report: &[u8],
 ) -> Result<Verdict, AllocError>
-    requires few { length requests.now ≤ 131072 }
+    requires few { length requests.now ≤ most_requests }
     requires rising { IsNonDecreasingBy (λ request. request.trace) requests.now }
     requires below { All (λ request. request.trace < traces) requests.now }
     ensures judged { IfOk result (λ verdict. Judges verdict traces requests.now report.now) }
@@ -54,7 +55,7 @@ fn check_form(
     report: &[u8],
     form: &Form,
 ) -> Result<Verdict, AllocError>
-    requires few { length requests.now ≤ 131072 }
+    requires few { length requests.now ≤ most_requests }
     requires rising { IsNonDecreasingBy (λ request. request.trace) requests.now }
     requires below { All (λ request. request.trace < traces) requests.now }
     requires form { IsFormOf form.now traces requests.now report.now }

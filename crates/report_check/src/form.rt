@@ -2,6 +2,7 @@
 ghost use Rattle.std.specs.Prelude.{◌≡◌, ◌++◌, ◌+◌, ◌-◌, ◌<◌, ◌≤◌, ◌∷◌, [], ℕ, All, IfErr, IfOk, List, map, length};
 ghost use Rattle.std.specs.List.{range_with_len};
 ghost use Rattle.std.specs.List.Sorted.{IsNonDecreasingBy};
+ghost use Rattle.history_orders.specs.map_history.specs.Requests.{most_requests};
 ghost use Rattle.report_check.specs.Lines.{IsFirstBad, SayAll};
 ghost use Rattle.report_check.specs.Rows.{places};
 ghost use Rattle.report_check.specs.Said.{IsFormOf};
@@ -29,7 +30,7 @@ pub fn read_form(
     requests: &[Request],
     report: &[u8],
 ) -> Result<Result<Form, u64>, AllocError>
-    requires few { length requests.now ≤ 131072 }
+    requires few { length requests.now ≤ most_requests }
     requires rising { IsNonDecreasingBy (λ request. request.trace) requests.now }
     requires below { All (λ request. request.trace < traces) requests.now }
     ensures form { IfOk result (λ read. IfOk read (λ form. IsFormOf form traces requests.now report.now)) }

@@ -1,6 +1,7 @@
 // The replies of a report, held against a plain map.
 ghost use Rattle.std.specs.Prelude.{◌≡◌, ◌≢◌, ◌<◌, ◌≤◌, Some, false, IfNone, IfOk, IfSome, IsPermutation, IsTrue, length, map};
 ghost use Rattle.std.specs.FinMap.{empty, len};
+ghost use Rattle.history_orders.specs.map_history.specs.Requests.{most_requests};
 ghost use Rattle.history_orders.specs.map_history.specs.declared.op.Entry.{Entry};
 ghost use Rattle.history_orders.specs.map_history.specs.History.{IsLegalFrom};
 ghost use Rattle.history_orders.specs.map_history.specs.Replay.{map_after_all};
@@ -30,7 +31,7 @@ pub fn replay(
     answers: &[Option<Entry>],
     turns: &[(u64, u32)],
 ) -> Result<Replayed, AllocError>
-    requires few { length requests.now ≤ 131072 }
+    requires few { length requests.now ≤ most_requests }
     requires one_each { length answers.now ≡ length requests.now }
     requires all { IsPermutation (turns_of answers.now) turns.now }
     requires ranked { AreRanked turns.now }
@@ -61,7 +62,7 @@ pub fn replay(
 
 // The number of the line of the request in this place.
 fn line_of(requests: &[Request], place: Option<usize>) -> Option<u64>
-    requires few { length requests.now ≤ 131072 }
+    requires few { length requests.now ≤ most_requests }
     requires within { IfSome place (λ place. place < length requests.now) }
     ensures { IsLineOf requests.now place result }
 {

@@ -2,7 +2,7 @@
 ghost use Rattle.std.specs.Prelude.{◌≡◌, true, ◌≤◌, length, IfOk, IfErr, OnOk};
 ghost use Rattle.std.specs.FinMap.{len};
 ghost use Rattle.history_orders.specs.map_history.specs.Replay.{Pairs};
-ghost use Rattle.history_orders.specs.map_history.specs.Requests.{AreInOrder};
+ghost use Rattle.history_orders.specs.map_history.specs.Requests.{AreInOrder, most_requests};
 ghost use Rattle.closed_words.specs.Histories.{HoldsNoLock};
 ghost use Rattle.run_reports.specs.Reports.{unserved_in, HaveContents, Prints};
 ghost use Rattle.run_reports.specs.Stops.{StopsPrinting};
@@ -46,7 +46,7 @@ impl From<report_text::Failed> for PrintError {
 
 /// How many requests have no entry.
 fn unserved(entries: &[Option<Entry>]) -> u32
-    requires { length entries.now ≤ 131072 }
+    requires { length entries.now ≤ most_requests }
     ensures { result ≡ unserved_in entries.now }
 {
     entries.iter().filter(|entry| entry.is_none()).count() as u32

@@ -1,5 +1,6 @@
 //! Which word an event meets, and how; none where it isn't enabled.
 ghost use Rattle.std.specs.Prelude.{◌≡◌, ◌<◌, ◌^◌, ◌≤◌, length};
+ghost use Rattle.runner_steps.specs.map_history.specs.Requests.{most_requests};
 ghost use Rattle.runner_steps.specs.table_words.specs.Limits.{IsWithinLimits};
 ghost use Rattle.runner_steps.specs.table_words.specs.Places.{sizes_of};
 ghost use Rattle.runner_steps.specs.Asks.{outside_ask, line_ask, opening_ask, inside_ask, ask_by, fitting, sizes_for, asks};
@@ -170,7 +171,7 @@ pub fn asks<S: Structure>(
     kind: &EventKind,
 ) -> Option<(Spot, Access)>
     requires limits { IsWithinLimits layout }
-    requires few { length requests.now ≤ 131072 }
+    requires few { length requests.now ≤ most_requests }
     ensures { result ≡ asks (S.meaning structure.now) layout requests.now runner kind.now part.now }
 {
     if part.gone {

@@ -1,5 +1,6 @@
 //! How many words the table has and where some of them stand, and the words that runners put there.
 ghost use Rattle.std.specs.Prelude.{◌≡◌, ◌<◌, ◌≤◌, ◌-◌, ◌^◌, length};
+ghost use Rattle.runner_parts.specs.structure_laws.specs.map_history.specs.Requests.{most_requests};
 ghost use Rattle.runner_parts.specs.structure_laws.specs.table_words.specs.Limits.{IsWithinLimits};
 ghost use Rattle.runner_parts.specs.structure_laws.specs.table_words.specs.Places.{slot_count, descriptor_count};
 ghost use Rattle.runner_parts.specs.structure_laws.specs.body_terms.specs.Memory.{cell_of};
@@ -16,7 +17,7 @@ use runner_parts::structure_laws::table_words::{Layout, Sizes, Spot};
 /// How many words of each kind the table has.
 pub fn sizes_for<S: Structure>(structure: &S, layout: Layout, requests: &[Request]) -> Sizes
     requires limits { IsWithinLimits layout }
-    requires few { length requests.now ≤ 131072 }
+    requires few { length requests.now ≤ most_requests }
     ensures { result ≡ sizes_for (S.meaning structure.now) layout requests.now }
 {
     let fixed_cells = structure.fixed_cells();

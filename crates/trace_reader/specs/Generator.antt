@@ -1,6 +1,7 @@
 -- Requests that are made from numbers.
 use Rattle.std.specs.Prelude.{◌≤◌, ℕ, suc, zero, ◌+◌, ◌*◌, ◌/◌, ◌%◌, ◌^◌, ◌==◌, List, if◌then◌else◌, map, nat_lt}
 use Rattle.std.specs.List.{range_with_len}
+use Rattle.map_history.specs.Requests.{most_requests}
 use Rattle.map_history.specs.declared.op.Op.{Op}
 use Rattle.map_history.specs.declared.op.Op.TheVariants.{Get, Ins, Del}
 use Rattle.map_history.specs.declared.op.Request.{Request}
@@ -53,4 +54,4 @@ pub record IsPlan (plan : Gen) : Type 0 where
   pub traces : plan.traces ≤ 64
   pub some_keys : 1 ≤ plan.keys
   pub keys : plan.keys ≤ 32768
-  pub requests : plan.traces * plan.length ≤ 131072
+  pub requests : plan.traces * plan.length ≤ most_requests

@@ -1,7 +1,7 @@
 -- A reader in the middle of a text.
-use Rattle.std.specs.Prelude.{◌≡◌, ◌<◌, ◌≤◌, ◌⊎◌, ℕ, ◌+◌, ◌-◌, List, [], ◌∷◌, ◌++◌, true, Option, None, Some, drop, length, nat_lt, take}
+use Rattle.std.specs.Prelude.{◌≡◌, ◌<◌, ◌≤◌, ◌⊎◌, ℕ, suc, ◌+◌, ◌-◌, List, [], ◌∷◌, ◌++◌, true, Option, None, Some, drop, length, nat_lt, take}
 use Rattle.map_history.specs.declared.op.Request.{Request}
-use Rattle.map_history.specs.Requests.{AreInOrder}
+use Rattle.map_history.specs.Requests.{AreInOrder, most_requests}
 use Rattle.trace_reader.specs.declared.line.Line.{Line}
 use Rattle.trace_reader.specs.declared.line.Line.TheVariants.{Skipped, Header, Trace, Ask}
 use Rattle.trace_reader.specs.declared.reader.Reader.{Reader}
@@ -86,7 +86,7 @@ TracesAfter (Ask op) before after =
       number = length before.requests;
       op = op;
     } ∷ [])
-    × (length after.requests ≤ 131072)
+    × (length after.requests ≤ most_requests)
 
 -- the line is one trace or one request too many, or memory is wanting
 abbrev pub ExcessOf : Line → Traces → TraceError → Type 0
@@ -94,4 +94,4 @@ ExcessOf Skipped traces error = ⊥
 ExcessOf (Header number) traces error = ⊥
 ExcessOf Trace traces error = (error ≡ TooManyTraces 65) × (traces.count ≡ 64)
 ExcessOf (Ask op) traces error = (error ≡ Memory)
-    ⊎ ((error ≡ TooManyRequests 131073) × (length traces.requests ≡ 131072))
+    ⊎ ((error ≡ TooManyRequests (suc most_requests)) × (length traces.requests ≡ most_requests))

@@ -1,7 +1,8 @@
 -- A whole text: what it is refused for, and where; or its traces and requests.
-use Rattle.std.specs.Prelude.{◌≡◌, ℕ, ◌+◌, ◌-◌, ◌<◌, ◌≤◌, ◌==◌, ◌&&◌, List, [], ◌∷◌, ◌++◌, length, take, Option, None, Some, is_some, if◌then◌else◌, nat_lt, nat_le, count_by}
+use Rattle.std.specs.Prelude.{◌≡◌, ℕ, ◌+◌, ◌-◌, ◌<◌, ◌≤◌, ◌==◌, ◌&&◌, List, [], ◌∷◌, ◌++◌, length, suc, take, Option, None, Some, is_some, if◌then◌else◌, nat_lt, nat_le, count_by}
 use Rattle.std.specs.List.{slice_index_or}
 use Rattle.std.specs.Option.{option_or}
+use Rattle.map_history.specs.Requests.{most_requests}
 use Rattle.map_history.specs.declared.op.Op.{Op}
 use Rattle.map_history.specs.declared.op.Request.{Request}
 use Rattle.trace_reader.specs.declared.traces.BadLine.{BadLine}
@@ -31,7 +32,7 @@ fault_behind before line = fault_of (format_in before) (nat_lt 0 (traces_in befo
 abbrev pub excess_of : List (List ℕ) → List ℕ → Option TraceError
 excess_of before line =
     if begins_trace line && traces_in before == 64 then Some (TooManyTraces 65)
-    else if is_some (asked line) && asks_in before == 131072 then Some (TooManyRequests 131073)
+    else if is_some (asked line) && asks_in before == most_requests then Some (TooManyRequests (suc most_requests))
     else None
 
 abbrev pub refusal_by : Option BadLine → List (List ℕ) → List ℕ → Option TraceError

@@ -2,6 +2,7 @@
 ghost use Rattle.std.specs.Prelude.{◌≡◌, ℕ, List, [], ◌∷◌, ◌++◌, ◌+◌, ◌<◌, ◌≤◌, ◌==◌, length, vec_len};
 ghost use Rattle.std.specs.Prelude.{true, OnOk, OnSome, IfOk, IfErr, IfNone, IfSome, nat_lt, position};
 ghost use Rattle.std.proofs.Props.{props};
+ghost use Rattle.map_history.specs.Requests.{most_requests};
 ghost use Rattle.trace_reader.specs.Formats.{IsFormat};
 
 use crate::limits::MAX_BYTES;
@@ -43,7 +44,7 @@ pub struct Reader {
     ghost few_bytes: { bytes ≤ 4194304 },
     ghost fewer_lines: { lines + vec_len line ≤ bytes },
     ghost few_traces: { traces.count ≤ 64 },
-    ghost few_requests: { length traces.requests ≤ 131072 },
+    ghost few_requests: { length traces.requests ≤ most_requests },
 }
 
 impl Reader {

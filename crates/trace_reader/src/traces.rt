@@ -1,5 +1,6 @@
 // What a text gives: its requests, or what it is refused for.
-ghost use Rattle.std.specs.Prelude.{◌≡◌, ◌⊎◌, ◌++◌, ◌+◌, ◌-◌, ◌<◌, ◌≤◌, ◌∷◌, [], OnOk, IfErr, length};
+ghost use Rattle.std.specs.Prelude.{◌≡◌, ◌⊎◌, ◌++◌, ◌+◌, ◌-◌, ◌<◌, ◌≤◌, ◌∷◌, [], OnOk, IfErr, suc, length};
+ghost use Rattle.map_history.specs.Requests.{most_requests};
 ghost use Rattle.trace_reader.specs.declared.traces.TraceError.TheVariants.{ReadFault, Memory};
 
 use crate::limits::{MAX_REQUESTS, MAX_TRACES};
@@ -52,16 +53,16 @@ impl Traces {
     /// Adds a request of the trace that has begun.
     pub(crate) fn ask(&mut self, op: Op) -> Result<(), TraceError>
         requires begun { 0 < self.old.count }
-        requires few_requests { length self.old.requests ≤ 131072 }
+        requires few_requests { length self.old.requests ≤ most_requests }
         ensures count { self.new.count ≡ self.old.count }
         ensures requests { OnOk result (self.new.requests ≡ self.old.requests ++ record {
           trace = self.old.count - 1;
           number = length self.old.requests;
           op = op;
         } ∷ []) }
-        ensures few { length self.new.requests ≤ 131072 }
+        ensures few { length self.new.requests ≤ most_requests }
         ensures err { IfErr result (λ e. (e ≡ Memory)
-            ⊎ ((e ≡ TooManyRequests 131073) × (length self.old.requests ≡ 131072))) }
+            ⊎ ((e ≡ TooManyRequests (suc most_requests)) × (length self.old.requests ≡ most_requests))) }
     {
         let number = self.requests.len();
         if number == MAX_REQUESTS as usize {
