@@ -10,7 +10,7 @@ use Rattle.runner_parts.specs.structure_laws.specs.body_terms.specs.declared.ste
 use Rattle.runner_parts.specs.structure_laws.specs.body_terms.specs.declared.value.Init.{Init}
 use Rattle.runner_parts.specs.structure_laws.specs.body_terms.specs.declared.value.Value.{Value}
 use Rattle.runner_parts.specs.structure_laws.specs.body_terms.specs.declared.thunk.Thunk.{Thunk}
-use Rattle.runner_parts.specs.structure_laws.specs.table_words.specs.declared.layout.Layout.{Layout}
+use Rattle.runner_parts.specs.block_words.specs.table_words.specs.declared.layout.Layout.{Layout}
 use Rattle.runner_parts.specs.structure_laws.specs.Scene.{Readings, Section, Free, Live, Scene}
 use Rattle.runner_parts.specs.structure_laws.specs.Meaning.{Meaning}
 use Rattle.runner_parts.specs.structure_laws.specs.Sections.{IsSmall, Holds}

@@ -9,7 +9,7 @@ use Rattle.runner_parts.specs.structure_laws.specs.body_terms.specs.Word.{value_
 use Rattle.runner_parts.specs.structure_laws.specs.body_terms.specs.declared.value.Value.TheVariants.{Const}
 use Rattle.runner_parts.specs.structure_laws.specs.body_terms.specs.declared.step.Step.TheVariants.{Load, Want}
 use Rattle.runner_parts.specs.structure_laws.specs.body_terms.specs.declared.thunk.Thunk.{Thunk}
-use Rattle.runner_parts.specs.structure_laws.specs.table_words.specs.declared.layout.Layout.{Layout}
+use Rattle.runner_parts.specs.block_words.specs.table_words.specs.declared.layout.Layout.{Layout}
 use Rattle.runner_parts.specs.structure_laws.specs.Scene.{Cells, Readings, Section, Scene}
 use Rattle.runner_parts.specs.structure_laws.specs.Sections.{IsStep}
 use Rattle.runner_parts.specs.structure_laws.specs.InTurn.{StandsFor, AtStamp, AfterStores, InTurn}

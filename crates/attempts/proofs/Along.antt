@@ -18,16 +18,16 @@ use Rattle.machine_states.specs.runner_parts.specs.State.{RunState, PartState}
 use Rattle.machine_states.specs.runner_steps.specs.Sections.{thunk_of, line_of, setting_of, settles}
 use Rattle.machine_states.specs.runner_steps.specs.After.{line_after}
 use Rattle.lock_words.specs.machine_epochs.proofs.RunPlaces.{is_of_end, next_in_line}
-use Rattle.machine_facts.specs.machine_agreement.proofs.LineKinds.{after_line}
+use Rattle.caller_facts.specs.section_runs.proofs.Noted.{after_line}
 use Rattle.machine_facts.specs.machine_invariant.specs.After.{AreAllowed}
 use Rattle.machine_states.specs.World.{seat_of}
 use Rattle.machine_states.specs.Reached.{Reached}
 use Rattle.machine_states.proofs.Steps.{some_same, none_some}
-use Rattle.lock_walks.specs.runner_facts.specs.next_steps.specs.Steps.{kind_at}
+use Rattle.caller_facts.specs.lock_walks.specs.runner_facts.specs.next_steps.specs.Steps.{kind_at}
 use Rattle.version_words.specs.RunnerState.{RunnerState}
 use Rattle.version_words.specs.TableState.{TableState, IsOf}
-use Rattle.lock_walks.specs.try_lock.specs.commit_log.specs.Runs.{IsRunning, Stepped, Ran}
-use Rattle.lock_walks.specs.try_lock.specs.commit_log.proofs.Next.{next_here}
+use Rattle.caller_facts.specs.section_runs.specs.commit_log.specs.Runs.{IsRunning, Stepped, Ran}
+use Rattle.caller_facts.specs.section_runs.specs.commit_log.proofs.Next.{next_here}
 use Rattle.caller_facts.specs.section_runs.specs.Reached.{IsReached, run_or}
 use Rattle.caller_facts.specs.section_runs.specs.Opened.{Learns, HasOpened, opening}
 use Rattle.caller_facts.specs.section_runs.proofs.Going.{shaped}
@@ -134,7 +134,7 @@ module _ {T : Type 0} (m : Meaning) (laws : Laws m) (t : TableState T) (limits :
         let x = step.event.met in
         let kind = kind_at a.part q micro in
         ap (λ (p : PartState). p.records.known) (ap (λ (y : RunnerState T). y.part) step.event.made
-        ∙ after_line m a.layout a.number kind x a.part found q micro step.running.inside.running (run_open m laws t limits allowed a own q step.running) step.next)
+        ∙ after_line m a.layout a.number kind x.0 x.1 a.part found q micro step.running.inside.running (run_open m laws t limits allowed a own q step.running) step.next)
         ∙ (noted_known a.layout a.number kind x.0 x.1 found (line_after m a.layout kind a.part q micro found).records
         ∙ quiet_known m a.layout a.part q found micro silent)
 

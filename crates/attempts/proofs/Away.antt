@@ -14,19 +14,20 @@ use Rattle.machine_states.specs.structure_laws.specs.Laws.{Laws}
 use Rattle.machine_states.specs.World.{World}
 use Rattle.machine_states.specs.Reached.{Reached}
 use Rattle.machine_states.specs.Sight.{sight, part_or_first}
+use Rattle.machine_states.specs.Blockless.{blockless}
 use Rattle.machine_states.specs.table_words.specs.declared.spot.Spot.TheVariants.{Cell}
 use Rattle.machine_states.specs.runner_parts.specs.State.{ReadsState, PartState}
 use Rattle.machine_states.specs.runner_parts.specs.Tests.{has_pair}
 use Rattle.machine_facts.specs.Watched.{WasDone, SeenLocksStand}
-use Rattle.lock_walks.specs.runner_facts.specs.Names.{NamesStand}
+use Rattle.caller_facts.specs.lock_walks.specs.runner_facts.specs.Names.{NamesStand}
 use Rattle.lock_words.specs.Taken.{HasLeftBy, TakenStand}
 use Rattle.machine_facts.specs.machine_invariant.specs.After.{AreAllowed}
 use Rattle.version_words.specs.RunnerState.{RunnerState}
 use Rattle.version_words.specs.TableState.{TableState, IsOf}
-use Rattle.lock_walks.specs.try_lock.specs.commit_log.specs.Asked.{IsAsked}
-use Rattle.lock_walks.specs.try_lock.specs.Reached.{MayHelp}
-use Rattle.lock_walks.specs.try_lock.specs.Watches.{MayWatch, Watched}
-use Rattle.lock_walks.specs.try_lock.specs.Ends.{EndsSo, IsCutShort}
+use Rattle.caller_facts.specs.section_runs.specs.commit_log.specs.Asked.{IsAsked}
+use Rattle.caller_facts.specs.try_lock.specs.Reached.{MayHelp}
+use Rattle.caller_facts.specs.try_lock.specs.Watches.{MayWatch, Watched}
+use Rattle.caller_facts.specs.try_lock.specs.Ends.{EndsSo, IsCutShort}
 use Rattle.attempts.specs.Rests.{MayLeave, MayLetGo, HasTurned}
 use Rattle.attempts.specs.Course.{HasGone}
 use Rattle.attempts.specs.Learned.{HasLearned}
@@ -56,7 +57,7 @@ module _ {T : Type 0} (m : Meaning) (laws : Laws m) (t : TableState T) (limits :
     abbrev w : World
     w = watched.reached.world
 
-    here : (sight m l rs w).part watching.number ≡ watching.part
+    here : (sight m l rs w).part watching.number ≡ blockless watching.part
     here = ap part_or_first watched.reached.own
 
     changed : watched.found ≡ word → ⊥

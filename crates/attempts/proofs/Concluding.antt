@@ -31,17 +31,17 @@ use Rattle.lock_words.specs.Taken.{HasLeftBy, WasHeld, TakenStand}
 use Rattle.version_words.specs.RunnerState.{RunnerState}
 use Rattle.version_words.specs.TableState.{TableState, IsOf}
 use Rattle.version_words.specs.Events.{IsMade}
-use Rattle.lock_walks.specs.runner_facts.specs.next_steps.specs.Rooms.{cell_count}
+use Rattle.caller_facts.specs.lock_walks.specs.runner_facts.specs.next_steps.specs.Rooms.{cell_count}
 use Rattle.caller_facts.specs.epoch_slots.specs.Entries.{KeepsOwn, HasLeave}
-use Rattle.lock_walks.specs.try_lock.specs.commit_log.proofs.Asked.{asked_none}
-use Rattle.lock_walks.specs.try_lock.specs.declared.section.Section.{Section}
-use Rattle.lock_walks.specs.try_lock.specs.declared.planned.Planned.TheVariants as plans
-use Rattle.lock_walks.specs.try_lock.specs.Planning.{Planning}
-use Rattle.lock_walks.specs.try_lock.specs.Watches.{MayWatch}
-use Rattle.lock_walks.specs.try_lock.proofs.Guarding.{guard_keeps}
-use Rattle.lock_walks.proofs.Each.{get_last}
+use Rattle.caller_facts.specs.section_runs.specs.commit_log.proofs.Asked.{asked_none}
+use Rattle.caller_facts.specs.try_lock.specs.declared.section.Section.{Section}
+use Rattle.caller_facts.specs.try_lock.specs.declared.planned.Planned.TheVariants as plans
+use Rattle.caller_facts.specs.try_lock.specs.Planning.{Planning}
+use Rattle.caller_facts.specs.try_lock.specs.Watches.{MayWatch}
+use Rattle.caller_facts.specs.try_lock.proofs.Guarding.{guard_keeps}
+use Rattle.caller_facts.specs.lock_walks.proofs.Each.{get_last}
 use Rattle.caller_facts.specs.Knowing.{IsFront, KnowsMore, IsStill, IsOwn}
-use Rattle.lock_walks.specs.Wants.{WantsWereRead}
+use Rattle.caller_facts.specs.lock_walks.specs.Wants.{WantsWereRead}
 use Rattle.attempts.specs.Course.{of_outcome, IsEmptyHanded, HasEnded, HasRun, SectionHasLeft}
 use Rattle.caller_facts.specs.Asking.{WasRead}
 use Rattle.attempts.specs.Attempts.{IsServed}
@@ -257,7 +257,8 @@ module _ {T : Type 0} (m : Meaning) (laws : Laws m) (t : TableState T) (limits :
 
           held : (d : ℕ) × (value_of word ≡ suc d) × WasHeld m ran.layout ran.requests is.ends.reached.world place word d
           held = (taken_ran is.ends.reached.world is.ends.reached.reached).met ran.number place word
-              (subst (λ (p : PartState). HasLeftBy p place word) (sym (ap part_or_first is.ends.reached.own)) (left_by ran run_kept))
+              (subst (λ (p : PartState). HasLeftBy p place word) (sym (ap part_or_first is.ends.reached.own))
+              (record { at = place_kept; finished = is.ends.finished; kept = run_kept; left = is.ends.same_outcome ∙ busy }))
 
           below : (n d : ℕ) → n ≡ suc d → n - 1 ≡ d
           below n d e = omega arith

@@ -12,13 +12,13 @@ use Rattle.machine_states.specs.runner_parts.specs.State.{RunState, PartState}
 use Rattle.machine_states.specs.runner_steps.specs.Sections.{thunk_of}
 use Rattle.machine_states.specs.Sight.{part_or_first}
 use Rattle.machine_facts.specs.machine_invariant.specs.After.{AreAllowed}
-use Rattle.lock_walks.specs.runner_facts.specs.next_steps.proofs.Enabled.{reached_enabled}
+use Rattle.caller_facts.specs.lock_walks.specs.runner_facts.specs.next_steps.proofs.Enabled.{reached_enabled}
 use Rattle.version_words.specs.RunnerState.{RunnerState}
 use Rattle.version_words.specs.TableState.{TableState, IsOf}
 use Rattle.caller_facts.specs.section_runs.specs.Reached.{run_of, run_or}
 use Rattle.caller_facts.specs.section_runs.specs.Opened.{opening, IsOpening, HasOpened}
 use Rattle.caller_facts.specs.section_runs.proofs.Going.{shaped}
-use Rattle.lock_walks.specs.try_lock.specs.Ends.{EndsSo, IsCutShort}
+use Rattle.caller_facts.specs.try_lock.specs.Ends.{EndsSo, IsCutShort}
 use Rattle.attempts.specs.Attempts.{most_of_run}
 use Rattle.attempts.proofs.Along.{ran_back}
 

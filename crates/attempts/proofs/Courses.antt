@@ -21,20 +21,20 @@ use Rattle.machine_states.specs.runner_parts.specs.State.{NodesState, ReadsState
 use Rattle.machine_states.specs.runner_parts.specs.Tests.{has_pair, is_next, is_open, serves}
 use Rattle.machine_states.specs.runner_steps.specs.Outside.{is_due}
 use Rattle.machine_states.specs.runner_steps.specs.AfterOutside.{published_by}
-use Rattle.lock_walks.specs.runner_facts.proofs.Names.{pair_last}
+use Rattle.caller_facts.specs.lock_walks.specs.runner_facts.proofs.Names.{pair_last}
 use Rattle.version_words.specs.RunnerState.{RunnerState}
 use Rattle.version_words.specs.Stages.{IsAt}
 use Rattle.version_words.specs.Events.{Makes}
 use Rattle.caller_facts.specs.epoch_slots.specs.Entries.{HasLeave}
-use Rattle.lock_walks.specs.try_lock.specs.declared.section.Section.{Section}
-use Rattle.lock_walks.specs.try_lock.specs.declared.planned.Planned.{Planned}
-use Rattle.lock_walks.specs.try_lock.specs.declared.planned.Planned.TheVariants as plans
-use Rattle.lock_walks.specs.try_lock.specs.Planning.{Planning}
-use Rattle.lock_walks.specs.try_lock.specs.Plans.{reads_walked}
-use Rattle.lock_walks.specs.try_lock.specs.Publishes.{MayPublish, IsPublished, IsRefused}
-use Rattle.lock_walks.specs.try_lock.specs.Reached.{MayRunSection}
-use Rattle.lock_walks.specs.try_lock.proofs.Guarding.{guard_keeps, guard_reads}
-use Rattle.lock_walks.specs.runner_facts.specs.next_steps.specs.Rooms.{cell_count}
+use Rattle.caller_facts.specs.try_lock.specs.declared.section.Section.{Section}
+use Rattle.caller_facts.specs.try_lock.specs.declared.planned.Planned.{Planned}
+use Rattle.caller_facts.specs.try_lock.specs.declared.planned.Planned.TheVariants as plans
+use Rattle.caller_facts.specs.try_lock.specs.Planning.{Planning}
+use Rattle.caller_facts.specs.try_lock.specs.Plans.{reads_walked}
+use Rattle.caller_facts.specs.try_lock.specs.Publishes.{MayPublish, IsPublished, IsRefused}
+use Rattle.caller_facts.specs.try_lock.specs.Reached.{MayRunSection}
+use Rattle.caller_facts.specs.try_lock.proofs.Guarding.{guard_keeps, guard_reads}
+use Rattle.caller_facts.specs.lock_walks.specs.runner_facts.specs.next_steps.specs.Rooms.{cell_count}
 use Rattle.attempts.specs.Course.{of_refusal, HasPlanned, HasTried, HasEnded}
 use Rattle.attempts.specs.Rests.{MayLeave, MayLetGo}
 use Rattle.attempts.specs.declared.answers.Attempt.TheVariants as answers

@@ -20,6 +20,7 @@ use Rattle.machine_states.specs.runner_steps.specs.Sections.{thunk_of}
 use Rattle.machine_states.specs.World.{World, seat_of}
 use Rattle.machine_states.specs.Reached.{Reached}
 use Rattle.machine_states.specs.Sight.{Sight, sight, part_or_first}
+use Rattle.machine_states.specs.Blockless.{blockless}
 use Rattle.lock_words.specs.machine_epochs.specs.Slots.{thunk_in}
 use Rattle.machine_facts.specs.machine_agreement.proofs.RunPlaces.{opened_thunk}
 use Rattle.machine_facts.specs.machine_invariant.specs.After.{AreAllowed}
@@ -27,11 +28,11 @@ use Rattle.machine_facts.specs.After.{AreFactsAfter}
 use Rattle.machine_facts.proofs.Following.{facts_after}
 use Rattle.version_words.specs.RunnerState.{RunnerState}
 use Rattle.version_words.specs.TableState.{TableState, IsOf}
-use Rattle.lock_walks.specs.try_lock.specs.commit_log.specs.Asked.{IsAsked}
-use Rattle.lock_walks.specs.try_lock.specs.declared.section.Section.{Section}
-use Rattle.lock_walks.specs.try_lock.specs.Planning.{Planning}
-use Rattle.lock_walks.specs.try_lock.specs.Reached.{IsSectionOf}
-use Rattle.lock_walks.specs.try_lock.specs.Ends.{EndsSo, IsCutShort}
+use Rattle.caller_facts.specs.section_runs.specs.commit_log.specs.Asked.{IsAsked}
+use Rattle.caller_facts.specs.try_lock.specs.declared.section.Section.{Section}
+use Rattle.caller_facts.specs.try_lock.specs.Planning.{Planning}
+use Rattle.caller_facts.specs.try_lock.specs.Reached.{IsSectionOf}
+use Rattle.caller_facts.specs.try_lock.specs.Ends.{EndsSo, IsCutShort}
 use Rattle.caller_facts.specs.Knowing.{LearnsNoOther}
 use Rattle.attempts.specs.Learned.{StoodAtStamp, IsCut}
 use Rattle.attempts.specs.Course.{HasTried, HasEnded}
@@ -61,7 +62,7 @@ module _ (m : Meaning) (laws : Laws m) (l : Layout) (requests : List Request) (l
   all : AreFactsAfter m l requests reached.events w reached.after
   all = facts_after m laws l requests reached.events w limits allowed reached.after
 
-  seen : s.part r ≡ part
+  seen : s.part r ≡ blockless part
   seen = ap part_or_first own
 
   of_run : thunk_in s.word q.descriptor ≡ thunk_of q.opened

@@ -28,13 +28,13 @@ use Rattle.machine_states.specs.structure_laws.specs.Shape.{HasStep, Shaped}
 use Rattle.machine_states.specs.runner_parts.specs.Tests.{has_pair}
 use Rattle.machine_states.specs.runner_steps.specs.Sections.{setting_of}
 use Rattle.machine_states.proofs.Steps.{some_same, none_some}
-use Rattle.lock_walks.specs.try_lock.specs.declared.planned.Planned.{Planned}
-use Rattle.lock_walks.specs.try_lock.specs.declared.planned.Planned.TheVariants as plans
-use Rattle.lock_walks.specs.try_lock.specs.Planning.{Planning}
-use Rattle.lock_walks.specs.try_lock.specs.Plans as plan
-use Rattle.lock_walks.specs.try_lock.specs.Publishes.{refused_by}
-use Rattle.lock_walks.proofs.Each.{get_last}
-use Rattle.lock_walks.specs.Wants.{WantsWereRead}
+use Rattle.caller_facts.specs.try_lock.specs.declared.planned.Planned.{Planned}
+use Rattle.caller_facts.specs.try_lock.specs.declared.planned.Planned.TheVariants as plans
+use Rattle.caller_facts.specs.try_lock.specs.Planning.{Planning}
+use Rattle.caller_facts.specs.try_lock.specs.Plans as plan
+use Rattle.caller_facts.specs.try_lock.specs.Publishes.{refused_by}
+use Rattle.caller_facts.specs.lock_walks.proofs.Each.{get_last}
+use Rattle.caller_facts.specs.lock_walks.specs.Wants.{WantsWereRead}
 use Rattle.attempts.specs.Course.{of_plan, of_refusal, of_outcome}
 use Rattle.caller_facts.specs.Asking.{WasRead, IsMarked}
 use Rattle.attempts.specs.declared.answers.Attempt.TheVariants as answers

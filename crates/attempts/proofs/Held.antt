@@ -19,9 +19,9 @@ use Rattle.machine_facts.specs.Watched.{WasDone}
 use Rattle.machine_facts.proofs.Following.{facts_after}
 use Rattle.machine_facts.proofs.Watched.{seen_locks_stand}
 use Rattle.version_words.specs.RunnerState.{RunnerState}
-use Rattle.lock_walks.specs.runner_facts.specs.next_steps.specs.Rooms.{cell_count}
-use Rattle.lock_walks.specs.runner_facts.specs.next_steps.proofs.Numbers.{reached_numbers}
-use Rattle.lock_walks.specs.try_lock.specs.Reached.{IsReached}
+use Rattle.caller_facts.specs.lock_walks.specs.runner_facts.specs.next_steps.specs.Rooms.{cell_count}
+use Rattle.caller_facts.specs.lock_walks.specs.runner_facts.specs.next_steps.proofs.Numbers.{reached_numbers}
+use Rattle.caller_facts.specs.try_lock.specs.Reached.{IsReached}
 use Rattle.attempts.proofs.Leaving.{not_free}
 
 module _ (m : Meaning) (laws : Laws m) (l : Layout) (rs : List Request) (limits : IsWithinLimits l) (allowed : AreAllowed rs) where

@@ -21,7 +21,7 @@ use Rattle.machine_states.specs.runner_steps.specs.Sections.{thunk_of, line_of, 
 use Rattle.machine_facts.specs.machine_invariant.specs.After.{AreAllowed}
 use Rattle.version_words.specs.RunnerState.{RunnerState}
 use Rattle.version_words.specs.TableState.{TableState, IsOf}
-use Rattle.lock_walks.specs.try_lock.specs.commit_log.specs.Runs.{Stepped}
+use Rattle.caller_facts.specs.section_runs.specs.commit_log.specs.Runs.{Stepped}
 use Rattle.caller_facts.specs.section_runs.proofs.Going.{shaped}
 use Rattle.caller_facts.specs.section_runs.proofs.Told.{leaves_left}
 use Rattle.caller_facts.proofs.Knowing.{append_none}

@@ -22,19 +22,20 @@ use Rattle.machine_states.specs.runner_steps.specs.AfterInRun.{kept_unless}
 use Rattle.machine_states.specs.World.{World}
 use Rattle.machine_states.specs.Reached.{Reached}
 use Rattle.machine_states.specs.Sight.{sight, part_or_first}
+use Rattle.machine_states.specs.Blockless.{blockless}
 use Rattle.machine_facts.specs.machine_invariant.specs.After.{AreAllowed}
-use Rattle.lock_walks.specs.runner_facts.specs.Names.{NamesStand}
+use Rattle.caller_facts.specs.lock_walks.specs.runner_facts.specs.Names.{NamesStand}
 use Rattle.machine_facts.specs.Watched.{WasDone}
 use Rattle.version_words.specs.RunnerState.{RunnerState}
 use Rattle.version_words.specs.Stages.{IsAt}
 use Rattle.caller_facts.specs.epoch_slots.specs.Entries.{KeepsOwn, Exits}
 use Rattle.caller_facts.specs.epoch_slots.proofs.Outside.{guards_made, own_kept_on}
-use Rattle.lock_walks.specs.try_lock.specs.commit_log.specs.Asked.{IsAsked}
-use Rattle.lock_walks.specs.try_lock.specs.commit_log.proofs.Asked.{asked_none}
-use Rattle.lock_walks.specs.try_lock.specs.Ends.{EndsSo, IsCutShort}
-use Rattle.lock_walks.specs.try_lock.specs.Reached.{MayHelp}
-use Rattle.lock_walks.specs.try_lock.specs.Watches.{Watched}
-use Rattle.lock_walks.specs.try_lock.proofs.Guarding.{guard_at}
+use Rattle.caller_facts.specs.section_runs.specs.commit_log.specs.Asked.{IsAsked}
+use Rattle.caller_facts.specs.section_runs.specs.commit_log.proofs.Asked.{asked_none}
+use Rattle.caller_facts.specs.try_lock.specs.Ends.{EndsSo, IsCutShort}
+use Rattle.caller_facts.specs.try_lock.specs.Reached.{MayHelp}
+use Rattle.caller_facts.specs.try_lock.specs.Watches.{Watched}
+use Rattle.caller_facts.specs.try_lock.proofs.Guarding.{guard_at}
 use Rattle.attempts.specs.Learned.{HasLearned, IsCut}
 use Rattle.caller_facts.specs.Knowing.{KnowsMore, IsOwn}
 use Rattle.attempts.specs.Course.{IsEmptyHanded, HasGone, HasHelped, IsOfHelped}
@@ -282,7 +283,7 @@ module _ {T : Type 0} (m : Meaning) (laws : Laws m) (place word : ℕ) (old watc
       sure = ap (λ (p : PartState). is_sure_of p.guards (value_of word - 1)) here ∙ (ap (λ (g : GuardsState). is_sure_of g (value_of word - 1)) ends.guards ∙ watched.sure refl);
     })
       where
-        here : (sight m helped.layout helped.requests ends.reached.world).part helped.number ≡ helped.part
+        here : (sight m helped.layout helped.requests ends.reached.world).part helped.number ≡ blockless helped.part
         here = ap part_or_first ends.reached.own
 
         found_is : watched.found ≡ word

@@ -8,7 +8,7 @@ use Rattle.version_words.specs.Events.{Makes, IsEnabled}
 use Rattle.caller_facts.specs.epoch_slots.specs.Collects.{IsTidy}
 use Rattle.caller_facts.specs.epoch_slots.specs.Entries.{KeepsOwn, HasLeave, Exits}
 use Rattle.caller_facts.specs.epoch_slots.proofs.Outside.{guards_made, own_kept_on}
-use Rattle.lock_walks.specs.try_lock.proofs.Guarding.{may_let_go, guard_at, guard_named, guard_keeps}
+use Rattle.caller_facts.specs.try_lock.proofs.Guarding.{may_let_go, guard_at, guard_named, guard_keeps}
 use Rattle.attempts.specs.Course.{IsEmptyHanded, HasGone}
 use Rattle.attempts.specs.Rests.{MayLetGo}
 

@@ -17,8 +17,8 @@ use Rattle.machine_states.specs.runner_steps.specs.AfterInRun.{ended_more}
 use Rattle.machine_states.specs.runner_steps.specs.After.{line_after}
 use Rattle.machine_facts.specs.machine_agreement.proofs.Passes.{ahead, settled_rests}
 use Rattle.machine_states.proofs.Steps.{some_same, none_some}
-use Rattle.lock_walks.specs.runner_facts.specs.next_steps.specs.Steps.{slot_in, kind_at}
-use Rattle.lock_walks.specs.runner_facts.specs.next_steps.specs.Stages.{filling_slot, run_behind, reads_behind}
+use Rattle.caller_facts.specs.lock_walks.specs.runner_facts.specs.next_steps.specs.Steps.{slot_in, kind_at}
+use Rattle.caller_facts.specs.lock_walks.specs.runner_facts.specs.next_steps.specs.Stages.{filling_slot, run_behind, reads_behind}
 
 -- the step writes to the stamp word or to the reply word of its request
 abbrev pub tells : Micro → Bool

@@ -6,7 +6,7 @@ use Rattle.version_words.specs.RunnerState.{RunnerState}
 use Rattle.caller_facts.specs.epoch_slots.specs.Collects.{Scans, Looks, AreTested, Advances, Collects}
 use Rattle.caller_facts.specs.epoch_slots.specs.Entries.{Enters, Exits}
 use Rattle.caller_facts.specs.epoch_slots.specs.Sweeps.{Sweeps, HasSwept}
-use Rattle.lock_walks.specs.try_lock.specs.Reached.{IsReached}
+use Rattle.caller_facts.specs.try_lock.specs.Reached.{IsReached}
 use Rattle.caller_facts.proofs.Standing.{made_reached}
 
 module _ {T : Type 0} (m : Meaning) where

@@ -17,8 +17,8 @@ use Rattle.machine_facts.proofs.Following.{facts_after}
 use Rattle.request_facts.specs.reached_histories.specs.Requests.{or_none}
 use Rattle.request_facts.specs.reached_histories.specs.Kept.{link_of}
 use Rattle.version_words.specs.RunnerState.{RunnerState}
-use Rattle.lock_walks.specs.try_lock.specs.Planning.{Planning}
-use Rattle.lock_walks.specs.try_lock.specs.Reached.{IsReached}
+use Rattle.caller_facts.specs.try_lock.specs.Planning.{Planning}
+use Rattle.caller_facts.specs.try_lock.specs.Reached.{IsReached}
 use Rattle.request_facts.specs.Laws.{HasEntry, IsToAsk}
 use Rattle.request_facts.specs.reached_histories.specs.RealTime.{IsSought}
 use Rattle.request_facts.proofs.Standing.{answered_come_first, idle_seeks_none}

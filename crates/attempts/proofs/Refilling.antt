@@ -6,7 +6,7 @@ use Rattle.machine_states.specs.structure_laws.specs.Meaning.{Meaning}
 use Rattle.version_words.specs.RunnerState.{RunnerState}
 use Rattle.caller_facts.specs.epoch_slots.specs.declared.reserves.Kind.{Kind}
 use Rattle.caller_facts.specs.epoch_slots.specs.declared.reserves.Kind.TheVariants as kinds
-use Rattle.lock_walks.specs.try_lock.specs.Reached.{IsReached}
+use Rattle.caller_facts.specs.try_lock.specs.Reached.{IsReached}
 use Rattle.attempts.specs.Attempts.{IsFew}
 use Rattle.attempts.specs.Reclaims.{lacks_slots, lacks_descriptor, CollectsWhere, SweepsWhere, Reclaims}
 use Rattle.attempts.proofs.Reaching.{collects_reached, swept_reached}

@@ -16,6 +16,7 @@ use Rattle.machine_states.specs.runner_parts.specs.Tests.{knows, is_answered}
 use Rattle.machine_states.specs.runner_steps.specs.AfterOutside.{published_by}
 use Rattle.machine_states.specs.runner_steps.specs.Outside.{entry_spot}
 use Rattle.machine_states.specs.Sight.{Sight, sight, part_or_first}
+use Rattle.machine_states.specs.Blockless.{blockless}
 use Rattle.machine_facts.specs.machine_invariant.specs.After.{AreAllowed}
 use Rattle.machine_facts.specs.Known.{KnownStand}
 use Rattle.machine_facts.proofs.Following.{facts_after}
@@ -26,9 +27,9 @@ use Rattle.request_facts.specs.reached_histories.specs.Laws.{HasHistory}
 use Rattle.request_facts.specs.reached_histories.proofs.Histories.{reached_have}
 use Rattle.version_words.specs.RunnerState.{RunnerState}
 use Rattle.version_words.specs.TableState.{TableState, IsOf}
-use Rattle.lock_walks.specs.try_lock.specs.declared.section.Section.{Section}
-use Rattle.lock_walks.specs.try_lock.specs.Planning.{Planning}
-use Rattle.lock_walks.specs.try_lock.specs.Reached.{IsReached}
+use Rattle.caller_facts.specs.try_lock.specs.declared.section.Section.{Section}
+use Rattle.caller_facts.specs.try_lock.specs.Planning.{Planning}
+use Rattle.caller_facts.specs.try_lock.specs.Reached.{IsReached}
 use Rattle.request_facts.specs.Laws.{HasEntry}
 use Rattle.caller_facts.specs.Knowing.{IsFront}
 use Rattle.attempts.specs.Course.{HasTried}
@@ -51,7 +52,7 @@ module _ {T : Type 0} (m : Meaning) (laws : Laws m) (t : TableState T) (limits :
   abbrev s : Sight
   s = sight m at.layout at.requests was.world
 
-  seen : s.part at.number ≡ at.part
+  seen : s.part at.number ≡ blockless at.part
   seen = ap part_or_first was.own
 
   history : HasHistory m at.layout at.requests s
@@ -78,7 +79,7 @@ module _ {T : Type 0} (m : Meaning) (laws : Laws m) (t : TableState T) (limits :
       (and_parts (knows at.part.records.known x.thunk.request false) (knows at.part.records.known x.thunk.request true) answered).0
 
   told_stands : s.word (spots.Stamp x.thunk.request) ≡ told.entry.number
-  told_stands = entry_stands s at.part at.number seen known_here told.entry x.thunk.request false (told.place, told.at) told.request told.is
+  told_stands = entry_stands s (blockless at.part) at.number seen known_here told.entry x.thunk.request false (told.place, told.at) told.request told.is
 
   -- and the same later
   abbrev later : Sight
@@ -88,11 +89,11 @@ module _ {T : Type 0} (m : Meaning) (laws : Laws m) (t : TableState T) (limits :
   later_known = (facts_after m laws new.layout new.requests reached.reached.events reached.world
       (subst IsWithinLimits (sym own_new.layout) limits) (subst AreAllowed (sym own_new.requests) allowed) reached.reached.after).here.known
 
-  later_seen : later.part new.number ≡ new.part
+  later_seen : later.part new.number ≡ blockless new.part
   later_seen = ap part_or_first reached.own
 
   later_stands : later.word (spots.Stamp x.thunk.request) ≡ told.entry.number
-  later_stands = entry_stands later new.part new.number later_seen later_known told.entry x.thunk.request false
+  later_stands = entry_stands later (blockless new.part) new.number later_seen later_known told.entry x.thunk.request false
       (told.place, front_entry at.part.records.known new.part.records.known told.place told.entry front told.at) told.request told.is
 
   module _ (request : ℕ) (asked : x.thunk.request ≡ request) (stamp : ℕ)
@@ -100,7 +101,7 @@ module _ {T : Type 0} (m : Meaning) (laws : Laws m) (t : TableState T) (limits :
     -- it is the stamp that is known later
     same : s.word (spots.Stamp x.thunk.request) ≡ stamp
     same = told_stands ∙ (sym later_stands ∙ (ap (λ n. later.word (spots.Stamp n)) asked
-        ∙ entry_stands later new.part new.number later_seen later_known _ request false here refl refl))
+        ∙ entry_stands later (blockless new.part) new.number later_seen later_known _ request false here refl refl))
 
     -- a section's stamp is even
     pub stamp_even : stamp % 2 ≡ 0
@@ -111,7 +112,7 @@ module _ {T : Type 0} (m : Meaning) (laws : Laws m) (t : TableState T) (limits :
     stamp_above z entry stamped known earlier = subst (λ k. k < stamp) z_stands (subst (λ k. s.word (spots.Stamp z.request) < k) same above.1)
       where
         z_stands : s.word (spots.Stamp z.request) ≡ z.number
-        z_stands = entry_stands s at.part at.number seen known_here z z.request false
+        z_stands = entry_stands s (blockless at.part) at.number seen known_here z z.request false
             (entry.0, front_entry old.part.records.known at.part.records.known entry.0 z earlier entry.1) refl stamped
 
         above : (s.word (spots.Stamp z.request) ≢ 0) × (s.word (spots.Stamp z.request) < s.word (spots.Stamp x.thunk.request))

@@ -19,12 +19,12 @@ use Rattle.machine_facts.specs.machine_invariant.specs.After.{AreAllowed}
 use Rattle.machine_facts.specs.machine_invariant.specs.Sections.{IsAnswered, IsLeft}
 use Rattle.version_words.specs.RunnerState.{RunnerState}
 use Rattle.version_words.specs.TableState.{TableState, IsOf}
-use Rattle.lock_walks.specs.try_lock.specs.commit_log.specs.Runs.{Ran, Stepped}
+use Rattle.caller_facts.specs.section_runs.specs.commit_log.specs.Runs.{Ran, Stepped}
 use Rattle.caller_facts.specs.section_runs.specs.Opened.{IsOpening}
 use Rattle.caller_facts.specs.section_runs.proofs.Staying.{step_stays}
 use Rattle.caller_facts.specs.section_runs.proofs.Told.{answered_told}
-use Rattle.lock_walks.specs.try_lock.specs.Reached.{IsReached}
-use Rattle.lock_walks.specs.try_lock.specs.Ends.{EndsSo, RanShort, IsCutShort}
+use Rattle.caller_facts.specs.try_lock.specs.Reached.{IsReached}
+use Rattle.caller_facts.specs.try_lock.specs.Ends.{EndsSo, RanShort, IsCutShort}
 use Rattle.attempts.specs.Learned.{HasLearned, IsCut}
 use Rattle.caller_facts.proofs.Knowing.{append_none}
 use Rattle.attempts.proofs.Placing.{IsLast, is_last}

@@ -16,10 +16,10 @@ use Rattle.machine_states.specs.runner_steps.specs.AfterInRun.{kept_unless}
 use Rattle.machine_states.specs.runner_steps.specs.AfterOutside.{published_by}
 use Rattle.machine_states.proofs.Steps.{some_same, none_some}
 use Rattle.version_words.specs.RunnerState.{RunnerState}
-use Rattle.lock_walks.specs.try_lock.specs.declared.section.Section.{Section}
-use Rattle.lock_walks.specs.try_lock.specs.declared.planned.Planned.TheVariants as plans
-use Rattle.lock_walks.specs.try_lock.specs.Planning.{Planning}
-use Rattle.lock_walks.specs.try_lock.specs.Publishes.{Publishes}
+use Rattle.caller_facts.specs.try_lock.specs.declared.section.Section.{Section}
+use Rattle.caller_facts.specs.try_lock.specs.declared.planned.Planned.TheVariants as plans
+use Rattle.caller_facts.specs.try_lock.specs.Planning.{Planning}
+use Rattle.caller_facts.specs.try_lock.specs.Publishes.{Publishes}
 use Rattle.caller_facts.specs.Knowing.{IsStill, IsOwn}
 use Rattle.attempts.specs.Course.{of_refusal, HasPlanned, HasTried}
 use Rattle.caller_facts.specs.Asking.{MayAttempt}

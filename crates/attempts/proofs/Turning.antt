@@ -12,9 +12,9 @@ use Rattle.machine_states.specs.runner_parts.specs.declared.entries.Published.{P
 use Rattle.machine_states.specs.runner_parts.specs.Tests.{is_answered}
 use Rattle.machine_facts.specs.machine_invariant.specs.After.{AreAllowed}
 use Rattle.version_words.specs.RunnerState.{RunnerState}
-use Rattle.lock_walks.specs.try_lock.specs.Planning.{Planning}
-use Rattle.lock_walks.specs.try_lock.specs.Ends.{IsCutShort}
-use Rattle.lock_walks.specs.try_lock.specs.Watches.{Watched}
+use Rattle.caller_facts.specs.try_lock.specs.Planning.{Planning}
+use Rattle.caller_facts.specs.try_lock.specs.Ends.{IsCutShort}
+use Rattle.caller_facts.specs.try_lock.specs.Watches.{Watched}
 use Rattle.caller_facts.specs.Knowing.{IsOwn}
 use Rattle.attempts.specs.Course.{IsRefused, refused_steps, is_refused_late}
 use Rattle.caller_facts.specs.Counted.{IsCounted}

@@ -25,20 +25,20 @@ use Rattle.version_words.specs.TableState.{TableState, IsOf}
 use Rattle.version_words.specs.Stages.{IsAt}
 use Rattle.version_words.specs.Events.{IsMade}
 use Rattle.machine_states.specs.runner_parts.specs.declared.event.EventKind.TheVariants as kinds
-use Rattle.lock_walks.specs.runner_facts.proofs.Names.{pair_last}
-use Rattle.lock_walks.specs.try_lock.specs.Reached.{IsReached}
+use Rattle.caller_facts.specs.lock_walks.specs.runner_facts.proofs.Names.{pair_last}
+use Rattle.caller_facts.specs.try_lock.specs.Reached.{IsReached}
 use Rattle.attempts.specs.Reclaims.{Reclaims}
 use Rattle.caller_facts.specs.epoch_slots.specs.Entries.{Enters, KeepsOwn}
 use Rattle.caller_facts.specs.epoch_slots.specs.Reserves.{counts_of}
 use Rattle.caller_facts.specs.epoch_slots.specs.declared.reserves.Short.{Short}
-use Rattle.lock_walks.specs.try_lock.specs.commit_log.specs.Asked.{IsAsked}
-use Rattle.lock_walks.specs.try_lock.specs.commit_log.proofs.Asked.{asked_none}
-use Rattle.lock_walks.specs.try_lock.specs.declared.planned.Planned.{Planned}
-use Rattle.lock_walks.specs.try_lock.specs.declared.planned.Planned.TheVariants as plans
-use Rattle.lock_walks.specs.try_lock.specs.declared.section.Section.{Section}
-use Rattle.lock_walks.specs.try_lock.specs.Planning.{Planning}
-use Rattle.lock_walks.specs.try_lock.specs.Plans as plan
-use Rattle.lock_walks.specs.try_lock.specs.Publishes.{Publishes}
+use Rattle.caller_facts.specs.section_runs.specs.commit_log.specs.Asked.{IsAsked}
+use Rattle.caller_facts.specs.section_runs.specs.commit_log.proofs.Asked.{asked_none}
+use Rattle.caller_facts.specs.try_lock.specs.declared.planned.Planned.{Planned}
+use Rattle.caller_facts.specs.try_lock.specs.declared.planned.Planned.TheVariants as plans
+use Rattle.caller_facts.specs.try_lock.specs.declared.section.Section.{Section}
+use Rattle.caller_facts.specs.try_lock.specs.Planning.{Planning}
+use Rattle.caller_facts.specs.try_lock.specs.Plans as plan
+use Rattle.caller_facts.specs.try_lock.specs.Publishes.{Publishes}
 use Rattle.caller_facts.specs.Knowing.{IsStill}
 use Rattle.attempts.specs.Course.{of_plan, of_refusal, HasReserve, HasEntered, HasPlanned, HasTried, PlanIsRefused, LockIsRefused}
 use Rattle.caller_facts.specs.Asking.{MayAttempt, WasRead}
@@ -52,7 +52,7 @@ use Rattle.attempts.proofs.Reaching.{enters_reached}
 use Rattle.attempts.proofs.Refilling.{short_reached, short_named}
 use Rattle.caller_facts.proofs.Counting.{counted_steps, asked_then, steps_then, seen_then}
 use Rattle.attempts.proofs.Held.{read_within, read_few}
-use Rattle.lock_walks.specs.try_lock.proofs.Guarding.{guard_keeps, guard_reads}
+use Rattle.caller_facts.specs.try_lock.proofs.Guarding.{guard_keeps, guard_reads}
 use Rattle.attempts.proofs.Courses.{at_refused, refused_may_leave, planned_at, planned_reads, planned_leave}
 use Rattle.caller_facts.proofs.Standing.{untouched, made_reached}
 use Rattle.attempts.proofs.Turning.{turned_rests}

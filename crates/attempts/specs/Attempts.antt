@@ -25,12 +25,12 @@ use Rattle.caller_facts.specs.epoch_slots.specs.Reserves.{counts_of}
 use Rattle.caller_facts.specs.epoch_slots.specs.declared.reserves.Kind.{Kind}
 use Rattle.caller_facts.specs.epoch_slots.specs.declared.reserves.Kind.TheVariants as kinds
 use Rattle.caller_facts.specs.epoch_slots.specs.declared.reserves.Short.{Short}
-use Rattle.lock_walks.specs.try_lock.specs.declared.planned.Planned.TheVariants as plans
-use Rattle.lock_walks.specs.try_lock.specs.declared.section.Section.{Section}
-use Rattle.lock_walks.specs.try_lock.specs.Planning.{Planning}
-use Rattle.lock_walks.specs.try_lock.specs.Reached.{IsReached}
-use Rattle.lock_walks.specs.try_lock.specs.Ends.{IsCutShort}
-use Rattle.lock_walks.specs.try_lock.specs.Watches.{Watched}
+use Rattle.caller_facts.specs.try_lock.specs.declared.planned.Planned.TheVariants as plans
+use Rattle.caller_facts.specs.try_lock.specs.declared.section.Section.{Section}
+use Rattle.caller_facts.specs.try_lock.specs.Planning.{Planning}
+use Rattle.caller_facts.specs.try_lock.specs.Reached.{IsReached}
+use Rattle.caller_facts.specs.try_lock.specs.Ends.{IsCutShort}
+use Rattle.caller_facts.specs.try_lock.specs.Watches.{Watched}
 use Rattle.caller_facts.specs.Asking.{IsUntouched}
 use Rattle.caller_facts.specs.Knowing.{KnowsMore, LearnsNoOther}
 use Rattle.caller_facts.specs.Counted.{IsCounted}

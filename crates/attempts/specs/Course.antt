@@ -15,20 +15,20 @@ use Rattle.machine_states.specs.Sight.{sight}
 use Rattle.machine_facts.specs.machine_invariant.specs.Sections.{IsLeft}
 use Rattle.machine_states.specs.runner_parts.specs.declared.event.EventKind.TheVariants as kinds
 use Rattle.machine_states.specs.runner_parts.specs.Tests.{is_answered}
-use Rattle.lock_walks.specs.runner_facts.specs.Names.{HasLock}
+use Rattle.caller_facts.specs.lock_walks.specs.runner_facts.specs.Names.{HasLock}
 use Rattle.machine_facts.specs.Watched.{WasDone}
 use Rattle.version_words.specs.RunnerState.{RunnerState}
 use Rattle.version_words.specs.Events.{Makes, IsMade}
 use Rattle.caller_facts.specs.epoch_slots.specs.Entries.{Enters, Exits}
-use Rattle.lock_walks.specs.try_lock.specs.declared.section.Section.{Section}
-use Rattle.lock_walks.specs.try_lock.specs.declared.planned.Planned.{Planned}
-use Rattle.lock_walks.specs.try_lock.specs.declared.planned.Planned.TheVariants as plans
-use Rattle.lock_walks.specs.try_lock.specs.Planning.{Planning}
-use Rattle.lock_walks.specs.try_lock.specs.Reached.{IsReached}
-use Rattle.lock_walks.specs.try_lock.specs.Plans.{Answers, IsWalk, HasWalked}
-use Rattle.lock_walks.specs.try_lock.specs.Publishes.{Publishes}
-use Rattle.lock_walks.specs.try_lock.specs.Ends.{EndsSo}
-use Rattle.lock_walks.specs.try_lock.specs.Watches.{Watched}
+use Rattle.caller_facts.specs.try_lock.specs.declared.section.Section.{Section}
+use Rattle.caller_facts.specs.try_lock.specs.declared.planned.Planned.{Planned}
+use Rattle.caller_facts.specs.try_lock.specs.declared.planned.Planned.TheVariants as plans
+use Rattle.caller_facts.specs.try_lock.specs.Planning.{Planning}
+use Rattle.caller_facts.specs.try_lock.specs.Reached.{IsReached}
+use Rattle.caller_facts.specs.try_lock.specs.Plans.{Answers, IsWalk, HasWalked}
+use Rattle.caller_facts.specs.try_lock.specs.Publishes.{Publishes}
+use Rattle.caller_facts.specs.try_lock.specs.Ends.{EndsSo}
+use Rattle.caller_facts.specs.try_lock.specs.Watches.{Watched}
 use Rattle.caller_facts.specs.Asking.{MayAttempt, WasRead, IsMarked}
 use Rattle.caller_facts.specs.Knowing.{IsStill}
 use Rattle.attempts.specs.Reclaims.{Reclaims}

@@ -10,7 +10,7 @@ use Rattle.machine_states.specs.World.{World, seat_of}
 use Rattle.machine_states.specs.Reached.{Reached}
 use Rattle.version_words.specs.RunnerState.{RunnerState}
 use Rattle.caller_facts.specs.section_runs.specs.Opened.{Learns}
-use Rattle.lock_walks.specs.try_lock.specs.Reached.{IsReached}
+use Rattle.caller_facts.specs.try_lock.specs.Reached.{IsReached}
 
 module _ {T : Type 0} (m : Meaning) where
   -- the machine reached a state in which the runner, in a run of a section with this thunk, stood before the

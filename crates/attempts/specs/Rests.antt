@@ -13,11 +13,11 @@ use Rattle.version_words.specs.RunnerState.{RunnerState}
 use Rattle.version_words.specs.Stages.{IsAt}
 use Rattle.caller_facts.specs.epoch_slots.specs.Collects.{IsTidy}
 use Rattle.caller_facts.specs.epoch_slots.specs.Entries.{HasLeave}
-use Rattle.lock_walks.specs.try_lock.specs.commit_log.specs.Asked.{IsAsked}
-use Rattle.lock_walks.specs.try_lock.specs.Planning.{Planning}
-use Rattle.lock_walks.specs.try_lock.specs.Reached.{IsReached}
-use Rattle.lock_walks.specs.try_lock.specs.Watches.{MayWatch, Watched}
-use Rattle.lock_walks.specs.try_lock.specs.Ends.{IsCutShort}
+use Rattle.caller_facts.specs.section_runs.specs.commit_log.specs.Asked.{IsAsked}
+use Rattle.caller_facts.specs.try_lock.specs.Planning.{Planning}
+use Rattle.caller_facts.specs.try_lock.specs.Reached.{IsReached}
+use Rattle.caller_facts.specs.try_lock.specs.Watches.{MayWatch, Watched}
+use Rattle.caller_facts.specs.try_lock.specs.Ends.{IsCutShort}
 use Rattle.lock_words.specs.Taken.{HasLeftBy}
 use Rattle.request_facts.specs.Laws.{HasEntry}
 use Rattle.request_facts.specs.Placed.{IsServedAs}

@@ -1,6 +1,6 @@
 //! What an attempt of a request answers.
 
-use lock_walks::epoch_slots::Short;
+use caller_facts::lock_walks::epoch_slots::Short;
 use machine_states::body_terms::{Place, Word};
 use machine_states::map_history::Reply;
 

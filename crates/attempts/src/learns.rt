@@ -6,8 +6,8 @@ ghost use Rattle.attempts.specs.declared.answers.Attempt.TheVariants as answers;
 ghost use Rattle.attempts.specs.Rests.{MayLearn, HasLearnt};
 
 use crate::answers::Attempt;
-use lock_walks::Planner;
-use lock_walks::epoch_slots::exit;
+use caller_facts::lock_walks::Planner;
+use caller_facts::lock_walks::epoch_slots::exit;
 use machine_states::map_history::{Reply, Request};
 use version_words::{FlockTable, Runner};
 

@@ -27,7 +27,6 @@ pub use tries::try_section;
 pub use turns::turn_away;
 
 // Passed on to the layers above, so that they needn't name these libraries themselves.
-pub use caller_facts::goes_on;
-pub use lock_walks;
-pub use lock_walks::epoch_slots;
+pub use caller_facts::lock_walks::epoch_slots;
+pub use caller_facts::{goes_on, lock_walks};
 pub use lock_words;

@@ -4,7 +4,7 @@ ghost use Rattle.version_words.specs.TableState.{IsOf};
 ghost use Rattle.caller_facts.specs.epoch_slots.specs.Collects.{IsTidy, Collects};
 ghost use Rattle.attempts.specs.Reclaims.{is_much, lacks_slots, lacks_descriptor, has_much_in_limbo, CollectsWhere, SweepsWhere, Reclaims, IsRested};
 
-use lock_walks::epoch_slots::{collect, sweep};
+use caller_facts::lock_walks::epoch_slots::{collect, sweep};
 use machine_states::structure_laws::Structure;
 use version_words::{FlockTable, Runner};
 

@@ -3,7 +3,7 @@ ghost use Rattle.std.specs.Prelude.{◌≡◌};
 ghost use Rattle.attempts.specs.Course.{of_plan, of_refusal, of_outcome};
 
 use crate::answers::Attempt;
-use lock_walks::try_lock::Planned;
+use caller_facts::try_lock::Planned;
 use machine_states::body_terms::{Outcome, Place, Refused};
 
 /// A refused plan as an attempt's answer.

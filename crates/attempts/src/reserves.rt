@@ -4,7 +4,7 @@ ghost use Rattle.caller_facts.specs.epoch_slots.specs.Reserves.{counts_of};
 ghost use Rattle.attempts.specs.Course.{HasReserve};
 ghost use Rattle.attempts.specs.Attempts.{IsFew};
 
-use lock_walks::epoch_slots::{Kind, Short, reserve};
+use caller_facts::lock_walks::epoch_slots::{Kind, Short, reserve};
 use machine_states::structure_laws::Structure;
 use version_words::Runner;
 

@@ -6,8 +6,8 @@ ghost use Rattle.attempts.specs.Course.{HasGone};
 ghost use Rattle.attempts.specs.Rests.{MayLeave, MayLetGo, HasTurned};
 
 use crate::answers::Attempt;
-use lock_walks::epoch_slots::exit;
-use lock_walks::try_lock::{RunEnd, help, watch};
+use caller_facts::lock_walks::epoch_slots::exit;
+use caller_facts::try_lock::{RunEnd, help, watch};
 use lock_words::runner_facts::names_stand;
 use lock_words::taken_names_stand;
 use machine_facts::seen_locks_stand;

@@ -3,23 +3,25 @@ use Rattle.std.specs.Prelude.{Bool, true, false, ◌==◌, ◌&&◌, ◌||◌, n
 use Rattle.std.specs.List.{list_any}
 use Rattle.std.proofs.Common.{◌≡◌, ◌<◌, ℕ, List, [], ◌∷◌, ◌⊎◌, inl, inr, ⊎_elim, sym, refl, ap, ◌∙◌, Option, Some, None, arith}
 use Rattle.std.proofs.lemmas.Bool.Decides.{nat_tests}
-use Rattle.runner_steps.specs.map_history.specs.declared.op.Request.{Request}
-use Rattle.runner_steps.specs.table_words.specs.declared.layout.Layout.{Layout}
-use Rattle.runner_steps.specs.table_words.specs.declared.sizes.Sizes.{Sizes}
-use Rattle.runner_steps.specs.table_words.specs.declared.spot.Spot.{Spot}
-use Rattle.runner_steps.specs.table_words.specs.declared.access.Access.{Access}
-use Rattle.runner_steps.specs.table_words.specs.Places.{fits}
-use Rattle.runner_steps.specs.runner_parts.specs.structure_laws.specs.Meaning.{Meaning}
-use Rattle.runner_steps.specs.runner_parts.specs.declared.event.EventKind.{EventKind}
-use Rattle.runner_steps.specs.runner_parts.specs.declared.event.EventKind.TheVariants as kinds
-use Rattle.runner_steps.specs.runner_parts.specs.epoch_core.specs.declared.stage.Stage.{Stage}
-use Rattle.runner_steps.specs.runner_parts.specs.epoch_core.specs.declared.stage.Stage.TheVariants as stages
-use Rattle.runner_steps.specs.runner_parts.specs.State.{RunState, PartState}
-use Rattle.runner_steps.specs.runner_parts.specs.Tests.{has, is_resting}
+use Rattle.machine_states.specs.map_history.specs.declared.op.Request.{Request}
+use Rattle.machine_states.specs.table_words.specs.declared.layout.Layout.{Layout}
+use Rattle.machine_states.specs.table_words.specs.declared.sizes.Sizes.{Sizes}
+use Rattle.machine_states.specs.table_words.specs.declared.spot.Spot.{Spot}
+use Rattle.machine_states.specs.table_words.specs.declared.access.Access.{Access}
+use Rattle.machine_states.specs.table_words.specs.Places.{fits}
+use Rattle.machine_states.specs.structure_laws.specs.Meaning.{Meaning}
+use Rattle.machine_states.specs.runner_parts.specs.declared.event.EventKind.{EventKind}
+use Rattle.machine_states.specs.runner_parts.specs.declared.event.EventKind.TheVariants as kinds
+use Rattle.machine_states.specs.epoch_core.specs.declared.stage.Stage.{Stage}
+use Rattle.machine_states.specs.epoch_core.specs.declared.stage.Stage.TheVariants as stages
+use Rattle.machine_states.specs.runner_parts.specs.State.{RunState, PartState}
+use Rattle.machine_states.specs.runner_parts.specs.Tests.{has, is_resting}
 use Rattle.runner_steps.specs.Outside.{Ask, when}
 use Rattle.runner_steps.specs.Sections.{is_open_run}
-use Rattle.runner_steps.specs.Asks.{outside_ask, inside_ask, ask_by, fitting, sizes_for, asks}
+use Rattle.runner_steps.specs.Asks.{fitting, sizes_for, asks}
+use Rattle.machine_states.proofs.Blockless.{outside_ask, inside_ask, ask_by, asks_same, unblocked}
 use Rattle.enabled_kinds.specs.May.{is_enabled}
+use Rattle.enabled_kinds.proofs.Numbers.{is_board}
 
 pub absent : {A : Type 0} (a : A) → None ≡ Some a → ⊥
 absent a e = cc
@@ -127,7 +129,7 @@ module _ (m : Meaning) (l : Layout) (rs : List Request) (r : ℕ) (p : PartState
   pub asked : (k : EventKind) → is_enabled m l rs r p k ≡ true → Asked k
   asked k e =
       let some = some_is (asks m l rs r k p) e in
-      let is = stays_asks p.gone (sizes_for m l rs) (ask_by m l rs r k p p.run) some.0 some.1 in
+      let is = stays_asks p.gone (sizes_for m l rs) (ask_by m l rs r k p p.run) some.0 (unblocked m l rs r k p some.0 some.1) in
       record { ask = some.0; stays = is.0; asked = is.1; fitting = is.2 }
 
   enabled_by : (gone : Bool) (s : Sizes) (o : Ask) (x : Spot × Access) → gone ≡ false → o ≡ Some x → fits s x.0 ≡ true → is_some (if gone then None else fitting s o) ≡ true
@@ -135,7 +137,7 @@ module _ (m : Meaning) (l : Layout) (rs : List Request) (r : ℕ) (p : PartState
 
   -- an event is enabled that asks for a word which the table has
   pub enabled : (k : EventKind) (x : Spot × Access) → p.gone ≡ false → ask_by m l rs r k p p.run ≡ Some x → fits (sizes_for m l rs) x.0 ≡ true → is_enabled m l rs r p k ≡ true
-  enabled k x stays asked fitting = enabled_by p.gone (sizes_for m l rs) (ask_by m l rs r k p p.run) x stays asked fitting
+  enabled k x stays asked fitting = ap is_some (asks_same m l rs r k p) ∙ enabled_by p.gone (sizes_for m l rs) (ask_by m l rs r k p p.run) x stays asked fitting
 
   nothing : (b : Bool) (x : Spot × Access) → (if b then None else None) ≡ Some x → ⊥
   nothing true x e = absent x e
@@ -156,6 +158,27 @@ module _ (m : Meaning) (l : Layout) (rs : List Request) (r : ℕ) (p : PartState
   outside_by : (k : EventKind) (o : Option RunState) (x : Spot × Access) → is_outside_kind k ≡ true → ask_by m l rs r k p o ≡ Some x → outside_ask m l rs r k p ≡ Some x
   outside_by k None x h e = e
   outside_by k (Some q) x h e = absurd (not_inside k q p.nodes.free x h e)
+
+  -- without blocks no run links one
+  link_by : (b : ℕ) (o : Option RunState) (x : Spot × Access) → ask_by m l rs r (kinds.LinkCommit b) p o ≡ Some x → ⊥
+  link_by b None x e = absent x e
+  link_by b (Some q) x e = nothing (is_open_run q) x e
+
+  pub no_link : (b : ℕ) → is_enabled m l rs r p (kinds.LinkCommit b) ≡ false
+  no_link b = not_true _ (λ e. let a = asked (kinds.LinkCommit b) e in link_by b p.run a.ask a.asked)
+
+  -- and nobody uses the board
+  board_by : (k : EventKind) (o : Option RunState) (x : Spot × Access) → is_board k ≡ true → ask_by m l rs r k p o ≡ Some x → ⊥
+  board_by (kinds.BoardLoad word) None x h e = absent x e
+  board_by (kinds.BoardLoad word) (Some q) x h e = nothing (is_open_run q) x e
+  board_by (kinds.BoardTake word link) None x h e = absent x e
+  board_by (kinds.BoardTake word link) (Some q) x h e = nothing (is_open_run q) x e
+  board_by (kinds.BoardGive word slot) None x h e = absent x e
+  board_by (kinds.BoardGive word slot) (Some q) x h e = nothing (is_open_run q) x e
+  board_by _ o x h e = not_both false h refl
+
+  pub no_board : (k : EventKind) → is_board k ≡ true → is_enabled m l rs r p k ≡ false
+  no_board k h = not_true _ (λ e. let a = asked k e in board_by k p.run a.ask h a.asked)
 
   -- an event that no run makes is enabled outside a run
   pub asked_outside : (k : EventKind) (a : Asked k) → is_outside_kind k ≡ true → outside_ask m l rs r k p ≡ Some a.ask

@@ -5,10 +5,10 @@ use Rattle.std.proofs.Common.{◌≡◌, ◌<◌, ◌≤◌, ◌+◌, ℕ, List,
 use mathlib.Core.Logic.{dite}
 use Rattle.std.proofs.Math.Decide.{ℕ_discrete}
 use Rattle.std.proofs.lemmas.Nat.Bits.{bit_at-lt, bit_at_set_same, bit_at_set_other}
-use Rattle.runner_steps.specs.map_history.specs.declared.op.Request.{Request}
-use Rattle.runner_steps.specs.table_words.specs.declared.layout.Layout.{Layout}
-use Rattle.runner_steps.specs.runner_parts.specs.structure_laws.specs.Meaning.{Meaning}
-use Rattle.runner_steps.specs.runner_parts.specs.State.{PartState}
+use Rattle.machine_states.specs.map_history.specs.declared.op.Request.{Request}
+use Rattle.machine_states.specs.table_words.specs.declared.layout.Layout.{Layout}
+use Rattle.machine_states.specs.structure_laws.specs.Meaning.{Meaning}
+use Rattle.machine_states.specs.runner_parts.specs.State.{PartState}
 use Rattle.enabled_kinds.specs.May.{May, MayNot, AreEnabled}
 use Rattle.enabled_kinds.proofs.Asked.{not_both}
 use Rattle.enabled_kinds.proofs.Numbers.{few_kinds}

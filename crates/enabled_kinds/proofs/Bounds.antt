@@ -1,8 +1,8 @@
 -- The numbers of slots and descriptors are small.
 use Rattle.std.proofs.Common.{ℕ, ◌+◌, ◌*◌, ◌^◌, ◌<◌, ◌≤◌, arith}
-use Rattle.runner_steps.specs.table_words.specs.declared.layout.Layout.{Layout}
-use Rattle.runner_steps.specs.table_words.specs.Limits.{IsWithinLimits}
-use Rattle.runner_steps.specs.table_words.specs.Places.{slot_count, descriptor_count}
+use Rattle.machine_states.specs.table_words.specs.declared.layout.Layout.{Layout}
+use Rattle.machine_states.specs.table_words.specs.Limits.{IsWithinLimits}
+use Rattle.machine_states.specs.table_words.specs.Places.{slot_count, descriptor_count}
 
 few_products : (sections runners : ℕ) → sections ≤ 1024 → runners ≤ 16 → sections * runners ≤ 1024 * 16
 few_products sections runners a b = grind arith

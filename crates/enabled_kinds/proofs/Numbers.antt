@@ -1,10 +1,10 @@
 -- Kinds by their numbers.
-use Rattle.std.specs.Prelude.{Bool, Option, Some, None}
-use Rattle.runner_steps.specs.table_words.specs.small_lemmas.proofs.Lists.{none_not_some as absent, some_not_none as present, some_the_same as the_same}
-use Rattle.runner_steps.specs.body_terms.specs.declared.thunk.Thunk.{Thunk}
+use Rattle.std.specs.Prelude.{Bool, true, false, Option, Some, None}
+use Rattle.machine_states.specs.epoch_core.specs.small_lemmas.proofs.Lists.{none_not_some as absent, some_not_none as present, some_the_same as the_same}
+use Rattle.machine_states.specs.body_terms.specs.declared.thunk.Thunk.{Thunk}
 use Rattle.std.proofs.Common.{◌≡◌, ◌≢◌, ◌<◌, ℕ, refl, arith}
-use Rattle.runner_steps.specs.runner_parts.specs.declared.event.EventKind.{EventKind}
-use Rattle.runner_steps.specs.runner_parts.specs.declared.event.EventKind.TheVariants as kinds
+use Rattle.machine_states.specs.runner_parts.specs.declared.event.EventKind.{EventKind}
+use Rattle.machine_states.specs.runner_parts.specs.declared.event.EventKind.TheVariants as kinds
 use Rattle.enabled_kinds.specs.Kinds.{kind_number, plain_kind, IsGiven}
 
 -- a kind whose events carry no argument has one event
@@ -33,6 +33,10 @@ plain_only kinds.Release k' e = the_same kinds.Release k' e
 plain_only kinds.ClockLoad k' e = absurd (absent k' e)
 plain_only (kinds.ReadPlan thunk) k' e = absurd (absent k' e)
 plain_only kinds.ReadClock k' e = absurd (absent k' e)
+plain_only (kinds.LinkCommit b) k' e = absurd (absent k' e)
+plain_only (kinds.BoardLoad word) k' e = absurd (absent k' e)
+plain_only (kinds.BoardTake word link) k' e = absurd (absent k' e)
+plain_only (kinds.BoardGive word slot) k' e = absurd (absent k' e)
 plain_only (kinds.Guard d) k' e = absurd (absent k' e)
 plain_only (kinds.LoadGuard n) k' e = absurd (absent k' e)
 plain_only kinds.StampExchange k' e = the_same kinds.StampExchange k' e
@@ -47,22 +51,33 @@ plain_only kinds.OutcomeCommit k' e = the_same kinds.OutcomeCommit k' e
 plain_only kinds.ReadReply k' e = the_same kinds.ReadReply k' e
 plain_only kinds.ReadStamp k' e = the_same kinds.ReadStamp k' e
 
+-- the kinds of the board, of which no event is enabled yet
+abbrev pub is_board : EventKind → Bool
+is_board (kinds.BoardLoad word) = true
+is_board (kinds.BoardTake word link) = true
+is_board (kinds.BoardGive word slot) = true
+is_board _ = false
+
 -- the kinds whose events carry arguments
-pub argued : (k : EventKind) → plain_kind (kind_number k) ≡ None → kind_number k ≢ 5 → kind_number k ≢ 9 → kind_number k ≢ 11 → kind_number k ≢ 12 → kind_number k ≢ 16 → kind_number k ≢ 18 → kind_number k ≢ 21 → kind_number k ≢ 25 → kind_number k ≢ 26 → kind_number k ≢ 37 → kind_number k ≢ 38 → kind_number k ≢ 39 → ⊥
-argued (kinds.ScanOne n) e n5 n9 n11 n12 n16 n18 n21 n25 n26 n37 n38 n39 = n5 refl
-argued (kinds.LoadCell place) e n5 n9 n11 n12 n16 n18 n21 n25 n26 n37 n38 n39 = n9 refl
-argued (kinds.PrivateLoad slot word) e n5 n9 n11 n12 n16 n18 n21 n25 n26 n37 n38 n39 = n11 refl
-argued (kinds.PrivateStore slot word number) e n5 n9 n11 n12 n16 n18 n21 n25 n26 n37 n38 n39 = n12 refl
-argued (kinds.LoadThunk d) e n5 n9 n11 n12 n16 n18 n21 n25 n26 n37 n38 n39 = n16 refl
-argued (kinds.Hold thunk d) e n5 n9 n11 n12 n16 n18 n21 n25 n26 n37 n38 n39 = n18 refl
-argued kinds.ClockLoad e n5 n9 n11 n12 n16 n18 n21 n25 n26 n37 n38 n39 = n21 refl
-argued kinds.ReadClock e n5 n9 n11 n12 n16 n18 n21 n25 n26 n37 n38 n39 = n21 refl
-argued (kinds.Join worker) e n5 n9 n11 n12 n16 n18 n21 n25 n26 n37 n38 n39 = n25 refl
-argued (kinds.LoadEntry request reply) e n5 n9 n11 n12 n16 n18 n21 n25 n26 n37 n38 n39 = n26 refl
-argued (kinds.ReadPlan thunk) e n5 n9 n11 n12 n16 n18 n21 n25 n26 n37 n38 n39 = n39 refl
-argued (kinds.Guard d) e n5 n9 n11 n12 n16 n18 n21 n25 n26 n37 n38 n39 = n37 refl
-argued (kinds.LoadGuard n) e n5 n9 n11 n12 n16 n18 n21 n25 n26 n37 n38 n39 = n38 refl
-argued _ e n5 n9 n11 n12 n16 n18 n21 n25 n26 n37 n38 n39 = present _ e
+pub argued : (k : EventKind) → plain_kind (kind_number k) ≡ None → kind_number k ≢ 5 → kind_number k ≢ 9 → kind_number k ≢ 11 → kind_number k ≢ 12 → kind_number k ≢ 16 → kind_number k ≢ 18 → kind_number k ≢ 21 → kind_number k ≢ 25 → kind_number k ≢ 26 → kind_number k ≢ 31 → kind_number k ≢ 37 → kind_number k ≢ 38 → kind_number k ≢ 39 → is_board k ≡ true
+argued (kinds.ScanOne n) e n5 n9 n11 n12 n16 n18 n21 n25 n26 n31 n37 n38 n39 = absurd (n5 refl)
+argued (kinds.LoadCell place) e n5 n9 n11 n12 n16 n18 n21 n25 n26 n31 n37 n38 n39 = absurd (n9 refl)
+argued (kinds.PrivateLoad slot word) e n5 n9 n11 n12 n16 n18 n21 n25 n26 n31 n37 n38 n39 = absurd (n11 refl)
+argued (kinds.PrivateStore slot word number) e n5 n9 n11 n12 n16 n18 n21 n25 n26 n31 n37 n38 n39 = absurd (n12 refl)
+argued (kinds.LoadThunk d) e n5 n9 n11 n12 n16 n18 n21 n25 n26 n31 n37 n38 n39 = absurd (n16 refl)
+argued (kinds.Hold thunk d) e n5 n9 n11 n12 n16 n18 n21 n25 n26 n31 n37 n38 n39 = absurd (n18 refl)
+argued kinds.ClockLoad e n5 n9 n11 n12 n16 n18 n21 n25 n26 n31 n37 n38 n39 = absurd (n21 refl)
+argued kinds.ReadClock e n5 n9 n11 n12 n16 n18 n21 n25 n26 n31 n37 n38 n39 = absurd (n21 refl)
+argued (kinds.Join worker) e n5 n9 n11 n12 n16 n18 n21 n25 n26 n31 n37 n38 n39 = absurd (n25 refl)
+argued (kinds.LoadEntry request reply) e n5 n9 n11 n12 n16 n18 n21 n25 n26 n31 n37 n38 n39 = absurd (n26 refl)
+argued (kinds.ReadPlan thunk) e n5 n9 n11 n12 n16 n18 n21 n25 n26 n31 n37 n38 n39 = absurd (n39 refl)
+argued (kinds.Guard d) e n5 n9 n11 n12 n16 n18 n21 n25 n26 n31 n37 n38 n39 = absurd (n37 refl)
+argued (kinds.LoadGuard n) e n5 n9 n11 n12 n16 n18 n21 n25 n26 n31 n37 n38 n39 = absurd (n38 refl)
+argued (kinds.LinkCommit b) e n5 n9 n11 n12 n16 n18 n21 n25 n26 n31 n37 n38 n39 = absurd (n31 refl)
+argued (kinds.BoardLoad word) e n5 n9 n11 n12 n16 n18 n21 n25 n26 n31 n37 n38 n39 = refl
+argued (kinds.BoardTake word link) e n5 n9 n11 n12 n16 n18 n21 n25 n26 n31 n37 n38 n39 = refl
+argued (kinds.BoardGive word slot) e n5 n9 n11 n12 n16 n18 n21 n25 n26 n31 n37 n38 n39 = refl
+argued _ e n5 n9 n11 n12 n16 n18 n21 n25 n26 n31 n37 n38 n39 = absurd (present _ e)
 
 pub given_plain : (k k' : EventKind) → plain_kind (kind_number k) ≡ Some k' → IsGiven k
 given_plain (kinds.Hold thunk d) k' e = absurd (absent k' e)
@@ -99,6 +114,10 @@ module _ (P : EventKind → Type 0) where
   only_clock inside outside kinds.ClockLoad e = inside
   only_clock inside outside kinds.ReadClock e = outside
   only_clock inside outside _ e = absurd (omega (arith, e))
+
+  pub only_link : ((b : ℕ) → P (kinds.LinkCommit b)) → (k : EventKind) → kind_number k ≡ 31 → P k
+  only_link each (kinds.LinkCommit b) e = each b
+  only_link each _ e = absurd (omega (arith, e))
 
   pub only_join : ((worker : ℕ) → P (kinds.Join worker)) → (k : EventKind) → kind_number k ≡ 25 → P k
   only_join each (kinds.Join worker) e = each worker
@@ -152,6 +171,10 @@ few_kinds kinds.NestedLoad = omega arith
 few_kinds kinds.NestedHold = omega arith
 few_kinds kinds.OutcomeLoad = omega arith
 few_kinds kinds.OutcomeCommit = omega arith
+few_kinds (kinds.LinkCommit b) = omega arith
+few_kinds (kinds.BoardLoad word) = omega arith
+few_kinds (kinds.BoardTake word link) = omega arith
+few_kinds (kinds.BoardGive word slot) = omega arith
 few_kinds (kinds.ReadPlan thunk) = omega arith
 few_kinds kinds.ReadClock = omega arith
 few_kinds kinds.ReadReply = omega arith

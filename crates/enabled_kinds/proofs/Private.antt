@@ -3,30 +3,31 @@ use Rattle.std.specs.Prelude.{Bool, true, false, ◌==◌, ◌&&◌, ◌||◌, n
 use Rattle.std.specs.List.{list_any}
 use Rattle.std.proofs.Common.{◌≡◌, ◌+◌, ◌≤◌, ℕ, List, ◌⊎◌, inl, inr, ⊎_elim, sym, refl, ap, ◌∙◌, Option, Some, None, arith}
 use Rattle.std.proofs.lemmas.Bool.Decides.{nat_tests}
-use Rattle.runner_steps.specs.table_words.specs.small_lemmas.proofs.Bools.{both_hold as all_of}
-use Rattle.runner_steps.specs.table_words.specs.small_lemmas.proofs.Numbers.{tested_not_less as not_below, tested_most as at_most}
-use Rattle.runner_steps.specs.map_history.specs.declared.op.Request.{Request}
-use Rattle.runner_steps.specs.body_terms.specs.declared.micro.Micro.{Micro}
-use Rattle.runner_steps.specs.body_terms.specs.declared.micro.Micro.TheVariants as micros
-use Rattle.runner_steps.specs.body_terms.specs.Word.{next_word}
-use Rattle.runner_steps.specs.body_terms.specs.Run.{source_value}
-use Rattle.runner_steps.specs.body_terms.specs.Memory.{cell_of}
-use Rattle.runner_steps.specs.table_words.specs.declared.layout.Layout.{Layout}
-use Rattle.runner_steps.specs.table_words.specs.declared.sizes.Sizes.{Sizes}
-use Rattle.runner_steps.specs.table_words.specs.declared.spot.Spot.{Spot}
-use Rattle.runner_steps.specs.table_words.specs.declared.spot.Spot.TheVariants as spots
-use Rattle.runner_steps.specs.table_words.specs.declared.access.Access.{Access}
-use Rattle.runner_steps.specs.table_words.specs.declared.access.Access.TheVariants.{Loads, Stores}
-use Rattle.runner_steps.specs.table_words.specs.Places.{fits, slot_count, descriptor_count}
-use Rattle.runner_steps.specs.runner_parts.specs.structure_laws.specs.Meaning.{Meaning}
-use Rattle.runner_steps.specs.runner_parts.specs.declared.event.EventKind.{EventKind}
-use Rattle.runner_steps.specs.runner_parts.specs.declared.event.EventKind.TheVariants as kinds
-use Rattle.runner_steps.specs.runner_parts.specs.State.{RunState, PartState}
-use Rattle.runner_steps.specs.runner_parts.specs.Tests.{has, is_resting}
-use Rattle.runner_steps.specs.Outside.{when, descriptor_spot, private_load_ask, private_store_ask}
+use Rattle.machine_states.specs.epoch_core.specs.small_lemmas.proofs.Bools.{both_hold as all_of}
+use Rattle.machine_states.specs.epoch_core.specs.small_lemmas.proofs.Numbers.{tested_not_less as not_below, tested_most as at_most}
+use Rattle.machine_states.specs.map_history.specs.declared.op.Request.{Request}
+use Rattle.machine_states.specs.body_terms.specs.declared.micro.Micro.{Micro}
+use Rattle.machine_states.specs.body_terms.specs.declared.micro.Micro.TheVariants as micros
+use Rattle.machine_states.specs.body_terms.specs.Word.{next_word}
+use Rattle.machine_states.specs.body_terms.specs.Run.{source_value}
+use Rattle.machine_states.specs.body_terms.specs.Memory.{cell_of}
+use Rattle.machine_states.specs.table_words.specs.declared.layout.Layout.{Layout}
+use Rattle.machine_states.specs.table_words.specs.declared.sizes.Sizes.{Sizes}
+use Rattle.machine_states.specs.table_words.specs.declared.spot.Spot.{Spot}
+use Rattle.machine_states.specs.table_words.specs.declared.spot.Spot.TheVariants as spots
+use Rattle.machine_states.specs.table_words.specs.declared.access.Access.{Access}
+use Rattle.machine_states.specs.table_words.specs.declared.access.Access.TheVariants.{Loads, Stores}
+use Rattle.machine_states.specs.table_words.specs.Places.{fits, slot_count, descriptor_count}
+use Rattle.machine_states.specs.structure_laws.specs.Meaning.{Meaning}
+use Rattle.machine_states.specs.runner_parts.specs.declared.event.EventKind.{EventKind}
+use Rattle.machine_states.specs.runner_parts.specs.declared.event.EventKind.TheVariants as kinds
+use Rattle.machine_states.specs.runner_parts.specs.State.{RunState, PartState}
+use Rattle.machine_states.specs.runner_parts.specs.Tests.{has, is_resting}
+use Rattle.runner_steps.specs.Outside.{when, descriptor_spot}
+use Rattle.machine_states.proofs.Blockless.{private_load_ask, private_store_ask, ask_by}
 use Rattle.runner_steps.specs.Sections.{is_open_run, next_of}
 use Rattle.runner_steps.specs.InRun.{make_slot, is_slot, is_cell, can_raise, fill_load_ask, fill_store_ask}
-use Rattle.runner_steps.specs.Asks.{sizes_for, ask_by}
+use Rattle.runner_steps.specs.Asks.{sizes_for}
 use Rattle.enabled_kinds.specs.Kinds.{kind_number, IsGiven}
 use Rattle.enabled_kinds.specs.May.{is_enabled, is_enabled_if, May, Tells}
 use Rattle.enabled_kinds.specs.Tried.{load_at, made_load, store_at, made_store}

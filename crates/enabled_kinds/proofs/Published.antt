@@ -3,22 +3,22 @@ use Rattle.std.specs.Prelude.{Bool, true, false, ◌&&◌, not, nat_lt, ◌%◌,
 use Rattle.std.specs.List.{list_any}
 use Rattle.std.proofs.Common.{◌≡◌, ◌+◌, ◌<◌, ◌≤◌, ℕ, List, [], ◌∷◌, length, refl, ap, ◌∙◌, Option, Some, None, arith}
 use Rattle.std.proofs.lemmas.Option.{slice_get_within}
-use Rattle.runner_steps.specs.map_history.specs.declared.op.Request.{Request}
-use Rattle.runner_steps.specs.body_terms.specs.declared.thunk.Thunk.{Thunk}
-use Rattle.runner_steps.specs.body_terms.specs.Word.{held_word}
-use Rattle.runner_steps.specs.table_words.specs.declared.layout.Layout.{Layout}
-use Rattle.runner_steps.specs.table_words.specs.declared.spot.Spot.{Spot}
-use Rattle.runner_steps.specs.table_words.specs.declared.spot.Spot.TheVariants as spots
-use Rattle.runner_steps.specs.table_words.specs.declared.access.Access.{Access}
-use Rattle.runner_steps.specs.table_words.specs.declared.access.Access.TheVariants.{Exchanges}
-use Rattle.runner_steps.specs.table_words.specs.Limits.{IsWithinLimits}
-use Rattle.runner_steps.specs.table_words.specs.Places.{fits, descriptor_count}
-use Rattle.runner_steps.specs.runner_parts.specs.structure_laws.specs.Meaning.{Meaning}
-use Rattle.runner_steps.specs.runner_parts.specs.declared.event.EventKind.TheVariants as kinds
-use Rattle.runner_steps.specs.runner_parts.specs.declared.entries.Stored.{Stored}
-use Rattle.runner_steps.specs.runner_parts.specs.declared.entries.Known.{Known}
-use Rattle.runner_steps.specs.runner_parts.specs.State.{PartState}
-use Rattle.runner_steps.specs.runner_parts.specs.Tests.{has, is_walking, is_next, is_open, last_stored, is_some_of, are_stored, thunk_words, is_prepared, serves, is_between}
+use Rattle.machine_states.specs.map_history.specs.declared.op.Request.{Request}
+use Rattle.machine_states.specs.body_terms.specs.declared.thunk.Thunk.{Thunk}
+use Rattle.machine_states.specs.body_terms.specs.Word.{held_word}
+use Rattle.machine_states.specs.table_words.specs.declared.layout.Layout.{Layout}
+use Rattle.machine_states.specs.table_words.specs.declared.spot.Spot.{Spot}
+use Rattle.machine_states.specs.table_words.specs.declared.spot.Spot.TheVariants as spots
+use Rattle.machine_states.specs.table_words.specs.declared.access.Access.{Access}
+use Rattle.machine_states.specs.table_words.specs.declared.access.Access.TheVariants.{Exchanges}
+use Rattle.machine_states.specs.table_words.specs.Limits.{IsWithinLimits}
+use Rattle.machine_states.specs.table_words.specs.Places.{fits, descriptor_count}
+use Rattle.machine_states.specs.structure_laws.specs.Meaning.{Meaning}
+use Rattle.machine_states.specs.runner_parts.specs.declared.event.EventKind.TheVariants as kinds
+use Rattle.machine_states.specs.runner_parts.specs.declared.entries.Stored.{Stored}
+use Rattle.machine_states.specs.runner_parts.specs.declared.entries.Known.{Known}
+use Rattle.machine_states.specs.runner_parts.specs.State.{PartState}
+use Rattle.machine_states.specs.runner_parts.specs.Tests.{has, is_walking, is_next, is_open, last_stored, is_some_of, are_stored, thunk_words, is_prepared, serves, is_between}
 use Rattle.runner_steps.specs.Outside.{is_due, is_publishable, is_ready}
 use Rattle.runner_steps.specs.Asks.{sizes_for}
 use Rattle.enabled_kinds.specs.Kinds.{IsGiven}

@@ -3,29 +3,30 @@ use Rattle.std.specs.Prelude.{Bool, true, false, ◌==◌, ◌&&◌, ◌||◌, n
 use Rattle.std.specs.List.{list_any}
 use Rattle.std.proofs.Common.{◌≡◌, ◌<◌, ◌≤◌, ℕ, List, length, ⊎_elim, sym, refl, ap, ◌∙◌, Option, Some, None, arith}
 use Rattle.std.proofs.lemmas.Bool.Decides.{nat_tests}
-use Rattle.runner_steps.specs.map_history.specs.declared.op.Request.{Request}
-use Rattle.runner_steps.specs.body_terms.specs.declared.thunk.Thunk.{Thunk}
-use Rattle.runner_steps.specs.table_words.specs.declared.layout.Layout.{Layout}
-use Rattle.runner_steps.specs.table_words.specs.declared.spot.Spot.{Spot}
-use Rattle.runner_steps.specs.table_words.specs.declared.spot.Spot.TheVariants.{Announcement, Guard}
-use Rattle.runner_steps.specs.table_words.specs.declared.access.Access.{Access}
-use Rattle.runner_steps.specs.table_words.specs.declared.access.Access.TheVariants.{Loads, Stores, Exchanges}
-use Rattle.runner_steps.specs.table_words.specs.Places.{fits}
-use Rattle.runner_steps.specs.runner_parts.specs.structure_laws.specs.Meaning.{Meaning}
-use Rattle.runner_steps.specs.runner_parts.specs.declared.event.EventKind.{EventKind}
-use Rattle.runner_steps.specs.runner_parts.specs.declared.event.EventKind.TheVariants as kinds
-use Rattle.runner_steps.specs.runner_parts.specs.epoch_core.specs.declared.stage.Stage.{Stage}
-use Rattle.runner_steps.specs.runner_parts.specs.epoch_core.specs.declared.stage.Stage.TheVariants as stages
-use Rattle.runner_steps.specs.runner_parts.specs.State.{RunState, PartState}
-use Rattle.runner_steps.specs.runner_parts.specs.Tests.{has, is_walking, is_outside, is_some_of}
+use Rattle.machine_states.specs.map_history.specs.declared.op.Request.{Request}
+use Rattle.machine_states.specs.body_terms.specs.declared.thunk.Thunk.{Thunk}
+use Rattle.machine_states.specs.table_words.specs.declared.layout.Layout.{Layout}
+use Rattle.machine_states.specs.table_words.specs.declared.spot.Spot.{Spot}
+use Rattle.machine_states.specs.table_words.specs.declared.spot.Spot.TheVariants.{Announcement, Guard}
+use Rattle.machine_states.specs.table_words.specs.declared.access.Access.{Access}
+use Rattle.machine_states.specs.table_words.specs.declared.access.Access.TheVariants.{Loads, Stores, Exchanges}
+use Rattle.machine_states.specs.table_words.specs.Places.{fits}
+use Rattle.machine_states.specs.structure_laws.specs.Meaning.{Meaning}
+use Rattle.machine_states.specs.runner_parts.specs.declared.event.EventKind.{EventKind}
+use Rattle.machine_states.specs.runner_parts.specs.declared.event.EventKind.TheVariants as kinds
+use Rattle.machine_states.specs.epoch_core.specs.declared.stage.Stage.{Stage}
+use Rattle.machine_states.specs.epoch_core.specs.declared.stage.Stage.TheVariants as stages
+use Rattle.machine_states.specs.runner_parts.specs.State.{RunState, PartState}
+use Rattle.machine_states.specs.runner_parts.specs.Tests.{has, is_walking, is_outside, is_some_of}
 use Rattle.runner_steps.specs.Outside.{scan_one_ask, entry_spot, is_sure_of}
 use Rattle.runner_steps.specs.Guards.{load_guard_by}
-use Rattle.runner_steps.specs.Asks.{sizes_for, ask_by}
+use Rattle.runner_steps.specs.Asks.{sizes_for}
+use Rattle.machine_states.proofs.Blockless.{ask_by}
 use Rattle.enabled_kinds.specs.Kinds.{kind_number, plain_kind, IsGiven}
 use Rattle.enabled_kinds.specs.May.{is_enabled, is_enabled_if, May, Tells}
-use Rattle.enabled_kinds.specs.Tried.{begun, no_thunk}
-use Rattle.enabled_kinds.proofs.Asked.{absent, not_both, not_true, both, either, neither, equal, some_passes, none_passes, when_asks, asks_when, below, is_below, resting_asks, asked, enabled, asked_outside}
-use Rattle.enabled_kinds.proofs.Numbers.{plain_only, only_scan, only_cell, only_thunk, only_clock, only_plan, only_guard, only_sweep, only_join, only_entry}
+use Rattle.enabled_kinds.specs.Tried.{begun, link_of, linked, no_thunk}
+use Rattle.enabled_kinds.proofs.Asked.{absent, not_both, not_true, both, either, neither, equal, some_passes, none_passes, when_asks, asks_when, below, is_below, resting_asks, asked, enabled, no_link, no_board, asked_outside}
+use Rattle.enabled_kinds.proofs.Numbers.{is_board, plain_only, only_scan, only_cell, only_thunk, only_link, only_clock, only_plan, only_guard, only_sweep, only_join, only_entry}
 
 most : (a b : ℕ) → nat_le a b ≡ true → a ≤ b
 most a b e = grind (arith, nat_tests)
@@ -123,6 +124,24 @@ module _ (m : Meaning) (l : Layout) (rs : List Request) (r : ℕ) (p : PartState
   join_tells b found missed = record {
     found = λ h. let x = found h in one (kinds.Join x.0) tt x.1;
     missed = λ h. only_join (λ k. IsGiven k → can k ≡ false) (λ worker given. not_true (can (kinds.Join worker)) (λ e. not_both _ e (missed h worker (join_inside worker e))));
+  }
+
+  -- a run may link no block but the one in its hand
+  links : (o : Option EventKind) → o ≡ linked p.run → is_enabled_if m l rs r p o ≡ true → May m l rs r p 31
+  links o is h = by_run p.run o is h
+    where
+      by_block : (block : Option ℕ) → is_enabled_if m l rs r p (link_of block) ≡ true → May m l rs r p 31
+      by_block None e = absurd (not_both false e refl)
+      by_block (Some b) e = one (kinds.LinkCommit b) tt e
+
+      by_run : (run : Option RunState) (o : Option EventKind) → o ≡ linked run → is_enabled_if m l rs r p o ≡ true → May m l rs r p 31
+      by_run None o same e = absurd (not_both false (sym (ap (is_enabled_if m l rs r p) same) ∙ e) refl)
+      by_run (Some q) o same e = by_block q.block (sym (ap (is_enabled_if m l rs r p) same) ∙ e)
+
+  pub link_tells : Tells m l rs r p 31 (is_enabled_if m l rs r p (linked p.run))
+  link_tells = record {
+    found = λ h. links (linked p.run) refl h;
+    missed = λ h. only_link (λ k. IsGiven k → can k ≡ false) (λ b given. no_link m l rs r p b);
   }
 
   pub clock_tells : Tells m l rs r p 21 (can kinds.ClockLoad || can kinds.ReadClock)
@@ -229,10 +248,10 @@ module _ (m : Meaning) (l : Layout) (rs : List Request) (r : ℕ) (p : PartState
   }
 
   -- a kind whose events carry no argument has one event
-  pub if_tells : (n : ℕ) (o : Option EventKind) → plain_kind n ≡ o → ((k : EventKind) → kind_number k ≡ n → plain_kind n ≡ None → ⊥) → ((k : EventKind) → o ≡ Some k → (kind_number k ≡ n) × IsGiven k) → Tells m l rs r p n (is_enabled_if m l rs r p o)
+  pub if_tells : (n : ℕ) (o : Option EventKind) → plain_kind n ≡ o → ((k : EventKind) → kind_number k ≡ n → plain_kind n ≡ None → is_board k ≡ true) → ((k : EventKind) → o ≡ Some k → (kind_number k ≡ n) × IsGiven k) → Tells m l rs r p n (is_enabled_if m l rs r p o)
   if_tells n None is no_other of = record {
     found = λ h. absurd (not_both false h refl);
-    missed = λ h k number given. absurd (no_other k number is);
+    missed = λ h k number given. no_board m l rs r p k (no_other k number is);
   }
   if_tells n (Some k) is no_other of = record {
     found = λ h. record { kind = k; is_of = (of k refl).0; given = (of k refl).1; enabled = h };

@@ -1,7 +1,7 @@
 -- The numbers of the kinds of step.
 use Rattle.std.specs.Prelude.{◌≡◌, ◌==◌, ℕ, length, Option, Some, None, if◌then◌else◌}
-use Rattle.runner_steps.specs.runner_parts.specs.declared.event.EventKind.{EventKind}
-use Rattle.runner_steps.specs.runner_parts.specs.declared.event.EventKind.TheVariants as kinds
+use Rattle.machine_states.specs.runner_parts.specs.declared.event.EventKind.{EventKind}
+use Rattle.machine_states.specs.runner_parts.specs.declared.event.EventKind.TheVariants as kinds
 
 -- the number of an event's kind; the clock is loaded in a run, and for a read without a lock
 abbrev pub kind_number : EventKind → ℕ
@@ -36,6 +36,10 @@ kind_number kinds.NestedLoad = 27
 kind_number kinds.NestedHold = 28
 kind_number kinds.OutcomeLoad = 29
 kind_number kinds.OutcomeCommit = 30
+kind_number (kinds.LinkCommit block) = 31
+kind_number (kinds.BoardLoad word) = 32
+kind_number (kinds.BoardTake word link) = 33
+kind_number (kinds.BoardGive word slot) = 34
 kind_number kinds.ReadClock = 21
 kind_number kinds.ReadReply = 35
 kind_number kinds.ReadStamp = 36

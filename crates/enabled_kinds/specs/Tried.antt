@@ -1,17 +1,17 @@
 -- The events that are tried, for kinds whose events carry arguments.
 use Rattle.std.specs.Prelude.{ℕ, ◌%◌, ◌^◌, List, [], ◌∷◌, Option, Some, None, if◌then◌else◌}
-use Rattle.runner_steps.specs.body_terms.specs.declared.thunk.Thunk.{Thunk}
-use Rattle.runner_steps.specs.body_terms.specs.declared.micro.Micro.{Micro}
-use Rattle.runner_steps.specs.body_terms.specs.declared.micro.Micro.TheVariants as micros
-use Rattle.runner_steps.specs.body_terms.specs.Word.{next_word}
-use Rattle.runner_steps.specs.body_terms.specs.Run.{source_value}
-use Rattle.runner_steps.specs.table_words.specs.declared.layout.Layout.{Layout}
-use Rattle.runner_steps.specs.runner_parts.specs.structure_laws.specs.Meaning.{Meaning}
-use Rattle.runner_steps.specs.runner_parts.specs.declared.entries.Stored.{Stored}
-use Rattle.runner_steps.specs.runner_parts.specs.declared.event.EventKind.{EventKind}
-use Rattle.runner_steps.specs.runner_parts.specs.declared.event.EventKind.TheVariants as kinds
-use Rattle.runner_steps.specs.runner_parts.specs.State.{RunState}
-use Rattle.runner_steps.specs.runner_parts.specs.Tests.{last_stored}
+use Rattle.machine_states.specs.body_terms.specs.declared.thunk.Thunk.{Thunk}
+use Rattle.machine_states.specs.body_terms.specs.declared.micro.Micro.{Micro}
+use Rattle.machine_states.specs.body_terms.specs.declared.micro.Micro.TheVariants as micros
+use Rattle.machine_states.specs.body_terms.specs.Word.{next_word}
+use Rattle.machine_states.specs.body_terms.specs.Run.{source_value}
+use Rattle.machine_states.specs.table_words.specs.declared.layout.Layout.{Layout}
+use Rattle.machine_states.specs.structure_laws.specs.Meaning.{Meaning}
+use Rattle.machine_states.specs.runner_parts.specs.declared.entries.Stored.{Stored}
+use Rattle.machine_states.specs.runner_parts.specs.declared.event.EventKind.{EventKind}
+use Rattle.machine_states.specs.runner_parts.specs.declared.event.EventKind.TheVariants as kinds
+use Rattle.machine_states.specs.runner_parts.specs.State.{RunState}
+use Rattle.machine_states.specs.runner_parts.specs.Tests.{last_stored}
 use Rattle.runner_steps.specs.Sections.{is_open_run, next_of}
 use Rattle.runner_steps.specs.InRun.{make_slot, can_raise}
 
@@ -41,6 +41,16 @@ store_at l q _ _ = None
 abbrev pub made_store : Meaning → Layout → Option RunState → Option EventKind
 made_store m l None = None
 made_store m l (Some q) = if is_open_run q then store_at l q q.made (next_of m q) else None
+
+-- the link of the block in the hand
+abbrev pub link_of : Option ℕ → Option EventKind
+link_of None = None
+link_of (Some block) = Some (kinds.LinkCommit block)
+
+-- the link that a run may make next
+abbrev pub linked : Option RunState → Option EventKind
+linked None = None
+linked (Some q) = link_of q.block
 
 abbrev pub or_zero : Option ℕ → ℕ
 or_zero None = 0

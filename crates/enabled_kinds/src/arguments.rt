@@ -1,23 +1,23 @@
 //! The kinds whose events carry arguments.
 ghost use Rattle.std.specs.Prelude.{◌≡◌, ◌<◌, ◌≤◌, ◌+◌, ◌^◌, ◌&&◌, nat_lt, ℕ, Bool, Some, None, true, false, length};
 ghost use Rattle.std.specs.List.{list_any};
-ghost use Rattle.runner_steps.specs.map_history.specs.Requests.{most_requests};
-ghost use Rattle.runner_steps.specs.table_words.specs.Limits.{IsWithinLimits};
-ghost use Rattle.runner_steps.specs.table_words.specs.Places.{slot_count, descriptor_count};
+ghost use Rattle.machine_states.specs.map_history.specs.Requests.{most_requests};
+ghost use Rattle.machine_states.specs.table_words.specs.Limits.{IsWithinLimits};
+ghost use Rattle.machine_states.specs.table_words.specs.Places.{slot_count, descriptor_count};
 ghost use Rattle.runner_steps.specs.Asks.{sizes_for};
-ghost use Rattle.runner_steps.specs.runner_parts.specs.declared.event.EventKind.TheVariants as kinds;
-ghost use Rattle.runner_steps.specs.runner_parts.specs.epoch_core.specs.declared.stage.Stage.TheVariants.{Scanning};
-ghost use Rattle.runner_steps.specs.runner_parts.specs.Tests.{last_stored};
+ghost use Rattle.machine_states.specs.runner_parts.specs.declared.event.EventKind.TheVariants as kinds;
+ghost use Rattle.machine_states.specs.epoch_core.specs.declared.stage.Stage.TheVariants.{Scanning};
+ghost use Rattle.machine_states.specs.runner_parts.specs.Tests.{last_stored};
 ghost use Rattle.enabled_kinds.specs.May.{is_enabled, is_enabled_if};
-ghost use Rattle.enabled_kinds.specs.Tried.{begun, stored_thunk, or_zero, no_thunk};
+ghost use Rattle.enabled_kinds.specs.Tried.{begun, linked, stored_thunk, or_zero, no_thunk};
 
+use machine_states::body_terms::{Thunk, Word};
+use machine_states::epoch_core::Stage;
+use machine_states::map_history::Request;
+use machine_states::runner_parts::{EventKind, Part, Stored};
+use machine_states::structure_laws::Structure;
+use machine_states::table_words::Layout;
 use runner_asks::{asks, last_stored, thunk_of};
-use runner_steps::body_terms::{Thunk, Word};
-use runner_steps::map_history::Request;
-use runner_steps::runner_parts::epoch_core::Stage;
-use runner_steps::runner_parts::structure_laws::Structure;
-use runner_steps::runner_parts::{EventKind, Part, Stored};
-use runner_steps::table_words::Layout;
 use runner_steps::{sizes_for, slot_count};
 
 /// Whether the runner may make this event next.
@@ -236,6 +236,31 @@ pub fn may_begin<S: Structure>(
         None => false,
         Some(descriptor) => {
             let kind = EventKind::LoadThunk(Some(descriptor));
+            may(part, structure, layout, requests, runner, kind)
+        }
+    }
+}
+
+/// Whether it may link the block that its run has in the hand.
+pub fn may_link<S: Structure>(
+    part: &Part,
+    structure: &S,
+    layout: Layout,
+    requests: &[Request],
+    runner: u32,
+) -> bool
+    requires limits { IsWithinLimits layout }
+    requires few { length requests.now ≤ 131072 }
+    ensures { result ≡ is_enabled_if (S.meaning structure.now) layout requests.now runner part.now
+        (linked part.now.run) }
+{
+    let Some(run) = &part.run else {
+        return false;
+    };
+    match run.block {
+        None => false,
+        Some(block) => {
+            let kind = EventKind::LinkCommit(block);
             may(part, structure, layout, requests, runner, kind)
         }
     }

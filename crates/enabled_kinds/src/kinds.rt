@@ -1,20 +1,20 @@
 //! The kinds of step that a runner may make next.
 ghost use Rattle.std.specs.Prelude.{◌≡◌, ◌≤◌, ◌||◌, length};
 ghost use Rattle.std.specs.List.{list_any};
-ghost use Rattle.runner_steps.specs.map_history.specs.Requests.{most_requests};
-ghost use Rattle.runner_steps.specs.table_words.specs.Limits.{IsWithinLimits};
+ghost use Rattle.machine_states.specs.map_history.specs.Requests.{most_requests};
+ghost use Rattle.machine_states.specs.table_words.specs.Limits.{IsWithinLimits};
 ghost use Rattle.enabled_kinds.specs.May.{Tells, AreEnabled, is_enabled_if};
 
 use crate::arguments::{
-    may, may_announce_read, may_begin, may_join, may_look_free, may_look_guard, may_look_hand,
-    may_prepare, may_publish, may_reread, may_scan, may_walk,
+    may, may_announce_read, may_begin, may_join, may_link, may_look_free, may_look_guard,
+    may_look_hand, may_prepare, may_publish, may_reread, may_scan, may_walk,
 };
 use crate::makes::{made_load, made_store};
 use crate::plain::plain_kind;
-use runner_steps::map_history::Request;
-use runner_steps::runner_parts::structure_laws::Structure;
-use runner_steps::runner_parts::{EventKind, Part};
-use runner_steps::table_words::Layout;
+use machine_states::map_history::Request;
+use machine_states::runner_parts::{EventKind, Part};
+use machine_states::structure_laws::Structure;
+use machine_states::table_words::Layout;
 
 /// Whether there is this event and the runner may make it next.
 fn may_if<S: Structure>(
@@ -181,6 +181,7 @@ fn may_make<S: Structure>(
             };
             may(part, structure, layout, requests, runner, first)
         }
+        31 => may_link(part, structure, layout, requests, runner),
         37 => {
             let cleared = EventKind::Guard(None);
             may(part, structure, layout, requests, runner, cleared)

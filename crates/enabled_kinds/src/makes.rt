@@ -1,14 +1,14 @@
 //! The private steps of a Make.
 ghost use Rattle.std.specs.Prelude.{◌≡◌};
-ghost use Rattle.runner_steps.specs.table_words.specs.Limits.{IsWithinLimits};
+ghost use Rattle.machine_states.specs.table_words.specs.Limits.{IsWithinLimits};
 ghost use Rattle.runner_steps.specs.InRun.{make_slot};
 ghost use Rattle.enabled_kinds.specs.Tried.{made_load, made_store};
 
+use machine_states::body_terms::{Micro, Word};
+use machine_states::runner_parts::{EventKind, Part, Run};
+use machine_states::structure_laws::Structure;
+use machine_states::table_words::Layout;
 use runner_asks::{is_open_run, last_of, next_of, source_value};
-use runner_steps::body_terms::{Micro, Word};
-use runner_steps::runner_parts::structure_laws::Structure;
-use runner_steps::runner_parts::{EventKind, Part, Run};
-use runner_steps::table_words::Layout;
 
 /// The slot that a Make fills.
 fn make_slot(run: &Run, free: &[u32]) -> Option<u32>

@@ -1,9 +1,9 @@
 //! The kinds whose events carry no argument.
 ghost use Rattle.std.specs.Prelude.{◌≡◌, Some};
 ghost use Rattle.enabled_kinds.specs.Kinds.{kind_number, plain_kind};
-ghost use Rattle.runner_steps.specs.runner_parts.specs.declared.event.EventKind.{EventKind};
+ghost use Rattle.machine_states.specs.runner_parts.specs.declared.event.EventKind.{EventKind};
 
-use runner_steps::runner_parts::EventKind;
+use machine_states::runner_parts::EventKind;
 
 /// The event of the kind with this number, where its events carry no argument.
 pub fn plain_kind(number: u32) -> Option<EventKind>

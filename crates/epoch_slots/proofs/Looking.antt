@@ -17,7 +17,8 @@ use Rattle.machine_states.specs.runner_parts.specs.declared.event.EventKind.TheV
 use Rattle.machine_states.specs.epoch_core.specs.declared.stage.Stage.TheVariants as stages
 use Rattle.machine_states.specs.runner_parts.specs.State.{NodesState, PartState}
 use Rattle.machine_states.specs.runner_parts.specs.Tests.{has, is_resting}
-use Rattle.machine_states.specs.runner_parts.specs.Lists.{without, test_of, tests_without, slot_back, slot_tested, one_more, nodes_looked, descriptor_stored}
+use Rattle.machine_states.specs.runner_parts.specs.Lists.{without, test_of, tests_without, slot_back, slot_tested, one_more, nodes_looked}
+use Rattle.machine_states.specs.runner_steps.specs.AfterOutside.{descriptor_known}
 use Rattle.machine_states.specs.runner_steps.specs.After.{outside_after}
 use Rattle.machine_states.specs.runner_steps.specs.Outside.{when, descriptor_spot}
 use Rattle.machine_states.specs.epoch_core.specs.Lists.{times}
@@ -159,7 +160,7 @@ module _ {T : Type 0} (m : Meaning) where
         let within : nat_lt slot (slot_count r.layout m.fixed_slots) ≡ true = grind (arith, nat_tests, low, wide) in
         let part : ◌≡◌ {A = PartState} (outside_after m r.layout (kinds.PrivateLoad slot cell) r.part word) (record (r.part) { nodes = nodes_looked r.layout r.part.nodes slot cell word }) =
         ap (λ (b : Bool). if b then record (r.part) { nodes = nodes_looked r.layout r.part.nodes slot cell word }
-        else record (r.part) { descriptors = descriptor_stored r.part.descriptors (slot - slot_count r.layout m.fixed_slots) cell word }) within in
+        else descriptor_known m r.layout slot cell r.part word) within in
         let f = λ (w : ℕ). version_of w == old.layout.version_max in
         let resting = so.at.resting in
         record {

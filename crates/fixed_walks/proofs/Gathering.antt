@@ -4,7 +4,7 @@ use Rattle.std.specs.Prelude.{nat_lt, slice_index}
 use Rattle.std.specs.FinMap.{get, entries}
 use Rattle.runner_parts.specs.structure_laws.specs.map_history.specs.Replay.{Pairs}
 use Rattle.runner_parts.specs.structure_laws.specs.Meaning.{Meaning}
-use Rattle.runner_parts.specs.structure_laws.specs.table_words.specs.declared.spot.Spot.TheVariants.{Cell}
+use Rattle.runner_parts.specs.block_words.specs.table_words.specs.declared.spot.Spot.TheVariants.{Cell}
 use Rattle.key_cells.specs.shared_laws.specs.Listing.{listed}
 use Rattle.key_cells.specs.shared_laws.proofs.Listing.{are_entries}
 use Rattle.key_cells.specs.shared_laws.proofs.Numbers.{lt_of, lt_true}

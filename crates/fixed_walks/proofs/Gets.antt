@@ -7,7 +7,7 @@ use Rattle.runner_parts.specs.structure_laws.specs.map_history.specs.declared.op
 use Rattle.runner_parts.specs.structure_laws.specs.body_terms.specs.Shape.{is_look}
 use Rattle.runner_parts.specs.structure_laws.specs.body_terms.specs.declared.thunk.Thunk.{Thunk}
 use Rattle.key_cells.specs.section_body.specs.Bucket.{operand}
-use Rattle.runner_parts.specs.structure_laws.specs.table_words.specs.declared.layout.Layout.{Layout}
+use Rattle.runner_parts.specs.block_words.specs.table_words.specs.declared.layout.Layout.{Layout}
 use Rattle.runner_parts.specs.structure_laws.specs.Scene.{Readings}
 use Rattle.runner_parts.specs.structure_laws.specs.Meaning.{Meaning}
 use Rattle.runner_parts.specs.structure_laws.proofs.Changes.{both_true, equal_of}

@@ -5,8 +5,8 @@ use Rattle.runner_parts.specs.structure_laws.specs.map_history.specs.declared.op
 use Rattle.runner_parts.specs.structure_laws.specs.map_history.specs.Keys.{key_of}
 use Rattle.runner_parts.specs.structure_laws.specs.map_history.specs.Words.{word_of as reply_word}
 use Rattle.runner_parts.specs.structure_laws.specs.map_history.specs.Replay.{Pairs}
-use Rattle.runner_parts.specs.structure_laws.specs.table_words.specs.declared.layout.Layout.{Layout}
-use Rattle.runner_parts.specs.structure_laws.specs.table_words.specs.declared.spot.Spot.TheVariants.{Cell}
+use Rattle.runner_parts.specs.block_words.specs.table_words.specs.declared.layout.Layout.{Layout}
+use Rattle.runner_parts.specs.block_words.specs.table_words.specs.declared.spot.Spot.TheVariants.{Cell}
 use Rattle.runner_parts.specs.structure_laws.specs.Meaning.{Meaning}
 use Rattle.runner_parts.specs.structure_laws.specs.Scene.{Cells}
 use Rattle.runner_parts.specs.structure_laws.specs.map_history.specs.AtKey.{reply_at, left_at, changes_at}

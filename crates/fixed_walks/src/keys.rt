@@ -15,10 +15,10 @@ use arrayvec::ArrayVec;
 use key_cells::shared_laws::{changes_at, left_at, pairs_by_key, reply_at};
 use key_cells::{KeyCells, word_at};
 use lock_walks::version_words::Words;
+use runner_parts::block_words::table_words::Layout;
 use runner_parts::structure_laws::Structure;
 use runner_parts::structure_laws::body_terms::Place;
 use runner_parts::structure_laws::map_history::Op;
-use runner_parts::structure_laws::table_words::Layout;
 use std::alloc::{AllocError, Global};
 
 impl<C: KeyCells> FixedPlaces for C {

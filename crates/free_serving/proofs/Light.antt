@@ -24,10 +24,11 @@ use Rattle.machine_states.specs.runner_parts.specs.declared.entries.Published.{P
 use Rattle.machine_states.specs.runner_parts.specs.State.{RunState, PartState}
 use Rattle.machine_states.specs.runner_steps.specs.Sections.{thunk_of}
 use Rattle.machine_states.specs.Sight.{Sight, sight, part_or_first}
+use Rattle.machine_states.specs.Blockless.{blockless}
 use Rattle.machine_epochs.specs.Slots.{thunk_in}
 use Rattle.version_words.specs.RunnerState.{RunnerState}
 use Rattle.version_words.specs.machine_invariant.specs.After.{AreAllowed}
-use Rattle.version_words.specs.machine_invariant.specs.machine_agreement.proofs.RunPlaces.{opened_thunk}
+use Rattle.serving.specs.one_worker.specs.machine_facts.specs.machine_agreement.proofs.RunPlaces.{opened_thunk}
 use Rattle.serving.specs.one_worker.specs.machine_facts.specs.After.{AreFactsAfter}
 use Rattle.serving.specs.one_worker.specs.machine_facts.proofs.Following.{facts_after}
 use Rattle.serving.specs.one_worker.specs.next_steps.proofs.Enabled.{reached_enabled}
@@ -109,7 +110,7 @@ module _ {T : Type 0} (m : Meaning) (laws : Laws m) (r : RunnerState T) (limits 
       all : AreFactsAfter m r.layout r.requests is.inside.inside.reached.events is.inside.inside.world is.inside.inside.reached.after
       all = facts_after m laws r.layout r.requests is.inside.inside.reached.events is.inside.inside.world limits allowed is.inside.inside.reached.after
 
-      part : s.part r.number ≡ r.part
+      part : s.part r.number ≡ blockless r.part
       part = ap part_or_first is.inside.inside.own
 
       runs : (s.part r.number).run ≡ Some (run_of r)

@@ -23,13 +23,13 @@ use Rattle.runner_steps.specs.runner_parts.specs.Lists.{slot_taken}
 use Rattle.runner_steps.specs.InRun.{last_of, make_slot, can_raise}
 use Rattle.runner_steps.specs.Sections.{thunk_of, line_of, next_of}
 use Rattle.runner_steps.specs.AfterInRun.{goes_on}
-use Rattle.version_words.specs.machine_invariant.specs.machine_agreement.proofs.LineAsked.{fill_store_asked}
-use Rattle.version_words.specs.machine_invariant.specs.After.{AreAllowed}
+use Rattle.commit_log.specs.version_words.specs.machine_invariant.specs.machine_blocks.specs.machine_guards.specs.machine_agreement.proofs.LineAsked.{fill_store_asked}
+use Rattle.commit_log.specs.version_words.specs.machine_invariant.specs.After.{AreAllowed}
 use Rattle.commit_log.specs.next_steps.specs.Steps.{slot_in, kind_at, ask_at, has_slot}
 use Rattle.commit_log.specs.next_steps.specs.Stages.{filling_slot, nodes_taking}
-use Rattle.version_words.specs.RunnerState.{RunnerState}
-use Rattle.version_words.specs.TableState.{TableState, IsOf}
-use Rattle.version_words.specs.Events.{met_by, IsEnabled, Makes}
+use Rattle.commit_log.specs.version_words.specs.RunnerState.{RunnerState}
+use Rattle.commit_log.specs.version_words.specs.TableState.{TableState, IsOf}
+use Rattle.commit_log.specs.version_words.specs.Events.{met_by, IsEnabled, Makes}
 use Rattle.commit_log.specs.Runs.{IsRunning, Stepped, Ran}
 use Rattle.commit_log.proofs.Running.{may_make, asked_there, then_made, ran_one, ran_more}
 use Rattle.commit_log.proofs.Next.{next_here, settled_at, settled_next}

@@ -18,13 +18,13 @@ use Rattle.runner_steps.specs.runner_parts.specs.Lists.{slot_taken, slot_made, s
 use Rattle.runner_steps.specs.InRun.{last_of}
 use Rattle.runner_steps.specs.Sections.{thunk_of, line_of, next_of}
 use Rattle.runner_steps.specs.AfterInRun.{agrees}
-use Rattle.version_words.specs.machine_invariant.specs.After.{AreAllowed}
+use Rattle.commit_log.specs.version_words.specs.machine_invariant.specs.After.{AreAllowed}
 use Rattle.commit_log.specs.next_steps.specs.Steps.{slot_in}
 use Rattle.commit_log.specs.next_steps.specs.Stages.{unfilled}
-use Rattle.version_words.specs.RunnerState.{RunnerState}
-use Rattle.version_words.specs.TableState.{TableState, IsOf}
-use Rattle.version_words.specs.Events.{met_by, Makes}
-use Rattle.version_words.specs.Place.{next_log}
+use Rattle.commit_log.specs.version_words.specs.RunnerState.{RunnerState}
+use Rattle.commit_log.specs.version_words.specs.TableState.{TableState, IsOf}
+use Rattle.commit_log.specs.version_words.specs.Events.{met_by, Makes}
+use Rattle.commit_log.specs.version_words.specs.Place.{next_log}
 use Rattle.commit_log.specs.Runs.{Stepped}
 use Rattle.commit_log.proofs.Running.{may_make, goes_behind, then_made}
 use Rattle.commit_log.proofs.Next.{next_here}

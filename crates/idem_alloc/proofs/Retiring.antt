@@ -18,11 +18,11 @@ use Rattle.runner_steps.specs.runner_parts.specs.Lists.{slot_retired}
 use Rattle.runner_steps.specs.Sections.{thunk_of, line_of, next_of}
 use Rattle.runner_steps.specs.AfterInRun.{goes_on, agrees}
 use Rattle.machine_epochs.proofs.RunPlaces.{next_in_line}
-use Rattle.version_words.specs.machine_invariant.specs.After.{AreAllowed}
-use Rattle.version_words.specs.RunnerState.{RunnerState}
-use Rattle.version_words.specs.TableState.{TableState, IsOf}
-use Rattle.version_words.specs.Events.{met_by, IsEnabled, Makes}
-use Rattle.version_words.specs.Place.{next_log}
+use Rattle.commit_log.specs.version_words.specs.machine_invariant.specs.After.{AreAllowed}
+use Rattle.commit_log.specs.version_words.specs.RunnerState.{RunnerState}
+use Rattle.commit_log.specs.version_words.specs.TableState.{TableState, IsOf}
+use Rattle.commit_log.specs.version_words.specs.Events.{met_by, IsEnabled, Makes}
+use Rattle.commit_log.specs.version_words.specs.Place.{next_log}
 use Rattle.commit_log.specs.Runs.{IsRunning, Stepped}
 use Rattle.commit_log.proofs.Running.{may_make, goes_behind, then_made}
 use Rattle.commit_log.proofs.Next.{settled_next}

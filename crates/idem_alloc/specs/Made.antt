@@ -16,7 +16,7 @@ use Rattle.runner_steps.specs.InRun.{make_slot, last_of}
 use Rattle.runner_steps.specs.Sections.{thunk_of}
 use Rattle.runner_steps.specs.AfterInRun.{goes_on, agrees}
 use Rattle.commit_log.specs.next_steps.specs.Stages.{filling_slot, nodes_taking, unfilled}
-use Rattle.version_words.specs.RunnerState.{RunnerState}
+use Rattle.commit_log.specs.version_words.specs.RunnerState.{RunnerState}
 use Rattle.commit_log.specs.Runs.{IsRunning, Stepped, Ran}
 
 -- this run stands so many atomic steps into a Make with these values

@@ -6,7 +6,7 @@ use Rattle.runner_steps.specs.runner_parts.specs.State.{RunState, NodesState}
 use Rattle.runner_steps.specs.runner_parts.specs.Lists.{slot_retired}
 use Rattle.runner_steps.specs.Sections.{next_of}
 use Rattle.runner_steps.specs.AfterInRun.{goes_on, agrees}
-use Rattle.version_words.specs.RunnerState.{RunnerState}
+use Rattle.commit_log.specs.version_words.specs.RunnerState.{RunnerState}
 use Rattle.commit_log.specs.Runs.{IsRunning, Stepped}
 
 -- the own node slots after a retirement, with this epoch, whose commit was the first one or wasn't

@@ -2,18 +2,18 @@
 ghost use Rattle.std.specs.Prelude.{◌≡◌, length, Some, true, false, IfSome, IfNone};
 ghost use Rattle.runner_steps.specs.InRun.{last_of};
 ghost use Rattle.runner_steps.specs.runner_parts.specs.State.{RunState};
-ghost use Rattle.version_words.specs.TableState.{IsOf};
+ghost use Rattle.commit_log.specs.version_words.specs.TableState.{IsOf};
 ghost use Rattle.commit_log.specs.Runs.{IsRunning};
 ghost use Rattle.commit_log.specs.Asked.{IsAsked};
 ghost use Rattle.commit_log.specs.Halted.{IsHalted};
 ghost use Rattle.idem_alloc.specs.Numbers.{number_of, numbers_of};
 ghost use Rattle.idem_alloc.specs.Made.{MayFill, HasFilled, MayMake, IsFilling, HasMade};
 
+use commit_log::version_words::{FlockTable, Runner};
 use commit_log::{Unasked, passes};
 use runner_gate::Gate;
 use runner_steps::body_terms::{Init, StepKind, Steps, Value, Word};
 use section_lines::structure_laws::Structure;
-use version_words::{FlockTable, Runner};
 
 /// Fills one cell of the slot that the run's Make prepares, in two steps: loads it, and stores the value with the next
 /// version. Each step is counted, and the gate is asked after it: whether it let the runner go on.

@@ -1,17 +1,17 @@
 //! The retirement of a node slot.
 ghost use Rattle.std.specs.Prelude.{◌≡◌, true, false};
 ghost use Rattle.runner_steps.specs.runner_parts.specs.State.{RunState};
-ghost use Rattle.version_words.specs.TableState.{IsOf};
+ghost use Rattle.commit_log.specs.version_words.specs.TableState.{IsOf};
 ghost use Rattle.commit_log.specs.Runs.{IsRunning};
 ghost use Rattle.commit_log.specs.Asked.{IsAsked};
 ghost use Rattle.commit_log.specs.Halted.{IsHalted};
 ghost use Rattle.idem_alloc.specs.Retired.{MayRetire, HasRetired};
 
+use commit_log::version_words::{FlockTable, Runner};
 use commit_log::{Unasked, passes};
 use runner_gate::Gate;
 use runner_steps::body_terms::{StepKind, Steps};
 use section_lines::structure_laws::Structure;
-use version_words::{FlockTable, Runner};
 
 /// Retires the node slot, in two steps: loads the epoch, and commits the slot. Where this commit is the first of the
 /// section's runs, the slot is in the own limbo list with that epoch; else it is in that of another runner.

@@ -188,13 +188,13 @@ module _ (m : Meaning) (l : Layout) (rs : List Request) where
   unless_gone true s o x loads asked = absurd (absent x asked)
   unless_gone false s o x loads asked = fitting_loads s o x loads asked
 
-  line_joins : (worker : ℕ) (b : Bool) (q : RunState) (free : List ℕ) (y : Spot × Access) → (if b then line_ask m l (kinds.Join worker) free q (next_of m q) else opening_ask (kinds.Join worker) q) ≡ Some y → y.1 ≡ Loads
-  line_joins worker true q free y asked = absurd (absent y asked)
-  line_joins worker false q free y asked = absurd (absent y asked)
+  line_joins : (worker : ℕ) (b : Bool) (q : RunState) (free blocks : List ℕ) (y : Spot × Access) → (if b then line_ask m l (kinds.Join worker) free blocks q (next_of m q) else opening_ask (kinds.Join worker) q) ≡ Some y → y.1 ≡ Loads
+  line_joins worker true q free blocks y asked = absurd (absent y asked)
+  line_joins worker false q free blocks y asked = absurd (absent y asked)
 
   join_loads : (r worker : ℕ) (p : PartState) (o : Option RunState) (y : Spot × Access) → ask_by m l rs r (kinds.Join worker) p o ≡ Some y → y.1 ≡ Loads
   join_loads r worker p None y asked = when_loads _ _ y asked
-  join_loads r worker p (Some q) y asked = line_joins worker (is_open_run q) q p.nodes.free y asked
+  join_loads r worker p (Some q) y asked = line_joins worker (is_open_run q) q p.nodes.free p.blocks.free y asked
 
   left_other : (parts : List PartState) (seat i : ℕ) (o : Option PartState) → i ≢ seat → slice_get (left_by parts seat o) i ≡ slice_get parts i
   left_other parts seat i None other = refl

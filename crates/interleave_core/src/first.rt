@@ -1,10 +1,10 @@
 //! What the runners are at in the first state.
-ghost use Rattle.std.specs.Prelude.{◌≡◌, ◌<◌, ◌+◌, ◌^◌, ◌∷◌, IfOk};
+ghost use Rattle.std.specs.Prelude.{◌≡◌, ◌<◌, ◌+◌, ◌^◌, [], ◌∷◌, IfOk};
 ghost use Rattle.machine_states.specs.table_words.specs.Limits.{IsWithinLimits};
 ghost use Rattle.machine_states.specs.First.{falling, first_part, keeper_part, worker_part, workers};
 
 use machine_states::epoch_core::Stage;
-use machine_states::runner_parts::{Descriptors, Guards, Nodes, Part, Reads, Records};
+use machine_states::runner_parts::{Blocks, Descriptors, Guards, Nodes, Part, Reads, Records};
 use machine_states::structure_laws::Structure;
 use machine_states::table_words::Layout;
 use std::alloc::{AllocError, Global};
@@ -21,9 +21,9 @@ fn falling(alloc: Global, from: u32, count: u32) -> Result<Vec<u32>, AllocError>
     Ok(numbers)
 }
 
-/// A runner that has done nothing, with these free node slots and these free descriptors.
+/// A runner that has done nothing, with these free node slots and these free descriptors. The table has no blocks.
 fn first_part(alloc: Global, nodes: Vec<u32>, descriptors: Vec<u32>) -> Part
-    ensures { result ≡ first_part nodes.items descriptors.items }
+    ensures { result ≡ first_part nodes.items descriptors.items [] }
 {
     Part {
         stage: Stage::Idle,
@@ -41,6 +41,10 @@ fn first_part(alloc: Global, nodes: Vec<u32>, descriptors: Vec<u32>) -> Part
             stored: Vec::new(alloc),
             limbo: Vec::new(alloc),
         },
+        blocks: Blocks {
+            free: Vec::new(alloc),
+            limbo: Vec::new(alloc),
+        },
         guards: Guards {
             named: None,
             sure: false,
@@ -51,6 +55,7 @@ fn first_part(alloc: Global, nodes: Vec<u32>, descriptors: Vec<u32>) -> Part
             cells: Vec::new(alloc),
             look: None,
         },
+        board: Vec::new(alloc),
         records: Records {
             known: Vec::new(alloc),
             finished: Vec::new(alloc),
@@ -63,6 +68,7 @@ fn first_part(alloc: Global, nodes: Vec<u32>, descriptors: Vec<u32>) -> Part
             splits: 0,
             joined: Vec::new(alloc),
             only_loads: false,
+            gave_above: true,
         },
         gone: false,
     }

@@ -14,7 +14,7 @@ use Rattle.machine_states.specs.runner_steps.specs.Sections.{is_open_run, next_o
 use Rattle.machine_states.specs.runner_steps.specs.InRun.{last_clock}
 use Rattle.machine_states.specs.runner_steps.specs.AfterInRun as inside
 use Rattle.machine_states.specs.runner_steps.specs.AfterInRun.{ended_more, finished_of}
-use Rattle.machine_states.specs.runner_steps.specs.After.{line_after, inside_after}
+use Rattle.machine_states.specs.Blockless.{line_after, inside_after}
 
 -- the part is in a run of this descriptor
 pub record IsIn (p : PartState) (d : ℕ) : Type 0 where

@@ -25,11 +25,11 @@ use Rattle.machine_states.specs.runner_parts.specs.declared.event.EventKind.{Eve
 use Rattle.machine_states.specs.runner_parts.specs.declared.event.EventKind.TheVariants as kinds
 use Rattle.machine_states.specs.runner_parts.specs.State.{RunState, FinishedState, PartState}
 use Rattle.machine_states.specs.runner_parts.specs.Tests.{has, is_next, is_open, is_walking, is_between}
-use Rattle.machine_states.specs.runner_steps.specs.Asks.{ask_by, sizes_for}
+use Rattle.machine_states.specs.runner_steps.specs.Asks.{sizes_for}
+use Rattle.machine_states.specs.Blockless.{ask_by, after_by, after}
 use Rattle.machine_states.specs.runner_steps.specs.Outside.{hold_ask, is_ready, is_publishable}
 use Rattle.machine_states.specs.runner_steps.specs.Sections.{thunk_of, is_open_run}
 use Rattle.machine_states.specs.runner_steps.specs.AfterInRun.{ended_more, finished_of}
-use Rattle.machine_states.specs.runner_steps.specs.After.{after_by, after}
 use Rattle.machine_states.specs.World.{World, happens, is_join}
 use Rattle.machine_states.specs.Reached.{Reached}
 use Rattle.machine_states.specs.Sight.{Sight, sight}

@@ -9,7 +9,7 @@ use Rattle.runner_parts.specs.structure_laws.specs.body_terms.specs.declared.val
 use Rattle.runner_parts.specs.structure_laws.specs.body_terms.specs.declared.step.Step.{Step}
 use Rattle.runner_parts.specs.structure_laws.specs.body_terms.specs.declared.step.Step.TheVariants.{Store, Answer}
 use Rattle.runner_parts.specs.structure_laws.specs.body_terms.specs.declared.thunk.Thunk.{Thunk}
-use Rattle.runner_parts.specs.structure_laws.specs.table_words.specs.declared.layout.Layout.{Layout}
+use Rattle.runner_parts.specs.block_words.specs.table_words.specs.declared.layout.Layout.{Layout}
 use Rattle.runner_parts.specs.structure_laws.specs.Scene.{Readings}
 use Rattle.runner_parts.specs.structure_laws.specs.Shape.{HasStep}
 use Rattle.runner_parts.specs.structure_laws.specs.Fitting.{Leaves, StoresNothing, Fitting}

@@ -12,7 +12,7 @@ use Rattle.runner_parts.specs.structure_laws.specs.body_terms.specs.declared.ste
 use Rattle.runner_parts.specs.structure_laws.specs.body_terms.specs.declared.value.Value.{Value}
 use Rattle.runner_parts.specs.structure_laws.specs.body_terms.specs.declared.value.Value.TheVariants.{Const}
 use Rattle.runner_parts.specs.structure_laws.specs.body_terms.specs.declared.thunk.Thunk.{Thunk}
-use Rattle.runner_parts.specs.structure_laws.specs.table_words.specs.declared.layout.Layout.{Layout}
+use Rattle.runner_parts.specs.block_words.specs.table_words.specs.declared.layout.Layout.{Layout}
 use Rattle.runner_parts.specs.structure_laws.specs.Scene.{Readings, Scene}
 use Rattle.runner_parts.specs.structure_laws.specs.Sections.{IsSmall}
 use Rattle.runner_parts.specs.structure_laws.specs.Shape.{HasStep}

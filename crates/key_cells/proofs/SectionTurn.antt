@@ -15,7 +15,7 @@ use Rattle.runner_parts.specs.structure_laws.specs.body_terms.specs.declared.val
 use Rattle.runner_parts.specs.structure_laws.specs.body_terms.specs.declared.step.Step.{Step}
 use Rattle.runner_parts.specs.structure_laws.specs.body_terms.specs.declared.step.Step.TheVariants.{Load, Store, Answer}
 use Rattle.runner_parts.specs.structure_laws.specs.body_terms.specs.declared.thunk.Thunk.{Thunk}
-use Rattle.runner_parts.specs.structure_laws.specs.table_words.specs.declared.layout.Layout.{Layout}
+use Rattle.runner_parts.specs.block_words.specs.table_words.specs.declared.layout.Layout.{Layout}
 use Rattle.runner_parts.specs.structure_laws.specs.Scene.{Cells, Readings, Section, Scene}
 use Rattle.runner_parts.specs.structure_laws.specs.Sections.{IsStep}
 use Rattle.runner_parts.specs.structure_laws.specs.InTurn.{StandsFor, AtStamp, AfterStores, InTurn}

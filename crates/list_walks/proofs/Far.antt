@@ -14,9 +14,9 @@ use Rattle.list_laws.specs.shared_laws.proofs.Numbers.{get_longer}
 use Rattle.list_laws.specs.section_body.specs.Bucket.{is_small}
 use Rattle.runner_parts.specs.structure_laws.specs.body_terms.specs.Word.{value_of}
 use Rattle.runner_parts.specs.structure_laws.specs.body_terms.proofs.ShapeLemmas.{any_found, found_any}
-use Rattle.runner_parts.specs.structure_laws.specs.table_words.specs.declared.layout.Layout.{Layout}
-use Rattle.runner_parts.specs.structure_laws.specs.table_words.specs.Limits.{IsWithinLimits}
-use Rattle.runner_parts.specs.structure_laws.specs.table_words.specs.Places.{slot_count}
+use Rattle.runner_parts.specs.block_words.specs.table_words.specs.declared.layout.Layout.{Layout}
+use Rattle.runner_parts.specs.block_words.specs.table_words.specs.Limits.{IsWithinLimits}
+use Rattle.runner_parts.specs.block_words.specs.table_words.specs.Places.{slot_count}
 use Rattle.runner_parts.specs.structure_laws.specs.Scene.{Readings}
 use Rattle.runner_parts.specs.structure_laws.specs.Sections.{IsAllowed}
 use Rattle.list_laws.specs.bucket_laws.specs.Walk.{Bounds, is_del}

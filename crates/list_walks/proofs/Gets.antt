@@ -5,8 +5,8 @@ use Rattle.std.specs.List.{list_all}
 use Rattle.runner_parts.specs.structure_laws.specs.map_history.specs.declared.op.Op.TheVariants.{Get}
 use Rattle.runner_parts.specs.structure_laws.specs.body_terms.specs.Shape.{is_look}
 use Rattle.runner_parts.specs.structure_laws.specs.body_terms.specs.declared.thunk.Thunk.{Thunk}
-use Rattle.runner_parts.specs.structure_laws.specs.table_words.specs.declared.layout.Layout.{Layout}
-use Rattle.runner_parts.specs.structure_laws.specs.table_words.specs.Places.{slot_count}
+use Rattle.runner_parts.specs.block_words.specs.table_words.specs.declared.layout.Layout.{Layout}
+use Rattle.runner_parts.specs.block_words.specs.table_words.specs.Places.{slot_count}
 use Rattle.runner_parts.specs.structure_laws.specs.Scene.{Readings}
 use Rattle.runner_parts.specs.structure_laws.proofs.Changes.{both_true, equal_of}
 use Rattle.list_laws.specs.bucket_laws.specs.Walk.{has_one_key}

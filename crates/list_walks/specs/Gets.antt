@@ -5,8 +5,8 @@ use Rattle.runner_parts.specs.structure_laws.specs.map_history.specs.declared.op
 use Rattle.runner_parts.specs.structure_laws.specs.map_history.specs.declared.op.Op.TheVariants.{Get}
 use Rattle.runner_parts.specs.structure_laws.specs.body_terms.specs.Shape.{is_look}
 use Rattle.runner_parts.specs.structure_laws.specs.body_terms.specs.declared.thunk.Thunk.{Thunk}
-use Rattle.runner_parts.specs.structure_laws.specs.table_words.specs.declared.layout.Layout.{Layout}
-use Rattle.runner_parts.specs.structure_laws.specs.table_words.specs.Places.{slot_count}
+use Rattle.runner_parts.specs.block_words.specs.table_words.specs.declared.layout.Layout.{Layout}
+use Rattle.runner_parts.specs.block_words.specs.table_words.specs.Places.{slot_count}
 use Rattle.runner_parts.specs.structure_laws.specs.Scene.{Readings}
 use Rattle.list_laws.specs.Nodes.{list}
 use Rattle.list_walks.specs.Leading.{wanted_in}

@@ -27,7 +27,7 @@ use Rattle.machine_states.specs.runner_parts.specs.declared.event.EventKind.TheV
 use Rattle.machine_states.specs.runner_parts.specs.Tests.{is_answered}
 use Rattle.machine_states.specs.runner_steps.specs.Sections.{reply_in}
 use Rattle.machine_states.specs.Sight.{Sight, sight}
-use Rattle.version_words.specs.machine_invariant.specs.machine_agreement.specs.Joined.{IsJoinedToAgreement}
+use Rattle.attempts.specs.runner_facts.specs.machine_facts.specs.machine_agreement.specs.Joined.{IsJoinedToAgreement}
 use Rattle.version_words.specs.machine_invariant.specs.After.{AreAllowed}
 use Rattle.version_words.specs.machine_invariant.specs.Sections.{IsAnswered, IsLeft}
 use Rattle.version_words.specs.machine_invariant.specs.Trails.{step_at, log_of}

@@ -25,11 +25,10 @@ use Rattle.machine_states.specs.runner_parts.specs.declared.event.EventKind.TheV
 use Rattle.machine_states.specs.runner_parts.specs.Lists.{descriptor_retired, descriptors_swept}
 use Rattle.machine_states.specs.runner_parts.specs.State.{RunState, DescriptorsState, GuardsState, PartState}
 use Rattle.machine_states.specs.runner_parts.specs.Tests.{has}
-use Rattle.machine_states.specs.runner_steps.specs.Asks.{ask_by, outside_ask}
+use Rattle.machine_states.specs.Blockless.{ask_by, outside_ask, line_after, inside_after, outside_after, after_by}
 use Rattle.machine_states.specs.epoch_core.specs.State.{last_epoch}
 use Rattle.machine_states.specs.runner_steps.specs.AfterInRun as inside
 use Rattle.machine_states.specs.runner_steps.specs.AfterOutside as outside
-use Rattle.machine_states.specs.runner_steps.specs.After.{line_after, inside_after, outside_after, after_by}
 use Rattle.machine_states.specs.runner_steps.specs.Guards.{is_last_guard}
 use Rattle.machine_states.specs.runner_steps.specs.InRun.{last_clock}
 use Rattle.machine_states.specs.runner_steps.specs.Sections.{is_open_run, next_of}

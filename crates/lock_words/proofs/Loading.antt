@@ -16,9 +16,9 @@ use Rattle.machine_states.specs.table_words.specs.declared.access.Access.{Access
 use Rattle.machine_states.specs.structure_laws.specs.Meaning.{Meaning}
 use Rattle.machine_states.specs.runner_parts.specs.declared.event.EventKind.{EventKind}
 use Rattle.machine_states.specs.runner_parts.specs.State.{RunState, PartState}
-use Rattle.machine_states.specs.runner_steps.specs.Asks.{ask_by, line_ask, opening_ask}
+use Rattle.machine_states.specs.runner_steps.specs.Asks.{opening_ask}
+use Rattle.machine_states.specs.Blockless.{ask_by, line_ask, after_by, line_after}
 use Rattle.machine_states.specs.runner_steps.specs.AfterInRun.{opened_more}
-use Rattle.machine_states.specs.runner_steps.specs.After.{after_by, line_after}
 use Rattle.machine_states.specs.runner_steps.specs.Sections.{thunk_of, is_open_run, line_of, next_of, setting_of}
 use Rattle.agreement_core.specs.State.{Section}
 use Rattle.machine_states.specs.Sight.{Sight}

@@ -15,6 +15,7 @@ use Rattle.machine_states.specs.runner_parts.specs.State.{PartState}
 use Rattle.machine_states.specs.World.{World, seat_of}
 use Rattle.machine_states.specs.Reached.{Reached}
 use Rattle.machine_states.specs.Sight.{Sight, sight, part_or_first}
+use Rattle.machine_states.specs.Blockless.{blockless}
 use Rattle.one_worker.specs.machine_facts.specs.machine_invariant.proofs.Asked.{entered_at}
 use Rattle.one_worker.specs.reached_histories.specs.Laws.{HasHistory}
 use Rattle.one_worker.specs.reached_histories.proofs.Histories.{reached_have}
@@ -36,7 +37,7 @@ module _ {T : Type 0} (m : Meaning) (laws : Laws m) (r : RunnerState T) (lone : 
   abbrev pub s : Sight
   s = sight m r.layout r.requests w
 
-  part_is : s.part 0 ≡ r.part
+  part_is : s.part 0 ≡ blockless r.part
   part_is = ap s.part (sym zero) ∙ ap part_or_first own
 
   alone : AloneStands m s
@@ -52,7 +53,7 @@ module _ {T : Type 0} (m : Meaning) (laws : Laws m) (r : RunnerState T) (lone : 
   stands = subst (λ (p : PartState). (i place word : ℕ) → slice_get p.reads.walk i ≡ Some (place, word)
       → (m.is_lock place ≡ false) ⊎ IsKnown m p.reads.walk place → s.word (spots.Cell place) ≡ word) part_is
       (λ i place word. alone.read epoch i place word (ap (λ (p : PartState). p.stage) part_is ∙ at.at)
-      (subst HasPublishedNone (sym part_is) fresh))
+      (subst HasPublishedNone (sym part_is) (record { unpublished = fresh.unpublished; walked = fresh.walked })))
 
   history : HasHistory m r.layout r.requests s
   history = reached_have m laws r.layout r.requests lone.limits lone.allowed w reached

@@ -18,8 +18,9 @@ use Rattle.machine_states.specs.runner_steps.specs.Sections.{is_open_run, next_o
 use Rattle.machine_states.specs.runner_parts.specs.Tests.{has_pair}
 use Rattle.machine_states.specs.runner_steps.specs.Outside.{join_ask}
 use Rattle.machine_states.specs.runner_steps.specs.AfterInRun.{opened_more}
-use Rattle.machine_states.specs.runner_steps.specs.Asks.{outside_ask, line_ask, opening_ask, ask_by, asks}
-use Rattle.machine_states.specs.runner_steps.specs.After.{after, after_by, line_after, leaves, knows_also, joins as joins_after}
+use Rattle.machine_states.specs.runner_steps.specs.Asks.{opening_ask}
+use Rattle.machine_states.specs.Blockless.{outside_ask, line_ask, ask_by, asks, after, after_by, line_after}
+use Rattle.machine_states.specs.runner_steps.specs.After.{leaves, knows_also, joins as joins_after}
 use Rattle.agreement_core.specs.State.{AgreementState}
 use Rattle.agreement_core.specs.Events.{Event}
 use Rattle.machine_states.specs.World.{is_join}

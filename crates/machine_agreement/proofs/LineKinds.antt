@@ -19,7 +19,8 @@ use Rattle.machine_states.specs.runner_parts.specs.State.{RunState, RecordsState
 use Rattle.machine_states.specs.runner_parts.specs.Tests.{has_pair}
 use Rattle.machine_states.specs.runner_steps.specs.Sections.{is_open_run, next_of}
 use Rattle.machine_states.specs.runner_steps.specs.AfterInRun.{opened_more}
-use Rattle.machine_states.specs.runner_steps.specs.After.{after, after_by, line_after, noted}
+use Rattle.machine_states.specs.runner_steps.specs.After.{noted}
+use Rattle.machine_states.specs.Blockless.{after, after_by, line_after}
 use Rattle.agreement_core.specs.State.{CellRules, AgreementState, section_of}
 use Rattle.agreement_core.specs.Events as events
 use Rattle.agreement_core.specs.Events.{IsBefore, IsAlone, goes_on, agrees, with_cell, reads}

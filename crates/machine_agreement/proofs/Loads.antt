@@ -14,10 +14,9 @@ use Rattle.machine_states.specs.structure_laws.specs.Meaning.{Meaning}
 use Rattle.machine_states.specs.runner_parts.specs.declared.event.EventKind.{EventKind}
 use Rattle.machine_states.specs.runner_parts.specs.declared.event.EventKind.TheVariants as kinds
 use Rattle.machine_states.specs.runner_parts.specs.State.{RunState, PartState}
-use Rattle.machine_states.specs.runner_steps.specs.Sections.{is_open_run, next_of}
-use Rattle.machine_states.specs.runner_steps.specs.Asks.{asks}
+use Rattle.machine_states.specs.runner_steps.specs.Sections.{is_open_run, next_of, commits_to}
+use Rattle.machine_states.specs.Blockless.{asks, line_after}
 use Rattle.machine_states.specs.runner_steps.specs.AfterInRun.{make_committed}
-use Rattle.machine_states.specs.runner_steps.specs.After.{line_after}
 use Rattle.agreement_core.specs.State.{AgreementState, section_of}
 use Rattle.agreement_core.specs.Events as events
 use Rattle.agreement_core.specs.Events.{IsBefore, IsAlone}
@@ -30,7 +29,6 @@ use Rattle.machine_agreement.specs.Chunks.{IsLineChunk}
 use Rattle.machine_agreement.specs.Goes.{Goes}
 use Rattle.machine_agreement.proofs.LineKinds.{load_goes, number_goes, commit_goes, all}
 use Rattle.machine_states.specs.table_words.specs.declared.access.Access.TheVariants.{Exchanges}
-use Rattle.machine_epochs.specs.Roles.{commits_to}
 
 module _ (m : Meaning) (l : Layout) (rs : List Request) (w : AgreementState) (s : Sight) (old : IsJoinedToAgreement m l w s) (r : ℕ) (q : RunState) (is : (s.part r).run ≡ Some q) (opened : is_open_run q ≡ true) where
   -- the step leads to a joined state, by the events of its kind

@@ -13,7 +13,7 @@ use Rattle.machine_states.specs.runner_parts.specs.declared.event.EventKind.{Eve
 use Rattle.machine_states.specs.runner_parts.specs.declared.entries.Published.{Published}
 use Rattle.machine_states.specs.runner_parts.specs.State.{PartState}
 use Rattle.machine_states.specs.runner_parts.specs.Tests.{has_pair}
-use Rattle.machine_states.specs.runner_steps.specs.After.{after, after_by, outside_after}
+use Rattle.machine_states.specs.Blockless.{after, after_by, outside_after}
 use Rattle.agreement_core.specs.State.{Shared, Section, Run, Finished, AgreementState}
 use Rattle.agreement_core.specs.Events as events
 use Rattle.agreement_core.specs.Events.{reads}

@@ -30,10 +30,10 @@ use Rattle.machine_states.specs.runner_steps.specs.Guards.{is_last_guard}
 use Rattle.machine_states.specs.epoch_core.specs.State.{last_epoch}
 use Rattle.machine_states.specs.runner_steps.specs.Sections.{reply_in}
 use Rattle.machine_states.specs.runner_steps.specs.Reads.{read_stamp_after, plan_by, looked_by, come_to, reply_known, stamp_known}
-use Rattle.machine_states.specs.runner_steps.specs.Asks.{outside_ask}
+use Rattle.machine_states.specs.Blockless.{outside_ask, outside_after}
 use Rattle.machine_states.specs.runner_parts.specs.Lists as lists
 use Rattle.machine_states.specs.runner_steps.specs.AfterOutside as outside
-use Rattle.machine_states.specs.runner_steps.specs.After.{outside_after, noted}
+use Rattle.machine_states.specs.runner_steps.specs.After.{noted}
 use Rattle.agreement_core.specs.State.{AgreementState}
 use Rattle.agreement_core.specs.Events as events
 use Rattle.machine_states.specs.Sight.{Sight}

@@ -27,10 +27,9 @@ use Rattle.machine_states.specs.runner_parts.specs.Tests.{has_pair}
 use Rattle.machine_states.specs.runner_parts.specs.Lists.{learned}
 use Rattle.machine_states.specs.runner_steps.specs.Sections.{thunk_of, is_open_run, next_of}
 use Rattle.machine_states.specs.runner_steps.specs.InRun.{stamp_after, is_slot}
-use Rattle.machine_states.specs.runner_steps.specs.Asks.{asks}
+use Rattle.machine_states.specs.Blockless.{asks, after, line_after}
 use Rattle.machine_states.specs.runner_steps.specs.AfterInRun.{fill_loaded}
 use Rattle.machine_states.specs.runner_steps.specs.AfterInRun as run_steps
-use Rattle.machine_states.specs.runner_steps.specs.After.{after, line_after}
 use Rattle.agreement_core.specs.State.{CellRules, Shared, Run, AgreementState, section_of}
 use Rattle.agreement_core.specs.Events as events
 use Rattle.agreement_core.specs.Checks.{source_in, stored_word, exchanged}

@@ -16,11 +16,10 @@ use Rattle.machine_states.specs.runner_parts.specs.Tests.{has}
 use Rattle.machine_states.specs.guard_core.specs.Moves.{is_unnamed}
 use Rattle.machine_states.specs.runner_steps.specs.Guards.{is_last_guard}
 use Rattle.machine_states.specs.runner_steps.specs.Outside.{is_sure_of}
-use Rattle.machine_states.specs.runner_steps.specs.Sections.{is_open_run, next_of}
+use Rattle.machine_states.specs.runner_steps.specs.Sections.{is_open_run, next_of, commits_to}
 use Rattle.agreement_core.specs.State.{AgreementState, section_of}
 use Rattle.agreement_core.specs.Events.{IsAlone, IsPrivateStore, IsPublishable}
 use Rattle.machine_states.specs.Sight.{Sight}
-use Rattle.machine_epochs.specs.Roles.{commits_to}
 use Rattle.machine_epochs.specs.Slots.{thunk_in}
 use Rattle.machine_scenes.specs.Shown.{rules_of}
 

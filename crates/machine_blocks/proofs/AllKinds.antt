@@ -18,8 +18,9 @@ use Rattle.machine_states.specs.structure_laws.specs.Meaning.{Meaning}
 use Rattle.machine_states.specs.runner_parts.specs.declared.event.EventKind.{EventKind}
 use Rattle.machine_states.specs.runner_parts.specs.declared.event.EventKind.TheVariants as kinds
 use Rattle.machine_states.specs.runner_parts.specs.State.{RunState, PartState}
-use Rattle.machine_states.specs.runner_steps.specs.Asks.{outside_ask, line_ask, opening_ask, ask_by, sizes_for}
-use Rattle.machine_states.specs.runner_steps.specs.Sections.{is_open_run, line_of, next_of}
+use Rattle.machine_states.specs.runner_steps.specs.Asks.{opening_ask, sizes_for}
+use Rattle.machine_states.specs.Blockless.{outside_ask, line_ask, ask_by}
+use Rattle.machine_states.specs.runner_steps.specs.Sections.{is_open_run, line_of, next_of, commits_to}
 use Rattle.agreement_core.specs.State.{AgreementState}
 use Rattle.agreement_core.specs.Events as agreement
 use Rattle.machine_states.specs.epoch_core.specs.Update.{upd2}
@@ -32,7 +33,6 @@ use Rattle.machine_states.proofs.Steps.{some_same}
 use Rattle.machine_guards.specs.machine_agreement.specs.machine_epochs.specs.Chunks as slots
 use Rattle.machine_guards.specs.machine_agreement.specs.machine_epochs.specs.Entries.{counts_of}
 use Rattle.machine_guards.specs.machine_agreement.specs.machine_epochs.specs.Joined.{IsJoinedToEpochs}
-use Rattle.machine_guards.specs.machine_agreement.specs.machine_epochs.specs.Roles.{commits_to}
 use Rattle.machine_guards.specs.machine_agreement.specs.machine_epochs.specs.Slots.{retire_before, retiring_of}
 use Rattle.machine_guards.specs.machine_agreement.specs.machine_epochs.proofs.InsideAsked as inside
 use Rattle.machine_guards.specs.machine_agreement.specs.machine_epochs.proofs.OutsideAsked as outside

@@ -6,7 +6,7 @@ use Rattle.machine_states.specs.table_words.specs.declared.spot.Spot.TheVariants
 use Rattle.machine_states.specs.structure_laws.specs.Meaning.{Meaning}
 use Rattle.machine_states.specs.runner_parts.specs.declared.event.EventKind.{EventKind}
 use Rattle.machine_states.specs.runner_parts.specs.State.{RunState}
-use Rattle.machine_states.specs.runner_steps.specs.Sections.{is_open_run, next_of}
+use Rattle.machine_states.specs.runner_steps.specs.Sections.{is_open_run, next_of, commits_to}
 use Rattle.machine_states.specs.epoch_core.specs.State.{EpochState}
 use Rattle.machine_states.specs.epoch_core.specs.Schedules as epoch_schedules
 use Rattle.agreement_core.specs.State.{AgreementState}
@@ -16,7 +16,6 @@ use Rattle.machine_states.specs.First.{IsFirst}
 use Rattle.machine_states.specs.Sight.{Sight, Steps, sight}
 use Rattle.machine_guards.specs.machine_agreement.specs.machine_epochs.specs.Firsts.{first_place}
 use Rattle.machine_guards.specs.machine_agreement.specs.machine_epochs.specs.Joined.{IsJoinedToEpochs}
-use Rattle.machine_guards.specs.machine_agreement.specs.machine_epochs.specs.Roles.{commits_to}
 use Rattle.machine_guards.specs.machine_agreement.specs.Joined.{IsJoinedToAgreement}
 use Rattle.machine_guards.specs.Goes.{OthersGo}
 use Rattle.machine_blocks.specs.Stands.{LogsStand}

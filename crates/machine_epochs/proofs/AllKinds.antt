@@ -16,8 +16,9 @@ use Rattle.machine_states.specs.runner_parts.specs.declared.event.EventKind.TheV
 use Rattle.machine_states.specs.runner_parts.specs.State.{RunState, PartState, RecordsState}
 use Rattle.machine_states.specs.runner_steps.specs.Sections.{is_open_run, next_of}
 use Rattle.machine_states.specs.runner_steps.specs.AfterInRun.{opened_more}
-use Rattle.machine_states.specs.runner_steps.specs.Asks.{outside_ask, line_ask, opening_ask, inside_ask, ask_by, sizes_for, asks}
-use Rattle.machine_states.specs.runner_steps.specs.After.{outside_after, line_after, inside_after, after_by, noted, after, leaves, knows_also}
+use Rattle.machine_states.specs.runner_steps.specs.Asks.{opening_ask, sizes_for}
+use Rattle.machine_states.specs.Blockless.{outside_ask, line_ask, inside_ask, ask_by, asks, outside_after, line_after, inside_after, after_by, after}
+use Rattle.machine_states.specs.runner_steps.specs.After.{noted, leaves, knows_also}
 use Rattle.machine_states.specs.epoch_core.specs.State.{EpochState, MayHold}
 use Rattle.machine_states.specs.epoch_core.specs.Events.{Event}
 use Rattle.machine_states.specs.World.{is_join}

@@ -19,8 +19,8 @@ use Rattle.machine_states.specs.runner_parts.specs.declared.event.EventKind.TheV
 use Rattle.machine_states.specs.runner_parts.specs.State.{RunState, PartState, RecordsState}
 use Rattle.machine_states.specs.runner_parts.specs.Lists as lists
 use Rattle.machine_states.specs.runner_steps.specs.AfterOutside as outside
-use Rattle.machine_states.specs.runner_steps.specs.Asks.{outside_ask}
-use Rattle.machine_states.specs.runner_steps.specs.After.{after, outside_after, after_by, noted}
+use Rattle.machine_states.specs.Blockless.{outside_ask, after, outside_after, after_by}
+use Rattle.machine_states.specs.runner_steps.specs.After.{noted}
 use Rattle.machine_states.specs.epoch_core.specs.Moves.{is_clear}
 use Rattle.machine_states.specs.World.{World, happens}
 use Rattle.machine_states.specs.Sight.{Sight, sight, sight_after, Steps, IsWhole}

@@ -22,7 +22,7 @@ use Rattle.machine_states.specs.runner_parts.specs.State.{RunState, PartState, R
 use Rattle.machine_states.specs.runner_steps.specs.Sections.{thunk_of, is_open_run, next_of}
 use Rattle.machine_states.specs.runner_parts.specs.Tests.{has}
 use Rattle.machine_states.specs.runner_steps.specs.Asks.{sizes_for}
-use Rattle.machine_states.specs.runner_steps.specs.InRun.{commit_ask, outcome_commit_ask}
+use Rattle.machine_states.specs.Blockless.{commit_ask, outcome_commit_ask}
 use Rattle.machine_states.specs.runner_steps.specs.AfterInRun as runs
 use Rattle.machine_states.specs.epoch_core.specs.Update.{upd2, upd_row}
 use Rattle.machine_states.specs.epoch_core.specs.State.{EpochState, Role, Agrees}

@@ -22,7 +22,7 @@ use Rattle.machine_states.specs.runner_parts.specs.State.{PartState, GuardsState
 use Rattle.machine_states.specs.runner_parts.specs.Tests.{has, is_some_of, last_stored}
 use Rattle.machine_states.specs.runner_steps.specs.Outside.{enter_load_ask, announce_ask, enter_again_ask, idle_ask, scan_one_ask, advance_ask, is_sure_of}
 use Rattle.machine_states.specs.runner_parts.specs.Lists as lists
-use Rattle.machine_states.specs.runner_steps.specs.After.{outside_after}
+use Rattle.machine_states.specs.Blockless.{outside_after}
 use Rattle.machine_states.specs.runner_steps.specs.AfterOutside as outside
 use Rattle.machine_states.specs.epoch_core.specs.Update.{upd_row}
 use Rattle.machine_states.specs.epoch_core.specs.declared.location.Location.{Location}

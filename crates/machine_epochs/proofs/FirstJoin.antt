@@ -73,10 +73,10 @@ at_descriptor m l d = λ i. cond (fixed i) Fixed (cond (behind (slot_count l m.f
 
 -- what is said of the keeper's first part, of a worker's and of that of no runner
 module _ (m : Meaning) (l : Layout) where
-  pub each_part : (Q : PartState → Type 0) → Q (keeper_part m l) → ((k : ℕ) → Q (worker_part m l k)) → Q (first_part [] []) → (r : ℕ) → Q (first_part_of m l r)
+  pub each_part : (Q : PartState → Type 0) → Q (keeper_part m l) → ((k : ℕ) → Q (worker_part m l k)) → Q (first_part [] [] []) → (r : ℕ) → Q (first_part_of m l r)
   each_part Q keeper worker nobody r = by_test (r == l.runners) (nat_lt r l.runners)
     where
-      by_test : (b b' : Bool) → Q (cond b (keeper_part m l) (cond b' (worker_part m l r) (first_part [] [])))
+      by_test : (b b' : Bool) → Q (cond b (keeper_part m l) (cond b' (worker_part m l r) (first_part [] [] [])))
       by_test true b' = keeper
       by_test false true = worker r
       by_test false false = nobody
@@ -84,7 +84,7 @@ module _ (m : Meaning) (l : Layout) where
   nodes_are : (r : ℕ) → (first_part_of m l r).nodes.free ≡ rows l.nodes l.runners (2 * l.runners + 2) m.fixed_slots r
   nodes_are r = by_test (r == l.runners) (nat_lt r l.runners)
     where
-      by_test : (b b' : Bool) → (cond b (keeper_part m l) (cond b' (worker_part m l r) (first_part [] []))).nodes.free
+      by_test : (b b' : Bool) → (cond b (keeper_part m l) (cond b' (worker_part m l r) (first_part [] [] []))).nodes.free
           ≡ cond b (falling (m.fixed_slots + l.nodes * l.runners) (2 * l.runners + 2)) (cond b' (falling (m.fixed_slots + l.nodes * r) l.nodes) [])
       by_test true b' = refl
       by_test false true = refl
@@ -96,7 +96,7 @@ module _ (m : Meaning) (l : Layout) where
       nought : (n : ℕ) → n ≡ 0 + n
       nought n = omega arith
 
-      by_test : (b b' : Bool) → (cond b (keeper_part m l) (cond b' (worker_part m l r) (first_part [] []))).descriptors.free
+      by_test : (b b' : Bool) → (cond b (keeper_part m l) (cond b' (worker_part m l r) (first_part [] [] []))).descriptors.free
           ≡ cond b (falling (0 + l.sections * l.runners) l.runners) (cond b' (falling (0 + l.sections * r) l.sections) [])
       by_test true b' = ap (λ n. falling n l.runners) (nought (l.sections * l.runners))
       by_test false true = ap (λ n. falling n l.sections) (nought (l.sections * r))
@@ -161,7 +161,7 @@ module _ (m : Meaning) (l : Layout) where
     limbo_nodes = λ r t y high. each_part m l (λ q. times_retired t y (lists_of q).limbo ≡ 0) refl (λ k. refl) refl r;
   }
 
-  tied : (word : Spot → ℕ) (r : ℕ) (nodes descriptors : List ℕ) → IsTied m l begun word r (first_part nodes descriptors)
+  tied : (word : Spot → ℕ) (r : ℕ) (nodes descriptors : List ℕ) → IsTied m l begun word r (first_part nodes descriptors [])
   tied word r nodes descriptors = record {
     run_held = λ q e. absurd (none-some _ e);
     run_opened = λ q j e low low'. absurd (none-some _ e);
@@ -186,7 +186,7 @@ module _ (m : Meaning) (l : Layout) where
     parts_are : s.part ≡ first_part_of m l
     parts_are = fun_ext (first_parts m l w.parts start.parts)
 
-    of_part : (Q : PartState → Type 0) → ((nodes descriptors : List ℕ) → Q (first_part nodes descriptors)) → (r : ℕ) → Q (s.part r)
+    of_part : (Q : PartState → Type 0) → ((nodes descriptors : List ℕ) → Q (first_part nodes descriptors [])) → (r : ℕ) → Q (s.part r)
     of_part Q each r = subst Q (sym (first_parts m l w.parts start.parts r)) (each_part m l Q (each _ _) (λ k. each _ _) (each _ _) r)
 
     -- the first state and the component's first state with these places are joined

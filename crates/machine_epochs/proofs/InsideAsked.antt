@@ -15,7 +15,8 @@ use Rattle.machine_states.specs.table_words.specs.Places.{slot_count}
 use Rattle.machine_states.specs.structure_laws.specs.Meaning.{Meaning}
 use Rattle.machine_states.specs.runner_parts.specs.State.{RunState}
 use Rattle.machine_states.specs.runner_steps.specs.Sections.{thunk_of}
-use Rattle.machine_states.specs.runner_steps.specs.InRun.{open_more_ask, load_done_ask, commit_ask, load_cell_ask, exchange_cell_ask, make_slot, is_slot, fill_load_ask, fill_store_ask, make_commit_to, make_commit_ask, retire_commit_ask, epoch_for_retire_ask, clock_load_ask, last_clock, stamp_exchange_ask, clock_raise_ask, reply_exchange_ask, nested_load_ask, nested_hold_ask, outcome_load_ask, outcome_commit_ask, set_done_ask, release_ask}
+use Rattle.machine_states.specs.runner_steps.specs.InRun.{open_more_ask, load_done_ask, load_cell_ask, exchange_cell_ask, make_slot, is_slot, fill_load_ask, fill_store_ask, epoch_for_retire_ask, clock_load_ask, last_clock, stamp_exchange_ask, clock_raise_ask, reply_exchange_ask, nested_load_ask, nested_hold_ask, outcome_load_ask, set_done_ask, release_ask}
+use Rattle.machine_states.specs.Blockless.{commit_ask, make_commit_to, make_commit_ask, retire_commit_ask, outcome_commit_ask}
 use Rattle.machine_states.proofs.Steps.{some_same}
 use Rattle.machine_states.proofs.Sights.{if_some, some_none}
 

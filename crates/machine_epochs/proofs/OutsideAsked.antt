@@ -21,7 +21,8 @@ use Rattle.machine_states.specs.epoch_core.specs.declared.stage.Stage.TheVariant
 use Rattle.machine_states.specs.runner_parts.specs.State.{RunState, PartState}
 use Rattle.machine_states.specs.runner_parts.specs.Tests.{has, is_walking, is_prepared, is_between}
 use Rattle.machine_states.specs.runner_parts.specs.Tests as tests
-use Rattle.machine_states.specs.runner_steps.specs.Outside.{when, enter_load_ask, announce_ask, enter_again_by, enter_again_ask, idle_ask, scan_one_ask, advance_ask, split_ask, entry_spot, entry_ask, read_ask, private_load_ask, descriptor_spot, private_store_ask, hold_ask, open_ask, is_sure_of}
+use Rattle.machine_states.specs.runner_steps.specs.Outside.{when, enter_load_ask, announce_ask, enter_again_by, enter_again_ask, idle_ask, scan_one_ask, advance_ask, split_ask, entry_spot, entry_ask, read_ask, descriptor_spot, hold_ask, open_ask, is_sure_of}
+use Rattle.machine_states.specs.Blockless.{private_load_ask, private_store_ask}
 use Rattle.machine_states.specs.runner_steps.specs.Guards.{is_numbered, guard_ask, load_guard_by, load_guard_ask}
 use Rattle.machine_states.specs.guard_core.specs.State.{word_of}
 use Rattle.machine_states.specs.epoch_core.specs.State.{last_epoch}

@@ -26,7 +26,7 @@ use Rattle.machine_states.specs.runner_steps.specs.Outside.{split_ask, entry_ask
 use Rattle.machine_states.specs.runner_steps.specs.Reads.{read_plan_ask, read_clock_ask, read_reply_ask, read_stamp_ask, plan_by, looked_by, come_to}
 use Rattle.machine_states.specs.runner_parts.specs.Lists as lists
 use Rattle.machine_states.specs.runner_steps.specs.AfterOutside as outside
-use Rattle.machine_states.specs.runner_steps.specs.After.{outside_after}
+use Rattle.machine_states.specs.Blockless.{outside_after}
 use Rattle.machine_states.specs.epoch_core.specs.declared.location.Location.TheVariants.{Hand}
 use Rattle.machine_states.specs.epoch_core.specs.Moves.{tested}
 use Rattle.machine_states.specs.epoch_core.specs.State.{EpochState, no_retire, MayHold, is_entered}

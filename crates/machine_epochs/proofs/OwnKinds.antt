@@ -26,8 +26,8 @@ use Rattle.machine_states.specs.runner_steps.specs.Sections.{thunk_of, is_open_r
 use Rattle.machine_states.specs.runner_parts.specs.Lists as lists
 use Rattle.machine_states.specs.runner_steps.specs.AfterOutside as outside
 use Rattle.machine_states.specs.runner_steps.specs.AfterInRun as runs
-use Rattle.machine_states.specs.runner_steps.specs.Asks.{outside_ask, line_ask, opening_ask, inside_ask}
-use Rattle.machine_states.specs.runner_steps.specs.After.{outside_after, line_after, inside_after}
+use Rattle.machine_states.specs.runner_steps.specs.Asks.{opening_ask}
+use Rattle.machine_states.specs.Blockless.{outside_ask, line_ask, inside_ask, outside_after, line_after, inside_after}
 use Rattle.machine_states.proofs.Steps.{some_same}
 use Rattle.machine_states.proofs.Sights.{some_none}
 use Rattle.machine_epochs.specs.Slots.{retire_before, retiring_of}

@@ -1,6 +1,6 @@
 -- What parts say of descriptors and limbo lists holds in every state that the machine reaches.
 use Rattle.std.specs.Prelude.{◌==◌, cond, Bool, true, false}
-use Rattle.std.proofs.Common.{◌≡◌, ℕ, ◌+◌, ◌<◌, ◌≤◌, List, refl, sym, ap, ◌∙◌, subst, arith, Option, Some, None}
+use Rattle.std.proofs.Common.{◌≡◌, ℕ, ◌+◌, ◌<◌, ◌≤◌, List, [], refl, sym, ap, ◌∙◌, subst, arith, Option, Some, None}
 use Rattle.std.proofs.lemmas.Bool.Decides.{nat_tests}
 use Rattle.std.proofs.lemmas.List.Elements.{All-nil}
 use Rattle.machine_states.specs.map_history.specs.declared.op.Request.{Request}
@@ -16,8 +16,8 @@ use Rattle.machine_states.specs.runner_parts.specs.declared.event.EventKind.{Eve
 use Rattle.machine_states.specs.runner_parts.specs.declared.event.EventKind.TheVariants as kinds
 use Rattle.machine_states.specs.epoch_core.specs.declared.stage.Stage.TheVariants.{Entered}
 use Rattle.machine_states.specs.runner_parts.specs.State.{RunState, PartState, RecordsState}
-use Rattle.machine_states.specs.runner_steps.specs.Asks.{asks, ask_by, outside_ask}
-use Rattle.machine_states.specs.runner_steps.specs.After.{after, after_by, leaves, knows_also}
+use Rattle.machine_states.specs.Blockless.{asks, ask_by, outside_ask, after, after_by}
+use Rattle.machine_states.specs.runner_steps.specs.After.{leaves, knows_also}
 use Rattle.machine_states.specs.epoch_core.specs.State.{is_entered, entry_of}
 use Rattle.machine_states.specs.epoch_core.specs.Lists.{times}
 use Rattle.machine_states.specs.World.{World}
@@ -110,7 +110,7 @@ module _ (m : Meaning) (l : Layout) (rs : List Request) where
           let at = entries.shows.stage r ∙ e in
           subst (λ n. n ≤ s.word Epoch) (ap entry_of at) (subst (λ n. entry_of (entries.state.stage r) ≤ n) entries.shows.epoch (entries.sound.entered_most r (ap is_entered at)))
 
-  first_own : (epoch r : ℕ) (nodes descriptors : List ℕ) → ((d : ℕ) → d < descriptor_count l → times d descriptors ≡ cond (owner_of l.sections l.runners d == r) 1 0) → IsOwn m l epoch r (first_part nodes descriptors)
+  first_own : (epoch r : ℕ) (nodes descriptors : List ℕ) → ((d : ℕ) → d < descriptor_count l → times d descriptors ≡ cond (owner_of l.sections l.runners d == r) 1 0) → IsOwn m l epoch r (first_part nodes descriptors [])
   first_own epoch r nodes descriptors once = record {
     once = λ d few. let o = once d few in omega arith;
     nodes_most = All-nil (λ x. x.epoch ≤ epoch);
@@ -127,7 +127,7 @@ module _ (m : Meaning) (l : Layout) (rs : List Request) where
       epoch = (sight m l rs w).word Epoch
 
       Shape : PartState → Type 0
-      Shape q = (nodes : List ℕ) × (descriptors : List ℕ) × (q ≡ first_part nodes descriptors)
+      Shape q = (nodes : List ℕ) × (descriptors : List ℕ) × (q ≡ first_part nodes descriptors [])
 
       shape : (i : ℕ) → Shape (first_part_of m l i)
       shape i = each_part m l Shape (_, _, refl) (λ k. (_, _, refl)) (_, _, refl) i

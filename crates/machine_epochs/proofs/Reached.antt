@@ -50,7 +50,7 @@ module _ (m : Meaning) (l : Layout) (rs : List Request) where
   first_stage : (r : ℕ) → (first_part_of m l r).stage ≡ Idle
   first_stage r = by_test (r == l.runners) (nat_lt r l.runners)
     where
-      by_test : (b b' : Bool) → (cond b (keeper_part m l) (cond b' (worker_part m l r) (first_part [] []))).stage ≡ Idle
+      by_test : (b b' : Bool) → (cond b (keeper_part m l) (cond b' (worker_part m l r) (first_part [] [] []))).stage ≡ Idle
       by_test true b' = refl
       by_test false true = refl
       by_test false false = refl

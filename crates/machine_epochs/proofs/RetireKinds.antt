@@ -19,10 +19,11 @@ use Rattle.machine_states.specs.structure_laws.specs.Meaning.{Meaning}
 use Rattle.machine_states.specs.runner_parts.specs.declared.event.EventKind.TheVariants as kinds
 use Rattle.machine_states.specs.runner_parts.specs.declared.entries.Retired.{Retired}
 use Rattle.machine_states.specs.runner_parts.specs.State.{RunState, PartState, RecordsState}
-use Rattle.machine_states.specs.runner_steps.specs.Sections.{thunk_of, is_open_run, line_of, next_of, setting_of}
+use Rattle.machine_states.specs.runner_steps.specs.Sections.{thunk_of, is_open_run, line_of, next_of, setting_of, commits_to}
 use Rattle.machine_states.specs.runner_parts.specs.Lists.{slot_retired}
 use Rattle.machine_states.specs.runner_steps.specs.Asks.{sizes_for}
-use Rattle.machine_states.specs.runner_steps.specs.InRun.{retire_commit_ask, epoch_for_retire_ask}
+use Rattle.machine_states.specs.runner_steps.specs.InRun.{epoch_for_retire_ask}
+use Rattle.machine_states.specs.Blockless.{retire_commit_ask}
 use Rattle.machine_states.specs.runner_steps.specs.AfterInRun as runs
 use Rattle.machine_states.specs.epoch_core.specs.declared.location.Location.{Location}
 use Rattle.machine_states.specs.epoch_core.specs.declared.location.Location.TheVariants.{Live, Hand}
@@ -47,7 +48,6 @@ use Rattle.machine_epochs.proofs.Joining.{but_load, descriptor_same, IsElsewhere
 use Rattle.machine_epochs.proofs.RunKinds.{KeepsRun, KeepsRest, run_goes, Leads, for_step}
 use Rattle.machine_epochs.proofs.CommitKinds.{log_past}
 use Rattle.machine_epochs.proofs.SlotKinds.{other_place, kept_place, live_hand}
-use Rattle.machine_epochs.specs.Roles.{commits_to}
 
 other_retire : (f : ℕ → Retiring) (r i : ℕ) (x : Retiring) → i ≢ r → upd f r x i ≡ f i
 other_retire f r i x ne = grind (arith, nat_tests)

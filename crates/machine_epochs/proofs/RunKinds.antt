@@ -23,7 +23,7 @@ use Rattle.machine_states.specs.runner_steps.specs.Outside.{descriptor_spot, is_
 use Rattle.machine_states.specs.runner_parts.specs.Tests.{has, last_stored}
 use Rattle.machine_states.specs.runner_parts.specs.Lists.{cell_read, learned}
 use Rattle.machine_states.specs.runner_steps.specs.AfterInRun as runs
-use Rattle.machine_states.specs.runner_steps.specs.After.{line_after}
+use Rattle.machine_states.specs.Blockless.{line_after}
 use Rattle.machine_states.specs.epoch_core.specs.declared.location.Location.TheVariants.{Live, Hand}
 use Rattle.machine_states.specs.epoch_core.specs.State.{EpochState, is_entered}
 use Rattle.machine_states.specs.epoch_core.specs.Events.{slot_of}

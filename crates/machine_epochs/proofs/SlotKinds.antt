@@ -20,11 +20,12 @@ use Rattle.machine_states.specs.table_words.specs.Seen.{upd, put}
 use Rattle.machine_states.specs.structure_laws.specs.Meaning.{Meaning}
 use Rattle.machine_states.specs.runner_parts.specs.declared.event.EventKind.TheVariants as kinds
 use Rattle.machine_states.specs.runner_parts.specs.State.{RunState, PartState, RecordsState}
-use Rattle.machine_states.specs.runner_steps.specs.Sections.{thunk_of, is_open_run, next_of}
+use Rattle.machine_states.specs.runner_steps.specs.Sections.{thunk_of, is_open_run, next_of, commits_to}
 use Rattle.machine_states.specs.runner_parts.specs.Tests.{has}
 use Rattle.machine_states.specs.runner_parts.specs.Lists.{without, slot_taken, slot_made, slot_back}
 use Rattle.machine_states.specs.runner_steps.specs.Asks.{sizes_for}
-use Rattle.machine_states.specs.runner_steps.specs.InRun.{last_of, make_slot, is_slot, fill_load_ask, fill_store_ask, make_commit_ask}
+use Rattle.machine_states.specs.runner_steps.specs.InRun.{last_of, make_slot, is_slot, fill_load_ask, fill_store_ask}
+use Rattle.machine_states.specs.Blockless.{make_commit_ask}
 use Rattle.machine_states.specs.runner_steps.specs.AfterInRun as runs
 use Rattle.machine_states.specs.epoch_core.specs.declared.location.Location.{Location}
 use Rattle.machine_states.specs.epoch_core.specs.declared.location.Location.TheVariants.{Live, Hand, Free}
@@ -47,7 +48,6 @@ use Rattle.machine_epochs.proofs.Places.{free_node, apart, log_elsewhere, run_ro
 use Rattle.machine_epochs.proofs.Joining.{but_cell, descriptor_same, Goes, GoesBy, next}
 use Rattle.machine_epochs.proofs.RunKinds.{is_of_retire, run_goes, still, steps, goes_on, Leads, for_step}
 use Rattle.machine_epochs.proofs.CommitKinds.{log_past}
-use Rattle.machine_epochs.specs.Roles.{commits_to}
 
 -- a place changes at one slot
 pub other_place : (f : ℕ → Location) (t i : ℕ) (p : Location) → i ≢ t → upd f t p i ≡ f i

@@ -18,7 +18,8 @@ use Rattle.machine_states.specs.runner_parts.specs.declared.entries.Stored.{Stor
 use Rattle.machine_states.specs.runner_parts.specs.State.{PartState, RecordsState}
 use Rattle.machine_states.specs.runner_parts.specs.Tests.{has, last_stored}
 use Rattle.machine_states.specs.runner_parts.specs.Lists.{nodes_looked, descriptor_stored}
-use Rattle.machine_states.specs.runner_steps.specs.Outside.{descriptor_spot, private_load_ask, private_store_ask}
+use Rattle.machine_states.specs.runner_steps.specs.Outside.{descriptor_spot}
+use Rattle.machine_states.specs.Blockless.{private_load_ask, private_store_ask}
 use Rattle.machine_states.specs.runner_steps.specs.Asks.{sizes_for}
 use Rattle.machine_states.specs.epoch_core.specs.declared.location.Location.TheVariants.{Free}
 use Rattle.machine_states.specs.epoch_core.specs.Update.{upd2}

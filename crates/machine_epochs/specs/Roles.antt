@@ -1,7 +1,5 @@
 -- What a section commits at each place of its log.
-use Rattle.std.specs.Prelude.{ℕ, List, [], ◌∷◌, ◌++◌, slice_index_or, Option, Some, None}
-use Rattle.machine_states.specs.body_terms.specs.declared.micro.Micro.{Micro}
-use Rattle.machine_states.specs.body_terms.specs.declared.micro.Micro.TheVariants.{Commit, NestedCommit, OutcomeCommit, MakeCommit, RetireCommit}
+use Rattle.std.specs.Prelude.{ℕ, List, [], ◌∷◌, ◌++◌, slice_index_or}
 use Rattle.machine_states.specs.body_terms.specs.declared.step.Step.{Step}
 use Rattle.machine_states.specs.body_terms.specs.declared.step.Step.TheVariants.{Load, Take, Make, Retire}
 use Rattle.machine_states.specs.epoch_core.specs.State.{Role, Agrees, Makes, Retires}
@@ -18,15 +16,6 @@ step_roles _ = []
 abbrev pub body_roles : List Step → List Role
 body_roles [] = []
 body_roles (step ∷ steps) = step_roles step ++ body_roles steps
-
--- the place in the log to which a step of the line commits, if it does
-abbrev pub commits_to : Micro → Option ℕ
-commits_to (Commit place log) = Some log
-commits_to (NestedCommit place log) = Some log
-commits_to (OutcomeCommit place log) = Some log
-commits_to (MakeCommit log) = Some log
-commits_to (RetireCommit slot log) = Some log
-commits_to _ = None
 
 -- what the body commits at this place of the log
 abbrev pub role_at : List Step → ℕ → Role

@@ -10,7 +10,7 @@ use Rattle.machine_states.specs.structure_laws.specs.Meaning.{Meaning}
 use Rattle.machine_states.specs.runner_parts.specs.declared.event.EventKind.{EventKind}
 use Rattle.machine_states.specs.runner_parts.specs.declared.event.EventKind.TheVariants as kinds
 use Rattle.machine_states.specs.runner_parts.specs.State.{RunState, GuardsState, PartState}
-use Rattle.machine_states.specs.runner_steps.specs.Sections.{is_open_run, next_of}
+use Rattle.machine_states.specs.runner_steps.specs.Sections.{is_open_run, next_of, commits_to}
 use Rattle.machine_states.specs.runner_parts.specs.Tests.{has, is_some_of}
 use Rattle.machine_states.specs.runner_steps.specs.Outside.{is_sure_of}
 use Rattle.machine_states.specs.runner_steps.specs.Guards.{is_last_guard}
@@ -19,7 +19,6 @@ use Rattle.machine_states.specs.epoch_core.specs.declared.location.Location.TheV
 use Rattle.machine_states.specs.epoch_core.specs.State.{Counts, EpochState, IsPending, MayHold}
 use Rattle.machine_states.specs.Sight.{Sight}
 use Rattle.machine_epochs.specs.Entries.{counts_of}
-use Rattle.machine_epochs.specs.Roles.{commits_to}
 
 -- the readings reach this node slot
 abbrev pub reaches_node : Meaning → Counts → Readings → ℕ → Bool

@@ -23,7 +23,7 @@ use Rattle.agreement_core.specs.State.{Section, AgreementState}
 use Rattle.agreement_core.specs.History.{HasAnswered, HasLeft}
 use Rattle.agreement_core.specs.PlainRuns.{chosen, IsOver, start_over, FollowsPlainRun}
 use Rattle.machine_states.specs.Sight.{Sight}
-use Rattle.machine_invariant.specs.machine_agreement.specs.machine_scenes.specs.Shown.{rules_of}
+use Rattle.machine_invariant.specs.machine_blocks.specs.machine_guards.specs.machine_agreement.specs.machine_scenes.specs.Shown.{rules_of}
 use Rattle.machine_invariant.specs.Along.{Components}
 use Rattle.machine_invariant.specs.States.{StateIsSound}
 use Rattle.machine_invariant.specs.Trails.{thunk_at, IsEndOf}

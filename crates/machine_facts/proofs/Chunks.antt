@@ -16,8 +16,8 @@ use Rattle.agreement_core.specs.State.{AgreementState}
 use Rattle.agreement_core.specs.Events as agreement
 use Rattle.machine_states.specs.epoch_core.specs.State.{Role}
 use Rattle.machine_states.specs.epoch_core.specs.Events as epochs
-use Rattle.machine_invariant.specs.machine_agreement.specs.machine_epochs.specs.Chunks as slots
-use Rattle.machine_invariant.specs.machine_agreement.specs.Chunks as sections
+use Rattle.machine_invariant.specs.machine_blocks.specs.machine_guards.specs.machine_agreement.specs.machine_epochs.specs.Chunks as slots
+use Rattle.machine_invariant.specs.machine_blocks.specs.machine_guards.specs.machine_agreement.specs.Chunks as sections
 use Rattle.machine_states.specs.body_terms.specs.Line.{is_end}
 use Rattle.machine_states.specs.guard_core.specs.Moves.{is_unnamed}
 use Rattle.machine_states.specs.runner_parts.specs.declared.entries.Published.{Published}

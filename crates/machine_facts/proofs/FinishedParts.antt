@@ -9,13 +9,14 @@ use Rattle.machine_states.specs.structure_laws.specs.Meaning.{Meaning}
 use Rattle.machine_states.specs.runner_parts.specs.declared.event.EventKind.{EventKind}
 use Rattle.machine_states.specs.runner_parts.specs.declared.event.EventKind.TheVariants as kinds
 use Rattle.machine_states.specs.runner_parts.specs.State.{FinishedState, PartState, RunState}
-use Rattle.machine_states.specs.runner_steps.specs.After.{after, leaves as leaves_part, knows_also, stepped}
+use Rattle.machine_states.specs.runner_steps.specs.After.{leaves as leaves_part, knows_also}
+use Rattle.machine_states.specs.Blockless.{after, stepped}
 use Rattle.machine_states.specs.Sight.{Sight, Steps, parts_after}
 use Rattle.machine_states.proofs.Updates.{upd_here, upd_else}
 use Rattle.machine_states.specs.runner_steps.specs.Sections.{is_open_run}
 use Rattle.machine_states.specs.runner_steps.specs.AfterInRun.{ended_more, finished_of}
-use Rattle.machine_invariant.specs.machine_agreement.proofs.LineKinds.{noted_finished}
-use Rattle.machine_invariant.specs.machine_agreement.proofs.Releases.{get_more}
+use Rattle.machine_invariant.specs.machine_blocks.specs.machine_guards.specs.machine_agreement.proofs.LineKinds.{noted_finished}
+use Rattle.machine_invariant.specs.machine_blocks.specs.machine_guards.specs.machine_agreement.proofs.Releases.{get_more}
 use Rattle.machine_facts.proofs.Records.{stepped_same}
 
 module _ (m : Meaning) (l : Layout) (rs : List Request) (s s' : Sight) (r : ℕ) (kind : EventKind) (step : Steps m l rs s s' r kind) where

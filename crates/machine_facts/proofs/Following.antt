@@ -23,8 +23,8 @@ use Rattle.machine_states.specs.body_terms.specs.Shape.{IsShaped}
 use Rattle.machine_states.specs.body_terms.specs.declared.thunk.Thunk.{Thunk}
 use Rattle.machine_states.proofs.Sights.{some_none, happens_steps}
 use Rattle.machine_states.proofs.Steps.{some_same}
-use Rattle.machine_invariant.specs.machine_agreement.specs.machine_epochs.specs.Entries.{counts_of}
-use Rattle.machine_invariant.specs.machine_agreement.specs.machine_epochs.proofs.FirstJoin.{at_fixed, each_part}
+use Rattle.machine_invariant.specs.machine_blocks.specs.machine_guards.specs.machine_agreement.specs.machine_epochs.specs.Entries.{counts_of}
+use Rattle.machine_invariant.specs.machine_blocks.specs.machine_guards.specs.machine_agreement.specs.machine_epochs.proofs.FirstJoin.{at_fixed, each_part}
 use Rattle.machine_invariant.specs.Along.{Components, first_components, components_after, AreExact}
 use Rattle.machine_invariant.specs.After.{AreAllowed}
 use Rattle.machine_invariant.specs.States.{StateIsSound}

@@ -17,10 +17,10 @@ use Rattle.machine_states.specs.epoch_core.specs.Events as epochs
 use Rattle.machine_states.specs.epoch_core.specs.History as epoch_history
 use Rattle.machine_states.specs.epoch_core.specs.Freed.{SlotsMove, FreedStay}
 use Rattle.machine_states.specs.Sight.{Sight}
-use Rattle.machine_invariant.specs.machine_agreement.specs.machine_epochs.specs.Entries.{counts_of}
-use Rattle.machine_invariant.specs.machine_agreement.specs.machine_scenes.specs.Shown.{rules_of}
-use Rattle.machine_invariant.specs.machine_agreement.specs.Chunks as sections
-use Rattle.machine_invariant.specs.machine_agreement.specs.Joined.{IsJoinedToAgreement, ShowsRun}
+use Rattle.machine_invariant.specs.machine_blocks.specs.machine_guards.specs.machine_agreement.specs.machine_epochs.specs.Entries.{counts_of}
+use Rattle.machine_invariant.specs.machine_blocks.specs.machine_guards.specs.machine_agreement.specs.machine_scenes.specs.Shown.{rules_of}
+use Rattle.machine_invariant.specs.machine_blocks.specs.machine_guards.specs.machine_agreement.specs.Chunks as sections
+use Rattle.machine_invariant.specs.machine_blocks.specs.machine_guards.specs.machine_agreement.specs.Joined.{IsJoinedToAgreement, ShowsRun}
 use Rattle.machine_invariant.specs.Along.{Components, reaches_of, components_after, AreEventsOf, AreExact}
 use Rattle.machine_invariant.proofs.Runs.{AllAre, passes_are, append_are}
 use Rattle.machine_facts.specs.States.{NumberAlike}

@@ -18,8 +18,8 @@ use Rattle.agreement_core.specs.State.{AgreementState}
 use Rattle.agreement_core.proofs.Standing.{takes_stand}
 use Rattle.agreement_core.proofs.Words.{value_held}
 use Rattle.machine_states.specs.Sight.{Sight, sight}
-use Rattle.machine_invariant.specs.machine_agreement.specs.machine_epochs.proofs.Places.{run_thunk}
-use Rattle.machine_invariant.specs.machine_agreement.specs.machine_scenes.specs.Shown.{rules_of}
+use Rattle.machine_invariant.specs.machine_blocks.specs.machine_guards.specs.machine_agreement.specs.machine_epochs.proofs.Places.{run_thunk}
+use Rattle.machine_invariant.specs.machine_blocks.specs.machine_guards.specs.machine_agreement.specs.machine_scenes.specs.Shown.{rules_of}
 use Rattle.machine_invariant.specs.Trails.{log_of}
 use Rattle.machine_invariant.specs.Whole.{Beside, IsWhole}
 use Rattle.machine_invariant.proofs.After.{reached_whole}

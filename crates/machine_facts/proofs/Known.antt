@@ -31,16 +31,17 @@ use Rattle.machine_states.specs.runner_steps.specs.Reads.{read_reply_ask, read_s
 use Rattle.machine_states.specs.runner_steps.specs.InRun.{last_clock, stamp_after, stamp_exchange_ask, reply_exchange_ask}
 use Rattle.machine_states.specs.runner_steps.specs.Outside.{entry_spot}
 use Rattle.machine_states.specs.epoch_core.specs.State.{last_epoch}
-use Rattle.machine_states.specs.runner_steps.specs.Asks.{asks, outside_ask, inside_ask, line_ask, opening_ask}
+use Rattle.machine_states.specs.runner_steps.specs.Asks.{opening_ask}
+use Rattle.machine_states.specs.Blockless.{asks, outside_ask, inside_ask, line_ask, outside_after, line_after, inside_after, after_by, stepped, after}
 use Rattle.machine_states.specs.runner_steps.specs.AfterInRun as inside
 use Rattle.machine_states.specs.runner_steps.specs.AfterOutside as outside
-use Rattle.machine_states.specs.runner_steps.specs.After.{outside_after, line_after, inside_after, after_by, stepped, after, leaves, knows_also}
+use Rattle.machine_states.specs.runner_steps.specs.After.{leaves, knows_also}
 use Rattle.machine_states.specs.Sight.{Sight, Steps, parts_after}
 use Rattle.machine_states.proofs.Sights.{if_some, some_none}
 use Rattle.machine_states.proofs.Steps.{some_same}
 use Rattle.machine_states.proofs.Updates.{put_same, upd_here, upd_else}
-use Rattle.machine_invariant.specs.machine_agreement.specs.machine_epochs.proofs.OutsideAsked.{entry_asked}
-use Rattle.machine_invariant.specs.machine_agreement.specs.machine_epochs.proofs.ReadsAsked.{read_reply_asked, read_stamp_asked}
+use Rattle.machine_invariant.specs.machine_blocks.specs.machine_guards.specs.machine_agreement.specs.machine_epochs.proofs.OutsideAsked.{entry_asked}
+use Rattle.machine_invariant.specs.machine_blocks.specs.machine_guards.specs.machine_agreement.specs.machine_epochs.proofs.ReadsAsked.{read_reply_asked, read_stamp_asked}
 use Rattle.machine_invariant.proofs.Asked.{asked_by}
 use Rattle.machine_facts.specs.Steps.{WordsStand}
 use Rattle.machine_facts.specs.Known.{KnownStand}

@@ -20,10 +20,10 @@ use Rattle.agreement_core.specs.Late.{IsReleaseOf}
 use Rattle.agreement_core.proofs.Keeping as agreement_keeping
 use Rattle.agreement_core.proofs.Late.{locks_leave}
 use Rattle.machine_states.specs.Sight.{Sight}
-use Rattle.machine_invariant.specs.machine_agreement.specs.machine_scenes.specs.Shown.{rules_of}
-use Rattle.machine_invariant.specs.machine_agreement.specs.Chunks as sections
+use Rattle.machine_invariant.specs.machine_blocks.specs.machine_guards.specs.machine_agreement.specs.machine_scenes.specs.Shown.{rules_of}
+use Rattle.machine_invariant.specs.machine_blocks.specs.machine_guards.specs.machine_agreement.specs.Chunks as sections
 use Rattle.machine_states.specs.runner_parts.specs.declared.entries.Published.{Published}
-use Rattle.machine_invariant.specs.machine_agreement.specs.Joined.{IsJoinedToAgreement, ShowsRun}
+use Rattle.machine_invariant.specs.machine_blocks.specs.machine_guards.specs.machine_agreement.specs.Joined.{IsJoinedToAgreement, ShowsRun}
 use Rattle.machine_invariant.specs.Along.{Components, components_after, AreEventsOf}
 use Rattle.machine_invariant.proofs.Runs.{AllAre, passes_are, append_are}
 use Rattle.machine_facts.specs.Steps.{IsRelease, LocksStand}

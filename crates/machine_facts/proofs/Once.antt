@@ -18,8 +18,8 @@ use Rattle.machine_states.specs.epoch_core.specs.History as epoch_history
 use Rattle.machine_states.specs.epoch_core.specs.Freed.{IsFreed, FreedStay}
 use Rattle.machine_states.specs.World.{World}
 use Rattle.machine_states.specs.Sight.{Sight, sight}
-use Rattle.machine_invariant.specs.machine_agreement.specs.machine_epochs.specs.Entries.{counts_of}
-use Rattle.machine_invariant.specs.machine_agreement.specs.machine_scenes.specs.Shown.{rules_of}
+use Rattle.machine_invariant.specs.machine_blocks.specs.machine_guards.specs.machine_agreement.specs.machine_epochs.specs.Entries.{counts_of}
+use Rattle.machine_invariant.specs.machine_blocks.specs.machine_guards.specs.machine_agreement.specs.machine_scenes.specs.Shown.{rules_of}
 use Rattle.machine_invariant.specs.Along.{Components, components_after}
 use Rattle.machine_invariant.specs.Trails.{thunk_at}
 use Rattle.machine_invariant.specs.Sections.{IsAnswered}

@@ -17,11 +17,11 @@ use Rattle.agreement_core.specs.State.{AgreementState}
 use Rattle.agreement_core.specs.Events as agreement
 use Rattle.agreement_core.specs.Schedules as agreement_schedules
 use Rattle.machine_states.specs.Sight.{Sight, Steps}
-use Rattle.machine_invariant.specs.machine_agreement.specs.machine_epochs.proofs.Joining.{thunk_same}
-use Rattle.machine_invariant.specs.machine_agreement.specs.machine_scenes.specs.Shown.{rules_of}
-use Rattle.machine_invariant.specs.machine_agreement.specs.Chunks as sections
-use Rattle.machine_invariant.specs.machine_agreement.specs.Joined.{IsJoinedToAgreement, IsRunOf}
-use Rattle.machine_invariant.specs.machine_agreement.proofs.RunPlaces.{run_here, used_here, opened_thunk}
+use Rattle.machine_invariant.specs.machine_blocks.specs.machine_guards.specs.machine_agreement.specs.machine_epochs.proofs.Joining.{thunk_same}
+use Rattle.machine_invariant.specs.machine_blocks.specs.machine_guards.specs.machine_agreement.specs.machine_scenes.specs.Shown.{rules_of}
+use Rattle.machine_invariant.specs.machine_blocks.specs.machine_guards.specs.machine_agreement.specs.Chunks as sections
+use Rattle.machine_invariant.specs.machine_blocks.specs.machine_guards.specs.machine_agreement.specs.Joined.{IsJoinedToAgreement, IsRunOf}
+use Rattle.machine_invariant.specs.machine_blocks.specs.machine_guards.specs.machine_agreement.proofs.RunPlaces.{run_here, used_here, opened_thunk}
 use Rattle.machine_invariant.specs.Along.{Components, components_after, AreEventsOf, AreExact}
 use Rattle.machine_invariant.specs.States.{StateIsSound}
 use Rattle.machine_invariant.specs.Trails.{thunk_at, step_at, IsEndOf}

@@ -21,13 +21,13 @@ use Rattle.machine_states.specs.runner_parts.specs.State.{RunState, PartState}
 use Rattle.machine_states.specs.runner_parts.specs.Tests.{has_pair}
 use Rattle.machine_states.specs.runner_steps.specs.Sections.{is_open_run, next_of}
 use Rattle.machine_states.specs.runner_steps.specs.InRun.{last_clock}
-use Rattle.machine_states.specs.runner_steps.specs.Asks.{asks, outside_ask, inside_ask, line_ask, opening_ask}
+use Rattle.machine_states.specs.runner_steps.specs.Asks.{opening_ask}
+use Rattle.machine_states.specs.Blockless.{asks, outside_ask, inside_ask, line_ask, outside_after, line_after, inside_after, after_by, stepped}
 use Rattle.machine_states.specs.runner_steps.specs.AfterInRun as inside
 use Rattle.machine_states.specs.runner_steps.specs.AfterOutside as outside
-use Rattle.machine_states.specs.runner_steps.specs.After.{outside_after, line_after, inside_after, after_by, stepped}
 use Rattle.machine_states.proofs.Sights.{some_none}
-use Rattle.machine_invariant.specs.machine_agreement.specs.machine_epochs.proofs.InsideAsked as asked_inside
-use Rattle.machine_invariant.specs.machine_agreement.specs.machine_epochs.proofs.OutsideAsked as asked_outside
+use Rattle.machine_invariant.specs.machine_blocks.specs.machine_guards.specs.machine_agreement.specs.machine_epochs.proofs.InsideAsked as asked_inside
+use Rattle.machine_invariant.specs.machine_blocks.specs.machine_guards.specs.machine_agreement.specs.machine_epochs.proofs.OutsideAsked as asked_outside
 use Rattle.machine_invariant.proofs.Asked.{asked_by}
 
 -- a pair of a list with one more at its end

@@ -21,12 +21,11 @@ use Rattle.machine_states.specs.runner_parts.specs.Lists.{learned}
 use Rattle.machine_states.specs.runner_parts.specs.Tests.{knows}
 use Rattle.machine_states.specs.runner_steps.specs.Sections.{thunk_of, line_of, next_of, settles}
 use Rattle.machine_states.specs.runner_steps.specs.InRun.{last_clock, stamp_after}
-use Rattle.machine_states.specs.runner_steps.specs.Asks.{line_ask}
+use Rattle.machine_states.specs.Blockless.{line_ask, line_after}
 use Rattle.machine_states.specs.runner_steps.specs.AfterInRun as inside
-use Rattle.machine_states.specs.runner_steps.specs.After.{line_after}
 use Rattle.machine_states.proofs.Sights.{some_none}
 use Rattle.machine_states.proofs.Steps.{some_same}
-use Rattle.machine_invariant.specs.machine_agreement.proofs.Passes.{ahead}
+use Rattle.machine_invariant.specs.machine_blocks.specs.machine_guards.specs.machine_agreement.proofs.Passes.{ahead}
 use Rattle.machine_facts.specs.Told.{IsTold, PartIsTold}
 
 -- who knows more knows what it knew

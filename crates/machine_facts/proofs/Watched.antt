@@ -19,7 +19,7 @@ use Rattle.machine_states.proofs.FirstSights.{first_parts}
 use Rattle.machine_states.proofs.Reached.{first_reached, more_reached, reached_has, reached_all}
 use Rattle.machine_states.proofs.Runs.{run_more}
 use Rattle.machine_states.proofs.Sights.{happens_steps}
-use Rattle.machine_invariant.specs.machine_agreement.specs.machine_epochs.proofs.FirstJoin.{each_part}
+use Rattle.machine_invariant.specs.machine_blocks.specs.machine_guards.specs.machine_agreement.specs.machine_epochs.proofs.FirstJoin.{each_part}
 use Rattle.machine_invariant.specs.After.{AreAllowed}
 use Rattle.machine_facts.specs.Steps.{IsRelease}
 use Rattle.machine_facts.specs.After.{AreFactsOfStep}

@@ -13,14 +13,14 @@ use Rattle.machine_states.specs.structure_laws.specs.Meaning.{Meaning}
 use Rattle.machine_states.specs.runner_parts.specs.declared.event.EventKind.{EventKind}
 use Rattle.machine_states.specs.runner_parts.specs.declared.event.EventKind.TheVariants as kinds
 use Rattle.machine_states.specs.runner_parts.specs.State.{RunState, PartState}
-use Rattle.machine_states.specs.runner_steps.specs.Asks.{outside_ask}
+use Rattle.machine_states.specs.Blockless.{outside_ask}
 use Rattle.agreement_core.specs.Events as agreement
 use Rattle.machine_states.specs.Sight.{Sight, Steps}
 use Rattle.machine_states.proofs.Steps.{some_same}
-use Rattle.machine_invariant.specs.machine_agreement.specs.machine_epochs.proofs.OutsideAsked.{private_store_asked}
-use Rattle.machine_invariant.specs.machine_agreement.specs.machine_scenes.specs.Shown.{rules_of}
-use Rattle.machine_invariant.specs.machine_agreement.specs.Chunks as sections
-use Rattle.machine_invariant.specs.machine_agreement.specs.Joined.{IsJoinedToAgreement}
+use Rattle.machine_invariant.specs.machine_blocks.specs.machine_guards.specs.machine_agreement.specs.machine_epochs.proofs.OutsideAsked.{private_store_asked}
+use Rattle.machine_invariant.specs.machine_blocks.specs.machine_guards.specs.machine_agreement.specs.machine_scenes.specs.Shown.{rules_of}
+use Rattle.machine_invariant.specs.machine_blocks.specs.machine_guards.specs.machine_agreement.specs.Chunks as sections
+use Rattle.machine_invariant.specs.machine_blocks.specs.machine_guards.specs.machine_agreement.specs.Joined.{IsJoinedToAgreement}
 use Rattle.machine_invariant.specs.Along.{Components, components_after, AreEventsOf, AreExact}
 use Rattle.machine_invariant.proofs.Asked.{asked_by}
 use Rattle.machine_invariant.proofs.Thunks.{inside_leaves, outside_leaves, other_thunk}

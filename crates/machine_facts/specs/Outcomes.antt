@@ -10,7 +10,7 @@ use Rattle.machine_states.specs.runner_steps.specs.Sections.{reply_in}
 use Rattle.agreement_core.specs.State.{AgreementState}
 use Rattle.agreement_core.specs.PlainRuns.{chosen, IsOver}
 use Rattle.machine_states.specs.Sight.{Sight}
-use Rattle.machine_invariant.specs.machine_agreement.specs.machine_scenes.specs.Shown.{rules_of}
+use Rattle.machine_invariant.specs.machine_blocks.specs.machine_guards.specs.machine_agreement.specs.machine_scenes.specs.Shown.{rules_of}
 use Rattle.machine_invariant.specs.Trails.{thunk_at, IsEndOf}
 use Rattle.machine_invariant.specs.Sections.{IsAnswered, IsLeft}
 

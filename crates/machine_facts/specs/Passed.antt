@@ -9,7 +9,7 @@ use Rattle.machine_states.specs.epoch_core.specs.Events as epochs
 use Rattle.machine_states.specs.epoch_core.specs.Freed.{SlotsMove}
 use Rattle.machine_states.specs.World.{World, happens}
 use Rattle.machine_states.specs.Sight.{sight}
-use Rattle.machine_invariant.specs.machine_agreement.specs.machine_epochs.specs.Entries.{counts_of}
+use Rattle.machine_invariant.specs.machine_blocks.specs.machine_guards.specs.machine_agreement.specs.machine_epochs.specs.Entries.{counts_of}
 use Rattle.machine_invariant.specs.Along.{Components, components_after, AreEventsOf}
 use Rattle.machine_facts.specs.Steps.{WordsStand, LocksStand}
 use Rattle.machine_facts.specs.States.{FactsStand}

@@ -14,9 +14,10 @@ use Rattle.machine_states.specs.structure_laws.specs.Meaning.{Meaning}
 use Rattle.machine_states.specs.runner_parts.specs.declared.event.EventKind.{EventKind}
 use Rattle.machine_states.specs.runner_parts.specs.declared.event.EventKind.TheVariants as kinds
 use Rattle.machine_states.specs.runner_parts.specs.State.{RunState, PartState, RecordsState}
-use Rattle.machine_states.specs.runner_steps.specs.After.{outside_after, line_after, after_by, noted, after, leaves, knows_also}
+use Rattle.machine_states.specs.runner_steps.specs.After.{noted, leaves, knows_also}
+use Rattle.machine_states.specs.Blockless.{outside_after, line_after, after_by, after, outside_ask, line_ask, inside_ask, ask_by, asks}
 use Rattle.machine_states.specs.runner_steps.specs.AfterInRun.{opened_more}
-use Rattle.machine_states.specs.runner_steps.specs.Asks.{outside_ask, line_ask, opening_ask, inside_ask, ask_by, sizes_for, asks}
+use Rattle.machine_states.specs.runner_steps.specs.Asks.{opening_ask, sizes_for}
 use Rattle.machine_states.specs.runner_steps.specs.Sections.{is_open_run, next_of}
 use Rattle.machine_states.specs.epoch_core.specs.State.{EpochState}
 use Rattle.machine_states.specs.guard_core.specs.Events.{Event}

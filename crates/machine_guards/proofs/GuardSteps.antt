@@ -25,7 +25,7 @@ use Rattle.machine_states.specs.runner_parts.specs.declared.entries.Published.{P
 use Rattle.machine_states.specs.runner_parts.specs.Lists.{cell_read, descriptor_taken, published_seen, descriptors_swept, with_looked}
 use Rattle.machine_states.specs.runner_parts.specs.State.{GuardsState, PartState, RecordsState}
 use Rattle.machine_states.specs.runner_parts.specs.Tests.{has, is_some_of, thunk_words}
-use Rattle.machine_states.specs.runner_steps.specs.After.{outside_after}
+use Rattle.machine_states.specs.Blockless.{outside_after}
 use Rattle.machine_states.specs.runner_steps.specs.AfterOutside.{published_by}
 use Rattle.machine_states.specs.runner_steps.specs.Guards.{guard_ask, load_guard_ask, is_last_guard}
 use Rattle.machine_states.specs.runner_steps.specs.Outside.{enter_again_ask, idle_ask, hold_ask, open_ask}

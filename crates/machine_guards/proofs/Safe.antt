@@ -18,8 +18,8 @@ use Rattle.machine_states.specs.runner_parts.specs.declared.event.EventKind.TheV
 use Rattle.machine_states.specs.runner_parts.specs.Lists.{descriptors_swept}
 use Rattle.machine_states.specs.runner_parts.specs.State.{RunState, DescriptorsState, PartState}
 use Rattle.machine_states.specs.runner_parts.specs.Tests.{has}
-use Rattle.machine_states.specs.runner_steps.specs.After.{after, after_by}
-use Rattle.machine_states.specs.runner_steps.specs.Asks.{ask_by, sizes_for}
+use Rattle.machine_states.specs.Blockless.{after, after_by, ask_by}
+use Rattle.machine_states.specs.runner_steps.specs.Asks.{sizes_for}
 use Rattle.machine_states.specs.runner_steps.specs.Guards.{is_last_guard}
 use Rattle.machine_states.specs.runner_steps.specs.Sections.{is_open_run}
 use Rattle.machine_states.specs.runner_steps.specs.Outside.{is_sure_of}

@@ -14,10 +14,9 @@ use Rattle.machine_states.specs.runner_parts.specs.declared.event.EventKind.{Eve
 use Rattle.machine_states.specs.runner_parts.specs.declared.event.EventKind.TheVariants as kinds
 use Rattle.machine_states.specs.runner_parts.specs.declared.entries.Published.{Published}
 use Rattle.machine_states.specs.runner_parts.specs.State.{RunState, PartState}
-use Rattle.machine_states.specs.runner_steps.specs.After.{outside_after, line_after}
+use Rattle.machine_states.specs.Blockless.{outside_after, line_after, outside_ask}
 use Rattle.machine_states.specs.runner_steps.specs.AfterInRun.{opened_more, fill_loaded, make_committed}
 use Rattle.machine_states.specs.runner_steps.specs.AfterOutside.{scan_one_after, advance_after}
-use Rattle.machine_states.specs.runner_steps.specs.Asks.{outside_ask}
 use Rattle.machine_states.specs.runner_steps.specs.Outside.{scan_one_ask, advance_ask}
 use Rattle.machine_states.specs.runner_steps.specs.Sections.{next_of}
 use Rattle.machine_states.proofs.Sights.{some_none}

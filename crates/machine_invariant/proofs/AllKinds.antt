@@ -14,12 +14,13 @@ use Rattle.machine_states.specs.runner_parts.specs.declared.event.EventKind.{Eve
 use Rattle.machine_states.specs.runner_parts.specs.declared.event.EventKind.TheVariants as kinds
 use Rattle.machine_states.specs.runner_parts.specs.State.{RunState, PartState}
 use Rattle.machine_states.specs.runner_steps.specs.Sections.{is_open_run, next_of}
-use Rattle.machine_states.specs.runner_steps.specs.Asks.{line_ask, opening_ask, asks, sizes_for}
+use Rattle.machine_states.specs.runner_steps.specs.Asks.{opening_ask, sizes_for}
+use Rattle.machine_states.specs.Blockless.{line_ask, asks}
 use Rattle.machine_states.specs.World.{is_join}
 use Rattle.machine_states.specs.Sight.{Sight, sight_after, Steps}
 use Rattle.machine_states.proofs.Sights.{some_none}
-use Rattle.machine_guards.specs.machine_agreement.specs.machine_epochs.specs.Entries.{counts_of}
-use Rattle.machine_guards.specs.machine_agreement.proofs.LineAsked.{line_asked}
+use Rattle.machine_blocks.specs.machine_guards.specs.machine_agreement.specs.machine_epochs.specs.Entries.{counts_of}
+use Rattle.machine_blocks.specs.machine_guards.specs.machine_agreement.proofs.LineAsked.{line_asked}
 use Rattle.machine_invariant.specs.Whole.{Beside, IsWhole}
 use Rattle.machine_invariant.proofs.Asked.{asked_by}
 use Rattle.machine_invariant.proofs.SuppliesSlots.{HoldsMet, slots_met}

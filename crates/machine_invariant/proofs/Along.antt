@@ -14,11 +14,11 @@ use Rattle.agreement_core.specs.Schedules as agreement_schedules
 use Rattle.agreement_core.proofs.Keeping as agreement_keeping
 use Rattle.agreement_core.proofs.Recording as agreement_recording
 use Rattle.machine_states.specs.Sight.{Sight, sight}
-use Rattle.machine_guards.specs.machine_agreement.proofs.FirstJoined.{first_joined}
+use Rattle.machine_blocks.specs.machine_guards.specs.machine_agreement.proofs.FirstJoined.{first_joined}
 use Rattle.machine_states.specs.table_words.specs.Limits.{IsWithinLimits}
-use Rattle.machine_guards.specs.machine_agreement.specs.machine_epochs.specs.Entries.{counts_of}
-use Rattle.machine_guards.specs.machine_agreement.specs.machine_epochs.proofs.FirstJoin.{first_is}
-use Rattle.machine_guards.specs.machine_agreement.specs.machine_scenes.specs.Shown.{rules_of}
+use Rattle.machine_blocks.specs.machine_guards.specs.machine_agreement.specs.machine_epochs.specs.Entries.{counts_of}
+use Rattle.machine_blocks.specs.machine_guards.specs.machine_agreement.specs.machine_epochs.proofs.FirstJoin.{first_is}
+use Rattle.machine_blocks.specs.machine_guards.specs.machine_agreement.specs.machine_scenes.specs.Shown.{rules_of}
 use Rattle.machine_invariant.specs.Along.{Components, first_components, components_after, AreExact, StayExact, BeginExact}
 
 module _ (m : Meaning) (l : Layout) where

@@ -13,10 +13,10 @@ use Rattle.machine_states.specs.runner_steps.specs.Sections.{is_open_run, next_o
 use Rattle.agreement_core.specs.State.{AgreementState}
 use Rattle.agreement_core.specs.Events as agreement
 use Rattle.machine_states.specs.epoch_core.specs.Events as epochs
-use Rattle.machine_guards.specs.machine_agreement.specs.machine_epochs.proofs.Reaching.{leaves_descriptors}
-use Rattle.machine_guards.specs.machine_agreement.specs.machine_epochs.specs.Chunks as slots
-use Rattle.machine_guards.specs.machine_agreement.specs.machine_scenes.specs.Kinds.{is_alone}
-use Rattle.machine_guards.specs.machine_agreement.specs.Chunks as sections
+use Rattle.machine_blocks.specs.machine_guards.specs.machine_agreement.specs.machine_epochs.proofs.Reaching.{leaves_descriptors}
+use Rattle.machine_blocks.specs.machine_guards.specs.machine_agreement.specs.machine_epochs.specs.Chunks as slots
+use Rattle.machine_blocks.specs.machine_guards.specs.machine_agreement.specs.machine_scenes.specs.Kinds.{is_alone}
+use Rattle.machine_blocks.specs.machine_guards.specs.machine_agreement.specs.Chunks as sections
 use Rattle.machine_invariant.proofs.Runs.{AllAre}
 use Rattle.machine_invariant.proofs.Quiet.{is_still}
 

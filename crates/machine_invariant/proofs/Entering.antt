@@ -12,9 +12,8 @@ use Rattle.machine_states.specs.structure_laws.specs.Sections.{IsAllowed}
 use Rattle.machine_states.specs.structure_laws.proofs.Changes.{upd_same, upd_other}
 use Rattle.machine_states.specs.runner_parts.specs.declared.event.EventKind.TheVariants as kinds
 use Rattle.machine_states.specs.runner_parts.specs.State.{ReadsState, PartState}
-use Rattle.machine_guards.specs.machine_agreement.specs.machine_epochs.proofs.OutsideAsked.{idle_away}
-use Rattle.machine_states.specs.runner_steps.specs.Asks.{asks}
-use Rattle.machine_states.specs.runner_steps.specs.After.{after_by, after}
+use Rattle.machine_blocks.specs.machine_guards.specs.machine_agreement.specs.machine_epochs.proofs.OutsideAsked.{idle_away}
+use Rattle.machine_states.specs.Blockless.{asks, after_by, after}
 use Rattle.machine_states.specs.table_words.specs.Seen.{upd}
 use Rattle.agreement_core.specs.State.{IsOpen}
 use Rattle.agreement_core.specs.Events as agreement
@@ -22,8 +21,8 @@ use Rattle.machine_states.specs.epoch_core.specs.State.{Counts}
 use Rattle.machine_states.specs.epoch_core.specs.Events as epochs
 use Rattle.machine_states.specs.Sight.{Sight, sight_after}
 use Rattle.machine_states.proofs.Updates.{upd_split}
-use Rattle.machine_guards.specs.machine_agreement.specs.machine_epochs.specs.Entries.{counts_of}
-use Rattle.machine_guards.specs.machine_agreement.specs.machine_scenes.specs.Steps as steps
+use Rattle.machine_blocks.specs.machine_guards.specs.machine_agreement.specs.machine_epochs.specs.Entries.{counts_of}
+use Rattle.machine_blocks.specs.machine_guards.specs.machine_agreement.specs.machine_scenes.specs.Steps as steps
 use Rattle.machine_invariant.specs.Whole.{Beside, states_of, made_of, IsWhole}
 use Rattle.machine_invariant.proofs.Runs.{is_calm, step_stands, agreement_stands, passes_are}
 use Rattle.machine_invariant.proofs.Quiet.{is_still, hands_of, stands_now}

@@ -25,19 +25,19 @@ use Rattle.machine_states.specs.World.{World}
 use Rattle.machine_states.specs.First.{IsFirst}
 use Rattle.machine_states.specs.Sight.{Sight, sight}
 use Rattle.machine_states.proofs.FirstSights.{first_parts}
-use Rattle.machine_guards.specs.machine_agreement.specs.machine_epochs.specs.Entries.{counts_of}
-use Rattle.machine_guards.specs.machine_agreement.specs.machine_epochs.specs.Firsts.{owner_of, first_place}
-use Rattle.machine_guards.specs.machine_agreement.specs.machine_epochs.proofs.FirstJoin as joins
-use Rattle.machine_guards.specs.machine_agreement.specs.machine_scenes.specs.Shown.{Publications, States}
-use Rattle.machine_guards.specs.machine_agreement.specs.machine_scenes.specs.Schedules as scenes
-use Rattle.machine_guards.specs.machine_agreement.specs.machine_scenes.specs.Kept.{IsKept}
-use Rattle.machine_guards.specs.machine_agreement.specs.machine_scenes.proofs.First.{first_kept}
-use Rattle.machine_guards.specs.machine_agreement.proofs.FirstJoined as sections
+use Rattle.machine_blocks.specs.machine_guards.specs.machine_agreement.specs.machine_epochs.specs.Entries.{counts_of}
+use Rattle.machine_blocks.specs.machine_guards.specs.machine_agreement.specs.machine_epochs.specs.Firsts.{owner_of, first_place}
+use Rattle.machine_blocks.specs.machine_guards.specs.machine_agreement.specs.machine_epochs.proofs.FirstJoin as joins
+use Rattle.machine_blocks.specs.machine_guards.specs.machine_agreement.specs.machine_scenes.specs.Shown.{Publications, States}
+use Rattle.machine_blocks.specs.machine_guards.specs.machine_agreement.specs.machine_scenes.specs.Schedules as scenes
+use Rattle.machine_blocks.specs.machine_guards.specs.machine_agreement.specs.machine_scenes.specs.Kept.{IsKept}
+use Rattle.machine_blocks.specs.machine_guards.specs.machine_agreement.specs.machine_scenes.proofs.First.{first_kept}
+use Rattle.machine_blocks.specs.machine_guards.specs.machine_agreement.proofs.FirstJoined as sections
 use Rattle.machine_slots.specs.Hands.{LocksAreHeld, SlotsAreFilled}
 use Rattle.machine_slots.proofs.Stores.{first_held, first_filled}
 use Rattle.machine_invariant.specs.Whole.{Beside, states_of, made_of, IsWhole}
 use Rattle.machine_invariant.proofs.Basics.{not_both}
-use Rattle.machine_guards.proofs.First.{first_stands}
+use Rattle.machine_blocks.specs.machine_guards.proofs.First.{first_stands}
 use Rattle.machine_blocks.proofs.First.{first_stand}
 
 -- nothing is published at first

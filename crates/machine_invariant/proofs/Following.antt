@@ -8,7 +8,7 @@ use Rattle.machine_states.specs.table_words.specs.declared.access.Access.{Access
 use Rattle.machine_states.specs.structure_laws.specs.Meaning.{Meaning}
 use Rattle.machine_states.specs.runner_parts.specs.declared.event.Event.{Event}
 use Rattle.machine_states.specs.runner_parts.specs.declared.event.EventKind.{EventKind}
-use Rattle.machine_states.specs.runner_steps.specs.Asks.{asks}
+use Rattle.machine_states.specs.Blockless.{asks}
 use Rattle.agreement_core.specs.Events as agreement
 use Rattle.agreement_core.specs.Schedules as agreement_schedules
 use Rattle.agreement_core.specs.History as agreement_history
@@ -21,8 +21,8 @@ use Rattle.machine_states.specs.Sight.{Sight, sight, Steps}
 use Rattle.machine_states.specs.Sight as states
 use Rattle.machine_states.proofs.Sights.{some_none, happens_steps}
 use Rattle.machine_states.proofs.Steps.{some_same}
-use Rattle.machine_guards.specs.machine_agreement.specs.machine_epochs.specs.Entries.{counts_of}
-use Rattle.machine_guards.specs.machine_agreement.specs.machine_scenes.specs.Shown.{States, Publications, rules_of}
+use Rattle.machine_blocks.specs.machine_guards.specs.machine_agreement.specs.machine_epochs.specs.Entries.{counts_of}
+use Rattle.machine_blocks.specs.machine_guards.specs.machine_agreement.specs.machine_scenes.specs.Shown.{States, Publications, rules_of}
 use Rattle.machine_invariant.specs.Along.{Components, reaches_of, components_after, AreEventsOf, GoAlong}
 use Rattle.machine_invariant.specs.Whole.{Beside, states_of, IsWhole}
 use Rattle.machine_invariant.proofs.States.{with_histories}

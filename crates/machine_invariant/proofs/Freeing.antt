@@ -16,7 +16,7 @@ use Rattle.machine_states.specs.runner_parts.specs.declared.event.EventKind.TheV
 use Rattle.machine_states.specs.runner_parts.specs.State.{PartState}
 use Rattle.machine_states.specs.runner_parts.specs.Tests.{has}
 use Rattle.machine_states.specs.runner_steps.specs.Guards.{is_last_guard}
-use Rattle.machine_states.specs.runner_steps.specs.Asks.{asks}
+use Rattle.machine_states.specs.Blockless.{asks}
 use Rattle.agreement_core.specs.State.{CellRules, AgreementState}
 use Rattle.agreement_core.specs.Events as agreement
 use Rattle.agreement_core.specs.Schedules as agreement_schedules
@@ -30,15 +30,15 @@ use Rattle.machine_states.specs.epoch_core.specs.Events.{Event, slot_of, is_amon
 use Rattle.machine_states.specs.epoch_core.specs.History.{is_out}
 use Rattle.machine_states.specs.Sight.{Sight, sight_after}
 use Rattle.machine_slots.specs.Hands.{Made}
-use Rattle.machine_guards.specs.Stands.{GuardsStand}
-use Rattle.machine_guards.specs.machine_agreement.specs.machine_epochs.specs.Entries.{counts_of}
-use Rattle.machine_guards.specs.machine_agreement.specs.machine_epochs.specs.Slots.{thunk_in}
-use Rattle.machine_guards.specs.machine_agreement.specs.machine_epochs.specs.Joined as joins
-use Rattle.machine_guards.specs.machine_agreement.specs.machine_scenes.specs.Shown.{States, rules_of}
-use Rattle.machine_guards.specs.machine_agreement.specs.machine_scenes.specs.Steps.{Agreement}
-use Rattle.machine_guards.specs.machine_agreement.specs.machine_scenes.specs.Steps as steps
-use Rattle.machine_guards.specs.machine_agreement.specs.Chunks.{frees}
-use Rattle.machine_guards.specs.machine_agreement.specs.Chunks as chunks
+use Rattle.machine_blocks.specs.machine_guards.specs.Stands.{GuardsStand}
+use Rattle.machine_blocks.specs.machine_guards.specs.machine_agreement.specs.machine_epochs.specs.Entries.{counts_of}
+use Rattle.machine_blocks.specs.machine_guards.specs.machine_agreement.specs.machine_epochs.specs.Slots.{thunk_in}
+use Rattle.machine_blocks.specs.machine_guards.specs.machine_agreement.specs.machine_epochs.specs.Joined as joins
+use Rattle.machine_blocks.specs.machine_guards.specs.machine_agreement.specs.machine_scenes.specs.Shown.{States, rules_of}
+use Rattle.machine_blocks.specs.machine_guards.specs.machine_agreement.specs.machine_scenes.specs.Steps.{Agreement}
+use Rattle.machine_blocks.specs.machine_guards.specs.machine_agreement.specs.machine_scenes.specs.Steps as steps
+use Rattle.machine_blocks.specs.machine_guards.specs.machine_agreement.specs.Chunks.{frees}
+use Rattle.machine_blocks.specs.machine_guards.specs.machine_agreement.specs.Chunks as chunks
 use Rattle.machine_invariant.specs.Whole.{Beside, states_of, made_of, AreTied, IsWhole}
 use Rattle.machine_invariant.proofs.Basics.{both_hold, both}
 use Rattle.machine_invariant.proofs.Runs.{is_calm, AllAre, passes_are, InHands, Stands, step_stands, agreement_stands, epochs_stand}

@@ -11,13 +11,13 @@ use Rattle.machine_states.specs.runner_parts.specs.declared.event.EventKind.TheV
 use Rattle.agreement_core.specs.Events as agreement
 use Rattle.machine_states.specs.epoch_core.specs.Events as epochs
 use Rattle.machine_states.specs.Sight.{Sight}
-use Rattle.machine_guards.specs.machine_agreement.specs.machine_epochs.specs.Entries.{counts_of}
-use Rattle.machine_guards.specs.machine_agreement.specs.machine_scenes.specs.Kinds.{is_alone}
-use Rattle.machine_guards.specs.machine_agreement.specs.machine_scenes.specs.Shown.{States, rules_of}
-use Rattle.machine_guards.specs.machine_agreement.specs.machine_scenes.specs.Steps as steps
-use Rattle.machine_guards.specs.machine_agreement.specs.machine_scenes.specs.Steps.{Step, Enabled, after}
-use Rattle.machine_guards.specs.machine_agreement.specs.machine_scenes.specs.Schedules.{AllEnabled, after_all}
-use Rattle.machine_guards.specs.machine_agreement.specs.Chunks.{publication, IsOutsideChunk}
+use Rattle.machine_blocks.specs.machine_guards.specs.machine_agreement.specs.machine_epochs.specs.Entries.{counts_of}
+use Rattle.machine_blocks.specs.machine_guards.specs.machine_agreement.specs.machine_scenes.specs.Kinds.{is_alone}
+use Rattle.machine_blocks.specs.machine_guards.specs.machine_agreement.specs.machine_scenes.specs.Shown.{States, rules_of}
+use Rattle.machine_blocks.specs.machine_guards.specs.machine_agreement.specs.machine_scenes.specs.Steps as steps
+use Rattle.machine_blocks.specs.machine_guards.specs.machine_agreement.specs.machine_scenes.specs.Steps.{Step, Enabled, after}
+use Rattle.machine_blocks.specs.machine_guards.specs.machine_agreement.specs.machine_scenes.specs.Schedules.{AllEnabled, after_all}
+use Rattle.machine_blocks.specs.machine_guards.specs.machine_agreement.specs.Chunks.{publication, IsOutsideChunk}
 use Rattle.machine_invariant.specs.Whole.{Beside, states_of, IsWhole}
 
 -- a step that publishes no section, and writes no word of a read; where it frees a descriptor, the section there

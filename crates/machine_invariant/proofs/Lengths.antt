@@ -13,7 +13,7 @@ use Rattle.machine_states.specs.epoch_core.specs.declared.location.Location.{Loc
 use Rattle.machine_states.specs.epoch_core.specs.Lists.{times}
 use Rattle.machine_states.specs.epoch_core.proofs.Times.{times-append}
 use Rattle.machine_states.specs.Sight.{Sight}
-use Rattle.machine_guards.specs.machine_agreement.specs.machine_epochs.specs.Descriptors.{times_limbo}
+use Rattle.machine_blocks.specs.machine_guards.specs.machine_agreement.specs.machine_epochs.specs.Descriptors.{times_limbo}
 use Rattle.machine_invariant.specs.Slots.{node_count, times_among, NodesStand}
 use Rattle.machine_invariant.specs.Lengths.{ListsAreShort}
 use Rattle.machine_invariant.specs.Whole.{Beside, IsWhole}

@@ -17,9 +17,9 @@ use Rattle.machine_states.specs.epoch_core.specs.State.{EpochState}
 use Rattle.machine_states.specs.epoch_core.specs.Events.{slot_of}
 use Rattle.machine_states.specs.epoch_core.specs.Lists.{times, in_any_limbo}
 use Rattle.machine_states.specs.Sight.{Sight}
-use Rattle.machine_guards.specs.machine_agreement.specs.machine_epochs.specs.Entries.{counts_of}
-use Rattle.machine_guards.specs.machine_agreement.specs.machine_epochs.specs.Joined.{IsJoinedToEpochs}
-use Rattle.machine_guards.specs.machine_agreement.specs.machine_epochs.proofs.Places.{has_times}
+use Rattle.machine_blocks.specs.machine_guards.specs.machine_agreement.specs.machine_epochs.specs.Entries.{counts_of}
+use Rattle.machine_blocks.specs.machine_guards.specs.machine_agreement.specs.machine_epochs.specs.Joined.{IsJoinedToEpochs}
+use Rattle.machine_blocks.specs.machine_guards.specs.machine_agreement.specs.machine_epochs.proofs.Places.{has_times}
 use Rattle.machine_invariant.proofs.Basics.{same_test}
 
 -- at the end of its sweep nobody is sure of a retired descriptor of its own that no word names which it read

@@ -10,15 +10,15 @@ use Rattle.machine_states.specs.table_words.specs.declared.layout.Layout.{Layout
 use Rattle.machine_states.specs.table_words.specs.declared.spot.Spot.TheVariants.{LogWord}
 use Rattle.machine_states.specs.structure_laws.specs.Meaning.{Meaning}
 use Rattle.machine_states.specs.runner_parts.specs.State.{RunState}
-use Rattle.machine_states.specs.runner_steps.specs.Sections.{thunk_of, line_of}
+use Rattle.machine_states.specs.runner_steps.specs.Sections.{thunk_of, line_of, commits_to}
 use Rattle.machine_states.specs.epoch_core.specs.State.{Role, Retires}
 use Rattle.machine_states.specs.epoch_core.specs.Sound.{IsLogged}
 use Rattle.machine_states.specs.Sight.{Sight}
-use Rattle.machine_guards.specs.machine_agreement.specs.machine_epochs.specs.Entries.{counts_of}
-use Rattle.machine_guards.specs.machine_agreement.specs.machine_epochs.specs.Roles.{role_at, commits_to}
-use Rattle.machine_guards.specs.machine_agreement.specs.machine_epochs.specs.Slots.{thunk_in}
-use Rattle.machine_guards.specs.machine_agreement.specs.machine_epochs.proofs.Places.{held_out, run_thunk, run_role}
-use Rattle.machine_guards.specs.machine_agreement.specs.machine_epochs.proofs.Roles.{make_role, retire_role}
+use Rattle.machine_blocks.specs.machine_guards.specs.machine_agreement.specs.machine_epochs.specs.Entries.{counts_of}
+use Rattle.machine_blocks.specs.machine_guards.specs.machine_agreement.specs.machine_epochs.specs.Roles.{role_at}
+use Rattle.machine_blocks.specs.machine_guards.specs.machine_agreement.specs.machine_epochs.specs.Slots.{thunk_in}
+use Rattle.machine_blocks.specs.machine_guards.specs.machine_agreement.specs.machine_epochs.proofs.Places.{held_out, run_thunk, run_role}
+use Rattle.machine_blocks.specs.machine_guards.specs.machine_agreement.specs.machine_epochs.proofs.Roles.{make_role, retire_role}
 use Rattle.machine_invariant.specs.Whole.{Beside, IsWhole}
 use Rattle.machine_invariant.specs.LogWords.{LogWordsSay}
 use Rattle.machine_invariant.proofs.Trails.{run_is, run_used}

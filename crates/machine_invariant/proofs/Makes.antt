@@ -26,7 +26,7 @@ use Rattle.machine_states.specs.runner_parts.specs.State.{RunState, PartState}
 use Rattle.machine_states.specs.runner_steps.specs.Sections.{is_open_run, next_of}
 use Rattle.machine_states.specs.runner_steps.specs.InRun.{fill_load_ask, fill_store_ask}
 use Rattle.machine_states.specs.runner_steps.specs.AfterInRun.{fill_loaded, make_committed}
-use Rattle.machine_states.specs.runner_steps.specs.Asks.{asks, line_ask}
+use Rattle.machine_states.specs.Blockless.{asks, line_ask}
 use Rattle.agreement_core.specs.Checks.{source_in}
 use Rattle.agreement_core.specs.Events as agreement
 use Rattle.agreement_core.proofs.Words.{value_next}
@@ -36,13 +36,13 @@ use Rattle.machine_states.specs.Sight.{Sight, sight_after}
 use Rattle.machine_states.proofs.Sights.{if_some, some_none}
 use Rattle.machine_states.proofs.Steps.{some_same}
 use Rattle.machine_states.proofs.Updates.{upd_here, upd_else}
-use Rattle.machine_guards.specs.machine_agreement.specs.machine_epochs.specs.Entries.{counts_of}
-use Rattle.machine_guards.specs.machine_agreement.specs.machine_scenes.specs.Kinds.{is_alone}
-use Rattle.machine_guards.specs.machine_agreement.specs.machine_scenes.specs.Shown.{States}
-use Rattle.machine_guards.specs.machine_agreement.specs.machine_scenes.specs.Steps.{Agreement, Fill, Make, MayMake}
-use Rattle.machine_guards.specs.machine_agreement.specs.machine_scenes.specs.Steps as steps
-use Rattle.machine_guards.specs.machine_agreement.proofs.LineAsked as asked_line
-use Rattle.machine_guards.specs.machine_agreement.proofs.RunPlaces.{run_here}
+use Rattle.machine_blocks.specs.machine_guards.specs.machine_agreement.specs.machine_epochs.specs.Entries.{counts_of}
+use Rattle.machine_blocks.specs.machine_guards.specs.machine_agreement.specs.machine_scenes.specs.Kinds.{is_alone}
+use Rattle.machine_blocks.specs.machine_guards.specs.machine_agreement.specs.machine_scenes.specs.Shown.{States}
+use Rattle.machine_blocks.specs.machine_guards.specs.machine_agreement.specs.machine_scenes.specs.Steps.{Agreement, Fill, Make, MayMake}
+use Rattle.machine_blocks.specs.machine_guards.specs.machine_agreement.specs.machine_scenes.specs.Steps as steps
+use Rattle.machine_blocks.specs.machine_guards.specs.machine_agreement.proofs.LineAsked as asked_line
+use Rattle.machine_blocks.specs.machine_guards.specs.machine_agreement.proofs.RunPlaces.{run_here}
 use Rattle.machine_slots.specs.Hands.{LooksAt}
 use Rattle.machine_slots.proofs.Stores.{may_make_filled, fill_small}
 use Rattle.machine_invariant.specs.Whole.{Beside, states_of, made_in, made_of, IsWhole}

@@ -12,13 +12,13 @@ use Rattle.machine_states.specs.structure_laws.specs.Laws.{Laws}
 use Rattle.machine_states.specs.structure_laws.specs.Sections.{IsAllowed}
 use Rattle.machine_states.specs.runner_parts.specs.declared.event.EventKind.{EventKind}
 use Rattle.machine_states.specs.runner_parts.specs.declared.event.EventKind.TheVariants as kinds
-use Rattle.machine_states.specs.runner_steps.specs.Asks.{asks}
+use Rattle.machine_states.specs.Blockless.{asks}
 use Rattle.machine_states.specs.epoch_core.specs.State.{Counts}
 use Rattle.machine_states.specs.epoch_core.specs.Events.{Event, Reach, slot_of}
 use Rattle.machine_states.specs.epoch_core.specs.Schedules.{AllEnabled, after_all}
 use Rattle.machine_states.specs.Sight.{Sight}
-use Rattle.machine_guards.specs.machine_agreement.specs.machine_epochs.specs.Entries.{counts_of}
-use Rattle.machine_guards.specs.machine_agreement.specs.machine_scenes.specs.Steps.{MeetsBy}
+use Rattle.machine_blocks.specs.machine_guards.specs.machine_agreement.specs.machine_epochs.specs.Entries.{counts_of}
+use Rattle.machine_blocks.specs.machine_guards.specs.machine_agreement.specs.machine_scenes.specs.Steps.{MeetsBy}
 use Rattle.machine_invariant.specs.Whole.{Beside, states_of, IsWhole}
 use Rattle.machine_invariant.proofs.Reaching.{now_held, whole_reached}
 use Rattle.machine_invariant.proofs.SuppliesSlots.{slots_met, by_met, HoldsMet, meets_reach}

@@ -20,7 +20,7 @@ use Rattle.machine_states.specs.runner_steps.specs.InRun.{last_clock}
 use Rattle.machine_states.specs.epoch_core.specs.State.{last_epoch}
 use Rattle.machine_states.specs.runner_steps.specs.AfterInRun as inside
 use Rattle.machine_states.specs.runner_steps.specs.AfterOutside as outside
-use Rattle.machine_states.specs.runner_steps.specs.After.{outside_after, line_after, inside_after, after_by, after}
+use Rattle.machine_states.specs.Blockless.{outside_after, line_after, inside_after, after_by, after}
 use Rattle.machine_invariant.specs.Whole.{HasPublished, made_in}
 use Rattle.machine_states.specs.table_words.specs.Places.{slot_count}
 use Rattle.machine_states.specs.body_terms.specs.declared.thunk.Thunk.{Thunk}

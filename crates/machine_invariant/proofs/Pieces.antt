@@ -17,25 +17,25 @@ use Rattle.agreement_core.specs.Schedules as agreement_schedules
 use Rattle.machine_states.specs.epoch_core.specs.Events as epochs
 use Rattle.machine_states.specs.epoch_core.specs.Schedules as epoch_schedules
 use Rattle.machine_states.specs.Sight.{Sight, Steps}
-use Rattle.machine_guards.specs.machine_agreement.specs.machine_epochs.specs.Entries.{counts_of}
-use Rattle.machine_guards.specs.machine_agreement.specs.machine_epochs.specs.Joined as joins
-use Rattle.machine_guards.specs.machine_agreement.specs.machine_epochs.specs.Chunks as slots
-use Rattle.machine_guards.specs.machine_agreement.specs.machine_epochs.proofs.AllKinds as joins_kinds
-use Rattle.machine_guards.specs.machine_agreement.specs.machine_scenes.specs.Shown.{Publications, rules_of}
-use Rattle.machine_guards.specs.machine_agreement.specs.Joined as sections
-use Rattle.machine_guards.specs.machine_agreement.specs.Chunks as chunks
-use Rattle.machine_guards.specs.machine_agreement.proofs.AllKinds as sections_kinds
+use Rattle.machine_blocks.specs.machine_guards.specs.machine_agreement.specs.machine_epochs.specs.Entries.{counts_of}
+use Rattle.machine_blocks.specs.machine_guards.specs.machine_agreement.specs.machine_epochs.specs.Joined as joins
+use Rattle.machine_blocks.specs.machine_guards.specs.machine_agreement.specs.machine_epochs.specs.Chunks as slots
+use Rattle.machine_blocks.specs.machine_guards.specs.machine_agreement.specs.machine_epochs.proofs.AllKinds as joins_kinds
+use Rattle.machine_blocks.specs.machine_guards.specs.machine_agreement.specs.machine_scenes.specs.Shown.{Publications, rules_of}
+use Rattle.machine_blocks.specs.machine_guards.specs.machine_agreement.specs.Joined as sections
+use Rattle.machine_blocks.specs.machine_guards.specs.machine_agreement.specs.Chunks as chunks
+use Rattle.machine_blocks.specs.machine_guards.specs.machine_agreement.proofs.AllKinds as sections_kinds
 use Rattle.machine_invariant.specs.Whole.{Beside, states_of, IsWhole}
 use Rattle.machine_invariant.proofs.Jointly.{IsWholeAfter, is_reading, HoldsNothing, Goes, GoesByPublishing, GoesByReading}
 use Rattle.machine_invariant.proofs.SuppliesSections.{sections_supplied}
 use Rattle.machine_invariant.proofs.SuppliesSlots.{HoldsMet, slots_supplied, guards_supplied}
 use Rattle.machine_invariant.proofs.Limbo.{SweepsSafely}
-use Rattle.machine_guards.specs.Stands.{GuardsStand}
-use Rattle.machine_guards.specs.Goes.{OthersGo}
+use Rattle.machine_blocks.specs.machine_guards.specs.Stands.{GuardsStand}
+use Rattle.machine_blocks.specs.machine_guards.specs.Goes.{OthersGo}
 use Rattle.machine_blocks.specs.Stands.{LogsStand}
 use Rattle.machine_blocks.proofs.AllKinds.{logs_kept}
-use Rattle.machine_guards.proofs.AllKinds as guards_kinds
-use Rattle.machine_guards.proofs.Safe.{sweep_safe}
+use Rattle.machine_blocks.specs.machine_guards.proofs.AllKinds as guards_kinds
+use Rattle.machine_blocks.specs.machine_guards.proofs.Safe.{sweep_safe}
 
 module _ (m : Meaning) (l : Layout) where
   -- the components' events of this runner's step of this kind on this word, and the states to which they lead

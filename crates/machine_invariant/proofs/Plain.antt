@@ -16,18 +16,18 @@ use Rattle.machine_states.specs.runner_parts.specs.declared.event.EventKind.{Eve
 use Rattle.machine_states.specs.runner_parts.specs.declared.event.EventKind.TheVariants as kinds
 use Rattle.machine_states.specs.runner_parts.specs.State.{RunState, PartState}
 use Rattle.machine_states.specs.runner_steps.specs.Sections.{is_open_run, next_of}
-use Rattle.machine_states.specs.runner_steps.specs.Outside.{private_store_ask}
-use Rattle.machine_states.specs.runner_steps.specs.Asks.{outside_ask, inside_ask, line_ask, opening_ask, asks}
+use Rattle.machine_states.specs.Blockless.{private_store_ask, outside_ask, inside_ask, line_ask, asks}
+use Rattle.machine_states.specs.runner_steps.specs.Asks.{opening_ask}
 use Rattle.agreement_core.specs.Events as agreement
 use Rattle.machine_states.specs.World.{is_join}
 use Rattle.machine_states.specs.Sight.{Sight, sight_after}
 use Rattle.machine_states.proofs.Sights.{some_none}
-use Rattle.machine_guards.specs.machine_agreement.specs.machine_epochs.specs.Slots.{thunk_in}
-use Rattle.machine_guards.specs.machine_agreement.specs.machine_epochs.specs.Chunks as slots
-use Rattle.machine_guards.specs.machine_agreement.specs.machine_epochs.proofs.Joining.{thunk_same}
-use Rattle.machine_guards.specs.machine_agreement.specs.machine_epochs.proofs.OutsideAsked.{private_store_asked}
-use Rattle.machine_guards.specs.machine_agreement.specs.Chunks as chunks
-use Rattle.machine_guards.specs.machine_agreement.proofs.LineAsked.{inside_asked}
+use Rattle.machine_blocks.specs.machine_guards.specs.machine_agreement.specs.machine_epochs.specs.Slots.{thunk_in}
+use Rattle.machine_blocks.specs.machine_guards.specs.machine_agreement.specs.machine_epochs.specs.Chunks as slots
+use Rattle.machine_blocks.specs.machine_guards.specs.machine_agreement.specs.machine_epochs.proofs.Joining.{thunk_same}
+use Rattle.machine_blocks.specs.machine_guards.specs.machine_agreement.specs.machine_epochs.proofs.OutsideAsked.{private_store_asked}
+use Rattle.machine_blocks.specs.machine_guards.specs.machine_agreement.specs.Chunks as chunks
+use Rattle.machine_blocks.specs.machine_guards.specs.machine_agreement.proofs.LineAsked.{inside_asked}
 use Rattle.machine_invariant.specs.Whole.{Beside, IsWhole}
 use Rattle.machine_invariant.proofs.Asked.{asked_by}
 use Rattle.machine_invariant.proofs.Parts.{is_making, is_release, is_other}

@@ -11,9 +11,9 @@ use Rattle.machine_states.specs.runner_parts.specs.Tests.{has, is_prepared}
 use Rattle.machine_states.specs.runner_steps.specs.Outside.{descriptor_spot}
 use Rattle.machine_states.specs.epoch_core.specs.State.{EpochState}
 use Rattle.machine_states.specs.Sight.{Sight}
-use Rattle.machine_guards.specs.machine_agreement.specs.machine_epochs.specs.Slots.{thunk_in}
-use Rattle.machine_guards.specs.machine_agreement.specs.machine_epochs.specs.Joined.{IsJoinedToEpochs}
-use Rattle.machine_guards.specs.machine_agreement.specs.machine_epochs.proofs.SectionKinds.{stored_index, replicate_index, prepared_thunk, thunk_again, log_spot}
+use Rattle.machine_blocks.specs.machine_guards.specs.machine_agreement.specs.machine_epochs.specs.Slots.{thunk_in}
+use Rattle.machine_blocks.specs.machine_guards.specs.machine_agreement.specs.machine_epochs.specs.Joined.{IsJoinedToEpochs}
+use Rattle.machine_blocks.specs.machine_guards.specs.machine_agreement.specs.machine_epochs.proofs.SectionKinds.{stored_index, replicate_index, prepared_thunk, thunk_again, log_spot}
 use Rattle.machine_invariant.proofs.Basics.{both}
 use Rattle.agreement_core.specs.State.{AgreementState}
 use Rattle.machine_states.specs.table_words.specs.Places.{part_words}

@@ -17,16 +17,16 @@ use Rattle.machine_states.specs.epoch_core.specs.Schedules as epoch_schedules
 use Rattle.machine_states.specs.epoch_core.specs.Sound as epoch_sound
 use Rattle.machine_states.specs.epoch_core.proofs.Keeping as epoch_keeping
 use Rattle.machine_states.specs.Sight.{Sight}
-use Rattle.machine_guards.specs.machine_agreement.specs.machine_epochs.specs.Entries.{counts_of}
-use Rattle.machine_guards.specs.machine_agreement.specs.machine_epochs.specs.Slots.{thunk_in}
-use Rattle.machine_guards.specs.machine_agreement.specs.machine_epochs.specs.Joined as joins
-use Rattle.machine_guards.specs.machine_agreement.specs.machine_epochs.proofs.Reaching.{leaves_descriptors, descriptors_stay}
-use Rattle.machine_guards.specs.machine_agreement.specs.machine_scenes.specs.Kinds.{is_alone}
-use Rattle.machine_guards.specs.machine_agreement.specs.machine_scenes.specs.Shown.{States, rules_of}
-use Rattle.machine_guards.specs.machine_agreement.specs.Joined as sections
-use Rattle.machine_guards.specs.machine_agreement.specs.Joined.{ShowsRun}
+use Rattle.machine_blocks.specs.machine_guards.specs.machine_agreement.specs.machine_epochs.specs.Entries.{counts_of}
+use Rattle.machine_blocks.specs.machine_guards.specs.machine_agreement.specs.machine_epochs.specs.Slots.{thunk_in}
+use Rattle.machine_blocks.specs.machine_guards.specs.machine_agreement.specs.machine_epochs.specs.Joined as joins
+use Rattle.machine_blocks.specs.machine_guards.specs.machine_agreement.specs.machine_epochs.proofs.Reaching.{leaves_descriptors, descriptors_stay}
+use Rattle.machine_blocks.specs.machine_guards.specs.machine_agreement.specs.machine_scenes.specs.Kinds.{is_alone}
+use Rattle.machine_blocks.specs.machine_guards.specs.machine_agreement.specs.machine_scenes.specs.Shown.{States, rules_of}
+use Rattle.machine_blocks.specs.machine_guards.specs.machine_agreement.specs.Joined as sections
+use Rattle.machine_blocks.specs.machine_guards.specs.machine_agreement.specs.Joined.{ShowsRun}
 use Rattle.machine_slots.specs.Hands.{Made}
-use Rattle.machine_guards.specs.Stands.{GuardsStand}
+use Rattle.machine_blocks.specs.machine_guards.specs.Stands.{GuardsStand}
 use Rattle.machine_invariant.specs.Whole.{Beside, states_of, made_in, made_of, HasPublished, IsWhole}
 use Rattle.machine_invariant.proofs.Runs.{AllAre, is_calm, InHands, Stands, agreement_stands, epochs_stand, filled_other}
 use Rattle.machine_invariant.proofs.Jointly.{no_steps, IsWholeAfter}

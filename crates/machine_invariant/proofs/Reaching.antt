@@ -12,16 +12,16 @@ use Rattle.machine_states.specs.epoch_core.specs.Events.{Reach, Enabled, after, 
 use Rattle.machine_states.specs.epoch_core.proofs.Keeping.{keeps}
 use Rattle.machine_states.specs.epoch_core.proofs.Listing.{lists_follow}
 use Rattle.machine_states.specs.Sight.{Sight}
-use Rattle.machine_guards.specs.machine_agreement.specs.machine_epochs.specs.Entries.{counts_of}
-use Rattle.machine_guards.specs.machine_agreement.specs.machine_epochs.specs.Slots.{lists_of}
-use Rattle.machine_guards.specs.machine_agreement.specs.machine_epochs.specs.Joined.{IsJoinedToEpochs}
-use Rattle.machine_guards.specs.machine_agreement.specs.machine_epochs.proofs.Joining.{still_tied}
-use Rattle.machine_guards.specs.machine_agreement.specs.machine_scenes.specs.Steps.{Epochs}
-use Rattle.machine_guards.specs.machine_agreement.specs.machine_scenes.proofs.Kept.{step_kept}
+use Rattle.machine_blocks.specs.machine_guards.specs.machine_agreement.specs.machine_epochs.specs.Entries.{counts_of}
+use Rattle.machine_blocks.specs.machine_guards.specs.machine_agreement.specs.machine_epochs.specs.Slots.{lists_of}
+use Rattle.machine_blocks.specs.machine_guards.specs.machine_agreement.specs.machine_epochs.specs.Joined.{IsJoinedToEpochs}
+use Rattle.machine_blocks.specs.machine_guards.specs.machine_agreement.specs.machine_epochs.proofs.Joining.{still_tied}
+use Rattle.machine_blocks.specs.machine_guards.specs.machine_agreement.specs.machine_scenes.specs.Steps.{Epochs}
+use Rattle.machine_blocks.specs.machine_guards.specs.machine_agreement.specs.machine_scenes.proofs.Kept.{step_kept}
 use Rattle.machine_slots.specs.Hands.{LocksAreHeld}
 use Rattle.machine_slots.proofs.Locks.{locks_held_after}
-use Rattle.machine_guards.specs.machine_agreement.specs.machine_scenes.specs.Kept.{IsKept}
-use Rattle.machine_guards.proofs.First.{stands_by_places}
+use Rattle.machine_blocks.specs.machine_guards.specs.machine_agreement.specs.machine_scenes.specs.Kept.{IsKept}
+use Rattle.machine_blocks.specs.machine_guards.proofs.First.{stands_by_places}
 use Rattle.machine_invariant.specs.Whole.{Beside, states_of, IsWhole}
 
 -- what a runner comes to hold it holds

@@ -29,10 +29,10 @@ use Rattle.machine_states.specs.Sight as states
 use Rattle.machine_states.proofs.Sights.{happens_steps}
 use Rattle.machine_states.proofs.Reached.{run_has}
 use Rattle.machine_states.proofs.FirstSights as firsts
-use Rattle.machine_guards.specs.machine_agreement.specs.machine_epochs.specs.Entries.{counts_of}
-use Rattle.machine_guards.specs.machine_agreement.specs.machine_scenes.specs.Shown.{rules_of}
-use Rattle.machine_guards.specs.machine_agreement.specs.Chunks as sections
-use Rattle.machine_guards.specs.machine_agreement.specs.Joined.{IsJoinedToAgreement}
+use Rattle.machine_blocks.specs.machine_guards.specs.machine_agreement.specs.machine_epochs.specs.Entries.{counts_of}
+use Rattle.machine_blocks.specs.machine_guards.specs.machine_agreement.specs.machine_scenes.specs.Shown.{rules_of}
+use Rattle.machine_blocks.specs.machine_guards.specs.machine_agreement.specs.Chunks as sections
+use Rattle.machine_blocks.specs.machine_guards.specs.machine_agreement.specs.Joined.{IsJoinedToAgreement}
 use Rattle.machine_states.specs.runner_steps.specs.Guards.{is_last_guard}
 use Rattle.machine_states.specs.runner_parts.specs.declared.entries.Published.{Published}
 use Rattle.machine_invariant.specs.Along.{Components, AreEventsOf}

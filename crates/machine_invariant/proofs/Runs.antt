@@ -11,12 +11,12 @@ use Rattle.machine_states.specs.epoch_core.specs.declared.location.Location.TheV
 use Rattle.machine_states.specs.epoch_core.specs.State.{Counts, EpochState}
 use Rattle.machine_states.specs.epoch_core.specs.Events as epochs
 use Rattle.machine_states.specs.epoch_core.specs.Schedules as epoch_schedules
-use Rattle.machine_guards.specs.machine_agreement.specs.machine_epochs.specs.Entries.{counts_of}
-use Rattle.machine_guards.specs.machine_agreement.specs.machine_scenes.specs.Shown.{States, rules_of}
-use Rattle.machine_guards.specs.machine_agreement.specs.machine_scenes.specs.Kinds.{is_plain, is_alone}
-use Rattle.machine_guards.specs.machine_agreement.specs.machine_scenes.specs.Steps.{Step, Agreement, Epochs, Enabled, after}
-use Rattle.machine_guards.specs.machine_agreement.specs.machine_scenes.specs.Kept.{IsKept}
-use Rattle.machine_guards.specs.machine_agreement.specs.machine_scenes.proofs.Kept.{step_kept}
+use Rattle.machine_blocks.specs.machine_guards.specs.machine_agreement.specs.machine_epochs.specs.Entries.{counts_of}
+use Rattle.machine_blocks.specs.machine_guards.specs.machine_agreement.specs.machine_scenes.specs.Shown.{States, rules_of}
+use Rattle.machine_blocks.specs.machine_guards.specs.machine_agreement.specs.machine_scenes.specs.Kinds.{is_plain, is_alone}
+use Rattle.machine_blocks.specs.machine_guards.specs.machine_agreement.specs.machine_scenes.specs.Steps.{Step, Agreement, Epochs, Enabled, after}
+use Rattle.machine_blocks.specs.machine_guards.specs.machine_agreement.specs.machine_scenes.specs.Kept.{IsKept}
+use Rattle.machine_blocks.specs.machine_guards.specs.machine_agreement.specs.machine_scenes.proofs.Kept.{step_kept}
 use Rattle.machine_slots.specs.Hands.{Made, IsHeldBack, LocksAreHeld, AreInHand, SlotsAreFilled, MadeGoes}
 use Rattle.machine_slots.proofs.Locks.{locks_held_after}
 use Rattle.machine_slots.proofs.Filled.{filled_after}

@@ -23,11 +23,11 @@ use Rattle.agreement_core.proofs.Standing.{agree, not_future, cells_stand, locks
 use Rattle.agreement_core.proofs.PlainRuns.{follows_plain_run, starts_over}
 use Rattle.agreement_core.proofs.Lasting.{answered_or_left, before_end, happened, nothing, check_phase}
 use Rattle.machine_states.specs.Sight.{Sight}
-use Rattle.machine_guards.specs.machine_agreement.specs.machine_epochs.specs.Entries.{counts_of}
-use Rattle.machine_guards.specs.machine_agreement.specs.machine_epochs.specs.Joined as slots
-use Rattle.machine_guards.specs.machine_agreement.specs.machine_epochs.proofs.Roles.{make_role, retire_role}
-use Rattle.machine_guards.specs.machine_agreement.specs.machine_scenes.specs.Shown.{rules_of, IsOfThunk}
-use Rattle.machine_guards.specs.machine_agreement.specs.Joined.{IsJoinedToAgreement}
+use Rattle.machine_blocks.specs.machine_guards.specs.machine_agreement.specs.machine_epochs.specs.Entries.{counts_of}
+use Rattle.machine_blocks.specs.machine_guards.specs.machine_agreement.specs.machine_epochs.specs.Joined as slots
+use Rattle.machine_blocks.specs.machine_guards.specs.machine_agreement.specs.machine_epochs.proofs.Roles.{make_role, retire_role}
+use Rattle.machine_blocks.specs.machine_guards.specs.machine_agreement.specs.machine_scenes.specs.Shown.{rules_of, IsOfThunk}
+use Rattle.machine_blocks.specs.machine_guards.specs.machine_agreement.specs.Joined.{IsJoinedToAgreement}
 use Rattle.machine_invariant.specs.Trails.{thunk_at, step_at, log_of, PublishedStand}
 use Rattle.machine_invariant.specs.Slots.{CommitsAreWonOnce}
 use Rattle.machine_invariant.specs.Sections.{IsAnswered, IsLeft, EffectsComeOnce, LawsHold, SectionsAreSound}
@@ -36,7 +36,7 @@ use Rattle.machine_invariant.proofs.Lines.{lines_same, follows_same}
 use Rattle.machine_invariant.proofs.Unwon.{none_made, none_retired, empty_of}
 use Rattle.machine_invariant.proofs.Trails.{trails_agree, locks_name, cells_past}
 use Rattle.machine_blocks.specs.Stands.{LogsStand}
-use Rattle.machine_guards.specs.machine_agreement.specs.machine_epochs.specs.Roles.{role_at}
+use Rattle.machine_blocks.specs.machine_guards.specs.machine_agreement.specs.machine_epochs.specs.Roles.{role_at}
 
 agreed_one : (word : ℕ) → 0 < word → epochs.agreed_slot word ≡ (word - 1) ∷ []
 agreed_one word some = grind arith

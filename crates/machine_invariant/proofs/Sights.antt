@@ -10,12 +10,13 @@ use Rattle.machine_states.specs.structure_laws.specs.Meaning.{Meaning}
 use Rattle.machine_states.specs.runner_parts.specs.declared.event.EventKind.{EventKind}
 use Rattle.machine_states.specs.runner_parts.specs.declared.event.EventKind.TheVariants as kinds
 use Rattle.machine_states.specs.runner_parts.specs.State.{RunState, PartState}
-use Rattle.machine_states.specs.runner_steps.specs.After.{inside_after, after_by, after, leaves, knows_also}
+use Rattle.machine_states.specs.runner_steps.specs.After.{leaves, knows_also}
+use Rattle.machine_states.specs.Blockless.{inside_after, after_by, after}
 use Rattle.machine_states.specs.World.{is_join}
 use Rattle.machine_states.specs.Sight.{Sight, sight_after}
 use Rattle.machine_states.proofs.Updates.{upd_split}
-use Rattle.machine_guards.specs.machine_agreement.specs.machine_epochs.specs.Slots.{thunk_in}
-use Rattle.machine_guards.specs.machine_agreement.specs.machine_epochs.proofs.Joining.{thunk_same}
+use Rattle.machine_blocks.specs.machine_guards.specs.machine_agreement.specs.machine_epochs.specs.Slots.{thunk_in}
+use Rattle.machine_blocks.specs.machine_guards.specs.machine_agreement.specs.machine_epochs.proofs.Joining.{thunk_same}
 use Rattle.machine_invariant.specs.Whole.{HasPublished, made_in, made_of}
 use Rattle.machine_invariant.proofs.Parts.{IsSamePart, is_making, is_release, inside_same, inside_made, is_other, outside_same, outside_made, noted_same}
 use Rattle.machine_invariant.proofs.Quiet.{StayRead, IsQuiet}

@@ -14,8 +14,7 @@ use Rattle.machine_states.specs.runner_parts.specs.declared.event.EventKind.{Eve
 use Rattle.machine_states.specs.runner_parts.specs.State.{RunState, PartState}
 use Rattle.machine_states.specs.runner_steps.specs.Sections.{is_open_run, next_of}
 use Rattle.machine_states.specs.runner_steps.specs.AfterInRun.{opened_more}
-use Rattle.machine_states.specs.runner_steps.specs.After.{line_after, after_by, after}
-use Rattle.machine_states.specs.runner_steps.specs.Asks.{asks}
+use Rattle.machine_states.specs.Blockless.{line_after, after_by, after, asks}
 use Rattle.agreement_core.specs.State.{AgreementState}
 use Rattle.agreement_core.specs.Events as agreement
 use Rattle.agreement_core.specs.Schedules as agreement_schedules
@@ -23,11 +22,11 @@ use Rattle.machine_states.specs.epoch_core.specs.Events as epochs
 use Rattle.machine_states.specs.World.{is_join}
 use Rattle.machine_states.specs.Sight.{Sight, sight_after}
 use Rattle.machine_states.proofs.Updates.{upd_split, upd_here, upd_else}
-use Rattle.machine_guards.specs.machine_agreement.specs.machine_epochs.specs.Entries.{counts_of}
-use Rattle.machine_guards.specs.machine_agreement.specs.machine_epochs.specs.Slots.{thunk_in}
-use Rattle.machine_guards.specs.machine_agreement.specs.machine_epochs.proofs.Reaching.{leaves_descriptors}
-use Rattle.machine_guards.specs.machine_agreement.specs.machine_scenes.specs.Shown.{States, rules_of}
-use Rattle.machine_guards.specs.machine_agreement.proofs.LineAsked as asked_line
+use Rattle.machine_blocks.specs.machine_guards.specs.machine_agreement.specs.machine_epochs.specs.Entries.{counts_of}
+use Rattle.machine_blocks.specs.machine_guards.specs.machine_agreement.specs.machine_epochs.specs.Slots.{thunk_in}
+use Rattle.machine_blocks.specs.machine_guards.specs.machine_agreement.specs.machine_epochs.proofs.Reaching.{leaves_descriptors}
+use Rattle.machine_blocks.specs.machine_guards.specs.machine_agreement.specs.machine_scenes.specs.Shown.{States, rules_of}
+use Rattle.machine_blocks.specs.machine_guards.specs.machine_agreement.proofs.LineAsked as asked_line
 use Rattle.machine_slots.specs.Hands.{Made}
 use Rattle.machine_invariant.specs.Whole.{Beside, states_of, made_in, made_of, IsWhole}
 use Rattle.machine_invariant.proofs.Parts.{IsSamePart, is_release, inside_same, noted_same}

@@ -19,19 +19,19 @@ use Rattle.machine_states.specs.epoch_core.specs.Lists.{times_retired, in_hand, 
 use Rattle.machine_states.specs.epoch_core.specs.History.{History, IsExact, is_makes, is_retires, agreed_slot, agreed_count}
 use Rattle.machine_states.specs.epoch_core.specs.Sound.{is_for_nodes}
 use Rattle.machine_states.specs.Sight.{Sight}
-use Rattle.machine_guards.specs.machine_agreement.specs.machine_epochs.specs.Entries.{counts_of}
-use Rattle.machine_guards.specs.machine_agreement.specs.machine_epochs.specs.Slots.{retiring_of, retire_before}
-use Rattle.machine_guards.specs.machine_agreement.specs.machine_epochs.specs.Roles.{role_at}
-use Rattle.machine_guards.specs.machine_agreement.specs.machine_epochs.specs.Slots as shows
-use Rattle.machine_guards.specs.machine_agreement.specs.machine_epochs.specs.Descriptors.{times_limbo}
-use Rattle.machine_guards.specs.machine_agreement.specs.machine_epochs.specs.Joined.{IsJoinedToEpochs}
+use Rattle.machine_blocks.specs.machine_guards.specs.machine_agreement.specs.machine_epochs.specs.Entries.{counts_of}
+use Rattle.machine_blocks.specs.machine_guards.specs.machine_agreement.specs.machine_epochs.specs.Slots.{retiring_of, retire_before}
+use Rattle.machine_blocks.specs.machine_guards.specs.machine_agreement.specs.machine_epochs.specs.Roles.{role_at}
+use Rattle.machine_blocks.specs.machine_guards.specs.machine_agreement.specs.machine_epochs.specs.Slots as shows
+use Rattle.machine_blocks.specs.machine_guards.specs.machine_agreement.specs.machine_epochs.specs.Descriptors.{times_limbo}
+use Rattle.machine_blocks.specs.machine_guards.specs.machine_agreement.specs.machine_epochs.specs.Joined.{IsJoinedToEpochs}
 use Rattle.machine_invariant.specs.Slots.{times_among, IsRetiring, NodesStand, DescriptorsStand, HeldStand, InUseAreKept, RetiresStand}
 use Rattle.machine_invariant.specs.Slots.{CommitsAreWonOnce, SlotsAreSound}
 use Rattle.machine_invariant.proofs.Basics.{both}
 use Rattle.machine_invariant.proofs.Asked.{entered_at}
 use Rattle.machine_states.specs.runner_parts.specs.State.{GuardsState}
 use Rattle.machine_states.specs.runner_steps.specs.Outside.{is_sure_of}
-use Rattle.machine_guards.specs.machine_agreement.specs.machine_epochs.proofs.OutsideAsked.{named_is}
+use Rattle.machine_blocks.specs.machine_guards.specs.machine_agreement.specs.machine_epochs.proofs.OutsideAsked.{named_is}
 use Rattle.machine_states.specs.table_words.specs.declared.spot.Spot.TheVariants.{LogWord}
 
 -- a slot that isn't in limbo at all, and one that is there once

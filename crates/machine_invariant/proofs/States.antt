@@ -7,7 +7,7 @@ use Rattle.machine_states.specs.epoch_core.specs.History as epoch_history
 use Rattle.agreement_core.specs.State.{AgreementState}
 use Rattle.agreement_core.specs.History as agreement_history
 use Rattle.machine_states.specs.Sight.{Sight}
-use Rattle.machine_guards.specs.machine_agreement.specs.machine_epochs.specs.Entries.{counts_of}
+use Rattle.machine_blocks.specs.machine_guards.specs.machine_agreement.specs.machine_epochs.specs.Entries.{counts_of}
 use Rattle.machine_invariant.specs.Whole.{Beside, IsWhole}
 use Rattle.machine_invariant.specs.Along.{Components}
 use Rattle.machine_invariant.specs.States.{StateIsSound}

@@ -27,7 +27,8 @@ use Rattle.machine_states.specs.runner_parts.specs.State.{RunState, PartState}
 use Rattle.machine_states.specs.runner_parts.specs.Tests.{has}
 use Rattle.machine_states.specs.guard_core.specs.Moves.{is_unnamed}
 use Rattle.machine_states.specs.runner_steps.specs.Guards.{is_last_guard}
-use Rattle.machine_states.specs.runner_steps.specs.Asks.{asks, ask_by, sizes_for, line_ask, opening_ask}
+use Rattle.machine_states.specs.runner_steps.specs.Asks.{sizes_for, opening_ask}
+use Rattle.machine_states.specs.Blockless.{asks, ask_by, line_ask}
 use Rattle.machine_states.specs.runner_steps.specs.InRun.{is_slot, can_raise}
 use Rattle.machine_states.specs.runner_steps.specs.Outside.{is_sure_of, hold_ask}
 use Rattle.machine_states.specs.runner_steps.specs.Sections.{is_open_run, next_of}
@@ -39,17 +40,17 @@ use Rattle.machine_states.specs.epoch_core.specs.Sound.{is_for_nodes}
 use Rattle.machine_states.specs.epoch_core.specs.History.{is_out}
 use Rattle.machine_states.specs.Sight.{Sight}
 use Rattle.machine_states.proofs.Sights.{unless_gone, some_none}
-use Rattle.machine_guards.specs.machine_agreement.specs.machine_epochs.specs.Entries.{counts_of}
-use Rattle.machine_guards.specs.machine_agreement.specs.machine_epochs.proofs.OutsideAsked as outside
-use Rattle.machine_guards.specs.machine_agreement.specs.machine_epochs.proofs.RunPlaces.{open_run}
-use Rattle.machine_guards.specs.machine_agreement.specs.machine_epochs.proofs.Places.{free_descriptor, held_out}
-use Rattle.machine_guards.specs.machine_agreement.specs.machine_scenes.specs.Shown.{rules_of}
-use Rattle.machine_guards.specs.machine_agreement.specs.machine_scenes.specs.Supplied.{SuppliesAgreement}
-use Rattle.machine_guards.specs.machine_agreement.specs.machine_scenes.proofs.Supplies.{supplies_agreement}
-use Rattle.machine_guards.specs.machine_agreement.specs.Joined.{IsRunOf, ShowsRun}
-use Rattle.machine_guards.specs.machine_agreement.specs.Supplied as supplied
-use Rattle.machine_guards.specs.machine_agreement.proofs.LineAsked as asked_line
-use Rattle.machine_guards.specs.machine_agreement.proofs.RunPlaces.{run_here, before}
+use Rattle.machine_blocks.specs.machine_guards.specs.machine_agreement.specs.machine_epochs.specs.Entries.{counts_of}
+use Rattle.machine_blocks.specs.machine_guards.specs.machine_agreement.specs.machine_epochs.proofs.OutsideAsked as outside
+use Rattle.machine_blocks.specs.machine_guards.specs.machine_agreement.specs.machine_epochs.proofs.RunPlaces.{open_run}
+use Rattle.machine_blocks.specs.machine_guards.specs.machine_agreement.specs.machine_epochs.proofs.Places.{free_descriptor, held_out}
+use Rattle.machine_blocks.specs.machine_guards.specs.machine_agreement.specs.machine_scenes.specs.Shown.{rules_of}
+use Rattle.machine_blocks.specs.machine_guards.specs.machine_agreement.specs.machine_scenes.specs.Supplied.{SuppliesAgreement}
+use Rattle.machine_blocks.specs.machine_guards.specs.machine_agreement.specs.machine_scenes.proofs.Supplies.{supplies_agreement}
+use Rattle.machine_blocks.specs.machine_guards.specs.machine_agreement.specs.Joined.{IsRunOf, ShowsRun}
+use Rattle.machine_blocks.specs.machine_guards.specs.machine_agreement.specs.Supplied as supplied
+use Rattle.machine_blocks.specs.machine_guards.specs.machine_agreement.proofs.LineAsked as asked_line
+use Rattle.machine_blocks.specs.machine_guards.specs.machine_agreement.proofs.RunPlaces.{run_here, before}
 use Rattle.machine_slots.proofs.Locks.{locks_free}
 use Rattle.machine_slots.proofs.Stores.{private_store_is}
 use Rattle.machine_invariant.specs.Whole.{Beside, states_of, made_in, made_of, IsWhole}

@@ -25,9 +25,10 @@ use Rattle.machine_states.specs.runner_parts.specs.declared.event.EventKind.{Eve
 use Rattle.machine_states.specs.runner_parts.specs.declared.event.EventKind.TheVariants as kinds
 use Rattle.machine_states.specs.runner_parts.specs.State.{RunState, GuardsState, PartState}
 use Rattle.machine_states.specs.runner_parts.specs.Tests.{is_readable}
-use Rattle.machine_states.specs.runner_steps.specs.Asks.{asks, ask_by, outside_ask, line_ask, opening_ask}
+use Rattle.machine_states.specs.runner_steps.specs.Asks.{opening_ask}
+use Rattle.machine_states.specs.Blockless.{asks, ask_by, outside_ask, line_ask}
 use Rattle.machine_states.specs.runner_steps.specs.Outside.{read_ask, hold_ask}
-use Rattle.machine_states.specs.runner_steps.specs.Sections.{is_open_run, next_of}
+use Rattle.machine_states.specs.runner_steps.specs.Sections.{is_open_run, next_of, commits_to}
 use Rattle.agreement_core.specs.State.{AgreementState}
 use Rattle.agreement_core.specs.Events.{IsBefore}
 use Rattle.machine_states.specs.epoch_core.specs.State.{Counts, is_entered, entry_of, IsKept, MayHold}
@@ -35,26 +36,25 @@ use Rattle.machine_states.specs.epoch_core.specs.Events.{Reach, Enabled, slot_of
 use Rattle.machine_states.specs.epoch_core.proofs.Reusing.{may_follow}
 use Rattle.machine_states.specs.Sight.{Sight}
 use Rattle.machine_states.proofs.Sights.{unless_gone, some_none, if_some}
-use Rattle.machine_guards.specs.machine_agreement.specs.machine_epochs.specs.Entries.{counts_of}
-use Rattle.machine_guards.specs.machine_agreement.specs.machine_epochs.specs.Supplied.{sees_slot, comes_outside, comes_by, MayRetire}
-use Rattle.machine_guards.specs.machine_agreement.specs.machine_epochs.specs.Supplied as supplied
-use Rattle.machine_guards.specs.machine_agreement.specs.machine_epochs.proofs.OutsideAsked as outside
-use Rattle.machine_guards.specs.machine_agreement.specs.machine_epochs.proofs.RunPlaces.{open_run, is_of_end}
-use Rattle.machine_guards.specs.machine_agreement.specs.machine_scenes.specs.Shown.{States}
-use Rattle.machine_guards.specs.machine_agreement.specs.machine_scenes.specs.Steps as steps
-use Rattle.machine_guards.specs.machine_agreement.specs.machine_scenes.specs.Steps.{MeetsBy}
-use Rattle.machine_guards.specs.machine_agreement.specs.machine_scenes.specs.Supplied.{SuppliesEpochs}
-use Rattle.machine_guards.specs.machine_agreement.specs.machine_scenes.proofs.Supplies.{supplies_epochs}
-use Rattle.machine_guards.specs.machine_agreement.specs.machine_scenes.proofs.Kept.{step_kept}
-use Rattle.machine_guards.specs.machine_agreement.specs.Joined.{IsRunOf}
-use Rattle.machine_guards.specs.machine_agreement.proofs.RunPlaces.{run_here, before}
-use Rattle.machine_guards.specs.Supplied.{GuardsAreSupplied}
+use Rattle.machine_blocks.specs.machine_guards.specs.machine_agreement.specs.machine_epochs.specs.Entries.{counts_of}
+use Rattle.machine_blocks.specs.machine_guards.specs.machine_agreement.specs.machine_epochs.specs.Supplied.{sees_slot, comes_outside, comes_by, MayRetire}
+use Rattle.machine_blocks.specs.machine_guards.specs.machine_agreement.specs.machine_epochs.specs.Supplied as supplied
+use Rattle.machine_blocks.specs.machine_guards.specs.machine_agreement.specs.machine_epochs.proofs.OutsideAsked as outside
+use Rattle.machine_blocks.specs.machine_guards.specs.machine_agreement.specs.machine_epochs.proofs.RunPlaces.{open_run, is_of_end}
+use Rattle.machine_blocks.specs.machine_guards.specs.machine_agreement.specs.machine_scenes.specs.Shown.{States}
+use Rattle.machine_blocks.specs.machine_guards.specs.machine_agreement.specs.machine_scenes.specs.Steps as steps
+use Rattle.machine_blocks.specs.machine_guards.specs.machine_agreement.specs.machine_scenes.specs.Steps.{MeetsBy}
+use Rattle.machine_blocks.specs.machine_guards.specs.machine_agreement.specs.machine_scenes.specs.Supplied.{SuppliesEpochs}
+use Rattle.machine_blocks.specs.machine_guards.specs.machine_agreement.specs.machine_scenes.proofs.Supplies.{supplies_epochs}
+use Rattle.machine_blocks.specs.machine_guards.specs.machine_agreement.specs.machine_scenes.proofs.Kept.{step_kept}
+use Rattle.machine_blocks.specs.machine_guards.specs.machine_agreement.specs.Joined.{IsRunOf}
+use Rattle.machine_blocks.specs.machine_guards.specs.machine_agreement.proofs.RunPlaces.{run_here, before}
+use Rattle.machine_blocks.specs.machine_guards.specs.Supplied.{GuardsAreSupplied}
 use Rattle.machine_invariant.specs.Whole.{Beside, states_of, IsWhole}
 use Rattle.machine_invariant.proofs.Basics.{not_both, by_bool, both, below_test, same_test}
 use Rattle.machine_invariant.proofs.Asked.{asked_by, entered_at}
 use Rattle.machine_invariant.proofs.Limbo.{SweepsSafely}
 use Rattle.machine_states.specs.body_terms.specs.declared.thunk.Thunk.{Thunk}
-use Rattle.machine_guards.specs.machine_agreement.specs.machine_epochs.specs.Roles.{commits_to}
 use Rattle.machine_blocks.proofs.Words.{commit_finds}
 use Rattle.machine_invariant.proofs.Prepared.{unlogged}
 

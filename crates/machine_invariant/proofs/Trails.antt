@@ -18,8 +18,8 @@ use Rattle.agreement_core.specs.Standing.{LocksStand}
 use Rattle.agreement_core.specs.Sections.{HoldsWith}
 use Rattle.agreement_core.proofs.Standing.{agree, locks_stand, holds_nothing}
 use Rattle.machine_states.specs.Sight.{Sight}
-use Rattle.machine_guards.specs.machine_agreement.specs.machine_scenes.specs.Shown.{rules_of, IsOfThunk}
-use Rattle.machine_guards.specs.machine_agreement.specs.Joined.{IsRunOf, ShowsRun, IsFinishOf, IsJoinedToAgreement}
+use Rattle.machine_blocks.specs.machine_guards.specs.machine_agreement.specs.machine_scenes.specs.Shown.{rules_of, IsOfThunk}
+use Rattle.machine_blocks.specs.machine_guards.specs.machine_agreement.specs.Joined.{IsRunOf, ShowsRun, IsFinishOf, IsJoinedToAgreement}
 use Rattle.machine_invariant.specs.Trails.{thunk_at, log_of, agreed_words, IsEndOf, TrailsAgree, IsLockOf, LocksNameSections, CellsArePast}
 
 -- a list of a function's first values

@@ -8,8 +8,8 @@ use Rattle.machine_states.specs.body_terms.specs.declared.micro.Micro.TheVariant
 use Rattle.agreement_core.specs.section_lines.specs.Line.{phase, IsCounted}
 use Rattle.machine_states.specs.epoch_core.specs.State.{Agrees}
 use Rattle.machine_states.specs.epoch_core.specs.History.{is_makes, is_retires, agreed_slot, agreed_count}
-use Rattle.machine_guards.specs.machine_agreement.specs.machine_epochs.specs.Roles.{role_at}
-use Rattle.machine_guards.specs.machine_agreement.specs.machine_epochs.proofs.Roles.{load_role, nested_role, outcome_role}
+use Rattle.machine_blocks.specs.machine_guards.specs.machine_agreement.specs.machine_epochs.specs.Roles.{role_at}
+use Rattle.machine_blocks.specs.machine_guards.specs.machine_agreement.specs.machine_epochs.proofs.Roles.{load_role, nested_role, outcome_role}
 
 -- a step of a line that commits to this place of the log
 record CommitsTo (code : ℕ → Micro) (slot : ℕ → ℕ) (edge k : ℕ) : Type 0 where

@@ -8,7 +8,7 @@ use Rattle.machine_states.specs.table_words.specs.declared.access.Access.{Access
 use Rattle.machine_states.specs.structure_laws.specs.Meaning.{Meaning}
 use Rattle.machine_states.specs.runner_parts.specs.declared.event.EventKind.{EventKind}
 use Rattle.machine_states.specs.runner_parts.specs.declared.event.Event.{Event}
-use Rattle.machine_states.specs.runner_steps.specs.Asks.{asks}
+use Rattle.machine_states.specs.Blockless.{asks}
 use Rattle.machine_states.specs.epoch_core.specs.State.{EpochState}
 use Rattle.machine_states.specs.epoch_core.specs.Events as epoch_events
 use Rattle.machine_states.specs.epoch_core.specs.Schedules as epoch_schedules
@@ -22,11 +22,11 @@ use Rattle.agreement_core.specs.History as agreement_history
 use Rattle.machine_states.specs.World.{World, happens}
 use Rattle.machine_states.specs.First.{IsFirst}
 use Rattle.machine_states.specs.Sight.{Sight, sight}
-use Rattle.machine_guards.specs.machine_agreement.specs.machine_epochs.specs.Entries.{counts_of}
-use Rattle.machine_guards.specs.machine_agreement.specs.machine_epochs.specs.Firsts.{first_place}
-use Rattle.machine_guards.specs.machine_agreement.specs.machine_epochs.specs.Chunks as slots
-use Rattle.machine_guards.specs.machine_agreement.specs.machine_scenes.specs.Shown.{rules_of}
-use Rattle.machine_guards.specs.machine_agreement.specs.Chunks as sections
+use Rattle.machine_blocks.specs.machine_guards.specs.machine_agreement.specs.machine_epochs.specs.Entries.{counts_of}
+use Rattle.machine_blocks.specs.machine_guards.specs.machine_agreement.specs.machine_epochs.specs.Firsts.{first_place}
+use Rattle.machine_blocks.specs.machine_guards.specs.machine_agreement.specs.machine_epochs.specs.Chunks as slots
+use Rattle.machine_blocks.specs.machine_guards.specs.machine_agreement.specs.machine_scenes.specs.Shown.{rules_of}
+use Rattle.machine_blocks.specs.machine_guards.specs.machine_agreement.specs.Chunks as sections
 
 -- the components' states, what the exchanges of cells, stamps and replies changed so far, and which commits
 -- of Makes and Retires won

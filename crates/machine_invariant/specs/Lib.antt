@@ -9,7 +9,5 @@ pub mod Lengths
 pub mod LogWords
 pub mod Rising
 -- Passed on to the layers above, so that they needn't name these libraries themselves.
-pub use Rattle.machine_guards.specs.machine_agreement
-pub use Rattle.machine_guards
 pub use Rattle.machine_blocks
 pub use Rattle.machine_slots

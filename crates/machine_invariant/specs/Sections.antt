@@ -17,8 +17,8 @@ use Rattle.agreement_core.specs.Standing.{CellsStand, LocksStand, TakesStand, Is
 use Rattle.agreement_core.specs.PlainRuns.{chosen, IsOver, start_over, FollowsPlainRun}
 use Rattle.agreement_core.specs.History.{History, written, IsExact, HasAnswered, HasLeft, HappenedOnce, NothingHappened}
 use Rattle.machine_states.specs.Sight.{Sight}
-use Rattle.machine_guards.specs.machine_agreement.specs.machine_scenes.specs.Shown.{rules_of}
-use Rattle.machine_guards.specs.machine_agreement.specs.Joined.{IsJoinedToAgreement}
+use Rattle.machine_blocks.specs.machine_guards.specs.machine_agreement.specs.machine_scenes.specs.Shown.{rules_of}
+use Rattle.machine_blocks.specs.machine_guards.specs.machine_agreement.specs.Joined.{IsJoinedToAgreement}
 use Rattle.machine_invariant.specs.Trails.{thunk_at, step_at, log_of, TrailsAgree, LocksNameSections, PublishedStand, CellsArePast}
 
 module _ (m : Meaning) (a : AgreementState) (s : Sight) where

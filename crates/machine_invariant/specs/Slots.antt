@@ -18,9 +18,9 @@ use Rattle.machine_states.specs.epoch_core.specs.Sound.{is_for_nodes}
 use Rattle.machine_states.specs.epoch_core.specs.Lists.{times, times_retired, in_hand, in_free, in_worn, in_limbo, in_any_limbo}
 use Rattle.machine_states.specs.epoch_core.specs.History.{History, is_out, is_makes, is_retires, agreed_slot, agreed_count}
 use Rattle.machine_states.specs.Sight.{Sight}
-use Rattle.machine_guards.specs.machine_agreement.specs.machine_epochs.specs.Slots.{entry_of, thunk_in}
-use Rattle.machine_guards.specs.machine_agreement.specs.machine_epochs.specs.Roles.{role_at}
-use Rattle.machine_guards.specs.machine_agreement.specs.machine_epochs.specs.Descriptors.{times_limbo}
+use Rattle.machine_blocks.specs.machine_guards.specs.machine_agreement.specs.machine_epochs.specs.Slots.{entry_of, thunk_in}
+use Rattle.machine_blocks.specs.machine_guards.specs.machine_agreement.specs.machine_epochs.specs.Roles.{role_at}
+use Rattle.machine_blocks.specs.machine_guards.specs.machine_agreement.specs.machine_epochs.specs.Descriptors.{times_limbo}
 
 -- how many node slots there are; the descriptors are numbered after them
 abbrev pub node_count : Meaning → Layout → ℕ

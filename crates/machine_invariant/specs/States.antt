@@ -6,8 +6,8 @@ use Rattle.machine_states.specs.epoch_core.specs.declared.location.Location.TheV
 use Rattle.machine_states.specs.epoch_core.specs.History as epoch_history
 use Rattle.agreement_core.specs.History as agreement_history
 use Rattle.machine_states.specs.Sight.{Sight}
-use Rattle.machine_guards.specs.machine_agreement.specs.machine_epochs.specs.Entries.{counts_of}
-use Rattle.machine_guards.specs.Stands.{GuardsStand}
+use Rattle.machine_blocks.specs.machine_guards.specs.machine_agreement.specs.machine_epochs.specs.Entries.{counts_of}
+use Rattle.machine_blocks.specs.machine_guards.specs.Stands.{GuardsStand}
 use Rattle.machine_blocks.specs.Stands.{LogsStand}
 use Rattle.machine_invariant.specs.Slots.{node_count, is_used, SlotsAreSound}
 use Rattle.machine_invariant.specs.Sections.{SectionsAreSound}

@@ -13,7 +13,7 @@ use Rattle.machine_states.specs.runner_parts.specs.State.{RunState, FinishedStat
 use Rattle.machine_states.specs.runner_parts.specs.Tests.{has_pair}
 use Rattle.agreement_core.specs.State.{AgreementState}
 use Rattle.machine_states.specs.Sight.{Sight}
-use Rattle.machine_guards.specs.machine_agreement.specs.machine_epochs.specs.Slots.{thunk_in}
+use Rattle.machine_blocks.specs.machine_guards.specs.machine_agreement.specs.machine_epochs.specs.Slots.{thunk_in}
 
 -- `a` says of each descriptor whether a section was published there and the descriptor isn't free again, how far its
 -- runs have come, and which words its log has. `LogsStand` of machine_blocks says where these stand

@@ -12,14 +12,14 @@ use Rattle.machine_states.specs.epoch_core.specs.State.{EpochState}
 use Rattle.machine_states.specs.epoch_core.specs.Events.{slot_of}
 use Rattle.machine_states.specs.epoch_core.specs.History.{is_out}
 use Rattle.machine_states.specs.Sight.{Sight}
-use Rattle.machine_guards.specs.machine_agreement.specs.machine_epochs.specs.Entries.{counts_of}
-use Rattle.machine_guards.specs.machine_agreement.specs.machine_epochs.specs.Slots.{thunk_in}
-use Rattle.machine_guards.specs.machine_agreement.specs.machine_epochs.specs.Joined as joins
-use Rattle.machine_guards.specs.machine_agreement.specs.machine_scenes.specs.Shown.{Publications, States}
-use Rattle.machine_guards.specs.machine_agreement.specs.machine_scenes.specs.Kept.{IsKept}
-use Rattle.machine_guards.specs.machine_agreement.specs.Joined as sections
+use Rattle.machine_blocks.specs.machine_guards.specs.machine_agreement.specs.machine_epochs.specs.Entries.{counts_of}
+use Rattle.machine_blocks.specs.machine_guards.specs.machine_agreement.specs.machine_epochs.specs.Slots.{thunk_in}
+use Rattle.machine_blocks.specs.machine_guards.specs.machine_agreement.specs.machine_epochs.specs.Joined as joins
+use Rattle.machine_blocks.specs.machine_guards.specs.machine_agreement.specs.machine_scenes.specs.Shown.{Publications, States}
+use Rattle.machine_blocks.specs.machine_guards.specs.machine_agreement.specs.machine_scenes.specs.Kept.{IsKept}
+use Rattle.machine_blocks.specs.machine_guards.specs.machine_agreement.specs.Joined as sections
 use Rattle.machine_slots.specs.Hands.{Made, LocksAreHeld, SlotsAreFilled}
-use Rattle.machine_guards.specs.Stands.{GuardsStand}
+use Rattle.machine_blocks.specs.machine_guards.specs.Stands.{GuardsStand}
 use Rattle.machine_blocks.specs.Stands.{LogsStand}
 
 -- what stands beside the machine's state: the components' states, and what was published

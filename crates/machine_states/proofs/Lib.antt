@@ -6,3 +6,4 @@ pub mod Updates
 pub mod FirstSights
 pub mod Reached
 pub mod Marks
+pub mod Blockless

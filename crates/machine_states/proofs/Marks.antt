@@ -18,7 +18,7 @@ use Rattle.runner_steps.specs.runner_parts.specs.epoch_core.specs.State.{last_ep
 use Rattle.runner_steps.specs.InRun.{last_clock}
 use Rattle.runner_steps.specs.AfterInRun as inside
 use Rattle.runner_steps.specs.AfterOutside as outside
-use Rattle.runner_steps.specs.After.{line_after, inside_after, outside_after, after_by}
+use Rattle.machine_states.specs.Blockless.{line_after, inside_after, outside_after, after_by}
 
 -- what is kept of the epoch: the one seen, whether others crossed the own steps, and whether the own ones crossed others'
 abbrev pub marks : RecordsState → ℕ × (Bool × Bool)

@@ -1,6 +1,6 @@
 -- An event of the machine, seen without the lists.
 use Rattle.std.specs.Prelude.{◌==◌, ◌&&◌, cond, nat_lt, slice_index, slice_set, slice_get, Bool, true, false}
-use Rattle.std.proofs.Common.{◌≡◌, ℕ, suc, ◌+◌, ◌<◌, ◌≤◌, List, length, get_or, sym, refl, ap, subst, ◌∙◌, arith, Option, Some, None}
+use Rattle.std.proofs.Common.{◌≡◌, ℕ, suc, ◌+◌, ◌<◌, ◌≤◌, List, [], length, get_or, sym, refl, ap, subst, ◌∙◌, arith, Option, Some, None}
 use Rattle.std.proofs.lemmas.Bool.Decides.{nat_tests}
 use Rattle.std.proofs.lemmas.Grind.{common_steps}
 use Rattle.std.proofs.lemmas.Option.{gets, slice_get-get_or, slice_get_within}
@@ -21,11 +21,16 @@ use Rattle.runner_steps.specs.runner_parts.specs.declared.event.EventKind.TheVar
 use Rattle.runner_steps.specs.runner_parts.specs.declared.event.Event.{Event}
 use Rattle.runner_steps.specs.runner_parts.specs.State.{PartState, RunState}
 use Rattle.runner_steps.specs.Outside.{Ask}
-use Rattle.runner_steps.specs.Asks.{fitting, sizes_for, asks, ask_by}
-use Rattle.runner_steps.specs.After.{after, leaves, knows_also}
+use Rattle.runner_steps.specs.Asks as all
+use Rattle.runner_steps.specs.Asks.{fitting, sizes_for}
+use Rattle.runner_steps.specs.After as alls
+use Rattle.runner_steps.specs.After.{leaves, knows_also}
 use Rattle.machine_states.specs.World.{World, seat_of, settled_part, knowing, left_by, put_part, acted, acts, happens}
+use Rattle.machine_states.specs.First.{first_part}
+use Rattle.machine_states.specs.Blockless.{asks, ask_by, after, blockless}
 use Rattle.machine_states.specs.Sight.{part_or_first, part_of, sight, parts_after, sight_after, Steps, IsWhole}
 use Rattle.machine_states.proofs.Steps.{some_same, length_put, fitting_fits}
+use Rattle.machine_states.proofs.Blockless.{asks_same, asks_bare, after_bare}
 
 pub some_none : {A B : Type 0} → (a : A) → None ≡ Some a → B
 some_none a e = absurd (let x = e in cc)
@@ -51,15 +56,31 @@ seat_same runners r r' h e = grind (arith, nat_tests)
 seat_within : (l : Layout) (parts : List PartState) (r : ℕ) → seat_of l r < length parts → length parts ≡ l.runners + 1 → r ≤ l.runners
 seat_within l parts r h n = grind (arith, nat_tests)
 
-set_get : (parts : List PartState) (i j : ℕ) (p : PartState) → i < length parts → part_or_first (slice_get (slice_set parts i p) j) ≡ cond (j == i) p (part_or_first (slice_get parts j))
-set_get parts i j p h = grind (arith, common_steps, gets)
+set_get : (parts : List PartState) (i j : ℕ) (p : PartState) → i < length parts → part_or_first (slice_get (slice_set parts i p) j) ≡ cond (j == i) (blockless p) (part_or_first (slice_get parts j))
+set_get parts i j p h = ap part_or_first put_there ∙ shown (j == i) (slice_get parts j)
+  where
+    put_there : slice_get (slice_set parts i p) j ≡ cond (j == i) (Some p) (slice_get parts j)
+    put_there = grind (arith, common_steps, gets)
+
+    shown : (b : Bool) (o : Option PartState) → part_or_first (cond b (Some p) o) ≡ cond b (blockless p) (part_or_first o)
+    shown true o = refl
+    shown false o = refl
+
+-- the part of a seat as it is
+abbrev part_in : Option PartState → PartState
+part_in None = first_part [] [] []
+part_in (Some p) = p
+
+shows : (o : Option PartState) → part_or_first o ≡ blockless (part_in o)
+shows None = refl
+shows (Some p) = refl
 
 seat_test : (runners r r' : ℕ) → r ≤ runners → cond (r' == runners) 0 (suc r') == cond (r == runners) 0 (suc r) ≡ (r' == r)
 seat_test runners r r' h = grind (arith, nat_tests)
 
 -- a part that is put in its seat is seen at its runner
-pub part_set : (l : Layout) (parts : List PartState) (r : ℕ) (p : PartState) → seat_of l r < length parts → r ≤ l.runners → part_of l (slice_set parts (seat_of l r) p) ≡ upd (part_of l parts) r p
-part_set l parts r p h some = fun_ext (λ r'. set_get parts (seat_of l r) (seat_of l r') p h ∙ ap (λ b. cond b p (part_of l parts r')) (seat_test l.runners r r' some))
+pub part_set : (l : Layout) (parts : List PartState) (r : ℕ) (p : PartState) → seat_of l r < length parts → r ≤ l.runners → part_of l (slice_set parts (seat_of l r) p) ≡ upd (part_of l parts) r (blockless p)
+part_set l parts r p h some = fun_ext (λ r'. set_get parts (seat_of l r) (seat_of l r') p h ∙ ap (λ b. cond b (blockless p) (part_of l parts r')) (seat_test l.runners r r' some))
 
 pub cond_none : {A B : Type 0} → (b : Bool) (x : A) → cond b None None ≡ Some x → B
 cond_none true x e = some_none x e
@@ -96,8 +117,8 @@ module _ (m : Meaning) (l : Layout) (rs : List Request) where
     known : (o : Option PartState) (q : PartState) → o ≡ Some q → knowing p o ≡ knows_also p (part_or_first o)
     known o q e = subst (λ (x : Option PartState). knowing p x ≡ knows_also p (part_or_first x)) (sym e) refl
 
-    left : (xs : List PartState) (worker : ℕ) (o : Option PartState) (q : PartState) → o ≡ Some q → left_by xs (suc worker) o ≡ slice_set xs (suc worker) (leaves (part_or_first o))
-    left xs worker o q e = subst (λ (x : Option PartState). left_by xs (suc worker) x ≡ slice_set xs (suc worker) (leaves (part_or_first x))) (sym e) refl
+    left : (xs : List PartState) (worker : ℕ) (o : Option PartState) (q : PartState) → o ≡ Some q → left_by xs (suc worker) o ≡ slice_set xs (suc worker) (leaves (part_in o))
+    left xs worker o q e = subst (λ (x : Option PartState). left_by xs (suc worker) x ≡ slice_set xs (suc worker) (leaves (part_in x))) (sym e) refl
 
     others : (f : ℕ → PartState) (q : PartState) (worker : ℕ) → worker < l.runners → r ≡ l.runners → upd f r q worker ≡ f worker
     others f q worker h e = grind (arith, nat_tests)
@@ -106,22 +127,24 @@ module _ (m : Meaning) (l : Layout) (rs : List Request) where
     there xs worker n h = slice_get-get_or xs (suc worker) p (omega arith)
 
     joined : (worker : ℕ) → worker < l.runners → r ≡ l.runners
-        → part_of l (put_part parts (kinds.Join worker) (seat_of l r) (settled_part (kinds.Join worker) p parts)) ≡ parts_after (kinds.Join worker) (part_of l parts) r p
+        → part_of l (put_part parts (kinds.Join worker) (seat_of l r) (settled_part (kinds.Join worker) p parts)) ≡ parts_after (kinds.Join worker) (part_of l parts) r (blockless p)
     joined worker h e =
         let q = settled_part (kinds.Join worker) p parts in
         let xs = slice_set parts (seat_of l r) q in
         let long : length xs ≡ l.runners + 1 = length-set parts (seat_of l r) q ∙ count in
         let settled : q ≡ knows_also p (part_of l parts worker) = known _ _ (there parts worker count h) ∙ ap (λ (w : PartState). knows_also p w) (at_worker parts worker h) in
-        let kept : part_of l xs ≡ upd (part_of l parts) r q = part_set l parts r q room some in
-        let gone : part_or_first (slice_get xs (suc worker)) ≡ part_of l parts worker =
-        at_worker xs worker h ∙ (ap (λ (f : ℕ → PartState). f worker) kept ∙ others (part_of l parts) q worker h e) in
-        let out : put_part parts (kinds.Join worker) (seat_of l r) q ≡ slice_set xs (seat_of l worker) (leaves (part_of l parts worker)) =
-        left xs worker _ _ (there xs worker long h) ∙ (ap (λ (w : PartState). slice_set xs (suc worker) (leaves w)) gone ∙ ap (λ n. slice_set xs n (leaves (part_of l parts worker))) (worker_seat worker h)) in
+        let kept : part_of l xs ≡ upd (part_of l parts) r (blockless q) = part_set l parts r q room some in
+        let was : Option PartState = slice_get xs (suc worker) in
+        let gone : part_or_first was ≡ part_of l parts worker =
+        at_worker xs worker h ∙ (ap (λ (f : ℕ → PartState). f worker) kept ∙ others (part_of l parts) (blockless q) worker h e) in
+        let out : put_part parts (kinds.Join worker) (seat_of l r) q ≡ slice_set xs (seat_of l worker) (leaves (part_in was)) =
+        left xs worker _ _ (there xs worker long h) ∙ ap (λ n. slice_set xs n (leaves (part_in was))) (worker_seat worker h) in
         ap (part_of l) out
-        ∙ (part_set l xs worker (leaves (part_of l parts worker)) (let at = worker_seat worker h in omega arith) (omega arith)
-        ∙ ap (λ (f : ℕ → PartState). upd f worker (leaves (part_of l parts worker))) (kept ∙ ap (λ (w : PartState). upd (part_of l parts) r w) settled))
+        ∙ (part_set l xs worker (leaves (part_in was)) (let at = worker_seat worker h in omega arith) (omega arith)
+        ∙ (ap (λ (w : PartState). upd (part_of l xs) worker (leaves w)) (sym (shows was) ∙ gone)
+        ∙ ap (λ (f : ℕ → PartState). upd f worker (leaves (part_of l parts worker))) (kept ∙ ap (λ (w : PartState). upd (part_of l parts) r (blockless w)) settled)))
 
-    pub parts_seen : (kind : EventKind) → Joins l kind r → part_of l (put_part parts kind (seat_of l r) (settled_part kind p parts)) ≡ parts_after kind (part_of l parts) r p
+    pub parts_seen : (kind : EventKind) → Joins l kind r → part_of l (put_part parts kind (seat_of l r) (settled_part kind p parts)) ≡ parts_after kind (part_of l parts) r (blockless p)
     parts_seen (kinds.Join worker) h = joined worker h.1 h.0
     parts_seen _ h = part_set l parts r p room some
 
@@ -132,23 +155,27 @@ module _ (m : Meaning) (l : Layout) (rs : List Request) where
     abbrev sizes : Sizes
     sizes = sizes_for m l rs
 
-    module _ (p : PartState) (x : Spot × Access) (here : slice_get w.parts (seat_of l event.runner) ≡ Some p) (asked : asks m l rs event.runner event.kind p ≡ Some x) where
+    module _ (p : PartState) (x : Spot × Access) (here : slice_get w.parts (seat_of l event.runner) ≡ Some p) (asked : all.asks m l rs event.runner event.kind p ≡ Some x) where
       abbrev found : ℕ
       found = slice_index w.words (address sizes x.0)
 
       abbrev made : World
       made = record {
         words = slice_set w.words (address sizes x.0) (written x.1 found);
-        parts = put_part w.parts event.kind (seat_of l event.runner) (settled_part event.kind (after m l event.runner event.kind x.0 x.1 p found) w.parts);
+        parts = put_part w.parts event.kind (seat_of l event.runner) (settled_part event.kind (alls.after m l event.runner event.kind x.0 x.1 p found) w.parts);
       }
 
       inside : Fits sizes x.0
-      inside = (unless_gone sizes p.gone (ask_by m l rs event.runner event.kind p p.run) x asked).2
+      inside = (unless_gone sizes p.gone (all.ask_by m l rs event.runner event.kind p p.run) x asked).2
+
+      -- without blocks it asks the same
+      asked_so : asks m l rs event.runner event.kind p ≡ Some x
+      asked_so = sym (asks_same m l rs event.runner event.kind p) ∙ asked
 
       some_runner : event.runner ≤ l.runners
       some_runner = seat_some w.parts event.runner p whole.parts here
 
-      own : p ≡ part_of l w.parts event.runner
+      own : blockless p ≡ part_of l w.parts event.runner
       own = sym (ap part_or_first here)
 
       found_seen : found ≡ seen sizes w.words x.0
@@ -159,15 +186,16 @@ module _ (m : Meaning) (l : Layout) (rs : List Request) where
           ∙ ap (λ n. put (seen sizes w.words) x.0 (written x.1 n)) found_seen
 
       parts_path : part_of l made.parts ≡ (sight_after m l (sight m l rs w) event.runner event.kind x).part
-      parts_path = parts_seen w.parts whole.parts event.runner some_runner (after m l event.runner event.kind x.0 x.1 p found) event.kind (joins event.kind event.runner p x asked)
-          ∙ (ap (λ n. parts_after event.kind (part_of l w.parts) event.runner (after m l event.runner event.kind x.0 x.1 p n)) found_seen
-          ∙ ap (λ (q : PartState). parts_after event.kind (part_of l w.parts) event.runner (after m l event.runner event.kind x.0 x.1 q (seen sizes w.words x.0))) own)
+      parts_path = parts_seen w.parts whole.parts event.runner some_runner (alls.after m l event.runner event.kind x.0 x.1 p found) event.kind (joins event.kind event.runner p x asked_so)
+          ∙ (ap (parts_after event.kind (part_of l w.parts) event.runner) (after_bare m l rs event.runner p found x event.kind asked_so)
+          ∙ (ap (λ n. parts_after event.kind (part_of l w.parts) event.runner (after m l event.runner event.kind x.0 x.1 (blockless p) n)) found_seen
+          ∙ ap (λ (q : PartState). parts_after event.kind (part_of l w.parts) event.runner (after m l event.runner event.kind x.0 x.1 q (seen sizes w.words x.0))) own))
 
       steps : made ≡ w' → Steps m l rs (sight m l rs w) (sight m l rs w') event.runner event.kind
       steps e = record {
         runner = some_runner;
         ask = x;
-        asked = ap (λ (q : PartState). asks m l rs event.runner event.kind q) (sym own) ∙ asked;
+        asked = ap (λ (q : PartState). asks m l rs event.runner event.kind q) (sym own) ∙ (asks_bare m l rs event.runner p event.kind ∙ asked_so);
         has_word = inside;
         next = sym (ap (λ (v : World). sight m l rs v) e) ∙ (λ i. record { word = words_seen i; part = parts_path i });
       }
@@ -178,7 +206,7 @@ module _ (m : Meaning) (l : Layout) (rs : List Request) where
         parts = length_put w.parts event.kind (seat_of l event.runner) _ ∙ whole.parts;
       })
 
-    by_ask : (p : PartState) (a : Ask) → slice_get w.parts (seat_of l event.runner) ≡ Some p → asks m l rs event.runner event.kind p ≡ a → acted m l rs w event.runner event.kind p a ≡ Some w'
+    by_ask : (p : PartState) (a : Ask) → slice_get w.parts (seat_of l event.runner) ≡ Some p → all.asks m l rs event.runner event.kind p ≡ a → acted m l rs w event.runner event.kind p a ≡ Some w'
         → Steps m l rs (sight m l rs w) (sight m l rs w') event.runner event.kind × IsWhole m l rs w'
     by_ask p None here asked e = some_none w' e
     by_ask p (Some x) here asked e = let same = some_same _ _ e in (steps p x here asked same, whole_after p x here asked same)
@@ -186,7 +214,7 @@ module _ (m : Meaning) (l : Layout) (rs : List Request) where
     by_part : (o : Option PartState) → slice_get w.parts (seat_of l event.runner) ≡ o → acts m l rs w event.runner event.kind o ≡ Some w'
         → Steps m l rs (sight m l rs w) (sight m l rs w') event.runner event.kind × IsWhole m l rs w'
     by_part None here e = some_none w' e
-    by_part (Some p) here e = by_ask p (asks m l rs event.runner event.kind p) here refl e
+    by_part (Some p) here e = by_ask p (all.asks m l rs event.runner event.kind p) here refl e
 
     -- an event that happens is a step of the sight, and leaves the machine whole
     pub happens_steps : happens m l rs w event ≡ Some w' → Steps m l rs (sight m l rs w) (sight m l rs w') event.runner event.kind × IsWhole m l rs w'

@@ -1,11 +1,11 @@
 -- The first state.
-use Rattle.std.specs.Prelude.{◌≡◌, ℕ, zero, suc, ◌+◌, ◌*◌, List, [], ◌∷◌, ◌++◌, length, nat_lt, cond, false, None}
+use Rattle.std.specs.Prelude.{◌≡◌, ℕ, zero, suc, ◌+◌, ◌*◌, List, [], ◌∷◌, ◌++◌, length, nat_lt, cond, true, false, None}
 use Rattle.runner_steps.specs.map_history.specs.declared.op.Request.{Request}
 use Rattle.runner_steps.specs.table_words.specs.declared.layout.Layout.{Layout}
 use Rattle.runner_steps.specs.table_words.specs.declared.sizes.Sizes.{Sizes}
 use Rattle.runner_steps.specs.table_words.specs.declared.spot.Spot.{Spot}
 use Rattle.runner_steps.specs.table_words.specs.declared.spot.Spot.TheVariants as spots
-use Rattle.runner_steps.specs.table_words.specs.Places.{size, Fits}
+use Rattle.runner_steps.specs.table_words.specs.Places.{size, Fits, worker_blocks, keeper_blocks}
 use Rattle.runner_steps.specs.table_words.specs.Seen.{seen}
 use Rattle.runner_steps.specs.runner_parts.specs.structure_laws.specs.Meaning.{Meaning}
 use Rattle.runner_steps.specs.runner_parts.specs.structure_laws.specs.Cells.{first_word}
@@ -31,16 +31,18 @@ pub record IsFilled (m : Meaning) (s : Sizes) (n : ℕ) (words : List ℕ) : Typ
   pub room : length words ≡ size s
   pub seen : (a : Spot) → Fits s a → seen s words a ≡ filled m n a
 
--- a runner that has done nothing, with these free node slots and these free descriptors
-abbrev pub first_part : List ℕ → List ℕ → PartState
-first_part nodes descriptors = record {
+-- a runner that has done nothing, with these free node slots, these free descriptors and these free blocks
+abbrev pub first_part : List ℕ → List ℕ → List ℕ → PartState
+first_part nodes descriptors blocks = record {
   stage = stages.Idle;
   run = None;
   published = None;
   nodes = record { free = nodes; hand = []; tests = []; limbo = []; worn = [] };
   descriptors = record { free = descriptors; stored = []; limbo = [] };
+  blocks = record { free = blocks; limbo = [] };
   guards = no_guards;
   reads = no_reads;
+  board = [];
   records = record {
     known = [];
     finished = [];
@@ -53,18 +55,22 @@ first_part nodes descriptors = record {
     splits = 0;
     joined = [];
     only_loads = false;
+    gave_above = true;
   };
   gone = false;
 }
 
--- the keeper's slots come after the workers', two for each worker and two more; it has one descriptor for each worker
+-- the keeper's slots come after the workers', two for each worker and two more; it has one descriptor for each worker,
+-- and its blocks come last too
 abbrev pub keeper_part : Meaning → Layout → PartState
 keeper_part m l =
     first_part (falling (m.fixed_slots + l.nodes * l.runners) (2 * l.runners + 2))
-    (falling (l.sections * l.runners) l.runners)
+    (falling (l.sections * l.runners) l.runners) (falling (worker_blocks l * l.runners) (keeper_blocks l))
 
 abbrev pub worker_part : Meaning → Layout → ℕ → PartState
-worker_part m l k = first_part (falling (m.fixed_slots + l.nodes * k) l.nodes) (falling (l.sections * k) l.sections)
+worker_part m l k =
+    first_part (falling (m.fixed_slots + l.nodes * k) l.nodes) (falling (l.sections * k) l.sections)
+    (falling (worker_blocks l * k) (worker_blocks l))
 
 -- the first workers
 abbrev pub workers : Meaning → Layout → ℕ → List PartState

@@ -1,4 +1,5 @@
--- A state without its lists: the word at each spot, and each runner's part by its number.
+-- A state without its lists: the word at each spot, and each runner's part by its number, without its blocks and its
+-- loads of the board as long as the components' joins have none.
 use Rattle.std.specs.Prelude.{◌≡◌, ℕ, ◌+◌, ◌≤◌, List, [], length, Option, Some, None, slice_get}
 use Rattle.runner_steps.specs.map_history.specs.declared.op.Request.{Request}
 use Rattle.runner_steps.specs.table_words.specs.declared.layout.Layout.{Layout}
@@ -11,10 +12,11 @@ use Rattle.runner_steps.specs.runner_parts.specs.structure_laws.specs.Meaning.{M
 use Rattle.runner_steps.specs.runner_parts.specs.declared.event.EventKind.{EventKind}
 use Rattle.runner_steps.specs.runner_parts.specs.declared.event.EventKind.TheVariants as kinds
 use Rattle.runner_steps.specs.runner_parts.specs.State.{PartState}
-use Rattle.runner_steps.specs.Asks.{asks, sizes_for}
-use Rattle.runner_steps.specs.After.{after, leaves, knows_also}
+use Rattle.runner_steps.specs.Asks.{sizes_for}
+use Rattle.runner_steps.specs.After.{leaves, knows_also}
 use Rattle.machine_states.specs.World.{World, seat_of}
 use Rattle.machine_states.specs.First.{first_part}
+use Rattle.machine_states.specs.Blockless.{asks, after, blockless}
 
 pub record Sight : Type 0 where
   pub word : Spot → ℕ
@@ -22,8 +24,8 @@ pub record Sight : Type 0 where
 
 -- a number that no runner has shows a part that has done nothing and owns nothing
 abbrev pub part_or_first : Option PartState → PartState
-part_or_first None = first_part [] []
-part_or_first (Some p) = p
+part_or_first None = first_part [] [] []
+part_or_first (Some p) = blockless p
 
 -- the runners' parts by their numbers
 abbrev pub part_of : Layout → List PartState → ℕ → PartState

@@ -29,15 +29,15 @@ use Rattle.machine_states.specs.World.{World}
 use Rattle.machine_states.specs.First.{IsFirst}
 use Rattle.machine_states.specs.Reached.{Reached}
 use Rattle.machine_states.specs.Sight.{Sight, sight, sight_after}
-use Rattle.machine_invariant.specs.machine_agreement.specs.machine_epochs.proofs.RunPlaces.{is_of_end, next_in_line, open_run}
-use Rattle.machine_invariant.specs.machine_agreement.proofs.LineAsked.{stamp_asked, clock_raise_asked}
+use Rattle.machine_invariant.specs.machine_blocks.specs.machine_guards.specs.machine_agreement.specs.machine_epochs.proofs.RunPlaces.{is_of_end, next_in_line, open_run}
+use Rattle.machine_invariant.specs.machine_blocks.specs.machine_guards.specs.machine_agreement.proofs.LineAsked.{stamp_asked, clock_raise_asked}
 use Rattle.machine_invariant.specs.After.{AreAllowed}
 use Rattle.machine_invariant.specs.Whole.{Beside, IsWhole}
 use Rattle.machine_invariant.proofs.First.{first_whole}
 use Rattle.next_steps.specs.Rooms.{stamped, ClockIsSmall}
 use Rattle.next_steps.proofs.Touched.{raises_clock, stamps, asked_may, clock_same, stamp_same}
 use Rattle.machine_invariant.proofs.Keeping.{IsStep, reached_keeps}
-use Rattle.machine_invariant.specs.machine_agreement.specs.machine_epochs.proofs.ReadsAsked.{read_stamp_asked, stamp_some}
+use Rattle.machine_invariant.specs.machine_blocks.specs.machine_guards.specs.machine_agreement.specs.machine_epochs.proofs.ReadsAsked.{read_stamp_asked, stamp_some}
 use Rattle.next_steps.specs.Looks.{LooksAreSmall, LooksHaveStamps}
 use Rattle.next_steps.proofs.Looks.{looks_small, first_looks}
 use Rattle.next_steps.proofs.Runs.{in_line, out_of_run, section, run, here, run_sound, code}

@@ -30,24 +30,25 @@ use Rattle.machine_states.specs.runner_parts.specs.declared.event.EventKind.{Eve
 use Rattle.machine_states.specs.runner_parts.specs.declared.event.EventKind.TheVariants as kinds
 use Rattle.machine_states.specs.runner_parts.specs.State.{RunState, PartState}
 use Rattle.machine_states.specs.runner_parts.specs.Tests.{has}
-use Rattle.machine_states.specs.runner_steps.specs.Sections.{thunk_of, is_open_run, line_of, next_of}
-use Rattle.machine_states.specs.runner_steps.specs.InRun.{can_hold, make_slot, is_slot, last_clock, make_commit_to}
+use Rattle.machine_states.specs.runner_steps.specs.Sections.{thunk_of, is_open_run, line_of, next_of, commits_to}
+use Rattle.machine_states.specs.runner_steps.specs.InRun.{can_hold, make_slot, is_slot, last_clock}
+use Rattle.machine_states.specs.Blockless.{make_commit_to, line_ask, inside_ask, ask_by}
 use Rattle.machine_states.specs.runner_steps.specs.AfterInRun.{place_of}
 use Rattle.machine_states.specs.runner_steps.specs.Outside.{Ask, when}
-use Rattle.machine_states.specs.runner_steps.specs.Asks.{line_ask, inside_ask, opening_ask, ask_by, fitting, sizes_for}
+use Rattle.machine_states.specs.runner_steps.specs.Asks.{opening_ask, fitting, sizes_for}
 use Rattle.agreement_core.specs.State.{section_of}
 use Rattle.agreement_core.specs.Checks.{passes}
 use Rattle.agreement_core.proofs.Words.{unspent_room, version_held}
 use Rattle.machine_states.specs.World.{World}
 use Rattle.machine_states.specs.Sight.{Sight, sight}
 use Rattle.machine_states.specs.Reached.{Reached}
+use Rattle.machine_states.proofs.Blockless.{asks_same}
 use Rattle.machine_states.proofs.Steps.{some_same}
-use Rattle.machine_invariant.specs.machine_agreement.specs.machine_scenes.specs.Shown.{rules_of}
-use Rattle.machine_invariant.specs.machine_agreement.specs.machine_epochs.proofs.RunPlaces.{is_of_end, next_in_line}
-use Rattle.machine_invariant.specs.machine_agreement.proofs.RunPlaces.{opened_thunk, of_thunk, before}
+use Rattle.machine_invariant.specs.machine_blocks.specs.machine_guards.specs.machine_agreement.specs.machine_scenes.specs.Shown.{rules_of}
+use Rattle.machine_invariant.specs.machine_blocks.specs.machine_guards.specs.machine_agreement.specs.machine_epochs.proofs.RunPlaces.{is_of_end, next_in_line}
+use Rattle.machine_invariant.specs.machine_blocks.specs.machine_guards.specs.machine_agreement.proofs.RunPlaces.{opened_thunk, of_thunk, before}
 use Rattle.machine_invariant.specs.After.{AreAllowed}
 use Rattle.machine_invariant.specs.Whole.{Beside, made_in, IsWhole}
-use Rattle.machine_invariant.specs.machine_agreement.specs.machine_epochs.specs.Roles.{commits_to}
 use Rattle.machine_invariant.proofs.After.{reached_whole}
 use Rattle.next_steps.specs.Steps.{slot_in, kind_at, ask_at, opening_kind, opened_next, has_slot}
 use Rattle.next_steps.specs.Rooms.{ClockIsSmall, cell_count, ThunkFits, ThunksFit, filling, RoomsStand}
@@ -102,7 +103,7 @@ module _ (m : Meaning) (laws : Laws m) (l : Layout) (limits : IsWithinLimits l) 
   -- an event that is asked for, on a word of the table, is enabled
   enabled_by : (kind : EventKind) (x : Spot × Access) → p.gone ≡ false → inside_ask m l kind p.nodes.free q ≡ Some x → fits sizes x.0 ≡ true
       → Meets m l rs r p kind x
-  enabled_by kind x there asked fit = by p.gone there (ap (ask_by m l rs r kind p) is ∙ asked)
+  enabled_by kind x there asked fit = asks_same m l rs r kind p ∙ by p.gone there (ap (ask_by m l rs r kind p) is ∙ asked)
     where
       fitted : (a : Ask) → a ≡ Some x → fitting sizes a ≡ Some x
       fitted None e = absurd (none-some _ e)

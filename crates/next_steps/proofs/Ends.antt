@@ -23,23 +23,23 @@ use Rattle.machine_states.specs.runner_steps.specs.Sections.{thunk_of, is_open_r
 use Rattle.machine_states.specs.runner_parts.specs.Lists.{cell_read}
 use Rattle.machine_states.specs.epoch_core.specs.State.{last_epoch}
 use Rattle.machine_states.specs.runner_steps.specs.InRun.{last_clock}
-use Rattle.machine_states.specs.runner_steps.specs.Asks.{ask_by, opening_ask, line_ask}
+use Rattle.machine_states.specs.runner_steps.specs.Asks.{opening_ask}
+use Rattle.machine_states.specs.Blockless.{ask_by, line_ask, line_after, outside_after, after_by}
 use Rattle.machine_states.specs.runner_steps.specs.AfterInRun as inside
 use Rattle.machine_states.specs.runner_steps.specs.AfterOutside as outside
-use Rattle.machine_states.specs.runner_steps.specs.After.{line_after, outside_after, after_by}
 use Rattle.machine_states.specs.World.{World}
 use Rattle.machine_states.specs.First.{IsFirst}
 use Rattle.machine_states.specs.Reached.{Reached}
 use Rattle.machine_states.specs.Sight.{Sight, sight}
 use Rattle.machine_states.proofs.Sights.{some_none, unless_gone, joins}
 use Rattle.machine_states.proofs.Steps.{some_same}
-use Rattle.machine_invariant.specs.machine_agreement.specs.machine_epochs.proofs.InsideAsked as asked
-use Rattle.machine_invariant.specs.machine_agreement.specs.machine_epochs.proofs.RunPlaces.{is_of_end, next_in_line, open_run}
-use Rattle.machine_invariant.specs.machine_agreement.specs.machine_epochs.proofs.FirstJoin as FirstJoin
+use Rattle.machine_invariant.specs.machine_blocks.specs.machine_guards.specs.machine_agreement.specs.machine_epochs.proofs.InsideAsked as asked
+use Rattle.machine_invariant.specs.machine_blocks.specs.machine_guards.specs.machine_agreement.specs.machine_epochs.proofs.RunPlaces.{is_of_end, next_in_line, open_run}
+use Rattle.machine_invariant.specs.machine_blocks.specs.machine_guards.specs.machine_agreement.specs.machine_epochs.proofs.FirstJoin as FirstJoin
 use Rattle.machine_states.proofs.FirstSights.{first_parts}
-use Rattle.machine_invariant.specs.machine_agreement.proofs.RunPlaces.{not_ended}
-use Rattle.machine_invariant.specs.machine_agreement.proofs.Ends.{at_end}
-use Rattle.machine_invariant.specs.machine_agreement.proofs.Endings.{no_done}
+use Rattle.machine_invariant.specs.machine_blocks.specs.machine_guards.specs.machine_agreement.proofs.RunPlaces.{not_ended}
+use Rattle.machine_invariant.specs.machine_blocks.specs.machine_guards.specs.machine_agreement.proofs.Ends.{at_end}
+use Rattle.machine_invariant.specs.machine_blocks.specs.machine_guards.specs.machine_agreement.proofs.Endings.{no_done}
 use Rattle.machine_invariant.specs.After.{AreAllowed}
 use Rattle.machine_invariant.specs.Whole.{Beside, IsWhole}
 use Rattle.machine_invariant.proofs.Keeping.{IsStep, reached_keeps}

@@ -20,9 +20,9 @@ use Rattle.machine_states.specs.runner_parts.specs.declared.event.EventKind.{Eve
 use Rattle.machine_states.specs.runner_parts.specs.declared.event.EventKind.TheVariants as kinds
 use Rattle.machine_states.specs.runner_parts.specs.State.{RunState}
 use Rattle.machine_states.specs.runner_steps.specs.Sections.{thunk_of, line_of, next_of}
-use Rattle.machine_states.specs.runner_steps.specs.Asks.{line_ask}
+use Rattle.machine_states.specs.Blockless.{line_ask}
 use Rattle.machine_states.proofs.Sights.{some_none}
-use Rattle.machine_invariant.specs.machine_agreement.proofs.Passes.{settled_here}
+use Rattle.machine_invariant.specs.machine_blocks.specs.machine_guards.specs.machine_agreement.proofs.Passes.{settled_here}
 use Rattle.next_steps.specs.Rooms.{filling}
 
 -- behind a private store comes the load of the next cell, or the commit

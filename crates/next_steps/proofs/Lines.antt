@@ -18,11 +18,10 @@ use Rattle.agreement_core.specs.section_lines.proofs.Resolved.{is_resolved}
 use Rattle.machine_states.specs.table_words.specs.declared.layout.Layout.{Layout}
 use Rattle.machine_states.specs.structure_laws.specs.Meaning.{Meaning}
 use Rattle.machine_states.specs.runner_parts.specs.State.{RunState}
-use Rattle.machine_states.specs.runner_steps.specs.Sections.{thunk_of, line_limit, is_open_run, line_of, next_of}
+use Rattle.machine_states.specs.runner_steps.specs.Sections.{thunk_of, line_limit, is_open_run, line_of, next_of, commits_to}
 use Rattle.machine_states.specs.Sight.{Sight}
-use Rattle.machine_invariant.specs.machine_agreement.proofs.RunPlaces.{not_ended}
+use Rattle.machine_invariant.specs.machine_blocks.specs.machine_guards.specs.machine_agreement.proofs.RunPlaces.{not_ended}
 use Rattle.machine_invariant.specs.Whole.{Beside, IsWhole}
-use Rattle.machine_invariant.specs.machine_agreement.specs.machine_epochs.specs.Roles.{commits_to}
 use Rattle.next_steps.proofs.Runs.{section, here, section_sound, run_sound, shaped, code}
 use Rattle.next_steps.proofs.Releases.{fewer_releases}
 use Rattle.next_steps.proofs.Ends.{HasNext}

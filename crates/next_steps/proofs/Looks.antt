@@ -25,16 +25,16 @@ use Rattle.machine_states.specs.runner_steps.specs.InRun.{last_clock}
 use Rattle.machine_states.specs.runner_steps.specs.Reads.{plan_by, come_to, look_by, looked_by}
 use Rattle.machine_states.specs.runner_steps.specs.AfterInRun as inside
 use Rattle.machine_states.specs.runner_steps.specs.AfterOutside as outside
-use Rattle.machine_states.specs.runner_steps.specs.After.{line_after, inside_after, outside_after, after_by}
+use Rattle.machine_states.specs.Blockless.{line_after, inside_after, outside_after, after_by}
 use Rattle.machine_states.specs.First.{IsFirst}
 use Rattle.machine_states.specs.Sight.{Sight, sight, sight_after}
 use Rattle.machine_states.specs.World.{World}
 use Rattle.machine_states.proofs.FirstSights.{first_parts}
 use Rattle.machine_states.proofs.Sights.{some_none, joins}
 use Rattle.machine_states.proofs.Steps.{some_same}
-use Rattle.machine_invariant.specs.machine_agreement.specs.machine_epochs.proofs.FirstJoin as FirstJoin
-use Rattle.machine_invariant.specs.machine_agreement.specs.machine_epochs.proofs.ReadsAsked.{read_clock_asked}
-use Rattle.machine_invariant.specs.machine_agreement.proofs.LineAsked.{clock_raise_asked}
+use Rattle.machine_invariant.specs.machine_blocks.specs.machine_guards.specs.machine_agreement.specs.machine_epochs.proofs.FirstJoin as FirstJoin
+use Rattle.machine_invariant.specs.machine_blocks.specs.machine_guards.specs.machine_agreement.specs.machine_epochs.proofs.ReadsAsked.{read_clock_asked}
+use Rattle.machine_invariant.specs.machine_blocks.specs.machine_guards.specs.machine_agreement.proofs.LineAsked.{clock_raise_asked}
 use Rattle.machine_invariant.proofs.Keeping.{IsStep}
 use Rattle.next_steps.specs.Looks.{LooksAreSmall}
 use Rattle.next_steps.proofs.Parts.{each_part}

@@ -12,18 +12,17 @@ use Rattle.machine_states.specs.runner_parts.specs.declared.event.EventKind.{Eve
 use Rattle.machine_states.specs.epoch_core.specs.declared.stage.Stage.TheVariants.{Entered}
 use Rattle.machine_states.specs.runner_parts.specs.State.{RunState, PartState}
 use Rattle.machine_states.specs.runner_parts.specs.Tests.{has, has_pair}
-use Rattle.machine_states.specs.runner_steps.specs.Asks.{ask_by}
-use Rattle.machine_states.specs.runner_steps.specs.After.{after_by}
+use Rattle.machine_states.specs.Blockless.{ask_by, after_by}
 use Rattle.machine_states.specs.World.{World}
 use Rattle.machine_states.specs.First.{IsFirst, falling, first_part, keeper_part, worker_part}
 use Rattle.machine_states.specs.Reached.{Reached}
 use Rattle.machine_states.specs.Sight.{Sight, sight}
 use Rattle.machine_states.proofs.FirstSights.{first_parts}
 use Rattle.machine_states.proofs.Sights.{some_none, unless_gone, joins}
-use Rattle.machine_invariant.specs.machine_agreement.specs.machine_epochs.specs.Entries.{counts_of}
-use Rattle.machine_invariant.specs.machine_agreement.specs.machine_epochs.proofs.FirstJoin as FirstJoin
-use Rattle.machine_invariant.specs.machine_agreement.specs.machine_scenes.specs.Shown.{scene_of}
-use Rattle.machine_invariant.specs.machine_agreement.specs.machine_scenes.proofs.Links.{gives}
+use Rattle.machine_invariant.specs.machine_blocks.specs.machine_guards.specs.machine_agreement.specs.machine_epochs.specs.Entries.{counts_of}
+use Rattle.machine_invariant.specs.machine_blocks.specs.machine_guards.specs.machine_agreement.specs.machine_epochs.proofs.FirstJoin as FirstJoin
+use Rattle.machine_invariant.specs.machine_blocks.specs.machine_guards.specs.machine_agreement.specs.machine_scenes.specs.Shown.{scene_of}
+use Rattle.machine_invariant.specs.machine_blocks.specs.machine_guards.specs.machine_agreement.specs.machine_scenes.proofs.Links.{gives}
 use Rattle.machine_invariant.specs.After.{AreAllowed}
 use Rattle.machine_invariant.specs.Whole.{Beside, states_of, IsWhole}
 use Rattle.machine_invariant.proofs.After.{reached_whole}
@@ -82,12 +81,12 @@ module _ (m : Meaning) (l : Layout) (rs : List Request) (w : World) (start : IsF
       less a b e = grind (arith, nat_tests)
 
       by : (b b' : Bool) → nat_lt r l.runners ≡ b'
-          → has (cond b (keeper_part m l) (cond b' (worker_part m l r) (first_part [] []))).descriptors.free d ≡ true → d < descriptor_count l
+          → has (cond b (keeper_part m l) (cond b' (worker_part m l r) (first_part [] [] []))).descriptors.free d ≡ true → d < descriptor_count l
       by true b' low has_it = falling_below (l.sections * l.runners) l.runners d has_it
       by false true low has_it = row_low l.sections r l.runners d (less r l.runners low) (falling_below (l.sections * r) l.sections d has_it)
       by false false low has_it = absurd (let z = has_it in cc)
 
-  first_of : (Q : PartState → Type 0) → Q (keeper_part m l) → ((k : ℕ) → Q (worker_part m l k)) → Q (first_part [] []) → (r : ℕ) → Q ((sight m l rs w).part r)
+  first_of : (Q : PartState → Type 0) → Q (keeper_part m l) → ((k : ℕ) → Q (worker_part m l k)) → Q (first_part [] [] []) → (r : ℕ) → Q ((sight m l rs w).part r)
   first_of Q keeper worker nobody r = subst Q (sym (first_parts m l w.parts start.parts r)) (FirstJoin.each_part m l Q keeper worker nobody r)
 
   first_parts_fit : PartsFit m l (sight m l rs w)

@@ -27,15 +27,15 @@ use Rattle.machine_invariant.proofs.Basics.{same_test}
 use Rattle.machine_states.specs.runner_steps.specs.Sections.{is_open_run, next_of}
 use Rattle.machine_states.specs.epoch_core.specs.State.{last_epoch}
 use Rattle.machine_states.specs.runner_steps.specs.InRun.{last_clock}
-use Rattle.machine_states.specs.runner_steps.specs.Asks.{ask_by, outside_ask, line_ask, opening_ask, sizes_for}
+use Rattle.machine_states.specs.runner_steps.specs.Asks.{opening_ask, sizes_for}
+use Rattle.machine_states.specs.Blockless.{ask_by, outside_ask, line_ask, line_after, inside_after, outside_after}
 use Rattle.machine_states.specs.runner_steps.specs.AfterInRun as inside
 use Rattle.machine_states.specs.runner_steps.specs.AfterOutside as outside
-use Rattle.machine_states.specs.runner_steps.specs.After.{line_after, inside_after, outside_after}
 use Rattle.machine_states.specs.runner_steps.specs.Guards.{is_last_guard}
 use Rattle.machine_states.proofs.Sights.{some_none}
 use Rattle.machine_states.proofs.Steps.{some_same}
-use Rattle.machine_invariant.specs.machine_agreement.specs.machine_epochs.proofs.InsideAsked as asked
-use Rattle.machine_invariant.specs.machine_agreement.specs.machine_epochs.proofs.OutsideAsked as outside_asked
+use Rattle.machine_invariant.specs.machine_blocks.specs.machine_guards.specs.machine_agreement.specs.machine_epochs.proofs.InsideAsked as asked
+use Rattle.machine_invariant.specs.machine_blocks.specs.machine_guards.specs.machine_agreement.specs.machine_epochs.proofs.OutsideAsked as outside_asked
 use Rattle.next_steps.specs.Rooms.{cell_count}
 use Rattle.next_steps.specs.Numbers.{PartFits}
 use Rattle.next_steps.proofs.Tests.{without_has, either_has}

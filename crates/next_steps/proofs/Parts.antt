@@ -9,7 +9,8 @@ use Rattle.machine_states.specs.structure_laws.specs.Meaning.{Meaning}
 use Rattle.machine_states.specs.runner_parts.specs.declared.event.EventKind.{EventKind}
 use Rattle.machine_states.specs.runner_parts.specs.declared.event.EventKind.TheVariants as kinds
 use Rattle.machine_states.specs.runner_parts.specs.State.{RecordsState, PartState}
-use Rattle.machine_states.specs.runner_steps.specs.After.{after, after_by, knows_also, leaves}
+use Rattle.machine_states.specs.runner_steps.specs.After.{knows_also, leaves}
+use Rattle.machine_states.specs.Blockless.{after, after_by}
 use Rattle.machine_states.specs.Sight.{Sight, sight_after}
 use Rattle.machine_states.proofs.Sights.{Joins}
 use Rattle.machine_states.proofs.Updates.{upd_split}

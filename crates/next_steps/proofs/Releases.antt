@@ -16,9 +16,9 @@ use Rattle.machine_states.specs.structure_laws.specs.Shape.{Shaped}
 use Rattle.machine_states.specs.runner_parts.specs.State.{RunState}
 use Rattle.machine_states.specs.runner_steps.specs.Sections.{thunk_of, is_open_run, line_of, next_of}
 use Rattle.machine_states.specs.Sight.{Sight}
-use Rattle.machine_invariant.specs.machine_agreement.proofs.RunPlaces.{of_thunk}
-use Rattle.machine_invariant.specs.machine_agreement.proofs.Ends.{at_end}
-use Rattle.machine_invariant.specs.machine_agreement.proofs.Endings.{TakesIn, release_taken}
+use Rattle.machine_invariant.specs.machine_blocks.specs.machine_guards.specs.machine_agreement.proofs.RunPlaces.{of_thunk}
+use Rattle.machine_invariant.specs.machine_blocks.specs.machine_guards.specs.machine_agreement.proofs.Ends.{at_end}
+use Rattle.machine_invariant.specs.machine_blocks.specs.machine_guards.specs.machine_agreement.proofs.Endings.{TakesIn, release_taken}
 use Rattle.machine_invariant.specs.Whole.{Beside, IsWhole}
 use Rattle.next_steps.proofs.Runs.{section_sound, shaped}
 

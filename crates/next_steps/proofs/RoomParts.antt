@@ -14,7 +14,7 @@ use Rattle.machine_states.specs.runner_parts.specs.State.{RunState, PartState, N
 use Rattle.machine_states.specs.runner_parts.specs.Tests.{has}
 use Rattle.machine_states.specs.runner_parts.specs.Lists.{without, test_of, tests_without, slot_back, slot_tested, one_more, nodes_looked, slot_taken, slot_made}
 use Rattle.machine_states.specs.runner_steps.specs.AfterOutside as outside
-use Rattle.machine_invariant.specs.machine_agreement.specs.machine_epochs.proofs.Places.{has_append}
+use Rattle.machine_invariant.specs.machine_blocks.specs.machine_guards.specs.machine_agreement.specs.machine_epochs.proofs.Places.{has_append}
 use Rattle.next_steps.specs.Rooms.{CellHasRoom, MakeHasRoom, SlotsHaveRoom}
 use Rattle.next_steps.proofs.Tests.{without_has, without_not, either_has, test_slot, tests_without_other, tests_without_own, tests_push_own, tests_push_other}
 use Rattle.machine_invariant.proofs.Basics.{not_both}

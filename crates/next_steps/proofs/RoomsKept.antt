@@ -33,24 +33,24 @@ use Rattle.machine_states.specs.runner_parts.specs.Tests.{has, is_resting}
 use Rattle.machine_states.specs.runner_parts.specs.Lists.{test_of, slot_made, slot_back, nodes_looked, descriptor_stored}
 use Rattle.machine_states.specs.runner_steps.specs.Sections.{thunk_of, is_open_run, line_of, next_of, setting_of}
 use Rattle.machine_states.specs.runner_steps.specs.InRun.{is_slot, make_slot}
-use Rattle.machine_states.specs.runner_steps.specs.Outside.{private_load_ask, when, descriptor_spot}
+use Rattle.machine_states.specs.runner_steps.specs.Outside.{when, descriptor_spot}
+use Rattle.machine_states.specs.Blockless.{private_load_ask, ask_by, line_ask, outside_ask, outside_after, fill_stored, after_by}
 use Rattle.machine_states.specs.epoch_core.specs.State.{last_epoch}
-use Rattle.machine_states.specs.runner_steps.specs.Asks.{ask_by, line_ask, opening_ask, outside_ask}
+use Rattle.machine_states.specs.runner_steps.specs.Asks.{opening_ask}
 use Rattle.machine_states.specs.runner_steps.specs.AfterInRun as inside
 use Rattle.machine_states.specs.runner_steps.specs.AfterOutside as outside
-use Rattle.machine_states.specs.runner_steps.specs.After.{outside_after, after_by}
 use Rattle.machine_states.specs.epoch_core.specs.declared.location.Location.TheVariants as locations
 use Rattle.machine_states.specs.epoch_core.specs.Lists.{in_hand}
 use Rattle.machine_states.specs.epoch_core.specs.Sound.{is_for_nodes}
 use Rattle.machine_states.specs.Sight.{Sight}
 use Rattle.machine_states.proofs.Sights.{if_some, some_none, unless_gone, joins}
 use Rattle.machine_states.proofs.Steps.{some_same}
-use Rattle.machine_invariant.specs.machine_agreement.specs.machine_epochs.specs.Entries.{counts_of}
-use Rattle.machine_invariant.specs.machine_agreement.specs.machine_epochs.proofs.InsideAsked as asked
-use Rattle.machine_invariant.specs.machine_agreement.specs.machine_epochs.proofs.OutsideAsked.{private_store_asked}
-use Rattle.machine_invariant.specs.machine_agreement.specs.machine_epochs.proofs.Places.{free_node, hand_node}
-use Rattle.machine_invariant.specs.machine_agreement.specs.machine_epochs.proofs.RunPlaces.{next_in_line, open_run}
-use Rattle.machine_invariant.specs.machine_agreement.proofs.LineAsked.{fill_load_asked, fill_store_asked, make_commit_asked}
+use Rattle.machine_invariant.specs.machine_blocks.specs.machine_guards.specs.machine_agreement.specs.machine_epochs.specs.Entries.{counts_of}
+use Rattle.machine_invariant.specs.machine_blocks.specs.machine_guards.specs.machine_agreement.specs.machine_epochs.proofs.InsideAsked as asked
+use Rattle.machine_invariant.specs.machine_blocks.specs.machine_guards.specs.machine_agreement.specs.machine_epochs.proofs.OutsideAsked.{private_store_asked}
+use Rattle.machine_invariant.specs.machine_blocks.specs.machine_guards.specs.machine_agreement.specs.machine_epochs.proofs.Places.{free_node, hand_node}
+use Rattle.machine_invariant.specs.machine_blocks.specs.machine_guards.specs.machine_agreement.specs.machine_epochs.proofs.RunPlaces.{next_in_line, open_run}
+use Rattle.machine_invariant.specs.machine_blocks.specs.machine_guards.specs.machine_agreement.proofs.LineAsked.{fill_load_asked, fill_store_asked, make_commit_asked}
 use Rattle.machine_invariant.specs.After.{AreAllowed}
 use Rattle.machine_invariant.specs.Whole.{Beside, IsWhole}
 use Rattle.machine_invariant.proofs.Parts.{is_making, inside_made, outside_made}
@@ -369,7 +369,7 @@ module _ (m : Meaning) (laws : Laws m) (l : Layout) (limits : IsWithinLimits l) 
               low_cell : suc cell ≤ 5
               low_cell = five_test _ _ true cell (if_some _ _ st.step.ask (ap (λ (micro : Micro). line_ask m l store p.nodes.free q micro) (sym stored.next) ∙ e)).0
 
-          store_step : SlotsHaveRoom m l s'.word (inside.fill_stored m l number p q)
+          store_step : SlotsHaveRoom m l s'.word (fill_stored m l number p q)
           store_step = record {
             free = λ t i own five. moves t i (inl own) five (λ same. absurd (free_apart t own same)) (old.free t i own five);
             made = λ q' t at made. let one : q1 ≡ q' = some_same q1 q' at in

@@ -12,7 +12,7 @@ use Rattle.machine_states.specs.runner_parts.specs.Lists.{slot_retired}
 use Rattle.machine_states.specs.runner_steps.specs.Sections.{is_open_run, next_of}
 use Rattle.machine_states.specs.runner_steps.specs.InRun.{last_clock}
 use Rattle.machine_states.specs.runner_steps.specs.AfterInRun as inside
-use Rattle.machine_states.specs.runner_steps.specs.After.{line_after, inside_after, outside_after}
+use Rattle.machine_states.specs.Blockless.{line_after, inside_after, outside_after}
 use Rattle.next_steps.proofs.Filling.{fills_slot}
 use Rattle.next_steps.proofs.RoomParts.{SameNodes, same_nodes}
 

@@ -16,22 +16,23 @@ use Rattle.machine_states.specs.structure_laws.specs.Laws.{Laws}
 use Rattle.machine_states.specs.runner_parts.specs.declared.event.EventKind.{EventKind}
 use Rattle.machine_states.specs.runner_parts.specs.declared.entries.Published.{Published}
 use Rattle.machine_states.specs.runner_parts.specs.State.{RunState, FinishedState, RecordsState, DescriptorsState, PartState}
-use Rattle.machine_states.specs.runner_steps.specs.Sections.{thunk_of, is_open_run, next_of}
+use Rattle.machine_states.specs.runner_steps.specs.Sections.{thunk_of, is_open_run, next_of, commits_to}
 use Rattle.machine_states.specs.runner_steps.specs.InRun.{make_slot, last_clock, stamp_after}
-use Rattle.machine_states.specs.runner_steps.specs.Asks.{line_ask}
+use Rattle.machine_states.specs.runner_steps.specs.After.{line_after, after_by, after}
+use Rattle.machine_states.specs.Blockless.{line_ask, blockless}
+use Rattle.machine_states.proofs.Blockless.{asks_same}
 use Rattle.machine_states.specs.runner_parts.specs.Lists.{cell_read, learned}
 use Rattle.machine_states.specs.runner_steps.specs.AfterInRun as inside
-use Rattle.machine_states.specs.runner_steps.specs.After.{line_after, after_by, after}
 use Rattle.machine_states.specs.Sight.{Sight, sight, part_or_first}
-use Rattle.machine_invariant.specs.machine_agreement.specs.machine_epochs.proofs.RunPlaces.{is_of_end, next_in_line}
-use Rattle.machine_invariant.specs.machine_agreement.proofs.LineKinds.{noted_finished}
-use Rattle.machine_invariant.specs.machine_agreement.proofs.LineAsked.{line_asked, stamp_asked, make_commit_asked}
+use Rattle.machine_invariant.specs.machine_blocks.specs.machine_guards.specs.machine_agreement.specs.machine_epochs.proofs.RunPlaces.{is_of_end, next_in_line}
+use Rattle.machine_invariant.specs.machine_blocks.specs.machine_guards.specs.machine_agreement.proofs.LineKinds.{noted_finished}
+use Rattle.machine_invariant.specs.machine_blocks.specs.machine_guards.specs.machine_agreement.proofs.LineAsked.{line_asked, stamp_asked, make_commit_asked}
 use Rattle.machine_invariant.specs.After.{AreAllowed}
-use Rattle.machine_invariant.specs.machine_agreement.specs.machine_epochs.specs.Roles.{commits_to}
 use Rattle.machine_invariant.proofs.After.{log_words_after}
 use Rattle.next_steps.specs.Steps.{slot_in, kind_at, ask_at, opening_kind, opened_next, has_slot}
 use Rattle.next_steps.specs.Enabled.{Meets, IsInTable, NextIsEnabled}
 use Rattle.next_steps.specs.Stages.{IsInRun, filling_slot, nodes_taking, unfilled, run_behind, nodes_behind, reads_behind, published_behind, descriptors_behind, finished_behind, IsBehind, ThenOpened, ThenStepped}
+use Rattle.next_steps.proofs.Bare.{slot_whole, meets_as, meets_whole}
 use Rattle.next_steps.proofs.Lines.{next_no_check}
 use Rattle.next_steps.proofs.Enabled.{IsKnown, next_enabled, reached_known}
 
@@ -46,7 +47,7 @@ module _ (m : Meaning) (laws : Laws m) (l : Layout) (limits : IsWithinLimits l) 
     enabled : NextIsEnabled m l rs s
     enabled = next_enabled m laws l limits rs allowed.in_order.few s known
 
-    seen : s.part r ≡ p
+    seen : s.part r ≡ blockless p
     seen = ap part_or_first is.own
 
     there : (s.part r).gone ≡ false
@@ -59,7 +60,8 @@ module _ (m : Meaning) (laws : Laws m) (l : Layout) (limits : IsWithinLimits l) 
     in_table = enabled.runs r q runs
 
     pub may_open : length q.opened < 13 → Meets m l rs r p (opening_kind q) (opened_next q)
-    may_open low = subst (λ (y : PartState). Meets m l rs r y (opening_kind q) (opened_next q)) seen (enabled.opening r q there runs low)
+    may_open low = meets_as m p q l rs r (opening_kind q) (opened_next q)
+        (subst (λ (y : PartState). Meets m l rs r y (opening_kind q) (opened_next q)) seen (enabled.opening r q there runs low))
 
     module _ (all : length q.opened ≡ 13) where
       opened : is_open_run q ≡ true
@@ -68,9 +70,10 @@ module _ (m : Meaning) (laws : Laws m) (l : Layout) (limits : IsWithinLimits l) 
       module _ (micro : Micro) (ahead : next_of m q ≡ micro) where
         pub may_step : has_slot p q micro ≡ true → Meets m l rs r p (kind_at p q micro) (ask_at m p q micro)
         may_step has = subst (λ (x : Micro). Meets m l rs r p (kind_at p q x) (ask_at m p q x)) ahead
+            (meets_whole m p q l rs r (next_of m q)
             (subst (λ (y : PartState). Meets m l rs r y (kind_at y q (next_of m q)) (ask_at m y q (next_of m q))) seen
             (enabled.inside r q there runs all
-            (ap (λ (y : PartState). has_slot y q (next_of m q)) seen ∙ (ap (has_slot p q) ahead ∙ has))))
+            (ap (λ (y : PartState). has_slot y q (next_of m q)) seen ∙ (slot_whole m p q (next_of m q) ∙ (ap (has_slot p q) ahead ∙ has))))))
 
         pub commits_behind : (k : ℕ) → commits_to micro ≡ Some k → k ≡ length q.trail
         commits_behind k commits = (log_words_after m laws l rs is.reached.events is.world limits allowed is.reached.after).next r k q runs all
@@ -283,7 +286,7 @@ module _ (m : Meaning) (l : Layout) (rs : List Request) (r : ℕ) (p : PartState
     (micro : Micro) where
   asked_here : (kind : EventKind) (x : Spot × Access) → next_of m q ≡ micro → Meets m l rs r p kind x → line_ask m l kind p.nodes.free q micro ≡ Some x
   asked_here kind x ahead meets = ap (λ (y : Micro). line_ask m l kind p.nodes.free q y) (sym ahead)
-      ∙ line_asked m l rs r kind p q x meets runs opened
+      ∙ line_asked m l rs r kind p q x (sym (asks_same m l rs r kind p) ∙ meets) runs opened
 
   stamp_low : micro ≡ micros.StampExchange → next_of m q ≡ micro → Meets m l rs r p (kind_at p q micro) (ask_at m p q micro)
       → nat_lt q.word last_clock ≡ true

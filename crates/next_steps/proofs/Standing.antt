@@ -34,15 +34,15 @@ use Rattle.agreement_core.specs.Events as agreement
 use Rattle.agreement_core.proofs.Words.{value_held}
 use Rattle.machine_states.specs.epoch_core.specs.State.{Counts}
 use Rattle.machine_states.specs.Sight.{Sight}
-use Rattle.machine_invariant.specs.machine_agreement.specs.machine_epochs.specs.Entries.{counts_of}
-use Rattle.machine_invariant.specs.machine_agreement.specs.machine_epochs.proofs.OutsideAsked.{hold_asked}
-use Rattle.machine_invariant.specs.machine_agreement.specs.machine_epochs.proofs.Places.{has_times, free_node, hand_node}
-use Rattle.machine_invariant.specs.machine_agreement.specs.machine_epochs.proofs.RunPlaces.{open_run}
-use Rattle.machine_invariant.specs.machine_agreement.specs.machine_scenes.specs.Shown.{rules_of, status_at, status_of, scene_of}
-use Rattle.machine_invariant.specs.machine_agreement.specs.machine_scenes.specs.Kinds.{is_plain}
-use Rattle.machine_invariant.specs.machine_agreement.specs.machine_scenes.specs.Steps.{Agreement}
-use Rattle.machine_invariant.specs.machine_agreement.proofs.LineAsked.{exchange_asked, nested_hold_asked, release_asked}
-use Rattle.machine_invariant.specs.machine_agreement.proofs.RunPlaces.{before}
+use Rattle.machine_invariant.specs.machine_blocks.specs.machine_guards.specs.machine_agreement.specs.machine_epochs.specs.Entries.{counts_of}
+use Rattle.machine_invariant.specs.machine_blocks.specs.machine_guards.specs.machine_agreement.specs.machine_epochs.proofs.OutsideAsked.{hold_asked}
+use Rattle.machine_invariant.specs.machine_blocks.specs.machine_guards.specs.machine_agreement.specs.machine_epochs.proofs.Places.{has_times, free_node, hand_node}
+use Rattle.machine_invariant.specs.machine_blocks.specs.machine_guards.specs.machine_agreement.specs.machine_epochs.proofs.RunPlaces.{open_run}
+use Rattle.machine_invariant.specs.machine_blocks.specs.machine_guards.specs.machine_agreement.specs.machine_scenes.specs.Shown.{rules_of, status_at, status_of, scene_of}
+use Rattle.machine_invariant.specs.machine_blocks.specs.machine_guards.specs.machine_agreement.specs.machine_scenes.specs.Kinds.{is_plain}
+use Rattle.machine_invariant.specs.machine_blocks.specs.machine_guards.specs.machine_agreement.specs.machine_scenes.specs.Steps.{Agreement}
+use Rattle.machine_invariant.specs.machine_blocks.specs.machine_guards.specs.machine_agreement.proofs.LineAsked.{exchange_asked, nested_hold_asked, release_asked}
+use Rattle.machine_invariant.specs.machine_blocks.specs.machine_guards.specs.machine_agreement.proofs.RunPlaces.{before}
 use Rattle.machine_invariant.specs.machine_slots.proofs.Cells.{hands_stand}
 use Rattle.machine_invariant.specs.machine_slots.proofs.Locks.{held_used, unfixed, locks_free, known_held}
 use Rattle.machine_invariant.specs.Whole.{Beside, states_of, IsWhole}

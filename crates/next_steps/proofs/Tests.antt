@@ -8,7 +8,7 @@ use Rattle.machine_states.specs.runner_parts.specs.declared.entries.Tested.{Test
 use Rattle.machine_states.specs.runner_parts.specs.Tests.{has}
 use Rattle.machine_states.specs.runner_parts.specs.Lists.{without, test_of, tests_without}
 use Rattle.machine_states.specs.runner_steps.specs.InRun.{last_of, is_slot}
-use Rattle.machine_invariant.specs.machine_agreement.specs.machine_epochs.proofs.Places.{has_append}
+use Rattle.machine_invariant.specs.machine_blocks.specs.machine_guards.specs.machine_agreement.specs.machine_epochs.proofs.Places.{has_append}
 
 -- the last of a list is one of it
 pub last_listed : (xs : List ℕ) (t : ℕ) → is_slot (last_of xs) t ≡ true → has xs t ≡ true

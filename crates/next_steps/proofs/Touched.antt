@@ -20,13 +20,14 @@ use Rattle.machine_states.specs.runner_parts.specs.State.{RunState, PartState}
 use Rattle.machine_states.specs.runner_steps.specs.Sections.{thunk_of, is_open_run, next_of}
 use Rattle.machine_states.specs.runner_steps.specs.InRun.{load_cell_ask, nested_load_ask, outcome_load_ask}
 use Rattle.machine_states.specs.runner_steps.specs.Outside.{descriptor_spot}
-use Rattle.machine_states.specs.runner_steps.specs.Asks.{outside_ask, line_ask, opening_ask, inside_ask, ask_by, asks}
+use Rattle.machine_states.specs.runner_steps.specs.Asks.{opening_ask}
+use Rattle.machine_states.specs.Blockless.{outside_ask, line_ask, inside_ask, ask_by, asks}
 use Rattle.machine_states.proofs.Sights.{if_some, some_none, unless_gone}
 use Rattle.machine_states.proofs.Steps.{some_same}
 use Rattle.machine_states.proofs.Updates.{put_same}
-use Rattle.machine_invariant.specs.machine_agreement.specs.machine_epochs.proofs.InsideAsked as inside
-use Rattle.machine_invariant.specs.machine_agreement.specs.machine_epochs.proofs.OutsideAsked as outside
-use Rattle.machine_invariant.specs.machine_agreement.specs.machine_epochs.proofs.ReadsAsked as reads
+use Rattle.machine_invariant.specs.machine_blocks.specs.machine_guards.specs.machine_agreement.specs.machine_epochs.proofs.InsideAsked as inside
+use Rattle.machine_invariant.specs.machine_blocks.specs.machine_guards.specs.machine_agreement.specs.machine_epochs.proofs.OutsideAsked as outside
+use Rattle.machine_invariant.specs.machine_blocks.specs.machine_guards.specs.machine_agreement.specs.machine_epochs.proofs.ReadsAsked as reads
 use Rattle.machine_invariant.proofs.Basics.{not_both}
 
 -- what a step on a word may change

@@ -18,7 +18,7 @@ use Rattle.machine_states.specs.runner_parts.specs.Lists.{test_of}
 use Rattle.machine_states.specs.runner_parts.specs.State.{RunState, PartState}
 use Rattle.machine_states.specs.runner_parts.specs.Tests.{has}
 use Rattle.machine_states.specs.Sight.{Sight}
-use Rattle.machine_invariant.specs.machine_agreement.specs.machine_epochs.specs.Slots.{thunk_in}
+use Rattle.machine_invariant.specs.machine_blocks.specs.machine_guards.specs.machine_agreement.specs.machine_epochs.specs.Slots.{thunk_in}
 
 -- how many of the first requests have a stamp
 abbrev pub stamped : (Spot → ℕ) → ℕ → ℕ

@@ -13,13 +13,12 @@ use Rattle.machine_states.specs.structure_laws.specs.Meaning.{Meaning}
 use Rattle.machine_states.specs.runner_parts.specs.declared.entries.Published.{Published}
 use Rattle.machine_states.specs.runner_parts.specs.State.{RunState, FinishedState, NodesState, DescriptorsState, ReadsState, PartState}
 use Rattle.machine_states.specs.runner_parts.specs.Lists.{slot_taken, slot_retired, cell_read}
-use Rattle.machine_states.specs.runner_steps.specs.Sections.{next_of}
+use Rattle.machine_states.specs.runner_steps.specs.Sections.{next_of, commits_to}
 use Rattle.machine_states.specs.runner_steps.specs.InRun.{make_slot, stamp_after}
 use Rattle.machine_states.specs.runner_steps.specs.AfterInRun.{goes_on, agrees, made, ended_more, kept_unless, retired_if, finished_of}
 use Rattle.machine_states.specs.runner_steps.specs.After.{after}
 use Rattle.machine_states.specs.World.{World, seat_of}
 use Rattle.machine_states.specs.Reached.{Reached}
-use Rattle.machine_invariant.specs.machine_agreement.specs.machine_epochs.specs.Roles.{commits_to}
 use Rattle.next_steps.specs.Steps.{slot_in, kind_at, ask_at, opening_kind, opened_next, has_slot}
 use Rattle.next_steps.specs.Enabled.{Meets, IsInTable}
 

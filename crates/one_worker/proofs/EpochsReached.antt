@@ -20,8 +20,8 @@ use Rattle.machine_states.specs.epoch_core.specs.State.{is_entered}
 use Rattle.machine_states.specs.epoch_core.specs.declared.stage.Stage.TheVariants.{Idle, Scanning}
 use Rattle.machine_states.specs.guard_core.specs.State.{word_of}
 use Rattle.machine_states.specs.runner_parts.specs.State.{RunState, RecordsState, PartState}
-use Rattle.machine_states.specs.runner_steps.specs.Asks.{ask_by}
-use Rattle.machine_states.specs.runner_steps.specs.After.{after, stepped, leaves, knows_also, own_epoch, epoch_after, is_busy, is_moved, is_late_join}
+use Rattle.machine_states.specs.Blockless.{ask_by, after, stepped}
+use Rattle.machine_states.specs.runner_steps.specs.After.{leaves, knows_also, own_epoch, epoch_after, is_busy, is_moved, is_late_join}
 use Rattle.machine_states.specs.World.{World, happens, is_join}
 use Rattle.machine_states.specs.First.{IsFirst, first_part, keeper_part, worker_part}
 use Rattle.machine_states.specs.Reached.{Reached}
@@ -414,7 +414,7 @@ module _ (m : Meaning) (l : Layout) (rs : List Request) (one : l.runners ≡ 1) 
     behind = λ gone apart. of (λ p. p.records.crossed ≡ false) refl (λ k. refl) refl 0;
   }
     where
-      of : (Q : PartState → Type 0) → Q (keeper_part m l) → ((k : ℕ) → Q (worker_part m l k)) → Q (first_part [] []) → (r : ℕ) → Q ((sight m l rs w).part r)
+      of : (Q : PartState → Type 0) → Q (keeper_part m l) → ((k : ℕ) → Q (worker_part m l k)) → Q (first_part [] [] []) → (r : ℕ) → Q ((sight m l rs w).part r)
       of Q keeper worker nobody r = subst Q (sym (first_parts m l w.parts first.parts r)) (FirstJoin.each_part m l Q keeper worker nobody r)
 
   step_has : (w v : World) (e : Event) → Has w → happens m l rs w e ≡ Some v → Has v

@@ -19,8 +19,8 @@ use Rattle.machine_states.specs.runner_parts.specs.declared.event.EventKind.{Eve
 use Rattle.machine_states.specs.runner_parts.specs.declared.event.EventKind.TheVariants as kinds
 use Rattle.machine_states.specs.runner_parts.specs.Lists.{published_seen}
 use Rattle.machine_states.specs.runner_parts.specs.State.{RunState, GuardsState, PartState}
-use Rattle.machine_states.specs.runner_steps.specs.Asks.{outside_ask, ask_by, sizes_for}
-use Rattle.machine_states.specs.runner_steps.specs.After.{after, stepped, outside_after, line_after, inside_after, after_by}
+use Rattle.machine_states.specs.runner_steps.specs.Asks.{sizes_for}
+use Rattle.machine_states.specs.Blockless.{outside_ask, ask_by, after, stepped, outside_after, line_after, inside_after, after_by}
 use Rattle.machine_states.specs.runner_steps.specs.Sections.{is_open_run, next_of}
 use Rattle.machine_states.specs.World.{World, happens}
 use Rattle.machine_states.specs.First.{IsFirst}
@@ -32,9 +32,9 @@ use Rattle.machine_states.proofs.Sights.{happens_steps, unless_gone, cond_none}
 use Rattle.machine_states.proofs.Updates.{upd_here, upd_else, upd_split}
 use Rattle.resource_bounds.specs.machine_epochs.proofs.OutsideAsked as asked
 use Rattle.resource_bounds.specs.machine_epochs.proofs.FirstJoin as FirstJoin
-use Rattle.runner_facts.specs.machine_facts.specs.machine_invariant.specs.machine_guards.proofs.Views as views
-use Rattle.runner_facts.specs.machine_facts.specs.machine_invariant.specs.machine_guards.proofs.Views.{View, view, is_release}
-use Rattle.runner_facts.specs.machine_facts.specs.machine_invariant.specs.machine_guards.proofs.Words.{guards_left, inside_left, load_left}
+use Rattle.runner_facts.specs.machine_facts.specs.machine_invariant.specs.machine_blocks.specs.machine_guards.proofs.Views as views
+use Rattle.runner_facts.specs.machine_facts.specs.machine_invariant.specs.machine_blocks.specs.machine_guards.proofs.Views.{View, view, is_release}
+use Rattle.runner_facts.specs.machine_facts.specs.machine_invariant.specs.machine_blocks.specs.machine_guards.proofs.Words.{guards_left, inside_left, load_left}
 
 -- this guard word is what the runner with this part has stored
 pub record GuardFits (word : ℕ) (p : PartState) : Type 0 where

@@ -25,7 +25,7 @@ use Rattle.machine_states.specs.epoch_core.specs.State.{last_epoch}
 use Rattle.machine_states.specs.runner_steps.specs.InRun.{last_clock}
 use Rattle.machine_states.specs.runner_steps.specs.AfterInRun as inside
 use Rattle.machine_states.specs.runner_steps.specs.AfterOutside as outside
-use Rattle.machine_states.specs.runner_steps.specs.After.{line_after, inside_after, outside_after}
+use Rattle.machine_states.specs.Blockless.{line_after, inside_after, outside_after}
 use Rattle.machine_states.specs.epoch_core.specs.State.{EpochState}
 use Rattle.machine_states.specs.epoch_core.specs.declared.location.Location.TheVariants.{Hand}
 use Rattle.machine_states.specs.epoch_core.specs.Sound.{is_for_nodes}

@@ -17,9 +17,10 @@ use Rattle.machine_states.specs.runner_parts.specs.declared.event.EventKind.{Eve
 use Rattle.machine_states.specs.runner_parts.specs.declared.event.EventKind.TheVariants as kinds
 use Rattle.machine_states.specs.runner_parts.specs.State.{RunState, PartState}
 use Rattle.machine_states.specs.runner_parts.specs.Tests.{has, knows, is_answered}
-use Rattle.machine_states.specs.runner_steps.specs.After.{stepped, after, after_by, leaves, knows_also}
+use Rattle.machine_states.specs.runner_steps.specs.After.{leaves, knows_also}
+use Rattle.machine_states.specs.Blockless.{stepped, after, after_by, line_ask}
 use Rattle.machine_states.specs.runner_steps.specs.AfterOutside as outside
-use Rattle.machine_states.specs.runner_steps.specs.Asks.{line_ask, opening_ask}
+use Rattle.machine_states.specs.runner_steps.specs.Asks.{opening_ask}
 use Rattle.machine_states.specs.runner_steps.specs.Sections.{is_open_run, next_of}
 use Rattle.machine_states.specs.runner_parts.specs.Lists.{descriptor_taken, published_seen, cell_read}
 use Rattle.machine_facts.specs.machine_invariant.proofs.Asked.{asked_by}

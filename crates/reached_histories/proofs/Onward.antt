@@ -28,7 +28,8 @@ use Rattle.machine_states.specs.runner_parts.specs.State.{RunState, ReadsState, 
 use Rattle.machine_states.specs.runner_parts.specs.Tests.{has_pair, knows, is_answered, is_planned_stage, is_looked, is_replied, is_between}
 use Rattle.machine_states.specs.runner_steps.specs.Sections.{is_open_run, next_of, reply_in}
 use Rattle.machine_states.specs.runner_steps.specs.Reads.{plan_by, look_by, is_fit, read_stamp_after}
-use Rattle.machine_states.specs.runner_steps.specs.Asks.{asks, outside_ask, line_ask, opening_ask}
+use Rattle.machine_states.specs.runner_steps.specs.Asks.{opening_ask}
+use Rattle.machine_states.specs.Blockless.{asks, outside_ask, line_ask}
 use Rattle.still_reads.specs.agreement_core.specs.Events as agreement
 use Rattle.machine_states.specs.epoch_core.specs.State.{Counts}
 use Rattle.machine_history.specs.history_core.specs.State as history_states

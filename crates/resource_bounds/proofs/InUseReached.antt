@@ -40,7 +40,7 @@ both_here : (i j : ℕ) → ◌≡◌ {A = ℕ} (cond (i == i && j == j) 1 0) 1
 both_here i j = grind (arith, nat_tests)
 
 module _ (m : Meaning) (l : Layout) (limits : IsWithinLimits l) (rs : List Request) (per_pair : ℕ) (planner : PlannerLaws m per_pair)
-    (s : Sight) (past : (r : ℕ) → l.runners < r → s.part r ≡ first_part [] []) (history : HasHistory m l rs s) (free : NoneIsHeld m s) where
+    (s : Sight) (past : (r : ℕ) → l.runners < r → s.part r ≡ first_part [] [] []) (history : HasHistory m l rs s) (free : NoneIsHeld m s) where
   whole : IsWhole m l history.beside s
   whole = history.whole
 
@@ -113,7 +113,7 @@ pub reached_few : (m : Meaning) (l : Layout) → IsWithinLimits l → (rs : List
     → FewAreInUse per_pair m l rs (sight m l rs w)
 reached_few m l limits rs per_pair planner w reached history free = few m l limits rs per_pair planner (sight m l rs w) past history free
   where
-    past : (r : ℕ) → l.runners < r → (sight m l rs w).part r ≡ first_part [] []
+    past : (r : ℕ) → l.runners < r → (sight m l rs w).part r ≡ first_part [] [] []
     past r high = ap part_or_first (slice_get_past w.parts (seat_of l r)
         (let all = (reached_all m l rs w reached).parts in let seat = far r high in omega (arith, all, seat, high)))
       where

@@ -26,11 +26,12 @@ use Rattle.machine_states.specs.runner_parts.specs.declared.entries.Published.{P
 use Rattle.machine_states.specs.runner_parts.specs.declared.event.EventKind.{EventKind}
 use Rattle.machine_states.specs.runner_parts.specs.declared.event.EventKind.TheVariants as kinds
 use Rattle.machine_states.specs.runner_parts.specs.State.{RunState, PartState}
-use Rattle.machine_states.specs.runner_steps.specs.Asks.{ask_by, line_ask, opening_ask, outside_ask}
+use Rattle.machine_states.specs.runner_steps.specs.Asks.{opening_ask}
+use Rattle.machine_states.specs.Blockless.{ask_by, line_ask, outside_ask, after, after_by, line_after, outside_after}
 use Rattle.machine_states.specs.runner_steps.specs.InRun.{is_slot}
 use Rattle.machine_states.specs.runner_steps.specs.Sections.{thunk_of, is_open_run, line_of, next_of}
 use Rattle.machine_states.specs.runner_steps.specs.AfterInRun.{goes_on, opened_more, place_of}
-use Rattle.machine_states.specs.runner_steps.specs.After.{after, after_by, line_after, outside_after, knows_also, leaves}
+use Rattle.machine_states.specs.runner_steps.specs.After.{knows_also, leaves}
 use Rattle.agreement_core.specs.State.{Section}
 use Rattle.agreement_core.proofs.Lines.{exchange_unlocked}
 use Rattle.machine_states.specs.Sight.{Sight, parts_after}

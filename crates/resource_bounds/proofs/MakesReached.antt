@@ -46,8 +46,8 @@ module _ (m : Meaning) (laws : Laws m) (l : Layout) (limits : IsWithinLimits l) 
 
   first_entries : (r : ℕ) → r < l.runners → slots_left (first_part_of m l r).nodes ≡ l.nodes
   first_entries r low =
-      ap (λ b. slots_left (cond b (keeper_part m l) (cond (nat_lt r l.runners) (worker_part m l r) (first_part [] []))).nodes) (below r l.runners low)
-      ∙ (ap (λ b. slots_left (cond b (worker_part m l r) (first_part [] [])).nodes) (less r l.runners low)
+      ap (λ b. slots_left (cond b (keeper_part m l) (cond (nat_lt r l.runners) (worker_part m l r) (first_part [] [] []))).nodes) (below r l.runners low)
+      ∙ (ap (λ b. slots_left (cond b (worker_part m l r) (first_part [] [] [])).nodes) (less r l.runners low)
       ∙ (let all = falling_length (m.fixed_slots + l.nodes * r) l.nodes in omega (arith, all)))
 
   first_has : (w : World) → IsFirst m l rs w → Counted m l rs (sight m l rs w)

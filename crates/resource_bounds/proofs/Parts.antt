@@ -21,7 +21,7 @@ use Rattle.machine_states.specs.epoch_core.specs.State.{last_epoch}
 use Rattle.machine_states.specs.runner_steps.specs.InRun.{last_clock}
 use Rattle.machine_states.specs.runner_steps.specs.AfterInRun as inside
 use Rattle.machine_states.specs.runner_steps.specs.AfterOutside as outside
-use Rattle.machine_states.specs.runner_steps.specs.After.{line_after, outside_after}
+use Rattle.machine_states.specs.Blockless.{fill_stored, line_after, outside_after}
 use Rattle.resource_bounds.proofs.Weights.{weight, spent, spent_here}
 
 module _ (m : Meaning) (p : ℕ) where
@@ -97,7 +97,7 @@ module _ (m : Meaning) (p : ℕ) where
       pub exchanged : (place : ℕ) → Gains (inside.cell_exchanged m l place y q found)
       exchanged place = went _ _ refl refl (on_more q.at _) refl refl
 
-      pub stored : (number : ℕ) → Gains (inside.fill_stored m l number y q)
+      pub stored : (number : ℕ) → Gains (fill_stored m l number y q)
       stored number = went _ _ refl refl (on_more q.at _) refl refl
 
       loses : (z : PartState) → Gains z → Keeps z

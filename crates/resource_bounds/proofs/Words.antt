@@ -19,7 +19,8 @@ use Rattle.machine_states.specs.runner_parts.specs.declared.event.EventKind.TheV
 use Rattle.machine_states.specs.runner_parts.specs.State.{RunState, PartState}
 use Rattle.machine_states.specs.runner_steps.specs.InRun.{load_cell_ask, nested_load_ask, outcome_load_ask}
 use Rattle.machine_states.specs.runner_steps.specs.Outside.{descriptor_spot}
-use Rattle.machine_states.specs.runner_steps.specs.Asks.{outside_ask, line_ask, opening_ask}
+use Rattle.machine_states.specs.runner_steps.specs.Asks.{opening_ask}
+use Rattle.machine_states.specs.Blockless.{outside_ask, line_ask}
 use Rattle.machine_states.proofs.Sights.{if_some, some_none}
 use Rattle.machine_states.proofs.Steps.{some_same}
 use Rattle.machine_states.proofs.Updates.{put_same}

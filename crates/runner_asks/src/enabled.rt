@@ -8,9 +8,10 @@ ghost use Rattle.runner_steps.specs.Asks.{outside_ask, line_ask, opening_ask, in
 use crate::guards::{guard_ask, load_guard_ask};
 use crate::inside::{
     clock_load_ask, clock_raise_ask, commit_ask, epoch_for_retire_ask, exchange_cell_ask,
-    fill_load_ask, fill_store_ask, is_open_run, load_cell_ask, load_done_ask, make_commit_ask,
+    fill_load_ask, is_open_run, link_commit_ask, load_cell_ask, load_done_ask, make_commit_ask,
     nested_hold_ask, nested_load_ask, next_of, open_more_ask, outcome_commit_ask, outcome_load_ask,
-    release_ask, reply_exchange_ask, retire_commit_ask, set_done_ask, stamp_exchange_ask,
+    private_store_in_run_ask, release_ask, reply_exchange_ask, retire_commit_ask, set_done_ask,
+    stamp_exchange_ask,
 };
 use crate::outside::{
     advance_ask, announce_ask, enter_again_ask, enter_load_ask, entry_ask, hold_ask, idle_ask,
@@ -40,18 +41,20 @@ fn fitting(sizes: Sizes, ask: Option<(Spot, Access)>) -> Option<(Spot, Access)>
     }
 }
 
-/// What a run asks that has loaded its thunk and its done word, and stands before this step.
+/// What a run asks that has loaded its thunk and its done word, and stands before this step; `free` is the list of free
+/// node slots, and `blocks` that of free blocks.
 fn line_ask<S: Structure>(
     run: &Run,
     structure: &S,
     layout: Layout,
     kind: &EventKind,
     free: &[u32],
+    blocks: &[u32],
     micro: &Micro,
 ) -> Option<(Spot, Access)>
     requires limits { IsWithinLimits layout }
     requires opened { 12 ≤ length run.now.opened }
-    ensures { result ≡ line_ask (S.meaning structure.now) layout kind.now free.now run.now micro.now }
+    ensures { result ≡ line_ask (S.meaning structure.now) layout kind.now free.now blocks.now run.now micro.now }
 {
     match kind {
         EventKind::Commit => commit_ask(run, micro),
@@ -61,8 +64,9 @@ fn line_ask<S: Structure>(
             fill_load_ask(run, structure, layout, *slot, *word, free, micro)
         }
         EventKind::PrivateStore { slot, word, number } => {
-            fill_store_ask(run, structure, layout, *slot, *word, *number, micro)
+            private_store_in_run_ask(run, structure, layout, *slot, *word, *number, blocks, micro)
         }
+        EventKind::LinkCommit(block) => link_commit_ask(run, layout, *block, micro),
         EventKind::MakeCommit => make_commit_ask(run, micro),
         EventKind::RetireCommit => retire_commit_ask(run, micro),
         EventKind::EpochForRetire => epoch_for_retire_ask(run, micro),
@@ -98,13 +102,14 @@ fn inside_ask<S: Structure>(
     layout: Layout,
     kind: &EventKind,
     free: &[u32],
+    blocks: &[u32],
 ) -> Option<(Spot, Access)>
     requires { IsWithinLimits layout }
-    ensures { result ≡ inside_ask (S.meaning structure.now) layout kind.now free.now run.now }
+    ensures { result ≡ inside_ask (S.meaning structure.now) layout kind.now free.now blocks.now run.now }
 {
     if is_open_run(run) {
         let micro = next_of(run, structure);
-        line_ask(run, structure, layout, kind, free, &micro)
+        line_ask(run, structure, layout, kind, free, blocks, &micro)
     } else {
         opening_ask(run, kind)
     }
@@ -185,7 +190,14 @@ pub fn asks<S: Structure>(
         ),
         Some(run) => fitting(
             sizes,
-            inside_ask(run, structure, layout, kind, &part.nodes.free),
+            inside_ask(
+                run,
+                structure,
+                layout,
+                kind,
+                &part.nodes.free,
+                &part.blocks.free,
+            ),
         ),
     }
 }

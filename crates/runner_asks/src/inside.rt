@@ -1,17 +1,20 @@
 //! Which word the next event of a run meets, and how.
-ghost use Rattle.std.specs.Prelude.{◌≡◌, ◌≤◌, ◌<◌, ◌-◌, ◌^◌, ◌==◌, ◌&&◌, length};
+ghost use Rattle.std.specs.Prelude.{◌≡◌, ◌≤◌, ◌<◌, ◌-◌, ◌^◌, ◌==◌, ◌&&◌, length, Some};
 ghost use Rattle.runner_steps.specs.table_words.specs.Limits.{IsWithinLimits};
 ghost use Rattle.runner_steps.specs.body_terms.specs.Run.{source_value};
 ghost use Rattle.runner_steps.specs.body_terms.specs.Word.{version_of, next_word};
-ghost use Rattle.runner_steps.specs.Sections.{is_open_run, next_of};
-ghost use Rattle.runner_steps.specs.InRun.{open_more_ask, load_done_ask, commit_to, commit_ask, load_cell_ask, exchange_cell_ask, can_raise, last_of, make_slot, is_slot, is_cell, fill_load_ask, fill_store_ask, make_commit_ask, retire_commit_ask, epoch_for_retire_ask, clock_load_ask, stamp_exchange_ask, clock_raise_ask, reply_exchange_ask, nested_load_ask, can_hold, nested_hold_ask, outcome_load_ask, outcome_commit_ask, set_done_ask, release_ask};
+ghost use Rattle.runner_steps.specs.Sections.{is_open_run, next_of, is_beyond, needs_link};
+ghost use Rattle.runner_steps.specs.InRun.{open_more_ask, load_done_ask, commit_to, commit_ask, load_cell_ask, exchange_cell_ask, can_raise, last_of, make_slot, is_slot, is_cell, fill_load_ask, fill_store_ask, block_empty_ask, private_store_in_run_ask, link_commit_ask, make_commit_ask, retire_commit_ask, epoch_for_retire_ask, clock_load_ask, stamp_exchange_ask, clock_raise_ask, reply_exchange_ask, nested_load_ask, can_hold, nested_hold_ask, outcome_load_ask, outcome_commit_ask, set_done_ask, release_ask};
 
 use crate::section::{LINE_LIMIT, agreed, next_micro, source_value, thunk_of};
+use runner_steps::block_words::{link_spot, log_spot};
 use runner_steps::body_terms::{Micro, Source, Word};
 use runner_steps::runner_parts::Run;
 use runner_steps::runner_parts::structure_laws::Structure;
-use runner_steps::table_words::{Access, Layout, Spot};
-use runner_steps::{cell_place, descriptor_count, slot_count};
+use runner_steps::table_words::{Access, BLOCK_WORDS, Layout, PART_WORDS, Spot};
+use runner_steps::{
+    block_count, block_spot, blocks_from, cell_place, descriptor_count, slot_count,
+};
 
 /// The clock number from which on no stamp is made.
 pub const LAST_CLOCK: u64 = 1 << 62;
@@ -115,14 +118,113 @@ pub fn load_done_ask(run: &Run) -> Option<(Spot, Access)>
     }
 }
 
-/// One word is agreed on: this proposal, where the log word is still empty.
+/// Whether this place is in a part of the log that isn't linked yet, as far as the run knows.
+fn is_beyond(run: &Run, log: u32) -> bool
+    ensures { result ≡ is_beyond run.now (Some log) }
+{
+    run.links.len() < log as usize / PART_WORDS
+}
+
+/// Whether the run links a block before this step.
+pub fn needs_link(run: &Run, micro: &Micro) -> bool
+    ensures { result ≡ needs_link run.now micro.now }
+{
+    match micro {
+        Micro::Commit { place: _, log }
+        | Micro::NestedCommit { place: _, log }
+        | Micro::OutcomeCommit { place: _, log }
+        | Micro::MakeCommit { log }
+        | Micro::RetireCommit { slot: _, log } => is_beyond(run, *log),
+        _ => false,
+    }
+}
+
+/// One word is agreed on: this proposal, where the log word is still empty. Its part of the log has to be linked
+/// before.
 fn commit_to(run: &Run, log: u32, proposal: u64) -> Option<(Spot, Access)>
     ensures { result ≡ commit_to run.now log proposal }
 {
-    Some((
-        Spot::LogWord(run.descriptor, log),
-        Access::Exchanges(0, proposal),
-    ))
+    if is_beyond(run, log) {
+        None
+    } else {
+        Some((
+            log_spot(run.descriptor, &run.links, log),
+            Access::Exchanges(0, proposal),
+        ))
+    }
+}
+
+/// Before a commit into a part that isn't linked, 0 goes into the words of an own block and into its link, one after
+/// the other. The block is the one in the own hand, or, at its first word, the last of the free list.
+fn block_empty_ask<S: Structure>(
+    run: &Run,
+    structure: &S,
+    layout: Layout,
+    slot: u32,
+    word: u32,
+    number: u64,
+    free: &[u32],
+) -> Option<(Spot, Access)>
+    requires { IsWithinLimits layout }
+    ensures { result ≡ block_empty_ask (S.meaning structure.now) layout slot word number free.now run.now }
+{
+    let from = blocks_from(structure, layout);
+    if from <= slot
+        && is_slot(make_slot(run.block, free), slot - from)
+        && word == run.emptied
+        && (word as usize) < BLOCK_WORDS
+        && number == 0
+    {
+        Some((block_spot(slot - from, word), Access::Stores(number)))
+    } else {
+        None
+    }
+}
+
+/// A private store of a run: into a block where it is to link one, and otherwise that of a Make. `blocks` is the list
+/// of free blocks.
+pub fn private_store_in_run_ask<S: Structure>(
+    run: &Run,
+    structure: &S,
+    layout: Layout,
+    slot: u32,
+    word: u32,
+    number: u64,
+    blocks: &[u32],
+    micro: &Micro,
+) -> Option<(Spot, Access)>
+    requires { IsWithinLimits layout }
+    ensures { result ≡ private_store_in_run_ask (S.meaning structure.now) layout slot word number blocks.now run.now
+        micro.now }
+{
+    if needs_link(run, micro) {
+        block_empty_ask(run, structure, layout, slot, word, number, blocks)
+    } else {
+        fill_store_ask(run, structure, layout, slot, word, number, micro)
+    }
+}
+
+/// And then the number of this block goes into the link behind the section's last part.
+pub fn link_commit_ask(
+    run: &Run,
+    layout: Layout,
+    block: u32,
+    micro: &Micro,
+) -> Option<(Spot, Access)>
+    ensures { result ≡ link_commit_ask layout block run.now micro.now }
+{
+    if needs_link(run, micro)
+        && run.emptied as usize == BLOCK_WORDS
+        && is_slot(run.block, block)
+        && block < block_count(layout)
+    {
+        Some((
+            link_spot(run.descriptor, &run.links),
+            Access::Exchanges(0, block as u64 + 1),
+        ))
+    } else {
+        None
+    }
 }
 
 pub fn commit_ask(run: &Run, micro: &Micro) -> Option<(Spot, Access)>
@@ -184,7 +286,7 @@ pub fn fill_load_ask<S: Structure>(
     }
 }
 
-pub fn fill_store_ask<S: Structure>(
+fn fill_store_ask<S: Structure>(
     run: &Run,
     structure: &S,
     layout: Layout,

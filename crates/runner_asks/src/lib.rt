@@ -15,6 +15,6 @@ mod section;
 mod stores;
 
 pub use enabled::asks;
-pub use inside::{LAST_CLOCK, is_open_run, last_of, next_of};
-pub use section::{is_end, leaves, reply_in, settled, source_value, thunk_of};
+pub use inside::{LAST_CLOCK, is_open_run, last_of, needs_link, next_of};
+pub use section::{is_end, leaves, next_micro, reply_in, settled, source_value, thunk_of};
 pub use stores::last_stored;

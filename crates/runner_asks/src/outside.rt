@@ -1,11 +1,12 @@
 //! Which word an event outside a run meets, and how.
-ghost use Rattle.std.specs.Prelude.{◌≡◌, ◌≤◌, ◌<◌, ◌-◌, ◌^◌, ◌&&◌, not, is_none};
+ghost use Rattle.std.specs.Prelude.{◌≡◌, ◌≤◌, ◌<◌, ◌-◌, ◌^◌, ◌&&◌, ◌==◌, not, is_none};
 ghost use Rattle.runner_steps.specs.table_words.specs.Limits.{IsWithinLimits};
 ghost use Rattle.runner_steps.specs.table_words.specs.Places.{slot_count, descriptor_count};
 ghost use Rattle.runner_steps.specs.body_terms.specs.Word.{held_word, version_of};
 ghost use Rattle.runner_steps.specs.body_terms.specs.Memory.{cell_of};
-ghost use Rattle.runner_steps.specs.runner_parts.specs.Tests.{is_walking, is_between, is_open, serves};
-ghost use Rattle.runner_steps.specs.Outside.{enter_load_ask, announce_ask, enter_again_ask, idle_ask, scan_one_ask, advance_ask, split_ask, join_ask, read_ask, entry_ask, descriptor_spot, private_load_ask, private_store_ask, is_due, is_publishable, is_ready, hold_ask, open_ask};
+ghost use Rattle.runner_steps.specs.runner_parts.specs.Tests.{has, is_resting, is_walking, is_between, is_open, serves};
+ghost use Rattle.runner_steps.specs.table_words.specs.declared.access.Access.TheVariants.{Loads, Stores};
+ghost use Rattle.runner_steps.specs.Outside.{when, enter_load_ask, announce_ask, enter_again_ask, idle_ask, scan_one_ask, advance_ask, split_ask, join_ask, read_ask, entry_ask, descriptor_spot, block_spot, blocks_from, private_load_ask, private_store_ask, is_due, is_publishable, is_ready, hold_ask, open_ask};
 
 use crate::guards::{is_sure_of, names};
 use crate::knowledge::{
@@ -18,7 +19,9 @@ use runner_steps::runner_parts::epoch_core::{LAST_EPOCH, Stage};
 use runner_steps::runner_parts::structure_laws::Structure;
 use runner_steps::runner_parts::{Known, Part, Reads, Records, has};
 use runner_steps::table_words::{Access, Layout, Spot};
-use runner_steps::{cell_place, descriptor_count, descriptor_spot, held_word, slot_count};
+use runner_steps::{
+    block_spot, blocks_from, cell_place, descriptor_count, descriptor_spot, held_word, slot_count,
+};
 
 pub fn enter_load_ask(stage: Stage) -> Option<(Spot, Access)>
     ensures { result ≡ enter_load_ask stage }
@@ -147,10 +150,38 @@ pub fn private_load_ask<S: Structure>(
             let place = cell_place(structure, layout, slot, word);
             return Some((Spot::Cell(place), Access::Loads));
         }
-    } else if resting && has(&part.descriptors.free, slot - slots) {
-        return Some((descriptor_spot(slot - slots, word), Access::Loads));
+    } else if slot < blocks_from(structure, layout) {
+        if resting && has(&part.descriptors.free, slot - slots) {
+            return Some((descriptor_spot(slot - slots, word), Access::Loads));
+        }
+    } else {
+        return block_load_ask(part, slot - blocks_from(structure, layout), word);
     }
     None
+}
+
+/// A load of a word of an own free block.
+fn block_load_ask(part: &Part, block: u32, word: u32) -> Option<(Spot, Access)>
+    ensures { result ≡ when (is_resting part.now.stage part.now.run && has part.now.blocks.free block)
+        (block_spot block word) Loads }
+{
+    if is_resting(part.stage, &part.run) && has(&part.blocks.free, block) {
+        Some((block_spot(block, word), Access::Loads))
+    } else {
+        None
+    }
+}
+
+/// A store of 0 into a word of an own free block.
+fn block_store_ask(part: &Part, block: u32, word: u32, number: u64) -> Option<(Spot, Access)>
+    ensures { result ≡ when (is_resting part.now.stage part.now.run
+        && (has part.now.blocks.free block && number == 0)) (block_spot block word) (Stores number) }
+{
+    if is_resting(part.stage, &part.run) && has(&part.blocks.free, block) && number == 0 {
+        Some((block_spot(block, word), Access::Stores(number)))
+    } else {
+        None
+    }
 }
 
 pub fn private_store_ask<S: Structure>(
@@ -165,6 +196,10 @@ pub fn private_store_ask<S: Structure>(
     ensures { result ≡ private_store_ask (S.meaning structure.now) layout slot word number part.now }
 {
     let slots = slot_count(structure, layout);
+    let blocks = blocks_from(structure, layout);
+    if blocks <= slot {
+        return block_store_ask(part, slot - blocks, word, number);
+    }
     if slots <= slot
         && is_resting(part.stage, &part.run)
         && has(&part.descriptors.free, slot - slots)

@@ -1,5 +1,5 @@
 //! What a runner's code keeps of its part, in one block of memory.
-ghost use Rattle.std.specs.Prelude.{◌≡◌, ◌+◌, ◌<◌, ◌≤◌, ◌^◌, ℕ, IfOk, length, true, None, if◌then◌else◌};
+ghost use Rattle.std.specs.Prelude.{◌≡◌, ◌+◌, ◌<◌, ◌≤◌, ◌^◌, ℕ, [], IfOk, length, true, None, if◌then◌else◌};
 ghost use Rattle.machine_states.specs.runner_parts.specs.declared.event.EventKind.TheVariants as kinds;
 ghost use Rattle.machine_states.specs.runner_parts.specs.Tests.{has};
 ghost use Rattle.machine_states.specs.epoch_core.specs.Lists.{times};
@@ -55,7 +55,7 @@ pub struct Kept {
 }
 
 impl Model for Kept {
-    ghost use Rattle.std.specs.Prelude.{None, [], false};
+    ghost use Rattle.std.specs.Prelude.{None, [], false, true};
     ghost use Rattle.machine_states.specs.runner_parts.specs.Lists.{no_reads};
     ghost use Rattle.runner_block.specs.Kept.{KeptState, published_as, only_looked};
 
@@ -68,8 +68,10 @@ impl Model for Kept {
         published = published_as a.descriptors.published;
         nodes = a.nodes.lists;
         descriptors = record { free = a.descriptors.free; stored = []; limbo = a.descriptors.limbo };
+        blocks = record { free = []; limbo = [] };
         guards = only_looked a.guards;
         reads = no_reads;
+        board = [];
         records = record {
           known = [];
           finished = [];
@@ -82,6 +84,7 @@ impl Model for Kept {
           splits = a.splits;
           joined = [];
           only_loads = false;
+          gave_above = true;
         };
         gone = false;
       };
@@ -105,7 +108,7 @@ impl Kept {
         requires descriptor_room { descriptors.count ≤ descriptors.room }
         ensures part { IfOk result
             (λ x. x.part ≡ first_part (falling nodes.first nodes.count)
-            (falling descriptors.first descriptors.count)) }
+            (falling descriptors.first descriptors.count) []) }
         ensures room { IfOk result (λ x. x.room ≡ nodes.room) }
     {
         Ok(Kept {

@@ -10,8 +10,7 @@ use Rattle.machine_states.specs.structure_laws.specs.Laws.{Laws}
 use Rattle.machine_states.specs.runner_parts.specs.declared.event.EventKind.{EventKind}
 use Rattle.machine_states.specs.runner_parts.specs.declared.event.EventKind.TheVariants as kinds
 use Rattle.machine_states.specs.runner_parts.specs.State.{RunState, PartState}
-use Rattle.machine_states.specs.runner_steps.specs.Asks.{ask_by, outside_ask}
-use Rattle.machine_states.specs.runner_steps.specs.After.{after_by}
+use Rattle.machine_states.specs.Blockless.{ask_by, outside_ask, after_by}
 use Rattle.machine_states.specs.epoch_core.specs.declared.location.Location.TheVariants.{Free}
 use Rattle.machine_states.specs.epoch_core.specs.Lists.{in_free}
 use Rattle.machine_states.specs.World.{World}
@@ -96,11 +95,11 @@ reached_counts m laws l limits rs allowed w reached = record {
 
     worker_count : (r : ℕ) → r < l.runners → descriptors_of (first_part_of m l r) ≡ l.sections
     worker_count r low =
-        ap (λ b. descriptors_of (cond b (keeper_part m l) (cond (nat_lt r l.runners) (worker_part m l r) (first_part [] [])))) (below r l.runners low)
-        ∙ (ap (λ b. descriptors_of (cond b (worker_part m l r) (first_part [] []))) (less r l.runners low)
+        ap (λ b. descriptors_of (cond b (keeper_part m l) (cond (nat_lt r l.runners) (worker_part m l r) (first_part [] [] [])))) (below r l.runners low)
+        ∙ (ap (λ b. descriptors_of (cond b (worker_part m l r) (first_part [] [] []))) (less r l.runners low)
         ∙ no_more _ l.sections (falling_length (l.sections * r) l.sections))
 
     keeper_count : descriptors_of (first_part_of m l l.runners) ≡ l.runners
     keeper_count =
-        ap (λ b. descriptors_of (cond b (keeper_part m l) (cond (nat_lt l.runners l.runners) (worker_part m l l.runners) (first_part [] [])))) (itself l.runners)
+        ap (λ b. descriptors_of (cond b (keeper_part m l) (cond (nat_lt l.runners l.runners) (worker_part m l l.runners) (first_part [] [] [])))) (itself l.runners)
         ∙ no_more _ l.runners (falling_length (l.sections * l.runners) l.runners)

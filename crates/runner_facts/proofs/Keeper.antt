@@ -29,14 +29,15 @@ use Rattle.machine_states.specs.runner_parts.specs.declared.event.EventKind.{Eve
 use Rattle.machine_states.specs.runner_parts.specs.declared.event.EventKind.TheVariants as kinds
 use Rattle.machine_states.specs.runner_parts.specs.State.{RunState, RecordsState, PartState}
 use Rattle.machine_states.specs.runner_parts.specs.Tests.{has, is_next, is_open, is_walking, is_between, are_answered, is_answered}
-use Rattle.machine_states.specs.runner_steps.specs.Asks.{ask_by, outside_ask, sizes_for}
+use Rattle.machine_states.specs.runner_steps.specs.Asks.{sizes_for}
+use Rattle.machine_states.specs.Blockless.{ask_by, outside_ask, line_after, inside_after, outside_after, after_by, after}
 use Rattle.machine_states.specs.runner_steps.specs.Sections.{is_open_run, next_of}
 use Rattle.machine_states.specs.runner_steps.specs.Outside.{hold_ask, is_ready, is_publishable}
 use Rattle.machine_states.specs.epoch_core.specs.State.{last_epoch}
 use Rattle.machine_states.specs.runner_steps.specs.InRun.{last_clock}
 use Rattle.machine_states.specs.runner_steps.specs.AfterInRun as inside
 use Rattle.machine_states.specs.runner_steps.specs.AfterOutside as outside
-use Rattle.machine_states.specs.runner_steps.specs.After.{line_after, inside_after, outside_after, after_by, after, left_more, noted, knows_also, leaves}
+use Rattle.machine_states.specs.runner_steps.specs.After.{left_more, noted, knows_also, leaves}
 use Rattle.machine_states.specs.World.{World, is_join}
 use Rattle.machine_states.specs.First.{IsFirst, first_part, keeper_part, worker_part}
 use Rattle.machine_states.specs.Reached.{Reached}
@@ -263,7 +264,7 @@ module _ (m : Meaning) (l : Layout) (limits : IsWithinLimits l) (rs : List Reque
 
 -- what the first parts have
 first_of : (m : Meaning) (l : Layout) (rs : List Request) (v : World) → IsFirst m l rs v → (Q : PartState → Type 0) → Q (keeper_part m l)
-    → ((k : ℕ) → Q (worker_part m l k)) → Q (first_part [] []) → (i : ℕ) → Q ((sight m l rs v).part i)
+    → ((k : ℕ) → Q (worker_part m l k)) → Q (first_part [] [] []) → (i : ℕ) → Q ((sight m l rs v).part i)
 first_of m l rs v start Q keeper worker nobody i = subst Q (sym (first_parts m l v.parts start.parts i)) (FirstJoin.each_part m l Q keeper worker nobody i)
 
 -- what is kept along the steps

@@ -28,14 +28,13 @@ use Rattle.machine_states.specs.runner_parts.specs.declared.event.EventKind.TheV
 use Rattle.machine_states.specs.runner_parts.specs.State.{RunState, DescriptorsState, GuardsState, PartState}
 use Rattle.machine_states.specs.runner_parts.specs.Lists.{descriptor_retired, descriptor_taken, published_seen, cell_read}
 use Rattle.machine_states.specs.runner_parts.specs.Tests.{has, has_pair, is_some_of}
-use Rattle.machine_states.specs.runner_steps.specs.Asks.{ask_by, outside_ask}
+use Rattle.machine_states.specs.Blockless.{ask_by, outside_ask, line_after, inside_after, outside_after, after_by}
 use Rattle.machine_states.specs.runner_steps.specs.Outside.{is_sure_of}
 use Rattle.machine_states.specs.runner_steps.specs.Sections.{is_open_run, next_of}
 use Rattle.machine_states.specs.epoch_core.specs.State.{last_epoch}
 use Rattle.machine_states.specs.runner_steps.specs.InRun.{last_clock}
 use Rattle.machine_states.specs.runner_steps.specs.AfterInRun as inside
 use Rattle.machine_states.specs.runner_steps.specs.AfterOutside as outside
-use Rattle.machine_states.specs.runner_steps.specs.After.{line_after, inside_after, outside_after, after_by}
 use Rattle.machine_states.specs.epoch_core.specs.Lists.{in_free}
 use Rattle.machine_states.specs.World.{World}
 use Rattle.machine_states.specs.First.{IsFirst}
@@ -49,7 +48,7 @@ use Rattle.machine_facts.specs.machine_agreement.specs.machine_epochs.proofs.Joi
 use Rattle.machine_facts.specs.machine_agreement.specs.machine_epochs.proofs.OutsideAsked as outside_asked
 use Rattle.machine_facts.specs.machine_agreement.specs.machine_epochs.proofs.Places.{has_times}
 use Rattle.machine_facts.specs.machine_agreement.proofs.Releases.{get_more}
-use Rattle.machine_facts.specs.machine_invariant.specs.machine_guards.proofs.Safe.{sure_kept}
+use Rattle.machine_facts.specs.machine_invariant.specs.machine_blocks.specs.machine_guards.proofs.Safe.{sure_kept}
 use Rattle.machine_facts.specs.machine_invariant.specs.After.{AreAllowed}
 use Rattle.machine_facts.specs.machine_invariant.specs.Whole.{Beside, IsWhole}
 use Rattle.machine_facts.specs.machine_invariant.proofs.After.{reached_whole}

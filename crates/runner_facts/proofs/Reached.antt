@@ -12,8 +12,7 @@ use Rattle.machine_states.specs.runner_parts.specs.declared.event.EventKind.{Eve
 use Rattle.machine_states.specs.runner_parts.specs.declared.event.EventKind.TheVariants as kinds
 use Rattle.machine_states.specs.runner_parts.specs.State.{RunState, PartState}
 use Rattle.machine_states.specs.runner_parts.specs.Tests.{has}
-use Rattle.machine_states.specs.runner_steps.specs.Asks.{ask_by, outside_ask}
-use Rattle.machine_states.specs.runner_steps.specs.After.{after_by}
+use Rattle.machine_states.specs.Blockless.{ask_by, outside_ask, after_by}
 use Rattle.machine_states.specs.World.{World}
 use Rattle.machine_states.specs.First.{falling, first_part, keeper_part, worker_part}
 use Rattle.machine_states.specs.Reached.{Reached}
@@ -77,6 +76,6 @@ reached_own m laws l limits rs allowed w reached =
 
     first : (r d : ℕ) → r < l.runners → l.sections * r ≤ d → d < l.sections * r + l.sections → HasOwn (first_part_of m l r) d
     first r d low from to = inl (
-        ap (λ b. has (cond b (keeper_part m l) (cond (nat_lt r l.runners) (worker_part m l r) (first_part [] []))).descriptors.free d) (below r l.runners low)
-        ∙ (ap (λ b. has (cond b (worker_part m l r) (first_part [] [])).descriptors.free d) (less r l.runners low)
+        ap (λ b. has (cond b (keeper_part m l) (cond (nat_lt r l.runners) (worker_part m l r) (first_part [] [] []))).descriptors.free d) (below r l.runners low)
+        ∙ (ap (λ b. has (cond b (worker_part m l r) (first_part [] [] [])).descriptors.free d) (less r l.runners low)
         ∙ falling_has (l.sections * r) l.sections d from to))

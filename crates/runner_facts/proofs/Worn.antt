@@ -29,14 +29,14 @@ use Rattle.machine_states.specs.runner_parts.specs.declared.event.EventKind.TheV
 use Rattle.machine_states.specs.runner_parts.specs.State.{RunState, NodesState, PartState}
 use Rattle.machine_states.specs.runner_parts.specs.Lists.{test_of, tests_without, slot_back, slot_tested, one_more, nodes_looked, slot_made, slot_retired, descriptor_stored}
 use Rattle.machine_states.specs.runner_parts.specs.Tests.{has, is_resting}
-use Rattle.machine_states.specs.runner_steps.specs.Asks.{ask_by, line_ask, opening_ask, outside_ask}
+use Rattle.machine_states.specs.runner_steps.specs.Asks.{opening_ask}
+use Rattle.machine_states.specs.Blockless.{ask_by, line_ask, outside_ask, private_load_ask, private_load_after, fill_stored, line_after, inside_after, outside_after, after_by}
 use Rattle.machine_states.specs.runner_steps.specs.Sections.{is_open_run, next_of}
-use Rattle.machine_states.specs.runner_steps.specs.Outside.{private_load_ask, when, descriptor_spot}
+use Rattle.machine_states.specs.runner_steps.specs.Outside.{when, descriptor_spot}
 use Rattle.machine_states.specs.epoch_core.specs.State.{last_epoch}
 use Rattle.machine_states.specs.runner_steps.specs.InRun.{last_clock, is_slot}
 use Rattle.machine_states.specs.runner_steps.specs.AfterInRun as inside
 use Rattle.machine_states.specs.runner_steps.specs.AfterOutside as outside
-use Rattle.machine_states.specs.runner_steps.specs.After.{line_after, inside_after, outside_after, after_by}
 use Rattle.machine_states.specs.World.{World}
 use Rattle.machine_states.specs.First.{first_part}
 use Rattle.machine_states.specs.Reached.{Reached}
@@ -189,7 +189,7 @@ module _ (m : Meaning) (l : Layout) (word : Spot → ℕ) where
         (λ q' t at made worn. let one = some_same _ q' at in not_both worn (ap (λ (y : RunState). y.worn) (sym one))) old
     fill_worn slot (Some t) = goes _ _ (same p.nodes) refl refl refl
 
-    store_worn : (number : ℕ) → ((t : ℕ) → q.made ≡ Some t → version_of number ≡ l.version_max → Worn t) → IsWorn (inside.fill_stored m l number p q)
+    store_worn : (number : ℕ) → ((t : ℕ) → q.made ≡ Some t → version_of number ≡ l.version_max → Worn t) → IsWorn (fill_stored m l number p q)
     store_worn number shows = kept p _ (same p.nodes)
         (λ q' t at made worn. let one = some_same _ q' at in
         let made' : q.made ≡ Some t = ap (λ (y : RunState). y.made) one ∙ made in
@@ -252,7 +252,7 @@ module _ (m : Meaning) (l : Layout) (word : Spot → ℕ) where
     LoadsShow (kinds.PrivateLoad slot cell) = nat_lt slot (slot_count l m.fixed_slots) ≡ true → cell < 5 → version_of found ≡ l.version_max → Worn slot
     LoadsShow _ = Unit {0}
 
-    look_worn : (slot cell : ℕ) → LoadsShow (kinds.PrivateLoad slot cell) → IsWorn (outside.private_load_after m l slot cell p found)
+    look_worn : (slot cell : ℕ) → LoadsShow (kinds.PrivateLoad slot cell) → IsWorn (private_load_after m l slot cell p found)
     look_worn slot cell shows = by (nat_lt slot (slot_count l m.fixed_slots)) refl
       where
         by : (b : Bool) → nat_lt slot (slot_count l m.fixed_slots) ≡ b
@@ -397,7 +397,7 @@ reached_worn m laws l limits rs allowed w reached r t own =
     (none_worn v _ _) (λ k. none_worn v _ _) (none_worn v _ _) i))
     (λ s s' i kind st rise old. worn_kept m l rs s s' i kind st rise old) w reached r).listed t own
   where
-    none_worn : (v : World) (nodes descriptors : List ℕ) → IsWorn m l (sight m l rs v).word (first_part nodes descriptors)
+    none_worn : (v : World) (nodes descriptors : List ℕ) → IsWorn m l (sight m l rs v).word (first_part nodes descriptors [])
     none_worn v nodes descriptors = record {
       listed = λ t own. absurd (let z = own in cc);
       tested = λ t worn. absurd (let z = worn in cc);

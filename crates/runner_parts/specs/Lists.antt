@@ -2,11 +2,15 @@
 use Rattle.std.specs.Prelude.{ℕ, ◌+◌, ◌-◌, List, [], ◌∷◌, ◌++◌, Bool, true, false, not, ◌==◌, ◌&&◌, ◌||◌, nat_lt, nat_le, map, length, Option, None, if◌then◌else◌}
 use Rattle.std.specs.List.{filter}
 use Rattle.structure_laws.specs.body_terms.specs.Word.{value_of, version_of, is_free}
-use Rattle.structure_laws.specs.table_words.specs.declared.layout.Layout.{Layout}
+use Rattle.block_words.specs.table_words.specs.declared.layout.Layout.{Layout}
 use Rattle.runner_parts.specs.declared.entries.Retired.{Retired}
 use Rattle.runner_parts.specs.declared.entries.Tested.{Tested}
+use Rattle.runner_parts.specs.declared.entries.Waiting.{Waiting}
+use Rattle.runner_parts.specs.declared.entries.BoardRead.{BoardRead}
+use Rattle.runner_parts.specs.declared.entries.Tried.{Tried}
+use Rattle.runner_parts.specs.declared.entries.Tried.TheVariants as tries
 use Rattle.guard_core.specs.Moves.{is_unnamed}
-use Rattle.runner_parts.specs.State.{NodesState, DescriptorsState, GuardsState, ReadsState, RecordsState}
+use Rattle.runner_parts.specs.State.{NodesState, DescriptorsState, BlocksState, GuardsState, ReadsState, RecordsState}
 use Rattle.runner_parts.specs.Tests.{has, is_some_of}
 
 -- the list without this number
@@ -69,6 +73,27 @@ slot_taken n slot = record n { free = without n.free slot; hand = n.hand ++ slot
 abbrev pub slot_made : NodesState → ℕ → NodesState
 slot_made n slot = record n { hand = without n.hand slot }
 
+-- a free slot goes onto the board, and one from the board comes to the end of the free list
+abbrev pub slot_given : NodesState → ℕ → NodesState
+slot_given n slot = record n { free = without n.free slot }
+
+abbrev pub slot_drawn : NodesState → ℕ → NodesState
+slot_drawn n slot = record n { free = n.free ++ slot ∷ [] }
+
+-- a word of the board was loaded; the latest load stands first
+abbrev pub board_read : List BoardRead → ℕ → ℕ → List BoardRead
+board_read board word found = record { word = word; read = found; tried = tries.Not } ∷ board
+
+-- an exchange on a word of the board is noted with the runner's last load of it, if there is one
+abbrev pub tried_as : Bool → Tried
+tried_as true = tries.Won
+tried_as false = tries.Lost
+
+abbrev pub board_tried : List BoardRead → ℕ → Bool → List BoardRead
+board_tried [] word won = []
+board_tried (x ∷ xs) word won =
+    if x.word == word then record x { tried = tried_as won } ∷ xs else x ∷ board_tried xs word won
+
 abbrev pub slot_retired : NodesState → ℕ → ℕ → NodesState
 slot_retired n slot epoch = record n { limbo = n.limbo ++ record { slot = slot; epoch = epoch } ∷ [] }
 
@@ -94,6 +119,33 @@ descriptors_swept words d =
       limbo = filter (λ x. not (is_unnamed words x)) d.limbo;
     }
 
+-- a block is taken out of the free list, to be emptied and linked
+abbrev pub block_taken : BlocksState → ℕ → BlocksState
+block_taken b block = record b { free = without b.free block }
+
+-- one whose link was lost comes back
+abbrev pub block_back : BlocksState → ℕ → BlocksState
+block_back b block = record b { free = b.free ++ block ∷ [] }
+
+-- at the end of a run the blocks that it linked go into limbo under its descriptor
+abbrev pub all_under : ℕ → List ℕ → List Waiting
+all_under descriptor blocks = map (λ x. record { block = x; descriptor = descriptor }) blocks
+
+abbrev pub blocks_retired : BlocksState → List ℕ → ℕ → BlocksState
+blocks_retired b won descriptor = record b { limbo = b.limbo ++ all_under descriptor won }
+
+-- blocks that lie under a descriptor which passes the test go from limbo to the free list
+abbrev pub blocks_freed : (ℕ → Bool) → BlocksState → BlocksState
+blocks_freed test b =
+    record b {
+      free = b.free ++ map (λ x. x.block) (filter (λ x. test x.descriptor) b.limbo);
+      limbo = filter (λ x. not (test x.descriptor)) b.limbo;
+    }
+
+-- where the runner becomes sure of this descriptor: what lies under it is of an older publication
+abbrev pub blocks_given_back : ℕ → BlocksState → BlocksState
+blocks_given_back descriptor b = blocks_freed (λ d. d == descriptor) b
+
 -- nothing is guarded, and no guard word has been read
 abbrev pub no_guards : GuardsState
 no_guards = record { named = None; sure = false; looked = [] }
@@ -105,6 +157,15 @@ published_seen g d = record g { sure = g.sure || is_some_of g.named d }
 -- a word was read: where it is a lock's and names a descriptor, that one is published
 abbrev pub named_seen : GuardsState → Bool → ℕ → GuardsState
 named_seen g lock word = if lock && not (is_free word) then published_seen g (value_of word - 1) else g
+
+-- a word was read, and the runner has this at its guard word: it is a lock's, and names the descriptor that the guard
+-- word names
+abbrev pub names_guarded : GuardsState → Bool → ℕ → Bool
+names_guarded g lock word = lock && (not (is_free word) && is_some_of g.named (value_of word - 1))
+
+-- then the runner is sure of that descriptor
+abbrev pub blocks_seen : GuardsState → Bool → ℕ → BlocksState → BlocksState
+blocks_seen g lock word b = if names_guarded g lock word then blocks_given_back (value_of word - 1) b else b
 
 -- the guard word names this from now on, and nothing has been seen of it
 abbrev pub guard_moved : GuardsState → Option ℕ → GuardsState

@@ -9,6 +9,8 @@ use Rattle.runner_parts.specs.declared.entries.Known.{Known}
 use Rattle.runner_parts.specs.declared.entries.Published.{Published}
 use Rattle.runner_parts.specs.declared.entries.Left.{Left}
 use Rattle.runner_parts.specs.declared.entries.Look.{Look}
+use Rattle.runner_parts.specs.declared.entries.Waiting.{Waiting}
+use Rattle.runner_parts.specs.declared.entries.BoardRead.{BoardRead}
 
 -- a run in progress
 pub record RunState : Type 0 where
@@ -20,6 +22,13 @@ pub record RunState : Type 0 where
   pub made : Option ℕ
   pub worn : Bool
   pub ended : ℕ
+  -- the blocks on which the section's runs agreed, in the order of the links
+  pub links : List ℕ
+  -- the own block that it empties to link it, and how many of that block's words it has made 0
+  pub block : Option ℕ
+  pub emptied : ℕ
+  -- the blocks that it linked itself
+  pub won : List ℕ
 
 -- a section that was run to its end
 pub record FinishedState : Type 0 where
@@ -43,6 +52,11 @@ pub record DescriptorsState : Type 0 where
   pub free : List ℕ
   pub stored : List Stored
   pub limbo : List ℕ
+
+-- the own blocks
+pub record BlocksState : Type 0 where
+  pub free : List ℕ
+  pub limbo : List Waiting
 
 -- what the runner guards
 pub record GuardsState : Type 0 where
@@ -78,6 +92,8 @@ pub record RecordsState : Type 0 where
   pub joined : List ℕ
   -- since it entered it has made no other step than loads of cells, and those with which a read begins
   pub only_loads : Bool
+  -- each slot that it gave to the board left it at least as many free ones as it had at first
+  pub gave_above : Bool
 
 -- what one runner is at and keeps
 pub record PartState : Type 0 where
@@ -86,7 +102,10 @@ pub record PartState : Type 0 where
   pub published : Option Published
   pub nodes : NodesState
   pub descriptors : DescriptorsState
+  pub blocks : BlocksState
   pub guards : GuardsState
   pub reads : ReadsState
+  -- its loads of the board since it was idle last, the latest one first
+  pub board : List BoardRead
   pub records : RecordsState
   pub gone : Bool

@@ -1,7 +1,7 @@
 //! The entries of a runner's lists.
 
+use block_words::table_words::Spot;
 use structure_laws::body_terms::Thunk;
-use structure_laws::table_words::Spot;
 
 /// A slot in limbo, with the epoch that was loaded for its retirement.
 #[derive(Clone, Copy, Debug, PartialEq, Eq)]
@@ -25,6 +25,29 @@ pub struct Stored {
     pub descriptor: u32,
     pub word: u32,
     pub number: u64,
+}
+
+/// A block in limbo, with the descriptor under which it lies: the one to which it was linked.
+#[derive(Clone, Copy, Debug, PartialEq, Eq)]
+pub struct Waiting {
+    pub block: u32,
+    pub descriptor: u32,
+}
+
+/// What became of a runner's exchange on a word of the board that it had loaded: it wasn't made, won, or lost.
+#[derive(Clone, Copy, Debug, PartialEq, Eq)]
+pub enum Tried {
+    Not,
+    Won,
+    Lost,
+}
+
+/// A load of a word of the board: which word, what was read there, and the runner's exchange on it since.
+#[derive(Clone, Copy, Debug, PartialEq, Eq)]
+pub struct BoardRead {
+    pub word: u32,
+    pub read: u64,
+    pub tried: Tried,
 }
 
 /// A stamp or reply word that isn't 0, as the runner came to know it.

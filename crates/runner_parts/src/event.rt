@@ -18,7 +18,7 @@ pub enum EventKind {
     /// Carries the place outside a run, and None in a run.
     LoadCell(Option<Place>),
     ExchangeCell,
-    /// Descriptors are numbered after the node slots; `word` counts within the slot.
+    /// Descriptors are numbered after the node slots, and blocks after the descriptors; `word` counts within the slot.
     PrivateLoad { slot: u32, word: u32 },
     PrivateStore { slot: u32, word: u32, number: u64 },
     MakeCommit,
@@ -42,6 +42,14 @@ pub enum EventKind {
     NestedHold,
     OutcomeLoad,
     OutcomeCommit,
+    /// Carries the own block whose number goes into the link behind the section's last one.
+    LinkCommit(u32),
+    /// Carries the word of the board.
+    BoardLoad(u32),
+    /// Carries the word of the board and the link that the runner read there last: it takes the slot.
+    BoardTake(u32, u64),
+    /// Carries the word of the board and the own free node slot that goes there.
+    BoardGive(u32, u32),
     /// Carries the thunk that a read without a lock has planned, and announces it.
     ReadPlan(Thunk),
     /// The load of the clock for a read without a lock.

@@ -1,6 +1,6 @@
 //! The lists of a runner.
 
-use crate::entries::{Known, Left, Look, Retired, Stored, Tested};
+use crate::entries::{Known, Left, Look, Retired, Stored, Tested, Waiting};
 use crate::run::Finished;
 use std::marker::Model;
 use structure_laws::body_terms::{Place, Word};
@@ -48,6 +48,22 @@ impl Model for Descriptors {
     ghost view = { λ a. record { free = a.free.items; stored = a.stored.items; limbo = a.limbo.items } };
 }
 
+/// The own blocks: the free ones, and those in limbo, which were linked in a run that is over and wait until no guard
+/// word names the descriptor under which they lie.
+#[derive(Drop)]
+pub struct Blocks {
+    pub free: Vec<u32>,
+    pub limbo: Vec<Waiting>,
+}
+
+impl Model for Blocks {
+    ghost use Rattle.runner_parts.specs.State.{BlocksState};
+
+    ghost Value = { BlocksState };
+
+    ghost view = { λ a. record { free = a.free.items; limbo = a.limbo.items } };
+}
+
 /// What a runner guards: the descriptor that its guard word names, whether it has seen that one published while the
 /// word named it, and the guard words that it has read in the sweep in progress, in the order of the runners.
 #[derive(Drop)]
@@ -92,8 +108,9 @@ impl Model for Reads {
 /// announcement that wasn't idle, a sweep of its met a guard word that named a descriptor, or a step of its found the
 /// epoch other than its own steps had left it; and of the keeper what its steps since the last join left, in order, how
 /// many workers were split off, which were joined, and whether it joined one when its own steps had met the epoch, so
-/// that they may have crossed the worker's; and whether it has only loaded cells since it entered, and announced a read
-/// and loaded the clock for it.
+/// that they may have crossed the worker's; whether it has only loaded cells since it entered, and announced a read and
+/// loaded the clock for it; and whether each slot that it gave to the board left it at least as many free ones as it
+/// had at first.
 #[derive(Drop)]
 pub struct Records {
     pub known: Vec<Known>,
@@ -107,6 +124,7 @@ pub struct Records {
     pub splits: u32,
     pub joined: Vec<u32>,
     pub only_loads: bool,
+    pub gave_above: bool,
 }
 
 impl Model for Records {
@@ -126,5 +144,6 @@ impl Model for Records {
       splits = a.splits;
       joined = a.joined.items;
       only_loads = a.only_loads;
+      gave_above = a.gave_above;
     } };
 }

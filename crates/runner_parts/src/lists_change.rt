@@ -1,15 +1,15 @@
 //! How a runner's lists change.
 ghost use Rattle.std.specs.Prelude.{◌≡◌, ◌==◌, ◌<◌, ◌-◌, ◌^◌, not, IfOk, OnOk};
 ghost use Rattle.std.specs.List.{filter};
-ghost use Rattle.runner_parts.specs.Lists.{without, is_old, slots_of, nodes_collected, test_of, tests_without, slot_back, slot_tested, one_more, nodes_looked, slot_taken, slot_made, slot_retired, descriptor_stored, descriptor_taken, descriptor_retired, descriptors_swept, published_seen, named_seen, cell_read, walked, learned};
+ghost use Rattle.runner_parts.specs.Lists.{without, is_old, slots_of, nodes_collected, test_of, tests_without, slot_back, slot_tested, one_more, nodes_looked, slot_taken, slot_made, slot_given, slot_drawn, slot_retired, descriptor_stored, descriptor_taken, descriptor_retired, descriptors_swept, published_seen, named_seen, cell_read, walked, learned};
 ghost use Rattle.runner_parts.specs.Tests.{has};
 ghost use Rattle.guard_core.specs.Moves.{is_unnamed};
 
 use crate::entries::{Known, Retired, Stored, Tested};
 use crate::lists::{Descriptors, Guards, Nodes, Reads, Records};
+use block_words::table_words::Layout;
 use std::alloc::{AllocError, Global};
 use structure_laws::body_terms::{Place, Word};
-use structure_laws::table_words::Layout;
 
 /// Whether the list has this number.
 pub fn has(numbers: &[u32], number: u32) -> bool
@@ -19,7 +19,7 @@ pub fn has(numbers: &[u32], number: u32) -> bool
 }
 
 /// The list without this number.
-fn without(alloc: Global, numbers: &[u32], number: u32) -> Result<Vec<u32>, AllocError>
+pub fn without(alloc: Global, numbers: &[u32], number: u32) -> Result<Vec<u32>, AllocError>
     ensures { IfOk result (λ v. v.items ≡ without numbers.now number) }
 {
     numbers
@@ -159,6 +159,22 @@ impl Nodes {
         Ok(())
     }
 
+    /// A free slot goes onto the board.
+    pub fn give(&mut self, alloc: Global, slot: u32) -> Result<(), AllocError>
+        ensures { OnOk result (self.new ≡ slot_given self.old slot) }
+    {
+        self.free = without(alloc, &self.free, slot)?;
+        Ok(())
+    }
+
+    /// One from the board comes to the end of the free list.
+    pub fn draw(&mut self, slot: u32) -> Result<(), AllocError>
+        ensures { OnOk result (self.new ≡ slot_drawn self.old slot) }
+    {
+        self.free.push(slot)?;
+        Ok(())
+    }
+
     pub fn retire(&mut self, slot: u32, epoch: u64) -> Result<(), AllocError>
         ensures { OnOk result (self.new ≡ slot_retired self.old slot epoch) }
     {
@@ -220,7 +236,7 @@ impl Descriptors {
 }
 
 /// Whether none of these guard words names this descriptor.
-fn is_unnamed(words: &[u64], descriptor: u32) -> bool
+pub fn is_unnamed(words: &[u64], descriptor: u32) -> bool
     ensures { result ≡ is_unnamed words.now descriptor }
 {
     for word in words {

@@ -1,7 +1,7 @@
 //! What one runner is at and keeps.
 
-use crate::entries::Published;
-use crate::lists::{Descriptors, Guards, Nodes, Reads, Records};
+use crate::entries::{BoardRead, Published};
+use crate::lists::{Blocks, Descriptors, Guards, Nodes, Reads, Records};
 use crate::run::Run;
 use epoch_core::Stage;
 use std::marker::Model;
@@ -14,8 +14,11 @@ pub struct Part {
     pub published: Option<Published>,
     pub nodes: Nodes,
     pub descriptors: Descriptors,
+    pub blocks: Blocks,
     pub guards: Guards,
     pub reads: Reads,
+    /// The loads of the board since the runner was idle last, the latest one first.
+    pub board: Vec<BoardRead>,
     pub records: Records,
     pub gone: bool,
 }
@@ -31,8 +34,10 @@ impl Model for Part {
       published = a.published;
       nodes = a.nodes;
       descriptors = a.descriptors;
+      blocks = a.blocks;
       guards = a.guards;
       reads = a.reads;
+      board = a.board.items;
       records = a.records;
       gone = a.gone;
     } };

@@ -1,10 +1,10 @@
 -- A runner's part after an event, and the state after it.
 use Rattle.std.specs.Prelude.{ℕ, ◌+◌, List, [], ◌∷◌, ◌++◌, Bool, true, false, not, ◌||◌, ◌==◌, nat_lt, Option, Some, None, if◌then◌else◌}
-use Rattle.runner_parts.specs.structure_laws.specs.table_words.specs.declared.layout.Layout.{Layout}
-use Rattle.runner_parts.specs.structure_laws.specs.table_words.specs.declared.spot.Spot.{Spot}
-use Rattle.runner_parts.specs.structure_laws.specs.table_words.specs.declared.spot.Spot.TheVariants as spots
-use Rattle.runner_parts.specs.structure_laws.specs.table_words.specs.declared.access.Access.{Access}
-use Rattle.runner_parts.specs.structure_laws.specs.table_words.specs.Access.{written, wins}
+use Rattle.runner_parts.specs.block_words.specs.table_words.specs.declared.layout.Layout.{Layout}
+use Rattle.runner_parts.specs.block_words.specs.table_words.specs.declared.spot.Spot.{Spot}
+use Rattle.runner_parts.specs.block_words.specs.table_words.specs.declared.spot.Spot.TheVariants as spots
+use Rattle.runner_parts.specs.block_words.specs.table_words.specs.declared.access.Access.{Access}
+use Rattle.runner_parts.specs.block_words.specs.table_words.specs.Access.{written, wins}
 use Rattle.runner_parts.specs.structure_laws.specs.Meaning.{Meaning}
 use Rattle.runner_parts.specs.declared.event.EventKind.{EventKind}
 use Rattle.runner_parts.specs.declared.event.EventKind.TheVariants as kinds
@@ -16,7 +16,9 @@ use Rattle.runner_steps.specs.Sections.{is_open_run, next_of}
 use Rattle.runner_steps.specs.AfterOutside.{with_stage, entered, scan_one_after, advance_after, split_after, read_after, entry_after, private_load_after, private_store_after, hold_after, open_after}
 use Rattle.runner_steps.specs.Reads.{read_plan_after, read_clock_after, read_reply_after, read_stamped_after, only_loads_after}
 use Rattle.runner_steps.specs.Guards.{guard_after, load_guard_after}
-use Rattle.runner_steps.specs.AfterInRun.{opened_more, word_committed, cell_loaded, cell_exchanged, fill_loaded, fill_stored, make_committed, retire_committed, number_loaded, stamp_agreed, clock_raised, reply_agreed, done_set, lock_released, place_of, retired_slot_of, reply_word_of}
+use Rattle.runner_steps.specs.Blocks.{blocks_after}
+use Rattle.runner_steps.specs.Board.{board_take_after, board_give_after, board_after}
+use Rattle.runner_steps.specs.AfterInRun.{opened_more, word_committed, cell_loaded, cell_exchanged, fill_loaded, private_stored, link_committed, make_committed, retire_committed, number_loaded, stamp_agreed, clock_raised, reply_agreed, done_set, lock_released, place_of, retired_slot_of, reply_word_of}
 
 -- the keeper has joined this worker
 abbrev pub joins : PartState → ℕ → PartState
@@ -45,6 +47,8 @@ outside_after m l kinds.ReadReply p found = read_reply_after m p found
 outside_after m l kinds.ReadStamp p found = read_stamped_after p found
 outside_after m l (kinds.Guard d) p found = guard_after d p
 outside_after m l (kinds.LoadGuard n) p found = load_guard_after l p found
+outside_after m l (kinds.BoardTake word link) p found = board_take_after link p found
+outside_after m l (kinds.BoardGive word slot) p found = board_give_after l slot p found
 outside_after m l _ p found = p
 
 -- the part after an event of a run that stood before this step
@@ -53,7 +57,8 @@ line_after m l kinds.Commit p q micro found = word_committed m l p q found
 line_after m l (kinds.LoadCell place) p q micro found = cell_loaded m l (place_of micro) p q found
 line_after m l kinds.ExchangeCell p q micro found = cell_exchanged m l (place_of micro) p q found
 line_after m l (kinds.PrivateLoad slot word) p q micro found = fill_loaded m l slot p q q.made found
-line_after m l (kinds.PrivateStore slot word number) p q micro found = fill_stored m l number p q
+line_after m l (kinds.PrivateStore slot word number) p q micro found = private_stored m l slot number p q micro
+line_after m l (kinds.LinkCommit b) p q micro found = link_committed b p q found
 line_after m l kinds.MakeCommit p q micro found = make_committed m l p q q.made found
 line_after m l kinds.RetireCommit p q micro found = retire_committed m l (retired_slot_of micro) p q found
 line_after m l kinds.EpochForRetire p q micro found = number_loaded m l p q found
@@ -133,7 +138,12 @@ noted l r kind spot access found s = record s {
 -- the stepping runner's part after the event, which met this spot and found this word
 abbrev pub after : Meaning → Layout → ℕ → EventKind → Spot → Access → PartState → ℕ → PartState
 after m l r kind spot access p found =
-    let p' = stepped m l kind p found in record p' { records = noted l r kind spot access found p'.records }
+    let p' = stepped m l kind p found in
+    record p' {
+      blocks = blocks_after m l kind p p.run found;
+      board = board_after kind p.board found;
+      records = noted l r kind spot access found p'.records;
+    }
 
 -- the part of a worker that was joined
 abbrev pub leaves : PartState → PartState

@@ -1,15 +1,17 @@
 -- A runner's part after an event of a run, which found this word.
-use Rattle.std.specs.Prelude.{ℕ, ◌+◌, [], ◌∷◌, ◌++◌, Bool, true, false, ◌==◌, ◌||◌, nat_lt, Option, Some, None, if◌then◌else◌}
+use Rattle.std.specs.Prelude.{ℕ, ◌+◌, ◌-◌, [], ◌∷◌, ◌++◌, true, false, ◌==◌, ◌||◌, nat_lt, Option, Some, None, if◌then◌else◌}
 use Rattle.runner_parts.specs.structure_laws.specs.body_terms.specs.declared.micro.Micro.{Micro}
 use Rattle.runner_parts.specs.structure_laws.specs.body_terms.specs.declared.micro.Micro.TheVariants as micros
-use Rattle.runner_parts.specs.structure_laws.specs.body_terms.specs.Word.{version_of}
+use Rattle.runner_parts.specs.structure_laws.specs.body_terms.specs.Word.{value_of, version_of}
 use Rattle.runner_parts.specs.structure_laws.specs.body_terms.specs.Line.{is_end}
 use Rattle.runner_parts.specs.structure_laws.specs.body_terms.specs.Run.{written_once}
-use Rattle.runner_parts.specs.structure_laws.specs.table_words.specs.declared.layout.Layout.{Layout}
+use Rattle.runner_parts.specs.block_words.specs.table_words.specs.declared.layout.Layout.{Layout}
+use Rattle.runner_parts.specs.block_words.specs.table_words.specs.Places.{block_words}
 use Rattle.runner_parts.specs.structure_laws.specs.Meaning.{Meaning}
 use Rattle.runner_parts.specs.declared.entries.Published.{Published}
 use Rattle.runner_parts.specs.State.{RunState, FinishedState, PartState, NodesState, DescriptorsState}
-use Rattle.runner_steps.specs.Sections.{thunk_of, next_of, settles, outcome_of, is_late}
+use Rattle.runner_steps.specs.Sections.{thunk_of, next_of, needs_link, settles, outcome_of, is_late}
+use Rattle.runner_steps.specs.Outside.{blocks_from}
 use Rattle.runner_steps.specs.InRun.{stamp_after, last_clock}
 use Rattle.runner_parts.specs.Lists.{cell_read, descriptor_retired, slot_taken, slot_made, slot_back, slot_retired, learned}
 
@@ -54,9 +56,31 @@ fill_loaded m l slot p q None found =
     }
 fill_loaded m l slot p q (Some s) found = with_run p (goes_on m l q found)
 
-abbrev pub fill_stored : Meaning → Layout → ℕ → PartState → RunState → PartState
-fill_stored m l number p q =
-    with_run p (goes_on m l (record q { worn = q.worn || version_of number == l.version_max }) q.word)
+abbrev pub filled : Meaning → Layout → ℕ → RunState → RunState
+filled m l number q = goes_on m l (record q { worn = q.worn || version_of number == l.version_max }) q.word
+
+-- how many words of the block are 0 after one more
+abbrev pub emptied_more : RunState → ℕ
+emptied_more q = if nat_lt q.emptied block_words then q.emptied + 1 else q.emptied
+
+-- one more word of the block is 0, which is in the hand from the first one on
+abbrev pub block_emptied : ℕ → RunState → RunState
+block_emptied b q = record q { block = Some b; emptied = emptied_more q }
+
+-- a private store of a run: into a block where it is to link one, and otherwise that of a Make
+abbrev pub private_stored : Meaning → Layout → ℕ → ℕ → PartState → RunState → Micro → PartState
+private_stored m l slot number p q micro =
+    with_run p (if needs_link q micro then block_emptied (slot - blocks_from m l) q else filled m l number q)
+
+-- the block is agreed on that stood in the link, or else the own one
+abbrev pub link_committed : ℕ → PartState → RunState → ℕ → PartState
+link_committed b p q found =
+    with_run p (record q {
+      links = q.links ++ value_of (written_once found (b + 1) - 1) ∷ [];
+      block = None;
+      emptied = 0;
+      won = (if found == 0 then q.won ++ b ∷ [] else q.won);
+    })
 
 -- where this exchange won, the slot is live; otherwise it comes back
 abbrev pub made : PartState → RunState → ℕ → ℕ → NodesState

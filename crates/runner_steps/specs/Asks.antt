@@ -1,9 +1,9 @@
 -- Which word an event meets, and how; none where it isn't enabled.
 use Rattle.std.specs.Prelude.{ℕ, List, Option, Some, None, length, if◌then◌else◌}
 use Rattle.runner_parts.specs.structure_laws.specs.map_history.specs.declared.op.Request.{Request}
-use Rattle.runner_parts.specs.structure_laws.specs.table_words.specs.declared.layout.Layout.{Layout}
-use Rattle.runner_parts.specs.structure_laws.specs.table_words.specs.declared.sizes.Sizes.{Sizes}
-use Rattle.runner_parts.specs.structure_laws.specs.table_words.specs.Places.{fits, sizes_of}
+use Rattle.runner_parts.specs.block_words.specs.table_words.specs.declared.layout.Layout.{Layout}
+use Rattle.runner_parts.specs.block_words.specs.table_words.specs.declared.sizes.Sizes.{Sizes}
+use Rattle.runner_parts.specs.block_words.specs.table_words.specs.Places.{fits, sizes_of}
 use Rattle.runner_parts.specs.structure_laws.specs.Meaning.{Meaning}
 use Rattle.runner_parts.specs.declared.event.EventKind.{EventKind}
 use Rattle.runner_parts.specs.declared.event.EventKind.TheVariants as kinds
@@ -13,7 +13,7 @@ use Rattle.runner_steps.specs.Sections.{is_open_run, next_of}
 use Rattle.runner_steps.specs.Outside.{Ask, enter_load_ask, announce_ask, enter_again_ask, idle_ask, scan_one_ask, advance_ask, split_ask, join_ask, read_ask, entry_ask, private_load_ask, private_store_ask, hold_ask, open_ask}
 use Rattle.runner_steps.specs.Guards.{guard_ask, load_guard_ask}
 use Rattle.runner_steps.specs.Reads.{read_plan_ask, read_clock_ask, read_reply_ask, read_stamp_ask}
-use Rattle.runner_steps.specs.InRun.{open_more_ask, load_done_ask, commit_ask, load_cell_ask, exchange_cell_ask, fill_load_ask, fill_store_ask, make_commit_ask, retire_commit_ask, epoch_for_retire_ask, clock_load_ask, stamp_exchange_ask, clock_raise_ask, reply_exchange_ask, nested_load_ask, nested_hold_ask, outcome_load_ask, outcome_commit_ask, set_done_ask, release_ask}
+use Rattle.runner_steps.specs.InRun.{open_more_ask, load_done_ask, commit_ask, load_cell_ask, exchange_cell_ask, fill_load_ask, private_store_in_run_ask, link_commit_ask, make_commit_ask, retire_commit_ask, epoch_for_retire_ask, clock_load_ask, stamp_exchange_ask, clock_raise_ask, reply_exchange_ask, nested_load_ask, nested_hold_ask, outcome_load_ask, outcome_commit_ask, set_done_ask, release_ask}
 
 -- what a runner in no run asks, by the kind of its step
 abbrev pub outside_ask : Meaning → Layout → List Request → ℕ → EventKind → PartState → Ask
@@ -41,27 +41,29 @@ outside_ask m l requests r (kinds.LoadGuard n) p = load_guard_ask l n p
 outside_ask m l requests r _ p = None
 
 -- what a run asks that has loaded its thunk and its done word, and stands before this step; `free` is the
--- list of free node slots
-abbrev pub line_ask : Meaning → Layout → EventKind → List ℕ → RunState → Micro → Ask
-line_ask m l kinds.Commit free q micro = commit_ask q micro
-line_ask m l (kinds.LoadCell None) free q micro = load_cell_ask q micro
-line_ask m l kinds.ExchangeCell free q micro = exchange_cell_ask l q micro
-line_ask m l (kinds.PrivateLoad slot word) free q micro = fill_load_ask m l slot word free q micro
-line_ask m l (kinds.PrivateStore slot word number) free q micro = fill_store_ask m l slot word number q micro
-line_ask m l kinds.MakeCommit free q micro = make_commit_ask q micro
-line_ask m l kinds.RetireCommit free q micro = retire_commit_ask q micro
-line_ask m l kinds.EpochForRetire free q micro = epoch_for_retire_ask q micro
-line_ask m l kinds.SetDone free q micro = set_done_ask q micro
-line_ask m l kinds.Release free q micro = release_ask l q micro
-line_ask m l kinds.ClockLoad free q micro = clock_load_ask q micro
-line_ask m l kinds.StampExchange free q micro = stamp_exchange_ask q micro
-line_ask m l kinds.ClockRaise free q micro = clock_raise_ask q micro
-line_ask m l kinds.ReplyExchange free q micro = reply_exchange_ask q micro
-line_ask m l kinds.NestedLoad free q micro = nested_load_ask q micro
-line_ask m l kinds.NestedHold free q micro = nested_hold_ask l q micro
-line_ask m l kinds.OutcomeLoad free q micro = outcome_load_ask q micro
-line_ask m l kinds.OutcomeCommit free q micro = outcome_commit_ask q micro
-line_ask m l _ free q micro = None
+-- list of free node slots, and `blocks` that of free blocks
+abbrev pub line_ask : Meaning → Layout → EventKind → List ℕ → List ℕ → RunState → Micro → Ask
+line_ask m l kinds.Commit free blocks q micro = commit_ask q micro
+line_ask m l (kinds.LoadCell None) free blocks q micro = load_cell_ask q micro
+line_ask m l kinds.ExchangeCell free blocks q micro = exchange_cell_ask l q micro
+line_ask m l (kinds.PrivateLoad slot word) free blocks q micro = fill_load_ask m l slot word free q micro
+line_ask m l (kinds.PrivateStore slot word number) free blocks q micro =
+    private_store_in_run_ask m l slot word number blocks q micro
+line_ask m l (kinds.LinkCommit b) free blocks q micro = link_commit_ask l b q micro
+line_ask m l kinds.MakeCommit free blocks q micro = make_commit_ask q micro
+line_ask m l kinds.RetireCommit free blocks q micro = retire_commit_ask q micro
+line_ask m l kinds.EpochForRetire free blocks q micro = epoch_for_retire_ask q micro
+line_ask m l kinds.SetDone free blocks q micro = set_done_ask q micro
+line_ask m l kinds.Release free blocks q micro = release_ask l q micro
+line_ask m l kinds.ClockLoad free blocks q micro = clock_load_ask q micro
+line_ask m l kinds.StampExchange free blocks q micro = stamp_exchange_ask q micro
+line_ask m l kinds.ClockRaise free blocks q micro = clock_raise_ask q micro
+line_ask m l kinds.ReplyExchange free blocks q micro = reply_exchange_ask q micro
+line_ask m l kinds.NestedLoad free blocks q micro = nested_load_ask q micro
+line_ask m l kinds.NestedHold free blocks q micro = nested_hold_ask l q micro
+line_ask m l kinds.OutcomeLoad free blocks q micro = outcome_load_ask q micro
+line_ask m l kinds.OutcomeCommit free blocks q micro = outcome_commit_ask q micro
+line_ask m l _ free blocks q micro = None
 
 -- what a run asks that has still to load words of its thunk, or its done word
 abbrev pub opening_ask : EventKind → RunState → Ask
@@ -70,13 +72,14 @@ opening_ask kinds.LoadDone q = load_done_ask q
 opening_ask _ q = None
 
 -- what a run asks
-abbrev pub inside_ask : Meaning → Layout → EventKind → List ℕ → RunState → Ask
-inside_ask m l kind free q = if is_open_run q then line_ask m l kind free q (next_of m q) else opening_ask kind q
+abbrev pub inside_ask : Meaning → Layout → EventKind → List ℕ → List ℕ → RunState → Ask
+inside_ask m l kind free blocks q =
+    if is_open_run q then line_ask m l kind free blocks q (next_of m q) else opening_ask kind q
 
 -- what a runner asks with this run, or with none
 abbrev pub ask_by : Meaning → Layout → List Request → ℕ → EventKind → PartState → Option RunState → Ask
 ask_by m l requests r kind p None = outside_ask m l requests r kind p
-ask_by m l requests r kind p (Some q) = inside_ask m l kind p.nodes.free q
+ask_by m l requests r kind p (Some q) = inside_ask m l kind p.nodes.free p.blocks.free q
 
 -- only words that the table has
 abbrev pub fitting : Sizes → Ask → Ask

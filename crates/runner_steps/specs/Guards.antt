@@ -1,9 +1,9 @@
 -- Which word an event of guards meets, and how, and the part after it.
 use Rattle.std.specs.Prelude.{ℕ, List, [], ◌∷◌, ◌++◌, Bool, true, ◌==◌, ◌&&◌, nat_lt, nat_le, length, Option, Some, None, is_none, if◌then◌else◌}
-use Rattle.runner_parts.specs.structure_laws.specs.table_words.specs.declared.layout.Layout.{Layout}
-use Rattle.runner_parts.specs.structure_laws.specs.table_words.specs.declared.spot.Spot.TheVariants as spots
-use Rattle.runner_parts.specs.structure_laws.specs.table_words.specs.declared.access.Access.TheVariants.{Loads, Stores}
-use Rattle.runner_parts.specs.structure_laws.specs.table_words.specs.Places.{descriptor_count}
+use Rattle.runner_parts.specs.block_words.specs.table_words.specs.declared.layout.Layout.{Layout}
+use Rattle.runner_parts.specs.block_words.specs.table_words.specs.declared.spot.Spot.TheVariants as spots
+use Rattle.runner_parts.specs.block_words.specs.table_words.specs.declared.access.Access.TheVariants.{Loads, Stores}
+use Rattle.runner_parts.specs.block_words.specs.table_words.specs.Places.{descriptor_count}
 use Rattle.runner_parts.specs.epoch_core.specs.declared.stage.Stage.{Stage}
 use Rattle.runner_parts.specs.epoch_core.specs.declared.stage.Stage.TheVariants as stages
 use Rattle.runner_parts.specs.guard_core.specs.State.{word_of}

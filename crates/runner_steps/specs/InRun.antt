@@ -1,18 +1,19 @@
 -- Which word the next event of a run meets, and how.
-use Rattle.std.specs.Prelude.{ℕ, ◌+◌, ◌-◌, ◌*◌, ◌/◌, ◌^◌, List, Bool, false, ◌==◌, ◌&&◌, nat_lt, Option, Some, None, length, slice_index, if◌then◌else◌}
+use Rattle.std.specs.Prelude.{ℕ, ◌+◌, ◌-◌, ◌*◌, ◌/◌, ◌^◌, List, Bool, false, not, ◌==◌, ◌&&◌, nat_lt, nat_le, Option, Some, None, length, slice_index, if◌then◌else◌}
 use Rattle.runner_parts.specs.structure_laws.specs.body_terms.specs.declared.micro.Micro.{Micro}
 use Rattle.runner_parts.specs.structure_laws.specs.body_terms.specs.declared.micro.Micro.TheVariants as micros
 use Rattle.runner_parts.specs.structure_laws.specs.body_terms.specs.Word.{version_of, next_word, held_word}
 use Rattle.runner_parts.specs.structure_laws.specs.body_terms.specs.Memory.{cell_of}
 use Rattle.runner_parts.specs.structure_laws.specs.body_terms.specs.Run.{source_value}
-use Rattle.runner_parts.specs.structure_laws.specs.table_words.specs.declared.layout.Layout.{Layout}
-use Rattle.runner_parts.specs.structure_laws.specs.table_words.specs.Places.{slot_count, descriptor_count}
-use Rattle.runner_parts.specs.structure_laws.specs.table_words.specs.declared.spot.Spot.TheVariants as spots
-use Rattle.runner_parts.specs.structure_laws.specs.table_words.specs.declared.access.Access.TheVariants.{Loads, Stores, Exchanges, Raises}
+use Rattle.runner_parts.specs.block_words.specs.table_words.specs.declared.layout.Layout.{Layout}
+use Rattle.runner_parts.specs.block_words.specs.table_words.specs.Places.{block_words, slot_count, descriptor_count, block_count}
+use Rattle.runner_parts.specs.block_words.specs.table_words.specs.declared.spot.Spot.TheVariants as spots
+use Rattle.runner_parts.specs.block_words.specs.table_words.specs.declared.access.Access.TheVariants.{Loads, Stores, Exchanges, Raises}
 use Rattle.runner_parts.specs.structure_laws.specs.Meaning.{Meaning}
+use Rattle.runner_parts.specs.block_words.specs.Blocks.{link_spot, log_spot}
 use Rattle.runner_parts.specs.State.{RunState}
-use Rattle.runner_steps.specs.Sections.{thunk_of}
-use Rattle.runner_steps.specs.Outside.{Ask, when}
+use Rattle.runner_steps.specs.Sections.{thunk_of, is_beyond, needs_link}
+use Rattle.runner_steps.specs.Outside.{Ask, when, block_spot, blocks_from}
 
 -- the next thunk word
 abbrev pub open_more_ask : RunState → Ask
@@ -22,9 +23,10 @@ open_more_ask q = when (nat_lt (length q.opened) 12) (spots.ThunkWord q.descript
 abbrev pub load_done_ask : RunState → Ask
 load_done_ask q = when (length q.opened == 12) (spots.DoneWord q.descriptor) Loads
 
--- one word is agreed on: this proposal, where the log word is still empty
+-- one word is agreed on: this proposal, where the log word is still empty. Its part of the log has to be linked before
 abbrev pub commit_to : RunState → ℕ → ℕ → Ask
-commit_to q log proposal = Some (spots.LogWord q.descriptor log, Exchanges 0 proposal)
+commit_to q log proposal =
+    when (not (is_beyond q (Some log))) (log_spot q.descriptor q.links log) (Exchanges 0 proposal)
 
 abbrev pub commit_ask : RunState → Micro → Ask
 commit_ask q (micros.Commit place log) = commit_to q log q.word
@@ -75,6 +77,27 @@ fill_store_ask m l slot word number q (micros.PrivateStore cell log value) =
     && (can_raise l q.word && number == next_word q.word (source_value q.trail value)))))
     (spots.Cell (cell_of m.fixed_cells slot word)) (Stores number)
 fill_store_ask m l slot word number q _ = None
+
+-- before a commit into a part that isn't linked: 0 goes into the words of an own block and into its link, one after the
+-- other. The block is the one in the own hand, or, at its first word, the last of the free list
+abbrev pub block_empty_ask : Meaning → Layout → ℕ → ℕ → ℕ → List ℕ → RunState → Ask
+block_empty_ask m l slot word number free q = let blocks = blocks_from m l in
+    when (nat_le blocks slot && (is_slot (make_slot q.block free) (slot - blocks)
+    && (word == q.emptied && (nat_lt word block_words && number == 0)))) (block_spot (slot - blocks) word)
+    (Stores number)
+
+-- a private store of a run: into a block where it is to link one, and otherwise that of a Make; `blocks` is the list of
+-- free blocks
+abbrev pub private_store_in_run_ask : Meaning → Layout → ℕ → ℕ → ℕ → List ℕ → RunState → Micro → Ask
+private_store_in_run_ask m l slot word number blocks q micro =
+    if needs_link q micro then block_empty_ask m l slot word number blocks q
+    else fill_store_ask m l slot word number q micro
+
+-- and then the number of this block goes into the link behind the section's last part
+abbrev pub link_commit_ask : Layout → ℕ → RunState → Micro → Ask
+link_commit_ask l b q micro =
+    when (needs_link q micro && (q.emptied == block_words && (is_slot q.block b && nat_lt b (block_count l))))
+    (link_spot q.descriptor q.links (length q.links)) (Exchanges 0 (b + 1))
 
 abbrev pub make_commit_to : RunState → ℕ → Option ℕ → Ask
 make_commit_to q log None = None

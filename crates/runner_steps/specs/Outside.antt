@@ -4,12 +4,12 @@ use Rattle.runner_parts.specs.structure_laws.specs.map_history.specs.declared.op
 use Rattle.runner_parts.specs.structure_laws.specs.body_terms.specs.declared.thunk.Thunk.{Thunk}
 use Rattle.runner_parts.specs.structure_laws.specs.body_terms.specs.Word.{held_word}
 use Rattle.runner_parts.specs.structure_laws.specs.body_terms.specs.Memory.{cell_of}
-use Rattle.runner_parts.specs.structure_laws.specs.table_words.specs.declared.layout.Layout.{Layout}
-use Rattle.runner_parts.specs.structure_laws.specs.table_words.specs.declared.spot.Spot.{Spot}
-use Rattle.runner_parts.specs.structure_laws.specs.table_words.specs.declared.spot.Spot.TheVariants as spots
-use Rattle.runner_parts.specs.structure_laws.specs.table_words.specs.declared.access.Access.{Access}
-use Rattle.runner_parts.specs.structure_laws.specs.table_words.specs.declared.access.Access.TheVariants.{Loads, Stores, Exchanges}
-use Rattle.runner_parts.specs.structure_laws.specs.table_words.specs.Places.{slot_count, descriptor_count}
+use Rattle.runner_parts.specs.block_words.specs.table_words.specs.declared.layout.Layout.{Layout}
+use Rattle.runner_parts.specs.block_words.specs.table_words.specs.declared.spot.Spot.{Spot}
+use Rattle.runner_parts.specs.block_words.specs.table_words.specs.declared.spot.Spot.TheVariants as spots
+use Rattle.runner_parts.specs.block_words.specs.table_words.specs.declared.access.Access.{Access}
+use Rattle.runner_parts.specs.block_words.specs.table_words.specs.declared.access.Access.TheVariants.{Loads, Stores, Exchanges}
+use Rattle.runner_parts.specs.block_words.specs.table_words.specs.Places.{part_words, slot_count, descriptor_count}
 use Rattle.runner_parts.specs.structure_laws.specs.Meaning.{Meaning}
 use Rattle.runner_parts.specs.epoch_core.specs.State.{last_epoch}
 use Rattle.runner_parts.specs.epoch_core.specs.declared.stage.Stage.{Stage}
@@ -82,27 +82,41 @@ entry_spot request false = spots.Stamp request
 abbrev pub entry_ask : ℕ → Bool → PartState → Ask
 entry_ask request reply p = when (is_resting p.stage p.run) (entry_spot request reply) Loads
 
--- a descriptor's word: the thunk words, the done word, the log
+-- a descriptor's word: the thunk words, the done word, the first part of the log
 abbrev pub descriptor_spot : ℕ → ℕ → Spot
 descriptor_spot d word =
     if nat_lt word 12 then spots.ThunkWord d word else
     (if word == 12 then spots.DoneWord d else spots.LogWord d (word - 13))
 
--- a cell of an own free node slot, or of one in the own hand; or a word of an own free descriptor
+-- a block's word: a part of a log, the link
+abbrev pub block_spot : ℕ → ℕ → Spot
+block_spot b word = if word == part_words then spots.BlockLink b else spots.BlockWord b word
+
+-- the first number of a block, behind the node slots and the descriptors
+abbrev pub blocks_from : Meaning → Layout → ℕ
+blocks_from m l = slot_count l m.fixed_slots + descriptor_count l
+
+-- a cell of an own free node slot, or of one in the own hand; a word of an own free descriptor; a word of an own free
+-- block
 abbrev pub private_load_ask : Meaning → Layout → ℕ → ℕ → PartState → Ask
-private_load_ask m l slot word p = let slots = slot_count l m.fixed_slots in
+private_load_ask m l slot word p = let slots = slot_count l m.fixed_slots in let blocks = blocks_from m l in
     if nat_lt slot slots
     then when (is_resting p.stage p.run
     && (nat_lt word 5 && (has p.nodes.free slot
     || has p.nodes.hand slot))) (spots.Cell (cell_of m.fixed_cells slot word)) Loads
-    else when (is_resting p.stage p.run
+    else (if nat_lt slot blocks
+    then when (is_resting p.stage p.run
     && has p.descriptors.free (slot - slots)) (descriptor_spot (slot - slots) word) Loads
+    else when (is_resting p.stage p.run && has p.blocks.free (slot - blocks)) (block_spot (slot - blocks) word) Loads)
 
--- a word of an own free descriptor
+-- a word of an own free descriptor; or 0 into a word of an own free block
 abbrev pub private_store_ask : Meaning → Layout → ℕ → ℕ → ℕ → PartState → Ask
-private_store_ask m l slot word number p = let slots = slot_count l m.fixed_slots in
-    when (nat_le slots slot && (is_resting p.stage p.run
+private_store_ask m l slot word number p = let slots = slot_count l m.fixed_slots in let blocks = blocks_from m l in
+    if nat_lt slot blocks
+    then when (nat_le slots slot && (is_resting p.stage p.run
     && has p.descriptors.free (slot - slots))) (descriptor_spot (slot - slots) word) (Stores number)
+    else when (is_resting p.stage p.run
+    && (has p.blocks.free (slot - blocks) && number == 0)) (block_spot (slot - blocks) word) (Stores number)
 
 -- the thunk serves the worker's next request
 abbrev pub is_due : Meaning → Layout → List Request → ℕ → List Known → List (ℕ × ℕ) → Thunk → Bool

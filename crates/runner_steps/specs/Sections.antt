@@ -1,15 +1,16 @@
 -- A run's section, and what comes next in it.
-use Rattle.std.specs.Prelude.{ℕ, ◌%◌, ◌^◌, List, [], ◌∷◌, Bool, false, not, ◌==◌, ◌&&◌, nat_lt, length, slice_index, Option, None, Some}
+use Rattle.std.specs.Prelude.{ℕ, ◌/◌, ◌%◌, ◌^◌, List, [], ◌∷◌, Bool, false, not, ◌==◌, ◌&&◌, nat_lt, length, slice_index, Option, None, Some}
 use Rattle.runner_parts.specs.structure_laws.specs.body_terms.specs.declared.thunk.Thunk.{Thunk}
 use Rattle.runner_parts.specs.structure_laws.specs.body_terms.specs.declared.micro.Micro.{Micro}
-use Rattle.runner_parts.specs.structure_laws.specs.body_terms.specs.declared.micro.Micro.TheVariants.{CheckHeld}
+use Rattle.runner_parts.specs.structure_laws.specs.body_terms.specs.declared.micro.Micro.TheVariants.{CheckHeld, Commit, NestedCommit, OutcomeCommit, MakeCommit, RetireCommit}
 use Rattle.runner_parts.specs.structure_laws.specs.body_terms.specs.declared.step.Step.{Step}
 use Rattle.runner_parts.specs.structure_laws.specs.body_terms.specs.declared.step.Step.TheVariants.{Answer}
 use Rattle.runner_parts.specs.structure_laws.specs.body_terms.specs.declared.outcome.Outcome.{Outcome}
 use Rattle.runner_parts.specs.structure_laws.specs.body_terms.specs.declared.outcome.Outcome.TheVariants.{Answered}
 use Rattle.runner_parts.specs.structure_laws.specs.body_terms.specs.Line.{line, micro_at, next_micro}
 use Rattle.runner_parts.specs.structure_laws.specs.body_terms.specs.Run.{Setting, leaves, settled}
-use Rattle.runner_parts.specs.structure_laws.specs.table_words.specs.declared.layout.Layout.{Layout}
+use Rattle.runner_parts.specs.block_words.specs.table_words.specs.declared.layout.Layout.{Layout}
+use Rattle.runner_parts.specs.block_words.specs.table_words.specs.Places.{part_words}
 use Rattle.runner_parts.specs.structure_laws.specs.Meaning.{Meaning}
 use Rattle.runner_parts.specs.State.{RunState}
 
@@ -43,6 +44,24 @@ line_of m q = line (m.body (thunk_of q.opened))
 -- the step on a shared word that comes next
 abbrev pub next_of : Meaning → RunState → Micro
 next_of m q = let t = thunk_of q.opened in next_micro (line_of m q) q.at q.ended t.lock t.word
+
+-- the place in the log to which a step commits, if it does
+abbrev pub commits_to : Micro → Option ℕ
+commits_to (Commit place log) = Some log
+commits_to (NestedCommit place log) = Some log
+commits_to (OutcomeCommit place log) = Some log
+commits_to (MakeCommit log) = Some log
+commits_to (RetireCommit slot log) = Some log
+commits_to _ = None
+
+-- this place is in a part of the log that isn't linked yet, as far as the run knows
+abbrev pub is_beyond : RunState → Option ℕ → Bool
+is_beyond q None = false
+is_beyond q (Some log) = nat_lt (length q.links) (log / part_words)
+
+-- before this step the run links a block
+abbrev pub needs_link : RunState → Micro → Bool
+needs_link q micro = is_beyond q (commits_to micro)
 
 -- by what the checks of this run go
 abbrev pub setting_of : Layout → ℕ → Setting

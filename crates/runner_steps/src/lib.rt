@@ -8,9 +8,11 @@
 mod places;
 
 pub use places::{
-    agreed_on, cell_place, descriptor_count, descriptor_spot, held_word, sizes_for, slot_count,
+    agreed_on, block_count, block_spot, blocks_from, cell_place, descriptor_count, descriptor_spot,
+    held_word, sizes_for, slot_count,
 };
 
 // Passed on to the layers above, so that they needn't name these libraries themselves.
 pub use runner_parts;
+pub use runner_parts::block_words;
 pub use runner_parts::structure_laws::{body_terms, map_history, table_words};

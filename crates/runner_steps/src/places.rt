@@ -1,18 +1,18 @@
 //! How many words the table has and where some of them stand, and the words that runners put there.
 ghost use Rattle.std.specs.Prelude.{◌≡◌, ◌<◌, ◌≤◌, ◌-◌, ◌^◌, length};
 ghost use Rattle.runner_parts.specs.structure_laws.specs.map_history.specs.Requests.{most_requests};
-ghost use Rattle.runner_parts.specs.structure_laws.specs.table_words.specs.Limits.{IsWithinLimits};
-ghost use Rattle.runner_parts.specs.structure_laws.specs.table_words.specs.Places.{slot_count, descriptor_count};
+ghost use Rattle.runner_parts.specs.block_words.specs.table_words.specs.Limits.{IsWithinLimits};
+ghost use Rattle.runner_parts.specs.block_words.specs.table_words.specs.Places.{slot_count, descriptor_count, block_count};
 ghost use Rattle.runner_parts.specs.structure_laws.specs.body_terms.specs.Memory.{cell_of};
 ghost use Rattle.runner_parts.specs.structure_laws.specs.body_terms.specs.Run.{written_once};
 ghost use Rattle.runner_parts.specs.structure_laws.specs.body_terms.specs.Word.{held_word, version_of};
 ghost use Rattle.runner_steps.specs.Asks.{sizes_for};
-ghost use Rattle.runner_steps.specs.Outside.{descriptor_spot};
+ghost use Rattle.runner_steps.specs.Outside.{block_spot, blocks_from, descriptor_spot};
 
+use runner_parts::block_words::table_words::{Layout, PART_WORDS, Sizes, Spot};
 use runner_parts::structure_laws::Structure;
 use runner_parts::structure_laws::body_terms::{Place, Word};
 use runner_parts::structure_laws::map_history::Request;
-use runner_parts::structure_laws::table_words::{Layout, Sizes, Spot};
 
 /// How many words of each kind the table has.
 pub fn sizes_for<S: Structure>(structure: &S, layout: Layout, requests: &[Request]) -> Sizes
@@ -41,6 +41,13 @@ pub fn descriptor_count(layout: Layout) -> u32
     layout.sections * layout.runners + layout.runners
 }
 
+/// The number of all blocks. As long as no body agrees on more words than a descriptor has room for, there is none.
+pub fn block_count(_layout: Layout) -> u32
+    ensures { result ≡ block_count _layout }
+{
+    0
+}
+
 /// The place of a cell of a node slot.
 pub fn cell_place<S: Structure>(structure: &S, layout: Layout, slot: u32, cell: u32) -> Place
     requires limits { IsWithinLimits layout }
@@ -51,7 +58,7 @@ pub fn cell_place<S: Structure>(structure: &S, layout: Layout, slot: u32, cell: 
     structure.fixed_cells() + 5 * slot + cell
 }
 
-/// Where a descriptor's word stands: the thunk words, the done word, the log.
+/// Where a descriptor's word stands: the thunk words, the done word, the first part of the log.
 #[inline(always)]
 pub fn descriptor_spot(descriptor: u32, word: u32) -> Spot
     ensures { result ≡ descriptor_spot descriptor word }
@@ -63,6 +70,26 @@ pub fn descriptor_spot(descriptor: u32, word: u32) -> Spot
     } else {
         Spot::LogWord(descriptor, word - 13)
     }
+}
+
+/// Where a block's word stands: a part of a log, the link.
+#[inline(always)]
+pub fn block_spot(block: u32, word: u32) -> Spot
+    ensures { result ≡ block_spot block word }
+{
+    if word as usize == PART_WORDS {
+        Spot::BlockLink(block)
+    } else {
+        Spot::BlockWord(block, word)
+    }
+}
+
+/// The first number of a block, behind the node slots and the descriptors.
+pub fn blocks_from<S: Structure>(structure: &S, layout: Layout) -> u32
+    requires { IsWithinLimits layout }
+    ensures { result ≡ blocks_from (S.meaning structure.now) layout }
+{
+    slot_count(structure, layout) + descriptor_count(layout)
 }
 
 /// The word of a lock that was free with this word, once the descriptor's section holds it.

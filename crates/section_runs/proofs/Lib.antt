@@ -1,5 +1,6 @@
 pub mod Apart
 pub mod Records
+pub mod Noted
 pub mod Readings
 pub mod Staying
 pub mod Opening

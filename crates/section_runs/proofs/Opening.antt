@@ -21,8 +21,10 @@ use Rattle.idem_cell.specs.machine_states.specs.runner_steps.specs.Asks.{ask_by,
 use Rattle.idem_cell.specs.machine_states.specs.runner_steps.specs.Sections.{thunk_of, is_late, next_of}
 use Rattle.idem_cell.specs.machine_states.specs.runner_steps.specs.AfterInRun.{with_run, opened_more}
 use Rattle.idem_cell.specs.machine_states.specs.runner_steps.specs.After.{after_by, line_after, counted}
-use Rattle.nested_lock.specs.machine_facts.specs.machine_agreement.proofs.LineKinds.{noted_finished, noting}
+use Rattle.nested_lock.specs.machine_facts.specs.machine_agreement.proofs.LineKinds.{noted_finished}
+use Rattle.section_runs.proofs.Noted.{noting}
 use Rattle.idem_cell.specs.machine_states.specs.Sight.{sight, part_or_first}
+use Rattle.idem_cell.specs.machine_states.specs.Blockless.{blockless}
 use Rattle.idem_cell.specs.machine_epochs.proofs.OutsideAsked.{named_is}
 use Rattle.nested_lock.specs.machine_facts.specs.machine_invariant.specs.After.{AreAllowed}
 use Rattle.idem_alloc.specs.commit_log.specs.next_steps.specs.Stages.{IsInRun}
@@ -77,7 +79,7 @@ module _ {T : Type 0} (m : Meaning) (laws : Laws m) (t : TableState T) (limits :
     fits = (reached_numbers m laws r.layout within r.requests few is.reached.world is.reached.reached).guarded r.number d
         (ap (λ (p : PartState). p.guards.named) seen ∙ named_is r.part.guards.named d (and_parts _ _ sure_now).1)
       where
-        seen : (sight m r.layout r.requests is.reached.world).part r.number ≡ r.part
+        seen : (sight m r.layout r.requests is.reached.world).part r.number ≡ blockless r.part
         seen = ap part_or_first is.reached.own
 
     in_run : (q : RunState) → r.part.run ≡ Some q → IsInRun m r.layout r.requests r.number r.part q
@@ -135,8 +137,8 @@ module _ {T : Type 0} (m : Meaning) (laws : Laws m) (t : TableState T) (limits :
       -- where the run has one word more
       opens : is_opening kind ≡ true → after_by m r.layout kind r.part r.part.run found ≡ with_run r.part (opening d more) → IsOpening m (suc n) d more old r'
       opens load e =
-          let part : r'.part ≡ noting r.layout r.number kind made.met.0 made.met.1 found (with_run r.part (opening d more))
-          = ap (λ (y : RunnerState T). y.part) made.made ∙ ap (noting r.layout r.number kind made.met.0 made.met.1 found) e in
+          let part : r'.part ≡ noting m r.layout r.number kind made.met.0 made.met.1 r.part found (with_run r.part (opening d more))
+          = ap (λ (y : RunnerState T). y.part) made.made ∙ ap (noting m r.layout r.number kind made.met.0 made.met.1 r.part found) e in
           record {
             run = ap (λ (p : PartState). p.run) part;
             count = length-append words (found ∷ []) ∙ (let c = is.count in let z : length words + 1 ≡ suc n = omega (arith, c) in z);

@@ -16,7 +16,6 @@ use Rattle.idem_cell.specs.machine_states.specs.runner_parts.specs.State.{RunSta
 use Rattle.idem_cell.specs.machine_states.specs.runner_steps.specs.Sections.{thunk_of, is_open_run, next_of}
 use Rattle.idem_cell.specs.machine_states.specs.runner_steps.specs.AfterInRun.{ended_more, kept_unless, retired_if, finished_of}
 use Rattle.idem_cell.specs.machine_states.specs.runner_steps.specs.After.{line_after, after, counted}
-use Rattle.nested_lock.specs.machine_facts.specs.machine_agreement.proofs.LineKinds.{noting, after_line}
 use Rattle.nested_lock.specs.machine_facts.specs.machine_invariant.specs.After.{AreAllowed}
 use Rattle.idem_alloc.specs.commit_log.specs.next_steps.specs.Steps.{kind_at}
 use Rattle.idem_alloc.specs.commit_log.specs.next_steps.specs.Stages.{run_behind, reads_behind, published_behind, descriptors_behind, finished_behind}
@@ -27,6 +26,7 @@ use Rattle.idem_alloc.specs.commit_log.specs.Runs.{IsRunning, Stepped, Ran}
 use Rattle.idem_alloc.specs.commit_log.proofs.Running.{opened_stays, one_run}
 use Rattle.section_runs.specs.Reached.{events_after}
 use Rattle.section_runs.specs.Opened.{Stays, Learns, ReadsOthers}
+use Rattle.section_runs.proofs.Noted.{noting, after_line}
 use Rattle.section_runs.proofs.Readings.{reads_none, step_reads}
 use Rattle.section_runs.proofs.Records.{noted_known, noted_events, learns_none, line_leaves}
 
@@ -162,8 +162,8 @@ module _ {T : Type 0} (m : Meaning) (laws : Laws m) (t : TableState T) (limits :
     part_is : b.part ≡ after m a.layout a.number (kind_at a.part q micro) x.0 x.1 a.part found
     part_is = ap (λ (y : RunnerState T). y.part) step.event.made
 
-    noted_is : after m a.layout a.number (kind_at a.part q micro) x.0 x.1 a.part found ≡ noting a.layout a.number (kind_at a.part q micro) x.0 x.1 found then_part
-    noted_is = after_line m a.layout a.number (kind_at a.part q micro) x a.part found q micro step.running.inside.running (run_open a own q step.running) step.next
+    noted_is : after m a.layout a.number (kind_at a.part q micro) x.0 x.1 a.part found ≡ noting m a.layout a.number (kind_at a.part q micro) x.0 x.1 a.part found then_part
+    noted_is = after_line m a.layout a.number (kind_at a.part q micro) x.0 x.1 a.part found q micro step.running.inside.running (run_open a own q step.running) step.next
 
     pub step_events : b.part.records.events ≡ counted a.part.records.events
     step_events = ap (λ (p : PartState). p.records.events) (part_is ∙ noted_is)

@@ -14,7 +14,20 @@ use Rattle.idem_alloc.specs.commit_log.specs.Runs.{IsRunning}
 
 -- in no run
 abbrev pub no_run : RunState
-no_run = record { descriptor = 0; opened = []; at = 0; word = 0; trail = []; made = None; worn = false; ended = 0 }
+no_run = record {
+  descriptor = 0;
+  opened = [];
+  at = 0;
+  word = 0;
+  trail = [];
+  made = None;
+  worn = false;
+  ended = 0;
+  links = [];
+  block = None;
+  emptied = 0;
+  won = [];
+}
 
 abbrev pub run_or : Option RunState → RunState
 run_or None = no_run

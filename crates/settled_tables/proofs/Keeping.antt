@@ -8,7 +8,8 @@ use Rattle.machine_states.specs.table_words.specs.declared.spot.Spot.TheVariants
 use Rattle.machine_states.specs.table_words.specs.declared.access.Access.TheVariants.{Loads}
 use Rattle.machine_states.specs.structure_laws.specs.Meaning.{Meaning}
 use Rattle.machine_states.specs.runner_parts.specs.declared.event.EventKind.TheVariants as kinds
-use Rattle.machine_states.specs.runner_parts.specs.State.{RunState, PartState, RecordsState, NodesState, GuardsState}
+use Rattle.machine_states.specs.runner_parts.specs.State.{RunState, PartState, BlocksState, RecordsState, NodesState, GuardsState}
+use Rattle.machine_states.specs.runner_parts.specs.declared.entries.BoardRead.{BoardRead}
 use Rattle.machine_states.specs.runner_parts.specs.Tests.{has, is_between}
 use Rattle.machine_states.specs.runner_steps.specs.After.{after, after_by, stepped, leaves}
 use Rattle.machine_states.specs.First.{keeper_part, falling}
@@ -22,20 +23,20 @@ use Rattle.settling.specs.Settled.{MaySettle, Settles}
 use Rattle.machine_states.proofs.Marks.{Stays, stays}
 use Rattle.settled_tables.specs.Keeper.{IsIdleKeeper}
 
--- a part of the machine's that doesn't go by the records
+-- a part of the machine's that doesn't go by the blocks, the board's loads and the records
 abbrev IsBlind : {B : Type 0} → (PartState → B) → Type 0
-IsBlind f = (q : PartState) (s : RecordsState) → f (record q { records = s }) ≡ f q
+IsBlind f = (q : PartState) (b : BlocksState) (c : List BoardRead) (s : RecordsState) → f (record q { blocks = b; board = c; records = s }) ≡ f q
 
 module _ {B : Type 0} (f : PartState → B) (blind : IsBlind f) (m : Meaning) (l : Layout) (r : ℕ) (p : PartState) (none : p.run ≡ None) where
   chosen : (b : Bool) → f (if b then record p { records = record (p.records) { splits = p.records.splits + 1 } } else p) ≡ f p
-  chosen true = blind p _
+  chosen true = blind p p.blocks p.board _
   chosen false = refl
 
   pub split_leaves : f (after m l r kinds.Split spots.Seat Loads p 0) ≡ f p
-  split_leaves = blind (stepped m l kinds.Split p 0) _ ∙ (ap (λ (o : Option RunState). f (after_by m l kinds.Split p o 0)) none ∙ chosen (nat_lt p.records.splits l.runners))
+  split_leaves = blind (stepped m l kinds.Split p 0) _ _ _ ∙ (ap (λ (o : Option RunState). f (after_by m l kinds.Split p o 0)) none ∙ chosen (nat_lt p.records.splits l.runners))
 
   pub join_leaves : (worker : ℕ) → f (after m l r (kinds.Join worker) spots.Seat Loads p 0) ≡ f p
-  join_leaves worker = blind (stepped m l (kinds.Join worker) p 0) _ ∙ (ap (λ (o : Option RunState). f (after_by m l (kinds.Join worker) p o 0)) none ∙ blind p _)
+  join_leaves worker = blind (stepped m l (kinds.Join worker) p 0) _ _ _ ∙ (ap (λ (o : Option RunState). f (after_by m l (kinds.Join worker) p o 0)) none ∙ blind p p.blocks p.board _)
 
 -- the list of joined workers, after a join and after a split
 lists_joined : (m : Meaning) (l : Layout) (r worker : ℕ) (p : PartState) → p.run ≡ None
@@ -57,6 +58,13 @@ join_finished : (m : Meaning) (l : Layout) (r worker : ℕ) (p : PartState) → 
     → (after m l r (kinds.Join worker) spots.Seat Loads p 0).records.finished ≡ p.records.finished
 join_finished m l r worker p none =
     ap (λ (o : Option RunState). (after_by m l (kinds.Join worker) p o 0).records.finished) none
+
+-- neither changes what is kept of the epoch
+split_stays : (m : Meaning) (l : Layout) (p : PartState) → p.run ≡ None → Stays p (stepped m l kinds.Split p 0)
+split_stays m l p none = subst (λ (o : Option RunState). Stays p (after_by m l kinds.Split p o 0)) (sym none) (stays m l p 0 kinds.Split None)
+
+join_stays : (m : Meaning) (l : Layout) (p : PartState) (worker : ℕ) → p.run ≡ None → Stays p (stepped m l (kinds.Join worker) p 0)
+join_stays m l p worker none = subst (λ (o : Option RunState). Stays p (after_by m l (kinds.Join worker) p o 0)) (sym none) (stays m l p 0 (kinds.Join worker) None)
 
 has_last : (xs : List ℕ) (x : ℕ) → has (xs ++ x ∷ []) x ≡ true
 has_last [] x = ap (λ (b : Bool). b || false) (eq-eqb x x refl)
@@ -93,23 +101,23 @@ module _ {T : Type 0} (m : Meaning) (r r' : RunnerState T) (splits : ℕ) where
   then_idle split is few = record {
     keeper = then_split m r r' splits split is.keeper few;
     at = record {
-      present = of (λ (q : PartState). q.gone) (λ q s. refl) ∙ is.at.present;
-      resting = of (λ (q : PartState). q.run) (λ q s. refl) ∙ is.at.resting;
-      at = of (λ (q : PartState). q.stage) (λ q s. refl) ∙ is.at.at;
-      published = of (λ (q : PartState). q.published) (λ q s. refl) ∙ is.at.published;
-      settled = of (λ (q : PartState). is_between q.reads.look) (λ q s. refl) ∙ is.at.settled;
+      present = of (λ (q : PartState). q.gone) (λ q b c s. refl) ∙ is.at.present;
+      resting = of (λ (q : PartState). q.run) (λ q b c s. refl) ∙ is.at.resting;
+      at = of (λ (q : PartState). q.stage) (λ q b c s. refl) ∙ is.at.at;
+      published = of (λ (q : PartState). q.published) (λ q b c s. refl) ∙ is.at.published;
+      settled = of (λ (q : PartState). is_between q.reads.look) (λ q b c s. refl) ∙ is.at.settled;
       seated = subst (λ (y : RunnerState T). y.number ≤ y.layout.runners) (sym split.made) is.at.seated;
     };
     joined = split_joined m r r' splits 0 split is.keeper is.joined;
     told = λ worker none. absurd (omega (arith, none));
-    nodes = of (λ (q : PartState). q.nodes) (λ q s. refl) ∙ (is.nodes ∙ ap (λ (l : Layout). (keeper_part m l).nodes) (sym (ap (λ (y : RunnerState T). y.layout) split.made)));
-    guards = of (λ (q : PartState). q.guards) (λ q s. refl) ∙ is.guards;
+    nodes = of (λ (q : PartState). q.nodes) (λ q b c s. refl) ∙ (is.nodes ∙ ap (λ (l : Layout). (keeper_part m l).nodes) (sym (ap (λ (y : RunnerState T). y.layout) split.made)));
+    guards = of (λ (q : PartState). q.guards) (λ q b c s. refl) ∙ is.guards;
     finished = ap (λ (y : RunnerState T). y.part.records.finished) split.made
         ∙ (split_finished m r.layout r.number r.part is.at.resting ∙ is.finished);
     unmet = ap (λ (y : RunnerState T). y.part.records.epoch_seen) split.made
-        ∙ (ap (λ (z : ℕ × (Bool × Bool)). z.0) (stays m r.layout r.part 0 kinds.Split r.part.run).kept ∙ is.unmet);
+        ∙ (ap (λ (z : ℕ × (Bool × Bool)). z.0) (split_stays m r.layout r.part is.at.resting).kept ∙ is.unmet);
     apart = ap (λ (y : RunnerState T). y.part.records.crosses) split.made
-        ∙ (ap (λ (z : ℕ × (Bool × Bool)). z.1.1) (stays m r.layout r.part 0 kinds.Split r.part.run).kept ∙ is.apart);
+        ∙ (ap (λ (z : ℕ × (Bool × Bool)). z.1.1) (split_stays m r.layout r.part is.at.resting).kept ∙ is.apart);
   }
     where
       of : {B : Type 0} → (f : PartState → B) → IsBlind f → f r'.part ≡ f r.part
@@ -120,17 +128,17 @@ module _ {T : Type 0} (m : Meaning) (keeper worker r' : RunnerState T) (splits c
   then_gathered is next = record {
     keeper = then_keeper m keeper worker r' splits count joins is.keeper;
     at = record {
-      present = of (λ (q : PartState). q.gone) (λ q s. refl) ∙ is.at.present;
-      resting = of (λ (q : PartState). q.run) (λ q s. refl) ∙ is.at.resting;
-      at = of (λ (q : PartState). q.stage) (λ q s. refl) ∙ is.at.at;
-      published = of (λ (q : PartState). q.published) (λ q s. refl) ∙ is.at.published;
-      settled = of (λ (q : PartState). is_between q.reads.look) (λ q s. refl) ∙ is.at.settled;
+      present = of (λ (q : PartState). q.gone) (λ q b c s. refl) ∙ is.at.present;
+      resting = of (λ (q : PartState). q.run) (λ q b c s. refl) ∙ is.at.resting;
+      at = of (λ (q : PartState). q.stage) (λ q b c s. refl) ∙ is.at.at;
+      published = of (λ (q : PartState). q.published) (λ q b c s. refl) ∙ is.at.published;
+      settled = of (λ (q : PartState). is_between q.reads.look) (λ q b c s. refl) ∙ is.at.settled;
       seated = subst (λ (y : RunnerState T). y.number ≤ y.layout.runners) (sym joins) is.at.seated;
     };
     joined = then_joined m keeper worker r' splits count joins is.keeper is.joined next;
     told = λ k few. told k few;
-    nodes = of (λ (q : PartState). q.nodes) (λ q s. refl) ∙ (is.nodes ∙ ap (λ (l : Layout). (keeper_part m l).nodes) (sym (ap (λ (y : RunnerState T). y.layout) joins)));
-    guards = of (λ (q : PartState). q.guards) (λ q s. refl) ∙ is.guards;
+    nodes = of (λ (q : PartState). q.nodes) (λ q b c s. refl) ∙ (is.nodes ∙ ap (λ (l : Layout). (keeper_part m l).nodes) (sym (ap (λ (y : RunnerState T). y.layout) joins)));
+    guards = of (λ (q : PartState). q.guards) (λ q b c s. refl) ∙ is.guards;
     finished = ap (λ (y : RunnerState T). y.part.records.finished) joins
         ∙ (join_finished m keeper.layout keeper.number worker.number keeper.part is.at.resting ∙ is.finished);
     unmet = ap (λ (y : RunnerState T). y.part.records.epoch_seen) joins ∙ seen;
@@ -139,11 +147,11 @@ module _ {T : Type 0} (m : Meaning) (keeper worker r' : RunnerState T) (splits c
   }
     where
       of : {B : Type 0} → (f : PartState → B) → IsBlind f → f r'.part ≡ f keeper.part
-      of f blind = ap (λ (y : RunnerState T). f y.part) joins ∙ (blind (after m keeper.layout keeper.number (kinds.Join worker.number) spots.Seat Loads keeper.part 0) _
+      of f blind = ap (λ (y : RunnerState T). f y.part) joins ∙ (blind (after m keeper.layout keeper.number (kinds.Join worker.number) spots.Seat Loads keeper.part 0) _ _ _
           ∙ join_leaves f blind m keeper.layout keeper.number keeper.part is.at.resting worker.number)
 
       marked : Stays keeper.part (stepped m keeper.layout (kinds.Join worker.number) keeper.part 0)
-      marked = stays m keeper.layout keeper.part 0 (kinds.Join worker.number) keeper.part.run
+      marked = join_stays m keeper.layout keeper.part worker.number is.at.resting
 
       seen : (stepped m keeper.layout (kinds.Join worker.number) keeper.part 0).records.epoch_seen ≡ 0
       seen = ap (λ (z : ℕ × (Bool × Bool)). z.0) marked.kept ∙ is.unmet

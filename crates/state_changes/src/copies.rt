@@ -1,7 +1,9 @@
 //! Copies of a runner's part.
 ghost use Rattle.std.specs.Prelude.{◌≡◌, IfOk};
 
-use runner_steps::runner_parts::{Descriptors, Finished, Guards, Nodes, Part, Reads, Records, Run};
+use runner_steps::runner_parts::{
+    Blocks, Descriptors, Finished, Guards, Nodes, Part, Reads, Records, Run,
+};
 use std::alloc::{AllocError, Global};
 
 fn run_copy(alloc: Global, run: &Run) -> Result<Run, AllocError>
@@ -16,6 +18,10 @@ fn run_copy(alloc: Global, run: &Run) -> Result<Run, AllocError>
         made: run.made,
         worn: run.worn,
         ended: run.ended,
+        links: Vec::from_slice(alloc, &run.links)?,
+        block: run.block,
+        emptied: run.emptied,
+        won: Vec::from_slice(alloc, &run.won)?,
     })
 }
 
@@ -47,6 +53,16 @@ fn descriptors_copy(alloc: Global, descriptors: &Descriptors) -> Result<Descript
         free: Vec::from_slice(alloc, &descriptors.free)?,
         stored: Vec::from_slice(alloc, &descriptors.stored)?,
         limbo: Vec::from_slice(alloc, &descriptors.limbo)?,
+    })
+}
+
+/// A copy of the lists of blocks.
+pub fn blocks_copy(alloc: Global, blocks: &Blocks) -> Result<Blocks, AllocError>
+    ensures { IfOk result (λ x. x ≡ blocks.now) }
+{
+    Ok(Blocks {
+        free: Vec::from_slice(alloc, &blocks.free)?,
+        limbo: Vec::from_slice(alloc, &blocks.limbo)?,
     })
 }
 
@@ -108,6 +124,7 @@ fn records_copy(alloc: Global, records: &Records) -> Result<Records, AllocError>
         splits: records.splits,
         joined: Vec::from_slice(alloc, &records.joined)?,
         only_loads: records.only_loads,
+        gave_above: records.gave_above,
     })
 }
 
@@ -121,8 +138,10 @@ pub fn part_copy(alloc: Global, part: &Part) -> Result<Part, AllocError>
         published: part.published,
         nodes: nodes_copy(alloc, &part.nodes)?,
         descriptors: descriptors_copy(alloc, &part.descriptors)?,
+        blocks: blocks_copy(alloc, &part.blocks)?,
         guards: guards_copy(alloc, &part.guards)?,
         reads: reads_copy(alloc, &part.reads)?,
+        board: Vec::from_slice(alloc, &part.board)?,
         records: records_copy(alloc, &part.records)?,
         gone: part.gone,
     })

@@ -6,11 +6,12 @@ ghost use Rattle.runner_steps.specs.AfterInRun.{with_run};
 ghost use Rattle.runner_steps.specs.After.{line_after, stepped, counted, epoch_after, own_epoch, is_busy, is_moved, is_late_join, left_more, noted, after};
 ghost use Rattle.runner_steps.specs.Reads.{only_loads_after};
 
+use crate::blocks::{blocks_after, board_after};
 use crate::inside::{place_of, reply_word_of, retired_slot_of};
 use crate::line::{
-    cell_exchanged, cell_loaded, clock_raised, done_set, fill_loaded, fill_stored, lock_released,
-    make_committed, number_loaded, opened_more, reply_agreed, retire_committed, stamp_agreed,
-    word_committed,
+    cell_exchanged, cell_loaded, clock_raised, done_set, fill_loaded, link_committed,
+    lock_released, make_committed, number_loaded, opened_more, private_stored, reply_agreed,
+    retire_committed, stamp_agreed, word_committed,
 };
 use crate::outside::outside_after;
 use runner_asks::{is_open_run, next_of};
@@ -52,10 +53,11 @@ fn line_after<S: Structure>(
             return fill_loaded(part, alloc, run, structure, layout, *slot, found);
         }
         EventKind::PrivateStore {
-            slot: _,
+            slot,
             word: _,
             number,
-        } => fill_stored(part, run, structure, layout, *number),
+        } => private_stored(part, run, structure, layout, *slot, *number, micro),
+        EventKind::LinkCommit(block) => return link_committed(part, run, *block, found),
         EventKind::MakeCommit => {
             return make_committed(part, alloc, run, structure, layout, found);
         }
@@ -234,6 +236,8 @@ pub fn after<S: Structure>(
     ensures { OnOk result (part.new ≡ after (S.meaning structure.now) layout runner kind.now spot access part.old
         found) }
 {
+    let blocks = blocks_after(alloc, part, structure, layout, kind, found)?;
+    let board = board_after(alloc, &part.board, kind, found)?;
     stepped(part, alloc, structure, layout, kind, found)?;
     note(
         &mut part.records,
@@ -244,5 +248,8 @@ pub fn after<S: Structure>(
         spot,
         access,
         found,
-    )
+    )?;
+    part.blocks = blocks;
+    part.board = board;
+    Ok(())
 }

@@ -2,7 +2,7 @@
 ghost use Rattle.std.specs.Prelude.{◌≡◌, ◌≤◌, ◌<◌, ◌^◌, length, OnOk, IfOk};
 ghost use Rattle.runner_steps.specs.table_words.specs.Limits.{IsWithinLimits};
 ghost use Rattle.runner_steps.specs.Sections.{settles, outcome_of, next_of};
-ghost use Rattle.runner_steps.specs.AfterInRun.{goes_on, agrees, opened_more, cell_loaded, cell_exchanged, number_loaded, word_committed, fill_loaded, fill_stored, make_committed, retire_committed, stamp_agreed, clock_raised, reply_agreed, done_set, finished_of, run_over, released_more, lock_released, place_of, retired_slot_of, reply_word_of, ended_more};
+ghost use Rattle.runner_steps.specs.AfterInRun.{goes_on, agrees, opened_more, cell_loaded, cell_exchanged, number_loaded, word_committed, fill_loaded, make_committed, retire_committed, stamp_agreed, clock_raised, reply_agreed, done_set, finished_of, run_over, released_more, lock_released, place_of, retired_slot_of, reply_word_of, ended_more};
 ghost use Rattle.runner_steps.specs.After.{line_after, inside_after};
 ghost use Rattle.runner_steps.specs.runner_parts.specs.State.{PartState};
 

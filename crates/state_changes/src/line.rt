@@ -2,15 +2,15 @@
 ghost use Rattle.std.specs.Prelude.{◌≡◌, ◌<◌, ◌+◌, ◌^◌, length, OnOk};
 ghost use Rattle.runner_steps.specs.table_words.specs.Limits.{IsWithinLimits};
 ghost use Rattle.state_changes.specs.Parts.{slot_decided, section_over};
-ghost use Rattle.runner_steps.specs.AfterInRun.{with_run, opened_more, cell_loaded, cell_exchanged, number_loaded, word_committed, fill_loaded, fill_stored, make_committed, retire_committed, stamp_agreed, clock_raised, reply_agreed, done_set, run_over, released_more, lock_released};
+ghost use Rattle.runner_steps.specs.AfterInRun.{with_run, opened_more, cell_loaded, cell_exchanged, number_loaded, word_committed, fill_loaded, filled, block_emptied, private_stored, link_committed, make_committed, retire_committed, stamp_agreed, clock_raised, reply_agreed, done_set, run_over, released_more, lock_released};
 
 use crate::inside::{agrees, finished_of, goes_on};
-use runner_asks::{LAST_CLOCK, is_end, next_of, thunk_of};
-use runner_steps::agreed_on;
-use runner_steps::body_terms::{Place, Word};
+use runner_asks::{LAST_CLOCK, is_end, needs_link, next_of, thunk_of};
+use runner_steps::body_terms::{Micro, Place, Word};
 use runner_steps::runner_parts::structure_laws::Structure;
 use runner_steps::runner_parts::{Part, Run};
-use runner_steps::table_words::Layout;
+use runner_steps::table_words::{BLOCK_WORDS, Layout};
+use runner_steps::{agreed_on, blocks_from};
 use std::alloc::{AllocError, Global};
 
 /// The opening: one more word.
@@ -127,22 +127,73 @@ pub fn fill_loaded<S: Structure>(
     Ok(())
 }
 
-pub fn fill_stored<S: Structure>(
+/// A word of a Make's slot was stored.
+fn filled<S: Structure>(run: &mut Run, structure: &S, layout: Layout, number: u64)
+    requires limits { IsWithinLimits layout }
+    requires opened { length run.old.opened ≡ 13 }
+    requires at { run.old.at < 440 }
+    ensures { run.new ≡ filled (S.meaning structure.now) layout number run.old }
+{
+    run.worn = run.worn || Word::from_bits(number).version() == layout.version_max;
+    let word = run.word;
+    goes_on(run, structure, layout, word);
+}
+
+/// One more word of the block is 0, which is in the hand from the first one on.
+fn block_emptied(run: &mut Run, block: u32)
+    ensures { run.new ≡ block_emptied block run.old }
+{
+    run.block = Some(block);
+    if (run.emptied as usize) < BLOCK_WORDS {
+        run.emptied += 1;
+    }
+}
+
+/// A private store: into a block where the run is to link one, and otherwise that of a Make.
+pub fn private_stored<S: Structure>(
     part: &mut Part,
     mut run: Run,
     structure: &S,
     layout: Layout,
+    slot: u32,
     number: u64,
+    micro: &Micro,
 )
     requires limits { IsWithinLimits layout }
     requires opened { length run.opened ≡ 13 }
     requires at { run.at < 440 }
-    ensures { part.new ≡ fill_stored (S.meaning structure.now) layout number part.old run }
+    ensures { part.new ≡ private_stored (S.meaning structure.now) layout slot number part.old run micro.now }
 {
-    run.worn = run.worn || Word::from_bits(number).version() == layout.version_max;
-    let word = run.word;
-    goes_on(&mut run, structure, layout, word);
+    if needs_link(&run, micro) {
+        block_emptied(
+            &mut run,
+            slot.saturating_sub(blocks_from(structure, layout)),
+        );
+    } else {
+        filled(&mut run, structure, layout, number);
+    }
     part.run = Some(run);
+}
+
+/// The block is agreed on that stood in the link, or else the own one.
+pub fn link_committed(
+    part: &mut Part,
+    mut run: Run,
+    block: u32,
+    found: u64,
+) -> Result<(), AllocError>
+    ensures { OnOk result (part.new ≡ link_committed block part.old run found) }
+{
+    let link = agreed_on(found, block as u64 + 1);
+    run.links
+        .push(Word::from_bits(link.saturating_sub(1)).value())?;
+    if found == 0 {
+        run.won.push(block)?;
+    }
+    run.block = None;
+    run.emptied = 0;
+    part.run = Some(run);
+    Ok(())
 }
 
 /// Where this exchange won, the slot is live; otherwise it comes back.

@@ -4,16 +4,17 @@ ghost use Rattle.runner_steps.specs.table_words.specs.Limits.{IsWithinLimits};
 ghost use Rattle.runner_steps.specs.AfterOutside.{with_stage, entered, collected, scanned, scan_one_after, advance_after, split_after, read_after, entry_after, private_load_after, private_store_after, published_by, hold_after, open_after};
 ghost use Rattle.runner_steps.specs.runner_parts.specs.Lists.{no_reads};
 ghost use Rattle.runner_steps.specs.Reads.{read_plan_after, read_clock_after, read_reply_after, read_stamped_after};
+ghost use Rattle.runner_steps.specs.Board.{board_take_after, board_give_after};
 ghost use Rattle.runner_steps.specs.Guards.{guard_after, load_guard_after};
 ghost use Rattle.runner_steps.specs.After.{joins, outside_after};
 
 use runner_asks::{LAST_CLOCK, reply_in};
-use runner_steps::body_terms::{Place, Thunk};
+use runner_steps::body_terms::{Place, Thunk, Word};
 use runner_steps::runner_parts::epoch_core::{LAST_EPOCH, Stage};
 use runner_steps::runner_parts::structure_laws::Structure;
 use runner_steps::runner_parts::{EventKind, Look, LookStage, Part, Published, Reads, Run};
 use runner_steps::table_words::Layout;
-use runner_steps::{agreed_on, slot_count};
+use runner_steps::{agreed_on, blocks_from, slot_count};
 use std::alloc::{AllocError, Global};
 
 /// Nothing has been read yet.
@@ -142,9 +143,12 @@ fn looked<S: Structure>(
     if slot < slots {
         part.nodes.looked(alloc, layout, slot, word, found)
     } else {
-        part.descriptors.store(slot - slots, word, found)
+        stored(part, structure, layout, slot, word, found)
     }
 }
+
+/// This number was stored into this word of an own free descriptor, or found there; of an own free block nothing is
+/// kept.
 
 fn stored<S: Structure>(
     part: &mut Part,
@@ -157,8 +161,12 @@ fn stored<S: Structure>(
     requires { IsWithinLimits layout }
     ensures { OnOk result (part.new ≡ private_store_after (S.meaning structure.now) layout slot word number part.old) }
 {
-    let descriptor = slot.saturating_sub(slot_count(structure, layout));
-    part.descriptors.store(descriptor, word, number)
+    if slot < blocks_from(structure, layout) {
+        let descriptor = slot.saturating_sub(slot_count(structure, layout));
+        part.descriptors.store(descriptor, word, number)
+    } else {
+        Ok(())
+    }
 }
 
 /// Where the lock was free, the section is published; otherwise the descriptor stays free.
@@ -199,6 +207,10 @@ fn opened(part: &mut Part, alloc: Global, descriptor: u32, found: u64) -> Result
         made: None,
         worn: false,
         ended: 0,
+        links: Vec::new(alloc),
+        block: None,
+        emptied: 0,
+        won: Vec::new(alloc),
     });
     Ok(())
 }
@@ -294,6 +306,36 @@ fn guard_looked(
     Ok(())
 }
 
+/// Where the exchange won, the slot that the link names is in the own free list.
+fn drawn(part: &mut Part, link: u64, found: u64) -> Result<(), AllocError>
+    ensures { OnOk result (part.new ≡ board_take_after link part.old found) }
+{
+    if found == link {
+        part.nodes
+            .draw(Word::from_bits(link.saturating_sub(1)).value())
+    } else {
+        Ok(())
+    }
+}
+
+/// Where the exchange won, the slot has left the own free list.
+fn given(
+    part: &mut Part,
+    alloc: Global,
+    layout: Layout,
+    slot: u32,
+    found: u64,
+) -> Result<(), AllocError>
+    ensures { OnOk result (part.new ≡ board_give_after layout slot part.old found) }
+{
+    if found == 0 {
+        part.nodes.give(alloc, slot)?;
+        let above = layout.nodes as usize <= part.nodes.free.len();
+        part.records.gave_above = part.records.gave_above && above;
+    }
+    Ok(())
+}
+
 /// The part after an event outside a run, which found this word.
 pub fn outside_after<S: Structure>(
     part: &mut Part,
@@ -350,6 +392,8 @@ pub fn outside_after<S: Structure>(
         EventKind::ReadStamp => return stamped(part, found),
         EventKind::Guard(descriptor) => guarded(part, *descriptor),
         EventKind::LoadGuard(_) => return guard_looked(part, alloc, layout, found),
+        EventKind::BoardTake(_, link) => return drawn(part, *link, found),
+        EventKind::BoardGive(_, slot) => return given(part, alloc, layout, *slot, found),
         _ => {}
     }
     Ok(())

@@ -18,9 +18,17 @@ descriptor_count layout = layout.sections * layout.runners + layout.runners
 abbrev pub part_words : ℕ
 part_words = 64
 
--- the number of all blocks. As long as no body agrees on more words than one part has, none is needed
+-- how many blocks a worker has, and the keeper. As long as no body agrees on more words than one part has, none is
+-- needed; with parts of seven words they are `8 * sections + 8` and `8 * runners`
+abbrev pub worker_blocks : Layout → ℕ
+worker_blocks layout = 0
+
+abbrev pub keeper_blocks : Layout → ℕ
+keeper_blocks layout = 0
+
+-- the number of all blocks
 abbrev pub block_count : Layout → ℕ
-block_count layout = 0
+block_count layout = worker_blocks layout * layout.runners + keeper_blocks layout
 
 abbrev pub sizes_of : Layout → ℕ → ℕ → ℕ → Sizes
 sizes_of layout requests fixed_cells fixed_slots = record {

@@ -1,8 +1,8 @@
 //! The walk leads a plan.
 ghost use Rattle.std.specs.Prelude.{◌≡◌, true};
 ghost use Rattle.runner_parts.specs.structure_laws.specs.map_history.specs.declared.op.Op.{Op};
-ghost use Rattle.runner_parts.specs.structure_laws.specs.table_words.specs.declared.layout.Layout.{Layout};
-ghost use Rattle.runner_parts.specs.structure_laws.specs.table_words.specs.Limits.{IsWithinLimits};
+ghost use Rattle.runner_parts.specs.block_words.specs.table_words.specs.declared.layout.Layout.{Layout};
+ghost use Rattle.runner_parts.specs.block_words.specs.table_words.specs.Limits.{IsWithinLimits};
 ghost use Rattle.runner_parts.specs.structure_laws.specs.Sections.{IsAllowed};
 ghost use Rattle.tree_laws.specs.bucket_laws.specs.Walk.{has_one_key};
 ghost use Rattle.tree_walks.specs.Leading.{WalkLeads, FarLaw};

@@ -5,6 +5,7 @@ use Rattle.std.proofs.lemmas.Bool.{cases_lt}
 use Rattle.std.proofs.lemmas.Bool.Decides.{nat_tests}
 use Rattle.std.proofs.lemmas.List.{get_or_append_left}
 use Rattle.std.proofs.Math.Seq.{get_or-append_seam, get_or-append_right}
+use Rattle.machine_states.specs.epoch_core.specs.small_lemmas.proofs.Numbers.{less_tested}
 use Rattle.machine_states.specs.body_terms.specs.declared.thunk.Thunk.{Thunk}
 use Rattle.machine_states.specs.table_words.specs.Places.{slot_count, descriptor_count}
 use Rattle.machine_states.specs.structure_laws.specs.Meaning.{Meaning}
@@ -15,6 +16,8 @@ use Rattle.machine_states.specs.epoch_core.specs.declared.stage.Stage.TheVariant
 use Rattle.machine_states.specs.runner_parts.specs.State.{PartState, GuardsState, DescriptorsState}
 use Rattle.machine_states.specs.runner_parts.specs.Tests.{has, is_some_of, last_stored, are_stored, is_prepared, thunk_words}
 use Rattle.machine_states.specs.runner_parts.specs.Lists.{descriptor_stored, nodes_looked}
+use Rattle.machine_states.specs.runner_steps.specs.Outside.{blocks_from}
+use Rattle.machine_states.specs.runner_steps.specs.AfterOutside.{stored_if, descriptor_known}
 use Rattle.machine_states.specs.runner_steps.specs.After.{outside_after}
 use Rattle.section_runs.specs.commit_log.specs.version_words.specs.RunnerState.{RunnerState}
 use Rattle.section_runs.specs.commit_log.specs.version_words.specs.Events.{IsEnabled, Makes}
@@ -94,21 +97,27 @@ module _ {T : Type 0} where
     own_word : slots + d - slots ≡ d
     own_word = omega arith
 
+    -- a descriptor of the table stands before the blocks
+    before_blocks : d < descriptor_count r.layout → nat_lt (slots + d) (blocks_from m r.layout) ≡ true
+    before_blocks low = less_tested (slots + d) (blocks_from m r.layout) (omega (arith, low))
+
     -- the word was loaded
-    noted_loaded : (found : ℕ) (r' : RunnerState T) → Makes m (kinds.PrivateLoad (slots + d) word) found r r' → r.part.run ≡ None → IsNoted d word found r r'
-    noted_loaded found r' made resting =
+    noted_loaded : (found : ℕ) (r' : RunnerState T) → d < descriptor_count r.layout → Makes m (kinds.PrivateLoad (slots + d) word) found r r' → r.part.run ≡ None → IsNoted d word found r r'
+    noted_loaded found r' low made resting =
         let past : nat_lt (slots + d) slots ≡ false = grind (arith, nat_tests) in
         noted_by (kinds.PrivateLoad (slots + d) word) found found r' made resting
         (ap (λ (b : Bool). if b then record (r.part) { nodes = nodes_looked r.layout r.part.nodes (slots + d) word found }
-        else record (r.part) { descriptors = descriptor_stored r.part.descriptors (slots + d - slots) word found }) past
-        ∙ ap (λ (n : ℕ). record (r.part) { descriptors = descriptor_stored r.part.descriptors n word found }) own_word)
+        else descriptor_known m r.layout (slots + d) word r.part found) past
+        ∙ (ap (λ (b : Bool). record (r.part) { descriptors = stored_if b r.part.descriptors (slots + d - slots) word found }) (before_blocks low)
+        ∙ ap (λ (n : ℕ). record (r.part) { descriptors = descriptor_stored r.part.descriptors n word found }) own_word))
         (λ epoch at. then_loaded_word m found r r' (stages.Entered epoch) None (slots + d) word at made)
 
     -- the word was stored
-    noted_stored : (found n : ℕ) (r' : RunnerState T) → Makes m (kinds.PrivateStore (slots + d) word n) found r r' → r.part.run ≡ None → IsNoted d word n r r'
-    noted_stored found n r' made resting =
+    noted_stored : (found n : ℕ) (r' : RunnerState T) → d < descriptor_count r.layout → Makes m (kinds.PrivateStore (slots + d) word n) found r r' → r.part.run ≡ None → IsNoted d word n r r'
+    noted_stored found n r' low made resting =
         noted_by (kinds.PrivateStore (slots + d) word n) found n r' made resting
-        (ap (λ (i : ℕ). record (r.part) { descriptors = descriptor_stored r.part.descriptors i word n }) own_word)
+        (ap (λ (b : Bool). record (r.part) { descriptors = stored_if b r.part.descriptors (slots + d - slots) word n }) (before_blocks low)
+        ∙ ap (λ (i : ℕ). record (r.part) { descriptors = descriptor_stored r.part.descriptors i word n }) own_word)
         (λ epoch at. then_stored_word m found r r' (stages.Entered epoch) None (slots + d) word at n made)
 
   noted_on : (d word n n' : ℕ) (a b c : RunnerState T) → IsNoted d word n a b → IsNoted d word n' b c → IsNoted d word n' a c
@@ -137,7 +146,7 @@ module _ {T : Type 0} where
     -- the word may be stored once it was loaded
     pub may_store : (found : ℕ) (s : RunnerState T) (n : ℕ) → Makes m (kinds.PrivateLoad slot word) found r s → IsEnabled m (kinds.PrivateStore slot word n) s
     may_store found s n made =
-        let noted = noted_loaded m d word r found s made may.at.resting in
+        let noted = noted_loaded m d word r found s may.free.few made may.at.resting in
         let next = may_set d r s noted.keeps noted.at may in
         subst (λ l. IsEnabled m (kinds.PrivateStore (slot_count l m.fixed_slots + d) word n) s) noted.keeps.layout
         (may_store_word m s (stages.Entered next.epoch) None d word refl next.at next.free few n)
@@ -145,11 +154,11 @@ module _ {T : Type 0} where
     noted_by_test : (found n : ℕ) (s r' : RunnerState T) (b : Bool) → found == n ≡ b → Makes m (kinds.PrivateLoad slot word) found r s → Stores m b slot word n s r' → IsNoted d word n r r'
     noted_by_test found n s r' true e load same =
         let is : found ≡ n = grind (arith, nat_tests, e) in
-        subst (λ (y : RunnerState T). IsNoted d word n r y) (sym same) (subst (λ k. IsNoted d word k r s) is (noted_loaded m d word r found s load may.at.resting))
+        subst (λ (y : RunnerState T). IsNoted d word n r y) (sym same) (subst (λ k. IsNoted d word k r s) is (noted_loaded m d word r found s may.free.few load may.at.resting))
     noted_by_test found n s r' false e load made =
-        let noted = noted_loaded m d word r found s load may.at.resting in
+        let noted = noted_loaded m d word r found s may.free.few load may.at.resting in
         let event = subst (λ l. Makes m (kinds.PrivateStore (slot_count l m.fixed_slots + d) word n) made.found s r') (sym noted.keeps.layout) made.event in
-        noted_on d word found n r s r' noted (noted_stored m d word s made.found n r' event (noted.at may.epoch may.at).resting)
+        noted_on d word found n r s r' noted (noted_stored m d word s made.found n r' (subst (λ l. d < descriptor_count l) (sym noted.keeps.layout) may.free.few) event (noted.at may.epoch may.at).resting)
 
     -- once the word was set it's known
     noted_set : (n : ℕ) (r' : RunnerState T) → SetsWord m slot word n r r' → IsNoted d word n r r'

@@ -20,11 +20,12 @@ use Rattle.machine_states.specs.runner_steps.specs.Sections.{is_open_run, next_o
 use Rattle.machine_states.specs.runner_steps.specs.Outside.{Ask, when, enter_load_ask, announce_ask, enter_again_by, scan_one_ask}
 use Rattle.machine_states.specs.runner_steps.specs.Guards.{is_numbered, load_guard_by}
 use Rattle.machine_states.specs.guard_core.specs.State.{word_of}
-use Rattle.machine_states.specs.runner_steps.specs.Asks.{fitting, sizes_for, asks, ask_by, outside_ask, line_ask, opening_ask}
+use Rattle.machine_states.specs.runner_steps.specs.Asks.{fitting, sizes_for, asks, opening_ask}
 use Rattle.std.proofs.lemmas.Bool.Decides.{nat_tests}
 use Rattle.std.proofs.lemmas.Option.{none-some}
 use Rattle.std.proofs.lemmas.Bool.{false≢true}
 use Rattle.runner_block.specs.Scans.{scan_of}
+use Rattle.machine_states.proofs.Blockless.{ask_by, outside_ask, line_ask, unblocked}
 use Rattle.version_words.specs.RunnerState.{RunnerState}
 use Rattle.version_words.specs.Events.{met_by, IsEnabled}
 use Rattle.machine_states.proofs.Steps.{some_same}
@@ -99,7 +100,7 @@ module _ (m : Meaning) (l : Layout) where
 
   -- such an event is enabled in no run alone
   pub outer : (rs : List Request) (r : ℕ) (k : EventKind) (p : PartState) (x : Spot × Access) → is_outer k ≡ true → asks m l rs r k p ≡ Some x → (p.run ≡ None) × (outside_ask m l rs r k p ≡ Some x)
-  outer rs r k p x e h = by_run rs r k p p.run x e (unless_gone (sizes_for m l rs) p.gone (ask_by m l rs r k p p.run) x h)
+  outer rs r k p x e h = by_run rs r k p p.run x e (unless_gone (sizes_for m l rs) p.gone (ask_by m l rs r k p p.run) x (unblocked m l rs r k p x h))
 
 -- where the test holds
 pub tested : (b : Bool) (spot : Spot) (access : Access) (x : Spot × Access) → when b spot access ≡ Some x → (b ≡ true) × ((spot, access) ≡ x)

@@ -44,5 +44,5 @@ entry_event m t r own request reply spot is found r' = subst (λ (k : EventKind)
 -- the code keeps nothing of what a request's word told
 pub told_entry : (p : PartState) (request : ℕ) (reply : Bool) (found : ℕ) → told_part (entry_after request reply p found) ≡ told_part p
 told_entry p request reply found =
-    ap (λ (z : ℕ). record (told_part p) { records = record { known = []; finished = []; events = 0; won = 0; epoch_seen = 0; crossed = false; crosses = false; left = []; splits = z; joined = []; only_loads = false } })
+    ap (λ (z : ℕ). record (told_part p) { records = record { known = []; finished = []; events = 0; won = 0; epoch_seen = 0; crossed = false; crosses = false; left = []; splits = z; joined = []; only_loads = false; gave_above = true } })
     (learns p.records request reply found)

@@ -15,10 +15,10 @@ use Rattle.machine_states.specs.runner_parts.specs.declared.event.EventKind.{Eve
 use Rattle.machine_states.specs.runner_parts.specs.declared.event.EventKind.TheVariants as kinds
 use Rattle.machine_states.specs.runner_parts.specs.State.{RunState, PartState}
 use Rattle.machine_states.specs.runner_steps.specs.Sections.{is_open_run, next_of, thunk_of, line_of, setting_of}
-use Rattle.machine_states.specs.runner_steps.specs.Asks.{line_ask}
 use Rattle.machine_states.specs.runner_steps.specs.AfterInRun.{ended_more}
-use Rattle.machine_invariant.specs.machine_agreement.specs.machine_epochs.proofs.RunPlaces.{no_retire_next, open_run}
+use Rattle.machine_invariant.specs.machine_blocks.specs.machine_guards.specs.machine_agreement.specs.machine_epochs.proofs.RunPlaces.{no_retire_next, open_run}
 use Rattle.machine_states.proofs.Steps.{some_same}
+use Rattle.machine_states.proofs.Blockless.{line_ask}
 use Rattle.version_words.specs.Place.{HasEpoch}
 
 -- the load of the epoch for a retirement

@@ -11,6 +11,7 @@ use Rattle.machine_states.specs.runner_steps.specs.After.{after_by, noted}
 use Rattle.version_words.specs.RunnerState.{RunnerState}
 use Rattle.version_words.specs.TableState.{TableState}
 use Rattle.version_words.specs.Naming.{guarded_by}
+use Rattle.machine_states.specs.runner_steps.specs.Blocks.{blocks_after}
 use Rattle.version_words.specs.Events.{met_by, IsEnabled, IsNamed, IsBlind, Makes, step_at, nothing}
 use Rattle.version_words.proofs.Asked.{IsNextGuard, in_no_run, asks_guard, asks_load_guard}
 
@@ -33,7 +34,7 @@ module _ {T : Type 0} (m : Meaning) (r : RunnerState T) (d : Option ℕ) (enable
   -- the part after it, whatever the word held before
   abbrev part_by : ℕ → Option RunState → ℕ → PartState
   part_by own o found = let p' = after_by m r.layout (kinds.Guard (guarded_by number)) r.part o found in
-      record p' { records = noted r.layout r.number (kinds.Guard (guarded_by number)) (spots.Guard own) (Stores number) found p'.records }
+      record p' { blocks = blocks_after m r.layout (kinds.Guard (guarded_by number)) r.part o found; board = r.part.board; records = noted r.layout r.number (kinds.Guard (guarded_by number)) (spots.Guard own) (Stores number) found p'.records }
 
   same_by : (own : ℕ) (o : Option RunState) → o ≡ None → (found other : ℕ) → part_by own o found ≡ part_by own o other
   same_by own o none found other = ap (λ (o : Option RunState). part_by own o found) none ∙ sym (ap (λ (o : Option RunState). part_by own o other) none)

@@ -33,10 +33,11 @@ use Rattle.machine_states.specs.runner_steps.specs.Sections.{line_limit, is_open
 use Rattle.machine_states.specs.runner_parts.specs.declared.entries.Published.{Published}
 use Rattle.machine_states.specs.runner_parts.specs.Tests.{has}
 use Rattle.machine_states.specs.runner_steps.specs.InRun.{stamp_after, last_clock, can_raise, can_hold, nested_hold_ask, release_ask}
-use Rattle.machine_states.specs.runner_steps.specs.Asks.{asks, sizes_for, ask_by, outside_ask, line_ask, opening_ask}
+use Rattle.machine_states.specs.runner_steps.specs.Asks.{asks, sizes_for, opening_ask}
 use Rattle.machine_states.specs.runner_steps.specs.AfterInRun.{opened_more, kept_unless, retired_if, goes_on, agrees, with_run, ended_more, run_over, place_of, reply_word_of}
 use Rattle.machine_states.specs.runner_parts.specs.Lists.{cell_read, learned, descriptor_retired}
 use Rattle.machine_states.specs.runner_steps.specs.After.{line_after, after_by, stepped}
+use Rattle.machine_states.proofs.Blockless.{ask_by, outside_ask, line_ask, unblocked}
 use Rattle.version_words.specs.declared.view.View.{View}
 use Rattle.runner_block.specs.declared.place.RunPlace.{RunPlace}
 use Rattle.runner_block.specs.declared.block.Block.{Block}
@@ -158,7 +159,7 @@ by_run m l rs r k p None x e h = absurd (none-some x (sym (not_outside m l rs r 
 by_run m l rs r k p (Some q) x e h = (q, refl, open_by m l k p.nodes.free q x (is_open_run q) (no_opening k q e) h)
 
 pub opened_run : (m : Meaning) (l : Layout) (rs : List Request) (r : ℕ) (k : EventKind) (p : PartState) (x : Spot × Access) → is_inner k ≡ true → asks m l rs r k p ≡ Some x → HasOpenRun p
-opened_run m l rs r k p x e h = let b = by_run m l rs r k p p.run x e (unless_gone (sizes_for m l rs) p.gone (ask_by m l rs r k p p.run) x h) in record { run = b.0; there = b.1; ready = b.2 }
+opened_run m l rs r k p x e h = let b = by_run m l rs r k p p.run x e (unless_gone (sizes_for m l rs) p.gone (ask_by m l rs r k p p.run) x (unblocked m l rs r k p x h)) in record { run = b.0; there = b.1; ready = b.2 }
 
 pub step_is : (m : Meaning) (l : Layout) (k : EventKind) (p : PartState) (found : ℕ) (h : HasOpenRun p) → stepped m l k p found ≡ line_after m l k p h.run (next_of m h.run) found
 step_is m l k p found h = ap (λ (o : Option RunState). after_by m l k p o found) h.there ∙ ap (λ (b : Bool). if b then line_after m l k p h.run (next_of m h.run) found else opened_more p h.run found) h.ready
@@ -170,7 +171,7 @@ told_same false p q r e e' = e'
 
 module _ (m : Meaning) (l : Layout) (p : PartState) (q : RunState) (micro : Micro) (found : ℕ) where
   knows_more : (request : ℕ) (reply : Bool) (number : ℕ) → told_part (record p { records = learned p.records request reply number }) ≡ told_part p
-  knows_more request reply number = ap (λ (n : ℕ). record (told_part p) { records = record { known = []; finished = []; events = 0; won = 0; epoch_seen = 0; crossed = false; crosses = false; left = []; splits = n; joined = []; only_loads = false } }) (learns p.records request reply number)
+  knows_more request reply number = ap (λ (n : ℕ). record (told_part p) { records = record { known = []; finished = []; events = 0; won = 0; epoch_seen = 0; crossed = false; crosses = false; left = []; splits = n; joined = []; only_loads = false; gave_above = true } }) (learns p.records request reply number)
 
   -- a quiet step leaves the lists
   quiet_lists : (k : EventKind) → is_inner k ≡ true → is_release k ≡ false → told_part (line_after m l k p q micro found) ≡ told_part p
@@ -539,7 +540,7 @@ asked_by m l rs r k p o q x e there h = line_by m l k p.nodes.free q x (is_open_
 -- what the step of a run asks that comes next
 pub line_asked : {T : Type 0} (m : Meaning) (r : RunnerState T) (k : EventKind) (q : RunState) (x : Spot × Access) → is_inner k ≡ true → r.part.run ≡ Some q → met_by m r k ≡ Some x
     → line_ask m r.layout k r.part.nodes.free q (next_of m q) ≡ Some x
-line_asked m r k q x e there h = asked_by m r.layout r.requests r.number k r.part r.part.run q x e there (unless_gone (sizes_for m r.layout r.requests) r.part.gone (ask_by m r.layout r.requests r.number k r.part r.part.run) x h)
+line_asked m r k q x e there h = asked_by m r.layout r.requests r.number k r.part r.part.run q x e there (unless_gone (sizes_for m r.layout r.requests) r.part.gone (ask_by m r.layout r.requests r.number k r.part r.part.run) x (unblocked m r.layout r.requests r.number k r.part x h))
 
 module _ {T : Type 0} (mean : T → Meaning) (s : T) (k : EventKind) (found number : ℕ) (kept : Block) (old_table new_table : TableId) (me me' : Me Thunk (View T)) (live : me.0.structure ≡ Some s)
     (made : Makes (mean s) k found (seen_seat old_table me) (seen_seat new_table me')) (slots : me'.1 ≡ me.1) (was : IsKept mean number kept me) (inner : is_inner k ≡ true) where

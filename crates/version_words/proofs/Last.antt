@@ -22,8 +22,8 @@ use Rattle.machine_states.specs.runner_parts.specs.State.{RunState, PartState}
 use Rattle.machine_states.specs.runner_steps.specs.Sections.{thunk_of, line_of, next_of}
 use Rattle.machine_states.specs.runner_steps.specs.AfterInRun.{ended_more, place_of}
 use Rattle.machine_states.specs.Sight.{Sight, sight, part_or_first}
-use Rattle.machine_invariant.specs.machine_agreement.specs.machine_epochs.specs.Slots.{thunk_in}
-use Rattle.machine_invariant.specs.machine_agreement.specs.machine_epochs.proofs.Places.{run_thunk}
+use Rattle.machine_invariant.specs.machine_blocks.specs.machine_guards.specs.machine_agreement.specs.machine_epochs.specs.Slots.{thunk_in}
+use Rattle.machine_invariant.specs.machine_blocks.specs.machine_guards.specs.machine_agreement.specs.machine_epochs.proofs.Places.{run_thunk}
 use Rattle.machine_invariant.specs.Whole.{Beside, IsWhole}
 use Rattle.machine_invariant.specs.After.{AreAllowed}
 use Rattle.machine_invariant.proofs.Trails.{run_used}

@@ -23,12 +23,13 @@ use Rattle.machine_states.specs.runner_parts.specs.State.{RunState, PartState}
 use Rattle.machine_states.specs.runner_parts.specs.Tests.{has}
 use Rattle.machine_states.specs.runner_parts.specs.Lists.{slot_made, slot_back}
 use Rattle.machine_states.specs.runner_steps.specs.Sections.{is_open_run, next_of}
-use Rattle.machine_states.specs.runner_steps.specs.InRun.{make_commit_ask, make_commit_to, epoch_for_retire_ask}
-use Rattle.machine_states.specs.runner_steps.specs.Asks.{asks, ask_by, sizes_for}
+use Rattle.machine_states.specs.runner_steps.specs.InRun.{epoch_for_retire_ask}
+use Rattle.machine_states.specs.runner_steps.specs.Asks.{asks, sizes_for}
 use Rattle.machine_states.specs.runner_steps.specs.AfterInRun.{goes_on, agrees, make_committed}
 use Rattle.machine_states.specs.runner_steps.specs.After.{stepped}
-use Rattle.machine_invariant.specs.machine_agreement.specs.machine_epochs.proofs.RunPlaces.{next_in_line}
+use Rattle.machine_invariant.specs.machine_blocks.specs.machine_guards.specs.machine_agreement.specs.machine_epochs.proofs.RunPlaces.{next_in_line}
 use Rattle.machine_invariant.specs.After.{AreAllowed}
+use Rattle.machine_states.proofs.Blockless.{make_commit_ask, make_commit_to, ask_by, unblocked}
 use Rattle.version_words.specs.declared.view.View.{View}
 use Rattle.version_words.specs.ReachedWith.{ReachedWith}
 use Rattle.runner_block.specs.declared.block.Block.{Block}
@@ -79,7 +80,7 @@ module _ (m : Meaning) (l : Layout) (rs : List Request) (r : ℕ) (p : PartState
   make_by (Some q) run e = let h = open_inside m l kinds.MakeCommit p q (is_open_run q) x refl refl e in record { open_run = record { run = q; there = run; ready = h.0 }; asks_so = h.1 }
 
   make_asked : asks m l rs r kinds.MakeCommit p ≡ Some x → IsOpenFor m l kinds.MakeCommit p x
-  make_asked e = make_by p.run refl (unless_gone (sizes_for m l rs) p.gone (ask_by m l rs r kinds.MakeCommit p p.run) x e)
+  make_asked e = make_by p.run refl (unless_gone (sizes_for m l rs) p.gone (ask_by m l rs r kinds.MakeCommit p p.run) x (unblocked m l rs r kinds.MakeCommit p x e))
 
   epoch_spot : (q : RunState) (micro : Micro) → epoch_for_retire_ask q micro ≡ Some x → x ≡ (spots.Epoch, Loads)
   epoch_spot q (micros.EpochForRetire slot log) e = sym (some_same (spots.Epoch, Loads) x e)
@@ -91,7 +92,7 @@ module _ (m : Meaning) (l : Layout) (rs : List Request) (r : ℕ) (p : PartState
       (epoch_spot q (next_of m q) h.1, record { open_run = record { run = q; there = run; ready = h.0 }; asks_so = h.1 })
 
   epoch_asked : asks m l rs r kinds.EpochForRetire p ≡ Some x → (x ≡ (spots.Epoch, Loads)) × IsOpenFor m l kinds.EpochForRetire p x
-  epoch_asked e = epoch_by p.run refl (unless_gone (sizes_for m l rs) p.gone (ask_by m l rs r kinds.EpochForRetire p p.run) x e)
+  epoch_asked e = epoch_by p.run refl (unless_gone (sizes_for m l rs) p.gone (ask_by m l rs r kinds.EpochForRetire p p.run) x (unblocked m l rs r kinds.EpochForRetire p x e))
 
 pub epoch_named : {T : Type 0} (m : Meaning) (t : TableState T) (r : RunnerState T) → IsEnabled m kinds.EpochForRetire r
     → IsNamed m (λ m' l' rs' p' made. kinds.EpochForRetire) r (step_at m t spots.Epoch 0 0 nothing) (spots.Epoch, Loads)

@@ -23,11 +23,12 @@ use Rattle.machine_states.specs.runner_parts.specs.State.{RunState, PartState}
 use Rattle.machine_states.specs.runner_steps.specs.Sections.{is_open_run, next_of}
 use Rattle.machine_states.specs.runner_steps.specs.InRun.{open_more_ask, load_done_ask}
 use Rattle.machine_states.specs.runner_parts.specs.Tests.{has}
-use Rattle.machine_states.specs.runner_steps.specs.Asks.{ask_by, line_ask, sizes_for}
+use Rattle.machine_states.specs.runner_steps.specs.Asks.{sizes_for}
 use Rattle.machine_states.specs.runner_steps.specs.AfterOutside.{opened}
 use Rattle.machine_states.specs.runner_steps.specs.AfterInRun.{opened_more}
 use Rattle.machine_states.specs.runner_steps.specs.After.{line_after, after_by}
 use Rattle.machine_invariant.specs.After.{AreAllowed}
+use Rattle.machine_states.proofs.Blockless.{ask_by, line_ask, unblocked}
 use Rattle.version_words.specs.declared.view.View.{View}
 use Rattle.version_words.specs.ReachedWith.{ReachedWith}
 use Rattle.runner_block.specs.declared.place.RunPlace.{RunPlace}
@@ -162,7 +163,7 @@ module _ {T : Type 0} (mean : T → Meaning) (s : T) (descriptor index found num
       → Makes m (kinds.LoadThunk None) found (seen_seat old_table me) (seen_seat new_table me') → IsKept mean number kept' me'
   more_kept q there at asked made =
       let o = opens_by m l p.nodes.free q (spots.ThunkWord descriptor index, Loads) (is_open_run q)
-      (sym (ap (ask_by m l me.0.requests me.0.number (kinds.LoadThunk None) p) there) ∙ unless_gone (sizes_for m l me.0.requests) p.gone (ask_by m l me.0.requests me.0.number (kinds.LoadThunk None) p p.run) (spots.ThunkWord descriptor index, Loads) asked) in
+      (sym (ap (ask_by m l me.0.requests me.0.number (kinds.LoadThunk None) p) there) ∙ unless_gone (sizes_for m l me.0.requests) p.gone (ask_by m l me.0.requests me.0.number (kinds.LoadThunk None) p p.run) (spots.ThunkWord descriptor index, Loads) (unblocked m l me.0.requests me.0.number (kinds.LoadThunk None) p (spots.ThunkWord descriptor index, Loads) asked)) in
       let t = tested (nat_lt (length q.opened) 12) (spots.ThunkWord q.descriptor (length q.opened)) Loads (spots.ThunkWord descriptor index, Loads) o.1 in
       let more : length q.opened < 12 = (let a = t.0 in grind (arith, nat_tests)) in
       let is = was.place.run q there in let was_epoch = (was.of_table s live).epoch in let longer = length-append q.opened (found ∷ []) in
@@ -210,7 +211,7 @@ module _ {T : Type 0} (mean : T → Meaning) (s : T) (descriptor index found num
 
   -- what the code keeps once the done word was loaded
   pub done_kept : Makes m kinds.LoadDone found (seen_seat old_table me) (seen_seat new_table me') → IsKept mean number (record kept { place = record (kept.place) { inside = true } }) me'
-  done_kept made = done_by p.run refl made.met (unless_gone (sizes_for m l me.0.requests) p.gone (ask_by m l me.0.requests me.0.number kinds.LoadDone p p.run) made.met made.asked) made
+  done_kept made = done_by p.run refl made.met (unless_gone (sizes_for m l me.0.requests) p.gone (ask_by m l me.0.requests me.0.number kinds.LoadDone p p.run) made.met (unblocked m l me.0.requests me.0.number kinds.LoadDone p made.met made.asked)) made
 
   done_found_by : Laws m → IsWithinLimits me'.0.layout → AreAllowed me'.0.requests → (made : Makes m kinds.LoadDone found (seen_seat old_table me) (seen_seat new_table me')) (o : Option RunState) → p.run ≡ o
       → ask_by m l me.0.requests me.0.number kinds.LoadDone p o ≡ Some made.met → found ≤ 1
@@ -224,7 +225,7 @@ module _ {T : Type 0} (mean : T → Meaning) (s : T) (descriptor index found num
 
   -- the done word is 0 or 1
   pub done_found : Laws m → IsWithinLimits me'.0.layout → AreAllowed me'.0.requests → Makes m kinds.LoadDone found (seen_seat old_table me) (seen_seat new_table me') → found ≤ 1
-  done_found laws limits allowed made = done_found_by laws limits allowed made p.run refl (unless_gone (sizes_for m l me.0.requests) p.gone (ask_by m l me.0.requests me.0.number kinds.LoadDone p p.run) made.met made.asked)
+  done_found laws limits allowed made = done_found_by laws limits allowed made p.run refl (unless_gone (sizes_for m l me.0.requests) p.gone (ask_by m l me.0.requests me.0.number kinds.LoadDone p p.run) made.met (unblocked m l me.0.requests me.0.number kinds.LoadDone p made.met made.asked))
 
   by_run : (o : Option RunState) → p.run ≡ o → index ≡ opened_of o → met_by m (seen_seat old_table me) (open_of o descriptor) ≡ Some (spots.ThunkWord descriptor index, Loads)
       → Makes m (open_of o descriptor) found (seen_seat old_table me) (seen_seat new_table me') → IsKept mean number kept' me'

@@ -30,14 +30,15 @@ use Rattle.machine_states.specs.runner_parts.specs.Tests.{has, is_resting}
 use Rattle.machine_states.specs.epoch_core.specs.Lists.{times}
 use Rattle.machine_states.specs.runner_parts.specs.Lists.{slot_taken, nodes_looked, descriptor_stored}
 use Rattle.machine_states.specs.runner_steps.specs.Sections.{is_open_run, next_of}
-use Rattle.machine_states.specs.runner_steps.specs.Outside.{when, descriptor_spot, private_load_ask}
+use Rattle.machine_states.specs.runner_steps.specs.Outside.{when, descriptor_spot}
 use Rattle.machine_states.specs.runner_steps.specs.InRun.{is_cell, is_slot, make_slot, fill_load_ask}
-use Rattle.machine_states.specs.runner_steps.specs.Asks.{asks, ask_by, line_ask, sizes_for}
+use Rattle.machine_states.specs.runner_steps.specs.Asks.{asks, sizes_for}
 use Rattle.machine_states.specs.runner_steps.specs.AfterInRun.{goes_on, fill_loaded}
-use Rattle.machine_states.specs.runner_steps.specs.AfterOutside.{private_load_after}
+use Rattle.machine_states.specs.runner_steps.specs.AfterOutside.{descriptor_known, private_load_after}
 use Rattle.machine_states.specs.runner_steps.specs.After.{after_by, stepped}
 use Rattle.machine_states.proofs.Steps.{some_same, asked_fits}
 use Rattle.machine_invariant.specs.After.{AreAllowed}
+use Rattle.machine_states.proofs.Blockless.{private_load_ask, ask_by, line_ask, unblocked}
 use Rattle.version_words.specs.declared.view.View.{View}
 use Rattle.runner_block.specs.declared.place.RunPlace.{RunPlace}
 use Rattle.runner_block.specs.declared.block.Block.{Block}
@@ -99,7 +100,7 @@ module _ (m : Meaning) (l : Layout) (rs : List Request) (r : ℕ) (slot word : �
       ((load_inside m l slot word p.nodes.free q (next_of m q) x h.1).0, inr (record { open_run = record { run = q; there = run; ready = h.0 }; asks_so = h.1 }))
 
   load_asked : asks m l rs r (kinds.PrivateLoad slot word) p ≡ Some x → IsPrivate m l slot word Loads x × Stands m l (kinds.PrivateLoad slot word) p x
-  load_asked e = load_by p.run refl (unless_gone (sizes_for m l rs) p.gone (ask_by m l rs r (kinds.PrivateLoad slot word) p p.run) x e)
+  load_asked e = load_by p.run refl (unless_gone (sizes_for m l rs) p.gone (ask_by m l rs r (kinds.PrivateLoad slot word) p p.run) x (unblocked m l rs r (kinds.PrivateLoad slot word) p x e))
 
 module _ {T : Type 0} (m : Meaning) (t : TableState T) (r : RunnerState T) (own : IsOf t r) (slot word : ℕ) (enabled : IsEnabled m (kinds.PrivateLoad slot word) r) where
   asked : IsPrivate m r.layout slot word Loads enabled.met × Stands m r.layout (kinds.PrivateLoad slot word) r.part enabled.met
@@ -218,9 +219,9 @@ module _ (m : Meaning) (l : Layout) (slot word found : ℕ) (kept : Block) (p : 
       }
 
       by : (b : Bool) → KeepsPart m (block_found l kept slot word found b)
-          (if b then record p { nodes = nodes_looked l p.nodes slot word found } else record p { descriptors = descriptor_stored p.descriptors (slot - slot_count l m.fixed_slots) word found })
+          (if b then record p { nodes = nodes_looked l p.nodes slot word found } else descriptor_known m l slot word p found)
       by true = in_place (record p { nodes = nodes_looked l p.nodes slot word found }) refl _ (ap (λ (y : PartState). record y { nodes = nodes_looked l y.nodes slot word found }) was.lists)
-      by false = in_place (record p { descriptors = descriptor_stored p.descriptors (slot - slot_count l m.fixed_slots) word found }) refl kept.lists was.lists
+      by false = in_place (descriptor_known m l slot word p found) refl kept.lists was.lists
 
   module _ (h : IsOpenFor m l k p x) where
     abbrev q : RunState

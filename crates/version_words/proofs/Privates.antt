@@ -22,16 +22,18 @@ use Rattle.machine_states.specs.table_words.specs.Places.{address, Fits, slot_co
 use Rattle.machine_states.specs.structure_laws.specs.Meaning.{Meaning}
 use Rattle.machine_states.specs.runner_parts.specs.declared.event.EventKind.{EventKind}
 use Rattle.machine_states.specs.runner_parts.specs.declared.event.EventKind.TheVariants as kinds
-use Rattle.machine_states.specs.runner_parts.specs.State.{RunState, PartState, RecordsState}
+use Rattle.machine_states.specs.runner_parts.specs.State.{RunState, BlocksState, PartState, RecordsState}
+use Rattle.machine_states.specs.runner_steps.specs.Blocks.{blocks_after}
 use Rattle.machine_states.specs.runner_parts.specs.Tests.{has, is_resting}
-use Rattle.machine_states.specs.runner_steps.specs.Sections.{is_open_run, next_of}
-use Rattle.machine_states.specs.runner_steps.specs.Outside.{descriptor_spot, private_store_ask}
+use Rattle.machine_states.specs.runner_steps.specs.Sections.{is_open_run, next_of, needs_link}
+use Rattle.machine_states.specs.runner_steps.specs.Outside.{blocks_from, descriptor_spot}
 use Rattle.machine_states.specs.runner_steps.specs.InRun.{is_cell, is_slot, can_raise, fill_store_ask}
-use Rattle.machine_states.specs.runner_steps.specs.Asks.{asks, ask_by, line_ask, opening_ask, sizes_for}
-use Rattle.machine_states.specs.runner_steps.specs.AfterInRun.{goes_on, fill_stored}
+use Rattle.machine_states.specs.runner_steps.specs.Asks.{asks, opening_ask, sizes_for}
+use Rattle.machine_states.specs.runner_steps.specs.AfterInRun.{block_emptied, goes_on, filled, with_run}
 use Rattle.machine_states.specs.runner_steps.specs.AfterOutside.{private_store_after}
-use Rattle.machine_states.specs.runner_steps.specs.After.{after_by, counted, epoch_after, is_moved, left_more, noted, stepped}
+use Rattle.machine_states.specs.runner_steps.specs.After.{line_after, after_by, counted, epoch_after, is_moved, left_more, noted, stepped}
 use Rattle.machine_states.proofs.Steps.{asked_fits}
+use Rattle.machine_states.proofs.Blockless.{private_store_ask, ask_by, line_ask, unblocked}
 use Rattle.version_words.specs.declared.view.View.{View}
 use Rattle.runner_block.specs.declared.block.Block.{Block}
 use Rattle.version_words.specs.RunnerState.{RunnerState}
@@ -165,7 +167,7 @@ module _ (m : Meaning) (l : Layout) (rs : List Request) (r : ℕ) (slot word num
       (store_inside m l slot word number q (next_of m q) x h.1, inr (record { open_run = record { run = q; there = run; ready = h.0 }; asks_so = h.1 }))
 
   store_asked : asks m l rs r kind p ≡ Some x → IsPrivate m l slot word (Stores number) x × Stands m l kind p x
-  store_asked e = store_by p.run refl (unless_gone (sizes_for m l rs) p.gone (ask_by m l rs r kind p p.run) x e)
+  store_asked e = store_by p.run refl (unless_gone (sizes_for m l rs) p.gone (ask_by m l rs r kind p p.run) x (unblocked m l rs r kind p x e))
 
 store_node : (m : Meaning) (l : Layout) (slot word number : ℕ) (q : RunState) (micro : Micro) (x : Spot × Access) → fill_store_ask m l slot word number q micro ≡ Some x → nat_lt slot (slot_count l m.fixed_slots) ≡ true
 store_node m l slot word number q (micros.PrivateStore cell log value) x e =
@@ -181,6 +183,11 @@ not_in_run : (m : Meaning) (l : Layout) (slot word number : ℕ) (p : PartState)
 not_in_run m l slot word number p x past at = ⊎_elim
     (λ (none : p.run ≡ None). none)
     (λ (h : IsOpenFor m l (kinds.PrivateStore slot word number) p x). absurd (not_past slot (slot_count l m.fixed_slots) (store_node m l slot word number h.open_run.run (next_of m h.open_run.run) x h.asks_so) past)) at
+
+-- a Make's store comes before no commit, so no block is linked before it
+store_alone : (m : Meaning) (l : Layout) (slot word number : ℕ) (q : RunState) (micro : Micro) (x : Spot × Access) → fill_store_ask m l slot word number q micro ≡ Some x → needs_link q micro ≡ false
+store_alone m l slot word number q (micros.PrivateStore cell log value) x e = refl
+store_alone m l slot word number q _ x e = absurd (none-some x e)
 
 -- the part afterwards doesn't go by what was found
 stored_alike : (m : Meaning) (l : Layout) (slot word number : ℕ) (p : PartState) (x : Spot × Access) → Stands m l (kinds.PrivateStore slot word number) p x → (a b : ℕ) → stepped m l (kinds.PrivateStore slot word number) p a ≡ stepped m l (kinds.PrivateStore slot word number) p b
@@ -206,6 +213,12 @@ noted_alike l r slot word number spot a b z e = ap (λ (moved : Bool). record z 
   left = (if r == l.runners then left_more (kinds.PrivateStore slot word number) spot number z.left else z.left);
   only_loads = false;
 }) e
+
+-- nor do the blocks
+blocks_alike : (m : Meaning) (l : Layout) (slot word number : ℕ) (p : PartState) (run : Option RunState) (a b : ℕ)
+    → blocks_after m l (kinds.PrivateStore slot word number) p run a ≡ blocks_after m l (kinds.PrivateStore slot word number) p run b
+blocks_alike m l slot word number p None a b = refl
+blocks_alike m l slot word number p (Some q) a b = refl
 
 module _ {T : Type 0} (m : Meaning) (t : TableState T) (r : RunnerState T) (own : IsOf t r) (slot word number : ℕ) (enabled : IsEnabled m (kinds.PrivateStore slot word number) r) where
   asked : IsPrivate m r.layout slot word (Stores number) enabled.met × Stands m r.layout (kinds.PrivateStore slot word number) r.part enabled.met
@@ -256,10 +269,13 @@ module _ {T : Type 0} (m : Meaning) (t : TableState T) (r : RunnerState T) (own 
 
     pub store_blind : IsBlind m (kinds.PrivateStore (slot_at m r.layout r.requests at) (word_at m r.layout r.requests at) number) (spot, Stores number) r
     store_blind = record {
-      same = λ found other. ap (λ (q : PartState). record q { records = noted r.layout r.number (kinds.PrivateStore (slot_at m r.layout r.requests at) (word_at m r.layout r.requests at) number) spot (Stores number) found q.records }) (stored_here found other)
-          ∙ ap (λ (z : RecordsState). record (stepped m r.layout (kinds.PrivateStore (slot_at m r.layout r.requests at) (word_at m r.layout r.requests at) number) r.part other) { records = z })
+      same = λ found other. ap (λ (q : PartState). record q { blocks = (blocks_after m r.layout (kinds.PrivateStore (slot_at m r.layout r.requests at) (word_at m r.layout r.requests at) number) r.part r.part.run found); board = r.part.board; records = noted r.layout r.number (kinds.PrivateStore (slot_at m r.layout r.requests at) (word_at m r.layout r.requests at) number) spot (Stores number) found q.records }) (stored_here found other)
+          ∙ (ap (λ (b : BlocksState). record (stepped m r.layout (kinds.PrivateStore (slot_at m r.layout r.requests at) (word_at m r.layout r.requests at) number) r.part other)
+          { blocks = b; board = r.part.board; records = noted r.layout r.number (kinds.PrivateStore (slot_at m r.layout r.requests at) (word_at m r.layout r.requests at) number) spot (Stores number) found (stepped m r.layout (kinds.PrivateStore (slot_at m r.layout r.requests at) (word_at m r.layout r.requests at) number) r.part other).records })
+          (blocks_alike m r.layout (slot_at m r.layout r.requests at) (word_at m r.layout r.requests at) number r.part r.part.run found other)
+          ∙ ap (λ (z : RecordsState). record (stepped m r.layout (kinds.PrivateStore (slot_at m r.layout r.requests at) (word_at m r.layout r.requests at) number) r.part other) { blocks = (blocks_after m r.layout (kinds.PrivateStore (slot_at m r.layout r.requests at) (word_at m r.layout r.requests at) number) r.part r.part.run other); board = r.part.board; records = z })
           (noted_alike r.layout r.number (slot_at m r.layout r.requests at) (word_at m r.layout r.requests at) number spot found other
-          (stepped m r.layout (kinds.PrivateStore (slot_at m r.layout r.requests at) (word_at m r.layout r.requests at) number) r.part other).records (unmoved found _ ∙ sym (unmoved other _)));
+          (stepped m r.layout (kinds.PrivateStore (slot_at m r.layout r.requests at) (word_at m r.layout r.requests at) number) r.part other).records (unmoved found _ ∙ sym (unmoved other _))));
     }
 
 -- what the code keeps after such a store
@@ -296,10 +312,10 @@ module _ {T : Type 0} (mean : T → Meaning) (s : T) (slot word number found own
     epoch = no_epoch m kept.place.epoch p.run (λ q e. none-some q (sym none ∙ e));
   }
 
-  store_running : (h : HasOpenRun p) (x : Spot × Access) → line_ask m l k p.nodes.free h.run (next_of m h.run) ≡ Some x → KeepsPart m kept' (fill_stored m l number p h.run)
+  store_running : (h : HasOpenRun p) (x : Spot × Access) → line_ask m l k p.nodes.free h.run (next_of m h.run) ≡ Some x → KeepsPart m kept' (with_run p (filled m l number h.run))
   store_running h x asks_so =
       let q = h.run in let is = was.place.run q h.there in
-      let run : PlacesRun kept'.place q.made (fill_stored m l number p q).run = places kept'.place q.made (goes_on m l (record q { worn = q.worn || version_of number == l.version_max }) q.word)
+      let run : PlacesRun kept'.place q.made (with_run p (filled m l number q)).run = places kept'.place q.made (goes_on m l (record q { worn = q.worn || version_of number == l.version_max }) q.word)
       (record {
         descriptor = is.descriptor;
         some = is.some;
@@ -320,11 +336,14 @@ module _ {T : Type 0} (mean : T → Meaning) (s : T) (slot word number found own
         epoch = goes_epoch m l p.nodes.free q k x refl asks_so h.ready kept.place.epoch (goes_on m l (record q { worn = q.worn || version_of number == l.version_max }) q.word) q.trail refl refl;
       }
 
+  stored_alone : (h : HasOpenRun p) (x : Spot × Access) → line_ask m l k p.nodes.free h.run (next_of m h.run) ≡ Some x → line_after m l k p h.run (next_of m h.run) found ≡ with_run p (filled m l number h.run)
+  stored_alone h x asks_so = ap (λ (b : Bool). with_run p (if b then block_emptied (slot - blocks_from m l) h.run else filled m l number h.run)) (store_alone m l slot word number h.run (next_of m h.run) x asks_so)
+
   pub store_kept : IsKept mean own_number kept' me'
   store_kept = then_kept mean s k found own_number kept old_table new_table me me' live made same_slots was kept' refl
       (⊎_elim
       (λ (none : p.run ≡ None). subst (KeepsPart m kept') (sym (ap (λ (o : Option RunState). after_by m l k p o found) none)) (store_resting kept'.place.worn none))
-      (λ (h : IsOpenFor m l k p made.met). subst (KeepsPart m kept') (sym (step_is m l k p found h.open_run)) (store_running h.open_run made.met h.asks_so))
+      (λ (h : IsOpenFor m l k p made.met). subst (KeepsPart m kept') (sym (step_is m l k p found h.open_run ∙ stored_alone h.open_run made.met h.asks_so)) (store_running h.open_run made.met h.asks_so))
       (store_asked m l me.0.requests me.0.number slot word number p made.met made.asked).1)
 
   -- a descriptor's word is stored outside a run, and the block stays as it was

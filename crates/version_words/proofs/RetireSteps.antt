@@ -25,13 +25,13 @@ use Rattle.machine_states.specs.runner_parts.specs.State.{RunState, PartState, N
 use Rattle.machine_states.specs.runner_parts.specs.Tests.{has}
 use Rattle.machine_states.specs.runner_parts.specs.Lists.{slot_retired}
 use Rattle.machine_states.specs.runner_steps.specs.Sections.{is_open_run, next_of, line_of}
-use Rattle.machine_states.specs.runner_steps.specs.InRun.{retire_commit_ask}
-use Rattle.machine_states.specs.runner_steps.specs.Asks.{asks, ask_by, sizes_for}
+use Rattle.machine_states.specs.runner_steps.specs.Asks.{asks, sizes_for}
 use Rattle.machine_states.specs.runner_steps.specs.AfterInRun.{agrees, retire_committed, retired_slot_of}
 use Rattle.machine_states.specs.runner_steps.specs.After.{stepped}
-use Rattle.machine_invariant.specs.machine_agreement.specs.machine_epochs.proofs.RunPlaces.{next_in_line}
+use Rattle.machine_invariant.specs.machine_blocks.specs.machine_guards.specs.machine_agreement.specs.machine_epochs.proofs.RunPlaces.{next_in_line}
 use Rattle.machine_states.proofs.Steps.{some_same}
 use Rattle.machine_invariant.specs.After.{AreAllowed}
+use Rattle.machine_states.proofs.Blockless.{retire_commit_ask, ask_by, unblocked}
 use Rattle.version_words.specs.declared.view.View.{View}
 use Rattle.version_words.specs.ReachedWith.{ReachedWith}
 use Rattle.runner_block.specs.declared.block.Block.{Block}
@@ -67,7 +67,7 @@ module _ (m : Meaning) (l : Layout) (rs : List Request) (r : ℕ) (p : PartState
   retire_by (Some q) run e = let h = open_inside m l kinds.RetireCommit p q (is_open_run q) x refl refl e in record { open_run = record { run = q; there = run; ready = h.0 }; asks_so = h.1 }
 
   retire_asked : asks m l rs r kinds.RetireCommit p ≡ Some x → IsOpenFor m l kinds.RetireCommit p x
-  retire_asked e = retire_by p.run refl (unless_gone (sizes_for m l rs) p.gone (ask_by m l rs r kinds.RetireCommit p p.run) x e)
+  retire_asked e = retire_by p.run refl (unless_gone (sizes_for m l rs) p.gone (ask_by m l rs r kinds.RetireCommit p p.run) x (unblocked m l rs r kinds.RetireCommit p x e))
 
 -- the lists of node slots after the commit, which leaves the hand
 abbrev lists_after : Bool → NodesState → ℕ → ℕ → NodesState

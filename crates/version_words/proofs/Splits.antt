@@ -62,6 +62,7 @@ module _ (m : Meaning) (l : Layout) where
   outside (kinds.Hold thunk d) p found e = chosen _ _ _ (splits p) refl refl
   outside (kinds.LoadThunk (Some d)) p found e = refl
   outside (kinds.LoadThunk None) p found e = refl
+  outside (kinds.BoardGive word slot) p found e = known_chosen (found == 0) _ p.records (splits p) refl refl
   outside _ p found e = refl
 
   fills : (slot : ℕ) (p : PartState) (q : RunState) (made : Option ℕ) (found : ℕ) → splits (fill_loaded m l slot p q made found) ≡ splits p

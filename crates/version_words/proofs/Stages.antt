@@ -6,6 +6,7 @@ use Rattle.std.specs.Prelude.{◌==◌, ◌&&◌, ◌||◌, is_some, nat_lt, nat
 use Rattle.std.proofs.lemmas.Bool.Decides.{nat_tests}
 use mathlib.Core.Logic.{dite}
 use native.Mathlib.Decide.{ℕ_discrete}
+use Rattle.machine_states.proofs.Blockless.{ask_by, outside_ask, blocked}
 use Rattle.version_words.specs.Shown.{left_part}
 use Rattle.machine_states.specs.table_words.specs.declared.layout.Layout.{Layout}
 use Rattle.machine_states.specs.table_words.specs.declared.sizes.Sizes.{Sizes}
@@ -28,7 +29,7 @@ use Rattle.machine_states.specs.runner_steps.specs.Guards.{is_numbered, load_gua
 use Rattle.machine_states.specs.guard_core.specs.State.{word_of}
 use Rattle.machine_states.specs.runner_steps.specs.Outside.{Ask, when, enter_load_ask, announce_ask, enter_again_by, scan_one_ask, advance_ask, descriptor_spot}
 use Rattle.machine_states.specs.epoch_core.specs.State.{last_epoch}
-use Rattle.machine_states.specs.runner_steps.specs.Asks.{ask_by, outside_ask, fitting, sizes_for}
+use Rattle.machine_states.specs.runner_steps.specs.Asks.{fitting, sizes_for}
 use Rattle.machine_states.specs.runner_steps.specs.AfterOutside.{with_stage, collected, scanned, scan_one_after, advance_after}
 use Rattle.machine_states.specs.runner_steps.specs.After.{outside_after, after_by, after, leaves}
 use Rattle.version_words.specs.RunnerState.{RunnerState}
@@ -44,8 +45,8 @@ fitted_some s a x e h = ap (fitting s) e ∙ ap (λ (b : Bool). if b then Some x
 module _ {T : Type 0} (m : Meaning) (r : RunnerState T) where
   -- a runner in no run may make what its stage lets it make
   asked_is : (k : EventKind) (x : Spot × Access) → r.part.gone ≡ false → r.part.run ≡ None → outside_ask m r.layout r.requests r.number k r.part ≡ Some x → Fits (sizes_for m r.layout r.requests) x.0 → met_by m r k ≡ Some x
-  asked_is k x present resting e h = ap (λ (g : Bool). if g then None else fitting (sizes_for m r.layout r.requests) (ask_by m r.layout r.requests r.number k r.part r.part.run)) present
-      ∙ fitted_some (sizes_for m r.layout r.requests) _ x (ap (ask_by m r.layout r.requests r.number k r.part) resting ∙ e) h
+  asked_is k x present resting e h = blocked m r.layout r.requests r.number k r.part x (ap (λ (g : Bool). if g then None else fitting (sizes_for m r.layout r.requests) (ask_by m r.layout r.requests r.number k r.part r.part.run)) present
+      ∙ fitted_some (sizes_for m r.layout r.requests) _ x (ap (ask_by m r.layout r.requests r.number k r.part) resting ∙ e) h)
 
   pub enabled : (k : EventKind) (x : Spot × Access) → r.part.gone ≡ false → r.part.run ≡ None → outside_ask m r.layout r.requests r.number k r.part ≡ Some x → Fits (sizes_for m r.layout r.requests) x.0 → IsEnabled m k r
   enabled k x present resting e h = record { met = x; asked = asked_is k x present resting e h }

@@ -28,7 +28,7 @@ use Rattle.machine_states.specs.table_words.specs.Places.{slot_count}
 
 module _ (m : Meaning) (l : Layout) (r : ℕ) (k : EventKind) (spot : Spot) (access : Access) (p : PartState) (found : ℕ) where
   pub told : told_part (after m l r k spot access p found) ≡ told_part (stepped m l k p found)
-  told = ap (λ (z : ℕ). record (told_part (stepped m l k p found)) { records = record { known = []; finished = []; events = 0; won = 0; epoch_seen = 0; crossed = false; crosses = false; left = []; splits = z; joined = []; only_loads = false } })
+  told = ap (λ (z : ℕ). record (told_part (stepped m l k p found)) { records = record { known = []; finished = []; events = 0; won = 0; epoch_seen = 0; crossed = false; crosses = false; left = []; splits = z; joined = []; only_loads = false; gave_above = true } })
       (notes l r k spot access found (stepped m l k p found).records)
 
   -- after an event in no run

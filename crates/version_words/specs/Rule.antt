@@ -101,6 +101,6 @@ module _ {T : Type 0} where
     layout = record { runners = 0; nodes = 0; sections = 0; version_max = 0 };
     requests = [];
     number = 0;
-    part = first_part [] [];
+    part = first_part [] [] [];
     joined = [];
   }

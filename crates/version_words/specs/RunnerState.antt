@@ -1,5 +1,5 @@
 -- What contracts see of a runner.
-use Rattle.std.specs.Prelude.{ℕ, List, [], Option, Some, None, false}
+use Rattle.std.specs.Prelude.{ℕ, List, [], Option, Some, None, true, false}
 use Rattle.atomic_table.specs.Seated.{TableId}
 use Rattle.machine_states.specs.map_history.specs.declared.op.Request.{Request}
 use Rattle.machine_states.specs.table_words.specs.declared.layout.Layout.{Layout}
@@ -38,8 +38,10 @@ told_part p = record {
   published = told_published p.published;
   nodes = p.nodes;
   descriptors = record (p.descriptors) { stored = [] };
+  blocks = record { free = []; limbo = [] };
   guards = only_looked p.guards.looked;
   reads = no_reads;
+  board = [];
   records = record {
     known = [];
     finished = [];
@@ -52,6 +54,7 @@ told_part p = record {
     splits = p.records.splits;
     joined = [];
     only_loads = false;
+    gave_above = true;
   };
   gone = false;
 }

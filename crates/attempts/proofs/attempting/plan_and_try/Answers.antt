@@ -1,5 +1,5 @@
 use Rattle.std.proofs.Common.{refl, sym, ap, subst}
-use Rattle.lock_walks.specs.try_lock.specs.Plans.{HasPlanned as PlanIs, is_halted}
+use Rattle.caller_facts.specs.try_lock.specs.Plans.{HasPlanned as PlanIs, is_halted}
 use Rattle.caller_facts.specs.Counted.{IsSeen}
 use Rattle.attempts.specs.Course.{HasPlanned}
 use Rattle.attempts.specs.Rests.{MayLeave, HasTurned}

@@ -1,5 +1,5 @@
 use Rattle.std.proofs.Common.{Ok, Err, length, refl, sym, ◌∙◌, subst}
-use Rattle.lock_walks.specs.try_lock.specs.Publishes.{Publishes}
+use Rattle.caller_facts.specs.try_lock.specs.Publishes.{Publishes}
 use Rattle.caller_facts.specs.Counted.{IsSeen}
 use Rattle.attempts.specs.Rests.{MayLeave, HasTurned}
 use Rattle.attempts.proofs.Courses.{may_publish, refused_go}

@@ -3,8 +3,8 @@ use Rattle.machine_states.specs.World.{World}
 use Rattle.machine_states.specs.Reached.{Reached}
 use Rattle.machine_states.specs.Sight.{sight}
 use Rattle.machine_facts.specs.Watched.{SeenLocksStand}
-use Rattle.lock_walks.specs.runner_facts.specs.Names.{NamesStand}
-use Rattle.lock_walks.specs.try_lock.specs.Watches.{Watched}
+use Rattle.caller_facts.specs.lock_walks.specs.runner_facts.specs.Names.{NamesStand}
+use Rattle.caller_facts.specs.try_lock.specs.Watches.{Watched}
 use Rattle.lock_words.specs.Taken.{TakenStand}
 use Rattle.attempts.specs.Rests.{HasTurned}
 use Rattle.attempts.proofs.Leaving.{watched_go, turned_by_exit}

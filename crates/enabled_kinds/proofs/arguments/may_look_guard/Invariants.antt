@@ -1,5 +1,5 @@
 use Rattle.std.proofs.Common.{◌≡◌, ◌<◌, ℕ, false}
-use Rattle.runner_steps.specs.runner_parts.specs.declared.event.EventKind.TheVariants as kinds
+use Rattle.machine_states.specs.runner_parts.specs.declared.event.EventKind.TheVariants as kinds
 use Rattle.enabled_kinds.specs.May.{is_enabled}
 use Rattle.enabled_kinds.proofs.arguments.may_look_guard.Given as goal
 

@@ -1,7 +1,7 @@
 use Rattle.std.proofs.Common.{◌≡◌, ℕ, drop}
 use Rattle.enabled_kinds.specs.Tried.{stored_thunk}
 use Rattle.std.specs.List.{list_any}
-use Rattle.runner_steps.specs.runner_parts.specs.declared.event.EventKind.TheVariants as kinds
+use Rattle.machine_states.specs.runner_parts.specs.declared.event.EventKind.TheVariants as kinds
 use Rattle.enabled_kinds.specs.May.{is_enabled}
 use Rattle.enabled_kinds.proofs.arguments.may_publish.Given as goal
 

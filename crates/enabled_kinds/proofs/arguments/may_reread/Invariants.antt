@@ -1,8 +1,8 @@
 use Rattle.std.proofs.Common.{◌≡◌, ◌+◌, ℕ, drop}
 use Rattle.std.specs.Prelude.{◌&&◌, nat_lt}
-use Rattle.runner_steps.specs.table_words.specs.Places.{slot_count, descriptor_count}
+use Rattle.machine_states.specs.table_words.specs.Places.{slot_count, descriptor_count}
 use Rattle.std.specs.List.{list_any}
-use Rattle.runner_steps.specs.runner_parts.specs.declared.event.EventKind.TheVariants as kinds
+use Rattle.machine_states.specs.runner_parts.specs.declared.event.EventKind.TheVariants as kinds
 use Rattle.enabled_kinds.specs.May.{is_enabled}
 use Rattle.enabled_kinds.proofs.arguments.may_reread.Given as goal
 

@@ -2,7 +2,7 @@ use Rattle.std.proofs.Common.{◌≢◌, ℕ, Bool, sym, ap, subst, ◌∙◌, a
 use Rattle.enabled_kinds.specs.May.{Tells}
 use Rattle.enabled_kinds.specs.Kinds.{plain_kind}
 use Rattle.enabled_kinds.proofs.Numbers.{argued, given_plain}
-use Rattle.enabled_kinds.proofs.Tells.{scan_tells, plan_tells, guard_tells, if_tells}
+use Rattle.enabled_kinds.proofs.Tells.{scan_tells, plan_tells, guard_tells, link_tells, if_tells}
 use Rattle.enabled_kinds.proofs.Published.{hold_tells}
 use Rattle.enabled_kinds.proofs.kinds.may_make.Goals as goal
 
@@ -18,6 +18,12 @@ returns-in-18 g c =
     subst (λ (n : ℕ). Tells (g.S.Structure.meaning c.args.structure.now) c.args.layout c.args.requests.now c.args.runner c.args.part.now n c.may_publish.result) (sym c.in-18.is)
     (subst (λ (b : Bool). Tells (g.S.Structure.meaning c.args.structure.now) c.args.layout c.args.requests.now c.args.runner c.args.part.now 18 b) (sym c.may_publish.ensures)
     (hold_tells (g.S.Structure.meaning c.args.structure.now) c.args.layout c.args.requests.now c.args.runner c.args.part.now c.requires.limits c.requires.few first.few_cells first.few_slots))
+
+pub returns-in-31 : goal.returns-in-31
+returns-in-31 g c =
+    subst (λ (n : ℕ). Tells (g.S.Structure.meaning c.args.structure.now) c.args.layout c.args.requests.now c.args.runner c.args.part.now n c.may_link.result) (sym c.in-31.is)
+    (subst (λ (b : Bool). Tells (g.S.Structure.meaning c.args.structure.now) c.args.layout c.args.requests.now c.args.runner c.args.part.now 31 b) (sym c.may_link.ensures)
+    (link_tells (g.S.Structure.meaning c.args.structure.now) c.args.layout c.args.requests.now c.args.runner c.args.part.now))
 
 pub returns-in-39 : goal.returns-in-39
 returns-in-39 g c =
@@ -43,12 +49,13 @@ returns-in_default g c =
     let not21 : n ≢ 21 = grind arith in
     let not25 : n ≢ 25 = grind arith in
     let not26 : n ≢ 26 = grind arith in
+    let not31 : n ≢ 31 = grind arith in
     let not37 : n ≢ 37 = grind arith in
     let not38 : n ≢ 38 = grind arith in
     let not39 : n ≢ 39 = grind arith in
     subst (λ (b : Bool). Tells (g.S.Structure.meaning c.args.structure.now) c.args.layout c.args.requests.now c.args.runner c.args.part.now n b) (sym c.may_if.ensures)
     (if_tells (g.S.Structure.meaning c.args.structure.now) c.args.layout c.args.requests.now c.args.runner c.args.part.now n c.plain_kind.result (sym c.plain_kind.ensures.kind)
     (λ k is none. argued k (ap plain_kind is ∙ none) (λ e. not5 (sym is ∙ e)) (λ e. not9 (sym is ∙ e)) (λ e. not11 (sym is ∙ e)) (λ e. not12 (sym is ∙ e))
-    (λ e. not16 (sym is ∙ e)) (λ e. not18 (sym is ∙ e)) (λ e. not21 (sym is ∙ e)) (λ e. not25 (sym is ∙ e)) (λ e. not26 (sym is ∙ e)) (λ e. not37 (sym is ∙ e)) (λ e. not38 (sym is ∙ e))
+    (λ e. not16 (sym is ∙ e)) (λ e. not18 (sym is ∙ e)) (λ e. not21 (sym is ∙ e)) (λ e. not25 (sym is ∙ e)) (λ e. not26 (sym is ∙ e)) (λ e. not31 (sym is ∙ e)) (λ e. not37 (sym is ∙ e)) (λ e. not38 (sym is ∙ e))
     (λ e. not39 (sym is ∙ e)))
     (λ k is. (c.plain_kind.ensures.number k is, given_plain k k (ap plain_kind (c.plain_kind.ensures.number k is) ∙ (sym c.plain_kind.ensures.kind ∙ is)))))

@@ -1,6 +1,6 @@
 use Rattle.std.specs.Prelude.{◌||◌}
 use Rattle.std.proofs.Common.{Bool, sym, ap, subst, ◌∙◌, Option}
-use Rattle.runner_steps.specs.runner_parts.specs.declared.event.EventKind.{EventKind}
+use Rattle.machine_states.specs.runner_parts.specs.declared.event.EventKind.{EventKind}
 use Rattle.enabled_kinds.specs.May.{Tells, is_enabled_if}
 use Rattle.enabled_kinds.proofs.Private.{store_tells}
 use Rattle.enabled_kinds.proofs.kinds.may_store_private.Goals as goal

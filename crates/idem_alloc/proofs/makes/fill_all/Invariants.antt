@@ -1,6 +1,6 @@
 use Rattle.std.specs.Prelude.{◌*◌, true}
 use Rattle.runner_steps.specs.runner_parts.specs.State.{RunState}
-use Rattle.version_words.specs.TableState.{IsOf}
+use Rattle.commit_log.specs.version_words.specs.TableState.{IsOf}
 use Rattle.commit_log.specs.Runs.{IsRunning}
 use Rattle.commit_log.specs.Asked.{IsAsked}
 use Rattle.idem_alloc.specs.Made.{IsFilling}
