@@ -1,9 +1,11 @@
 //! Requests are planned on the hash table.
-ghost use Rattle.std.specs.Prelude.{◌≡◌, false, IfOk};
+ghost use Rattle.std.specs.Prelude.{◌≡◌, false, IfOk, IfSome};
 ghost use Rattle.std.specs.FinMap.{entries};
 ghost use Rattle.machine_states.specs.map_history.specs.Replay.{Pairs};
 ghost use Rattle.machine_states.specs.map_history.specs.declared.op.Op.TheVariants.{Get};
+ghost use Rattle.bucket_walks.specs.bucket_laws.specs.bucket_bodies.specs.Table.{table_steps};
 ghost use Rattle.bucket_walks.specs.bucket_laws.specs.Buckets.{buckets_meaning};
+ghost use Rattle.lock_walks.specs.Glances.{glanced};
 ghost use Rattle.lock_walks.specs.try_lock.specs.Contents.{StandFor, NamesNone};
 ghost use Rattle.hash_table.specs.Planned.{bucket_planning, walk_in};
 ghost use Rattle.hash_table.specs.Walking.{is_refused_at};
@@ -15,11 +17,28 @@ ghost use Rattle.bucket_walks.proofs.Gets.{get_few, only_look};
 
 use crate::table::HashTable;
 use crate::walk::BucketWalk;
-use lock_walks::Planner;
 use lock_walks::version_words::Words;
+use lock_walks::{Glance, Planner, WantedCell};
+use machine_states::body_terms::Thunk;
 use machine_states::map_history::Op;
 use machine_states::table_words::Layout;
 use std::alloc::{AllocError, Global};
+
+/// A section that changes nothing looks at its bucket's edition.
+#[inline(always)]
+fn glance_of(thunk: &Thunk) -> Option<Glance>
+    ensures { IfSome result (λ g. glanced g ≡ table_steps thunk.now) }
+{
+    if thunk.form != 1 {
+        return None;
+    }
+    let edition = thunk.lock.checked_add(1)?;
+    Some(Glance {
+        first: WantedCell::new(edition, thunk.operands[0]),
+        second: None,
+        reply: thunk.operands[1],
+    })
+}
 
 impl Planner for HashTable {
     type Walk = BucketWalk;
@@ -32,6 +51,11 @@ impl Planner for HashTable {
 
     fn walk(&self, layout: Layout, op: Op) -> BucketWalk {
         self.begin(layout, op)
+    }
+
+    #[inline(always)]
+    fn glance(&self, thunk: &Thunk) -> Option<Glance> {
+        glance_of(thunk)
     }
 
     fn contents(&self, alloc: Global, words: &Words<Self>) -> Result<Vec<(u32, u32)>, AllocError>

@@ -17,8 +17,9 @@ ghost use Rattle.bucket_walks.proofs.Gets.{get_few, moves_only_look};
 use crate::table::MoveTable;
 use crate::walk::MoveWalk;
 use hash_table::HashTable;
-use lock_walks::Planner;
 use lock_walks::version_words::Words;
+use lock_walks::{Glance, Planner};
+use machine_states::body_terms::Thunk;
 use machine_states::map_history::Op;
 use machine_states::table_words::Layout;
 use std::alloc::{AllocError, Global};
@@ -34,6 +35,15 @@ impl Planner for MoveTable {
 
     fn walk(&self, layout: Layout, op: Op) -> MoveWalk {
         self.begin(layout, op)
+    }
+
+    /// That of the hash table, where the section is over one key.
+    #[inline(always)]
+    fn glance(&self, thunk: &Thunk) -> Option<Glance> {
+        if thunk.form > 20 {
+            return None;
+        }
+        HashTable::new(self.bits).glance(thunk)
     }
 
     fn contents(&self, alloc: Global, words: &Words<Self>) -> Result<Vec<(u32, u32)>, AllocError>

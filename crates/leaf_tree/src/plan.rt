@@ -1,5 +1,5 @@
 //! Requests are planned on the search tree.
-ghost use Rattle.std.specs.Prelude.{◌≡◌, IfOk};
+ghost use Rattle.std.specs.Prelude.{◌≡◌, IfOk, IfSome};
 ghost use Rattle.std.specs.FinMap.{entries};
 ghost use Rattle.tree_walks.specs.structure_laws.specs.map_history.specs.Replay.{Pairs};
 ghost use Rattle.tree_walks.specs.structure_laws.specs.map_history.specs.declared.op.Op.TheVariants.{Get};
@@ -7,19 +7,39 @@ ghost use Rattle.tree_walks.specs.tree_laws.specs.Leaves.{tree, walk_of};
 ghost use Rattle.tree_walks.specs.tree_laws.proofs.TreeLaws.{tree_plans};
 ghost use Rattle.tree_walks.specs.Walking.{is_refused_in};
 ghost use Rattle.tree_walks.specs.tree_laws.proofs.Near.{not_far, no_mark};
+ghost use Rattle.lock_walks.specs.Glances.{glanced};
 ghost use Rattle.lock_walks.specs.try_lock.specs.Contents.{StandFor, NamesNone};
+ghost use Rattle.tree_walks.specs.tree_laws.specs.tree_bodies.specs.Tree.{tree_steps};
 ghost use Rattle.leaf_tree.specs.Planned.{tree_planning};
 ghost use Rattle.tree_walks.specs.tree_laws.proofs.Retiring.{few_retires};
 ghost use Rattle.tree_walks.proofs.Gets.{make_few_loads, only_look};
 
 use crate::tree::LeafTree;
 use crate::walker::LeafWalk;
-use lock_walks::Planner;
 use lock_walks::version_words::Words;
+use lock_walks::{Glance, Planner, WantedCell};
 use std::alloc::{AllocError, Global};
 use tree_walks::far_walks_are_long;
+use tree_walks::structure_laws::body_terms::Thunk;
 use tree_walks::structure_laws::map_history::Op;
 use tree_walks::structure_laws::table_words::Layout;
+
+/// A section that changes nothing looks at the link to its leaf, and at the mark of the leaf's parent.
+#[inline(always)]
+fn glance_of(thunk: &Thunk) -> Option<Glance>
+    ensures { IfSome result (λ g. glanced g ≡ tree_steps thunk.now) }
+{
+    if thunk.form != 11 {
+        return None;
+    }
+    let mark = thunk.lock.checked_add(4)?;
+    let link = u32::try_from(thunk.operands[0]).ok()?;
+    Some(Glance {
+        first: WantedCell::new(link, thunk.operands[1]),
+        second: Some(WantedCell::new(mark, thunk.operands[2])),
+        reply: thunk.operands[3],
+    })
+}
 
 impl Planner for LeafTree {
     type Walk = LeafWalk;
@@ -35,6 +55,11 @@ impl Planner for LeafTree {
         LeafWalk {
             walk: self.begin(layout, op),
         }
+    }
+
+    #[inline(always)]
+    fn glance(&self, thunk: &Thunk) -> Option<Glance> {
+        glance_of(thunk)
     }
 
     fn contents(&self, alloc: Global, words: &Words<Self>) -> Result<Vec<(u32, u32)>, AllocError>

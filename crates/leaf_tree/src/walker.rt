@@ -34,14 +34,17 @@ impl Walker for LeafWalk {
         self.walk.turns_aside()
     }
 
+    #[inline(always)]
     fn is_refused(&self) -> bool {
         self.walk.is_refused()
     }
 
+    #[inline(always)]
     fn is_mark(&self, place: Place) -> bool {
         place % 5 == 4
     }
 
+    #[inline(always)]
     fn thunk(&self, number: u32) -> Thunk {
         self.walk.thunk(number)
     }

@@ -5,6 +5,7 @@ pub mod Led
 pub mod Steady
 pub mod Retires
 pub mod Gets
+pub mod Glances
 pub mod Wants
 -- Passed on to the layers above, so that they needn't name these libraries themselves.
 pub use Rattle.runner_facts

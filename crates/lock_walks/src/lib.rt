@@ -3,13 +3,15 @@
 //! A plan loads cell after cell, asks its gate after each load, and ends where its walk is whole or where a reading
 //! refuses it. `walker` is what a structure gives for its walk, and how that follows readings that were made already,
 //! `plans` makes the loads and answers by the first refusal in the order of reading, and `planner` is what a structure
-//! offers to those who plan on it.
+//! offers to those who plan on it; `glance` is a section that looks at one cell or two.
 #![tactic(auto)]
 
+mod glance;
 mod planner;
 mod plans;
 mod walker;
 
+pub use glance::{Glance, WantedCell};
 pub use planner::Planner;
 pub use plans::plan_by;
 pub use walker::{Walker, follow};

@@ -1,5 +1,5 @@
 //! What a structure offers to those who plan requests on it.
-ghost use Rattle.std.specs.Prelude.{◌≡◌, true, Some, IfOk, slice_get};
+ghost use Rattle.std.specs.Prelude.{◌≡◌, true, Some, IfOk, IfSome, slice_get};
 ghost use Rattle.std.specs.FinMap.{entries};
 ghost use Rattle.machine_states.specs.map_history.specs.Replay.{Pairs};
 ghost use Rattle.machine_states.specs.table_words.specs.Limits.{IsWithinLimits};
@@ -13,10 +13,12 @@ ghost use Rattle.lock_walks.specs.Way.{Leads};
 ghost use Rattle.lock_walks.specs.Steady.{IsSteady};
 ghost use Rattle.lock_walks.specs.Retires.{RetiresFew};
 ghost use Rattle.lock_walks.specs.Gets.{GetsAreLight};
+ghost use Rattle.lock_walks.specs.Glances.{glanced};
 
+use crate::glance::Glance;
 use crate::plans::plan_by;
 use crate::walker::Walker;
-use machine_states::body_terms::Steps;
+use machine_states::body_terms::{Steps, Thunk};
 use machine_states::map_history::{Op, Request};
 use machine_states::structure_laws::Structure;
 use machine_states::table_words::Layout;
@@ -47,6 +49,17 @@ pub trait Planner: Structure + Sized + Send + Sync {
         ensures op { Self.Walk.way.op result ≡ op }
         ensures planning { Self.Walk.way.planning result ≡ planning self.now }
         ensures leads { Leads Self.Walk.way (Self.meaning self.now) layout result };
+
+    /// What the body of this thunk does, where it looks at one cell or two and the structure tells which without
+    /// writing its steps down. This serves speed alone: a read needs no more of such a body. A structure may always
+    /// answer None.
+    #[inline(always)]
+    fn glance(&self, thunk: &Thunk) -> Option<Glance>
+        ensures { IfSome result (λ g. glanced g ≡ (Self.meaning self.now).body thunk.now) }
+    {
+        let _ = thunk;
+        None
+    }
 
     /// Plans a request: walks without a lock to the key's place, loads the locks that a section needs, and
     /// answers the thunk of the request's section.

@@ -16,3 +16,4 @@ pub mod Along
 pub mod Looked
 pub mod Testing
 pub mod Telling
+pub mod Glancing

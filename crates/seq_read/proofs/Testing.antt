@@ -1,10 +1,11 @@
 -- What the Wants of a body miss, cell by cell.
 use Rattle.std.specs.Prelude.{◌||◌, Bool, true, false, slice_get, Option, Some, None, IfSome}
-use Rattle.std.proofs.Common.{◌≡◌, ℕ, zero, suc, ◌+◌, List, [], ◌∷◌, ◌++◌, length, refl, ◌∙◌, ap, subst, arith}
+use Rattle.std.proofs.Common.{◌≡◌, ℕ, zero, suc, ◌+◌, List, [], ◌∷◌, ◌++◌, length, refl, ◌∙◌, ap, subst, arith, ◌≢◌, sym}
 use Rattle.std.specs.List.{list_any}
 use Rattle.machine_states.specs.body_terms.specs.declared.step.Step.{Step}
 use Rattle.machine_states.specs.body_terms.specs.declared.step.Step.TheVariants.{Load, Want, Fresh, Take, Make, Stamp, Store, Retire, Answer}
-use Rattle.seq_read.specs.Wants.{is_other, is_missed, IsMiss, IsAmong, IsTested}
+use Rattle.caller_facts.specs.lock_walks.specs.declared.glance.WantedCell.{WantedCell}
+use Rattle.seq_read.specs.Wants.{is_other, is_missed, IsMiss, IsAmong, WantOne, IsTested}
 use Rattle.seq_read.specs.declared.cells.Loaded.{Loaded}
 use Rattle.seq_read.specs.declared.wants.Missed.{Missed}
 
@@ -118,3 +119,30 @@ module _ (steps : List Step) (xs : List Loaded) (x : Loaded) where
 pub missed_is : (steps : List Step) (xs : List Loaded) (missed : Option Missed) (first : Missed) → missed ≡ Some first → IsTested steps xs missed
     → (step : Step) × IsAmong steps step × IsMiss xs step first.place first.expected first.read
 missed_is steps xs missed first e is = (subst (λ o. IsTested steps xs o) e is).some
+
+-- one more cell, of whose register one word is wanted
+pub tested_one : (steps : List Step) (xs : List Loaded) (wanted : WantedCell) (found reg : ℕ) (missed : Option Missed)
+    → WantOne steps reg wanted.word → IsTested steps xs None
+    → IfSome missed (λ y. (y.place ≡ wanted.place) × (y.expected ≡ wanted.word) × (y.read ≡ found) × (wanted.word ≢ found))
+    → (missed ≡ None → found ≡ wanted.word)
+    → IsTested steps (xs ++ record { place = wanted.place; into = reg; word = found } ∷ []) missed
+tested_one steps xs wanted found reg None one is some none =
+    tested_next steps xs (record { place = wanted.place; into = reg; word = found }) None is tt
+    (λ e. one.met (record { place = wanted.place; into = reg; word = found }) refl (none refl))
+tested_one steps xs wanted found reg (Some first) one is some none =
+    tested_next steps xs (record { place = wanted.place; into = reg; word = found }) (Some first) is (
+      Want reg wanted.word,
+      one.wants,
+      record {
+        reg = reg;
+        wants = ap (Want reg) (sym some.1);
+        load = 0;
+        loaded = record { place = wanted.place; into = reg; word = found };
+        loads = refl;
+        into = refl;
+        from = sym some.0;
+        found = sym some.2;
+        other = λ e. some.3 (sym some.1 ∙ (e ∙ some.2));
+      },
+    )
+    (λ e. absurd (let z = e in cc))

@@ -1,4 +1,5 @@
 pub mod RealTime
+pub mod View
 pub mod Wants
 pub mod Course
 pub mod Reads

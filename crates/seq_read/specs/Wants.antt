@@ -69,6 +69,11 @@ pub record IsMiss (xs : List Loaded) (step : Step) (place expected read : ℕ) :
 abbrev pub IsAmong : List Step → Step → Type 0
 IsAmong steps step = (i : ℕ) × IsStep steps i step
 
+-- these steps want this word of this register, and no other one
+pub record WantOne (steps : List Step) (reg word : ℕ) : Type 0 where
+  pub wants : IsAmong steps (Want reg word)
+  pub met : (x : Loaded) → x.into ≡ reg → x.word ≡ word → list_any (is_missed (x ∷ [])) steps ≡ false
+
 -- what these steps missed in these cells, if they missed anything
 pub record IsTested (steps : List Step) (xs : List Loaded) (missed : Option Missed) : Type 0 where
   pub some : IfSome missed (λ x. (step : Step) × IsAmong steps step × IsMiss xs step x.place x.expected x.read)

@@ -3,8 +3,8 @@
 //!
 //! `reading` has the call `read`, and its plan; `cells` loads the cells of the planned body, `wants` tests them, and
 //! `confirming` has what comes behind them: the announcement, the clock, the lock once more, and the request's two
-//! words. `bodies` looks at the body, `answers` is what a read may come to, and `refusals` how refusals are told as
-//! such answers.
+//! words. `view` is the body as a read has it, and `bodies` looks at it; `answers` is what a read may come to, and
+//! `refusals` how refusals are told as such answers.
 #![tactic(auto)]
 
 mod answers;
@@ -13,6 +13,7 @@ mod cells;
 mod confirming;
 mod reading;
 mod refusals;
+mod view;
 mod wants;
 
 pub use answers::Read;

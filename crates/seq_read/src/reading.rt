@@ -10,6 +10,7 @@ ghost use Rattle.caller_facts.specs.Counted.{IsSeen};
 ghost use Rattle.caller_facts.specs.Asking.{MayAttempt};
 ghost use Rattle.seq_read.specs.Course.{read_of, HasPlanned, HasFound, HasLock, loaded_steps, locked_steps};
 ghost use Rattle.seq_read.specs.Reads.{Reads};
+ghost use Rattle.seq_read.specs.View.{steps_in};
 ghost use Rattle.seq_read.specs.Parts.{Rests};
 
 use crate::answers::{Looked, Read, as_read};
@@ -17,6 +18,7 @@ use crate::bodies::{first_change, reply_of};
 use crate::cells::load_cells;
 use crate::confirming::{announce, load_clock, load_lock, write_reply, write_stamp};
 use crate::refusals::{lock_moved, plan_refused};
+use crate::view::BodyView;
 use caller_facts::goes_on;
 use caller_facts::lock_walks::Planner;
 use caller_facts::lock_walks::epoch_slots::{enter, exit};
@@ -24,7 +26,7 @@ use caller_facts::lock_walks::version_words::{FlockTable, RunRoom, Runner};
 use caller_facts::runner_gate::Gate;
 use caller_facts::try_lock::Planned;
 use caller_facts::try_lock::commit_log::{Unasked, tell};
-use machine_states::body_terms::{Body, Step, StepKind, Steps, Thunk};
+use machine_states::body_terms::{Body, StepKind, Steps, Thunk};
 use machine_states::map_history::{Op, Reply, Request};
 use next_steps::looks_are_small;
 
@@ -125,13 +127,13 @@ fn change_in<S: Planner>(
     table: &FlockTable<S>,
     request: &Request,
     thunk: &Thunk,
-    body: &[Step],
+    body: &BodyView,
 ) -> Option<usize>
     requires planned { (readings : Readings) × (old : RunnerState S) × (r : RunnerState S)
         × HasPlanned (S.meaning table.now.structure) (S.planning table.now.structure) request.now readings
         (plans.Thunk thunk.now) old r }
-    requires body { body.now ≡ (S.meaning table.now.structure).body thunk.now }
-    ensures { result ≡ position (λ step. not (is_look step)) body.now }
+    requires body { steps_in body.now ≡ (S.meaning table.now.structure).body thunk.now }
+    ensures { result ≡ position (λ step. not (is_look step)) (steps_in body.now) }
 {
     let _ = table;
     let _ = thunk;
@@ -149,7 +151,7 @@ fn look_at<S: Planner, G: Gate, L>(
     runner: Runner<S>,
     request: &Request,
     thunk: &Thunk,
-    body: &[Step],
+    body: &BodyView,
     gate: &mut G,
     steps: &mut Steps<L>,
 ) -> (Runner<S>, Looked)
@@ -157,8 +159,8 @@ fn look_at<S: Planner, G: Gate, L>(
     requires planned { (readings : Readings) × (old : RunnerState S)
         × HasPlanned (S.meaning table.now.structure) (S.planning table.now.structure) request.now readings
         (plans.Thunk thunk.now) old runner }
-    requires body { body.now ≡ (S.meaning table.now.structure).body thunk.now }
-    requires few { length body.now ≤ 40 }
+    requires body { steps_in body.now ≡ (S.meaning table.now.structure).body thunk.now }
+    requires few { length (steps_in body.now) ≤ 40 }
     ensures own { IsOf table.now result.0 }
     ensures rests { (readings : Readings) (old : RunnerState S)
         → HasPlanned (S.meaning table.now.structure) (S.planning table.now.structure) request.now readings
@@ -192,7 +194,7 @@ fn look_asked<S: Planner, G: Gate, L>(
     runner: Runner<S>,
     request: &Request,
     thunk: &Thunk,
-    body: &[Step],
+    body: &BodyView,
     gate: &mut G,
     steps: &mut Steps<L>,
 ) -> (Runner<S>, Looked)
@@ -200,8 +202,8 @@ fn look_asked<S: Planner, G: Gate, L>(
     requires planned { (readings : Readings) × (old : RunnerState S)
         × HasPlanned (S.meaning table.now.structure) (S.planning table.now.structure) request.now readings
         (plans.Thunk thunk.now) old runner }
-    requires body { body.now ≡ (S.meaning table.now.structure).body thunk.now }
-    requires few { length body.now ≤ 40 }
+    requires body { steps_in body.now ≡ (S.meaning table.now.structure).body thunk.now }
+    requires few { length (steps_in body.now) ≤ 40 }
     ensures own { IsOf table.now result.0 }
     ensures rests { (readings : Readings) (old : RunnerState S)
         → HasPlanned (S.meaning table.now.structure) (S.planning table.now.structure) request.now readings
@@ -219,8 +221,8 @@ fn look_asked<S: Planner, G: Gate, L>(
     (runner, answer)
 }
 
-/// As `look`, where the room that the runner keeps is out: the read makes a body. It is a call of its own, since a
-/// caller would clear the body's place before each read, though it seldom needs it.
+/// As `look_written`, where the room that the runner keeps is out: the read makes a body. It is a call of its own,
+/// since a caller would clear the body's place before each read, though it seldom needs it.
 #[inline(never)]
 fn look_anew<S: Planner, G: Gate, L>(
     table: &FlockTable<S>,
@@ -244,21 +246,14 @@ fn look_anew<S: Planner, G: Gate, L>(
 {
     let mut body = Body::empty();
     table.structure().body_in(thunk, &mut body);
-    look_asked(
-        table,
-        runner,
-        request,
-        thunk,
-        body.steps.as_slice(),
-        gate,
-        steps,
-    )
+    let view = BodyView::Written(body.steps.as_slice());
+    look_asked(table, runner, request, thunk, &view, gate, steps)
 }
 
-/// Looks at the body of the thunk that was planned. A body that the runner keeps for its runs is refilled with its
-/// steps, which is cheaper than to make one.
+/// As `look`, where the steps are written down: a body that the runner keeps for its runs is refilled with them, which
+/// is cheaper than to make one.
 #[inline(always)]
-fn look<S: Planner, G: Gate, L>(
+fn look_written<S: Planner, G: Gate, L>(
     table: &FlockTable<S>,
     mut runner: Runner<S>,
     request: &Request,
@@ -284,10 +279,40 @@ fn look<S: Planner, G: Gate, L>(
     let RunRoom { bodies, trail: _ } = &mut *room;
     let body = &mut bodies[(thunk.form % 4) as usize];
     table.structure().body_in(thunk, body);
-    let line = body.steps.as_slice();
-    let (mut runner, answer) = look_asked(table, runner, request, thunk, line, gate, steps);
+    let view = BodyView::Written(body.steps.as_slice());
+    let (mut runner, answer) = look_asked(table, runner, request, thunk, &view, gate, steps);
     runner.keep_room(room);
     (runner, answer)
+}
+
+/// Looks at the body of the thunk that was planned. Where it looks at one cell or two, and the structure tells which,
+/// none of its steps is written down.
+#[inline(always)]
+fn look<S: Planner, G: Gate, L>(
+    table: &FlockTable<S>,
+    runner: Runner<S>,
+    request: &Request,
+    thunk: &Thunk,
+    gate: &mut G,
+    steps: &mut Steps<L>,
+) -> (Runner<S>, Looked)
+    requires own { IsOf table.now runner }
+    requires planned { (readings : Readings) × (old : RunnerState S)
+        × HasPlanned (S.meaning table.now.structure) (S.planning table.now.structure) request.now readings
+        (plans.Thunk thunk.now) old runner }
+    ensures own { IsOf table.now result.0 }
+    ensures rests { (readings : Readings) (old : RunnerState S)
+        → HasPlanned (S.meaning table.now.structure) (S.planning table.now.structure) request.now readings
+        (plans.Thunk thunk.now) old runner
+        → Rests (S.meaning table.now.structure) (S.planning table.now.structure) request.now (length readings)
+        (read_of result.1) old result.0 (IsSeen G.halts G.asks)
+        (G.halts gate.old) (G.halts gate.new) (G.asks gate.old) (G.asks gate.new) steps.old.count steps.new.count }
+{
+    let Some(glance) = table.structure().glance(thunk) else {
+        return look_written(table, runner, request, thunk, gate, steps);
+    };
+    let view = BodyView::Glanced(glance);
+    look_asked(table, runner, request, thunk, &view, gate, steps)
 }
 
 /// Reads a request once, without its lock.

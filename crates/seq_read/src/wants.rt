@@ -1,11 +1,12 @@
 //! What a body wants of a cell that it loads.
-ghost use Rattle.std.specs.Prelude.{◌≡◌, None, [], ◌∷◌, ◌++◌, false, List, position, IfSome};
+ghost use Rattle.std.specs.Prelude.{◌≡◌, ◌≢◌, ℕ, None, [], ◌∷◌, ◌++◌, false, List, position, IfSome};
 ghost use Rattle.std.specs.List.{list_any};
 ghost use Rattle.machine_states.specs.body_terms.specs.declared.step.Step.{Step as Action};
 ghost use Rattle.seq_read.specs.declared.cells.Loaded.{Loaded as Cell};
-ghost use Rattle.seq_read.specs.Wants.{is_missed, IsMiss, IsAmong, IsTested};
+ghost use Rattle.seq_read.specs.Wants.{is_missed, IsMiss, IsAmong, WantOne, IsTested};
 
 use crate::cells::Loaded;
+use caller_facts::lock_walks::WantedCell;
 use machine_states::body_terms::{Place, Step, Word};
 
 /// A word that a body wants, and another one that was found at its place.
@@ -75,5 +76,35 @@ pub fn missed_with(missed: Option<Missed>, steps: &[Step], cell: &Loaded) -> Opt
     match missed {
         Some(first) => Some(first),
         None => first_missed(steps, cell),
+    }
+}
+
+/// What was missed of a cell, of which one word is wanted and this one was found.
+#[inline(always)]
+fn missed_of(wanted: &WantedCell, found: Word) -> Option<Missed>
+    ensures some { IfSome result (λ x. (x.place ≡ wanted.now.place) × (x.expected ≡ wanted.now.word)
+        × (x.read ≡ found) × (wanted.now.word ≢ found)) }
+    ensures none { result ≡ None → found ≡ wanted.now.word }
+{
+    if found == wanted.word {
+        return None;
+    }
+    Some(Missed {
+        place: wanted.place,
+        expected: wanted.word,
+        read: found,
+    })
+}
+
+/// What was missed, with one more cell, whose register is wanted once.
+#[inline(always)]
+pub fn missed_behind(missed: Option<Missed>, wanted: &WantedCell, found: Word) -> Option<Missed>
+    ensures { (steps : List Action) (reg : ℕ) (xs : List Cell) → WantOne steps reg wanted.now.word
+        → IsTested steps xs missed
+        → IsTested steps (xs ++ record { place = wanted.now.place; into = reg; word = found } ∷ []) result }
+{
+    match missed {
+        Some(first) => Some(first),
+        None => missed_of(wanted, found),
     }
 }

@@ -14,6 +14,7 @@ use runner_parts::structure_laws::map_history::{Op, Reply};
 
 impl TreeWalk {
     /// Whether the section takes a leaf out.
+    #[inline(always)]
     fn removes(&self) -> bool
         ensures { result ≡ (is_del self.now.op && self.now.walk.found) }
     {
@@ -24,6 +25,7 @@ impl TreeWalk {
     }
 
     /// The place of the section's outer lock: of the parent, and for a removal of the parent's parent.
+    #[inline(always)]
     pub(crate) fn outer_lock(&self) -> u64
         ensures { result ≡ lock_by self.now.op self.now.walk }
     {
@@ -35,6 +37,7 @@ impl TreeWalk {
     }
 
     /// The word of that lock.
+    #[inline(always)]
     fn outer_word(&self) -> Word
         ensures { result ≡ word_for self.now.op self.now.walk self.now.walk.found }
     {
@@ -58,6 +61,7 @@ impl TreeWalk {
     }
 
     /// The thunk for the request with this number, once the walk is whole.
+    #[inline(always)]
     pub fn thunk(&self, number: u32) -> Thunk
         ensures { result ≡ thunk_by self.now number }
     {
@@ -72,6 +76,7 @@ impl TreeWalk {
 
     /// The form of the section's body: one that reads alone, that puts a leaf in, that takes one out, or that puts one
     /// in the place of another. An operation with a second key has none.
+    #[inline(always)]
     fn form(&self) -> u64
         ensures { result ≡ form_for self.now.op self.now.walk.found }
     {
@@ -85,6 +90,7 @@ impl TreeWalk {
     }
 
     /// The operands of the section's body.
+    #[inline(always)]
     fn operands(&self) -> [u64; 8]
         ensures { result ≡ operands_for self.now.op self.now.walk self.now.walk.found }
     {
@@ -100,6 +106,7 @@ impl TreeWalk {
     }
 
     /// The operands of a body that reads alone.
+    #[inline(always)]
     fn look(&self, reply: Reply) -> [u64; 8]
         ensures { result ≡ look_operands self.now.walk (reply_word reply) }
     {
@@ -116,6 +123,7 @@ impl TreeWalk {
     }
 
     /// The operands of a body that puts a leaf in.
+    #[inline(always)]
     fn insert(&self, key: u32, value: u32) -> [u64; 8]
         ensures { result ≡ insert_operands self.now.walk key value }
     {
@@ -132,6 +140,7 @@ impl TreeWalk {
     }
 
     /// The operands of a body that puts a leaf in the place of another.
+    #[inline(always)]
     fn replace(&self, key: u32, value: u32) -> [u64; 8]
         ensures { result ≡ replace_operands self.now.walk key value (reply_word (Was self.now.walk.value)) }
     {
@@ -148,6 +157,7 @@ impl TreeWalk {
     }
 
     /// The operands of a body that takes a leaf out.
+    #[inline(always)]
     fn remove(&self) -> [u64; 8]
         ensures { result ≡ delete_operands self.now.walk }
     {

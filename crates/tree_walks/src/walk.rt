@@ -256,6 +256,7 @@ impl TreeWalk {
     }
 
     /// Whether the walk was refused.
+    #[inline(always)]
     pub fn is_refused(&self) -> bool
         ensures { result ≡ is_refused_of self.now }
     {

@@ -9,6 +9,7 @@ use Rattle.caller_facts.specs.Counted.{IsSeen}
 use Rattle.seq_read.specs.Course.{read_of}
 use Rattle.seq_read.specs.Wants.{readings_of, is_missed, IsAmong}
 use Rattle.seq_read.specs.Parts.{MayLoad, HasLoadedCells}
+use Rattle.seq_read.specs.View.{steps_in}
 use Rattle.seq_read.proofs.Courses.{may_leave}
 use Rattle.seq_read.proofs.Looked.{body_rests, may_load_so, loaded, cells_cut, cell_rests, found_so, found_rests}
 use Rattle.seq_read.proofs.Testing.{missed_is}
@@ -60,7 +61,7 @@ returns-in-Some-missed-clause-rests g c =
     let met = g.met.S.Structure g.world.𝓛 g.world.𝓜 g.world.𝓡 ((λ s allowed. allowed), (λ patient. patient), (λ alone. alone), (λ cuts. cuts)) in
     let m = g.S.Structure.meaning c.args.table.now.structure in
     λ readings old is.
-    let miss = missed_is c.args.body.now c.load_cells-runner.ensures.loaded.0 c.load_cells-runner.result.1 c.in-Some-missed.missed c.in-Some-missed.is c.load_cells-runner.ensures.loaded.1 in
+    let miss = missed_is (steps_in c.args.body.now) c.load_cells-runner.ensures.loaded.0 c.load_cells-runner.result.1 c.in-Some-missed.missed c.in-Some-missed.is c.load_cells-runner.ensures.loaded.1 in
     cell_rests m (met.laws c.args.table.now.structure) (g.S.Planner.planning c.args.table.now.structure) c.args.request.now old (subst IsWithinLimits (sym c.requires.own.layout ∙ is.reading.still.layout) (c.requires.own.limits _ refl)) (subst AreAllowed (sym c.requires.own.requests ∙ is.reading.still.requests) (c.requires.own.allowed _ refl)) c.args.thunk.now readings c.args.runner is (IsSeen g.G.Gate.halts g.G.Gate.asks) (ap (position (λ step. not (is_look step))) (sym c.requires.body) ∙ (sym c.change_in.ensures ∙ c.in_default.is)) c.load_cells-runner.ensures.loaded.0 c.load_cells-runner.result.2 c.load_cells-runner.result.0 (g.G.Gate.halts c.args.gate.now) (g.G.Gate.halts c.load_cells-runner.new.gate) (g.G.Gate.asks c.args.gate.now) (g.G.Gate.asks c.load_cells-runner.new.gate) c.args.steps.now.count c.load_cells-runner.new.steps.count (subst (λ b. HasLoadedCells m b c.load_cells-runner.ensures.loaded.0 c.load_cells-runner.result.2 c.args.runner c.load_cells-runner.result.0 (IsSeen g.G.Gate.halts g.G.Gate.asks) (g.G.Gate.halts c.args.gate.now) (g.G.Gate.halts c.load_cells-runner.new.gate) (g.G.Gate.asks c.args.gate.now) (g.G.Gate.asks c.load_cells-runner.new.gate) c.args.steps.now.count c.load_cells-runner.new.steps.count) c.requires.body c.load_cells-runner.ensures.loaded.2) c.if-not-going.false miss.0
     (subst (λ b. IsAmong b miss.0) c.requires.body miss.1)
     c.in-Some-missed.missed.place c.in-Some-missed.missed.expected c.in-Some-missed.missed.read

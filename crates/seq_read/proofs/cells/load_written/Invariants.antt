@@ -3,7 +3,7 @@ use Rattle.caller_facts.specs.version_words.specs.TableState.{IsOf}
 use Rattle.seq_read.specs.Parts.{HasCells}
 use Rattle.seq_read.specs.Wants.{IsTested}
 use Rattle.seq_read.specs.declared.cells.Loaded.{Loaded}
-use Rattle.seq_read.proofs.cells.load_cells.Given as goal
+use Rattle.seq_read.proofs.cells.load_written.Given as goal
 
 abbrev pub invariant-loop-n : goal.invariant-loop-n
 invariant-loop-n g l = record {
