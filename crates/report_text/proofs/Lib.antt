@@ -1,3 +1,4 @@
+pub mod Counting
 pub mod Legality
 pub mod Lines
 pub mod Precedence

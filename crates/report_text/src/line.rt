@@ -1,5 +1,5 @@
 // The lines of a report, each with the line feed that ends it.
-ghost use Rattle.std.specs.Prelude.{◌≡◌, ◌++◌, ◌+◌, ◌≤◌};
+ghost use Rattle.std.specs.Prelude.{◌≡◌, ◌++◌, ◌+◌, ◌≤◌, codes, decimal};
 ghost use Rattle.arrayvec.specs.ArrayString.{array_string_len};
 ghost use Rattle.report_text.specs.Report.{reply_text, answer_of, line_text};
 ghost use Rattle.report_text.specs.Report.Line.{trace_line, answer_line, final_line};
@@ -30,9 +30,7 @@ pub fn line_of_answer(entry: Option<Entry>, rank: Option<u32>) -> Line
     match (entry, rank) {
         (Some(entry), Some(rank)) => {
             line.push_str(Buffer::new().format(rank));
-            line.push_str(" ");
             push_reply(&mut line, entry.reply);
-            line.push_str("\n");
         }
         _ => line.push_str("- unserved\n"),
     }
@@ -50,24 +48,35 @@ pub fn line_of_size(size: u32) -> Line
     line
 }
 
+// Ends a line with a reply. What stands before and behind it is pushed with its word, in one piece.
 fn push_reply(line: &mut Line, reply: Reply)
-    requires { array_string_len line.old ≤ 11 }
-    ensures bytes { line.new.bytes ≡ line.old.bytes ++ reply_text reply }
-    ensures short { array_string_len line.new ≤ array_string_len line.old + 14 }
+    requires { array_string_len line.old ≤ 10 }
+    ensures bytes { line.new.bytes ≡ line.old.bytes ++ codes " " ++ reply_text reply ++ codes "\n" }
+    ensures short { array_string_len line.new ≤ array_string_len line.old + 16 }
 {
     match reply {
-        Reply::New => line.push_str("new"),
-        Reply::Dup => line.push_str("dup"),
+        Reply::New => line.push_str(" new\n"),
+        Reply::Dup => line.push_str(" dup\n"),
         Reply::Val(value) => {
-            line.push_str("val ");
-            line.push_str(Buffer::new().format(value));
+            line.push_str(" val ");
+            push_number(line, value);
         }
-        Reply::Gone => line.push_str("gone"),
-        Reply::Absent => line.push_str("none"),
+        Reply::Gone => line.push_str(" gone\n"),
+        Reply::Absent => line.push_str(" none\n"),
         Reply::Was(value) => {
-            line.push_str("was ");
-            line.push_str(Buffer::new().format(value));
+            line.push_str(" was ");
+            push_number(line, value);
         }
-        Reply::Moved => line.push_str("moved"),
+        Reply::Moved => line.push_str(" moved\n"),
     }
+}
+
+// Ends a line with a number.
+fn push_number(line: &mut Line, number: u32)
+    requires { array_string_len line.old ≤ 15 }
+    ensures bytes { line.new.bytes ≡ line.old.bytes ++ decimal number ++ codes "\n" }
+    ensures short { array_string_len line.new ≤ array_string_len line.old + 11 }
+{
+    line.push_str(Buffer::new().format(number));
+    line.push_str("\n");
 }

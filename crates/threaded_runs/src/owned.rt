@@ -18,8 +18,15 @@ pub fn requests_of(
     ensures { IfOk result (λ own. own.items ≡ own_requests runners worker requests.now) }
 {
     let mut own = Vec::new(alloc);
+    let mut trace = 0;
+    let mut is_own = worker == 0;
     for request in requests {
-        if request.trace % runners == worker {
+        // Requests of a trace follow one another, so that a division for each trace is enough.
+        if request.trace != trace {
+            trace = request.trace;
+            is_own = trace % runners == worker;
+        }
+        if is_own {
             own.push(*request)?;
         }
     }
