@@ -5,7 +5,7 @@ use Rattle.std.proofs.Common.{◌≡◌, ◌≢◌, ℕ, ◌+◌, Bool, true, fa
 use mathlib.Core.Logic.{dite}
 use native.Mathlib.Decide.{ℕ_discrete}
 use Rattle.epoch_core.specs.declared.location.Location.{Location}
-use Rattle.epoch_core.specs.declared.location.Location.TheVariants.{Fixed, Live, Hand, Free, Worn, Limbo}
+use Rattle.epoch_core.specs.declared.location.Location.TheVariants.{Fixed, Live, Hand, Free, Worn, Limbo, OnBoard}
 use Rattle.epoch_core.specs.Moves.{is_old, collected}
 use Rattle.epoch_core.specs.State.{Counts}
 use Rattle.epoch_core.specs.Events.{slot_of, after_collect}
@@ -20,6 +20,7 @@ leaving r e s Live limbo at = let none = times-old_none s e limbo at in grind ar
 leaving r e s (Hand r') limbo at = let none = times-old_none s e limbo at in grind arith
 leaving r e s (Free r') limbo at = let none = times-old_none s e limbo at in grind arith
 leaving r e s (Worn r') limbo at = let none = times-old_none s e limbo at in grind arith
+leaving r e s (OnBoard i) limbo at = let none = times-old_none s e limbo at in grind arith
 leaving r e s (Limbo r' y') limbo at =
     dite (ℕ_discrete r' r)
     (λ own. let one = times-old_one s y' e limbo (λ y. let h = at y in grind arith) in grind arith)
@@ -32,6 +33,7 @@ free_kept r r1 e Live = refl
 free_kept r r1 e (Hand r') = refl
 free_kept r r1 e (Free r') = refl
 free_kept r r1 e (Worn r') = refl
+free_kept r r1 e (OnBoard i) = refl
 free_kept r r1 e (Limbo r' y') = grind arith
 
 pub worn_kept : (node : Bool) (r r1 e : ℕ) (p : Location) → in_worn r1 (collected node r e p) ≡ in_worn r1 p
@@ -40,6 +42,7 @@ worn_kept node r r1 e Live = refl
 worn_kept node r r1 e (Hand r') = refl
 worn_kept node r r1 e (Free r') = refl
 worn_kept node r r1 e (Worn r') = refl
+worn_kept node r r1 e (OnBoard i) = refl
 worn_kept true r r1 e (Limbo r' y') = grind arith
 worn_kept false r r1 e (Limbo r' y') = grind arith
 
@@ -49,6 +52,7 @@ limbo_young r e y Live = grind arith
 limbo_young r e y (Hand r') = grind arith
 limbo_young r e y (Free r') = grind arith
 limbo_young r e y (Worn r') = grind arith
+limbo_young r e y (OnBoard i) = grind arith
 limbo_young r e y (Limbo r' y') = grind arith
 
 -- a descriptor stays
@@ -58,6 +62,7 @@ descriptor_stays r e Live = refl
 descriptor_stays r e (Hand r') = refl
 descriptor_stays r e (Free r') = refl
 descriptor_stays r e (Worn r') = refl
+descriptor_stays r e (OnBoard i) = refl
 descriptor_stays r e (Limbo r' y') = refl
 
 -- the lists of the others stay
@@ -67,6 +72,7 @@ hand_of_others node r r1 e Live ne = refl
 hand_of_others node r r1 e (Hand r') ne = refl
 hand_of_others node r r1 e (Free r') ne = refl
 hand_of_others node r r1 e (Worn r') ne = refl
+hand_of_others node r r1 e (OnBoard i) ne = refl
 hand_of_others true r r1 e (Limbo r' y') ne = grind arith
 hand_of_others false r r1 e (Limbo r' y') ne = grind arith
 
@@ -76,6 +82,7 @@ limbo_of_others node r r1 e y Live ne = refl
 limbo_of_others node r r1 e y (Hand r') ne = refl
 limbo_of_others node r r1 e y (Free r') ne = refl
 limbo_of_others node r r1 e y (Worn r') ne = refl
+limbo_of_others node r r1 e y (OnBoard i) ne = refl
 limbo_of_others true r r1 e y (Limbo r' y') ne = grind arith
 limbo_of_others false r r1 e y (Limbo r' y') ne = grind arith
 

@@ -1,17 +1,18 @@
 -- Each event keeps the history exact.
-use Rattle.std.proofs.Common.{◌≡◌, ℕ, suc, Bool, true, false, List, [], ◌∷◌, length, arith}
+use Rattle.std.proofs.Common.{◌≡◌, ℕ, suc, Bool, true, false, List, [], ◌∷◌, length, ap, ◌<◌, arith}
 use Rattle.epoch_core.specs.declared.location.Location.{Location}
+use Rattle.epoch_core.specs.declared.location.Location.TheVariants.{Hand, Free, OnBoard}
 use Rattle.epoch_core.specs.State.{Counts, Role, EpochState}
-use Rattle.epoch_core.specs.Events.{Event, EnterLoad, Announce, EnterAgain, Exit, ScanEpoch, ScanOne, ScanLast, Advance, Test, TakeSlot, MakeCommit, RetireEpoch, RetireCommit, WordCommit, StoreLog, Reach, Publish, RetireDescriptor, Unguard, Sweep, Enabled, after, slot_of, is_among}
-use Rattle.epoch_core.specs.Sound.{IsSound}
+use Rattle.epoch_core.specs.Events.{Event, EnterLoad, Announce, EnterAgain, Exit, ScanEpoch, ScanOne, ScanLast, Advance, Test, TakeSlot, GiveBoard, TakeBoard, MakeCommit, RetireEpoch, RetireCommit, WordCommit, StoreLog, Reach, Publish, RetireDescriptor, Unguard, Sweep, Enabled, after, slot_of, is_among}
+use Rattle.epoch_core.specs.Sound.{IsSound, is_for_nodes}
 use Rattle.epoch_core.specs.Schedules.{IsFirst, first_state, AllEnabled, after_all}
 use Rattle.epoch_core.specs.History.{History, no_history, noted, noted_all, IsExact, is_out}
 use Rattle.epoch_core.proofs.Keeping.{keeps}
 use Rattle.epoch_core.proofs.NodeSlots.{out_before}
 use Rattle.epoch_core.proofs.Sweeping.{swept_out}
 use Rattle.std.proofs.Common.{cond}
-use Rattle.epoch_core.specs.Update.{upd2}
-use Rattle.epoch_core.specs.Moves.{written_once}
+use Rattle.epoch_core.specs.Update.{upd, upd2}
+use Rattle.epoch_core.specs.Moves.{tested, written_once}
 use Rattle.epoch_core.specs.History.{with_won, agreed_slot, agreed_count, is_makes, is_retires}
 
 -- a Make's commit is noted where it won, and then its slot is the agreed one
@@ -145,32 +146,20 @@ exact_advance c w h r x n ok sound old =
       retired_once = grind arith;
     }
 
-exact_test : (c : Counts) (w : EpochState) (h : History) (r : ℕ) (s : ℕ) (b : Bool) → Enabled c w (Test r s b) → IsSound c w → IsExact c w h → IsExact c (after c w (Test r s b)) (noted w h (Test r s b))
-exact_test c w h r s b ok sound old =
+-- where a node slot goes from one place at which it isn't given out to another
+exact_lists : (c : Counts) (w : EpochState) (h : History) (s : ℕ) (x : Location) → s < c.nodes → IsExact c w h
+    → IsExact c (record w { location = upd w.location s x }) h
+exact_lists c w h s x node old =
     record {
-      numbered = grind arith;
-      named = grind arith;
-      apart = grind arith;
-      unborn_made = grind arith;
-      unborn_retired = grind arith;
-      made = grind arith;
-      retired = grind arith;
-      made_once = grind arith;
-      retired_once = grind arith;
-    }
-
-exact_take_slot : (c : Counts) (w : EpochState) (h : History) (r : ℕ) (s : ℕ) → Enabled c w (TakeSlot r s) → IsSound c w → IsExact c w h → IsExact c (after c w (TakeSlot r s)) (noted w h (TakeSlot r s))
-exact_take_slot c w h r s ok sound old =
-    record {
-      numbered = grind arith;
-      named = grind arith;
-      apart = grind arith;
-      unborn_made = grind arith;
-      unborn_retired = grind arith;
-      made = grind arith;
-      retired = grind arith;
-      made_once = grind arith;
-      retired_once = grind arith;
+      numbered = old.numbered;
+      named = λ d out. old.named d (out_before w.location c.nodes s d x node out);
+      apart = old.apart;
+      unborn_made = old.unborn_made;
+      unborn_retired = old.unborn_retired;
+      made = λ d k out. old.made d k (out_before w.location c.nodes s d x node out);
+      retired = λ d k out. old.retired d k (out_before w.location c.nodes s d x node out);
+      made_once = old.made_once;
+      retired_once = old.retired_once;
     }
 
 exact_make_commit : (c : Counts) (w : EpochState) (h : History) (r : ℕ) (d : ℕ) (k : ℕ) (s : ℕ) (b : Bool) → Enabled c w (MakeCommit r d k s b) → IsSound c w → IsExact c w h → IsExact c (after c w (MakeCommit r d k s b)) (noted w h (MakeCommit r d k s b))
@@ -335,8 +324,10 @@ exact c w h (ScanEpoch r) ok sound old = exact_scan_epoch c w h r ok sound old
 exact c w h (ScanOne r x n b) ok sound old = exact_scan_one c w h r x n b ok sound old
 exact c w h (ScanLast r x n b) ok sound old = exact_scan_last c w h r x n b ok sound old
 exact c w h (Advance r x n) ok sound old = exact_advance c w h r x n ok sound old
-exact c w h (Test r s b) ok sound old = exact_test c w h r s b ok sound old
-exact c w h (TakeSlot r s) ok sound old = exact_take_slot c w h r s ok sound old
+exact c w h (Test r s b) ok sound old = exact_lists c w h s (tested b r) (sound.for_nodes s (ap is_for_nodes ok)) old
+exact c w h (TakeSlot r s) ok sound old = exact_lists c w h s (Hand r) ok.1 old
+exact c w h (GiveBoard r s i) ok sound old = exact_lists c w h s (OnBoard i) ok.1 old
+exact c w h (TakeBoard r s i) ok sound old = exact_lists c w h s (Free r) (sound.for_nodes s (ap is_for_nodes ok)) old
 exact c w h (MakeCommit r d k s b) ok sound old = exact_make_commit c w h r d k s b ok sound old
 exact c w h (RetireEpoch r d k s) ok sound old = exact_retire_epoch c w h r d k s ok sound old
 exact c w h (RetireCommit r) ok sound old = exact_retire_commit c w h r ok sound old

@@ -3,12 +3,12 @@ use Rattle.std.proofs.Common.{◌≡◌, ◌≢◌, ℕ, ◌+◌, ◌<◌, ◌�
 use Rattle.std.proofs.lemmas.Bool.{cases_eq}
 use Rattle.std.specs.Prelude.{◌⊎◌, nat_lt}
 use Rattle.epoch_core.specs.declared.location.Location.{Location}
-use Rattle.epoch_core.specs.declared.location.Location.TheVariants.{Fixed, Live, Hand, Free, Worn, Limbo}
+use Rattle.epoch_core.specs.declared.location.Location.TheVariants.{Fixed, Live, Hand, Free, Worn, Limbo, OnBoard}
 use Rattle.epoch_core.specs.Update.{upd2}
 use Rattle.epoch_core.specs.Moves.{collected, swept, tested}
 use Rattle.epoch_core.specs.State.{Counts, Role, Retires, EpochState}
-use Rattle.epoch_core.specs.Events.{Event, ScanLast, Advance, Test, TakeSlot, MakeCommit, RetireCommit, Publish, RetireDescriptor, Sweep, Enabled, after, slot_of, is_among}
-use Rattle.epoch_core.specs.Sound.{IsSound}
+use Rattle.epoch_core.specs.Events.{Event, ScanLast, Advance, Test, TakeSlot, GiveBoard, TakeBoard, MakeCommit, RetireCommit, Publish, RetireDescriptor, Sweep, Enabled, after, slot_of, is_among}
+use Rattle.epoch_core.specs.Sound.{IsSound, is_for_nodes}
 use Rattle.epoch_core.specs.History.{History, with_won, noted, IsExact, is_out, is_retires, agreed_count}
 use Rattle.epoch_core.specs.Freed.{IsMade, IsRetired, SlotsMove, FreedStay}
 use Rattle.epoch_core.proofs.Lasting.{kept_out}
@@ -34,12 +34,16 @@ module _ (c : Counts) (w : EpochState) (h : History) where
   still_moves : (e : Event) → ((s : ℕ) → w.location s ≡ Fixed → (after c w e).location s ≡ Fixed)
       → ((s : ℕ) → s < c.nodes → (after c w e).location s ≡ w.location s)
       → ((s r : ℕ) → w.location s ≡ Hand r → (after c w e).location s ≡ Hand r)
+      → ((s i : ℕ) → (after c w e).location s ≡ OnBoard i → w.location s ≡ OnBoard i)
+      → ((s i : ℕ) → w.location s ≡ OnBoard i → (after c w e).location s ≡ OnBoard i)
       → (noted w h e).made ≡ h.made → (noted w h e).retired ≡ h.retired → SlotsMove c w (after c w e) h (noted w h e)
-  still_moves e fixed same hand made_same retired_same = record {
+  still_moves e fixed same hand onto off made_same retired_same = record {
     fixed = fixed;
     hand = λ s r at. inl (hand s r at);
     live = λ s lt at. inl (sym (same s lt) ∙ at);
     limbo = λ s r y lt at. inl (sym (same s lt) ∙ at);
+    board = λ s i at. inl (onto s i at);
+    unboard = λ s i at. inl (off s i at);
     made = λ n k s none one. none_one _ s none (sym (ap (λ (f : ℕ → ℕ → List ℕ). f n k) made_same) ∙ one);
     retired = λ n k y none one. none_one _ y none (sym (ap (λ (f : ℕ → ℕ → List ℕ). f n k) retired_same) ∙ one);
   }
@@ -54,6 +58,7 @@ module _ (c : Counts) (w : EpochState) (h : History) where
   collected_live node r epoch (Hand r') at = absurd (cc)
   collected_live node r epoch (Free r') at = absurd (cc)
   collected_live node r epoch (Worn r') at = absurd (cc)
+  collected_live node r epoch (OnBoard i) at = absurd (cc)
   collected_live true r epoch (Limbo r' y) at = grind arith
   collected_live false r epoch (Limbo r' y) at = grind arith
 
@@ -63,8 +68,28 @@ module _ (c : Counts) (w : EpochState) (h : History) where
   collected_limbo node r epoch r' y' (Hand r1) at = absurd (cc)
   collected_limbo node r epoch r' y' (Free r1) at = absurd (cc)
   collected_limbo node r epoch r' y' (Worn r1) at = absurd (cc)
+  collected_limbo node r epoch r' y' (OnBoard i) at = absurd (cc)
   collected_limbo true r epoch r' y' (Limbo r1 y) at = grind arith
   collected_limbo false r epoch r' y' (Limbo r1 y) at = grind arith
+
+  collected_board : (node : Bool) (r epoch i' : ℕ) (x : Location) → collected node r epoch x ≡ OnBoard i' → x ≡ OnBoard i'
+  collected_board node r epoch i' Live at = absurd (cc)
+  collected_board node r epoch i' Fixed at = absurd (cc)
+  collected_board node r epoch i' (Hand r1) at = absurd (cc)
+  collected_board node r epoch i' (Free r1) at = absurd (cc)
+  collected_board node r epoch i' (Worn r1) at = absurd (cc)
+  collected_board node r epoch i' (OnBoard i) at = at
+  collected_board true r epoch i' (Limbo r1 y) at = grind arith
+  collected_board false r epoch i' (Limbo r1 y) at = absurd (cc)
+
+  swept_board : (b : Bool) (r i' : ℕ) (x : Location) → swept b r x ≡ OnBoard i' → x ≡ OnBoard i'
+  swept_board b r i' Live at = absurd (cc)
+  swept_board b r i' Fixed at = absurd (cc)
+  swept_board b r i' (Hand r1) at = absurd (cc)
+  swept_board b r i' (Free r1) at = absurd (cc)
+  swept_board b r i' (Worn r1) at = absurd (cc)
+  swept_board b r i' (OnBoard i) at = at
+  swept_board b r i' (Limbo r1 y) at = grind arith
 
   collect_moves : (e : Event) (r epoch : ℕ)
       → ((s : ℕ) → (node : Bool) × ((after c w e).location s ≡ collected node r epoch (w.location s)))
@@ -74,6 +99,8 @@ module _ (c : Counts) (w : EpochState) (h : History) where
     hand = λ s r' at. let x = all s in inl (x.1 ∙ collected_hand x.0 r epoch r' (w.location s) at);
     live = λ s lt at. let x = all s in inl (collected_live x.0 r epoch (w.location s) (sym x.1 ∙ at));
     limbo = λ s r' y lt at. let x = all s in inl (collected_limbo x.0 r epoch r' y (w.location s) (sym x.1 ∙ at));
+    board = λ s i at. let x = all s in inl (collected_board x.0 r epoch i (w.location s) (sym x.1 ∙ at));
+    unboard = λ s i at. let x = all s in inl (x.1 ∙ ap (collected x.0 r epoch) at);
     made = λ n k s none one. none_one _ s none (sym (ap (λ (f : ℕ → ℕ → List ℕ). f n k) made_same) ∙ one);
     retired = λ n k y none one. none_one _ y none (sym (ap (λ (f : ℕ → ℕ → List ℕ). f n k) retired_same) ∙ one);
   }
@@ -84,6 +111,8 @@ module _ (c : Counts) (w : EpochState) (h : History) where
     hand = grind arith;
     live = grind arith;
     limbo = grind arith;
+    board = grind arith;
+    unboard = grind arith;
     made = λ n k t none one. none_one _ t none one;
     retired = λ n k y none one. none_one _ y none one;
   }
@@ -94,9 +123,44 @@ module _ (c : Counts) (w : EpochState) (h : History) where
     hand = grind arith;
     live = grind arith;
     limbo = grind arith;
+    board = grind arith;
+    unboard = grind arith;
     made = λ n k t none one. none_one _ t none one;
     retired = λ n k y none one. none_one _ y none one;
   }
+
+  give_moves : (r s i : ℕ) → Enabled c w (GiveBoard r s i) → SlotsMove c w (after c w (GiveBoard r s i)) h (noted w h (GiveBoard r s i))
+  give_moves r s i ok = record {
+    fixed = grind arith;
+    hand = grind arith;
+    live = grind arith;
+    limbo = grind arith;
+    board = λ t j at. ⊎_elim (λ e. inr (r, ap w.location e ∙ ok.0)) (λ ne. inl (else t j ne at)) (cases_eq t s);
+    unboard = grind arith;
+    made = λ n k t none one. none_one _ t none one;
+    retired = λ n k y none one. none_one _ y none one;
+  }
+    where
+      else : (t j : ℕ) → t ≢ s → (after c w (GiveBoard r s i)).location t ≡ OnBoard j → w.location t ≡ OnBoard j
+      else t j ne at = grind arith
+
+  take_board_moves : (r s i : ℕ) → Enabled c w (TakeBoard r s i) → SlotsMove c w (after c w (TakeBoard r s i)) h (noted w h (TakeBoard r s i))
+  take_board_moves r s i ok = record {
+    fixed = grind arith;
+    hand = grind arith;
+    live = grind arith;
+    limbo = grind arith;
+    board = grind arith;
+    unboard = λ t j at. ⊎_elim (λ e. inr (r, free t e)) (λ ne. inl (else t j ne at)) (cases_eq t s);
+    made = λ n k t none one. none_one _ t none one;
+    retired = λ n k y none one. none_one _ y none one;
+  }
+    where
+      free : (t : ℕ) → t ≡ s → (after c w (TakeBoard r s i)).location t ≡ Free r
+      free t e = grind arith
+
+      else : (t j : ℕ) → t ≢ s → w.location t ≡ OnBoard j → (after c w (TakeBoard r s i)).location t ≡ OnBoard j
+      else t j ne at = grind arith
 
   -- the history after a commit of a Make
   abbrev made_more : ℕ → ℕ → ℕ → ℕ → ℕ → List ℕ
@@ -133,6 +197,8 @@ module _ (c : Counts) (w : EpochState) (h : History) where
             (λ ne. inl (sym (else t ne) ∙ at))
             (cases_eq t s);
         limbo = λ t r' y lt at. ⊎_elim (λ e. absurd (no_limbo t r' y e at)) (λ ne. inl (sym (else t ne) ∙ at)) (cases_eq t s);
+        board = λ t i at. ⊎_elim (λ e. absurd (no_board t i e at)) (λ ne. inl (sym (else t ne) ∙ at)) (cases_eq t s);
+        unboard = λ t i at. ⊎_elim (λ e. absurd (let no : OnBoard i ≡ Hand r = sym at ∙ ap w.location e ∙ ok.2 in cc)) (λ ne. inl (else t ne ∙ at)) (cases_eq t s);
         made = λ n i t none one. more n i t none one;
         retired = λ n i y none one. none_one _ y none one;
       }
@@ -153,6 +219,9 @@ module _ (c : Counts) (w : EpochState) (h : History) where
 
       no_limbo : (t r' y : ℕ) → t ≡ s → (after c w (MakeCommit r d k s b)).location t ≡ Limbo r' y → ⊥
       no_limbo t r' y e at = let is = tested_back b r in grind arith
+
+      no_board : (t i : ℕ) → t ≡ s → (after c w (MakeCommit r d k s b)).location t ≡ OnBoard i → ⊥
+      no_board t i e at = let is = tested_back b r in grind arith
 
       more : (n i t : ℕ) → h.made n i ≡ [] → made_more d k s n i ≡ t ∷ []
           → (r' : ℕ) × (w.location t ≡ Hand r') × ((after c w (MakeCommit r d k s b)).location t ≡ Live)
@@ -183,6 +252,12 @@ module _ (c : Counts) (w : EpochState) (h : History) where
             (λ e. inr (won t r' y e z at here))
             (λ ne. inl (sym (else t ne) ∙ at)) (cases_eq t x.slot))
             (λ ne. inl (sym (unmoved t ne) ∙ at)) (cases_eq (w.log x.descriptor x.index) 0);
+        board = λ t i at. ⊎_elim
+            (λ z. ⊎_elim (λ e. absurd (let now = live z in grind arith)) (λ ne. inl (sym (else t ne) ∙ at)) (cases_eq t x.slot))
+            (λ ne. inl (sym (unmoved t ne) ∙ at)) (cases_eq (w.log x.descriptor x.index) 0);
+        unboard = λ t i at. ⊎_elim
+            (λ z. ⊎_elim (λ e. absurd (let now = live z in grind arith)) (λ ne. inl (else t ne ∙ at)) (cases_eq t x.slot))
+            (λ ne. inl (unmoved t ne ∙ at)) (cases_eq (w.log x.descriptor x.index) 0);
         made = λ n i t none one. none_one _ t none one;
         retired = λ n i y none one. more n i y none one;
       }
@@ -232,16 +307,20 @@ module _ (c : Counts) (w : EpochState) (h : History) where
   pub moves : (e : Event) → Enabled c w e → IsSound c w → IsExact c w h → SlotsMove c w (after c w e) h (noted w h e)
   moves (Test r s b) ok sound exact = test_moves r s b ok
   moves (TakeSlot r s) ok sound exact = take_moves r s ok
+  moves (GiveBoard r s i) ok sound exact = give_moves r s i ok
+  moves (TakeBoard r s i) ok sound exact = take_board_moves r s i ok
   moves (MakeCommit r d k s b) ok sound exact = make_moves exact r d k s b ok sound
   moves (RetireCommit r) ok sound exact = retire_moves r ok exact sound
   moves (ScanLast r x n b) ok sound exact = collect_moves (ScanLast r x n b) r x (λ s. (nat_lt s c.nodes, refl)) refl refl
   moves (Advance r x n) ok sound exact = collect_moves (Advance r x n) r (x + 1) (λ s. (nat_lt s c.nodes, refl)) refl refl
-  moves (Publish r d roles) ok sound exact = still_moves (Publish r d roles) (λ s at. grind arith) (λ s lt. grind arith) (λ s r' at. grind arith) refl refl
-  moves (RetireDescriptor r d) ok sound exact = still_moves (RetireDescriptor r d) (λ s at. grind arith) (λ s lt. grind arith) (λ s r' at. grind arith) refl refl
+  moves (Publish r d roles) ok sound exact = still_moves (Publish r d roles) (λ s at. grind arith) (λ s lt. grind arith) (λ s r' at. grind arith) (λ s i at. grind arith) (λ s i at. grind arith) refl refl
+  moves (RetireDescriptor r d) ok sound exact = still_moves (RetireDescriptor r d) (λ s at. grind arith) (λ s lt. grind arith) (λ s r' at. grind arith) (λ s i at. grind arith) (λ s i at. grind arith) refl refl
   moves (Sweep r ds) ok sound exact = still_moves (Sweep r ds) (λ s at. swept_else r ds s (λ y q e. absurd (let no = sym at ∙ e in cc)) ∙ at)
       (λ s lt. swept_not (is_among c ds s) r (w.location s) (not_among c ds s lt))
-      (λ s q at. swept_else r ds s (λ y q' e. absurd (let no = sym at ∙ e in cc)) ∙ at) refl refl
-  moves e ok sound exact = still_moves e (λ s at. at) (λ s lt. refl) (λ s r at. at) refl refl
+      (λ s q at. swept_else r ds s (λ y q' e. absurd (let no = sym at ∙ e in cc)) ∙ at)
+      (λ s i at. swept_board (is_among c ds s) r i (w.location s) at)
+      (λ s i at. swept_else r ds s (λ y q' e. absurd (let no = sym at ∙ e in cc)) ∙ at) refl refl
+  moves e ok sound exact = still_moves e (λ s at. at) (λ s lt. refl) (λ s r at. at) (λ s i at. at) (λ s i at. at) refl refl
 
   -- a descriptor is where it was, or was out and is out, or was in limbo
   abbrev StaysOut : (ℕ → Location) → Type 0
@@ -256,6 +335,7 @@ module _ (c : Counts) (w : EpochState) (h : History) where
   collected_out node r epoch (Hand r') is = absurd (cc)
   collected_out node r epoch (Free r') is = absurd (cc)
   collected_out node r epoch (Worn r') is = absurd (cc)
+  collected_out node r epoch (OnBoard i) is = absurd (cc)
 
   collected_before : (node : Bool) (r epoch : ℕ) (x : Location) → is_out (collected node r epoch x) ≡ true → is_out x ≡ true
   collected_before node r epoch Fixed is = refl
@@ -264,6 +344,7 @@ module _ (c : Counts) (w : EpochState) (h : History) where
   collected_before node r epoch (Hand r') is = is
   collected_before node r epoch (Free r') is = is
   collected_before node r epoch (Worn r') is = is
+  collected_before node r epoch (OnBoard i) is = is
 
   -- an event that wins nothing, gives no number, and lets no descriptor come out
   quiet_stays : (e : Event) → (noted w h e ≡ h)
@@ -323,10 +404,14 @@ module _ (c : Counts) (w : EpochState) (h : History) where
   swept_late b r (Hand q) is = absurd (cc)
   swept_late b r (Free q) is = absurd (cc)
   swept_late b r (Worn q) is = absurd (cc)
+  swept_late b r (OnBoard i) is = absurd (cc)
 
   pub freed_stay : (e : Event) → Enabled c w e → IsSound c w → FreedStay c w (after c w e) h (noted w h e)
   freed_stay (Test r s b) ok sound = test_stays r s b ok sound
   freed_stay (TakeSlot r s) ok sound = take_stays r s ok
+  freed_stay (GiveBoard r s i) ok sound = quiet_stays (GiveBoard r s i) refl (λ d out. grind arith) (λ d out. inl (grind arith))
+  freed_stay (TakeBoard r s i) ok sound =
+      let node = sound.for_nodes s (ap is_for_nodes ok) in quiet_stays (TakeBoard r s i) refl (λ d out. grind arith) (λ d out. inl (grind arith))
   freed_stay (MakeCommit r d k s b) ok sound = make_stays r d k s b ok sound
   freed_stay (RetireCommit r) ok sound = retire_stays r ok sound
   freed_stay (Publish r d roles) ok sound = publish_stays r d roles

@@ -2,12 +2,12 @@
 use Rattle.std.proofs.Common.{ℕ, List, [], ◌∷◌}
 use Rattle.epoch_core.specs.declared.location.Location.{Location}
 use Rattle.epoch_core.specs.State.{Counts, EpochState}
-use Rattle.epoch_core.specs.Events.{Event, EnterLoad, Announce, EnterAgain, Exit, ScanEpoch, ScanOne, ScanLast, Advance, Test, TakeSlot, MakeCommit, RetireEpoch, RetireCommit, WordCommit, StoreLog, Reach, Publish, RetireDescriptor, Unguard, Sweep, Enabled, after}
+use Rattle.epoch_core.specs.Events.{Event, EnterLoad, Announce, EnterAgain, Exit, ScanEpoch, ScanOne, ScanLast, Advance, Test, TakeSlot, GiveBoard, TakeBoard, MakeCommit, RetireEpoch, RetireCommit, WordCommit, StoreLog, Reach, Publish, RetireDescriptor, Unguard, Sweep, Enabled, after}
 use Rattle.epoch_core.specs.Sound.{IsSound}
 use Rattle.epoch_core.specs.Schedules.{IsFirst, first_state, AllEnabled, after_all}
 use Rattle.epoch_core.proofs.Entering.{enter_load, announce, enter_again, exit}
 use Rattle.epoch_core.proofs.Scanning.{scan_epoch, scan_one, scan_last, advance}
-use Rattle.epoch_core.proofs.NodeSlots.{test, take_slot, make_commit, retire_epoch, retire_commit}
+use Rattle.epoch_core.proofs.NodeSlots.{test, take_slot, give_board, take_board, make_commit, retire_epoch, retire_commit}
 use Rattle.epoch_core.proofs.Sections.{word_commit, store_log, reach, publish, retire_descriptor}
 use Rattle.epoch_core.proofs.Sweeping.{unguard, sweep}
 use Rattle.std.proofs.Common.{arith}
@@ -23,6 +23,8 @@ keeps c w (ScanLast r x n b) ok old = scan_last c w r x n b ok old
 keeps c w (Advance r x n) ok old = advance c w r x n ok old
 keeps c w (Test r s b) ok old = test c w r s b ok old
 keeps c w (TakeSlot r s) ok old = take_slot c w r s ok old
+keeps c w (GiveBoard r s i) ok old = give_board c w r s i ok old
+keeps c w (TakeBoard r s i) ok old = take_board c w r s i ok old
 keeps c w (MakeCommit r d k s b) ok old = make_commit c w r d k s b ok old
 keeps c w (RetireEpoch r d k s) ok old = retire_epoch c w r d k s ok old
 keeps c w (RetireCommit r) ok old = retire_commit c w r ok old

@@ -4,7 +4,7 @@ use Rattle.std.specs.Prelude.{◌⊎◌}
 use Rattle.epoch_core.specs.declared.location.Location.{Location}
 use Rattle.epoch_core.specs.Moves.{tested}
 use Rattle.epoch_core.specs.State.{Counts, EpochState, IsKept}
-use Rattle.epoch_core.specs.Events.{Event, EnterLoad, Announce, EnterAgain, Exit, ScanEpoch, ScanOne, ScanLast, Advance, Test, TakeSlot, MakeCommit, RetireEpoch, RetireCommit, WordCommit, StoreLog, Reach, Publish, RetireDescriptor, Unguard, Sweep, Enabled, slot_of}
+use Rattle.epoch_core.specs.Events.{Event, EnterLoad, Announce, EnterAgain, Exit, ScanEpoch, ScanOne, ScanLast, Advance, Test, TakeSlot, GiveBoard, TakeBoard, MakeCommit, RetireEpoch, RetireCommit, WordCommit, StoreLog, Reach, Publish, RetireDescriptor, Unguard, Sweep, Enabled, slot_of}
 use Rattle.epoch_core.specs.Sound.{IsSound}
 use Rattle.epoch_core.specs.Commits.{MakeGoesOn, RetireGoesOn}
 use Rattle.epoch_core.specs.History.{History, noted, IsExact, Lasts, is_out}
@@ -18,6 +18,7 @@ kept_out (locations.Limbo r y) g k = refl
 kept_out (locations.Hand r) g k = absurd k
 kept_out (locations.Free r) g k = absurd k
 kept_out (locations.Worn r) g k = absurd k
+kept_out (locations.OnBoard i) g k = absurd k
 
 -- a tested slot is free or worn
 back : (worn : Bool) (r : ℕ) → (tested worn r ≡ locations.Free r) ⊎ (tested worn r ≡ locations.Worn r)
@@ -51,6 +52,8 @@ lasts c w h (ScanLast r x n b) ok sound old = record { made = λ n k some. refl;
 lasts c w h (Advance r x n) ok sound old = record { made = λ n k some. refl; retired = λ n k some. refl }
 lasts c w h (Test r s b) ok sound old = record { made = λ n k some. refl; retired = λ n k some. refl }
 lasts c w h (TakeSlot r s) ok sound old = record { made = λ n k some. refl; retired = λ n k some. refl }
+lasts c w h (GiveBoard r s i) ok sound old = record { made = λ n k some. refl; retired = λ n k some. refl }
+lasts c w h (TakeBoard r s i) ok sound old = record { made = λ n k some. refl; retired = λ n k some. refl }
 lasts c w h (MakeCommit r d k s b) ok sound old =
     let out = kept_out (w.location (slot_of c d)) _ (sound.held r (slot_of c d) ok.0) in let here = old.made d k out in
     record {

@@ -6,11 +6,11 @@ use Rattle.std.proofs.lemmas.Bool.Decides.{nat_tests}
 use mathlib.Core.Logic.{dite}
 use native.Mathlib.Decide.{ℕ_discrete}
 use Rattle.epoch_core.specs.declared.location.Location.{Location}
-use Rattle.epoch_core.specs.declared.location.Location.TheVariants.{Fixed, Live, Hand, Free, Worn, Limbo}
+use Rattle.epoch_core.specs.declared.location.Location.TheVariants.{Fixed, Live, Hand, Free, Worn, Limbo, OnBoard}
 use Rattle.epoch_core.specs.Update.{upd}
 use Rattle.epoch_core.specs.Moves.{collected, swept, tested, made, retired}
 use Rattle.epoch_core.specs.State.{Counts, EpochState}
-use Rattle.epoch_core.specs.Events.{Event, EnterLoad, Announce, EnterAgain, Exit, ScanEpoch, ScanOne, ScanLast, Advance, Test, TakeSlot, MakeCommit, RetireEpoch, RetireCommit, WordCommit, StoreLog, Reach, Publish, RetireDescriptor, Unguard, Sweep, Enabled, after, slot_of, after_collect, is_among}
+use Rattle.epoch_core.specs.Events.{Event, EnterLoad, Announce, EnterAgain, Exit, ScanEpoch, ScanOne, ScanLast, Advance, Test, TakeSlot, GiveBoard, TakeBoard, MakeCommit, RetireEpoch, RetireCommit, WordCommit, StoreLog, Reach, Publish, RetireDescriptor, Unguard, Sweep, Enabled, after, slot_of, after_collect, is_among}
 use Rattle.epoch_core.specs.Sound.{IsSound}
 use Rattle.epoch_core.specs.Schedules.{AllEnabled, after_all}
 use Rattle.epoch_core.specs.Lists.{Lists, IsListed, listed, listed_all, collect_lists, tested_lists, made_lists, retired_lists, swept_lists, without, old_slots, times, times_retired, in_hand, in_free, in_worn, in_limbo, in_any_limbo}
@@ -123,6 +123,40 @@ takes c w l r s at node old =
       limbo_nodes = λ r1 t y1 ge. let before = old.limbo_nodes r1 t y1 ge in grind arith;
     }
 
+-- a free slot goes onto the board
+gives : (c : Counts) (w : EpochState) (l : ℕ → Lists) (r s i : ℕ) → w.location s ≡ Free r → s < c.nodes → IsListed c w l
+    → IsListed c (record w { location = upd w.location s (OnBoard i) }) (upd l r (record (l r) { free = without (l r).free s }))
+gives c w l r s i at node old =
+    record {
+      hand = λ r1 t lt. let before = old.hand r1 t lt in grind arith;
+      free = λ r1 t lt. let before = old.free r1 t lt in let gone = times-without t s ((l r1).free) in grind arith;
+      worn = λ r1 t lt. let before = old.worn r1 t lt in grind arith;
+      limbo = λ r1 t y1 lt. let before = old.limbo r1 t y1 lt in grind arith;
+      free_descriptors = λ r1 d1 lt. let before = old.free_descriptors r1 d1 lt in grind arith;
+      limbo_descriptors = λ r1 d1 lt. let before = old.limbo_descriptors r1 d1 lt in grind arith;
+      hand_nodes = λ r1 t ge. let before = old.hand_nodes r1 t ge in grind arith;
+      free_nodes = λ r1 t ge. let before = old.free_nodes r1 t ge in let gone = times-without t s ((l r1).free) in grind arith;
+      worn_nodes = λ r1 t ge. let before = old.worn_nodes r1 t ge in grind arith;
+      limbo_nodes = λ r1 t y1 ge. let before = old.limbo_nodes r1 t y1 ge in grind arith;
+    }
+
+-- a slot on the board is taken into a free list
+takes_from_board : (c : Counts) (w : EpochState) (l : ℕ → Lists) (r s i : ℕ) → w.location s ≡ OnBoard i → s < c.nodes → IsListed c w l
+    → IsListed c (record w { location = upd w.location s (Free r) }) (upd l r (record (l r) { free = (l r).free ++ s ∷ [] }))
+takes_from_board c w l r s i at node old =
+    record {
+      hand = λ r1 t lt. let before = old.hand r1 t lt in grind arith;
+      free = λ r1 t lt. let before = old.free r1 t lt in let more = times-append t ((l r1).free) (s ∷ []) in grind arith;
+      worn = λ r1 t lt. let before = old.worn r1 t lt in grind arith;
+      limbo = λ r1 t y1 lt. let before = old.limbo r1 t y1 lt in grind arith;
+      free_descriptors = λ r1 d1 lt. let before = old.free_descriptors r1 d1 lt in grind arith;
+      limbo_descriptors = λ r1 d1 lt. let before = old.limbo_descriptors r1 d1 lt in grind arith;
+      hand_nodes = λ r1 t ge. let before = old.hand_nodes r1 t ge in grind arith;
+      free_nodes = λ r1 t ge. let before = old.free_nodes r1 t ge in let more = times-append t ((l r1).free) (s ∷ []) in grind arith;
+      worn_nodes = λ r1 t ge. let before = old.worn_nodes r1 t ge in grind arith;
+      limbo_nodes = λ r1 t y1 ge. let before = old.limbo_nodes r1 t y1 ge in grind arith;
+    }
+
 -- a live slot goes into limbo
 retires : (c : Counts) (w : EpochState) (l : ℕ → Lists) (r s y : ℕ) → w.location s ≡ Live → s < c.nodes → IsListed c w l
     → IsListed c (record w { location = upd w.location s (Limbo r y) }) (upd l r (record (l r) { limbo = (l r).limbo ++ record { slot = s; epoch = y } ∷ [] }))
@@ -189,6 +223,7 @@ free_then b r Live = grind arith
 free_then b r (Hand r') = grind arith
 free_then b r (Free r') = grind arith
 free_then b r (Worn r') = grind arith
+free_then b r (OnBoard i) = grind arith
 free_then b r (Limbo r' y) = grind arith
 
 limbo_then : (b : Bool) (r : ℕ) (x : Location) → in_any_limbo r (swept b r x) ≡ cond (not b) (in_any_limbo r x) 0
@@ -197,6 +232,7 @@ limbo_then b r Live = grind arith
 limbo_then b r (Hand r') = grind arith
 limbo_then b r (Free r') = grind arith
 limbo_then b r (Worn r') = grind arith
+limbo_then b r (OnBoard i) = grind arith
 limbo_then b r (Limbo r' y) = grind arith
 
 -- and after the sweep of another one
@@ -206,6 +242,7 @@ free_else b r q Live ne = refl
 free_else b r q (Hand r') ne = refl
 free_else b r q (Free r') ne = refl
 free_else b r q (Worn r') ne = refl
+free_else b r q (OnBoard i) ne = refl
 free_else b r q (Limbo r' y) ne = grind arith
 
 limbo_else : (b : Bool) (r q : ℕ) (x : Location) → q ≢ r → in_any_limbo q (swept b r x) ≡ in_any_limbo q x
@@ -214,6 +251,7 @@ limbo_else b r q Live ne = refl
 limbo_else b r q (Hand r') ne = refl
 limbo_else b r q (Free r') ne = refl
 limbo_else b r q (Worn r') ne = refl
+limbo_else b r q (OnBoard i) ne = refl
 limbo_else b r q (Limbo r' y) ne = grind arith
 
 -- the lists after a sweep
@@ -356,6 +394,9 @@ lists_follow c w l (ScanLast r x n b) ok sound old = stays c _ (after c w (ScanL
 lists_follow c w l (Advance r x n) ok sound old = stays c _ (after c w (Advance r x n)) _ (λ s. refl) (collects c w l r (x + 1) old)
 lists_follow c w l (Test r s b) ok sound old = stays c _ (after c w (Test r s b)) _ (λ t. refl) (tests c w l r s b ok (sound.for_nodes s (grind arith)) old)
 lists_follow c w l (TakeSlot r s) ok sound old = stays c _ (after c w (TakeSlot r s)) _ (λ t. refl) (takes c w l r s ok.0 ok.1 old)
+lists_follow c w l (GiveBoard r s i) ok sound old = stays c _ (after c w (GiveBoard r s i)) _ (λ t. refl) (gives c w l r s i ok.0 ok.1 old)
+lists_follow c w l (TakeBoard r s i) ok sound old =
+    stays c _ (after c w (TakeBoard r s i)) _ (λ t. refl) (takes_from_board c w l r s i ok (sound.for_nodes s (grind arith)) old)
 lists_follow c w l (MakeCommit r d k s b) ok sound old = makes c w (after c w (MakeCommit r d k s b)) l r s (w.log d k) b (λ t. refl) ok.2 (sound.for_nodes s (grind arith)) old
 lists_follow c w l (RetireEpoch r d k s) ok sound old = stays c w (after c w (RetireEpoch r d k s)) l (λ s. refl) old
 lists_follow c w l (RetireCommit r) ok sound old = let x = w.retire r in retire_commits c w (after c w (RetireCommit r)) l r x.slot x.epoch (w.log x.descriptor x.index) (λ t. refl) (λ h. sound.retire_live r (ok, h)) (sound.retire_node r ok) old

@@ -2,10 +2,10 @@
 use Rattle.std.specs.Prelude.{nat_lt}
 use Rattle.std.proofs.Common.{◌≡◌, ◌≢◌, ℕ, ◌+◌, ◌<◌, ◌≤◌, Bool, true, false, refl, sym, ap, ◌∙◌, arith}
 use Rattle.epoch_core.specs.declared.location.Location.{Location}
-use Rattle.epoch_core.specs.declared.location.Location.TheVariants.{Fixed, Live, Hand, Free, Worn, Limbo}
+use Rattle.epoch_core.specs.declared.location.Location.TheVariants.{Fixed, Live, Hand, Free, Worn, Limbo, OnBoard}
 use Rattle.epoch_core.specs.State.{Counts, EpochState, is_entered, entry_of, IsKept}
-use Rattle.epoch_core.specs.Events.{Event, EnterLoad, Announce, EnterAgain, Exit, ScanEpoch, ScanOne, ScanLast, Advance, Test, TakeSlot, MakeCommit, RetireEpoch, RetireCommit, WordCommit, StoreLog, Reach, Publish, RetireDescriptor, Unguard, Sweep, after, slot_of, is_among}
-use Rattle.epoch_core.specs.Sound.{IsSound}
+use Rattle.epoch_core.specs.Events.{Event, EnterLoad, Announce, EnterAgain, Exit, ScanEpoch, ScanOne, ScanLast, Advance, Test, TakeSlot, GiveBoard, TakeBoard, MakeCommit, RetireEpoch, RetireCommit, WordCommit, StoreLog, Reach, Publish, RetireDescriptor, Unguard, Sweep, after, slot_of, is_among}
+use Rattle.epoch_core.specs.Sound.{IsSound, is_for_nodes}
 use Rattle.epoch_core.specs.Reuse.{HeldAreSafe, MayLeave, LeavesLate, LeavesUnheld, LeavesNothingOld}
 use mathlib.Core.Logic.{dite}
 use native.Mathlib.Decide.{ℕ_discrete}
@@ -21,6 +21,7 @@ held_are_safe c w sound =
       free = λ r s r' h at. let kept = sound.held r s h in grind arith;
       hand = λ r s r' h at. let kept = sound.held r s h in grind arith;
       worn = λ r s r' h at. let kept = sound.held r s h in grind arith;
+      board = λ r s i h at. let kept = sound.held r s h in grind arith;
     }
 
 -- where two epochs have passed since the slot was retired, it may leave
@@ -40,6 +41,7 @@ collected_young r e y Live at = cc
 collected_young r e y (Hand r') at = cc
 collected_young r e y (Free r') at = cc
 collected_young r e y (Worn r') at = cc
+collected_young r e y (OnBoard i) at = cc
 collected_young r e y (Limbo r' y') at = grind (arith, nat_tests)
 
 pub leaves_nothing_old : (c : Counts) → LeavesNothingOld c
@@ -56,6 +58,7 @@ in_use_kept Live g h = tt
 in_use_kept (Hand r) g h = absurd (cc)
 in_use_kept (Free r) g h = absurd (cc)
 in_use_kept (Worn r) g h = absurd (cc)
+in_use_kept (OnBoard i) g h = absurd (cc)
 in_use_kept (Limbo r y) g h = absurd (cc)
 
 -- what one may hold who entered later, one may hold who entered earlier
@@ -65,6 +68,7 @@ kept_earlier Live g z le k = tt
 kept_earlier (Hand r) g z le k = k
 kept_earlier (Free r) g z le k = k
 kept_earlier (Worn r) g z le k = k
+kept_earlier (OnBoard i) g z le k = k
 kept_earlier (Limbo r y) g z le k = omega arith
 
 pub may_follow : (c : Counts) (w : EpochState) → IsSound c w → MayFollow c w
@@ -93,6 +97,8 @@ leaves_late c w (Advance q x n) sound ok s r y lt at left =
     may_leave c w (Advance q x n) sound s r y at (λ r' isin. let least = sound.entered_least r' isin in grind arith) (grind arith)
 leaves_late c w (Test q t b) sound ok s r y lt at left = absurd (left (grind arith))
 leaves_late c w (TakeSlot q t) sound ok s r y lt at left = absurd (left (grind arith))
+leaves_late c w (GiveBoard q t i) sound ok s r y lt at left = absurd (left (grind arith))
+leaves_late c w (TakeBoard q t i) sound ok s r y lt at left = absurd (left (grind arith))
 leaves_late c w (MakeCommit q d k t b) sound ok s r y lt at left = absurd (left (grind arith))
 leaves_late c w (RetireEpoch q d k t) sound ok s r y lt at left = absurd (left (grind arith))
 leaves_late c w (RetireCommit q) sound ok s r y lt at left = absurd (left (grind arith))
@@ -114,6 +120,8 @@ leaves_unheld c w (ScanLast q x n b) sound ok d r y at left = stays_there c w (S
 leaves_unheld c w (Advance q x n) sound ok d r y at left = stays_there c w (Advance q x n) d r y at (descriptor_kept c w.location q (x + 1) d) left
 leaves_unheld c w (Test q t b) sound ok d r y at left = let node = sound.for_nodes t (grind arith) in stays_there c w (Test q t b) d r y at (grind arith) left
 leaves_unheld c w (TakeSlot q t) sound ok d r y at left = stays_there c w (TakeSlot q t) d r y at (grind arith) left
+leaves_unheld c w (GiveBoard q t i) sound ok d r y at left = stays_there c w (GiveBoard q t i) d r y at (grind arith) left
+leaves_unheld c w (TakeBoard q t i) sound ok d r y at left = let node = sound.for_nodes t (ap is_for_nodes ok) in stays_there c w (TakeBoard q t i) d r y at (grind arith) left
 leaves_unheld c w (MakeCommit q d' k t b) sound ok d r y at left =
     let node = sound.for_nodes t (grind arith) in stays_there c w (MakeCommit q d' k t b) d r y at (grind arith) left
 leaves_unheld c w (RetireCommit q) sound ok d r y at left =

@@ -1,5 +1,5 @@
 -- The example's events may come, each by computation.
-use Rattle.std.proofs.Common.{◌≡◌, ℕ, true, false, refl, sym, subst, lit<, lit≤, arith}
+use Rattle.std.proofs.Common.{◌≡◌, ℕ, true, refl, sym, subst, lit<, lit≤, arith}
 use Rattle.std.specs.Prelude.{◌==◌}
 use Rattle.std.proofs.lemmas.Bool.Decides.{nat_tests}
 use Rattle.small_lemmas.proofs.Bools.{false_not_true as none}
@@ -41,6 +41,9 @@ comes_round =
       );
       free = refl;
       epoch = refl;
+      passes = ((refl, lit< tt), (refl, tt));
+      given = refl;
+      passed = refl;
       made = refl;
       retired = refl;
     }

@@ -1,11 +1,11 @@
 -- Descriptors by guards: what a runner holds no more, and what a sweep frees.
-use Rattle.std.specs.Prelude.{◌==◌, ◌&&◌, nat_lt, nat_le, cond}
-use Rattle.std.proofs.Common.{◌≡◌, ◌≢◌, ℕ, ◌+◌, ◌-◌, ◌<◌, ◌≤◌, Bool, true, false, refl, sym, ap, ◌∙◌, subst, arith}
+use Rattle.std.specs.Prelude.{◌==◌, ◌&&◌, nat_le, cond}
+use Rattle.std.proofs.Common.{◌≡◌, ℕ, ◌+◌, ◌-◌, ◌<◌, ◌≤◌, Bool, true, false, refl, sym, ap, ◌∙◌, subst, arith}
 use Rattle.std.proofs.lemmas.Bool.Decides.{nat_tests}
 use mathlib.Core.Logic.{dite}
 use native.Mathlib.Decide.{ℕ_discrete}
 use Rattle.epoch_core.specs.declared.location.Location.{Location}
-use Rattle.epoch_core.specs.declared.location.Location.TheVariants.{Fixed, Live, Hand, Free, Worn, Limbo}
+use Rattle.epoch_core.specs.declared.location.Location.TheVariants.{Fixed, Live, Hand, Free, Worn, Limbo, OnBoard}
 use Rattle.epoch_core.specs.Moves.{swept}
 use Rattle.epoch_core.specs.State.{Counts, EpochState, IsKept, entry_of}
 use Rattle.epoch_core.specs.Events.{Unguard, Sweep, after, Enabled, slot_of, is_among}
@@ -19,6 +19,7 @@ swept_not b r Live e = refl
 swept_not b r (Hand r') e = refl
 swept_not b r (Free r') e = refl
 swept_not b r (Worn r') e = refl
+swept_not b r (OnBoard i) e = refl
 swept_not b r (Limbo r' y) e = grind arith
 
 pub swept_out : (b : Bool) (r : ℕ) (x : Location) → is_out (swept b r x) ≡ true → is_out x ≡ true
@@ -27,6 +28,7 @@ swept_out b r Live out = refl
 swept_out b r (Hand r') out = out
 swept_out b r (Free r') out = out
 swept_out b r (Worn r') out = out
+swept_out b r (OnBoard i) out = out
 swept_out b r (Limbo r' y) out = refl
 
 pub swept_nodes : (b : Bool) (r : ℕ) (x : Location) → is_for_nodes (swept b r x) ≡ true → is_for_nodes x ≡ true
@@ -35,6 +37,7 @@ swept_nodes b r Live is = is
 swept_nodes b r (Hand r') is = refl
 swept_nodes b r (Free r') is = is
 swept_nodes b r (Worn r') is = refl
+swept_nodes b r (OnBoard i) is = refl
 swept_nodes b r (Limbo r' y) is = by (r' == r && b) is
   where
     by : (c : Bool) → is_for_nodes (cond c (Free r) (Limbo r' y)) ≡ true → is_for_nodes (Limbo r' y) ≡ true
@@ -47,6 +50,7 @@ swept_limbo b r q y Live at = absurd (cc)
 swept_limbo b r q y (Hand r') at = absurd (cc)
 swept_limbo b r q y (Free r') at = absurd (cc)
 swept_limbo b r q y (Worn r') at = absurd (cc)
+swept_limbo b r q y (OnBoard i) at = absurd (cc)
 swept_limbo b r q y (Limbo r' y') at = by (r' == r && b) at
   where
     by : (c : Bool) → cond c (Free r) (Limbo r' y') ≡ Limbo q y → Limbo r' y' ≡ Limbo q y
@@ -60,6 +64,7 @@ unfreed b r Live none = refl
 unfreed b r (Hand r') none = refl
 unfreed b r (Free r') none = refl
 unfreed b r (Worn r') none = refl
+unfreed b r (OnBoard i) none = refl
 unfreed true r (Limbo r' y) none = dite (ℕ_discrete r' r)
     (λ own. absurd (none y refl (ap (λ n. Limbo n y) own)))
     (λ other. grind arith)

@@ -2,7 +2,7 @@
 use Rattle.std.specs.Prelude.{ℕ, suc, ◌+◌, ◌<◌, ◌≤◌, ◌≡◌, Bool, true, false, ◌&&◌, ◌||◌, ◌-◌, nat_lt, nat_le}
 use Rattle.epoch_core.specs.declared.stage.Stage.TheVariants.{Idle, Loaded, Announced, Entered, Scanning}
 use Rattle.epoch_core.specs.declared.location.Location.{Location}
-use Rattle.epoch_core.specs.declared.location.Location.TheVariants.{Live, Hand, Free, Limbo}
+use Rattle.epoch_core.specs.declared.location.Location.TheVariants.{Live, Hand, Free, Limbo, OnBoard}
 use Rattle.epoch_core.specs.Update.{upd, upd2, upd_row}
 use Rattle.epoch_core.specs.State.{Counts, Role, Agrees, Makes, Retires, EpochState, last_epoch, is_entered, IsPending, MayHold, no_retire}
 use Rattle.epoch_core.specs.Moves.{is_clear, is_over, advanced, tested, collected, swept, written_once, made, retired}
@@ -24,6 +24,9 @@ pub data Event : Type 0 where
   Test : (r slot : ℕ) (worn : Bool) → Event
   TakeSlot : (r slot : ℕ) → Event
   MakeCommit : (r d index slot : ℕ) (worn : Bool) → Event
+  -- a runner puts an own free node slot onto a word of the board, and takes one from there
+  GiveBoard : (r slot word : ℕ) → Event
+  TakeBoard : (r slot word : ℕ) → Event
   -- the epoch for a Retire, and its commit
   RetireEpoch : (r d index slot : ℕ) → Event
   RetireCommit : (r : ℕ) → Event
@@ -78,6 +81,8 @@ module _ (c : Counts) where
     location = upd w.location s (made (w.log d k) r worn);
     log = upd2 w.log d k (written_once (w.log d k) (suc s));
   }
+  after w (GiveBoard r s i) = record w { location = upd w.location s (OnBoard i) }
+  after w (TakeBoard r s i) = record w { location = upd w.location s (Free r) }
   after w (RetireEpoch r d k s) = record w
       { retire = upd w.retire r (record { loaded = true; descriptor = d; index = k; slot = s; epoch = w.epoch }) }
   after w (RetireCommit r) = let x = w.retire r in record w {
@@ -116,6 +121,8 @@ module _ (c : Counts) where
   Enabled w (Test r s worn) = w.location s ≡ Hand r
   Enabled w (TakeSlot r s) = (w.location s ≡ Free r) × (s < c.nodes)
   Enabled w (MakeCommit r d k s worn) = (w.holds r (slot_of d) ≡ true) × (w.role d k ≡ Makes) × (w.location s ≡ Hand r)
+  Enabled w (GiveBoard r s i) = (w.location s ≡ Free r) × (s < c.nodes)
+  Enabled w (TakeBoard r s i) = w.location s ≡ OnBoard i
   Enabled w (RetireEpoch r d k s) =
       ((w.retire r).loaded ≡ false) × (w.holds r (slot_of d) ≡ true) × (w.role d k ≡ Retires s) × (s < c.nodes)
       × (w.log d k ≡ 0 → w.location s ≡ Live)

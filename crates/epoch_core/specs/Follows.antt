@@ -1,7 +1,7 @@
 -- How a runner comes to hold a slot: by a link that it reads, or by a word that names a descriptor.
 use Rattle.std.specs.Prelude.{ℕ, ◌≤◌, ◌≡◌, Bool, true, false}
 use Rattle.epoch_core.specs.declared.location.Location.{Location}
-use Rattle.epoch_core.specs.declared.location.Location.TheVariants.{Fixed, Live, Hand, Free, Worn, Limbo}
+use Rattle.epoch_core.specs.declared.location.Location.TheVariants.{Fixed, Live, Hand, Free, Worn, Limbo, OnBoard}
 use Rattle.epoch_core.specs.State.{Counts, EpochState, is_entered, entry_of, IsPending, IsKept, MayHold}
 use Rattle.epoch_core.specs.Events.{slot_of}
 
@@ -12,6 +12,7 @@ is_in_use Live = true
 is_in_use (Hand r) = false
 is_in_use (Free r) = false
 is_in_use (Worn r) = false
+is_in_use (OnBoard i) = false
 is_in_use (Limbo r y) = false
 
 module _ (c : Counts) where

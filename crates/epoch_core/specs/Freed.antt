@@ -1,6 +1,6 @@
 -- What an event adds to the history, and where it moves the slots.
 use Rattle.std.specs.Prelude.{ℕ, ◌<◌, ◌≤◌, ◌≡◌, ◌≢◌, ◌⊎◌, true, [], ◌∷◌}
-use Rattle.epoch_core.specs.declared.location.Location.TheVariants.{Fixed, Live, Hand, Free, Worn, Limbo}
+use Rattle.epoch_core.specs.declared.location.Location.TheVariants.{Fixed, Live, Hand, Free, Worn, Limbo, OnBoard}
 use Rattle.epoch_core.specs.State.{Counts, Retires, EpochState}
 use Rattle.epoch_core.specs.Events.{slot_of}
 use Rattle.epoch_core.specs.History.{History, is_out}
@@ -39,6 +39,11 @@ module _ (c : Counts) where
     -- a slot in limbo was there, or comes from live by a commit that won
     pub limbo : (s r y : ℕ) → s < c.nodes → w'.location s ≡ Limbo r y
         → (w.location s ≡ Limbo r y) ⊎ IsRetired w w' h h' r s y
+    -- a slot on the board was there, or comes from a free list; one that leaves it goes into a free list
+    pub board : (s i : ℕ) → w'.location s ≡ OnBoard i
+        → (w.location s ≡ OnBoard i) ⊎ ((r : ℕ) × (w.location s ≡ Free r))
+    pub unboard : (s i : ℕ) → w.location s ≡ OnBoard i
+        → (w'.location s ≡ OnBoard i) ⊎ ((r : ℕ) × (w'.location s ≡ Free r))
     -- each commit of a Make that won took a slot from a hand to live
     pub made : (n k s : ℕ) → h.made n k ≡ [] → h'.made n k ≡ s ∷ []
         → (r : ℕ) × (w.location s ≡ Hand r) × (w'.location s ≡ Live)

@@ -1,7 +1,7 @@
 -- What was won by the commits of Makes and Retires, beside the state: each is won once.
 use Rattle.std.specs.Prelude.{ℕ, suc, ◌-◌, ◌<◌, ◌≤◌, ◌≡◌, Bool, true, false, ◌==◌, cond, List, [], ◌∷◌, length}
 use Rattle.epoch_core.specs.declared.location.Location.{Location}
-use Rattle.epoch_core.specs.declared.location.Location.TheVariants.{Fixed, Live, Hand, Free, Worn, Limbo}
+use Rattle.epoch_core.specs.declared.location.Location.TheVariants.{Fixed, Live, Hand, Free, Worn, Limbo, OnBoard}
 use Rattle.epoch_core.specs.Update.{upd, upd2}
 use Rattle.epoch_core.specs.State.{Counts, Role, Agrees, Makes, Retires, EpochState}
 use Rattle.epoch_core.specs.Events.{Event, MakeCommit, RetireCommit, Publish, after, slot_of}
@@ -56,6 +56,7 @@ is_out (Limbo r y) = true
 is_out (Hand r) = false
 is_out (Free r) = false
 is_out (Worn r) = false
+is_out (OnBoard i) = false
 
 -- the slot on which a Make agreed, if it did
 abbrev pub agreed_slot : ℕ → List ℕ

@@ -3,11 +3,11 @@
 use Rattle.std.specs.Prelude.{ℕ, ◌+◌, ◌<◌, ◌≤◌, ◌≡◌, Bool, true, false, not, ◌==◌, ◌&&◌, cond, List, [], ◌∷◌, ◌++◌, map}
 use Rattle.std.specs.List.{filter}
 use Rattle.epoch_core.specs.declared.location.Location.{Location}
-use Rattle.epoch_core.specs.declared.location.Location.TheVariants.{Fixed, Live, Hand, Free, Worn, Limbo}
+use Rattle.epoch_core.specs.declared.location.Location.TheVariants.{Fixed, Live, Hand, Free, Worn, Limbo, OnBoard}
 use Rattle.epoch_core.specs.Update.{upd}
 use Rattle.epoch_core.specs.Moves.{is_old}
 use Rattle.epoch_core.specs.State.{Counts, EpochState}
-use Rattle.epoch_core.specs.Events.{Event, ScanLast, Advance, Test, TakeSlot, MakeCommit, RetireCommit, Publish, RetireDescriptor, Sweep, after, slot_of}
+use Rattle.epoch_core.specs.Events.{Event, ScanLast, Advance, Test, TakeSlot, MakeCommit, GiveBoard, TakeBoard, RetireCommit, Publish, RetireDescriptor, Sweep, after, slot_of}
 
 -- a slot in limbo, with the epoch of its retirement
 pub record Entry : Type 0 where
@@ -70,6 +70,8 @@ listed w l (Advance r epoch next) = upd l r (collect_lists (epoch + 1) (l r))
 listed w l (Test r s worn) = upd l r (tested_lists worn s (l r))
 listed w l (TakeSlot r s) = upd l r (record (l r) { free = without (l r).free s; hand = (l r).hand ++ s ∷ [] })
 listed w l (MakeCommit r d k s worn) = upd l r (made_lists (w.log d k) worn s (l r))
+listed w l (GiveBoard r s i) = upd l r (record (l r) { free = without (l r).free s })
+listed w l (TakeBoard r s i) = upd l r (record (l r) { free = (l r).free ++ s ∷ [] })
 listed w l (RetireCommit r) =
     let x = w.retire r in upd l r (retired_lists (w.log x.descriptor x.index) x.slot x.epoch (l r))
 listed w l (Publish r d roles) = upd l r (record (l r) { free_descriptors = without (l r).free_descriptors d })
@@ -95,6 +97,7 @@ in_hand r Fixed = 0
 in_hand r Live = 0
 in_hand r (Free r') = 0
 in_hand r (Worn r') = 0
+in_hand r (OnBoard i) = 0
 in_hand r (Limbo r' y') = 0
 
 -- the same for its free list
@@ -104,11 +107,13 @@ in_free r Fixed = 0
 in_free r Live = 0
 in_free r (Hand r') = 0
 in_free r (Worn r') = 0
+in_free r (OnBoard i) = 0
 in_free r (Limbo r' y') = 0
 
 -- the same for its worn list
 abbrev pub in_worn : ℕ → Location → ℕ
 in_worn r (Worn r') = cond (r' == r) 1 0
+in_worn r (OnBoard i) = 0
 in_worn r Fixed = 0
 in_worn r Live = 0
 in_worn r (Hand r') = 0
@@ -123,6 +128,7 @@ in_limbo r y Live = 0
 in_limbo r y (Hand r') = 0
 in_limbo r y (Free r') = 0
 in_limbo r y (Worn r') = 0
+in_limbo r y (OnBoard i) = 0
 
 -- the same, with whatever epoch
 abbrev pub in_any_limbo : ℕ → Location → ℕ
@@ -132,6 +138,7 @@ in_any_limbo r Live = 0
 in_any_limbo r (Hand r') = 0
 in_any_limbo r (Free r') = 0
 in_any_limbo r (Worn r') = 0
+in_any_limbo r (OnBoard i) = 0
 
 module _ (c : Counts) where
   -- each node slot and each descriptor stands once in the list that its location names, and in no other; a

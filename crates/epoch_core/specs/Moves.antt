@@ -1,7 +1,7 @@
 -- What becomes of a stage, a slot and a log word in one step.
 use Rattle.std.specs.Prelude.{ℕ, ◌+◌, Bool, true, false, not, ◌==◌, ◌&&◌, ◌||◌, nat_lt, nat_le, cond}
 use Rattle.epoch_core.specs.declared.location.Location.{Location}
-use Rattle.epoch_core.specs.declared.location.Location.TheVariants.{Fixed, Live, Hand, Free, Worn, Limbo}
+use Rattle.epoch_core.specs.declared.location.Location.TheVariants.{Fixed, Live, Hand, Free, Worn, Limbo, OnBoard}
 use Rattle.epoch_core.specs.State.{last_epoch}
 
 -- an announcement doesn't stand in the way of an advance from this epoch
@@ -34,6 +34,7 @@ collected node r epoch Live = Live
 collected node r epoch (Hand r') = Hand r'
 collected node r epoch (Free r') = Free r'
 collected node r epoch (Worn r') = Worn r'
+collected node r epoch (OnBoard i) = OnBoard i
 
 -- where a slot is after this runner's sweep, if that frees it where it is in the runner's limbo
 abbrev pub swept : Bool → ℕ → Location → Location
@@ -43,6 +44,7 @@ swept frees r Live = Live
 swept frees r (Hand r') = Hand r'
 swept frees r (Free r') = Free r'
 swept frees r (Worn r') = Worn r'
+swept frees r (OnBoard i) = OnBoard i
 
 -- a log word is written once: the word that stood there, or else the proposal
 abbrev pub written_once : ℕ → ℕ → ℕ

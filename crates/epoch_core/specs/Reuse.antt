@@ -1,15 +1,17 @@
 -- No slot is given out again while somebody holds it.
 use Rattle.std.specs.Prelude.{ℕ, ◌+◌, ◌<◌, ◌≤◌, ◌≡◌, ◌≢◌, Bool, true, false}
-use Rattle.epoch_core.specs.declared.location.Location.TheVariants.{Hand, Free, Worn, Limbo}
+use Rattle.epoch_core.specs.declared.location.Location.TheVariants.{Hand, Free, Worn, Limbo, OnBoard}
 use Rattle.epoch_core.specs.State.{Counts, EpochState, is_entered, entry_of}
 use Rattle.epoch_core.specs.Events.{Event, ScanLast, Advance, Enabled, after, slot_of}
 use Rattle.epoch_core.specs.Sound.{IsSound}
 
--- no held slot is in a free list, in a worn list, or in a hand, where it is tested or waits for its Make's commit
+-- no held slot is in a free list, in a worn list, or in a hand, where it is tested or waits for its Make's commit, and
+-- none is on the board
 pub record HeldAreSafe (w : EpochState) : Type 0 where
   pub free : (r s r' : ℕ) → w.holds r s ≡ true → w.location s ≢ Free r'
   pub hand : (r s r' : ℕ) → w.holds r s ≡ true → w.location s ≢ Hand r'
   pub worn : (r s r' : ℕ) → w.holds r s ≡ true → w.location s ≢ Worn r'
+  pub board : (r s i : ℕ) → w.holds r s ≡ true → w.location s ≢ OnBoard i
 
 module _ (c : Counts) where
   -- a slot that was retired in epoch `y` leaves its limbo by this event: two epochs have passed since,

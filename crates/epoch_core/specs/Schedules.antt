@@ -2,7 +2,7 @@
 use Rattle.std.specs.Prelude.{ℕ, ◌<◌, ◌≡◌, Bool, true, false, List, [], ◌∷◌}
 use Rattle.epoch_core.specs.declared.stage.Stage.TheVariants.{Idle}
 use Rattle.epoch_core.specs.declared.location.Location.{Location}
-use Rattle.epoch_core.specs.declared.location.Location.TheVariants.{Fixed, Live, Hand, Free, Worn, Limbo}
+use Rattle.epoch_core.specs.declared.location.Location.TheVariants.{Fixed, Live, Hand, Free, Worn, Limbo, OnBoard}
 use Rattle.epoch_core.specs.State.{Counts, Agrees, no_retire, EpochState}
 use Rattle.epoch_core.specs.Events.{Event, Enabled, after}
 use Rattle.epoch_core.specs.Sound.{is_for_nodes}
@@ -14,6 +14,7 @@ is_unused (Free r) = true
 is_unused Live = false
 is_unused (Hand r) = false
 is_unused (Worn r) = false
+is_unused (OnBoard i) = false
 is_unused (Limbo r y) = false
 
 -- the first state, with the slots at these places

@@ -2,7 +2,7 @@
 use Rattle.std.specs.Prelude.{ℕ, suc, ◌+◌, ◌<◌, ◌≤◌, ◌≡◌, ◌⊎◌, Bool, true, false}
 use Rattle.epoch_core.specs.declared.stage.Stage.TheVariants.{Loaded, Scanning}
 use Rattle.epoch_core.specs.declared.location.Location.{Location}
-use Rattle.epoch_core.specs.declared.location.Location.TheVariants.{Fixed, Live, Hand, Free, Worn, Limbo}
+use Rattle.epoch_core.specs.declared.location.Location.TheVariants.{Fixed, Live, Hand, Free, Worn, Limbo, OnBoard}
 use Rattle.epoch_core.specs.State.{Counts, Role, Agrees, Makes, Retires, EpochState, last_epoch, is_entered, entry_of, is_announcing, IsPending, IsKept}
 use Rattle.epoch_core.specs.Events.{slot_of}
 use Rattle.epoch_core.specs.History.{is_out}
@@ -12,6 +12,7 @@ abbrev pub is_for_nodes : Location → Bool
 is_for_nodes Fixed = true
 is_for_nodes (Hand r) = true
 is_for_nodes (Worn r) = true
+is_for_nodes (OnBoard i) = true
 is_for_nodes Live = false
 is_for_nodes (Free r) = false
 is_for_nodes (Limbo r y) = false

@@ -3,7 +3,7 @@ use Rattle.std.specs.Prelude.{ℕ, ◌≤◌, ◌≡◌, Bool, true, false}
 use Rattle.epoch_core.specs.declared.stage.Stage.{Stage}
 use Rattle.epoch_core.specs.declared.stage.Stage.TheVariants.{Idle, Loaded, Announced, Entered, Scanning}
 use Rattle.epoch_core.specs.declared.location.Location.{Location}
-use Rattle.epoch_core.specs.declared.location.Location.TheVariants.{Fixed, Live, Hand, Free, Worn, Limbo}
+use Rattle.epoch_core.specs.declared.location.Location.TheVariants.{Fixed, Live, Hand, Free, Worn, Limbo, OnBoard}
 
 -- how many workers there are, which is the keeper's number too, how many node slots, and how many
 -- descriptors, whose slot numbers come after those of the node slots
@@ -86,6 +86,7 @@ IsKept (Limbo r y) entry = entry ≤ y
 IsKept (Hand r) entry = ⊥
 IsKept (Free r) entry = ⊥
 IsKept (Worn r) entry = ⊥
+IsKept (OnBoard i) entry = ⊥
 
 -- an entered runner may come to hold this slot: it may be held with the runner's entry, and each epoch that
 -- was loaded for a Retire of it of which nothing is agreed yet is no earlier than the entry

@@ -18,6 +18,8 @@ pub enum Location {
     Worn(u32),
     /// In this runner's limbo, retired in this epoch.
     Limbo { runner: u32, epoch: u64 },
+    /// On this word of the board, where any runner may take it.
+    OnBoard(u32),
 }
 
 impl Location {

@@ -314,6 +314,7 @@ impl BucketWalk {
     }
 
     /// Whether the walk was refused.
+    #[inline(always)]
     pub fn is_refused(&self) -> bool
         ensures { result ≡ is_refused_of self.now }
     {
@@ -334,6 +335,7 @@ impl BucketWalk {
     }
 
     /// The thunk for the request with this number, once the walk is whole.
+    #[inline(always)]
     pub fn thunk(&self, number: u32) -> Thunk
         ensures { result ≡ thunk_by self.now number }
     {
@@ -348,6 +350,7 @@ impl BucketWalk {
 
     /// The form of the section's body: one that reads alone, that puts a node in, that takes one out, or that sets the
     /// value of one. An operation with a second key has none.
+    #[inline(always)]
     fn form(&self) -> u64
         ensures { result ≡ form_for self.now.op self.now.walk.found }
     {
@@ -361,6 +364,7 @@ impl BucketWalk {
     }
 
     /// The operands of the section's body.
+    #[inline(always)]
     fn operands(&self) -> [u64; 8]
         ensures { result ≡ operands_for (2 ^ self.now.bits) self.now.op self.now.walk self.now.walk.found }
     {
@@ -426,6 +430,7 @@ fn past_near_link(link: u32) -> Stage
 }
 
 /// The operands of a body that reads alone.
+#[inline(always)]
 fn read(edition: u64, reply: Reply) -> [u64; 8]
     ensures { result ≡ edition ∷ word_of reply ∷ 0 ∷ 0 ∷ 0 ∷ 0 ∷ 0 ∷ 0 ∷ [] }
 {

@@ -138,6 +138,7 @@ impl MoveWalk {
     }
 
     /// The place that the walk loads next; None where it is at its end or was refused.
+    #[inline(always)]
     pub fn wanted(&self) -> Option<u64>
         ensures { result ≡ wanted_by self.now }
     {
@@ -148,6 +149,7 @@ impl MoveWalk {
     }
 
     /// The place that a walk over two keys loads next.
+    #[inline(never)]
     fn wanted_of_two(&self) -> Option<u64>
         requires { self.now.op ≡ Mov (from_of self.now.op) (to_of self.now.op) }
         ensures { result ≡ two_wanted (2 ^ self.now.bits) (hash_of self.now) (from_of self.now.op) (to_of self.now.op)
@@ -163,6 +165,7 @@ impl MoveWalk {
     }
 
     /// Goes on by the word that stood at the place that the walk wanted.
+    #[inline(always)]
     pub fn feed(&mut self, word: Word)
         ensures { self.new ≡ fed_by self.old word }
     {
@@ -173,6 +176,7 @@ impl MoveWalk {
     }
 
     /// Goes on over two keys.
+    #[inline(never)]
     fn feed_two(&mut self, from: u32, to: u32, word: Word)
         requires { self.old.op ≡ Mov from to }
         ensures { self.new ≡ two_on self.old from to self.old.walk.part word }
@@ -229,6 +233,7 @@ impl MoveWalk {
     }
 
     /// Whether the walk was refused.
+    #[inline(always)]
     pub fn is_refused(&self) -> bool
         ensures { result ≡ is_refused_of self.now }
     {
@@ -272,6 +277,7 @@ impl MoveWalk {
     }
 
     /// The thunk for the request with this number, once the walk is whole.
+    #[inline(always)]
     pub fn thunk(&self, number: u32) -> Thunk
         ensures { result ≡ thunk_by self.now number }
     {
@@ -296,6 +302,7 @@ impl MoveWalk {
     }
 
     /// The form of the body of a section over two keys.
+    #[inline(never)]
     fn form_of_two(&self, from: u32, to: u32) -> u64
         requires { self.now.op ≡ Mov from to }
         ensures { result ≡ two_form (2 ^ self.now.bits) (hash_of self.now) from to self.now.walk }
@@ -320,6 +327,7 @@ impl MoveWalk {
     }
 
     /// The operands of the body of a section over two keys.
+    #[inline(never)]
     fn operands_of_two(&self, from: u32, to: u32) -> [u64; 8]
         requires { self.now.op ≡ Mov from to }
         ensures { result ≡ two_operands (2 ^ self.now.bits) (hash_of self.now) from to self.now.walk }
@@ -390,6 +398,7 @@ impl MoveWalk {
     }
 
     /// Whether it loads a link next, and the key of its node then.
+    #[inline(always)]
     pub fn is_on_links(&self) -> bool {
         match self.part {
             Part::Second => self.second.is_on_links(),

@@ -23,6 +23,7 @@ impl Walker for MoveWalk {
         self.is_on_links()
     }
 
+    #[inline(always)]
     fn is_refused(&self) -> bool {
         self.is_refused()
     }
@@ -31,6 +32,7 @@ impl Walker for MoveWalk {
         false
     }
 
+    #[inline(always)]
     fn thunk(&self, number: u32) -> Thunk {
         self.thunk(number)
     }

@@ -15,7 +15,7 @@ use Rattle.machine_states.specs.runner_parts.specs.Tests.{has}
 use Rattle.agreement_core.specs.State.{AgreementState}
 use Rattle.agreement_core.proofs.Lines.{outcome_lock}
 use Rattle.machine_states.specs.epoch_core.specs.declared.location.Location.{Location}
-use Rattle.machine_states.specs.epoch_core.specs.declared.location.Location.TheVariants.{Fixed, Live, Hand, Free, Worn, Limbo}
+use Rattle.machine_states.specs.epoch_core.specs.declared.location.Location.TheVariants.{Fixed, Live, Hand, Free, Worn, Limbo, OnBoard}
 use Rattle.machine_states.specs.epoch_core.specs.Events.{slot_of}
 use Rattle.machine_states.specs.epoch_core.specs.History.{is_out}
 use Rattle.machine_states.specs.epoch_core.specs.Lists.{times, in_free}
@@ -61,6 +61,7 @@ module _ (m : Meaning) (l : Layout) (b : Beside) (s : Sight) (whole : IsWhole m 
       by (Limbo r y) is = refl
       by (Hand r) is = absurd (for_node (Hand r) is refl)
       by (Worn r) is = absurd (for_node (Worn r) is refl)
+      by (OnBoard i) is = absurd (for_node (OnBoard i) is refl)
       by (Free r) is = absurd (
           let there = whole.slots.listed.free_descriptors r d few ∙ (ap (in_free r) is ∙ free_once r) in
           let none = no_times (s.part r).descriptors.free d (unfree r) in

@@ -26,7 +26,7 @@ use Rattle.machine_states.specs.Blockless.{outside_after}
 use Rattle.machine_states.specs.runner_steps.specs.AfterOutside as outside
 use Rattle.machine_states.specs.epoch_core.specs.Update.{upd_row}
 use Rattle.machine_states.specs.epoch_core.specs.declared.location.Location.{Location}
-use Rattle.machine_states.specs.epoch_core.specs.declared.location.Location.TheVariants.{Fixed, Live, Hand, Free, Worn, Limbo}
+use Rattle.machine_states.specs.epoch_core.specs.declared.location.Location.TheVariants.{Fixed, Live, Hand, Free, Worn, Limbo, OnBoard}
 use Rattle.machine_states.specs.epoch_core.specs.Moves.{is_clear, is_over, is_old, collected}
 use Rattle.machine_states.specs.epoch_core.specs.State.{EpochState, Retiring, no_retire, last_epoch, is_entered}
 use Rattle.machine_states.specs.epoch_core.specs.Events as events
@@ -68,6 +68,7 @@ collected_out node r e Live h = refl
 collected_out node r e (Hand r') h = h
 collected_out node r e (Free r') h = h
 collected_out node r e (Worn r') h = h
+collected_out node r e (OnBoard i) h = h
 
 -- what a collect takes from limbo, and what it leaves there
 old_same : (e : ℕ) (xs : List Retired) → old_slots e (map entry_of xs) ≡ lists.slots_of (filter (lists.is_old e) xs)

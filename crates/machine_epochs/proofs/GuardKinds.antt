@@ -21,7 +21,7 @@ use Rattle.machine_states.specs.runner_parts.specs.Lists.{descriptors_swept, gua
 use Rattle.machine_states.specs.runner_steps.specs.Outside.{is_sure_of}
 use Rattle.machine_states.specs.runner_steps.specs.Guards.{guard_ask, load_guard_ask, is_last_guard}
 use Rattle.machine_states.specs.epoch_core.specs.declared.location.Location.{Location}
-use Rattle.machine_states.specs.epoch_core.specs.declared.location.Location.TheVariants.{Fixed, Live, Hand, Free, Worn, Limbo}
+use Rattle.machine_states.specs.epoch_core.specs.declared.location.Location.TheVariants.{Fixed, Live, Hand, Free, Worn, Limbo, OnBoard}
 use Rattle.machine_states.specs.epoch_core.specs.Update.{upd_row}
 use Rattle.machine_states.specs.epoch_core.specs.Moves.{swept}
 use Rattle.machine_states.specs.epoch_core.specs.State.{EpochState, Retiring}
@@ -63,6 +63,7 @@ swept_out frees r Live h = refl
 swept_out frees r (Hand r') h = h
 swept_out frees r (Free r') h = h
 swept_out frees r (Worn r') h = h
+swept_out frees r (OnBoard i) h = h
 
 times_has : (xs : List ℕ) (d : ℕ) → 1 ≤ times d xs → has xs d ≡ true
 times_has [] d some = absurd (omega arith)

@@ -13,7 +13,7 @@ use Rattle.machine_states.specs.runner_steps.specs.Sections.{thunk_of}
 use Rattle.machine_states.specs.runner_parts.specs.Tests.{has}
 use Rattle.machine_states.specs.runner_steps.specs.Outside.{descriptor_spot}
 use Rattle.machine_states.specs.epoch_core.specs.declared.location.Location.{Location}
-use Rattle.machine_states.specs.epoch_core.specs.declared.location.Location.TheVariants.{Fixed, Live, Hand, Free, Worn, Limbo}
+use Rattle.machine_states.specs.epoch_core.specs.declared.location.Location.TheVariants.{Fixed, Live, Hand, Free, Worn, Limbo, OnBoard}
 use Rattle.machine_states.specs.epoch_core.specs.State.{Counts, EpochState, Role, is_entered, entry_of, IsKept}
 use Rattle.machine_states.specs.epoch_core.specs.Events.{slot_of}
 use Rattle.machine_states.specs.epoch_core.specs.History.{is_out}
@@ -49,6 +49,7 @@ at_free r Fixed h = absurd (omega arith)
 at_free r Live h = absurd (omega arith)
 at_free r (Hand r') h = absurd (omega arith)
 at_free r (Worn r') h = absurd (omega arith)
+at_free r (OnBoard i) h = absurd (omega arith)
 at_free r (Limbo r' y) h = absurd (omega arith)
 
 at_hand : (r : ℕ) (p : Location) → 1 ≤ in_hand r p → p ≡ Hand r
@@ -60,6 +61,7 @@ at_hand r Fixed h = absurd (omega arith)
 at_hand r Live h = absurd (omega arith)
 at_hand r (Free r') h = absurd (omega arith)
 at_hand r (Worn r') h = absurd (omega arith)
+at_hand r (OnBoard i) h = absurd (omega arith)
 at_hand r (Limbo r' y) h = absurd (omega arith)
 
 -- a slot that may be held was given out
@@ -70,6 +72,7 @@ kept_out (Limbo r y) g h = refl
 kept_out (Hand r) g h = absurd h
 kept_out (Free r) g h = absurd h
 kept_out (Worn r) g h = absurd h
+kept_out (OnBoard i) g h = absurd h
 
 -- a write into the log of one descriptor isn't seen in the words of another
 pub log_elsewhere : (f : Spot → ℕ) (d k v d' j : ℕ) → d' ≢ d → put f (LogWord d k) v (descriptor_spot d' j) ≡ f (descriptor_spot d' j)

@@ -84,6 +84,8 @@ module _ (c : Counts) where
       hand = λ s r is. ⊎_elim (λ e. inl e) (λ e. inr (⊎_elim (λ made. inl (made_from r s made)) (λ back. inr back) e)) (x.hand s r (at s ∙ is));
       live = λ s lt is. ⊎_elim (λ e. inl (sym (at s) ∙ e)) (λ made. inr (made.0, made_from made.0 s made.1)) (x.live s lt is);
       limbo = λ s r y lt is. ⊎_elim (λ e. inl (sym (at s) ∙ e)) (λ e. inr (retired_from r s y e)) (x.limbo s r y lt is);
+      board = λ s i is. ⊎_elim (λ e. inl (sym (at s) ∙ e)) (λ free. inr (free.0, sym (at s) ∙ free.1)) (x.board s i is);
+      unboard = λ s i is. x.unboard s i (at s ∙ is);
       made = λ n k s none one. let y = x.made n k s none one in (y.0, sym (at s) ∙ y.1, y.2);
       retired = λ n k y none one. let z = x.retired n k y none one in
           (z.0, z.1, z.2, z.3, ap (λ (f : ℕ → ℕ → Role). f z.0 k) (sym role) ∙ z.4, sym (at z.1) ∙ z.5, z.6);
@@ -107,6 +109,8 @@ module _ (c : Counts) where
     hand = λ s r is. inl is;
     live = λ s lt is. inl is;
     limbo = λ s r y lt is. inl is;
+    board = λ s i is. inl is;
+    unboard = λ s i is. inl is;
     made = λ n k s none one. none_one _ s none one;
     retired = λ n k y none one. none_one _ y none one;
   }

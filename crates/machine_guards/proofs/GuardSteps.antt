@@ -87,6 +87,7 @@ place_live l d r (epoch_places.Free q) at = absurd (let y = at in cc)
 place_live l d r (epoch_places.Limbo q y) at = absurd (let y = at in cc)
 place_live l d r (epoch_places.Hand q) at = absurd (let y = at in cc)
 place_live l d r (epoch_places.Worn q) at = absurd (let y = at in cc)
+place_live l d r (epoch_places.OnBoard i) at = absurd (let y = at in cc)
 place_live l d r epoch_places.Fixed at = absurd (let y = at in cc)
 place_live l d r epoch_places.Live at = (refl, ap owners.owner_of at)
 
@@ -101,6 +102,7 @@ place_swept l r d words (epoch_places.Free q) b is = refl
 place_swept l r d words epoch_places.Live b is = refl
 place_swept l r d words (epoch_places.Hand q) b is = refl
 place_swept l r d words (epoch_places.Worn q) b is = refl
+place_swept l r d words (epoch_places.OnBoard i) b is = refl
 place_swept l r d words epoch_places.Fixed b is = refl
 place_swept l r d words (epoch_places.Limbo q y) b is =
     ap (λ k. place_of l d (cond (q == r && k) (epoch_places.Free r) (epoch_places.Limbo q y))) is ∙ by (q == r && is_unnamed words d)

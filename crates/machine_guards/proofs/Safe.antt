@@ -180,6 +180,7 @@ in_limbo_at r (epoch_places.Limbo q y) h = (y, ap (λ i. epoch_places.Limbo i y)
 in_limbo_at r (epoch_places.Free q) h = absurd (omega arith)
 in_limbo_at r (epoch_places.Hand q) h = absurd (omega arith)
 in_limbo_at r (epoch_places.Worn q) h = absurd (omega arith)
+in_limbo_at r (epoch_places.OnBoard i) h = absurd (omega arith)
 in_limbo_at r epoch_places.Live h = absurd (omega arith)
 in_limbo_at r epoch_places.Fixed h = absurd (omega arith)
 
@@ -192,6 +193,7 @@ one_at_most r (epoch_places.Limbo q y) = by (q == r)
 one_at_most r (epoch_places.Free q) = omega arith
 one_at_most r (epoch_places.Hand q) = omega arith
 one_at_most r (epoch_places.Worn q) = omega arith
+one_at_most r (epoch_places.OnBoard i) = omega arith
 one_at_most r epoch_places.Live = omega arith
 one_at_most r epoch_places.Fixed = omega arith
 
@@ -205,6 +207,7 @@ stays_there l r d words (epoch_places.Limbo q y) told = by (is_unnamed words d) 
 stays_there l r d words (epoch_places.Free q) told = omega arith
 stays_there l r d words (epoch_places.Hand q) told = omega arith
 stays_there l r d words (epoch_places.Worn q) told = omega arith
+stays_there l r d words (epoch_places.OnBoard i) told = omega arith
 stays_there l r d words epoch_places.Live told = omega arith
 stays_there l r d words epoch_places.Fixed told = omega arith
 
@@ -316,6 +319,7 @@ unfree l r d (epoch_places.Free q) other = absurd (other q refl)
 unfree l r d (epoch_places.Limbo q y) other = refl
 unfree l r d (epoch_places.Hand q) other = refl
 unfree l r d (epoch_places.Worn q) other = refl
+unfree l r d (epoch_places.OnBoard i) other = refl
 unfree l r d epoch_places.Live other = refl
 unfree l r d epoch_places.Fixed other = refl
 

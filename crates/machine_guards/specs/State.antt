@@ -20,13 +20,14 @@ abbrev pub guard_counts : Layout → Counts
 guard_counts l = record { runners = l.runners; descriptors = descriptor_count l; blocks = 0 }
 
 -- where guards have a descriptor that is here. A live one is its owner's, and one in limbo lies there under itself; no
--- descriptor is in a hand, worn or fixed
+-- descriptor is in a hand, worn, fixed or on the board
 abbrev pub place_of : Layout → ℕ → places.Location → guards.Location
 place_of l d (epochs.Free r) = guards.Free r
 place_of l d (epochs.Limbo r y) = guards.Limbo r d
 place_of l d epochs.Live = guards.Live (owner_of l.sections l.runners d)
 place_of l d (epochs.Hand r) = guards.Free r
 place_of l d (epochs.Worn r) = guards.Free r
+place_of l d (epochs.OnBoard i) = guards.Free (owner_of l.sections l.runners d)
 place_of l d epochs.Fixed = guards.Free (owner_of l.sections l.runners d)
 
 -- the descriptor that a runner runs

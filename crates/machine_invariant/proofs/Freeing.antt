@@ -21,7 +21,7 @@ use Rattle.agreement_core.specs.State.{CellRules, AgreementState}
 use Rattle.agreement_core.specs.Events as agreement
 use Rattle.agreement_core.specs.Schedules as agreement_schedules
 use Rattle.machine_states.specs.epoch_core.specs.declared.location.Location.{Location}
-use Rattle.machine_states.specs.epoch_core.specs.declared.location.Location.TheVariants.{Live, Fixed, Hand, Free, Worn, Limbo}
+use Rattle.machine_states.specs.epoch_core.specs.declared.location.Location.TheVariants.{Live, Fixed, Hand, Free, Worn, Limbo, OnBoard}
 use Rattle.machine_states.specs.epoch_core.specs.Update.{upd}
 use Rattle.machine_states.specs.epoch_core.specs.Moves as moves
 use Rattle.machine_states.specs.epoch_core.specs.State.{Counts, EpochState}
@@ -79,6 +79,7 @@ module _ (frees : Bool) (r : ℕ) where
   in_stays (Hand r') e = e
   in_stays (Free r') e = e
   in_stays (Worn r') e = e
+  in_stays (OnBoard i) e = e
 
   out_stays : (p : Location) → is_out p ≡ true → ((y : ℕ) → p ≡ Limbo r y → frees ≡ true → ⊥) → is_out (moves.swept frees r p) ≡ true
   out_stays (Limbo r' y) e held = by (r' == r && frees) refl
@@ -94,6 +95,7 @@ module _ (frees : Bool) (r : ℕ) where
   out_stays (Hand r') e held = absurd (let x = e in cc)
   out_stays (Free r') e held = absurd (let x = e in cc)
   out_stays (Worn r') e held = absurd (let x = e in cc)
+  out_stays (OnBoard i) e held = absurd (let x = e in cc)
 
   live_was : (p : Location) → moves.swept frees r p ≡ Live → p ≡ Live
   live_was (Limbo r' y) e = by (r' == r && frees) e
@@ -106,6 +108,7 @@ module _ (frees : Bool) (r : ℕ) where
   live_was (Hand r') e = e
   live_was (Free r') e = e
   live_was (Worn r') e = e
+  live_was (OnBoard i) e = e
 
 -- what a sweep frees of the sweeper's own is in its free list
 own_freed : (r y : ℕ) (frees : Bool) → frees ≡ true → moves.swept frees r (Limbo r y) ≡ Free r

@@ -12,7 +12,7 @@ use Rattle.machine_states.specs.runner_steps.specs.Outside.{is_sure_of}
 use Rattle.machine_states.specs.runner_steps.specs.Guards.{is_last_guard}
 use Rattle.machine_states.specs.guard_core.specs.Moves.{is_unnamed}
 use Rattle.machine_states.specs.epoch_core.specs.declared.location.Location.{Location}
-use Rattle.machine_states.specs.epoch_core.specs.declared.location.Location.TheVariants.{Live, Fixed, Hand, Free, Worn, Limbo}
+use Rattle.machine_states.specs.epoch_core.specs.declared.location.Location.TheVariants.{Live, Fixed, Hand, Free, Worn, Limbo, OnBoard}
 use Rattle.machine_states.specs.epoch_core.specs.State.{EpochState}
 use Rattle.machine_states.specs.epoch_core.specs.Events.{slot_of}
 use Rattle.machine_states.specs.epoch_core.specs.Lists.{times, in_any_limbo}
@@ -70,6 +70,7 @@ at_limbo r Live h = absurd (omega arith)
 at_limbo r (Hand r') h = absurd (omega arith)
 at_limbo r (Free r') h = absurd (omega arith)
 at_limbo r (Worn r') h = absurd (omega arith)
+at_limbo r (OnBoard i) h = absurd (omega arith)
 
 module _ (m : Meaning) (l : Layout) (w : EpochState) (s : Sight) (old : IsJoinedToEpochs m l w s) (r d : ℕ) (few : d < (counts_of m l).descriptors) where
   -- what a runner has in limbo is there

@@ -13,7 +13,7 @@ use Rattle.machine_states.specs.epoch_core.specs.declared.stage.Stage as machine
 use Rattle.machine_states.specs.epoch_core.specs.declared.stage.Stage.TheVariants as stages
 use Rattle.machine_states.specs.runner_parts.specs.declared.entries.Retired.{Retired}
 use Rattle.machine_states.specs.epoch_core.specs.declared.location.Location.{Location}
-use Rattle.machine_states.specs.epoch_core.specs.declared.location.Location.TheVariants.{Fixed, Live, Hand, Free, Worn, Limbo}
+use Rattle.machine_states.specs.epoch_core.specs.declared.location.Location.TheVariants.{Fixed, Live, Hand, Free, Worn, Limbo, OnBoard}
 use Rattle.machine_states.specs.epoch_core.specs.State.{EpochState, IsKept, IsPending, Retiring, is_entered, entry_of}
 use Rattle.machine_states.specs.epoch_core.specs.Lists.{times_retired, in_hand, in_free, in_worn, in_limbo}
 use Rattle.machine_states.specs.epoch_core.specs.History.{History, IsExact, is_makes, is_retires, agreed_slot, agreed_count}
@@ -62,6 +62,7 @@ in_lists r Live = 0
 in_lists r (Hand r') = cond (r' == r) 1 0
 in_lists r (Free r') = cond (r' == r) 1 0
 in_lists r (Worn r') = cond (r' == r) 1 0
+in_lists r (OnBoard i) = 0
 in_lists r (Limbo r' y) = cond (r' == r) 1 0
 
 -- how often a slot at this location stands in the runner's lists
@@ -72,6 +73,7 @@ sum_is Live r t a b n xs hand free worn limbo = let none = limbo_none t xs limbo
 sum_is (Hand r') r t a b n xs hand free worn limbo = let none = limbo_none t xs limbo in omega arith
 sum_is (Free r') r t a b n xs hand free worn limbo = let none = limbo_none t xs limbo in omega arith
 sum_is (Worn r') r t a b n xs hand free worn limbo = let none = limbo_none t xs limbo in omega arith
+sum_is (OnBoard i) r t a b n xs hand free worn limbo = let none = limbo_none t xs limbo in omega arith
 sum_is (Limbo r' y) r t a b n xs hand free worn limbo = let one = limbo_by (r' == r) t y xs limbo in omega arith
 
 in_lists_once : (x : Location) (r : ℕ) → in_lists r x ≤ 1
@@ -80,6 +82,7 @@ in_lists_once Live r = omega arith
 in_lists_once (Hand r') r = one_or_none _
 in_lists_once (Free r') r = one_or_none _
 in_lists_once (Worn r') r = one_or_none _
+in_lists_once (OnBoard i) r = omega arith
 in_lists_once (Limbo r' y) r = one_or_none _
 
 both_are : (a r r' : ℕ) → 1 ≤ cond (a == r) 1 0 → 1 ≤ cond (a == r') 1 0 → r ≡ r'
@@ -91,6 +94,7 @@ in_lists_apart Live r r' h h' = absurd (omega arith)
 in_lists_apart (Hand a) r r' h h' = both_are a r r' h h'
 in_lists_apart (Free a) r r' h h' = both_are a r r' h h'
 in_lists_apart (Worn a) r r' h h' = both_are a r r' h h'
+in_lists_apart (OnBoard i) r r' h h' = absurd (omega arith)
 in_lists_apart (Limbo a y) r r' h h' = both_are a r r' h h'
 
 -- a slot that may be held is in no list but limbo
@@ -101,6 +105,7 @@ kept_unfree (Limbo r' y) g r h = refl
 kept_unfree (Hand r') g r h = absurd h
 kept_unfree (Free r') g r h = absurd h
 kept_unfree (Worn r') g r h = absurd h
+kept_unfree (OnBoard i) g r h = absurd h
 
 kept_unworn : (x : Location) (g r : ℕ) → IsKept x g → in_worn r x ≡ 0
 kept_unworn Fixed g r h = refl
@@ -109,6 +114,7 @@ kept_unworn (Limbo r' y) g r h = refl
 kept_unworn (Hand r') g r h = absurd h
 kept_unworn (Free r') g r h = absurd h
 kept_unworn (Worn r') g r h = absurd h
+kept_unworn (OnBoard i) g r h = absurd h
 
 kept_unhanded : (x : Location) (g r : ℕ) → IsKept x g → in_hand r x ≡ 0
 kept_unhanded Fixed g r h = refl
@@ -117,6 +123,7 @@ kept_unhanded (Limbo r' y) g r h = refl
 kept_unhanded (Hand r') g r h = absurd h
 kept_unhanded (Free r') g r h = absurd h
 kept_unhanded (Worn r') g r h = absurd h
+kept_unhanded (OnBoard i) g r h = absurd h
 
 -- an entered runner's stage
 entered_with : (x : machine.Stage) → is_entered x ≡ true → (g : ℕ) × (x ≡ stages.Entered g) × (entry_of x ≡ g)

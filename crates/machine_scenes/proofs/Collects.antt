@@ -101,6 +101,7 @@ collected_location epoch x r node locations.Live le = inl refl
 collected_location epoch x r node (locations.Hand r') le = inl refl
 collected_location epoch x r node (locations.Free r') le = inl refl
 collected_location epoch x r node (locations.Worn r') le = inl refl
+collected_location epoch x r node (locations.OnBoard i) le = inl refl
 
 -- the statuses after a runner has collected for an epoch that is at most this one
 pub collected_status : (c : Counts) (location : ℕ → Location) (epoch x r : ℕ) → x ≤ epoch → (t : ℕ)

@@ -102,6 +102,7 @@ retired_limbo c location t y is =
     by_location (locations.Hand r) is = absurd (cc)
     by_location (locations.Free r) is = absurd (cc)
     by_location (locations.Worn r) is = absurd (cc)
+    by_location (locations.OnBoard i) is = absurd (cc)
 
     below : (t n : ℕ) → nat_lt t n ≡ true → t < n
     below t n e = grind (arith, nat_tests)

@@ -75,6 +75,7 @@ module _ (m : Meaning) (laws : Laws m) (layout : Layout) (limits : IsWithinLimit
     unused_free (locations.Hand r) is ne = cc
     unused_free (locations.Free r) is ne = refl
     unused_free (locations.Worn r) is ne = cc
+    unused_free (locations.OnBoard i) is ne = cc
     unused_free (locations.Limbo r y) is ne = cc
 
     pub status_first : (t : ℕ) → status_of c location t ≡ cond (nat_lt t m.fixed_slots) Live Free

@@ -7,7 +7,7 @@ use Rattle.agreement_core.specs.section_lines.specs.structure_laws.specs.Meaning
 use Rattle.agreement_core.specs.section_lines.specs.structure_laws.proofs.Changes.{upd_same, upd_other}
 use Rattle.epoch_core.specs.Update.{upd}
 use Rattle.epoch_core.specs.declared.location.Location.{Location}
-use Rattle.epoch_core.specs.declared.location.Location.TheVariants.{Fixed, Live, Hand, Free, Worn, Limbo}
+use Rattle.epoch_core.specs.declared.location.Location.TheVariants.{Fixed, Live, Hand, Free, Worn, Limbo, OnBoard}
 use Rattle.epoch_core.specs.State.{Counts, EpochState}
 use Rattle.epoch_core.specs.Moves.{collected, is_old, swept, tested, made, retired}
 use Rattle.epoch_core.specs.Events.{Event, after, slot_of, is_among}
@@ -45,6 +45,7 @@ collected_fixed node r x Live e = e
 collected_fixed node r x (Hand r') e = e
 collected_fixed node r x (Free r') e = e
 collected_fixed node r x (Worn r') e = e
+collected_fixed node r x (OnBoard i) e = e
 
 swept_fixed : (b : Bool) (r : ℕ) (l : Location) → swept b r l ≡ Fixed → l ≡ Fixed
 swept_fixed b r (Limbo r' y) e = by (r' == r && b) e
@@ -57,6 +58,7 @@ swept_fixed b r Live e = e
 swept_fixed b r (Hand r') e = e
 swept_fixed b r (Free r') e = e
 swept_fixed b r (Worn r') e = e
+swept_fixed b r (OnBoard i) e = e
 
 module _ (c : Counts) (e : EpochState) where
   changed : (s : ℕ) (l : Location) (t : ℕ) → (l ≡ Fixed → e.location s ≡ Fixed) → upd e.location s l t ≡ Fixed → e.location t ≡ Fixed

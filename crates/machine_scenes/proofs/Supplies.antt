@@ -180,6 +180,7 @@ module _ (m : Meaning) (laws : Laws m) (layout : Layout) (limits : IsWithinLimit
   live_used (locations.Hand r) is = absurd (cc)
   live_used (locations.Free r) is = absurd (cc)
   live_used (locations.Worn r) is = absurd (cc)
+  live_used (locations.OnBoard i) is = absurd (cc)
 
   -- a section before the commit of a Retire of a slot that is linked in a place in use: there is none
   pending_unlinked : (r t q : ℕ) → IsPending e r → (e.retire r).slot ≡ t → InUse m scene q → Links m scene q t → ⊥
@@ -221,6 +222,7 @@ module _ (m : Meaning) (laws : Laws m) (layout : Layout) (limits : IsWithinLimit
       kept_live (locations.Hand r) is = absurd (cc)
       kept_live (locations.Free r) is = absurd (cc)
       kept_live (locations.Worn r) is = absurd (cc)
+      kept_live (locations.OnBoard i) is = absurd (cc)
 
       kept_later : (l : Location) (z : ℕ) → status_at l ≡ Retired z → y ≤ z → IsKept l y
       kept_later locations.Fixed z is le = absurd (cc)
@@ -232,6 +234,7 @@ module _ (m : Meaning) (laws : Laws m) (layout : Layout) (limits : IsWithinLimit
       kept_later (locations.Hand r) z is le = absurd (cc)
       kept_later (locations.Free r) z is le = absurd (cc)
       kept_later (locations.Worn r) z is le = absurd (cc)
+      kept_later (locations.OnBoard i) z is le = absurd (cc)
 
   -- a cell of a held slot
   met_held : (r u i t : ℕ) → e.holds r u ≡ true → u < c.nodes → i < 5 → t < c.nodes → Links m scene (cell_of m u i) t → MayHold e r t
@@ -247,6 +250,7 @@ module _ (m : Meaning) (laws : Laws m) (layout : Layout) (limits : IsWithinLimit
       by_location (locations.Hand o) is held_kept = absurd (subst (λ l. IsKept l (entry_of (e.stage r))) is held_kept)
       by_location (locations.Free o) is held_kept = absurd (subst (λ l. IsKept l (entry_of (e.stage r))) is held_kept)
       by_location (locations.Worn o) is held_kept = absurd (subst (λ l. IsKept l (entry_of (e.stage r))) is held_kept)
+      by_location (locations.OnBoard i) is held_kept = absurd (subst (λ l. IsKept l (entry_of (e.stage r))) is held_kept)
 
   -- a fixed slot
   met_fixed : (r t : ℕ) → is_entered (e.stage r) ≡ true → t < c.nodes → t < m.fixed_slots → MayHold e r t
@@ -419,6 +423,7 @@ module _ (m : Meaning) (laws : Laws m) (layout : Layout) (limits : IsWithinLimit
       by_location (locations.Hand r) is used = absurd (cc)
       by_location (locations.Free r) is used = absurd (cc)
       by_location (locations.Worn r) is used = absurd (cc)
+      by_location (locations.OnBoard i) is used = absurd (cc)
 
       once : (r : ℕ) → IsPending e r → (e.retire r).slot ≡ t → ((e.retire r).descriptor ≡ d) × ((e.retire r).index ≡ log)
       once r pending slot =

@@ -36,6 +36,7 @@ status_at (locations.Limbo r y) = Retired y
 status_at (locations.Hand r) = Free
 status_at (locations.Free r) = Free
 status_at (locations.Worn r) = Free
+status_at (locations.OnBoard i) = Free
 
 -- the status of a node slot, and of any other number
 abbrev pub status_of : Counts → (ℕ → Location) → ℕ → Status

@@ -51,6 +51,7 @@ kept_used (locations.Limbo r y) entry kept free = cc
 kept_used (locations.Hand r) entry kept free = kept
 kept_used (locations.Free r) entry kept free = kept
 kept_used (locations.Worn r) entry kept free = kept
+kept_used (locations.OnBoard i) entry kept free = kept
 
 -- the status of a node slot
 inside : (c : Counts) (location : ℕ → Location) (t : ℕ) → t < c.nodes → status_of c location t ≡ status_at (location t)

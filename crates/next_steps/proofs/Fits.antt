@@ -179,6 +179,7 @@ module _ (m : Meaning) (laws : Laws m) (l : Layout) (limits : IsWithinLimits l) 
       out locations.Fixed e = not_both (ap is_for_nodes e) beyond
       out (locations.Hand r) e = not_both (ap is_for_nodes e) beyond
       out (locations.Worn r) e = not_both (ap is_for_nodes e) beyond
+      out (locations.OnBoard i) e = not_both (ap is_for_nodes e) beyond
       out locations.Live e = refl
       out (locations.Limbo r y) e = refl
       out (locations.Free r) e = absurd (

@@ -35,6 +35,7 @@ idle_at (locations.Limbo r' y) r some = absurd (omega (arith, some))
 idle_at (locations.Hand r') r some = record { free = refl; unkept = λ g h. h }
 idle_at (locations.Free r') r some = record { free = refl; unkept = λ g h. h }
 idle_at (locations.Worn r') r some = record { free = refl; unkept = λ g h. h }
+idle_at (locations.OnBoard i) r some = record { free = refl; unkept = λ g h. h }
 
 free_not_live : (a : Status) → a ≡ Free → a ≡ Live → ⊥
 free_not_live a one two = cc

@@ -25,7 +25,7 @@ use Rattle.machine_states.specs.runner_steps.specs.Outside.{hold_ask}
 use Rattle.machine_states.specs.runner_steps.specs.Asks.{opening_ask}
 use Rattle.machine_states.specs.Blockless.{ask_by, line_ask}
 use Rattle.machine_states.specs.epoch_core.specs.declared.location.Location.{Location}
-use Rattle.machine_states.specs.epoch_core.specs.declared.location.Location.TheVariants.{Fixed, Live, Hand, Free, Worn, Limbo}
+use Rattle.machine_states.specs.epoch_core.specs.declared.location.Location.TheVariants.{Fixed, Live, Hand, Free, Worn, Limbo, OnBoard}
 use Rattle.machine_states.specs.epoch_core.specs.Events.{slot_of}
 use Rattle.machine_states.specs.epoch_core.specs.History.{is_out}
 use Rattle.machine_states.specs.epoch_core.specs.Lists.{in_any_limbo}
@@ -69,6 +69,7 @@ retired_out r Live h = refl
 retired_out r (Hand r') h = absurd (omega arith)
 retired_out r (Free r') h = absurd (omega arith)
 retired_out r (Worn r') h = absurd (omega arith)
+retired_out r (OnBoard i) h = absurd (omega arith)
 
 retired_unlive : (r : ℕ) (p : Location) → 1 ≤ in_any_limbo r p → p ≡ Live → ⊥
 retired_unlive r (Limbo r' y') h e = cc
@@ -77,6 +78,7 @@ retired_unlive r Live h e = absurd (omega arith)
 retired_unlive r (Hand r') h e = cc
 retired_unlive r (Free r') h e = cc
 retired_unlive r (Worn r') h e = cc
+retired_unlive r (OnBoard i) h e = cc
 
 of_link : (n d : ℕ) → suc n ≡ suc d → n ≡ d
 of_link n d e = omega arith

@@ -4,11 +4,12 @@ ghost use Rattle.arrayvec.specs.ArrayString.{array_string_len};
 ghost use Rattle.report_text.specs.Report.{reply_text, answer_of, line_text};
 ghost use Rattle.report_text.specs.Report.Line.{trace_line, answer_line, final_line};
 
+use crate::page::Page;
 use arrayvec::ArrayString;
 use history_orders::map_history::{Entry, Reply};
 use itoa::Buffer;
 
-/// The bytes of one line. The longest is `4294967295 val 4294967295`.
+/// The bytes of a line that begins a trace, or of the last one.
 pub type Line = ArrayString<32>;
 
 /// The line that begins a trace.
@@ -19,21 +20,6 @@ pub fn line_of_trace(trace: u32) -> Line
     line.push_str("trace ");
     line.push_str(Buffer::new().format(trace));
     line.push_str("\n");
-    line
-}
-
-/// The line of a request.
-pub fn line_of_answer(entry: Option<Entry>, rank: Option<u32>) -> Line
-    ensures { result.bytes ≡ line_text (answer_line (answer_of entry rank)) }
-{
-    let mut line = Line::new();
-    match (entry, rank) {
-        (Some(entry), Some(rank)) => {
-            line.push_str(Buffer::new().format(rank));
-            push_reply(&mut line, entry.reply);
-        }
-        _ => line.push_str("- unserved\n"),
-    }
     line
 }
 
@@ -48,35 +34,49 @@ pub fn line_of_size(size: u32) -> Line
     line
 }
 
+/// Adds the line of a request to a page. It is made there, so that nothing is copied.
+#[inline(always)]
+pub fn push_answer(page: &mut Page, entry: Option<Entry>, rank: Option<u32>)
+    requires { array_string_len page.old + 32 ≤ 4096 }
+    ensures { page.new.bytes ≡ page.old.bytes ++ line_text (answer_line (answer_of entry rank)) }
+{
+    match (entry, rank) {
+        (Some(entry), Some(rank)) => {
+            page.push_str(Buffer::new().format(rank));
+            push_reply(page, entry.reply);
+        }
+        _ => page.push_str("- unserved\n"),
+    }
+}
+
 // Ends a line with a reply. What stands before and behind it is pushed with its word, in one piece.
-fn push_reply(line: &mut Line, reply: Reply)
-    requires { array_string_len line.old ≤ 10 }
-    ensures bytes { line.new.bytes ≡ line.old.bytes ++ codes " " ++ reply_text reply ++ codes "\n" }
-    ensures short { array_string_len line.new ≤ array_string_len line.old + 16 }
+#[inline(always)]
+fn push_reply(page: &mut Page, reply: Reply)
+    requires { array_string_len page.old + 22 ≤ 4096 }
+    ensures { page.new.bytes ≡ page.old.bytes ++ codes " " ++ reply_text reply ++ codes "\n" }
 {
     match reply {
-        Reply::New => line.push_str(" new\n"),
-        Reply::Dup => line.push_str(" dup\n"),
+        Reply::New => page.push_str(" new\n"),
+        Reply::Dup => page.push_str(" dup\n"),
         Reply::Val(value) => {
-            line.push_str(" val ");
-            push_number(line, value);
+            page.push_str(" val ");
+            push_number(page, value);
         }
-        Reply::Gone => line.push_str(" gone\n"),
-        Reply::Absent => line.push_str(" none\n"),
+        Reply::Gone => page.push_str(" gone\n"),
+        Reply::Absent => page.push_str(" none\n"),
         Reply::Was(value) => {
-            line.push_str(" was ");
-            push_number(line, value);
+            page.push_str(" was ");
+            push_number(page, value);
         }
-        Reply::Moved => line.push_str(" moved\n"),
+        Reply::Moved => page.push_str(" moved\n"),
     }
 }
 
 // Ends a line with a number.
-fn push_number(line: &mut Line, number: u32)
-    requires { array_string_len line.old ≤ 15 }
-    ensures bytes { line.new.bytes ≡ line.old.bytes ++ decimal number ++ codes "\n" }
-    ensures short { array_string_len line.new ≤ array_string_len line.old + 11 }
+fn push_number(page: &mut Page, number: u32)
+    requires { array_string_len page.old + 17 ≤ 4096 }
+    ensures { page.new.bytes ≡ page.old.bytes ++ decimal number ++ codes "\n" }
 {
-    line.push_str(Buffer::new().format(number));
-    line.push_str("\n");
+    page.push_str(Buffer::new().format(number));
+    page.push_str("\n");
 }

@@ -6,8 +6,8 @@ ghost use Rattle.report_text.specs.Page.{Gathers, traces_text};
 ghost use Rattle.report_text.specs.Report.{rows_of, report_text};
 ghost use Rattle.report_text.specs.Sink.{Appends, ExtendsInPart};
 
-use crate::line::{line_of_answer, line_of_size, line_of_trace};
-use crate::page::{Page, print_line, send};
+use crate::line::{line_of_size, line_of_trace};
+use crate::page::{Page, print_answer, print_line, send};
 use crate::sink::{Failed, Sink};
 use history_orders::map_history::{Entry, Request};
 
@@ -37,7 +37,7 @@ pub fn write_report<K: Sink>(
     for i in 0..requests.len() {
         let next = requests[i].trace + 1;
         print_traces(begun, next, &mut page, sink)?;
-        print_line(&line_of_answer(entries[i], ranks[i]), &mut page, sink)?;
+        print_answer(entries[i], ranks[i], &mut page, sink)?;
         begun = next;
     }
     print_traces(begun, traces, &mut page, sink)?;
@@ -45,7 +45,8 @@ pub fn write_report<K: Sink>(
     send(&mut page, sink)
 }
 
-// Prints the lines that begin the traces from `begun` up to `end`.
+// Prints the lines that begin the traces from `begun` up to `end`. There are none before most requests.
+#[inline(always)]
 fn print_traces<K: Sink>(begun: u32, end: u32, page: &mut Page, sink: &mut K) -> Result<(), Failed>
     requires { begun ≤ end }
     ensures ok { OnOk result (Gathers (K.held sink.old) page.old.bytes (traces_text begun end)

@@ -85,6 +85,7 @@ module _ (m : Meaning) (l : Layout) (limits : IsWithinLimits l) (rs : List Reque
       by (locations.Hand r) e = own r (let one = nodes.hand r t node ∙ (ap (in_hand r) e ∙ one_here r) in omega (arith, one))
       by (locations.Free r) e = own r (let one = nodes.free r t node ∙ (ap (in_free r) e ∙ one_here r) in omega (arith, one))
       by (locations.Worn r) e = own r (let one = nodes.worn r t node ∙ (ap (in_worn r) e ∙ one_here r) in omega (arith, one))
+      by (locations.OnBoard i) e = own r (let one = nodes.worn r t node ∙ (ap (in_worn r) e ∙ one_here r) in omega (arith, one))
       by (locations.Limbo r y) e = own r (
           let one = nodes.limbo r t y node ∙ (ap (in_limbo r y) e ∙ both_here r y) in
           let waits = retired_waits t y (s.part r).nodes.limbo in omega (arith, one, waits))

@@ -39,6 +39,7 @@ module _ (m : Meaning) (l : Layout) (g : Beside) (s : Sight) (whole : IsWhole m 
   out (locations.Hand r') h = absurd (omega arith)
   out (locations.Free r') h = absurd (omega arith)
   out (locations.Worn r') h = absurd (omega arith)
+  out (locations.OnBoard i) h = absurd (omega arith)
 
   not_live : 1 ≤ in_any_limbo r locations.Live → ⊥
   not_live h = omega arith

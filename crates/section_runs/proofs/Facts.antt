@@ -46,6 +46,7 @@ kept_out (places.Limbo r y) g kept = refl
 kept_out (places.Hand r) g kept = absurd kept
 kept_out (places.Free r) g kept = absurd kept
 kept_out (places.Worn r) g kept = absurd kept
+kept_out (places.OnBoard i) g kept = absurd kept
 
 last_get : (fs : List FinishedState) (f : FinishedState) → slice_get (fs ++ f ∷ []) (length fs) ≡ Some f
 last_get [] f = refl

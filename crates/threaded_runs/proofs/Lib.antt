@@ -1,6 +1,7 @@
 mod Picked
 mod Counting
 mod Seats
+mod OneTrace
 mod Owning
 mod Stopping
 mod Spending

@@ -1,9 +1,22 @@
 //! Which requests a worker serves.
-ghost use Rattle.std.specs.Prelude.{◌≡◌, ◌<◌, IfOk};
+ghost use Rattle.std.specs.Prelude.{◌≡◌, ◌<◌, ◌≤◌, IfOk, All, length, take};
+ghost use Rattle.machine_states.specs.map_history.specs.declared.op.Request.{Request};
 ghost use Rattle.threaded_runs.specs.Own.{own_requests};
 
 use machine_states::map_history::Request;
 use std::alloc::{AllocError, Global};
+
+/// How many of the first requests are of this trace.
+fn run_length(requests: &[Request], trace: u32) -> usize
+    ensures within { result ≤ length requests.now }
+    ensures same { All (λ (request : Request). request.trace ≡ trace) (take result requests.now) }
+{
+    let mut len = 0;
+    while len < requests.len() && requests[len].trace == trace {
+        len += 1;
+    }
+    len
+}
 
 /// The requests of the worker with this number among so many, in a list of their own.
 ///
@@ -18,17 +31,14 @@ pub fn requests_of(
     ensures { IfOk result (λ own. own.items ≡ own_requests runners worker requests.now) }
 {
     let mut own = Vec::new(alloc);
-    let mut trace = 0;
-    let mut is_own = worker == 0;
-    for request in requests {
-        // Requests of a trace follow one another, so that a division for each trace is enough.
-        if request.trace != trace {
-            trace = request.trace;
-            is_own = trace % runners == worker;
+    let mut rest = requests;
+    // Requests of a trace follow one another, so that they are taken over together.
+    while let Some((first, more)) = rest.split_first() {
+        let (run, later) = rest.split_at(run_length(more, first.trace) + 1);
+        if first.trace % runners == worker {
+            own.extend_from_slice(run)?;
         }
-        if is_own {
-            own.push(*request)?;
-        }
+        rest = later;
     }
     Ok(own)
 }

@@ -1,7 +1,6 @@
 // A request as it is mostly written, read in one pass: one blank between its fields, and behind the last nothing but
 // the line feed.
-ghost use Rattle.std.specs.Prelude.{◌≡◌, ◌≤◌, ◌+◌, ◌-◌, Some, true, get_or, length, take, IfSome};
-ghost use Rattle.std.specs.Char.{is_ascii_digit};
+ghost use Rattle.std.specs.Prelude.{◌≡◌, ◌≤◌, ◌+◌, Some, true, length, take, IfSome};
 ghost use Rattle.std.specs.Str.{bytes_eq};
 ghost use Rattle.trace_reader.specs.Formats.{IsFormat};
 ghost use Rattle.trace_reader.specs.Plain.{AreDigits, BeginWithNumber, BeginWithPair, BeginWithRequest, IsRequestAt, format_of_word, text_of};
@@ -115,29 +114,15 @@ fn leading_number(bytes: &[u8]) -> Option<(u32, usize)>
 {
     let mut number = 0;
     let mut len = 0;
-    while let Some(digit) = digit_at(bytes, len) {
+    while len < bytes.len() && bytes[len].is_ascii_digit() {
         if number >= TENTH {
             return None;
         }
-        number = number * 10 + digit;
+        number = number * 10 + u32::from(bytes[len] - b'0');
         len += 1;
     }
     if len == 0 {
         return None;
     }
     Some((number, len))
-}
-
-// The digit that stands there.
-fn digit_at(bytes: &[u8], place: usize) -> Option<u32>
-    ensures place { IfSome result (λ digit. place + 1 ≤ length bytes.now) }
-    ensures digit { IfSome result (λ digit. (is_ascii_digit (get_or bytes.now place 0) ≡ true)
-        × (digit ≡ get_or bytes.now place 0 - 48) × (digit ≤ 9)) }
-{
-    let byte = *bytes.get(place)?;
-    if byte.is_ascii_digit() {
-        Some(u32::from(byte - b'0'))
-    } else {
-        None
-    }
 }

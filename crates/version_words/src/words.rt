@@ -28,7 +28,7 @@ impl<S: Structure> Model for Words<S> {
     ghost view = { λ a. record {
       structure = a.setup.structure;
       layout = a.setup.layout;
-      requests = a.setup.requests.items;
+      requests = a.setup.requests;
       words = slots_items a.closed.words;
     } };
 
@@ -68,6 +68,7 @@ impl<S: Structure> Words<S> {
     }
 
     /// The word at this spot.
+    #[inline(always)]
     fn word(&self, spot: Spot) -> u64
         requires { HasWord (S.meaning self.now.structure) self.now spot }
         ensures { result ≡ word_of (S.meaning self.now.structure) self.now spot }

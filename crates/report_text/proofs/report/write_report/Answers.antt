@@ -1,4 +1,4 @@
-use Rattle.std.proofs.Common.{◌≡◌, ℕ, ◌+◌, ◌++◌, ◌<◌, ◌≤◌, length, get_or, List, [], arith, ap, ◌∙◌, sym, refl, subst}
+use Rattle.std.proofs.Common.{◌≡◌, ℕ, ◌<◌, ◌≤◌, length, get_or, List, [], arith, ap, ◌∙◌, sym, refl, subst}
 use Rattle.std.proofs.lemmas.List.{append-nil, length-map}
 use Rattle.std.proofs.lemmas.Result.{err_from_is_err_and}
 use Rattle.history_orders.specs.map_history.specs.declared.op.Op.TheVariants.{Get}
@@ -31,11 +31,11 @@ returns-in_err-print_traces-clause-appends g c =
     let next = left_at-next c.loop-i.begun c.loop-i.i c.args.requests.now c.args.entries.now c.args.ranks.now c.args.traces c.args.size no_request c.requires.in_order c.requires.below c.loop-i.invariant.before c.loop-i-test.true in
     rw p.1 (Underway-fails_more _ _ next c.loop-i.invariant.underway c.in_err-print_traces.ensures.err)
 
-pub returns-in_err-print_line-clause-appends : goal.returns-in_err-print_line-clause-appends
-returns-in_err-print_line-clause-appends g c =
-    let p = err_from_is_err_and c.from_residual-in_err-print_line.result c.from_residual-in_err-print_line.ensures.1 in
+pub returns-in_err-print_answer-clause-appends : goal.returns-in_err-print_answer-clause-appends
+returns-in_err-print_answer-clause-appends g c =
+    let p = err_from_is_err_and c.from_residual-in_err-print_answer.result c.from_residual-in_err-print_answer.ensures.1 in
     let next = left_at-next c.loop-i.begun c.loop-i.i c.args.requests.now c.args.entries.now c.args.ranks.now c.args.traces c.args.size no_request c.requires.in_order c.requires.below c.loop-i.invariant.before c.loop-i-test.true in
-    rw p.1 (Underway-fails (Underway-more next c.loop-i.invariant.underway c.in_ok-print_traces.ensures.ok) c.in_err-print_line.ensures.err)
+    rw p.1 (Underway-fails (Underway-more next c.loop-i.invariant.underway c.in_ok-print_traces.ensures.ok) c.in_err-print_answer.ensures.err)
 
 pub loop-i-preserved : goal.loop-i-preserved
 loop-i-preserved g c =
@@ -44,13 +44,12 @@ loop-i-preserved g c =
     let next = left_at-next c.loop-i.begun c.loop-i.i requests c.args.entries.now c.args.ranks.now c.args.traces c.args.size no_request c.requires.in_order c.requires.below c.loop-i.invariant.before c.loop-i-test.true in
     let row = left_at-row c.loop-i.i requests c.args.entries.now c.args.ranks.now c.args.traces c.args.size no_request _ _ c.loop-i-test.true c.requires.entries one_rank in
     let below : (get_or requests c.loop-i.i no_request).trace < c.args.traces = c.requires.below c.loop-i.i no_request c.loop-i-test.true in
-    let rest = left_at ((get_or requests c.loop-i.i no_request).trace + 1) (c.loop-i.i + 1) requests c.args.entries.now c.args.ranks.now c.args.traces c.args.size in
     record {
-      underway = Underway-more (ap (λ line. line ++ rest) c.line_of_answer.ensures ∙ row)
-          (Underway-more next c.loop-i.invariant.underway c.in_ok-print_traces.ensures.ok) c.in_ok-print_line.ensures.ok;
+      underway = Underway-more row
+          (Underway-more next c.loop-i.invariant.underway c.in_ok-print_traces.ensures.ok) c.in_ok-print_answer.ensures.ok;
       before = λ k d low lt. later_traces requests c.loop-i.i no_request c.requires.in_order k d (omega arith) lt;
       within = omega arith;
-      steady = c.in_ok-print_line.ensures.steady ∙ c.in_ok-print_traces.ensures.steady ∙ c.loop-i.invariant.steady;
+      steady = c.in_ok-print_answer.ensures.steady ∙ c.in_ok-print_traces.ensures.steady ∙ c.loop-i.invariant.steady;
     }
 
 pub returns-in_err-print_traces-2-clause-appends : goal.returns-in_err-print_traces-2-clause-appends
@@ -60,12 +59,12 @@ returns-in_err-print_traces-2-clause-appends g c =
     let next = left_at-traces c.loop-i.begun c.args.traces c.loop-i.i c.args.requests.now c.args.entries.now c.args.ranks.now c.args.traces c.args.size c.loop-i.invariant.within (omega arith) (λ k d low lt. absurd (omega arith)) in
     rw p.1 (Underway-fails_more _ _ next c.loop-i.invariant.underway c.in_err-print_traces-2.ensures.err)
 
-pub returns-in_err-print_line-2-clause-appends : goal.returns-in_err-print_line-2-clause-appends
-returns-in_err-print_line-2-clause-appends g c =
-    let p = err_from_is_err_and c.from_residual-in_err-print_line-2.result c.from_residual-in_err-print_line-2.ensures.1 in
+pub returns-in_err-print_line-clause-appends : goal.returns-in_err-print_line-clause-appends
+returns-in_err-print_line-clause-appends g c =
+    let p = err_from_is_err_and c.from_residual-in_err-print_line.result c.from_residual-in_err-print_line.ensures.1 in
     let past : length c.args.requests.now ≤ c.loop-i.i = omega arith in
     let next = left_at-traces c.loop-i.begun c.args.traces c.loop-i.i c.args.requests.now c.args.entries.now c.args.ranks.now c.args.traces c.args.size c.loop-i.invariant.within (omega arith) (λ k d low lt. absurd (omega arith)) in
-    rw p.1 (Underway-fails (Underway-more next c.loop-i.invariant.underway c.in_ok-print_traces-2.ensures.ok) c.in_err-print_line-2.ensures.err)
+    rw p.1 (Underway-fails (Underway-more next c.loop-i.invariant.underway c.in_ok-print_traces-2.ensures.ok) c.in_err-print_line.ensures.err)
 
 pub returns-clause-appends : goal.returns-clause-appends
 returns-clause-appends g c =
@@ -74,5 +73,5 @@ returns-clause-appends g c =
     let last = left_at-end c.loop-i.i c.args.requests.now c.args.entries.now c.args.ranks.now c.args.traces c.args.size past in
     Appends-end c.send.result _ _ _ _ _ [] refl
     (Underway-more (append-nil _ ∙ c.line_of_size.ensures ∙ sym last)
-    (Underway-more next c.loop-i.invariant.underway c.in_ok-print_traces-2.ensures.ok) c.in_ok-print_line-2.ensures.ok)
+    (Underway-more next c.loop-i.invariant.underway c.in_ok-print_traces-2.ensures.ok) c.in_ok-print_line.ensures.ok)
     c.send.ensures.ok c.send.ensures.err
