@@ -21,7 +21,6 @@ use Rattle.runner_steps.specs.Sections.{is_open_run}
 use Rattle.runner_steps.specs.Asks.{fitting, sizes_for, asks}
 use Rattle.machine_states.proofs.Blockless.{outside_ask, inside_ask, ask_by, asks_same, unblocked}
 use Rattle.enabled_kinds.specs.May.{is_enabled}
-use Rattle.enabled_kinds.proofs.Numbers.{is_board}
 
 pub absent : {A : Type 0} (a : A) → None ≡ Some a → ⊥
 absent a e = cc
@@ -60,7 +59,7 @@ pub is_below : (a b : ℕ) → a < b → nat_lt a b ≡ true
 is_below a b h = grind (arith, nat_tests)
 
 -- a test that an element of a list passes
-pub some_passes : (test : ℕ → Bool) (xs : List ℕ) → list_any test xs ≡ true → (x : ℕ) × (test x ≡ true)
+pub some_passes : {A : Type 0} (test : A → Bool) (xs : List A) → list_any test xs ≡ true → (x : A) × (test x ≡ true)
 some_passes test [] e = absurd (not_both false e refl)
 some_passes test (x ∷ xs) e = ⊎_elim (λ here. (x, here)) (λ later. some_passes test xs later) (either (test x) (list_any test xs) e)
 
@@ -116,6 +115,9 @@ is_outside_kind (kinds.LoadEntry request reply) = true
 is_outside_kind (kinds.ReadPlan thunk) = true
 is_outside_kind (kinds.Guard d) = true
 is_outside_kind (kinds.LoadGuard n) = true
+is_outside_kind (kinds.BoardLoad word) = true
+is_outside_kind (kinds.BoardTake word link) = true
+is_outside_kind (kinds.BoardGive word slot) = true
 is_outside_kind _ = false
 
 module _ (m : Meaning) (l : Layout) (rs : List Request) (r : ℕ) (p : PartState) where
@@ -153,6 +155,9 @@ module _ (m : Meaning) (l : Layout) (rs : List Request) (r : ℕ) (p : PartState
   not_inside (kinds.ReadPlan thunk) q free x h e = nothing (is_open_run q) x e
   not_inside (kinds.Guard d) q free x h e = nothing (is_open_run q) x e
   not_inside (kinds.LoadGuard n) q free x h e = nothing (is_open_run q) x e
+  not_inside (kinds.BoardLoad word) q free x h e = nothing (is_open_run q) x e
+  not_inside (kinds.BoardTake word link) q free x h e = nothing (is_open_run q) x e
+  not_inside (kinds.BoardGive word slot) q free x h e = nothing (is_open_run q) x e
   not_inside _ q free x h e = absurd (not_both false h refl)
 
   outside_by : (k : EventKind) (o : Option RunState) (x : Spot × Access) → is_outside_kind k ≡ true → ask_by m l rs r k p o ≡ Some x → outside_ask m l rs r k p ≡ Some x
@@ -167,22 +172,17 @@ module _ (m : Meaning) (l : Layout) (rs : List Request) (r : ℕ) (p : PartState
   pub no_link : (b : ℕ) → is_enabled m l rs r p (kinds.LinkCommit b) ≡ false
   no_link b = not_true _ (λ e. let a = asked (kinds.LinkCommit b) e in link_by b p.run a.ask a.asked)
 
-  -- and nobody uses the board
-  board_by : (k : EventKind) (o : Option RunState) (x : Spot × Access) → is_board k ≡ true → ask_by m l rs r k p o ≡ Some x → ⊥
-  board_by (kinds.BoardLoad word) None x h e = absent x e
-  board_by (kinds.BoardLoad word) (Some q) x h e = nothing (is_open_run q) x e
-  board_by (kinds.BoardTake word link) None x h e = absent x e
-  board_by (kinds.BoardTake word link) (Some q) x h e = nothing (is_open_run q) x e
-  board_by (kinds.BoardGive word slot) None x h e = absent x e
-  board_by (kinds.BoardGive word slot) (Some q) x h e = nothing (is_open_run q) x e
-  board_by _ o x h e = not_both false h refl
-
-  pub no_board : (k : EventKind) → is_board k ≡ true → is_enabled m l rs r p k ≡ false
-  no_board k h = not_true _ (λ e. let a = asked k e in board_by k p.run a.ask h a.asked)
-
   -- an event that no run makes is enabled outside a run
   pub asked_outside : (k : EventKind) (a : Asked k) → is_outside_kind k ≡ true → outside_ask m l rs r k p ≡ Some a.ask
   asked_outside k a h = outside_by k p.run a.ask h a.asked
+
+  -- so the runner is in no run
+  no_run_by : (k : EventKind) (o : Option RunState) (x : Spot × Access) → is_outside_kind k ≡ true → ask_by m l rs r k p o ≡ Some x → o ≡ None
+  no_run_by k None x h e = refl
+  no_run_by k (Some q) x h e = absurd (not_inside k q p.nodes.free x h e)
+
+  pub no_run : (k : EventKind) (a : Asked k) → is_outside_kind k ≡ true → p.run ≡ None
+  no_run k a h = no_run_by k p.run a.ask h a.asked
 
   -- a runner that is idle or entered asks for this outside a run
   pub resting_asks : (k : EventKind) (x : Spot × Access) → is_resting p.stage p.run ≡ true → ask_by m l rs r k p None ≡ Some x → ask_by m l rs r k p p.run ≡ Some x

@@ -51,33 +51,26 @@ plain_only kinds.OutcomeCommit k' e = the_same kinds.OutcomeCommit k' e
 plain_only kinds.ReadReply k' e = the_same kinds.ReadReply k' e
 plain_only kinds.ReadStamp k' e = the_same kinds.ReadStamp k' e
 
--- the kinds of the board, of which no event is enabled yet
-abbrev pub is_board : EventKind → Bool
-is_board (kinds.BoardLoad word) = true
-is_board (kinds.BoardTake word link) = true
-is_board (kinds.BoardGive word slot) = true
-is_board _ = false
-
--- the kinds whose events carry arguments
-pub argued : (k : EventKind) → plain_kind (kind_number k) ≡ None → kind_number k ≢ 5 → kind_number k ≢ 9 → kind_number k ≢ 11 → kind_number k ≢ 12 → kind_number k ≢ 16 → kind_number k ≢ 18 → kind_number k ≢ 21 → kind_number k ≢ 25 → kind_number k ≢ 26 → kind_number k ≢ 31 → kind_number k ≢ 37 → kind_number k ≢ 38 → kind_number k ≢ 39 → is_board k ≡ true
-argued (kinds.ScanOne n) e n5 n9 n11 n12 n16 n18 n21 n25 n26 n31 n37 n38 n39 = absurd (n5 refl)
-argued (kinds.LoadCell place) e n5 n9 n11 n12 n16 n18 n21 n25 n26 n31 n37 n38 n39 = absurd (n9 refl)
-argued (kinds.PrivateLoad slot word) e n5 n9 n11 n12 n16 n18 n21 n25 n26 n31 n37 n38 n39 = absurd (n11 refl)
-argued (kinds.PrivateStore slot word number) e n5 n9 n11 n12 n16 n18 n21 n25 n26 n31 n37 n38 n39 = absurd (n12 refl)
-argued (kinds.LoadThunk d) e n5 n9 n11 n12 n16 n18 n21 n25 n26 n31 n37 n38 n39 = absurd (n16 refl)
-argued (kinds.Hold thunk d) e n5 n9 n11 n12 n16 n18 n21 n25 n26 n31 n37 n38 n39 = absurd (n18 refl)
-argued kinds.ClockLoad e n5 n9 n11 n12 n16 n18 n21 n25 n26 n31 n37 n38 n39 = absurd (n21 refl)
-argued kinds.ReadClock e n5 n9 n11 n12 n16 n18 n21 n25 n26 n31 n37 n38 n39 = absurd (n21 refl)
-argued (kinds.Join worker) e n5 n9 n11 n12 n16 n18 n21 n25 n26 n31 n37 n38 n39 = absurd (n25 refl)
-argued (kinds.LoadEntry request reply) e n5 n9 n11 n12 n16 n18 n21 n25 n26 n31 n37 n38 n39 = absurd (n26 refl)
-argued (kinds.ReadPlan thunk) e n5 n9 n11 n12 n16 n18 n21 n25 n26 n31 n37 n38 n39 = absurd (n39 refl)
-argued (kinds.Guard d) e n5 n9 n11 n12 n16 n18 n21 n25 n26 n31 n37 n38 n39 = absurd (n37 refl)
-argued (kinds.LoadGuard n) e n5 n9 n11 n12 n16 n18 n21 n25 n26 n31 n37 n38 n39 = absurd (n38 refl)
-argued (kinds.LinkCommit b) e n5 n9 n11 n12 n16 n18 n21 n25 n26 n31 n37 n38 n39 = absurd (n31 refl)
-argued (kinds.BoardLoad word) e n5 n9 n11 n12 n16 n18 n21 n25 n26 n31 n37 n38 n39 = refl
-argued (kinds.BoardTake word link) e n5 n9 n11 n12 n16 n18 n21 n25 n26 n31 n37 n38 n39 = refl
-argued (kinds.BoardGive word slot) e n5 n9 n11 n12 n16 n18 n21 n25 n26 n31 n37 n38 n39 = refl
-argued _ e n5 n9 n11 n12 n16 n18 n21 n25 n26 n31 n37 n38 n39 = absurd (present _ e)
+-- the kinds whose events carry arguments have these numbers
+pub argued : (k : EventKind) → plain_kind (kind_number k) ≡ None → kind_number k ≢ 5 → kind_number k ≢ 9 → kind_number k ≢ 11 → kind_number k ≢ 12 → kind_number k ≢ 16 → kind_number k ≢ 18 → kind_number k ≢ 21 → kind_number k ≢ 25 → kind_number k ≢ 26 → kind_number k ≢ 31 → kind_number k ≢ 32 → kind_number k ≢ 33 → kind_number k ≢ 34 → kind_number k ≢ 37 → kind_number k ≢ 38 → kind_number k ≢ 39 → ⊥
+argued (kinds.ScanOne n) e n5 n9 n11 n12 n16 n18 n21 n25 n26 n31 n32 n33 n34 n37 n38 n39 = n5 refl
+argued (kinds.LoadCell place) e n5 n9 n11 n12 n16 n18 n21 n25 n26 n31 n32 n33 n34 n37 n38 n39 = n9 refl
+argued (kinds.PrivateLoad slot word) e n5 n9 n11 n12 n16 n18 n21 n25 n26 n31 n32 n33 n34 n37 n38 n39 = n11 refl
+argued (kinds.PrivateStore slot word number) e n5 n9 n11 n12 n16 n18 n21 n25 n26 n31 n32 n33 n34 n37 n38 n39 = n12 refl
+argued (kinds.LoadThunk d) e n5 n9 n11 n12 n16 n18 n21 n25 n26 n31 n32 n33 n34 n37 n38 n39 = n16 refl
+argued (kinds.Hold thunk d) e n5 n9 n11 n12 n16 n18 n21 n25 n26 n31 n32 n33 n34 n37 n38 n39 = n18 refl
+argued kinds.ClockLoad e n5 n9 n11 n12 n16 n18 n21 n25 n26 n31 n32 n33 n34 n37 n38 n39 = n21 refl
+argued kinds.ReadClock e n5 n9 n11 n12 n16 n18 n21 n25 n26 n31 n32 n33 n34 n37 n38 n39 = n21 refl
+argued (kinds.Join worker) e n5 n9 n11 n12 n16 n18 n21 n25 n26 n31 n32 n33 n34 n37 n38 n39 = n25 refl
+argued (kinds.LoadEntry request reply) e n5 n9 n11 n12 n16 n18 n21 n25 n26 n31 n32 n33 n34 n37 n38 n39 = n26 refl
+argued (kinds.ReadPlan thunk) e n5 n9 n11 n12 n16 n18 n21 n25 n26 n31 n32 n33 n34 n37 n38 n39 = n39 refl
+argued (kinds.Guard d) e n5 n9 n11 n12 n16 n18 n21 n25 n26 n31 n32 n33 n34 n37 n38 n39 = n37 refl
+argued (kinds.LoadGuard n) e n5 n9 n11 n12 n16 n18 n21 n25 n26 n31 n32 n33 n34 n37 n38 n39 = n38 refl
+argued (kinds.LinkCommit b) e n5 n9 n11 n12 n16 n18 n21 n25 n26 n31 n32 n33 n34 n37 n38 n39 = n31 refl
+argued (kinds.BoardLoad word) e n5 n9 n11 n12 n16 n18 n21 n25 n26 n31 n32 n33 n34 n37 n38 n39 = n32 refl
+argued (kinds.BoardTake word link) e n5 n9 n11 n12 n16 n18 n21 n25 n26 n31 n32 n33 n34 n37 n38 n39 = n33 refl
+argued (kinds.BoardGive word slot) e n5 n9 n11 n12 n16 n18 n21 n25 n26 n31 n32 n33 n34 n37 n38 n39 = n34 refl
+argued _ e n5 n9 n11 n12 n16 n18 n21 n25 n26 n31 n32 n33 n34 n37 n38 n39 = absurd (present _ e)
 
 pub given_plain : (k k' : EventKind) → plain_kind (kind_number k) ≡ Some k' → IsGiven k
 given_plain (kinds.Hold thunk d) k' e = absurd (absent k' e)
@@ -118,6 +111,18 @@ module _ (P : EventKind → Type 0) where
   pub only_link : ((b : ℕ) → P (kinds.LinkCommit b)) → (k : EventKind) → kind_number k ≡ 31 → P k
   only_link each (kinds.LinkCommit b) e = each b
   only_link each _ e = absurd (omega (arith, e))
+
+  pub only_board_load : ((word : ℕ) → P (kinds.BoardLoad word)) → (k : EventKind) → kind_number k ≡ 32 → P k
+  only_board_load each (kinds.BoardLoad word) e = each word
+  only_board_load each _ e = absurd (omega (arith, e))
+
+  pub only_take : ((word link : ℕ) → P (kinds.BoardTake word link)) → (k : EventKind) → kind_number k ≡ 33 → P k
+  only_take each (kinds.BoardTake word link) e = each word link
+  only_take each _ e = absurd (omega (arith, e))
+
+  pub only_give : ((word slot : ℕ) → P (kinds.BoardGive word slot)) → (k : EventKind) → kind_number k ≡ 34 → P k
+  only_give each (kinds.BoardGive word slot) e = each word slot
+  only_give each _ e = absurd (omega (arith, e))
 
   pub only_join : ((worker : ℕ) → P (kinds.Join worker)) → (k : EventKind) → kind_number k ≡ 25 → P k
   only_join each (kinds.Join worker) e = each worker

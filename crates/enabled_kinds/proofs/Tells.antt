@@ -1,35 +1,50 @@
 -- What the tests tell of the kinds whose events carry arguments.
-use Rattle.std.specs.Prelude.{Bool, true, false, ◌==◌, ◌&&◌, ◌||◌, nat_lt, nat_le, is_none}
+use Rattle.std.specs.Prelude.{Bool, true, false, not, ◌==◌, ◌&&◌, ◌||◌, nat_lt, nat_le, is_none, if◌then◌else◌}
 use Rattle.std.specs.List.{list_any}
-use Rattle.std.proofs.Common.{◌≡◌, ◌<◌, ◌≤◌, ℕ, List, length, ⊎_elim, sym, refl, ap, ◌∙◌, Option, Some, None, arith}
+use Rattle.std.proofs.Common.{◌≡◌, ◌+◌, ◌<◌, ◌≤◌, ℕ, List, [], ◌∷◌, length, ⊎_elim, sym, refl, ap, ◌∙◌, Option, Some, None, arith}
 use Rattle.std.proofs.lemmas.Bool.Decides.{nat_tests}
 use Rattle.machine_states.specs.map_history.specs.declared.op.Request.{Request}
 use Rattle.machine_states.specs.body_terms.specs.declared.thunk.Thunk.{Thunk}
 use Rattle.machine_states.specs.table_words.specs.declared.layout.Layout.{Layout}
 use Rattle.machine_states.specs.table_words.specs.declared.spot.Spot.{Spot}
-use Rattle.machine_states.specs.table_words.specs.declared.spot.Spot.TheVariants.{Announcement, Guard}
+use Rattle.machine_states.specs.table_words.specs.declared.spot.Spot.TheVariants.{Announcement, Guard, Board}
 use Rattle.machine_states.specs.table_words.specs.declared.access.Access.{Access}
 use Rattle.machine_states.specs.table_words.specs.declared.access.Access.TheVariants.{Loads, Stores, Exchanges}
-use Rattle.machine_states.specs.table_words.specs.Places.{fits}
+use Rattle.machine_states.specs.table_words.specs.Places.{fits, board_words}
 use Rattle.machine_states.specs.structure_laws.specs.Meaning.{Meaning}
+use Rattle.machine_states.specs.runner_parts.specs.declared.entries.BoardRead.{BoardRead}
 use Rattle.machine_states.specs.runner_parts.specs.declared.event.EventKind.{EventKind}
 use Rattle.machine_states.specs.runner_parts.specs.declared.event.EventKind.TheVariants as kinds
 use Rattle.machine_states.specs.epoch_core.specs.declared.stage.Stage.{Stage}
 use Rattle.machine_states.specs.epoch_core.specs.declared.stage.Stage.TheVariants as stages
 use Rattle.machine_states.specs.runner_parts.specs.State.{RunState, PartState}
 use Rattle.machine_states.specs.runner_parts.specs.Tests.{has, is_walking, is_outside, is_some_of}
-use Rattle.runner_steps.specs.Outside.{scan_one_ask, entry_spot, is_sure_of}
+use Rattle.runner_steps.specs.Outside.{when, scan_one_ask, entry_spot, is_sure_of}
 use Rattle.runner_steps.specs.Guards.{load_guard_by}
+use Rattle.runner_steps.specs.Board.{may_use, last_read}
 use Rattle.runner_steps.specs.Asks.{sizes_for}
-use Rattle.machine_states.proofs.Blockless.{ask_by}
+use Rattle.machine_states.proofs.Blockless.{outside_ask, ask_by}
 use Rattle.enabled_kinds.specs.Kinds.{kind_number, plain_kind, IsGiven}
 use Rattle.enabled_kinds.specs.May.{is_enabled, is_enabled_if, May, Tells}
 use Rattle.enabled_kinds.specs.Tried.{begun, link_of, linked, no_thunk}
-use Rattle.enabled_kinds.proofs.Asked.{absent, not_both, not_true, both, either, neither, equal, some_passes, none_passes, when_asks, asks_when, below, is_below, resting_asks, asked, enabled, no_link, no_board, asked_outside}
-use Rattle.enabled_kinds.proofs.Numbers.{is_board, plain_only, only_scan, only_cell, only_thunk, only_link, only_clock, only_plan, only_guard, only_sweep, only_join, only_entry}
+use Rattle.enabled_kinds.proofs.Asked.{absent, not_both, not_true, both, either, neither, equal, some_passes, none_passes, when_asks, asks_when, below, is_below, resting_asks, asked, enabled, no_link, no_run, asked_outside}
+use Rattle.enabled_kinds.proofs.Numbers.{plain_only, only_scan, only_cell, only_thunk, only_link, only_board_load, only_take, only_give, only_clock, only_plan, only_guard, only_sweep, only_join, only_entry}
 
 most : (a b : ℕ) → nat_le a b ≡ true → a ≤ b
 most a b e = grind (arith, nat_tests)
+
+-- where no load of the board passes the test, what was read last in a word doesn't
+none_read : (test : ℕ → ℕ → Bool) (loads : List BoardRead) (word link : ℕ) → list_any (λ (x : BoardRead). test x.word x.read) loads ≡ false
+    → is_some_of (last_read loads word) link ≡ true → test word link ≡ false
+none_read test [] word link none read = absurd (not_both false read refl)
+none_read test (x ∷ xs) word link none read =
+    let parts = neither (test x.word x.read) (list_any (λ (y : BoardRead). test y.word y.read) xs) none in
+    by (x.word == word) refl parts.0 (none_read test xs word link parts.1) read
+  where
+    by : (b : Bool) → (x.word == word) ≡ b → test x.word x.read ≡ false → (is_some_of (last_read xs word) link ≡ true → test word link ≡ false)
+        → is_some_of (if b then Some x.read else last_read xs word) link ≡ true → test word link ≡ false
+    by true same here rest read' = (λ i. test (sym (equal x.word word same) i) (sym (equal x.read link read') i)) ∙ here
+    by false other here rest read' = rest read'
 
 module _ (m : Meaning) (l : Layout) (rs : List Request) (r : ℕ) (p : PartState) where
   abbrev can : EventKind → Bool
@@ -247,11 +262,74 @@ module _ (m : Meaning) (l : Layout) (rs : List Request) (r : ℕ) (p : PartState
     missed = λ h. only_entry (λ k. IsGiven k → can k ≡ false) (λ request reply given. not_true (can (kinds.LoadEntry request reply)) (λ e. not_both _ (entry_first request reply e) h));
   }
 
+  -- each word of the board may be met that one of them may
+  first_of_board : (k : EventKind) (test : Bool) (access : Access) → outside_ask m l rs r k p ≡ when test (Board 0) access → test ≡ true → p.gone ≡ false → p.run ≡ None → can k ≡ true
+  first_of_board k test access is passes stays out =
+      enabled m l rs r p k (Board 0, access) stays (ap (ask_by m l rs r k p) out ∙ (is ∙ asks_when test (Board 0) access passes)) (is_below 0 board_words (omega arith))
+
+  load_first : (word : ℕ) → can (kinds.BoardLoad word) ≡ true → can (kinds.BoardLoad 0) ≡ true
+  load_first word e =
+      let a = asked m l rs r p (kinds.BoardLoad word) e in
+      let is = when_asks (may_use l r p.stage) (Board word) Loads a.ask (asked_outside m l rs r p (kinds.BoardLoad word) a refl) in
+      first_of_board (kinds.BoardLoad 0) (may_use l r p.stage) Loads refl is.0 a.stays (no_run m l rs r p (kinds.BoardLoad word) a refl)
+
+  load_any : (word : ℕ) → can (kinds.BoardLoad 0) ≡ false → can (kinds.BoardLoad word) ≡ false
+  load_any word none = not_true (can (kinds.BoardLoad word)) (λ e. not_both _ (load_first word e) none)
+
+  pub board_load_tells : Tells m l rs r p 32 (can (kinds.BoardLoad 0))
+  board_load_tells = record {
+    found = λ h. one (kinds.BoardLoad 0) tt h;
+    missed = λ h. only_board_load (λ k. IsGiven k → can k ≡ false) (λ word given. load_any word h);
+  }
+
+  -- a slot is taken by a load of the word
+  take_read : (word link : ℕ) → can (kinds.BoardTake word link) ≡ true → is_some_of (last_read p.board word) link ≡ true
+  take_read word link e =
+      let a = asked m l rs r p (kinds.BoardTake word link) e in
+      let is = when_asks (may_use l r p.stage && (not (link == 0) && is_some_of (last_read p.board word) link)) (Board word) (Exchanges link 0) a.ask (asked_outside m l rs r p (kinds.BoardTake word link) a refl) in
+      (both (not (link == 0)) _ (both (may_use l r p.stage) _ is.0).1).1
+
+  abbrev takes : BoardRead → Bool
+  takes x = can (kinds.BoardTake x.word x.read)
+
+  take_any : (word link : ℕ) → list_any takes p.board ≡ false → can (kinds.BoardTake word link) ≡ false
+  take_any word link none = not_true (can (kinds.BoardTake word link)) (λ e.
+      not_both _ e (none_read (λ word' link'. can (kinds.BoardTake word' link')) p.board word link none (take_read word link e)))
+
+  pub take_tells : Tells m l rs r p 33 (list_any takes p.board)
+  take_tells = record {
+    found = λ h. let x = some_passes takes p.board h in one (kinds.BoardTake x.0.word x.0.read) tt x.1;
+    missed = λ h. only_take (λ k. IsGiven k → can k ≡ false) (λ word link given. take_any word link h);
+  }
+
+  -- a free slot may go to each word
+  abbrev gives : ℕ → Bool
+  gives slot = can (kinds.BoardGive 0 slot)
+
+  give_first : (word slot : ℕ) → can (kinds.BoardGive word slot) ≡ true → (has p.nodes.free slot ≡ true) × (gives slot ≡ true)
+  give_first word slot e =
+      let test = may_use l r p.stage && has p.nodes.free slot in
+      let a = asked m l rs r p (kinds.BoardGive word slot) e in
+      let is = when_asks test (Board word) (Exchanges 0 (slot + 1)) a.ask (asked_outside m l rs r p (kinds.BoardGive word slot) a refl) in (
+        (both (may_use l r p.stage) (has p.nodes.free slot) is.0).1,
+        first_of_board (kinds.BoardGive 0 slot) test (Exchanges 0 (slot + 1)) refl is.0 a.stays (no_run m l rs r p (kinds.BoardGive word slot) a refl),
+      )
+
+  give_any : (word slot : ℕ) → list_any gives p.nodes.free ≡ false → can (kinds.BoardGive word slot) ≡ false
+  give_any word slot none = not_true (can (kinds.BoardGive word slot)) (λ e.
+      let is = give_first word slot e in not_both (gives slot) is.1 (none_passes gives p.nodes.free slot none is.0))
+
+  pub give_tells : Tells m l rs r p 34 (list_any gives p.nodes.free)
+  give_tells = record {
+    found = λ h. let x = some_passes gives p.nodes.free h in one (kinds.BoardGive 0 x.0) tt x.1;
+    missed = λ h. only_give (λ k. IsGiven k → can k ≡ false) (λ word slot given. give_any word slot h);
+  }
+
   -- a kind whose events carry no argument has one event
-  pub if_tells : (n : ℕ) (o : Option EventKind) → plain_kind n ≡ o → ((k : EventKind) → kind_number k ≡ n → plain_kind n ≡ None → is_board k ≡ true) → ((k : EventKind) → o ≡ Some k → (kind_number k ≡ n) × IsGiven k) → Tells m l rs r p n (is_enabled_if m l rs r p o)
+  pub if_tells : (n : ℕ) (o : Option EventKind) → plain_kind n ≡ o → ((k : EventKind) → kind_number k ≡ n → plain_kind n ≡ None → ⊥) → ((k : EventKind) → o ≡ Some k → (kind_number k ≡ n) × IsGiven k) → Tells m l rs r p n (is_enabled_if m l rs r p o)
   if_tells n None is no_other of = record {
     found = λ h. absurd (not_both false h refl);
-    missed = λ h k number given. no_board m l rs r p k (no_other k number is);
+    missed = λ h k number given. absurd (no_other k number is);
   }
   if_tells n (Some k) is no_other of = record {
     found = λ h. record { kind = k; is_of = (of k refl).0; given = (of k refl).1; enabled = h };

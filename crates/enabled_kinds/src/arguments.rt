@@ -250,7 +250,7 @@ pub fn may_link<S: Structure>(
     runner: u32,
 ) -> bool
     requires limits { IsWithinLimits layout }
-    requires few { length requests.now ≤ 131072 }
+    requires few { length requests.now ≤ most_requests }
     ensures { result ≡ is_enabled_if (S.meaning structure.now) layout requests.now runner part.now
         (linked part.now.run) }
 {
@@ -264,6 +264,52 @@ pub fn may_link<S: Structure>(
             may(part, structure, layout, requests, runner, kind)
         }
     }
+}
+
+/// Whether it may take a slot from the board, by a load of its own.
+pub fn may_take<S: Structure>(
+    part: &Part,
+    structure: &S,
+    layout: Layout,
+    requests: &[Request],
+    runner: u32,
+) -> bool
+    requires limits { IsWithinLimits layout }
+    requires few { length requests.now ≤ most_requests }
+    ensures { result ≡ list_any (λ load.
+        is_enabled (S.meaning structure.now) layout requests.now runner part.now
+        (kinds.BoardTake load.word load.read)) part.now.board }
+{
+    for load in &part.board {
+        let kind = EventKind::BoardTake(load.word, load.read);
+        if may(part, structure, layout, requests, runner, kind) {
+            return true;
+        }
+    }
+    false
+}
+
+/// Whether it may give one of its free node slots to the board's first word.
+pub fn may_give<S: Structure>(
+    part: &Part,
+    structure: &S,
+    layout: Layout,
+    requests: &[Request],
+    runner: u32,
+) -> bool
+    requires limits { IsWithinLimits layout }
+    requires few { length requests.now ≤ most_requests }
+    ensures { result ≡ list_any (λ slot.
+        is_enabled (S.meaning structure.now) layout requests.now runner part.now (kinds.BoardGive 0 slot))
+        part.now.nodes.free }
+{
+    for slot in &part.nodes.free {
+        let kind = EventKind::BoardGive(0, *slot);
+        if may(part, structure, layout, requests, runner, kind) {
+            return true;
+        }
+    }
+    false
 }
 
 /// The thunk that was stored last into the words of this descriptor.

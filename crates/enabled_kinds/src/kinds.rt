@@ -6,8 +6,8 @@ ghost use Rattle.machine_states.specs.table_words.specs.Limits.{IsWithinLimits};
 ghost use Rattle.enabled_kinds.specs.May.{Tells, AreEnabled, is_enabled_if};
 
 use crate::arguments::{
-    may, may_announce_read, may_begin, may_join, may_link, may_look_free, may_look_guard,
-    may_look_hand, may_prepare, may_publish, may_reread, may_scan, may_walk,
+    may, may_announce_read, may_begin, may_give, may_join, may_link, may_look_free, may_look_guard,
+    may_look_hand, may_prepare, may_publish, may_reread, may_scan, may_take, may_walk,
 };
 use crate::makes::{made_load, made_store};
 use crate::plain::plain_kind;
@@ -182,6 +182,12 @@ fn may_make<S: Structure>(
             may(part, structure, layout, requests, runner, first)
         }
         31 => may_link(part, structure, layout, requests, runner),
+        32 => {
+            let first = EventKind::BoardLoad(0);
+            may(part, structure, layout, requests, runner, first)
+        }
+        33 => may_take(part, structure, layout, requests, runner),
+        34 => may_give(part, structure, layout, requests, runner),
         37 => {
             let cleared = EventKind::Guard(None);
             may(part, structure, layout, requests, runner, cleared)

@@ -15,7 +15,7 @@ use Rattle.machine_states.proofs.Reached.{reached_all}
 use Rattle.machine_states.proofs.Sights.{happens_steps}
 use Rattle.version_words.specs.machine_invariant.specs.After.{AreAllowed}
 use Rattle.version_words.specs.machine_invariant.specs.machine_blocks.specs.machine_guards.specs.Sweeps.{SweepIsExact}
-use Rattle.version_words.specs.machine_invariant.specs.machine_blocks.specs.machine_guards.proofs.Safe.{sweep_exact}
+use Rattle.version_words.specs.machine_invariant.specs.machine_blocks.specs.machine_guards.proofs.Bare.{sweep_exact}
 use Rattle.reached_histories.specs.Laws.{HasHistory}
 use Rattle.reached_histories.proofs.Histories.{reached_have}
 use Rattle.version_words.specs.RunnerState.{RunnerState}

@@ -266,7 +266,7 @@ fn a_list_that_begins_with_announce_is_refused_at_its_start(
 }
 
 #[test]
-fn idle_enables_six_kinds(rt: HostRuntime) -> Result<(), AllocError> {
+fn idle_enables_eight_kinds(rt: HostRuntime) -> Result<(), AllocError> {
     let mut machine = begins(rt.alloc())?;
     let kinds = match machine.state.step(Event {
         runner: 0,
@@ -275,7 +275,8 @@ fn idle_enables_six_kinds(rt: HostRuntime) -> Result<(), AllocError> {
         Err(StepError::NotEnabled { enabled }) => enabled,
         _ => 0,
     };
-    assert!(rt; kinds == 1 | 1 << 4 | 1 << 11 | 1 << 12 | 1 << 26 | 1 << 38);
+    let loads = 1 << 11 | 1 << 26 | 1 << 32 | 1 << 38;
+    assert!(rt; kinds == 1 | 1 << 4 | 1 << 12 | 1 << 34 | loads);
     Ok(())
 }
 
@@ -297,8 +298,9 @@ fn word_text(alloc: Global, number: u64) -> Result<String, AllocError> {
     format!(in alloc; "{value:?}@{version:?}")
 }
 
-/// A step of a row: who makes it, its name, and its numbers: first of all a descriptor, a slot, a place or another
-/// runner's number, and behind it the form, the request, the operand and the lock's word of a thunk.
+/// A step of a row: who makes it, its name, and its numbers: first of all a descriptor, a slot, a place, a word of the
+/// board or another runner's number, and behind it the form, the request, the operand and the lock's word of a thunk; or
+/// the link or the slot of a step on the board.
 #[derive(Clone, Copy)]
 struct Line<'a> {
     runner: u32,
@@ -328,6 +330,11 @@ impl<'a> Line<'a> {
     /// Its first number.
     fn first(&self) -> u32 {
         u32::try_from(self.numbers[0]).unwrap_or(0)
+    }
+
+    /// Its second number.
+    fn second(&self) -> u32 {
+        u32::try_from(self.numbers[1]).unwrap_or(0)
     }
 
     /// Its thunk, behind the lock at place 0.
@@ -372,6 +379,9 @@ fn kind_of(line: &Line) -> Option<EventKind> {
         "plan_clock" => EventKind::ReadClock,
         "plan_reply" => EventKind::ReadReply,
         "plan_stamp" => EventKind::ReadStamp,
+        "read" => EventKind::BoardLoad(line.first()),
+        "take" => EventKind::BoardTake(line.first(), line.numbers[1]),
+        "give" => EventKind::BoardGive(line.first(), line.second()),
         _ => return None,
     };
     Some(kind)
@@ -448,6 +458,23 @@ fn descriptors(alloc: Global, part: &Part) -> Result<String, AllocError> {
     format!(in alloc; "{free:?} {limbo:?}")
 }
 
+/// The worker's free node slots.
+fn slots(alloc: Global, part: &Part) -> Result<String, AllocError> {
+    let free = &part.nodes.free;
+    format!(in alloc; "{free:?}")
+}
+
+/// What the worker read in a word of the board last, and what became of its exchange there.
+fn board(alloc: Global, part: &Part) -> Result<String, AllocError> {
+    match part.board.first() {
+        None => Ok(String::new(alloc)),
+        Some(load) => {
+            let (read, tried) = (load.read, load.tried);
+            format!(in alloc; "{read:?} {tried:?}")
+        }
+    }
+}
+
 /// The number of the word that this runner came to know last; 0 where it knows none.
 fn learned(part: &Part) -> u64 {
     part.records.known.last().map(|x| x.number).unwrap_or(0)
@@ -473,6 +500,8 @@ fn shown(alloc: Global, machine: &mut Played, line: &Line) -> Result<String, All
         "log" => word_text(alloc, log_word(machine, line.first())),
         "ended" => ended(alloc, part_of(machine, line.runner)),
         "descriptors" => descriptors(alloc, part_of(machine, line.runner)),
+        "slots" => slots(alloc, part_of(machine, line.runner)),
+        "board" => board(alloc, part_of(machine, line.runner)),
         _ => {
             let count = count_of(machine, line);
             format!(in alloc; "{count:?}")
@@ -644,5 +673,29 @@ fn no_read_behind_a_lock_that_was_taken_in_between(rt: HostRuntime) -> Result<()
     let row =
         "0 enter; 0 look; 0 plan 0 7 0 0 0@1; 0 plan_clock; 1 prepare 2 101 2 7 0@1; 1 hold 2 101 2 7 0@1; 0 \
         look; 0 plan_reply: no; 0 leave";
+    check(&rt, rt.alloc(), row)
+}
+
+#[test]
+fn a_worker_gives_a_slot_and_another_takes_it(rt: HostRuntime) -> Result<(), AllocError> {
+    let row =
+        "0 slots: [1, 0]; 0 give 63 1; 0 slots: [0]; 0 give 63 1: no; 1 take 63 2: no; 1 read 63; 1 board: 2 Not; 1 \
+        take 63 3: no; 1 take 63 2; 1 slots: [3, 2, 1]; 1 board: 2 Won; 0 read 63; 0 board: 0 Not; 0 read 64: no";
+    check(&rt, rt.alloc(), row)
+}
+
+#[test]
+fn of_two_that_take_a_slot_one_has_it(rt: HostRuntime) -> Result<(), AllocError> {
+    let row =
+        "0 give 7 0; 0 read 7; 1 read 7; 1 take 7 1; 0 take 7 1; 1 slots: [3, 2, 0]; 0 slots: [1]; 0 board: 1 Lost; 1 \
+        give 7 0; 0 take 7 1; 0 slots: [1, 0]; 0 board: 1 Won";
+    check(&rt, rt.alloc(), row)
+}
+
+#[test]
+fn a_taken_word_of_the_board_refuses_a_slot(rt: HostRuntime) -> Result<(), AllocError> {
+    let row =
+        "0 give 7 0; 1 give 7 2; 1 slots: [3, 2]; 1 read 7; 1 board: 1 Not; 1 give 7 2; 1 board: 1 Lost; 1 enter; 1 \
+        read 7: no; 1 give 8 2: no; 1 take 7 1: no; 1 leave; 1 board: ; 1 take 7 1: no";
     check(&rt, rt.alloc(), row)
 }

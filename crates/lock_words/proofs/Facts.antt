@@ -1,16 +1,12 @@
 -- What the whole invariant says of a section that is in its descriptor.
-use Rattle.std.specs.Prelude.{◌==◌, ◌||◌, cond, Bool, true, false, slice_get}
-use Rattle.std.proofs.Common.{◌≡◌, ℕ, ◌+◌, ◌<◌, List, [], ◌∷◌, refl, sym, ap, ◌∙◌, subst, ⊎_elim, arith, Some}
+use Rattle.std.specs.Prelude.{◌==◌, ◌||◌, cond, Bool, true, false}
+use Rattle.std.proofs.Common.{◌≡◌, ℕ, ◌+◌, ◌<◌, List, [], ◌∷◌, refl, sym, ap, ◌∙◌, ⊎_elim, arith}
 use Rattle.std.proofs.lemmas.Bool.Decides.{nat_tests}
-use Rattle.std.proofs.lemmas.Option.{slice_get_within}
 use Rattle.machine_states.specs.body_terms.specs.Line.{line, micro_at}
-use Rattle.machine_states.specs.body_terms.specs.Word.{version_of}
 use Rattle.agreement_core.specs.section_lines.specs.Line.{IsLine}
 use Rattle.machine_states.specs.table_words.specs.declared.layout.Layout.{Layout}
-use Rattle.machine_states.specs.table_words.specs.declared.spot.Spot.TheVariants.{Cell}
 use Rattle.machine_states.specs.table_words.specs.Places.{descriptor_count}
 use Rattle.machine_states.specs.structure_laws.specs.Meaning.{Meaning}
-use Rattle.machine_states.specs.runner_parts.specs.State.{FinishedState}
 use Rattle.machine_states.specs.runner_parts.specs.Tests.{has}
 use Rattle.agreement_core.specs.State.{AgreementState}
 use Rattle.agreement_core.proofs.Lines.{outcome_lock}

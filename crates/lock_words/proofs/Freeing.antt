@@ -23,7 +23,7 @@ use Rattle.machine_states.specs.epoch_core.specs.declared.stage.Stage.TheVariant
 use Rattle.machine_states.specs.runner_parts.specs.declared.event.EventKind.{EventKind}
 use Rattle.machine_states.specs.runner_parts.specs.declared.event.EventKind.TheVariants as kinds
 use Rattle.machine_states.specs.runner_parts.specs.Lists.{descriptor_retired, descriptors_swept}
-use Rattle.machine_states.specs.runner_parts.specs.State.{RunState, DescriptorsState, GuardsState, PartState}
+use Rattle.machine_states.specs.runner_parts.specs.State.{RunState, GuardsState, PartState}
 use Rattle.machine_states.specs.runner_parts.specs.Tests.{has}
 use Rattle.machine_states.specs.Blockless.{ask_by, outside_ask, line_after, inside_after, outside_after, after_by}
 use Rattle.machine_states.specs.epoch_core.specs.State.{last_epoch}
@@ -197,12 +197,12 @@ module _ (m : Meaning) (l : Layout) (rs : List Request) (s s' : Sight) (r : ℕ)
   -- if it is free with the runner, it stays free or has an empty log
   pub free_or_empty : has p.descriptors.free d ≡ true → Leads (s'.part r)
   free_or_empty free = subst (λ (y : Sight). Leads (y.part r)) (sym st.step.next)
-      (each_part m l s r x (λ i p'. has (s.part i).descriptors.free d ≡ true → Leads p') (λ i p' records gone h. h) kind
+      (each_part m l s r x (λ i p'. has (s.part i).descriptors.free d ≡ true → Leads p') (λ i p' board records gone h. h) kind
       (joins m l rs kind r p x st.step.asked) (λ h. own h p.run asked) (λ i ne h. inl h) r free)
 
   -- where it isn't free with the runner, and with nobody behind the step, it was so before
   pub unfree_before : has p.descriptors.free d ≡ false → ((i : ℕ) → has (s'.part i).descriptors.free d ≡ false)
       → (i : ℕ) → has (s.part i).descriptors.free d ≡ false
   unfree_before none unfree i = subst (λ (y : Sight). (i : ℕ) → has (y.part i).descriptors.free d ≡ false → has (s.part i).descriptors.free d ≡ false) (sym st.step.next)
-      (each_part m l s r x (λ i p'. has p'.descriptors.free d ≡ false → has (s.part i).descriptors.free d ≡ false) (λ i p' records gone h. h) kind
+      (each_part m l s r x (λ i p'. has p'.descriptors.free d ≡ false → has (s.part i).descriptors.free d ≡ false) (λ i p' board records gone h. h) kind
       (joins m l rs kind r p x st.step.asked) (λ h. none) (λ i ne h. h)) i (unfree i)

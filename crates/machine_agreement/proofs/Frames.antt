@@ -1,5 +1,5 @@
 -- What an event of one run leaves as it is.
-use Rattle.std.specs.Prelude.{Bool, true, slice_index, slice_get}
+use Rattle.std.specs.Prelude.{true, slice_index, slice_get}
 use Rattle.std.proofs.Common.{◌≡◌, ◌≢◌, ℕ, ◌<◌, List, length, sym, ap, ◌∙◌, subst, arith, Option, Some, None}
 use Rattle.machine_states.specs.body_terms.specs.declared.micro.Micro.{Micro}
 use Rattle.machine_states.specs.body_terms.specs.declared.thunk.Thunk.{Thunk}

@@ -1,6 +1,6 @@
 -- The steps outside a run's line, joined.
-use Rattle.std.specs.Prelude.{◌==◌, cond, Bool, true, slice_get}
-use Rattle.std.proofs.Common.{◌≡◌, ◌≢◌, ℕ, [], ◌∷◌, ◌++◌, length, sym, refl, ap, ◌∙◌, subst, Some, None}
+use Rattle.std.specs.Prelude.{◌==◌, cond, true, slice_get}
+use Rattle.std.proofs.Common.{◌≡◌, ◌≢◌, ℕ, [], ◌∷◌, ◌++◌, length, sym, refl, ap, ◌∙◌, subst, None}
 use Rattle.machine_states.specs.body_terms.specs.Run.{written_once}
 use Rattle.machine_states.specs.table_words.specs.declared.layout.Layout.{Layout}
 use Rattle.machine_states.specs.table_words.specs.declared.spot.Spot.{Spot}
@@ -10,7 +10,6 @@ use Rattle.machine_states.specs.table_words.specs.Seen.{put}
 use Rattle.machine_states.specs.table_words.specs.Seen as table
 use Rattle.machine_states.specs.structure_laws.specs.Meaning.{Meaning}
 use Rattle.machine_states.specs.runner_parts.specs.declared.event.EventKind.{EventKind}
-use Rattle.machine_states.specs.runner_parts.specs.declared.entries.Published.{Published}
 use Rattle.machine_states.specs.runner_parts.specs.State.{PartState}
 use Rattle.machine_states.specs.runner_parts.specs.Tests.{has_pair}
 use Rattle.machine_states.specs.Blockless.{after, after_by, outside_after}
@@ -29,8 +28,8 @@ use Rattle.machine_agreement.proofs.LineKinds.{noting}
 module _ (m : Meaning) (l : Layout) where
   -- the part after an event outside a run
   pub after_outside : (r : ℕ) (kind : EventKind) (x : Spot × Access) (p : PartState) (found : ℕ) → p.run ≡ None
-      → after m l r kind x.0 x.1 p found ≡ noting l r kind x.0 x.1 found (outside_after m l kind p found)
-  after_outside r kind x p found none = ap (noting l r kind x.0 x.1 found) (ap (λ o. after_by m l kind p o found) none)
+      → after m l r kind x.0 x.1 p found ≡ noting l r kind x.0 x.1 found p (outside_after m l kind p found)
+  after_outside r kind x p found none = ap (noting l r kind x.0 x.1 found p) (ap (λ o. after_by m l kind p o found) none)
 
   other_none : (w : AgreementState) (r : ℕ) → IsOtherStep m l w w r
   other_none w r = record { others = λ i ne. refl; finishes = λ i ne. refl; finished = λ i k ne. refl; seen = λ p word e. e }

@@ -8,12 +8,10 @@ use Rattle.machine_states.specs.structure_laws.specs.Meaning.{Meaning}
 use Rattle.machine_states.specs.runner_parts.specs.declared.entries.Published.{Published}
 use Rattle.machine_states.specs.runner_parts.specs.declared.event.EventKind.{EventKind}
 use Rattle.machine_states.specs.runner_parts.specs.declared.event.EventKind.TheVariants as kinds
-use Rattle.machine_states.specs.runner_parts.specs.State.{RunState, NodesState, PartState}
-use Rattle.machine_states.specs.runner_parts.specs.Lists.{test_of, one_more}
+use Rattle.machine_states.specs.runner_parts.specs.State.{RunState, PartState}
 use Rattle.machine_states.specs.runner_steps.specs.AfterInRun.{ended_more}
 use Rattle.machine_states.specs.runner_steps.specs.Guards.{is_last_guard}
 use Rattle.machine_states.specs.runner_steps.specs.Sections.{next_of}
-use Rattle.machine_states.specs.guard_core.specs.Moves.{is_unnamed}
 use Rattle.agreement_core.specs.State.{AgreementState}
 use Rattle.agreement_core.specs.Events as agreement
 use Rattle.machine_states.specs.epoch_core.specs.Events as epochs
@@ -114,13 +112,14 @@ module _ (m : Meaning) (l : Layout) (r : ℕ) where
   no_slot : (vs : List epochs.Event) → vs ≡ [] → AllAre leaves_log vs
   no_slot vs e = subst (AllAre leaves_log) (sym e) tt
 
+  -- one that comes or not
+  if_leaves : (b : Bool) (v : epochs.Event) → leaves_log v ≡ true → AllAre leaves_log (if b then v ∷ [] else [])
+  if_leaves true v is = (is, tt)
+  if_leaves false v is = tt
+
   retired_leave : (o : Option Published) (d : ℕ) → AllAre leaves_log (slots.retires_own r o d)
   retired_leave None d = tt
-  retired_leave (Some x) d = by (x.descriptor == d)
-    where
-      by : (b : Bool) → AllAre leaves_log (if b then epochs.RetireDescriptor r d ∷ [] else [])
-      by true = (refl, tt)
-      by false = tt
+  retired_leave (Some x) d = if_leaves (x.descriptor == d) (epochs.RetireDescriptor r d) refl
 
   released_leave : (p : PartState) (q : RunState) (b : Bool) → AllAre leaves_log (if b then slots.retires_own r p.published q.descriptor else [])
   released_leave p q true = retired_leave p.published q.descriptor
@@ -142,20 +141,6 @@ module _ (m : Meaning) (l : Layout) (r : ℕ) where
   inside_log kind p q found vs true k chunk = line_log kind p q (next_of m q) found vs k chunk
   inside_log kind p q found vs false k chunk = no_slot vs chunk
 
-  looked_leave : (n : NodesState) (slot cell found : ℕ) → AllAre leaves_log (slots.looked l r n slot cell found)
-  looked_leave n slot cell found = by (slots.is_last_look n slot cell)
-    where
-      by : (b : Bool) → AllAre leaves_log (if b then epochs.Test r slot (one_more l (test_of n.tests slot) found).worn ∷ [] else [])
-      by true = (refl, tt)
-      by false = tt
-
-  sweeps_leave : (p : PartState) (found : ℕ) → AllAre leaves_log (slots.sweeps l r p found)
-  sweeps_leave p found = by (is_last_guard l p.guards.looked)
-    where
-      by : (b : Bool) → AllAre leaves_log (if b then epochs.Sweep r (is_unnamed (p.guards.looked ++ found ∷ [])) ∷ [] else [])
-      by true = (refl, tt)
-      by false = tt
-
   pub outside_log : (kind : EventKind) (p : PartState) (found : ℕ) (vs : List epochs.Event) → is_store kind ≡ false
       → slots.IsOutsideChunk m l r kind p found vs → AllAre leaves_log vs
   outside_log kinds.EnterLoad p found vs k chunk = one_slot _ vs refl chunk
@@ -166,9 +151,11 @@ module _ (m : Meaning) (l : Layout) (r : ℕ) where
   outside_log (kinds.ScanOne n) p found vs k chunk = ⊎_elim (λ h. one_slot _ vs refl h.1) (λ h. one_slot _ vs refl h.1) chunk.3
   outside_log kinds.Advance p found vs k chunk = one_slot _ vs refl chunk.4
   outside_log (kinds.LoadCell (Some place)) p found vs k chunk = one_slot _ vs refl chunk
-  outside_log (kinds.PrivateLoad slot cell) p found vs k chunk = subst (AllAre leaves_log) (sym chunk) (looked_leave p.nodes slot cell found)
+  outside_log (kinds.PrivateLoad slot cell) p found vs k chunk = subst (AllAre leaves_log) (sym chunk) (if_leaves (slots.is_last_look p.nodes slot cell) _ refl)
   outside_log (kinds.PrivateStore slot word number) p found vs k chunk = absurd (let y = k in cc)
   outside_log (kinds.Hold t d) p found vs k chunk = ⊎_elim (λ h. one_slot _ vs refl h.1) (λ h. no_slot vs h.1) chunk
   outside_log (kinds.Guard d) p found vs k chunk = one_slot _ vs refl chunk
-  outside_log (kinds.LoadGuard n) p found vs k chunk = subst (AllAre leaves_log) (sym chunk) (sweeps_leave p found)
+  outside_log (kinds.LoadGuard n) p found vs k chunk = subst (AllAre leaves_log) (sym chunk) (if_leaves (is_last_guard l p.guards.looked) _ refl)
+  outside_log (kinds.BoardTake word link) p found vs k chunk = subst (AllAre leaves_log) (sym chunk) (if_leaves (found == link) _ refl)
+  outside_log (kinds.BoardGive word slot) p found vs k chunk = subst (AllAre leaves_log) (sym chunk) (if_leaves (found == 0) _ refl)
   outside_log _ p found vs k chunk = no_slot vs chunk

@@ -28,6 +28,7 @@ use Rattle.machine_states.proofs.Updates.{put_same}
 use Rattle.machine_guards.specs.machine_agreement.specs.machine_epochs.proofs.InsideAsked as inside
 use Rattle.machine_guards.specs.machine_agreement.specs.machine_epochs.proofs.OutsideAsked as outside
 use Rattle.machine_guards.specs.machine_agreement.specs.machine_epochs.proofs.ReadsAsked as reads
+use Rattle.machine_guards.specs.machine_agreement.specs.machine_epochs.proofs.BoardAsked as board
 use Rattle.machine_guards.specs.machine_agreement.proofs.LineAsked.{line_asked}
 use Rattle.machine_blocks.specs.Stands.{LogsStand}
 use Rattle.machine_blocks.proofs.Chunks.{is_commit, is_store}
@@ -117,6 +118,9 @@ module _ (f : Spot → ℕ) where
   outside_words m l rs r p x kinds.ReadStamp k e = off _ _ x (reads.read_stamp_asked p x e).is refl
   outside_words m l rs r p x (kinds.Guard d) k e = off _ _ x (outside.guard_asked l r d p x e).is refl
   outside_words m l rs r p x (kinds.LoadGuard n) k e = loads _ x (outside.load_guard_asked l n p x e).is
+  outside_words m l rs r p x (kinds.BoardLoad word) k e = loads _ x (board.board_load_asked l r word p x e).is
+  outside_words m l rs r p x (kinds.BoardTake word link) k e = off _ _ x (board.board_take_asked l r word link p x e).is refl
+  outside_words m l rs r p x (kinds.BoardGive word slot) k e = off _ _ x (board.board_give_asked l r word slot p x e).is refl
   outside_words m l rs r p x _ k e = some_none x e
 
 -- a run that stands before a commit makes no other step: it exchanges the log word

@@ -11,6 +11,7 @@ use Rattle.machine_states.specs.table_words.specs.Access.{written}
 use Rattle.machine_states.specs.table_words.specs.Places.{Fits}
 use Rattle.machine_states.specs.table_words.specs.Seen.{upd, put}
 use Rattle.machine_states.specs.structure_laws.specs.Meaning.{Meaning}
+use Rattle.machine_states.specs.runner_parts.specs.declared.entries.BoardRead.{BoardRead}
 use Rattle.machine_states.specs.runner_parts.specs.declared.event.EventKind.{EventKind}
 use Rattle.machine_states.specs.runner_parts.specs.declared.event.EventKind.TheVariants as kinds
 use Rattle.machine_states.specs.runner_parts.specs.State.{RunState, PartState, RecordsState}
@@ -19,8 +20,10 @@ use Rattle.machine_states.specs.runner_steps.specs.AfterInRun.{opened_more}
 use Rattle.machine_states.specs.runner_steps.specs.Asks.{opening_ask, sizes_for}
 use Rattle.machine_states.specs.Blockless.{outside_ask, line_ask, inside_ask, ask_by, asks, outside_after, line_after, inside_after, after_by, after}
 use Rattle.machine_states.specs.runner_steps.specs.After.{noted, leaves, knows_also}
+use Rattle.machine_states.specs.runner_steps.specs.Board.{board_after}
 use Rattle.machine_states.specs.epoch_core.specs.State.{EpochState, MayHold}
 use Rattle.machine_states.specs.epoch_core.specs.Events.{Event}
+use Rattle.machine_states.specs.epoch_core.specs.Schedules.{after_all}
 use Rattle.machine_states.specs.World.{is_join}
 use Rattle.machine_states.specs.Sight.{Sight, sight_after, Steps}
 use Rattle.machine_states.proofs.Sights.{if_some, some_none, cond_none, unless_gone, joins}
@@ -30,7 +33,7 @@ use Rattle.machine_epochs.specs.Slots.{lists_of}
 use Rattle.machine_epochs.specs.Joined.{IsTied, IsJoinedToEpochs}
 use Rattle.machine_epochs.specs.Chunks.{IsOutsideChunk, IsLineChunk, IsInsideChunk, IsChunk}
 use Rattle.machine_epochs.specs.Supplied.{comes_by, EpochsAreSupplied}
-use Rattle.machine_epochs.proofs.Joining.{copied, but_load, descriptor_same, still_tied, GoesBy, StaysAt, next, as_published, stays_joined}
+use Rattle.machine_epochs.proofs.Joining.{copied, joined_on, but_load, descriptor_same, still_tied, GoesBy, StaysAt, next, as_published, stays_joined}
 use Rattle.machine_epochs.proofs.EntryKinds as entry
 use Rattle.machine_epochs.proofs.OutsideKinds as outside
 use Rattle.machine_epochs.proofs.StoreKinds as stores
@@ -41,6 +44,7 @@ use Rattle.machine_epochs.proofs.SlotKinds as slots
 use Rattle.machine_epochs.proofs.RetireKinds as retires
 use Rattle.machine_epochs.proofs.EndKinds as ends
 use Rattle.machine_epochs.proofs.GuardKinds as guarding
+use Rattle.machine_epochs.proofs.BoardKinds as board
 
 module _ (m : Meaning) (l : Layout) (rs : List Request) (w : EpochState) (s : Sight) (old : IsJoinedToEpochs m l w s) (r : ℕ) (some : r ≤ l.runners) (x : Spot × Access) (fits : Fits (sizes_for m l rs) x.0) where
   abbrev p : PartState
@@ -59,6 +63,18 @@ module _ (m : Meaning) (l : Layout) (rs : List Request) (w : EpochState) (s : Si
   -- events of which this holds lead to a joined state, if a step of this kind leads to this part
   abbrev To : (List Event → Type 0) → EventKind → PartState → Type 0
   To P kind p' = GoesBy m l P w (next m l w s old r f (record p' { records = records_of kind p' }))
+
+  -- whatever its loads of the board are then
+  with_board : (P : List Event → Type 0) (kind : EventKind) (p' : PartState) (loads : List BoardRead) → To P kind p'
+      → GoesBy m l P w (next m l w s old r f (record p' { board = loads; records = records_of kind p' }))
+  with_board P kind p' loads goes = (
+    goes.0,
+    goes.1,
+    record {
+      enabled = goes.2.enabled;
+      joined = joined_on m l (after_all (counts_of m l) w goes.0) f s.part r (record p' { records = records_of kind p' }) loads goes.2.joined;
+    },
+  )
 
   not_join : (kind : EventKind) → is_join kind ≡ false → sight_after m l s r kind x ≡ next m l w s old r f (after m l r kind x.0 x.1 p found)
   not_join (kinds.Join worker) e = absurd (let y = e in cc)
@@ -133,6 +149,9 @@ module _ (m : Meaning) (l : Layout) (rs : List Request) (w : EpochState) (s : Si
     outside_goes kinds.ReadStamp j u e = outside.read_stamp m l w s old r none _ x e
     outside_goes (kinds.Guard d) j u e = guarding.guard m l w s old r none _ d x e
     outside_goes (kinds.LoadGuard n) j u e = guarding.load_guard m l w s old r none _ n x (λ d q. u.swept n d q refl) e
+    outside_goes (kinds.BoardLoad word) j u e = board.board_load m l w s old r none _ word x e
+    outside_goes (kinds.BoardTake word link) j u e = board.board_take m l w s old r none _ word link x u.small e
+    outside_goes (kinds.BoardGive word slot) j u e = board.board_give m l w s old r none _ word slot x e
     outside_goes _ j u e = some_none x e
 
 -- a join changes the keeper's records, and the worker makes no further step
@@ -173,7 +192,7 @@ module _ (m : Meaning) (l : Layout) (w : EpochState) (s : Sight) (old : IsJoined
     refl,
     record {
       enabled = tt;
-      joined = stays_joined m l w kept keeper_joined worker seat (leaves (s.part worker)) (record { epoch = refl; announced = λ i. refl; thunk = λ d j. refl; done = λ d. refl; log = λ d k. refl })
+      joined = stays_joined m l w kept keeper_joined worker seat (leaves (s.part worker)) (record { epoch = refl; announced = λ i. refl; thunk = λ d j. refl; done = λ d. refl; log = λ d k. refl; board = λ i. refl })
           (ap (λ (q : PartState). q.stage) (sym worker_is)) (ap lists_of (sym worker_is))
           (as_published m l w kept keeper_joined worker (leaves (s.part worker)) (ap (λ (q : PartState). q.published) (sym worker_is))) worker_tied;
     },
@@ -191,7 +210,7 @@ module _ (m : Meaning) (l : Layout) (rs : List Request) (w : EpochState) (s : Si
       let asked = by_run (s.part r).run refl (unless_gone (sizes_for m l rs) (s.part r).gone _ x e).1 in
       let other : worker ≢ r = below_other worker l.runners r is_his.1 is_his.0 in
       subst (λ (y : Spot × Access). GoesBy m l (IsChunk m l r (kinds.Join worker) (s.part r) (s.part r).run (s.word y.0)) w (sight_after m l s r (kinds.Join worker) y)) asked.1
-      (subst (λ (o : Option RunState). GoesBy m l (IsChunk m l r (kinds.Join worker) (s.part r) o (s.word Seat)) w (record { word = put s.word Seat (s.word Seat); part = upd (upd s.part r (knows_also (record (after_by m l (kinds.Join worker) (s.part r) o (s.word Seat)) { records = noted l r (kinds.Join worker) Seat Loads (s.word Seat) (after_by m l (kinds.Join worker) (s.part r) o (s.word Seat)).records }) (s.part worker))) worker (leaves (s.part worker)) }))
+      (subst (λ (o : Option RunState). GoesBy m l (IsChunk m l r (kinds.Join worker) (s.part r) o (s.word Seat)) w (record { word = put s.word Seat (s.word Seat); part = upd (upd s.part r (knows_also (record (after_by m l (kinds.Join worker) (s.part r) o (s.word Seat)) { board = (s.part r).board; records = noted l r (kinds.Join worker) Seat Loads (s.word Seat) (after_by m l (kinds.Join worker) (s.part r) o (s.word Seat)).records }) (s.part worker))) worker (leaves (s.part worker)) }))
       (sym asked.0) (join_goes m l w s old r worker other _))
     where
       by_run : (o : Option RunState) → (s.part r).run ≡ o → ask_by m l rs r (kinds.Join worker) (s.part r) o ≡ Some x → ((s.part r).run ≡ None) × ((Seat, Loads) ≡ x)
@@ -209,7 +228,8 @@ module _ (m : Meaning) (l : Layout) (rs : List Request) (w : EpochState) (s : Si
         → GoesBy m l (IsChunk m l r kind (s.part r) (s.part r).run (s.word x.0)) w (sight_after m l s r kind x)
     plain_step kind j u e =
         subst (GoesBy m l (IsChunk m l r kind (s.part r) (s.part r).run (s.word x.0)) w) (sym (not_join m l rs w s old r some x fits kind j))
-        (plain_goes kind (s.part r).run refl j u (unless_gone (sizes_for m l rs) (s.part r).gone _ x e).1)
+        (with_board m l rs w s old r some x fits (IsChunk m l r kind (s.part r) (s.part r).run (s.word x.0)) kind (after_by m l kind (s.part r) (s.part r).run (s.word x.0)) (board_after kind (s.part r).board (s.word x.0))
+        (plain_goes kind (s.part r).run refl j u (unless_gone (sizes_for m l rs) (s.part r).gone _ x e).1))
 
     kind_goes : (kind : EventKind) → EpochsAreSupplied m l w s r kind x.0 → asks m l rs r kind (s.part r) ≡ Some x
         → GoesBy m l (IsChunk m l r kind (s.part r) (s.part r).run (s.word x.0)) w (sight_after m l s r kind x)

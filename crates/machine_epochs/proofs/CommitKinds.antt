@@ -16,11 +16,9 @@ use Rattle.machine_states.specs.table_words.specs.Access.{exchanged}
 use Rattle.machine_states.specs.table_words.specs.Places.{Fits, part_words}
 use Rattle.machine_states.specs.table_words.specs.Seen.{put}
 use Rattle.machine_states.specs.structure_laws.specs.Meaning.{Meaning}
-use Rattle.machine_states.specs.runner_parts.specs.declared.event.EventKind.{EventKind}
 use Rattle.machine_states.specs.runner_parts.specs.declared.event.EventKind.TheVariants as kinds
 use Rattle.machine_states.specs.runner_parts.specs.State.{RunState, PartState, RecordsState}
 use Rattle.machine_states.specs.runner_steps.specs.Sections.{thunk_of, is_open_run, next_of}
-use Rattle.machine_states.specs.runner_parts.specs.Tests.{has}
 use Rattle.machine_states.specs.runner_steps.specs.Asks.{sizes_for}
 use Rattle.machine_states.specs.Blockless.{commit_ask, outcome_commit_ask}
 use Rattle.machine_states.specs.runner_steps.specs.AfterInRun as runs
@@ -83,7 +81,7 @@ module _ (m : Meaning) (l : Layout) (w : EpochState) (s : Sight) (old : IsJoined
       pub commits : (records : RecordsState)
           → Goes m l (events.WordCommit r d k q.word ∷ []) w (next m l w s old r f (record p { run = Some (runs.agrees m l q (written_once (s.word (LogWord d k)) q.word)); records = records }))
       commits records =
-          run_goes m l w s old r q at is_open (events.WordCommit r d k q.word ∷ []) ((held, role), tt)
+          run_goes m l w s old r q at is_open (events.WordCommit r d k q.word ∷ []) refl ((held, role), tt)
           f (runs.agrees m l q (written_once (s.word (LogWord d k)) q.word)) _
           (record {
             holds = λ t h. h;
@@ -106,6 +104,7 @@ module _ (m : Meaning) (l : Layout) (w : EpochState) (s : Sight) (old : IsJoined
             out = λ i h. h;
             seen_epoch = refl;
             seen_announced = λ i. refl;
+            seen_board = λ i. refl;
             past = λ i j high. log_past d k _ i j low high;
           })
           (λ i ne. record {

@@ -7,7 +7,7 @@ use Rattle.machine_states.specs.body_terms.specs.declared.micro.Micro.{Micro}
 use Rattle.machine_states.specs.body_terms.specs.declared.micro.Micro.TheVariants as micros
 use Rattle.machine_states.specs.table_words.specs.declared.layout.Layout.{Layout}
 use Rattle.machine_states.specs.table_words.specs.declared.spot.Spot.{Spot}
-use Rattle.machine_states.specs.table_words.specs.declared.spot.Spot.TheVariants.{Epoch, Announcement, Guard, ThunkWord, DoneWord, LogWord}
+use Rattle.machine_states.specs.table_words.specs.declared.spot.Spot.TheVariants.{Epoch, Announcement, ThunkWord, DoneWord, LogWord}
 use Rattle.machine_states.specs.table_words.specs.declared.access.Access.{Access}
 use Rattle.machine_states.specs.table_words.specs.declared.access.Access.TheVariants.{Loads, Exchanges}
 use Rattle.machine_states.specs.table_words.specs.Access.{written}
@@ -128,6 +128,9 @@ module _ (m : Meaning) (l : Layout) (rs : List Request) where
   quiet_outside r kinds.ReadStamp p x k e = quiet_stamp p p.reads.look x e
   quiet_outside r (kinds.Guard d) p x k e = when_word _ _ _ x refl e
   quiet_outside r (kinds.LoadGuard n) p x k e = quiet_guard n _ p.stage x e
+  quiet_outside r (kinds.BoardLoad word) p x k e = when_load _ _ x e
+  quiet_outside r (kinds.BoardTake word link) p x k e = when_word _ _ _ x refl e
+  quiet_outside r (kinds.BoardGive word slot) p x k e = when_word _ _ _ x refl e
   quiet_outside r _ p x k e = some_none x e
 
 module _ (l : Layout) (q : RunState) (x : Spot × Access) where

@@ -9,7 +9,7 @@ use Rattle.machine_states.specs.body_terms.specs.declared.micro.Micro.TheVariant
 use Rattle.machine_states.specs.body_terms.specs.Line.{is_end}
 use Rattle.machine_states.specs.table_words.specs.declared.layout.Layout.{Layout}
 use Rattle.machine_states.specs.table_words.specs.declared.spot.Spot.{Spot}
-use Rattle.machine_states.specs.table_words.specs.declared.spot.Spot.TheVariants.{Epoch, Announcement, Cell, ThunkWord, DoneWord}
+use Rattle.machine_states.specs.table_words.specs.declared.spot.Spot.TheVariants.{Epoch, Announcement, Cell, ThunkWord, DoneWord, Board}
 use Rattle.machine_states.specs.table_words.specs.declared.access.Access.{Access}
 use Rattle.machine_states.specs.table_words.specs.declared.access.Access.TheVariants.{Exchanges}
 use Rattle.machine_states.specs.table_words.specs.Access.{exchanged, written}
@@ -44,7 +44,7 @@ use Rattle.machine_epochs.specs.Chunks.{retires_own}
 use Rattle.machine_epochs.proofs.InsideAsked as asked
 use Rattle.machine_epochs.proofs.RunPlaces.{is_of_end, begins_unretired, ends_unretired}
 use Rattle.machine_epochs.proofs.Places.{apart, done_elsewhere}
-use Rattle.machine_epochs.proofs.Joining.{IsSameBut, but_cell, but_load, descriptor_same, Goes, GoesBy, StaysAt, next, as_published, once, stages_stay, stays, goes_with}
+use Rattle.machine_epochs.proofs.Joining.{IsSameBut, but_cell, but_load, descriptor_same, Goes, GoesBy, StaysAt, next, as_published, once, stages_stay, stays, board_kept, goes_with}
 use Rattle.machine_epochs.proofs.RunKinds.{run_goes, Leads, for_step}
 use Rattle.machine_epochs.proofs.SlotKinds.{other_place, kept_place, live_hand, slot_apart}
 
@@ -129,12 +129,12 @@ module _ (m : Meaning) (l : Layout) (w : EpochState) (s : Sight) (old : IsJoined
 
     -- the run goes on with its end
     goes_on : (f : Spot → ℕ) → ((d j : ℕ) → f (ThunkWord d j) ≡ s.word (ThunkWord d j)) → ((i d j : ℕ) → has (s.part i).descriptors.free d ≡ true → f (descriptor_spot d j) ≡ s.word (descriptor_spot d j))
-        → f Epoch ≡ s.word Epoch → ((i : ℕ) → f (Announcement i) ≡ s.word (Announcement i))
+        → f Epoch ≡ s.word Epoch → ((i : ℕ) → f (Announcement i) ≡ s.word (Announcement i)) → ((i : ℕ) → f (Board i) ≡ s.word (Board i))
         → (reads : ReadsState) → reads.walk ≡ now.reads.walk → StaysAt m l w (next m l w s old r f (ended reads))
-    goes_on f thunk stored epoch announced reads walk = (
+    goes_on f thunk stored epoch announced board reads walk = (
       [],
       refl,
-      run_goes m l w s old r q at is_open [] tt f (ended_more q) (ended reads)
+      run_goes m l w s old r q at is_open [] refl tt f (ended_more q) (ended reads)
           (record {
             holds = λ t h. h;
             alone = λ d h. h;
@@ -156,6 +156,7 @@ module _ (m : Meaning) (l : Layout) (w : EpochState) (s : Sight) (old : IsJoined
             out = λ d h. h;
             seen_epoch = epoch;
             seen_announced = announced;
+            seen_board = board;
             past = old.past;
           })
           (λ i ne. record {
@@ -245,6 +246,7 @@ module _ (m : Meaning) (l : Layout) (w : EpochState) (s : Sight) (old : IsJoined
             goes_with m l w s old r (events.RetireDescriptor r q.descriptor ∷ []) ((old.sound.holder r _ held, at_live), tt) words gone
             (sym (map_upd lists_of s.part r gone))
             (record { epoch = old.entries.epoch; announced = old.entries.announced; stage = stages_stay m l w s old r words gone refl })
+            (board_kept m l w s old r (events.RetireDescriptor r q.descriptor ∷ []) refl ((old.sound.holder r _ held, at_live), tt) words gone (λ i. refl))
             old.past
             (λ d k out. old.roles d k (out_before (slot_of (counts_of m l) d) out))
             (once m l w s old r gone (λ z e. absurd (none-some _ e)))
@@ -284,7 +286,7 @@ module _ (m : Meaning) (l : Layout) (w : EpochState) (s : Sight) (old : IsJoined
       for_step m l w s old r q at is_open kinds.SetDone records micro x micros.SetDone (DoneWord q.descriptor, Exchanges 0 1) h.0 h.1
       (goes_on micros.SetDone (ahead ∙ h.0) refl (put s.word (DoneWord q.descriptor) (exchanged (s.word (DoneWord q.descriptor)) 0 1)) (λ d j. refl)
       (λ i d j free. done_elsewhere s.word q.descriptor _ d j (apart m l w s old r i q.descriptor d held few free))
-      refl (λ i. refl) now.reads refl)
+      refl (λ i. refl) (λ i. refl) now.reads refl)
 
   -- after a release the run is over, or goes on with the next one
   release_by : (b : Bool) (place word v : ℕ) → next_of m q ≡ micros.Release place word → (reads : ReadsState) → reads.walk ≡ now.reads.walk → (finished : RecordsState)
@@ -294,7 +296,7 @@ module _ (m : Meaning) (l : Layout) (w : EpochState) (s : Sight) (old : IsJoined
   release_by true place word v here reads walk finished = is_over (micros.Release place word) here refl place v reads walk
   release_by false place word v here reads walk finished =
       goes_on (micros.Release place word) here refl (put s.word (Cell place) v) (λ d j. refl) (λ i d j free. descriptor_same (put s.word (Cell place) v) s.word (but_cell s.word place v) d j)
-      refl (λ i. refl) reads walk
+      refl (λ i. refl) (λ i. refl) reads walk
 
   pub release : release_ask l q micro ≡ Some x → Leads m l w s old r q at is_open kinds.Release records micro x
   release e =

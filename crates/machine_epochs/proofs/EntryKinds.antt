@@ -1,5 +1,5 @@
 -- The kinds of step that change the epoch, an announcement or a stage.
-use Rattle.std.specs.Prelude.{◌==◌, ◌&&◌, not, cond, Bool, true, false, nat_lt, nat_le}
+use Rattle.std.specs.Prelude.{◌&&◌, not, cond, Bool, true, false, nat_lt, nat_le}
 use Rattle.std.specs.List.{filter}
 use Rattle.std.proofs.Common.{◌≡◌, ◌≢◌, ℕ, suc, ◌+◌, ◌<◌, ◌≤◌, List, [], ◌∷◌, ◌++◌, map, refl, sym, ap, ◌∙◌, subst, arith, add-one, Option, Some, None, inl, inr}
 use Rattle.std.proofs.lemmas.Bool.Decides.{nat_tests}
@@ -7,7 +7,7 @@ use Rattle.std.proofs.lemmas.Option.{none-some}
 use Rattle.machine_states.specs.body_terms.specs.declared.thunk.Thunk.{Thunk}
 use Rattle.machine_states.specs.table_words.specs.declared.layout.Layout.{Layout}
 use Rattle.machine_states.specs.table_words.specs.declared.spot.Spot.{Spot}
-use Rattle.machine_states.specs.table_words.specs.declared.spot.Spot.TheVariants.{Epoch, Announcement}
+use Rattle.machine_states.specs.table_words.specs.declared.spot.Spot.TheVariants.{Epoch, Announcement, Board}
 use Rattle.machine_states.specs.table_words.specs.declared.access.Access.{Access}
 use Rattle.machine_states.specs.table_words.specs.Access.{exchanged, written}
 use Rattle.machine_states.specs.table_words.specs.Seen.{upd, put}
@@ -44,7 +44,8 @@ use Rattle.machine_epochs.specs.Chunks.{IsOutsideChunk}
 use Rattle.machine_epochs.proofs.OutsideAsked as asked
 use Rattle.machine_epochs.proofs.Entrances as entrances
 use Rattle.machine_epochs.proofs.CommitKinds.{row_else, row_only}
-use Rattle.machine_epochs.proofs.Joining.{but_load, but_entries, IsSameSections, section_same, thunk_same, Goes, GoesBy, next, as_published, once, goes_with}
+use Rattle.machine_epochs.proofs.Boards.{is_off_board}
+use Rattle.machine_epochs.proofs.Joining.{but_load, but_entries, IsSameSections, section_same, thunk_same, Goes, GoesBy, next, as_published, once, board_kept, goes_with}
 
 within_test : (a b : ℕ) (p p' : PartState) → a ≤ b → cond (nat_le a b) p p' ≡ p
 within_test a b p p' h = grind (arith, nat_tests)
@@ -128,6 +129,7 @@ module _ (m : Meaning) (l : Layout) (w : EpochState) (s : Sight) (old : IsJoined
     log : (d k : ℕ) → w'.log d k ≡ w.log d k
     stage : (i : ℕ) → i ≢ r → w'.stage i ≡ w.stage i
     same : IsSameSections f s.word
+    board : (i : ℕ) → f (Board i) ≡ s.word (Board i)
     run : p'.run ≡ None
     published : p'.published ≡ p.published
     stored : p'.descriptors.stored ≡ p.descriptors.stored
@@ -139,10 +141,11 @@ module _ (m : Meaning) (l : Layout) (w : EpochState) (s : Sight) (old : IsJoined
     sure_alone : (d : ℕ) → w'.holds r (slot_of (counts_of m l) d) ≡ true → is_sure_of p'.guards d ≡ true
     reached : (t : ℕ) → is_entered (w'.stage r) ≡ true → t < (counts_of m l).nodes → m.reaches p'.reads.walk t ≡ true → w'.holds r t ≡ true
 
-  enters : (e : events.Event) (f : Spot → ℕ) (p' : PartState) → Enabled (counts_of m l) w e × ShowsEntries (after (counts_of m l) w e) (next m l w s old r f p')
+  enters : (e : events.Event) → is_off_board (e ∷ []) ≡ true → (f : Spot → ℕ) (p' : PartState) → Enabled (counts_of m l) w e × ShowsEntries (after (counts_of m l) w e) (next m l w s old r f p')
       → ◌≡◌ {A = ℕ → Lists} (listed w (λ i. lists_of (s.part i)) e) (λ i. lists_of (upd s.part r p' i)) → KeepsSlots (after (counts_of m l) w e) f p' → Goes m l (e ∷ []) w (next m l w s old r f p')
-  enters e f p' goes lists k =
+  enters e off f p' goes lists k =
       goes_with m l w s old r (e ∷ []) (goes.0, tt) f p' lists goes.1
+      (board_kept m l w s old r (e ∷ []) off (goes.0, tt) f p' k.board)
       (λ d i high. k.log d i ∙ old.past d i high)
       (λ d i out. k.role d i ∙ (old.roles d i (k.out _ out) ∙ ap (λ (t : Thunk). role_at (m.body t) i) (sym (thunk_same f s.word d (k.same.thunk d)))))
       (once m l w s old r p' (as_published m l w s old r p' k.published))
@@ -195,7 +198,7 @@ module _ (m : Meaning) (l : Layout) (w : EpochState) (s : Sight) (old : IsJoined
         subst (Leads kinds.EnterLoad records) h.1 (
           _,
           refl,
-          enters (events.EnterLoad r) _ p' (entrances.enter_load m l w s old.entries r p' h.0 refl) (sym (map_same lists_of s.part r p' refl)) (record {
+          enters (events.EnterLoad r) refl _ p' (entrances.enter_load m l w s old.entries r p' h.0 refl) (sym (map_same lists_of s.part r p' refl)) (record {
             holds = λ i ne t h. h;
             hand = λ i t h. h;
             live = λ t h. h;
@@ -205,6 +208,7 @@ module _ (m : Meaning) (l : Layout) (w : EpochState) (s : Sight) (old : IsJoined
             log = λ d k. refl;
             stage = λ i ne. upd_else w.stage r _ i ne;
             same = same_load Epoch;
+            board = λ i. refl;
             run = none;
             published = refl;
             stored = refl;
@@ -225,7 +229,7 @@ module _ (m : Meaning) (l : Layout) (w : EpochState) (s : Sight) (old : IsJoined
         subst (Leads kinds.Announce records) h.2 (
           _,
           (h.0, h.1, refl),
-          enters (events.Announce r h.0) _ p' (entrances.announce m l w s old.entries r p' h.0 some h.1 refl) (sym (map_same lists_of s.part r p' refl)) (record {
+          enters (events.Announce r h.0) refl _ p' (entrances.announce m l w s old.entries r p' h.0 some h.1 refl) (sym (map_same lists_of s.part r p' refl)) (record {
             holds = λ i ne t h. h;
             hand = λ i t h. h;
             live = λ t h. h;
@@ -235,6 +239,7 @@ module _ (m : Meaning) (l : Layout) (w : EpochState) (s : Sight) (old : IsJoined
             log = λ d k. refl;
             stage = λ i ne. upd_else w.stage r _ i ne;
             same = record { thunk = λ d j. refl; done = λ d. refl; log = λ d k. refl };
+            board = λ i. refl;
             run = none;
             published = refl;
             stored = refl;
@@ -255,7 +260,7 @@ module _ (m : Meaning) (l : Layout) (w : EpochState) (s : Sight) (old : IsJoined
         subst (Leads kinds.EnterAgain records) h.1 (
           _,
           refl,
-          enters (events.EnterAgain r) _ p' (entrances.enter_again m l w s old.entries r p' h.0 refl) (sym (map_same lists_of s.part r p' refl)) (record {
+          enters (events.EnterAgain r) refl _ p' (entrances.enter_again m l w s old.entries r p' h.0 refl) (sym (map_same lists_of s.part r p' refl)) (record {
             holds = λ i ne t h. h;
             hand = λ i t h. h;
             live = λ t h. h;
@@ -265,6 +270,7 @@ module _ (m : Meaning) (l : Layout) (w : EpochState) (s : Sight) (old : IsJoined
             log = λ d k. refl;
             stage = λ i ne. upd_else w.stage r _ i ne;
             same = same_load Epoch;
+            board = λ i. refl;
             run = none;
             published = refl;
             stored = refl;
@@ -286,7 +292,7 @@ module _ (m : Meaning) (l : Layout) (w : EpochState) (s : Sight) (old : IsJoined
         subst (Leads kinds.Idle records) h.3 (
           _,
           refl,
-          enters (events.Exit r) _ p' (entrances.exit m l w s old.entries r p' h.0 (ap (λ (y : Retiring). y.loaded) unretired) h.1 refl) (sym (map_same lists_of s.part r p' refl)) (record {
+          enters (events.Exit r) refl _ p' (entrances.exit m l w s old.entries r p' h.0 (ap (λ (y : Retiring). y.loaded) unretired) h.1 refl) (sym (map_same lists_of s.part r p' refl)) (record {
             holds = λ i ne t h. row_else w.holds r i t (λ u. false) ne h;
             hand = λ i t h. h;
             live = λ t h. h;
@@ -296,6 +302,7 @@ module _ (m : Meaning) (l : Layout) (w : EpochState) (s : Sight) (old : IsJoined
             log = λ d k. refl;
             stage = λ i ne. upd_else w.stage r _ i ne;
             same = record { thunk = λ d j. refl; done = λ d. refl; log = λ d k. refl };
+            board = λ i. refl;
             run = none;
             published = refl;
             stored = refl;
@@ -316,7 +323,7 @@ module _ (m : Meaning) (l : Layout) (w : EpochState) (s : Sight) (old : IsJoined
         subst (Leads kinds.ScanEpoch records) h.1 (
           _,
           refl,
-          enters (events.ScanEpoch r) _ p' (entrances.scan_epoch m l w s old.entries r p' h.0 refl) (sym (map_same lists_of s.part r p' refl)) (record {
+          enters (events.ScanEpoch r) refl _ p' (entrances.scan_epoch m l w s old.entries r p' h.0 refl) (sym (map_same lists_of s.part r p' refl)) (record {
             holds = λ i ne t h. h;
             hand = λ i t h. h;
             live = λ t h. h;
@@ -326,6 +333,7 @@ module _ (m : Meaning) (l : Layout) (w : EpochState) (s : Sight) (old : IsJoined
             log = λ d k. refl;
             stage = λ i ne. upd_else w.stage r _ i ne;
             same = same_load Epoch;
+            board = λ i. refl;
             run = none;
             published = refl;
             stored = refl;
@@ -347,8 +355,8 @@ module _ (m : Meaning) (l : Layout) (w : EpochState) (s : Sight) (old : IsJoined
       own_lists : ◌≡◌ {A = ℕ → Lists} (upd (λ i. lists_of (s.part i)) r (collect_lists epoch (lists_of p))) (λ i. lists_of (upd s.part r over i))
       own_lists = ap (λ (x : Lists). upd (λ i. lists_of (s.part i)) r x) (collect_same epoch p) ∙ sym (map_upd lists_of s.part r over)
 
-      ends : (w' : EpochState) (f : Spot → ℕ) → IsSameSections f s.word → w' ≡ record w { epoch = w'.epoch; stage = upd w.stage r Idle; location = after_collect (counts_of m l) w.location r epoch } → KeepsSlots w' f over
-      ends w' f same is = subst (λ (v : EpochState). KeepsSlots v f over) (sym is) (record {
+      ends : (w' : EpochState) (f : Spot → ℕ) → IsSameSections f s.word → ((i : ℕ) → f (Board i) ≡ s.word (Board i)) → w' ≡ record w { epoch = w'.epoch; stage = upd w.stage r Idle; location = after_collect (counts_of m l) w.location r epoch } → KeepsSlots w' f over
+      ends w' f same board is = subst (λ (v : EpochState). KeepsSlots v f over) (sym is) (record {
         holds = λ i ne t h. h;
         hand = λ i t h. collected_hand _ r epoch i (w.location t) h;
         live = λ t h. collected_live _ r epoch (w.location t) h;
@@ -358,6 +366,7 @@ module _ (m : Meaning) (l : Layout) (w : EpochState) (s : Sight) (old : IsJoined
         log = λ d k. refl;
         stage = λ i ne. upd_else w.stage r _ i ne;
         same = same;
+        board = board;
         run = none;
         published = refl;
         stored = refl;
@@ -379,8 +388,8 @@ module _ (m : Meaning) (l : Layout) (w : EpochState) (s : Sight) (old : IsJoined
           (h.0, h.1, h.2, collect, refl),
           subst (λ (q : PartState). Goes m l (events.Advance r h.0 h.1 ∷ []) w (next m l w s old r (put s.word Epoch (exchanged (s.word Epoch) h.0 (h.0 + 1))) (record q { records = records })))
               (sym (ap (λ (q : Stage). outside.advance_after p q) h.2 ∙ below_test h.0 last_epoch _ p h.4))
-              (enters (events.Advance r h.0 h.1) _ (over (h.0 + 1)) (entrances.advance m l w s old.entries r (over (h.0 + 1)) h.0 h.1 h.2 h.3 h.4 refl) (own_lists (h.0 + 1))
-              (ends (h.0 + 1) (after (counts_of m l) w (events.Advance r h.0 h.1)) _ (record { thunk = λ d j. refl; done = λ d. refl; log = λ d k. refl }) refl)),
+              (enters (events.Advance r h.0 h.1) refl _ (over (h.0 + 1)) (entrances.advance m l w s old.entries r (over (h.0 + 1)) h.0 h.1 h.2 h.3 h.4 refl) (own_lists (h.0 + 1))
+              (ends (h.0 + 1) (after (counts_of m l) w (events.Advance r h.0 h.1)) _ (record { thunk = λ d j. refl; done = λ d. refl; log = λ d k. refl }) (λ i. refl) refl)),
         )
 
     module _ (x n : ℕ) (clear : Bool) (some : n ≤ l.runners) (was : p.stage ≡ Scanning x n clear) where
@@ -397,14 +406,14 @@ module _ (m : Meaning) (l : Layout) (w : EpochState) (s : Sight) (old : IsJoined
       scan_by true is = (
         _,
         (x, clear, was, inr (collect true is, refl)),
-        enters (events.ScanLast r x n clear) _ (over x) (entrances.scan_last m l w s old.entries r (over x) x n clear some was is refl) (own_lists x)
-            (ends x (after (counts_of m l) w (events.ScanLast r x n clear)) _ (same_load (Announcement n)) refl),
+        enters (events.ScanLast r x n clear) refl _ (over x) (entrances.scan_last m l w s old.entries r (over x) x n clear some was is refl) (own_lists x)
+            (ends x (after (counts_of m l) w (events.ScanLast r x n clear)) _ (same_load (Announcement n)) (λ i. refl) refl),
       )
       scan_by false is =
           let p' : PartState = record p { stage = Scanning x (n + 1) still; records = records } in (
             _,
             (x, clear, was, inl (collect false is, refl)),
-            enters (events.ScanOne r x n clear) _ p' (entrances.scan_one m l w s old.entries r p' x n clear some was is (ap (λ k. Scanning x k still) (add-one n))) (sym (map_same lists_of s.part r p' refl)) (record {
+            enters (events.ScanOne r x n clear) refl _ p' (entrances.scan_one m l w s old.entries r p' x n clear some was is (ap (λ k. Scanning x k still) (add-one n))) (sym (map_same lists_of s.part r p' refl)) (record {
               holds = λ i ne t h. h;
               hand = λ i t h. h;
               live = λ t h. h;
@@ -414,6 +423,7 @@ module _ (m : Meaning) (l : Layout) (w : EpochState) (s : Sight) (old : IsJoined
               log = λ d k. refl;
               stage = λ i ne. upd_else w.stage r _ i ne;
               same = same_load (Announcement n);
+              board = λ i. refl;
               run = none;
               published = refl;
               stored = refl;

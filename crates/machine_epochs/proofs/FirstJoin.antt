@@ -1,5 +1,5 @@
 -- The first state is joined.
-use Rattle.std.specs.Prelude.{◌==◌, cond, nat_lt, Bool, true, false}
+use Rattle.std.specs.Prelude.{◌==◌, cond, nat_lt, slice_index, Bool, true, false}
 use Rattle.std.proofs.Common.{◌≡◌, ℕ, ◌+◌, ◌-◌, ◌*◌, ◌<◌, ◌≤◌, List, [], refl, sym, ap, ◌∙◌, subst, arith, ◌⊎◌, inl, inr, ⊎_elim, None}
 use Rattle.std.proofs.lemmas.Bool.Decides.{nat_tests}
 use Rattle.std.proofs.lemmas.Option.{none-some}
@@ -7,10 +7,12 @@ use mathlib.Core.Path.{fun_ext}
 use Rattle.machine_states.specs.map_history.specs.declared.op.Request.{Request}
 use Rattle.machine_states.specs.table_words.specs.declared.layout.Layout.{Layout}
 use Rattle.machine_states.specs.table_words.specs.declared.spot.Spot.{Spot}
-use Rattle.machine_states.specs.table_words.specs.declared.spot.Spot.TheVariants.{Epoch}
-use Rattle.machine_states.specs.table_words.specs.Places.{slot_count, descriptor_count}
+use Rattle.machine_states.specs.table_words.specs.declared.spot.Spot.TheVariants.{Epoch, Board}
+use Rattle.machine_states.specs.table_words.specs.Places.{slot_count, descriptor_count, address, fits}
+use Rattle.machine_states.specs.table_words.proofs.Seen.{fits_means}
 use Rattle.machine_states.specs.structure_laws.specs.Meaning.{Meaning}
 use Rattle.machine_states.specs.runner_parts.specs.State.{PartState}
+use Rattle.machine_states.specs.runner_steps.specs.Asks.{sizes_for}
 use Rattle.machine_states.specs.epoch_core.specs.declared.stage.Stage.TheVariants as points
 use Rattle.machine_states.specs.epoch_core.specs.declared.location.Location.{Location}
 use Rattle.machine_states.specs.epoch_core.specs.declared.location.Location.TheVariants.{Fixed, Free}
@@ -30,6 +32,7 @@ use Rattle.machine_epochs.specs.Entries.{counts_of}
 use Rattle.machine_epochs.specs.Slots.{lists_of}
 use Rattle.machine_epochs.specs.Firsts.{owner_of, first_place}
 use Rattle.machine_epochs.specs.Joined.{IsTied, IsJoinedToEpochs}
+use Rattle.machine_epochs.proofs.Boards.{board_of}
 use Rattle.machine_epochs.proofs.FirstPlaces.{rows, owned, unowned}
 
 -- what holds of a fixed slot and of every free one holds of every slot at first
@@ -189,6 +192,14 @@ module _ (m : Meaning) (l : Layout) where
     of_part : (Q : PartState → Type 0) → ((nodes descriptors : List ℕ) → Q (first_part nodes descriptors [])) → (r : ℕ) → Q (s.part r)
     of_part Q each r = subst Q (sym (first_parts m l w.parts start.parts r)) (each_part m l Q (each _ _) (λ k. each _ _) (each _ _) r)
 
+    -- the board's words are 0
+    pub unwritten : (i : ℕ) → s.word (Board i) ≡ 0
+    unwritten i = by_fit (fits (sizes_for m l rs) (Board i)) refl
+      where
+        by_fit : (b : Bool) → fits (sizes_for m l rs) (Board i) ≡ b → s.word (Board i) ≡ 0
+        by_fit true e = start.words.seen (Board i) (fits_means (sizes_for m l rs) (Board i) e)
+        by_fit false e = ap (λ b. cond b (slice_index w.words (address (sizes_for m l rs) (Board i))) 0) e
+
     -- the first state and the component's first state with these places are joined
     pub first_joined : IsJoinedToEpochs m l begun s
     first_joined = record {
@@ -198,6 +209,10 @@ module _ (m : Meaning) (l : Layout) where
         epoch = sym (start.words.seen Epoch tt);
         announced = λ r. sym (unannounced m l rs w start r);
         stage = λ r. of_part (λ q. points.Idle ≡ q.stage) (λ nodes descriptors. refl) r;
+      };
+      board = record {
+        word = λ t i at. absurd (let x = sym (at_first m l (λ p. board_of p ≡ None) refl (λ r. refl) t) ∙ ap board_of at in cc);
+        slot = λ i t named. absurd (let x = sym (unwritten i) ∙ named in cc);
       };
       past = λ d k high. refl;
       roles = λ d k out. absurd (let x = sym (ap is_out (at_descriptor m l d)) ∙ out in cc);

@@ -1,6 +1,5 @@
 -- The kinds of step by which a guard word moves, and a sweep goes on.
-use Rattle.std.specs.Prelude.{◌==◌, ◌&&◌, ◌||◌, not, cond, Bool, true, false, nat_lt}
-use Rattle.std.specs.List.{filter}
+use Rattle.std.specs.Prelude.{◌==◌, ◌&&◌, ◌||◌, cond, Bool, true, false, nat_lt}
 use Rattle.std.proofs.Common.{◌≡◌, ℕ, ◌+◌, ◌<◌, ◌≤◌, List, [], ◌∷◌, ◌++◌, refl, sym, ap, ◌∙◌, subst, arith, Option, Some, None}
 use Rattle.std.proofs.lemmas.Bool.Decides.{nat_tests}
 use Rattle.std.proofs.lemmas.Option.{none-some}
@@ -10,7 +9,7 @@ use Rattle.machine_states.specs.table_words.specs.declared.spot.Spot.{Spot}
 use Rattle.machine_states.specs.table_words.specs.declared.spot.Spot.TheVariants.{Guard}
 use Rattle.machine_states.specs.table_words.specs.declared.access.Access.{Access}
 use Rattle.machine_states.specs.table_words.specs.declared.access.Access.TheVariants.{Loads}
-use Rattle.machine_states.specs.table_words.specs.Seen.{upd, put}
+use Rattle.machine_states.specs.table_words.specs.Seen.{put}
 use Rattle.machine_states.specs.structure_laws.specs.Meaning.{Meaning}
 use Rattle.machine_states.specs.guard_core.specs.Moves.{is_unnamed}
 use Rattle.machine_states.specs.guard_core.specs.State.{word_of}
@@ -28,17 +27,16 @@ use Rattle.machine_states.specs.epoch_core.specs.State.{EpochState, Retiring}
 use Rattle.machine_states.specs.epoch_core.specs.Events.{slot_of, is_among, MayFree}
 use Rattle.machine_states.specs.epoch_core.specs.Events as events
 use Rattle.machine_states.specs.epoch_core.specs.History.{is_out}
-use Rattle.machine_states.specs.epoch_core.specs.Lists.{Lists, times, in_any_limbo}
+use Rattle.machine_states.specs.epoch_core.specs.Lists.{times, in_any_limbo}
 use Rattle.machine_states.specs.Sight.{Sight}
 use Rattle.machine_states.proofs.Updates.{map_same, map_upd}
 use Rattle.machine_epochs.specs.Entries.{counts_of}
 use Rattle.machine_epochs.specs.Roles.{role_at}
 use Rattle.machine_epochs.specs.Slots.{lists_of, retiring_of}
 use Rattle.machine_epochs.specs.Joined.{IsJoinedToEpochs}
-use Rattle.machine_epochs.specs.Chunks.{IsOutsideChunk}
 use Rattle.machine_epochs.proofs.OutsideAsked as asked
 use Rattle.machine_epochs.proofs.CommitKinds.{row_else, row_only}
-use Rattle.machine_epochs.proofs.Joining.{IsSameBut, IsSameSections, but_load, section_same, descriptor_same, thunk_same, Goes, GoesBy, StaysAt, next, as_published, once, stages_stay, stays, goes_with}
+use Rattle.machine_epochs.proofs.Joining.{IsSameBut, IsSameSections, but_load, section_same, descriptor_same, thunk_same, Goes, GoesBy, StaysAt, next, as_published, once, stages_stay, stays, board_kept, goes_with}
 use Rattle.machine_epochs.proofs.OutsideKinds.{Leads, tied_by}
 use Rattle.machine_states.specs.body_terms.specs.declared.thunk.Thunk.{Thunk}
 
@@ -100,6 +98,7 @@ module _ (m : Meaning) (l : Layout) (w : EpochState) (s : Sight) (old : IsJoined
         goes_with m l w s old r (events.Unguard r ∷ []) (ap (λ (y : Retiring). y.loaded) ((old.tied r).retire ∙ ap (retiring_of m) none), tt) f moved
         (sym (map_same lists_of s.part r moved refl))
         (record { epoch = old.entries.epoch; announced = old.entries.announced; stage = stages_stay m l w s old r f moved refl })
+        (board_kept m l w s old r (events.Unguard r ∷ []) refl (ap (λ (y : Retiring). y.loaded) ((old.tied r).retire ∙ ap (retiring_of m) none), tt) f moved (λ i. refl))
         old.past old.roles
         (once m l w s old r moved (as_published m l w s old r moved refl))
         (record {
@@ -207,6 +206,7 @@ module _ (m : Meaning) (l : Layout) (w : EpochState) (s : Sight) (old : IsJoined
           announced = λ i. old.entries.announced i ∙ sym (same.announced i);
           stage = stages_stay m l w s old r seen freed refl;
         })
+        (board_kept m l w s old r (events.Sweep r (is_unnamed words) ∷ []) refl (may_free unsure, tt) seen freed same.board)
         old.past
         (λ d k out. old.roles d k (swept_out _ r _ out) ∙ ap (λ (t : Thunk). role_at (m.body t) k) (sym (thunk_same seen s.word d (same.thunk d))))
         (once m l w s old r freed (as_published m l w s old r freed refl))

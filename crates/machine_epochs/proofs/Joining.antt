@@ -3,13 +3,14 @@ use Rattle.std.specs.Prelude.{◌==◌, cond, Bool, true, false, nat_lt}
 use Rattle.std.proofs.Common.{◌≡◌, ◌≢◌, ℕ, ◌-◌, ◌≤◌, List, [], refl, sym, ap, ◌∙◌, subst, Some, Option}
 use Rattle.machine_states.specs.table_words.specs.declared.layout.Layout.{Layout}
 use Rattle.machine_states.specs.table_words.specs.declared.spot.Spot.{Spot}
-use Rattle.machine_states.specs.table_words.specs.declared.spot.Spot.TheVariants.{Epoch, Clock, Announcement, Stamp, Reply, Cell, ThunkWord, DoneWord, LogWord}
+use Rattle.machine_states.specs.table_words.specs.declared.spot.Spot.TheVariants.{Epoch, Clock, Announcement, Stamp, Reply, Cell, ThunkWord, DoneWord, LogWord, Board}
 use Rattle.machine_states.specs.table_words.specs.declared.access.Access.TheVariants.{Exchanges}
 use Rattle.machine_states.specs.table_words.specs.Access.{written}
 use Rattle.machine_states.specs.table_words.specs.Places.{part_words}
 use Rattle.machine_states.specs.table_words.specs.Seen.{upd, put}
 use Rattle.machine_states.specs.body_terms.specs.declared.thunk.Thunk.{Thunk}
 use Rattle.machine_states.specs.structure_laws.specs.Meaning.{Meaning}
+use Rattle.machine_states.specs.runner_parts.specs.declared.entries.BoardRead.{BoardRead}
 use Rattle.machine_states.specs.runner_parts.specs.declared.entries.Look.{Look}
 use Rattle.machine_states.specs.runner_parts.specs.declared.entries.Published.{Published}
 use Rattle.machine_states.specs.runner_parts.specs.State.{PartState, NodesState, RecordsState}
@@ -28,9 +29,10 @@ use Rattle.machine_states.specs.Sight.{Sight}
 use Rattle.machine_states.proofs.Updates.{upd_split, map_same, put_same, put_kept}
 use Rattle.machine_epochs.specs.Entries.{counts_of}
 use Rattle.machine_epochs.specs.Roles.{role_at}
-use Rattle.machine_epochs.specs.Slots.{lists_of, thunk_in, ShowsEntries}
+use Rattle.machine_epochs.specs.Slots.{lists_of, thunk_in, ShowsEntries, ShowsBoard}
 pub use Rattle.machine_epochs.specs.Goes.{Goes, GoesBy}
 use Rattle.machine_epochs.specs.Joined.{IsTied, IsJoinedToEpochs}
+use Rattle.machine_epochs.proofs.Boards.{is_off_board, board_shown}
 
 -- the words of descriptors are the same
 pub record IsSameSections (f g : Spot → ℕ) : Type 0 where
@@ -45,19 +47,20 @@ pub record IsSameBut (f g : Spot → ℕ) : Type 0 where
   pub thunk : (d j : ℕ) → f (ThunkWord d j) ≡ g (ThunkWord d j)
   pub done : (d : ℕ) → f (DoneWord d) ≡ g (DoneWord d)
   pub log : (d k : ℕ) → f (LogWord d k) ≡ g (LogWord d k)
+  pub board : (i : ℕ) → f (Board i) ≡ g (Board i)
 
 module _ (f : Spot → ℕ) where
   pub but_cell : (p v : ℕ) → IsSameBut (put f (Cell p) v) f
-  but_cell p v = record { epoch = refl; announced = λ r. refl; thunk = λ d j. refl; done = λ d. refl; log = λ d k. refl }
+  but_cell p v = record { epoch = refl; announced = λ r. refl; thunk = λ d j. refl; done = λ d. refl; log = λ d k. refl; board = λ i. refl }
 
   pub but_clock : (v : ℕ) → IsSameBut (put f Clock v) f
-  but_clock v = record { epoch = refl; announced = λ r. refl; thunk = λ d j. refl; done = λ d. refl; log = λ d k. refl }
+  but_clock v = record { epoch = refl; announced = λ r. refl; thunk = λ d j. refl; done = λ d. refl; log = λ d k. refl; board = λ i. refl }
 
   pub but_stamp : (q v : ℕ) → IsSameBut (put f (Stamp q) v) f
-  but_stamp q v = record { epoch = refl; announced = λ r. refl; thunk = λ d j. refl; done = λ d. refl; log = λ d k. refl }
+  but_stamp q v = record { epoch = refl; announced = λ r. refl; thunk = λ d j. refl; done = λ d. refl; log = λ d k. refl; board = λ i. refl }
 
   pub but_reply : (q v : ℕ) → IsSameBut (put f (Reply q) v) f
-  but_reply q v = record { epoch = refl; announced = λ r. refl; thunk = λ d j. refl; done = λ d. refl; log = λ d k. refl }
+  but_reply q v = record { epoch = refl; announced = λ r. refl; thunk = λ d j. refl; done = λ d. refl; log = λ d k. refl; board = λ i. refl }
 
   pub but_load : (a : Spot) → IsSameBut (put f a (f a)) f
   but_load a = record {
@@ -66,6 +69,7 @@ module _ (f : Spot → ℕ) where
     thunk = λ d j. ap (λ (g : Spot → ℕ). g (ThunkWord d j)) (put_same f a);
     done = λ d. ap (λ (g : Spot → ℕ). g (DoneWord d)) (put_same f a);
     log = λ d k. ap (λ (g : Spot → ℕ). g (LogWord d k)) (put_same f a);
+    board = λ i. ap (λ (g : Spot → ℕ). g (Board i)) (put_same f a);
   }
 
   -- an exchange from 0 to 0
@@ -76,6 +80,7 @@ module _ (f : Spot → ℕ) where
     thunk = λ d j. ap (λ (g : Spot → ℕ). g (ThunkWord d j)) (put_kept f a);
     done = λ d. ap (λ (g : Spot → ℕ). g (DoneWord d)) (put_kept f a);
     log = λ d k. ap (λ (g : Spot → ℕ). g (LogWord d k)) (put_kept f a);
+    board = λ i. ap (λ (g : Spot → ℕ). g (Board i)) (put_kept f a);
   }
 
 pub but_entries : (f g : Spot → ℕ) → IsSameBut f g → IsSameSections f g
@@ -136,6 +141,57 @@ looking m l w g i q look records t = record {
   stored_free = t.stored_free;
   stored = t.stored;
 }
+
+-- nor on its loads of the board
+boarded : (m : Meaning) (l : Layout) (w : EpochState) (g : Spot → ℕ) (i : ℕ) (q : PartState) (board : List BoardRead)
+    → IsTied m l w g i q → IsTied m l w g i (record q { board = board })
+boarded m l w g i q board t = record {
+  run_held = t.run_held;
+  run_opened = t.run_opened;
+  run_begins = t.run_begins;
+  run_made = t.run_made;
+  retire = t.retire;
+  published = t.published;
+  run_sure = t.run_sure;
+  published_sure = t.published_sure;
+  sure = t.sure;
+  numbered = t.numbered;
+  sure_alone = t.sure_alone;
+  reached = t.reached;
+  stored_free = t.stored_free;
+  stored = t.stored;
+}
+
+-- so neither does what is joined
+module _ (m : Meaning) (l : Layout) (w : EpochState) (f : Spot → ℕ) (part : ℕ → PartState) (r : ℕ) (p : PartState) (board : List BoardRead) where
+  abbrev with_loads : PartState
+  with_loads = record p { board = board }
+
+  seen : {B : Type 0} → (g : PartState → B) → g p ≡ g with_loads → (i : ℕ) → g (upd part r p i) ≡ g (upd part r with_loads i)
+  seen g same i = by (i == r)
+    where
+      by : (b : Bool) → g (cond b p (part i)) ≡ g (cond b with_loads (part i))
+      by true = same
+      by false = refl
+
+  tied_on : (i : ℕ) → IsTied m l w f i (upd part r p i) → IsTied m l w f i (upd part r with_loads i)
+  tied_on i t = by (i == r) t
+    where
+      by : (b : Bool) → IsTied m l w f i (cond b p (part i)) → IsTied m l w f i (cond b with_loads (part i))
+      by true t = boarded m l w f i p board t
+      by false t = t
+
+  pub joined_on : IsJoinedToEpochs m l w (record { word = f; part = upd part r p }) → IsJoinedToEpochs m l w (record { word = f; part = upd part r with_loads })
+  joined_on old = record {
+    sound = old.sound;
+    listed = subst (IsListed (counts_of m l) w) (λ j i. seen lists_of refl i j) old.listed;
+    entries = record { epoch = old.entries.epoch; announced = old.entries.announced; stage = λ i. old.entries.stage i ∙ seen (λ q. q.stage) refl i };
+    board = record { word = old.board.word; slot = old.board.slot };
+    past = old.past;
+    roles = old.roles;
+    published_once = λ i i' x x' e e'. old.published_once i i' x x' (seen (λ q. q.published) refl i ∙ e) (seen (λ q. q.published) refl i' ∙ e');
+    tied = λ i. tied_on i (old.tied i);
+  }
 
 module _ (m : Meaning) (l : Layout) where
   abbrev pub c : Counts
@@ -210,6 +266,7 @@ module _ (m : Meaning) (l : Layout) where
         announced = λ i. old.entries.announced i ∙ sym (same.announced i);
         stage = stages_stay f p stage;
       };
+      board = board_shown c w s (next f p) [] refl tt old.sound same.board old.board;
       past = old.past;
       roles = λ d k out. old.roles d k out ∙ ap (λ (t : Thunk). role_at (m.body t) k) (sym (thunk_same f s.word d (same.thunk d)));
       published_once = once p back;
@@ -228,19 +285,24 @@ module _ (m : Meaning) (l : Layout) where
     pub stays : (f : Spot → ℕ) (p : PartState) → IsSameBut f s.word → p.stage ≡ (s.part r).stage → lists_of p ≡ lists_of (s.part r) → Publishes p → IsTied m l w f r p → StaysAt w (next f p)
     stays f p same stage lists back own = ([], refl, record { enabled = tt; joined = stays_joined f p same stage lists back own })
 
+    -- by events of which none is a give or a take, where the board's words are the same
+    pub board_kept : (es : List events.Event) → is_off_board es ≡ true → AllEnabled c w es → (f : Spot → ℕ) (p : PartState) → ((i : ℕ) → f (Board i) ≡ s.word (Board i)) → ShowsBoard (after_all c w es) (next f p)
+    board_kept es off ok f p same = board_shown c w s (next f p) es off ok old.sound same old.board
+
     -- a step of these events of the component, by which a runner's part becomes this one
     pub goes_with : (es : List events.Event) → AllEnabled c w es → (f : Spot → ℕ) (p : PartState)
         → ◌≡◌ {A = ℕ → Lists} (listed_all c w (λ i. lists_of (s.part i)) es) (λ i. lists_of (upd s.part r p i))
-        → ShowsEntries (after_all c w es) (next f p) → ((d k : ℕ) → part_words ≤ k → (after_all c w es).log d k ≡ 0)
+        → ShowsEntries (after_all c w es) (next f p) → ShowsBoard (after_all c w es) (next f p) → ((d k : ℕ) → part_words ≤ k → (after_all c w es).log d k ≡ 0)
         → ((d k : ℕ) → is_out ((after_all c w es).location (slot_of c d)) ≡ true → (after_all c w es).role d k ≡ role_at (m.body (thunk_in f d)) k)
         → ((i i' : ℕ) (x x' : Published) → (upd s.part r p i).published ≡ Some x → (upd s.part r p i').published ≡ Some x' → x.descriptor ≡ x'.descriptor → i ≡ i')
         → IsTied m l (after_all c w es) f r p → ((i : ℕ) → i ≢ r → IsElsewhere w (after_all c w es) s.word f i (s.part i)) → Goes m l es w (next f p)
-    goes_with es ok f p lists entries past roles apart own others = record {
+    goes_with es ok f p lists entries board past roles apart own others = record {
       enabled = ok;
       joined = record {
         sound = keeps_all c w es ok old.sound;
         listed = subst (IsListed c (after_all c w es)) lists (lists_follow_all c w (λ i. lists_of (s.part i)) es ok old.sound old.listed);
         entries = entries;
+        board = board;
         past = past;
         roles = roles;
         published_once = apart;

@@ -1,4 +1,5 @@
 pub mod OutsideAsked
+pub mod BoardAsked
 pub mod ReadsAsked
 pub mod InsideAsked
 pub mod Elsewhere
@@ -8,12 +9,14 @@ pub mod OwnDescriptors
 pub mod OwnKinds
 pub mod Roles
 pub mod RunPlaces
+pub mod Boards
 pub mod Joining
 pub mod Reaching
 pub mod Places
 pub mod EntryKinds
 pub mod OutsideKinds
 pub mod GuardKinds
+pub mod BoardKinds
 pub mod StoreKinds
 pub mod SectionKinds
 pub mod RunKinds

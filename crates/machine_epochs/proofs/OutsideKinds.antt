@@ -43,12 +43,12 @@ use Rattle.machine_epochs.specs.Roles.{role_at}
 use Rattle.machine_epochs.specs.Slots.{lists_of, retiring_of}
 use Rattle.machine_epochs.specs.Joined.{IsTied, IsJoinedToEpochs}
 use Rattle.machine_epochs.specs.Chunks.{is_last_look, looked as looked_events, IsOutsideChunk}
-use Rattle.machine_epochs.specs.Supplied.{reaches_node, sees_slot, comes_outside}
+use Rattle.machine_epochs.specs.Supplied.{sees_slot, comes_outside}
 use Rattle.machine_epochs.proofs.OutsideAsked as asked
 use Rattle.machine_epochs.proofs.ReadsAsked as reads_asked
 use Rattle.machine_epochs.proofs.RunPlaces.{begins_unretired}
 use Rattle.machine_epochs.proofs.Places.{has_times, hand_node}
-use Rattle.machine_epochs.proofs.Joining.{copied, looking, IsSameBut, but_load, but_kept, but_stamp, but_reply, descriptor_same, thunk_same, still_tied, Goes, GoesBy, StaysAt, next, as_published, once, stages_stay, stays, goes_with}
+use Rattle.machine_epochs.proofs.Joining.{copied, looking, IsSameBut, but_load, but_kept, but_stamp, but_reply, descriptor_same, thunk_same, still_tied, Goes, GoesBy, StaysAt, next, as_published, once, stages_stay, stays, board_kept, goes_with}
 use Rattle.machine_epochs.proofs.CommitKinds.{row_else, row_only, row_named, row_back}
 use Rattle.machine_epochs.proofs.Reaching.{may_hold}
 use Rattle.machine_epochs.proofs.SlotKinds.{kept_place, other_place, hand_hand, back_lists}
@@ -131,7 +131,7 @@ module _ (m : Meaning) (l : Layout) (w : EpochState) (s : Sight) (old : IsJoined
   same_tied f same tests records = copied m l w f r p (record (p.nodes) { tests = tests }) records p.gone (tied_by f same)
 
   -- a load after which tests and records alone have changed
-  notes : (a : Spot) (tests : List Tested) (records : RecordsState) → StaysAt m l w (next m l w s old r (put s.word a (s.word a)) (record p { nodes = record (p.nodes) { tests = tests }; records = records }))
+  pub notes : (a : Spot) (tests : List Tested) (records : RecordsState) → StaysAt m l w (next m l w s old r (put s.word a (s.word a)) (record p { nodes = record (p.nodes) { tests = tests }; records = records }))
   notes a tests records = stays m l w s old r _ p' (but_load s.word a) refl refl (as_published m l w s old r p' refl) (same_tied _ (but_load s.word a) tests records)
     where
       p' : PartState
@@ -225,6 +225,7 @@ module _ (m : Meaning) (l : Layout) (w : EpochState) (s : Sight) (old : IsJoined
           announced = λ i. old.entries.announced i ∙ sym (same.announced i);
           stage = stages_stay m l w s old r f p' refl;
         })
+        (board_kept m l w s old r (events.Reach r comes ∷ []) refl ((entered, λ t h. may_hold (counts_of m l) w old.sound r t (may t h)), tt) f p' same.board)
         old.past
         (λ d k out. old.roles d k out ∙ ap (λ (t : Thunk). role_at (m.body t) k) (sym (thunk_same f s.word d (same.thunk d))))
         (once m l w s old r p' (as_published m l w s old r p' refl))
@@ -336,6 +337,7 @@ module _ (m : Meaning) (l : Layout) (w : EpochState) (s : Sight) (old : IsJoined
           announced = λ i. old.entries.announced i ∙ sym (same.announced i);
           stage = stages_stay m l w s old r f back refl;
         })
+        (board_kept m l w s old r (events.Test r t worn ∷ []) refl (in_hand, tt) f back same.board)
         old.past
         (λ d k out. old.roles d k (ap is_out (sym (descriptor_place d)) ∙ out) ∙ ap (λ (u : Thunk). role_at (m.body u) k) (sym (thunk_same f s.word d (same.thunk d))))
         (once m l w s old r back (as_published m l w s old r back refl))

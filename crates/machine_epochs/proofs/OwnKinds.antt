@@ -18,7 +18,6 @@ use Rattle.machine_states.specs.runner_parts.specs.declared.event.EventKind.{Eve
 use Rattle.machine_states.specs.runner_parts.specs.declared.event.EventKind.TheVariants as kinds
 use Rattle.machine_states.specs.epoch_core.specs.declared.stage.Stage.{Stage}
 use Rattle.machine_states.specs.epoch_core.specs.declared.stage.Stage.TheVariants.{Idle, Loaded, Announced, Entered, Scanning}
-use Rattle.machine_states.specs.runner_parts.specs.declared.entries.Published.{Published}
 use Rattle.machine_states.specs.runner_parts.specs.declared.entries.Tested.{Tested}
 use Rattle.machine_states.specs.runner_parts.specs.State.{RunState, PartState, NodesState, GuardsState, ReadsState, RecordsState}
 use Rattle.machine_states.specs.runner_parts.specs.Tests.{has}
@@ -156,6 +155,9 @@ module _ (m : Meaning) (l : Layout) (rs : List Request) (epoch r : ℕ) (p : Par
     outside_own kinds.ReadStamp e = unmoved _ p.nodes refl _
     outside_own (kinds.Guard d) e = unmoved _ p.nodes refl _
     outside_own (kinds.LoadGuard n) e = sweeps m l epoch r p old none records _ _ _
+    outside_own (kinds.BoardLoad word) e = alike
+    outside_own (kinds.BoardTake word link) e = unmoved p.guards _ refl p.reads
+    outside_own (kinds.BoardGive word slot) e = unmoved p.guards _ refl p.reads
     outside_own _ e = some_none x e
 
   module _ (q : RunState) (at : p.run ≡ Some q) where

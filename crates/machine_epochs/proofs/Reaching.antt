@@ -41,6 +41,8 @@ module _ (c : Counts) (w : EpochState) where
   descriptors_stay (events.Advance r epoch next) ok sound e d = descriptor_kept c w.location r (epoch + 1) d
   descriptors_stay (events.Test r t worn) ok sound e d = node_place t _ (sound.for_nodes t (ap is_for_nodes ok)) d
   descriptors_stay (events.TakeSlot r t) ok sound e d = node_place t _ ok.1 d
+  descriptors_stay (events.GiveBoard r t i) ok sound e d = node_place t _ ok.1 d
+  descriptors_stay (events.TakeBoard r t i) ok sound e d = node_place t _ (sound.for_nodes t (ap is_for_nodes ok)) d
   descriptors_stay (events.MakeCommit r d' k t worn) ok sound e d = node_place t _ (sound.for_nodes t (ap is_for_nodes ok.2)) d
   descriptors_stay (events.RetireCommit r) ok sound e d = node_place ((w.retire r).slot) _ (sound.retire_node r ok) d
   descriptors_stay _ ok sound e d = refl

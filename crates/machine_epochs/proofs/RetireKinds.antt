@@ -88,7 +88,7 @@ module _ (m : Meaning) (l : Layout) (w : EpochState) (s : Sight) (old : IsJoined
 
     pub loads_epoch : (records : RecordsState) → Goes m l (events.RetireEpoch r d k slot ∷ []) w (next m l w s old r (put s.word Epoch (s.word Epoch)) (record p { run = Some loaded; records = records }))
     loads_epoch records =
-        run_goes m l w s old r q at is_open (events.RetireEpoch r d k slot ∷ [])
+        run_goes m l w s old r q at is_open (events.RetireEpoch r d k slot ∷ []) refl
         ((unloaded, held, run_role m l w s old r q at (open_run q is_open) k (Retires slot) (roles.retire_role (m.body (thunk_of q.opened)) q.at slot k here), may.node, may.live, may.once), tt)
         (put s.word Epoch (s.word Epoch)) loaded _
         (record {
@@ -112,6 +112,7 @@ module _ (m : Meaning) (l : Layout) (w : EpochState) (s : Sight) (old : IsJoined
           out = λ i h. h;
           seen_epoch = refl;
           seen_announced = λ i. refl;
+          seen_board = λ i. refl;
           past = old.past;
         })
         (λ i ne. record {
@@ -185,7 +186,7 @@ module _ (m : Meaning) (l : Layout) (w : EpochState) (s : Sight) (old : IsJoined
 
     pub retires : (records : RecordsState) → Goes m l (events.RetireCommit r ∷ []) w (next m l w s old r f (record own { records = records }))
     retires records =
-        run_goes m l w s old r q at is_open (events.RetireCommit r ∷ []) (is_loaded, tt) f agreed _
+        run_goes m l w s old r q at is_open (events.RetireCommit r ∷ []) refl (is_loaded, tt) f agreed _
         (subst (λ (x : Retiring). KeepsRun m l w s old r q at is_open (committed x) f agreed (record own { records = records })) (sym is_now) (record {
           holds = λ t h. h;
           alone = λ d h. h;
@@ -208,6 +209,7 @@ module _ (m : Meaning) (l : Layout) (w : EpochState) (s : Sight) (old : IsJoined
           out = λ i h. ap is_out (sym (descriptor_place i)) ∙ h;
           seen_epoch = refl;
           seen_announced = λ i. refl;
+          seen_board = λ i. refl;
           past = λ i j high. log_past m l w s old d k _ i j low high;
         }))
         (λ i ne. subst (λ (x : Retiring). IsElsewhere m l w (committed x) s.word f i (s.part i)) (sym is_now) (record {

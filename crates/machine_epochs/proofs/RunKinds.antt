@@ -7,7 +7,7 @@ use Rattle.machine_states.specs.body_terms.specs.Line.{micro_at}
 use Rattle.machine_states.specs.body_terms.specs.Run.{settled, written_once}
 use Rattle.machine_states.specs.table_words.specs.declared.layout.Layout.{Layout}
 use Rattle.machine_states.specs.table_words.specs.declared.spot.Spot.{Spot}
-use Rattle.machine_states.specs.table_words.specs.declared.spot.Spot.TheVariants.{Epoch, Announcement, Cell, Clock, Stamp, Reply, ThunkWord}
+use Rattle.machine_states.specs.table_words.specs.declared.spot.Spot.TheVariants.{Epoch, Announcement, Cell, Clock, Stamp, Reply, ThunkWord, Board}
 use Rattle.machine_states.specs.table_words.specs.declared.access.Access.{Access}
 use Rattle.machine_states.specs.table_words.specs.declared.access.Access.TheVariants.{Loads}
 use Rattle.machine_states.specs.table_words.specs.Access.{written}
@@ -41,7 +41,8 @@ use Rattle.machine_epochs.specs.Joined.{IsTied, IsJoinedToEpochs}
 use Rattle.machine_epochs.specs.Chunks.{IsLineChunk}
 use Rattle.machine_epochs.proofs.InsideAsked as asked
 use Rattle.machine_epochs.proofs.RunPlaces.{is_of_end, next_in_line, open_run, goes_on_unretired, unretired_before}
-use Rattle.machine_epochs.proofs.Joining.{IsSameBut, but_cell, but_clock, but_stamp, but_reply, descriptor_same, thunk_same, IsElsewhere, Goes, GoesBy, StaysAt, next, as_published, once, stages_stay, stays, goes_with}
+use Rattle.machine_epochs.proofs.Boards.{is_off_board}
+use Rattle.machine_epochs.proofs.Joining.{IsSameBut, but_cell, but_clock, but_stamp, but_reply, descriptor_same, thunk_same, IsElsewhere, Goes, GoesBy, StaysAt, next, as_published, once, stages_stay, stays, board_kept, goes_with}
 
 -- a step of a Retire
 abbrev pub is_of_retire : Micro → Bool
@@ -134,20 +135,22 @@ module _ (m : Meaning) (l : Layout) (w : EpochState) (s : Sight) (old : IsJoined
     pub out : (d : ℕ) → is_out (w'.location (slot_of (counts_of m l) d)) ≡ true → is_out (w.location (slot_of (counts_of m l) d)) ≡ true
     pub seen_epoch : f Epoch ≡ s.word Epoch
     pub seen_announced : (i : ℕ) → f (Announcement i) ≡ s.word (Announcement i)
+    pub seen_board : (i : ℕ) → f (Board i) ≡ s.word (Board i)
     pub past : (d k : ℕ) → part_words ≤ k → w'.log d k ≡ 0
 
   -- a step of the run that is these events of the component
-  pub run_goes : (es : List events.Event) → AllEnabled (counts_of m l) w es → (f : Spot → ℕ) (q' : RunState) (p' : PartState) → KeepsRun (after_all (counts_of m l) w es) f q' p'
+  pub run_goes : (es : List events.Event) → is_off_board es ≡ true → AllEnabled (counts_of m l) w es → (f : Spot → ℕ) (q' : RunState) (p' : PartState) → KeepsRun (after_all (counts_of m l) w es) f q' p'
       → KeepsRest (after_all (counts_of m l) w es) f → ((i : ℕ) → i ≢ r → IsElsewhere m l w (after_all (counts_of m l) w es) s.word f i (s.part i))
       → ◌≡◌ {A = ℕ → Lists} (listed_all (counts_of m l) w (λ i. lists_of (s.part i)) es) (λ i. lists_of (upd s.part r p' i))
       → Goes m l es w (next m l w s old r f p')
-  run_goes es ok f q' p' k rest others lists =
+  run_goes es off ok f q' p' k rest others lists =
       goes_with m l w s old r es ok f p' lists
       (record {
         epoch = rest.epoch ∙ (old.entries.epoch ∙ sym rest.seen_epoch);
         announced = λ i. rest.announced i ∙ (old.entries.announced i ∙ sym (rest.seen_announced i));
         stage = λ i. rest.stage i ∙ stages_stay m l w s old r f p' k.moved.stage i;
       })
+      (board_kept m l w s old r es off ok f p' rest.seen_board)
       rest.past
       (λ d j out. rest.role d j ∙ (old.roles d j (rest.out d out) ∙ ap (λ (t : Thunk). role_at (m.body t) j) (sym (thunk_same f s.word d (k.thunk d)))))
       (once m l w s old r p' (as_published m l w s old r p' k.moved.published)) (run_tied (after_all (counts_of m l) w es) f q' p' k) others

@@ -1,7 +1,7 @@
 -- The publication of a section.
 use Rattle.std.specs.Prelude.{◌==◌, ◌&&◌, ◌||◌, not, cond, ◌^◌, ◌%◌, Bool, true, false, nat_lt, replicate, slice_index}
 use Rattle.std.specs.List.{filter}
-use Rattle.std.proofs.Common.{◌≡◌, ◌≢◌, ℕ, zero, suc, ◌+◌, ◌-◌, ◌<◌, List, [], ◌∷◌, length, refl, sym, ap, ◌∙◌, subst, arith, ◌⊎◌, ⊎_elim, inl, inr, Option, Some, None}
+use Rattle.std.proofs.Common.{◌≡◌, ◌≢◌, ℕ, zero, suc, ◌+◌, ◌-◌, ◌<◌, List, [], ◌∷◌, length, refl, sym, ap, ◌∙◌, subst, arith, ⊎_elim, inl, inr, Option, Some, None}
 use Rattle.std.proofs.lemmas.Bool.{cases_eq}
 use Rattle.std.proofs.lemmas.Bool.Decides.{nat_tests}
 use Rattle.section_lines.specs.small_lemmas.proofs.Numbers.{tested_equal as same_word, tested_other as other_word}
@@ -25,7 +25,6 @@ use Rattle.machine_states.specs.runner_parts.specs.Tests.{has, last_stored, is_s
 use Rattle.machine_states.specs.runner_steps.specs.Outside.{descriptor_spot, hold_ask, is_sure_of}
 use Rattle.machine_states.specs.runner_steps.specs.Sections.{thunk_of}
 use Rattle.machine_states.specs.runner_parts.specs.Lists as lists
-use Rattle.machine_states.specs.runner_steps.specs.AfterOutside as outside
 use Rattle.machine_states.specs.epoch_core.specs.declared.location.Location.{Location}
 use Rattle.machine_states.specs.epoch_core.specs.declared.location.Location.TheVariants.{Live, Hand, Free}
 use Rattle.machine_states.specs.epoch_core.specs.Update.{upd2, upd_row}
@@ -43,7 +42,7 @@ use Rattle.machine_epochs.specs.Joined.{IsJoinedToEpochs}
 use Rattle.machine_epochs.specs.Chunks.{roles_of, IsOutsideChunk}
 use Rattle.machine_epochs.proofs.OutsideAsked as asked
 use Rattle.machine_epochs.proofs.Places.{free_descriptor}
-use Rattle.machine_epochs.proofs.Joining.{but_cell, descriptor_same, Goes, GoesBy, StaysAt, next, as_published, stages_stay, stays, goes_with}
+use Rattle.machine_epochs.proofs.Joining.{but_cell, descriptor_same, Goes, GoesBy, StaysAt, next, as_published, stages_stay, stays, board_kept, goes_with}
 use Rattle.machine_epochs.proofs.SlotKinds.{other_place, this_place, kept_place, slot_apart}
 use Rattle.machine_epochs.proofs.OutsideKinds.{Leads, tied_by}
 use Rattle.machine_states.specs.runner_steps.specs.AfterOutside.{published_by}
@@ -277,6 +276,7 @@ module _ (m : Meaning) (l : Layout) (w : EpochState) (s : Sight) (old : IsJoined
         goes_with m l w s old r (events.Publish r d roles ∷ []) ((entered, at_free, empty), tt) f holding
         (sym (map_upd lists_of s.part r holding))
         (record { epoch = old.entries.epoch; announced = old.entries.announced; stage = stages_stay m l w s old r f holding refl })
+        (board_kept m l w s old r (events.Publish r d roles ∷ []) refl ((entered, at_free, empty), tt) f holding (λ i. refl))
         old.past
         (λ d' k out. ⊎_elim
         (λ same. row_here w.role d d' k roles same ∙ (ap (λ (u : Thunk). role_at (m.body u) k) (sym (prepared_thunk m l w s old r t d free prepared)) ∙ ap (λ n. role_at (m.body (thunk_in s.word n)) k) (sym same)))

@@ -90,7 +90,7 @@ has_index (x ∷ xs) (suc i) h = rest (x == slice_index xs i) (has_index xs i (o
     rest false e = e
 
 -- the last free slot is a free one
-last_has : (xs : List ℕ) (slot : ℕ) → is_slot (last_of xs) slot ≡ true → has xs slot ≡ true
+pub last_has : (xs : List ℕ) (slot : ℕ) → is_slot (last_of xs) slot ≡ true → has xs slot ≡ true
 last_has xs slot e = by_length (length xs == 0) refl e
   where
     same : (a b : ℕ) → (a == b) ≡ true → a ≡ b
@@ -144,7 +144,7 @@ module _ (m : Meaning) (l : Layout) (w : EpochState) (s : Sight) (old : IsJoined
 
     pub makes : (records : RecordsState) → Goes m l (events.MakeCommit r q.descriptor k slot q.worn ∷ []) w (next m l w s old r f (record p { run = Some agreed; nodes = runs.made p q slot found; records = records }))
     makes records =
-        run_goes m l w s old r q at is_open (events.MakeCommit r q.descriptor k slot q.worn ∷ []) ((held, role, in_hand), tt) f agreed _
+        run_goes m l w s old r q at is_open (events.MakeCommit r q.descriptor k slot q.worn ∷ []) refl ((held, role, in_hand), tt) f agreed _
         (record {
           holds = λ t h. h;
           alone = λ d h. h;
@@ -166,6 +166,7 @@ module _ (m : Meaning) (l : Layout) (w : EpochState) (s : Sight) (old : IsJoined
           out = λ d h. ap is_out (sym (descriptor_place slot place d node)) ∙ h;
           seen_epoch = refl;
           seen_announced = λ i. refl;
+          seen_board = λ i. refl;
           past = λ d i high. log_past m l w s old q.descriptor k _ d i low high;
         })
         (λ i ne. record {
@@ -191,7 +192,7 @@ module _ (m : Meaning) (l : Layout) (w : EpochState) (s : Sight) (old : IsJoined
     pub takes : (place v : ℕ) (word : ℕ) (records : RecordsState)
         → Goes m l (events.TakeSlot r slot ∷ []) w (next m l w s old r (put s.word (Cell place) v) (record p { run = Some (runs.goes_on m l taking word); nodes = slot_taken p.nodes slot; records = records }))
     takes place v word records =
-        run_goes m l w s old r q at is_open (events.TakeSlot r slot ∷ []) ((free, node), tt) (put s.word (Cell place) v) (runs.goes_on m l taking word) _
+        run_goes m l w s old r q at is_open (events.TakeSlot r slot ∷ []) refl ((free, node), tt) (put s.word (Cell place) v) (runs.goes_on m l taking word) _
         (record {
           holds = λ t h. h;
           alone = λ d h. h;
@@ -213,6 +214,7 @@ module _ (m : Meaning) (l : Layout) (w : EpochState) (s : Sight) (old : IsJoined
           out = λ d h. ap is_out (sym (descriptor_place slot (Hand r) d node)) ∙ h;
           seen_epoch = refl;
           seen_announced = λ i. refl;
+          seen_board = λ i. refl;
           past = old.past;
         })
         (λ i ne. record {

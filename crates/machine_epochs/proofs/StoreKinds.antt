@@ -8,7 +8,7 @@ use Rattle.machine_states.specs.body_terms.specs.declared.thunk.Thunk.{Thunk}
 use Rattle.machine_states.specs.table_words.specs.declared.layout.Layout.{Layout}
 use Rattle.machine_states.specs.table_words.specs.declared.sizes.Sizes.{Sizes}
 use Rattle.machine_states.specs.table_words.specs.declared.spot.Spot.{Spot}
-use Rattle.machine_states.specs.table_words.specs.declared.spot.Spot.TheVariants.{Epoch, Announcement, ThunkWord, DoneWord, LogWord}
+use Rattle.machine_states.specs.table_words.specs.declared.spot.Spot.TheVariants.{Epoch, Announcement, ThunkWord, DoneWord, LogWord, Board}
 use Rattle.machine_states.specs.table_words.specs.declared.access.Access.{Access}
 use Rattle.machine_states.specs.table_words.specs.Places.{Fits, slot_count, part_words}
 use Rattle.machine_states.specs.table_words.specs.Seen.{put}
@@ -38,7 +38,8 @@ use Rattle.machine_epochs.specs.Joined.{IsTied, IsJoinedToEpochs}
 use Rattle.machine_epochs.specs.Chunks.{looked, stored}
 use Rattle.machine_epochs.proofs.OutsideAsked as asked
 use Rattle.machine_epochs.proofs.Places.{free_descriptor, held_unfree}
-use Rattle.machine_epochs.proofs.Joining.{but_load, thunk_same, IsElsewhere, Goes, GoesBy, next, as_published, once, stages_stay, goes_with}
+use Rattle.machine_epochs.proofs.Boards.{is_off_board}
+use Rattle.machine_epochs.proofs.Joining.{but_load, thunk_same, IsElsewhere, Goes, GoesBy, next, as_published, once, stages_stay, board_kept, goes_with}
 use Rattle.machine_epochs.proofs.OutsideKinds.{Leads, node_load, unlooked}
 use Rattle.machine_epochs.proofs.CommitKinds.{log_past}
 
@@ -134,7 +135,7 @@ module _ (m : Meaning) (l : Layout) (w : EpochState) (s : Sight) (old : IsJoined
 
   -- the words after the store
   module _ (f : Spot → ℕ) (spot : (d' j : ℕ) → f (descriptor_spot d' j) ≡ cond (d' == d && j == word) number (s.word (descriptor_spot d' j)))
-      (thunk : (d' j : ℕ) → d' ≢ d → f (ThunkWord d' j) ≡ s.word (ThunkWord d' j)) (epoch : f Epoch ≡ s.word Epoch) (announced : (i : ℕ) → f (Announcement i) ≡ s.word (Announcement i)) where
+      (thunk : (d' j : ℕ) → d' ≢ d → f (ThunkWord d' j) ≡ s.word (ThunkWord d' j)) (epoch : f Epoch ≡ s.word Epoch) (announced : (i : ℕ) → f (Announcement i) ≡ s.word (Announcement i)) (board : (i : ℕ) → f (Board i) ≡ s.word (Board i)) where
     elsewhere : (d' j : ℕ) → d' ≢ d → f (descriptor_spot d' j) ≡ s.word (descriptor_spot d' j)
     elsewhere d' j ne = spot d' j ∙ not_there d' d (j == word) number _ ne
       where
@@ -152,16 +153,17 @@ module _ (m : Meaning) (l : Layout) (w : EpochState) (s : Sight) (old : IsJoined
     stored_by true d' j n e last = spot d' j ∙ (ap (λ b. cond b number (s.word (descriptor_spot d' j))) e ∙ some_number number n last)
     stored_by false d' j n e last = spot d' j ∙ (ap (λ b. cond b number (s.word (descriptor_spot d' j))) e ∙ (old.tied r).stored d' j n ((old.tied r).stored_free d' j n last) last)
 
-    stores : (es : List events.Event) → AllEnabled (counts_of m l) w es → (log : ℕ → ℕ → ℕ) → after_all (counts_of m l) w es ≡ record w { log = log }
+    stores : (es : List events.Event) → is_off_board es ≡ true → AllEnabled (counts_of m l) w es → (log : ℕ → ℕ → ℕ) → after_all (counts_of m l) w es ≡ record w { log = log }
         → listed_all (counts_of m l) w (λ i. lists_of (s.part i)) es ≡ (λ i. lists_of (s.part i))
         → ((d' k : ℕ) → part_words ≤ k → log d' k ≡ 0) → Goes m l es w (next m l w s old r f p')
-    stores es ok log is lists past =
+    stores es off ok log is lists past =
         goes_with m l w s old r es ok f p' (lists ∙ sym (map_same lists_of s.part r p' refl))
         (subst (λ (v : EpochState). ShowsEntries v (next m l w s old r f p')) (sym is) (record {
           epoch = old.entries.epoch ∙ sym epoch;
           announced = λ i. old.entries.announced i ∙ sym (announced i);
           stage = stages_stay m l w s old r f p' refl;
         }))
+        (board_kept m l w s old r es off ok f p' board)
         (λ d' k high. ap (λ (v : EpochState). v.log d' k) is ∙ past d' k high)
         (λ d' k out. ap (λ (v : EpochState). v.role d' k) is ∙ roles d' k (ap (λ (v : EpochState). is_out (v.location (slot_of (counts_of m l) d'))) (sym is) ∙ out))
         (once m l w s old r p' (as_published m l w s old r p' refl))
@@ -202,12 +204,12 @@ module _ (m : Meaning) (l : Layout) (w : EpochState) (s : Sight) (old : IsJoined
   store_by : (b b' : Bool) (sizes : Sizes) → ((d' j : ℕ) → put s.word (spot_by b b' d word) number (descriptor_spot d' j) ≡ cond (d' == d && j == word) number (s.word (descriptor_spot d' j)))
       → Fits sizes (spot_by b b' d word)
       → GoesBy m l (λ es. es ≡ cond b [] (cond b' [] (events.StoreLog r d (word - 13) number ∷ []))) w (next m l w s old r (put s.word (spot_by b b' d word) number) p')
-  store_by true b' sizes spot fits = (_, refl, stores _ spot (λ d' j ne. thunk_else d' d j word number _ ne) refl (λ i. refl) [] tt w.log refl refl old.past)
-  store_by false true sizes spot fits = (_, refl, stores _ spot (λ d' j ne. refl) refl (λ i. refl) [] tt w.log refl refl old.past)
+  store_by true b' sizes spot fits = (_, refl, stores _ spot (λ d' j ne. thunk_else d' d j word number _ ne) refl (λ i. refl) (λ i. refl) [] refl tt w.log refl refl old.past)
+  store_by false true sizes spot fits = (_, refl, stores _ spot (λ d' j ne. refl) refl (λ i. refl) (λ i. refl) [] refl tt w.log refl refl old.past)
   store_by false false sizes spot fits = (
     _,
     refl,
-    stores _ spot (λ d' j ne. refl) refl (λ i. refl) (events.StoreLog r d (word - 13) number ∷ []) (at_free, tt) (upd2 w.log d (word - 13) number) refl refl
+    stores _ spot (λ d' j ne. refl) refl (λ i. refl) (λ i. refl) (events.StoreLog r d (word - 13) number ∷ []) refl (at_free, tt) (upd2 w.log d (word - 13) number) refl refl
         (λ d' k high. log_past m l w s old d (word - 13) number d' k fits.1 high),
   )
 
@@ -221,7 +223,7 @@ module _ (m : Meaning) (l : Layout) (w : EpochState) (s : Sight) (old : IsJoined
       let same = but_load s.word a in
       stores (put s.word a (s.word a))
       (λ d' j. subst (λ n. put s.word a n (descriptor_spot d' j) ≡ cond (d' == d && j == word) number (s.word (descriptor_spot d' j))) found (put_spot s.word d word number d' j))
-      (λ d' j ne. same.thunk d' j) same.epoch same.announced [] tt w.log refl refl old.past
+      (λ d' j ne. same.thunk d' j) same.epoch same.announced same.board [] refl tt w.log refl refl old.past
 
 fits_few : (sizes : Sizes) (d word : ℕ) (b b' : Bool) → Fits sizes (spot_by b b' d word) → d < sizes.descriptors
 fits_few sizes d word true b' h = h.0

@@ -2,6 +2,7 @@
 use Rattle.std.specs.Prelude.{ℕ, ◌+◌, ◌-◌, ◌≡◌, ◌≢◌, ◌⊎◌, Bool, true, false, ◌==◌, ◌&&◌, nat_lt, List, [], ◌∷◌, ◌++◌, Option, Some, None, if◌then◌else◌}
 use Rattle.machine_states.specs.body_terms.specs.declared.micro.Micro.{Micro}
 use Rattle.machine_states.specs.body_terms.specs.declared.micro.Micro.TheVariants as micros
+use Rattle.machine_states.specs.body_terms.specs.Word.{value_of}
 use Rattle.machine_states.specs.table_words.specs.declared.layout.Layout.{Layout}
 use Rattle.machine_states.specs.table_words.specs.Places.{slot_count}
 use Rattle.machine_states.specs.structure_laws.specs.Meaning.{Meaning}
@@ -50,6 +51,14 @@ abbrev pub sweeps : Layout → ℕ → PartState → ℕ → List Event
 sweeps l r p found =
     if is_last_guard l p.guards.looked then events.Sweep r (is_unnamed (p.guards.looked ++ found ∷ [])) ∷ [] else []
 
+-- the slot that a link on the board names is taken where the exchange won
+abbrev pub takes : ℕ → ℕ → ℕ → ℕ → List Event
+takes r word link found = if found == link then events.TakeBoard r (value_of (link - 1)) word ∷ [] else []
+
+-- a free slot goes onto the board where it did
+abbrev pub gives : ℕ → ℕ → ℕ → ℕ → List Event
+gives r word slot found = if found == 0 then events.GiveBoard r slot word ∷ [] else []
+
 -- with the end of its run the own published section is retired
 abbrev pub retires_own : ℕ → Option Published → ℕ → List Event
 retires_own r None descriptor = []
@@ -83,6 +92,8 @@ module _ (m : Meaning) (l : Layout) (r : ℕ) where
   -- the guard word moves: the runner is sure of nothing
   IsOutsideChunk (kinds.Guard d) p found es = es ≡ events.Unguard r ∷ []
   IsOutsideChunk (kinds.LoadGuard n) p found es = es ≡ sweeps l r p found
+  IsOutsideChunk (kinds.BoardTake word link) p found es = es ≡ takes r word link found
+  IsOutsideChunk (kinds.BoardGive word slot) p found es = es ≡ gives r word slot found
   IsOutsideChunk _ p found es = es ≡ []
 
   -- the events of a step of a run's line, which found this word, where the run stands before this step of the line

@@ -18,7 +18,7 @@ use Rattle.machine_states.specs.epoch_core.specs.Lists.{IsListed}
 use Rattle.machine_states.specs.Sight.{Sight}
 use Rattle.machine_epochs.specs.Entries.{counts_of}
 use Rattle.machine_epochs.specs.Roles.{role_at}
-use Rattle.machine_epochs.specs.Slots.{lists_of, retiring_of, thunk_in, ShowsEntries}
+use Rattle.machine_epochs.specs.Slots.{lists_of, retiring_of, thunk_in, ShowsEntries, ShowsBoard}
 
 module _ (m : Meaning) (l : Layout) where
   -- what a runner's part has to do with the component's state, where these are the table's words
@@ -57,6 +57,7 @@ module _ (m : Meaning) (l : Layout) where
     pub sound : IsSound (counts_of m l) w
     pub listed : IsListed (counts_of m l) w (λ r. lists_of (s.part r))
     pub entries : ShowsEntries w s
+    pub board : ShowsBoard w s
     -- no log goes on behind the last word for which a descriptor has room. Where its words stand isn't said here
     pub past : (d k : ℕ) → part_words ≤ k → w.log d k ≡ 0
     -- a descriptor that isn't free again commits what its thunk's body does

@@ -1,15 +1,16 @@
 -- What the component of epochs and slots sees of slots, lists and sections.
-use Rattle.std.specs.Prelude.{ℕ, ◌≡◌, true, [], ◌∷◌, map, Option, Some, None}
+use Rattle.std.specs.Prelude.{ℕ, suc, ◌≡◌, true, [], ◌∷◌, map, Option, Some, None}
 use Rattle.machine_states.specs.body_terms.specs.declared.micro.Micro.{Micro}
 use Rattle.machine_states.specs.body_terms.specs.declared.micro.Micro.TheVariants.{RetireCommit}
 use Rattle.machine_states.specs.body_terms.specs.declared.thunk.Thunk.{Thunk}
 use Rattle.machine_states.specs.body_terms.specs.Line.{micro_at}
 use Rattle.machine_states.specs.table_words.specs.declared.spot.Spot.{Spot}
-use Rattle.machine_states.specs.table_words.specs.declared.spot.Spot.TheVariants.{Epoch, Announcement, ThunkWord}
+use Rattle.machine_states.specs.table_words.specs.declared.spot.Spot.TheVariants.{Epoch, Announcement, ThunkWord, Board}
 use Rattle.machine_states.specs.structure_laws.specs.Meaning.{Meaning}
 use Rattle.machine_states.specs.runner_parts.specs.declared.entries.Retired.{Retired}
 use Rattle.machine_states.specs.runner_parts.specs.State.{RunState, PartState}
 use Rattle.machine_states.specs.runner_steps.specs.Sections.{thunk_of, line_of}
+use Rattle.machine_states.specs.epoch_core.specs.declared.location.Location.TheVariants.{OnBoard}
 use Rattle.machine_states.specs.epoch_core.specs.State.{EpochState, Retiring, no_retire}
 use Rattle.machine_states.specs.epoch_core.specs.Lists.{Entry, Lists}
 use Rattle.machine_states.specs.Sight.{Sight}
@@ -50,3 +51,8 @@ pub record ShowsEntries (w : EpochState) (s : Sight) : Type 0 where
   pub epoch : w.epoch ≡ s.word Epoch
   pub announced : (r : ℕ) → w.announced r ≡ s.word (Announcement r)
   pub stage : (r : ℕ) → w.stage r ≡ (s.part r).stage
+
+-- a word of the board names a slot exactly where the component has that slot there
+pub record ShowsBoard (w : EpochState) (s : Sight) : Type 0 where
+  pub word : (t i : ℕ) → w.location t ≡ OnBoard i → s.word (Board i) ≡ suc t
+  pub slot : (i t : ℕ) → s.word (Board i) ≡ suc t → w.location t ≡ OnBoard i

@@ -1,5 +1,5 @@
 -- What the join of epochs and slots needs of agreement and of the structure's laws, step by step.
-use Rattle.std.specs.Prelude.{ℕ, ◌+◌, ◌-◌, ◌<◌, ◌≡◌, Bool, true, false, not, ◌==◌, ◌&&◌, ◌||◌, nat_lt, nat_le, [], ◌∷◌, ◌++◌, Option, Some, None}
+use Rattle.std.specs.Prelude.{ℕ, ◌+◌, ◌-◌, ◌^◌, ◌<◌, ◌≤◌, ◌≡◌, Bool, true, false, not, ◌==◌, ◌&&◌, ◌||◌, nat_lt, nat_le, [], ◌∷◌, ◌++◌, Option, Some, None}
 use Rattle.machine_states.specs.body_terms.specs.Word.{value_of, is_free}
 use Rattle.machine_states.specs.body_terms.specs.declared.micro.Micro.TheVariants.{EpochForRetire}
 use Rattle.machine_states.specs.body_terms.specs.declared.thunk.Thunk.{Thunk}
@@ -71,3 +71,5 @@ module _ (m : Meaning) (l : Layout) where
         → has (s.part r).descriptors.limbo d ≡ true
         → is_unnamed ((s.part r).guards.looked ++ s.word spot ∷ []) d ≡ true
         → is_sure_of (s.part q).guards d ≡ false
+    -- the number of a node slot has 32 bits
+    pub small : (counts_of m l).nodes ≤ 2 ^ 32

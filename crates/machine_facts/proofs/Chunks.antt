@@ -3,6 +3,7 @@ use Rattle.std.specs.Prelude.{◌-◌, ◌==◌, nat_lt, if◌then◌else◌}
 use Rattle.std.proofs.Common.{◌≡◌, ℕ, Bool, true, false, List, [], ◌∷◌, ◌++◌, refl, sym, ◌∙◌, subst, inl, inr, ⊎_elim, Option, Some, None}
 use Rattle.std.specs.Prelude.{◌⊎◌}
 use Rattle.machine_states.specs.body_terms.specs.declared.micro.Micro.{Micro}
+use Rattle.machine_states.specs.body_terms.specs.Word.{value_of}
 use Rattle.machine_states.specs.body_terms.specs.declared.thunk.Thunk.{Thunk}
 use Rattle.machine_states.specs.table_words.specs.declared.layout.Layout.{Layout}
 use Rattle.machine_states.specs.table_words.specs.Places.{slot_count}
@@ -193,6 +194,20 @@ module _ (m : Meaning) (l : Layout) (w : AgreementState) (r : ℕ) where
       by true = one_calm _ refl
       by false = none_calm
 
+  taken_tails : (word link found : ℕ) → AreCalm (slots.takes r word link found)
+  taken_tails word link found = by (found == link)
+    where
+      by : (b : Bool) → AreCalm (if b then epochs.TakeBoard r (value_of (link - 1)) word ∷ [] else [])
+      by true = one_calm _ refl
+      by false = none_calm
+
+  given_tails : (word slot found : ℕ) → AreCalm (slots.gives r word slot found)
+  given_tails word slot found = by (found == 0)
+    where
+      by : (b : Bool) → AreCalm (if b then epochs.GiveBoard r slot word ∷ [] else [])
+      by true = one_calm _ refl
+      by false = none_calm
+
   quiet : (heads : List agreement.Event) (vs : List epochs.Event) → Last heads → AreCalm vs → Sort m r None heads vs
   quiet heads vs lasting calm = inl (record { lasting = lasting; tails_are = calm })
 
@@ -207,6 +222,8 @@ module _ (m : Meaning) (l : Layout) (w : AgreementState) (r : ℕ) where
       (⊎_elim (λ h. subst AreCalm (sym h.1) (one_calm _ refl)) (λ h. subst AreCalm (sym h.1) (one_calm _ refl)) slots.3)
   outside_sort kinds.Advance p found heads vs chunk slots = quiet heads vs (subst Last (sym chunk) tt)
       (subst AreCalm (sym slots.4) (one_calm _ refl))
+  outside_sort (kinds.BoardTake word link) p found heads vs chunk slots = quiet heads vs (subst Last (sym chunk) tt) (subst AreCalm (sym slots) (taken_tails word link found))
+  outside_sort (kinds.BoardGive word slot) p found heads vs chunk slots = quiet heads vs (subst Last (sym chunk) tt) (subst AreCalm (sym slots) (given_tails word slot found))
   outside_sort (kinds.Guard d) p found heads vs chunk slots = quiet heads vs (subst Last (sym chunk) tt) (subst AreCalm (sym slots) (one_calm _ refl))
   outside_sort (kinds.LoadGuard n) p found heads vs chunk slots =
       let some = swept_frees p found in

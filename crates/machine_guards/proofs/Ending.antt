@@ -15,8 +15,9 @@ use Rattle.agreement_core.specs.Events as agreement
 use Rattle.machine_states.specs.structure_laws.specs.Meaning.{Meaning}
 use Rattle.machine_states.specs.runner_parts.specs.declared.event.EventKind.TheVariants as kinds
 use Rattle.machine_states.specs.runner_parts.specs.declared.entries.Published.{Published}
-use Rattle.machine_states.specs.runner_parts.specs.Lists.{cell_read}
-use Rattle.machine_states.specs.runner_parts.specs.State.{RunState, DescriptorsState, PartState, RecordsState}
+use Rattle.machine_states.specs.runner_parts.specs.declared.entries.BoardRead.{BoardRead}
+use Rattle.machine_states.specs.runner_parts.specs.Lists.{cell_read, blocks_retired}
+use Rattle.machine_states.specs.runner_parts.specs.State.{RunState, BlocksState, DescriptorsState, PartState, RecordsState}
 use Rattle.machine_states.specs.runner_parts.specs.Tests.{has}
 use Rattle.machine_states.specs.runner_steps.specs.AfterInRun.{ended_more, kept_unless, retired_if, with_run, run_over, place_of as cell_of}
 use Rattle.machine_states.specs.runner_steps.specs.Sections.{next_of}
@@ -30,7 +31,9 @@ use Rattle.machine_states.specs.guard_core.specs.Events as events
 use Rattle.machine_states.specs.guard_core.specs.Events.{Event}
 use Rattle.machine_states.specs.guard_core.specs.Moves.{retired}
 use Rattle.machine_states.specs.guard_core.specs.Update as guard_update
+use Rattle.machine_states.specs.Blockless.{blockless}
 use Rattle.machine_states.specs.Sight.{Sight}
+use Rattle.machine_states.specs.Full.{bare}
 use Rattle.machine_agreement.specs.machine_epochs.specs.Chunks as slots
 use Rattle.machine_agreement.specs.machine_epochs.specs.Entries.{counts_of}
 use Rattle.machine_agreement.specs.machine_epochs.specs.Firsts.{owner_of}
@@ -38,10 +41,11 @@ use Rattle.machine_agreement.specs.machine_epochs.specs.Joined.{IsJoinedToEpochs
 use Rattle.machine_agreement.specs.machine_epochs.proofs.OutsideAsked as asked
 use Rattle.machine_agreement.specs.Joined.{ShowsRun, IsJoinedToAgreement}
 use Rattle.machine_agreement.specs.Chunks as sections
-use Rattle.machine_guards.specs.State.{place_of, run_of, guards_of}
+use Rattle.machine_guards.specs.State.{place_of, run_of, won_of, hand_of, guards_of}
 use Rattle.machine_guards.specs.Stands.{GuardsStand}
 use Rattle.machine_guards.specs.Supplied.{GuardsAreSupplied}
 use Rattle.machine_guards.specs.Goes.{OthersGo}
+use Rattle.machine_guards.proofs.Blocks.{retired_own}
 use Rattle.machine_guards.proofs.Places.{AllAre, leaves_over}
 use Rattle.machine_guards.proofs.GuardSteps.{place_live}
 use Rattle.machine_guards.proofs.Others as others
@@ -57,16 +61,6 @@ retired_else r d (guards.Live q) other = by (q == r) refl
     by : (b : Bool) → (q == r) ≡ b → guards.Live q ≡ cond b (guards.Limbo r d) (guards.Live q)
     by true same = absurd (other (ap guards.Live (same_number q r same)))
     by false e = refl
-
-retired_own : (r d : ℕ) → retired r d (guards.Live r) ≡ guards.Limbo r d
-retired_own r d = by (r == r) (itself r)
-  where
-    itself : (i : ℕ) → (i == i) ≡ true
-    itself i = grind (arith, nat_tests)
-
-    by : (b : Bool) → b ≡ true → cond b (guards.Limbo r d) (guards.Live r) ≡ guards.Limbo r d
-    by true e = refl
-    by false e = absurd (let y = e in cc)
 
 kept_published : (o : Option Published) (d : ℕ) (y : Published) → kept_unless o d ≡ Some y → o ≡ Some y
 kept_published None d y e = e
@@ -106,23 +100,26 @@ retired_has ds (Some x) d i n all few e = by (x.descriptor == d) e
     by true e0 = last_has ds.limbo d i n all few e0
     by false e0 = all i e0
 
-module _ (m : Meaning) (l : Layout) (a a' : AgreementState) (e e' : EpochState) (s : Sight) (old : GuardsStand m l a e s)
-    (of_sections : IsJoinedToAgreement m l a s) (joined : IsJoinedToEpochs m l e s) (r : ℕ) (q : RunState) (at : (s.part r).run ≡ Some q)
-    (records : PartState → RecordsState) (f : Spot → ℕ) (left : (i : ℕ) → f (Guard i) ≡ s.word (Guard i)) (found : ℕ)
-    (supplied : GuardsAreSupplied m l a e s kinds.Release found) (go : OthersGo m l a a' e e' s r kinds.Release found)
-    (in_sections : sections.IsLineChunk m l a r kinds.Release (s.part r) q found go.heads)
-    (in_slots : slots.IsLineChunk m l r kinds.Release (s.part r) q (next_of m q) found go.tails) where
+module _ (m : Meaning) (l : Layout) (chain : ℕ → List ℕ) (a a' : AgreementState) (e e' : EpochState) (s : Sight) (old : GuardsStand m l chain a e s)
+    (of_sections : IsJoinedToAgreement m l a (bare s)) (joined : IsJoinedToEpochs m l e (bare s)) (r : ℕ) (q : RunState) (at : (s.part r).run ≡ Some q) (no_hand : q.block ≡ None)
+    (board : List BoardRead) (records : PartState → RecordsState) (f : Spot → ℕ) (left : (i : ℕ) → f (Guard i) ≡ s.word (Guard i)) (found : ℕ)
+    (supplied : GuardsAreSupplied m l chain a e s r kinds.Release found) (go : OthersGo m l a a' e e' (bare s) r kinds.Release found)
+    (in_sections : sections.IsLineChunk m l a r kinds.Release (blockless (s.part r)) q found go.heads)
+    (in_slots : slots.IsLineChunk m l r kinds.Release (blockless (s.part r)) q (next_of m q) found go.tails) where
   abbrev p : PartState
   p = s.part r
 
   abbrev w : GuardState
-  w = guards_of m l a e s
+  w = guards_of m l chain a e s
 
   abbrev d : ℕ
   d = q.descriptor
 
-  abbrev To : List Event → PartState → Type 0
-  To es p' = steps.To m l a a' e e' s old r f (record p' { records = records p' }) es
+  abbrev To : List Event → BlocksState → PartState → Type 0
+  To es blocks p' = steps.To m l chain chain a a' e e' s old r f (record p' { blocks = blocks; board = board; records = records p' }) es
+
+  empty : hand_of p.run ≡ None
+  empty = ap hand_of at ∙ no_hand
 
   -- the descriptor that a run has is the guarded one, and is one of the table's
   few : d < descriptor_count l
@@ -143,6 +140,9 @@ module _ (m : Meaning) (l : Layout) (a a' : AgreementState) (e e' : EpochState) 
   abbrev behind : Bool → PartState
   behind b = if b then run_over m l read (ended_more q) else with_run read (ended_more q)
 
+  abbrev blocks_behind : Bool → BlocksState
+  blocks_behind b = if b then blocks_retired p.blocks q.won d else p.blocks
+
   abbrev tails_of : Bool → List epochs.Event
   tails_of b = if b then slots.retires_own r p.published d else []
 
@@ -151,14 +151,14 @@ module _ (m : Meaning) (l : Layout) (a a' : AgreementState) (e e' : EpochState) 
   moved_to = (i : ℕ) → place_of l i (e'.location (slot_of (counts_of m l) i)) ≡ guard_update.upd w.descriptor d (retired r d (w.descriptor d)) i
 
   moved_none : go.tails ≡ [] → (w.descriptor d ≡ guards.Live r → ⊥) → moved_to
-  moved_none tails other i = ap (place_of l i) (others.place_kept m l e e' s joined go.tails go.enabled go.there tails i) ∙ by (i == d) refl
+  moved_none tails other i = ap (place_of l i) (others.place_kept m l e e' (bare s) joined go.tails go.enabled go.there tails i) ∙ by (i == d) refl
     where
       by : (b : Bool) → (i == d) ≡ b → w.descriptor i ≡ cond b (retired r d (w.descriptor d)) (w.descriptor i)
       by true same = ap w.descriptor (same_number i d same) ∙ retired_else r d (w.descriptor d) other
       by false e0 = refl
 
   moved_own : go.tails ≡ epochs.RetireDescriptor r d ∷ [] → w.descriptor d ≡ guards.Live r → moved_to
-  moved_own tails is i = ap (place_of l i) (others.place_retired m l e e' s joined go.tails go.enabled go.there r d tails i) ∙ by (i == d) refl
+  moved_own tails is i = ap (place_of l i) (others.place_retired m l e e' (bare s) joined go.tails go.enabled go.there r d tails i) ∙ by (i == d) refl
     where
       by : (b : Bool) → (i == d) ≡ b → place_of l i (cond b (epoch_places.Limbo r e.epoch) (e.location (slot_of (counts_of m l) i))) ≡ cond b (retired r d (w.descriptor d)) (w.descriptor i)
       by true same = ap (guards.Limbo r) (same_number i d same) ∙ (sym (retired_own r d) ∙ sym (ap (retired r d) is))
@@ -185,15 +185,15 @@ module _ (m : Meaning) (l : Layout) (a a' : AgreementState) (e e' : EpochState) 
           differs x.descriptor d other (ap (λ (z : Published). z.descriptor) (sym (same_some y.0 (sym is ∙ y.1))) ∙ y.2))
 
   -- the run goes on to the next release
-  more : go.heads ≡ agreement.Read (in_sections.0) ∷ agreement.Release r (in_sections.0) (in_sections.1) ∷ [] → go.tails ≡ [] → To [] (behind false)
-  more heads tails = steps.quiet m l a a' e e' s old r f _ left
+  more : go.heads ≡ agreement.Read (in_sections.0) ∷ agreement.Release r (in_sections.0) (in_sections.1) ∷ [] → go.tails ≡ [] → To [] (blocks_behind false) (behind false)
+  more heads tails = steps.quiet m l chain chain a a' e e' s old r f _ left (λ i. refl)
       (others.over_same m l a a' r go.heads go.leads (subst (AllAre leaves_over) (sym heads) (refl, (refl, tt))))
-      (others.place_kept m l e e' s joined go.tails go.enabled go.there tails) (ran m l p q at found)
+      (others.place_kept m l e e' (bare s) joined go.tails go.enabled go.there tails) refl empty (ran m l p q at found)
 
   -- or is over
   over : go.heads ≡ agreement.Read (in_sections.0) ∷ agreement.Release r (in_sections.0) (in_sections.1) ∷ agreement.Finish r ∷ sections.retires_own p.published d
-      → go.tails ≡ slots.retires_own r p.published d → To (events.Finish r d ∷ []) (behind true)
-  over heads tails = steps.finish m l a a' e e' s old r f _ left d (ap run_of at)
+      → go.tails ≡ slots.retires_own r p.published d → To (events.Finish r d ∷ []) (blocks_behind true) (behind true)
+  over heads tails = steps.finish m l chain chain a a' e e' s old r f _ left d (ap (λ o. blocks_retired p.blocks (won_of o) d) (sym at)) empty (λ i. refl) (ap run_of at)
       (others.over_finished m l a a' r go.heads go.leads (in_sections.0) (in_sections.1) p.published d (run_descriptor p.run at ((of_sections.tied r).run)) heads)
       (moved p.published refl tails)
       (λ y is. kept_published p.published d y is)
@@ -207,8 +207,8 @@ module _ (m : Meaning) (l : Layout) (a a' : AgreementState) (e e' : EpochState) 
           same_run : (k : RunState) → Some k ≡ Some q → k ≡ q
           same_run k e0 = cc
 
-  pub release : To (if is_end (next_of m (ended_more q)) then events.Finish r d ∷ [] else []) (behind (is_end (next_of m (ended_more q))))
+  pub release : To (if is_end (next_of m (ended_more q)) then events.Finish r d ∷ [] else []) (blocks_behind (is_end (next_of m (ended_more q)))) (behind (is_end (next_of m (ended_more q))))
   release = ⊎_elim
-      (λ h. subst (λ b. To (if b then events.Finish r d ∷ [] else []) (behind b)) (sym h.0) (more h.1 (in_slots ∙ ap tails_of h.0)))
-      (λ h. subst (λ b. To (if b then events.Finish r d ∷ [] else []) (behind b)) (sym h.0) (over h.1 (in_slots ∙ ap tails_of h.0)))
+      (λ h. subst (λ b. To (if b then events.Finish r d ∷ [] else []) (blocks_behind b) (behind b)) (sym h.0) (more h.1 (in_slots ∙ ap tails_of h.0)))
+      (λ h. subst (λ b. To (if b then events.Finish r d ∷ [] else []) (blocks_behind b) (behind b)) (sym h.0) (over h.1 (in_slots ∙ ap tails_of h.0)))
       in_sections.3

@@ -1,3 +1,5 @@
+pub mod Lists
+pub mod Blocks
 pub mod Words
 pub mod Views
 pub mod Places
@@ -5,6 +7,8 @@ pub mod Others
 pub mod Steps
 pub mod GuardSteps
 pub mod Ending
+pub mod Linking
 pub mod AllKinds
 pub mod First
 pub mod Safe
+pub mod Bare

@@ -2,6 +2,7 @@
 use Rattle.std.specs.Prelude.{◌==◌, ◌-◌, Bool, true, false, nat_lt, replicate, if◌then◌else◌}
 use Rattle.std.proofs.Common.{◌≡◌, ℕ, zero, suc, List, [], ◌∷◌, ◌++◌, refl, sym, ◌∙◌, subst, ⊎_elim, Some, None}
 use Rattle.machine_states.specs.body_terms.specs.declared.micro.Micro.{Micro}
+use Rattle.machine_states.specs.body_terms.specs.Word.{value_of}
 use Rattle.machine_states.specs.table_words.specs.declared.layout.Layout.{Layout}
 use Rattle.machine_states.specs.table_words.specs.Places.{slot_count}
 use Rattle.agreement_core.specs.State.{CellRules, AgreementState}
@@ -183,6 +184,20 @@ module _ (m : Meaning) (l : Layout) (r : ℕ) where
       by false true = tt
       by false false = (refl, tt)
 
+  taken_places : (word link found : ℕ) → AllAre leaves_descriptors (slots.takes r word link found)
+  taken_places word link found = by (found == link)
+    where
+      by : (b : Bool) → AllAre leaves_descriptors (if b then epochs.TakeBoard r (value_of (link - 1)) word ∷ [] else [])
+      by true = (refl, tt)
+      by false = tt
+
+  given_places : (word slot found : ℕ) → AllAre leaves_descriptors (slots.gives r word slot found)
+  given_places word slot found = by (found == 0)
+    where
+      by : (b : Bool) → AllAre leaves_descriptors (if b then epochs.GiveBoard r slot word ∷ [] else [])
+      by true = (refl, tt)
+      by false = tt
+
   pub outside_places : (kind : EventKind) (p : PartState) (found : ℕ) (vs : List epochs.Event) → moves_descriptors kind ≡ false
       → slots.IsOutsideChunk m l r kind p found vs → AllAre leaves_descriptors vs
   outside_places kinds.EnterLoad p found vs k chunk = one_slot _ vs refl chunk
@@ -196,6 +211,8 @@ module _ (m : Meaning) (l : Layout) (r : ℕ) where
   outside_places (kinds.PrivateLoad slot cell) p found vs k chunk = subst (AllAre leaves_descriptors) (sym chunk) (looked_places p.nodes slot cell found)
   outside_places (kinds.PrivateStore slot word number) p found vs k chunk = subst (AllAre leaves_descriptors) (sym chunk) (stored_places (slot - slot_count l m.fixed_slots) word number)
   outside_places (kinds.Hold t d) p found vs k chunk = absurd (let y = k in cc)
+  outside_places (kinds.BoardTake word link) p found vs k chunk = subst (AllAre leaves_descriptors) (sym chunk) (taken_places word link found)
+  outside_places (kinds.BoardGive word slot) p found vs k chunk = subst (AllAre leaves_descriptors) (sym chunk) (given_places word slot found)
   outside_places (kinds.Guard d) p found vs k chunk = one_slot _ vs refl chunk
   outside_places (kinds.LoadGuard n) p found vs k chunk = absurd (let y = k in cc)
   outside_places _ p found vs k chunk = no_slot vs chunk

@@ -18,8 +18,8 @@ use Rattle.machine_states.specs.runner_parts.specs.declared.event.EventKind.TheV
 use Rattle.machine_states.specs.runner_parts.specs.Lists.{descriptors_swept}
 use Rattle.machine_states.specs.runner_parts.specs.State.{RunState, DescriptorsState, PartState}
 use Rattle.machine_states.specs.runner_parts.specs.Tests.{has}
-use Rattle.machine_states.specs.Blockless.{after, after_by, ask_by}
-use Rattle.machine_states.specs.runner_steps.specs.Asks.{sizes_for}
+use Rattle.machine_states.specs.runner_steps.specs.After.{after, after_by}
+use Rattle.machine_states.specs.runner_steps.specs.Asks.{ask_by, sizes_for}
 use Rattle.machine_states.specs.runner_steps.specs.Guards.{is_last_guard}
 use Rattle.machine_states.specs.runner_steps.specs.Sections.{is_open_run}
 use Rattle.machine_states.specs.runner_steps.specs.Outside.{is_sure_of}
@@ -38,7 +38,8 @@ use Rattle.machine_states.specs.guard_core.specs.Update.{count}
 use Rattle.machine_states.specs.guard_core.specs.Update as guard_update
 use Rattle.machine_states.specs.guard_core.proofs.Enough.{leaves_enough}
 use Rattle.machine_states.specs.guard_core.proofs.Sweeping.{unheld}
-use Rattle.machine_states.specs.Sight.{Sight, Steps}
+use Rattle.machine_states.specs.Sight.{Sight}
+use Rattle.machine_states.specs.Full.{FullSteps, bare}
 use Rattle.machine_agreement.specs.machine_epochs.specs.Entries.{counts_of}
 use Rattle.machine_states.proofs.Sights.{cond_none, unless_gone}
 use Rattle.machine_states.proofs.Updates.{upd_here}
@@ -47,37 +48,12 @@ use Rattle.machine_agreement.specs.machine_epochs.proofs.OutsideAsked as asked
 use Rattle.machine_guards.specs.State.{guard_counts, place_of, guards_of}
 use Rattle.machine_guards.specs.Stands.{GuardsStand}
 use Rattle.machine_guards.specs.Sweeps.{words_read, SweepIsExact}
+use Rattle.machine_guards.proofs.Lists.{filter_has, append_has, times_has, has_times, times_filter}
 
 -- the two ways to say that a list has a number
 has_both : (xs : List ℕ) (d : ℕ) → has xs d ≡ guard_update.has xs d
 has_both [] d = refl
 has_both (x ∷ xs) d = ap (λ b. x == d || b) (has_both xs d)
-
--- what the parts of a list have
-filter_has : (test : ℕ → Bool) (xs : List ℕ) (d : ℕ) → has (filter test xs) d ≡ (has xs d && test d)
-filter_has test [] d = refl
-filter_has test (x ∷ xs) d = by (test x) refl (filter_has test xs d)
-  where
-    same_test : (b : Bool) → test x ≡ b → x ≡ d → test d ≡ b
-    same_test b is same = ap test (sym same) ∙ is
-
-    taken : (x d : ℕ) (k k' t : Bool) → (x ≡ d → t ≡ true) → k ≡ (k' && t) → (x == d || k) ≡ ((x == d || k') && t)
-    taken x d k k' t here rest = grind (arith, nat_tests)
-
-    left : (x d : ℕ) (k k' t : Bool) → (x ≡ d → t ≡ false) → k ≡ (k' && t) → k ≡ ((x == d || k') && t)
-    left x d k k' t here rest = grind (arith, nat_tests)
-
-    by : (b : Bool) → test x ≡ b → has (filter test xs) d ≡ (has xs d && test d) → has (cond b (x ∷ filter test xs) (filter test xs)) d ≡ (has (x ∷ xs) d && test d)
-    by true is rest = taken x d (has (filter test xs) d) (has xs d) (test d) (same_test true is) rest
-    by false is rest = left x d (has (filter test xs) d) (has xs d) (test d) (same_test false is) rest
-
-append_has : (xs ys : List ℕ) (d : ℕ) → has (xs ++ ys) d ≡ (has xs d || has ys d)
-append_has [] ys d = refl
-append_has (x ∷ xs) ys d = ap (λ b. x == d || b) (append_has xs ys d) ∙ together (x == d) (has xs d) (has ys d)
-  where
-    together : (a b c : Bool) → (a || (b || c)) ≡ ((a || b) || c)
-    together true b c = refl
-    together false b c = refl
 
 -- numbers that stand in a list once, and are all below this one, are at most as many as pass a test that they all pass
 
@@ -133,44 +109,6 @@ few_listed (x ∷ xs) f n once low =
         by : (b b' c : Bool) (n : ℕ) → b' ≡ b → cond b (1 + n) n ≤ cond c 1 0 → n ≤ cond (c && not b') 1 0
         by b b' c n same h = grind arith
 
--- what stands in a list
-times_has : (xs : List ℕ) (d : ℕ) → has xs d ≡ true → 1 ≤ times d xs
-times_has [] d is = absurd (let y = is in cc)
-times_has (x ∷ xs) d is = by (x == d) (has xs d) (times d xs) (times_has xs d) is
-  where
-    by : (b b' : Bool) (n : ℕ) → (b' ≡ true → 1 ≤ n) → (b || b') ≡ true → 1 ≤ cond b (1 + n) n
-    by true b' n rest is = omega arith
-    by false b' n rest is = rest is
-
-has_times : (xs : List ℕ) (d : ℕ) → (has xs d ≡ true → ⊥) → times d xs ≡ 0
-has_times [] d not_there = refl
-has_times (x ∷ xs) d not_there = by (x == d) (has xs d) (times d xs) (has_times xs d) not_there
-  where
-    by : (b b' : Bool) (n : ℕ) → ((b' ≡ true → ⊥) → n ≡ 0) → ((b || b') ≡ true → ⊥) → cond b (1 + n) n ≡ 0
-    by true b' n rest out = absurd (out refl)
-    by false b' n rest out = rest out
-
-times_filter : (test : ℕ → Bool) (xs : List ℕ) (d : ℕ) → times d (filter test xs) ≡ cond (test d) (times d xs) 0
-times_filter test [] d = by (test d)
-  where
-    by : (b : Bool) → ◌≡◌ {A = ℕ} 0 (cond b 0 0)
-    by true = refl
-    by false = refl
-times_filter test (x ∷ xs) d = by (test x) refl (times_filter test xs d)
-  where
-    same_test : (b : Bool) → test x ≡ b → x ≡ d → test d ≡ b
-    same_test b is same = ap test (sym same) ∙ is
-
-    taken : (x d n n' : ℕ) (t : Bool) → (x ≡ d → t ≡ true) → n ≡ cond t n' 0 → cond (x == d) (1 + n) n ≡ cond t (cond (x == d) (1 + n') n') 0
-    taken x d n n' t here rest = grind (arith, nat_tests)
-
-    left : (x d n n' : ℕ) (t : Bool) → (x ≡ d → t ≡ false) → n ≡ cond t n' 0 → n ≡ cond t (cond (x == d) (1 + n') n') 0
-    left x d n n' t here rest = grind (arith, nat_tests)
-
-    by : (b : Bool) → test x ≡ b → times d (filter test xs) ≡ cond (test d) (times d xs) 0 → times d (cond b (x ∷ filter test xs) (filter test xs)) ≡ cond (test d) (times d (x ∷ xs)) 0
-    by true is rest = taken x d (times d (filter test xs)) (times d xs) (test d) (same_test true is) rest
-    by false is rest = left x d (times d (filter test xs)) (times d xs) (test d) (same_test false is) rest
-
 -- where a descriptor is that stands in a limbo
 in_limbo_at : (r : ℕ) (x : places.Location) → 1 ≤ in_any_limbo r x → (y : ℕ) × (x ≡ epoch_places.Limbo r y)
 in_limbo_at r (epoch_places.Limbo q y) h = (y, ap (λ i. epoch_places.Limbo i y) (same q r h))
@@ -211,13 +149,13 @@ stays_there l r d words (epoch_places.OnBoard i) told = omega arith
 stays_there l r d words epoch_places.Live told = omega arith
 stays_there l r d words epoch_places.Fixed told = omega arith
 
-module _ (m : Meaning) (l : Layout) (rs : List Request) (a : AgreementState) (e : EpochState) (s s' : Sight) (r n : ℕ) (joined : IsJoinedToEpochs m l e s)
-    (old : GuardsStand m l a e s) (step : Steps m l rs s s' r (kinds.LoadGuard n)) (last : is_last_guard l (s.part r).guards.looked ≡ true) where
+module _ (m : Meaning) (l : Layout) (rs : List Request) (chain : ℕ → List ℕ) (a : AgreementState) (e : EpochState) (s s' : Sight) (r n : ℕ) (joined : IsJoinedToEpochs m l e (bare s))
+    (old : GuardsStand m l chain a e s) (step : FullSteps m l rs s s' r (kinds.LoadGuard n)) (last : is_last_guard l (s.part r).guards.looked ≡ true) where
   abbrev p : PartState
   p = s.part r
 
   abbrev w : GuardState
-  w = guards_of m l a e s
+  w = guards_of m l chain a e s
 
   abbrev c : Counts
   c = guard_counts l
@@ -323,9 +261,9 @@ unfree l r d (epoch_places.OnBoard i) other = refl
 unfree l r d epoch_places.Live other = refl
 unfree l r d epoch_places.Fixed other = refl
 
-pub sure_kept : (m : Meaning) (l : Layout) (a : AgreementState) (e : EpochState) (s : Sight) → IsJoinedToEpochs m l e s → GuardsStand m l a e s
+pub sure_kept : (m : Meaning) (l : Layout) (chain : ℕ → List ℕ) (a : AgreementState) (e : EpochState) (s : Sight) → IsJoinedToEpochs m l e (bare s) → GuardsStand m l chain a e s
     → (r r' d : ℕ) → is_sure_of (s.part r).guards d ≡ true → times d (s.part r').descriptors.free ≡ 0
-sure_kept m l a e s joined old r r' d is =
+sure_kept m l chain a e s joined old r r' d is =
     let sure = and_parts (s.part r).guards.sure _ is in
     let named = asked.named_is (s.part r).guards.named d sure.1 in
     joined.listed.free_descriptors r' d ((joined.tied r).numbered d named)

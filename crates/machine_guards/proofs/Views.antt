@@ -14,16 +14,18 @@ use Rattle.machine_states.specs.runner_parts.specs.declared.event.EventKind.{Eve
 use Rattle.machine_states.specs.runner_parts.specs.declared.event.EventKind.TheVariants as kinds
 use Rattle.machine_states.specs.runner_parts.specs.declared.entries.Published.{Published}
 use Rattle.machine_states.specs.runner_parts.specs.State.{RunState, PartState}
-use Rattle.machine_states.specs.Blockless.{outside_after, line_after, outside_ask}
+use Rattle.machine_states.specs.runner_steps.specs.Asks.{outside_ask}
+use Rattle.machine_states.specs.runner_steps.specs.After.{outside_after, line_after}
+use Rattle.machine_states.specs.runner_steps.specs.Blocks.{blocks_outside, blocks_in_line}
 use Rattle.machine_states.specs.runner_steps.specs.AfterInRun.{opened_more, fill_loaded, make_committed}
 use Rattle.machine_states.specs.runner_steps.specs.AfterOutside.{scan_one_after, advance_after}
 use Rattle.machine_states.specs.runner_steps.specs.Outside.{scan_one_ask, advance_ask}
 use Rattle.machine_states.specs.runner_steps.specs.Sections.{next_of}
 use Rattle.machine_states.proofs.Sights.{some_none}
 use Rattle.machine_agreement.specs.machine_epochs.proofs.OutsideAsked as asked
-use Rattle.machine_guards.specs.State.{run_of}
+use Rattle.machine_guards.specs.State.{run_of, won_of, hand_of}
 
--- what guards see of a part, with its published section and its limbo
+-- what guards see of a part but for its lists of blocks, with its published section and its limbo
 pub record View : Type 0 where
   pub entered : Bool
   pub named : Option ℕ
@@ -32,6 +34,8 @@ pub record View : Type 0 where
   pub run : Option ℕ
   pub published : Option Published
   pub limbo : List ℕ
+  pub won : List ℕ
+  pub hand : Option ℕ
 
 abbrev pub view : PartState → View
 view p = record {
@@ -42,6 +46,8 @@ view p = record {
   run = run_of p.run;
   published = p.published;
   limbo = p.descriptors.limbo;
+  won = won_of p.run;
+  hand = hand_of p.run;
 }
 
 -- the steps that may change it, outside a run
@@ -59,6 +65,12 @@ is_guarding _ = false
 abbrev pub is_release : EventKind → Bool
 is_release kinds.Release = true
 is_release _ = false
+
+-- a run links a block
+abbrev pub is_linking : EventKind → Bool
+is_linking (kinds.PrivateStore slot word number) = true
+is_linking (kinds.LinkCommit b) = true
+is_linking _ = false
 
 either_view : (b : Bool) (p p' p'' : PartState) → view p' ≡ view p → view p'' ≡ view p → view (cond b p' p'') ≡ view p
 either_view true p p' p'' e e' = e
@@ -99,8 +111,8 @@ module _ (m : Meaning) (l : Layout) (rs : List Request) (r : ℕ) (p : PartState
 
 module _ (m : Meaning) (l : Layout) (p : PartState) (q : RunState) (at : p.run ≡ Some q) (found : ℕ) where
   -- the run goes on
-  pub ran : ◌≡◌ {A = View} (record (view p) { run = Some q.descriptor }) (view p)
-  ran = ap (λ o. record (view p) { run = o }) (sym (ap run_of at))
+  pub ran : ◌≡◌ {A = View} (record (view p) { run = Some q.descriptor; won = q.won; hand = q.block }) (view p)
+  ran = ap (λ o. record (view p) { run = run_of o; won = won_of o; hand = hand_of o }) (sym at)
 
   filled : (slot : ℕ) (o : Option ℕ) → view (fill_loaded m l slot p q o found) ≡ view p
   filled slot None = ran
@@ -110,31 +122,49 @@ module _ (m : Meaning) (l : Layout) (p : PartState) (q : RunState) (at : p.run �
   made None = refl
   made (Some s) = ran
 
-  in_line : (kind : EventKind) (micro : Micro) → is_release kind ≡ false → view (line_after m l kind p q micro found) ≡ view p
-  in_line kinds.Commit micro k = ran
-  in_line (kinds.LoadCell place) micro k = ran
-  in_line kinds.ExchangeCell micro k = ran
-  in_line (kinds.PrivateLoad slot word) micro k = filled slot q.made
-  in_line (kinds.PrivateStore slot word number) micro k = ran
-  in_line kinds.MakeCommit micro k = made q.made
-  in_line kinds.RetireCommit micro k = ran
-  in_line kinds.EpochForRetire micro k = ran
-  in_line kinds.SetDone micro k = ran
-  in_line kinds.Release micro k = absurd (let y = k in cc)
-  in_line kinds.ClockLoad micro k = ran
-  in_line kinds.StampExchange micro k = either_view _ p _ _ ran refl
-  in_line kinds.ClockRaise micro k = ran
-  in_line kinds.ReplyExchange micro k = ran
-  in_line kinds.NestedLoad micro k = ran
-  in_line kinds.NestedHold micro k = ran
-  in_line kinds.OutcomeLoad micro k = ran
-  in_line kinds.OutcomeCommit micro k = ran
-  in_line _ micro k = refl
+  in_line : (kind : EventKind) (micro : Micro) → is_release kind ≡ false → is_linking kind ≡ false → view (line_after m l kind p q micro found) ≡ view p
+  in_line kinds.Commit micro k n = ran
+  in_line (kinds.LoadCell place) micro k n = ran
+  in_line kinds.ExchangeCell micro k n = ran
+  in_line (kinds.PrivateLoad slot word) micro k n = filled slot q.made
+  in_line (kinds.PrivateStore slot word number) micro k n = absurd (let y = n in cc)
+  in_line (kinds.LinkCommit b) micro k n = absurd (let y = n in cc)
+  in_line kinds.MakeCommit micro k n = made q.made
+  in_line kinds.RetireCommit micro k n = ran
+  in_line kinds.EpochForRetire micro k n = ran
+  in_line kinds.SetDone micro k n = ran
+  in_line kinds.Release micro k n = absurd (let y = k in cc)
+  in_line kinds.ClockLoad micro k n = ran
+  in_line kinds.StampExchange micro k n = either_view _ p _ _ ran refl
+  in_line kinds.ClockRaise micro k n = ran
+  in_line kinds.ReplyExchange micro k n = ran
+  in_line kinds.NestedLoad micro k n = ran
+  in_line kinds.NestedHold micro k n = ran
+  in_line kinds.OutcomeLoad micro k n = ran
+  in_line kinds.OutcomeCommit micro k n = ran
+  in_line _ micro k n = refl
 
-  pub inside : (kind : EventKind) (b : Bool) → is_release kind ≡ false → view (cond b (line_after m l kind p q (next_of m q) found) (opened_more p q found)) ≡ view p
-  inside kind b k = either_view b p _ _ (in_line kind (next_of m q) k) ran
+  pub inside : (kind : EventKind) (b : Bool) → is_release kind ≡ false → is_linking kind ≡ false → view (cond b (line_after m l kind p q (next_of m q) found) (opened_more p q found)) ≡ view p
+  inside kind b k n = either_view b p _ _ (in_line kind (next_of m q) k n) ran
+
+  -- and its runner's blocks stay
+  blocks_line : (kind : EventKind) (micro : Micro) → is_release kind ≡ false → is_linking kind ≡ false → blocks_in_line m l kind p.blocks q micro found ≡ p.blocks
+  blocks_line (kinds.PrivateStore slot word number) micro k n = absurd (let y = n in cc)
+  blocks_line (kinds.LinkCommit b) micro k n = absurd (let y = n in cc)
+  blocks_line kinds.Release micro k n = absurd (let y = k in cc)
+  blocks_line _ micro k n = refl
+
+  pub blocks_inside : (kind : EventKind) (b : Bool) → is_release kind ≡ false → is_linking kind ≡ false → cond b (blocks_in_line m l kind p.blocks q (next_of m q) found) p.blocks ≡ p.blocks
+  blocks_inside kind true k n = blocks_line kind (next_of m q) k n
+  blocks_inside kind false k n = refl
 
 -- outside a run, such a step leaves what guards see
 pub view_outside : (m : Meaning) (l : Layout) (rs : List Request) (r : ℕ) (p : PartState) (found : ℕ) (x : Spot × Access) (kind : EventKind)
     → is_guarding kind ≡ false → outside_ask m l rs r kind p ≡ Some x → view (outside_after m l kind p found) ≡ view p
 view_outside m l rs r p found x kind k e = outside m l rs r p found x kind k e
+
+pub blocks_stay : (m : Meaning) (l : Layout) (p : PartState) (found : ℕ) (kind : EventKind) → is_guarding kind ≡ false → blocks_outside m l kind p found ≡ p.blocks
+blocks_stay m l p found (kinds.LoadCell (Some place)) k = absurd (let y = k in cc)
+blocks_stay m l p found (kinds.Hold thunk d) k = absurd (let y = k in cc)
+blocks_stay m l p found (kinds.LoadGuard n) k = absurd (let y = k in cc)
+blocks_stay m l p found _ k = refl

@@ -7,8 +7,7 @@ use Rattle.machine_states.specs.table_words.specs.Places.{slot_count}
 use Rattle.machine_states.specs.structure_laws.specs.Meaning.{Meaning}
 use Rattle.machine_states.specs.runner_parts.specs.declared.event.EventKind.{EventKind}
 use Rattle.machine_states.specs.runner_parts.specs.declared.event.EventKind.TheVariants as kinds
-use Rattle.machine_states.specs.runner_parts.specs.State.{RunState, NodesState, PartState}
-use Rattle.machine_states.specs.runner_parts.specs.Lists.{test_of, one_more}
+use Rattle.machine_states.specs.runner_parts.specs.State.{RunState, PartState}
 use Rattle.machine_states.specs.runner_steps.specs.Sections.{is_open_run, next_of}
 use Rattle.agreement_core.specs.State.{AgreementState}
 use Rattle.agreement_core.specs.Events as agreement
@@ -140,12 +139,10 @@ module _ (m : Meaning) (l : Layout) (w : AgreementState) (r : ℕ) where
       subst AreCalm (sym chunk.1) (stored_calm (slot - slot_count l m.fixed_slots) word number)
   outside_calm _ p found heads plain chunk = subst AreCalm (sym chunk) none_calm
 
-  looked_steady : (n : NodesState) (slot cell found : ℕ) → AreSteady (slots.looked l r n slot cell found)
-  looked_steady n slot cell found = by (slots.is_last_look n slot cell)
-    where
-      by : (b : Bool) → AreSteady (if b then epochs.Test r slot (one_more l (test_of n.tests slot) found).worn ∷ [] else [])
-      by true = one_steady _ refl refl
-      by false = none_steady
+  -- an event that comes or not
+  if_steady : (b : Bool) (v : epochs.Event) → is_alone v ≡ true → leaves_descriptors v ≡ true → AreSteady (if b then v ∷ [] else [])
+  if_steady true v alone leaves = one_steady v alone leaves
+  if_steady false v alone leaves = none_steady
 
   stored_steady : (d word number : ℕ) → AreSteady (slots.stored r d word number)
   stored_steady d word number = by (nat_lt word 12) (word == 12)
@@ -170,9 +167,11 @@ module _ (m : Meaning) (l : Layout) (w : AgreementState) (r : ℕ) where
   outside_steady (kinds.Guard d) p found vs plain chunk = subst AreSteady (sym chunk) (one_steady _ refl refl)
   outside_steady (kinds.LoadGuard n) p found vs plain chunk = absurd (cc)
   outside_steady (kinds.Join worker) p found vs plain chunk = absurd (cc)
-  outside_steady (kinds.PrivateLoad slot cell) p found vs plain chunk = subst AreSteady (sym chunk) (looked_steady p.nodes slot cell found)
+  outside_steady (kinds.PrivateLoad slot cell) p found vs plain chunk = subst AreSteady (sym chunk) (if_steady (slots.is_last_look p.nodes slot cell) _ refl refl)
   outside_steady (kinds.PrivateStore slot word number) p found vs plain chunk =
       subst AreSteady (sym chunk) (stored_steady (slot - slot_count l m.fixed_slots) word number)
+  outside_steady (kinds.BoardTake word link) p found vs plain chunk = subst AreSteady (sym chunk) (if_steady (found == link) _ refl refl)
+  outside_steady (kinds.BoardGive word slot) p found vs plain chunk = subst AreSteady (sym chunk) (if_steady (found == 0) _ refl refl)
   outside_steady _ p found vs plain chunk = subst AreSteady (sym chunk) none_steady
 
   -- a join is no event of the components

@@ -21,7 +21,7 @@ use Rattle.machine_blocks.specs.machine_guards.specs.machine_agreement.specs.mac
 use Rattle.machine_slots.specs.Hands.{LocksAreHeld}
 use Rattle.machine_slots.proofs.Locks.{locks_held_after}
 use Rattle.machine_blocks.specs.machine_guards.specs.machine_agreement.specs.machine_scenes.specs.Kept.{IsKept}
-use Rattle.machine_blocks.specs.machine_guards.proofs.First.{stands_by_places}
+use Rattle.machine_blocks.specs.machine_guards.proofs.Bare.{places_keep}
 use Rattle.machine_invariant.specs.Whole.{Beside, states_of, IsWhole}
 
 -- what a runner comes to hold it holds
@@ -43,6 +43,7 @@ module _ (m : Meaning) (l : Layout) (w : EpochState) (r : ℕ) (slots : ℕ → 
     sound = keeps (counts_of m l) w (Reach r slots) ok old.sound;
     listed = lists_follow (counts_of m l) w (λ i. lists_of (s.part i)) (Reach r slots) ok old.sound old.listed;
     entries = record { epoch = old.entries.epoch; announced = old.entries.announced; stage = old.entries.stage };
+    board = record { word = old.board.word; slot = old.board.slot };
     past = old.past;
     roles = old.roles;
     published_once = old.published_once;
@@ -88,6 +89,6 @@ module _ (m : Meaning) (laws : Laws m) (l : Layout) (limits : IsWithinLimits l) 
       kept = kept_after;
       held = held_after;
       filled = record { filled = whole.filled.filled; looked = whole.filled.looked };
-      guards = stands_by_places m l g.agreement g.agreement g.epochs (after (counts_of m l) g.epochs (Reach i slots)) s (λ d. refl) (λ d. refl) whole.guards;
+      guards = places_keep m l g.agreement g.epochs s whole.guards g.agreement (after (counts_of m l) g.epochs (Reach i slots)) (λ d. refl) (λ d. refl);
       logs = record { same = whole.logs.same; own = whole.logs.own; logs = whole.logs.logs };
     }

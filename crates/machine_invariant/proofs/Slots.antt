@@ -164,6 +164,8 @@ module _ (m : Meaning) (l : Layout) (e : EpochState) (s : Sight) (joined : IsJoi
     apart = λ r r' t h h'. let lt = is_node r t h in
         in_lists_apart (e.location t) r r' (subst (λ n. 1 ≤ n) (among r t lt) h) (subst (λ n. 1 ≤ n) (among r' t lt) h');
     within = is_node;
+    board = joined.board.word;
+    on_board = joined.board.slot;
     made = λ r t q is made. (joined.tied r).run_made q t is made;
   }
 

@@ -1,5 +1,5 @@
 -- The whole invariant supplies what the join of epochs and slots asks for, step by step.
-use Rattle.std.specs.Prelude.{◌*◌, ◌/◌, ◌%◌, ◌-◌, ◌&&◌, ◌||◌, ◌==◌, not, Bool, true, false, nat_lt, nat_le, All, if◌then◌else◌}
+use Rattle.std.specs.Prelude.{◌*◌, ◌/◌, ◌%◌, ◌-◌, ◌^◌, ◌&&◌, ◌||◌, ◌==◌, not, Bool, true, false, nat_lt, nat_le, All, if◌then◌else◌}
 use Rattle.std.proofs.Common.{◌≡◌, ◌⊎◌, inl, inr, ℕ, suc, ◌+◌, ◌<◌, ◌≤◌, List, [], ◌∷◌, ◌++◌, length, refl, sym, ap, ◌∙◌, subst, arith}
 use Rattle.std.proofs.Common.{Option, Some, None, ⊎_elim}
 use Rattle.std.proofs.lemmas.Bool.{cases_lt}
@@ -49,7 +49,7 @@ use Rattle.machine_blocks.specs.machine_guards.specs.machine_agreement.specs.mac
 use Rattle.machine_blocks.specs.machine_guards.specs.machine_agreement.specs.machine_scenes.proofs.Kept.{step_kept}
 use Rattle.machine_blocks.specs.machine_guards.specs.machine_agreement.specs.Joined.{IsRunOf}
 use Rattle.machine_blocks.specs.machine_guards.specs.machine_agreement.proofs.RunPlaces.{run_here, before}
-use Rattle.machine_blocks.specs.machine_guards.specs.Supplied.{GuardsAreSupplied}
+use Rattle.machine_blocks.specs.machine_guards.proofs.Bare.{AreSupplied}
 use Rattle.machine_invariant.specs.Whole.{Beside, states_of, IsWhole}
 use Rattle.machine_invariant.proofs.Basics.{not_both, by_bool, both, below_test, same_test}
 use Rattle.machine_invariant.proofs.Asked.{asked_by, entered_at}
@@ -259,6 +259,10 @@ module _ (m : Meaning) (laws : Laws m) (l : Layout) (limits : IsWithinLimits l) 
       let h = outside.hold_asked m l rs r t d p x holds in
       whole.logs.same d k ∙ unlogged m l g.epochs s whole.slots r t d h.free h.prepared a whole.logs k
 
+  -- the table has few node slots
+  few_slots : c.nodes ≤ 2 ^ 32
+  few_slots = let nodes = limits.few_nodes in let runners = limits.few_runners in let fixed = laws.first.few_slots in omega (arith, nodes, runners, fixed)
+
   -- all of it, where a runner that reads a cell holds what it meets there
   pub slots_supplied : HoldsMet m l g s r kind → SweepsSafely l s r kind (s.word x.0) → supplied.EpochsAreSupplied m l g.epochs s r kind x.0
   slots_supplied met swept = record {
@@ -268,6 +272,7 @@ module _ (m : Meaning) (laws : Laws m) (l : Layout) (limits : IsWithinLimits l) 
     unlogged = λ t d k is none same. empty_log t d k is none;
     retires = λ q t k is opened ahead. retires q is t k opened ahead;
     swept = swept;
+    small = few_slots;
   }
 
   -- a read is one outside a run
@@ -288,7 +293,7 @@ module _ (m : Meaning) (laws : Laws m) (l : Layout) (limits : IsWithinLimits l) 
       (ap (λ k. ask_by m l rs r k p p.run) (sym is) ∙ (unless_gone _ p.gone _ x asked).1))
 
   -- guards are supplied as well
-  pub guards_supplied : GuardsAreSupplied m l a g.epochs s kind (s.word x.0)
+  pub guards_supplied : AreSupplied m l a g.epochs s kind (s.word x.0)
   guards_supplied = record {
     published = λ d is. let there = whole.tied.publisher d (whole.tied.is_live d is) in (g.publications.runner d, there.0, there.1, there.2);
     live = λ place d is lock value. whole.tied.live d (named_live m l g s whole place d lock (found place d is value));

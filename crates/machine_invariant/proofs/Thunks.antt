@@ -24,6 +24,7 @@ use Rattle.machine_states.proofs.Updates.{put_same}
 use Rattle.machine_blocks.specs.machine_guards.specs.machine_agreement.specs.machine_epochs.proofs.InsideAsked as inside
 use Rattle.machine_blocks.specs.machine_guards.specs.machine_agreement.specs.machine_epochs.proofs.OutsideAsked as outside
 use Rattle.machine_blocks.specs.machine_guards.specs.machine_agreement.specs.machine_epochs.proofs.ReadsAsked as reads
+use Rattle.machine_blocks.specs.machine_guards.specs.machine_agreement.specs.machine_epochs.proofs.BoardAsked as board
 
 -- the step leaves every thunk word
 pub record LeavesThunks (x : Spot × Access) : Type 0 where
@@ -118,6 +119,9 @@ module _ (m : Meaning) (l : Layout) where
     outside_leaves kinds.ReadClock is e = subst LeavesThunks (reads.read_clock_asked p x e).is (load_leaves _)
     outside_leaves kinds.ReadReply is e = subst LeavesThunks (reads.read_reply_asked m l rs r p x e).is (record { same = λ word d j. refl })
     outside_leaves kinds.ReadStamp is e = subst LeavesThunks (reads.read_stamp_asked p x e).is (record { same = λ word d j. refl })
+    outside_leaves (kinds.BoardLoad word) is e = subst LeavesThunks (board.board_load_asked l r word p x e).is (load_leaves _)
+    outside_leaves (kinds.BoardTake word link) is e = subst LeavesThunks (board.board_take_asked l r word link p x e).is (record { same = λ d j n. refl })
+    outside_leaves (kinds.BoardGive word slot) is e = subst LeavesThunks (board.board_give_asked l r word slot p x e).is (record { same = λ d j n. refl })
     outside_leaves _ is e = some_none x e
 
 -- a store into a word of another descriptor

@@ -1,9 +1,9 @@
 -- Where the slots are and who holds them, in the machine's own words.
-use Rattle.std.specs.Prelude.{◌≡◌, ℕ, ◌+◌, ◌<◌, ◌≤◌, Bool, true, false, cond, [], length, map, Some}
+use Rattle.std.specs.Prelude.{◌≡◌, ℕ, suc, ◌+◌, ◌<◌, ◌≤◌, Bool, true, false, cond, [], length, map, Some}
 use Rattle.machine_states.specs.body_terms.specs.declared.micro.Micro.TheVariants.{RetireCommit}
 use Rattle.machine_states.specs.body_terms.specs.Line.{micro_at}
 use Rattle.machine_states.specs.table_words.specs.declared.layout.Layout.{Layout}
-use Rattle.machine_states.specs.table_words.specs.declared.spot.Spot.TheVariants.{Epoch, LogWord}
+use Rattle.machine_states.specs.table_words.specs.declared.spot.Spot.TheVariants.{Epoch, LogWord, Board}
 use Rattle.machine_states.specs.table_words.specs.Places.{slot_count, descriptor_count}
 use Rattle.machine_states.specs.structure_laws.specs.Meaning.{Meaning}
 use Rattle.machine_states.specs.epoch_core.specs.declared.stage.Stage.TheVariants.{Entered}
@@ -12,7 +12,7 @@ use Rattle.machine_states.specs.runner_parts.specs.State.{RunState, NodesState}
 use Rattle.machine_states.specs.runner_steps.specs.Outside.{is_sure_of}
 use Rattle.machine_states.specs.runner_steps.specs.Sections.{line_of}
 use Rattle.machine_states.specs.epoch_core.specs.declared.location.Location.{Location}
-use Rattle.machine_states.specs.epoch_core.specs.declared.location.Location.TheVariants.{Live, Hand, Limbo}
+use Rattle.machine_states.specs.epoch_core.specs.declared.location.Location.TheVariants.{Live, Hand, Limbo, OnBoard}
 use Rattle.machine_states.specs.epoch_core.specs.State.{IsKept}
 use Rattle.machine_states.specs.epoch_core.specs.Sound.{is_for_nodes}
 use Rattle.machine_states.specs.epoch_core.specs.Lists.{times, times_retired, in_hand, in_free, in_worn, in_limbo, in_any_limbo}
@@ -46,8 +46,8 @@ is_used m l location d = is_out (location (node_count m l + d))
 
 -- `location` says where each slot is
 module _ (m : Meaning) (l : Layout) (location : ℕ → Location) (s : Sight) where
-  -- each node slot stands once in the list that its location names and in no other; a fixed or a live one
-  -- stands in none
+  -- each node slot stands once in the list that its location names and in no other; a fixed one, a live one and one
+  -- on the board stand in none
   pub record NodesStand : Type 0 where
     pub hand : (r t : ℕ) → t < node_count m l → times t (s.part r).nodes.hand ≡ in_hand r (location t)
     pub free : (r t : ℕ) → t < node_count m l → times t (s.part r).nodes.free ≡ in_free r (location t)
@@ -58,6 +58,9 @@ module _ (m : Meaning) (l : Layout) (location : ℕ → Location) (s : Sight) wh
     pub once : (r t : ℕ) → times_among (s.part r).nodes t ≤ 1
     pub apart : (r r' t : ℕ) → 1 ≤ times_among (s.part r).nodes t → 1 ≤ times_among (s.part r').nodes t → r ≡ r'
     pub within : (r t : ℕ) → 1 ≤ times_among (s.part r).nodes t → t < node_count m l
+    -- a word of the board names a slot exactly where that slot is there
+    pub board : (t i : ℕ) → location t ≡ OnBoard i → s.word (Board i) ≡ suc t
+    pub on_board : (i t : ℕ) → s.word (Board i) ≡ suc t → location t ≡ OnBoard i
     -- the slot that a Make fills is in the runner's hand
     pub made : (r t : ℕ) (q : RunState) → (s.part r).run ≡ Some q → q.made ≡ Some t → location t ≡ Hand r
 

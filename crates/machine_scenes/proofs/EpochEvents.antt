@@ -264,6 +264,8 @@ module _ (m : Meaning) (laws : Laws m) (layout : Layout) (limits : IsWithinLimit
     alone_lawful (events.Advance r x n) alone ok met publishers = advance_lawful r x n ok met publishers
     alone_lawful (events.Test r s worn) alone ok met publishers = moved s (tested worn r) (λ low. hand_free (e.location s) r worn ok)
     alone_lawful (events.TakeSlot r s) alone ok met publishers = moved s (locations.Hand r) (λ low. sym (ap status_at ok.0))
+    alone_lawful (events.GiveBoard r s i) alone ok met publishers = moved s (locations.OnBoard i) (λ low. sym (ap status_at ok.0))
+    alone_lawful (events.TakeBoard r s i) alone ok met publishers = moved s (locations.Free r) (λ low. sym (ap status_at ok))
     alone_lawful (events.MakeCommit r d k s worn) alone ok met publishers = absurd (cc)
     alone_lawful (events.RetireEpoch r d k s) alone ok met publishers = absurd (cc)
     alone_lawful (events.RetireCommit r) alone ok met publishers = absurd (cc)
@@ -297,6 +299,10 @@ module _ (m : Meaning) (laws : Laws m) (layout : Layout) (limits : IsWithinLimit
         (ap (λ (f : ℕ → Status). f t) (status_same c e.location s (tested worn r) (λ low. hand_free (e.location s) r worn ok)))
     alone_status (events.TakeSlot r s) alone ok t = inl
         (ap (λ (f : ℕ → Status). f t) (status_same c e.location s (locations.Hand r) (λ low. sym (ap status_at ok.0))))
+    alone_status (events.GiveBoard r s i) alone ok t = inl
+        (ap (λ (f : ℕ → Status). f t) (status_same c e.location s (locations.OnBoard i) (λ low. sym (ap status_at ok.0))))
+    alone_status (events.TakeBoard r s i) alone ok t = inl
+        (ap (λ (f : ℕ → Status). f t) (status_same c e.location s (locations.Free r) (λ low. sym (ap status_at ok))))
     alone_status (events.MakeCommit r d k s worn) alone ok t = absurd (cc)
     alone_status (events.RetireEpoch r d k s) alone ok t = absurd (cc)
     alone_status (events.RetireCommit r) alone ok t = absurd (cc)

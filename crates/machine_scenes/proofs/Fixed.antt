@@ -71,6 +71,8 @@ module _ (c : Counts) (e : EpochState) where
   event_fixed (events.Advance r x n) t is = collected_fixed (nat_lt t c.nodes) r (x + 1) (e.location t) is
   event_fixed (events.Test r s worn) t is = changed s (tested worn r) t (λ fixed. absurd (tested_unfixed worn r fixed)) is
   event_fixed (events.TakeSlot r s) t is = changed s (Hand r) t (λ fixed. absurd (cc)) is
+  event_fixed (events.GiveBoard r s i) t is = changed s (OnBoard i) t (λ fixed. absurd (cc)) is
+  event_fixed (events.TakeBoard r s i) t is = changed s (Free r) t (λ fixed. absurd (cc)) is
   event_fixed (events.MakeCommit r d k s worn) t is = changed s (made (e.log d k) r worn) t
       (λ fixed. absurd (made_unfixed (e.log d k) r worn fixed)) is
   event_fixed (events.RetireCommit r) t is = changed ((e.retire r).slot)

@@ -84,6 +84,8 @@ module _ (c : Counts) (e : EpochState) (old : IsSound c e) where
     recent_after (events.Advance r x n) ok = idle r stages.Idle refl
     recent_after (events.Test r s worn) ok = recent
     recent_after (events.TakeSlot r s) ok = recent
+    recent_after (events.GiveBoard r s i) ok = recent
+    recent_after (events.TakeBoard r s i) ok = recent
     recent_after (events.MakeCommit r d k s worn) ok = recent
     recent_after (events.RetireEpoch r d k s) ok = retire_changes r
         (record { loaded = true; descriptor = d; index = k; slot = s; epoch = e.epoch })
@@ -115,6 +117,8 @@ module _ (c : Counts) (e : EpochState) (old : IsSound c e) where
   was_pending (events.Advance r x n) alone ok i pending = pending
   was_pending (events.Test r s worn) alone ok i pending = pending
   was_pending (events.TakeSlot r s) alone ok i pending = pending
+  was_pending (events.GiveBoard r s n) alone ok i pending = pending
+  was_pending (events.TakeBoard r s n) alone ok i pending = pending
   was_pending (events.MakeCommit r d k s worn) alone ok i pending = absurd (cc)
   was_pending (events.RetireEpoch r d k s) alone ok i pending = absurd (cc)
   was_pending (events.RetireCommit r) alone ok i pending = absurd (cc)

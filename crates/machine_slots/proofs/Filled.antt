@@ -1,6 +1,6 @@
 -- The cells of the slot that a Make fills hold what it has stored there.
 use Rattle.std.proofs.Common.{◌≡◌, ℕ, suc, ◌<◌, true, refl, sym, ap, ◌∙◌, subst, ⊎_elim, arith}
-use Rattle.std.specs.Prelude.{◌⊎◌, Option, Some, None}
+use Rattle.std.specs.Prelude.{Option, Some, None}
 use Rattle.epoch_core.specs.small_lemmas.proofs.Numbers.{last_or_before as last_or}
 use Rattle.agreement_core.specs.body_terms.specs.Update.{upd}
 use Rattle.agreement_core.specs.body_terms.specs.Word.{value_of}

@@ -1,6 +1,6 @@
 -- What a run has filled and looked at of its Make's slot, over each event but a private load or store of its own.
 use Rattle.std.proofs.Common.{◌≡◌, ◌≢◌, ℕ, suc, ◌<◌, Bool, true, false, refl, sym, ap, ◌∙◌, subst, ⊎_elim, arith}
-use Rattle.std.specs.Prelude.{◌⊎◌, Option, Some}
+use Rattle.std.specs.Prelude.{Option, Some}
 use Rattle.std.proofs.lemmas.Bool.{both_ways}
 use Rattle.epoch_core.specs.small_lemmas.proofs.Numbers.{last_or_before as last_or}
 use Rattle.agreement_core.specs.body_terms.specs.Update.{upd}

@@ -1,5 +1,4 @@
--- What a runner asks and its part after an event are the same without blocks and without the board, since the table has no
--- block, and no event on the board is enabled.
+-- What a runner asks and its part after an event are the same without blocks, since the table has no block.
 use Rattle.std.specs.Prelude.{◌==◌, ◌&&◌, ◌||◌, ◌/◌, ◌%◌, not, nat_lt, nat_le, cond, slice_index, Bool, true, false, if◌then◌else◌}
 use Rattle.std.proofs.Common.{◌≡◌, ◌⊎◌, inl, inr, ℕ, zero, suc, ◌+◌, ◌-◌, ◌*◌, ◌<◌, ◌≤◌, List, [], ◌∷◌, ◌++◌, length, refl, sym, ap, ◌∙◌, subst, ⊎_elim, arith, Option, Some, None}
 use Rattle.std.proofs.lemmas.Bool.Decides.{nat_tests}
@@ -263,7 +262,7 @@ when_is : (b : Bool) (a : Spot) (access : Access) (x : Spot × Access) → when 
 when_is true a access x e = some_same (a, access) x e
 when_is false a access x e = some_none x e
 
--- a part without its blocks and its loads of the board asks the same
+-- a part without its blocks asks the same
 module _ (m : Meaning) (l : Layout) (rs : List Request) (r : ℕ) (p : PartState) where
   outside_bare : (kind : EventKind) → outside_ask m l rs r kind (blockless p) ≡ outside_ask m l rs r kind p
   outside_bare (kinds.LoadCell None) = refl
@@ -397,8 +396,6 @@ module _ (m : Meaning) (l : Layout) (rs : List Request) (r : ℕ) (p : PartState
   outside_after_bare (kinds.Hold thunk d) fit e = either (found == thunk.word) _ _ _ _ (same _ _ refl) (same _ _ refl)
   outside_after_bare (kinds.LoadThunk None) fit e = same _ _ refl
   outside_after_bare (kinds.LoadThunk (Some d)) fit e = same _ _ refl
-  outside_after_bare (kinds.BoardTake word link) fit e = some_none x e
-  outside_after_bare (kinds.BoardGive word slot) fit e = some_none x e
   outside_after_bare _ fit e = same _ _ refl
 
   by_after_bare : (kind : EventKind) (o : Option RunState) → Fits (sizes_for m l rs) x.0 → ask_by m l rs r kind p o ≡ Some x
@@ -411,7 +408,7 @@ module _ (m : Meaning) (l : Layout) (rs : List Request) (r : ℕ) (p : PartState
   after_bare kind e =
       let fit = fits_of (sizes_for m l rs) p.gone (ask_by m l rs r kind p p.run) x e in
       let asked = asked_of (sizes_for m l rs) p.gone (ask_by m l rs r kind p p.run) x e in
-      ap (λ (y : PartState). record y { records = noted l r kind x.0 x.1 found y.records }) ((by_after_bare kind p.run fit asked).is)
+      ap (λ (y : PartState). record y { board = board_after kind p.board found; records = noted l r kind x.0 x.1 found y.records }) ((by_after_bare kind p.run fit asked).is)
 
 -- a part that has none of them goes on without
 module _ (m : Meaning) (l : Layout) (rs : List Request) (r : ℕ) (p : PartState) (has_none : HasNoBlocks p) (found : ℕ) (x : Spot × Access) where
@@ -452,34 +449,14 @@ module _ (m : Meaning) (l : Layout) (rs : List Request) (r : ℕ) (p : PartState
   blocks_none kind None won e = outside_none kind
   blocks_none kind (Some q) won e = in_run_none q (won q refl) kind (is_open_run q) e
 
-  board_none : (kind : EventKind) (o : Option RunState) → ask_by m l rs r kind p o ≡ Some x → board_after kind p.board found ≡ []
-  board_none kind (Some q) e = in_run q kind (is_open_run q) e
-    where
-      in_run : (q : RunState) (kind : EventKind) (b : Bool)
-          → (if b then line_ask m l kind p.nodes.free q (next_of m q) else opening_ask kind q) ≡ Some x → board_after kind p.board found ≡ []
-      in_run q kinds.Idle b e = refl
-      in_run q (kinds.BoardLoad word) true e = some_none x e
-      in_run q (kinds.BoardLoad word) false e = some_none x e
-      in_run q (kinds.BoardTake word link) true e = some_none x e
-      in_run q (kinds.BoardTake word link) false e = some_none x e
-      in_run q (kinds.BoardGive word slot) true e = some_none x e
-      in_run q (kinds.BoardGive word slot) false e = some_none x e
-      in_run q _ b e = has_none.board
-  board_none kinds.Idle None e = refl
-  board_none (kinds.BoardLoad word) None e = some_none x e
-  board_none (kinds.BoardTake word link) None e = some_none x e
-  board_none (kinds.BoardGive word slot) None e = some_none x e
-  board_none _ None e = has_none.board
-
   -- the part after an enabled event is that without blocks
   pub after_same : (kind : EventKind) → asks m l rs r kind p ≡ Some x → alls.after m l r kind x.0 x.1 p found ≡ after m l r kind x.0 x.1 p found
   after_same kind e =
       let asked = asked_of (sizes_for m l rs) p.gone (ask_by m l rs r kind p p.run) x e in
       let blocks = blocks_none kind p.run has_none.won asked in
-      let board = board_none kind p.run asked in
-      (λ i. record (alls.after m l r kind x.0 x.1 p found) { blocks = blocks i; board = board i })
+      (λ i. record (alls.after m l r kind x.0 x.1 p found) { blocks = blocks i })
       ∙ (after_bare m l rs r p found x kind e
-      ∙ (λ i. after m l r kind x.0 x.1 (record p { blocks = sym has_none.blocks i; board = sym has_none.board i }) found))
+      ∙ (λ i. after m l r kind x.0 x.1 (record p { blocks = sym has_none.blocks i }) found))
 
 -- so what an event asks doesn't hang on these
 pub asks_whole : (m : Meaning) (l : Layout) (rs : List Request) (r : ℕ) (kind : EventKind) (p : PartState)

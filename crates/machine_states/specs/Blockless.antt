@@ -1,8 +1,7 @@
--- What a runner asks, and its part after an event, as long as no table has a block and no join has the board. No word
--- of a block is a word of the table then, so each log stands in its descriptor, no run links a block, and nobody meets
--- a word of one; and no event on the board is enabled. The definitions here say that without blocks and without the
--- board. They ask the same, and lead to the same part but for its blocks and its loads of the board (`Sight`). This
--- goes once the components' joins have both.
+-- What a runner asks, and its part after an event, as long as no table has a block. No word of a block is a word of the
+-- table then, so each log stands in its descriptor, no run links a block, and nobody meets a word of one. The
+-- definitions here say that without blocks. They ask the same, and lead to the same part but for its blocks (`Sight`).
+-- This goes once the components' joins have blocks.
 use Rattle.std.specs.Prelude.{ℕ, ◌≡◌, ◌+◌, ◌-◌, ◌||◌, ◌&&◌, nat_lt, nat_le, List, [], Option, Some, None, if◌then◌else◌}
 use Rattle.runner_steps.specs.map_history.specs.declared.op.Request.{Request}
 use Rattle.runner_steps.specs.body_terms.specs.Memory.{cell_of}
@@ -28,6 +27,7 @@ use Rattle.runner_steps.specs.Asks.{opening_ask, fitting, sizes_for}
 use Rattle.runner_steps.specs.AfterInRun.{with_run, filled, opened_more}
 use Rattle.runner_steps.specs.After as tables_after
 use Rattle.runner_steps.specs.After.{noted}
+use Rattle.runner_steps.specs.Board.{board_after}
 
 -- one word is agreed on: this proposal, where the log word is still empty
 abbrev pub commit_to : RunState → ℕ → ℕ → Ask
@@ -111,8 +111,6 @@ private_store_after m l slot word number p =
 abbrev pub outside_after : Meaning → Layout → EventKind → PartState → ℕ → PartState
 outside_after m l (kinds.PrivateLoad slot word) p found = private_load_after m l slot word p found
 outside_after m l (kinds.PrivateStore slot word number) p found = private_store_after m l slot word number p
-outside_after m l (kinds.BoardTake word link) p found = p
-outside_after m l (kinds.BoardGive word slot) p found = p
 outside_after m l kind p found = tables_after.outside_after m l kind p found
 
 abbrev pub fill_stored : Meaning → Layout → ℕ → PartState → RunState → PartState
@@ -138,17 +136,20 @@ stepped m l kind p found = after_by m l kind p p.run found
 -- the stepping runner's part after the event, which met this spot and found this word
 abbrev pub after : Meaning → Layout → ℕ → EventKind → Spot → Access → PartState → ℕ → PartState
 after m l r kind spot access p found =
-    let p' = stepped m l kind p found in record p' { records = noted l r kind spot access found p'.records }
+    let p' = stepped m l kind p found in
+    record p' {
+      board = board_after kind p.board found;
+      records = noted l r kind spot access found p'.records;
+    }
 
 abbrev pub no_blocks : BlocksState
 no_blocks = record { free = []; limbo = [] }
 
--- a part without its blocks and its loads of the board
+-- a part without its blocks
 abbrev pub blockless : PartState → PartState
-blockless p = record p { blocks = no_blocks; board = [] }
+blockless p = record p { blocks = no_blocks }
 
 -- a part that has none of them, and whose run has linked none
 pub record HasNoBlocks (p : PartState) : Type 0 where
   pub blocks : p.blocks ≡ no_blocks
-  pub board : p.board ≡ []
   pub won : (q : RunState) → p.run ≡ Some q → q.won ≡ []

@@ -3,6 +3,7 @@ pub mod First
 pub mod Schedules
 pub mod Blockless
 pub mod Sight
+pub mod Full
 pub mod Reached
 -- Passed on to the layers above, so that they needn't name these libraries themselves.
 pub use Rattle.runner_steps.specs.runner_parts.specs.guard_core

@@ -1,5 +1,5 @@
--- A state without its lists: the word at each spot, and each runner's part by its number, without its blocks and its
--- loads of the board as long as the components' joins have none.
+-- A state without its lists: the word at each spot, and each runner's part by its number, without its blocks as long as
+-- the components' joins have none.
 use Rattle.std.specs.Prelude.{◌≡◌, ℕ, ◌+◌, ◌≤◌, List, [], length, Option, Some, None, slice_get}
 use Rattle.runner_steps.specs.map_history.specs.declared.op.Request.{Request}
 use Rattle.runner_steps.specs.table_words.specs.declared.layout.Layout.{Layout}

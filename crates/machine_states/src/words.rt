@@ -36,7 +36,8 @@ fn cells_at(sizes: Sizes) -> usize
 
 /// The words before the cells: all are 0, but for the epoch. There is room for all words of the table.
 fn words_before_cells(alloc: Global, sizes: Sizes) -> Result<Vec<u64>, AllocError>
-    ensures words { IfOk result (λ v. v.items ≡ slice_set (replicate (cells_at sizes) 0) (address sizes spots.Epoch) 1) }
+    ensures words { IfOk result (λ v. v.items
+        ≡ slice_set (replicate (cells_at sizes) 0) (address sizes spots.Epoch) 1) }
     ensures room { IfOk result (λ v. size sizes ≤ vec_capacity v) }
 {
     let mut words = Vec::with_capacity(alloc, sizes.words())?;

@@ -286,7 +286,7 @@ module _ (m : Meaning) (laws : Laws m) (l : Layout) (limits : IsWithinLimits l) 
           let low = own_node m laws l limits g s whole r slot (inr hand) in
           let word : q.word ≡ s.word (spots.Cell (cell_of m.fixed_cells slot cell)) = sym (here m l g s whole r q is).word
           ∙ (looked.2 ∙ whole.sections.words.cells (cell_of m.fixed_cells slot cell)) in
-          let make = (known.rooms r).made q slot is made in
+          let make = (known.rooms.own r).made q slot is made in
           let next : make.next ≡ cell = some_same make.next cell (sym make.at ∙ ap filling at_store) in
           let room : version_of q.word < l.version_max = subst (λ n. version_of n < l.version_max) (sym word) (make.room cell (omega arith) five) in
           let same : slot_in q.made ≡ slot = ap slot_in made in record {

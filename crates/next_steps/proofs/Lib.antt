@@ -1,4 +1,4 @@
-mod Touched
+pub mod Touched
 mod Looks
 pub mod Parts
 pub mod Runs

@@ -39,7 +39,7 @@ first_no xs ys t e = by (has xs t) refl
     by true one = not_both (has_append xs ys t ∙ ap (λ b. b || has ys t) one) e
     by false one = refl
 
-one_has : (a t : ℕ) → has (a ∷ []) t ≡ true → t ≡ a
+pub one_has : (a t : ℕ) → has (a ∷ []) t ≡ true → t ≡ a
 one_has a t e = grind (arith, nat_tests)
 
 module _ (m : Meaning) (l : Layout) (word : Spot → ℕ) where

@@ -1,11 +1,12 @@
--- Each step leaves room in the cells of the runners' slots.
-use Rattle.std.specs.Prelude.{◌==◌, ◌||◌, ◌&&◌, ◌*◌, ◌-◌, not, nat_lt, nat_le, cond, Bool, true, false, if◌then◌else◌}
-use Rattle.std.proofs.Common.{◌≡◌, ◌≢◌, ℕ, suc, ◌+◌, ◌<◌, ◌≤◌, List, length, inl, inr, ⊎_elim, sym, refl, ap, ◌∙◌, subst, arith, Option, Some, None}
+-- Each step leaves room in the cells of the runners' slots, and of those on the board.
+use Rattle.std.specs.Prelude.{◌==◌, ◌||◌, ◌&&◌, ◌*◌, ◌-◌, ◌^◌, ◌⊎◌, not, nat_lt, nat_le, cond, Bool, true, false, if◌then◌else◌}
+use Rattle.std.proofs.Common.{◌≡◌, ◌≢◌, ℕ, suc, ◌+◌, ◌<◌, ◌≤◌, List, [], ◌∷◌, ◌++◌, length, inl, inr, ⊎_elim, sym, refl, ap, ◌∙◌, subst, arith, Option, Some, None}
 use Rattle.std.proofs.lemmas.Bool.Decides.{nat_tests}
 use Rattle.std.proofs.lemmas.Bool.{cases_eq}
+use Rattle.machine_states.specs.epoch_core.specs.small_lemmas.proofs.Numbers.{tested_equal as same_number}
 use Rattle.machine_states.specs.map_history.specs.declared.op.Request.{Request}
 use Rattle.machine_states.specs.body_terms.specs.Memory.{cell_of}
-use Rattle.machine_states.specs.body_terms.specs.Word.{version_of}
+use Rattle.machine_states.specs.body_terms.specs.Word.{value_of, version_of}
 use Rattle.machine_states.specs.body_terms.specs.Line.{is_check, line, micro_at}
 use Rattle.machine_states.specs.body_terms.specs.Run.{settled, written_once}
 use Rattle.machine_states.specs.body_terms.specs.declared.micro.Micro.{Micro}
@@ -30,10 +31,11 @@ use Rattle.machine_states.specs.runner_parts.specs.declared.event.EventKind.{Eve
 use Rattle.machine_states.specs.runner_parts.specs.declared.event.EventKind.TheVariants as kinds
 use Rattle.machine_states.specs.runner_parts.specs.State.{RunState, PartState}
 use Rattle.machine_states.specs.runner_parts.specs.Tests.{has, is_resting}
-use Rattle.machine_states.specs.runner_parts.specs.Lists.{test_of, slot_made, slot_back, nodes_looked, descriptor_stored}
+use Rattle.machine_states.specs.runner_parts.specs.Lists.{test_of, slot_made, slot_back, slot_given, slot_drawn, nodes_looked, descriptor_stored}
 use Rattle.machine_states.specs.runner_steps.specs.Sections.{thunk_of, is_open_run, line_of, next_of, setting_of}
 use Rattle.machine_states.specs.runner_steps.specs.InRun.{is_slot, make_slot}
 use Rattle.machine_states.specs.runner_steps.specs.Outside.{when, descriptor_spot}
+use Rattle.machine_states.specs.runner_steps.specs.Board.{free_if, board_take_ask, board_give_ask, board_take_after, board_give_after}
 use Rattle.machine_states.specs.Blockless.{private_load_ask, ask_by, line_ask, outside_ask, outside_after, fill_stored, after_by}
 use Rattle.machine_states.specs.epoch_core.specs.State.{last_epoch}
 use Rattle.machine_states.specs.runner_steps.specs.Asks.{opening_ask}
@@ -48,6 +50,7 @@ use Rattle.machine_states.proofs.Steps.{some_same}
 use Rattle.machine_invariant.specs.machine_blocks.specs.machine_guards.specs.machine_agreement.specs.machine_epochs.specs.Entries.{counts_of}
 use Rattle.machine_invariant.specs.machine_blocks.specs.machine_guards.specs.machine_agreement.specs.machine_epochs.proofs.InsideAsked as asked
 use Rattle.machine_invariant.specs.machine_blocks.specs.machine_guards.specs.machine_agreement.specs.machine_epochs.proofs.OutsideAsked.{private_store_asked}
+use Rattle.machine_invariant.specs.machine_blocks.specs.machine_guards.specs.machine_agreement.specs.machine_epochs.proofs.BoardAsked.{board_take_asked, board_give_asked}
 use Rattle.machine_invariant.specs.machine_blocks.specs.machine_guards.specs.machine_agreement.specs.machine_epochs.proofs.Places.{free_node, hand_node}
 use Rattle.machine_invariant.specs.machine_blocks.specs.machine_guards.specs.machine_agreement.specs.machine_epochs.proofs.RunPlaces.{next_in_line, open_run}
 use Rattle.machine_invariant.specs.machine_blocks.specs.machine_guards.specs.machine_agreement.proofs.LineAsked.{fill_load_asked, fill_store_asked, make_commit_asked}
@@ -55,14 +58,16 @@ use Rattle.machine_invariant.specs.After.{AreAllowed}
 use Rattle.machine_invariant.specs.Whole.{Beside, IsWhole}
 use Rattle.machine_invariant.proofs.Parts.{is_making, inside_made, outside_made}
 use Rattle.machine_invariant.proofs.Thunks.{is_private_store}
-use Rattle.next_steps.specs.Rooms.{filling, CellHasRoom, MakeHasRoom, SlotsHaveRoom}
+use Rattle.next_steps.specs.Rooms.{filling, CellHasRoom, MakeHasRoom, SlotsHaveRoom, BoardHasRoom, RoomsStand}
 use Rattle.machine_invariant.proofs.Keeping.{IsStep}
 use Rattle.next_steps.proofs.Parts.{each_part}
-use Rattle.next_steps.proofs.Tests.{last_listed}
+use Rattle.next_steps.proofs.Tests.{last_listed, either_has, without_has}
 use Rattle.next_steps.proofs.Fits.{unlisted}
-use Rattle.next_steps.proofs.Standing.{IsOwn, own_node, cell_stands}
+use Rattle.next_steps.proofs.Runs.{out_of_run}
+use Rattle.next_steps.proofs.Touched.{asked_may, board_same}
+use Rattle.next_steps.proofs.Standing.{IsOwn, own_node, board_node, cell_stands}
 use Rattle.next_steps.proofs.Filling.{store_next, rests_behind, fills_slot, in_no_make}
-use Rattle.next_steps.proofs.RoomParts.{SameNodes, same_nodes, MakesNone, kept_room, collected_room, back_room, looked_room, taken_room, going_room, made_room}
+use Rattle.next_steps.proofs.RoomParts.{SameNodes, same_nodes, MakesNone, kept_room, collected_room, back_room, looked_room, taken_room, going_room, made_room, one_has}
 use Rattle.next_steps.proofs.SlotFrames.{inside_slots, outside_slots}
 use Rattle.machine_invariant.proofs.Basics.{not_both}
 
@@ -141,7 +146,7 @@ module _ (m : Meaning) (laws : Laws m) (l : Layout) (limits : IsWithinLimits l) 
     -- no step but a private store changes the words of the runner's slots
     same_words : (kind : EventKind) → IsStep m l rs s s' r kind → (is_private_store m l kind ≡ true → ⊥) → SlotsHaveRoom m l s'.word p
     same_words kind st other = words_room st.beside st.whole r
-        (λ t j own five. cell_stands m laws l limits rs allowed s s' r r t j own five kind st (λ is. absurd (other is))) old
+        (λ t j own five. cell_stands m laws l limits rs allowed s s' r t j (inl (r, own)) five kind st (λ is. absurd (other is))) old
 
     module _ (q : RunState) (is : p.run ≡ Some q) where
       -- a run before a step that is none of a Make is in no Make
@@ -315,7 +320,7 @@ module _ (m : Meaning) (laws : Laws m) (l : Layout) (limits : IsWithinLimits l) 
 
           stands_else : (t j : ℕ) → IsOwn p t → j < 5 → (t ≡ slot → j ≡ cell → ⊥)
               → s'.word (spots.Cell (cell_of m.fixed_cells t j)) ≡ s.word (spots.Cell (cell_of m.fixed_cells t j))
-          stands_else t j own five apart = cell_stands m laws l limits rs allowed s s' r r t j own five store st
+          stands_else t j own five apart = cell_stands m laws l limits rs allowed s s' r t j (inl (r, own)) five store st
               (λ z met. let same : cell_of m.fixed_cells slot cell ≡ cell_of m.fixed_cells t j = cell_place (ap (λ (y : Spot × Access). y.0) stored.asks_it ∙ met) in
               let at = cell_apart m.fixed_cells slot t cell j low_cell five same in absurd (apart (sym at.0) (sym at.1)))
             where
@@ -425,14 +430,12 @@ module _ (m : Meaning) (laws : Laws m) (l : Layout) (limits : IsWithinLimits l) 
       by false false e = let z = e in cc
 
   module _ (old : SlotsHaveRoom m l s.word p) where
-    -- of which runner whatever slot of its hand or free list that is, it is no cell of another runner's
-    store_apart : (i t j : ℕ) → i ≢ r → IsOwn (s.part i) t → j < 5 → (kind : EventKind) (st : IsStep m l rs s s' r kind)
+    -- it is no cell of a slot that isn't in the runner's hand
+    store_apart : (t j : ℕ) → j < 5 → (kind : EventKind) (st : IsStep m l rs s s' r kind) → t < (counts_of m l).nodes
+        → st.beside.epochs.location t ≢ locations.Hand r
         → is_private_store m l kind ≡ true → st.step.ask.0 ≢ spots.Cell (cell_of m.fixed_cells t j)
-    store_apart i t j ne own five (kinds.PrivateStore slot cell number) st store met = by p.run refl (unless_gone _ p.gone _ st.step.ask st.step.asked).1
+    store_apart t j five (kinds.PrivateStore slot cell number) st node ne is met = by p.run refl (unless_gone _ p.gone _ st.step.ask st.step.asked).1
       where
-        hand_same : (a b : ℕ) → locations.Hand a ≡ locations.Hand b → a ≡ b
-        hand_same a b e = cc
-
         by : (o : Option RunState) → p.run ≡ o → ask_by m l rs r (kinds.PrivateStore slot cell number) p o ≡ Some st.step.ask → ⊥
         by None none e = let h = private_store_asked m l slot cell number p st.step.ask e in
             descriptor_no_cell _ cell _ (ap (λ (y : Spot × Access). y.0) h.1 ∙ met)
@@ -450,19 +453,43 @@ module _ (m : Meaning) (laws : Laws m) (l : Layout) (limits : IsWithinLimits l) 
                 (ap (λ (micro : Micro). line_ask m l (kinds.PrivateStore slot cell number) p.nodes.free q micro) (sym x.next) ∙ a)).0 in
                 let same : slot ≡ t = (cell_apart old q is opened slot cell number st a m.fixed_cells slot t cell j low five place).0 in
                 let hand = hand old q is opened slot cell number st a in
-                let node = own_node m laws l limits st.beside s st.whole i t own in
-                ⊎_elim
-                (λ free. hand_unfree m l st.beside s st.whole r i t node (ap (has p.nodes.hand) (sym same) ∙ hand) free)
-                (λ held. ne (hand_same i r (sym (hand_node m l st.beside.epochs s st.whole.slots i t node held)
-                ∙ hand_node m l st.beside.epochs s st.whole.slots r t node (ap (has p.nodes.hand) (sym same) ∙ hand))))
-                own
-    store_apart i t j ne own five kind st store met = not_both store refl
+                ne (hand_node m l st.beside.epochs s st.whole.slots r t node (ap (has p.nodes.hand) (sym same) ∙ hand))
+    store_apart t j five kind st node ne is met = not_both is refl
+
+    -- so it is none of another runner's slots
+    others_apart : (i t j : ℕ) → i ≢ r → IsOwn (s.part i) t → j < 5 → (kind : EventKind) (st : IsStep m l rs s s' r kind)
+        → is_private_store m l kind ≡ true → st.step.ask.0 ≢ spots.Cell (cell_of m.fixed_cells t j)
+    others_apart i t j ne own five kind st = store_apart t j five kind st node elsewhere
+      where
+        node : t < (counts_of m l).nodes
+        node = own_node m laws l limits st.beside s st.whole i t own
+
+        hand_same : (a b : ℕ) → locations.Hand a ≡ locations.Hand b → a ≡ b
+        hand_same a b e = cc
+
+        elsewhere : st.beside.epochs.location t ≢ locations.Hand r
+        elsewhere at = ⊎_elim
+            (λ free. let z = sym (free_node m l st.beside.epochs s st.whole.slots i t node free) ∙ at in absurd (cc))
+            (λ held. ne (hand_same i r (sym (hand_node m l st.beside.epochs s st.whole.slots i t node held) ∙ at)))
+            own
+
+    -- and of none on the board
+    board_apart : (i t j : ℕ) → s.word (spots.Board i) ≡ suc t → j < 5 → (kind : EventKind) (st : IsStep m l rs s s' r kind)
+        → is_private_store m l kind ≡ true → st.step.ask.0 ≢ spots.Cell (cell_of m.fixed_cells t j)
+    board_apart i t j named five kind st = store_apart t j five kind st (board_node m laws l limits st.beside s st.whole i t named)
+        (λ at. let z = sym (st.whole.slots.board.slot i t named) ∙ at in absurd (cc))
+
+    -- so what was on the board has room behind the step
+    board_room : BoardHasRoom m l s.word → (kind : EventKind) → IsStep m l rs s s' r kind → (i t j : ℕ) → s.word (spots.Board i) ≡ suc t → j < 5
+        → CellHasRoom m l s'.word t j
+    board_room boarded kind st i t j named five = subst (λ n. version_of n < l.version_max)
+        (sym (cell_stands m laws l limits rs allowed s s' r t j (inr (i, named)) five kind st (board_apart i t j named five kind st))) (boarded i t j named five)
 
   -- a step outside a run
-  module _ (old : SlotsHaveRoom m l s.word p) (none : p.run ≡ None) where
+  module _ (old : SlotsHaveRoom m l s.word p) (boarded : BoardHasRoom m l s.word) (none : p.run ≡ None) where
     outside_words : (kind : EventKind) (st : IsStep m l rs s s' r kind) → outside_ask m l rs r kind p ≡ Some st.step.ask → SlotsHaveRoom m l s'.word p
     outside_words (kinds.PrivateStore slot word number) st e = words_room st.beside st.whole r
-        (λ t j own five. cell_stands m laws l limits rs allowed s s' r r t j own five (kinds.PrivateStore slot word number) st (λ store met.
+        (λ t j own five. cell_stands m laws l limits rs allowed s s' r t j (inl (r, own)) five (kinds.PrivateStore slot word number) st (λ store met.
         let h = private_store_asked m l slot word number p st.step.ask e in
         absurd (descriptor_no_cell _ word _ (ap (λ (y : Spot × Access). y.0) h.1 ∙ met)))) old
     outside_words kind st e = same_words old kind st (λ store. not_both store refl)
@@ -499,7 +526,7 @@ module _ (m : Meaning) (laws : Laws m) (l : Layout) (limits : IsWithinLimits l) 
             → (found ≡ s'.word (spots.Cell (cell_of m.fixed_cells slot cell))) × (version_of found ≤ l.version_max)
         finds hand low =
             let met = place hand in
-            let stands = cell_stands m laws l limits rs allowed s s' r r slot cell (inr hand) low (kinds.PrivateLoad slot cell) st
+            let stands = cell_stands m laws l limits rs allowed s s' r slot cell (inl (r, inr hand)) low (kinds.PrivateLoad slot cell) st
             (λ store. not_both store refl) in (
               ap s.word (sym met) ∙ sym stands,
               subst (λ n. version_of n ≤ l.version_max) (ap s.word met) (version_most m l st.beside s st.whole (cell_of m.fixed_cells slot cell)),
@@ -535,26 +562,150 @@ module _ (m : Meaning) (laws : Laws m) (l : Layout) (limits : IsWithinLimits l) 
         (λ makes. collected_room m l s'.word p (x + 1) words makes) (λ makes. words)
     advance_step words _ = λ makes. words
 
+    -- the table has few node slots
+    few_slots : (counts_of m l).nodes ≤ 2 ^ 32
+    few_slots = let nodes = limits.few_nodes in let runners = limits.few_runners in let fixed = laws.first.few_slots in omega (arith, nodes, runners, fixed)
+
+    -- what was on the board is in the free list
+    take_step : (word link : ℕ) (st : IsStep m l rs s s' r (kinds.BoardTake word link)) → board_take_ask l r word link p ≡ Some st.step.ask
+        → SlotsHaveRoom m l s'.word (board_take_after link p (s.word st.step.ask.0))
+    take_step word link st e = by (s.word st.step.ask.0 == link) refl
+      where
+        words : SlotsHaveRoom m l s'.word p
+        words = outside_words (kinds.BoardTake word link) st e
+
+        slot : ℕ
+        slot = value_of (link - 1)
+
+        -- the link that was found there names the slot
+        named : (s.word st.step.ask.0 == link) ≡ true → s.word (spots.Board word) ≡ suc slot
+        named won =
+            let asked = board_take_asked l r word link p st.step.ask e in
+            let finds : s.word (spots.Board word) ≡ link = ap (λ (y : Spot × Access). s.word y.0) asked.is ∙ same_number _ _ won in
+            let behind : link ≡ suc (link - 1) = let some = asked.some in omega arith in
+            let node = board_node m laws l limits st.beside s st.whole word (link - 1) (finds ∙ behind) in
+            let small = few_slots in
+            let value : value_of (link - 1) ≡ link - 1 = omega (arith, node, small) in finds ∙ (behind ∙ ap suc (sym value))
+
+        taken : s.word (spots.Board word) ≡ suc slot → SlotsHaveRoom m l s'.word (record p { nodes = record (p.nodes) { free = p.nodes.free ++ slot ∷ [] } })
+        taken there = record {
+          free = λ t j own five. ⊎_elim
+              (λ was. words.free t j was five)
+              (λ new. board_room old boarded (kinds.BoardTake word link) st word t j (there ∙ ap suc (sym (one_has slot t new))) five)
+              (either_has p.nodes.free (slot ∷ []) t own);
+          made = words.made;
+          looked = words.looked;
+          unlooked = words.unlooked;
+          unlooked_made = words.unlooked_made;
+        }
+
+        kept_all : SlotsHaveRoom m l s'.word (record p { nodes = record (p.nodes) { free = p.nodes.free } })
+        kept_all = record { free = words.free; made = words.made; looked = words.looked; unlooked = words.unlooked; unlooked_made = words.unlooked_made }
+
+        by : (b : Bool) → (s.word st.step.ask.0 == link) ≡ b
+            → SlotsHaveRoom m l s'.word (record p { nodes = free_if b (slot_drawn p.nodes slot) p.nodes })
+        by true won = taken (named won)
+        by false lost = kept_all
+
+    -- a free slot goes onto the board
+    give_step : (word slot : ℕ) (st : IsStep m l rs s s' r (kinds.BoardGive word slot)) → board_give_ask l r word slot p ≡ Some st.step.ask
+        → SlotsHaveRoom m l s'.word (board_give_after l slot p (s.word st.step.ask.0))
+    give_step word slot st e = by (s.word st.step.ask.0 == 0)
+      where
+        words : SlotsHaveRoom m l s'.word p
+        words = outside_words (kinds.BoardGive word slot) st e
+
+        by : (b : Bool) → SlotsHaveRoom m l s'.word (record p {
+          nodes = free_if b (slot_given p.nodes slot) p.nodes;
+          records = record (p.records) {
+            gave_above = (if b then p.records.gave_above && nat_le l.nodes (length (slot_given p.nodes slot).free) else p.records.gave_above);
+          };
+        })
+        by true = record {
+          free = λ t j own five. words.free t j (without_has p.nodes.free slot t own).0 five;
+          made = words.made;
+          looked = words.looked;
+          unlooked = words.unlooked;
+          unlooked_made = words.unlooked_made;
+        }
+        by false = record { free = words.free; made = words.made; looked = words.looked; unlooked = words.unlooked; unlooked_made = words.unlooked_made }
+
     outside_room : (kind : EventKind) (st : IsStep m l rs s s' r kind) → outside_ask m l rs r kind p ≡ Some st.step.ask
         → SlotsHaveRoom m l s'.word (outside_after m l kind p (s.word st.step.ask.0))
     outside_room (kinds.PrivateLoad slot cell) st e = look_step slot cell st e
     outside_room (kinds.ScanOne n) st e = scan_step (outside_words (kinds.ScanOne n) st e) p.stage (s.word st.step.ask.0) (makes_none (kinds.ScanOne n) (s.word st.step.ask.0))
+    outside_room (kinds.BoardTake word link) st e = take_step word link st e
+    outside_room (kinds.BoardGive word slot) st e = give_step word slot st e
     outside_room kinds.Advance st e = advance_step (outside_words kinds.Advance st e) p.stage (makes_none kinds.Advance (s.word st.step.ask.0))
     outside_room kind st e = kept_room m l s'.word p (outside_after m l kind p (s.word st.step.ask.0))
         (outside_slots m l p (s.word st.step.ask.0) kind refl).nodes (makes_none kind (s.word st.step.ask.0)) (outside_words kind st e)
 
   -- each step keeps the room of all slots
-  module _ (old : (i : ℕ) → SlotsHaveRoom m l s.word (s.part i)) (kind : EventKind) (st : IsStep m l rs s s' r kind) where
+  module _ (old : RoomsStand m l s) (kind : EventKind) (st : IsStep m l rs s s' r kind) where
     own_room : (o : Option RunState) → p.run ≡ o → ask_by m l rs r kind p o ≡ Some st.step.ask
         → SlotsHaveRoom m l s'.word (after_by m l kind p o (s.word st.step.ask.0))
-    own_room None none e = outside_room (old r) none kind st e
-    own_room (Some q) is e = inside_room (old r) q is kind st e
+    own_room None none e = outside_room (old.own r) old.board none kind st e
+    own_room (Some q) is e = inside_room (old.own r) q is kind st e
 
-    pub rooms_kept : (i : ℕ) → SlotsHaveRoom m l s'.word (s'.part i)
-    rooms_kept i = subst (λ (y : Sight). SlotsHaveRoom m l s'.word (y.part i)) (sym st.step.next)
+    parts_kept : (i : ℕ) → SlotsHaveRoom m l s'.word (s'.part i)
+    parts_kept i = subst (λ (y : Sight). SlotsHaveRoom m l s'.word (y.part i)) (sym st.step.next)
         (each_part m l s r st.step.ask (λ k p'. SlotsHaveRoom m l s'.word p')
-        (λ k p' records gone h. record { free = h.free; made = h.made; looked = h.looked; unlooked = h.unlooked; unlooked_made = h.unlooked_made })
+        (λ k p' board records gone h. record { free = h.free; made = h.made; looked = h.looked; unlooked = h.unlooked; unlooked_made = h.unlooked_made })
         kind (joins m l rs kind r p st.step.ask st.step.asked)
         (own_room p.run refl (unless_gone _ p.gone _ st.step.ask st.step.asked).1)
-        (λ k ne. words_room st.beside st.whole k (λ t j own five. cell_stands m laws l limits rs allowed s s' r k t j own five kind st
-        (store_apart (old r) k t j ne own five kind st)) (old k)) i)
+        (λ k ne. words_room st.beside st.whole k (λ t j own five. cell_stands m laws l limits rs allowed s s' r t j (inl (k, own)) five kind st
+        (others_apart (old.own r) k t j ne own five kind st)) (old.own k)) i)
+
+  module _ (old : RoomsStand m l s) where
+    -- the words of the board behind an exchange there
+    board_is : (kind : EventKind) (st : IsStep m l rs s s' r kind) (word i : ℕ) (access : Access) → (spots.Board word, access) ≡ st.step.ask
+        → s'.word (spots.Board i) ≡ cond (i == word) (written access (s.word (spots.Board word))) (s.word (spots.Board i))
+    board_is kind st word i access is = ap (λ (y : Sight). y.word (spots.Board i)) st.step.next
+        ∙ sym (ap (λ (y : Spot × Access). put s.word y.0 (written y.1 (s.word y.0)) (spots.Board i)) is)
+
+    -- a take leaves a word as it was, or makes it 0
+    took : (word link : ℕ) → IsStep m l rs s s' r (kinds.BoardTake word link) → (i t : ℕ) → s'.word (spots.Board i) ≡ suc t → s.word (spots.Board i) ≡ suc t
+    took word link st i t named =
+        let out = out_of_run m l rs r (kinds.BoardTake word link) p st.step.ask (λ q. refl) (λ q. refl) st.step.asked in
+        let asked = board_take_asked l r word link p st.step.ask out.asked in
+        was i word link t (λ n. s.word (spots.Board n)) (sym (board_is (kinds.BoardTake word link) st word i _ asked.is) ∙ named)
+      where
+        was : (i word link t : ℕ) (on : ℕ → ℕ) → cond (i == word) (cond (on word == link) 0 (on word)) (on i) ≡ suc t → on i ≡ suc t
+        was i word link t on e = ⊎_elim
+            (λ same. ap on same ∙ kept (on word) link t (sym (this i word (cond (on word == link) 0 (on word)) (on i) same) ∙ e))
+            (λ ne. sym (that i word (cond (on word == link) 0 (on word)) (on i) ne) ∙ e) (cases_eq i word)
+          where
+            kept : (found link t : ℕ) → cond (found == link) 0 found ≡ suc t → found ≡ suc t
+            kept found link t e = grind (arith, nat_tests)
+
+            this : (i word a b : ℕ) → i ≡ word → cond (i == word) a b ≡ a
+            this i word a b e = grind (arith, nat_tests)
+
+            that : (i word a b : ℕ) → i ≢ word → cond (i == word) a b ≡ b
+            that i word a b ne = grind (arith, nat_tests)
+
+    -- what a word of the board names has room behind the step
+    named_room : (kind : EventKind) → IsStep m l rs s s' r kind → BoardHasRoom m l s'.word
+    named_room (kinds.BoardTake word link) st i t j named five = board_room (old.own r) old.board (kinds.BoardTake word link) st i t j (took word link st i t named) five
+    named_room (kinds.BoardGive word slot) st i t j named five =
+        let out = out_of_run m l rs r (kinds.BoardGive word slot) p st.step.ask (λ q. refl) (λ q. refl) st.step.asked in
+        let asked = board_give_asked l r word slot p st.step.ask out.asked in
+        ⊎_elim
+        (λ was. board_room (old.own r) old.board (kinds.BoardGive word slot) st i t j was five)
+        (λ given. let free : has p.nodes.free t ≡ true = ap (has p.nodes.free) given ∙ asked.own in
+        subst (λ n. version_of n < l.version_max)
+        (sym (cell_stands m laws l limits rs allowed s s' r t j (inl (r, inl free)) five (kinds.BoardGive word slot) st (λ store. not_both store refl)))
+        ((old.own r).free t j free five))
+        (by i word slot t (s.word (spots.Board word)) (s.word (spots.Board i)) (ap (λ n. s.word (spots.Board n)))
+        (sym (board_is (kinds.BoardGive word slot) st word i _ asked.is) ∙ named))
+      where
+        by : (i word slot t found here : ℕ) → (i ≡ word → here ≡ found) → cond (i == word) (cond (found == 0) (slot + 1) found) here ≡ suc t → (here ≡ suc t) ⊎ (t ≡ slot)
+        by i word slot t found here same e = grind (arith, nat_tests)
+    named_room kind st i t j named five = board_room (old.own r) old.board kind st i t j (sym unchanged ∙ named) five
+      where
+        unchanged : s'.word (spots.Board i) ≡ s.word (spots.Board i)
+        unchanged = ap (λ (y : Sight). y.word (spots.Board i)) st.step.next
+            ∙ board_same s.word st.step.ask.0 kind st.step.ask.1 i refl (asked_may m l rs r p st.step.ask kind st.step.asked)
+
+    pub rooms_kept : (kind : EventKind) → IsStep m l rs s s' r kind → RoomsStand m l s'
+    rooms_kept kind st = record { own = parts_kept old kind st; board = named_room kind st }

@@ -27,7 +27,7 @@ use Rattle.machine_invariant.specs.machine_slots.proofs.Locks.{unfixed}
 use Rattle.machine_invariant.specs.After.{AreAllowed}
 use Rattle.machine_invariant.specs.Whole.{Beside, states_of, IsWhole}
 use Rattle.machine_invariant.proofs.First.{first_beside, first_whole}
-use Rattle.next_steps.specs.Rooms.{RoomsStand}
+use Rattle.next_steps.specs.Rooms.{SlotsHaveRoom, RoomsStand}
 use Rattle.machine_invariant.proofs.Keeping.{reached_keeps}
 use Rattle.next_steps.proofs.Standing.{own_node, own_free}
 use Rattle.next_steps.proofs.RoomsKept.{rooms_kept}
@@ -76,14 +76,17 @@ module _ (m : Meaning) (laws : Laws m) (l : Layout) (limits : IsWithinLimits l) 
   first_version = refl
 
   first_rooms : RoomsStand m l s
-  first_rooms i = record {
-    free = λ t j own five. subst (λ n. version_of n < l.version_max) (sym (first_cell i t j own five))
-        (let some = limits.some_versions in let one = first_version in omega arith);
-    made = λ q t is made. some_none q (sym (no_run i) ∙ is);
-    looked = λ t j own. not_both own (no_hand i t);
-    unlooked = λ t none. no_tests i t;
-    unlooked_made = λ q t is made. no_tests i t;
-  }
+  first_rooms = record { own = own_rooms; board = λ i t j named. absurd (let x = sym (FirstJoin.unwritten m l rs w start i) ∙ named in cc) }
+    where
+      own_rooms : (i : ℕ) → SlotsHaveRoom m l s.word (s.part i)
+      own_rooms i = record {
+        free = λ t j own five. subst (λ n. version_of n < l.version_max) (sym (first_cell i t j own five))
+            (let some = limits.some_versions in let one = first_version in omega arith);
+        made = λ q t is made. some_none q (sym (no_run i) ∙ is);
+        looked = λ t j own. not_both own (no_hand i t);
+        unlooked = λ t none. no_tests i t;
+        unlooked_made = λ q t is made. no_tests i t;
+      }
 
 pub reached_rooms : (m : Meaning) → Laws m → (l : Layout) → IsWithinLimits l → (rs : List Request) → AreAllowed rs → (w : World)
     → Reached m l rs w → RoomsStand m l (sight m l rs w)

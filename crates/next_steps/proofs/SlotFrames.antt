@@ -64,11 +64,13 @@ module _ (m : Meaning) (l : Layout) (p : PartState) (found : ℕ) where
     pub inside_slots : (kind : EventKind) → fills_slot kind ≡ false → Same p (inside_after m l kind p q found)
     inside_slots kind h = either (is_open_run q) _ _ (line_same kind (next_of m q) h) (same _ refl)
 
-  -- a private load, and what may end a scan
+  -- a private load, what may end a scan, and a take or a give of the board
   abbrev pub moves_slots : EventKind → Bool
   moves_slots (kinds.PrivateLoad slot word) = true
   moves_slots (kinds.ScanOne n) = true
   moves_slots kinds.Advance = true
+  moves_slots (kinds.BoardTake word link) = true
+  moves_slots (kinds.BoardGive word slot) = true
   moves_slots _ = false
 
   -- another step outside a run
@@ -88,4 +90,6 @@ module _ (m : Meaning) (l : Layout) (p : PartState) (found : ℕ) where
   outside_slots (kinds.PrivateStore slot word number) h = same _ refl
   outside_slots (kinds.Hold thunk d) h = either (found == thunk.word) _ _ (same _ refl) (same _ refl)
   outside_slots (kinds.LoadThunk (Some d)) h = same _ refl
+  outside_slots (kinds.BoardTake word link) h = absurd (let z = h in cc)
+  outside_slots (kinds.BoardGive word slot) h = absurd (let z = h in cc)
   outside_slots _ h = same _ refl

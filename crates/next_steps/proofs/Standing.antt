@@ -1,6 +1,6 @@
--- A step changes no cell of a slot that is in a runner's hand or free, but where a Make stores there.
+-- A step changes no cell of a slot that is in a runner's hand, free or on the board, but where a Make stores there.
 use Rattle.std.specs.Prelude.{◌==◌, ◌⊎◌, nat_lt, cond, slice_index, Bool, true}
-use Rattle.std.proofs.Common.{◌≡◌, ◌≢◌, ℕ, ◌<◌, List, ⊎_elim, sym, refl, ap, ◌∙◌, subst, arith, Some, None}
+use Rattle.std.proofs.Common.{◌≡◌, ◌≢◌, ℕ, suc, ◌<◌, List, ⊎_elim, sym, refl, ap, ◌∙◌, subst, arith, Some, None}
 use Rattle.std.proofs.lemmas.Bool.Decides.{nat_tests}
 use Rattle.std.proofs.lemmas.Bool.{cases_eq, cases_lt}
 use Rattle.machine_states.specs.map_history.specs.declared.op.Request.{Request}
@@ -33,6 +33,7 @@ use Rattle.agreement_core.specs.Checks as checks
 use Rattle.agreement_core.specs.Events as agreement
 use Rattle.agreement_core.proofs.Words.{value_held}
 use Rattle.machine_states.specs.epoch_core.specs.State.{Counts}
+use Rattle.machine_states.specs.epoch_core.specs.Sound.{is_for_nodes}
 use Rattle.machine_states.specs.Sight.{Sight}
 use Rattle.machine_invariant.specs.machine_blocks.specs.machine_guards.specs.machine_agreement.specs.machine_epochs.specs.Entries.{counts_of}
 use Rattle.machine_invariant.specs.machine_blocks.specs.machine_guards.specs.machine_agreement.specs.machine_epochs.proofs.OutsideAsked.{hold_asked}
@@ -57,6 +58,10 @@ use Rattle.next_steps.proofs.Releases.{released_lock, section_lock}
 abbrev pub IsOwn : PartState → ℕ → Type 0
 IsOwn p t = (has p.nodes.free t ≡ true) ⊎ (has p.nodes.hand t ≡ true)
 
+-- it is so with one of the runners, or on the board
+abbrev pub IsSpare : Sight → ℕ → Type 0
+IsSpare s t = ((i : ℕ) × IsOwn (s.part i) t) ⊎ ((i : ℕ) × (s.word (spots.Board i) ≡ suc t))
+
 module _ (m : Meaning) (laws : Laws m) (l : Layout) (limits : IsWithinLimits l) (g : Beside) (s : Sight) (whole : IsWhole m l g s) where
   abbrev c : Counts
   c = counts_of m l
@@ -69,29 +74,40 @@ module _ (m : Meaning) (laws : Laws m) (l : Layout) (limits : IsWithinLimits l) 
       (λ hand. let one = has_times (s.part i).nodes.hand t hand in let none = whole.slots.listed.hand_nodes i t high in omega arith) own))
       (cases_lt t c.nodes)
 
+  inside : (t : ℕ) → t < c.nodes → (x : Status) → cond (nat_lt t c.nodes) x Free ≡ x
+  inside t low x = grind (arith, nat_tests)
+
   pub own_free : (i t : ℕ) → IsOwn (s.part i) t → status_of c g.epochs.location t ≡ Free
   own_free i t own =
       let low = own_node i t own in
-      inside low (status_at (g.epochs.location t)) ∙ ⊎_elim
+      inside t low (status_at (g.epochs.location t)) ∙ ⊎_elim
       (λ free. ap status_at (free_node m l g.epochs s whole.slots i t low free))
       (λ hand. ap status_at (hand_node m l g.epochs s whole.slots i t low hand)) own
-    where
-      inside : t < c.nodes → (x : Status) → cond (nat_lt t c.nodes) x Free ≡ x
-      inside low x = grind (arith, nat_tests)
 
-  module _ (i t j : ℕ) (own : IsOwn (s.part i) t) (five : j < 5) where
+  pub board_node : (i t : ℕ) → s.word (spots.Board i) ≡ suc t → t < c.nodes
+  board_node i t named = whole.slots.sound.for_nodes t (ap is_for_nodes (whole.slots.board.slot i t named))
+
+  spare_node : (t : ℕ) → IsSpare s t → t < c.nodes
+  spare_node t spare = ⊎_elim (λ own. own_node own.0 t own.1) (λ there. board_node there.0 t there.1) spare
+
+  spare_free : (t : ℕ) → IsSpare s t → status_of c g.epochs.location t ≡ Free
+  spare_free t spare = ⊎_elim
+      (λ own. own_free own.0 t own.1)
+      (λ there. inside t (board_node there.0 t there.1) (status_at (g.epochs.location t)) ∙ ap status_at (whole.slots.board.slot there.0 t there.1)) spare
+
+  module _ (t j : ℕ) (spare : IsSpare s t) (five : j < 5) where
     abbrev place : ℕ
     place = cell_of m.fixed_cells t j
 
     -- a lock there is free
     pub unlocked : m.is_lock place ≡ true → value_of (s.word (spots.Cell place)) ≡ 0
     unlocked lock = ap value_of (sym (whole.sections.words.cells place))
-        ∙ locks_free m laws l limits c refl (states_of g s) whole.kept whole.held t j (own_node i t own) five (own_free i t own) lock
+        ∙ locks_free m laws l limits c refl (states_of g s) whole.kept whole.held t j (spare_node t spare) five (spare_free t spare) lock
 
     -- no event of agreement changes the cell
     pub stands : (v : agreement.Event) → agreement.Enabled (rules_of m l) g.agreement v → is_plain v ≡ true
         → (agreement.after g.agreement v).shared.cells place ≡ g.agreement.shared.cells place
-    stands v ok plain = hands_stand m laws l limits c refl (states_of g s) whole.kept whole.held t j (own_node i t own) five (own_free i t own)
+    stands v ok plain = hands_stand m laws l limits c refl (states_of g s) whole.kept whole.held t j (spare_node t spare) five (spare_free t spare)
         (Agreement v) (plain, ok) tt
 
 -- a cell that an exchange meets, or another one
@@ -112,7 +128,7 @@ fails : (found old new : ℕ) → found ≢ old → exchanged found old new ≡ 
 fails found old new ne = grind (arith, nat_tests)
 
 module _ (m : Meaning) (laws : Laws m) (l : Layout) (limits : IsWithinLimits l) (rs : List Request) (allowed : AreAllowed rs) (s s' : Sight) (r : ℕ)
-    (i t j : ℕ) (own : IsOwn (s.part i) t) (five : j < 5) where
+    (t j : ℕ) (spare : IsSpare s t) (five : j < 5) where
   abbrev there : ℕ
   there = cell_of m.fixed_cells t j
 
@@ -138,7 +154,7 @@ module _ (m : Meaning) (laws : Laws m) (l : Layout) (limits : IsWithinLimits l) 
       let cell : a.shared.cells h.0 ≡ s.word (spots.Cell h.0) = st.whole.sections.words.cells h.0 in
       by_exchange kinds.ExchangeCell st h.0 (slice_index q.trail h.1) (next_word (slice_index q.trail h.1) (source_value q.trail h.2)) h.4
       (λ same.
-      let stand = stands m laws l limits st.beside s st.whole i t j own five (agreement.ExchangeCell r h.0 h.1 h.2) ok refl in
+      let stand = stands m laws l limits st.beside s st.whole t j spare five (agreement.ExchangeCell r h.0 h.1 h.2) ok refl in
       let same' : checks.exchanged (a.shared.cells h.0) (run.trail h.1) (checks.stored_word run.trail h.1 h.2) ≡ a.shared.cells h.0 =
       sym (upd_same a.shared.cells h.0 there (checks.exchanged (a.shared.cells h.0) (run.trail h.1) (checks.stored_word run.trail h.1 h.2)) same)
       ∙ (stand ∙ ap a.shared.cells same) in
@@ -156,7 +172,7 @@ module _ (m : Meaning) (laws : Laws m) (l : Layout) (limits : IsWithinLimits l) 
       let cell : a.shared.cells h.0 ≡ s.word (spots.Cell h.0) = st.whole.sections.words.cells h.0 in
       by_exchange kinds.NestedHold st h.0 h.1 (held_word q.descriptor h.1) h.3
       (λ same.
-      let stand = stands m laws l limits st.beside s st.whole i t j own five (agreement.NestedHold r h.0 h.1) ok refl in
+      let stand = stands m laws l limits st.beside s st.whole t j spare five (agreement.NestedHold r h.0 h.1) ok refl in
       let same' : checks.exchanged (a.shared.cells h.0) h.1 (held_word run.descriptor h.1) ≡ a.shared.cells h.0 =
       sym (upd_same a.shared.cells h.0 there (checks.exchanged (a.shared.cells h.0) h.1 (held_word run.descriptor h.1)) same)
       ∙ (stand ∙ ap a.shared.cells same) in
@@ -173,7 +189,7 @@ module _ (m : Meaning) (laws : Laws m) (l : Layout) (limits : IsWithinLimits l) 
       let held = held_word q.descriptor h.1 in
       by_exchange kinds.Release st h.0 held (next_word held 0) h.3
       (λ same. fails (s.word (spots.Cell h.0)) held (next_word held 0) (λ finds.
-      let zero = unlocked m laws l limits st.beside s st.whole i t j own five (subst (λ p. m.is_lock p ≡ true) (sym same) is_lock) in
+      let zero = unlocked m laws l limits st.beside s st.whole t j spare five (subst (λ p. m.is_lock p ≡ true) (sym same) is_lock) in
       let one = ap value_of (ap (λ p. s.word (spots.Cell p)) same ∙ finds) ∙ value_held q.descriptor h.1 link in
       absurd (let z = sym zero ∙ one in cc)))
 
@@ -186,8 +202,8 @@ module _ (m : Meaning) (laws : Laws m) (l : Layout) (limits : IsWithinLimits l) 
       let j0 = states_of g s in
       let entered = entered_at m l g.epochs s st.whole.slots r h.entry h.entered in
       let walk = (s.part r).reads.walk in
-      let low = own_node m laws l limits g s st.whole i t own in
-      let free = own_free m laws l limits g s st.whole i t own in
+      let low = spare_node m laws l limits g s st.whole t spare in
+      let free = spare_free m laws l limits g s st.whole t spare in
       let op = request_allowed m laws l limits rs allowed.in_order.few allowed.each g s st.whole r (kinds.Hold thunk d) st.step.ask st.step.asked
       thunk.request h.request h.of_request in
       let shaped = (laws.over l limits).shape (scene_of m (counts_of m l) j0) st.whole.kept.lawful.sound st.whole.kept.lawful.kept r walk h.request.op thunk

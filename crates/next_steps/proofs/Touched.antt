@@ -28,6 +28,7 @@ use Rattle.machine_states.proofs.Updates.{put_same}
 use Rattle.machine_invariant.specs.machine_blocks.specs.machine_guards.specs.machine_agreement.specs.machine_epochs.proofs.InsideAsked as inside
 use Rattle.machine_invariant.specs.machine_blocks.specs.machine_guards.specs.machine_agreement.specs.machine_epochs.proofs.OutsideAsked as outside
 use Rattle.machine_invariant.specs.machine_blocks.specs.machine_guards.specs.machine_agreement.specs.machine_epochs.proofs.ReadsAsked as reads
+use Rattle.machine_invariant.specs.machine_blocks.specs.machine_guards.specs.machine_agreement.specs.machine_epochs.proofs.BoardAsked as board
 use Rattle.machine_invariant.proofs.Basics.{not_both}
 
 -- what a step on a word may change
@@ -36,12 +37,14 @@ pub data Touched : Type 0 where
   TheClock : Touched
   AStamp : Touched
   ACell : Touched
+  ABoardWord : Touched
   Another : Touched
 
 abbrev pub changed : Spot → Touched
 changed spots.Clock = TheClock
 changed (spots.Stamp q) = AStamp
 changed (spots.Cell p) = ACell
+changed (spots.Board i) = ABoardWord
 changed _ = Another
 
 abbrev pub touched : Spot → Access → Touched
@@ -68,10 +71,16 @@ changes_cells kinds.NestedHold = true
 changes_cells kinds.Release = true
 changes_cells _ = false
 
+abbrev pub changes_board : EventKind → Bool
+changes_board (kinds.BoardTake word link) = true
+changes_board (kinds.BoardGive word slot) = true
+changes_board _ = false
+
 abbrev pub may : EventKind → Touched → Bool
 may kind TheClock = raises_clock kind
 may kind AStamp = stamps kind
 may kind ACell = changes_cells kind
+may kind ABoardWord = changes_board kind
 may kind Nothing = true
 may kind Another = true
 
@@ -177,6 +186,9 @@ module _ (m : Meaning) (l : Layout) where
     outside_may kinds.ReadClock e = subst (May kinds.ReadClock) (reads.read_clock_asked p x e).is refl
     outside_may kinds.ReadReply e = subst (May kinds.ReadReply) (reads.read_reply_asked m l rs r p x e).is refl
     outside_may kinds.ReadStamp e = subst (May kinds.ReadStamp) (reads.read_stamp_asked p x e).is refl
+    outside_may (kinds.BoardLoad word) e = subst (May (kinds.BoardLoad word)) (board.board_load_asked l r word p x e).is refl
+    outside_may (kinds.BoardTake word link) e = subst (May (kinds.BoardTake word link)) (board.board_take_asked l r word link p x e).is refl
+    outside_may (kinds.BoardGive word slot) e = subst (May (kinds.BoardGive word slot)) (board.board_give_asked l r word slot p x e).is refl
     outside_may _ e = some_none x e
 
     by_run : (kind : EventKind) (o : Option RunState) → ask_by m l rs r kind p o ≡ Some x → May kind x
@@ -200,6 +212,10 @@ not_cell : (f : Spot → ℕ) (a : Spot) (v p : ℕ) → (changed a ≡ ACell �
 not_cell f (spots.Cell p') v p ne = absurd (ne refl)
 not_cell f _ v p ne = refl
 
+not_board : (f : Spot → ℕ) (a : Spot) (v i : ℕ) → (changed a ≡ ABoardWord → ⊥) → put f a v (spots.Board i) ≡ f (spots.Board i)
+not_board f (spots.Board i') v i ne = absurd (ne refl)
+not_board f _ v i ne = refl
+
 module _ (f : Spot → ℕ) (a : Spot) (kind : EventKind) where
   pub clock_same : (access : Access) → raises_clock kind ≡ false → May kind (a, access)
       → put f a (written access (f a)) spots.Clock ≡ f spots.Clock
@@ -221,3 +237,10 @@ module _ (f : Spot → ℕ) (a : Spot) (kind : EventKind) where
   cell_same (Stores number) p never h = not_cell f a _ p (λ e. not_both (sym (ap (may kind) e) ∙ h) never)
   cell_same (Exchanges old new) p never h = not_cell f a _ p (λ e. not_both (sym (ap (may kind) e) ∙ h) never)
   cell_same (Raises number) p never h = not_cell f a _ p (λ e. not_both (sym (ap (may kind) e) ∙ h) never)
+
+  pub board_same : (access : Access) (i : ℕ) → changes_board kind ≡ false → May kind (a, access)
+      → put f a (written access (f a)) (spots.Board i) ≡ f (spots.Board i)
+  board_same Loads i never h = ap (λ (g : Spot → ℕ). g (spots.Board i)) (put_same f a)
+  board_same (Stores number) i never h = not_board f a _ i (λ e. not_both (sym (ap (may kind) e) ∙ h) never)
+  board_same (Exchanges old new) i never h = not_board f a _ i (λ e. not_both (sym (ap (may kind) e) ∙ h) never)
+  board_same (Raises number) i never h = not_board f a _ i (λ e. not_both (sym (ap (may kind) e) ∙ h) never)

@@ -10,7 +10,7 @@ use Rattle.machine_states.specs.body_terms.specs.declared.thunk.Thunk.{Thunk}
 use Rattle.machine_states.specs.table_words.specs.Places.{slot_count, descriptor_count}
 use Rattle.machine_states.specs.table_words.specs.declared.layout.Layout.{Layout}
 use Rattle.machine_states.specs.table_words.specs.declared.spot.Spot.{Spot}
-use Rattle.machine_states.specs.table_words.specs.declared.spot.Spot.TheVariants.{Clock, Stamp, Cell}
+use Rattle.machine_states.specs.table_words.specs.declared.spot.Spot.TheVariants.{Clock, Stamp, Cell, Board}
 use Rattle.machine_states.specs.structure_laws.specs.Meaning.{Meaning}
 use Rattle.machine_states.specs.runner_steps.specs.AfterInRun.{place_of}
 use Rattle.machine_states.specs.runner_steps.specs.Sections.{line_of}
@@ -78,6 +78,11 @@ module _ (m : Meaning) (l : Layout) (word : Spot → ℕ) where
     pub unlooked : (t : ℕ) → has p.nodes.hand t ≡ false → (test_of p.nodes.tests t).cells ≡ 0
     pub unlooked_made : (q : RunState) (t : ℕ) → p.run ≡ Some q → q.made ≡ Some t → (test_of p.nodes.tests t).cells ≡ 0
 
--- so there is in the slots of all runners
-abbrev pub RoomsStand : Meaning → Layout → Sight → Type 0
-RoomsStand m l s = (r : ℕ) → SlotsHaveRoom m l s.word (s.part r)
+  -- the cells of the slots that the words of the board name
+  abbrev pub BoardHasRoom : Type 0
+  BoardHasRoom = (i t j : ℕ) → word (Board i) ≡ suc t → j < 5 → CellHasRoom t j
+
+-- so there is in the slots of all runners, and in those on the board
+pub record RoomsStand (m : Meaning) (l : Layout) (s : Sight) : Type 0 where
+  pub own : (r : ℕ) → SlotsHaveRoom m l s.word (s.part r)
+  pub board : BoardHasRoom m l s.word

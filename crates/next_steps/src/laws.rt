@@ -66,8 +66,8 @@ pub fn published_thunks_fit<S: Structure>(structure: &S)
     let _ = structure;
 }
 
-/// In every state that the machine reaches, each cell of a free slot has a version below the greatest; so
-/// has each cell of the slot that a Make fills to which it hasn't stored, and each one that a runner has
+/// In every state that the machine reaches, each cell of a slot that is free or on the board has a version below the
+/// greatest; so has each cell of the slot that a Make fills to which it hasn't stored, and each one that a runner has
 /// looked at in a slot of its hand in which it has found no cell with the greatest version.
 pub fn slots_have_room<S: Structure>(structure: &S)
     ensures { (layout : Layout) (requests : List Request) (w : World) → IsWithinLimits layout → AreAllowed requests

@@ -107,10 +107,10 @@ pub or_left : (a b : Bool) → (a || b) ≡ false → a ≡ false
 or_left false b e = refl
 or_left true b e = absurd (let z = e in cc)
 
-none_seen : (n : ℕ) → not (n == 0) ≡ false → n ≡ 0
+pub none_seen : (n : ℕ) → not (n == 0) ≡ false → n ≡ 0
 none_seen n e = grind (arith, nat_tests)
 
-true_false : {B : Type 0} {b : Bool} → b ≡ true → b ≡ false → B
+pub true_false : {B : Type 0} {b : Bool} → b ≡ true → b ≡ false → B
 true_false e e' = absurd (let z = sym e ∙ e' in cc)
 
 module _ (m : Meaning) (l : Layout) (rs : List Request) (r : ℕ) (p : PartState) (x : Spot × Access) where

@@ -1,5 +1,5 @@
 -- Each guard word is what its runner has stored, and who isn't entered guards nothing: of the machine alone, with no limits.
-use Rattle.std.specs.Prelude.{◌⊎◌, cond, slice_index, Bool, true, false}
+use Rattle.std.specs.Prelude.{◌⊎◌, ◌||◌, cond, slice_index, Bool, true, false}
 use Rattle.std.proofs.Common.{◌≡◌, ℕ, List, le_of_eq, refl, sym, ap, ◌∙◌, subst, inl, inr, ⊎_elim, Option, Some, None}
 use Rattle.machine_states.specs.map_history.specs.declared.op.Request.{Request}
 use Rattle.machine_states.specs.table_words.specs.declared.layout.Layout.{Layout}
@@ -19,21 +19,22 @@ use Rattle.machine_states.specs.runner_parts.specs.declared.event.EventKind.{Eve
 use Rattle.machine_states.specs.runner_parts.specs.declared.event.EventKind.TheVariants as kinds
 use Rattle.machine_states.specs.runner_parts.specs.Lists.{published_seen}
 use Rattle.machine_states.specs.runner_parts.specs.State.{RunState, GuardsState, PartState}
-use Rattle.machine_states.specs.runner_steps.specs.Asks.{sizes_for}
-use Rattle.machine_states.specs.Blockless.{outside_ask, ask_by, after, stepped, outside_after, line_after, inside_after, after_by}
+use Rattle.machine_states.specs.runner_steps.specs.After.{after, stepped, outside_after, line_after, inside_after, after_by}
+use Rattle.machine_states.specs.runner_steps.specs.Asks.{outside_ask, ask_by, sizes_for}
 use Rattle.machine_states.specs.runner_steps.specs.Sections.{is_open_run, next_of}
 use Rattle.machine_states.specs.World.{World, happens}
 use Rattle.machine_states.specs.First.{IsFirst}
 use Rattle.machine_states.specs.Reached.{Reached}
-use Rattle.machine_states.specs.Sight.{Sight, sight, sight_after, parts_after}
-use Rattle.machine_states.proofs.FirstSights.{first_parts}
+use Rattle.machine_states.specs.Sight.{Sight, sight, parts_after}
+use Rattle.machine_states.specs.Full.{full_sight, full_sight_after, bare}
+use Rattle.machine_states.proofs.FirstSights.{full_first_parts}
 use Rattle.machine_states.proofs.Reached.{first_reached, more_reached, reached_has, reached_all}
-use Rattle.machine_states.proofs.Sights.{happens_steps, unless_gone, cond_none}
+use Rattle.machine_states.proofs.Sights.{happens_in_full, bare_sight, unless_gone, cond_none}
 use Rattle.machine_states.proofs.Updates.{upd_here, upd_else, upd_split}
 use Rattle.resource_bounds.specs.machine_epochs.proofs.OutsideAsked as asked
 use Rattle.resource_bounds.specs.machine_epochs.proofs.FirstJoin as FirstJoin
 use Rattle.runner_facts.specs.machine_facts.specs.machine_invariant.specs.machine_blocks.specs.machine_guards.proofs.Views as views
-use Rattle.runner_facts.specs.machine_facts.specs.machine_invariant.specs.machine_blocks.specs.machine_guards.proofs.Views.{View, view, is_release}
+use Rattle.runner_facts.specs.machine_facts.specs.machine_invariant.specs.machine_blocks.specs.machine_guards.proofs.Views.{View, view, is_release, is_linking}
 use Rattle.runner_facts.specs.machine_facts.specs.machine_invariant.specs.machine_blocks.specs.machine_guards.proofs.Words.{guards_left, inside_left, load_left}
 
 -- this guard word is what the runner with this part has stored
@@ -85,15 +86,21 @@ module _ (m : Meaning) (l : Layout) (rs : List Request) (r : ℕ) (p : PartState
   outside kind k e = same_view _ _ (views.view_outside m l rs r p found x kind refl e)
 
   inside : (q : RunState) → p.run ≡ Some q → (kind : EventKind) → Stays p (inside_after m l kind p q found)
-  inside q at kind = by (is_release kind) refl
+  inside q at kind = by (is_release kind) refl (is_linking kind) refl
     where
-      over : (k : EventKind) → is_release k ≡ true → Stays p (line_after m l k p q (next_of m q) found)
+      over : (k : EventKind) → (is_release k || is_linking k) ≡ true → Stays p (line_after m l k p q (next_of m q) found)
+      over (kinds.PrivateStore slot word number) k = record { named = refl; away = λ out. inl out }
+      over (kinds.LinkCommit b) k = record { named = refl; away = λ out. inl out }
       over kinds.Release k = either _ _ _ (record { named = refl; away = λ out. inl out }) (record { named = refl; away = λ out. inl out })
       over _ k = absurd (let z = k in cc)
 
-      by : (b : Bool) → is_release kind ≡ b → Stays p (inside_after m l kind p q found)
-      by false k = same_view _ _ (views.inside m l p q at found kind (is_open_run q) k)
-      by true k = either (is_open_run q) _ _ (over kind k) (record { named = refl; away = λ out. inl out })
+      other : (is_release kind || is_linking kind) ≡ true → Stays p (inside_after m l kind p q found)
+      other k = either (is_open_run q) _ _ (over kind k) (record { named = refl; away = λ out. inl out })
+
+      by : (b : Bool) → is_release kind ≡ b → (b' : Bool) → is_linking kind ≡ b' → Stays p (inside_after m l kind p q found)
+      by false k false n = same_view _ _ (views.inside m l p q at found kind (is_open_run q) k n)
+      by false k true n = other (ap (λ c. c || is_linking kind) k ∙ n)
+      by true k b' n = other (ap (λ c. c || is_linking kind) k)
 
   stepped_stays : (kind : EventKind) (o : Option RunState) → p.run ≡ o → is_store kind ≡ false → ask_by m l rs r kind p o ≡ Some x → Stays p (after_by m l kind p o found)
   stepped_stays kind None at k e = outside kind k e
@@ -114,7 +121,7 @@ module _ (m : Meaning) (l : Layout) (rs : List Request) (s : Sight) (r : ℕ) (x
   left : (kind : EventKind) (o : Option RunState) → is_store kind ≡ false → ask_by m l rs r kind p o ≡ Some x → (i : ℕ) → next x (Guard i) ≡ s.word (Guard i)
   left (kinds.Guard d) o k e i = absurd (let z = k in cc)
   left (kinds.LoadGuard n) None k e i = subst (λ (y : Spot × Access). next y (Guard i) ≡ s.word (Guard i)) (asked.load_guard_asked l n p x e).is (load_left s.word (Guard n) i)
-  left (kinds.LoadGuard n) (Some q) k e i = inside_left m l q (kinds.LoadGuard n) p.nodes.free x e s.word (written x.1 found) i
+  left (kinds.LoadGuard n) (Some q) k e i = inside_left m l q (kinds.LoadGuard n) p.nodes.free p.blocks.free x e s.word (written x.1 found) i
   left kind o k e i = guards_left m l rs r kind p o x refl e s.word (written x.1 found) i
 
   abbrev Fits : (Spot → ℕ) → (ℕ → PartState) → Type 0
@@ -154,7 +161,7 @@ module _ (m : Meaning) (l : Layout) (rs : List Request) (s : Sight) (r : ℕ) (x
       (staying (same r) (record { named = stays.named; away = stays.away }) (old r))
       (λ j ne'. record { stored = same j ∙ (old j).stored; away = (old j).away }) i)
 
-  kept : (kind : EventKind) → ask_by m l rs r kind p p.run ≡ Some x → GuardsFit (sight_after m l s r kind x)
+  kept : (kind : EventKind) → ask_by m l rs r kind p p.run ≡ Some x → GuardsFit (full_sight_after m l s r kind x)
   kept (kinds.Join worker) e = joining worker e
   kept (kinds.Guard d) e = storing d p.run refl e
   kept kind e = keeping kind refl e
@@ -163,31 +170,34 @@ module _ (m : Meaning) (l : Layout) (rs : List Request) where
   -- a reached state in which they fit
   record Has (w : World) : Type 0 where
     reached : Reached m l rs w
-    has : GuardsFit (sight m l rs w)
+    has : GuardsFit (full_sight m l rs w)
 
-  first_word : (w : World) → IsFirst m l rs w → (r : ℕ) → (sight m l rs w).word (Guard r) ≡ 0
+  first_word : (w : World) → IsFirst m l rs w → (r : ℕ) → (full_sight m l rs w).word (Guard r) ≡ 0
   first_word w first r = by_fit (fits (sizes_for m l rs) (Guard r)) refl
     where
-      by_fit : (b : Bool) → fits (sizes_for m l rs) (Guard r) ≡ b → (sight m l rs w).word (Guard r) ≡ 0
+      by_fit : (b : Bool) → fits (sizes_for m l rs) (Guard r) ≡ b → (full_sight m l rs w).word (Guard r) ≡ 0
       by_fit true is = first.words.seen (Guard r) (words.fits_means (sizes_for m l rs) (Guard r) is)
       by_fit false is = ap (λ b. cond b (slice_index w.words (address (sizes_for m l rs) (Guard r))) 0) is
 
-  first_fit : (w : World) → IsFirst m l rs w → GuardsFit (sight m l rs w)
+  first_fit : (w : World) → IsFirst m l rs w → GuardsFit (full_sight m l rs w)
   first_fit w first r =
-      let none : ((sight m l rs w).part r).guards.named ≡ None = ap (λ (p : PartState). p.guards.named) (first_parts m l w.parts first.parts r)
+      let none : ((full_sight m l rs w).part r).guards.named ≡ None = ap (λ (p : PartState). p.guards.named) (full_first_parts m l w.parts first.parts r)
       ∙ FirstJoin.each_part m l (λ (p : PartState). p.guards.named ≡ None) refl (λ k. refl) refl r in
       record { stored = first_word w first r ∙ sym (ap word_of none); away = λ out. none }
 
   step_fit : (w v : World) (e : Event) → Has w → happens m l rs w e ≡ Some v → Has v
   step_fit w v e old goes =
       let all = reached_all m l rs w old.reached in
-      let step = (happens_steps m l rs w v e (record { words = le_of_eq (sym all.words); parts = all.parts }) goes).0 in
+      let step = (happens_in_full m l rs w v e (record { words = le_of_eq (sym all.words); parts = all.parts }) goes).0 in
       record {
         reached = more_reached m l rs w v e old.reached goes;
         has = subst GuardsFit (sym step.next)
-            (kept m l rs (sight m l rs w) e.runner step.ask old.has e.kind (unless_gone _ _ _ step.ask step.asked).1);
+            (kept m l rs (full_sight m l rs w) e.runner step.ask old.has e.kind (unless_gone _ _ _ step.ask step.asked).1);
       }
 
   pub reached_fit : (w : World) → Reached m l rs w → GuardsFit (sight m l rs w)
-  reached_fit w reached = (reached_has m l rs Has
-      (λ v start. record { reached = first_reached m l rs v start; has = first_fit v start }) step_fit w reached).has
+  reached_fit w reached = subst GuardsFit (bare_sight m l rs w) (without_blocks (full_sight m l rs w) (reached_has m l rs Has
+      (λ v start. record { reached = first_reached m l rs v start; has = first_fit v start }) step_fit w reached).has)
+    where
+      without_blocks : (s : Sight) → GuardsFit s → GuardsFit (bare s)
+      without_blocks s fit r = record { stored = (fit r).stored; away = (fit r).away }

@@ -1,10 +1,11 @@
 -- A node slot that is in a hand, free or worn stays so over a step, but where a Make commits it.
-use Rattle.std.specs.Prelude.{◌==◌, ◌&&◌, not, nat_lt, nat_le, cond, Bool, true, false, if◌then◌else◌}
+use Rattle.std.specs.Prelude.{◌==◌, ◌-◌, ◌&&◌, not, nat_lt, nat_le, cond, Bool, true, false, if◌then◌else◌}
 use Rattle.std.specs.List.{filter}
 use Rattle.std.proofs.Common.{◌≡◌, ◌≢◌, ℕ, ◌+◌, ◌≤◌, List, [], ◌∷◌, ◌++◌, refl, sym, ap, ◌∙◌, subst, ⊎_elim, arith, Option, Some, None}
 use Rattle.std.proofs.lemmas.Bool.{cases_eq}
 use Rattle.std.proofs.lemmas.Bool.Decides.{nat_tests}
 use Rattle.machine_states.specs.body_terms.specs.Line.{is_end}
+use Rattle.machine_states.specs.body_terms.specs.Word.{value_of}
 use Rattle.machine_states.specs.body_terms.specs.declared.micro.Micro.{Micro}
 use Rattle.machine_states.specs.body_terms.specs.declared.thunk.Thunk.{Thunk}
 use Rattle.machine_states.specs.table_words.specs.declared.layout.Layout.{Layout}
@@ -23,6 +24,7 @@ use Rattle.machine_states.specs.runner_parts.specs.Tests.{has}
 use Rattle.machine_states.specs.runner_steps.specs.Sections.{is_open_run, next_of}
 use Rattle.machine_states.specs.epoch_core.specs.State.{last_epoch}
 use Rattle.machine_states.specs.runner_steps.specs.InRun.{last_clock}
+use Rattle.machine_states.specs.runner_steps.specs.Board.{free_if}
 use Rattle.machine_states.specs.runner_steps.specs.AfterInRun as inside
 use Rattle.machine_states.specs.runner_steps.specs.AfterOutside as outside
 use Rattle.machine_states.specs.Blockless.{line_after, inside_after, outside_after}
@@ -38,6 +40,11 @@ use Rattle.runner_facts.specs.machine_facts.specs.machine_invariant.proofs.Slots
 -- how often a slot stands in a runner's hand, free list and worn list
 abbrev pub idle_times : NodesState → ℕ → ℕ
 idle_times n t = times t n.hand + (times t n.free + times t n.worn)
+
+-- a slot may go onto the board
+abbrev pub is_give : EventKind → Bool
+is_give (kinds.BoardGive word slot) = true
+is_give _ = false
 
 without_times : (xs : List ℕ) (d t : ℕ) → t ≢ d → times t (without xs d) ≡ times t xs
 without_times [] d t ne = refl
@@ -174,23 +181,31 @@ module _ (m : Meaning) (l : Layout) (y : PartState) (found : ℕ) where
       by t some true = tested t some (x.cells == 5)
       by t some false = some
 
-  pub outside_keeps : (kind : EventKind) → Keeps (outside_after m l kind y found)
-  outside_keeps kinds.EnterLoad = same _ refl
-  outside_keeps kinds.Announce = same _ refl
-  outside_keeps kinds.EnterAgain = same _ refl
-  outside_keeps kinds.Idle = same _ refl
-  outside_keeps kinds.ScanEpoch = same _ refl
-  outside_keeps (kinds.ScanOne n) = scan y.stage
-  outside_keeps kinds.Advance = advance y.stage
-  outside_keeps kinds.Split = either (nat_lt y.records.splits l.runners) _ _ (same _ refl) (same y refl)
-  outside_keeps (kinds.Join worker) = same _ refl
-  outside_keeps (kinds.LoadCell (Some place)) = same _ refl
-  outside_keeps (kinds.LoadEntry request reply) = same _ refl
-  outside_keeps (kinds.PrivateLoad slot word) = either (nat_lt slot (slot_count l m.fixed_slots)) _ _ (looked slot word) (same _ refl)
-  outside_keeps (kinds.PrivateStore slot word number) = same _ refl
-  outside_keeps (kinds.Hold t d) = hold t d
-  outside_keeps (kinds.LoadThunk (Some d)) = same _ refl
-  outside_keeps kind = same _ refl
+  -- a slot comes from the board
+  drawn : (b : Bool) (slot : ℕ) → Keeps (record y { nodes = free_if b (lists.slot_drawn y.nodes slot) y.nodes })
+  drawn true slot = record { idle = λ t some. let more = times-append t y.nodes.free (slot ∷ []) in omega (arith, more, some) }
+  drawn false slot = same _ refl
+
+  -- but by a give
+  pub outside_keeps : (kind : EventKind) → is_give kind ≡ false → Keeps (outside_after m l kind y found)
+  outside_keeps kinds.EnterLoad kept = same _ refl
+  outside_keeps kinds.Announce kept = same _ refl
+  outside_keeps kinds.EnterAgain kept = same _ refl
+  outside_keeps kinds.Idle kept = same _ refl
+  outside_keeps kinds.ScanEpoch kept = same _ refl
+  outside_keeps (kinds.ScanOne n) kept = scan y.stage
+  outside_keeps kinds.Advance kept = advance y.stage
+  outside_keeps kinds.Split kept = either (nat_lt y.records.splits l.runners) _ _ (same _ refl) (same y refl)
+  outside_keeps (kinds.Join worker) kept = same _ refl
+  outside_keeps (kinds.LoadCell (Some place)) kept = same _ refl
+  outside_keeps (kinds.LoadEntry request reply) kept = same _ refl
+  outside_keeps (kinds.PrivateLoad slot word) kept = either (nat_lt slot (slot_count l m.fixed_slots)) _ _ (looked slot word) (same _ refl)
+  outside_keeps (kinds.PrivateStore slot word number) kept = same _ refl
+  outside_keeps (kinds.Hold t d) kept = hold t d
+  outside_keeps (kinds.LoadThunk (Some d)) kept = same _ refl
+  outside_keeps (kinds.BoardTake word link) kept = drawn (found == link) (value_of (link - 1))
+  outside_keeps (kinds.BoardGive word slot) kept = absurd (let z = kept in cc)
+  outside_keeps kind kept = same _ refl
 
 one_here : (i : ℕ) → ◌≡◌ {A = ℕ} (cond (i == i) 1 0) 1
 one_here i = grind (arith, nat_tests)

@@ -27,6 +27,7 @@ use Rattle.machine_states.proofs.Sights.{cond_none, unless_gone, joins}
 use Rattle.machine_states.proofs.Steps.{none_some}
 use Rattle.machine_states.proofs.Updates.{upd_here}
 use Rattle.resource_bounds.specs.machine_epochs.proofs.OutsideAsked.{enter_again_asked, read_asked}
+use Rattle.resource_bounds.specs.machine_epochs.proofs.BoardAsked.{board_give_asked}
 use Rattle.runner_facts.specs.machine_facts.specs.machine_agreement.proofs.Releases.{get_more}
 use Rattle.runner_facts.specs.machine_facts.specs.machine_invariant.specs.Whole.{IsWhole}
 use Rattle.resource_bounds.specs.reached_histories.specs.Kept.{link_of}
@@ -36,7 +37,7 @@ use Rattle.resource_bounds.specs.Versions.{open_count}
 use Rattle.one_worker.specs.Alone.{HasPublishedNone, NoneIsOpen}
 use Rattle.one_worker.proofs.Open.{owner, none_open}
 use Rattle.one_worker.proofs.Moves.{walk_count, read_count, Stays, Enters, MovesBy, inside_moves, outside_moves}
-use Rattle.one_worker.proofs.Idle.{idle_times, in_hand_idle, inside_keeps as inside_idle, outside_keeps as outside_idle}
+use Rattle.one_worker.proofs.Idle.{idle_times, in_hand_idle, is_give, inside_keeps as inside_idle, outside_keeps as outside_idle}
 use Rattle.one_worker.proofs.Quiet.{Publishes, leaves, no_make}
 
 -- the place is a cell of a slot that is in a runner's hand, free or worn
@@ -93,7 +94,7 @@ module _ (m : Meaning) (l : Layout) (rs : List Request) (s s' : Sight) (r : ℕ)
   -- the worker's part after the step
   moves : At 0 (s'.part 0)
   moves = subst (λ (t : Sight). At 0 (t.part 0)) (sym st.next)
-      (each_part m l s r x At (λ i z records gone h. h) kind (joins m l rs kind r y x st.asked)
+      (each_part m l s r x At (λ i z board records gone h. h) kind (joins m l rs kind r y x st.asked)
       (⊎_elim (λ stays. inl stays) (λ enters. inr (enters, refl)) stepped)
       (λ i ne. inl (record { was = λ entry e. e; walk = inl refl; few = λ h. h; noted = λ h noted. noted; none = λ noted h. h })) 0)
 
@@ -159,7 +160,7 @@ module _ (m : Meaning) (l : Layout) (rs : List Request) (s s' : Sight) (r : ℕ)
 
         there : (s'.part r).published ≡ Some (published_by p.thunk p.descriptor y)
         there = subst (λ (t : Sight). (t.part r).published ≡ Some (published_by p.thunk p.descriptor y)) (sym st.next)
-            (each_part m l s r x (λ i z. i ≡ r → z.published ≡ Some (published_by p.thunk p.descriptor y)) (λ i z records gone h. h) kind
+            (each_part m l s r x (λ i z. i ≡ r → z.published ≡ Some (published_by p.thunk p.descriptor y)) (λ i z board records gone h. h) kind
             (joins m l rs kind r y x st.asked) (λ e. now) (λ i ne e. absurd (ne e)) r refl)
 
         first : r ≡ 0
@@ -168,11 +169,18 @@ module _ (m : Meaning) (l : Layout) (rs : List Request) (s s' : Sight) (r : ℕ)
     -- no slot comes into use
     idle_stays : (i t : ℕ) → 1 ≤ idle_times (s.part i).nodes t → 1 ≤ idle_times (s'.part i).nodes t
     idle_stays i t = subst (λ (u : Sight). 1 ≤ idle_times (s.part i).nodes t → 1 ≤ idle_times (u.part i).nodes t) (sym st.next)
-        (each_part m l s r x (λ k z. 1 ≤ idle_times (s.part k).nodes t → 1 ≤ idle_times z.nodes t) (λ k z records gone h. h) kind
+        (each_part m l s r x (λ k z. 1 ≤ idle_times (s.part k).nodes t → 1 ≤ idle_times z.nodes t) (λ k z board records gone h. h) kind
         (joins m l rs kind r y x st.asked) (own_idle y.run refl) (λ k ne h. h) i)
       where
+        -- the worker is entered, and the keeper doesn't use the board
+        ungiven : (k : EventKind) → ask_by m l rs r k y None ≡ Some x → is_give k ≡ false
+        ungiven (kinds.BoardGive word slot) e =
+            let h = board_give_asked l r word slot y x e in let low = h.worker in
+            absurd (let z = sym (ap (λ i. (s.part i).stage) (omega (arith, low, one)) ∙ entered) ∙ h.idle in cc)
+        ungiven _ e = refl
+
         own_idle : (o : Option RunState) → y.run ≡ o → 1 ≤ idle_times y.nodes t → 1 ≤ idle_times (after_by m l kind y o found).nodes t
-        own_idle None is = (outside_idle m l y found kind).idle t
+        own_idle None is = (outside_idle m l y found kind (ungiven kind (ap (ask_by m l rs r kind y) (sym is) ∙ asked))).idle t
         own_idle (Some q) is = (inside_idle m l y found q kind
             (λ opened makes none. no_make m l rs before.beside s whole quiet r kind x 0 asked q is opened makes none)).idle t
 

@@ -9,6 +9,9 @@ pub mod Reached
 mod Guards
 pub mod EpochsReached
 pub mod Onward
+mod Slots
+mod Resting
+pub mod BoardReached
 mod Lines
 mod Parts
 mod Cells

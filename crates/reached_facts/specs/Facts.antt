@@ -21,6 +21,7 @@ use Rattle.one_worker.specs.resource_bounds.specs.Versions.{VersionsAreCounted}
 use Rattle.one_worker.specs.resource_bounds.specs.Makes.{MakesAreCounted, FewAreAdded}
 use Rattle.one_worker.specs.resource_bounds.specs.InUse.{FewAreInUse}
 use Rattle.one_worker.specs.Uncrossed.{OneWorkerIsUncrossed}
+use Rattle.one_worker.specs.Ungiven.{LoneBoardIsEmpty}
 
 module _ (m : Meaning) (layout : Layout) (requests : List Request) where
   -- all that holds of one state
@@ -47,8 +48,9 @@ module _ (m : Meaning) (layout : Layout) (requests : List Request) where
     pub versions : VersionsAreCounted layout s
     pub makes : (per_pair : ℕ) → PlannerLaws m per_pair → MakesAreCounted m layout requests s
     pub in_use : (per_pair : ℕ) → PlannerLaws m per_pair → FewAreInUse per_pair m layout requests s
-    -- nobody crosses the steps of an only worker
+    -- nobody crosses the steps of an only worker, and one that keeps its slots leaves the board empty
     pub uncrossed : OneWorkerIsUncrossed layout s
+    pub ungiven : LoneBoardIsEmpty layout s
 
   -- the layout and the requests are allowed, and each reached state has these facts
   pub record KeepsFacts : Type 0 where

@@ -8,10 +8,10 @@ use lock_words::runner_facts::{
 };
 use lock_words::spent_words_stand;
 use machine_states::structure_laws::Structure;
-use one_worker::one_worker_is_uncrossed;
 use one_worker::resource_bounds::{
     few_pairs_are_added, few_slots_are_in_use, makes_are_counted, versions_are_counted,
 };
+use one_worker::{lone_board_is_empty, one_worker_is_uncrossed};
 use request_facts::reached_callers_stand;
 use request_facts::reached_histories::reached_states_have_histories;
 use version_words::machine_invariant::lists_are_short;
@@ -39,4 +39,5 @@ pub fn table_keeps_its_facts<S: Structure>(table: &FlockTable<S>)
     makes_are_counted(structure);
     few_slots_are_in_use(structure);
     one_worker_is_uncrossed(structure);
+    lone_board_is_empty(structure);
 }

@@ -8,7 +8,8 @@ mod Kept
 pub mod Reached
 mod Lines
 mod MakesSums
-mod Entries
+pub mod Entries
+pub mod Above
 mod Sections
 mod MakesKept
 pub mod MakesReached

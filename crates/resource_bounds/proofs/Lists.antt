@@ -1,9 +1,11 @@
 -- Numbers that all stand in a list are no more than it is long.
 use Rattle.std.specs.Prelude.{◌==◌, ◌&&◌, nat_lt, cond, map, Bool, true, false}
-use Rattle.std.proofs.Common.{◌≡◌, ℕ, zero, suc, ◌+◌, ◌<◌, ◌≤◌, List, [], ◌∷◌, ◌++◌, length, length-append, refl, subst, ⊎_elim, arith}
+use Rattle.std.proofs.Common.{◌≡◌, ℕ, zero, suc, ◌+◌, ◌<◌, ◌≤◌, List, [], ◌∷◌, ◌++◌, length, length-append, refl, sym, ap, ◌∙◌, subst, ⊎_elim, arith}
 use Rattle.std.proofs.lemmas.Bool.{cases_eq}
 use Rattle.std.proofs.lemmas.Bool.Decides.{nat_tests}
 use Rattle.std.proofs.lemmas.List.{length-map}
+use Rattle.machine_states.specs.table_words.specs.declared.spot.Spot.{Spot}
+use Rattle.machine_states.specs.table_words.specs.declared.spot.Spot.TheVariants.{Board}
 use Rattle.machine_states.specs.runner_parts.specs.declared.entries.Retired.{Retired}
 use Rattle.machine_states.specs.runner_parts.specs.State.{NodesState, PartState}
 use Rattle.machine_states.specs.runner_parts.specs.Lists.{slots_of, entry_count}
@@ -12,7 +14,7 @@ use Rattle.machine_states.specs.epoch_core.proofs.Times.{times-append}
 use Rattle.machine_epochs.specs.Descriptors.{times_limbo}
 use Rattle.machine_epochs.specs.Slots.{entry_of}
 use Rattle.reached_histories.specs.machine_facts.specs.machine_invariant.specs.Slots.{times_among}
-use Rattle.resource_bounds.specs.InUse.{entries_below}
+use Rattle.resource_bounds.specs.InUse.{entries_below, named_below}
 
 -- how many entries are below a number
 abbrev below : ℕ → List ℕ → ℕ
@@ -92,3 +94,41 @@ more_waits false c i k le = omega (arith, le)
 pub retired_waits : (t y : ℕ) (xs : List Retired) → times_retired t y (map entry_of xs) ≤ times_limbo t xs
 retired_waits t y [] = omega arith
 retired_waits t y (x ∷ xs) = more_waits (x.slot == t) (x.epoch == y) _ _ (retired_waits t y xs)
+
+-- the slot that a word of the board names, if it names one
+abbrev slot_named : ℕ → List ℕ
+slot_named zero = []
+slot_named (suc t) = t ∷ []
+
+-- those that the first words name
+abbrev pub slots_named : (Spot → ℕ) → ℕ → List ℕ
+slots_named word zero = []
+slots_named word (suc n) = slots_named word n ++ slot_named (word (Board n))
+
+pub named_length : (word : Spot → ℕ) (n : ℕ) → length (slots_named word n) ≡ named_below word n
+named_length word zero = refl
+named_length word (suc n) =
+    let rest = named_length word n in let one = here (word (Board n)) in
+    let sum = length-append (slots_named word n) (slot_named (word (Board n))) in omega (arith, rest, one, sum)
+  where
+    here : (v : ℕ) → length (slot_named v) ≡ cond (v == 0) 0 1
+    here zero = refl
+    here (suc t) = some t
+      where
+        some : (t : ℕ) → ◌≡◌ {A = ℕ} 1 (cond (suc t == 0) 0 1)
+        some t = grind (arith, nat_tests)
+
+pub named_times : (word : Spot → ℕ) (i t n : ℕ) → i < n → word (Board i) ≡ suc t → 1 ≤ times t (slots_named word n)
+named_times word i t zero low named = absurd (omega (arith, low))
+named_times word i t (suc n) low named =
+    let sum = times-append t (slots_named word n) (slot_named (word (Board n))) in
+    ⊎_elim
+    (λ e. let here = one (word (Board n)) (ap (λ k. word (Board k)) (sym e) ∙ named) in omega (arith, sum, here))
+    (λ ne. let rest = named_times word i t n (omega (arith, low, ne)) named in omega (arith, sum, rest))
+    (cases_eq i n)
+  where
+    itself : (k : ℕ) → 1 ≤ cond (k == k) (1 + 0) 0
+    itself k = grind (arith, nat_tests)
+
+    one : (v : ℕ) → v ≡ suc t → 1 ≤ times t (slot_named v)
+    one v is = subst (λ (u : ℕ). 1 ≤ times t (slot_named u)) (sym is) (itself t)

@@ -1,6 +1,6 @@
 -- What Makes used up is kept along the machine's steps.
 use Rattle.std.specs.Prelude.{◌⊎◌, count_by, true, if◌then◌else◌}
-use Rattle.std.proofs.Common.{◌≡◌, ◌≢◌, ℕ, zero, suc, ◌+◌, ◌<◌, ◌≤◌, List, length, refl, sym, ap, ◌∙◌, subst, ⊎_elim, inl, inr, arith, Option, Some, None}
+use Rattle.std.proofs.Common.{◌≡◌, ◌≢◌, ℕ, zero, suc, ◌+◌, ◌<◌, ◌≤◌, List, length, refl, sym, ap, ◌∙◌, subst, ⊎_elim, inl, inr, arith, Some}
 use Rattle.std.proofs.lemmas.Bool.{cases_eq}
 use Rattle.machine_states.specs.epoch_core.specs.small_lemmas.proofs.Numbers.{chosen_here as one_here}
 use Rattle.machine_states.specs.map_history.specs.declared.op.Request.{Request}
@@ -25,11 +25,11 @@ use Rattle.machine_states.specs.structure_laws.specs.Planner.{PlannerLawsOver}
 use Rattle.machine_states.specs.structure_laws.specs.Shape.{HasStep}
 use Rattle.machine_states.specs.runner_parts.specs.declared.entries.Published.{Published}
 use Rattle.machine_states.specs.runner_parts.specs.declared.event.Event.{Event}
-use Rattle.machine_states.specs.runner_parts.specs.declared.event.EventKind.{EventKind}
 use Rattle.machine_states.specs.runner_parts.specs.declared.event.EventKind.TheVariants as kinds
 use Rattle.machine_states.specs.runner_parts.specs.State.{RunState, PartState}
 use Rattle.machine_states.specs.runner_steps.specs.Asks.{opening_ask}
-use Rattle.machine_states.specs.Blockless.{ask_by, line_ask, outside_ask, after_by}
+use Rattle.machine_states.specs.runner_steps.specs.After.{leaves}
+use Rattle.machine_states.specs.Blockless.{ask_by, line_ask, after_by, after}
 use Rattle.machine_states.specs.runner_steps.specs.Sections.{is_open_run, next_of}
 use Rattle.machine_states.specs.World.{World}
 use Rattle.machine_states.specs.Reached.{Reached}
@@ -39,7 +39,6 @@ use Rattle.machine_states.proofs.Steps.{some_same}
 use Rattle.machine_states.proofs.Updates.{upd_here, upd_else}
 use Rattle.machine_epochs.specs.Slots.{thunk_in}
 use Rattle.machine_epochs.proofs.InsideAsked.{make_commit_asked}
-use Rattle.machine_epochs.proofs.OutsideAsked.{hold_asked}
 use Rattle.machine_epochs.proofs.RunPlaces.{next_in_line, open_run}
 use Rattle.reached_histories.specs.machine_facts.specs.machine_agreement.proofs.LineAsked as asked_line
 use Rattle.reached_histories.specs.machine_facts.specs.machine_agreement.proofs.RunPlaces.{run_here, used_here, opened_thunk}
@@ -59,7 +58,8 @@ use Rattle.machine_states.specs.epoch_core.specs.History.{is_out}
 use Rattle.resource_bounds.specs.Makes.{slots_left}
 use Rattle.resource_bounds.proofs.Lines.{makes_in, few_makes, some_make, makes_stay, makes_more}
 use Rattle.resource_bounds.proofs.MakesSums.{total, total_more}
-use Rattle.resource_bounds.proofs.Entries.{Stays, WinsMake, Ends, Leaves, inside_leaves, MayGo, outside_leaves}
+use Rattle.resource_bounds.proofs.Entries.{Stays, WinsMake, Ends, Gives, Leaves}
+use Rattle.resource_bounds.proofs.Above.{leaves_own, above_own, above_before}
 use Rattle.resource_bounds.proofs.Releases.{released_done}
 use Rattle.resource_bounds.proofs.Sections.{reply_new, publisher, unreplied, answers_new}
 
@@ -90,7 +90,7 @@ module _ (m : Meaning) (l : Layout) (rs : List Request) where
   -- by request, how many Makes were won for it
   pub record Counted (s : Sight) : Type 0 where
     pub won : ℕ → ℕ
-    pub slots : (r : ℕ) → r < l.runners → l.nodes ≤ slots_left (s.part r).nodes + total won (length rs)
+    pub slots : (r : ℕ) → r < l.runners → (s.part r).records.gave_above ≡ true → l.nodes ≤ slots_left (s.part r).nodes + total won (length rs)
     pub most : (q : ℕ) → IsMost s q (won q)
 
 -- of a state: what is published is a section, whose thunk stands there
@@ -179,16 +179,8 @@ module _ (m : Meaning) (laws : Laws m) (l : Layout) (limits : IsWithinLimits l) 
   asked : ask_by m l rs r e.kind p p.run ≡ Some x
   asked = (unless_gone _ p.gone _ x st.asked).1
 
-  may : (kind : EventKind) → outside_ask m l rs r kind p ≡ Some x → MayGo m l p once found kind
-  may (kinds.Hold t d) h = (hold_asked m l rs r t d p x h).unpublished
-  may _ h = tt
-
-  own_leaves : Leaves p (after_by m l e.kind p p.run found) e.kind found
-  own_leaves = by p.run refl asked
-    where
-      by : (o : Option RunState) → p.run ≡ o → ask_by m l rs r e.kind p o ≡ Some x → Leaves p (after_by m l e.kind p o found) e.kind found
-      by None is h = outside_leaves m l p once found e.kind (may e.kind h)
-      by (Some q) is h = inside_leaves m l p once found q is e.kind
+  own_leaves : Leaves l p (after_by m l e.kind p p.run found) e.kind found
+  own_leaves = leaves_own m l rs s s' r e.kind st once
 
   -- a part after the step, by the runner's own and by the others that are as before
   parts : (Q : ℕ → PartState → Type 0) → IsBlind Q → Q r (after_by m l e.kind p p.run found) → ((i : ℕ) → i ≢ r → Q i (s.part i)) → (i : ℕ) → Q i (s'.part i)
@@ -198,7 +190,7 @@ module _ (m : Meaning) (laws : Laws m) (l : Layout) (limits : IsWithinLimits l) 
   -- a published section stays until its publisher has run it to its end
   published_stays : (i : ℕ) (y : Published) → (s.part i).published ≡ Some y → Stays y (s'.part i).published ⊎ Ends p e.kind y.descriptor
   published_stays = parts (λ i p'. (y : Published) → (s.part i).published ≡ Some y → Stays y p'.published ⊎ Ends p e.kind y.descriptor)
-      (λ i p' records gone h. h) own_leaves.published (λ i ne y is. inl (y, is, refl, refl))
+      (λ i p' board records gone h. h) own_leaves.published (λ i ne y is. inl (y, is, refl, refl))
 
   -- a run releases a lock behind the store of its section's done word
   ended_done : (q : RunState) → p.run ≡ Some q → is_open_run q ≡ true → e.kind ≡ kinds.Release → s.word (spots.DoneWord q.descriptor) ≢ 0
@@ -249,12 +241,29 @@ module _ (m : Meaning) (laws : Laws m) (l : Layout) (limits : IsWithinLimits l) 
     kept : slots_left p.nodes ≤ slots_left (after_by m l e.kind p p.run found).nodes → Counted m l rs s'
     kept least = record {
       won = old.won;
-      slots = λ i low. let before = old.slots i low in let more = entries i in omega (arith, before, more);
+      slots = λ i low above'. let before = old.slots i low (above_before m l rs s s' r e.kind st once i above') in let more = entries i in omega (arith, before, more);
       most = λ q. most_keeps q (old.won q) (old.most q);
     }
       where
         entries : (i : ℕ) → slots_left (s.part i).nodes ≤ slots_left (s'.part i).nodes
-        entries = parts (λ i p'. slots_left (s.part i).nodes ≤ slots_left p'.nodes) (λ i p' records gone h. h) least (λ i ne. omega arith)
+        entries = parts (λ i p'. slots_left (s.part i).nodes ≤ slots_left p'.nodes) (λ i p' board records gone h. h) least (λ i ne. omega arith)
+
+    -- it leaves the runner as many as it had at first, or gave away too many
+    gave : Gives l (after_by m l e.kind p p.run found) → Counted m l rs s'
+    gave given = record {
+      won = old.won;
+      slots = λ i low above'. ⊎_elim
+          (λ same. let least = given.enough (above_own m l rs s s' r e.kind st once (ap (λ k. (s'.part k).records.gave_above) (sym same) ∙ above')) in let now = own i same in omega (arith, least, now))
+          (λ ne. let before = old.slots i low (above_before m l rs s s' r e.kind st once i above') in let rest = others i ne in omega (arith, before, rest))
+          (cases_eq i r);
+      most = λ q. most_keeps q (old.won q) (old.most q);
+    }
+      where
+        own : (i : ℕ) → i ≡ r → slots_left (after_by m l e.kind p p.run found).nodes ≤ slots_left (s'.part i).nodes
+        own = parts (λ i p'. i ≡ r → slots_left (after_by m l e.kind p p.run found).nodes ≤ slots_left p'.nodes) (λ i p' board records gone h. h) (λ same. omega arith) (λ i ne same. absurd (ne same))
+
+        others : (i : ℕ) → i ≢ r → slots_left (s.part i).nodes ≤ slots_left (s'.part i).nodes
+        others = parts (λ i p'. i ≢ r → slots_left (s.part i).nodes ≤ slots_left p'.nodes) (λ i p' board records gone h. h) (λ ne. absurd (ne refl)) (λ i ne ne'. omega arith)
 
     -- it does
     module _ (wins : WinsMake p (after_by m l e.kind p p.run found) e.kind found) where
@@ -366,12 +375,12 @@ module _ (m : Meaning) (laws : Laws m) (l : Layout) (limits : IsWithinLimits l) 
             (cases_eq q n)
 
         entries : (i : ℕ) → slots_left (s.part i).nodes ≤ suc (slots_left (s'.part i).nodes)
-        entries = parts (λ i p'. slots_left (s.part i).nodes ≤ suc (slots_left p'.nodes)) (λ i p' records gone h. h) wins.less (λ i ne. omega arith)
+        entries = parts (λ i p'. slots_left (s.part i).nodes ≤ suc (slots_left p'.nodes)) (λ i p' board records gone h. h) wins.less (λ i ne. omega arith)
 
         won_more : Counted m l rs s'
         won_more = record {
           won = won';
-          slots = λ i low. let before = old.slots i low in let less = entries i in let sum = total_more old.won n (length rs) few in
+          slots = λ i low above'. let before = old.slots i low (above_before m l rs s s' r e.kind st once i above') in let less = entries i in let sum = total_more old.won n (length rs) few in
               omega (arith, before, less, sum);
           most = most';
         }
@@ -380,4 +389,4 @@ module _ (m : Meaning) (laws : Laws m) (l : Layout) (limits : IsWithinLimits l) 
       won_one = let c = make_commit_asked q0 x (next_of m q0) in_line in won_more c.0 c.2.log c.2.step c.2.is
 
     pub counted_on : Counted m l rs s'
-    counted_on = ⊎_elim kept won_one own_leaves.slots
+    counted_on = ⊎_elim kept (λ more. ⊎_elim won_one gave more) own_leaves.slots

@@ -53,7 +53,7 @@ module _ (m : Meaning) (laws : Laws m) (l : Layout) (limits : IsWithinLimits l) 
   first_has : (w : World) → IsFirst m l rs w → Counted m l rs (sight m l rs w)
   first_has w first = record {
     won = λ q. 0;
-    slots = λ r low. let same = ap (λ (p : PartState). slots_left p.nodes) (first_parts m l w.parts first.parts r) in let all = first_entries r low in
+    slots = λ r low above. let same = ap (λ (p : PartState). slots_left p.nodes) (first_parts m l w.parts first.parts r) in let all = first_entries r low in
         omega (arith, same, all);
     most = λ q. inl refl;
   }
@@ -71,9 +71,9 @@ module _ (m : Meaning) (laws : Laws m) (l : Layout) (limits : IsWithinLimits l) 
   counted w reached = (reached_has m l rs Has (λ v start. record { reached = first_reached m l rs v start; has = first_has v start }) step_has w reached).has
 
   pub reached_counted : (w : World) → Reached m l rs w → MakesAreCounted m l rs (sight m l rs w)
-  reached_counted w reached no_lock r low =
+  reached_counted w reached no_lock r low above =
       let most = total_added s.word at.won (length rs) settles in
-      let slots = at.slots r low in omega (arith, most, slots)
+      let slots = at.slots r low above in omega (arith, most, slots)
     where
       s : Sight
       s = sight m l rs w

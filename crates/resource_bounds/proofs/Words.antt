@@ -26,6 +26,7 @@ use Rattle.machine_states.proofs.Steps.{some_same}
 use Rattle.machine_states.proofs.Updates.{put_same}
 use Rattle.machine_epochs.proofs.InsideAsked as inside
 use Rattle.machine_epochs.proofs.OutsideAsked as outside
+use Rattle.machine_epochs.proofs.BoardAsked as board
 use Rattle.machine_epochs.proofs.ReadsAsked as reads
 
 -- the kinds that may change a cell: in a run, and outside one
@@ -119,6 +120,9 @@ module _ (f : Spot → ℕ) (p : ℕ) where
     outside_stays (kinds.Hold thunk d) no_change e = absurd (true≢false no_change)
     outside_stays (kinds.Guard d) no_change e = subst Stays (outside.guard_asked l r d y x e).is refl
     outside_stays (kinds.LoadGuard n) no_change e = loaded _ x (outside.load_guard_asked l n y x e).is
+    outside_stays (kinds.BoardLoad word) no_change e = loaded _ x (board.board_load_asked l r word y x e).is
+    outside_stays (kinds.BoardTake word link) no_change e = subst Stays (board.board_take_asked l r word link y x e).is refl
+    outside_stays (kinds.BoardGive word slot) no_change e = subst Stays (board.board_give_asked l r word slot y x e).is refl
     outside_stays (kinds.LoadThunk (Some d)) no_change e = loaded _ x (outside.open_asked d y x e).3
     outside_stays (kinds.ReadPlan thunk) no_change e = subst Stays (reads.read_plan_asked r thunk y x e).is refl
     outside_stays kinds.ReadClock no_change e = loaded _ x (reads.read_clock_asked y x e).is

@@ -24,12 +24,12 @@ HoldsNoLock m word = (p : ℕ) → m.is_lock p ≡ true → value_of (word (Cell
 abbrev pub slots_left : NodesState → ℕ
 slots_left n = length n.hand + (length n.free + length n.worn)
 
--- where no lock is held: of a worker's slots only those are gone that Makes used up, which are at most two for each
--- request that added a pair, or put a new one in the place of another. What it retired comes on top, though it may
--- wait in limbo for ever
+-- where no lock is held: of the slots of a worker that gave away none but what it had above its own number, only those
+-- are gone that Makes used up, which are at most two for each request that added a pair, or put a new one in the place
+-- of another. What it retired comes on top, though it may wait in limbo for ever
 abbrev pub MakesAreCounted : Meaning → Layout → List Request → Sight → Type 0
 MakesAreCounted m l requests s = HoldsNoLock m s.word → (r : ℕ) → r < l.runners
-    → l.nodes ≤ slots_left (s.part r).nodes + 2 * added s.word (length requests)
+    → (s.part r).records.gave_above ≡ true → l.nodes ≤ slots_left (s.part r).nodes + 2 * added s.word (length requests)
 
 -- how many requests may add a pair
 abbrev pub inserts : List Request → ℕ

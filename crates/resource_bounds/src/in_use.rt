@@ -13,9 +13,9 @@ ghost use Rattle.resource_bounds.specs.InUse.{FewAreInUse};
 use machine_states::structure_laws::Structure;
 
 /// In every state that the machine reaches, over a structure that gives what planners need: where no lock is held, the
-/// workers' node slots and the keeper's are all free, looked at, waiting or worn with some runner, but for `per_pair`
-/// at most for each pair of the map to which the history leads. For each of them is live or in a list, and by the
-/// structure's law few are live.
+/// workers' node slots and the keeper's are all free, looked at, waiting or worn with some runner, or on the board, but
+/// for `per_pair` at most for each pair of the map to which the history leads. For each of them is live, in a list or
+/// on the board, and by the structure's law few are live.
 pub fn few_slots_are_in_use<S: Structure>(structure: &S)
     ensures { (per_pair : ℕ) (layout : Layout) (requests : List Request) (w : World)
         → PlannerLaws (S.meaning structure.now) per_pair

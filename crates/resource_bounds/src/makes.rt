@@ -12,11 +12,12 @@ ghost use Rattle.resource_bounds.specs.Makes.{MakesAreCounted, FewAreAdded};
 
 use machine_states::structure_laws::Structure;
 
-/// In every state that the machine reaches, over a structure that gives what planners need: where no lock is held, each
-/// worker's free, looked at and worn node slots, with two for each request that added a pair or replaced one, are at
-/// least as many as the layout gives it; those that wait in limbo come on top. For each Make that won used up one slot,
-/// a Retire that won adds to the limbo alone, sections that left won none, and of each request one section at most has
-/// won any: one that is done and answered that it added a pair or replaced one.
+/// In every state that the machine reaches, over a structure that gives what planners need: where no lock is held and a
+/// worker gave to the board only what it had above the number that the layout gives it, its free, looked at and worn
+/// node slots, with two for each request that added a pair or replaced one, are at least as many; those that wait in
+/// limbo come on top. For each Make that won used up one slot, a Retire that won adds to the limbo alone, sections that
+/// left won none, and of each request one section at most has won any: one that is done and answered that it added a
+/// pair or replaced one.
 pub fn makes_are_counted<S: Structure>(structure: &S)
     ensures { (per_pair : ℕ) (layout : Layout) (requests : List Request) (w : World)
         → PlannerLaws (S.meaning structure.now) per_pair

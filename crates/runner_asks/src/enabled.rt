@@ -5,6 +5,7 @@ ghost use Rattle.runner_steps.specs.table_words.specs.Limits.{IsWithinLimits};
 ghost use Rattle.runner_steps.specs.table_words.specs.Places.{sizes_of};
 ghost use Rattle.runner_steps.specs.Asks.{outside_ask, line_ask, opening_ask, inside_ask, ask_by, fitting, sizes_for, asks};
 
+use crate::board::{board_give_ask, board_load_ask, board_take_ask};
 use crate::guards::{guard_ask, load_guard_ask};
 use crate::inside::{
     clock_load_ask, clock_raise_ask, commit_ask, epoch_for_retire_ask, exchange_cell_ask,
@@ -162,6 +163,9 @@ fn outside_ask<S: Structure>(
         EventKind::ReadStamp => read_stamp_ask(part),
         EventKind::Guard(descriptor) => guard_ask(part, layout, runner, *descriptor),
         EventKind::LoadGuard(number) => load_guard_ask(part, layout, *number),
+        EventKind::BoardLoad(word) => board_load_ask(part, layout, runner, *word),
+        EventKind::BoardTake(word, link) => board_take_ask(part, layout, runner, *word, *link),
+        EventKind::BoardGive(word, slot) => board_give_ask(part, layout, runner, *word, *slot),
         _ => None,
     }
 }

@@ -1,10 +1,12 @@
 //! What one runner may do next, computed: the word that an event meets, and how.
 //!
 //! `enabled` has `asks`, by `outside` for a runner in no run, `inside` for one in a run, `reads` for reads without a
-//! lock and `guards` for guard words. `section` reads a run's place off its body's line and its trail, `knowledge` and
-//! `stores` say what a runner can tell from what it keeps. The definitions stand in `runner_steps` and `runner_parts`.
+//! lock, `guards` for guard words and `board` for the board. `section` reads a run's place off its body's line and its
+//! trail, `knowledge` and `stores` say what a runner can tell from what it keeps. The definitions stand in
+//! `runner_steps` and `runner_parts`.
 #![tactic(auto)]
 
+mod board;
 mod enabled;
 mod guards;
 mod inside;

@@ -5,7 +5,8 @@ ghost use Rattle.machine_states.specs.runner_parts.specs.Tests.{has};
 ghost use Rattle.machine_states.specs.epoch_core.specs.Lists.{times};
 ghost use Rattle.machine_states.specs.runner_steps.specs.AfterOutside.{with_stage, collected, scan_one_after, advance_after, split_after};
 ghost use Rattle.machine_states.specs.runner_steps.specs.Guards.{load_guard_after};
-ghost use Rattle.machine_states.specs.runner_parts.specs.Lists.{slot_taken, slot_made, slot_back, slot_retired, nodes_looked};
+ghost use Rattle.machine_states.specs.runner_steps.specs.Board.{free_if};
+ghost use Rattle.machine_states.specs.runner_parts.specs.Lists.{slot_taken, slot_made, slot_back, slot_retired, slot_given, slot_drawn, nodes_looked};
 ghost use Rattle.runner_block.specs.Scans.{scan_of};
 ghost use Rattle.runner_block.specs.Kept.{loaded_of, scanned_of, held_in, entered_in, over_in, with_part, with_nodes};
 ghost use Rattle.runner_block.specs.Room.{AreFew, most_guards};
@@ -335,6 +336,30 @@ impl Kept {
         ensures { self.new ≡ with_nodes self.old (slot_retired self.old.part.nodes slot epoch) }
     {
         self.nodes.retire(slot, epoch);
+    }
+
+    /// An exchange was to put a free slot onto the board, and won or lost.
+    pub fn give_slot(&mut self, slot: u32, won: bool)
+        requires own { has self.old.part.nodes.free slot ≡ true }
+        requires once { times slot self.old.part.nodes.free ≤ 1 }
+        ensures { self.new ≡ with_nodes self.old
+            (free_if won (slot_given self.old.part.nodes slot) self.old.part.nodes) }
+    {
+        if won {
+            self.nodes.give(slot);
+        }
+    }
+
+    /// An exchange was to take a slot from the board, and won or lost: where it won the slot is free.
+    pub fn draw_slot(&mut self, slot: u32, won: bool)
+        requires node { won ≡ true → slot < self.old.room }
+        requires few { won ≡ true → AreFew self.old.room (slot_drawn self.old.part.nodes slot) }
+        ensures { self.new ≡ with_nodes self.old
+            (free_if won (slot_drawn self.old.part.nodes slot) self.old.part.nodes) }
+    {
+        if won {
+            self.nodes.draw(slot);
+        }
     }
 
     /// A cell of an own node slot was loaded outside a run.

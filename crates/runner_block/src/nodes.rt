@@ -1,6 +1,6 @@
 //! The own node slots, as a runner's code keeps them.
 ghost use Rattle.std.specs.Prelude.{◌≡◌, ◌+◌, ◌-◌, ◌<◌, ◌≤◌, ◌^◌, IfOk, length, true, if◌then◌else◌};
-ghost use Rattle.machine_states.specs.runner_parts.specs.Lists.{nodes_collected, slot_taken, slot_made, slot_back, slot_retired, slot_tested, nodes_looked, one_more};
+ghost use Rattle.machine_states.specs.runner_parts.specs.Lists.{nodes_collected, slot_taken, slot_made, slot_back, slot_retired, slot_given, slot_drawn, slot_tested, nodes_looked, one_more};
 ghost use Rattle.machine_states.specs.runner_parts.specs.Tests.{has};
 ghost use Rattle.machine_states.specs.epoch_core.specs.Lists.{times};
 ghost use Rattle.machine_states.specs.First.{falling};
@@ -121,6 +121,24 @@ impl NodeLists {
         ensures { self.new ≡ nodes_are self.old (slot_retired self.old.lists slot epoch) }
     {
         self.limbo.push_reserved(Retired { slot, epoch });
+    }
+
+    /// A free slot went onto the board.
+    pub fn give(&mut self, slot: u32)
+        requires own { has self.old.lists.free slot ≡ true }
+        requires once { times slot self.old.lists.free ≤ 1 }
+        ensures { self.new ≡ nodes_are self.old (slot_given self.old.lists slot) }
+    {
+        take_out(&mut self.free, slot);
+    }
+
+    /// A slot was taken from the board, and is free.
+    pub fn draw(&mut self, slot: u32)
+        requires node { slot < self.old.room }
+        requires few { AreFew self.old.room (slot_drawn self.old.lists slot) }
+        ensures { self.new ≡ nodes_are self.old (slot_drawn self.old.lists slot) }
+    {
+        self.free.push_reserved(slot);
     }
 
     /// A slot in the hand comes back to the free list, or to the worn list.

@@ -32,6 +32,7 @@ use Rattle.machine_states.proofs.Updates.{put_same}
 use Rattle.machine_facts.specs.machine_agreement.specs.machine_epochs.proofs.InsideAsked as inside
 use Rattle.machine_facts.specs.machine_agreement.specs.machine_epochs.proofs.OutsideAsked as outside
 use Rattle.machine_facts.specs.machine_agreement.specs.machine_epochs.proofs.ReadsAsked as reads
+use Rattle.machine_facts.specs.machine_agreement.specs.machine_epochs.proofs.BoardAsked as board
 
 -- the place in the log to which a step commits
 abbrev pub log_of : Micro → ℕ
@@ -193,4 +194,7 @@ module _ (f : Spot → ℕ) (d k : ℕ) where
     outside_log kinds.ReadClock e = loads _ x (reads.read_clock_asked y x e).is
     outside_log kinds.ReadReply e = subst LogStays (reads.read_reply_asked m l rs r y x e).is refl
     outside_log kinds.ReadStamp e = subst LogStays (reads.read_stamp_asked y x e).is refl
+    outside_log (kinds.BoardLoad word) e = loads _ x (board.board_load_asked l r word y x e).is
+    outside_log (kinds.BoardTake word link) e = subst LogStays (board.board_take_asked l r word link y x e).is refl
+    outside_log (kinds.BoardGive word slot) e = subst LogStays (board.board_give_asked l r word slot y x e).is refl
     outside_log _ e = some_none x e

@@ -287,6 +287,8 @@ module _ (m : Meaning) (l : Layout) (word : Spot → ℕ) where
     outside_worn (kinds.PrivateStore slot word number) h = rests _ refl (same p.nodes)
     outside_worn (kinds.Hold t d) h = either (found == t.word) _ _ (rests _ refl (same p.nodes)) (rests _ refl (same p.nodes))
     outside_worn (kinds.LoadThunk (Some d)) h = kept p _ (same p.nodes) (fills_unmade _ refl) old
+    outside_worn (kinds.BoardTake word link) h = rests _ refl (record { worn = refl; tests = refl })
+    outside_worn (kinds.BoardGive word slot) h = rests _ refl (record { worn = refl; tests = refl })
     outside_worn _ h = rests _ refl (same p.nodes)
 
 -- each step
@@ -383,7 +385,7 @@ module _ (m : Meaning) (l : Layout) (rs : List Request) (s s' : Sight) (r : ℕ)
   worn_kept : ((i : ℕ) → IsWorn m l s.word (s.part i)) → (i : ℕ) → IsWorn m l s'.word (s'.part i)
   worn_kept old i = subst (λ (y : Sight). IsWorn m l s'.word (y.part i)) (sym st.step.next)
       (each_part m l s r st.step.ask (λ k p'. IsWorn m l s'.word p')
-      (λ k p' records gone h. record { listed = h.listed; tested = h.tested; filled = h.filled })
+      (λ k p' board records gone h. record { listed = h.listed; tested = h.tested; filled = h.filled })
       kind (joins m l rs kind r p st.step.ask st.step.asked)
       (own_worn p.run refl (unless_gone _ p.gone _ st.step.ask st.step.asked).1 (old r))
       (λ k ne. words (s.part k) (old k)) i)

@@ -12,6 +12,7 @@ use Rattle.runner_parts.specs.State.{RunState, PartState}
 use Rattle.runner_steps.specs.Sections.{is_open_run, next_of}
 use Rattle.runner_steps.specs.Outside.{Ask, enter_load_ask, announce_ask, enter_again_ask, idle_ask, scan_one_ask, advance_ask, split_ask, join_ask, read_ask, entry_ask, private_load_ask, private_store_ask, hold_ask, open_ask}
 use Rattle.runner_steps.specs.Guards.{guard_ask, load_guard_ask}
+use Rattle.runner_steps.specs.Board.{board_load_ask, board_take_ask, board_give_ask}
 use Rattle.runner_steps.specs.Reads.{read_plan_ask, read_clock_ask, read_reply_ask, read_stamp_ask}
 use Rattle.runner_steps.specs.InRun.{open_more_ask, load_done_ask, commit_ask, load_cell_ask, exchange_cell_ask, fill_load_ask, private_store_in_run_ask, link_commit_ask, make_commit_ask, retire_commit_ask, epoch_for_retire_ask, clock_load_ask, stamp_exchange_ask, clock_raise_ask, reply_exchange_ask, nested_load_ask, nested_hold_ask, outcome_load_ask, outcome_commit_ask, set_done_ask, release_ask}
 
@@ -38,6 +39,9 @@ outside_ask m l requests r kinds.ReadReply p = read_reply_ask m l requests r p p
 outside_ask m l requests r kinds.ReadStamp p = read_stamp_ask p p.reads.look
 outside_ask m l requests r (kinds.Guard d) p = guard_ask l r d p
 outside_ask m l requests r (kinds.LoadGuard n) p = load_guard_ask l n p
+outside_ask m l requests r (kinds.BoardLoad word) p = board_load_ask l r word p
+outside_ask m l requests r (kinds.BoardTake word link) p = board_take_ask l r word link p
+outside_ask m l requests r (kinds.BoardGive word slot) p = board_give_ask l r word slot p
 outside_ask m l requests r _ p = None
 
 -- what a run asks that has loaded its thunk and its done word, and stands before this step; `free` is the

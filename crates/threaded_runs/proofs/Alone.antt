@@ -1,7 +1,7 @@
 -- What the words of a closed table hold where there was one worker.
 use Rattle.std.specs.Prelude.{◌*◌, ◌%◌, ◌==◌, cond, nat_lt, slice_get, Bool, true, false}
 use Rattle.std.specs.FinMap.{len}
-use Rattle.std.proofs.Common.{◌≡◌, ℕ, suc, ◌+◌, ◌<◌, ◌≤◌, List, [], ◌∷◌, length, refl, sym, ap, ◌∙◌, subst, arith, ⊎_elim, inl, Option, Some, None, get_or, eq-eqb, if◌then◌else◌}
+use Rattle.std.proofs.Common.{◌≡◌, ℕ, zero, suc, ◌+◌, ◌<◌, ◌≤◌, List, [], ◌∷◌, length, refl, sym, ap, ◌∙◌, subst, arith, ⊎_elim, inl, Option, Some, None, get_or, eq-eqb, if◌then◌else◌}
 use Rattle.std.proofs.lemmas.Bool.{cases_lt}
 use Rattle.std.proofs.lemmas.Bool.Decides.{nat_tests}
 use Rattle.std.proofs.lemmas.Nat.{mul-le}
@@ -18,7 +18,9 @@ use Rattle.map_sizes.specs.Sizes.{HaveFirstStamps, map_behind, peak}
 use Rattle.map_sizes.proofs.InOrder.{replayed}
 use Rattle.map_sizes.proofs.Peaks.{below_peak}
 use Rattle.machine_states.specs.body_terms.specs.Word.{version_of}
-use Rattle.machine_states.specs.table_words.specs.declared.spot.Spot.TheVariants.{Cell, Stamp}
+use Rattle.machine_states.specs.table_words.specs.declared.spot.Spot.TheVariants.{Board, Cell, Stamp}
+use Rattle.machine_states.specs.table_words.specs.Places.{board_words}
+use Rattle.machine_states.specs.table_words.specs.declared.spot.Spot.{Spot}
 use Rattle.machine_states.specs.structure_laws.specs.Meaning.{Meaning}
 use Rattle.machine_states.specs.runner_parts.specs.State.{PartState}
 use Rattle.machine_states.specs.runner_parts.specs.Tests.{has}
@@ -32,7 +34,8 @@ use Rattle.reached_facts.specs.request_facts.specs.reached_histories.specs.Laws.
 use Rattle.version_words.specs.RunnerState.{RunnerState}
 use Rattle.version_words.specs.TableState.{TableState, WordsState, IsClosing, word_of}
 use Rattle.free_serving.specs.resource_bounds.specs.Versions.{VersionsAreCounted, run_count, open_count, runs_of, runs_below}
-use Rattle.free_serving.specs.resource_bounds.specs.InUse.{FewAreInUse, NoneIsHeld, entries_below}
+use Rattle.lone_reads.specs.lone_plans.specs.one_worker.specs.Ungiven.{IsBare}
+use Rattle.free_serving.specs.resource_bounds.specs.InUse.{FewAreInUse, NoneIsHeld, entries_below, named_below}
 use Rattle.reached_facts.specs.keeper_facts.specs.Freed.{IsFreed, IsPublished, LocksTell}
 use Rattle.reached_facts.specs.keeper_facts.specs.runner_facts.specs.Keeper.{AllJoined}
 use Rattle.free_serving.specs.Left.{Rises}
@@ -61,9 +64,14 @@ unseen : (there : Bool) (word : ℕ) → there ≡ false → cond there word 0 �
 unseen true word is = absurd (cc)
 unseen false word is = refl
 
--- the keeper's own slots apart
-fits : (nodes worker keeper used : ℕ) → nodes * 1 + (2 * 1 + 2) ≤ 0 + worker + keeper + used → keeper ≡ 4 → nodes ≤ worker + used
-fits nodes worker keeper used all own = omega (arith, all, own)
+-- the keeper's own slots apart, where none is on the board
+fits : (nodes worker keeper given used : ℕ) → nodes * 1 + (2 * 1 + 2) ≤ 0 + worker + keeper + given + used → keeper ≡ 4 → given ≡ 0 → nodes ≤ worker + used
+fits nodes worker keeper given used all own none = omega (arith, all, own, none)
+
+none_named : (word : Spot → ℕ) → ((i : ℕ) → word (Board i) ≡ 0) → (n : ℕ) → named_below word n ≡ 0
+none_named word bare zero = refl
+none_named word bare (suc n) =
+    let rest = none_named word bare n in let last = ap (λ (k : ℕ). cond (k == 0) 0 1) (bare n) in omega (arith, rest, last)
 
 most : (per_pair size largest : ℕ) → size ≤ largest → per_pair * size ≤ per_pair * largest
 most per_pair size largest few = mul-le per_pair size per_pair largest (omega arith) few
@@ -120,7 +128,7 @@ module _ {T : Type 0} (m : Meaning) (t : TableState T) (keeper : RunnerState T) 
         let requests = ap length closing.requests in
         omega (arith, is, most, requests, all_runs, worker_runs, keeper_runs, few)
 
-  module _ (per_pair : ℕ) (in_use : FewAreInUse per_pair m t.layout t.requests last) (free : NoneIsHeld m last)
+  module _ (per_pair : ℕ) (in_use : FewAreInUse per_pair m t.layout t.requests last) (bare : IsBare last) (free : NoneIsHeld m last)
       (history : HasHistory m t.layout t.requests last) (is_map : m.is_map ≡ true) (order : AreInOrder t.requests 64)
       (nodes : keeper.part.nodes ≡ (keeper_part m t.layout).nodes) (count : ℕ) (reads_free : Bool) (entered : AreEntered m w reads_free t.requests count) where
     abbrev nobody : Request
@@ -170,8 +178,9 @@ module _ {T : Type 0} (m : Meaning) (t : TableState T) (keeper : RunnerState T) 
 
     pub few_slots : t.layout.nodes ≤ entry_count p.nodes + per_pair * peak t.requests
     few_slots =
-        let all = subst (λ (n : ℕ). t.layout.nodes * n + (2 * n + 2) ≤ entries_below last.part (suc n) + per_pair * len history.state.pairs) one (in_use history free) in
-        let left = fits t.layout.nodes (entry_count (last.part 0).nodes) (entry_count (last.part 1).nodes) (per_pair * len history.state.pairs) all own_slots in
+        let all = subst (λ (n : ℕ). t.layout.nodes * n + (2 * n + 2) ≤ entries_below last.part (suc n) + named_below last.word board_words + per_pair * len history.state.pairs) one (in_use history free) in
+        let left = fits t.layout.nodes (entry_count (last.part 0).nodes) (entry_count (last.part 1).nodes) (named_below last.word board_words) (per_pair * len history.state.pairs) all own_slots
+        (none_named last.word bare board_words) in
         let worker = ap (λ (x : PartState). entry_count x.nodes) p_is in
         let pairs = most per_pair (len history.state.pairs) (peak t.requests) (subst (λ (pairs : Pairs). len pairs ≤ peak t.requests) (sym pairs_are) (below_peak t.requests count)) in
         omega (arith, left, worker, pairs)

@@ -98,6 +98,10 @@ module _ {T : Type 0} (m : Meaning) (t : TableState T) (keeper : RunnerState T) 
   part_is worker p few kept = ap (λ (b : Bool). part_or_first (slice_get closing.world.parts (if b then 0 else suc worker))) (ne_eqb worker t.layout.runners (λ e. omega (arith, few, e)))
       ∙ ap part_or_first (closing.worker_parts worker few ∙ kept)
 
+  -- and each of its gives left it enough slots
+  pub above_is : (worker : ℕ) (p : PartState) → worker < t.layout.runners → left_part keeper.joined worker ≡ Some (leaves p) → (end.part worker).records.gave_above ≡ true
+  above_is worker p few kept = ap (λ (q : PartState). q.records.gave_above) (part_is worker p few kept) ∙ closing.above (suc worker) (leaves p) (closing.worker_parts worker few ∙ kept)
+
   module _ (is_map : m.is_map ≡ true) (history : HasHistory m t.layout t.requests end) (callers : CallersStand m t.layout t.requests end)
       (worker : ℕ) (own : List Request) (retry_short reads_free : Bool) (planning : Planning) (answer : Served) (old new : RunnerState T)
       (part : end.part worker ≡ blockless (leaves new.part)) (Seen : ℕ → Asks → Type 0) (first : ℕ) (asks asks' : Asks)

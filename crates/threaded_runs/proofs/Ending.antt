@@ -43,7 +43,7 @@ use Rattle.threaded_runs.specs.Runs.{HasServed, AreServed, served_in, stamp_of}
 use Rattle.threaded_runs.proofs.Sparing.{all_or_halted}
 use Rattle.threaded_runs.proofs.Seats.{some_of}
 use Rattle.threaded_runs.proofs.Owning.{own_there, own_trace, own_once}
-use Rattle.threaded_runs.proofs.Closing.{end, word_is, added_is, part_is, descriptors_done, has_served, few_entered, read_odd}
+use Rattle.threaded_runs.proofs.Closing.{above_is, end, word_is, added_is, part_is, descriptors_done, has_served, few_entered, read_odd}
 use Rattle.threaded_runs.proofs.Asked.{all_placed, counted_least, often_asked, same_at, sum_below}
 
 least_turned : (reads_free : Bool) (n made : ℕ) → n * least_asks reads_free ≤ made → least_asks reads_free * n ≤ made
@@ -120,6 +120,9 @@ module _ {T : Type 0} (m : Meaning) (planning : Planning) (retry_short reads_fre
       part : (end m t keeper w closing).part worker ≡ blockless (leaves f.runner.part)
       part = part_is m t keeper w closing worker f.runner.part low (ap (λ js. left_part js worker) settles.joined ∙ (is_kept stops.All).part)
 
+      above : ((end m t keeper w closing).part worker).records.gave_above ≡ true
+      above = above_is m t keeper w closing worker f.runner.part low (ap (λ js. left_part js worker) settles.joined ∙ (is_kept stops.All).part)
+
       order : AreInOrder t.requests 64
       order = lawful.facts.allowed.in_order
 
@@ -136,7 +139,7 @@ module _ {T : Type 0} (m : Meaning) (planning : Planning) (retry_short reads_fre
       once i k q q' e e' = own_once t.layout.runners worker t.requests order i k q q' (own_of i q e) (own_of k q' e')
 
       made : t.layout.nodes ≤ makes.slots_left ((end m t keeper w closing).part worker).nodes + 2 * makes.added (end m t keeper w closing).word (length t.requests)
-      made = facts.makes planning.per_pair lawful.planner settled.free worker low
+      made = facts.makes planning.per_pair lawful.planner settled.free worker low above
 
       served_so : HasServed m w retry_short reads_free (own_requests t.layout.runners worker t.requests) f.answer
       served_so = subst (λ (rs : List Request). HasServed m w retry_short reads_free rs f.answer) is_seated.requests

@@ -19,6 +19,7 @@ use Rattle.machine_states.specs.First.{keeper_part}
 use Rattle.version_words.specs.machine_invariant.specs.After.{AreAllowed}
 use Rattle.machine_states.specs.runner_parts.specs.Lists.{entry_count}
 use Rattle.reached_facts.specs.Facts.{HasFacts}
+use Rattle.lone_reads.specs.lone_plans.specs.one_worker.specs.Ungiven.{IsBare}
 use Rattle.version_words.specs.RunnerState.{RunnerState}
 use Rattle.version_words.specs.Shown.{left_part}
 use Rattle.version_words.specs.TableState.{TableState, WordsState, IsOf, IsClosing, word_of}
@@ -53,7 +54,7 @@ use Rattle.threaded_runs.specs.Asks.{AsksAlone}
 use Rattle.threaded_runs.specs.Lone.{AreServedAlone, ReadsAlone}
 use Rattle.threaded_runs.specs.Runs.{AreEntered, HasServed, served_in, stamp_of}
 use Rattle.threaded_runs.proofs.Seats.{some_of}
-use Rattle.threaded_runs.proofs.Closing.{end, known_entry, part_is}
+use Rattle.threaded_runs.proofs.Closing.{end, known_entry, part_is, above_is}
 use Rattle.threaded_runs.proofs.Counting.{asks_of_one, rises_within}
 use Rattle.threaded_runs.proofs.Picked.{front_passes}
 use Rattle.threaded_runs.proofs.Ending.{IsLawful, facts, settled, worker_served, read_so}
@@ -234,6 +235,14 @@ module _ {T H : Type 0} (m : Meaning) (planning : Planning) (retry_short reads_f
     versions = few_versions m t keeper w closing one p p_is tidy.at.published reached.versions tidy.at.resting
         settles.tidy.at.resting settles.tidy.at.published ((settles.quiet none).1 ∙ fresh.finished) few_runs
 
+    apart : ((end m t keeper w closing).part 1).records.crosses ≡ false
+    apart = ap (λ (x : PartState). x.records.crosses) (second_is m t keeper w closing one p p_is tidy.at.published) ∙ (settles.crosses ∙ fresh.apart)
+
+    -- the board is empty
+    bare : IsBare (end m t keeper w closing)
+    bare = (reached.ungiven one).behind (ap (λ (x : PartState). x.gone) p_is) apart
+        (above_is m t keeper w closing 0 p low (ap (λ js. left_part js 0) settles.joined ∙ (kept 0 stops.All (some_of finished 0 (subst (λ (n : ℕ). 0 < n) (sym back) seat)) here).part))
+
     slots_at : (short : Short) → slice_get answers 0 ≡ Some (stops.Short short) → short.kind ≡ slots.Node
         → w.layout.nodes ≤ short.free + (short.limbo + short.worn) + planning.per_pair * peak w.requests
     slots_at short is kind =
@@ -261,7 +270,7 @@ module _ {T H : Type 0} (m : Meaning) (planning : Planning) (retry_short reads_f
         entered = subst (λ (rs : List Request). AreEntered m w reads_free rs served.count) (ap (λ n. own_requests n 0 t.requests) one ∙ all_own t.requests) served.entered
 
         few : t.layout.nodes ≤ entry_count p.nodes + planning.per_pair * peak t.requests
-        few = few_slots m t keeper w closing one p p_is tidy.at.published planning.per_pair (reached.in_use planning.per_pair lawful.planner)
+        few = few_slots m t keeper w closing one p p_is tidy.at.published planning.per_pair (reached.in_use planning.per_pair lawful.planner) bare
             (settled m planning retry_short reads_free t lawful gathered keeper w own number settles closing).free
             reached.history lawful.planner.serves lawful.facts.allowed.in_order
             ((settles.quiet none).0 ∙ fresh.nodes) served.count reads_free entered
@@ -269,8 +278,7 @@ module _ {T H : Type 0} (m : Meaning) (planning : Planning) (retry_short reads_f
     -- nobody crossed its steps
     alone_here : p.records.crossed ≡ false
     alone_here = ap (λ (x : PartState). x.records.crossed) (sym p_is)
-        ∙ (reached.uncrossed one).behind (ap (λ (x : PartState). x.gone) p_is)
-        (ap (λ (x : PartState). x.records.crosses) (second_is m t keeper w closing one p p_is tidy.at.published) ∙ (settles.crosses ∙ fresh.apart))
+        ∙ (reached.uncrossed one).behind (ap (λ (x : PartState). x.gone) p_is) apart
 
     limbo_at : (short : Short) → 8 * length w.requests + 8 ≤ w.layout.version_max → slice_get answers 0 ≡ Some (stops.Short short) → short.limbo ≡ 0
     limbo_at short versions_enough is = ⊎_elim unwaited (λ none. omega (arith, none)) ends.2.stops.over

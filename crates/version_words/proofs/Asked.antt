@@ -50,6 +50,9 @@ is_outer kinds.ReadReply = true
 is_outer kinds.ReadStamp = true
 is_outer (kinds.Guard d) = true
 is_outer (kinds.LoadGuard n) = true
+is_outer (kinds.BoardLoad word) = true
+is_outer (kinds.BoardTake word link) = true
+is_outer (kinds.BoardGive word slot) = true
 is_outer _ = false
 
 met : (s : Sizes) (y x : Spot × Access) (b : Bool) → (if b then Some y else None) ≡ Some x → Some y ≡ Some x
@@ -87,6 +90,9 @@ module _ (m : Meaning) (l : Layout) where
   no_line kinds.ReadStamp free q micro e = refl
   no_line (kinds.Guard d) free q micro e = refl
   no_line (kinds.LoadGuard n) free q micro e = refl
+  no_line (kinds.BoardLoad word) free q micro e = refl
+  no_line (kinds.BoardTake word link) free q micro e = refl
+  no_line (kinds.BoardGive word slot) free q micro e = refl
   no_line _ free q micro e = absurd (false≢true e)
 
   no_opening : (k : EventKind) (q : RunState) → is_outer k ≡ true → opening_ask k q ≡ None

@@ -1,7 +1,7 @@
 -- The rule holds of a new table.
-use Rattle.std.proofs.Common.{◌≡◌, ℕ, zero, suc, ◌+◌, ◌<◌, List, [], ◌∷◌, ◌++◌, Bool, length, sym, refl, ap, subst, ◌∙◌, arith, Some, slice_get, eq-eqb, length-append}
+use Rattle.std.proofs.Common.{◌≡◌, ℕ, zero, suc, ◌+◌, ◌<◌, List, [], ◌∷◌, ◌++◌, Bool, true, length, sym, refl, ap, subst, ◌∙◌, arith, Some, slice_get, eq-eqb, length-append}
 use Rattle.std.specs.Prelude.{if◌then◌else◌}
-use Rattle.std.proofs.lemmas.Option.{none-some}
+use Rattle.std.proofs.lemmas.Option.{none-some, slice_get_within}
 use mathlib.Core.Option.{some, some-injective, some-ne-none}
 use mathlib.Core.Logic.{dite}
 use native.Mathlib.Decide.{ℕ_discrete}
@@ -12,6 +12,7 @@ use Rattle.machine_states.specs.map_history.specs.declared.op.Request.{Request}
 use Rattle.machine_states.specs.table_words.specs.declared.layout.Layout.{Layout}
 use Rattle.machine_states.specs.table_words.specs.declared.spot.Spot.TheVariants.{Seat}
 use Rattle.machine_states.specs.structure_laws.specs.Meaning.{Meaning}
+use Rattle.machine_states.specs.runner_parts.specs.State.{PartState}
 use Rattle.machine_states.specs.runner_steps.specs.Asks.{sizes_for}
 use Rattle.machine_states.specs.World.{World, seat_of}
 use Rattle.machine_states.specs.First.{IsFilled, keeper_part, worker_part, workers}
@@ -57,10 +58,22 @@ module _ {T : Type 0} (m : Meaning) (s : T) (l : Layout) (rs : List Request) (wo
   alone zero v e = (refl, some-injective first v e)
   alone (suc seat) v e = absurd (some-ne-none v (sym e))
 
+  -- each runner begins as one that gave nothing
+  workers_above : (i : ℕ) (p : PartState) → slice_get (workers m l l.runners) i ≡ Some p → p.records.gave_above ≡ true
+  workers_above i p e =
+      let few = slice_get_within (workers m l l.runners) i p e in let all = length_of m l l.runners in
+      let there = worker_in m l l.runners i (omega (arith, few, all)) in
+      ap (λ (q : PartState). q.records.gave_above) (sym (some_same (worker_part m l i) p (sym there ∙ e)))
+
+  first_above : (i : ℕ) (p : PartState) → slice_get start.parts i ≡ Some p → p.records.gave_above ≡ true
+  first_above zero p e = ap (λ (q : PartState). q.records.gave_above) (sym (some_same (keeper_part m l) p e))
+  first_above (suc i) p e = workers_above i p e
+
   pub begins : Holds m s l rs (opening words [] first)
   begins = record {
     world = start;
     reached = record { events = []; after = record { start = start; first = record { words = filled; parts = refl }; runs = refl } };
+    above = λ i p e. first_above i p e;
     shown = record {
       words = refl;
       parts = length_parts m l;

@@ -25,6 +25,7 @@ use Rattle.machine_states.specs.Sight.{sight, part_or_first}
 use Rattle.machine_states.specs.Blockless.{blockless}
 use Rattle.machine_invariant.specs.machine_blocks.specs.machine_guards.specs.machine_agreement.specs.machine_epochs.specs.Descriptors.{times_limbo, times_with}
 use Rattle.machine_invariant.specs.machine_blocks.specs.machine_guards.specs.machine_agreement.specs.machine_epochs.specs.Firsts.{owner_of}
+use Rattle.machine_invariant.specs.machine_blocks.specs.machine_guards.specs.machine_agreement.specs.machine_epochs.proofs.Places.{has_times}
 use Rattle.machine_invariant.specs.machine_blocks.specs.machine_guards.specs.machine_agreement.specs.machine_epochs.proofs.Reached.{descriptors_after}
 use Rattle.machine_invariant.specs.Slots.{times_among}
 use Rattle.machine_invariant.specs.After.{AreAllowed}
@@ -77,6 +78,14 @@ few_reached m laws l rs w limits requests reached r p there =
 pub few_seen : (m : Meaning) → Laws m → (l : Layout) (rs : List Request) (r : ℕ) (p : PartState) (spot : Spot) (number : ℕ) → IsWithinLimits l → AreAllowed rs → ReachedWith m l rs r p spot number
     → AreFew (slot_count l m.fixed_slots) p.nodes
 few_seen m laws l rs r p spot number limits requests seen = few_reached m laws l rs seen.world limits requests seen.reached r p seen.own
+
+-- the slots in its free list are the table's
+pub node_low : (m : Meaning) → Laws m → (l : Layout) (rs : List Request) (r : ℕ) (p : PartState) (spot : Spot) (number : ℕ) → IsWithinLimits l → AreAllowed rs → ReachedWith m l rs r p spot number
+    → (t : ℕ) → has p.nodes.free t ≡ true → t < slot_count l m.fixed_slots
+node_low m laws l rs r p spot number limits requests seen t free =
+    let here : (sight m l rs seen.world).part r ≡ blockless p = ap part_or_first seen.own in
+    let stand = (whole_after m laws l rs seen.reached.events seen.world limits requests seen.reached.after).sound.slots.in_nodes in
+    stand.within r t (subst (λ (y : PartState). 1 ≤ times_among y.nodes t) (sym here) (let once = has_times p.nodes.free t free in omega (arith, once)))
 
 -- before a step each node slot stands at most once in the runner's free list, and so does each descriptor
 module _ (m : Meaning) (l : Layout) (rs : List Request) (r : ℕ) (kind : EventKind) (old new : PartState) (met : Spot × Access) (found : ℕ) (shown : ReachedBy m l rs r kind old new met found) where

@@ -98,7 +98,7 @@ pub hold_named : {T : Type 0} (m : Meaning) (s : TableState T) (r : RunnerState 
     → IsNamed m (λ m' l' rs' p' made. hold_of made.said (value_of made.second - 1)) r (step_at m s (spots.Cell t.lock) free held (announcing t)) (spots.Cell t.lock, Exchanges free held)
 hold_named m s r t d free held few same is enabled = record {
   asked = ap (met_by m r) (hold_name t d held few is) ∙ (enabled.asked ∙ ap Some ((holds_so m r t d enabled).met ∙ (λ i. (spots.Cell t.lock, Exchanges (sym same i) (sym is i)))));
-  plain = ap Rattle.version_words.specs.Naming.is_plain (hold_name t d held few is);
+  plain = ap (Rattle.version_words.specs.Naming.is_plain r.layout r.part) (hold_name t d held few is);
 }
 
 -- the part after an exchange that won, and after one that lost

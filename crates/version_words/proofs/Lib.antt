@@ -24,3 +24,4 @@ pub mod MakeSteps
 pub mod RetireSteps
 pub mod Entries
 pub mod GuardSteps
+pub mod BoardSteps

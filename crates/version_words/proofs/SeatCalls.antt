@@ -155,6 +155,7 @@ module _ {T : Type 0} (mean : T → Meaning) (table : TableId) (key built : Setu
           requests = refl;
           world = holds.world;
           reached = holds.reached;
+          above = holds.above;
           words = holds.shown.words ∙ final_here.2;
           keeper_part = holds.shown.seated 0 v first ∙ ap (part_at (joined_in st.views) 0 v.part) of_table.structure;
           worker_parts = λ worker few.

@@ -28,16 +28,17 @@ use Rattle.machine_states.specs.runner_steps.specs.Asks.{asks}
 use Rattle.machine_states.specs.runner_steps.specs.After.{after_by, after, leaves, knows_also}
 use Rattle.machine_states.specs.World.{World, seat_of, knowing, settled_part, put_part, left_by, happens}
 use Rattle.machine_states.specs.First.{worker_part}
-use Rattle.machine_states.proofs.Steps.{goes}
+use Rattle.std.proofs.lemmas.Bool.{cases_eq}
+use Rattle.machine_states.proofs.Steps.{goes, some_same}
 use Rattle.machine_states.proofs.Reached.{more_reached}
 use Rattle.version_words.specs.declared.view.View.{View}
 use Rattle.version_words.specs.Shown.{IsShown, IsSpent, left_part, part_at, joined_in}
-use Rattle.version_words.specs.Rule.{IsSeatedAt, Holds, spent}
+use Rattle.version_words.specs.Rule.{IsSeatedAt, GaveAbove, Holds, spent}
 use Rattle.version_words.proofs.Lists.{get_here, get_else, inside, at_end}
-use Rattle.version_words.proofs.Splits.{notes, kept_splits}
+use Rattle.version_words.proofs.Splits.{notes, kept_splits, join_above, split_above}
 use Rattle.version_words.proofs.Asked.{outer, tested}
 use Rattle.version_words.proofs.Begins.{keeper_seat}
-use Rattle.version_words.proofs.Ties.{view_after, world_after, seat_is, shown_after, about_after, reached_after}
+use Rattle.version_words.proofs.Ties.{view_after, world_after, seat_is, shown_after, about_after, reached_after, above_after}
 
 pub record IsSplitting (l : Layout) (r : ℕ) (p : PartState) (x : Spot × Access) : Type 0 where
   pub keeper : r ≡ l.runners
@@ -125,6 +126,7 @@ module _ {T : Type 0} (mean : T → Meaning) (s : T) (l : Layout) (rs : List Req
     splits_hold = record {
       world = world_after m s l rs kinds.Split id v (Seat, Loads) live refl asked st h here;
       reached = reached_after m s l rs kinds.Split id v (Seat, Loads) live refl asked st h here;
+      above = above_after m s l rs kinds.Split id v (Seat, Loads) live refl asked st h here (λ above. split_above m l v.number Seat Loads v.part _ says.resting ∙ above);
       shown = record {
         words = set-get_or st.words 0 0;
         parts = shown_old.parts;
@@ -164,7 +166,7 @@ spent_of T = spent
 
 -- a join makes no split
 pub joins_none : (m : Meaning) (l : Layout) (r worker found : ℕ) (p q : PartState) → (knows_also (after m l r (kinds.Join worker) Seat Loads p found) q).records.splits ≡ p.records.splits
-joins_none m l r worker found p q = kept_splits m l r (kinds.Join worker) Seat Loads p found refl
+joins_none m l r worker found p q = kept_splits m l r Seat Loads p found (kinds.Join worker) refl
 
 pub first_joined : {T : Type 0} (views : List (View T)) (v : View T) → get_elem? views 0 ≡ some v → joined_in views ≡ v.joined
 first_joined [] v e = absurd (some-ne-none v (sym e))
@@ -286,10 +288,24 @@ module _ {T : Type 0} (mean : T → Meaning) (s : T) (l : Layout) (rs : List Req
     length_now : length views_after ≡ length st.views
     length_now = length-set (set st.views id both) other spent ∙ length-set st.views id both
 
+    joined_above : GaveAbove world_joined
+    joined_above i p e = ⊎_elim
+        (λ worker. let was = sym (get_here (set parts id joined_part) (suc w.number) (leaves w.part) room) ∙ (ap (slice_get parts_after) (sym worker) ∙ e) in
+        ap (λ (q : PartState). q.records.gave_above) (sym (some_same (leaves w.part) p was)) ∙ h.above (suc w.number) w.part worker_here)
+        (λ ne. ⊎_elim
+        (λ keeper. let was = sym (get_here parts id joined_part (slice_get_within parts id v.part keeper_here))
+        ∙ (sym (get_else (set parts id joined_part) (suc w.number) id (leaves w.part) (λ same. apart_seats (sym same))) ∙ (ap (slice_get parts_after) (sym keeper) ∙ e)) in
+        ap (λ (q : PartState). q.records.gave_above) (sym (some_same joined_part p was))
+        ∙ (join_above (mean s) l v.number Seat Loads v.part (slice_index st.words 0) w.number ∙ h.above id v.part keeper_here))
+        (λ ne'. h.above i p (sym (get_else parts id i joined_part ne') ∙ (sym (get_else (set parts id joined_part) (suc w.number) i (leaves w.part) ne) ∙ e)))
+        (cases_eq i id))
+        (cases_eq i (suc w.number))
+
     pub joins_hold : Holds (mean s) s l rs (record { words = st.words; homes = st.homes; views = views_after })
     joins_hold = record {
       world = world_joined;
       reached = more_reached (mean s) l rs h.world world_joined event h.reached happened;
+      above = joined_above;
       shown = record {
         words = refl;
         parts = length-set (set parts id joined_part) (suc w.number) (leaves w.part) ∙ (length-set parts id joined_part ∙ h.shown.parts);

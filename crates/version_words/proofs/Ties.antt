@@ -28,6 +28,7 @@ use Rattle.machine_states.specs.runner_parts.specs.State.{PartState}
 use Rattle.machine_states.specs.runner_steps.specs.Asks.{asks, sizes_for}
 use Rattle.machine_states.specs.runner_steps.specs.After.{after}
 use Rattle.machine_states.specs.World.{World, seat_of, is_join, settled_part, put_part, happens}
+use Rattle.std.proofs.lemmas.Bool.{cases_eq}
 use Rattle.machine_states.proofs.Steps.{goes, some_same, asked_fits}
 use Rattle.machine_states.proofs.Reached.{more_reached, reached_all}
 use Rattle.version_words.specs.declared.view.View.{View}
@@ -35,18 +36,18 @@ use Rattle.machine_states.specs.Reached.{Reached}
 use Rattle.version_words.specs.Shown.{IsShown, left_part, part_at, joined_in}
 use Rattle.version_words.specs.Naming.{Naming, is_plain}
 use Rattle.version_words.specs.ReachedWith.{ReachedBy}
-use Rattle.version_words.specs.Rule.{IsSeatedAt, Holds, stepped, IsTold, Tells}
+use Rattle.version_words.specs.Rule.{IsSeatedAt, GaveAbove, Holds, stepped, IsTold, Tells}
 use Rattle.version_words.proofs.Lists.{get_here, get_else, inside}
-use Rattle.version_words.proofs.Splits.{is_split, kept_splits}
+use Rattle.version_words.proofs.Splits.{is_split, kept_splits, kept_above}
 use Rattle.version_words.proofs.Shows.{blind_shown}
 
-no_join : (k : EventKind) → is_plain k ≡ true → is_join k ≡ false
-no_join (kinds.Join worker) e = absurd (false_true e)
-no_join _ e = refl
+no_join : (l : Layout) (p : PartState) (k : EventKind) → is_plain l p k ≡ true → is_join k ≡ false
+no_join l p (kinds.Join worker) e = absurd (false_true e)
+no_join l p _ e = refl
 
-no_split : (k : EventKind) → is_plain k ≡ true → is_split k ≡ false
-no_split kinds.Split e = absurd (false_true e)
-no_split _ e = refl
+no_split : (l : Layout) (p : PartState) (k : EventKind) → is_plain l p k ≡ true → is_split k ≡ false
+no_split l p kinds.Split e = absurd (false_true e)
+no_split l p _ e = refl
 
 puts_own : (k : EventKind) → is_join k ≡ false → (ps : List PartState) (i : ℕ) (p : PartState) → put_part ps k i p ≡ set ps i p
 puts_own (kinds.Join worker) e ps i p = absurd (true≢false e)
@@ -163,18 +164,27 @@ module _ {T : Type 0} (m : Meaning) (s : T) (l : Layout) (rs : List Request) whe
           word = seen_here (sizes_for m l rs) world_after.words x.0 fits ∙ get_or-set_same st.words (at_of x.0) (written x.1 met) 0 room;
         }
 
+    -- no other part changes
+    pub above_after : (v.part.records.gave_above ≡ true → next.records.gave_above ≡ true) → GaveAbove world_after
+    above_after own i p e = ⊎_elim
+        (λ here'. let is : next ≡ p = some_same next p (sym (get_here h.world.parts id next (slice_get_within h.world.parts id v.part part_here)) ∙ (ap (slice_get world_after.parts) (sym here') ∙ e)) in
+        ap (λ (q : PartState). q.records.gave_above) (sym is) ∙ own (h.above id v.part part_here))
+        (λ ne. h.above i p (sym (get_else h.world.parts id i next ne) ∙ e))
+        (cases_eq i id)
+
     splits_after : is_split k ≡ false → (u : View T) → get_elem? (set st.views id view_after) 0 ≡ some u → u.part.records.splits + 1 ≡ length (set st.views id view_after)
     splits_after counted u e = ⊎_elim
         (λ (y : (0 ≡ id) × (view_after ≡ u)). ap (λ (z : View T). z.part.records.splits + 1) (sym y.1)
-        ∙ (ap (λ n. n + 1) (kept_splits m l v.number k x.0 x.1 v.part met counted) ∙ h.splits v (ap (get_elem? st.views) y.0 ∙ here)))
+        ∙ (ap (λ n. n + 1) (kept_splits m l v.number x.0 x.1 v.part met k counted) ∙ h.splits v (ap (get_elem? st.views) y.0 ∙ here)))
         (λ (y : (0 ≢ id) × (get_elem? st.views 0 ≡ some u)). h.splits u y.1)
         (at_set st.views id 0 view_after u e) ∙ sym (length-set st.views id view_after)
 
     -- the rule holds after the event
-    pub holds_after : is_split k ≡ false → ((n : ℕ) → at_of x.0 ≡ 0 → written x.1 n ≡ n) → Holds m s l rs (record { words = set st.words (at_of x.0) (written x.1 met); homes = st.homes; views = set st.views id view_after })
-    holds_after counted blank = record {
+    pub holds_after : is_split k ≡ false → (v.part.records.gave_above ≡ true → next.records.gave_above ≡ true) → ((n : ℕ) → at_of x.0 ≡ 0 → written x.1 n ≡ n) → Holds m s l rs (record { words = set st.words (at_of x.0) (written x.1 met); homes = st.homes; views = set st.views id view_after })
+    holds_after counted own blank = record {
       world = world_after;
       reached = reached_after;
+      above = above_after own;
       shown = shown_after;
       about = about_after;
       splits = splits_after counted;
@@ -193,7 +203,7 @@ module _ {T : Type 0} (mean : T → Meaning) (naming : Naming) (step : Step Thun
       let met : x ≡ y = some_same x y (sym asked ∙ (ap (λ z. asks (mean z) me.0.layout me.0.requests me.0.number (event_of (mean z)) me.0.part) same ∙ asked')) in
       subst (λ (z : T × (Spot × Access)). IsTold (mean z.0) (event_of (mean z.0)) z.1 me found (w, me.1)) (λ i. (same i, met i)) told
 
-  module _ (l : Layout) (rs : List Request) (id : ℕ) (slots : ℕ) (x : Spot × Access) (live : me.0.structure ≡ Some s) (plain : is_plain (event_of (mean s)) ≡ true)
+  module _ (l : Layout) (rs : List Request) (id : ℕ) (slots : ℕ) (x : Spot × Access) (live : me.0.structure ≡ Some s) (plain : is_plain me.0.layout me.0.part (event_of (mean s)) ≡ true)
       (blank : (n : ℕ) → address (sizes_for (mean s) l rs) x.0 ≡ 0 → written x.1 n ≡ n) (asked : asks (mean s) me.0.layout me.0.requests me.0.number (event_of (mean s)) me.0.part ≡ Some x) where
     -- a step that makes this event
     pub steps : Allows (Holds (mean s) s l rs) slots id me (address (sizes_for (mean s) l rs) x.0) (written x.1) (Tells mean naming step me)
@@ -202,17 +212,18 @@ module _ {T : Type 0} (mean : T → Meaning) (naming : Naming) (step : Step Thun
         let k : EventKind = event_of (mean s) in
         let found : ℕ = slice_index st.words (address (sizes_for (mean s) l rs) x.0) in
         let asked' : asks (mean s) l rs me.0.number k me.0.part ≡ Some x = (λ i. asks (mean s) (sym about.same_layout i) (sym about.same_requests i) me.0.number k me.0.part) ∙ asked in
+        let plain' : is_plain l me.0.part k ≡ true = ap (λ (z : Layout). is_plain z me.0.part k) (sym about.same_layout) ∙ plain in
         let w : View T = stepped (mean s) k x.0 x.1 me.0 found in
         let view_is : record (me.0) { part = after (mean s) l me.0.number k x.0 x.1 me.0.part found } ≡ w = ap (λ z. record (me.0) { part = after (mean s) z me.0.number k x.0 x.1 me.0.part found }) (sym about.same_layout) in (
           w,
           keeps,
           tt,
           subst (λ (u : View T). Holds (mean s) s l rs (record { words = set st.words (address (sizes_for (mean s) l rs) x.0) (written x.1 found); homes = st.homes; views = set st.views id u })) view_is
-              (holds_after (mean s) s l rs k id me.0 x live (no_join k plain) asked' st h here (no_split k plain) blank),
+              (holds_after (mean s) s l rs k id me.0 x live (no_join l me.0.part k plain') asked' st h here (no_split l me.0.part k plain') (kept_above (mean s) l me.0.number x.0 x.1 me.0.part found k plain') blank),
           tells found x w live asked (record {
             view = refl;
             shown = subst (λ (y : Layout × List Request). ReachedBy (mean s) y.0 y.1 me.0.number k me.0.part (after (mean s) y.0 me.0.number k x.0 x.1 me.0.part found) x found) (λ i. (sym about.same_layout i, sym about.same_requests i))
-                (seen_after (mean s) s l rs k id me.0 x live (no_join k plain) asked' st h here);
+                (seen_after (mean s) s l rs k id me.0 x live (no_join l me.0.part k plain') asked' st h here);
           }),
         )
 

@@ -90,7 +90,7 @@ module _ {T : Type 0} (m : Meaning) where
   -- a step of this name, with these operands, is an event of this runner that meets this spot in this way
   pub record IsNamed (naming : Naming) (r : RunnerState T) (step : Step Thunk) (x : Spot × Access) : Type 0 where
     pub asked : met_by r (naming m r.layout r.requests r.part step) ≡ Some x
-    pub plain : is_plain (naming m r.layout r.requests r.part step) ≡ true
+    pub plain : is_plain r.layout r.part (naming m r.layout r.requests r.part step) ≡ true
 
   -- the event that this name makes of the runner's step
   abbrev pub event_by : Naming → RunnerState T → Step Thunk → EventKind

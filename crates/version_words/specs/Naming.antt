@@ -1,5 +1,5 @@
 -- Which event a step is.
-use Rattle.std.specs.Prelude.{ℕ, zero, suc, ◌/◌, ◌%◌, ◌==◌, List, Bool, true, false, Option, Some, None}
+use Rattle.std.specs.Prelude.{ℕ, zero, suc, ◌/◌, ◌%◌, ◌==◌, nat_le, List, length, Bool, true, false, Option, Some, None}
 use mathlib.Core.Option.{Option as Option_of, none, some}
 use Rattle.atomic_table.specs.Table.{Step}
 use Rattle.machine_states.specs.map_history.specs.declared.op.Request.{Request}
@@ -11,16 +11,19 @@ use Rattle.machine_states.specs.structure_laws.specs.Meaning.{Meaning}
 use Rattle.machine_states.specs.runner_parts.specs.declared.event.EventKind.{EventKind}
 use Rattle.machine_states.specs.runner_parts.specs.declared.event.EventKind.TheVariants as kinds
 use Rattle.machine_states.specs.runner_parts.specs.State.{RunState, PartState}
+use Rattle.machine_states.specs.runner_parts.specs.Lists.{slot_given}
 
 -- which event a step is, by the part before it and the step's word and operands: a step can be told nothing else
 abbrev pub Naming : Type 1
 Naming = Meaning → Layout → List Request → PartState → Step Thunk → EventKind
 
--- an event that changes one part and no number of seats
-abbrev pub is_plain : EventKind → Bool
-is_plain kinds.Split = false
-is_plain (kinds.Join worker) = false
-is_plain _ = true
+-- an event that changes one part and no number of seats; a node slot goes onto the board only where as many are left
+-- free as the layout gives a worker
+abbrev pub is_plain : Layout → PartState → EventKind → Bool
+is_plain l p kinds.Split = false
+is_plain l p (kinds.Join worker) = false
+is_plain l p (kinds.BoardGive word slot) = nat_le l.nodes (length (slot_given p.nodes slot).free)
+is_plain l p _ = true
 
 abbrev pub is_seat : Spot → Bool
 is_seat Seat = true

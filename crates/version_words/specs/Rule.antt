@@ -1,5 +1,5 @@
 -- The rule of the table, and how views change.
-use Rattle.std.specs.Prelude.{◌≡◌, ℕ, ◌+◌, ◌∷◌, [], List, length, slice_index, Option, Some, None}
+use Rattle.std.specs.Prelude.{◌≡◌, ℕ, ◌+◌, true, ◌∷◌, [], List, length, slice_index, slice_get, Option, Some, None}
 use mathlib.Core.Option.{some}
 use lib.ListN.{get_elem?}
 use Rattle.atomic_table.specs.Table.{State, Me, Step}
@@ -13,6 +13,7 @@ use Rattle.machine_states.specs.table_words.specs.declared.access.Access.TheVari
 use Rattle.machine_states.specs.structure_laws.specs.Meaning.{Meaning}
 use Rattle.machine_states.specs.runner_parts.specs.declared.event.EventKind.{EventKind}
 use Rattle.machine_states.specs.runner_parts.specs.declared.event.EventKind.TheVariants as kinds
+use Rattle.machine_states.specs.runner_parts.specs.State.{PartState}
 use Rattle.machine_states.specs.runner_steps.specs.Asks.{asks}
 use Rattle.machine_states.specs.runner_steps.specs.After.{after, knows_also}
 use Rattle.machine_states.specs.World.{World, seat_of}
@@ -31,11 +32,16 @@ pub record IsSeatedAt {T : Type 0} (s : T) (l : Layout) (requests : List Request
   pub same_requests : v.requests ≡ requests
   pub own_seat : seat_of l v.number ≡ seat
 
+-- no runner gave a node slot to the board that left it fewer free ones than it had at first
+abbrev pub GaveAbove : World → Type 0
+GaveAbove w = (i : ℕ) (p : PartState) → slice_get w.parts i ≡ Some p → p.records.gave_above ≡ true
+
 -- the words and all views show a state of the machine that enabled events lead to
 pub record Holds {T : Type 0} (m : Meaning) (s : T) (l : Layout) (requests : List Request)
     (st : State Thunk (View T)) : Type 0 where
   pub world : World
   pub reached : Reached m l requests world
+  pub above : GaveAbove world
   pub shown : IsShown m l st.words st.views world
   pub about : (seat : ℕ) (v : View T) (t : T) → get_elem? st.views seat ≡ some v
       → v.structure ≡ Some t → IsSeatedAt s l requests seat t v

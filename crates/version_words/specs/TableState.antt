@@ -19,6 +19,7 @@ use Rattle.version_words.specs.declared.rule.Setup.{Setup}
 use Rattle.machine_states.specs.Reached.{Reached}
 use Rattle.machine_invariant.specs.After.{AreAllowed}
 use Rattle.version_words.specs.Shown.{left_part}
+use Rattle.version_words.specs.Rule.{GaveAbove}
 use Rattle.version_words.specs.RunnerState.{RunnerState}
 
 pub record TableState (T : Type 0) : Type 0 where
@@ -88,7 +89,7 @@ pub record HasJoinedAll {T : Type 0} (t : TableState T) (keeper : RunnerState T)
   pub joined : (worker : ℕ) → worker < t.layout.runners → IsSome (left_part keeper.joined worker)
 
 -- the words are those of a state that enabled events lead to, in which the keeper's part is the one that it kept, and
--- each worker's the one that it had when it was joined
+-- each worker's the one that it had when it was joined; no gift to the board left one fewer slots than it had at first
 pub record IsClosing {T : Type 0} (m : Meaning) (t : TableState T) (keeper : RunnerState T)
     (w : WordsState T) : Type 0 where
   pub structure : w.structure ≡ t.structure
@@ -96,6 +97,7 @@ pub record IsClosing {T : Type 0} (m : Meaning) (t : TableState T) (keeper : Run
   pub requests : w.requests ≡ t.requests
   pub world : World
   pub reached : Reached m t.layout t.requests world
+  pub above : GaveAbove world
   pub words : world.words ≡ w.words
   pub keeper_part : slice_get world.parts 0 ≡ Some keeper.part
   pub worker_parts : (worker : ℕ) → worker < t.layout.runners

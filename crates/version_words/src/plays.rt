@@ -339,6 +339,45 @@ impl Named for ReadStamp {
     ghost naming = { λ m layout requests part step. kinds.ReadStamp };
 }
 
+/// The word of the board is read off the step's word.
+pub struct BoardLoad;
+
+impl Named for BoardLoad {
+    ghost use Rattle.std.specs.Prelude.{◌-◌};
+    ghost use Rattle.machine_states.specs.table_words.specs.Places.{board_at};
+    ghost use Rattle.machine_states.specs.runner_parts.specs.declared.event.EventKind.TheVariants as kinds;
+    ghost use Rattle.machine_states.specs.runner_steps.specs.Asks.{sizes_for};
+
+    ghost naming = { λ m layout requests part step.
+        kinds.BoardLoad (step.word - board_at (sizes_for m layout requests)) };
+}
+
+/// The word of the board is read off the step's word, the link is the number that is to go.
+pub struct BoardTake;
+
+impl Named for BoardTake {
+    ghost use Rattle.std.specs.Prelude.{◌-◌};
+    ghost use Rattle.machine_states.specs.table_words.specs.Places.{board_at};
+    ghost use Rattle.machine_states.specs.runner_parts.specs.declared.event.EventKind.TheVariants as kinds;
+    ghost use Rattle.machine_states.specs.runner_steps.specs.Asks.{sizes_for};
+
+    ghost naming = { λ m layout requests part step.
+        kinds.BoardTake (step.word - board_at (sizes_for m layout requests)) step.first };
+}
+
+/// The word of the board is read off the step's word, the slot off the link that is to come.
+pub struct BoardGive;
+
+impl Named for BoardGive {
+    ghost use Rattle.std.specs.Prelude.{◌-◌};
+    ghost use Rattle.machine_states.specs.table_words.specs.Places.{board_at};
+    ghost use Rattle.machine_states.specs.runner_parts.specs.declared.event.EventKind.TheVariants as kinds;
+    ghost use Rattle.machine_states.specs.runner_steps.specs.Asks.{sizes_for};
+
+    ghost naming = { λ m layout requests part step.
+        kinds.BoardGive (step.word - board_at (sizes_for m layout requests)) (step.second - 1) };
+}
+
 /// The keeper splits off the next worker.
 pub struct SplitsOff<S> {
     marker: PhantomData<S>,

@@ -27,5 +27,6 @@ returns g c =
         makes = λ per_pair planner. c.makes_are_counted.ensures per_pair layout requests w planner limits allowed reached;
         in_use = λ per_pair planner. c.few_slots_are_in_use.ensures per_pair layout requests w planner limits allowed reached;
         uncrossed = c.one_worker_is_uncrossed.ensures layout requests w reached;
+        ungiven = c.lone_board_is_empty.ensures layout requests w limits allowed reached;
       };
     })
