@@ -78,14 +78,14 @@ module _ (m : Meaning) (l : Layout) (rs : List Request) where
   step_keeps a a' e e' s s' r kind of_sections joined old = subst (λ (v : Sight). IsJoinedToAgreement m l a v → IsJoinedToEpochs m l e v
       → (step : Steps m l rs v s' r kind) → AreSupplied m l a e v kind (v.word (step.ask.0)) → OthersGo m l a a' e e' v r kind (v.word (step.ask.0)) → GuardsStandBare m l a' e' s') old.seen
       (λ of_sections joined step u go.
-        let goes = step_goes m l rs old.chain a a' e e' old.full (next old.full s' r kind step) r kind of_sections joined old.stands (whole old.full s' r kind step)
-            (record { published = u.published; live = u.live; unended = u.unended; few = λ b q is at won. absurd (linked b (old.full.part r) step.ask is step.asked) }) go in
-        record {
-          full = next old.full s' r kind step;
-          seen = next_is old.full s' r kind step;
-          chain = chain_after old.chain kind (old.full.part r) (old.full.word (step.ask.0));
-          stands = goes.stands;
-        }) of_sections joined
+      let goes = step_goes m l rs old.chain a a' e e' old.full (next old.full s' r kind step) r kind of_sections joined old.stands (whole old.full s' r kind step)
+      (record { published = u.published; live = u.live; unended = u.unended; few = λ b q is at won. absurd (linked b (old.full.part r) step.ask is step.asked) }) go in
+      record {
+        full = next old.full s' r kind step;
+        seen = next_is old.full s' r kind step;
+        chain = chain_after old.chain kind (old.full.part r) (old.full.word (step.ask.0));
+        stands = goes.stands;
+      }) of_sections joined
     where
       linked : (b : ℕ) (p : PartState) (x : Spot × Access) → kind ≡ kinds.LinkCommit b → asks m l rs r kind (blockless p) ≡ Some x → ⊥
       linked b p x is e0 = no_link r b (blockless p) x (subst (λ k. asks m l rs r k (blockless p) ≡ Some x) is e0)
@@ -113,8 +113,8 @@ module _ (m : Meaning) (l : Layout) (rs : List Request) where
   sweep_exact a e s s' r n joined old = subst (λ (v : Sight). IsJoinedToEpochs m l e v → (step : Steps m l rs v s' r (kinds.LoadGuard n))
       → is_last_guard l (v.part r).guards.looked ≡ true → SweepIsExact l v s' r (v.word (step.ask.0))) old.seen
       (λ joined step last. subst (λ (v : Sight). SweepIsExact l (bare old.full) v r (old.full.word (step.ask.0))) (next_is old.full s' r (kinds.LoadGuard n) step)
-        (exact_bare old.full (next old.full s' r (kinds.LoadGuard n) step) r (old.full.word (step.ask.0))
-        (safe.sweep_exact m l rs old.chain a e old.full (next old.full s' r (kinds.LoadGuard n) step) r n joined old.stands (whole old.full s' r (kinds.LoadGuard n) step) last))) joined
+      (exact_bare old.full (next old.full s' r (kinds.LoadGuard n) step) r (old.full.word (step.ask.0))
+      (safe.sweep_exact m l rs old.chain a e old.full (next old.full s' r (kinds.LoadGuard n) step) r n joined old.stands (whole old.full s' r (kinds.LoadGuard n) step) last))) joined
 
   pub first_stands_bare : (w : World) → IsFirst m l rs w → GuardsStandBare m l (agreement_schedules.first_state (λ p. (sight m l rs w).word (Cell p))) (epoch_schedules.first_state (first_place m l)) (sight m l rs w)
   first_stands_bare w start = record { full = full_sight m l rs w; seen = bare_sight m l rs w; chain = _; stands = first_stands m l rs w start }

@@ -212,6 +212,6 @@ module _ (m : Meaning) (laws : Laws m) (l : Layout) (limits : IsWithinLimits l) 
         enabled_slots = e.2.enabled;
         joined_slots = e.2.joined;
         guards = step_keeps m l rs g.agreement after g.epochs slots_after s s' r kind whole.sections whole.slots whole.guards step
-        (guards_supplied m laws l limits rs few allowed g s whole r kind step.ask step.asked) others;
+            (guards_supplied m laws l limits rs few allowed g s whole r kind step.ask step.asked) others;
         logs = logs_kept m l rs g.agreement after g.epochs slots_after s s' r kind whole.sections whole.slots whole.logs step others;
       }
