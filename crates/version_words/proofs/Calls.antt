@@ -49,7 +49,7 @@ not_nought s (spots.Board i) e h = omega arith
 
 -- what contracts see of a table
 abbrev pub seen_table : {T : Type 0} → TableId → Setup T → TableState T
-seen_table table built = record { table = table; structure = built.structure; layout = built.layout; requests = built.requests }
+seen_table table built = record { table = table; structure = built.structure; layout = built.layout; requests = built.requests.items }
 
 module _ {T : Type 0} (mean : T → Meaning) (table : TableId) (key built : Setup T) (ok : IsBuilt (mean built.structure) table key built) (own_table : TableId) (me : Me Thunk (View T))
     (own : IsOf (seen_table table built) (seen_seat own_table me)) (naming : Naming) (made : Step Thunk) (x : Spot × Access) (named : IsNamed (mean built.structure) naming (seen_seat own_table me) made x) where
@@ -58,7 +58,7 @@ module _ {T : Type 0} (mean : T → Meaning) (table : TableId) (key built : Setu
 
   -- the word is one of the table's
   pub has_word : Fits built.sizes x.0
-  has_word = subst (λ (z : Sizes). Fits z x.0) (ap (sizes_for (mean built.structure) me.0.layout) own.requests ∙ (ap (λ (l : Layout). sizes_for (mean built.structure) l built.requests) own.layout ∙ sym ok.as_sized))
+  has_word = subst (λ (z : Sizes). Fits z x.0) (ap (sizes_for (mean built.structure) me.0.layout) own.requests ∙ (ap (λ (l : Layout). sizes_for (mean built.structure) l built.requests.items) own.layout ∙ sym ok.as_sized))
       (asked_fits (mean built.structure) me.0.layout me.0.requests [] [] (record { runner = me.0.number; kind = kind }) me.0.part x named.asked)
 
   inside : address built.sizes x.0 < table.words
@@ -66,25 +66,25 @@ module _ {T : Type 0} (mean : T → Meaning) (table : TableId) (key built : Setu
 
   -- what a step asks that makes this event
   pub step_asks : (id at : ℕ) → at ≡ address built.sizes x.0 → ((n : ℕ) → at ≡ 0 → written x.1 n ≡ n)
-      → (own_table ≡ table) × (at < table.words) × Allows (Holds (mean key.structure) key.structure key.layout key.requests) table.slots id me at (written x.1) (Tells mean naming made me)
+      → (own_table ≡ table) × (at < table.words) × Allows (Holds (mean key.structure) key.structure key.layout key.requests.items) table.slots id me at (written x.1) (Tells mean naming made me)
   step_asks id at at_is blank = (
     own.table,
     subst (λ n. n < table.words) (sym at_is) inside,
-    subst (λ (y : Setup T). Allows (Holds (mean y.structure) y.structure y.layout y.requests) table.slots id me at (written x.1) (Tells mean naming made me)) (sym ok.told)
-        (subst (λ (a : ℕ). ((n : ℕ) → a ≡ 0 → written x.1 n ≡ n) → Allows (Holds (mean built.structure) built.structure built.layout built.requests) table.slots id me a (written x.1) (Tells mean naming made me)) (sym (at_is ∙ ap (λ (z : Sizes). address z x.0) ok.as_sized))
-        (λ free. steps mean naming made built.structure me built.layout built.requests id table.slots x own.structure named.plain free named.asked) blank),
+    subst (λ (y : Setup T). Allows (Holds (mean y.structure) y.structure y.layout y.requests.items) table.slots id me at (written x.1) (Tells mean naming made me)) (sym ok.told)
+        (subst (λ (a : ℕ). ((n : ℕ) → a ≡ 0 → written x.1 n ≡ n) → Allows (Holds (mean built.structure) built.structure built.layout built.requests.items) table.slots id me a (written x.1) (Tells mean naming made me)) (sym (at_is ∙ ap (λ (z : Sizes). address z x.0) ok.as_sized))
+        (λ free. steps mean naming made built.structure me built.layout built.requests.items id table.slots x own.structure named.plain free named.asked) blank),
   )
 
   -- the same for a plain store
   pub store_asks : (id at n : ℕ) → at ≡ address built.sizes x.0 → ((z : ℕ) → at ≡ 0 → written x.1 z ≡ z) → x.1 ≡ Stores n
       → ((a b : ℕ) → after (mean built.structure) me.0.layout me.0.number kind x.0 x.1 me.0.part a ≡ after (mean built.structure) me.0.layout me.0.number kind x.0 x.1 me.0.part b)
-      → (own_table ≡ table) × (at < table.words) × Allows (Holds (mean key.structure) key.structure key.layout key.requests) table.slots id me at (λ z. n) (λ z. Tells mean naming made me n)
+      → (own_table ≡ table) × (at < table.words) × Allows (Holds (mean key.structure) key.structure key.layout key.requests.items) table.slots id me at (λ z. n) (λ z. Tells mean naming made me n)
   store_asks id at n at_is blank is blind = (
     own.table,
     subst (λ n. n < table.words) (sym at_is) inside,
-    subst (λ (y : Setup T). Allows (Holds (mean y.structure) y.structure y.layout y.requests) table.slots id me at (λ z. n) (λ z. Tells mean naming made me n)) (sym ok.told)
-        (subst (λ (a : ℕ). ((z : ℕ) → a ≡ 0 → written x.1 z ≡ z) → Allows (Holds (mean built.structure) built.structure built.layout built.requests) table.slots id me a (λ y. n) (λ y. Tells mean naming made me n)) (sym (at_is ∙ ap (λ (z : Sizes). address z x.0) ok.as_sized))
-        (λ free. stores mean naming made built.structure me built.layout built.requests id table.slots x own.structure named.plain free named.asked n is blind) blank),
+    subst (λ (y : Setup T). Allows (Holds (mean y.structure) y.structure y.layout y.requests.items) table.slots id me at (λ z. n) (λ z. Tells mean naming made me n)) (sym ok.told)
+        (subst (λ (a : ℕ). ((z : ℕ) → a ≡ 0 → written x.1 z ≡ z) → Allows (Holds (mean built.structure) built.structure built.layout built.requests.items) table.slots id me a (λ y. n) (λ y. Tells mean naming made me n)) (sym (at_is ∙ ap (λ (z : Sizes). address z x.0) ok.as_sized))
+        (λ free. stores mean naming made built.structure me built.layout built.requests.items id table.slots x own.structure named.plain free named.asked n is blind) blank),
   )
 
   module _ (found : ℕ) (own_table' : TableId) (me' : Me Thunk (View T)) (same : own_table' ≡ own_table) (told : Tells mean naming made me found me') where
@@ -151,13 +151,13 @@ module _ {T : Type 0} (mean : T → Meaning) (table : TableId) (key built : Setu
   spot_fits = has_word mean table key built ok own_table me own_here naming _ (spot, access) (named_here (address built.sizes spot) refl)
 
   pub step_owes : (id at : ℕ) → at ≡ address built.sizes spot → ((n : ℕ) → at ≡ 0 → written access n ≡ n)
-      → (own_table ≡ table) × (at < table.words) × Allows (Holds (mean key.structure) key.structure key.layout key.requests) table.slots id me at (written access) (Tells mean naming (step table.slots at first second said) me)
+      → (own_table ≡ table) × (at < table.words) × Allows (Holds (mean key.structure) key.structure key.layout key.requests.items) table.slots id me at (written access) (Tells mean naming (step table.slots at first second said) me)
   step_owes id at at_is blank = step_asks mean table key built ok own_table me own_here naming (step table.slots at first second said) (spot, access) (named_here at at_is) id at at_is blank
 
   -- a plain store of this number
   pub store_owes : (id at n : ℕ) → at ≡ address built.sizes spot → is_seat spot ≡ false → access ≡ Stores n
       → IsBlind (mean t.structure) (naming (mean t.structure) me.0.layout me.0.requests me.0.part (step_at (mean t.structure) t spot first second said)) (spot, access) r
-      → (own_table ≡ table) × (at < table.words) × Allows (Holds (mean key.structure) key.structure key.layout key.requests) table.slots id me at (λ z. n) (λ z. Tells mean naming (step table.slots at first second said) me n)
+      → (own_table ≡ table) × (at < table.words) × Allows (Holds (mean key.structure) key.structure key.layout key.requests.items) table.slots id me at (λ z. n) (λ z. Tells mean naming (step table.slots at first second said) me n)
   store_owes id at n at_is apart is blind = store_asks mean table key built ok own_table me own_here naming (step table.slots at first second said) (spot, access) (named_here at at_is) id at n at_is
       (λ z e. absurd (not_nought built.sizes spot apart (sym at_is ∙ e))) is
       (λ a b. (subst (λ (a : ℕ). IsBlind (mean built.structure) (naming (mean built.structure) me.0.layout me.0.requests me.0.part (step table.slots a first second said)) (spot, access) r) (sym (at_is ∙ ap (λ (z : Sizes). address z spot) ok.as_sized))
@@ -165,7 +165,7 @@ module _ {T : Type 0} (mean : T → Meaning) (table : TableId) (key built : Setu
 
   -- a step on another word than the seat word
   pub change_owes : (id at : ℕ) → at ≡ address built.sizes spot → is_seat spot ≡ false
-      → (own_table ≡ table) × (at < table.words) × Allows (Holds (mean key.structure) key.structure key.layout key.requests) table.slots id me at (written access) (Tells mean naming (step table.slots at first second said) me)
+      → (own_table ≡ table) × (at < table.words) × Allows (Holds (mean key.structure) key.structure key.layout key.requests.items) table.slots id me at (written access) (Tells mean naming (step table.slots at first second said) me)
   change_owes id at at_is apart = step_owes id at at_is (λ n e. absurd (not_nought built.sizes spot apart (sym at_is ∙ e)))
 
   module _ (found at : ℕ) (at_is : at ≡ address built.sizes spot) (own_table' : TableId) (me' : Me Thunk (View T)) (same : own_table' ≡ own_table) (told : Tells mean naming (step table.slots at first second said) me found me') where

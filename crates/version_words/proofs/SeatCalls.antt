@@ -60,7 +60,7 @@ module _ {T : Type 0} (mean : T → Meaning) (table : TableId) (key built : Setu
   l = built.layout
 
   abbrev rs : List Request
-  rs = built.requests
+  rs = built.requests.items
 
   abbrev v : View T
   v = me.0
@@ -82,11 +82,11 @@ module _ {T : Type 0} (mean : T → Meaning) (table : TableId) (key built : Setu
   split_met enabled = let e = enabled_here kinds.Split enabled in let asked = asked_here kinds.Split e.met e.asked in asked ∙ ap Some (split_asked (mean s) l rs v.number v.part e.met asked).met
 
   pub splits_owe : (id : ℕ) → IsEnabled (mean t.structure) kinds.Split r
-      → (own_table ≡ table) × (0 < table.words) × Splits (Holds (mean key.structure) key.structure key.layout key.requests) id v (splitting mean v v.structure) (split_off mean v v.structure)
+      → (own_table ≡ table) × (0 < table.words) × Splits (Holds (mean key.structure) key.structure key.layout key.requests.items) id v (splitting mean v v.structure) (split_off mean v v.structure)
   splits_owe id enabled = (
     of_table.table,
     some_word,
-    subst (λ (y : Setup T). Splits (Holds (mean y.structure) y.structure y.layout y.requests) id v (splitting mean v v.structure) (split_off mean v v.structure)) (sym ok.told)
+    subst (λ (y : Setup T). Splits (Holds (mean y.structure) y.structure y.layout y.requests.items) id v (splitting mean v v.structure) (split_off mean v v.structure)) (sym ok.told)
         (λ st h here.
         let kept : record v { part = after (mean s) l v.number kinds.Split Seat Loads v.part (slice_index st.words 0) } ≡ splitting mean v v.structure =
         (λ i. record v { part = after (mean s) (sym of_table.layout i) v.number kinds.Split Seat Loads v.part (h.seat_word i) }) ∙ sym (ap (splitting mean v) of_table.structure) in
@@ -111,13 +111,13 @@ module _ {T : Type 0} (mean : T → Meaning) (table : TableId) (key built : Setu
         asked ∙ ap Some (join_asked (mean s) l rs v.number w.number v.part e.met asked).met
 
     pub joins_owe : (id other : ℕ) → me'.1 ≡ []
-        → (own_table ≡ table) × (other_table ≡ table) × (me'.1 ≡ []) × (0 < table.words) × Joins (Holds (mean key.structure) key.structure key.layout key.requests) id v other w (joining mean v w v.structure) spent
+        → (own_table ≡ table) × (other_table ≡ table) × (me'.1 ≡ []) × (0 < table.words) × Joins (Holds (mean key.structure) key.structure key.layout key.requests.items) id v other w (joining mean v w v.structure) spent
     joins_owe id other empty = (
       of_table.table,
       of_table'.table,
       empty,
       some_word,
-      subst (λ (y : Setup T). Joins (Holds (mean y.structure) y.structure y.layout y.requests) id v other w (joining mean v w v.structure) spent) (sym ok.told)
+      subst (λ (y : Setup T). Joins (Holds (mean y.structure) y.structure y.layout y.requests.items) id v other w (joining mean v w v.structure) spent) (sym ok.told)
           (λ st h here apart there.
           let both : record v { part = knows_also (after (mean s) l v.number (kinds.Join w.number) Seat Loads v.part (slice_index st.words 0)) w.part; joined = (w.number, w.part) ∷ v.joined } ≡ joining mean v w v.structure =
           (λ i. record v { part = knows_also (after (mean s) (sym of_table.layout i) v.number (kinds.Join w.number) Seat Loads v.part (h.seat_word i)) w.part; joined = (w.number, w.part) ∷ v.joined }) ∙ sym (ap (joining mean v w) of_table.structure) in
@@ -126,9 +126,9 @@ module _ {T : Type 0} (mean : T → Meaning) (table : TableId) (key built : Setu
           (subst (λ (u : View T). get_elem? (set st.views id u) other ≡ some w) (sym both) there))),
     )
 
-  module _ (held : List ℕ) (slots : List Thunk) (id : ℕ) (final : Final (Seen (Holds (mean key.structure) key.structure key.layout key.requests) id v) held slots) where
+  module _ (held : List ℕ) (slots : List Thunk) (id : ℕ) (final : Final (Seen (Holds (mean key.structure) key.structure key.layout key.requests.items) id v) held slots) where
     final_here : Final (Seen (Holds (mean s) s l rs) id v) held slots
-    final_here = subst (λ (y : Setup T). Final (Seen (Holds (mean y.structure) y.structure y.layout y.requests) id v) held slots) ok.told final
+    final_here = subst (λ (y : Setup T). Final (Seen (Holds (mean y.structure) y.structure y.layout y.requests.items) id v) held slots) ok.told final
 
     abbrev st : State Thunk (View T)
     st = final_here.0

@@ -17,7 +17,7 @@ pub record IsLaid {T H : Type 0} (m : Meaning) (closed : Closed Thunk H) (built 
   pub full : IsFull closed.words
   pub empty : slots_len closed.slots ≡ 0
   pub counted : slots_len closed.words ≡ size built.sizes
-  pub as_sized : built.sizes ≡ sizes_for m built.layout built.requests
+  pub as_sized : built.sizes ≡ sizes_for m built.layout built.requests.items
   pub limits : IsWithinLimits built.layout
-  pub allowed : AreAllowed built.requests
-  pub shown : AreShown m built.layout built.requests (slots_items closed.words)
+  pub allowed : AreAllowed built.requests.items
+  pub shown : AreShown m built.layout built.requests.items (slots_items closed.words)

@@ -110,10 +110,10 @@ HasSmallValue op = (v : ℕ) → value_given op ≡ Some v → v < 2 ^ 32
 -- the table has the machine's words, under its rule, and is within the limits
 pub record IsBuilt {T : Type 0} (m : Meaning) (id : TableId) (key built : Setup T) : Type 0 where
   pub told : key ≡ built
-  pub as_sized : built.sizes ≡ sizes_for m built.layout built.requests
+  pub as_sized : built.sizes ≡ sizes_for m built.layout built.requests.items
   pub node_slots : built.node_slots ≡ slot_count built.layout m.fixed_slots
   pub first_cell : built.first_cell ≡ m.fixed_cells
   pub words : id.words ≡ size built.sizes
   pub no_slots : id.slots ≡ 0
   pub limits : IsWithinLimits built.layout
-  pub allowed : AreAllowed built.requests
+  pub allowed : AreAllowed built.requests.items

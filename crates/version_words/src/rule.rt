@@ -1,10 +1,10 @@
 //! The rule of the table: its words and all views show a state of the machine that enabled events lead to.
 
 use crate::bases::Bases;
-use crate::given::GivenRequests;
 use crate::view::View;
 use atomic_table::TableRule;
 use machine_states::body_terms::Thunk;
+use machine_states::map_history::Request;
 use machine_states::structure_laws::Structure;
 use machine_states::table_words::Layout;
 use std::marker::PhantomData;
@@ -14,7 +14,7 @@ use std::marker::PhantomData;
 pub struct Setup<S: Structure> {
     pub structure: S,
     pub layout: Layout,
-    pub requests: GivenRequests,
+    pub requests: Vec<Request>,
     pub sizes: Bases,
     /// How many node slots there are.
     pub node_slots: u32,
@@ -30,7 +30,7 @@ pub struct Shows<S> {
 impl<S: Structure> TableRule<Thunk, View<S>, Setup<S>> for Shows<S> {
     ghost use Rattle.version_words.specs.Rule.{Holds, keeper_view};
 
-    ghost holds = { λ key s. Holds (S.meaning key.structure) key.structure key.layout key.requests s };
+    ghost holds = { λ key s. Holds (S.meaning key.structure) key.structure key.layout key.requests.items s };
 
-    ghost first = { λ key. keeper_view (S.meaning key.structure) key.structure key.layout key.requests };
+    ghost first = { λ key. keeper_view (S.meaning key.structure) key.structure key.layout key.requests.items };
 }

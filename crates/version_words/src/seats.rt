@@ -11,7 +11,6 @@ ghost use Rattle.version_words.specs.TableState.{IsOf, IsNew, HasSmallValue, fir
 ghost use Rattle.version_words.specs.Events.{IsEnabled, HasSplit, next_worker, joined_by};
 
 use crate::bases::Bases;
-use crate::given::GivenRequests;
 use crate::plays::{Joins, SplitsOff};
 use crate::rule::Setup;
 use crate::runner::Runner;
@@ -137,7 +136,7 @@ impl<S: Structure> FlockTable<S> {
         let node_slots = slot_count(&structure, layout);
         let first_cell = structure.fixed_cells();
         let kept = keeper_lists(alloc, &structure, layout)?;
-        let requests = GivenRequests::of(alloc, requests)?;
+        let requests = Vec::from_slice(alloc, requests)?;
         let setup = Setup {
             structure,
             layout,

@@ -32,7 +32,7 @@ impl<S: Structure> Model for FlockTable<S> {
       table = a.table.shared.table_id;
       structure = a.setup.structure;
       layout = a.setup.layout;
-      requests = a.setup.requests;
+      requests = a.setup.requests.items;
     } };
 
     ghost invariant = { λ a. IsBuilt (S.meaning a.setup.structure) a.table.shared.table_id a.table.shared.key a.setup };

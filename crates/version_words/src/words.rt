@@ -28,7 +28,7 @@ impl<S: Structure> Model for Words<S> {
     ghost view = { λ a. record {
       structure = a.setup.structure;
       layout = a.setup.layout;
-      requests = a.setup.requests;
+      requests = a.setup.requests.items;
       words = slots_items a.closed.words;
     } };
 

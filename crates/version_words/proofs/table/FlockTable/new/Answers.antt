@@ -11,17 +11,17 @@ use Rattle.version_words.proofs.table.FlockTable.new.Goals as goal
 pub of_words-requires : goal.of_words-requires
 of_words-requires g c =
     let m = g.S.Structure.meaning c.args.structure in
-    let sizes_is = c.sizes_for-sizes.ensures ∙ ap (λ (rs : List Request). sizes_for m c.args.layout rs) (sym c.in_ok-requests.ensures) in
-    begins m c.args.structure c.args.layout c.in_ok-requests.requests c.as_slice.result.now
+    let sizes_is = c.sizes_for-sizes.ensures ∙ ap (λ (rs : List Request). sizes_for m c.args.layout rs) (sym c.in_ok-requests.ensures.items) in
+    begins m c.args.structure c.args.layout c.in_ok-requests.requests.items c.as_slice.result.now
     (subst (λ (z : Sizes). IsFilled m z z.cells c.as_slice.result.now) sizes_is (subst (IsFilled m c.sizes_for-sizes.result c.sizes_for-sizes.result.cells) (sym c.as_slice.ensures.value) c.in_ok-words.ensures))
 
 pub invariant_of-result : goal.invariant_of-result
 invariant_of-result g c =
-    search (rules, subst AreAllowed (sym c.in_ok-requests.ensures) (allowed_in c.args.requests.now c.requires.ordered c.values_fit.ensures))
+    search (rules, subst AreAllowed (sym c.in_ok-requests.ensures.items) (allowed_in c.args.requests.now c.requires.ordered c.values_fit.ensures))
 
 pub returns-clause-own : goal.returns-clause-own
 returns-clause-own g c =
-    let allowed : AreAllowed c.in_ok-requests.requests =
-    subst AreAllowed (sym c.in_ok-requests.ensures) (allowed_in c.args.requests.now c.requires.ordered c.values_fit.ensures) in
-    let all_allowed : (rs : List Request) → rs ≡ c.in_ok-requests.requests → AreAllowed rs = λ rs same. subst AreAllowed (sym same) allowed in
+    let allowed : AreAllowed c.in_ok-requests.requests.items =
+    subst AreAllowed (sym c.in_ok-requests.ensures.items) (allowed_in c.args.requests.now c.requires.ordered c.values_fit.ensures) in
+    let all_allowed : (rs : List Request) → rs ≡ c.in_ok-requests.requests.items → AreAllowed rs = λ rs same. subst AreAllowed (sym same) allowed in
     search (rules, all_allowed)
