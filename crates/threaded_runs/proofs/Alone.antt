@@ -72,7 +72,7 @@ none_named : (word : Spot → ℕ) → ((i : ℕ) → word (Board i) ≡ 0) → 
 none_named word bare zero = refl
 none_named word bare (suc n) =
     let rest = none_named word bare n in
-    let last : cond (word (Board n) == 0) 0 1 ≡ 0 = ap (λ (k : ℕ). cond (k == 0) 0 1) (bare n) in omega (arith, rest, last)
+    let last : ◌≡◌ {A = ℕ} (cond (word (Board n) == 0) 0 1) 0 = ap (λ (k : ℕ). cond (k == 0) 0 1) (bare n) in omega (arith, rest, last)
 
 most : (per_pair size largest : ℕ) → size ≤ largest → per_pair * size ≤ per_pair * largest
 most per_pair size largest few = mul-le per_pair size per_pair largest (omega arith) few
