@@ -9,8 +9,8 @@ use Rattle.machine_states.specs.runner_parts.specs.declared.event.EventKind.{Eve
 use Rattle.machine_states.specs.runner_parts.specs.declared.event.EventKind.TheVariants as kinds
 use Rattle.machine_states.specs.runner_parts.specs.State.{RunState, PartState}
 use Rattle.machine_states.specs.runner_steps.specs.After.{own_epoch}
-use Rattle.machine_states.specs.Blockless.{asks, after, blockless}
-use Rattle.machine_states.proofs.Blockless.{unblocked, after_bare, asks_seen}
+use Rattle.machine_states.specs.Blockless.{asks, after}
+use Rattle.machine_states.proofs.Blockless.{unblocked, after_same}
 use Rattle.lone_plans.specs.one_worker.proofs.Onward.{is_advance, was_uncrossed, same_own}
 use Rattle.version_words.specs.RunnerState.{RunnerState}
 use Rattle.version_words.specs.Events.{Makes, IsMade}
@@ -45,30 +45,30 @@ module _ {T : Type 0} where
   then_on a b c one two uncrossed = let h = two uncrossed in let k = one h.0 in (k.0, h.1 ∙ k.1)
 
   module _ (m : Meaning) where
-    -- a step, of the parts without their blocks: the part after it, what it asks, and what is uncrossed behind it
+    -- a step: the part after it, what it asks, and what is uncrossed behind it
     module _ (kind : EventKind) (found : ℕ) (a b : RunnerState T) (made : Makes m kind found a b) where
-      made_part : blockless b.part ≡ after m a.layout a.number kind made.met.0 made.met.1 (blockless a.part) found
-      made_part = ap (λ (r : RunnerState T). blockless r.part) made.made
-          ∙ after_bare m a.layout a.requests a.number a.part found made.met kind (unblocked m a.layout a.requests a.number kind a.part made.met made.asked)
+      made_part : b.part ≡ after m a.layout a.number kind made.met.0 made.met.1 a.part found
+      made_part = ap (λ (r : RunnerState T). r.part) made.made
+          ∙ after_same m a.layout a.requests a.number a.part found made.met kind (unblocked m a.layout a.requests a.number kind a.part made.met made.asked)
 
-      pub made_asked : asks m a.layout a.requests a.number kind (blockless a.part) ≡ Some made.met
-      made_asked = asks_seen m a.layout a.requests a.number kind a.part ∙ made.asked
+      pub made_asked : asks m a.layout a.requests a.number kind a.part ≡ Some made.met
+      made_asked = unblocked m a.layout a.requests a.number kind a.part made.met made.asked
 
       pub made_uncrossed : b.part.records.crossed ≡ false
-          → (after m a.layout a.number kind made.met.0 made.met.1 (blockless a.part) found).records.crossed ≡ false
+          → (after m a.layout a.number kind made.met.0 made.met.1 a.part found).records.crossed ≡ false
       made_uncrossed uncrossed = sym (ap (λ (p : PartState). p.records.crossed) made_part) ∙ uncrossed
 
     pub made_on : (kind : EventKind) (found : ℕ) (a b : RunnerState T) → is_advance kind ≡ false → Makes m kind found a b → Onward a b
     made_on kind found a b plain made uncrossed =
         let gone = made_uncrossed kind found a b made uncrossed in (
-          was_uncrossed m a.layout a.requests a.number (blockless a.part) made.met kind found (made_asked kind found a b made) gone,
+          was_uncrossed m a.layout a.requests a.number a.part made.met kind found (made_asked kind found a b made) gone,
           ap (λ (p : PartState). own_epoch p.records.epoch_seen) (made_part kind found a b made)
-              ∙ same_own m a.layout a.requests a.number (blockless a.part) made.met kind found (made_asked kind found a b made) gone plain,
+              ∙ same_own m a.layout a.requests a.number a.part made.met kind found (made_asked kind found a b made) gone plain,
         )
 
     -- what is uncrossed behind a step was so before it
     pub made_was : (kind : EventKind) (found : ℕ) (a b : RunnerState T) → Makes m kind found a b → b.part.records.crossed ≡ false → a.part.records.crossed ≡ false
-    made_was kind found a b made uncrossed = was_uncrossed m a.layout a.requests a.number (blockless a.part) made.met kind found (made_asked kind found a b made)
+    made_was kind found a b made uncrossed = was_uncrossed m a.layout a.requests a.number a.part made.met kind found (made_asked kind found a b made)
         (made_uncrossed kind found a b made uncrossed)
 
     pub is_made_on : (kind : EventKind) (a b : RunnerState T) → is_advance kind ≡ false → IsMade m kind a b → Onward a b

@@ -20,7 +20,6 @@ use Rattle.machine_states.specs.runner_steps.specs.AfterInRun.{ended_more, kept_
 use Rattle.machine_states.specs.runner_steps.specs.AfterOutside.{published_by}
 use Rattle.machine_states.specs.runner_steps.specs.Sections.{next_of, outcome_of}
 use Rattle.machine_states.specs.Sight.{Sight, sight, part_or_first}
-use Rattle.machine_states.specs.Blockless.{blockless}
 use Rattle.machine_states.proofs.Steps.{none_some}
 use Rattle.lone_plans.specs.one_worker.specs.Lone.{IsAnswerOrSpent, IsLastReading, IsFirstPublished}
 use Rattle.lone_plans.specs.one_worker.proofs.SectionsReached.{reached_through}
@@ -203,7 +202,7 @@ module _ {T : Type 0} (m : Meaning) (laws : Laws m) (planning : Planning) (plann
   abbrev s : Sight
   s = sight m before.layout before.requests release.running.inside.world
 
-  part_is : s.part 0 ≡ blockless before.part
+  part_is : s.part 0 ≡ before.part
   part_is = ap s.part (sym number_is) ∙ ap part_or_first release.running.inside.own
 
   abbrev walked : ℕ

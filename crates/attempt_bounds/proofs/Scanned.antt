@@ -25,7 +25,6 @@ use Rattle.machine_states.specs.epoch_core.specs.Moves.{is_clear}
 use Rattle.machine_states.specs.runner_steps.specs.AfterOutside.{collected, with_stage, scan_one_after}
 use Rattle.machine_states.specs.runner_steps.specs.After.{own_epoch, epoch_after, after_by, stepped}
 use Rattle.machine_states.specs.Sight.{sight, part_or_first}
-use Rattle.machine_states.specs.Blockless.{blockless}
 use Rattle.machine_states.proofs.Sights.{unless_gone, cond_none}
 use Rattle.attempts.specs.lock_words.specs.machine_epochs.specs.Descriptors.{DescriptorsAreSound}
 use Rattle.attempts.specs.lock_words.specs.machine_epochs.proofs.OutsideAsked as asked
@@ -101,7 +100,7 @@ module _ {T : Type 0} (m : Meaning) where
   scans_clear epoch next (n ∷ ns) a b scans uncrossed =
       let here = (scans_on m (next + 1) ns scans.0 b scans.2 uncrossed).0 in
       ap (λ t. t && list_all (is_clear epoch) ns) (zero_clear epoch n
-      (read_idle m a.layout a.requests a.number (blockless a.part) scans.1.met (kinds.ScanOne next) n
+      (read_idle m a.layout a.requests a.number a.part scans.1.met (kinds.ScanOne next) n
       (made_asked m (kinds.ScanOne next) n a scans.0 scans.1) (made_uncrossed m (kinds.ScanOne next) n a scans.0 scans.1 here) next refl))
       ∙ scans_clear epoch (next + 1) ns scans.0 b scans.2 uncrossed
 
@@ -134,7 +133,7 @@ module _ {T : Type 0} (m : Meaning) where
 
     -- the scan is for the own epoch, which isn't the last one
     pub epoch_is : epoch ≡ own_epoch old.part.records.epoch_seen
-    epoch_is = found_own m old.layout old.requests old.number (blockless old.part) c.load.met kinds.ScanEpoch epoch
+    epoch_is = found_own m old.layout old.requests old.number old.part c.load.met kinds.ScanEpoch epoch
         (made_asked m kinds.ScanEpoch epoch old c.begun c.load) (made_uncrossed m kinds.ScanEpoch epoch old c.begun c.load scanned_on.0) (ap (λ (y : Spot × Access). y.0) (sym load_is))
 
     begun_for : IsFor epoch c.begun.part.stage
@@ -157,7 +156,7 @@ module _ {T : Type 0} (m : Meaning) where
           (asking kinds.Advance tries.1.found c.scanned c.over tries.1.event) (scans_for epoch 0 c.found c.begun c.scanned c.scans begun_for)
 
       found_is : tries.1.found ≡ epoch
-      found_is = found_own m c.scanned.layout c.scanned.requests c.scanned.number (blockless c.scanned.part) tries.1.event.met kinds.Advance tries.1.found
+      found_is = found_own m c.scanned.layout c.scanned.requests c.scanned.number c.scanned.part tries.1.event.met kinds.Advance tries.1.found
           (made_asked m kinds.Advance tries.1.found c.scanned c.over tries.1.event)
           (made_uncrossed m kinds.Advance tries.1.found c.scanned c.over tries.1.event (over_on uncrossed).0) (ap (λ (y : Spot × Access). y.0) (sym advance_is))
           ∙ (scanned_on.1 ∙ (begun_on.1 ∙ sym epoch_is))
@@ -175,7 +174,7 @@ module _ {T : Type 0} (m : Meaning) where
       sound : DescriptorsAreSound m c.begun.layout (sight m c.begun.layout c.begun.requests c.load.shown.before)
       sound = descriptors_after m c.begun.layout c.begun.requests c.load.shown.was_reached.events c.load.shown.before c.load.shown.was_reached.after
 
-      part_is : (sight m c.begun.layout c.begun.requests c.load.shown.before).part c.begun.number ≡ blockless old.part
+      part_is : (sight m c.begun.layout c.begun.requests c.load.shown.before).part c.begun.number ≡ old.part
       part_is = ap part_or_first c.load.shown.was_own
 
       word_is : (sight m c.begun.layout c.begun.requests c.load.shown.before).word Epoch ≡ epoch

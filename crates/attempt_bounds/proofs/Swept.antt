@@ -8,7 +8,6 @@ use Rattle.machine_states.specs.guard_core.specs.Update.{has}
 use Rattle.machine_states.specs.structure_laws.specs.Meaning.{Meaning}
 use Rattle.machine_states.specs.runner_parts.specs.declared.event.EventKind.TheVariants as kinds
 use Rattle.machine_states.specs.runner_parts.specs.State.{DescriptorsState}
-use Rattle.machine_states.specs.Blockless.{blockless}
 use Rattle.lone_plans.specs.one_worker.proofs.Onward.{read_unguarded}
 use Rattle.version_words.specs.RunnerState.{RunnerState}
 use Rattle.attempts.specs.epoch_slots.specs.Sweeps.{Sweeps, HasSwept}
@@ -31,7 +30,7 @@ module _ {T : Type 0} (m : Meaning) where
   sweeps_none next (n ∷ ns) a b sweeps uncrossed d =
       let here = (sweeps_on m (next + 1) ns sweeps.0 b sweeps.2 uncrossed).0 in
       names_none n d (has ns (suc d))
-      (read_unguarded m a.layout a.requests a.number (blockless a.part) sweeps.1.met (kinds.LoadGuard next) n
+      (read_unguarded m a.layout a.requests a.number a.part sweeps.1.met (kinds.LoadGuard next) n
       (made_asked m (kinds.LoadGuard next) n a sweeps.0 sweeps.1) (made_uncrossed m (kinds.LoadGuard next) n a sweeps.0 sweeps.1 here) next refl)
       (sweeps_none (next + 1) ns sweeps.0 b sweeps.2 uncrossed d)
 

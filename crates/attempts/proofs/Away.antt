@@ -14,7 +14,6 @@ use Rattle.machine_states.specs.structure_laws.specs.Laws.{Laws}
 use Rattle.machine_states.specs.World.{World}
 use Rattle.machine_states.specs.Reached.{Reached}
 use Rattle.machine_states.specs.Sight.{sight, part_or_first}
-use Rattle.machine_states.specs.Blockless.{blockless}
 use Rattle.machine_states.specs.table_words.specs.declared.spot.Spot.TheVariants.{Cell}
 use Rattle.machine_states.specs.runner_parts.specs.State.{ReadsState, PartState}
 use Rattle.machine_states.specs.runner_parts.specs.Tests.{has_pair}
@@ -57,7 +56,7 @@ module _ {T : Type 0} (m : Meaning) (laws : Laws m) (t : TableState T) (limits :
     abbrev w : World
     w = watched.reached.world
 
-    here : (sight m l rs w).part watching.number ≡ blockless watching.part
+    here : (sight m l rs w).part watching.number ≡ watching.part
     here = ap part_or_first watched.reached.own
 
     changed : watched.found ≡ word → ⊥

@@ -20,7 +20,6 @@ use Rattle.machine_states.specs.runner_steps.specs.Sections.{thunk_of}
 use Rattle.machine_states.specs.World.{World, seat_of}
 use Rattle.machine_states.specs.Reached.{Reached}
 use Rattle.machine_states.specs.Sight.{Sight, sight, part_or_first}
-use Rattle.machine_states.specs.Blockless.{blockless}
 use Rattle.lock_words.specs.machine_epochs.specs.Slots.{thunk_in}
 use Rattle.machine_facts.specs.machine_agreement.proofs.RunPlaces.{opened_thunk}
 use Rattle.machine_facts.specs.machine_invariant.specs.After.{AreAllowed}
@@ -62,7 +61,7 @@ module _ (m : Meaning) (laws : Laws m) (l : Layout) (requests : List Request) (l
   all : AreFactsAfter m l requests reached.events w reached.after
   all = facts_after m laws l requests reached.events w limits allowed reached.after
 
-  seen : s.part r ≡ blockless part
+  seen : s.part r ≡ part
   seen = ap part_or_first own
 
   of_run : thunk_in s.word q.descriptor ≡ thunk_of q.opened

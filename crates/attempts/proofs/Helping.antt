@@ -11,7 +11,6 @@ use Rattle.machine_states.specs.runner_parts.specs.declared.entries.Known.{Known
 use Rattle.machine_states.specs.runner_parts.specs.State.{PartState}
 use Rattle.machine_states.specs.runner_parts.specs.Tests.{is_answered}
 use Rattle.machine_states.specs.Sight.{sight, part_or_first}
-use Rattle.machine_states.specs.Blockless.{blockless}
 use Rattle.machine_facts.specs.machine_invariant.specs.After.{AreAllowed}
 use Rattle.request_facts.specs.reached_histories.specs.Requests.{or_none, requests_of}
 use Rattle.request_facts.specs.reached_histories.specs.Kept.{link_of}
@@ -40,7 +39,7 @@ module _ {T : Type 0} (m : Meaning) (laws : Laws m) (old new : RunnerState T) (l
       stand : CallersStand m old.layout old.requests (sight m old.layout old.requests stood.world)
       stand = callers_stand m laws old.layout old.requests limits allowed stood.world stood.reached
 
-      here : (sight m old.layout old.requests stood.world).part old.number ≡ blockless stood.part
+      here : (sight m old.layout old.requests stood.world).part old.number ≡ stood.part
       here = ap part_or_first stood.own
 
       of_worker : (requests_of m old.layout old.requests).worker q.number ≡ old.number

@@ -22,7 +22,6 @@ use Rattle.machine_states.specs.runner_parts.specs.Tests.{is_answered, is_restin
 use Rattle.machine_states.specs.runner_steps.specs.Outside.{when, entry_spot}
 use Rattle.machine_states.specs.runner_steps.specs.Asks.{ask_by, fitting, sizes_for}
 use Rattle.machine_states.specs.Sight.{sight, part_or_first}
-use Rattle.machine_states.specs.Blockless.{blockless}
 use Rattle.machine_states.proofs.Steps.{some_same, none_some}
 use Rattle.machine_facts.specs.machine_invariant.specs.After.{AreAllowed}
 use Rattle.version_words.specs.RunnerState.{RunnerState}
@@ -174,7 +173,7 @@ module _ {T : Type 0} (m : Meaning) (laws : Laws m) (map : m.is_map ≡ true) (r
   knows_two = load_knows m n true word r1 r2 two tidy_one.at
 
   -- what is known in the last state
-  here : (sight m r2.layout r2.requests two.shown.world).part r2.number ≡ blockless r2.part
+  here : (sight m r2.layout r2.requests two.shown.world).part r2.number ≡ r2.part
   here = ap part_or_first two.shown.own
 
   pub is_known : IsKnown m r2.layout r2.requests (sight m r2.layout r2.requests two.shown.world) r2.part.records.known n
@@ -183,7 +182,7 @@ module _ {T : Type 0} (m : Meaning) (laws : Laws m) (map : m.is_map ≡ true) (r
       (ap (λ (p : PartState). is_answered p.records.known n) here ∙ known_two))
 
   -- and before the first load
-  there : (sight m r1.layout r1.requests one.shown.before).part r1.number ≡ blockless r0.part
+  there : (sight m r1.layout r1.requests one.shown.before).part r1.number ≡ r0.part
   there = ap part_or_first one.shown.was_own
 
   was_known : IsKnown m r1.layout r1.requests (sight m r1.layout r1.requests one.shown.before) r0.part.records.known n

@@ -22,7 +22,6 @@ use Rattle.machine_states.specs.runner_steps.specs.AfterInRun.{kept_unless}
 use Rattle.machine_states.specs.World.{World}
 use Rattle.machine_states.specs.Reached.{Reached}
 use Rattle.machine_states.specs.Sight.{sight, part_or_first}
-use Rattle.machine_states.specs.Blockless.{blockless}
 use Rattle.machine_facts.specs.machine_invariant.specs.After.{AreAllowed}
 use Rattle.caller_facts.specs.lock_walks.specs.runner_facts.specs.Names.{NamesStand}
 use Rattle.machine_facts.specs.Watched.{WasDone}
@@ -283,7 +282,7 @@ module _ {T : Type 0} (m : Meaning) (laws : Laws m) (place word : ℕ) (old watc
       sure = ap (λ (p : PartState). is_sure_of p.guards (value_of word - 1)) here ∙ (ap (λ (g : GuardsState). is_sure_of g (value_of word - 1)) ends.guards ∙ watched.sure refl);
     })
       where
-        here : (sight m helped.layout helped.requests ends.reached.world).part helped.number ≡ blockless helped.part
+        here : (sight m helped.layout helped.requests ends.reached.world).part helped.number ≡ helped.part
         here = ap part_or_first ends.reached.own
 
         found_is : watched.found ≡ word

@@ -16,7 +16,6 @@ use Rattle.machine_states.specs.runner_parts.specs.Tests.{knows, is_answered}
 use Rattle.machine_states.specs.runner_steps.specs.AfterOutside.{published_by}
 use Rattle.machine_states.specs.runner_steps.specs.Outside.{entry_spot}
 use Rattle.machine_states.specs.Sight.{Sight, sight, part_or_first}
-use Rattle.machine_states.specs.Blockless.{blockless}
 use Rattle.machine_facts.specs.machine_invariant.specs.After.{AreAllowed}
 use Rattle.machine_facts.specs.Known.{KnownStand}
 use Rattle.machine_facts.proofs.Following.{facts_after}
@@ -52,7 +51,7 @@ module _ {T : Type 0} (m : Meaning) (laws : Laws m) (t : TableState T) (limits :
   abbrev s : Sight
   s = sight m at.layout at.requests was.world
 
-  seen : s.part at.number ≡ blockless at.part
+  seen : s.part at.number ≡ at.part
   seen = ap part_or_first was.own
 
   history : HasHistory m at.layout at.requests s
@@ -79,7 +78,7 @@ module _ {T : Type 0} (m : Meaning) (laws : Laws m) (t : TableState T) (limits :
       (and_parts (knows at.part.records.known x.thunk.request false) (knows at.part.records.known x.thunk.request true) answered).0
 
   told_stands : s.word (spots.Stamp x.thunk.request) ≡ told.entry.number
-  told_stands = entry_stands s (blockless at.part) at.number seen known_here told.entry x.thunk.request false (told.place, told.at) told.request told.is
+  told_stands = entry_stands s at.part at.number seen known_here told.entry x.thunk.request false (told.place, told.at) told.request told.is
 
   -- and the same later
   abbrev later : Sight
@@ -89,11 +88,11 @@ module _ {T : Type 0} (m : Meaning) (laws : Laws m) (t : TableState T) (limits :
   later_known = (facts_after m laws new.layout new.requests reached.reached.events reached.world
       (subst IsWithinLimits (sym own_new.layout) limits) (subst AreAllowed (sym own_new.requests) allowed) reached.reached.after).here.known
 
-  later_seen : later.part new.number ≡ blockless new.part
+  later_seen : later.part new.number ≡ new.part
   later_seen = ap part_or_first reached.own
 
   later_stands : later.word (spots.Stamp x.thunk.request) ≡ told.entry.number
-  later_stands = entry_stands later (blockless new.part) new.number later_seen later_known told.entry x.thunk.request false
+  later_stands = entry_stands later new.part new.number later_seen later_known told.entry x.thunk.request false
       (told.place, front_entry at.part.records.known new.part.records.known told.place told.entry front told.at) told.request told.is
 
   module _ (request : ℕ) (asked : x.thunk.request ≡ request) (stamp : ℕ)
@@ -101,7 +100,7 @@ module _ {T : Type 0} (m : Meaning) (laws : Laws m) (t : TableState T) (limits :
     -- it is the stamp that is known later
     same : s.word (spots.Stamp x.thunk.request) ≡ stamp
     same = told_stands ∙ (sym later_stands ∙ (ap (λ n. later.word (spots.Stamp n)) asked
-        ∙ entry_stands later (blockless new.part) new.number later_seen later_known _ request false here refl refl))
+        ∙ entry_stands later new.part new.number later_seen later_known _ request false here refl refl))
 
     -- a section's stamp is even
     pub stamp_even : stamp % 2 ≡ 0
@@ -112,7 +111,7 @@ module _ {T : Type 0} (m : Meaning) (laws : Laws m) (t : TableState T) (limits :
     stamp_above z entry stamped known earlier = subst (λ k. k < stamp) z_stands (subst (λ k. s.word (spots.Stamp z.request) < k) same above.1)
       where
         z_stands : s.word (spots.Stamp z.request) ≡ z.number
-        z_stands = entry_stands s (blockless at.part) at.number seen known_here z z.request false
+        z_stands = entry_stands s at.part at.number seen known_here z z.request false
             (entry.0, front_entry old.part.records.known at.part.records.known entry.0 z earlier entry.1) refl stamped
 
         above : (s.word (spots.Stamp z.request) ≢ 0) × (s.word (spots.Stamp z.request) < s.word (spots.Stamp x.thunk.request))

@@ -13,7 +13,6 @@ use Rattle.machine_states.specs.structure_laws.specs.Shape.{Shaped}
 use Rattle.machine_states.specs.epoch_core.specs.declared.stage.Stage.TheVariants.{Entered}
 use Rattle.machine_states.specs.runner_parts.specs.State.{PartState}
 use Rattle.machine_states.specs.Sight.{Sight, sight, part_or_first}
-use Rattle.machine_states.specs.Blockless.{blockless}
 use Rattle.lock_walks.specs.runner_facts.proofs.Walks.{reached_shaped}
 use Rattle.lock_walks.specs.version_words.specs.machine_invariant.specs.After.{AreAllowed}
 use Rattle.lock_walks.specs.version_words.specs.RunnerState.{RunnerState}
@@ -28,7 +27,7 @@ module _ {T : Type 0} (m : Meaning) (laws : Laws m) (request : Request) (thunk :
   abbrev s : Sight
   s = sight m r.layout r.requests reached.world
 
-  here : s.part r.number ≡ blockless r.part
+  here : s.part r.number ≡ r.part
   here = ap part_or_first reached.own
 
   pub fitting_shaped : (epoch : ℕ) → r.part.stage ≡ Entered epoch → slice_get r.requests request.number ≡ Some request

@@ -10,7 +10,6 @@ use Rattle.machine_states.specs.runner_parts.specs.declared.event.EventKind.{Eve
 use Rattle.machine_states.specs.runner_parts.specs.State.{PartState}
 use Rattle.machine_states.specs.runner_parts.specs.Tests.{is_between, is_answered, are_answered}
 use Rattle.machine_states.specs.Sight.{sight, part_or_first}
-use Rattle.machine_states.specs.Blockless.{blockless}
 use Rattle.lock_walks.specs.version_words.specs.machine_invariant.specs.After.{AreAllowed}
 use Rattle.request_facts.specs.reached_histories.specs.Requests.{or_none}
 use Rattle.request_facts.specs.reached_histories.specs.Kept.{link_of}
@@ -52,7 +51,7 @@ untouched m laws r request limits allowed reached none settled own unknown = rec
       (ap (λ (p : PartState). is_answered p.records.known request.number) here ∙ unknown);
 }
   where
-    here : (sight m r.layout r.requests reached.world).part r.number ≡ blockless r.part
+    here : (sight m r.layout r.requests reached.world).part r.number ≡ r.part
     here = ap part_or_first reached.own
 
 -- behind a step the machine has reached a state in which the runner has its part

@@ -13,7 +13,6 @@ use Rattle.machine_states.specs.epoch_core.specs.State.{last_epoch}
 use Rattle.machine_states.specs.epoch_core.specs.Moves.{is_clear}
 use Rattle.machine_states.specs.epoch_core.specs.Lists.{times}
 use Rattle.machine_states.specs.Sight.{part_or_first, sight}
-use Rattle.machine_states.specs.Blockless.{blockless}
 use Rattle.version_words.specs.machine_invariant.specs.After.{AreAllowed}
 use Rattle.version_words.specs.machine_invariant.specs.Slots.{times_among}
 use Rattle.version_words.specs.machine_invariant.proofs.After.{whole_after}
@@ -41,7 +40,7 @@ hand_is_own m laws r limits allowed is =
     let world = is.world in
     let sound = whole_after m laws r.layout r.requests is.reached.events world limits allowed is.reached.after in
     let nodes = sound.sound.slots.in_nodes in
-    let part : (sight m r.layout r.requests world).part r.number ≡ blockless r.part = ap part_or_first is.own in
+    let part : (sight m r.layout r.requests world).part r.number ≡ r.part = ap part_or_first is.own in
     record {
       once = λ t. let a = subst (λ (p : PartState). times_among p.nodes t ≤ 1) part (nodes.once r.number t) in omega (arith, a);
       within = λ t has_it. nodes.within r.number t (subst (λ (p : PartState). 1 ≤ times_among p.nodes t) (sym part) (let a = member_stands t r.part.nodes.hand has_it in omega (arith, a)));

@@ -10,12 +10,11 @@ use Rattle.machine_states.specs.runner_parts.specs.State.{GuardsState, Descripto
 use Rattle.machine_states.specs.runner_parts.specs.Lists.{descriptors_swept, with_looked}
 use Rattle.machine_states.specs.runner_steps.specs.Guards.{is_last_guard, load_guard_after}
 use Rattle.machine_states.specs.Sight.{Sight, sight, part_or_first, Steps, IsWhole}
-use Rattle.machine_states.specs.Blockless.{blockless}
 use Rattle.machine_states.proofs.Reached.{reached_all}
 use Rattle.machine_states.proofs.Sights.{happens_steps}
 use Rattle.version_words.specs.machine_invariant.specs.After.{AreAllowed}
 use Rattle.version_words.specs.machine_invariant.specs.machine_blocks.specs.machine_guards.specs.Sweeps.{SweepIsExact}
-use Rattle.version_words.specs.machine_invariant.specs.machine_blocks.specs.machine_guards.proofs.Bare.{sweep_exact}
+use Rattle.version_words.specs.machine_invariant.specs.machine_blocks.specs.machine_guards.proofs.Holding.{sweep_exact}
 use Rattle.reached_histories.specs.Laws.{HasHistory}
 use Rattle.reached_histories.proofs.Histories.{reached_have}
 use Rattle.version_words.specs.RunnerState.{RunnerState}
@@ -57,7 +56,7 @@ module _ {T : Type 0} (m : Meaning) (laws : Laws m) (r r' : RunnerState T) (coun
   step : Steps m l rs s s' r'.number (kinds.LoadGuard count)
   step = (happens_steps m l rs made.shown.before made.shown.world (record { runner = r'.number; kind = kinds.LoadGuard count }) complete made.shown.happened).0
 
-  was : s.part r'.number ≡ blockless r.part
+  was : s.part r'.number ≡ r.part
   was = ap part_or_first made.shown.was_own
 
   exact : SweepIsExact l s s' r'.number (s.word (step.ask.0))

@@ -24,7 +24,6 @@ use Rattle.machine_states.specs.runner_parts.specs.declared.entries.Published.{P
 use Rattle.machine_states.specs.runner_parts.specs.State.{RunState, PartState}
 use Rattle.machine_states.specs.runner_steps.specs.Sections.{thunk_of}
 use Rattle.machine_states.specs.Sight.{Sight, sight, part_or_first}
-use Rattle.machine_states.specs.Blockless.{blockless}
 use Rattle.machine_epochs.specs.Slots.{thunk_in}
 use Rattle.version_words.specs.RunnerState.{RunnerState}
 use Rattle.version_words.specs.machine_invariant.specs.After.{AreAllowed}
@@ -110,7 +109,7 @@ module _ {T : Type 0} (m : Meaning) (laws : Laws m) (r : RunnerState T) (limits 
       all : AreFactsAfter m r.layout r.requests is.inside.inside.reached.events is.inside.inside.world is.inside.inside.reached.after
       all = facts_after m laws r.layout r.requests is.inside.inside.reached.events is.inside.inside.world limits allowed is.inside.inside.reached.after
 
-      part : s.part r.number ≡ blockless r.part
+      part : s.part r.number ≡ r.part
       part = ap part_or_first is.inside.inside.own
 
       runs : (s.part r.number).run ≡ Some (run_of r)

@@ -197,12 +197,12 @@ module _ (m : Meaning) (l : Layout) (rs : List Request) (s s' : Sight) (r : ℕ)
   -- if it is free with the runner, it stays free or has an empty log
   pub free_or_empty : has p.descriptors.free d ≡ true → Leads (s'.part r)
   free_or_empty free = subst (λ (y : Sight). Leads (y.part r)) (sym st.step.next)
-      (each_part m l s r x (λ i p'. has (s.part i).descriptors.free d ≡ true → Leads p') (λ i p' board records gone h. h) kind
+      (each_part m l s r x (λ i p'. has (s.part i).descriptors.free d ≡ true → Leads p') (λ i p' blocks board records gone h. h) kind
       (joins m l rs kind r p x st.step.asked) (λ h. own h p.run asked) (λ i ne h. inl h) r free)
 
   -- where it isn't free with the runner, and with nobody behind the step, it was so before
   pub unfree_before : has p.descriptors.free d ≡ false → ((i : ℕ) → has (s'.part i).descriptors.free d ≡ false)
       → (i : ℕ) → has (s.part i).descriptors.free d ≡ false
   unfree_before none unfree i = subst (λ (y : Sight). (i : ℕ) → has (y.part i).descriptors.free d ≡ false → has (s.part i).descriptors.free d ≡ false) (sym st.step.next)
-      (each_part m l s r x (λ i p'. has p'.descriptors.free d ≡ false → has (s.part i).descriptors.free d ≡ false) (λ i p' board records gone h. h) kind
+      (each_part m l s r x (λ i p'. has p'.descriptors.free d ≡ false → has (s.part i).descriptors.free d ≡ false) (λ i p' blocks board records gone h. h) kind
       (joins m l rs kind r p x st.step.asked) (λ h. none) (λ i ne h. h)) i (unfree i)

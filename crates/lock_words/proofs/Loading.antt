@@ -152,6 +152,6 @@ module _ (m : Meaning) (l : Layout) (rs : List Request) (s s' : Sight) (r : ℕ)
   pub loaded_before : (i : ℕ) (q' : RunState) (place log : ℕ) → (s'.part i).run ≡ Some q' → length q'.opened ≡ 13
       → CommitsLock (micro_at (line_of m q') q'.at) place log → Was i q' place
   loaded_before i = subst (λ (y : Sight). Loaded i (y.part i)) (sym st.step.next)
-      (each_part m l s r x (λ k p'. Loaded k p') (λ k p' board records gone h. h) kind (joins m l rs kind r p x st.step.asked)
+      (each_part m l s r x (λ k p'. Loaded k p') (λ k p' blocks board records gone h. h) kind (joins m l rs kind r p x st.step.asked)
       (own p.run refl (unless_gone _ p.gone _ x st.step.asked).1)
       (λ k ne q place log is all commits. record { run = q; runs = is; descriptor = refl; opened = refl; by = inl (refl, refl) }) i)

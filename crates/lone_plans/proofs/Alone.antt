@@ -15,7 +15,6 @@ use Rattle.machine_states.specs.runner_parts.specs.State.{PartState}
 use Rattle.machine_states.specs.World.{World, seat_of}
 use Rattle.machine_states.specs.Reached.{Reached}
 use Rattle.machine_states.specs.Sight.{Sight, sight, part_or_first}
-use Rattle.machine_states.specs.Blockless.{blockless}
 use Rattle.one_worker.specs.machine_facts.specs.machine_invariant.proofs.Asked.{entered_at}
 use Rattle.one_worker.specs.reached_histories.specs.Laws.{HasHistory}
 use Rattle.one_worker.specs.reached_histories.proofs.Histories.{reached_have}
@@ -37,7 +36,7 @@ module _ {T : Type 0} (m : Meaning) (laws : Laws m) (r : RunnerState T) (lone : 
   abbrev pub s : Sight
   s = sight m r.layout r.requests w
 
-  part_is : s.part 0 ≡ blockless r.part
+  part_is : s.part 0 ≡ r.part
   part_is = ap s.part (sym zero) ∙ ap part_or_first own
 
   alone : AloneStands m s

@@ -83,12 +83,12 @@ module _ (m : Meaning) (l : Layout) (rs : List Request) (w : AgreementState) (s 
     line_goes _ x open_q u e k = some_none x k
 
     -- a run that has still to load words of its thunk
-    after_opening : (kind : EventKind) (x : Spot × Access) → is_open_run q ≡ false → after m l r kind x.0 x.1 p (s.word x.0) ≡ noting l r kind x.0 x.1 (s.word x.0) p (opened_more p q (s.word x.0))
-    after_opening kind x unopened = ap (noting l r kind x.0 x.1 (s.word x.0) p)
+    after_opening : (kind : EventKind) (x : Spot × Access) → is_open_run q ≡ false → after m l r kind x.0 x.1 p (s.word x.0) ≡ noting m l r kind x.0 x.1 (s.word x.0) p (opened_more p q (s.word x.0))
+    after_opening kind x unopened = ap (noting m l r kind x.0 x.1 (s.word x.0) p)
         (ap (λ o. after_by m l kind p o (s.word x.0)) at ∙ ap (λ b. if b then line_after m l kind p q (next_of m q) (s.word x.0) else opened_more p q (s.word x.0)) unopened)
 
     opens : (kind : EventKind) (a : Spot) → length q.opened < 13 → (length q.opened < 12 → s.word a ≡ s.word (spots.ThunkWord q.descriptor (length q.opened)))
-        → Goes m l r [] w (record { word = put s.word a (s.word a); part = upd s.part r (noting l r kind a Loads (s.word a) p (opened_more p q (s.word a))) })
+        → Goes m l r [] w (record { word = put s.word a (s.word a); part = upd s.part r (noting m l r kind a Loads (s.word a) p (opened_more p q (s.word a))) })
     opens kind a few word = descriptors.run_opens m l w s old r q (s.word a) _ at few word refl refl (noted_finished l r kind a Loads (s.word a) p.records) refl (put s.word a (s.word a)) (load_same m l s.word a)
 
     less : (a b : ℕ) → nat_lt a b ≡ true → a < b
@@ -163,7 +163,7 @@ module _ (m : Meaning) (l : Layout) (rs : List Request) (w : AgreementState) (s 
             let word' = put s.word spots.Seat (s.word spots.Seat) in
             let p1 = after m l r (kinds.Join worker) spots.Seat Loads p (s.word spots.Seat) in
             let known = knows_also p1 (s.part worker) in
-            let same : p1 ≡ noting l r (kinds.Join worker) spots.Seat Loads (s.word spots.Seat) p (joins_after p worker) = after_outside m l r (kinds.Join worker) (spots.Seat, Loads) p (s.word spots.Seat) none in
+            let same : p1 ≡ noting m l r (kinds.Join worker) spots.Seat Loads (s.word spots.Seat) p (joins_after p worker) = after_outside m l r (kinds.Join worker) (spots.Seat, Loads) p (s.word spots.Seat) none in
             let one = quiet_joined m l w s old r word' known (load_same m l s.word spots.Seat)
             (record {
               run = ap (λ (y : PartState). y.run) same;

@@ -139,7 +139,7 @@ module _ (m : Meaning) (l : Layout) (rs : List Request) (w : AgreementState) (s 
             events.SetDone r ∷ [],
             (next, refl),
             subst (λ (p : PartState). Goes m l r (events.SetDone r ∷ []) w (record { word = word'; part = table.upd s.part r p })) (sym (after_line m l r kinds.SetDone x (s.part r) found q micros.SetDone is opened next))
-                (plain_goes m l (events.SetDone r ∷ []) w w1 s r word' (noting l r kinds.SetDone (spots.DoneWord q.descriptor) (Exchanges 0 1) found (s.part r) (done_set (s.part r) q)) old
+                (plain_goes m l (events.SetDone r ∷ []) w w1 s r word' (noting m l r kinds.SetDone (spots.DoneWord q.descriptor) (Exchanges 0 1) found (s.part r) (done_set (s.part r) q)) old
                 (one m l rs w s old r q is opened (events.SetDone r) (run_here.running, run_here.ended ∙ ap (nat_le 1) going, stops none))
                 (record { others = λ i ne. upd_else w.run r _ i ne; finishes = λ i ne. refl; finished = λ i k ne. refl; seen = λ p word e. e })
                 (let y = old.words in record { cells = y.cells; clock = y.clock; stamp = y.stamp; reply = y.reply })

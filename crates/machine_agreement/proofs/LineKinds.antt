@@ -19,6 +19,7 @@ use Rattle.machine_states.specs.runner_parts.specs.Tests.{has_pair}
 use Rattle.machine_states.specs.runner_steps.specs.Sections.{is_open_run, next_of}
 use Rattle.machine_states.specs.runner_steps.specs.AfterInRun.{opened_more}
 use Rattle.machine_states.specs.runner_steps.specs.After.{noted}
+use Rattle.machine_states.specs.runner_steps.specs.Blocks.{blocks_after}
 use Rattle.machine_states.specs.runner_steps.specs.Board.{board_after}
 use Rattle.machine_states.specs.Blockless.{after, after_by, line_after}
 use Rattle.agreement_core.specs.State.{CellRules, AgreementState, section_of}
@@ -40,15 +41,15 @@ pub noted_finished : (l : Layout) (r : ℕ) (kind : EventKind) (spot : Spot) (ac
 noted_finished l r kind spot access n s = refl
 
 -- a part with its step noted, where this was the part before it
-abbrev pub noting : Layout → ℕ → EventKind → Spot → Access → ℕ → PartState → PartState → PartState
-noting l r kind spot access n before p =
-    record p { board = board_after kind before.board n; records = noted l r kind spot access n p.records }
+abbrev pub noting : Meaning → Layout → ℕ → EventKind → Spot → Access → ℕ → PartState → PartState → PartState
+noting m l r kind spot access n before p =
+    record p { blocks = blocks_after m l kind before before.run n; board = board_after kind before.board n; records = noted l r kind spot access n p.records }
 
 module _ (m : Meaning) (l : Layout) where
   -- the part after an event of an open run that stands before this step
   pub after_line : (r : ℕ) (kind : EventKind) (x : Spot × Access) (p : PartState) (found : ℕ) (q : RunState) (micro : Micro) → p.run ≡ Some q → is_open_run q ≡ true → next_of m q ≡ micro
-      → after m l r kind x.0 x.1 p found ≡ noting l r kind x.0 x.1 found p (line_after m l kind p q micro found)
-  after_line r kind x p found q micro is opened next = ap (noting l r kind x.0 x.1 found p)
+      → after m l r kind x.0 x.1 p found ≡ noting m l r kind x.0 x.1 found p (line_after m l kind p q micro found)
+  after_line r kind x p found q micro is opened next = ap (noting m l r kind x.0 x.1 found p)
       (ap (λ o. after_by m l kind p o found) is
       ∙ (ap (λ b. if b then line_after m l kind p q (next_of m q) found else opened_more p q found) opened
       ∙ ap (λ k. line_after m l kind p q k found) next))
@@ -75,7 +76,7 @@ module _ (m : Meaning) (l : Layout) where
         let going = places.not_ended m l w s old r q is all (ap is_event (next_in_line m q micro inner next) ∙ event) in
         let pp = line_after m l kind (s.part r) q micro (s.word x.0) in
         subst (λ (p : PartState). Goes m l r heads w (record { word = word_after x; part = upd s.part r p })) (sym (after_line r kind x (s.part r) (s.word x.0) q micro is opened next))
-        (line_goes m l heads w w1 s r q q1 (word_after x) (noting l r kind x.0 x.1 (s.word x.0) (s.part r) pp) old is all leads step run1 (ended ∙ going) descriptor same_words
+        (line_goes m l heads w w1 s r q q1 (word_after x) (noting m l r kind x.0 x.1 (s.word x.0) (s.part r) pp) old is all leads step run1 (ended ∙ going) descriptor same_words
         (places.code_here m l w s old r q is all)
         (record { run = own.run; published = own.published; finished = noted_finished l r kind x.0 x.1 (s.word x.0) pp.records ∙ own.finished })
         words sections thunks read)

@@ -28,8 +28,8 @@ use Rattle.machine_agreement.proofs.LineKinds.{noting}
 module _ (m : Meaning) (l : Layout) where
   -- the part after an event outside a run
   pub after_outside : (r : ℕ) (kind : EventKind) (x : Spot × Access) (p : PartState) (found : ℕ) → p.run ≡ None
-      → after m l r kind x.0 x.1 p found ≡ noting l r kind x.0 x.1 found p (outside_after m l kind p found)
-  after_outside r kind x p found none = ap (noting l r kind x.0 x.1 found p) (ap (λ o. after_by m l kind p o found) none)
+      → after m l r kind x.0 x.1 p found ≡ noting m l r kind x.0 x.1 found p (outside_after m l kind p found)
+  after_outside r kind x p found none = ap (noting m l r kind x.0 x.1 found p) (ap (λ o. after_by m l kind p o found) none)
 
   other_none : (w : AgreementState) (r : ℕ) → IsOtherStep m l w w r
   other_none w r = record { others = λ i ne. refl; finishes = λ i ne. refl; finished = λ i k ne. refl; seen = λ p word e. e }

@@ -23,7 +23,7 @@ use Rattle.machine_states.specs.epoch_core.specs.declared.stage.Stage.{Stage}
 use Rattle.machine_states.specs.epoch_core.specs.declared.stage.Stage.TheVariants as stages
 use Rattle.machine_states.specs.runner_parts.specs.declared.entries.Look.{Look}
 use Rattle.machine_states.specs.runner_parts.specs.declared.entries.LookStage.TheVariants.{Replied, Stamped}
-use Rattle.machine_states.specs.runner_parts.specs.State.{RecordsState, NodesState, DescriptorsState, PartState}
+use Rattle.machine_states.specs.runner_parts.specs.State.{RecordsState, NodesState, DescriptorsState, BlocksState, PartState}
 use Rattle.machine_states.specs.runner_parts.specs.Tests.{has}
 use Rattle.machine_states.specs.runner_steps.specs.Outside.{descriptor_spot, is_sure_of}
 use Rattle.machine_states.specs.runner_steps.specs.Guards.{is_last_guard}
@@ -34,6 +34,7 @@ use Rattle.machine_states.specs.Blockless.{outside_ask, outside_after}
 use Rattle.machine_states.specs.runner_parts.specs.Lists as lists
 use Rattle.machine_states.specs.runner_steps.specs.AfterOutside as outside
 use Rattle.machine_states.specs.runner_steps.specs.After.{noted}
+use Rattle.machine_states.specs.runner_steps.specs.Blocks.{blocks_after}
 use Rattle.machine_states.specs.runner_steps.specs.Board.{board_after}
 use Rattle.agreement_core.specs.State.{AgreementState}
 use Rattle.agreement_core.specs.Events as events
@@ -53,9 +54,9 @@ use Rattle.machine_agreement.proofs.Freeing.{freed}
 use Rattle.machine_states.specs.runner_steps.specs.AfterOutside.{published_by}
 
 -- a part that differs in what the component doesn't see
-pub same_part : (m : Meaning) (l : Layout) (p : PartState) (stage : Stage) (nodes : NodesState) (descriptors : DescriptorsState) (board : List BoardRead) (records : RecordsState) → records.finished ≡ p.records.finished
-    → IsSamePart m l p (record p { stage = stage; nodes = nodes; descriptors = descriptors; board = board; records = records })
-same_part m l p stage nodes descriptors board records finished = record { run = refl; finished = finished; read = λ a b e. e }
+pub same_part : (m : Meaning) (l : Layout) (p : PartState) (stage : Stage) (nodes : NodesState) (descriptors : DescriptorsState) (blocks : BlocksState) (board : List BoardRead) (records : RecordsState) → records.finished ≡ p.records.finished
+    → IsSamePart m l p (record p { stage = stage; nodes = nodes; descriptors = descriptors; blocks = blocks; board = board; records = records })
+same_part m l p stage nodes descriptors blocks board records finished = record { run = refl; finished = finished; read = λ a b e. e }
 
 -- what is noted of a step, of records whose ends are as before
 ends : (l : Layout) (r : ℕ) (kind : EventKind) (spot : Spot) (access : Access) (n : ℕ) (records before : RecordsState) → records.finished ≡ before.finished → (noted l r kind spot access n records).finished ≡ before.finished
@@ -68,13 +69,13 @@ split_finished l p = by (nat_lt p.records.splits l.runners)
     by true = refl
     by false = refl
 
-split_part : (m : Meaning) (l : Layout) (r : ℕ) (p : PartState) (spot : Spot) (access : Access) (n : ℕ) → IsSamePart m l p (noting l r kinds.Split spot access n p (outside.split_after l p))
+split_part : (m : Meaning) (l : Layout) (r : ℕ) (p : PartState) (spot : Spot) (access : Access) (n : ℕ) → IsSamePart m l p (noting m l r kinds.Split spot access n p (outside.split_after l p))
 split_part m l r p spot access n = by (nat_lt p.records.splits l.runners)
   where
     abbrev_of : Bool → PartState
     abbrev_of b = if b then record p { records = record (p.records) { splits = p.records.splits + 1 } } else p
 
-    by : (b : Bool) → IsSamePart m l p (noting l r kinds.Split spot access n p (if b then record p { records = record (p.records) { splits = p.records.splits + 1 } } else p))
+    by : (b : Bool) → IsSamePart m l p (noting m l r kinds.Split spot access n p (if b then record p { records = record (p.records) { splits = p.records.splits + 1 } } else p))
     by true = record { run = refl; finished = noted_finished l r kinds.Split spot access n (record (p.records) { splits = p.records.splits + 1 }); read = λ a b e. e }
     by false = record { run = refl; finished = noted_finished l r kinds.Split spot access n p.records; read = λ a b e. e }
 
@@ -94,7 +95,7 @@ module _ (m : Meaning) (l : Layout) (rs : List Request) (w : AgreementState) (s 
 
   -- the sight after it
   abbrev pub sight_of : EventKind → Spot × Access → Sight
-  sight_of kind x = record { word = word_of x; part = table.upd s.part r (noting l r kind x.0 x.1 (s.word x.0) p (outside_after m l kind p (s.word x.0))) }
+  sight_of kind x = record { word = word_of x; part = table.upd s.part r (noting m l r kind x.0 x.1 (s.word x.0) p (outside_after m l kind p (s.word x.0))) }
 
   -- the step leads to a joined state, by the events of its kind
   abbrev pub To : EventKind → Spot × Access → Type 0
@@ -103,12 +104,12 @@ module _ (m : Meaning) (l : Layout) (rs : List Request) (w : AgreementState) (s 
   loads : (a : Spot) (x : Spot × Access) → (a, Loads) ≡ x → SameWords m l s.word (word_of x)
   loads a x e = subst (λ (y : Spot × Access). SameWords m l s.word (word_of y)) e (load_same m l s.word a)
 
-  quiet : (kind : EventKind) (x : Spot × Access) → IsOutsideChunk m l w r kind p (s.word x.0) [] → SameWords m l s.word (word_of x) → IsSamePart m l p (noting l r kind x.0 x.1 (s.word x.0) p (outside_after m l kind p (s.word x.0))) → To kind x
+  quiet : (kind : EventKind) (x : Spot × Access) → IsOutsideChunk m l w r kind p (s.word x.0) [] → SameWords m l s.word (word_of x) → IsSamePart m l p (noting m l r kind x.0 x.1 (s.word x.0) p (outside_after m l kind p (s.word x.0))) → To kind x
   quiet kind x none_of words same = ([], none_of, quiet_goes m l w s old r (word_of x) _ words same)
 
   noted_part : (kind : EventKind) (x : Spot × Access) (stage : Stage) (nodes : NodesState) (records : RecordsState) → records.finished ≡ p.records.finished
-      → IsSamePart m l p (noting l r kind x.0 x.1 (s.word x.0) p (record p { stage = stage; nodes = nodes; records = records }))
-  noted_part kind x stage nodes records e = same_part m l p stage nodes p.descriptors (board_after kind p.board (s.word x.0)) (noted l r kind x.0 x.1 (s.word x.0) records) (ends l r kind x.0 x.1 (s.word x.0) records p.records e)
+      → IsSamePart m l p (noting m l r kind x.0 x.1 (s.word x.0) p (record p { stage = stage; nodes = nodes; records = records }))
+  noted_part kind x stage nodes records e = same_part m l p stage nodes p.descriptors (blocks_after m l kind p p.run (s.word x.0)) (board_after kind p.board (s.word x.0)) (noted l r kind x.0 x.1 (s.word x.0) records) (ends l r kind x.0 x.1 (s.word x.0) records p.records e)
 
   pub enter_load : (x : Spot × Access) → outside_ask m l rs r kinds.EnterLoad p ≡ Some x → To kinds.EnterLoad x
   enter_load x e = let h = asked.enter_load_asked p.stage x e in quiet kinds.EnterLoad x refl (loads spots.Epoch x h.1) (noted_part kinds.EnterLoad x (stages.Loaded (s.word x.0)) p.nodes p.records refl)
@@ -141,7 +142,7 @@ module _ (m : Meaning) (l : Layout) (rs : List Request) (w : AgreementState) (s 
 
   -- a read without a lock
   look_part : (kind : EventKind) (x : Spot × Access) (look : Option Look) (records : RecordsState) → records.finished ≡ p.records.finished
-      → IsSamePart m l p (noting l r kind x.0 x.1 (s.word x.0) p (record p { reads = record (p.reads) { look = look }; records = records }))
+      → IsSamePart m l p (noting m l r kind x.0 x.1 (s.word x.0) p (record p { reads = record (p.reads) { look = look }; records = records }))
   look_part kind x look records e =
       record { run = refl; finished = ends l r kind x.0 x.1 (s.word x.0) records p.records e; read = λ a b h. h }
 
@@ -187,10 +188,10 @@ module _ (m : Meaning) (l : Layout) (rs : List Request) (w : AgreementState) (s 
   private_load slot word x e = let h = asked.private_load_asked m l slot word p x e in
       quiet (kinds.PrivateLoad slot word) x refl (loads h.0 x h.1) (looked_part (nat_lt slot (slot_count l m.fixed_slots)))
     where
-      looked_part : (b : Bool) → IsSamePart m l p (noting l r (kinds.PrivateLoad slot word) x.0 x.1 (s.word x.0) p
+      looked_part : (b : Bool) → IsSamePart m l p (noting m l r (kinds.PrivateLoad slot word) x.0 x.1 (s.word x.0) p
           (if b then record p { nodes = lists.nodes_looked l p.nodes slot word (s.word x.0) } else record p { descriptors = lists.descriptor_stored p.descriptors (slot - slot_count l m.fixed_slots) word (s.word x.0) }))
       looked_part true = noted_part (kinds.PrivateLoad slot word) x p.stage (lists.nodes_looked l p.nodes slot word (s.word x.0)) p.records refl
-      looked_part false = same_part m l p p.stage p.nodes (lists.descriptor_stored p.descriptors (slot - slot_count l m.fixed_slots) word (s.word x.0)) p.board
+      looked_part false = same_part m l p p.stage p.nodes (lists.descriptor_stored p.descriptors (slot - slot_count l m.fixed_slots) word (s.word x.0)) (blocks_after m l (kinds.PrivateLoad slot word) p p.run (s.word x.0)) p.board
           (noted l r (kinds.PrivateLoad slot word) x.0 x.1 (s.word x.0) p.records) (noted_finished l r (kinds.PrivateLoad slot word) x.0 x.1 (s.word x.0) p.records)
 
   pub load_cell : (place : ℕ) (x : Spot × Access) → outside_ask m l rs r (kinds.LoadCell (Some place)) p ≡ Some x → To (kinds.LoadCell (Some place)) x
@@ -257,10 +258,10 @@ module _ (m : Meaning) (l : Layout) (rs : List Request) (w : AgreementState) (s 
         let new : written (Exchanges t.word (held_word d t.word)) found ≡ held_word d t.word = ap (λ b. if b then held_word d t.word else found) e in (
           events.Read t.lock ∷ publication m d t ∷ [],
           inl (same, refl),
-          subst (λ (q : PartState). Goes m l r (events.Read t.lock ∷ publication m d t ∷ []) w (record { word = word_of hold; part = table.upd s.part r (noting l r (kinds.Hold t d) (spots.Cell t.lock) (Exchanges t.word (held_word d t.word)) found p q) })) (sym after)
+          subst (λ (q : PartState). Goes m l r (events.Read t.lock ∷ publication m d t ∷ []) w (record { word = word_of hold; part = table.upd s.part r (noting m l r (kinds.Hold t d) (spots.Cell t.lock) (Exchanges t.word (held_word d t.word)) found p q) })) (sym after)
               (subst (λ n. Goes m l r (events.Read t.lock ∷ publication m d t ∷ []) w (record {
                 word = put s.word (spots.Cell t.lock) n;
-                part = table.upd s.part r (noting l r (kinds.Hold t d) (spots.Cell t.lock) (Exchanges t.word (held_word d t.word)) found p (record p {
+                part = table.upd s.part r (noting m l r (kinds.Hold t d) (spots.Cell t.lock) (Exchanges t.word (held_word d t.word)) found p (record p {
                   published = Some (published_by t d p);
                   descriptors = lists.descriptor_taken p.descriptors d;
                   guards = lists.published_seen p.guards d;
@@ -286,7 +287,7 @@ module _ (m : Meaning) (l : Layout) (rs : List Request) (w : AgreementState) (s 
         let same : written (Exchanges t.word (held_word d t.word)) found ≡ found = ap (λ b. if b then held_word d t.word else found) e in (
           events.Read t.lock ∷ [],
           inr (differ found t.word e, refl),
-          subst (λ (q : PartState). Goes m l r (events.Read t.lock ∷ []) w (record { word = word_of hold; part = table.upd s.part r (noting l r (kinds.Hold t d) (spots.Cell t.lock) (Exchanges t.word (held_word d t.word)) found p q) })) (sym after)
+          subst (λ (q : PartState). Goes m l r (events.Read t.lock ∷ []) w (record { word = word_of hold; part = table.upd s.part r (noting m l r (kinds.Hold t d) (spots.Cell t.lock) (Exchanges t.word (held_word d t.word)) found p q) })) (sym after)
               (read_goes m l w s old r t.lock _ refl (noted_finished l r (kinds.Hold t d) (spots.Cell t.lock) (Exchanges t.word (held_word d t.word)) found p.records) refl (word_of hold)
               (subst (λ n. SameWords m l s.word (put s.word (spots.Cell t.lock) n)) (sym same) (load_same m l s.word (spots.Cell t.lock)))),
         )
@@ -311,7 +312,7 @@ module _ (m : Meaning) (l : Layout) (rs : List Request) (w : AgreementState) (s 
       quiet (kinds.ScanOne n) x refl (loads (spots.Announcement n) x h.4) (by_stage p.stage)
     where
       Same : PartState → Type 0
-      Same q = IsSamePart m l p (noting l r (kinds.ScanOne n) x.0 x.1 (s.word x.0) p q)
+      Same q = IsSamePart m l p (noting m l r (kinds.ScanOne n) x.0 x.1 (s.word x.0) p q)
 
       stayed : Same p
       stayed = noted_part (kinds.ScanOne n) x p.stage p.nodes p.records refl
@@ -335,7 +336,7 @@ module _ (m : Meaning) (l : Layout) (rs : List Request) (w : AgreementState) (s 
       (record { cells = λ i. refl; clock = refl; stamp = λ i. refl; reply = λ i. refl; thunks = λ d j. refl; done = λ d. refl })) (by_stage p.stage)
     where
       Same : PartState → Type 0
-      Same q = IsSamePart m l p (noting l r kinds.Advance x.0 x.1 (s.word x.0) p q)
+      Same q = IsSamePart m l p (noting m l r kinds.Advance x.0 x.1 (s.word x.0) p q)
 
       stayed : Same p
       stayed = noted_part kinds.Advance x p.stage p.nodes p.records refl
@@ -371,11 +372,11 @@ module _ (m : Meaning) (l : Layout) (rs : List Request) (w : AgreementState) (s 
       let h = asked.load_guard_asked l n p x e in
       (_, refl, sweeps_by (is_last_guard l p.guards.looked) (loads (spots.Guard n) x h.is) idle)
     where
-      same : (b : Bool) → IsSamePart m l p (noting l r (kinds.LoadGuard n) x.0 x.1 (s.word x.0) p (swept_part b (p.guards.looked ++ s.word x.0 ∷ [])))
+      same : (b : Bool) → IsSamePart m l p (noting m l r (kinds.LoadGuard n) x.0 x.1 (s.word x.0) p (swept_part b (p.guards.looked ++ s.word x.0 ∷ [])))
       same b = record { run = refl; finished = noted_finished l r (kinds.LoadGuard n) x.0 x.1 (s.word x.0) p.records; read = λ a b h. h }
 
       sweeps_by : (b : Bool) → SameWords m l s.word (word_of x) → (b ≡ true → (d : ℕ) → has (unnamed (p.guards.looked ++ s.word x.0 ∷ []) p) d ≡ true → IsIdle w d)
-          → Goes m l r (if b then frees (unnamed (p.guards.looked ++ s.word x.0 ∷ []) p) else []) w (record { word = word_of x; part = table.upd s.part r (noting l r (kinds.LoadGuard n) x.0 x.1 (s.word x.0) p (swept_part b (p.guards.looked ++ s.word x.0 ∷ []))) })
+          → Goes m l r (if b then frees (unnamed (p.guards.looked ++ s.word x.0 ∷ []) p) else []) w (record { word = word_of x; part = table.upd s.part r (noting m l r (kinds.LoadGuard n) x.0 x.1 (s.word x.0) p (swept_part b (p.guards.looked ++ s.word x.0 ∷ []))) })
       sweeps_by true seen idle =
           let free = freed m l s (unnamed (p.guards.looked ++ s.word x.0 ∷ []) p) w old (idle refl) in
           record {

@@ -219,7 +219,7 @@ module _ (m : Meaning) (l : Layout) (rs : List Request) (w : AgreementState) (s 
     read = reads_more w p found (s.part r).reads.cells _ (old.words.cells p) refl (λ a b has. (old.tied r).read a b has)
 
     abbrev noted_of : PartState → PartState
-    noted_of y = noting l r kinds.Release (spots.Cell p) (Exchanges held (next_word held 0)) found (s.part r) y
+    noted_of y = noting m l r kinds.Release (spots.Cell p) (Exchanges held (next_word held 0)) found (s.part r) y
 
     goes_on_tied : IsTied m l w1 word' r (noted_of (record read_part { run = Some q1 }))
     goes_on_tied = record {

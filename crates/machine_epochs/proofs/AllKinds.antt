@@ -14,12 +14,13 @@ use Rattle.machine_states.specs.structure_laws.specs.Meaning.{Meaning}
 use Rattle.machine_states.specs.runner_parts.specs.declared.entries.BoardRead.{BoardRead}
 use Rattle.machine_states.specs.runner_parts.specs.declared.event.EventKind.{EventKind}
 use Rattle.machine_states.specs.runner_parts.specs.declared.event.EventKind.TheVariants as kinds
-use Rattle.machine_states.specs.runner_parts.specs.State.{RunState, PartState, RecordsState}
+use Rattle.machine_states.specs.runner_parts.specs.State.{RunState, BlocksState, PartState, RecordsState}
 use Rattle.machine_states.specs.runner_steps.specs.Sections.{is_open_run, next_of}
 use Rattle.machine_states.specs.runner_steps.specs.AfterInRun.{opened_more}
 use Rattle.machine_states.specs.runner_steps.specs.Asks.{opening_ask, sizes_for}
 use Rattle.machine_states.specs.Blockless.{outside_ask, line_ask, inside_ask, ask_by, asks, outside_after, line_after, inside_after, after_by, after}
 use Rattle.machine_states.specs.runner_steps.specs.After.{noted, leaves, knows_also}
+use Rattle.machine_states.specs.runner_steps.specs.Blocks.{blocks_after}
 use Rattle.machine_states.specs.runner_steps.specs.Board.{board_after}
 use Rattle.machine_states.specs.epoch_core.specs.State.{EpochState, MayHold}
 use Rattle.machine_states.specs.epoch_core.specs.Events.{Event}
@@ -64,15 +65,15 @@ module _ (m : Meaning) (l : Layout) (rs : List Request) (w : EpochState) (s : Si
   abbrev To : (List Event → Type 0) → EventKind → PartState → Type 0
   To P kind p' = GoesBy m l P w (next m l w s old r f (record p' { records = records_of kind p' }))
 
-  -- whatever its loads of the board are then
-  with_board : (P : List Event → Type 0) (kind : EventKind) (p' : PartState) (loads : List BoardRead) → To P kind p'
-      → GoesBy m l P w (next m l w s old r f (record p' { board = loads; records = records_of kind p' }))
-  with_board P kind p' loads goes = (
+  -- whatever its blocks and its loads of the board are then
+  with_board : (P : List Event → Type 0) (kind : EventKind) (p' : PartState) (blocks : BlocksState) (loads : List BoardRead) → To P kind p'
+      → GoesBy m l P w (next m l w s old r f (record p' { blocks = blocks; board = loads; records = records_of kind p' }))
+  with_board P kind p' blocks loads goes = (
     goes.0,
     goes.1,
     record {
       enabled = goes.2.enabled;
-      joined = joined_on m l (after_all (counts_of m l) w goes.0) f s.part r (record p' { records = records_of kind p' }) loads goes.2.joined;
+      joined = joined_on m l (after_all (counts_of m l) w goes.0) f s.part r (record p' { records = records_of kind p' }) blocks loads goes.2.joined;
     },
   )
 
@@ -210,7 +211,7 @@ module _ (m : Meaning) (l : Layout) (rs : List Request) (w : EpochState) (s : Si
       let asked = by_run (s.part r).run refl (unless_gone (sizes_for m l rs) (s.part r).gone _ x e).1 in
       let other : worker ≢ r = below_other worker l.runners r is_his.1 is_his.0 in
       subst (λ (y : Spot × Access). GoesBy m l (IsChunk m l r (kinds.Join worker) (s.part r) (s.part r).run (s.word y.0)) w (sight_after m l s r (kinds.Join worker) y)) asked.1
-      (subst (λ (o : Option RunState). GoesBy m l (IsChunk m l r (kinds.Join worker) (s.part r) o (s.word Seat)) w (record { word = put s.word Seat (s.word Seat); part = upd (upd s.part r (knows_also (record (after_by m l (kinds.Join worker) (s.part r) o (s.word Seat)) { board = (s.part r).board; records = noted l r (kinds.Join worker) Seat Loads (s.word Seat) (after_by m l (kinds.Join worker) (s.part r) o (s.word Seat)).records }) (s.part worker))) worker (leaves (s.part worker)) }))
+      (subst (λ (o : Option RunState). GoesBy m l (IsChunk m l r (kinds.Join worker) (s.part r) o (s.word Seat)) w (record { word = put s.word Seat (s.word Seat); part = upd (upd s.part r (knows_also (record (after_by m l (kinds.Join worker) (s.part r) o (s.word Seat)) { blocks = blocks_after m l (kinds.Join worker) (s.part r) o (s.word Seat); board = (s.part r).board; records = noted l r (kinds.Join worker) Seat Loads (s.word Seat) (after_by m l (kinds.Join worker) (s.part r) o (s.word Seat)).records }) (s.part worker))) worker (leaves (s.part worker)) }))
       (sym asked.0) (join_goes m l w s old r worker other _))
     where
       by_run : (o : Option RunState) → (s.part r).run ≡ o → ask_by m l rs r (kinds.Join worker) (s.part r) o ≡ Some x → ((s.part r).run ≡ None) × ((Seat, Loads) ≡ x)
@@ -228,7 +229,7 @@ module _ (m : Meaning) (l : Layout) (rs : List Request) (w : EpochState) (s : Si
         → GoesBy m l (IsChunk m l r kind (s.part r) (s.part r).run (s.word x.0)) w (sight_after m l s r kind x)
     plain_step kind j u e =
         subst (GoesBy m l (IsChunk m l r kind (s.part r) (s.part r).run (s.word x.0)) w) (sym (not_join m l rs w s old r some x fits kind j))
-        (with_board m l rs w s old r some x fits (IsChunk m l r kind (s.part r) (s.part r).run (s.word x.0)) kind (after_by m l kind (s.part r) (s.part r).run (s.word x.0)) (board_after kind (s.part r).board (s.word x.0))
+        (with_board m l rs w s old r some x fits (IsChunk m l r kind (s.part r) (s.part r).run (s.word x.0)) kind (after_by m l kind (s.part r) (s.part r).run (s.word x.0)) (blocks_after m l kind (s.part r) (s.part r).run (s.word x.0)) (board_after kind (s.part r).board (s.word x.0))
         (plain_goes kind (s.part r).run refl j u (unless_gone (sizes_for m l rs) (s.part r).gone _ x e).1))
 
     kind_goes : (kind : EventKind) → EpochsAreSupplied m l w s r kind x.0 → asks m l rs r kind (s.part r) ≡ Some x

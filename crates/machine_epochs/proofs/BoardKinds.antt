@@ -1,6 +1,6 @@
 -- The kinds of step on the board, by which node slots go from runner to runner.
 use Rattle.std.specs.Prelude.{◌==◌, ◌%◌, ◌^◌, cond, Bool, true, false}
-use Rattle.std.proofs.Common.{◌≡◌, ℕ, zero, suc, ◌+◌, ◌-◌, ◌<◌, ◌≤◌, List, [], ◌∷◌, ◌++◌, refl, sym, ap, ◌∙◌, subst, arith, ⊎_elim, Some, None}
+use Rattle.std.proofs.Common.{◌≡◌, ℕ, suc, ◌+◌, ◌-◌, ◌<◌, ◌≤◌, List, [], ◌∷◌, ◌++◌, refl, sym, ap, ◌∙◌, subst, arith, ⊎_elim, Some, None}
 use Rattle.std.proofs.lemmas.Bool.{cases_eq}
 use Rattle.section_lines.specs.small_lemmas.proofs.Numbers.{tested_equal as same_number}
 use Rattle.machine_states.specs.body_terms.specs.Word.{value_of}

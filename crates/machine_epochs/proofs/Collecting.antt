@@ -21,6 +21,7 @@ use Rattle.machine_states.specs.runner_parts.specs.Lists as lists
 use Rattle.machine_states.specs.runner_steps.specs.AfterOutside as outside
 use Rattle.machine_states.specs.Blockless.{outside_ask, after, outside_after, after_by}
 use Rattle.machine_states.specs.runner_steps.specs.After.{noted}
+use Rattle.machine_states.specs.runner_steps.specs.Blocks.{blocks_outside, blocks_after}
 use Rattle.machine_states.specs.runner_steps.specs.Board.{board_after}
 use Rattle.machine_states.specs.epoch_core.specs.Moves.{is_clear}
 use Rattle.machine_states.specs.World.{World, happens}
@@ -75,13 +76,13 @@ module _ (m : Meaning) (l : Layout) (rs : List Request) (w v : World) (whole : I
 
   -- what an event outside a run that changes no other part leaves of its runner
   own_part : (kind : EventKind) (h : Goes kind) → p.run ≡ None → (sight_after m l s r kind (steps kind h).ask).part ≡ upd s.part r (after m l r kind (steps kind h).ask.0 (steps kind h).ask.1 p (s.word (steps kind h).ask.0))
-      → (records : RecordsState) × ((sight m l rs v).part r ≡ record (outside_after m l kind p (s.word (steps kind h).ask.0)) { board = board_after kind p.board (s.word (steps kind h).ask.0); records = records })
+      → (records : RecordsState) × ((sight m l rs v).part r ≡ record (outside_after m l kind p (s.word (steps kind h).ask.0)) { blocks = blocks_outside m l kind p (s.word (steps kind h).ask.0); board = board_after kind p.board (s.word (steps kind h).ask.0); records = records })
   own_part kind h none is =
       let x = (steps kind h).ask in
       let found = s.word x.0 in (
         noted l r kind x.0 x.1 found (outside_after m l kind p found).records,
         ap (λ (t : Sight). t.part r) (steps kind h).next ∙ (ap (λ (g : ℕ → PartState). g r) is ∙ (upd_here s.part r _
-            ∙ ap (λ (o : Option RunState). record (after_by m l kind p o found) { board = board_after kind p.board found; records = noted l r kind x.0 x.1 found (after_by m l kind p o found).records }) none)),
+            ∙ ap (λ (o : Option RunState). record (after_by m l kind p o found) { blocks = blocks_after m l kind p o found; board = board_after kind p.board found; records = noted l r kind x.0 x.1 found (after_by m l kind p o found).records }) none)),
       )
 
   module _ (k e n : ℕ) (clear : Bool) (stage : p.stage ≡ Scanning e n clear) (h : Goes (kinds.ScanOne k)) where
@@ -106,7 +107,7 @@ module _ (m : Meaning) (l : Layout) (rs : List Request) (w v : World) (whole : I
         let o = over_by l p found records (nat_le n l.runners) _ e (n + 1) (clear && is_clear e found) p.stage refl (λ i. not_idle (sym stage ∙ i)) (ap (λ (q : PartState). q.stage) (sym at) ∙ idle) in
         (o.0, subst (λ (q : PartState). HasNothingOld e (record q { records = records })) (sym at) o.1)
 
-    over : ((sight m l rs v).part r).stage ≡ Idle → (records : RecordsState) × ((sight m l rs v).part r ≡ record (outside.scan_one_after l p p.stage found) { board = p.board; records = records }) × Over records
+    over : ((sight m l rs v).part r).stage ≡ Idle → (records : RecordsState) × ((sight m l rs v).part r ≡ record (outside.scan_one_after l p p.stage found) { blocks = p.blocks; board = p.board; records = records }) × Over records
     over idle = let o = own_part (kinds.ScanOne k) h outside_run.0 refl in (o.0, o.1, ends o.0 (ap (λ (q : PartState). q.stage) (sym o.1) ∙ idle))
 
     scan_last : ((sight m l rs v).part r).stage ≡ Idle → HasNothingOld e ((sight m l rs v).part r)
@@ -134,7 +135,7 @@ module _ (m : Meaning) (l : Layout) (rs : List Request) (w v : World) (whole : I
     advance_collects =
         let o = own_part kinds.Advance h in_no_run.0 refl in
         let at : outside.advance_after p p.stage ≡ outside.collected p (e + 1) = ap (λ (q : Stage). outside.advance_after p q) stage ∙ below_last e 4611686018427387904 _ p tried.2 in
-        subst (HasNothingOld (e + 1)) (sym (o.1 ∙ ap (λ (q : PartState). record q { board = p.board; records = o.0 }) at)) (nothing_old p (e + 1) o.0)
+        subst (HasNothingOld (e + 1)) (sym (o.1 ∙ ap (λ (q : PartState). record q { blocks = p.blocks; board = p.board; records = o.0 }) at)) (nothing_old p (e + 1) o.0)
 
 scans_collect : (m : Meaning) (l : Layout) (rs : List Request) (w v : World) → IsWhole m l rs w → ScansCollect m l rs w v
 scans_collect m l rs w v whole = record {

@@ -16,11 +16,12 @@ use Rattle.machine_states.specs.runner_parts.specs.declared.event.EventKind.{Eve
 use Rattle.machine_states.specs.runner_parts.specs.declared.event.EventKind.TheVariants as kinds
 use Rattle.machine_states.specs.epoch_core.specs.declared.stage.Stage.{Stage}
 use Rattle.machine_states.specs.epoch_core.specs.declared.stage.Stage.TheVariants.{Idle, Loaded, Announced, Entered, Scanning}
-use Rattle.machine_states.specs.runner_parts.specs.State.{RunState, PartState, RecordsState}
+use Rattle.machine_states.specs.runner_parts.specs.State.{RunState, BlocksState, PartState, RecordsState}
 use Rattle.machine_states.specs.runner_steps.specs.Outside.{enter_load_ask, announce_ask, enter_again_ask, idle_ask, scan_one_ask, advance_ask}
 use Rattle.machine_states.specs.Blockless.{asks, ask_by, outside_ask, after, outside_after, after_by}
 use Rattle.machine_states.specs.runner_steps.specs.AfterOutside as outside
 use Rattle.machine_states.specs.runner_steps.specs.After.{noted, leaves, knows_also}
+use Rattle.machine_states.specs.runner_steps.specs.Blocks.{blocks_after}
 use Rattle.machine_states.specs.runner_steps.specs.Board.{board_after}
 use Rattle.machine_states.specs.epoch_core.specs.Update.{upd2, upd_row}
 use Rattle.machine_states.specs.epoch_core.specs.Moves.{is_clear, is_over}
@@ -225,12 +226,12 @@ module _ (m : Meaning) (l : Layout) (rs : List Request) where
         let q = quiet_asks m l rs r kind (s.part r) (s.part r).run x k (asks_by r kind (s.part r) x e) s.word in
         quiet m l found s old r (sight_after m l s r kind x).word (sight_after m l s r kind x).part q.0 q.1 (stages_stay kind _ (stage_kept m l kind (s.part r) (s.part r).run (s.word x.0) k))
 
-    -- nor do the runner's loads of the board matter
-    with_board : (found' : Found) (f : Spot → ℕ) (p : PartState) (board : List BoardRead) → Entries m l found' (record { word = f; part = upd s.part r p })
-        → Entries m l found' (record { word = f; part = upd s.part r (record p { board = board }) })
-    with_board found' f p board h = quiet m l found' (record { word = f; part = upd s.part r p }) h r f (upd s.part r (record p { board = board })) refl (λ i. refl) (λ i. same (i == r) i)
+    -- nor do the runner's blocks and its loads of the board matter
+    with_board : (found' : Found) (f : Spot → ℕ) (p : PartState) (blocks : BlocksState) (board : List BoardRead) → Entries m l found' (record { word = f; part = upd s.part r p })
+        → Entries m l found' (record { word = f; part = upd s.part r (record p { blocks = blocks; board = board }) })
+    with_board found' f p blocks board h = quiet m l found' (record { word = f; part = upd s.part r p }) h r f (upd s.part r (record p { blocks = blocks; board = board })) refl (λ i. refl) (λ i. same (i == r) i)
       where
-        same : (b : Bool) (i : ℕ) → (cond b (record p { board = board }) (s.part i)).stage ≡ (cond b p (s.part i)).stage
+        same : (b : Bool) (i : ℕ) → (cond b (record p { blocks = blocks; board = board }) (s.part i)).stage ≡ (cond b p (s.part i)).stage
         same true i = refl
         same false i = refl
 
@@ -241,8 +242,8 @@ module _ (m : Meaning) (l : Layout) (rs : List Request) where
         subst (λ (o : Option RunState). Entries m l found' (record {
           word = put s.word x.0 (written x.1 (s.word x.0));
           part = upd s.part r
-              (record (after_by m l kind (s.part r) o (s.word x.0)) { board = board_after kind (s.part r).board (s.word x.0); records = noted l r kind x.0 x.1 (s.word x.0) (after_by m l kind (s.part r) o (s.word x.0)).records });
-        })) (sym none) (with_board found' _ _ _ (goes _))
+              (record (after_by m l kind (s.part r) o (s.word x.0)) { blocks = blocks_after m l kind (s.part r) o (s.word x.0); board = board_after kind (s.part r).board (s.word x.0); records = noted l r kind x.0 x.1 (s.word x.0) (after_by m l kind (s.part r) o (s.word x.0)).records });
+        })) (sym none) (with_board found' _ _ _ _ (goes _))
 
     entry_goes : (kind : EventKind) → r ≤ l.runners → asks m l rs r kind (s.part r) ≡ Some x → Entries m l (found_more found s r kind) (sight_after m l s r kind x)
     entry_goes kinds.EnterLoad some e = let h = asked_outside s r x kinds.EnterLoad refl e in out_of_run kinds.EnterLoad _ h.0 (enter_load m l found s old r x h.1)

@@ -13,7 +13,7 @@ use Rattle.machine_states.specs.structure_laws.specs.Meaning.{Meaning}
 use Rattle.machine_states.specs.runner_parts.specs.declared.entries.BoardRead.{BoardRead}
 use Rattle.machine_states.specs.runner_parts.specs.declared.entries.Look.{Look}
 use Rattle.machine_states.specs.runner_parts.specs.declared.entries.Published.{Published}
-use Rattle.machine_states.specs.runner_parts.specs.State.{PartState, NodesState, RecordsState}
+use Rattle.machine_states.specs.runner_parts.specs.State.{BlocksState, PartState, NodesState, RecordsState}
 use Rattle.machine_states.specs.runner_parts.specs.Tests.{has}
 use Rattle.machine_states.specs.runner_steps.specs.Outside.{descriptor_spot}
 use Rattle.machine_states.specs.epoch_core.specs.declared.location.Location.TheVariants.{Live, Hand}
@@ -142,10 +142,10 @@ looking m l w g i q look records t = record {
   stored = t.stored;
 }
 
--- nor on its loads of the board
-boarded : (m : Meaning) (l : Layout) (w : EpochState) (g : Spot → ℕ) (i : ℕ) (q : PartState) (board : List BoardRead)
-    → IsTied m l w g i q → IsTied m l w g i (record q { board = board })
-boarded m l w g i q board t = record {
+-- nor on its blocks and its loads of the board
+boarded : (m : Meaning) (l : Layout) (w : EpochState) (g : Spot → ℕ) (i : ℕ) (q : PartState) (blocks : BlocksState) (board : List BoardRead)
+    → IsTied m l w g i q → IsTied m l w g i (record q { blocks = blocks; board = board })
+boarded m l w g i q blocks board t = record {
   run_held = t.run_held;
   run_opened = t.run_opened;
   run_begins = t.run_begins;
@@ -163,9 +163,9 @@ boarded m l w g i q board t = record {
 }
 
 -- so neither does what is joined
-module _ (m : Meaning) (l : Layout) (w : EpochState) (f : Spot → ℕ) (part : ℕ → PartState) (r : ℕ) (p : PartState) (board : List BoardRead) where
+module _ (m : Meaning) (l : Layout) (w : EpochState) (f : Spot → ℕ) (part : ℕ → PartState) (r : ℕ) (p : PartState) (blocks : BlocksState) (board : List BoardRead) where
   abbrev with_loads : PartState
-  with_loads = record p { board = board }
+  with_loads = record p { blocks = blocks; board = board }
 
   seen : {B : Type 0} → (g : PartState → B) → g p ≡ g with_loads → (i : ℕ) → g (upd part r p i) ≡ g (upd part r with_loads i)
   seen g same i = by (i == r)
@@ -178,7 +178,7 @@ module _ (m : Meaning) (l : Layout) (w : EpochState) (f : Spot → ℕ) (part : 
   tied_on i t = by (i == r) t
     where
       by : (b : Bool) → IsTied m l w f i (cond b p (part i)) → IsTied m l w f i (cond b with_loads (part i))
-      by true t = boarded m l w f i p board t
+      by true t = boarded m l w f i p blocks board t
       by false t = t
 
   pub joined_on : IsJoinedToEpochs m l w (record { word = f; part = upd part r p }) → IsJoinedToEpochs m l w (record { word = f; part = upd part r with_loads })

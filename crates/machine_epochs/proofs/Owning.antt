@@ -16,7 +16,7 @@ use Rattle.machine_states.specs.runner_parts.specs.declared.entries.BoardRead.{B
 use Rattle.machine_states.specs.runner_parts.specs.declared.event.EventKind.{EventKind}
 use Rattle.machine_states.specs.runner_parts.specs.declared.event.EventKind.TheVariants as kinds
 use Rattle.machine_states.specs.epoch_core.specs.declared.stage.Stage.TheVariants.{Entered}
-use Rattle.machine_states.specs.runner_parts.specs.State.{RunState, PartState, RecordsState}
+use Rattle.machine_states.specs.runner_parts.specs.State.{RunState, BlocksState, PartState, RecordsState}
 use Rattle.machine_states.specs.Blockless.{asks, ask_by, outside_ask, after, after_by}
 use Rattle.machine_states.specs.runner_steps.specs.After.{leaves, knows_also}
 use Rattle.machine_states.specs.epoch_core.specs.State.{is_entered, entry_of}
@@ -45,9 +45,9 @@ use Rattle.machine_epochs.proofs.FirstJoin.{each_part, own_free}
 abbrev pub Owns : Meaning → Layout → Sight → Type 0
 Owns m l s = (r : ℕ) → IsOwn m l (s.word Epoch) r (s.part r)
 
--- what a part says hangs on no load of the board and no record, and not on whether the worker was joined
-copied : (m : Meaning) (l : Layout) (epoch r : ℕ) (p : PartState) (board : List BoardRead) (records : RecordsState) (gone : Bool) → IsOwn m l epoch r p → IsOwn m l epoch r (record p { board = board; records = records; gone = gone })
-copied m l epoch r p board records gone o = record {
+-- what a part says hangs on no block, no load of the board and no record, and not on whether the worker was joined
+copied : (m : Meaning) (l : Layout) (epoch r : ℕ) (p : PartState) (blocks : BlocksState) (board : List BoardRead) (records : RecordsState) (gone : Bool) → IsOwn m l epoch r p → IsOwn m l epoch r (record p { blocks = blocks; board = board; records = records; gone = gone })
+copied m l epoch r p blocks board records gone o = record {
   once = o.once;
   nodes_most = o.nodes_most;
   retire_most = o.retire_most;
@@ -92,12 +92,12 @@ module _ (m : Meaning) (l : Layout) (rs : List Request) (s : Sight) (r : ℕ) (x
     own_after : (kind : EventKind) → asks m l rs r kind p ≡ Some x → IsOwn m l (s.word Epoch) r (after m l r kind x.0 x.1 p (s.word x.0))
     own_after kind e =
         let p' = after m l r kind x.0 x.1 p (s.word x.0) in
-        copied m l (s.word Epoch) r _ p'.board p'.records p'.gone (own_by kind p.run refl (asks_by m l rs r kind p x e) p'.records)
+        copied m l (s.word Epoch) r _ p'.blocks p'.board p'.records p'.gone (own_by kind p.run refl (asks_by m l rs r kind p x e) p'.records)
 
     parts_own : (kind : EventKind) (p' : PartState) → IsOwn m l (s.word Epoch) r p' → (i : ℕ) → IsOwn m l (s.word Epoch) i (parts_after kind s.part r p' i)
     parts_own (kinds.Join worker) p' own i =
-        upd_split (upd s.part r (knows_also p' (s.part worker))) worker (leaves (s.part worker)) (λ k q. IsOwn m l (s.word Epoch) k q) (copied m l (s.word Epoch) worker (s.part worker) (s.part worker).board (s.part worker).records true (old worker))
-        (λ k ne. upd_split s.part r (knows_also p' (s.part worker)) (λ j q. IsOwn m l (s.word Epoch) j q) (copied m l (s.word Epoch) r p' p'.board _ p'.gone own) (λ j ne'. old j) k) i
+        upd_split (upd s.part r (knows_also p' (s.part worker))) worker (leaves (s.part worker)) (λ k q. IsOwn m l (s.word Epoch) k q) (copied m l (s.word Epoch) worker (s.part worker) (s.part worker).blocks (s.part worker).board (s.part worker).records true (old worker))
+        (λ k ne. upd_split s.part r (knows_also p' (s.part worker)) (λ j q. IsOwn m l (s.word Epoch) j q) (copied m l (s.word Epoch) r p' p'.blocks p'.board _ p'.gone own) (λ j ne'. old j) k) i
     parts_own _ p' own i = upd_split s.part r p' (λ k q. IsOwn m l (s.word Epoch) k q) own (λ k ne. old k) i
 
     owns_after : (kind : EventKind) → asks m l rs r kind p ≡ Some x → Owns m l (sight_after m l s r kind x)

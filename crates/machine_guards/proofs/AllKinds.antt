@@ -18,7 +18,6 @@ use Rattle.machine_states.specs.runner_parts.specs.State.{RunState, BlocksState,
 use Rattle.machine_states.specs.runner_steps.specs.After.{noted, leaves, knows_also, outside_after, line_after, after_by, after}
 use Rattle.machine_states.specs.runner_steps.specs.Blocks.{blocks_outside, blocks_in_line, blocks_after}
 use Rattle.machine_states.specs.runner_steps.specs.Board.{board_after}
-use Rattle.machine_states.specs.Blockless.{blockless}
 use Rattle.machine_states.specs.runner_steps.specs.AfterInRun.{opened_more}
 use Rattle.machine_states.specs.runner_steps.specs.Asks.{outside_ask, line_ask, inside_ask, opening_ask, ask_by, asks, sizes_for}
 use Rattle.machine_states.specs.runner_steps.specs.Sections.{is_open_run, next_of}
@@ -27,9 +26,9 @@ use Rattle.machine_states.specs.epoch_core.specs.Events.{slot_of}
 use Rattle.machine_states.specs.guard_core.specs.Events.{Event}
 use Rattle.machine_states.specs.World.{is_join}
 use Rattle.machine_states.specs.Sight.{Sight}
-use Rattle.machine_states.specs.Full.{full_sight_after, FullSteps, bare}
+use Rattle.machine_states.specs.Full.{full_sight_after, FullSteps}
 use Rattle.machine_states.proofs.Sights.{some_none, cond_none, unless_gone}
-use Rattle.machine_states.proofs.Updates.{map_same, upd_split}
+use Rattle.machine_states.proofs.Updates.{map_same}
 use Rattle.machine_agreement.specs.machine_epochs.specs.Chunks as slots
 use Rattle.machine_agreement.specs.machine_epochs.specs.Entries.{counts_of}
 use Rattle.machine_agreement.specs.machine_epochs.specs.Joined.{IsJoinedToEpochs}
@@ -37,14 +36,14 @@ use Rattle.machine_agreement.specs.machine_epochs.proofs.OutsideAsked as asked
 use Rattle.machine_agreement.specs.Joined.{IsJoinedToAgreement}
 use Rattle.machine_agreement.specs.Chunks as sections
 use Rattle.machine_guards.specs.State.{hand_of}
-use Rattle.machine_guards.specs.Stands.{StandsAtLink, GuardsStand}
+use Rattle.machine_guards.specs.Stands.{GuardsStand}
 use Rattle.machine_guards.specs.Supplied.{GuardsAreSupplied}
 use Rattle.machine_guards.specs.Chunks.{chain_after, outside_events, line_events, inside_events, guard_events}
 use Rattle.machine_guards.specs.Goes.{OthersGo, Goes}
 use Rattle.machine_guards.proofs.Places.{moves_descriptors, is_hold, inside_over, inside_places, outside_over, outside_places}
 use Rattle.machine_guards.proofs.Words.{is_of_guards, guards_left, inside_left, load_left}
 use Rattle.machine_guards.proofs.Views as views
-use Rattle.machine_guards.proofs.Views.{View, view, is_guarding, is_release, is_linking}
+use Rattle.machine_guards.proofs.Views.{view, is_guarding, is_release, is_linking}
 use Rattle.machine_guards.proofs.Others as others
 use Rattle.machine_guards.proofs.Steps as steps
 use Rattle.machine_guards.proofs.GuardSteps as guarding
@@ -87,8 +86,8 @@ not_of_guards (kinds.Guard d) k = absurd (let y = k in cc)
 not_of_guards (kinds.LoadGuard n) k = absurd (let y = k in cc)
 not_of_guards _ k = refl
 
-module _ (m : Meaning) (l : Layout) (rs : List Request) (chain : ℕ → List ℕ) (a a' : AgreementState) (e e' : EpochState) (s : Sight) (of_sections : IsJoinedToAgreement m l a (bare s))
-    (joined : IsJoinedToEpochs m l e (bare s)) (old : GuardsStand m l chain a e s) (r : ℕ) (some : r ≤ l.runners) (x : Spot × Access) where
+module _ (m : Meaning) (l : Layout) (rs : List Request) (chain : ℕ → List ℕ) (a a' : AgreementState) (e e' : EpochState) (s : Sight) (of_sections : IsJoinedToAgreement m l a s)
+    (joined : IsJoinedToEpochs m l e s) (old : GuardsStand m l chain a e s) (r : ℕ) (some : r ≤ l.runners) (x : Spot × Access) where
   abbrev p : PartState
   p = s.part r
 
@@ -109,7 +108,7 @@ module _ (m : Meaning) (l : Layout) (rs : List Request) (chain : ℕ → List �
   To kind es blocks p' = steps.To m l chain (chain_after chain kind p found) a a' e e' s old r f (record p' { blocks = blocks; board = board_of kind; records = records_of kind p' }) es
 
   abbrev Others : EventKind → Type 0
-  Others kind = OthersGo m l a a' e e' (bare s) r kind found
+  Others kind = OthersGo m l a a' e e' s r kind found
 
   abbrev Supplied : EventKind → Type 0
   Supplied kind = GuardsAreSupplied m l chain a e s r kind found
@@ -123,17 +122,17 @@ module _ (m : Meaning) (l : Layout) (rs : List Request) (chain : ℕ → List �
     abbrev Outside : EventKind → Type 0
     Outside kind = To kind (outside_events m l r kind p found) (blocks_outside m l kind p found) (outside_after m l kind p found)
 
-    in_sections : (kind : EventKind) (go : Others kind) → sections.IsOutsideChunk m l a r kind (blockless p) found go.heads
-    in_sections kind go = subst (λ o. sections.IsChunk m l a r kind (blockless p) o found go.heads) none go.in_sections
+    in_sections : (kind : EventKind) (go : Others kind) → sections.IsOutsideChunk m l a r kind p found go.heads
+    in_sections kind go = subst (λ o. sections.IsChunk m l a r kind p o found go.heads) none go.in_sections
 
-    in_slots : (kind : EventKind) (go : Others kind) → slots.IsOutsideChunk m l r kind (blockless p) found go.tails
-    in_slots kind go = subst (λ o. slots.IsChunk m l r kind (blockless p) o found go.tails) none go.in_slots
+    in_slots : (kind : EventKind) (go : Others kind) → slots.IsOutsideChunk m l r kind p found go.tails
+    in_slots kind go = subst (λ o. slots.IsChunk m l r kind p o found go.tails) none go.in_slots
 
     quiet : (kind : EventKind) → is_guarding kind ≡ false → chain_after chain kind p found ≡ chain → outside_ask m l rs r kind p ≡ Some x → Others kind → Outside kind
     quiet kind k linked ask go = subst (λ es. To kind es (blocks_outside m l kind p found) (outside_after m l kind p found)) (sym (no_outside_event m l r kind p found k))
         (steps.quiet m l chain (chain_after chain kind p found) a a' e e' s old r f _ (left_by kind None (not_of_guards kind k) ask) (λ d. ap (λ (g : ℕ → List ℕ). g d) linked)
-        (others.over_same m l a a' r go.heads go.leads (outside_over m l a r kind (blockless p) found go.heads (not_hold kind k) (in_sections kind go)))
-        (others.places_same m l e e' (bare s) joined go.tails go.enabled go.there (outside_places m l r kind (blockless p) found go.tails (not_moving kind k) (in_slots kind go)))
+        (others.over_same m l a a' r go.heads go.leads (outside_over m l a r kind p found go.heads (not_hold kind k) (in_sections kind go)))
+        (others.places_same m l e e' s joined go.tails go.enabled go.there (outside_places m l r kind p found go.tails (not_moving kind k) (in_slots kind go)))
         (views.blocks_stay m l p found kind k) (ap hand_of none)
         (views.view_outside m l rs r p found x kind k ask))
 
@@ -172,18 +171,18 @@ module _ (m : Meaning) (l : Layout) (rs : List Request) (chain : ℕ → List �
     abbrev Inside : EventKind → Bool → Type 0
     Inside kind b = To kind (inside_events m l r b kind q found) (cond b (blocks_in_line m l kind p.blocks q (next_of m q) found) p.blocks) (cond b (line_after m l kind p q (next_of m q) found) (opened_more p q found))
 
-    in_sections_by : (kind : EventKind) (b : Bool) → is_open_run q ≡ b → (go : Others kind) → sections.IsInsideChunk m l a r b kind (blockless p) q found go.heads
-    in_sections_by kind b is go = subst (λ k. sections.IsInsideChunk m l a r k kind (blockless p) q found go.heads) is (subst (λ o. sections.IsChunk m l a r kind (blockless p) o found go.heads) at go.in_sections)
+    in_sections_by : (kind : EventKind) (b : Bool) → is_open_run q ≡ b → (go : Others kind) → sections.IsInsideChunk m l a r b kind p q found go.heads
+    in_sections_by kind b is go = subst (λ k. sections.IsInsideChunk m l a r k kind p q found go.heads) is (subst (λ o. sections.IsChunk m l a r kind p o found go.heads) at go.in_sections)
 
-    in_slots_by : (kind : EventKind) (b : Bool) → is_open_run q ≡ b → (go : Others kind) → slots.IsInsideChunk m l r b kind (blockless p) q found go.tails
-    in_slots_by kind b is go = subst (λ k. slots.IsInsideChunk m l r k kind (blockless p) q found go.tails) is (subst (λ o. slots.IsChunk m l r kind (blockless p) o found go.tails) at go.in_slots)
+    in_slots_by : (kind : EventKind) (b : Bool) → is_open_run q ≡ b → (go : Others kind) → slots.IsInsideChunk m l r b kind p q found go.tails
+    in_slots_by kind b is go = subst (λ k. slots.IsInsideChunk m l r k kind p q found go.tails) is (subst (λ o. slots.IsChunk m l r kind p o found go.tails) at go.in_slots)
 
     -- but for the last release the other components keep what guards see of them
     over_by : (kind : EventKind) (b : Bool) → is_open_run q ≡ b → is_release kind ≡ false → Others kind → (d : ℕ) → a'.over d ≡ a.over d
-    over_by kind b is k go = others.over_same m l a a' r go.heads go.leads (inside_over m l a r kind (blockless p) q found go.heads b k (in_sections_by kind b is go))
+    over_by kind b is k go = others.over_same m l a a' r go.heads go.leads (inside_over m l a r kind p q found go.heads b k (in_sections_by kind b is go))
 
     stay_by : (kind : EventKind) (b : Bool) → is_open_run q ≡ b → is_release kind ≡ false → Others kind → (d : ℕ) → e'.location (slot_of (counts_of m l) d) ≡ e.location (slot_of (counts_of m l) d)
-    stay_by kind b is k go = others.places_same m l e e' (bare s) joined go.tails go.enabled go.there (inside_places m l r kind (blockless p) q found go.tails b k (in_slots_by kind b is go))
+    stay_by kind b is k go = others.places_same m l e e' s joined go.tails go.enabled go.there (inside_places m l r kind p q found go.tails b k (in_slots_by kind b is go))
 
     abbrev Asked : EventKind → Type 0
     Asked kind = inside_ask m l kind p.nodes.free p.blocks.free q ≡ Some x
@@ -268,8 +267,8 @@ module _ (m : Meaning) (l : Layout) (rs : List Request) (chain : ℕ → List �
     join : Shows (kinds.Join worker)
     join = subst (λ o. Goes m l (guard_events m l r (kinds.Join worker) p o found) chain chain a a' e e' s (full_sight_after m l s r (kinds.Join worker) x)) (sym none_runs)
         (steps.quiet_all m l chain chain a a' e e' s old (full_sight_after m l s r (kinds.Join worker) x) (λ d. refl) (left_by (kinds.Join worker) p.run refl ask)
-        (others.over_same m l a a' r go.heads go.leads (outside_over m l a r (kinds.Join worker) (blockless p) found go.heads refl (in_sections none_runs (kinds.Join worker) go)))
-        (others.places_same m l e e' (bare s) joined go.tails go.enabled go.there (outside_places m l r (kinds.Join worker) (blockless p) found go.tails refl (in_slots none_runs (kinds.Join worker) go)))
+        (others.over_same m l a a' r go.heads go.leads (outside_over m l a r (kinds.Join worker) p found go.heads refl (in_sections none_runs (kinds.Join worker) go)))
+        (others.places_same m l e e' s joined go.tails go.enabled go.there (outside_places m l r (kinds.Join worker) p found go.tails refl (in_slots none_runs (kinds.Join worker) go)))
         (all_same view (ap (λ o. view (after_by m l (kinds.Join worker) p o found)) none_runs) refl)
         (all_same (λ y. y.blocks) (ap (λ o. blocks_after m l (kinds.Join worker) p o found) none_runs) refl)
         (λ i b q runs held. old.hand i b q (sym (run_same i) ∙ runs) held))
@@ -286,8 +285,8 @@ module _ (m : Meaning) (l : Layout) (rs : List Request) (chain : ℕ → List �
   shows kind e0 u go = plain kind refl e0 u go
 
 pub step_goes : (m : Meaning) (l : Layout) (rs : List Request) (chain : ℕ → List ℕ) (a a' : AgreementState) (e e' : EpochState) (s s' : Sight) (r : ℕ) (kind : EventKind)
-    → IsJoinedToAgreement m l a (bare s) → IsJoinedToEpochs m l e (bare s) → GuardsStand m l chain a e s → (step : FullSteps m l rs s s' r kind)
-    → GuardsAreSupplied m l chain a e s r kind (s.word (step.ask.0)) → OthersGo m l a a' e e' (bare s) r kind (s.word (step.ask.0))
+    → IsJoinedToAgreement m l a s → IsJoinedToEpochs m l e s → GuardsStand m l chain a e s → (step : FullSteps m l rs s s' r kind)
+    → GuardsAreSupplied m l chain a e s r kind (s.word (step.ask.0)) → OthersGo m l a a' e e' s r kind (s.word (step.ask.0))
     → Goes m l (guard_events m l r kind (s.part r) (s.part r).run (s.word (step.ask.0))) chain (chain_after chain kind (s.part r) (s.word (step.ask.0))) a a' e e' s s'
 step_goes m l rs chain a a' e e' s s' r kind of_sections joined old step u go =
     subst (Goes m l (guard_events m l r kind (s.part r) (s.part r).run (s.word (step.ask.0))) chain (chain_after chain kind (s.part r) (s.word (step.ask.0))) a a' e e' s) (sym step.next)

@@ -1,7 +1,7 @@
 -- Where a block is, and how often it stands with its runner, behind a change of the runner's lists.
-use Rattle.std.specs.Prelude.{◌==◌, ◌&&◌, ◌||◌, not, cond, nat_lt, map, Bool, true, false, if◌then◌else◌}
+use Rattle.std.specs.Prelude.{◌==◌, ◌&&◌, ◌||◌, not, cond, map, Bool, true, false, if◌then◌else◌}
 use Rattle.std.specs.List.{filter}
-use Rattle.std.proofs.Common.{◌≡◌, ◌≢◌, ℕ, ◌+◌, ◌≤◌, List, [], ◌∷◌, ◌++◌, refl, sym, ap, ◌∙◌, subst, arith, Option, Some, None}
+use Rattle.std.proofs.Common.{◌≡◌, ◌≢◌, ℕ, ◌+◌, ◌≤◌, List, [], ◌∷◌, ◌++◌, refl, sym, ap, ◌∙◌, arith, Option, Some, None}
 use Rattle.std.proofs.lemmas.Bool.Decides.{nat_tests}
 use Rattle.machine_states.specs.epoch_core.specs.small_lemmas.proofs.Numbers.{tested_equal as same_number, self_tested, other_tested}
 use Rattle.machine_states.specs.runner_parts.specs.declared.entries.Waiting.{Waiting}
@@ -13,7 +13,7 @@ use Rattle.machine_states.specs.guard_core.specs.State as guards
 use Rattle.machine_states.specs.guard_core.specs.Moves.{retired, freed}
 use Rattle.machine_guards.specs.State.{won_of, hand_of, under_in, waits_under, block_with}
 use Rattle.machine_guards.specs.Stands.{times_held, block_times}
-use Rattle.machine_guards.proofs.Lists.{append_has, times_has, has_times, times_filter, times_append}
+use Rattle.machine_guards.proofs.Lists.{append_has, times_has, times_filter, times_append}
 
 -- the blocks that lie in a limbo
 abbrev blocks_of : List Waiting → List ℕ

@@ -31,9 +31,7 @@ use Rattle.machine_states.specs.guard_core.specs.Events as events
 use Rattle.machine_states.specs.guard_core.specs.Events.{Event}
 use Rattle.machine_states.specs.guard_core.specs.Moves.{retired}
 use Rattle.machine_states.specs.guard_core.specs.Update as guard_update
-use Rattle.machine_states.specs.Blockless.{blockless}
 use Rattle.machine_states.specs.Sight.{Sight}
-use Rattle.machine_states.specs.Full.{bare}
 use Rattle.machine_agreement.specs.machine_epochs.specs.Chunks as slots
 use Rattle.machine_agreement.specs.machine_epochs.specs.Entries.{counts_of}
 use Rattle.machine_agreement.specs.machine_epochs.specs.Firsts.{owner_of}
@@ -101,11 +99,11 @@ retired_has ds (Some x) d i n all few e = by (x.descriptor == d) e
     by false e0 = all i e0
 
 module _ (m : Meaning) (l : Layout) (chain : ℕ → List ℕ) (a a' : AgreementState) (e e' : EpochState) (s : Sight) (old : GuardsStand m l chain a e s)
-    (of_sections : IsJoinedToAgreement m l a (bare s)) (joined : IsJoinedToEpochs m l e (bare s)) (r : ℕ) (q : RunState) (at : (s.part r).run ≡ Some q) (no_hand : q.block ≡ None)
+    (of_sections : IsJoinedToAgreement m l a s) (joined : IsJoinedToEpochs m l e s) (r : ℕ) (q : RunState) (at : (s.part r).run ≡ Some q) (no_hand : q.block ≡ None)
     (board : List BoardRead) (records : PartState → RecordsState) (f : Spot → ℕ) (left : (i : ℕ) → f (Guard i) ≡ s.word (Guard i)) (found : ℕ)
-    (supplied : GuardsAreSupplied m l chain a e s r kinds.Release found) (go : OthersGo m l a a' e e' (bare s) r kinds.Release found)
-    (in_sections : sections.IsLineChunk m l a r kinds.Release (blockless (s.part r)) q found go.heads)
-    (in_slots : slots.IsLineChunk m l r kinds.Release (blockless (s.part r)) q (next_of m q) found go.tails) where
+    (supplied : GuardsAreSupplied m l chain a e s r kinds.Release found) (go : OthersGo m l a a' e e' s r kinds.Release found)
+    (in_sections : sections.IsLineChunk m l a r kinds.Release (s.part r) q found go.heads)
+    (in_slots : slots.IsLineChunk m l r kinds.Release (s.part r) q (next_of m q) found go.tails) where
   abbrev p : PartState
   p = s.part r
 
@@ -151,14 +149,14 @@ module _ (m : Meaning) (l : Layout) (chain : ℕ → List ℕ) (a a' : Agreement
   moved_to = (i : ℕ) → place_of l i (e'.location (slot_of (counts_of m l) i)) ≡ guard_update.upd w.descriptor d (retired r d (w.descriptor d)) i
 
   moved_none : go.tails ≡ [] → (w.descriptor d ≡ guards.Live r → ⊥) → moved_to
-  moved_none tails other i = ap (place_of l i) (others.place_kept m l e e' (bare s) joined go.tails go.enabled go.there tails i) ∙ by (i == d) refl
+  moved_none tails other i = ap (place_of l i) (others.place_kept m l e e' s joined go.tails go.enabled go.there tails i) ∙ by (i == d) refl
     where
       by : (b : Bool) → (i == d) ≡ b → w.descriptor i ≡ cond b (retired r d (w.descriptor d)) (w.descriptor i)
       by true same = ap w.descriptor (same_number i d same) ∙ retired_else r d (w.descriptor d) other
       by false e0 = refl
 
   moved_own : go.tails ≡ epochs.RetireDescriptor r d ∷ [] → w.descriptor d ≡ guards.Live r → moved_to
-  moved_own tails is i = ap (place_of l i) (others.place_retired m l e e' (bare s) joined go.tails go.enabled go.there r d tails i) ∙ by (i == d) refl
+  moved_own tails is i = ap (place_of l i) (others.place_retired m l e e' s joined go.tails go.enabled go.there r d tails i) ∙ by (i == d) refl
     where
       by : (b : Bool) → (i == d) ≡ b → place_of l i (cond b (epoch_places.Limbo r e.epoch) (e.location (slot_of (counts_of m l) i))) ≡ cond b (retired r d (w.descriptor d)) (w.descriptor i)
       by true same = ap (guards.Limbo r) (same_number i d same) ∙ (sym (retired_own r d) ∙ sym (ap (retired r d) is))
@@ -188,7 +186,7 @@ module _ (m : Meaning) (l : Layout) (chain : ℕ → List ℕ) (a a' : Agreement
   more : go.heads ≡ agreement.Read (in_sections.0) ∷ agreement.Release r (in_sections.0) (in_sections.1) ∷ [] → go.tails ≡ [] → To [] (blocks_behind false) (behind false)
   more heads tails = steps.quiet m l chain chain a a' e e' s old r f _ left (λ i. refl)
       (others.over_same m l a a' r go.heads go.leads (subst (AllAre leaves_over) (sym heads) (refl, (refl, tt))))
-      (others.place_kept m l e e' (bare s) joined go.tails go.enabled go.there tails) refl empty (ran m l p q at found)
+      (others.place_kept m l e e' s joined go.tails go.enabled go.there tails) refl empty (ran m l p q at found)
 
   -- or is over
   over : go.heads ≡ agreement.Read (in_sections.0) ∷ agreement.Release r (in_sections.0) (in_sections.1) ∷ agreement.Finish r ∷ sections.retires_own p.published d

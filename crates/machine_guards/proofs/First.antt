@@ -25,9 +25,8 @@ use Rattle.machine_states.specs.guard_core.proofs.Keeping as keeping
 use Rattle.machine_states.specs.guard_core.proofs.Same.{same_sound}
 use Rattle.machine_states.specs.World.{World}
 use Rattle.machine_states.specs.First.{IsFirst, first_part, keeper_part, worker_part, falling}
-use Rattle.machine_states.specs.Sight.{Sight}
-use Rattle.machine_states.specs.Full.{full_sight}
-use Rattle.machine_states.proofs.FirstSights.{first_part_of, full_first_parts}
+use Rattle.machine_states.specs.Sight.{Sight, sight}
+use Rattle.machine_states.proofs.FirstSights.{first_part_of, first_parts}
 use Rattle.machine_agreement.specs.machine_epochs.specs.Entries.{counts_of}
 use Rattle.machine_agreement.specs.machine_epochs.specs.Firsts.{first_place, owner_of}
 use Rattle.machine_agreement.specs.machine_epochs.proofs.FirstJoin.{at_descriptor, each_part}
@@ -86,7 +85,7 @@ module _ (m : Meaning) (l : Layout) where
 
 module _ (m : Meaning) (l : Layout) (rs : List Request) (w : World) (start : IsFirst m l rs w) where
   abbrev s : Sight
-  s = full_sight m l rs w
+  s = sight m l rs w
 
   abbrev a : AgreementState
   a = agreement_schedules.first_state (λ p. s.word (Cell p))
@@ -95,7 +94,7 @@ module _ (m : Meaning) (l : Layout) (rs : List Request) (w : World) (start : IsF
   e = epoch_schedules.first_state (first_place m l)
 
   seen : (r : ℕ) → view (s.part r) ≡ nothing
-  seen r = ap view (full_first_parts m l w.parts start.parts r) ∙ each_part m l (λ (p : PartState). view p ≡ nothing) refl (λ k. refl) refl r
+  seen r = ap view (first_parts m l w.parts start.parts r) ∙ each_part m l (λ (p : PartState). view p ≡ nothing) refl (λ k. refl) refl r
 
   word : (r : ℕ) → s.word (Guard r) ≡ 0
   word r = by_fit (fits (sizes_for m l rs) (Guard r)) refl
@@ -111,7 +110,7 @@ module _ (m : Meaning) (l : Layout) (rs : List Request) (w : World) (start : IsF
   at_first d = ap (place_of l d) (at_descriptor m l d)
 
   free_at : (j b : ℕ) → block_with j (s.part j) b ≡ guards.Free j
-  free_at j b = ap (λ (p : PartState). block_with j p b) (full_first_parts m l w.parts start.parts j)
+  free_at j b = ap (λ (p : PartState). block_with j p b) (first_parts m l w.parts start.parts j)
       ∙ each_part m l (λ (p : PartState). block_with j p b ≡ guards.Free j) refl (λ k. refl) refl j
 
   pub first_stands : GuardsStand m l (λ d. []) a e s
@@ -133,7 +132,7 @@ module _ (m : Meaning) (l : Layout) (rs : List Request) (w : World) (start : IsF
     owned = λ d. ap owners.owner_of (at_first d);
     publisher = λ r y is. absurd (let z = sym (ap (λ (v : View). v.published) (seen r)) ∙ is in cc);
     within = λ r d is. absurd (let z = ap (λ (v : View). has v.limbo d) (sym (seen r)) ∙ is in cc);
-    blocks = λ r b. ap (λ (p : PartState). block_times p b) (full_first_parts m l w.parts start.parts r) ∙ own_blocks m l r b;
+    blocks = λ r b. ap (λ (p : PartState). block_times p b) (first_parts m l w.parts start.parts r) ∙ own_blocks m l r b;
     hand = λ r b q runs held. absurd (none-some _ (sym (ap (λ (v : View). v.hand) (seen r)) ∙ (ap hand_of runs ∙ held)));
   }
 

@@ -1,6 +1,5 @@
 -- The kinds of step that are events of guards.
 use Rattle.std.specs.Prelude.{◌==◌, ◌&&◌, ◌||◌, ◌-◌, ◌+◌, not, cond, Bool, true, false, nat_le, if◌then◌else◌}
-use Rattle.std.specs.List.{filter}
 use Rattle.std.proofs.Common.{◌≡◌, ◌≢◌, ℕ, suc, ◌<◌, ◌≤◌, List, [], ◌∷◌, ◌++◌, length, refl, sym, ap, ◌∙◌, subst, arith, ⊎_elim, Option, Some, None}
 use Rattle.std.proofs.lemmas.Bool.Decides.{nat_tests}
 use Rattle.std.proofs.lemmas.Bool.{and_parts}
@@ -28,7 +27,6 @@ use Rattle.machine_states.specs.runner_parts.specs.State.{BlocksState, GuardsSta
 use Rattle.machine_states.specs.runner_parts.specs.Tests.{has, is_some_of, thunk_words}
 use Rattle.machine_states.specs.runner_steps.specs.After.{outside_after}
 use Rattle.machine_states.specs.runner_steps.specs.Blocks.{blocks_outside}
-use Rattle.machine_states.specs.Blockless.{blockless}
 use Rattle.machine_states.specs.runner_steps.specs.AfterOutside.{published_by}
 use Rattle.machine_states.specs.runner_steps.specs.Guards.{guard_ask, load_guard_ask, is_last_guard}
 use Rattle.machine_states.specs.runner_steps.specs.Outside.{enter_again_ask, idle_ask, hold_ask, open_ask}
@@ -45,7 +43,6 @@ use Rattle.machine_states.specs.guard_core.specs.Moves.{is_unnamed, swept}
 use Rattle.machine_states.specs.guard_core.specs.Owners as owners
 use Rattle.machine_states.specs.guard_core.specs.Update as guard_update
 use Rattle.machine_states.specs.Sight.{Sight}
-use Rattle.machine_states.specs.Full.{bare}
 use Rattle.machine_agreement.specs.machine_epochs.specs.Chunks as slots
 use Rattle.machine_agreement.specs.machine_epochs.specs.Entries.{counts_of}
 use Rattle.machine_agreement.specs.machine_epochs.specs.Firsts.{owner_of}
@@ -125,7 +122,7 @@ among n d test = ap (λ b. b && test (n + d - n)) (most n d) ∙ ap test (back n
     back : (n d : ℕ) → n + d - n ≡ d
     back n d = omega arith
 
-module _ (m : Meaning) (l : Layout) (chain : ℕ → List ℕ) (a a' : AgreementState) (e e' : EpochState) (s : Sight) (old : GuardsStand m l chain a e s) (joined : IsJoinedToEpochs m l e (bare s))
+module _ (m : Meaning) (l : Layout) (chain : ℕ → List ℕ) (a a' : AgreementState) (e e' : EpochState) (s : Sight) (old : GuardsStand m l chain a e s) (joined : IsJoinedToEpochs m l e s)
     (r : ℕ) (none : (s.part r).run ≡ None) (board : List BoardRead) (records : RecordsState) (f : Spot → ℕ) where
   abbrev p : PartState
   p = s.part r
@@ -140,13 +137,13 @@ module _ (m : Meaning) (l : Layout) (chain : ℕ → List ℕ) (a a' : Agreement
   abbrev To : (ℕ → List ℕ) → List Event → BlocksState → PartState → Type 0
   To chain' es blocks p' = steps.To m l chain chain' a a' e e' s old r f (record p' { blocks = blocks; board = board; records = records }) es
 
-  module _ (kind : EventKind) (found : ℕ) (supplied : GuardsAreSupplied m l chain a e s r kind found) (go : OthersGo m l a a' e e' (bare s) r kind found) where
+  module _ (kind : EventKind) (found : ℕ) (supplied : GuardsAreSupplied m l chain a e s r kind found) (go : OthersGo m l a a' e e' s r kind found) where
     -- the events of the other components
-    in_sections : sections.IsOutsideChunk m l a r kind (blockless p) found go.heads
-    in_sections = subst (λ o. sections.IsChunk m l a r kind (blockless p) o found go.heads) none go.in_sections
+    in_sections : sections.IsOutsideChunk m l a r kind p found go.heads
+    in_sections = subst (λ o. sections.IsChunk m l a r kind p o found go.heads) none go.in_sections
 
-    in_slots : slots.IsOutsideChunk m l r kind (blockless p) found go.tails
-    in_slots = subst (λ o. slots.IsChunk m l r kind (blockless p) o found go.tails) none go.in_slots
+    in_slots : slots.IsOutsideChunk m l r kind p found go.tails
+    in_slots = subst (λ o. slots.IsChunk m l r kind p o found go.tails) none go.in_slots
 
     -- a live descriptor of a runner is the one that it has published
     own_live : (d : ℕ) → w.descriptor d ≡ guards.Live r → (y : Published) × (p.published ≡ Some y) × (y.descriptor ≡ d)
@@ -156,32 +153,32 @@ module _ (m : Meaning) (l : Layout) (chain : ℕ → List ℕ) (a a' : Agreement
         let own : by.0 ≡ r = sym (old.publisher by.0 by.1 by.2) ∙ (ap (owner_of l.sections l.runners) by.3 ∙ live.1) in
         (by.1, subst (λ i. (s.part i).published ≡ Some by.1) own by.2, by.3)
 
-  pub enter_again : (x : Spot × Access) → enter_again_ask p ≡ Some x → ((i : ℕ) → f (Guard i) ≡ s.word (Guard i)) → (go : OthersGo m l a a' e e' (bare s) r kinds.EnterAgain (s.word x.0))
+  pub enter_again : (x : Spot × Access) → enter_again_ask p ≡ Some x → ((i : ℕ) → f (Guard i) ≡ s.word (Guard i)) → (go : OthersGo m l a a' e e' s r kinds.EnterAgain (s.word x.0))
       → GuardsAreSupplied m l chain a e s r kinds.EnterAgain (s.word x.0)
       → To chain (outside_events m l r kinds.EnterAgain p (s.word x.0)) (blocks_outside m l kinds.EnterAgain p (s.word x.0)) (outside_after m l kinds.EnterAgain p (s.word x.0))
   enter_again x ask left go u =
       steps.enter m l chain chain a a' e e' s old r f _ left (λ i. refl)
-      (others.over_same m l a a' r go.heads go.leads (outside_over m l a r kinds.EnterAgain (blockless p) (s.word x.0) go.heads refl (in_sections kinds.EnterAgain (s.word x.0) u go)))
-      (others.places_same m l e e' (bare s) joined go.tails go.enabled go.there (outside_places m l r kinds.EnterAgain (blockless p) (s.word x.0) go.tails refl (in_slots kinds.EnterAgain (s.word x.0) u go)))
+      (others.over_same m l a a' r go.heads go.leads (outside_over m l a r kinds.EnterAgain p (s.word x.0) go.heads refl (in_sections kinds.EnterAgain (s.word x.0) u go)))
+      (others.places_same m l e e' s joined go.tails go.enabled go.there (outside_places m l r kinds.EnterAgain p (s.word x.0) go.tails refl (in_slots kinds.EnterAgain (s.word x.0) u go)))
       refl no_hand (ap is_entered (asked.enter_again_asked p x ask).0) refl
 
-  pub idle : (x : Spot × Access) → idle_ask r p ≡ Some x → ((i : ℕ) → f (Guard i) ≡ s.word (Guard i)) → (go : OthersGo m l a a' e e' (bare s) r kinds.Idle (s.word x.0))
+  pub idle : (x : Spot × Access) → idle_ask r p ≡ Some x → ((i : ℕ) → f (Guard i) ≡ s.word (Guard i)) → (go : OthersGo m l a a' e e' s r kinds.Idle (s.word x.0))
       → GuardsAreSupplied m l chain a e s r kinds.Idle (s.word x.0)
       → To chain (outside_events m l r kinds.Idle p (s.word x.0)) (blocks_outside m l kinds.Idle p (s.word x.0)) (outside_after m l kinds.Idle p (s.word x.0))
   idle x ask left go u =
       steps.exit m l chain chain a a' e e' s old r f _ left (λ i. refl)
-      (others.over_same m l a a' r go.heads go.leads (outside_over m l a r kinds.Idle (blockless p) (s.word x.0) go.heads refl (in_sections kinds.Idle (s.word x.0) u go)))
-      (others.places_same m l e e' (bare s) joined go.tails go.enabled go.there (outside_places m l r kinds.Idle (blockless p) (s.word x.0) go.tails refl (in_slots kinds.Idle (s.word x.0) u go)))
+      (others.over_same m l a a' r go.heads go.leads (outside_over m l a r kinds.Idle p (s.word x.0) go.heads refl (in_sections kinds.Idle (s.word x.0) u go)))
+      (others.places_same m l e e' s joined go.tails go.enabled go.there (outside_places m l r kinds.Idle p (s.word x.0) go.tails refl (in_slots kinds.Idle (s.word x.0) u go)))
       refl no_hand (asked.idle_away r p x ask).1 refl
 
   pub load_thunk : (d : ℕ) (x : Spot × Access) → open_ask d p ≡ Some x → ((i : ℕ) → f (Guard i) ≡ s.word (Guard i))
-      → (go : OthersGo m l a a' e e' (bare s) r (kinds.LoadThunk (Some d)) (s.word x.0)) → GuardsAreSupplied m l chain a e s r (kinds.LoadThunk (Some d)) (s.word x.0)
+      → (go : OthersGo m l a a' e e' s r (kinds.LoadThunk (Some d)) (s.word x.0)) → GuardsAreSupplied m l chain a e s r (kinds.LoadThunk (Some d)) (s.word x.0)
       → To chain (outside_events m l r (kinds.LoadThunk (Some d)) p (s.word x.0)) (blocks_outside m l (kinds.LoadThunk (Some d)) p (s.word x.0)) (outside_after m l (kinds.LoadThunk (Some d)) p (s.word x.0))
   load_thunk d x ask left go u =
       let sure = and_parts p.guards.sure (is_some_of p.guards.named d) (asked.open_asked d p x ask).2 in
       steps.begin m l chain chain a a' e e' s old r f _ left (λ i. refl)
-      (others.over_same m l a a' r go.heads go.leads (outside_over m l a r (kinds.LoadThunk (Some d)) (blockless p) (s.word x.0) go.heads refl (in_sections (kinds.LoadThunk (Some d)) (s.word x.0) u go)))
-      (others.places_same m l e e' (bare s) joined go.tails go.enabled go.there (outside_places m l r (kinds.LoadThunk (Some d)) (blockless p) (s.word x.0) go.tails refl (in_slots (kinds.LoadThunk (Some d)) (s.word x.0) u go)))
+      (others.over_same m l a a' r go.heads go.leads (outside_over m l a r (kinds.LoadThunk (Some d)) p (s.word x.0) go.heads refl (in_sections (kinds.LoadThunk (Some d)) (s.word x.0) u go)))
+      (others.places_same m l e e' s joined go.tails go.enabled go.there (outside_places m l r (kinds.LoadThunk (Some d)) p (s.word x.0) go.tails refl (in_slots (kinds.LoadThunk (Some d)) (s.word x.0) u go)))
       refl no_hand d ((asked.named_is p.guards.named d sure.1, sure.0), ap run_of none) (λ i. record (view p) { run = Some d; won = won_of (sym none i); hand = hand_of (sym none i) })
 
   -- what is seen of the part with these guards
@@ -189,16 +186,16 @@ module _ (m : Meaning) (l : Layout) (chain : ℕ → List ℕ) (a a' : Agreement
   with_guards g = view (record p { guards = g })
 
   -- a cell was read: where it is a lock that names the guarded descriptor, the runner is sure of it
-  pub load_cell : (place : ℕ) (x : Spot × Access) → ((i : ℕ) → f (Guard i) ≡ s.word (Guard i)) → (go : OthersGo m l a a' e e' (bare s) r (kinds.LoadCell (Some place)) (s.word x.0))
+  pub load_cell : (place : ℕ) (x : Spot × Access) → ((i : ℕ) → f (Guard i) ≡ s.word (Guard i)) → (go : OthersGo m l a a' e e' s r (kinds.LoadCell (Some place)) (s.word x.0))
       → GuardsAreSupplied m l chain a e s r (kinds.LoadCell (Some place)) (s.word x.0)
       → To chain (outside_events m l r (kinds.LoadCell (Some place)) p (s.word x.0)) (blocks_outside m l (kinds.LoadCell (Some place)) p (s.word x.0)) (outside_after m l (kinds.LoadCell (Some place)) p (s.word x.0))
   load_cell place x left go u = by (names_guarded p.guards (m.is_lock place) (s.word x.0)) refl
     where
       over : (d : ℕ) → a'.over d ≡ a.over d
-      over = others.over_same m l a a' r go.heads go.leads (outside_over m l a r (kinds.LoadCell (Some place)) (blockless p) (s.word x.0) go.heads refl (in_sections (kinds.LoadCell (Some place)) (s.word x.0) u go))
+      over = others.over_same m l a a' r go.heads go.leads (outside_over m l a r (kinds.LoadCell (Some place)) p (s.word x.0) go.heads refl (in_sections (kinds.LoadCell (Some place)) (s.word x.0) u go))
 
       stay : (d : ℕ) → e'.location (slot_of (counts_of m l) d) ≡ e.location (slot_of (counts_of m l) d)
-      stay = others.places_same m l e e' (bare s) joined go.tails go.enabled go.there (outside_places m l r (kinds.LoadCell (Some place)) (blockless p) (s.word x.0) go.tails refl (in_slots (kinds.LoadCell (Some place)) (s.word x.0) u go))
+      stay = others.places_same m l e e' s joined go.tails go.enabled go.there (outside_places m l r (kinds.LoadCell (Some place)) p (s.word x.0) go.tails refl (in_slots (kinds.LoadCell (Some place)) (s.word x.0) u go))
 
       by : (b : Bool) → names_guarded p.guards (m.is_lock place) (s.word x.0) ≡ b
           → To chain (if b then events.Validate r (value_of (s.word x.0) - 1) ∷ [] else []) (if b then blocks_given_back (value_of (s.word x.0) - 1) p.blocks else p.blocks) (outside_after m l (kinds.LoadCell (Some place)) p (s.word x.0))
@@ -219,7 +216,7 @@ module _ (m : Meaning) (l : Layout) (chain : ℕ → List ℕ) (a a' : Agreement
 
   -- the own guard word moves
   pub guard : (o : Option ℕ) (x : Spot × Access) → r ≤ l.runners → guard_ask l r o p ≡ Some x → ((i : ℕ) → f (Guard i) ≡ put s.word x.0 (written x.1 (s.word x.0)) (Guard i))
-      → (go : OthersGo m l a a' e e' (bare s) r (kinds.Guard o) (s.word x.0)) → GuardsAreSupplied m l chain a e s r (kinds.Guard o) (s.word x.0)
+      → (go : OthersGo m l a a' e e' s r (kinds.Guard o) (s.word x.0)) → GuardsAreSupplied m l chain a e s r (kinds.Guard o) (s.word x.0)
       → To chain (outside_events m l r (kinds.Guard o) p (s.word x.0)) (blocks_outside m l (kinds.Guard o) p (s.word x.0)) (outside_after m l (kinds.Guard o) p (s.word x.0))
   guard o x few ask stored go u = by o h.is refl
     where
@@ -227,10 +224,10 @@ module _ (m : Meaning) (l : Layout) (chain : ℕ → List ℕ) (a a' : Agreement
       h = asked.guard_asked l r o p x ask
 
       over : (d : ℕ) → a'.over d ≡ a.over d
-      over = others.over_same m l a a' r go.heads go.leads (outside_over m l a r (kinds.Guard o) (blockless p) (s.word x.0) go.heads refl (in_sections (kinds.Guard o) (s.word x.0) u go))
+      over = others.over_same m l a a' r go.heads go.leads (outside_over m l a r (kinds.Guard o) p (s.word x.0) go.heads refl (in_sections (kinds.Guard o) (s.word x.0) u go))
 
       stay : (d : ℕ) → e'.location (slot_of (counts_of m l) d) ≡ e.location (slot_of (counts_of m l) d)
-      stay = others.places_same m l e e' (bare s) joined go.tails go.enabled go.there (outside_places m l r (kinds.Guard o) (blockless p) (s.word x.0) go.tails refl (in_slots (kinds.Guard o) (s.word x.0) u go))
+      stay = others.places_same m l e e' s joined go.tails go.enabled go.there (outside_places m l r (kinds.Guard o) p (s.word x.0) go.tails refl (in_slots (kinds.Guard o) (s.word x.0) u go))
 
       no_live : (d : ℕ) → w.descriptor d ≢ guards.Live r
       no_live d at = let y = own_live (kinds.Guard o) (s.word x.0) u go d at in none-some _ (sym h.unpublished ∙ y.1)
@@ -242,7 +239,8 @@ module _ (m : Meaning) (l : Layout) (chain : ℕ → List ℕ) (a a' : Agreement
       by None is same = steps.clear_guard m l chain chain a a' e e' s old r f _ (λ i. refl) over stay refl no_hand (word_is None is) (ap run_of none, no_live) refl
       by (Some d) is same = steps.store_guard m l chain chain a a' e e' s old r f _ (λ i. refl) over stay refl no_hand d (word_is (Some d) is) (few, ap is_entered h.entered, (ap run_of none, no_live)) refl
 
-  -- the guard words that the runner has read when it reads this one, and its part behind it: at the end of its sweep or not
+  -- the guard words that the runner has read when it reads this one, and its part behind it, at the end of its sweep or
+  -- not
   abbrev words_with : ℕ → List ℕ
   words_with n = p.guards.looked ++ n ∷ []
 
@@ -254,7 +252,7 @@ module _ (m : Meaning) (l : Layout) (chain : ℕ → List ℕ) (a a' : Agreement
 
   -- a guard word is read
   pub load_guard : (n : ℕ) (x : Spot × Access) → load_guard_ask l n p ≡ Some x → ((i : ℕ) → f (Guard i) ≡ s.word (Guard i))
-      → (go : OthersGo m l a a' e e' (bare s) r (kinds.LoadGuard n) (s.word x.0)) → GuardsAreSupplied m l chain a e s r (kinds.LoadGuard n) (s.word x.0)
+      → (go : OthersGo m l a a' e e' s r (kinds.LoadGuard n) (s.word x.0)) → GuardsAreSupplied m l chain a e s r (kinds.LoadGuard n) (s.word x.0)
       → To chain (outside_events m l r (kinds.LoadGuard n) p (s.word x.0)) (blocks_outside m l (kinds.LoadGuard n) p (s.word x.0)) (outside_after m l (kinds.LoadGuard n) p (s.word x.0))
   load_guard n x ask left go u = by (is_last_guard l p.guards.looked) refl (in_slots (kinds.LoadGuard n) (s.word x.0) u go)
     where
@@ -262,7 +260,7 @@ module _ (m : Meaning) (l : Layout) (chain : ℕ → List ℕ) (a a' : Agreement
       h = asked.load_guard_asked l n p x ask
 
       over : (d : ℕ) → a'.over d ≡ a.over d
-      over = others.over_same m l a a' r go.heads go.leads (outside_over m l a r (kinds.LoadGuard n) (blockless p) (s.word x.0) go.heads refl (in_sections (kinds.LoadGuard n) (s.word x.0) u go))
+      over = others.over_same m l a a' r go.heads go.leads (outside_over m l a r (kinds.LoadGuard n) p (s.word x.0) go.heads refl (in_sections (kinds.LoadGuard n) (s.word x.0) u go))
 
       -- the word that it finds is what its runner has stored
       read : (words_with (s.word x.0)) ≡ with_next w r
@@ -273,11 +271,11 @@ module _ (m : Meaning) (l : Layout) (chain : ℕ → List ℕ) (a a' : Agreement
 
       by : (b : Bool) → is_last_guard l p.guards.looked ≡ b → go.tails ≡ (if b then epochs.Sweep r (is_unnamed (words_with (s.word x.0))) ∷ [] else [])
           → To chain (if b then events.LoadLast r ∷ [] else events.LoadGuard r ∷ []) (if b then blocks_freed (is_unnamed (words_with (s.word x.0))) p.blocks else p.blocks) (behind_load (s.word x.0) b)
-      by false last tails = steps.load_guard m l chain chain a a' e e' s old r f _ left (λ i. refl) over (others.place_kept m l e e' (bare s) joined go.tails go.enabled go.there tails) refl no_hand
+      by false last tails = steps.load_guard m l chain chain a a' e e' s old r f _ left (λ i. refl) over (others.place_kept m l e e' s joined go.tails go.enabled go.there tails) refl no_hand
           (ap is_entered h.idle, less (length p.guards.looked) l.runners (subst (λ k. k ≤ l.runners) h.next h.few) last)
           (ap (λ (ws : List ℕ). record (view p) { looked = ws }) read)
       by true last tails = steps.load_last m l chain chain a a' e e' s old r f _ left (words_with (s.word x.0)) refl none (λ i. refl) read (ap is_entered h.idle, same_number (length p.guards.looked) l.runners last) over
-          (λ i. ap (place_of l i) (others.place_swept m l e e' (bare s) joined go.tails go.enabled go.there r (is_unnamed (words_with (s.word x.0))) tails i)
+          (λ i. ap (place_of l i) (others.place_swept m l e e' s joined go.tails go.enabled go.there r (is_unnamed (words_with (s.word x.0))) tails i)
           ∙ place_swept l r i (words_with (s.word x.0)) (e.location (slot_of (counts_of m l) i)) (is_among (counts_of m l) (is_unnamed (words_with (s.word x.0))) (slot_of (counts_of m l) i)) (among (counts_of m l).nodes i (is_unnamed (words_with (s.word x.0)))))
           (λ i is. (and_parts (has p.descriptors.limbo i) _ (sym (filter_has (λ y. not (is_unnamed (words_with (s.word x.0)) y)) p.descriptors.limbo i) ∙ is)).0) refl refl refl refl refl refl
 
@@ -298,7 +296,7 @@ module _ (m : Meaning) (l : Layout) (chain : ℕ → List ℕ) (a a' : Agreement
 
   -- a try to publish
   pub hold : (rs : List Request) (t : Thunk) (d : ℕ) (x : Spot × Access) → hold_ask m l rs r t d p ≡ Some x → ((i : ℕ) → f (Guard i) ≡ s.word (Guard i))
-      → (go : OthersGo m l a a' e e' (bare s) r (kinds.Hold t d) (s.word x.0)) → GuardsAreSupplied m l chain a e s r (kinds.Hold t d) (s.word x.0)
+      → (go : OthersGo m l a a' e e' s r (kinds.Hold t d) (s.word x.0)) → GuardsAreSupplied m l chain a e s r (kinds.Hold t d) (s.word x.0)
       → To (chain_behind d (s.word x.0 == t.word)) (outside_events m l r (kinds.Hold t d) p (s.word x.0)) (blocks_outside m l (kinds.Hold t d) p (s.word x.0)) (outside_after m l (kinds.Hold t d) p (s.word x.0))
   hold rs t d x ask left go u = ⊎_elim
       (λ won. subst (λ b. To (chain_behind d b) (if b then events.Publish r d ∷ [] else []) (blocks_behind d b) (behind_hold t d (s.word x.0) b)) (sym (equal_is (s.word x.0) t.word won.0)) (published won.1))
@@ -320,10 +318,10 @@ module _ (m : Meaning) (l : Layout) (chain : ℕ → List ℕ) (a a' : Agreement
       tried : go.heads ≡ agreement.Read t.lock ∷ [] → go.tails ≡ [] → To chain [] p.blocks (behind_hold t d (s.word x.0) false)
       tried heads tails = steps.quiet m l chain chain a a' e e' s old r f _ left (λ i. refl)
           (others.over_same m l a a' r go.heads go.leads (subst (AllAre leaves_over) (sym heads) (refl, tt)))
-          (others.place_kept m l e e' (bare s) joined go.tails go.enabled go.there tails) refl no_hand refl
+          (others.place_kept m l e e' s joined go.tails go.enabled go.there tails) refl no_hand refl
 
       at_free : e.location (slot_of (counts_of m l) d) ≡ epoch_places.Free r
-      at_free = free_descriptor m l e (bare s) joined r d h.few h.free
+      at_free = free_descriptor m l e s joined r d h.few h.free
 
       own : owner_of l.sections l.runners d ≡ r
       own = sym (old.owned d) ∙ ap (λ z. owners.owner_of (place_of l d z)) at_free
@@ -333,7 +331,7 @@ module _ (m : Meaning) (l : Layout) (chain : ℕ → List ℕ) (a a' : Agreement
 
       moved : (roles : ℕ → Role) → go.tails ≡ epochs.Publish r d roles ∷ [] → (i : ℕ)
           → place_of l i (e'.location (slot_of (counts_of m l) i)) ≡ guard_update.upd w.descriptor d (guards.Live r) i
-      moved roles tails i = ap (place_of l i) (others.place_published m l e e' (bare s) joined go.tails go.enabled go.there r d roles tails i) ∙ by (i == d) refl
+      moved roles tails i = ap (place_of l i) (others.place_published m l e e' s joined go.tails go.enabled go.there r d roles tails i) ∙ by (i == d) refl
         where
           by : (b : Bool) → (i == d) ≡ b → place_of l i (cond b epoch_places.Live (e.location (slot_of (counts_of m l) i))) ≡ cond b (guards.Live r) (place_of l i (e.location (slot_of (counts_of m l) i)))
           by true same = ap guards.Live (ap (owner_of l.sections l.runners) (same_number i d same) ∙ own)

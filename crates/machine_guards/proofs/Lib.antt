@@ -11,4 +11,4 @@ pub mod Linking
 pub mod AllKinds
 pub mod First
 pub mod Safe
-pub mod Bare
+pub mod Holding

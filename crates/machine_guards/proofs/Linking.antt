@@ -1,7 +1,6 @@
 -- A run empties an own block, and links it.
-use Rattle.std.specs.Prelude.{◌==◌, ◌&&◌, ◌-◌, ◌||◌, nat_lt, nat_le, slice_index, length, map, cond, Bool, true, false, if◌then◌else◌}
-use Rattle.std.proofs.Common.{◌≡◌, ℕ, zero, suc, ◌+◌, ◌<◌, ◌≤◌, List, [], ◌∷◌, ◌++◌, refl, sym, ap, ◌∙◌, subst, arith, Option, Some, None}
-use Rattle.std.proofs.lemmas.Bool.Decides.{nat_tests}
+use Rattle.std.specs.Prelude.{◌==◌, ◌-◌, nat_le, length, map, Bool, true, false, if◌then◌else◌}
+use Rattle.std.proofs.Common.{◌≡◌, ℕ, ◌+◌, ◌<◌, ◌≤◌, List, [], ◌∷◌, ◌++◌, refl, sym, ap, ◌∙◌, subst, arith, Option, Some, None}
 use Rattle.std.proofs.lemmas.Bool.{and_parts}
 use Rattle.std.proofs.lemmas.Option.{none-some}
 use Rattle.machine_states.specs.epoch_core.specs.small_lemmas.proofs.Bools.{not_both}
@@ -18,10 +17,8 @@ use Rattle.agreement_core.specs.State.{AgreementState}
 use Rattle.machine_states.specs.structure_laws.specs.Meaning.{Meaning}
 use Rattle.machine_states.specs.runner_parts.specs.declared.entries.BoardRead.{BoardRead}
 use Rattle.machine_states.specs.runner_parts.specs.declared.event.EventKind.{EventKind}
-use Rattle.machine_states.specs.runner_parts.specs.declared.event.EventKind.TheVariants as kinds
-use Rattle.machine_states.specs.runner_parts.specs.Lists.{without, block_taken, block_back}
+use Rattle.machine_states.specs.runner_parts.specs.Lists.{block_back}
 use Rattle.machine_states.specs.runner_parts.specs.State.{RunState, BlocksState, PartState, RecordsState}
-use Rattle.machine_states.specs.runner_parts.specs.Tests.{has}
 use Rattle.machine_states.specs.runner_steps.specs.AfterInRun.{with_run, filled, block_emptied, private_stored, link_committed}
 use Rattle.machine_states.specs.runner_steps.specs.Asks.{line_ask}
 use Rattle.machine_states.specs.runner_steps.specs.Blocks.{block_in_hand}
@@ -35,15 +32,15 @@ use Rattle.machine_states.specs.guard_core.specs.Events as events
 use Rattle.machine_states.specs.guard_core.specs.Events.{Event}
 use Rattle.machine_states.specs.guard_core.specs.State.{most_linked}
 use Rattle.machine_states.specs.Sight.{Sight}
-use Rattle.machine_states.proofs.Sights.{some_none, if_some}
+use Rattle.machine_states.proofs.Sights.{if_some}
 use Rattle.machine_agreement.specs.machine_epochs.specs.Entries.{counts_of}
 use Rattle.machine_agreement.specs.machine_epochs.proofs.SlotKinds.{last_has}
 use Rattle.machine_guards.specs.State.{run_of, won_of, hand_of, block_with}
-use Rattle.machine_guards.specs.Stands.{times_held, block_times, StandsAtLink, GuardsStand}
+use Rattle.machine_guards.specs.Stands.{times_held, StandsAtLink, GuardsStand}
 use Rattle.machine_guards.specs.Chunks.{linked_more}
 use Rattle.machine_guards.proofs.Lists.{times_has}
 use Rattle.machine_guards.proofs.Blocks.{at as place, added_times, taken_times}
-use Rattle.machine_guards.proofs.Views.{View, view, ran, is_linking}
+use Rattle.machine_guards.proofs.Views.{view, ran, is_linking}
 use Rattle.machine_guards.proofs.Words.{links_nothing}
 use Rattle.machine_guards.proofs.Steps as steps
 

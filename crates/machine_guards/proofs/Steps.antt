@@ -1,7 +1,6 @@
 -- Guards stand after a step that is one of their events, or none.
-use Rattle.std.specs.Prelude.{◌==◌, ◌&&◌, not, nat_lt, map, cond, Bool, true, false}
-use Rattle.std.specs.List.{filter}
-use Rattle.std.proofs.Common.{◌≡◌, ◌≢◌, ℕ, suc, ◌+◌, ◌<◌, ◌≤◌, List, [], ◌∷◌, ◌++◌, length, refl, sym, ap, ◌∙◌, subst, arith, Option, Some, None}
+use Rattle.std.specs.Prelude.{◌==◌, ◌&&◌, nat_lt, map, cond, Bool, true, false}
+use Rattle.std.proofs.Common.{◌≡◌, ◌≢◌, ℕ, suc, ◌+◌, ◌<◌, ◌≤◌, List, [], ◌∷◌, ◌++◌, length, refl, sym, ap, ◌∙◌, arith, Option, Some, None}
 use Rattle.std.proofs.lemmas.Bool.Decides.{nat_tests}
 use Rattle.std.proofs.lemmas.Option.{none-some}
 use Rattle.machine_states.specs.epoch_core.specs.small_lemmas.proofs.Numbers.{self_tested, other_tested}
@@ -13,7 +12,7 @@ use Rattle.machine_states.specs.table_words.specs.Seen.{upd}
 use Rattle.agreement_core.specs.State.{AgreementState}
 use Rattle.machine_states.specs.structure_laws.specs.Meaning.{Meaning}
 use Rattle.machine_states.specs.runner_parts.specs.declared.entries.Published.{Published}
-use Rattle.machine_states.specs.runner_parts.specs.State.{RunState, BlocksState, PartState}
+use Rattle.machine_states.specs.runner_parts.specs.State.{RunState, PartState}
 use Rattle.machine_states.specs.runner_parts.specs.Lists.{blocks_freed, blocks_retired}
 use Rattle.machine_states.specs.runner_parts.specs.Tests.{has}
 use Rattle.machine_states.specs.epoch_core.specs.State.{EpochState, is_entered}

@@ -1,5 +1,5 @@
 -- Which steps leave the guard words as they are.
-use Rattle.std.specs.Prelude.{◌-◌, ◌/◌, ◌%◌, ◌==◌, not, nat_lt, length, slice_index, cond, Bool, true, false}
+use Rattle.std.specs.Prelude.{◌-◌, ◌/◌, ◌%◌, ◌==◌, not, nat_lt, length, cond, Bool, true, false}
 use Rattle.std.proofs.Common.{◌≡◌, ℕ, zero, suc, List, refl, sym, ap, ◌∙◌, Option, Some, None}
 use Rattle.machine_states.specs.epoch_core.specs.small_lemmas.proofs.Bools.{not_both}
 use Rattle.machine_states.specs.map_history.specs.declared.op.Request.{Request}
@@ -23,7 +23,7 @@ use Rattle.machine_states.specs.runner_parts.specs.declared.entries.Look.{Look}
 use Rattle.machine_states.specs.runner_parts.specs.State.{RunState, PartState}
 use Rattle.machine_states.specs.runner_parts.specs.block_words.specs.Blocks.{part_spot, link_spot}
 use Rattle.machine_states.specs.runner_steps.specs.Asks.{opening_ask, outside_ask, line_ask, inside_ask, ask_by}
-use Rattle.machine_states.specs.runner_steps.specs.InRun.{commit_to, commit_ask, make_commit_to, make_commit_ask, retire_commit_ask, outcome_commit_ask, private_store_in_run_ask, link_commit_ask, load_cell_ask, exchange_cell_ask, fill_load_ask, fill_store_ask, epoch_for_retire_ask, clock_load_ask, stamp_exchange_ask, clock_raise_ask, reply_exchange_ask, nested_load_ask, nested_hold_ask, outcome_load_ask, set_done_ask, release_ask}
+use Rattle.machine_states.specs.runner_steps.specs.InRun.{commit_to, commit_ask, make_commit_to, make_commit_ask, retire_commit_ask, outcome_commit_ask, load_cell_ask, exchange_cell_ask, fill_load_ask, fill_store_ask, epoch_for_retire_ask, clock_load_ask, stamp_exchange_ask, clock_raise_ask, reply_exchange_ask, nested_load_ask, nested_hold_ask, outcome_load_ask, set_done_ask, release_ask}
 use Rattle.machine_states.specs.runner_steps.specs.Outside.{Ask, when, descriptor_spot, block_spot, blocks_from, enter_load_ask, announce_ask, enter_again_by, scan_one_ask, advance_ask, entry_spot}
 use Rattle.machine_states.specs.runner_steps.specs.Reads.{read_clock_ask, read_reply_ask, read_stamp_ask}
 use Rattle.machine_states.specs.runner_steps.specs.Sections.{is_open_run, next_of, is_beyond, needs_link}

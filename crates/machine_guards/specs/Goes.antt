@@ -17,8 +17,8 @@ use Rattle.machine_states.specs.guard_core.specs.Frame.{IsSame}
 use Rattle.machine_states.specs.guard_core.specs.Schedules.{AllEnabled, after_all}
 use Rattle.machine_states.specs.World.{World}
 use Rattle.machine_states.specs.First.{IsFirst}
-use Rattle.machine_states.specs.Sight.{Sight}
-use Rattle.machine_states.specs.Full.{full_sight, FullSteps, bare}
+use Rattle.machine_states.specs.Sight.{Sight, sight}
+use Rattle.machine_states.specs.Full.{FullSteps}
 use Rattle.machine_agreement.specs.machine_epochs.specs.Entries.{counts_of}
 use Rattle.machine_agreement.specs.machine_epochs.specs.Firsts.{first_place}
 use Rattle.machine_agreement.specs.machine_epochs.specs.Joined.{IsJoinedToEpochs}
@@ -52,22 +52,21 @@ module _ (m : Meaning) (l : Layout) where
     pub same : IsSame (after_all (guards_of m l chain a e s) events) (guards_of m l chain' a' e' s')
     pub stands : GuardsStand m l chain' a' e' s'
 
-  -- each step of the machine is the event of guards of its kind, or none, where it is supplied. The other components'
-  -- joins have no blocks yet
+  -- each step of the machine is the event of guards of its kind, or none, where it is supplied
   abbrev pub StepsAreEvents : List Request → Type 0
   StepsAreEvents requests = (chain : ℕ → List ℕ) (a a' : AgreementState) (e e' : EpochState) (s s' : Sight) (r : ℕ)
-      (kind : EventKind) → IsJoinedToAgreement m l a (bare s) → IsJoinedToEpochs m l e (bare s)
+      (kind : EventKind) → IsJoinedToAgreement m l a s → IsJoinedToEpochs m l e s
       → GuardsStand m l chain a e s → (step : FullSteps m l requests s s' r kind)
       → GuardsAreSupplied m l chain a e s r kind (s.word (step.ask.0))
-      → OthersGo a a' e e' (bare s) r kind (s.word (step.ask.0))
+      → OthersGo a a' e e' s r kind (s.word (step.ask.0))
       → Goes (guard_events m l r kind (s.part r) (s.part r).run (s.word (step.ask.0))) chain
       (chain_after chain kind (s.part r) (s.word (step.ask.0))) a a' e e' s s'
 
   -- in the first state nobody guards anything, each descriptor and each block is free, and no block is linked
   abbrev pub StartsStanding : List Request → Type 0
   StartsStanding requests = (w : World) → IsFirst m l requests w → GuardsStand m l (λ d. [])
-      (agreement_schedules.first_state (λ p. (full_sight m l requests w).word (Cell p)))
-      (epoch_schedules.first_state (first_place m l)) (full_sight m l requests w)
+      (agreement_schedules.first_state (λ p. (sight m l requests w).word (Cell p)))
+      (epoch_schedules.first_state (first_place m l)) (sight m l requests w)
 
   -- of the other components only the places of descriptors count, and which sections a run of theirs brought to an end
   abbrev pub StandsByPlaces : Type 0

@@ -4,6 +4,5 @@ pub mod Supplied
 pub mod Chunks
 pub mod Goes
 pub mod Sweeps
-pub mod Bare
 -- Passed on to the layers above, so that they needn't name these libraries themselves.
 pub use Rattle.machine_agreement

@@ -13,7 +13,7 @@ use Rattle.machine_states.specs.epoch_core.specs.Lists.{times}
 use Rattle.machine_states.specs.guard_core.specs.Moves.{is_unnamed}
 use Rattle.machine_states.specs.guard_core.specs.Sound.{named}
 use Rattle.machine_states.specs.Sight.{Sight}
-use Rattle.machine_states.specs.Full.{FullSteps, bare}
+use Rattle.machine_states.specs.Full.{FullSteps}
 use Rattle.machine_agreement.specs.machine_epochs.specs.Joined.{IsJoinedToEpochs}
 use Rattle.machine_guards.specs.Stands.{GuardsStand}
 
@@ -41,13 +41,13 @@ module _ (m : Meaning) (l : Layout) where
   -- a descriptor of which somebody is sure stands in no free list
   abbrev pub SureAreKept : Type 0
   SureAreKept = (chain : ℕ → List ℕ) (a : AgreementState) (e : EpochState) (s : Sight)
-      → IsJoinedToEpochs m l e (bare s) → GuardsStand m l chain a e s
+      → IsJoinedToEpochs m l e s → GuardsStand m l chain a e s
       → (r r' d : ℕ) → is_sure_of (s.part r).guards d ≡ true → times d (s.part r').descriptors.free ≡ 0
 
   -- at the end of a sweep nobody is sure of a descriptor in the runner's limbo that no word names which it read
   abbrev pub SweepsAreSafe : List Request → Type 0
   SweepsAreSafe requests = (chain : ℕ → List ℕ) (a : AgreementState) (e : EpochState) (s s' : Sight) (r n : ℕ)
-      → IsJoinedToEpochs m l e (bare s) → GuardsStand m l chain a e s
+      → IsJoinedToEpochs m l e s → GuardsStand m l chain a e s
       → (step : FullSteps m l requests s s' r (kinds.LoadGuard n))
       → is_last_guard l (s.part r).guards.looked ≡ true
       → (d q : ℕ) → has (s.part r).descriptors.limbo d ≡ true
@@ -56,7 +56,7 @@ module _ (m : Meaning) (l : Layout) where
   -- what it reads are the guard words, one after the other, and what it does is exact
   abbrev pub SweepsAreExact : List Request → Type 0
   SweepsAreExact requests = (chain : ℕ → List ℕ) (a : AgreementState) (e : EpochState) (s s' : Sight) (r n : ℕ)
-      → IsJoinedToEpochs m l e (bare s) → GuardsStand m l chain a e s
+      → IsJoinedToEpochs m l e s → GuardsStand m l chain a e s
       → (step : FullSteps m l requests s s' r (kinds.LoadGuard n))
       → is_last_guard l (s.part r).guards.looked ≡ true
       → SweepIsExact l s s' r (s.word (step.ask.0))

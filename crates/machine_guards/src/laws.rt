@@ -14,7 +14,8 @@ pub fn steps_are_events_of_guards<S: Structure>(structure: &S)
     ensures { (layout : Layout) (requests : List Request) → StepsAreEvents (S.meaning structure.now) layout requests }
 {}
 
-/// In the machine's first state nobody guards anything, each descriptor is free, and what guards keep holds.
+/// In the machine's first state nobody guards anything, each descriptor and each block is free, no block is linked, and
+/// what guards keep holds.
 pub fn first_guards_stand<S: Structure>(structure: &S)
     ensures { (layout : Layout) (requests : List Request) → StartsStanding (S.meaning structure.now) layout requests }
 {}

@@ -30,8 +30,7 @@ use Rattle.machine_states.specs.epoch_core.specs.Events.{Event, slot_of, is_amon
 use Rattle.machine_states.specs.epoch_core.specs.History.{is_out}
 use Rattle.machine_states.specs.Sight.{Sight, sight_after}
 use Rattle.machine_slots.specs.Hands.{Made}
-use Rattle.machine_blocks.specs.machine_guards.specs.Bare.{GuardsStandBare}
-use Rattle.machine_blocks.specs.machine_guards.proofs.Bare.{within}
+use Rattle.machine_blocks.specs.machine_guards.specs.Stands.{GuardsHold}
 use Rattle.machine_blocks.specs.machine_guards.specs.machine_agreement.specs.machine_epochs.specs.Entries.{counts_of}
 use Rattle.machine_blocks.specs.machine_guards.specs.machine_agreement.specs.machine_epochs.specs.Slots.{thunk_in}
 use Rattle.machine_blocks.specs.machine_guards.specs.machine_agreement.specs.machine_epochs.specs.Joined as joins
@@ -134,7 +133,7 @@ among_descriptors c test n = by (nat_le c.nodes (c.nodes + n)) (above c.nodes n)
 
 -- a sweep ends in which these words were read
 module _ (m : Meaning) (l : Layout) (g : Beside) (s s' : Sight) (old : AreTied m l g s) (slots : joins.IsJoinedToEpochs m l g.epochs s)
-    (guards : GuardsStandBare m l g.agreement g.epochs s) (r : ℕ) (words : List ℕ) (a' : AgreementState) where
+    (guards : GuardsHold m l g.agreement g.epochs s) (r : ℕ) (words : List ℕ) (a' : AgreementState) where
   abbrev c : Counts
   c = counts_of m l
 
@@ -154,7 +153,7 @@ module _ (m : Meaning) (l : Layout) (g : Beside) (s s' : Sight) (old : AreTied m
   gone : (n : ℕ) → has leaving n ≡ true → is_out (swept.location (slot_of c n)) ≡ false
   gone n leaves =
       let h = both (has (s.part r).descriptors.limbo n) _ (sym (has_filter (is_unnamed words) (s.part r).descriptors.limbo n) ∙ leaves) in
-      let there = at_its_limbo m l g.epochs s slots r n (within m l g.agreement g.epochs s guards r n h.0) h.0 in
+      let there = at_its_limbo m l g.epochs s slots r n (guards.stands.within r n h.0) h.0 in
       ap is_out (place n ∙ (ap (moves.swept (is_unnamed words n) r) there.1 ∙ own_freed r there.0 (is_unnamed words n) h.1))
 
   -- any other is where it was

@@ -29,7 +29,7 @@ use Rattle.machine_blocks.specs.machine_guards.specs.machine_agreement.specs.mac
 use Rattle.machine_blocks.specs.machine_guards.specs.machine_agreement.specs.machine_scenes.specs.Shown.{States, rules_of}
 use Rattle.machine_blocks.specs.machine_guards.specs.machine_agreement.specs.Joined as sections
 use Rattle.machine_blocks.specs.machine_guards.specs.machine_agreement.specs.Chunks as chunks
-use Rattle.machine_blocks.specs.machine_guards.specs.Bare.{GuardsStandBare}
+use Rattle.machine_blocks.specs.machine_guards.specs.Stands.{GuardsHold}
 use Rattle.machine_invariant.specs.Whole.{Beside, states_of, made_in, made_of, HasPublished, AreTied, IsWhole}
 use Rattle.machine_invariant.proofs.Asked.{asked_by}
 use Rattle.machine_invariant.proofs.Runs.{AllAre, Stands, filled_other}
@@ -94,7 +94,7 @@ module _ (m : Meaning) (laws : Laws m) (l : Layout) (limits : IsWithinLimits l) 
       → (walk : ℕ → Readings) → ((i : ℕ) → (s'.part i).reads.walk ≡ walk i)
       → ((i : ℕ) (q : RunState) → (s'.part i).run ≡ Some q → q.made ≡ made_of s i)
       → Stands m laws l limits from (record (states_of g' s') { walk = walk }) (made_of s)
-      → GuardsStandBare m l g'.agreement g'.epochs s' → LogsStand g'.agreement g'.epochs s' → IsWholeAfter m l from g' s'
+      → GuardsHold m l g'.agreement g'.epochs s' → LogsStand g'.agreement g'.epochs s' → IsWholeAfter m l from g' s'
   parts_whole g' s s' joined joined' tied walk same made stands guards logs =
       let new = with_walk m laws l limits (record (states_of g' s') { walk = walk }) (made_of s)
       (λ i. (s'.part i).reads.walk) same stands in
@@ -130,7 +130,7 @@ module _ (m : Meaning) (laws : Laws m) (l : Layout) (limits : IsWithinLimits l) 
         publications = g.publications;
         walk = walk;
       }) (made_of s)
-      → GuardsStandBare m l (agreement_schedules.after_all (rules_of m l) g.agreement es) e' s'
+      → GuardsHold m l (agreement_schedules.after_all (rules_of m l) g.agreement es) e' s'
       → LogsStand (agreement_schedules.after_all (rules_of m l) g.agreement es) e' s'
       → IsWholeAfter m l from (record {
         agreement = agreement_schedules.after_all

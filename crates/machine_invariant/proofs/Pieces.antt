@@ -30,11 +30,11 @@ use Rattle.machine_invariant.proofs.Jointly.{IsWholeAfter, is_reading, HoldsNoth
 use Rattle.machine_invariant.proofs.SuppliesSections.{sections_supplied}
 use Rattle.machine_invariant.proofs.SuppliesSlots.{HoldsMet, slots_supplied, guards_supplied}
 use Rattle.machine_invariant.proofs.Limbo.{SweepsSafely}
-use Rattle.machine_blocks.specs.machine_guards.specs.Bare.{GuardsStandBare}
+use Rattle.machine_blocks.specs.machine_guards.specs.Stands.{GuardsHold}
 use Rattle.machine_blocks.specs.machine_guards.specs.Goes.{OthersGo}
 use Rattle.machine_blocks.specs.Stands.{LogsStand}
 use Rattle.machine_blocks.proofs.AllKinds.{logs_kept}
-use Rattle.machine_blocks.specs.machine_guards.proofs.Bare.{step_keeps, sweep_safe}
+use Rattle.machine_blocks.specs.machine_guards.proofs.Holding.{step_holds, sweep_safe}
 
 module _ (m : Meaning) (l : Layout) where
   -- the components' events of this runner's step of this kind on this word, and the states to which they lead
@@ -50,7 +50,7 @@ module _ (m : Meaning) (l : Layout) where
     pub enabled_slots : epoch_schedules.AllEnabled (counts_of m l) g.epochs events
     pub joined_slots : joins.IsJoinedToEpochs m l (epoch_schedules.after_all (counts_of m l) g.epochs events) s'
     -- guards stand there
-    pub guards : GuardsStandBare m l (agreement_schedules.after_all (rules_of m l) g.agreement (heads ++ replicate passes (agreement.Pass r)))
+    pub guards : GuardsHold m l (agreement_schedules.after_all (rules_of m l) g.agreement (heads ++ replicate passes (agreement.Pass r)))
         (epoch_schedules.after_all (counts_of m l) g.epochs events) s'
     -- and so do the logs
     pub logs : LogsStand (agreement_schedules.after_all (rules_of m l) g.agreement (heads ++ replicate passes (agreement.Pass r)))
@@ -94,7 +94,7 @@ module _ (m : Meaning) (l : Layout) where
         (heads ++ replicate passes (agreement.Pass r))) s'
     pub enabled_slots : epoch_schedules.AllEnabled (counts_of m l) g.epochs events
     pub joined_slots : joins.IsJoinedToEpochs m l (epoch_schedules.after_all (counts_of m l) g.epochs events) s'
-    pub guards : GuardsStandBare m l (agreement_schedules.after_all (rules_of m l) g.agreement (heads ++ replicate passes (agreement.Pass r)))
+    pub guards : GuardsHold m l (agreement_schedules.after_all (rules_of m l) g.agreement (heads ++ replicate passes (agreement.Pass r)))
         (epoch_schedules.after_all (counts_of m l) g.epochs events) s'
     pub logs : LogsStand (agreement_schedules.after_all (rules_of m l) g.agreement (heads ++ replicate passes (agreement.Pass r)))
         (epoch_schedules.after_all (counts_of m l) g.epochs events) s'
@@ -111,9 +111,9 @@ module _ (m : Meaning) (l : Layout) where
           (es ++ replicate pieces.passes (agreement.Pass r))) s') same pieces.joined;
       enabled_slots = subst (λ es. epoch_schedules.AllEnabled (counts_of m l) g.epochs es) same' pieces.enabled_slots;
       joined_slots = subst (λ es. joins.IsJoinedToEpochs m l (epoch_schedules.after_all (counts_of m l) g.epochs es) s') same' pieces.joined_slots;
-      guards = subst (λ vs. GuardsStandBare m l (agreement_schedules.after_all (rules_of m l) g.agreement
+      guards = subst (λ vs. GuardsHold m l (agreement_schedules.after_all (rules_of m l) g.agreement
           (heads ++ replicate pieces.passes (agreement.Pass r))) (epoch_schedules.after_all (counts_of m l) g.epochs vs) s') same'
-          (subst (λ es. GuardsStandBare m l (agreement_schedules.after_all (rules_of m l) g.agreement
+          (subst (λ es. GuardsHold m l (agreement_schedules.after_all (rules_of m l) g.agreement
           (es ++ replicate pieces.passes (agreement.Pass r))) (epoch_schedules.after_all (counts_of m l) g.epochs pieces.events) s') same
           pieces.guards);
       logs = subst (λ vs. LogsStand (agreement_schedules.after_all (rules_of m l) g.agreement
@@ -211,7 +211,7 @@ module _ (m : Meaning) (laws : Laws m) (l : Layout) (limits : IsWithinLimits l) 
         in_slots = e.1;
         enabled_slots = e.2.enabled;
         joined_slots = e.2.joined;
-        guards = step_keeps m l rs g.agreement after g.epochs slots_after s s' r kind whole.sections whole.slots whole.guards step
+        guards = step_holds m l rs g.agreement after g.epochs slots_after s s' r kind whole.sections whole.slots whole.guards step
             (guards_supplied m laws l limits rs few allowed g s whole r kind step.ask step.asked) others;
         logs = logs_kept m l rs g.agreement after g.epochs slots_after s s' r kind whole.sections whole.slots whole.logs step others;
       }

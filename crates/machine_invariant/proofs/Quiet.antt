@@ -26,7 +26,7 @@ use Rattle.machine_blocks.specs.machine_guards.specs.machine_agreement.specs.mac
 use Rattle.machine_blocks.specs.machine_guards.specs.machine_agreement.specs.Joined as sections
 use Rattle.machine_blocks.specs.machine_guards.specs.machine_agreement.specs.Joined.{ShowsRun}
 use Rattle.machine_slots.specs.Hands.{Made}
-use Rattle.machine_blocks.specs.machine_guards.specs.Bare.{GuardsStandBare}
+use Rattle.machine_blocks.specs.machine_guards.specs.Stands.{GuardsHold}
 use Rattle.machine_invariant.specs.Whole.{Beside, states_of, made_in, made_of, HasPublished, IsWhole}
 use Rattle.machine_invariant.proofs.Runs.{AllAre, is_calm, InHands, Stands, agreement_stands, epochs_stand, filled_other}
 use Rattle.machine_invariant.proofs.Jointly.{no_steps, IsWholeAfter}
@@ -150,7 +150,7 @@ module _ (m : Meaning) (laws : Laws m) (l : Layout) (limits : IsWithinLimits l) 
       → sections.IsJoinedToAgreement m l (agreement_schedules.after_all (rules_of m l) g.agreement es) s'
       → (fs : List epochs.Event) → AllAre is_alone fs → AllAre leaves_descriptors fs → epoch_schedules.AllEnabled c g.epochs fs
       → joins.IsJoinedToEpochs m l (epoch_schedules.after_all c g.epochs fs) s'
-      → GuardsStandBare m l (agreement_schedules.after_all (rules_of m l) g.agreement es) (epoch_schedules.after_all c g.epochs fs) s'
+      → GuardsHold m l (agreement_schedules.after_all (rules_of m l) g.agreement es) (epoch_schedules.after_all c g.epochs fs) s'
       → LogsStand (agreement_schedules.after_all (rules_of m l) g.agreement es) (epoch_schedules.after_all c g.epochs fs) s'
       → IsWholeAfter m l (states_of g s) (record {
         agreement = agreement_schedules.after_all (rules_of m l) g.agreement es;

@@ -21,7 +21,7 @@ use Rattle.machine_blocks.specs.machine_guards.specs.machine_agreement.specs.mac
 use Rattle.machine_slots.specs.Hands.{LocksAreHeld}
 use Rattle.machine_slots.proofs.Locks.{locks_held_after}
 use Rattle.machine_blocks.specs.machine_guards.specs.machine_agreement.specs.machine_scenes.specs.Kept.{IsKept}
-use Rattle.machine_blocks.specs.machine_guards.proofs.Bare.{places_keep}
+use Rattle.machine_blocks.specs.machine_guards.proofs.Holding.{places_hold}
 use Rattle.machine_invariant.specs.Whole.{Beside, states_of, IsWhole}
 
 -- what a runner comes to hold it holds
@@ -89,6 +89,6 @@ module _ (m : Meaning) (laws : Laws m) (l : Layout) (limits : IsWithinLimits l) 
       kept = kept_after;
       held = held_after;
       filled = record { filled = whole.filled.filled; looked = whole.filled.looked };
-      guards = places_keep m l g.agreement g.epochs s whole.guards g.agreement (after (counts_of m l) g.epochs (Reach i slots)) (λ d. refl) (λ d. refl);
+      guards = places_hold m l g.agreement g.agreement g.epochs (after (counts_of m l) g.epochs (Reach i slots)) s (λ d. refl) (λ d. refl) whole.guards;
       logs = record { same = whole.logs.same; own = whole.logs.own; logs = whole.logs.logs };
     }

@@ -49,7 +49,7 @@ use Rattle.machine_blocks.specs.machine_guards.specs.machine_agreement.specs.mac
 use Rattle.machine_blocks.specs.machine_guards.specs.machine_agreement.specs.machine_scenes.proofs.Kept.{step_kept}
 use Rattle.machine_blocks.specs.machine_guards.specs.machine_agreement.specs.Joined.{IsRunOf}
 use Rattle.machine_blocks.specs.machine_guards.specs.machine_agreement.proofs.RunPlaces.{run_here, before}
-use Rattle.machine_blocks.specs.machine_guards.proofs.Bare.{AreSupplied}
+use Rattle.machine_blocks.specs.machine_guards.proofs.Holding.{AreSupplied}
 use Rattle.machine_invariant.specs.Whole.{Beside, states_of, IsWhole}
 use Rattle.machine_invariant.proofs.Basics.{not_both, by_bool, both, below_test, same_test}
 use Rattle.machine_invariant.proofs.Asked.{asked_by, entered_at}

@@ -1,12 +1,9 @@
 -- What a runner asks and its part after an event are the same without blocks, since the table has no block.
 use Rattle.std.specs.Prelude.{◌==◌, ◌&&◌, ◌||◌, ◌/◌, ◌%◌, not, nat_lt, nat_le, cond, slice_index, Bool, true, false, if◌then◌else◌}
-use Rattle.std.proofs.Common.{◌≡◌, ◌⊎◌, inl, inr, ℕ, zero, suc, ◌+◌, ◌-◌, ◌*◌, ◌<◌, ◌≤◌, List, [], ◌∷◌, ◌++◌, length, refl, sym, ap, ◌∙◌, subst, ⊎_elim, arith, Option, Some, None}
+use Rattle.std.proofs.Common.{◌≡◌, ℕ, zero, suc, ◌+◌, ◌-◌, ◌<◌, ◌≤◌, List, length, refl, sym, ap, ◌∙◌, subst, arith, Option, Some, None}
 use Rattle.std.proofs.lemmas.Bool.Decides.{nat_tests}
-use Rattle.std.proofs.lemmas.Bool.{and_parts}
 use Rattle.runner_steps.specs.map_history.specs.declared.op.Request.{Request}
-use Rattle.runner_steps.specs.body_terms.specs.Line.{is_end}
 use Rattle.runner_steps.specs.body_terms.specs.Memory.{cell_of}
-use Rattle.runner_steps.specs.body_terms.specs.Word.{value_of}
 use Rattle.runner_steps.specs.body_terms.specs.declared.micro.Micro.{Micro}
 use Rattle.runner_steps.specs.body_terms.specs.declared.micro.Micro.TheVariants as micros
 use Rattle.runner_steps.specs.table_words.specs.declared.layout.Layout.{Layout}
@@ -18,19 +15,14 @@ use Rattle.runner_steps.specs.table_words.specs.declared.access.Access.TheVarian
 use Rattle.runner_steps.specs.table_words.specs.Places.{Fits, fits, part_words, block_words, block_count, slot_count, descriptor_count}
 use Rattle.runner_steps.specs.block_words.specs.Blocks.{part_spot, link_spot}
 use Rattle.runner_steps.specs.runner_parts.specs.structure_laws.specs.Meaning.{Meaning}
-use Rattle.runner_steps.specs.runner_parts.specs.epoch_core.specs.Moves.{is_clear}
-use Rattle.runner_steps.specs.runner_parts.specs.epoch_core.specs.State.{last_epoch}
-use Rattle.runner_steps.specs.runner_parts.specs.epoch_core.specs.declared.stage.Stage.{Stage}
-use Rattle.runner_steps.specs.runner_parts.specs.epoch_core.specs.declared.stage.Stage.TheVariants as stages
-use Rattle.runner_steps.specs.runner_parts.specs.guard_core.specs.Moves.{is_unnamed}
 use Rattle.runner_steps.specs.runner_parts.specs.declared.event.EventKind.{EventKind}
 use Rattle.runner_steps.specs.runner_parts.specs.declared.event.EventKind.TheVariants as kinds
-use Rattle.runner_steps.specs.runner_parts.specs.State.{RunState, BlocksState, PartState}
-use Rattle.runner_steps.specs.runner_parts.specs.Lists.{nodes_looked, descriptor_stored, blocks_freed, blocks_retired, names_guarded}
+use Rattle.runner_steps.specs.runner_parts.specs.State.{RunState, PartState}
+use Rattle.runner_steps.specs.runner_parts.specs.Lists.{nodes_looked, descriptor_stored}
 use Rattle.runner_steps.specs.runner_parts.specs.Tests.{has, is_resting}
 use Rattle.runner_steps.specs.Sections.{is_open_run, next_of, needs_link}
 use Rattle.runner_steps.specs.InRun as tables
-use Rattle.runner_steps.specs.InRun.{fill_store_ask, block_empty_ask, is_slot, last_clock}
+use Rattle.runner_steps.specs.InRun.{fill_store_ask, block_empty_ask, is_slot}
 use Rattle.runner_steps.specs.Outside as tables_outside
 use Rattle.runner_steps.specs.Outside.{Ask, when, blocks_from, block_spot, descriptor_spot}
 use Rattle.runner_steps.specs.Asks as all
@@ -39,10 +31,9 @@ use Rattle.runner_steps.specs.AfterInRun as inside
 use Rattle.runner_steps.specs.AfterOutside as outside
 use Rattle.runner_steps.specs.After as alls
 use Rattle.runner_steps.specs.After.{noted}
-use Rattle.runner_steps.specs.Blocks.{blocks_outside, block_in_hand, blocks_in_line, blocks_after}
+use Rattle.runner_steps.specs.Blocks.{blocks_after}
 use Rattle.runner_steps.specs.Board.{board_after}
-use Rattle.runner_steps.specs.Guards.{is_last_guard}
-pub use Rattle.machine_states.specs.Blockless.{commit_to, commit_ask, make_commit_to, make_commit_ask, retire_commit_ask, outcome_commit_ask, private_load_ask, private_store_ask, outside_ask, line_ask, inside_ask, ask_by, asks, private_load_after, private_store_after, outside_after, fill_stored, line_after, inside_after, after_by, stepped, after, no_blocks, blockless, HasNoBlocks}
+pub use Rattle.machine_states.specs.Blockless.{commit_to, commit_ask, make_commit_to, make_commit_ask, retire_commit_ask, outcome_commit_ask, private_load_ask, private_store_ask, outside_ask, line_ask, inside_ask, ask_by, asks, private_load_after, private_store_after, outside_after, fill_stored, line_after, inside_after, after_by, stepped, after}
 use Rattle.machine_states.proofs.Steps.{some_same, fitting_fits}
 
 no_block : (l : Layout) → block_count l ≡ 0
@@ -262,22 +253,6 @@ when_is : (b : Bool) (a : Spot) (access : Access) (x : Spot × Access) → when 
 when_is true a access x e = some_same (a, access) x e
 when_is false a access x e = some_none x e
 
--- a part without its blocks asks the same
-module _ (m : Meaning) (l : Layout) (rs : List Request) (r : ℕ) (p : PartState) where
-  outside_bare : (kind : EventKind) → outside_ask m l rs r kind (blockless p) ≡ outside_ask m l rs r kind p
-  outside_bare (kinds.LoadCell None) = refl
-  outside_bare (kinds.LoadCell (Some place)) = refl
-  outside_bare (kinds.LoadThunk None) = refl
-  outside_bare (kinds.LoadThunk (Some d)) = refl
-  outside_bare _ = refl
-
-  by_bare : (kind : EventKind) (o : Option RunState) → ask_by m l rs r kind (blockless p) o ≡ ask_by m l rs r kind p o
-  by_bare kind None = outside_bare kind
-  by_bare kind (Some q) = refl
-
-  pub asks_bare : (kind : EventKind) → asks m l rs r kind (blockless p) ≡ asks m l rs r kind p
-  asks_bare kind = ap (λ (a : Ask). if p.gone then None else fitting (sizes_for m l rs) a) (by_bare kind p.run)
-
 -- what is asked is a word of the table, and asked without this test
 asked_of : (s : Sizes) (gone : Bool) (a : Ask) (x : Spot × Access) → (if gone then None else fitting s a) ≡ Some x → a ≡ Some x
 asked_of s true a x e = some_none x e
@@ -292,60 +267,26 @@ fits_of : (s : Sizes) (gone : Bool) (a : Ask) (x : Spot × Access) → (if gone 
 fits_of s true a x e = some_none x e
 fits_of s false a x e = fitting_fits s a x e
 
--- and after an enabled event it is the part after the event, without these
+-- and the part after an enabled event is the same
 module _ (m : Meaning) (l : Layout) (rs : List Request) (r : ℕ) (p : PartState) (found : ℕ) (x : Spot × Access) where
-  -- a part, and the part to which it leads without blocks
-  record Bare (y z : PartState) : Type 0 where
-    is : blockless y ≡ z
-
-  same : (y z : PartState) → blockless y ≡ z → Bare y z
-  same y z e = record { is = e }
-
-  either : (b : Bool) (y y' z z' : PartState) → Bare y z → Bare y' z' → Bare (if b then y else y') (if b then z else z')
-  either true y y' z z' one two = one
-  either false y y' z z' one two = two
-
   module _ (q : RunState) where
-    fill_bare : (slot : ℕ) (made : Option ℕ) → Bare (inside.fill_loaded m l slot p q made found) (inside.fill_loaded m l slot (blockless p) q made found)
-    fill_bare slot None = same _ _ refl
-    fill_bare slot (Some t) = same _ _ refl
-
-    make_bare : (made : Option ℕ) → Bare (inside.make_committed m l p q made found) (inside.make_committed m l (blockless p) q made found)
-    make_bare None = same _ _ refl
-    make_bare (Some t) = same _ _ refl
-
     -- a run that stores into a Make's slot links no block
     stores : (slot word number : ℕ) (micro : Micro) → fill_store_ask m l slot word number q micro ≡ Some x → needs_link q micro ≡ false
     stores slot word number (micros.PrivateStore cell log value) e = refl
     stores slot word number _ e = some_none x e
 
-    line_bare : (kind : EventKind) (micro : Micro) → line_ask m l kind p.nodes.free q micro ≡ Some x
-        → Bare (alls.line_after m l kind p q micro found) (line_after m l kind (blockless p) q micro found)
-    line_bare (kinds.LoadCell None) micro e = same _ _ refl
-    line_bare (kinds.LoadCell (Some place)) micro e = same _ _ refl
-    line_bare (kinds.PrivateLoad slot word) micro e = fill_bare slot q.made
-    line_bare (kinds.PrivateStore slot word number) micro e =
-        same _ _ (ap (λ b. blockless (inside.with_run p (if b then inside.block_emptied (slot - blocks_from m l) q else inside.filled m l number q))) (stores slot word number micro e))
-    line_bare (kinds.LinkCommit b) micro e = some_none x e
-    line_bare kinds.MakeCommit micro e = make_bare q.made
-    line_bare kinds.Release micro e = either (is_end (next_of m (inside.ended_more q))) _ _ _ _ (same _ _ refl) (same _ _ refl)
-    line_bare kinds.StampExchange micro e = either (nat_lt q.word last_clock) _ _ _ _ (same _ _ refl) (same _ _ refl)
-    line_bare _ micro e = same _ _ refl
+    line_after_same : (kind : EventKind) (micro : Micro) → line_ask m l kind p.nodes.free q micro ≡ Some x
+        → alls.line_after m l kind p q micro found ≡ line_after m l kind p q micro found
+    line_after_same (kinds.PrivateStore slot word number) micro e =
+        ap (λ b. inside.with_run p (if b then inside.block_emptied (slot - blocks_from m l) q else inside.filled m l number q)) (stores slot word number micro e)
+    line_after_same (kinds.LinkCommit b) micro e = some_none x e
+    line_after_same _ micro e = refl
 
-    inside_bare : (kind : EventKind) (b : Bool) → (if b then line_ask m l kind p.nodes.free q (next_of m q) else opening_ask kind q) ≡ Some x
-        → Bare (if b then alls.line_after m l kind p q (next_of m q) found else inside.opened_more p q found)
-        (if b then line_after m l kind (blockless p) q (next_of m q) found else inside.opened_more (blockless p) q found)
-    inside_bare kind true e = line_bare kind (next_of m q) e
-    inside_bare kind false e = same _ _ refl
-
-  scan_bare : (stage : Stage) → Bare (outside.scan_one_after l p stage found) (outside.scan_one_after l (blockless p) stage found)
-  scan_bare (stages.Scanning e next clear) = either (nat_le next l.runners) _ _ _ _
-      (either (next == l.runners && not ((clear && is_clear e found) && nat_lt e last_epoch)) _ _ _ _ (same _ _ refl) (same _ _ refl)) (same _ _ refl)
-  scan_bare _ = same _ _ refl
-
-  advance_bare : (stage : Stage) → Bare (outside.advance_after p stage) (outside.advance_after (blockless p) stage)
-  advance_bare (stages.Scanning e next clear) = either (nat_lt e last_epoch) _ _ _ _ (same _ _ refl) (same _ _ refl)
-  advance_bare _ = same _ _ refl
+    inside_after_same : (kind : EventKind) (b : Bool) → (if b then line_ask m l kind p.nodes.free q (next_of m q) else opening_ask kind q) ≡ Some x
+        → (if b then alls.line_after m l kind p q (next_of m q) found else inside.opened_more p q found)
+        ≡ (if b then line_after m l kind p q (next_of m q) found else inside.opened_more p q found)
+    inside_after_same kind true e = line_after_same kind (next_of m q) e
+    inside_after_same kind false e = refl
 
   -- a word of a descriptor stands before the blocks
   before : (slot d word : ℕ) (access : Access) → d ≡ slot - slot_count l m.fixed_slots → Fits (sizes_for m l rs) x.0 → (descriptor_spot d word, access) ≡ x
@@ -357,10 +298,9 @@ module _ (m : Meaning) (l : Layout) (rs : List Request) (r : ℕ) (p : PartState
       by false e = absurd (let none = unfits m l rs d word (let h = not_below slot (blocks_from m l) e in omega (arith, h, is)) in
           none (subst (λ (y : Spot × Access). Fits (sizes_for m l rs) y.0) (sym at) fit))
 
-  known_bare : (slot word number : ℕ) → nat_lt slot (blocks_from m l) ≡ true
-      → Bare (outside.descriptor_known m l slot word p number) (record (blockless p) { descriptors = descriptor_stored p.descriptors (slot - slot_count l m.fixed_slots) word number })
-  known_bare slot word number e =
-      same _ _ (ap (λ b. blockless (record p { descriptors = outside.stored_if b p.descriptors (slot - slot_count l m.fixed_slots) word number })) e)
+  known_same : (slot word number : ℕ) → nat_lt slot (blocks_from m l) ≡ true
+      → outside.descriptor_known m l slot word p number ≡ record p { descriptors = descriptor_stored p.descriptors (slot - slot_count l m.fixed_slots) word number }
+  known_same slot word number e = ap (λ b. record p { descriptors = outside.stored_if b p.descriptors (slot - slot_count l m.fixed_slots) word number }) e
 
   module _ (slot word : ℕ) (fit : Fits (sizes_for m l rs) x.0) where
     abbrev at : ℕ
@@ -369,101 +309,34 @@ module _ (m : Meaning) (l : Layout) (rs : List Request) (r : ℕ) (p : PartState
     load_by : (b : Bool) → (if b
         then when (is_resting p.stage p.run && (nat_lt word 5 && (has p.nodes.free slot || has p.nodes.hand slot))) (spots.Cell (cell_of m.fixed_cells slot word)) Loads
         else when (is_resting p.stage p.run && has p.descriptors.free at) (descriptor_spot at word) Loads) ≡ Some x
-        → Bare (if b then record p { nodes = nodes_looked l p.nodes slot word found } else outside.descriptor_known m l slot word p found)
-        (if b then record (blockless p) { nodes = nodes_looked l p.nodes slot word found } else record (blockless p) { descriptors = descriptor_stored p.descriptors at word found })
-    load_by true e = same _ _ refl
-    load_by false e = known_bare slot word found (before slot at word Loads refl fit (when_is (is_resting p.stage p.run && has p.descriptors.free at) (descriptor_spot at word) Loads x e))
+        → (if b then record p { nodes = nodes_looked l p.nodes slot word found } else outside.descriptor_known m l slot word p found)
+        ≡ (if b then record p { nodes = nodes_looked l p.nodes slot word found } else record p { descriptors = descriptor_stored p.descriptors at word found })
+    load_by true e = refl
+    load_by false e = known_same slot word found (before slot at word Loads refl fit (when_is (is_resting p.stage p.run && has p.descriptors.free at) (descriptor_spot at word) Loads x e))
 
-    load_bare : private_load_ask m l slot word p ≡ Some x
-        → Bare (outside.private_load_after m l slot word p found) (outside_after m l (kinds.PrivateLoad slot word) (blockless p) found)
-    load_bare e = load_by (nat_lt slot (slot_count l m.fixed_slots)) e
+    load_after_same : private_load_ask m l slot word p ≡ Some x
+        → outside.private_load_after m l slot word p found ≡ outside_after m l (kinds.PrivateLoad slot word) p found
+    load_after_same e = load_by (nat_lt slot (slot_count l m.fixed_slots)) e
 
-  store_bare : (slot word number : ℕ) → Fits (sizes_for m l rs) x.0 → private_store_ask m l slot word number p ≡ Some x
-      → Bare (outside.private_store_after m l slot word number p) (outside_after m l (kinds.PrivateStore slot word number) (blockless p) found)
-  store_bare slot word number fit e =
+  store_after_same : (slot word number : ℕ) → Fits (sizes_for m l rs) x.0 → private_store_ask m l slot word number p ≡ Some x
+      → outside.private_store_after m l slot word number p ≡ outside_after m l (kinds.PrivateStore slot word number) p found
+  store_after_same slot word number fit e =
       let d = slot - slot_count l m.fixed_slots in
-      known_bare slot word number (before slot d word (Stores number) refl fit (when_is (nat_le (slot_count l m.fixed_slots) slot && (is_resting p.stage p.run && has p.descriptors.free d)) (descriptor_spot d word) (Stores number) x e))
+      known_same slot word number (before slot d word (Stores number) refl fit (when_is (nat_le (slot_count l m.fixed_slots) slot && (is_resting p.stage p.run && has p.descriptors.free d)) (descriptor_spot d word) (Stores number) x e))
 
-  outside_after_bare : (kind : EventKind) → Fits (sizes_for m l rs) x.0 → outside_ask m l rs r kind p ≡ Some x
-      → Bare (alls.outside_after m l kind p found) (outside_after m l kind (blockless p) found)
-  outside_after_bare (kinds.ScanOne n) fit e = scan_bare p.stage
-  outside_after_bare kinds.Advance fit e = advance_bare p.stage
-  outside_after_bare kinds.Split fit e = either (nat_lt p.records.splits l.runners) _ _ _ _ (same _ _ refl) (same _ _ refl)
-  outside_after_bare (kinds.LoadCell None) fit e = same _ _ refl
-  outside_after_bare (kinds.LoadCell (Some place)) fit e = same _ _ refl
-  outside_after_bare (kinds.PrivateLoad slot word) fit e = load_bare slot word fit e
-  outside_after_bare (kinds.PrivateStore slot word number) fit e = store_bare slot word number fit e
-  outside_after_bare (kinds.Hold thunk d) fit e = either (found == thunk.word) _ _ _ _ (same _ _ refl) (same _ _ refl)
-  outside_after_bare (kinds.LoadThunk None) fit e = same _ _ refl
-  outside_after_bare (kinds.LoadThunk (Some d)) fit e = same _ _ refl
-  outside_after_bare _ fit e = same _ _ refl
+  outside_after_same : (kind : EventKind) → Fits (sizes_for m l rs) x.0 → outside_ask m l rs r kind p ≡ Some x
+      → alls.outside_after m l kind p found ≡ outside_after m l kind p found
+  outside_after_same (kinds.PrivateLoad slot word) fit e = load_after_same slot word fit e
+  outside_after_same (kinds.PrivateStore slot word number) fit e = store_after_same slot word number fit e
+  outside_after_same _ fit e = refl
 
-  by_after_bare : (kind : EventKind) (o : Option RunState) → Fits (sizes_for m l rs) x.0 → ask_by m l rs r kind p o ≡ Some x
-      → Bare (alls.after_by m l kind p o found) (after_by m l kind (blockless p) o found)
-  by_after_bare kind None fit e = outside_after_bare kind fit e
-  by_after_bare kind (Some q) fit e = inside_bare q kind (is_open_run q) e
+  by_after_same : (kind : EventKind) (o : Option RunState) → Fits (sizes_for m l rs) x.0 → ask_by m l rs r kind p o ≡ Some x
+      → alls.after_by m l kind p o found ≡ after_by m l kind p o found
+  by_after_same kind None fit e = outside_after_same kind fit e
+  by_after_same kind (Some q) fit e = inside_after_same q kind (is_open_run q) e
 
-  pub after_bare : (kind : EventKind) → asks m l rs r kind p ≡ Some x
-      → blockless (alls.after m l r kind x.0 x.1 p found) ≡ after m l r kind x.0 x.1 (blockless p) found
-  after_bare kind e =
-      let fit = fits_of (sizes_for m l rs) p.gone (ask_by m l rs r kind p p.run) x e in
-      let asked = asked_of (sizes_for m l rs) p.gone (ask_by m l rs r kind p p.run) x e in
-      ap (λ (y : PartState). record y { board = board_after kind p.board found; records = noted l r kind x.0 x.1 found y.records }) ((by_after_bare kind p.run fit asked).is)
-
--- a part that has none of them goes on without
-module _ (m : Meaning) (l : Layout) (rs : List Request) (r : ℕ) (p : PartState) (has_none : HasNoBlocks p) (found : ℕ) (x : Spot × Access) where
-  abbrev IsNone : BlocksState → Type 0
-  IsNone b = b ≡ no_blocks
-
-  chosen : (t : Bool) (y z : BlocksState) → IsNone y → IsNone z → IsNone (if t then y else z)
-  chosen true y z one two = one
-  chosen false y z one two = two
-
-  freed : (test : ℕ → Bool) → IsNone (blocks_freed test p.blocks)
-  freed test = ap (blocks_freed test) has_none.blocks
-
-  outside_none : (kind : EventKind) → IsNone (blocks_outside m l kind p found)
-  outside_none (kinds.LoadCell None) = has_none.blocks
-  outside_none (kinds.LoadCell (Some place)) = chosen (names_guarded p.guards (m.is_lock place) found) _ _ (freed (λ d. d == value_of found - 1)) has_none.blocks
-  outside_none (kinds.Hold thunk d) = chosen (found == thunk.word) _ _ (freed (λ e. e == d)) has_none.blocks
-  outside_none (kinds.LoadGuard n) = chosen (is_last_guard l p.guards.looked) _ _ (freed (is_unnamed (p.guards.looked ++ found ∷ []))) has_none.blocks
-  outside_none _ = has_none.blocks
-
-  line_none : (q : RunState) → q.won ≡ [] → (kind : EventKind) (micro : Micro) → line_ask m l kind p.nodes.free q micro ≡ Some x
-      → IsNone (blocks_in_line m l kind p.blocks q micro found)
-  line_none q won (kinds.PrivateStore slot word number) micro e =
-      ap (λ b. if b then block_in_hand p.blocks (slot - blocks_from m l) q.block else p.blocks) (stores m l rs r p found x q slot word number micro e) ∙ has_none.blocks
-  line_none q won (kinds.LinkCommit b) micro e = some_none x e
-  line_none q won kinds.Release micro e =
-      chosen (is_end (next_of m (inside.ended_more q))) _ _ (λ i. blocks_retired (has_none.blocks i) (won i) q.descriptor) has_none.blocks
-  line_none q won _ micro e = has_none.blocks
-
-  in_run_none : (q : RunState) → q.won ≡ [] → (kind : EventKind) (b : Bool)
-      → (if b then line_ask m l kind p.nodes.free q (next_of m q) else opening_ask kind q) ≡ Some x
-      → IsNone (if b then blocks_in_line m l kind p.blocks q (next_of m q) found else p.blocks)
-  in_run_none q won kind true e = line_none q won kind (next_of m q) e
-  in_run_none q won kind false e = has_none.blocks
-
-  blocks_none : (kind : EventKind) (o : Option RunState) → ((q : RunState) → o ≡ Some q → q.won ≡ []) → ask_by m l rs r kind p o ≡ Some x
-      → IsNone (blocks_after m l kind p o found)
-  blocks_none kind None won e = outside_none kind
-  blocks_none kind (Some q) won e = in_run_none q (won q refl) kind (is_open_run q) e
-
-  -- the part after an enabled event is that without blocks
   pub after_same : (kind : EventKind) → asks m l rs r kind p ≡ Some x → alls.after m l r kind x.0 x.1 p found ≡ after m l r kind x.0 x.1 p found
   after_same kind e =
+      let fit = fits_of (sizes_for m l rs) p.gone (ask_by m l rs r kind p p.run) x e in
       let asked = asked_of (sizes_for m l rs) p.gone (ask_by m l rs r kind p p.run) x e in
-      let blocks = blocks_none kind p.run has_none.won asked in
-      (λ i. record (alls.after m l r kind x.0 x.1 p found) { blocks = blocks i })
-      ∙ (after_bare m l rs r p found x kind e
-      ∙ (λ i. after m l r kind x.0 x.1 (record p { blocks = sym has_none.blocks i }) found))
-
--- so what an event asks doesn't hang on these
-pub asks_whole : (m : Meaning) (l : Layout) (rs : List Request) (r : ℕ) (kind : EventKind) (p : PartState)
-    → all.asks m l rs r kind (blockless p) ≡ all.asks m l rs r kind p
-asks_whole m l rs r kind p = asks_same m l rs r kind (blockless p) ∙ (asks_bare m l rs r p kind ∙ sym (asks_same m l rs r kind p))
-
--- and what is asked without blocks is what the part asks that has them
-pub asks_seen : (m : Meaning) (l : Layout) (rs : List Request) (r : ℕ) (kind : EventKind) (p : PartState)
-    → asks m l rs r kind (blockless p) ≡ all.asks m l rs r kind p
-asks_seen m l rs r kind p = asks_bare m l rs r p kind ∙ sym (asks_same m l rs r kind p)
+      ap (λ (y : PartState). record y { blocks = blocks_after m l kind p p.run found; board = board_after kind p.board found; records = noted l r kind x.0 x.1 found y.records }) (by_after_same kind p.run fit asked)

@@ -11,19 +11,16 @@ use Rattle.runner_steps.specs.table_words.proofs.Seen as words
 use Rattle.runner_steps.specs.runner_parts.specs.structure_laws.specs.Meaning.{Meaning}
 use Rattle.runner_steps.specs.runner_parts.specs.State.{PartState}
 use Rattle.runner_steps.specs.Asks.{sizes_for}
-use Rattle.machine_states.specs.World.{World, seat_of}
+use Rattle.machine_states.specs.World.{World}
 use Rattle.machine_states.specs.First.{IsFirst, first_part, keeper_part, worker_part, workers}
-use Rattle.machine_states.specs.Blockless.{blockless}
-use Rattle.machine_states.specs.Sight.{part_of, IsWhole}
-use Rattle.machine_states.specs.Full.{full_part_or_first, full_part_of}
-use Rattle.machine_states.proofs.Sights.{bare_part}
+use Rattle.machine_states.specs.Sight.{part_or_first, part_of, IsWhole}
 use Rattle.machine_states.proofs.Firsts.{length_workers, length_parts}
 
 here_test : (i n : ℕ) (v w : PartState) → cond (i == 0) v w ≡ cond (suc i == 1) v w
 here_test i n v w = grind (arith, nat_tests)
 
 -- a part more at the end
-at_push : (xs : List PartState) (y : PartState) (i : ℕ) → full_part_or_first (slice_get (xs ++ y ∷ []) i) ≡ cond (i == length xs) y (full_part_or_first (slice_get xs i))
+at_push : (xs : List PartState) (y : PartState) (i : ℕ) → part_or_first (slice_get (xs ++ y ∷ []) i) ≡ cond (i == length xs) y (part_or_first (slice_get xs i))
 at_push [] y zero = refl
 at_push [] y (suc i) = after_one i y (first_part [] [] [])
   where
@@ -33,7 +30,7 @@ at_push (x ∷ xs) y zero = before (length xs) y x
   where
     before : (n : ℕ) (v w : PartState) → w ≡ cond (0 == suc n) v w
     before n v w = grind (arith, nat_tests)
-at_push (x ∷ xs) y (suc i) = at_push xs y i ∙ both_more i (length xs) y (full_part_or_first (slice_get xs i))
+at_push (x ∷ xs) y (suc i) = at_push xs y i ∙ both_more i (length xs) y (part_or_first (slice_get xs i))
   where
     both_more : (i n : ℕ) (v w : PartState) → cond (i == n) v w ≡ cond (suc i == suc n) v w
     both_more i n v w = grind (arith, nat_tests)
@@ -45,11 +42,11 @@ one_more : (i n : ℕ) (v v' w : PartState) → (i ≡ n → v' ≡ v) → cond 
 one_more i n v v' w same = grind (arith, nat_tests)
 
 module _ (m : Meaning) (l : Layout) where
-  workers_at : (n i : ℕ) → full_part_or_first (slice_get (workers m l n) i) ≡ cond (nat_lt i n) (worker_part m l i) (first_part [] [] [])
+  workers_at : (n i : ℕ) → part_or_first (slice_get (workers m l n) i) ≡ cond (nat_lt i n) (worker_part m l i) (first_part [] [] [])
   workers_at zero i = none_below i (worker_part m l i) (first_part [] [] [])
   workers_at (suc n) i =
       at_push (workers m l n) (worker_part m l n) i
-      ∙ (ap (λ k. cond (i == k) (worker_part m l n) (full_part_or_first (slice_get (workers m l n) i))) (length_workers m l n)
+      ∙ (ap (λ k. cond (i == k) (worker_part m l n) (part_or_first (slice_get (workers m l n) i))) (length_workers m l n)
       ∙ (ap (λ (q : PartState). cond (i == n) (worker_part m l n) q) (workers_at n i)
       ∙ one_more i n (worker_part m l i) (worker_part m l n) (first_part [] [] []) (λ e. ap (worker_part m l) (sym e))))
 
@@ -57,25 +54,17 @@ module _ (m : Meaning) (l : Layout) where
   abbrev pub first_part_of : ℕ → PartState
   first_part_of r = cond (r == l.runners) (keeper_part m l) (cond (nat_lt r l.runners) (worker_part m l r) (first_part [] [] []))
 
-  seats : (r : ℕ) (keeper : PartState) (xs : List PartState) → full_part_of l (keeper ∷ xs) r ≡ cond (r == l.runners) keeper (full_part_or_first (slice_get xs r))
+  seats : (r : ℕ) (keeper : PartState) (xs : List PartState) → part_of l (keeper ∷ xs) r ≡ cond (r == l.runners) keeper (part_or_first (slice_get xs r))
   seats r keeper xs = by_test (r == l.runners)
     where
-      by_test : (b : Bool) → full_part_or_first (slice_get (keeper ∷ xs) (cond b 0 (suc r))) ≡ cond b keeper (full_part_or_first (slice_get xs r))
+      by_test : (b : Bool) → part_or_first (slice_get (keeper ∷ xs) (cond b 0 (suc r))) ≡ cond b keeper (part_or_first (slice_get xs r))
       by_test true = refl
       by_test false = refl
 
-  pub full_first_parts : (parts : List PartState) → parts ≡ keeper_part m l ∷ workers m l l.runners → (r : ℕ) → full_part_of l parts r ≡ first_part_of r
-  full_first_parts parts is r =
-      ap (λ (xs : List PartState). full_part_of l xs r) is ∙ (seats r (keeper_part m l) (workers m l l.runners)
-      ∙ ap (λ (q : PartState). cond (r == l.runners) (keeper_part m l) q) (workers_at l.runners r))
-
   pub first_parts : (parts : List PartState) → parts ≡ keeper_part m l ∷ workers m l l.runners → (r : ℕ) → part_of l parts r ≡ first_part_of r
-  first_parts parts is r = sym (bare_part (slice_get parts (seat_of l r))) ∙ (ap blockless (full_first_parts parts is r) ∙ by_test (r == l.runners) (nat_lt r l.runners))
-    where
-      by_test : (b b' : Bool) → blockless (cond b (keeper_part m l) (cond b' (worker_part m l r) (first_part [] [] []))) ≡ cond b (keeper_part m l) (cond b' (worker_part m l r) (first_part [] [] []))
-      by_test true b' = refl
-      by_test false true = refl
-      by_test false false = refl
+  first_parts parts is r =
+      ap (λ (xs : List PartState). part_of l xs r) is ∙ (seats r (keeper_part m l) (workers m l l.runners)
+      ∙ ap (λ (q : PartState). cond (r == l.runners) (keeper_part m l) q) (workers_at l.runners r))
 
   module _ (rs : List Request) (w : World) (first : IsFirst m l rs w) where
     -- no announcement is made

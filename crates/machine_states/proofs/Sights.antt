@@ -1,6 +1,6 @@
 -- An event of the machine, seen without the lists.
 use Rattle.std.specs.Prelude.{◌==◌, ◌&&◌, cond, nat_lt, slice_index, slice_set, slice_get, Bool, true, false}
-use Rattle.std.proofs.Common.{◌≡◌, ℕ, suc, ◌+◌, ◌<◌, ◌≤◌, List, [], length, get_or, sym, refl, ap, subst, ◌∙◌, arith, Option, Some, None}
+use Rattle.std.proofs.Common.{◌≡◌, ℕ, suc, ◌+◌, ◌<◌, ◌≤◌, List, length, get_or, sym, refl, ap, subst, ◌∙◌, arith, Option, Some, None}
 use Rattle.std.proofs.lemmas.Bool.Decides.{nat_tests}
 use Rattle.std.proofs.lemmas.Grind.{common_steps}
 use Rattle.std.proofs.lemmas.Option.{gets, slice_get-get_or, slice_get_within}
@@ -26,13 +26,11 @@ use Rattle.runner_steps.specs.Asks.{fitting, sizes_for}
 use Rattle.runner_steps.specs.After as alls
 use Rattle.runner_steps.specs.After.{leaves, knows_also}
 use Rattle.machine_states.specs.World.{World, seat_of, settled_part, knowing, left_by, put_part, acted, acts, happens}
-use Rattle.machine_states.specs.First.{first_part}
-use Rattle.machine_states.specs.Blockless.{asks, ask_by, after, blockless}
-use Rattle.machine_states.specs.Sight.{Sight, part_or_first, sight, parts_after, sight_after, Steps, IsWhole}
-use Rattle.machine_states.specs.Full.{full_part_or_first, full_part_of, full_sight, full_sight_after, FullSteps, bare}
+use Rattle.machine_states.specs.Blockless.{asks, ask_by}
+use Rattle.machine_states.specs.Sight.{Sight, part_or_first, part_of, sight, parts_after, sight_after, Steps, IsWhole}
+use Rattle.machine_states.specs.Full.{full_sight_after, FullSteps}
 use Rattle.machine_states.proofs.Steps.{some_same, length_put, fitting_fits}
-use Rattle.machine_states.proofs.Blockless.{asks_same, asks_seen, after_bare}
-use Rattle.machine_states.proofs.Updates.{map_upd}
+use Rattle.machine_states.proofs.Blockless.{asks_same, after_same}
 
 pub some_none : {A B : Type 0} → (a : A) → None ≡ Some a → B
 some_none a e = absurd (let x = e in cc)
@@ -58,13 +56,13 @@ seat_same runners r r' h e = grind (arith, nat_tests)
 seat_within : (l : Layout) (parts : List PartState) (r : ℕ) → seat_of l r < length parts → length parts ≡ l.runners + 1 → r ≤ l.runners
 seat_within l parts r h n = grind (arith, nat_tests)
 
-set_get : (parts : List PartState) (i j : ℕ) (p : PartState) → i < length parts → full_part_or_first (slice_get (slice_set parts i p) j) ≡ cond (j == i) p (full_part_or_first (slice_get parts j))
-set_get parts i j p h = ap full_part_or_first put_there ∙ shown (j == i) (slice_get parts j)
+set_get : (parts : List PartState) (i j : ℕ) (p : PartState) → i < length parts → part_or_first (slice_get (slice_set parts i p) j) ≡ cond (j == i) p (part_or_first (slice_get parts j))
+set_get parts i j p h = ap part_or_first put_there ∙ shown (j == i) (slice_get parts j)
   where
     put_there : slice_get (slice_set parts i p) j ≡ cond (j == i) (Some p) (slice_get parts j)
     put_there = grind (arith, common_steps, gets)
 
-    shown : (b : Bool) (o : Option PartState) → full_part_or_first (cond b (Some p) o) ≡ cond b p (full_part_or_first o)
+    shown : (b : Bool) (o : Option PartState) → part_or_first (cond b (Some p) o) ≡ cond b p (part_or_first o)
     shown true o = refl
     shown false o = refl
 
@@ -72,8 +70,8 @@ seat_test : (runners r r' : ℕ) → r ≤ runners → cond (r' == runners) 0 (s
 seat_test runners r r' h = grind (arith, nat_tests)
 
 -- a part that is put in its seat is seen at its runner
-part_set : (l : Layout) (parts : List PartState) (r : ℕ) (p : PartState) → seat_of l r < length parts → r ≤ l.runners → full_part_of l (slice_set parts (seat_of l r) p) ≡ upd (full_part_of l parts) r p
-part_set l parts r p h some = fun_ext (λ r'. set_get parts (seat_of l r) (seat_of l r') p h ∙ ap (λ b. cond b p (full_part_of l parts r')) (seat_test l.runners r r' some))
+part_set : (l : Layout) (parts : List PartState) (r : ℕ) (p : PartState) → seat_of l r < length parts → r ≤ l.runners → part_of l (slice_set parts (seat_of l r) p) ≡ upd (part_of l parts) r p
+part_set l parts r p h some = fun_ext (λ r'. set_get parts (seat_of l r) (seat_of l r') p h ∙ ap (λ b. cond b p (part_of l parts r')) (seat_test l.runners r r' some))
 
 pub cond_none : {A B : Type 0} → (b : Bool) (x : A) → cond b None None ≡ Some x → B
 cond_none true x e = some_none x e
@@ -99,19 +97,19 @@ module _ (m : Meaning) (l : Layout) (rs : List Request) where
   worker_seat : (worker : ℕ) → worker < l.runners → suc worker ≡ seat_of l worker
   worker_seat worker h = grind (arith, nat_tests)
 
-  at_worker : (parts : List PartState) (worker : ℕ) → worker < l.runners → full_part_or_first (slice_get parts (suc worker)) ≡ full_part_of l parts worker
-  at_worker parts worker h = ap (λ n. full_part_or_first (slice_get parts n)) (worker_seat worker h)
+  at_worker : (parts : List PartState) (worker : ℕ) → worker < l.runners → part_or_first (slice_get parts (suc worker)) ≡ part_of l parts worker
+  at_worker parts worker h = ap (λ n. part_or_first (slice_get parts n)) (worker_seat worker h)
 
   -- the parts of a machine after an event, by their runners
   module _ (parts : List PartState) (count : length parts ≡ l.runners + 1) (r : ℕ) (some : r ≤ l.runners) (p : PartState) where
     room : seat_of l r < length parts
     room = grind (arith, nat_tests)
 
-    known : (o : Option PartState) (q : PartState) → o ≡ Some q → knowing p o ≡ knows_also p (full_part_or_first o)
-    known o q e = subst (λ (x : Option PartState). knowing p x ≡ knows_also p (full_part_or_first x)) (sym e) refl
+    known : (o : Option PartState) (q : PartState) → o ≡ Some q → knowing p o ≡ knows_also p (part_or_first o)
+    known o q e = subst (λ (x : Option PartState). knowing p x ≡ knows_also p (part_or_first x)) (sym e) refl
 
-    left : (xs : List PartState) (worker : ℕ) (o : Option PartState) (q : PartState) → o ≡ Some q → left_by xs (suc worker) o ≡ slice_set xs (suc worker) (leaves (full_part_or_first o))
-    left xs worker o q e = subst (λ (x : Option PartState). left_by xs (suc worker) x ≡ slice_set xs (suc worker) (leaves (full_part_or_first x))) (sym e) refl
+    left : (xs : List PartState) (worker : ℕ) (o : Option PartState) (q : PartState) → o ≡ Some q → left_by xs (suc worker) o ≡ slice_set xs (suc worker) (leaves (part_or_first o))
+    left xs worker o q e = subst (λ (x : Option PartState). left_by xs (suc worker) x ≡ slice_set xs (suc worker) (leaves (part_or_first x))) (sym e) refl
 
     others : (f : ℕ → PartState) (q : PartState) (worker : ℕ) → worker < l.runners → r ≡ l.runners → upd f r q worker ≡ f worker
     others f q worker h e = grind (arith, nat_tests)
@@ -120,24 +118,24 @@ module _ (m : Meaning) (l : Layout) (rs : List Request) where
     there xs worker n h = slice_get-get_or xs (suc worker) p (omega arith)
 
     joined : (worker : ℕ) → worker < l.runners → r ≡ l.runners
-        → full_part_of l (put_part parts (kinds.Join worker) (seat_of l r) (settled_part (kinds.Join worker) p parts)) ≡ parts_after (kinds.Join worker) (full_part_of l parts) r p
+        → part_of l (put_part parts (kinds.Join worker) (seat_of l r) (settled_part (kinds.Join worker) p parts)) ≡ parts_after (kinds.Join worker) (part_of l parts) r p
     joined worker h e =
         let q = settled_part (kinds.Join worker) p parts in
         let xs = slice_set parts (seat_of l r) q in
         let long : length xs ≡ l.runners + 1 = length-set parts (seat_of l r) q ∙ count in
-        let settled : q ≡ knows_also p (full_part_of l parts worker) = known _ _ (there parts worker count h) ∙ ap (λ (w : PartState). knows_also p w) (at_worker parts worker h) in
-        let kept : full_part_of l xs ≡ upd (full_part_of l parts) r q = part_set l parts r q room some in
+        let settled : q ≡ knows_also p (part_of l parts worker) = known _ _ (there parts worker count h) ∙ ap (λ (w : PartState). knows_also p w) (at_worker parts worker h) in
+        let kept : part_of l xs ≡ upd (part_of l parts) r q = part_set l parts r q room some in
         let was : Option PartState = slice_get xs (suc worker) in
-        let gone : full_part_or_first was ≡ full_part_of l parts worker =
-        at_worker xs worker h ∙ (ap (λ (f : ℕ → PartState). f worker) kept ∙ others (full_part_of l parts) q worker h e) in
-        let out : put_part parts (kinds.Join worker) (seat_of l r) q ≡ slice_set xs (seat_of l worker) (leaves (full_part_or_first was)) =
-        left xs worker _ _ (there xs worker long h) ∙ ap (λ n. slice_set xs n (leaves (full_part_or_first was))) (worker_seat worker h) in
-        ap (full_part_of l) out
-        ∙ (part_set l xs worker (leaves (full_part_or_first was)) (let at = worker_seat worker h in omega arith) (omega arith)
-        ∙ (ap (λ (w : PartState). upd (full_part_of l xs) worker (leaves w)) gone
-        ∙ ap (λ (f : ℕ → PartState). upd f worker (leaves (full_part_of l parts worker))) (kept ∙ ap (λ (w : PartState). upd (full_part_of l parts) r w) settled)))
+        let gone : part_or_first was ≡ part_of l parts worker =
+        at_worker xs worker h ∙ (ap (λ (f : ℕ → PartState). f worker) kept ∙ others (part_of l parts) q worker h e) in
+        let out : put_part parts (kinds.Join worker) (seat_of l r) q ≡ slice_set xs (seat_of l worker) (leaves (part_or_first was)) =
+        left xs worker _ _ (there xs worker long h) ∙ ap (λ n. slice_set xs n (leaves (part_or_first was))) (worker_seat worker h) in
+        ap (part_of l) out
+        ∙ (part_set l xs worker (leaves (part_or_first was)) (let at = worker_seat worker h in omega arith) (omega arith)
+        ∙ (ap (λ (w : PartState). upd (part_of l xs) worker (leaves w)) gone
+        ∙ ap (λ (f : ℕ → PartState). upd f worker (leaves (part_of l parts worker))) (kept ∙ ap (λ (w : PartState). upd (part_of l parts) r w) settled)))
 
-    parts_seen : (kind : EventKind) → Joins l kind r → full_part_of l (put_part parts kind (seat_of l r) (settled_part kind p parts)) ≡ parts_after kind (full_part_of l parts) r p
+    parts_seen : (kind : EventKind) → Joins l kind r → part_of l (put_part parts kind (seat_of l r) (settled_part kind p parts)) ≡ parts_after kind (part_of l parts) r p
     parts_seen (kinds.Join worker) h = joined worker h.1 h.0
     parts_seen _ h = part_set l parts r p room some
 
@@ -168,8 +166,8 @@ module _ (m : Meaning) (l : Layout) (rs : List Request) where
       some_runner : event.runner ≤ l.runners
       some_runner = seat_some w.parts event.runner p whole.parts here
 
-      own : p ≡ full_part_of l w.parts event.runner
-      own = sym (ap full_part_or_first here)
+      own : p ≡ part_of l w.parts event.runner
+      own = sym (ap part_or_first here)
 
       found_seen : found ≡ seen sizes w.words x.0
       found_seen = sym (words.seen_here sizes w.words x.0 inside)
@@ -178,18 +176,18 @@ module _ (m : Meaning) (l : Layout) (rs : List Request) where
       words_seen = fun_ext (λ a. words.seen_set sizes w.words (written x.1 found) whole.words x.0 a inside)
           ∙ ap (λ n. put (seen sizes w.words) x.0 (written x.1 n)) found_seen
 
-      parts_path : full_part_of l made.parts ≡ (full_sight_after m l (full_sight m l rs w) event.runner event.kind x).part
+      parts_path : part_of l made.parts ≡ (full_sight_after m l (sight m l rs w) event.runner event.kind x).part
       parts_path = parts_seen w.parts whole.parts event.runner some_runner (alls.after m l event.runner event.kind x.0 x.1 p found) event.kind (joins event.kind event.runner p x asked_so)
-          ∙ (ap (λ n. parts_after event.kind (full_part_of l w.parts) event.runner (alls.after m l event.runner event.kind x.0 x.1 p n)) found_seen
-          ∙ ap (λ (q : PartState). parts_after event.kind (full_part_of l w.parts) event.runner (alls.after m l event.runner event.kind x.0 x.1 q (seen sizes w.words x.0))) own)
+          ∙ (ap (λ n. parts_after event.kind (part_of l w.parts) event.runner (alls.after m l event.runner event.kind x.0 x.1 p n)) found_seen
+          ∙ ap (λ (q : PartState). parts_after event.kind (part_of l w.parts) event.runner (alls.after m l event.runner event.kind x.0 x.1 q (seen sizes w.words x.0))) own)
 
-      steps : made ≡ w' → FullSteps m l rs (full_sight m l rs w) (full_sight m l rs w') event.runner event.kind
+      steps : made ≡ w' → FullSteps m l rs (sight m l rs w) (sight m l rs w') event.runner event.kind
       steps e = record {
         runner = some_runner;
         ask = x;
         asked = ap (λ (q : PartState). all.asks m l rs event.runner event.kind q) (sym own) ∙ asked;
         has_word = inside;
-        next = sym (ap (λ (v : World). full_sight m l rs v) e) ∙ (λ i. record { word = words_seen i; part = parts_path i });
+        next = sym (ap (λ (v : World). sight m l rs v) e) ∙ (λ i. record { word = words_seen i; part = parts_path i });
       }
 
       whole_after : made ≡ w' → IsWhole m l rs w'
@@ -199,54 +197,46 @@ module _ (m : Meaning) (l : Layout) (rs : List Request) where
       })
 
     by_ask : (p : PartState) (a : Ask) → slice_get w.parts (seat_of l event.runner) ≡ Some p → all.asks m l rs event.runner event.kind p ≡ a → acted m l rs w event.runner event.kind p a ≡ Some w'
-        → FullSteps m l rs (full_sight m l rs w) (full_sight m l rs w') event.runner event.kind × IsWhole m l rs w'
+        → FullSteps m l rs (sight m l rs w) (sight m l rs w') event.runner event.kind × IsWhole m l rs w'
     by_ask p None here asked e = some_none w' e
     by_ask p (Some x) here asked e = let same = some_same _ _ e in (steps p x here asked same, whole_after p x here asked same)
 
     by_part : (o : Option PartState) → slice_get w.parts (seat_of l event.runner) ≡ o → acts m l rs w event.runner event.kind o ≡ Some w'
-        → FullSteps m l rs (full_sight m l rs w) (full_sight m l rs w') event.runner event.kind × IsWhole m l rs w'
+        → FullSteps m l rs (sight m l rs w) (sight m l rs w') event.runner event.kind × IsWhole m l rs w'
     by_part None here e = some_none w' e
     by_part (Some p) here e = by_ask p (all.asks m l rs event.runner event.kind p) here refl e
 
     -- an event that happens is a step of the sight, and leaves the machine whole
-    pub happens_in_full : happens m l rs w event ≡ Some w' → FullSteps m l rs (full_sight m l rs w) (full_sight m l rs w') event.runner event.kind × IsWhole m l rs w'
+    pub happens_in_full : happens m l rs w event ≡ Some w' → FullSteps m l rs (sight m l rs w) (sight m l rs w') event.runner event.kind × IsWhole m l rs w'
     happens_in_full e = by_part (slice_get w.parts (seat_of l event.runner)) refl e
 
--- the same without blocks
-pub bare_part : (o : Option PartState) → blockless (full_part_or_first o) ≡ part_or_first o
-bare_part None = refl
-bare_part (Some p) = refl
+-- as long as no table has a block, a step is one without them
+module _ (m : Meaning) (l : Layout) (rs : List Request) (s s' : Sight) (r : ℕ) (kind : EventKind) where
+  same_next : (x : Spot × Access) → asks m l rs r kind (s.part r) ≡ Some x → full_sight_after m l s r kind x ≡ sight_after m l s r kind x
+  same_next x asked = λ i. record {
+    word = put s.word x.0 (written x.1 (s.word x.0));
+    part = parts_after kind s.part r (after_same m l rs r (s.part r) (s.word x.0) x kind asked i);
+  }
 
-pub bare_sight : (m : Meaning) (l : Layout) (rs : List Request) (w : World) → bare (full_sight m l rs w) ≡ sight m l rs w
-bare_sight m l rs w = λ i. record { word = seen (sizes_for m l rs) w.words; part = fun_ext (λ r. bare_part (slice_get w.parts (seat_of l r))) i }
+  pub bare_asked : (step : FullSteps m l rs s s' r kind) → asks m l rs r kind (s.part r) ≡ Some step.ask
+  bare_asked step = sym (asks_same m l rs r kind (s.part r)) ∙ step.asked
 
-bare_parts : (kind : EventKind) (part : ℕ → PartState) (r : ℕ) (p : PartState) → ◌≡◌ {A = ℕ → PartState} (λ i. blockless (parts_after kind part r p i)) (parts_after kind (λ i. blockless (part i)) r (blockless p))
-bare_parts (kinds.Join worker) part r p =
-    map_upd blockless (upd part r (knows_also p (part worker))) worker (leaves (part worker))
-    ∙ ap (λ (f : ℕ → PartState). upd f worker (leaves (blockless (part worker)))) (map_upd blockless part r (knows_also p (part worker)))
-bare_parts _ part r p = map_upd blockless part r p
+  pub bare_next : (step : FullSteps m l rs s s' r kind) → s' ≡ sight_after m l s r kind step.ask
+  bare_next step = step.next ∙ same_next step.ask (bare_asked step)
 
-module _ (m : Meaning) (l : Layout) (rs : List Request) (s s' : Sight) (r : ℕ) (kind : EventKind) (step : FullSteps m l rs s s' r kind) where
-  pub bare_asked : asks m l rs r kind (blockless (s.part r)) ≡ Some step.ask
-  bare_asked = asks_seen m l rs r kind (s.part r) ∙ step.asked
+  abbrev pub bare_step : FullSteps m l rs s s' r kind → Steps m l rs s s' r kind
+  bare_step step = record { runner = step.runner; ask = step.ask; asked = bare_asked step; has_word = step.has_word; next = bare_next step }
 
-  pub bare_next : bare s' ≡ sight_after m l (bare s) r kind step.ask
-  bare_next = ap bare step.next ∙ (λ i. record { word = put s.word step.ask.0 (written step.ask.1 (s.word step.ask.0)); part = parts i })
-    where
-      parts : ◌≡◌ {A = ℕ → PartState} (λ i. blockless (parts_after kind s.part r (alls.after m l r kind step.ask.0 step.ask.1 (s.part r) (s.word step.ask.0)) i))
-          (parts_after kind (λ i. blockless (s.part i)) r (after m l r kind step.ask.0 step.ask.1 (blockless (s.part r)) (s.word step.ask.0)))
-      parts = bare_parts kind s.part r (alls.after m l r kind step.ask.0 step.ask.1 (s.part r) (s.word step.ask.0))
-          ∙ ap (parts_after kind (λ i. blockless (s.part i)) r) (after_bare m l rs r (s.part r) (s.word step.ask.0) step.ask kind (sym (asks_same m l rs r kind (s.part r)) ∙ step.asked))
+  -- and the other way round
+  pub full_asked : (step : Steps m l rs s s' r kind) → all.asks m l rs r kind (s.part r) ≡ Some step.ask
+  full_asked step = asks_same m l rs r kind (s.part r) ∙ step.asked
 
-  -- a step of whole parts is one of parts without blocks
-  abbrev pub bare_step : Steps m l rs (bare s) (bare s') r kind
-  bare_step = record { runner = step.runner; ask = step.ask; asked = bare_asked; has_word = step.has_word; next = bare_next }
+  pub full_next : (step : Steps m l rs s s' r kind) → s' ≡ full_sight_after m l s r kind step.ask
+  full_next step = step.next ∙ sym (same_next step.ask step.asked)
+
+  abbrev pub full_step : Steps m l rs s s' r kind → FullSteps m l rs s s' r kind
+  full_step step = record { runner = step.runner; ask = step.ask; asked = full_asked step; has_word = step.has_word; next = full_next step }
 
 module _ (m : Meaning) (l : Layout) (rs : List Request) (w w' : World) (event : Event) (whole : IsWhole m l rs w) where
   pub happens_steps : happens m l rs w event ≡ Some w' → Steps m l rs (sight m l rs w) (sight m l rs w') event.runner event.kind × IsWhole m l rs w'
-  happens_steps e = let h = happens_in_full m l rs w w' event whole e in (
-    subst (λ (v : Sight). Steps m l rs v (sight m l rs w') event.runner event.kind) (bare_sight m l rs w)
-        (subst (λ (v : Sight). Steps m l rs (bare (full_sight m l rs w)) v event.runner event.kind) (bare_sight m l rs w')
-        (bare_step m l rs (full_sight m l rs w) (full_sight m l rs w') event.runner event.kind h.0)),
-    h.1,
-  )
+  happens_steps e = let h = happens_in_full m l rs w w' event whole e in (bare_step m l rs (sight m l rs w) (sight m l rs w') event.runner event.kind h.0, h.1)

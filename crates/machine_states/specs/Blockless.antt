@@ -1,8 +1,8 @@
 -- What a runner asks, and its part after an event, as long as no table has a block. No word of a block is a word of the
 -- table then, so each log stands in its descriptor, no run links a block, and nobody meets a word of one. The
--- definitions here say that without blocks. They ask the same, and lead to the same part but for its blocks (`Sight`).
--- This goes once the components' joins have blocks.
-use Rattle.std.specs.Prelude.{ℕ, ◌≡◌, ◌+◌, ◌-◌, ◌||◌, ◌&&◌, nat_lt, nat_le, List, [], Option, Some, None, if◌then◌else◌}
+-- definitions here say that without blocks. They ask the same, and an enabled event leads to the same part. This goes
+-- once the components' joins have blocks.
+use Rattle.std.specs.Prelude.{ℕ, ◌+◌, ◌-◌, ◌||◌, ◌&&◌, nat_lt, nat_le, List, [], Option, Some, None, if◌then◌else◌}
 use Rattle.runner_steps.specs.map_history.specs.declared.op.Request.{Request}
 use Rattle.runner_steps.specs.body_terms.specs.Memory.{cell_of}
 use Rattle.runner_steps.specs.body_terms.specs.declared.micro.Micro.{Micro}
@@ -16,7 +16,7 @@ use Rattle.runner_steps.specs.table_words.specs.Places.{slot_count}
 use Rattle.runner_steps.specs.runner_parts.specs.structure_laws.specs.Meaning.{Meaning}
 use Rattle.runner_steps.specs.runner_parts.specs.declared.event.EventKind.{EventKind}
 use Rattle.runner_steps.specs.runner_parts.specs.declared.event.EventKind.TheVariants as kinds
-use Rattle.runner_steps.specs.runner_parts.specs.State.{RunState, BlocksState, PartState}
+use Rattle.runner_steps.specs.runner_parts.specs.State.{RunState, PartState}
 use Rattle.runner_steps.specs.runner_parts.specs.Lists.{nodes_looked, descriptor_stored}
 use Rattle.runner_steps.specs.runner_parts.specs.Tests.{has, is_resting}
 use Rattle.runner_steps.specs.Sections.{is_open_run, next_of}
@@ -27,6 +27,7 @@ use Rattle.runner_steps.specs.Asks.{opening_ask, fitting, sizes_for}
 use Rattle.runner_steps.specs.AfterInRun.{with_run, filled, opened_more}
 use Rattle.runner_steps.specs.After as tables_after
 use Rattle.runner_steps.specs.After.{noted}
+use Rattle.runner_steps.specs.Blocks.{blocks_after}
 use Rattle.runner_steps.specs.Board.{board_after}
 
 -- one word is agreed on: this proposal, where the log word is still empty
@@ -138,18 +139,7 @@ abbrev pub after : Meaning → Layout → ℕ → EventKind → Spot → Access 
 after m l r kind spot access p found =
     let p' = stepped m l kind p found in
     record p' {
+      blocks = blocks_after m l kind p p.run found;
       board = board_after kind p.board found;
       records = noted l r kind spot access found p'.records;
     }
-
-abbrev pub no_blocks : BlocksState
-no_blocks = record { free = []; limbo = [] }
-
--- a part without its blocks
-abbrev pub blockless : PartState → PartState
-blockless p = record p { blocks = no_blocks }
-
--- a part that has none of them, and whose run has linked none
-pub record HasNoBlocks (p : PartState) : Type 0 where
-  pub blocks : p.blocks ≡ no_blocks
-  pub won : (q : RunState) → p.run ≡ Some q → q.won ≡ []

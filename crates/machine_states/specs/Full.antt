@@ -1,34 +1,17 @@
--- A state without its lists, with all of each runner's part: its blocks too. `Sight` shows the same state without them,
--- as long as a component's join has none.
-use Rattle.std.specs.Prelude.{◌≡◌, ℕ, ◌≤◌, List, [], Option, Some, None, slice_get}
+-- A step of the machine as it is where tables have blocks. As long as none has, `Sight` says the same without them.
+use Rattle.std.specs.Prelude.{◌≡◌, ℕ, ◌≤◌, List, Some}
 use Rattle.runner_steps.specs.map_history.specs.declared.op.Request.{Request}
 use Rattle.runner_steps.specs.table_words.specs.declared.layout.Layout.{Layout}
 use Rattle.runner_steps.specs.table_words.specs.declared.spot.Spot.{Spot}
 use Rattle.runner_steps.specs.table_words.specs.declared.access.Access.{Access}
 use Rattle.runner_steps.specs.table_words.specs.Access.{written}
 use Rattle.runner_steps.specs.table_words.specs.Places.{Fits}
-use Rattle.runner_steps.specs.table_words.specs.Seen.{seen, put}
+use Rattle.runner_steps.specs.table_words.specs.Seen.{put}
 use Rattle.runner_steps.specs.runner_parts.specs.structure_laws.specs.Meaning.{Meaning}
 use Rattle.runner_steps.specs.runner_parts.specs.declared.event.EventKind.{EventKind}
-use Rattle.runner_steps.specs.runner_parts.specs.State.{PartState}
 use Rattle.runner_steps.specs.Asks.{asks, sizes_for}
 use Rattle.runner_steps.specs.After.{after}
-use Rattle.machine_states.specs.World.{World, seat_of}
-use Rattle.machine_states.specs.First.{first_part}
-use Rattle.machine_states.specs.Blockless.{blockless}
 use Rattle.machine_states.specs.Sight.{Sight, parts_after}
-
--- a number that no runner has shows a part that has done nothing and owns nothing
-abbrev pub full_part_or_first : Option PartState → PartState
-full_part_or_first None = first_part [] [] []
-full_part_or_first (Some p) = p
-
--- the runners' parts by their numbers
-abbrev pub full_part_of : Layout → List PartState → ℕ → PartState
-full_part_of l parts r = full_part_or_first (slice_get parts (seat_of l r))
-
-abbrev pub full_sight : Meaning → Layout → List Request → World → Sight
-full_sight m l requests w = record { word = seen (sizes_for m l requests) w.words; part = full_part_of l w.parts }
 
 -- what is seen after an event that asks this
 abbrev pub full_sight_after : Meaning → Layout → Sight → ℕ → EventKind → Spot × Access → Sight
@@ -45,7 +28,3 @@ pub record FullSteps (m : Meaning) (l : Layout) (requests : List Request) (s s' 
   pub asked : asks m l requests r kind (s.part r) ≡ Some ask
   pub has_word : Fits (sizes_for m l requests) ask.0
   pub next : s' ≡ full_sight_after m l s r kind ask
-
--- the same without blocks
-abbrev pub bare : Sight → Sight
-bare s = record { word = s.word; part = λ r. blockless (s.part r) }

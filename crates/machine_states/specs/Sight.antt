@@ -1,5 +1,4 @@
--- A state without its lists: the word at each spot, and each runner's part by its number, without its blocks as long as
--- the components' joins have none.
+-- A state without its lists: the word at each spot, and each runner's part by its number.
 use Rattle.std.specs.Prelude.{◌≡◌, ℕ, ◌+◌, ◌≤◌, List, [], length, Option, Some, None, slice_get}
 use Rattle.runner_steps.specs.map_history.specs.declared.op.Request.{Request}
 use Rattle.runner_steps.specs.table_words.specs.declared.layout.Layout.{Layout}
@@ -16,7 +15,7 @@ use Rattle.runner_steps.specs.Asks.{sizes_for}
 use Rattle.runner_steps.specs.After.{leaves, knows_also}
 use Rattle.machine_states.specs.World.{World, seat_of}
 use Rattle.machine_states.specs.First.{first_part}
-use Rattle.machine_states.specs.Blockless.{asks, after, blockless}
+use Rattle.machine_states.specs.Blockless.{asks, after}
 
 pub record Sight : Type 0 where
   pub word : Spot → ℕ
@@ -25,7 +24,7 @@ pub record Sight : Type 0 where
 -- a number that no runner has shows a part that has done nothing and owns nothing
 abbrev pub part_or_first : Option PartState → PartState
 part_or_first None = first_part [] [] []
-part_or_first (Some p) = blockless p
+part_or_first (Some p) = p
 
 -- the runners' parts by their numbers
 abbrev pub part_of : Layout → List PartState → ℕ → PartState

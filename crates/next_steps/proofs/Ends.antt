@@ -310,7 +310,7 @@ module _ (m : Meaning) (l : Layout) (rs : List Request) (s s' : Sight) (r : ℕ)
 
   pub next_kept : RunsHaveNext m s → RunsHaveNext m s'
   next_kept old r' = (subst (λ (y : Sight). HaveNext m (y.part r')) (sym st.step.next)
-      (each_part m l s r st.step.ask (λ i p. HaveNext m p) (λ i p board records gone h. record { have = h.have }) kind (joins m l rs kind r (s.part r) st.step.ask st.step.asked)
+      (each_part m l s r st.step.ask (λ i p. HaveNext m p) (λ i p blocks board records gone h. record { have = h.have }) kind (joins m l rs kind r (s.part r) st.step.ask st.step.asked)
       (own_next old (s.part r).run refl (unless_gone _ (s.part r).gone _ st.step.ask st.step.asked).1)
       (λ i ne. record { have = old i }) r')).have
 

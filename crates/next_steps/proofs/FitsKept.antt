@@ -87,7 +87,7 @@ module _ (m : Meaning) (laws : Laws m) (l : Layout) (limits : IsWithinLimits l) 
         → (i : ℕ) → has (s.part i).descriptors.free d ≡ false
     unfree_before d h unfree i =
         (subst (λ (y : Sight). LeavesFree d (s.part i) (y.part i)) (sym st.step.next)
-        (each_part m l s r x (λ k p'. LeavesFree d (s.part k) p') (λ k p' board records gone h. record { back = h.back }) kind
+        (each_part m l s r x (λ k p'. LeavesFree d (s.part k) p') (λ k p' blocks board records gone h. record { back = h.back }) kind
         (joins m l rs kind r p x st.step.asked) (own_free d h p.run) (λ k ne. by_same m l d (s.part k) (s.part k) refl) i)).back (unfree i)
 
     other_fits : (d : ℕ) → publishes_at m l d p found kind ≡ false → d < descriptor_count l

@@ -14,12 +14,10 @@ use Rattle.machine_states.specs.runner_parts.specs.State.{RunState, PartState}
 use Rattle.machine_states.specs.runner_steps.specs.Sections.{is_open_run, next_of}
 use Rattle.machine_states.specs.World.{World, seat_of, acted, acts}
 use Rattle.machine_states.specs.Reached.{Reached}
-use Rattle.machine_states.specs.Blockless.{blockless}
 use Rattle.machine_states.specs.Sight.{sight, part_or_first}
 use Rattle.machine_invariant.specs.After.{AreAllowed}
 use Rattle.next_steps.specs.Steps.{opening_kind, opened_next, kind_at, ask_at, next_kind, next_ask, has_slot}
 use Rattle.next_steps.specs.Enabled.{Meets, NextIsEnabled, CanMake, RunsGoOn}
-use Rattle.next_steps.proofs.Bare.{slot_whole, meets_as, meets_whole}
 use Rattle.next_steps.proofs.Enabled.{reached_enabled}
 
 module _ (m : Meaning) (l : Layout) (rs : List Request) (w : World) (enabled : NextIsEnabled m l rs (sight m l rs w)) where
@@ -33,7 +31,7 @@ module _ (m : Meaning) (l : Layout) (rs : List Request) (w : World) (enabled : N
   }
 
   module _ (r : ℕ) (p : PartState) (q : RunState) (at : slice_get w.parts (seat_of l r) ≡ Some p) (there : p.gone ≡ false) (is : p.run ≡ Some q) where
-    seen : (sight m l rs w).part r ≡ blockless p
+    seen : (sight m l rs w).part r ≡ p
     seen = ap part_or_first at
 
     there' : ((sight m l rs w).part r).gone ≡ false
@@ -58,13 +56,11 @@ module _ (m : Meaning) (l : Layout) (rs : List Request) (w : World) (enabled : N
     go_on has = ⊎_elim
         (λ low. by_open false (closed (length q.opened) _ low)
         (makes r p (opening_kind q) (opened_next q) at
-        (meets_as m p q l rs r (opening_kind q) (opened_next q)
-        (subst (λ (y : PartState). Meets m l rs r y (opening_kind q) (opened_next q)) seen (enabled.opening r q there' is' low)))))
+        (subst (λ (y : PartState). Meets m l rs r y (opening_kind q) (opened_next q)) seen (enabled.opening r q there' is' low))))
         (λ all. by_open true ((enabled.runs r q is').goes all)
         (makes r p (kind_at p q (next_of m q)) (ask_at m p q (next_of m q)) at
-        (meets_whole m p q l rs r (next_of m q)
         (subst (λ (y : PartState). Meets m l rs r y (kind_at y q (next_of m q)) (ask_at m y q (next_of m q))) seen
-        (enabled.inside r q there' is' all (ap (λ (y : PartState). has_slot y q (next_of m q)) seen ∙ (slot_whole m p q (next_of m q) ∙ has)))))))
+        (enabled.inside r q there' is' all (ap (λ (y : PartState). has_slot y q (next_of m q)) seen ∙ has)))))
         (order (length q.opened) (enabled.runs r q is').most)
 
 pub reached_goes_on : (m : Meaning) → Laws m → (l : Layout) → IsWithinLimits l → (rs : List Request) → AreAllowed rs → (w : World)

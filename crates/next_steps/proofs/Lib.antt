@@ -17,7 +17,6 @@ mod RoomsReached
 mod Lines
 mod PartNumbers
 pub mod Numbers
-pub mod Bare
 pub mod Enabled
 pub mod GoingOn
 pub mod Stages

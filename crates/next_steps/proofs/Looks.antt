@@ -151,7 +151,7 @@ module _ (m : Meaning) (l : Layout) (rs : List Request) (s s' : Sight) (r : ℕ)
       let up = clock_up kind st in
       let on : (k : ℕ) → Small n (s.part k) = λ k. record { low = λ y e. let low = old k y e in omega (arith, low, up) } in
       (subst (λ (y : Sight). Small n (y.part i)) (sym st.step.next)
-      (each_part m l s r x (λ k p. Small n p) (λ k p board records gone h. record { low = h.low }) kind (joins m l rs kind r (s.part r) x st.step.asked)
+      (each_part m l s r x (λ k p. Small n p) (λ k p blocks board records gone h. record { low = h.low }) kind (joins m l rs kind r (s.part r) x st.step.asked)
       (by_small m l n (s.part r) (on r) (s.word x.0) kind (s.part r).run
       (λ is. let same = clock_found kind st is in omega (arith, same, up))) (λ k ne. on k) i)).low
 

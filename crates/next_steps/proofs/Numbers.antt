@@ -46,7 +46,7 @@ module _ (m : Meaning) (l : Layout) (rs : List Request) (s s' : Sight) (r : ℕ)
   parts_kept : PartsFit m l s'
   parts_kept i = subst (λ (y : Sight). PartFits m l (y.part i)) (sym st.step.next)
       (each_part m l s r st.step.ask (λ k p. PartFits m l p)
-      (λ k p board records gone h. record { free = h.free; limbo = h.limbo; published = h.published; read = h.read; walked = h.walked })
+      (λ k p blocks board records gone h. record { free = h.free; limbo = h.limbo; published = h.published; read = h.read; walked = h.walked })
       kind (joins m l rs kind r (s.part r) st.step.ask st.step.asked)
       (own_fits (s.part r).run (unless_gone _ (s.part r).gone _ st.step.ask st.step.asked).1)
       (λ k ne. old k) i)

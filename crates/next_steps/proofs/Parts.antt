@@ -9,17 +9,17 @@ use Rattle.machine_states.specs.structure_laws.specs.Meaning.{Meaning}
 use Rattle.machine_states.specs.runner_parts.specs.declared.event.EventKind.{EventKind}
 use Rattle.machine_states.specs.runner_parts.specs.declared.event.EventKind.TheVariants as kinds
 use Rattle.machine_states.specs.runner_parts.specs.declared.entries.BoardRead.{BoardRead}
-use Rattle.machine_states.specs.runner_parts.specs.State.{RecordsState, PartState}
+use Rattle.machine_states.specs.runner_parts.specs.State.{BlocksState, RecordsState, PartState}
 use Rattle.machine_states.specs.runner_steps.specs.After.{knows_also, leaves}
 use Rattle.machine_states.specs.Blockless.{after, after_by}
 use Rattle.machine_states.specs.Sight.{Sight, sight_after}
 use Rattle.machine_states.proofs.Sights.{Joins}
 use Rattle.machine_states.proofs.Updates.{upd_split}
 
--- what doesn't depend on a part's records and on its loads of the board
+-- what doesn't depend on a part's records, on its blocks and on its loads of the board
 abbrev pub IsBlind : (ℕ → PartState → Type 0) → Type 0
-IsBlind Q = (i : ℕ) (p : PartState) (board : List BoardRead) (records : RecordsState) (gone : Bool) → Q i p
-    → Q i (record p { board = board; records = records; gone = gone })
+IsBlind Q = (i : ℕ) (p : PartState) (blocks : BlocksState) (board : List BoardRead) (records : RecordsState) (gone : Bool) → Q i p
+    → Q i (record p { blocks = blocks; board = board; records = records; gone = gone })
 
 module _ (m : Meaning) (l : Layout) (s : Sight) (r : ℕ) (x : Spot × Access) (Q : ℕ → PartState → Type 0) (blind : IsBlind Q) where
   apart : (r worker runners : ℕ) → r ≡ runners → worker < runners → worker ≢ r
@@ -31,10 +31,10 @@ module _ (m : Meaning) (l : Layout) (s : Sight) (r : ℕ) (x : Spot × Access) (
   each_part (kinds.Join worker) joins own rest i =
       let p' = after m l r (kinds.Join worker) x.0 x.1 (s.part r) (s.word x.0) in
       let keeper = knows_also p' (s.part worker) in
-      let own' : Q r p' = blind r _ p'.board p'.records p'.gone own in
+      let own' : Q r p' = blind r _ p'.blocks p'.board p'.records p'.gone own in
       upd_split (upd s.part r keeper) worker (leaves (s.part worker)) Q
-      (blind worker (s.part worker) (s.part worker).board (s.part worker).records true (rest worker (apart r worker l.runners joins.0 joins.1)))
-      (λ k ne. upd_split s.part r keeper Q (blind r p' p'.board keeper.records p'.gone own') rest k) i
+      (blind worker (s.part worker) (s.part worker).blocks (s.part worker).board (s.part worker).records true (rest worker (apart r worker l.runners joins.0 joins.1)))
+      (λ k ne. upd_split s.part r keeper Q (blind r p' p'.blocks p'.board keeper.records p'.gone own') rest k) i
   each_part kind joins own rest i =
       let p' = after m l r kind x.0 x.1 (s.part r) (s.word x.0) in
-      upd_split s.part r p' Q (blind r _ p'.board p'.records p'.gone own) rest i
+      upd_split s.part r p' Q (blind r _ p'.blocks p'.board p'.records p'.gone own) rest i

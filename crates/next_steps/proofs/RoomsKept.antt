@@ -650,7 +650,7 @@ module _ (m : Meaning) (laws : Laws m) (l : Layout) (limits : IsWithinLimits l) 
     parts_kept : (i : ℕ) → SlotsHaveRoom m l s'.word (s'.part i)
     parts_kept i = subst (λ (y : Sight). SlotsHaveRoom m l s'.word (y.part i)) (sym st.step.next)
         (each_part m l s r st.step.ask (λ k p'. SlotsHaveRoom m l s'.word p')
-        (λ k p' board records gone h. record { free = h.free; made = h.made; looked = h.looked; unlooked = h.unlooked; unlooked_made = h.unlooked_made })
+        (λ k p' blocks board records gone h. record { free = h.free; made = h.made; looked = h.looked; unlooked = h.unlooked; unlooked_made = h.unlooked_made })
         kind (joins m l rs kind r p st.step.ask st.step.asked)
         (own_room p.run refl (unless_gone _ p.gone _ st.step.ask st.step.asked).1)
         (λ k ne. words_room st.beside st.whole k (λ t j own five. cell_stands m laws l limits rs allowed s s' r t j (inl (k, own)) five kind st

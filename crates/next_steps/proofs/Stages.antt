@@ -19,7 +19,7 @@ use Rattle.machine_states.specs.runner_parts.specs.State.{RunState, FinishedStat
 use Rattle.machine_states.specs.runner_steps.specs.Sections.{thunk_of, is_open_run, next_of, commits_to}
 use Rattle.machine_states.specs.runner_steps.specs.InRun.{make_slot, last_clock, stamp_after}
 use Rattle.machine_states.specs.runner_steps.specs.After.{line_after, after_by, after}
-use Rattle.machine_states.specs.Blockless.{line_ask, blockless}
+use Rattle.machine_states.specs.Blockless.{line_ask}
 use Rattle.machine_states.proofs.Blockless.{asks_same}
 use Rattle.machine_states.specs.runner_parts.specs.Lists.{cell_read, learned}
 use Rattle.machine_states.specs.runner_steps.specs.AfterInRun as inside
@@ -32,7 +32,6 @@ use Rattle.machine_invariant.proofs.After.{log_words_after}
 use Rattle.next_steps.specs.Steps.{slot_in, kind_at, ask_at, opening_kind, opened_next, has_slot}
 use Rattle.next_steps.specs.Enabled.{Meets, IsInTable, NextIsEnabled}
 use Rattle.next_steps.specs.Stages.{IsInRun, filling_slot, nodes_taking, unfilled, run_behind, nodes_behind, reads_behind, published_behind, descriptors_behind, finished_behind, IsBehind, ThenOpened, ThenStepped}
-use Rattle.next_steps.proofs.Bare.{slot_whole, meets_as, meets_whole}
 use Rattle.next_steps.proofs.Lines.{next_no_check}
 use Rattle.next_steps.proofs.Enabled.{IsKnown, next_enabled, reached_known}
 
@@ -47,7 +46,7 @@ module _ (m : Meaning) (laws : Laws m) (l : Layout) (limits : IsWithinLimits l) 
     enabled : NextIsEnabled m l rs s
     enabled = next_enabled m laws l limits rs allowed.in_order.few s known
 
-    seen : s.part r ≡ blockless p
+    seen : s.part r ≡ p
     seen = ap part_or_first is.own
 
     there : (s.part r).gone ≡ false
@@ -60,8 +59,7 @@ module _ (m : Meaning) (laws : Laws m) (l : Layout) (limits : IsWithinLimits l) 
     in_table = enabled.runs r q runs
 
     pub may_open : length q.opened < 13 → Meets m l rs r p (opening_kind q) (opened_next q)
-    may_open low = meets_as m p q l rs r (opening_kind q) (opened_next q)
-        (subst (λ (y : PartState). Meets m l rs r y (opening_kind q) (opened_next q)) seen (enabled.opening r q there runs low))
+    may_open low = subst (λ (y : PartState). Meets m l rs r y (opening_kind q) (opened_next q)) seen (enabled.opening r q there runs low)
 
     module _ (all : length q.opened ≡ 13) where
       opened : is_open_run q ≡ true
@@ -70,10 +68,9 @@ module _ (m : Meaning) (laws : Laws m) (l : Layout) (limits : IsWithinLimits l) 
       module _ (micro : Micro) (ahead : next_of m q ≡ micro) where
         pub may_step : has_slot p q micro ≡ true → Meets m l rs r p (kind_at p q micro) (ask_at m p q micro)
         may_step has = subst (λ (x : Micro). Meets m l rs r p (kind_at p q x) (ask_at m p q x)) ahead
-            (meets_whole m p q l rs r (next_of m q)
             (subst (λ (y : PartState). Meets m l rs r y (kind_at y q (next_of m q)) (ask_at m y q (next_of m q))) seen
             (enabled.inside r q there runs all
-            (ap (λ (y : PartState). has_slot y q (next_of m q)) seen ∙ (slot_whole m p q (next_of m q) ∙ (ap (has_slot p q) ahead ∙ has))))))
+            (ap (λ (y : PartState). has_slot y q (next_of m q)) seen ∙ (ap (has_slot p q) ahead ∙ has))))
 
         pub commits_behind : (k : ℕ) → commits_to micro ≡ Some k → k ≡ length q.trail
         commits_behind k commits = (log_words_after m laws l rs is.reached.events is.world limits allowed is.reached.after).next r k q runs all

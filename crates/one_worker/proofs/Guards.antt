@@ -26,10 +26,10 @@ use Rattle.machine_states.specs.World.{World, happens}
 use Rattle.machine_states.specs.First.{IsFirst}
 use Rattle.machine_states.specs.Reached.{Reached}
 use Rattle.machine_states.specs.Sight.{Sight, sight, parts_after}
-use Rattle.machine_states.specs.Full.{full_sight, full_sight_after, bare}
-use Rattle.machine_states.proofs.FirstSights.{full_first_parts}
+use Rattle.machine_states.specs.Full.{full_sight_after}
+use Rattle.machine_states.proofs.FirstSights.{first_parts}
 use Rattle.machine_states.proofs.Reached.{first_reached, more_reached, reached_has, reached_all}
-use Rattle.machine_states.proofs.Sights.{happens_in_full, bare_sight, unless_gone, cond_none}
+use Rattle.machine_states.proofs.Sights.{happens_in_full, unless_gone, cond_none}
 use Rattle.machine_states.proofs.Updates.{upd_here, upd_else, upd_split}
 use Rattle.resource_bounds.specs.machine_epochs.proofs.OutsideAsked as asked
 use Rattle.resource_bounds.specs.machine_epochs.proofs.FirstJoin as FirstJoin
@@ -170,18 +170,18 @@ module _ (m : Meaning) (l : Layout) (rs : List Request) where
   -- a reached state in which they fit
   record Has (w : World) : Type 0 where
     reached : Reached m l rs w
-    has : GuardsFit (full_sight m l rs w)
+    has : GuardsFit (sight m l rs w)
 
-  first_word : (w : World) → IsFirst m l rs w → (r : ℕ) → (full_sight m l rs w).word (Guard r) ≡ 0
+  first_word : (w : World) → IsFirst m l rs w → (r : ℕ) → (sight m l rs w).word (Guard r) ≡ 0
   first_word w first r = by_fit (fits (sizes_for m l rs) (Guard r)) refl
     where
-      by_fit : (b : Bool) → fits (sizes_for m l rs) (Guard r) ≡ b → (full_sight m l rs w).word (Guard r) ≡ 0
+      by_fit : (b : Bool) → fits (sizes_for m l rs) (Guard r) ≡ b → (sight m l rs w).word (Guard r) ≡ 0
       by_fit true is = first.words.seen (Guard r) (words.fits_means (sizes_for m l rs) (Guard r) is)
       by_fit false is = ap (λ b. cond b (slice_index w.words (address (sizes_for m l rs) (Guard r))) 0) is
 
-  first_fit : (w : World) → IsFirst m l rs w → GuardsFit (full_sight m l rs w)
+  first_fit : (w : World) → IsFirst m l rs w → GuardsFit (sight m l rs w)
   first_fit w first r =
-      let none : ((full_sight m l rs w).part r).guards.named ≡ None = ap (λ (p : PartState). p.guards.named) (full_first_parts m l w.parts first.parts r)
+      let none : ((sight m l rs w).part r).guards.named ≡ None = ap (λ (p : PartState). p.guards.named) (first_parts m l w.parts first.parts r)
       ∙ FirstJoin.each_part m l (λ (p : PartState). p.guards.named ≡ None) refl (λ k. refl) refl r in
       record { stored = first_word w first r ∙ sym (ap word_of none); away = λ out. none }
 
@@ -192,12 +192,9 @@ module _ (m : Meaning) (l : Layout) (rs : List Request) where
       record {
         reached = more_reached m l rs w v e old.reached goes;
         has = subst GuardsFit (sym step.next)
-            (kept m l rs (full_sight m l rs w) e.runner step.ask old.has e.kind (unless_gone _ _ _ step.ask step.asked).1);
+            (kept m l rs (sight m l rs w) e.runner step.ask old.has e.kind (unless_gone _ _ _ step.ask step.asked).1);
       }
 
   pub reached_fit : (w : World) → Reached m l rs w → GuardsFit (sight m l rs w)
-  reached_fit w reached = subst GuardsFit (bare_sight m l rs w) (without_blocks (full_sight m l rs w) (reached_has m l rs Has
-      (λ v start. record { reached = first_reached m l rs v start; has = first_fit v start }) step_fit w reached).has)
-    where
-      without_blocks : (s : Sight) → GuardsFit s → GuardsFit (bare s)
-      without_blocks s fit r = record { stored = (fit r).stored; away = (fit r).away }
+  reached_fit w reached = (reached_has m l rs Has
+      (λ v start. record { reached = first_reached m l rs v start; has = first_fit v start }) step_fit w reached).has

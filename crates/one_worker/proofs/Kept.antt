@@ -94,7 +94,7 @@ module _ (m : Meaning) (l : Layout) (rs : List Request) (s s' : Sight) (r : ℕ)
   -- the worker's part after the step
   moves : At 0 (s'.part 0)
   moves = subst (λ (t : Sight). At 0 (t.part 0)) (sym st.next)
-      (each_part m l s r x At (λ i z board records gone h. h) kind (joins m l rs kind r y x st.asked)
+      (each_part m l s r x At (λ i z blocks board records gone h. h) kind (joins m l rs kind r y x st.asked)
       (⊎_elim (λ stays. inl stays) (λ enters. inr (enters, refl)) stepped)
       (λ i ne. inl (record { was = λ entry e. e; walk = inl refl; few = λ h. h; noted = λ h noted. noted; none = λ noted h. h })) 0)
 
@@ -160,7 +160,7 @@ module _ (m : Meaning) (l : Layout) (rs : List Request) (s s' : Sight) (r : ℕ)
 
         there : (s'.part r).published ≡ Some (published_by p.thunk p.descriptor y)
         there = subst (λ (t : Sight). (t.part r).published ≡ Some (published_by p.thunk p.descriptor y)) (sym st.next)
-            (each_part m l s r x (λ i z. i ≡ r → z.published ≡ Some (published_by p.thunk p.descriptor y)) (λ i z board records gone h. h) kind
+            (each_part m l s r x (λ i z. i ≡ r → z.published ≡ Some (published_by p.thunk p.descriptor y)) (λ i z blocks board records gone h. h) kind
             (joins m l rs kind r y x st.asked) (λ e. now) (λ i ne e. absurd (ne e)) r refl)
 
         first : r ≡ 0
@@ -169,7 +169,7 @@ module _ (m : Meaning) (l : Layout) (rs : List Request) (s s' : Sight) (r : ℕ)
     -- no slot comes into use
     idle_stays : (i t : ℕ) → 1 ≤ idle_times (s.part i).nodes t → 1 ≤ idle_times (s'.part i).nodes t
     idle_stays i t = subst (λ (u : Sight). 1 ≤ idle_times (s.part i).nodes t → 1 ≤ idle_times (u.part i).nodes t) (sym st.next)
-        (each_part m l s r x (λ k z. 1 ≤ idle_times (s.part k).nodes t → 1 ≤ idle_times z.nodes t) (λ k z board records gone h. h) kind
+        (each_part m l s r x (λ k z. 1 ≤ idle_times (s.part k).nodes t → 1 ≤ idle_times z.nodes t) (λ k z blocks board records gone h. h) kind
         (joins m l rs kind r y x st.asked) (own_idle y.run refl) (λ k ne h. h) i)
       where
         -- the worker is entered, and the keeper doesn't use the board

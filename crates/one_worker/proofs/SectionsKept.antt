@@ -466,7 +466,7 @@ module _ (m : Meaning) (l : Layout) (limits : IsWithinLimits l) (rs : List Reque
 
   all_loaded : (i : ℕ) → Loaded i (s'.part i).run
   all_loaded = subst (λ (u : Sight). (i : ℕ) → Loaded i (u.part i).run) (sym st.next)
-      (each_part m l s r x (λ i z. Loaded i z.run) (λ i z board records gone h. h) kind (joins m l rs kind r y x st.asked) own_loaded
+      (each_part m l s r x (λ i z. Loaded i z.run) (λ i z blocks board records gone h. h) kind (joins m l rs kind r y x st.asked) own_loaded
       (λ i ne q p k w is of all at next none. old.loads i q p k w is of all at next none))
 
   loads' : (i : ℕ) (q : RunState) (p k w : ℕ) → (s'.part i).run ≡ Some q → q.descriptor ≡ d → length q.opened ≡ 13 → cd q.at ≡ micros.NestedCommit p k

@@ -181,7 +181,7 @@ module _ (m : Meaning) (l : Layout) (limits : IsWithinLimits l) (rs : List Reque
 
   at_first : At 0 (s'.part 0)
   at_first = subst (λ (t : Sight). At 0 (t.part 0)) (sym st.next)
-      (each_part m l s r x At (λ i z board records gone h. h) e.kind (joins m l rs e.kind r y x st.asked)
+      (each_part m l s r x At (λ i z blocks board records gone h. h) e.kind (joins m l rs e.kind r y x st.asked)
       (λ x1 is none. ⊎_elim (λ had. inl had) (λ new. inr (new, refl)) (stepped x1 is none))
       (λ i ne x1 is none. inl (record { is = is; grows = inl refl })) 0)
 
@@ -205,7 +205,7 @@ module _ (m : Meaning) (l : Layout) (limits : IsWithinLimits l) (rs : List Reque
 
     there : (s'.part r).published ≡ Some (published_by t d y)
     there = subst (λ (u : Sight). (u.part r).published ≡ Some (published_by t d y)) (sym st.next)
-        (each_part m l s r x (λ i z. i ≡ r → z.published ≡ Some (published_by t d y)) (λ i z board records gone h. h) e.kind
+        (each_part m l s r x (λ i z. i ≡ r → z.published ≡ Some (published_by t d y)) (λ i z blocks board records gone h. h) e.kind
         (joins m l rs e.kind r y x st.asked) (λ same. now) (λ i ne same. absurd (ne same)) r refl)
 
     is_first : r ≡ 0
@@ -305,7 +305,7 @@ module _ (m : Meaning) (l : Layout) (limits : IsWithinLimits l) (rs : List Reque
 
     same_part : (i : ℕ) → ((s'.part i).run ≡ (s.part i).run) × ((s'.part i).nodes ≡ (s.part i).nodes)
     same_part = subst (λ (u : Sight). (i : ℕ) → ((u.part i).run ≡ (s.part i).run) × ((u.part i).nodes ≡ (s.part i).nodes)) (sym st.next)
-        (each_part m l s r x (λ i z. (z.run ≡ (s.part i).run) × (z.nodes ≡ (s.part i).nodes)) (λ i z board records gone h. h) e.kind
+        (each_part m l s r x (λ i z. (z.run ≡ (s.part i).run) × (z.nodes ≡ (s.part i).nodes)) (λ i z blocks board records gone h. h) e.kind
         (joins m l rs e.kind r y x st.asked) own_part (λ i ne. (refl, refl)))
       where
         own_part : ((after_by m l e.kind y y.run found).run ≡ y.run) × ((after_by m l e.kind y y.run found).nodes ≡ y.nodes)
@@ -336,7 +336,7 @@ module _ (m : Meaning) (l : Layout) (limits : IsWithinLimits l) (rs : List Reque
 
     entered_now : (s'.part 0).stage ≡ stages.Entered ha.entry
     entered_now = subst (λ (u : Sight). (u.part 0).stage ≡ stages.Entered ha.entry) (sym st.next)
-        (each_part m l s r x (λ i z. i ≡ 0 → z.stage ≡ stages.Entered ha.entry) (λ i z board records gone h. h) e.kind
+        (each_part m l s r x (λ i z. i ≡ 0 → z.stage ≡ stages.Entered ha.entry) (λ i z blocks board records gone h. h) e.kind
         (joins m l rs e.kind r y x st.asked) (λ same. own_stage) (λ i ne same. absurd (ne (same ∙ at))) 0 refl)
       where
         by : (b : Bool) → (if b then won_part else lost_part).stage ≡ y.stage

@@ -1,6 +1,6 @@
 -- Numbers that stand once in a list and are all in a range are no more than the range has.
-use Rattle.std.specs.Prelude.{nat_lt, cond, Bool}
-use Rattle.std.proofs.Common.{◌≡◌, ◌≢◌, ℕ, zero, suc, ◌+◌, ◌<◌, ◌≤◌, List, [], ◌∷◌, ◌++◌, length, length-append, refl, sym, ap, ◌∙◌, ⊎_elim, arith}
+use Rattle.std.specs.Prelude.{nat_lt, cond}
+use Rattle.std.proofs.Common.{◌≡◌, ℕ, zero, suc, ◌+◌, ◌<◌, ◌≤◌, List, [], ◌∷◌, ◌++◌, length, length-append, refl, ap, ◌∙◌, ⊎_elim, arith}
 use Rattle.std.specs.Prelude.{◌*◌, ◌==◌}
 use Rattle.std.proofs.lemmas.Bool.{cases_eq, cases_lt}
 use Rattle.std.proofs.lemmas.Bool.Decides.{nat_tests}
@@ -11,7 +11,7 @@ use Rattle.machine_states.specs.epoch_core.specs.declared.location.Location.TheV
 use Rattle.machine_states.specs.epoch_core.specs.Lists.{times, in_free}
 use Rattle.machine_states.specs.epoch_core.proofs.Times.{times-append}
 use Rattle.machine_states.specs.Sight.{Sight}
-use Rattle.runner_facts.specs.machine_facts.specs.machine_invariant.specs.Slots.{node_count, times_among, NodesStand}
+use Rattle.runner_facts.specs.machine_facts.specs.machine_invariant.specs.Slots.{node_count, NodesStand}
 
 -- how many entries are below a number
 abbrev below : ℕ → List ℕ → ℕ

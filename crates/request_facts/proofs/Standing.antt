@@ -1,5 +1,5 @@
 -- What the history says to a runner that has its part.
-use Rattle.std.specs.Prelude.{◌&&◌, not, cond, Bool, true, false, slice_get, All}
+use Rattle.std.specs.Prelude.{◌&&◌, not, Bool, true, false, slice_get, All}
 use Rattle.std.proofs.Common.{◌≡◌, ◌≢◌, ℕ, suc, ◌≤◌, List, refl, sym, ap, ◌∙◌, subst, ⊎_elim, arith, Option, Some, None}
 use Rattle.std.proofs.lemmas.List.Elements.{All-get_or}
 use Rattle.std.proofs.lemmas.Option.{slice_get_within, get_or_from_slice_get}

@@ -271,7 +271,7 @@ module _ (m : Meaning) (laws : Laws m) (l : Layout) (limits : IsWithinLimits l) 
     -- a store of a Make into the slot that it fills
     run_now : (s'.part r).run ≡ (after_by m l kind y y.run found).run
     run_now = subst (λ (t : Sight). (t.part r).run ≡ (after_by m l kind y y.run found).run) (sym st.step.next)
-        (each_part m l s r x (λ i z. i ≡ r → z.run ≡ (after_by m l kind y y.run found).run) (λ i z board records gone h. h) kind
+        (each_part m l s r x (λ i z. i ≡ r → z.run ≡ (after_by m l kind y y.run found).run) (λ i z blocks board records gone h. h) kind
         (joins m l rs kind r y x st.step.asked) (λ e. refl) (λ i ne e. absurd (ne e)) r refl)
 
     own_slot : (made : Option ℕ) (t : ℕ) → is_slot made t ≡ true → made ≡ Some t

@@ -28,8 +28,7 @@ use Rattle.machine_states.specs.runner_parts.specs.declared.event.Event.{Event}
 use Rattle.machine_states.specs.runner_parts.specs.declared.event.EventKind.TheVariants as kinds
 use Rattle.machine_states.specs.runner_parts.specs.State.{RunState, PartState}
 use Rattle.machine_states.specs.runner_steps.specs.Asks.{opening_ask}
-use Rattle.machine_states.specs.runner_steps.specs.After.{leaves}
-use Rattle.machine_states.specs.Blockless.{ask_by, line_ask, after_by, after}
+use Rattle.machine_states.specs.Blockless.{ask_by, line_ask, after_by}
 use Rattle.machine_states.specs.runner_steps.specs.Sections.{is_open_run, next_of}
 use Rattle.machine_states.specs.World.{World}
 use Rattle.machine_states.specs.Reached.{Reached}
@@ -190,7 +189,7 @@ module _ (m : Meaning) (laws : Laws m) (l : Layout) (limits : IsWithinLimits l) 
   -- a published section stays until its publisher has run it to its end
   published_stays : (i : ℕ) (y : Published) → (s.part i).published ≡ Some y → Stays y (s'.part i).published ⊎ Ends p e.kind y.descriptor
   published_stays = parts (λ i p'. (y : Published) → (s.part i).published ≡ Some y → Stays y p'.published ⊎ Ends p e.kind y.descriptor)
-      (λ i p' board records gone h. h) own_leaves.published (λ i ne y is. inl (y, is, refl, refl))
+      (λ i p' blocks board records gone h. h) own_leaves.published (λ i ne y is. inl (y, is, refl, refl))
 
   -- a run releases a lock behind the store of its section's done word
   ended_done : (q : RunState) → p.run ≡ Some q → is_open_run q ≡ true → e.kind ≡ kinds.Release → s.word (spots.DoneWord q.descriptor) ≢ 0
@@ -246,7 +245,7 @@ module _ (m : Meaning) (laws : Laws m) (l : Layout) (limits : IsWithinLimits l) 
     }
       where
         entries : (i : ℕ) → slots_left (s.part i).nodes ≤ slots_left (s'.part i).nodes
-        entries = parts (λ i p'. slots_left (s.part i).nodes ≤ slots_left p'.nodes) (λ i p' board records gone h. h) least (λ i ne. omega arith)
+        entries = parts (λ i p'. slots_left (s.part i).nodes ≤ slots_left p'.nodes) (λ i p' blocks board records gone h. h) least (λ i ne. omega arith)
 
     -- it leaves the runner as many as it had at first, or gave away too many
     gave : Gives l (after_by m l e.kind p p.run found) → Counted m l rs s'
@@ -260,10 +259,10 @@ module _ (m : Meaning) (laws : Laws m) (l : Layout) (limits : IsWithinLimits l) 
     }
       where
         own : (i : ℕ) → i ≡ r → slots_left (after_by m l e.kind p p.run found).nodes ≤ slots_left (s'.part i).nodes
-        own = parts (λ i p'. i ≡ r → slots_left (after_by m l e.kind p p.run found).nodes ≤ slots_left p'.nodes) (λ i p' board records gone h. h) (λ same. omega arith) (λ i ne same. absurd (ne same))
+        own = parts (λ i p'. i ≡ r → slots_left (after_by m l e.kind p p.run found).nodes ≤ slots_left p'.nodes) (λ i p' blocks board records gone h. h) (λ same. omega arith) (λ i ne same. absurd (ne same))
 
         others : (i : ℕ) → i ≢ r → slots_left (s.part i).nodes ≤ slots_left (s'.part i).nodes
-        others = parts (λ i p'. i ≢ r → slots_left (s.part i).nodes ≤ slots_left p'.nodes) (λ i p' board records gone h. h) (λ ne. absurd (ne refl)) (λ i ne ne'. omega arith)
+        others = parts (λ i p'. i ≢ r → slots_left (s.part i).nodes ≤ slots_left p'.nodes) (λ i p' blocks board records gone h. h) (λ ne. absurd (ne refl)) (λ i ne ne'. omega arith)
 
     -- it does
     module _ (wins : WinsMake p (after_by m l e.kind p p.run found) e.kind found) where
@@ -375,7 +374,7 @@ module _ (m : Meaning) (laws : Laws m) (l : Layout) (limits : IsWithinLimits l) 
             (cases_eq q n)
 
         entries : (i : ℕ) → slots_left (s.part i).nodes ≤ suc (slots_left (s'.part i).nodes)
-        entries = parts (λ i p'. slots_left (s.part i).nodes ≤ suc (slots_left p'.nodes)) (λ i p' board records gone h. h) wins.less (λ i ne. omega arith)
+        entries = parts (λ i p'. slots_left (s.part i).nodes ≤ suc (slots_left p'.nodes)) (λ i p' blocks board records gone h. h) wins.less (λ i ne. omega arith)
 
         won_more : Counted m l rs s'
         won_more = record {

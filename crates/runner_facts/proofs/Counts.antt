@@ -59,7 +59,7 @@ module _ (m : Meaning) (l : Layout) (rs : List Request) (s s' : Sight) (r : ℕ)
 
   counts_kept : AsAtFirst m l s → AsAtFirst m l s'
   counts_kept old i = ap (λ (y : Sight). descriptors_of (y.part i)) st.step.next
-      ∙ (each_part m l s r st.step.ask (λ k p'. descriptors_of p' ≡ descriptors_of (s.part k)) (λ k p' board records gone h. h) kind
+      ∙ (each_part m l s r st.step.ask (λ k p'. descriptors_of p' ≡ descriptors_of (s.part k)) (λ k p' blocks board records gone h. h) kind
       (joins m l rs kind r p st.step.ask st.step.asked) (own_count p.run (unless_gone _ p.gone _ st.step.ask st.step.asked).1) (λ k ne. refl) i
       ∙ old i)
 

@@ -259,7 +259,7 @@ module _ (m : Meaning) (l : Layout) (limits : IsWithinLimits l) (rs : List Reque
 
   none_kept : ((i : ℕ) → IsKeepers i (s.part i)) → (i : ℕ) → IsKeepers i (s'.part i)
   none_kept old i = subst (λ (y : Sight). IsKeepers i (y.part i)) (sym st.step.next)
-      (each_part m l s r st.step.ask IsKeepers (λ k p' board records gone h. h) kind (joins m l rs kind r (s.part r) st.step.ask st.step.asked)
+      (each_part m l s r st.step.ask IsKeepers (λ k p' blocks board records gone h. h) kind (joins m l rs kind r (s.part r) st.step.ask st.step.asked)
       (own_none (old r)) (λ k ne. old k) i)
 
 -- what the first parts have

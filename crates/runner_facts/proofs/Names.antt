@@ -48,7 +48,7 @@ use Rattle.machine_facts.specs.machine_agreement.specs.machine_epochs.proofs.Joi
 use Rattle.machine_facts.specs.machine_agreement.specs.machine_epochs.proofs.OutsideAsked as outside_asked
 use Rattle.machine_facts.specs.machine_agreement.specs.machine_epochs.proofs.Places.{has_times}
 use Rattle.machine_facts.specs.machine_agreement.proofs.Releases.{get_more}
-use Rattle.machine_facts.specs.machine_invariant.specs.machine_blocks.specs.machine_guards.proofs.Bare.{sure_kept}
+use Rattle.machine_facts.specs.machine_invariant.specs.machine_blocks.specs.machine_guards.proofs.Safe.{sure_kept}
 use Rattle.machine_facts.specs.machine_invariant.specs.After.{AreAllowed}
 use Rattle.machine_facts.specs.machine_invariant.specs.Whole.{Beside, IsWhole}
 use Rattle.machine_facts.specs.machine_invariant.proofs.After.{reached_whole}
@@ -271,7 +271,7 @@ sure_unfree : (m : Meaning) (l : Layout) (b : Beside) (s : Sight) → IsWhole m 
     → (i : ℕ) → has (s.part i).descriptors.free d ≡ false
 sure_unfree m l b s whole r d sure i = not_has (has (s.part i).descriptors.free d) (λ h.
     let some = has_times (s.part i).descriptors.free d h in
-    let none = sure_kept m l b.agreement b.epochs s whole.guards whole.slots r i d sure in omega arith)
+    let none = sure_kept m l whole.guards.chain b.agreement b.epochs s whole.slots whole.guards.stands r i d sure in omega arith)
 
 -- what holds of the last readings, of sure runners and of entered ones
 record AllSay (m : Meaning) (s : Sight) : Type 0 where
@@ -319,7 +319,7 @@ module _ (m : Meaning) (laws : Laws m) (l : Layout) (limits : IsWithinLimits l) 
 
   looks_after : (i : ℕ) → Looks m l (s.part i) found x (s'.part i)
   looks_after i = subst (λ (y : Sight). Looks m l (s.part i) found x (y.part i)) (sym st.step.next)
-      (each_part m l s r x (λ k p'. Looks m l (s.part k) found x p') (λ k p' board records gone h. record { sure = λ place word d read e. h.sure place word d (record { at = read.at; here = read.here; last = read.last }) e; own = λ entry place word d at read has_it. h.own entry place word d at (record { at = read.at; here = read.here; last = read.last }) has_it }) kind
+      (each_part m l s r x (λ k p'. Looks m l (s.part k) found x p') (λ k p' blocks board records gone h. record { sure = λ place word d read e. h.sure place word d (record { at = read.at; here = read.here; last = read.last }) e; own = λ entry place word d at read has_it. h.own entry place word d at (record { at = read.at; here = read.here; last = read.last }) has_it }) kind
       (joins m l rs kind r p x st.step.asked) (own_looks p.run asks_by) (λ k ne. unchanged m l (s.part k) found x) i)
 
   all_say : AllSay m s → AllSay m s'

@@ -43,7 +43,7 @@ module _ (m : Meaning) (l : Layout) (rs : List Request) (s s' : Sight) (r : ℕ)
 
   kept : OwnStand l s → OwnStand l s'
   kept old i d low from to = subst (λ (y : Sight). HasOwn (y.part i) d) (sym st.step.next)
-      (each_part m l s r st.step.ask (λ k p'. HasOwn (s.part k) d → HasOwn p' d) (λ k p' board records gone h. h) kind
+      (each_part m l s r st.step.ask (λ k p'. HasOwn (s.part k) d → HasOwn p' d) (λ k p' blocks board records gone h. h) kind
       (joins m l rs kind r p st.step.ask st.step.asked) (own d p.run (unless_gone _ p.gone _ st.step.ask st.step.asked).1) (λ k ne h. h) i
       (old i d low from to))
 

@@ -21,7 +21,6 @@ use Rattle.idem_cell.specs.machine_states.specs.epoch_core.specs.declared.locati
 use Rattle.idem_cell.specs.machine_states.specs.epoch_core.specs.History.{is_out}
 use Rattle.idem_cell.specs.machine_states.specs.epoch_core.specs.State.{IsKept}
 use Rattle.idem_cell.specs.machine_states.specs.Sight.{Sight, sight, part_or_first}
-use Rattle.idem_cell.specs.machine_states.specs.Blockless.{blockless}
 use Rattle.idem_cell.specs.machine_epochs.specs.Slots.{thunk_in}
 use Rattle.idem_cell.specs.machine_epochs.proofs.Joining.{thunk_same}
 use Rattle.nested_lock.specs.machine_facts.specs.machine_agreement.proofs.RunPlaces.{opened_thunk}
@@ -80,10 +79,10 @@ module _ {T : Type 0} (m : Meaning) (laws : Laws m) (last new : RunnerState T) (
   abbrev s1 : Sight
   s1 = sight m new.layout new.requests step.event.shown.world
 
-  part0 : s0.part new.number ≡ blockless last.part
+  part0 : s0.part new.number ≡ last.part
   part0 = ap part_or_first step.event.shown.was_own
 
-  part1 : s1.part new.number ≡ blockless new.part
+  part1 : s1.part new.number ≡ new.part
   part1 = ap part_or_first step.event.shown.own
 
   runs : (s0.part new.number).run ≡ Some q

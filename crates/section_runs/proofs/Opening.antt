@@ -24,7 +24,6 @@ use Rattle.idem_cell.specs.machine_states.specs.runner_steps.specs.After.{after_
 use Rattle.nested_lock.specs.machine_facts.specs.machine_agreement.proofs.LineKinds.{noted_finished}
 use Rattle.section_runs.proofs.Noted.{noting}
 use Rattle.idem_cell.specs.machine_states.specs.Sight.{sight, part_or_first}
-use Rattle.idem_cell.specs.machine_states.specs.Blockless.{blockless}
 use Rattle.idem_cell.specs.machine_epochs.proofs.OutsideAsked.{named_is}
 use Rattle.nested_lock.specs.machine_facts.specs.machine_invariant.specs.After.{AreAllowed}
 use Rattle.idem_alloc.specs.commit_log.specs.next_steps.specs.Stages.{IsInRun}
@@ -79,7 +78,7 @@ module _ {T : Type 0} (m : Meaning) (laws : Laws m) (t : TableState T) (limits :
     fits = (reached_numbers m laws r.layout within r.requests few is.reached.world is.reached.reached).guarded r.number d
         (ap (λ (p : PartState). p.guards.named) seen ∙ named_is r.part.guards.named d (and_parts _ _ sure_now).1)
       where
-        seen : (sight m r.layout r.requests is.reached.world).part r.number ≡ blockless r.part
+        seen : (sight m r.layout r.requests is.reached.world).part r.number ≡ r.part
         seen = ap part_or_first is.reached.own
 
     in_run : (q : RunState) → r.part.run ≡ Some q → IsInRun m r.layout r.requests r.number r.part q

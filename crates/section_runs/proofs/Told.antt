@@ -27,7 +27,6 @@ use Rattle.idem_cell.specs.machine_states.specs.runner_parts.specs.Tests.{knows,
 use Rattle.idem_cell.specs.machine_states.specs.runner_steps.specs.AfterInRun.{ended_more}
 use Rattle.idem_cell.specs.machine_states.specs.runner_steps.specs.Sections.{thunk_of, line_of, setting_of, outcome_of, outcome_or, reply_in, settles}
 use Rattle.idem_cell.specs.machine_states.specs.Sight.{sight, part_or_first}
-use Rattle.idem_cell.specs.machine_states.specs.Blockless.{blockless}
 use Rattle.idem_cell.specs.machine_states.proofs.Steps.{some_same, none_some}
 use Rattle.nested_lock.specs.machine_facts.specs.machine_agreement.proofs.Passes.{resting}
 use Rattle.nested_lock.specs.machine_facts.specs.machine_invariant.specs.After.{AreAllowed}
@@ -204,7 +203,7 @@ module _ {T : Type 0} (m : Meaning) (laws : Laws m) (t : TableState T) (limits :
       ((reached_told m laws r.layout r.requests (subst IsWithinLimits (sym own.layout) limits) (subst AreAllowed (sym own.requests) allowed)
       step.running.inside.world step.running.inside.reached r.number).told q (ap (λ (p : PartState). p.run) seen ∙ step.running.inside.running) i low)
     where
-      seen : (sight m r.layout r.requests step.running.inside.world).part r.number ≡ blockless r.part
+      seen : (sight m r.layout r.requests step.running.inside.world).part r.number ≡ r.part
       seen = ap part_or_first step.running.inside.own
 
   both_known : (known : List Known) → knows known request false ≡ true → knows known request true ≡ true → is_answered known request ≡ true

@@ -21,7 +21,6 @@ use Rattle.machine_states.specs.runner_parts.specs.State.{PartState}
 use Rattle.machine_states.specs.runner_parts.specs.Tests.{knows, is_answered, is_between}
 use Rattle.machine_states.specs.runner_steps.specs.Outside.{entry_spot}
 use Rattle.machine_states.specs.Sight.{Sight, sight, part_or_first}
-use Rattle.machine_states.specs.Blockless.{blockless}
 use Rattle.machine_states.specs.World.{seat_of}
 use Rattle.machine_states.specs.Reached.{Reached}
 use Rattle.machine_states.proofs.Steps.{some_same}
@@ -103,7 +102,7 @@ module _ {T : Type 0} (m : Meaning) (laws : Laws m) (r : RunnerState T) (limits 
   abbrev pub s : Sight
   s = sight m r.layout r.requests is.world
 
-  pub here : s.part r.number ≡ blockless r.part
+  pub here : s.part r.number ≡ r.part
   here = ap part_or_first is.own
 
   pub history : HasHistory m r.layout r.requests s

@@ -10,7 +10,6 @@ use Rattle.machine_states.specs.runner_parts.specs.State.{PartState}
 use Rattle.machine_states.specs.runner_parts.specs.Tests.{is_answered}
 use Rattle.machine_states.specs.runner_steps.specs.Outside.{entry_spot}
 use Rattle.machine_states.specs.Sight.{sight, part_or_first}
-use Rattle.machine_states.specs.Blockless.{blockless}
 use Rattle.attempt_bounds.specs.version_words.specs.machine_invariant.specs.After.{AreAllowed}
 use Rattle.attempt_bounds.specs.one_worker.specs.machine_facts.specs.Known.{KnownStand}
 use Rattle.attempt_bounds.specs.one_worker.specs.machine_facts.proofs.Following.{facts_after}
@@ -36,7 +35,7 @@ stamp_of known n e = let h = entry_of known n false (and_parts _ _ e).0 in (h.en
 
 module _ {T : Type 0} (m : Meaning) (laws : Laws m) (r : RunnerState T) (limits : IsWithinLimits r.layout) (allowed : AreAllowed r.requests)
     (reached : IsReached m r) where
-  here : (sight m r.layout r.requests reached.world).part r.number ≡ blockless r.part
+  here : (sight m r.layout r.requests reached.world).part r.number ≡ r.part
   here = ap part_or_first reached.own
 
   stand : KnownStand (sight m r.layout r.requests reached.world)

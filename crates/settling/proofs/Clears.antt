@@ -26,9 +26,8 @@ use Rattle.machine_states.specs.runner_steps.specs.Outside.{when}
 use Rattle.machine_states.specs.runner_steps.specs.Asks.{ask_by, fitting, sizes_for}
 use Rattle.machine_states.specs.runner_steps.specs.AfterInRun.{kept_unless}
 use Rattle.machine_states.specs.Blockless as bare
-use Rattle.machine_states.proofs.Blockless.{unblocked, after_bare}
+use Rattle.machine_states.proofs.Blockless.{unblocked, after_same}
 use Rattle.machine_states.specs.Sight.{Sight, sight, part_or_first}
-use Rattle.machine_states.specs.Blockless.{blockless}
 use Rattle.machine_states.specs.Reached.{Reached}
 use Rattle.machine_states.specs.World.{World, seat_of}
 use Rattle.machine_states.specs.map_history.specs.declared.op.Request.{Request}
@@ -253,12 +252,12 @@ module _ {T : Type 0} (m : Meaning) (begun below : ℕ) (a b : RunnerState T) (i
 
       left_more : b.part.records.left ≡ a.part.records.left ++ record { spot = spots.Cell place; number = found } ∷ []
       left_more =
-          let part : blockless b.part ≡ bare.after m a.layout a.number load made.met.0 made.met.1 (blockless a.part) found
-          = ap (λ (y : RunnerState T). blockless y.part) made.made
-          ∙ after_bare m a.layout a.requests a.number a.part found made.met load (unblocked m a.layout a.requests a.number load a.part made.met made.asked) in
+          let part : b.part ≡ bare.after m a.layout a.number load made.met.0 made.met.1 a.part found
+          = ap (λ (y : RunnerState T). y.part) made.made
+          ∙ after_same m a.layout a.requests a.number a.part found made.met load (unblocked m a.layout a.requests a.number load a.part made.met made.asked) in
           ap (λ (p : PartState). p.records.left) part
-          ∙ (noted_left a.layout a.number is.keeper load made.met.0 made.met.1 found (bare.after_by m a.layout load (blockless a.part) a.part.run found).records refl
-          ∙ (ap (λ (z : List ℕ × List Left). z.1 ++ record { spot = made.met.0; number = written made.met.1 found } ∷ []) (after_keeps m a.layout (blockless a.part) found load refl a.part.run)
+          ∙ (noted_left a.layout a.number is.keeper load made.met.0 made.met.1 found (bare.after_by m a.layout load a.part a.part.run found).records refl
+          ∙ (ap (λ (z : List ℕ × List Left). z.1 ++ record { spot = made.met.0; number = written made.met.1 found } ∷ []) (after_keeps m a.layout a.part found load refl a.part.run)
           ∙ (λ i. a.part.records.left ++ record { spot = (met i).0; number = written (met i).1 found } ∷ [])))
 
       pub has_word : HasLeft b.part.records.left place found
@@ -413,7 +412,7 @@ module _ {T : Type 0} (m : Meaning) (laws : Laws m) (t : TableState T) (limits :
         abbrev s1 : Sight
         s1 = sight m r1.layout r1.requests watched.reached.world
 
-        part1 : s1.part r1.layout.runners ≡ blockless r1.part
+        part1 : s1.part r1.layout.runners ≡ r1.part
         part1 = ap (λ n. part_or_first (slice_get watched.reached.world.parts (seat_of r1.layout n))) (sym way1.keeper) ∙ ap part_or_first watched.reached.own
 
         joined1 : AllJoined r1.layout s1
@@ -490,7 +489,7 @@ module _ {T : Type 0} (m : Meaning) (laws : Laws m) (t : TableState T) (limits :
           told2 : (worker : ℕ) → worker < r2.layout.runners → has r2.part.records.joined worker ≡ true
           told2 worker low = ap (λ xs. has xs worker) grows2.told ∙ way1.told worker (subst (λ l. worker < l.runners) ends.layout low)
 
-          part2 : s2.part r2.layout.runners ≡ blockless r2.part
+          part2 : s2.part r2.layout.runners ≡ r2.part
           part2 = ap (λ n. part_or_first (slice_get ends.reached.world.parts (seat_of r2.layout n))) (sym keeper2) ∙ ap part_or_first ends.reached.own
 
           joined2 : AllJoined r2.layout s2

@@ -13,8 +13,8 @@ use Rattle.machine_states.specs.runner_parts.specs.declared.event.EventKind.{Eve
 use Rattle.machine_states.specs.runner_parts.specs.declared.event.EventKind.TheVariants as kinds
 use Rattle.machine_states.specs.runner_parts.specs.State.{RunState, RecordsState, PartState}
 use Rattle.machine_states.specs.runner_steps.specs.After.{left_more, is_late_join, noted}
-use Rattle.machine_states.specs.Blockless.{after_by, after, blockless}
-use Rattle.machine_states.proofs.Blockless.{unblocked, after_bare}
+use Rattle.machine_states.specs.Blockless.{after_by, after}
+use Rattle.machine_states.proofs.Blockless.{unblocked, after_same}
 use Rattle.machine_states.specs.World.{is_join}
 use Rattle.keeper_facts.specs.runner_facts.specs.next_steps.specs.Steps.{kind_at}
 use Rattle.keeper_facts.proofs.Keeping.{after_keeps, noted_joined}
@@ -109,9 +109,9 @@ opening_plain _ is = absurd (let z = is in cc)
 module _ {T : Type 0} (m : Meaning) where
   pub grows_made : (kind : EventKind) (found : ℕ) (r r' : RunnerState T) → is_plain kind ≡ true → Makes m kind found r r' → Grows r r'
   grows_made kind found r r' is made =
-      let part : blockless r'.part ≡ after m r.layout r.number kind made.met.0 made.met.1 (blockless r.part) found
-      = ap (λ (y : RunnerState T). blockless y.part) made.made
-      ∙ after_bare m r.layout r.requests r.number r.part found made.met kind (unblocked m r.layout r.requests r.number kind r.part made.met made.asked) in
+      let part : r'.part ≡ after m r.layout r.number kind made.met.0 made.met.1 r.part found
+      = ap (λ (y : RunnerState T). y.part) made.made
+      ∙ after_same m r.layout r.requests r.number r.part found made.met kind (unblocked m r.layout r.requests r.number kind r.part made.met made.asked) in
       record {
         table = ap (λ (y : RunnerState T). y.table) made.made;
         structure = ap (λ (y : RunnerState T). y.structure) made.made;
@@ -120,14 +120,14 @@ module _ {T : Type 0} (m : Meaning) where
         number = ap (λ (y : RunnerState T). y.number) made.made;
         joined = ap (λ (y : RunnerState T). y.joined) made.made;
         told = ap (λ (p : PartState). p.records.joined) part
-            ∙ (noted_joined r.layout r.number kind made.met.0 made.met.1 found (after_by m r.layout kind (blockless r.part) r.part.run found).records ∙ ap (λ (z : List ℕ × List Left). z.0) (after_keeps m r.layout (blockless r.part) found kind (plain_join kind is) r.part.run));
+            ∙ (noted_joined r.layout r.number kind made.met.0 made.met.1 found (after_by m r.layout kind r.part r.part.run found).records ∙ ap (λ (z : List ℕ × List Left). z.0) (after_keeps m r.layout r.part found kind (plain_join kind is) r.part.run));
         crosses = ap (λ (p : PartState). p.records.crosses) part
-            ∙ (ap (λ (b : Bool). b || (after_by m r.layout kind (blockless r.part) r.part.run found).records.crosses) (plain_late kind (after_by m r.layout kind (blockless r.part) r.part.run found).records.epoch_seen is)
-            ∙ ap (λ (z : ℕ × (Bool × Bool)). z.1.1) (stays m r.layout (blockless r.part) found kind r.part.run).kept);
+            ∙ (ap (λ (b : Bool). b || (after_by m r.layout kind r.part r.part.run found).records.crosses) (plain_late kind (after_by m r.layout kind r.part r.part.run found).records.epoch_seen is)
+            ∙ ap (λ (z : ℕ × (Bool × Bool)). z.1.1) (stays m r.layout r.part found kind r.part.run).kept);
         left = subst (IsFront r.part.records.left) (sym (ap (λ (p : PartState). p.records.left) part))
-            (subst (λ xs. IsFront xs (noted r.layout r.number kind made.met.0 made.met.1 found (after_by m r.layout kind (blockless r.part) r.part.run found).records).left)
-            (ap (λ (z : List ℕ × List Left). z.1) (after_keeps m r.layout (blockless r.part) found kind (plain_join kind is) r.part.run))
-            (noted_grows r.layout r.number kind made.met.0 made.met.1 found (after_by m r.layout kind (blockless r.part) r.part.run found).records is));
+            (subst (λ xs. IsFront xs (noted r.layout r.number kind made.met.0 made.met.1 found (after_by m r.layout kind r.part r.part.run found).records).left)
+            (ap (λ (z : List ℕ × List Left). z.1) (after_keeps m r.layout r.part found kind (plain_join kind is) r.part.run))
+            (noted_grows r.layout r.number kind made.met.0 made.met.1 found (after_by m r.layout kind r.part r.part.run found).records is));
       }
 
   pub grows_ran : (n : ℕ) (a b : RunnerState T) → Ran m n a b → Grows a b

@@ -15,7 +15,6 @@ use Rattle.machine_states.specs.runner_parts.specs.State.{NodesState, GuardsStat
 use Rattle.machine_states.specs.runner_parts.specs.Tests.{has}
 use Rattle.machine_states.specs.Reached.{Reached}
 use Rattle.machine_states.specs.Sight.{Sight, sight, part_or_first}
-use Rattle.machine_states.specs.Blockless.{blockless}
 use Rattle.machine_states.specs.World.{World, seat_of}
 use Rattle.reached_histories.specs.machine_facts.specs.machine_invariant.specs.After.{AreAllowed}
 use Rattle.keeper_facts.specs.runner_facts.specs.Keeper.{AllJoined}
@@ -96,7 +95,7 @@ module _ {T : Type 0} (m : Meaning) (laws : Laws m) (t : TableState T) (limits :
       few : AreAllowed new.requests
       few = subst AreAllowed (sym own'.requests) allowed
 
-      seen : s.part new.layout.runners ≡ blockless new.part
+      seen : s.part new.layout.runners ≡ new.part
       seen = ap (λ n. part_or_first (slice_get w.parts (seat_of new.layout n))) (sym keeper) ∙ ap part_or_first part
 
       joined : AllJoined new.layout s

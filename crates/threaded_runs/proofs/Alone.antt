@@ -7,7 +7,6 @@ use Rattle.std.proofs.lemmas.Bool.Decides.{nat_tests}
 use Rattle.std.proofs.lemmas.Nat.{mul-le}
 use Rattle.std.proofs.lemmas.Option.{slice_get-get_or}
 use Rattle.std.proofs.Math.Nat.{mod-one}
-use Rattle.machine_states.specs.Blockless.{blockless}
 use Rattle.machine_states.specs.map_history.specs.declared.op.Op.TheVariants.{Get}
 use Rattle.machine_states.specs.map_history.specs.declared.op.Request.{Request}
 use Rattle.machine_states.specs.map_history.specs.Replay.{Pairs}
@@ -78,16 +77,16 @@ most : (per_pair size largest : ℕ) → size ≤ largest → per_pair * size �
 most per_pair size largest few = mul-le per_pair size per_pair largest (omega arith) few
 
 module _ {T : Type 0} (m : Meaning) (t : TableState T) (keeper : RunnerState T) (w : WordsState T) (closing : IsClosing m t keeper w)
-    (one : t.layout.runners ≡ 1) (p : PartState) (p_is : (end m t keeper w closing).part 0 ≡ blockless (leaves p))
+    (one : t.layout.runners ≡ 1) (p : PartState) (p_is : (end m t keeper w closing).part 0 ≡ leaves p)
     (unpublished : p.published ≡ None) where
   abbrev last : Sight
   last = end m t keeper w closing
 
-  keeper_is : last.part t.layout.runners ≡ blockless keeper.part
+  keeper_is : last.part t.layout.runners ≡ keeper.part
   keeper_is = ap (λ (b : Bool). part_or_first (slice_get closing.world.parts (if b then 0 else suc t.layout.runners)))
       (eq-eqb t.layout.runners t.layout.runners refl) ∙ ap part_or_first closing.keeper_part
 
-  pub second_is : last.part 1 ≡ blockless keeper.part
+  pub second_is : last.part 1 ≡ keeper.part
   second_is = ap last.part (sym one) ∙ keeper_is
 
   -- a worker that published nothing left no section to the keeper

@@ -5,7 +5,6 @@ use mathlib.Core.Logic.{dite}
 use native.Mathlib.Decide.{ℕ_discrete}
 use Rattle.std.proofs.lemmas.Bool.{cases_lt}
 use Rattle.std.proofs.lemmas.Option.{slice_get_within}
-use Rattle.machine_states.specs.Blockless.{blockless}
 use Rattle.machine_states.specs.epoch_core.specs.small_lemmas.proofs.Bools.{from_both as true_false}
 use Rattle.machine_states.specs.map_history.specs.declared.op.Request.{Request}
 use Rattle.machine_states.specs.table_words.specs.declared.layout.Layout.{Layout}
@@ -94,7 +93,7 @@ module _ {T : Type 0} (m : Meaning) (t : TableState T) (keeper : RunnerState T) 
   known_entry history worker n known_so = λ zero_stamp. (history.asked.known worker n known_so).some (sym (word_is (Stamp n)) ∙ zero_stamp)
 
   -- a joined worker has there the part that the keeper keeps
-  pub part_is : (worker : ℕ) (p : PartState) → worker < t.layout.runners → left_part keeper.joined worker ≡ Some (leaves p) → end.part worker ≡ blockless (leaves p)
+  pub part_is : (worker : ℕ) (p : PartState) → worker < t.layout.runners → left_part keeper.joined worker ≡ Some (leaves p) → end.part worker ≡ leaves p
   part_is worker p few kept = ap (λ (b : Bool). part_or_first (slice_get closing.world.parts (if b then 0 else suc worker))) (ne_eqb worker t.layout.runners (λ e. omega (arith, few, e)))
       ∙ ap part_or_first (closing.worker_parts worker few ∙ kept)
 
@@ -104,7 +103,7 @@ module _ {T : Type 0} (m : Meaning) (t : TableState T) (keeper : RunnerState T) 
 
   module _ (is_map : m.is_map ≡ true) (history : HasHistory m t.layout t.requests end) (callers : CallersStand m t.layout t.requests end)
       (worker : ℕ) (own : List Request) (retry_short reads_free : Bool) (planning : Planning) (answer : Served) (old new : RunnerState T)
-      (part : end.part worker ≡ blockless (leaves new.part)) (Seen : ℕ → Asks → Type 0) (first : ℕ) (asks asks' : Asks)
+      (part : end.part worker ≡ leaves new.part) (Seen : ℕ → Asks → Type 0) (first : ℕ) (asks asks' : Asks)
       (tries : List Try) (left : Leaves m planning retry_short reads_free own answer tries old new Seen first asks asks')
       (there : (i : ℕ) (q : Request) → slice_get own i ≡ Some q → slice_get t.requests q.number ≡ Some q)
       (trace : (i : ℕ) (q : Request) → slice_get own i ≡ Some q → q.trace % t.layout.runners ≡ worker)

@@ -3,7 +3,6 @@ use Rattle.std.specs.Prelude.{◌%◌, ◌*◌, ◌-◌, ◌^◌, ◌==◌, ◌�
 use Rattle.std.proofs.Common.{◌≡◌, ◌≢◌, ℕ, suc, ◌+◌, ◌<◌, ◌≤◌, List, length, sym, ap, ◌∙◌, subst, arith, true, Option, None, Some, get_or, eq-eqb, if◌then◌else◌, ⊎_elim, inl, inr}
 use Rattle.std.proofs.lemmas.Option.{slice_get_within, get_or_from_slice_get}
 use Rattle.std.proofs.Math.Nat.{mod-lt}
-use Rattle.machine_states.specs.Blockless.{blockless}
 use Rattle.machine_states.specs.map_history.specs.declared.op.Request.{Request}
 use Rattle.machine_states.specs.map_history.specs.Requests.{AreInOrder}
 use Rattle.machine_states.specs.body_terms.specs.Word.{value_of}
@@ -117,7 +116,7 @@ module _ {T : Type 0} (m : Meaning) (planning : Planning) (retry_short reads_fre
       is_kept : (a : Served) → IsKept gathered worker (get_or answers worker a) f
       is_kept a = kept worker a (some_of finished worker comes) answers_too
 
-      part : (end m t keeper w closing).part worker ≡ blockless (leaves f.runner.part)
+      part : (end m t keeper w closing).part worker ≡ leaves f.runner.part
       part = part_is m t keeper w closing worker f.runner.part low (ap (λ js. left_part js worker) settles.joined ∙ (is_kept stops.All).part)
 
       above : ((end m t keeper w closing).part worker).records.gave_above ≡ true

@@ -3,7 +3,6 @@ use Rattle.std.specs.Prelude.{◌*◌, Bool, slice_get, ◌==◌, not, count_by}
 use Rattle.std.proofs.Common.{◌≡◌, ◌≢◌, ℕ, ◌+◌, ◌^◌, ◌<◌, ◌≤◌, List, length, refl, sym, ap, ◌∙◌, subst, arith, ⊎_elim, true, false, Option, Some, get_or, ne_eqb}
 use Rattle.std.proofs.lemmas.Nat.{mul-le}
 use Rattle.std.proofs.lemmas.Option.{slice_get-get_or, get_or_from_slice_get}
-use Rattle.machine_states.specs.Blockless.{blockless}
 use Rattle.machine_states.specs.map_history.specs.declared.op.Request.{Request}
 use Rattle.map_sizes.specs.Sizes.{peak}
 use Rattle.machine_states.specs.body_terms.specs.Word.{version_of}
@@ -131,7 +130,7 @@ module _ {T H : Type 0} (m : Meaning) (planning : Planning) (retry_short reads_f
   abbrev p : PartState
   p = f.runner.part
 
-  p_is : (end m t keeper w closing).part 0 ≡ blockless (leaves p)
+  p_is : (end m t keeper w closing).part 0 ≡ leaves p
   p_is = part_is m t keeper w closing 0 p low (ap (λ js. left_part js 0) settles.joined ∙ (kept 0 stops.All (some_of finished 0 (subst (λ (n : ℕ). 0 < n) (sym back) seat)) here).part)
 
   -- a runner of this table is one of a table with one worker

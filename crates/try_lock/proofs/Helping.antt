@@ -13,7 +13,6 @@ use Rattle.machine_states.specs.runner_parts.specs.State.{RunState, PartState}
 use Rattle.machine_states.specs.runner_steps.specs.Sections.{thunk_of}
 use Rattle.machine_epochs.specs.Slots.{thunk_in}
 use Rattle.machine_states.specs.Sight.{Sight, sight, part_or_first}
-use Rattle.machine_states.specs.Blockless.{blockless}
 use Rattle.section_runs.specs.commit_log.specs.version_words.specs.RunnerState.{RunnerState}
 use Rattle.section_runs.specs.machine_facts.specs.machine_agreement.proofs.RunPlaces.{opened_thunk}
 use Rattle.section_runs.specs.machine_facts.specs.machine_invariant.specs.After.{AreAllowed}
@@ -45,7 +44,7 @@ module _ {T : Type 0} (m : Meaning) where
     facts = facts_after m laws r.layout r.requests ends.opening.inside.inside.reached.events ends.opening.inside.inside.world
         (subst IsWithinLimits (sym ends.opening.stays.layout) limits) (subst AreAllowed (sym ends.opening.stays.requests) allowed) ends.opening.inside.inside.reached.after
 
-    part : s.part r.number ≡ blockless r.part
+    part : s.part r.number ≡ r.part
     part = ap part_or_first ends.opening.inside.inside.own
 
     q_is : run_of r ≡ opening d ends.opening.words

@@ -28,11 +28,10 @@ use Rattle.machine_states.specs.runner_steps.specs.Outside.{when, is_ready, is_p
 use Rattle.machine_states.specs.runner_steps.specs.AfterOutside.{hold_after, published_by}
 use Rattle.machine_states.specs.runner_steps.specs.Asks.{asks}
 use Rattle.machine_states.specs.Sight.{Sight, sight, part_or_first, Steps}
-use Rattle.machine_states.specs.Blockless.{blockless}
 use Rattle.machine_states.specs.Sight as states
 use Rattle.machine_states.proofs.Reached.{reached_all}
 use Rattle.machine_states.specs.Blockless as bare
-use Rattle.machine_states.proofs.Blockless.{asks_seen}
+use Rattle.machine_states.proofs.Blockless.{asks_same}
 use Rattle.machine_states.proofs.Steps.{some_same}
 use Rattle.machine_states.proofs.Sights.{happens_steps}
 use Rattle.machine_epochs.proofs.SectionKinds.{stored_index, replicate_index, log_spot}
@@ -87,7 +86,7 @@ guarded m d t r b g epoch at ready guard =
 
 module _ {T : Type 0} (m : Meaning) where
   -- the part of a runner in a state that the machine reaches
-  fits : Laws m → (r : RunnerState T) → IsWithinLimits r.layout → AreAllowed r.requests → IsReached m r → PartFits m r.layout (blockless r.part)
+  fits : Laws m → (r : RunnerState T) → IsWithinLimits r.layout → AreAllowed r.requests → IsReached m r → PartFits m r.layout r.part
   fits laws r limits allowed is =
       subst (λ (p : PartState). PartFits m r.layout p) (ap part_or_first is.own) ((reached_numbers m laws r.layout limits r.requests allowed is.world is.reached).parts r.number)
 
@@ -260,10 +259,10 @@ module _ {T : Type 0} (m : Meaning) (laws : Laws m) (t : Thunk) (d found : ℕ) 
   facts : AreFactsOfStep m l rs made.shown.before (record { runner = r'.number; kind = kinds.Hold t d }) made.shown.world
   facts = step_facts_after m laws l rs made.shown.was_reached.events made.shown.before limits' allowed' made.shown.was_reached.after (record { runner = r'.number; kind = kinds.Hold t d }) made.shown.world made.shown.happened
 
-  here : (sight m l rs made.shown.world).part r'.number ≡ blockless r'.part
+  here : (sight m l rs made.shown.world).part r'.number ≡ r'.part
   here = ap part_or_first made.shown.own
 
-  before : (sight m l rs made.shown.before).part r'.number ≡ blockless b.part
+  before : (sight m l rs made.shown.before).part r'.number ≡ b.part
   before = ap part_or_first made.shown.was_own
 
   complete : states.IsWhole m l rs made.shown.before
@@ -278,7 +277,7 @@ module _ {T : Type 0} (m : Meaning) (laws : Laws m) (t : Thunk) (d found : ℕ) 
   lock_spot : step.ask.0 ≡ spots.Cell t.lock
   lock_spot =
       let same = some_same step.ask made.met (sym step.asked ∙ (ap (bare.asks m l rs r'.number (kinds.Hold t d)) before
-      ∙ (asks_seen m l rs r'.number (kinds.Hold t d) b.part ∙ (λ i. asks m (made.made i).layout (made.made i).requests (made.made i).number (kinds.Hold t d) b.part) ∙ made.asked))) in
+      ∙ (sym (asks_same m l rs r'.number (kinds.Hold t d) b.part) ∙ (λ i. asks m (made.made i).layout (made.made i).requests (made.made i).number (kinds.Hold t d) b.part) ∙ made.asked))) in
       ap (λ (x : Spot × Access). x.0) (same ∙ (holds_so m b t d (record { met = made.met; asked = made.asked })).met)
 
   same_word : (spot : Spot) → (sight m l rs made.shown.world).word spot ≡ put word (spots.Cell t.lock) (written step.ask.1 (word step.ask.0)) spot

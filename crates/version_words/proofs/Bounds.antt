@@ -22,7 +22,6 @@ use Rattle.machine_states.specs.epoch_core.specs.Lists.{times}
 use Rattle.machine_states.specs.World.{World, seat_of}
 use Rattle.machine_states.specs.Reached.{Reached}
 use Rattle.machine_states.specs.Sight.{sight, part_or_first}
-use Rattle.machine_states.specs.Blockless.{blockless}
 use Rattle.machine_invariant.specs.machine_blocks.specs.machine_guards.specs.machine_agreement.specs.machine_epochs.specs.Descriptors.{times_limbo, times_with}
 use Rattle.machine_invariant.specs.machine_blocks.specs.machine_guards.specs.machine_agreement.specs.machine_epochs.specs.Firsts.{owner_of}
 use Rattle.machine_invariant.specs.machine_blocks.specs.machine_guards.specs.machine_agreement.specs.machine_epochs.proofs.Places.{has_times}
@@ -67,7 +66,7 @@ allowed_in requests order values = record {
 few_reached : (m : Meaning) → Laws m → (l : Layout) (rs : List Request) (w : World) → IsWithinLimits l → AreAllowed rs → Reached m l rs w → (r : ℕ) (p : PartState)
     → slice_get w.parts (seat_of l r) ≡ Some p → AreFew (slot_count l m.fixed_slots) p.nodes
 few_reached m laws l rs w limits requests reached r p there =
-    let here : (sight m l rs w).part r ≡ blockless p = ap part_or_first there in
+    let here : (sight m l rs w).part r ≡ p = ap part_or_first there in
     let stand = (whole_after m laws l rs reached.events w limits requests reached.after).sound.slots.in_nodes in
     record {
       few = subst (λ (y : PartState). entry_count y.nodes ≤ slot_count l m.fixed_slots) here ((short_after m laws l rs reached.events w limits requests reached.after).all r);
@@ -83,13 +82,13 @@ few_seen m laws l rs r p spot number limits requests seen = few_reached m laws l
 pub node_low : (m : Meaning) → Laws m → (l : Layout) (rs : List Request) (r : ℕ) (p : PartState) (spot : Spot) (number : ℕ) → IsWithinLimits l → AreAllowed rs → ReachedWith m l rs r p spot number
     → (t : ℕ) → has p.nodes.free t ≡ true → t < slot_count l m.fixed_slots
 node_low m laws l rs r p spot number limits requests seen t free =
-    let here : (sight m l rs seen.world).part r ≡ blockless p = ap part_or_first seen.own in
+    let here : (sight m l rs seen.world).part r ≡ p = ap part_or_first seen.own in
     let stand = (whole_after m laws l rs seen.reached.events seen.world limits requests seen.reached.after).sound.slots.in_nodes in
     stand.within r t (subst (λ (y : PartState). 1 ≤ times_among y.nodes t) (sym here) (let once = has_times p.nodes.free t free in omega (arith, once)))
 
 -- before a step each node slot stands at most once in the runner's free list, and so does each descriptor
 module _ (m : Meaning) (l : Layout) (rs : List Request) (r : ℕ) (kind : EventKind) (old new : PartState) (met : Spot × Access) (found : ℕ) (shown : ReachedBy m l rs r kind old new met found) where
-  here : (sight m l rs shown.before).part r ≡ blockless old
+  here : (sight m l rs shown.before).part r ≡ old
   here = ap part_or_first shown.was_own
 
   pub node_once : Laws m → IsWithinLimits l → AreAllowed rs → (t : ℕ) → times t old.nodes.free ≤ 1
