@@ -1,16 +1,23 @@
 -- What a runner has in limbo once it collected and swept where it had to, and how far it took the epoch on.
-use Rattle.std.specs.Prelude.{nat_lt, Bool, true, false}
+use Rattle.std.specs.Prelude.{nat_lt, ◌==◌, Bool, true, false}
 use Rattle.std.proofs.Common.{◌≡◌, ℕ, ◌+◌, ◌^◌, ◌<◌, ◌≤◌, length, refl, sym, ap, ◌∙◌, subst, arith, true≢false}
 use Rattle.machine_states.specs.structure_laws.specs.Meaning.{Meaning}
-use Rattle.machine_states.specs.runner_parts.specs.State.{NodesState}
+use Rattle.std.proofs.lemmas.Bool.Decides.{nat_tests}
+use Rattle.machine_states.specs.runner_parts.specs.declared.event.EventKind.TheVariants as kinds
+use Rattle.machine_states.specs.runner_parts.specs.State.{NodesState, DescriptorsState}
 use Rattle.machine_states.specs.runner_steps.specs.After.{own_epoch}
 use Rattle.version_words.specs.RunnerState.{RunnerState}
 use Rattle.attempts.specs.epoch_slots.specs.Collects.{Collects}
-use Rattle.attempts.specs.Reclaims.{lacks_slots, lacks_descriptor, has_much_in_limbo, CollectsWhere, SweepsWhere, Reclaims}
+use Rattle.attempts.specs.Reclaims.{lacks_slots, lacks_descriptor, has_much_in_limbo, CollectsWhere, SparesWhere, SweepsWhere, Reclaims}
 use Rattle.attempt_bounds.proofs.Recent.{recent}
-use Rattle.attempt_bounds.proofs.Along.{Onward, stay}
+use Rattle.attempts.specs.epoch_slots.specs.Board.{IsDrawn}
+use Rattle.attempts.specs.epoch_slots.proofs.Boarding.{draws_keep, spares_keep}
+use Rattle.attempt_bounds.proofs.Along.{Onward, stay, then_on, made_on}
 use Rattle.attempt_bounds.proofs.Scanned.{old_uncrossed, epoch_is, epoch_then, nodes_left, no_nodes}
 use Rattle.attempt_bounds.proofs.Swept.{swept_on, no_descriptors}
+
+still_lacking : (before behind : ℕ) → before ≤ behind → nat_lt behind 2 ≡ true → nat_lt before 2 ≡ true
+still_lacking before behind more lacks = grind (arith, nat_tests)
 
 module _ {T : Type 0} where
   abbrev pub own : RunnerState T → ℕ
@@ -45,9 +52,24 @@ module _ {T : Type 0} where
     sweep_on true old new swept = swept_on m old new swept
     sweep_on false old new same = stay old new same
 
+    -- nor is one on the board
+    spares_on : (due : Bool) (old new : RunnerState T) → SparesWhere m due old new → Onward old new
+    spares_on false old new same = stay old new same
+    spares_on true old new is = spares_keep m Onward stay then_on (λ word found a b made. made_on m (kinds.BoardLoad word) found a b refl made)
+        (λ word link found a b made. made_on m (kinds.BoardTake word link) found a b refl made) (λ word slot found a b made. made_on m (kinds.BoardGive word slot) found a b refl made)
+        0 is.spared.found old new is.spared.spares
+
+    draws_on : (old new : RunnerState T) → IsDrawn m 2 old new → Onward old new
+    draws_on old new is = draws_keep m Onward stay then_on (λ word found a b made. made_on m (kinds.BoardLoad word) found a b refl made)
+        (λ word link found a b made. made_on m (kinds.BoardTake word link) found a b refl made) (λ word slot found a b made. made_on m (kinds.BoardGive word slot) found a b refl made)
+        2 0 is.drawn.found old new is.drawn.draws
+
     module _ (old new : RunnerState T) (r : Reclaims m old new) (uncrossed : IsUncrossed new) where
+      drawn : IsUncrossed r.swept × (own new ≡ own r.swept)
+      drawn = draws_on r.swept new r.draws uncrossed
+
       behind : IsUncrossed r.third × (own new ≡ own r.third)
-      behind = sweep_on (lacks_descriptor r.third) r.third new r.sweeps uncrossed
+      behind = let swept = sweep_on (lacks_descriptor r.third) r.third r.swept r.sweeps drawn.0 in (swept.0, drawn.1 ∙ swept.1)
 
       third_uncrossed : IsUncrossed r.third
       third_uncrossed = behind.0
@@ -58,28 +80,37 @@ module _ {T : Type 0} where
       first_uncrossed : IsUncrossed r.first
       first_uncrossed = where_was (lacks_slots r.first) r.first r.second r.twice second_uncrossed
 
+      spared_uncrossed : IsUncrossed r.spared
+      spared_uncrossed = where_was (lacks_slots r.spared) r.spared r.first r.once first_uncrossed
+
       collected_uncrossed : IsUncrossed r.collected
-      collected_uncrossed = where_was (lacks_slots r.collected) r.collected r.first r.once first_uncrossed
+      collected_uncrossed = (spares_on (has_much_in_limbo old) r.collected r.spared r.spares spared_uncrossed).0
 
       pub was_uncrossed : IsUncrossed old
       was_uncrossed = where_was (has_much_in_limbo old) old r.collected r.collects collected_uncrossed
 
       -- where no descriptor is free, none of the own ones is in limbo: the sweep read no guard word that names one
       pub no_descriptors_left : lacks_descriptor new ≡ true → length new.part.descriptors.limbo ≡ 0
-      no_descriptors_left lacks = by (lacks_descriptor r.third) refl r.sweeps
+      no_descriptors_left lacks = ap (λ (d : DescriptorsState). length d.limbo) r.draws.drawn.keeps.descriptors ∙ by (lacks_descriptor r.third) refl r.sweeps
         where
-          by : (due : Bool) → lacks_descriptor r.third ≡ due → SweepsWhere m due r.third new → length new.part.descriptors.limbo ≡ 0
-          by true is swept = no_descriptors m r.third new swept uncrossed
-          by false is same = absurd (true≢false (sym lacks ∙ (ap lacks_descriptor same ∙ is)))
+          lacked_then : lacks_descriptor r.swept ≡ true
+          lacked_then = ap (λ (d : DescriptorsState). length d.free == 0) (sym r.draws.drawn.keeps.descriptors) ∙ lacks
+
+          by : (due : Bool) → lacks_descriptor r.third ≡ due → SweepsWhere m due r.third r.swept → length r.swept.part.descriptors.limbo ≡ 0
+          by true is swept = no_descriptors m r.third r.swept swept drawn.0
+          by false is same = absurd (true≢false (sym lacked_then ∙ (ap lacks_descriptor same ∙ is)))
 
       module _ (early : own old + 3 < 2 ^ 62) where
         collected_most : own r.collected ≤ own old + 1
         collected_most = where_most (has_much_in_limbo old) old r.collected r.collects collected_uncrossed (omega (arith, early))
 
+        spared_most : own r.spared ≤ own old + 1
+        spared_most = let before = collected_most in let same = (spares_on (has_much_in_limbo old) r.collected r.spared r.spares spared_uncrossed).1 in omega (arith, before, same)
+
         first_most : own r.first ≤ own old + 2
         first_most =
-            let before = collected_most in
-            let one = where_most (lacks_slots r.collected) r.collected r.first r.once first_uncrossed (omega (arith, early, before)) in omega (arith, before, one)
+            let before = spared_most in
+            let one = where_most (lacks_slots r.spared) r.spared r.first r.once first_uncrossed (omega (arith, early, before)) in omega (arith, before, one)
 
         second_most : own r.second ≤ own old + 3
         second_most =
@@ -94,15 +125,16 @@ module _ {T : Type 0} where
 
         -- where node slots lack still, the last two scans that might be made were made
         module _ (lacks : lacks_slots new ≡ true) where
-          same_nodes : new.part.nodes ≡ r.third.part.nodes
+          same_nodes : r.swept.part.nodes ≡ r.third.part.nodes
           same_nodes = by (lacks_descriptor r.third) r.sweeps
             where
-              by : (due : Bool) → SweepsWhere m due r.third new → new.part.nodes ≡ r.third.part.nodes
+              by : (due : Bool) → SweepsWhere m due r.third r.swept → r.swept.part.nodes ≡ r.third.part.nodes
               by true swept = swept.keeps.nodes
               by false same = ap (λ (y : RunnerState T). y.part.nodes) same
 
           third_lacks : lacks_slots r.third ≡ true
-          third_lacks = ap (λ (n : NodesState). nat_lt (length n.free) 2) (sym same_nodes) ∙ lacks
+          third_lacks = ap (λ (n : NodesState). nat_lt (length n.free) 2) (sym same_nodes)
+              ∙ still_lacking (length r.swept.part.nodes.free) (length new.part.nodes.free) r.draws.drawn.more lacks
 
           second_lacks : lacks_slots r.second ≡ true
           second_lacks = lacked (lacks_slots r.second) r.second r.third refl r.thrice third_lacks
@@ -124,6 +156,6 @@ module _ {T : Type 0} where
 
           -- the first of them brought back what was retired before the epoch that it found, and the second the rest
           pub no_nodes_left : length new.part.nodes.limbo ≡ 0
-          no_nodes_left = ap (λ (n : NodesState). length n.limbo) same_nodes
+          no_nodes_left = ap (λ (n : NodesState). length n.limbo) r.draws.drawn.keeps.nodes ∙ (ap (λ (n : NodesState). length n.limbo) same_nodes
               ∙ (nodes_left m r.second r.third last third_uncrossed second_early
-              ∙ (ap (λ (n : ℕ). recent n r.second.part.nodes.limbo) then ∙ no_nodes m r.first r.second before_last second_uncrossed first_early))
+              ∙ (ap (λ (n : ℕ). recent n r.second.part.nodes.limbo) then ∙ no_nodes m r.first r.second before_last second_uncrossed first_early)))

@@ -2,6 +2,7 @@ pub mod Helping
 pub mod LettingGo
 pub mod Reaching
 pub mod Refilling
+pub mod Resting
 pub mod Leaving
 pub mod Held
 pub mod Learning

@@ -49,7 +49,7 @@ use Rattle.attempts.specs.declared.answers.Attempt.{Attempt}
 use Rattle.attempts.specs.declared.answers.Attempt.TheVariants as answers
 use Rattle.caller_facts.proofs.Knowing.{knows_same, knows_on, no_other_same, no_other_on}
 use Rattle.attempts.proofs.Reaching.{enters_reached}
-use Rattle.attempts.proofs.Refilling.{short_reached, short_named}
+use Rattle.attempts.proofs.Refilling.{short_reached, short_named, short_lost}
 use Rattle.caller_facts.proofs.Counting.{counted_steps, asked_then, steps_then, seen_then}
 use Rattle.attempts.proofs.Held.{read_within, read_few}
 use Rattle.caller_facts.specs.try_lock.proofs.Guarding.{guard_keeps, guard_reads}
@@ -377,6 +377,7 @@ module _ {T : Type 0} (m : Meaning) (laws : Laws m) (t : TableState T) (limits :
       counts = counts;
       named = λ kind. subst (λ (x : Short). x.limbo ≤ ready.layout.runners) (sym (counts ∙ ap (counts_of ready) kind))
           (short_named m old ready (subst (IsFew ready) kind few).1 reclaims);
+      board = λ kind. ap (λ (x : Short). x.board) (counts ∙ ap (counts_of ready) kind) ∙ short_lost m old ready reclaims (subst (IsFew ready) kind few);
       untouched = untouched m laws ready request (subst IsWithinLimits (sym own_ready.layout) limits) (subst AreAllowed (sym own_ready.requests) allowed)
           (short_reached m old ready short.kind few reclaims) reclaims.rested.tidy.at.published reclaims.rested.tidy.at.settled
           (own_here planning request old may ready still_ready) (unknown_here planning request old may ready still_ready);

@@ -36,6 +36,7 @@ use Rattle.caller_facts.specs.Knowing.{KnowsMore, LearnsNoOther}
 use Rattle.caller_facts.specs.Counted.{IsCounted}
 use Rattle.attempts.specs.RealTime.{IsAboveAnswered}
 use Rattle.attempts.specs.Reclaims.{Reclaims}
+use Rattle.caller_facts.specs.epoch_slots.specs.Board.{lost_among}
 use Rattle.request_facts.specs.Laws.{HasEntry}
 use Rattle.request_facts.specs.Placed.{IsServedAs}
 use Rattle.attempts.specs.Course.{HasEntered, HasPlanned, HasTried, HasRun, IsRefused, refused_steps, is_refused_late, LeavesAndLoads, HasHelped, WasHelped, IsOfHelped}
@@ -86,11 +87,13 @@ module _ {T : Type 0} where
   IsFew r kinds.Descriptor = (2 ≤ length r.part.nodes.free) × (length r.part.descriptors.free ≡ 0)
 
   module _ (m : Meaning) where
-    -- after three scans in a row too few node slots were free, or after a sweep no descriptor
+    -- after three scans in a row and a walk over the board too few node slots were free, or after a sweep no descriptor
     pub record IsShort (short : Short) (number : ℕ) (old new : RunnerState T) : Type 0 where
       pub reclaims : Reclaims m old new
       pub few : IsFew new short.kind
       pub counts : short ≡ counts_of new short.kind
+      -- of node slots so many lay on the board in that walk, and were taken by others before the runner could take them
+      pub board : short.kind ≡ kinds.Node → short.board ≡ lost_among reclaims.draws.drawn.found
       -- where a descriptor lacks, guard words of other runners name all of the runner's own: they are no more than
       -- there are runners. So a runner that has one more of them never lacks one
       pub named : short.kind ≡ kinds.Descriptor → short.limbo ≤ new.layout.runners

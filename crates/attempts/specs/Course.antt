@@ -70,7 +70,8 @@ module _ {T : Type 0} where
     pub looked : r.part.guards.looked ≡ []
 
 module _ {T : Type 0} (m : Meaning) (planning : Planning) (request : Request) where
-  -- the runner collected where that was due, had a reserve of two node slots and one descriptor, and entered
+  -- the runner collected and used the board where that was due, had a reserve of two node slots and one descriptor, and
+  -- entered
   pub record HasEntered (old new : RunnerState T) : Type 0 where
     pub may : MayAttempt planning request old
     pub ready : RunnerState T

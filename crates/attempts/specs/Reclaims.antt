@@ -5,6 +5,7 @@ use Rattle.machine_states.specs.structure_laws.specs.Meaning.{Meaning}
 use Rattle.version_words.specs.RunnerState.{RunnerState}
 use Rattle.caller_facts.specs.epoch_slots.specs.Collects.{IsTidy, Collects}
 use Rattle.caller_facts.specs.epoch_slots.specs.Sweeps.{HasSwept}
+use Rattle.caller_facts.specs.epoch_slots.specs.Board.{GivesAway, IsDrawn}
 
 -- so many node slots in limbo, of as many as the layout gives each worker, are worth the steps of a scan: a quarter or
 -- more, as long as that is fewer than 64; else 64 or 65, and again each time that they have doubled
@@ -38,22 +39,33 @@ module _ {T : Type 0} where
     CollectsWhere true old new = Collects m old new
     CollectsWhere false old new = new ≡ old
 
+    -- what is free above the number that the layout gives each worker goes to the board, exactly where that is due
+    abbrev pub SparesWhere : Bool → RunnerState T → RunnerState T → Type 0
+    SparesWhere true old new = GivesAway m old new
+    SparesWhere false old new = new ≡ old
+
     -- one sweep of the guard words, exactly where no descriptor is free
     abbrev pub SweepsWhere : Bool → RunnerState T → RunnerState T → Type 0
     SweepsWhere true old new = HasSwept m old new
     SweepsWhere false old new = new ≡ old
 
-    -- one scan where much is in limbo, and then up to three in a row, as long as node slots lack; then one sweep where
-    -- no descriptor is free. So where node slots still lack three scans were made one behind the other, and where a
-    -- descriptor lacks each own one in limbo is named by the guard word of another runner
+    -- where much is in limbo one scan, and what is free then above the number that the layout gives each worker goes to
+    -- the board; then up to three scans in a row, as long as node slots lack; then one sweep where no descriptor is free,
+    -- and where node slots lack still a walk over the board for some. So where they lack behind that, three scans were
+    -- made one behind the other, and all words of the board were loaded; and where a descriptor lacks each own one in
+    -- limbo is named by the guard word of another runner
     pub record Reclaims (old new : RunnerState T) : Type 0 where
       pub collected : RunnerState T
+      pub spared : RunnerState T
       pub first : RunnerState T
       pub second : RunnerState T
       pub third : RunnerState T
+      pub swept : RunnerState T
       pub collects : CollectsWhere (has_much_in_limbo old) old collected
-      pub once : CollectsWhere (lacks_slots collected) collected first
+      pub spares : SparesWhere (has_much_in_limbo old) collected spared
+      pub once : CollectsWhere (lacks_slots spared) spared first
       pub twice : CollectsWhere (lacks_slots first) first second
       pub thrice : CollectsWhere (lacks_slots second) second third
-      pub sweeps : SweepsWhere (lacks_descriptor third) third new
+      pub sweeps : SweepsWhere (lacks_descriptor third) third swept
+      pub draws : IsDrawn m 2 swept new
       pub rested : IsRested old new

@@ -1,10 +1,11 @@
-//! How a runner comes by free slots before an attempt: it collects and sweeps where it has to.
-ghost use Rattle.std.specs.Prelude.{◌≡◌};
+//! How a runner comes by free slots before an attempt: it collects and sweeps where it has to, and gives node slots to
+//! the board or takes some there.
+ghost use Rattle.std.specs.Prelude.{◌≡◌, ◌<◌};
 ghost use Rattle.version_words.specs.TableState.{IsOf};
 ghost use Rattle.caller_facts.specs.epoch_slots.specs.Collects.{IsTidy, Collects};
-ghost use Rattle.attempts.specs.Reclaims.{is_much, lacks_slots, lacks_descriptor, has_much_in_limbo, CollectsWhere, SweepsWhere, Reclaims, IsRested};
+ghost use Rattle.attempts.specs.Reclaims.{is_much, lacks_slots, lacks_descriptor, has_much_in_limbo, CollectsWhere, SparesWhere, SweepsWhere, Reclaims, IsRested};
 
-use caller_facts::lock_walks::epoch_slots::{collect, sweep};
+use caller_facts::lock_walks::epoch_slots::{collect, draw, spare, sweep};
 use machine_states::structure_laws::Structure;
 use version_words::{FlockTable, Runner};
 
@@ -72,6 +73,19 @@ fn collect_where<S: Structure>(table: &FlockTable<S>, runner: Runner<S>, due: bo
     }
 }
 
+/// What is free above the number that the layout gives each worker goes to the board, where that is due.
+#[inline(always)]
+fn spare_where<S: Structure>(table: &FlockTable<S>, runner: Runner<S>, due: bool) -> Runner<S>
+    requires own { IsOf table.now runner }
+    requires tidy { IsTidy runner }
+    requires worker { runner.number < runner.layout.runners }
+    ensures own { IsOf table.now result }
+    ensures spares { SparesWhere (S.meaning table.now.structure) due runner result }
+    ensures rested { IsRested runner result }
+{
+    if due { spare(table, runner) } else { runner }
+}
+
 /// One scan where slots lack.
 #[inline(always)]
 fn refill<S: Structure>(table: &FlockTable<S>, runner: Runner<S>) -> Runner<S>
@@ -101,25 +115,36 @@ fn sweep_where_none<S: Structure>(table: &FlockTable<S>, runner: Runner<S>) -> R
     }
 }
 
-/// Collects once where many node slots are in limbo, and then up to three times in a row, as long as two node slots
-/// lack. Then it sweeps the guard words where no descriptor is free. Many is a quarter of those that the layout gives
-/// each worker, as long as that is fewer than 64; else it is 64, and again each time that they have doubled.
+/// Where many node slots are in limbo, collects once, and gives to the board those that are free then above the number
+/// that the layout gives each worker. Then it collects up to three times in a row, as long as fewer than two node slots
+/// are free; sweeps the guard words where no descriptor is free; and takes node slots from the board while fewer than
+/// two are free.
+///
+/// Many is a quarter of those that the layout gives each worker, as long as that is fewer than 64; else it is 64, and
+/// again each time that they have doubled.
 ///
 /// Each scan loads all announcements and may take the epoch on, which costs every other runner a cache line; so one is
 /// made only where it is needed. Three in a row bring back all that nobody holds: what was retired in the present epoch
 /// leaves limbo two epochs on. One sweep brings back each retired descriptor that no guard word names.
 ///
-/// The runner has to be idle with an empty hand and no guard. There is no refusal, and no memory is taken
+/// Who retires more slots than it makes gathers those of the others: so what it has above its own number goes to the
+/// board, for those that lack some. Slots become free by a scan alone, so the walk over the board is made only behind
+/// one: who has more than its number for long, since the board has no room, would make it in each attempt else.
+///
+/// The runner has to be an idle worker with an empty hand and no guard. There is no refusal, and no memory is taken
 /// (Fraser, 2004; Michael, 2004).
 pub fn reclaim<S: Structure>(table: &FlockTable<S>, runner: Runner<S>) -> Runner<S>
     requires own { IsOf table.now runner }
     requires tidy { IsTidy runner }
+    requires worker { runner.number < runner.layout.runners }
     ensures own { IsOf table.now result }
     ensures reclaims { Reclaims (S.meaning table.now.structure) runner result }
 {
     let full = is_full(table, &runner);
     let runner = collect_where(table, runner, full);
+    let runner = spare_where(table, runner, full);
     let runner = refill(table, runner);
     let runner = refill(table, runner);
-    sweep_where_none(table, refill(table, runner))
+    let runner = sweep_where_none(table, refill(table, runner));
+    draw(table, runner, 2)
 }

@@ -3,3 +3,5 @@ mod Scanning
 mod Looking
 mod Collecting
 mod Sweeping
+pub mod Boarding
+pub mod Losing

@@ -3,3 +3,4 @@ pub mod Reserves
 pub mod Collects
 pub mod Hands
 pub mod Sweeps
+pub mod Board

@@ -1,6 +1,7 @@
 -- A runner's own slots, by their kind.
 use Rattle.std.specs.Prelude.{ℕ, List, length}
 use Rattle.version_words.specs.RunnerState.{RunnerState}
+use Rattle.version_words.specs.runner_block.specs.Marks.{lost_links}
 use Rattle.epoch_slots.specs.declared.reserves.Kind.{Kind}
 use Rattle.epoch_slots.specs.declared.reserves.Kind.TheVariants as kinds
 use Rattle.epoch_slots.specs.declared.reserves.Short.{Short}
@@ -11,17 +12,20 @@ module _ {T : Type 0} (r : RunnerState T) where
   free_of kinds.Node = r.part.nodes.free
   free_of kinds.Descriptor = r.part.descriptors.free
 
-  -- how many of this kind are free, in limbo and worn; descriptors don't wear
+  -- how many of this kind are free, in limbo and worn, and how many lay on the board and were lost to others; descriptors
+  -- don't wear, and none lies there
   abbrev pub counts_of : Kind → Short
   counts_of kinds.Node = record {
     kind = kinds.Node;
     free = length r.part.nodes.free;
     limbo = length r.part.nodes.limbo;
     worn = length r.part.nodes.worn;
+    board = lost_links r.part.board;
   }
   counts_of kinds.Descriptor = record {
     kind = kinds.Descriptor;
     free = length r.part.descriptors.free;
     limbo = length r.part.descriptors.limbo;
     worn = 0;
+    board = 0;
   }

@@ -25,6 +25,19 @@ pub struct Short {
     pub limbo: u32,
     /// How many have a cell at the greatest version and aren't used again.
     pub worn: u32,
+    /// How many lay on the board as the runner last looked there for slots, since it left last, and were taken by others
+    /// before it could take them. Of descriptors none lies there.
+    pub board: u32,
+}
+
+/// How many of the runner's own slots of this kind are free.
+fn free_count<S: Structure>(runner: &Runner<S>, kind: Kind) -> usize
+    ensures { result ≡ length (free_of runner.now kind) }
+{
+    match kind {
+        Kind::Node => runner.free_nodes().len(),
+        Kind::Descriptor => runner.free_descriptors().len(),
+    }
 }
 
 /// The counts of the runner's own slots of this kind.
@@ -37,12 +50,14 @@ fn counts<S: Structure>(runner: &Runner<S>, kind: Kind) -> Short
             free: runner.free_nodes().len() as u32,
             limbo: runner.limbo_nodes(),
             worn: runner.worn(),
+            board: runner.lost_links(),
         },
         Kind::Descriptor => Short {
             kind,
             free: runner.free_descriptors().len() as u32,
             limbo: runner.limbo_descriptors(),
             worn: 0,
+            board: 0,
         },
     }
 }
@@ -60,8 +75,8 @@ pub fn reserve<S: Structure>(
     ensures few { IfErr result (λ e. length (free_of runner kind) < n) }
     ensures counts { IfErr result (λ e. e.1 ≡ counts_of runner kind) }
 {
-    let counts = counts(&runner, kind);
-    if counts.free < n {
+    if free_count(&runner, kind) < n as usize {
+        let counts = counts(&runner, kind);
         Err((runner, counts))
     } else {
         Ok(runner)

@@ -100,7 +100,7 @@ module _ {T : Type 0} {reads : Bool} (m : Meaning) (w : WordsState T) (waits : B
   not_short waited some enough short is unworn = by short.kind refl
     where
       limbo : short.limbo ≡ 0
-      limbo = ⊎_elim (λ clash. absurd (waited clash)) (λ none. none) is.over
+      limbo = ⊎_elim (λ clash. absurd (waited clash)) (λ none. none.0) is.over
 
       by : (kind : Kind) → short.kind ≡ kind → ⊥
       by slots.Node e = let few = is.nodes e in let all = is.counted e in let pairs = served.few_added in

@@ -35,9 +35,9 @@ use threaded_runs::serving::Served;
 use version_words::{Words, words_are_reached};
 
 /// Runs the requests of a plan on one table of the structure that its options name, those of a text that moves keys on
-/// the hash table that serves it. A runner that lacks slots tries again while some of its own are in limbo, unless the
-/// words name a halt for a runner that is there: a halted runner would keep them there. Each `get` is read without a
-/// lock where the options say so. The Err is want of memory.
+/// the hash table that serves it. A runner that lacks slots tries again while some of its own are in limbo, or others
+/// took those that lay on the board, unless the words name a halt for a runner that is there: a halted runner would keep
+/// slots in limbo. Each `get` is read without a lock where the options say so. The Err is want of memory.
 pub fn run_plan<T: Threads + Wait + Sync, G: Gates>(
     rt: &T,
     alloc: Global,

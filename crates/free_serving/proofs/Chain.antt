@@ -16,7 +16,7 @@ use Rattle.seq_read.specs.caller_facts.proofs.Knowing.{knows_same, knows_on}
 use Rattle.serving.specs.attempts.specs.Attempts.{asks_more, most_of_attempt, IsAttempt, IsServed, Answers}
 use Rattle.serving.specs.attempts.specs.declared.answers.Attempt.{Attempt}
 use Rattle.serving.specs.attempts.specs.declared.answers.Attempt.TheVariants as attempts
-use Rattle.serving.specs.Serving.{is_tried_again, is_crossed, Try, is_served, GoesOn, served_in, asks_in, WasCrossed, IsTry, AreTried}
+use Rattle.serving.specs.Serving.{may_pass, is_tried_again, is_crossed, Try, is_served, GoesOn, served_in, asks_in, WasCrossed, IsTry, AreTried}
 use Rattle.serving.proofs.Tries.{or_none, crossed_back, crossed_more, try_crossed}
 use Rattle.free_serving.proofs.Same.{Same, stays, then_same, reclaims_same}
 
@@ -68,7 +68,7 @@ module _ {T : Type 0} (m : Meaning) (planning : Planning) (retry_short : Bool) (
   short_asks request (attempts.Short short) made published old new is undone uncrossed again = (
     (let none = is.made_is in omega (arith, none)),
     reclaims_same m old new is.answers.reclaims,
-    first retry_short (not (short.limbo == 0)) again,
+    first retry_short (may_pass short) again,
   )
     where
       first : (a b : Bool) → (a && b) ≡ true → a ≡ true

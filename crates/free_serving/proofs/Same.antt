@@ -8,7 +8,9 @@ use Rattle.version_words.specs.RunnerState.{RunnerState}
 use Rattle.version_words.specs.Events.{Makes}
 use Rattle.seq_read.specs.caller_facts.specs.epoch_slots.specs.Collects.{Scans, Looks, AreTested, Advances, Collects}
 use Rattle.seq_read.specs.caller_facts.specs.epoch_slots.specs.Sweeps.{Sweeps}
-use Rattle.serving.specs.attempts.specs.Reclaims.{CollectsWhere, SweepsWhere, Reclaims, has_much_in_limbo, lacks_slots, lacks_descriptor}
+use Rattle.seq_read.specs.caller_facts.specs.epoch_slots.specs.Board.{IsDrawn}
+use Rattle.seq_read.specs.caller_facts.specs.epoch_slots.proofs.Boarding.{draws_keep, spares_keep}
+use Rattle.serving.specs.attempts.specs.Reclaims.{CollectsWhere, SparesWhere, SweepsWhere, Reclaims, has_much_in_limbo, lacks_slots, lacks_descriptor}
 
 module _ {T : Type 0} where
   -- the runner is of the same table
@@ -62,10 +64,24 @@ module _ {T : Type 0} where
     swept_same true a b swept = sweeps_same 0 swept.found a b swept.sweeps
     swept_same false a b same = stays a b same
 
-    -- so it is behind scans and a sweep
+    -- so it is behind a walk over the board
+    spares_same : (due : Bool) (a b : RunnerState T) → SparesWhere m due a b → Same a b
+    spares_same false a b same = stays a b same
+    spares_same true a b is = spares_keep m Same stays then_same (λ word found x y. made_same (kinds.BoardLoad word) found x y)
+        (λ word link found x y. made_same (kinds.BoardTake word link) found x y) (λ word slot found x y. made_same (kinds.BoardGive word slot) found x y)
+        0 is.spared.found a b is.spared.spares
+
+    draws_same : (a b : RunnerState T) → IsDrawn m 2 a b → Same a b
+    draws_same a b is = draws_keep m Same stays then_same (λ word found x y. made_same (kinds.BoardLoad word) found x y)
+        (λ word link found x y. made_same (kinds.BoardTake word link) found x y) (λ word slot found x y. made_same (kinds.BoardGive word slot) found x y)
+        2 0 is.drawn.found a b is.drawn.draws
+
+    -- and so behind scans, a sweep and both walks
     pub reclaims_same : (a b : RunnerState T) → Reclaims m a b → Same a b
     reclaims_same a b c = then_same a c.collected b (where_same (has_much_in_limbo a) a c.collected c.collects)
-        (then_same c.collected c.first b (where_same (lacks_slots c.collected) c.collected c.first c.once)
+        (then_same c.collected c.spared b (spares_same (has_much_in_limbo a) c.collected c.spared c.spares)
+        (then_same c.spared c.first b (where_same (lacks_slots c.spared) c.spared c.first c.once)
         (then_same c.first c.second b (where_same (lacks_slots c.first) c.first c.second c.twice)
         (then_same c.second c.third b (where_same (lacks_slots c.second) c.second c.third c.thrice)
-        (swept_same (lacks_descriptor c.third) c.third b c.sweeps))))
+        (then_same c.third c.swept b (swept_same (lacks_descriptor c.third) c.third c.swept c.sweeps)
+        (draws_same c.swept b c.draws))))))

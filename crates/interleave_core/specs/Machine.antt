@@ -1,15 +1,17 @@
 -- What contracts see of a machine.
-use Rattle.std.specs.Prelude.{◌≡◌, ℕ, ◌≤◌, ◌+◌, List, length}
+use Rattle.std.specs.Prelude.{◌≡◌, ℕ, ◌≤◌, ◌+◌, ◌&&◌, not, Bool, List, length}
+use Rattle.std.specs.List.{list_any}
 use Rattle.machine_states.specs.map_history.specs.Requests.{most_requests}
 use Rattle.machine_states.specs.map_history.specs.declared.op.Request.{Request}
 use Rattle.machine_states.specs.table_words.specs.declared.layout.Layout.{Layout}
 use Rattle.machine_states.specs.table_words.specs.Limits.{IsWithinLimits}
 use Rattle.machine_states.specs.table_words.specs.declared.spot.Spot.{Spot}
-use Rattle.machine_states.specs.table_words.specs.Places.{size, Fits}
+use Rattle.machine_states.specs.table_words.specs.Places.{size, board_words, Fits}
 use Rattle.machine_states.specs.table_words.specs.Seen.{seen}
 use Rattle.machine_states.specs.structure_laws.specs.Meaning.{Meaning}
 use Rattle.machine_states.specs.runner_steps.specs.Asks.{sizes_for}
 use Rattle.machine_states.specs.World.{World}
+use Rattle.interleave_core.specs.Parts.{is_on_board, owns}
 
 pub record MachineState (T : Type 0) : Type 0 where
   pub structure : T
@@ -37,3 +39,8 @@ HasWord m s spot = Fits (sizes_for m s.layout s.requests) spot
 -- the word at this spot
 abbrev pub word_of : {T : Type 0} → Meaning → MachineState T → Spot → ℕ
 word_of m s spot = seen (sizes_for m s.layout s.requests) s.world.words spot
+
+-- the node slot is in no runner's lists, and no word of the board names it
+abbrev pub is_live : {T : Type 0} → Meaning → MachineState T → ℕ → Bool
+is_live m s slot = not (list_any (λ p. owns p slot) s.world.parts)
+    && not (is_on_board (sizes_for m s.layout s.requests) s.world.words slot board_words)

@@ -1,18 +1,18 @@
 //! The pure machine.
-ghost use Rattle.std.specs.Prelude.{◌≡◌, ◌≤◌, ◌<◌, ◌+◌, ◌↔◌, ℕ, Some, None, Err, OnOk, OnErr, IfOk, length, vec_len, slice_get, slice_set, ◌++◌, ◌==◌, not};
+ghost use Rattle.std.specs.Prelude.{◌≡◌, ◌≤◌, ◌<◌, ◌+◌, ◌↔◌, ℕ, Some, None, Err, OnOk, OnErr, IfOk, length, vec_len, slice_get, slice_set, ◌++◌, ◌==◌};
 ghost use Rattle.machine_states.specs.map_history.specs.Requests.{AreInOrder};
 ghost use Rattle.machine_states.specs.table_words.specs.Limits.{IsWithinLimits};
-ghost use Rattle.machine_states.specs.table_words.specs.Places.{size, address, Fits};
+ghost use Rattle.machine_states.specs.table_words.specs.Places.{size, address, board_words, Fits};
 ghost use Rattle.machine_states.specs.runner_steps.specs.After.{after, knows_also};
 ghost use Rattle.machine_states.specs.World.{happens, left_by, seat_of, settled_part, put_part};
 ghost use Rattle.std.specs.List.{list_any};
 ghost use Rattle.machine_states.specs.runner_parts.specs.State.{PartState};
 ghost use Rattle.machine_states.specs.runner_parts.specs.Tests.{has};
-ghost use Rattle.interleave_core.specs.Parts.{is_listed, owns};
+ghost use Rattle.interleave_core.specs.Parts.{is_listed, is_on_board, owns};
 ghost use Rattle.machine_states.specs.First.{IsFirst};
 ghost use Rattle.machine_states.specs.Reached.{Reached};
 ghost use Rattle.interleave_core.specs.Enabled.{NamesEnabled};
-ghost use Rattle.interleave_core.specs.Machine.{IsSameTable, HasWord, word_of};
+ghost use Rattle.interleave_core.specs.Machine.{IsSameTable, HasWord, is_live, word_of};
 ghost use Rattle.machine_states.specs.table_words.specs.declared.spot.Spot.TheVariants.{Epoch, Announcement, Cell, LogWord};
 ghost use Rattle.interleave_core.specs.declared.machine.StepError.TheVariants.{NotEnabled};
 
@@ -25,7 +25,7 @@ use machine_states::map_history::Request;
 use machine_states::runner_parts::{Event, EventKind, Nodes, Part, Records, Retired};
 use machine_states::runner_steps::sizes_for;
 use machine_states::structure_laws::Structure;
-use machine_states::table_words::{Access, Layout, Sizes, Spot, word_at};
+use machine_states::table_words::{Access, BOARD_WORDS, Layout, Sizes, Spot, word_at};
 use state_changes::{after, part_copy};
 use std::alloc::{AllocError, Global};
 use std::marker::Model;
@@ -337,11 +337,12 @@ impl<S: Structure> Machine<S> {
         has_free(self.part(runner), slot)
     }
 
-    /// Whether this node slot is live: in no runner's lists.
+    /// Whether this node slot is live: in no runner's lists, and on no word of the board.
     pub fn is_live(&self, slot: u32) -> bool
-        ensures { result ≡ not (list_any (λ p. owns p slot) self.now.world.parts) }
+        ensures { result ≡ is_live (S.meaning self.now.structure) self.now slot }
     {
-        !some_owns(&self.parts, slot)
+        let sizes = sizes_for(&self.structure, self.layout, &self.requests);
+        !some_owns(&self.parts, slot) && !is_on_board(&self.words, sizes, slot)
     }
 }
 
@@ -393,4 +394,16 @@ fn some_owns(parts: &[Part], slot: u32) -> bool
         }
     }
     false
+}
+
+/// Whether a word of the board names this slot.
+fn is_on_board(words: &[u64], sizes: Sizes, slot: u32) -> bool
+    requires room { size sizes ≤ length words.now }
+    ensures { result ≡ is_on_board sizes words.now slot board_words }
+{
+    let mut on = false;
+    for word in 0..BOARD_WORDS as u32 {
+        on = on || word_at(words, sizes, Spot::Board(word)) == slot as u64 + 1;
+    }
+    on
 }

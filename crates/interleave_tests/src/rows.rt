@@ -299,8 +299,8 @@ fn word_text(alloc: Global, number: u64) -> Result<String, AllocError> {
 }
 
 /// A step of a row: who makes it, its name, and its numbers: first of all a descriptor, a slot, a place, a word of the
-/// board or another runner's number, and behind it the form, the request, the operand and the lock's word of a thunk; or
-/// the link or the slot of a step on the board.
+/// board or another runner's number, and behind it the form, the request, the operand and the lock's word of a thunk,
+/// or the link or the slot of a step on the board.
 #[derive(Clone, Copy)]
 struct Line<'a> {
     runner: u32,
@@ -687,8 +687,8 @@ fn a_worker_gives_a_slot_and_another_takes_it(rt: HostRuntime) -> Result<(), All
 #[test]
 fn of_two_that_take_a_slot_one_has_it(rt: HostRuntime) -> Result<(), AllocError> {
     let row =
-        "0 give 7 0; 0 read 7; 1 read 7; 1 take 7 1; 0 take 7 1; 1 slots: [3, 2, 0]; 0 slots: [1]; 0 board: 1 Lost; 1 \
-        give 7 0; 0 take 7 1; 0 slots: [1, 0]; 0 board: 1 Won";
+        "0 live 0: no; 0 give 7 0; 0 live 0: no; 0 read 7; 1 read 7; 1 take 7 1; 0 take 7 1; 1 slots: [3, 2, 0]; 0 \
+        slots: [1]; 0 board: 1 Lost; 1 give 7 0; 0 take 7 1; 0 slots: [1, 0]; 0 board: 1 Won";
     check(&rt, rt.alloc(), row)
 }
 

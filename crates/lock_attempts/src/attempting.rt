@@ -74,8 +74,8 @@ fn plan_and_try<S: Structure, W: Walker, G: Gate, L>(
 /// - `Stale`: a word was read, and then another one at the same place.
 /// - `Far`: the walk is too long, by its own plan.
 /// - `Spent`: a lock or a cell has too few versions left.
-/// - `Short`: after three scans in a row fewer than two node slots were free, or after a sweep no descriptor, since
-///   guard words of other runners name all that are in limbo.
+/// - `Short`: after three scans in a row and a walk over the board fewer than two node slots were free, or after a sweep
+///   no descriptor, since guard words of other runners name all that are in limbo.
 /// - `Halted`: the gate halted the worker. Exactly then its count of halts rose.
 ///
 /// At every answer but `Ok` and `Halted` nothing happened: nobody has served the ticket, and the section that was

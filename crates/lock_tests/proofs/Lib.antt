@@ -7,4 +7,5 @@ mod Numbered
 mod Unlocked
 mod HashRow
 mod Next
+mod Sharing
 mod Banks

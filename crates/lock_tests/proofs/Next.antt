@@ -53,7 +53,7 @@ module _ {T : Type 0} (planning : Planning) (t : TableState T) (scene : IsScene 
   }
 
 -- a word that stands in the list is known
-knows_entry : (known : List Known) (i number found : ℕ) (reply : Bool) → slice_get known i ≡ Some (record { request = number; reply = reply; number = found }) → knows known number reply ≡ true
+pub knows_entry : (known : List Known) (i number found : ℕ) (reply : Bool) → slice_get known i ≡ Some (record { request = number; reply = reply; number = found }) → knows known number reply ≡ true
 knows_entry [] i number found reply at = absurd (none_some _ (sym at))
 knows_entry (x ∷ known) zero number found reply at =
     ap (λ (y : Known). (y.request == number && cond reply y.reply (not y.reply)) || knows known number reply) (some_same x _ at) ∙ by reply

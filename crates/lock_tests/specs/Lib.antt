@@ -4,4 +4,5 @@ pub mod Asked
 pub mod Closing
 pub mod HashScene
 pub mod AttemptScene
+pub mod Sharing
 pub mod Bank

@@ -68,8 +68,8 @@ fn told(alloc: Global, served: &[Served]) -> Result<String, AllocError> {
     texts.as_slice().join(alloc, ", ")
 }
 
-/// The requests of one trace, whose lines these are.
-fn trace_of(alloc: Global, lines: &str) -> Result<Traces, AllocError>
+/// The requests of one trace, whose lines these are; or of several, where there are lines that begin another one.
+pub fn trace_of(alloc: Global, lines: &str) -> Result<Traces, AllocError>
     ensures { IfOk result (λ traces. AreInOrder traces.requests 64) }
 {
     let text = format!(in alloc; "flock 3\ntrace\n{lines}")?;

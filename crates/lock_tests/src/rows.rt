@@ -388,6 +388,6 @@ fn a_reserve_of_three_of_two_slots_is_refused(rt: HostRuntime) -> Result<(), All
         &rt,
         rt.alloc(),
         row,
-        &["Some(Short { kind: Node, free: 2, limbo: 0, worn: 0 })"],
+        &["Some(Short { kind: Node, free: 2, limbo: 0, worn: 0, board: 0 })"],
     )
 }

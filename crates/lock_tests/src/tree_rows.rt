@@ -103,7 +103,7 @@ fn slots_are_used_again(rt: HostRuntime) -> Result<(), AllocError> {
 #[test]
 fn a_third_insertion_lacks_slots(rt: HostRuntime) -> Result<(), AllocError> {
     let row = grown(rt.alloc(), 4, "ins 1 1\nins 2 2\nins 3 3\n");
-    let told = "46 New, 46 New, Short(Short { kind: Node, free: 0, limbo: 0, worn: 0 })";
+    let told = "46 New, 46 New, Short(Short { kind: Node, free: 0, limbo: 0, worn: 0, board: 0 })";
     check(&rt, rt.alloc(), row, &[told, "0 slots, [(1, 1), (2, 2)]"])
 }
 

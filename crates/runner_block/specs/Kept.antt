@@ -8,11 +8,14 @@ use Rattle.machine_states.specs.runner_parts.specs.State.{PartState, NodesState,
 use Rattle.machine_states.specs.runner_parts.specs.Lists.{without, no_guards, with_looked}
 use Rattle.machine_states.specs.runner_steps.specs.AfterOutside.{with_stage}
 use Rattle.machine_states.specs.runner_steps.specs.AfterInRun.{kept_unless, retired_if}
+use Rattle.runner_block.specs.declared.marks.Mark.{Mark}
 
--- what a runner's code keeps of its part, and for how many node slots its lists have room
+-- what a runner's code keeps of its part, for how many node slots its lists have room, and of each word of the board a
+-- mark of its latest load (`Marks`)
 pub record KeptState : Type 0 where
   pub part : PartState
   pub room : ℕ
+  pub marks : List Mark
 
 -- another part in the same room
 abbrev pub with_part : KeptState → PartState → KeptState
@@ -21,6 +24,10 @@ with_part kept p = record kept { part = p }
 -- other lists of node slots
 abbrev pub with_nodes : KeptState → NodesState → KeptState
 with_nodes kept nodes = record kept { part = record (kept.part) { nodes = nodes } }
+
+-- other marks
+abbrev pub with_marks : KeptState → List Mark → KeptState
+with_marks kept marks = record kept { marks = marks }
 
 -- the thunk of a published section isn't kept
 abbrev pub no_thunk : Thunk

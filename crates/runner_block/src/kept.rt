@@ -1,19 +1,23 @@
 //! What a runner's code keeps of its part, in one block of memory.
-ghost use Rattle.std.specs.Prelude.{◌≡◌, ◌+◌, ◌<◌, ◌≤◌, ◌^◌, ℕ, [], IfOk, length, true, None, if◌then◌else◌};
+ghost use Rattle.std.specs.Prelude.{◌≡◌, ◌+◌, ◌<◌, ◌≤◌, ◌^◌, ℕ, [], IfOk, length, true, None, if◌then◌else◌, slice_set};
 ghost use Rattle.machine_states.specs.runner_parts.specs.declared.event.EventKind.TheVariants as kinds;
 ghost use Rattle.machine_states.specs.runner_parts.specs.Tests.{has};
 ghost use Rattle.machine_states.specs.epoch_core.specs.Lists.{times};
+ghost use Rattle.machine_states.specs.epoch_core.specs.declared.stage.Stage.TheVariants as stages;
 ghost use Rattle.machine_states.specs.runner_steps.specs.AfterOutside.{with_stage, collected, scan_one_after, advance_after, split_after};
 ghost use Rattle.machine_states.specs.runner_steps.specs.Guards.{load_guard_after};
 ghost use Rattle.machine_states.specs.runner_steps.specs.Board.{free_if};
 ghost use Rattle.machine_states.specs.runner_parts.specs.Lists.{slot_taken, slot_made, slot_back, slot_retired, slot_given, slot_drawn, nodes_looked};
 ghost use Rattle.runner_block.specs.Scans.{scan_of};
-ghost use Rattle.runner_block.specs.Kept.{loaded_of, scanned_of, held_in, entered_in, over_in, with_part, with_nodes};
+ghost use Rattle.runner_block.specs.Kept.{loaded_of, scanned_of, held_in, entered_in, over_in, with_part, with_nodes, with_marks};
+ghost use Rattle.runner_block.specs.Marks.{mark_loaded, slot_tried, marks_of, lost_in};
+ghost use Rattle.machine_states.specs.table_words.specs.Places.{board_words};
 ghost use Rattle.runner_block.specs.Room.{AreFew, most_guards};
 ghost use Rattle.machine_states.specs.First.{falling, first_part};
 
 use crate::descriptors::DescriptorLists;
 use crate::guards::GuardWords;
+use crate::marks::BoardMarks;
 use crate::nodes::NodeLists;
 use crate::stage_fields::StageFields;
 use machine_states::body_terms::{Body, Trail};
@@ -51,6 +55,7 @@ pub struct Kept {
     nodes: NodeLists,
     descriptors: DescriptorLists,
     guards: GuardWords,
+    marks: BoardMarks,
     splits: u32,
     run: Option<Box<RunRoom, Global>>,
 }
@@ -90,6 +95,7 @@ impl Model for Kept {
         gone = false;
       };
       room = a.nodes.room;
+      marks = a.marks;
     } };
 }
 
@@ -111,6 +117,7 @@ impl Kept {
             (λ x. x.part ≡ first_part (falling nodes.first nodes.count)
             (falling descriptors.first descriptors.count) []) }
         ensures room { IfOk result (λ x. x.room ≡ nodes.room) }
+        ensures marks { IfOk result (λ x. x.marks ≡ marks_of []) }
     {
         Ok(Kept {
             stage: StageFields::idle(),
@@ -122,6 +129,7 @@ impl Kept {
                 descriptors.room,
             )?,
             guards: GuardWords::new(alloc)?,
+            marks: BoardMarks::new(),
             splits: 0,
             run: Some(Box::new(alloc, RunRoom::new())?),
         })
@@ -190,6 +198,30 @@ impl Kept {
         ensures { result ≡ length self.now.part.descriptors.limbo }
     {
         self.descriptors.limbo()
+    }
+
+    /// In how many words of the board the runner last found a link, and the exchange behind it lost.
+    pub fn lost_links(&self) -> u32
+        ensures { result ≡ lost_in self.now.marks }
+    {
+        self.marks.lost()
+    }
+
+    /// A word of the board was loaded, and held this number.
+    pub fn load_board(&mut self, word: u32, found: u64)
+        requires { word < board_words }
+        ensures { self.new ≡ with_marks self.old (slice_set self.old.marks word (mark_loaded found)) }
+    {
+        self.marks.load(word, found);
+    }
+
+    /// The runner left: it is idle, and what it found on the board counts for nothing.
+    pub fn leave(&mut self)
+        ensures { self.new ≡ with_marks
+            (with_part self.old (with_stage self.old.part stages.Idle)) (marks_of []) }
+    {
+        self.stage.set(Stage::Idle);
+        self.marks.forget();
     }
 
     /// Hands out the room for a run, unless it is out already.
@@ -338,25 +370,31 @@ impl Kept {
         self.nodes.retire(slot, epoch);
     }
 
-    /// An exchange was to put a free slot onto the board, and won or lost.
-    pub fn give_slot(&mut self, slot: u32, won: bool)
+    /// An exchange was to put a free slot onto this word of the board, and won or lost.
+    pub fn give_slot(&mut self, word: u32, slot: u32, won: bool)
+        requires word { word < board_words }
         requires own { has self.old.part.nodes.free slot ≡ true }
         requires once { times slot self.old.part.nodes.free ≤ 1 }
-        ensures { self.new ≡ with_nodes self.old
-            (free_if won (slot_given self.old.part.nodes slot) self.old.part.nodes) }
+        ensures { self.new ≡ with_marks
+            (with_nodes self.old (free_if won (slot_given self.old.part.nodes slot) self.old.part.nodes))
+            (slot_tried self.old.marks word won) }
     {
+        self.marks.exchange(word, won);
         if won {
             self.nodes.give(slot);
         }
     }
 
-    /// An exchange was to take a slot from the board, and won or lost: where it won the slot is free.
-    pub fn draw_slot(&mut self, slot: u32, won: bool)
+    /// An exchange was to take a slot from this word of the board, and won or lost: where it won the slot is free.
+    pub fn draw_slot(&mut self, word: u32, slot: u32, won: bool)
+        requires word { word < board_words }
         requires node { won ≡ true → slot < self.old.room }
         requires few { won ≡ true → AreFew self.old.room (slot_drawn self.old.part.nodes slot) }
-        ensures { self.new ≡ with_nodes self.old
-            (free_if won (slot_drawn self.old.part.nodes slot) self.old.part.nodes) }
+        ensures { self.new ≡ with_marks
+            (with_nodes self.old (free_if won (slot_drawn self.old.part.nodes slot) self.old.part.nodes))
+            (slot_tried self.old.marks word won) }
     {
+        self.marks.exchange(word, won);
         if won {
             self.nodes.draw(slot);
         }

@@ -357,9 +357,9 @@ module _ {T : Type 0} (m : Meaning) (laws : Laws m) (planning : Planning) (reque
     }
 
   -- or the serving stops with it
-  over_of : (retry : Bool) (limbo : ℕ) → (retry && not (limbo == 0)) ≡ false → (retry ≡ false) ⊎ (limbo ≡ 0)
-  over_of false limbo e = inl refl
-  over_of true limbo e = inr (grind (arith, nat_tests, e))
+  over_of : (retry : Bool) (limbo board : ℕ) → (retry && (not (limbo == 0) || not (board == 0))) ≡ false → (retry ≡ false) ⊎ ((limbo ≡ 0) × (board ≡ 0))
+  over_of false limbo board e = inl refl
+  over_of true limbo board e = inr (grind (arith, nat_tests, e), grind (arith, nat_tests, e))
 
   abbrev Briefly : Served → Type 0
   Briefly stopped = WasCrossed m planning all old ⊎ ServesBriefly m stopped i old new asks asks2
@@ -393,7 +393,7 @@ module _ {T : Type 0} (m : Meaning) (laws : Laws m) (planning : Planning) (reque
         before = persists.before;
         knew = knows_on old r persists.before along.knows persists.knew;
         spared = spared_before;
-        stops = record { cause = is; over = over_of retry_short short.limbo last };
+        stops = record { cause = is; over = over_of retry_short short.limbo short.board last };
         tidy = is.reclaims.rested.tidy;
         unanswered = is.untouched.unknown;
       },

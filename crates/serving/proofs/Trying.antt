@@ -17,7 +17,7 @@ use Rattle.attempt_bounds.specs.attempts.specs.Attempts.{is_halted, asks_more, a
 use Rattle.attempt_bounds.specs.attempts.specs.declared.answers.Attempt.{Attempt}
 use Rattle.attempt_bounds.specs.attempts.specs.declared.answers.Attempt.TheVariants as attempts
 use Rattle.attempt_bounds.specs.attempts.specs.caller_facts.proofs.Knowing.{knows_on, knows_same, no_other_on}
-use Rattle.serving.specs.Serving.{is_tried_again, is_crossed, Try, is_served, GoesOn, served_in, steps_in, asks_in, WasCrossed, IsTry, AreTried, Persists}
+use Rattle.serving.specs.Serving.{may_pass, is_tried_again, is_crossed, Try, is_served, GoesOn, served_in, steps_in, asks_in, WasCrossed, IsTry, AreTried, Persists}
 use Rattle.serving.proofs.Lists.{all_weaker, held_more}
 use Rattle.serving.proofs.Standing.{answered_more}
 use Rattle.serving.proofs.Tries.{or_left, or_right, count_more, asks_further, crossed_back, crossed_more, try_crossed}
@@ -181,7 +181,7 @@ module _ {T : Type 0} (m : Meaning) (planning : Planning) (request : Request) (r
       crossed_if unwaited (attempts.Busy place word) e = refl
       crossed_if unwaited (attempts.Stale place expected read) e = refl
       crossed_if unwaited (attempts.Far loads) e = refl
-      crossed_if unwaited (attempts.Short short) e = absurd (let z = ap (λ b. b && not (short.limbo == 0)) (sym unwaited) ∙ e in cc)
+      crossed_if unwaited (attempts.Short short) e = absurd (let z = ap (λ b. b && may_pass short) (sym unwaited) ∙ e in cc)
       crossed_if unwaited (attempts.Spent place word) e = absurd (let z = e in cc)
       crossed_if unwaited (attempts.Done reply stamp) e = absurd (let z = e in cc)
       crossed_if unwaited attempts.Halted e = absurd (let z = e in cc)

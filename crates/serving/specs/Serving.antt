@@ -25,13 +25,17 @@ use Rattle.attempt_bounds.specs.Spared.{IsSpared}
 use Rattle.serving.specs.declared.answers.Served.{Served}
 use Rattle.serving.specs.declared.answers.Served.TheVariants as answers
 
--- whether a request is attempted again after this answer: somebody else's section came between, or slots are wanted
--- that are in limbo, where such a want is to be waited out
+-- whether a want of slots may pass: some of the kind are in limbo, or others took the ones that lay on the board
+abbrev pub may_pass : Short → Bool
+may_pass short = not (short.limbo == 0) || not (short.board == 0)
+
+-- whether a request is attempted again after this answer: somebody else's section came between, or slots are wanted and
+-- that may pass, where such a want is to be waited out
 abbrev pub is_tried_again : Bool → Attempt → Bool
 is_tried_again retry_short (attempts.Busy place word) = true
 is_tried_again retry_short (attempts.Stale place expected read) = true
 is_tried_again retry_short (attempts.Far loads) = true
-is_tried_again retry_short (attempts.Short short) = retry_short && not (short.limbo == 0)
+is_tried_again retry_short (attempts.Short short) = retry_short && may_pass short
 is_tried_again retry_short _ = false
 
 -- whether an attempt with this answer was refused since another one came between: it held a lock, or changed
@@ -248,9 +252,10 @@ module _ {T : Type 0} where
       pub once : WasCrossed m planning again old ⊎ (retry_short ≡ false → again ≡ [])
 
     -- too few slots were free at the last attempt, and such a want isn't waited out, or no slot of the kind is in limbo
+    -- and others took none that lay on the board
     pub record StopsShort (short : Short) (request : Request) (old new : RunnerState T) : Type 0 where
       pub cause : IsShort m short request.number old new
-      pub over : (retry_short ≡ false) ⊎ (short.limbo ≡ 0)
+      pub over : (retry_short ≡ false) ⊎ ((short.limbo ≡ 0) × (short.board ≡ 0))
 
     -- why the serving stopped at this request
     abbrev pub Stops : Served → Request → RunnerState T → RunnerState T → Type 0

@@ -28,12 +28,13 @@ fn is_again(answer: &Attempt, retry_short: bool) -> bool
             read: _,
         } => true,
         Attempt::Far { loads: _ } => true,
-        Attempt::Short(short) => retry_short && short.limbo != 0,
+        Attempt::Short(short) => retry_short && (short.limbo != 0 || short.board != 0),
         _ => false,
     }
 }
 
-/// Lets the other threads go first where slots were wanted: those in limbo come back only once the others have gone on.
+/// Lets the other threads go first where slots were wanted: those in limbo come back only once the others have gone on,
+/// and who takes slots from the board gives some once it has many.
 fn make_way(answer: &Attempt) {
     if let Attempt::Short(_) = answer {
         yield_now();

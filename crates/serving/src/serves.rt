@@ -37,8 +37,8 @@ fn stop(answer: Attempt) -> Option<Served>
 /// worker is idle.
 ///
 /// `All` comes exactly where each request was answered and no ask halted. The serving tries a request again after
-/// `Busy`, `Stale` and `Far`, and after `Short` where `retry_short` holds and slots of that kind are in limbo, for
-/// which it lets other threads go first. After any other `Short` and after `Spent` it stops with that answer, and
+/// `Busy`, `Stale` and `Far`, and after `Short` where `retry_short` holds and slots of that kind are in limbo, or others
+/// took those that lay on the board; for these it lets other threads go first. After any other `Short` and after `Spent` it stops with that answer, and
 /// `Halted` comes only where the gate's count of halts rose in this call, and with the first halt. The requests behind
 /// the one at which it stopped are unserved, and so is that one at `Short` and `Spent`.
 ///

@@ -280,7 +280,7 @@ module _ {T H : Type 0} (m : Meaning) (planning : Planning) (retry_short reads_f
         ∙ (reached.uncrossed one).behind (ap (λ (x : PartState). x.gone) p_is) apart
 
     limbo_at : (short : Short) → 8 * length w.requests + 8 ≤ w.layout.version_max → slice_get answers 0 ≡ Some (stops.Short short) → short.limbo ≡ 0
-    limbo_at short versions_enough is = ⊎_elim unwaited (λ none. omega (arith, none)) ends.2.stops.over
+    limbo_at short versions_enough is = ⊎_elim unwaited (λ none. none.0) ends.2.stops.over
       where
         is_short : f.answer ≡ stops.Short short
         is_short = sym same ∙ get_or_from_slice_get answers 0 (stops.Short short) stops.All is

@@ -49,13 +49,13 @@ module _ {T : Type 0} (m : Meaning) (w : WordsState T) where
     pub once : (i j slot : ℕ) → slice_get slots i ≡ Some slot → slice_get slots j ≡ Some slot → i ≡ j
     pub each : (i slot : ℕ) → slice_get slots i ≡ Some slot → HasWornCell m w.layout (word_of m w) slot
 
-  -- at the last attempt too few slots of the kind were free, and this isn't waited out, or no slot of
-  -- the kind was in limbo; where descriptors lacked, all of the worker's were in limbo, and guard words of other
-  -- runners named them: no more than there are workers. Its node slots outside limbo, with two for each request that
-  -- added a pair, are as many as the layout gives it; and those in limbo with them no more than the table has, since
-  -- those that other workers made may come to it
+  -- at the last attempt too few slots of the kind were free, and this isn't waited out, or no slot of the kind was in
+  -- limbo and others took none that lay on the board; where descriptors lacked, all of the worker's were in limbo, and
+  -- guard words of other runners named them: no more than there are workers. Its node slots outside limbo, with two for
+  -- each request that added a pair, are as many as the layout gives it; and those in limbo with them no more than the
+  -- table has, since those that other workers made may come to it
   pub record IsShortOf (retry_short : Bool) (short : Short) : Type 0 where
-    pub over : (retry_short ≡ false) ⊎ (short.limbo ≡ 0)
+    pub over : (retry_short ≡ false) ⊎ ((short.limbo ≡ 0) × (short.board ≡ 0))
     pub nodes : short.kind ≡ kinds.Node → short.free < 2
     pub counted : short.kind ≡ kinds.Node
         → w.layout.nodes ≤ short.free + short.worn + 2 * added (word_of m w) (length w.requests)

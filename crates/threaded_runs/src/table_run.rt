@@ -30,11 +30,11 @@ use version_words::{FlockTable, Words};
 ///
 /// Worker r of W serves the traces r, r + W, r + 2 * W and so on, each whole, in that order. It has the gate that
 /// `gates` gives for it with its entry of `halts`, one for each worker. Where `retry_short` holds, a worker that lacks
-/// slots tries again while some of its own are in limbo. Where `reads_free` holds, each `get` is read first, without
-/// its lock, and served under its lock where the read came to nothing; all else is served under its lock. Where no
-/// thread can be made for a worker, the caller does its work. Once all threads are joined, the keeper joins the
-/// workers, the gates are given back in order of number, what halted workers left is helped to its end, and the table
-/// is closed.
+/// slots tries again while some of its own are in limbo, or others took those that lay on the board. Where `reads_free`
+/// holds, each `get` is read first, without its lock, and served under its lock where the read came to nothing; all else
+/// is served under its lock. Where no thread can be made for a worker, the caller does its work. Once all threads are
+/// joined, the keeper joins the workers, the gates are given back in order of number, what halted workers left is helped
+/// to its end, and the table is closed.
 ///
 /// The layout is within the limits; the requests are numbered from 0 in order, in traces that never fall along the list
 /// and are below 64, with keys up to 4,294,967,293, and the structure serves them. The Err is want of memory. A worker

@@ -1,26 +1,26 @@
 -- Steps on the board: their names, and what is kept behind them.
-use Rattle.std.specs.Prelude.{◌==◌, ◌||◌, nat_le}
+use Rattle.std.specs.Prelude.{◌==◌, ◌||◌, nat_le, slice_set}
 use Rattle.std.proofs.Common.{◌≡◌, ℕ, ◌+◌, ◌-◌, ◌<◌, ◌≤◌, List, [], ◌∷◌, ◌++◌, length, Bool, true, false, refl, sym, ap, subst, ◌∙◌, arith, Some, None}
 use Rattle.std.proofs.lemmas.Bool.Decides.{nat_tests}
 use Rattle.atomic_table.specs.Table.{Me}
 use Rattle.atomic_table.specs.Seated.{TableId}
 use Rattle.machine_states.specs.body_terms.specs.declared.thunk.Thunk.{Thunk}
 use Rattle.machine_states.specs.body_terms.specs.Word.{value_of}
-use Rattle.machine_states.specs.table_words.specs.declared.layout.Layout.{Layout}
 use Rattle.machine_states.specs.table_words.specs.declared.spot.Spot.{Spot}
 use Rattle.machine_states.specs.table_words.specs.declared.spot.Spot.TheVariants.{Board}
 use Rattle.machine_states.specs.table_words.specs.declared.access.Access.{Access}
 use Rattle.machine_states.specs.table_words.specs.declared.access.Access.TheVariants.{Loads, Exchanges}
 use Rattle.machine_states.specs.table_words.specs.Access.{written}
 use Rattle.machine_states.specs.table_words.specs.Limits.{IsWithinLimits}
-use Rattle.machine_states.specs.table_words.specs.Places.{address, board_at, slot_count}
+use Rattle.machine_states.specs.table_words.specs.Places.{address, board_at, board_words, slot_count, Fits}
 use Rattle.machine_states.specs.structure_laws.specs.Meaning.{Meaning}
 use Rattle.machine_states.specs.structure_laws.specs.Laws.{Laws}
 use Rattle.machine_states.specs.runner_parts.specs.declared.event.EventKind.{EventKind}
 use Rattle.machine_states.specs.runner_parts.specs.declared.event.EventKind.TheVariants as kinds
 use Rattle.machine_states.specs.runner_parts.specs.State.{PartState, NodesState}
 use Rattle.machine_states.specs.runner_parts.specs.Tests.{has}
-use Rattle.machine_states.specs.runner_parts.specs.Lists.{slot_given, slot_drawn}
+use Rattle.machine_states.specs.runner_parts.specs.Lists.{slot_given, slot_drawn, board_tried}
+use Rattle.machine_states.proofs.Steps.{asked_fits}
 use Rattle.machine_states.specs.runner_steps.specs.Asks.{sizes_for}
 use Rattle.machine_states.specs.runner_steps.specs.Board.{free_if, board_take_after}
 use Rattle.machine_states.specs.epoch_core.specs.Lists.{times}
@@ -28,7 +28,10 @@ use Rattle.machine_invariant.specs.machine_blocks.specs.machine_guards.specs.mac
 use Rattle.machine_invariant.specs.machine_blocks.specs.machine_guards.specs.machine_agreement.specs.machine_epochs.proofs.Places.{has_append}
 use Rattle.machine_invariant.specs.After.{AreAllowed}
 use Rattle.runner_block.specs.declared.block.Block.{Block}
-use Rattle.runner_block.specs.Kept.{KeptState, with_nodes}
+use Rattle.runner_block.specs.declared.marks.Mark.{Mark}
+use Rattle.runner_block.specs.Kept.{KeptState, with_nodes, with_marks}
+use Rattle.runner_block.specs.Marks.{mark_loaded, slot_tried, marks_of}
+use Rattle.runner_block.proofs.Marking.{marks_read, marks_tried}
 use Rattle.runner_block.specs.Room.{AreFew}
 use Rattle.version_words.specs.declared.view.View.{View}
 use Rattle.version_words.specs.RunnerState.{RunnerState}
@@ -38,7 +41,7 @@ use Rattle.version_words.specs.Events.{met_by, IsEnabled, IsNamed, Makes, Tries,
 use Rattle.version_words.specs.Naming.{is_plain}
 use Rattle.version_words.proofs.Asked.{outer, in_no_run}
 use Rattle.version_words.proofs.Bounds.{few_seen, node_low, node_once}
-use Rattle.version_words.proofs.Keeps.{idle_kept, lists_kept}
+use Rattle.version_words.proofs.Keeps.{marked_kept}
 use Rattle.version_words.proofs.Shows.{seen_then}
 use Rattle.version_words.proofs.Told.{told_outside}
 
@@ -59,6 +62,10 @@ module _ {T : Type 0} (m : Meaning) (t : TableState T) (r : RunnerState T) (own 
     loads : asked.BoardLoadAsked r.layout r.number word r.part enabled.met
     loads = asked.board_load_asked r.layout r.number word r.part enabled.met (outer m r.layout r.requests r.number (kinds.BoardLoad word) r.part enabled.met refl enabled.asked).1
 
+    pub load_word : word < board_words
+    load_word = subst (λ (x : Spot × Access). Fits (sizes_for m r.layout r.requests) x.0) (sym loads.is)
+        (asked_fits m r.layout r.requests [] [] (record { runner = r.number; kind = kinds.BoardLoad word }) r.part enabled.met enabled.asked)
+
     pub load_named : IsNamed m (λ m' l' rs' p' made. kinds.BoardLoad (made.word - board_at (sizes_for m' l' rs'))) r (step_at m t (Board word) 0 0 nothing) (Board word, Loads)
     load_named = record { asked = ap (λ n. met_by m r (kinds.BoardLoad n)) place_is ∙ (enabled.asked ∙ ap Some (sym loads.is)); plain = refl }
 
@@ -69,6 +76,10 @@ module _ {T : Type 0} (m : Meaning) (t : TableState T) (r : RunnerState T) (own 
   module _ (link : ℕ) (enabled : IsEnabled m (kinds.BoardTake word link) r) where
     takes : asked.BoardTakeAsked r.layout r.number word link r.part enabled.met
     takes = asked.board_take_asked r.layout r.number word link r.part enabled.met (outer m r.layout r.requests r.number (kinds.BoardTake word link) r.part enabled.met refl enabled.asked).1
+
+    pub take_word : word < board_words
+    take_word = subst (λ (x : Spot × Access). Fits (sizes_for m r.layout r.requests) x.0) (sym takes.is)
+        (asked_fits m r.layout r.requests [] [] (record { runner = r.number; kind = kinds.BoardTake word link }) r.part enabled.met enabled.asked)
 
     pub link_some : 0 < link
     link_some = takes.some
@@ -86,6 +97,10 @@ module _ {T : Type 0} (m : Meaning) (t : TableState T) (r : RunnerState T) (own 
   module _ (slot : ℕ) (enabled : IsEnabled m (kinds.BoardGive word slot) r) where
     gives : asked.BoardGiveAsked r.layout r.number word slot r.part enabled.met
     gives = asked.board_give_asked r.layout r.number word slot r.part enabled.met (outer m r.layout r.requests r.number (kinds.BoardGive word slot) r.part enabled.met refl enabled.asked).1
+
+    pub give_word : word < board_words
+    give_word = subst (λ (x : Spot × Access). Fits (sizes_for m r.layout r.requests) x.0) (sym gives.is)
+        (asked_fits m r.layout r.requests [] [] (record { runner = r.number; kind = kinds.BoardGive word slot }) r.part enabled.met enabled.asked)
 
     give_kind : kinds.BoardGive place (slot + 1 - 1) ≡ kinds.BoardGive word slot
     give_kind = (λ i. kinds.BoardGive (place_is i) (same i))
@@ -120,8 +135,15 @@ module _ {T : Type 0} (mean : T → Meaning) (s : T) (word number : ℕ) (kept :
   abbrev nodes : NodesState
   nodes = kept.lists.part.nodes
 
-  pub load_kept : Makes (mean s) (kinds.BoardLoad word) found (seen_seat own_table me) (seen_seat new_table me') → IsKept mean number kept me'
-  load_kept made = idle_kept mean s (kinds.BoardLoad word) found number kept own_table new_table me me' live made slots was refl refl
+  pub load_kept : Makes (mean s) (kinds.BoardLoad word) found (seen_seat own_table me) (seen_seat new_table me')
+      → (lists : KeptState) → lists ≡ with_marks kept.lists (slice_set kept.lists.marks word (mark_loaded found)) → IsKept mean number (record kept { lists = lists }) me'
+  load_kept made lists is = marked_kept mean s (kinds.BoardLoad word) found number kept own_table new_table me me' live made slots was refl lists
+      (λ (p : PartState). p) (slice_set kept.lists.marks word (mark_loaded found)) is refl
+      (ap (λ (marks : List Mark). slice_set marks word (mark_loaded found)) was.marks ∙ sym (marks_read me.0.part.board word found board_words))
+
+  -- the marks behind an exchange
+  tried_marks : word < board_words → (won : Bool) → slot_tried kept.lists.marks word won ≡ marks_of (board_tried me.0.part.board word won)
+  tried_marks few won = ap (λ (marks : List Mark). slot_tried marks word won) was.marks ∙ sym (marks_tried me.0.part.board word won board_words few)
 
   -- where a take won the slot is a node slot for which the lists have room
   module _ (link : ℕ) (made : Makes (mean s) (kinds.BoardTake word link) found (seen_seat own_table me) (seen_seat new_table me')) where
@@ -153,9 +175,12 @@ module _ {T : Type 0} (mean : T → Meaning) (s : T) (word number : ℕ) (kept :
           (subst (λ (n : NodesState). AreFew (slot_count me'.0.layout (mean s).fixed_slots) n) (taken won)
           (few_seen (mean s) laws me'.0.layout me'.0.requests me'.0.number me'.0.part made.met.0 (written made.met.1 found) limits allowed (seen_then _ _ _ _ _ _ _ _ _ made.shown)))
 
-    pub take_kept : (lists : KeptState) → lists ≡ with_nodes kept.lists (free_if (found == link) (slot_drawn nodes slot) nodes) → IsKept mean number (record kept { lists = lists }) me'
-    take_kept lists is = lists_kept mean s (kinds.BoardTake word link) found number kept own_table new_table me me' live made slots was refl lists
-        (λ (p : PartState). record p { nodes = free_if (found == link) (slot_drawn p.nodes slot) p.nodes }) is refl
+    pub take_kept : word < board_words → (lists : KeptState)
+        → lists ≡ with_marks (with_nodes kept.lists (free_if (found == link) (slot_drawn nodes slot) nodes)) (slot_tried kept.lists.marks word (found == link))
+        → IsKept mean number (record kept { lists = lists }) me'
+    take_kept few lists is = marked_kept mean s (kinds.BoardTake word link) found number kept own_table new_table me me' live made slots was refl lists
+        (λ (p : PartState). record p { nodes = free_if (found == link) (slot_drawn p.nodes slot) p.nodes }) (slot_tried kept.lists.marks word (found == link)) is refl
+        (tried_marks few (found == link))
 
   -- a given slot was free, and stands in the list once
   module _ (slot : ℕ) (made : Makes (mean s) (kinds.BoardGive word slot) found (seen_seat own_table me) (seen_seat new_table me')) where
@@ -167,6 +192,9 @@ module _ {T : Type 0} (mean : T → Meaning) (s : T) (word number : ℕ) (kept :
     give_own = ap (λ (p : PartState). has p.nodes.free slot) was.lists ∙ (asked.board_give_asked me.0.layout me.0.number word slot me.0.part made.met
         (outer (mean s) me.0.layout me.0.requests me.0.number (kinds.BoardGive word slot) me.0.part made.met refl made.asked).1).own
 
-    pub give_kept : (lists : KeptState) → lists ≡ with_nodes kept.lists (free_if (found == 0) (slot_given nodes slot) nodes) → IsKept mean number (record kept { lists = lists }) me'
-    give_kept lists is = lists_kept mean s (kinds.BoardGive word slot) found number kept own_table new_table me me' live made slots was refl lists
-        (λ (p : PartState). record p { nodes = free_if (found == 0) (slot_given p.nodes slot) p.nodes }) is refl
+    pub give_kept : word < board_words → (lists : KeptState)
+        → lists ≡ with_marks (with_nodes kept.lists (free_if (found == 0) (slot_given nodes slot) nodes)) (slot_tried kept.lists.marks word (found == 0))
+        → IsKept mean number (record kept { lists = lists }) me'
+    give_kept few lists is = marked_kept mean s (kinds.BoardGive word slot) found number kept own_table new_table me me' live made slots was refl lists
+        (λ (p : PartState). record p { nodes = free_if (found == 0) (slot_given p.nodes slot) p.nodes }) (slot_tried kept.lists.marks word (found == 0)) is refl
+        (tried_marks few (found == 0))

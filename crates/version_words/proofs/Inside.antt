@@ -50,9 +50,9 @@ use Rattle.version_words.specs.Place.{IsPlaced, HasEpoch, is_ending, next_log}
 use Rattle.version_words.specs.Kept.{IsKept}
 use Rattle.version_words.specs.Events.{met_by, Makes, seen_seat}
 use Rattle.version_words.proofs.Splits.{learns}
-use Rattle.version_words.proofs.Told.{told_read}
+use Rattle.version_words.proofs.Told.{told_read, leaves_board}
 use Rattle.version_words.proofs.Asked.{unless_gone, tested}
-use Rattle.version_words.proofs.Keeps.{KeepsPart, no_epoch, was_part, then_kept}
+use Rattle.version_words.proofs.Keeps.{KeepsPart, beside, no_epoch, was_part, then_kept}
 use Rattle.version_words.proofs.Epochs.{is_epoch, goes_epoch, ended_epoch, epoch_if}
 use Rattle.machine_states.proofs.Steps.{some_same, asked_fits}
 
@@ -119,6 +119,13 @@ commit_inner : (k : EventKind) → is_commit k ≡ true → is_inner k ≡ true
 commit_inner kinds.Commit e = refl
 commit_inner kinds.OutcomeCommit e = refl
 commit_inner _ e = absurd (false_true e)
+
+inner_left : (k : EventKind) → is_inner k ≡ true → leaves_board k ≡ true
+inner_left kinds.Idle e = absurd (false_true e)
+inner_left (kinds.BoardLoad word) e = absurd (false_true e)
+inner_left (kinds.BoardTake word link) e = absurd (false_true e)
+inner_left (kinds.BoardGive word slot) e = absurd (false_true e)
+inner_left _ e = refl
 
 -- a run that has loaded its opening
 pub record HasOpenRun (p : PartState) : Type 0 where
@@ -524,7 +531,7 @@ module _ (m : Meaning) (l : Layout) (kept : Block) (p : PartState) (found place 
   released_part = ends_part m l kinds.Release kept p found h x asked was refl (lists_released kept.lists kept.place.descriptor (place == kept.place.lock))
       (ap (λ (b : Bool). (lists_released kept.lists kept.place.descriptor b).part) (sym last) ∙ lists_by (is_end (next_of m end))) (nodes_by (is_end (next_of m end)))
 
-released_room : (lists : KeptState) (descriptor : ℕ) (b : Bool) → (lists_released lists descriptor b).room ≡ lists.room
+released_room : (lists : KeptState) (descriptor : ℕ) (b : Bool) → beside (lists_released lists descriptor b) ≡ beside lists
 released_room lists descriptor true = refl
 released_room lists descriptor false = refl
 
@@ -550,8 +557,8 @@ module _ {T : Type 0} (mean : T → Meaning) (s : T) (k : EventKind) (found numb
   next_asked : line_ask (mean s) me.0.layout k me.0.part.nodes.free opens.run (next_of (mean s) opens.run) ≡ Some made.met
   next_asked = line_asked (mean s) (seen_seat old_table me) k opens.run made.met inner opens.there made.asked
 
-  run_kept : (kept' : Block) → kept'.lists.room ≡ kept.lists.room → KeepsPart (mean s) kept' (line_after (mean s) me.0.layout k me.0.part opens.run (next_of (mean s) opens.run) found) → IsKept mean number kept' me'
-  run_kept kept' room h = then_kept mean s k found number kept old_table new_table me me' live made slots was kept' room (subst (KeepsPart (mean s) kept') (sym (step_is (mean s) me.0.layout k me.0.part found opens)) h)
+  run_kept : (kept' : Block) → beside kept'.lists ≡ beside kept.lists → KeepsPart (mean s) kept' (line_after (mean s) me.0.layout k me.0.part opens.run (next_of (mean s) opens.run) found) → IsKept mean number kept' me'
+  run_kept kept' room h = then_kept mean s k found number kept old_table new_table me me' live made slots was (inner_left k inner) kept' room (subst (KeepsPart (mean s) kept') (sym (step_is (mean s) me.0.layout k me.0.part found opens)) h)
 
   abbrev before : KeepsPart (mean s) kept me.0.part
   before = was_part mean s k found number kept old_table new_table me me' live made slots was
@@ -654,7 +661,7 @@ module _ {T : Type 0} (mean : T → Meaning) (s : T) (place found number : ℕ) 
   cell_by : (o : Option RunState) → me.0.part.run ≡ o → Makes (mean s) (load_of o place) found (seen_seat old_table me) (seen_seat new_table me') → IsKept mean number kept me'
   cell_by None none made =
       let b = was_part mean s (kinds.LoadCell (Some place)) found number kept old_table new_table me me' live made slots was in
-      then_kept mean s (kinds.LoadCell (Some place)) found number kept old_table new_table me me' live made slots was kept refl
+      then_kept mean s (kinds.LoadCell (Some place)) found number kept old_table new_table me me' live made slots was refl kept refl
       (subst (KeepsPart (mean s) kept) (sym (ap (λ (o : Option RunState). after_by (mean s) me.0.layout (kinds.LoadCell (Some place)) me.0.part o found) none))
       (record {
         lists = b.lists ∙ sym (told_read (mean s) place found me.0.part);

@@ -14,7 +14,10 @@ use Rattle.machine_states.specs.table_words.specs.declared.access.Access.TheVari
 use Rattle.machine_states.proofs.Steps.{some_same}
 use Rattle.version_words.specs.declared.view.View.{View}
 use Rattle.runner_block.specs.declared.block.Block.{Block}
-use Rattle.runner_block.specs.Kept.{KeptState, with_part}
+use Rattle.runner_block.specs.declared.marks.Mark.{Mark}
+use Rattle.runner_block.specs.Kept.{KeptState, with_part, with_marks}
+use Rattle.runner_block.specs.Marks.{marks_of}
+use Rattle.machine_states.specs.runner_steps.specs.Board.{board_after}
 use Rattle.version_words.specs.RunnerState.{RunnerState, told_part}
 use Rattle.version_words.specs.Place.{HasPlace, HasEpoch, EndsSo}
 use Rattle.version_words.specs.Kept.{IsKept, IsOfTable}
@@ -22,10 +25,15 @@ use Rattle.version_words.specs.Events.{IsEnabled, Makes, seen_seat}
 use Rattle.version_words.specs.Rule.{joining, splitting}
 use Rattle.machine_states.specs.table_words.specs.declared.layout.Layout.{Layout}
 use Rattle.machine_states.specs.runner_steps.specs.AfterOutside.{split_after}
-use Rattle.std.specs.Prelude.{nat_lt, ◌+◌, if◌then◌else◌}
+use Rattle.std.specs.Prelude.{nat_lt, ◌+◌, ◌&&◌, List, if◌then◌else◌}
+use Rattle.std.proofs.lemmas.Bool.{and_parts}
 use Rattle.std.proofs.lemmas.Option.{none-some}
 use Rattle.version_words.proofs.Asked.{is_outer, in_no_run}
-use Rattle.version_words.proofs.Told.{told, told_outside, still_outside}
+use Rattle.version_words.proofs.Told.{told, told_outside, still_outside, leaves_board, board_left}
+
+-- what a step of the code keeps beside the part: the room, and mostly the marks
+abbrev pub beside : KeptState → ℕ × List Mark
+beside kept = (kept.room, kept.marks)
 
 -- the block is that of this part
 pub record KeepsPart (m : Meaning) (kept : Block) (p : PartState) : Type 0 where
@@ -44,10 +52,11 @@ module _ {T : Type 0} (mean : T → Meaning) (number : ℕ) (kept : Block) (me m
   none_runs : (q : RunState) → view'.part.run ≡ Some q → ⊥
   none_runs q e = none-some q (sym rests ∙ e)
 
-  pub resting_kept : (lists : KeptState) → lists.room ≡ kept.lists.room → lists.part ≡ told_part view'.part → IsKept mean number (record kept { lists = lists }) me'
-  resting_kept lists room told_so = record {
+  pub resting_kept : (lists : KeptState) → lists.room ≡ kept.lists.room → lists.part ≡ told_part view'.part → lists.marks ≡ marks_of view'.part.board → IsKept mean number (record kept { lists = lists }) me'
+  resting_kept lists room told_so marks = record {
     same_number = was.same_number ∙ (same_number ∙ ap (λ (v : View T). v.number) is);
     lists = told_so ∙ ap (λ (v : View T). told_part v.part) is;
+    marks = marks ∙ ap (λ (v : View T). marks_of v.part.board) is;
     place = subst (λ (v : View T). HasPlace kept.place v.part) is (record {
       run = λ q e. absurd (none_runs q e);
       outside = λ e. was.place.outside rested;
@@ -69,7 +78,14 @@ module _ {T : Type 0} (mean : T → Meaning) (s : T) (k : EventKind) (found numb
   part_is : me'.0.part ≡ after (mean s) me.0.layout me.0.number k made.met.0 made.met.1 me.0.part found
   part_is = ap (λ (r : RunnerState T). r.part) made.made
 
-  module _ (kept' : Block) (room : kept'.lists.room ≡ kept.lists.room) (h : KeepsPart (mean s) kept' (stepped (mean s) me.0.layout k me.0.part found)) where
+  -- the marks behind a step that leaves what the runner knows of the board
+  same_marks : leaves_board k ≡ true → (marks : List Mark) → marks ≡ kept.lists.marks → marks ≡ marks_of (board_after k me.0.part.board found)
+  same_marks left marks same = same ∙ (was.marks ∙ sym (ap marks_of (board_left k me.0.part.board found left)))
+
+  module _ (left : leaves_board k ≡ true) (kept' : Block) (same : beside kept'.lists ≡ beside kept.lists) (h : KeepsPart (mean s) kept' (stepped (mean s) me.0.layout k me.0.part found)) where
+    room : kept'.lists.room ≡ kept.lists.room
+    room = ap (λ (z : ℕ × List Mark). z.0) same
+
     ends : EndsSo (mean s) kept'.place me'.0.part.run
     ends = record { ending = λ q e. h.run.ending q (sym (ap (λ (p : PartState). p.run) part_is) ∙ e) }
 
@@ -90,6 +106,7 @@ module _ {T : Type 0} (mean : T → Meaning) (s : T) (k : EventKind) (found numb
     then_kept = record {
       same_number = was.same_number ∙ sym (ap (λ (r : RunnerState T). r.number) made.made);
       lists = h.lists ∙ sym (ap told_part part_is ∙ told (mean s) me.0.layout me.0.number k made.met.0 made.met.1 me.0.part found);
+      marks = same_marks left kept'.lists.marks (ap (λ (z : ℕ × List Mark). z.1) same) ∙ sym (ap (λ (p : PartState). marks_of p.board) part_is);
       place = subst (HasPlace kept'.place) (sym part_is) (record { run = h.place.run; outside = h.place.outside; in_hand = h.place.in_hand });
       slots = slots ∙ was.slots;
       of_table = of_table;
@@ -100,19 +117,34 @@ module _ {T : Type 0} (mean : T → Meaning) (s : T) (k : EventKind) (found numb
     resting = in_no_run (mean s) (seen_seat old_table me) k outer (record { met = made.met; asked = made.asked })
 
     -- a step in no run
-    pub outer_kept : (lists : KeptState) → lists.room ≡ kept.lists.room → lists.part ≡ told_part (outside_after (mean s) me.0.layout k me.0.part found) → IsKept mean number (record kept { lists = lists }) me'
-    outer_kept lists room is = resting_kept mean number kept me me' me'.0 refl (sym (ap (λ (r : RunnerState T). r.number) made.made)) (sym (ap (λ (r : RunnerState T). r.layout) made.made)) (sym (ap (λ (r : RunnerState T). r.structure) made.made))
+    pub outer_kept : (lists : KeptState) → lists.room ≡ kept.lists.room → lists.part ≡ told_part (outside_after (mean s) me.0.layout k me.0.part found)
+        → lists.marks ≡ marks_of (board_after k me.0.part.board found) → IsKept mean number (record kept { lists = lists }) me'
+    outer_kept lists room is marks = resting_kept mean number kept me me' me'.0 refl (sym (ap (λ (r : RunnerState T). r.number) made.made)) (sym (ap (λ (r : RunnerState T). r.layout) made.made)) (sym (ap (λ (r : RunnerState T). r.structure) made.made))
         slots was resting (ap (λ (p : PartState). p.run) part_is ∙ still_outside (mean s) me.0.layout me.0.part found me.0.number k made.met.0 made.met.1 outer resting) lists room
         (is ∙ sym (ap told_part part_is ∙ told_outside (mean s) me.0.layout me.0.number k made.met.0 made.met.1 me.0.part found resting))
+        (marks ∙ sym (ap (λ (p : PartState). marks_of p.board) part_is))
+
+    -- a step in no run that changes the lists and the marks as the code does
+    pub marked_kept : (lists : KeptState) (f : PartState → PartState) (marks : List Mark) → lists ≡ with_marks (with_part kept.lists (f kept.lists.part)) marks
+        → f (told_part me.0.part) ≡ told_part (outside_after (mean s) me.0.layout k me.0.part found) → marks ≡ marks_of (board_after k me.0.part.board found)
+        → IsKept mean number (record kept { lists = lists }) me'
+    marked_kept lists f marks is same marked = outer_kept lists (ap (λ l. l.room) is) (ap (λ l. l.part) is ∙ (ap f was.lists ∙ same)) (ap (λ l. l.marks) is ∙ marked)
+
+  module _ (still : (is_outer k && leaves_board k) ≡ true) where
+    outer : is_outer k ≡ true
+    outer = (and_parts (is_outer k) (leaves_board k) still).0
+
+    left : leaves_board k ≡ true
+    left = (and_parts (is_outer k) (leaves_board k) still).1
 
     -- a step in no run that leaves the lists
     pub idle_kept : told_part (outside_after (mean s) me.0.layout k me.0.part found) ≡ told_part me.0.part → IsKept mean number kept me'
-    idle_kept same = outer_kept kept.lists refl (was.lists ∙ sym same)
+    idle_kept same = outer_kept outer kept.lists refl (was.lists ∙ sym same) (same_marks left kept.lists.marks refl)
 
     -- a step in no run that changes the lists as the code does
     pub lists_kept : (lists : KeptState) (f : PartState → PartState) → lists ≡ with_part kept.lists (f kept.lists.part) → f (told_part me.0.part) ≡ told_part (outside_after (mean s) me.0.layout k me.0.part found)
         → IsKept mean number (record kept { lists = lists }) me'
-    lists_kept lists f is same = outer_kept lists (ap (λ l. l.room) is) (ap (λ l. l.part) is ∙ (ap f was.lists ∙ same))
+    lists_kept lists f is same = outer_kept outer lists (ap (λ l. l.room) is) (ap (λ l. l.part) is ∙ (ap f was.lists ∙ same)) (same_marks left lists.marks (ap (λ l. l.marks) is))
 
 -- a keeper that joins a worker keeps what it has
 module _ {T : Type 0} (mean : T → Meaning) (s : T) (number : ℕ) (kept : Block) (own_table : TableId) (me me' : Me Thunk (View T)) (w : View T) (live : me.0.structure ≡ Some s)
@@ -126,7 +158,7 @@ module _ {T : Type 0} (mean : T → Meaning) (s : T) (number : ℕ) (kept : Bloc
   pub join_kept : IsKept mean number kept me'
   join_kept = resting_kept mean number kept me me' (record (me.0) { part = knows_also met w.part; joined = (w.number, w.part) ∷ me.0.joined }) (sym (joins ∙ ap (joining mean me.0 w) live)) refl refl refl slots was joined_rested
       (still_outside (mean s) me.0.layout me.0.part 0 me.0.number (kinds.Join w.number) spots.Seat Loads refl joined_rested) kept.lists refl
-      (was.lists ∙ sym (told_outside (mean s) me.0.layout me.0.number (kinds.Join w.number) spots.Seat Loads me.0.part 0 joined_rested))
+      (was.lists ∙ sym (told_outside (mean s) me.0.layout me.0.number (kinds.Join w.number) spots.Seat Loads me.0.part 0 joined_rested)) was.marks
 
 -- a keeper that splits off a worker counts it
 module _ {T : Type 0} (mean : T → Meaning) (s : T) (number : ℕ) (kept : Block) (own_table : TableId) (me me' : Me Thunk (View T)) (live : me.0.structure ≡ Some s)
@@ -144,3 +176,4 @@ module _ {T : Type 0} (mean : T → Meaning) (s : T) (number : ℕ) (kept : Bloc
       slots was split_rested (still_outside (mean s) me.0.layout me.0.part 0 me.0.number kinds.Split spots.Seat Loads refl split_rested) lists (ap (λ k. k.room) is)
       (ap (λ k. k.part) is ∙ (ap (λ (z : Layout). split_after z kept.lists.part) same ∙ (ap (split_after me.0.layout) was.lists
       ∙ (split_told (nat_lt me.0.part.records.splits me.0.layout.runners) ∙ sym (told_outside (mean s) me.0.layout me.0.number kinds.Split spots.Seat Loads me.0.part 0 split_rested)))))
+      (ap (λ k. k.marks) is ∙ was.marks)

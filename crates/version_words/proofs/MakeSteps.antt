@@ -106,7 +106,7 @@ epoch_part m l found kept p x was h = subst (KeepsPart m (block_retired kept fou
 module _ {T : Type 0} (mean : T → Meaning) (s : T) (found number : ℕ) (kept : Block) (old_table new_table : TableId) (me me' : Me Thunk (View T)) (live : me.0.structure ≡ Some s)
     (made : Makes (mean s) kinds.EpochForRetire found (seen_seat old_table me) (seen_seat new_table me')) (slots : me'.1 ≡ me.1) (was : IsKept mean number kept me) where
   pub epoch_kept : IsKept mean number (block_retired kept found) me'
-  epoch_kept = then_kept mean s kinds.EpochForRetire found number kept old_table new_table me me' live made slots was (block_retired kept found) refl
+  epoch_kept = then_kept mean s kinds.EpochForRetire found number kept old_table new_table me me' live made slots was refl (block_retired kept found) refl
       (epoch_part (mean s) me.0.layout found kept me.0.part made.met (was_part mean s kinds.EpochForRetire found number kept old_table new_table me me' live made slots was)
       (epoch_asked (mean s) me.0.layout me.0.requests me.0.number me.0.part made.met made.asked).1)
 
@@ -176,7 +176,7 @@ module _ {T : Type 0} (mean : T → Meaning) (s : T) (spot : Spot) (slot number 
     after_is = step_is (mean s) me.0.layout kinds.MakeCommit p found opens.open_run ∙ ap (λ (o : Option ℕ). make_committed (mean s) me.0.layout p q o found) fills
 
     pub make_kept : IsKept mean number kept' me'
-    make_kept = then_kept mean s kinds.MakeCommit found number kept own_table new_table me me' live made slots was kept' refl (subst (KeepsPart (mean s) kept') (sym after_is) part_made)
+    make_kept = then_kept mean s kinds.MakeCommit found number kept own_table new_table me me' live made slots was refl kept' refl (subst (KeepsPart (mean s) kept') (sym after_is) part_made)
 
     -- the log word that it left names a node slot, so it found a number of 32 bits
     pub make_found : Laws (mean s) → IsWithinLimits me'.0.layout → AreAllowed me'.0.requests → found < 2 ^ 32

@@ -151,7 +151,7 @@ module _ {T : Type 0} (mean : T → Meaning) (s : T) (descriptor index found num
   begins_kept none first made =
       let step = ap (λ (o : Option RunState). after_by m l (kinds.LoadThunk (Some descriptor)) p o found) none in
       let place_is : begun_place kept.place descriptor ≡ opened_place kept.place descriptor index found = (λ i. opened_place kept.place descriptor (sym first i) found) in
-      then_kept mean s (kinds.LoadThunk (Some descriptor)) found number kept old_table new_table me me' live made slots was kept' refl
+      then_kept mean s (kinds.LoadThunk (Some descriptor)) found number kept old_table new_table me me' live made slots was refl kept' refl
       (subst (KeepsPart m kept') (sym step)
       (subst (λ (place : RunPlace). KeepsPart m (record kept { place = place }) (record p { run = Some (opened descriptor found) })) place_is
       (opening_part m kept kept.lists (record p { run = Some (opened descriptor found) }) (opened descriptor found) refl was.lists (begun_place kept.place descriptor)
@@ -169,7 +169,7 @@ module _ {T : Type 0} (mean : T → Meaning) (s : T) (descriptor index found num
       let is = was.place.run q there in let was_epoch = (was.of_table s live).epoch in let longer = length-append q.opened (found ∷ []) in
       let place = place_after kept.place q found descriptor index is at in
       let step = ap (λ (o : Option RunState). after_by m l (kinds.LoadThunk None) p o found) there ∙ still_closed m l p q found o.0 in
-      then_kept mean s (kinds.LoadThunk None) found number kept old_table new_table me me' live made slots was kept' refl
+      then_kept mean s (kinds.LoadThunk None) found number kept old_table new_table me me' live made slots was refl kept' refl
       (subst (KeepsPart m kept') (sym step)
       (subst (λ (place : RunPlace). KeepsPart m (record kept { place = place }) (opened_more p q found)) (sym (opened_is kept.place q found descriptor index is at))
       (opening_part m kept kept.lists (opened_more p q found) (record q { opened = q.opened ++ found ∷ [] }) refl was.lists place (place_more kept.place q found descriptor index is at)
@@ -196,7 +196,7 @@ module _ {T : Type 0} (mean : T → Meaning) (s : T) (descriptor index found num
       let full : length q.opened ≡ 12 = (let a = t.0 in grind (arith, nat_tests, a)) in
       let is = was.place.run q there in let was_epoch = (was.of_table s live).epoch in let longer = length-append q.opened (found ∷ []) in
       let step = ap (λ (o : Option RunState). after_by m l kinds.LoadDone p o found) there ∙ ap (λ (b : Bool). if b then line_after m l kinds.LoadDone p q (next_of m q) found else opened_more p q found) o.0 in
-      then_kept mean s kinds.LoadDone found number kept old_table new_table me me' live made slots was (record kept { place = record (kept.place) { inside = true } }) refl
+      then_kept mean s kinds.LoadDone found number kept old_table new_table me me' live made slots was refl (record kept { place = record (kept.place) { inside = true } }) refl
       (subst (KeepsPart m (record kept { place = record (kept.place) { inside = true } })) (sym step)
       (opening_part m kept kept.lists (opened_more p q found) (record q { opened = q.opened ++ found ∷ [] }) refl was.lists (record (kept.place) { inside = true })
       (record {

@@ -28,7 +28,7 @@ use Rattle.machine_states.specs.runner_parts.specs.declared.event.EventKind.TheV
 use Rattle.machine_states.specs.runner_parts.specs.State.{RunState, PartState}
 use Rattle.machine_states.specs.runner_parts.specs.Tests.{has, is_resting}
 use Rattle.machine_states.specs.epoch_core.specs.Lists.{times}
-use Rattle.machine_states.specs.runner_parts.specs.Lists.{slot_taken, nodes_looked, descriptor_stored}
+use Rattle.machine_states.specs.runner_parts.specs.Lists.{slot_taken, nodes_looked}
 use Rattle.machine_states.specs.runner_steps.specs.Sections.{is_open_run, next_of}
 use Rattle.machine_states.specs.runner_steps.specs.Outside.{when, descriptor_spot}
 use Rattle.machine_states.specs.runner_steps.specs.InRun.{is_cell, is_slot, make_slot, fill_load_ask}
@@ -53,7 +53,7 @@ use Rattle.runner_block.specs.Looks.{MayTake}
 use Rattle.version_words.specs.Events.{met_by, IsEnabled, IsNamed, Makes, step_at, address_of, start_of, nothing, seen_seat}
 use Rattle.version_words.proofs.Asked.{unless_gone, tested}
 use Rattle.version_words.proofs.Bounds.{node_once}
-use Rattle.version_words.proofs.Keeps.{KeepsPart, no_epoch, was_part, then_kept}
+use Rattle.version_words.proofs.Keeps.{KeepsPart, beside, no_epoch, was_part, then_kept}
 use Rattle.version_words.proofs.Epochs.{goes_epoch}
 use Rattle.version_words.proofs.Inside.{is_ender, HasOpenRun, PlacesRun, both_true, goes_inside, places, same_place, step_is}
 use Rattle.version_words.proofs.Privates.{IsPrivate, IsOpenFor, Stands, of_cell, of_word, is_there, open_inside, word_stands}
@@ -277,14 +277,14 @@ module _ {T : Type 0} (mean : T → Meaning) (s : T) (slot word found number : �
   takes_free laws limits allowed = may_take (mean s) me.0.layout slot word found kept me.0.part made.met before (was.of_table s live).room stands
       (node_once (mean s) me'.0.layout me'.0.requests me'.0.number (kinds.PrivateLoad slot word) me.0.part me'.0.part made.met found made.shown laws limits allowed slot)
 
-  same_room : (b b' b'' : Bool) → (if b then block_filling kept slot b' else block_found me.0.layout kept slot word found b'').lists.room ≡ kept.lists.room
+  same_room : (b b' b'' : Bool) → beside (if b then block_filling kept slot b' else block_found me.0.layout kept slot word found b'').lists ≡ beside kept.lists
   same_room true true b'' = refl
   same_room true false b'' = refl
   same_room false b' true = refl
   same_room false b' false = refl
 
   pub load_kept : IsKept mean number (block_looked me.0.layout kept slot word found) me'
-  load_kept = then_kept mean s (kinds.PrivateLoad slot word) found number kept old_table new_table me me' live made slots was (block_looked me.0.layout kept slot word found) (same_room kept.place.inside kept.place.making (nat_lt slot kept.lists.room))
+  load_kept = then_kept mean s (kinds.PrivateLoad slot word) found number kept old_table new_table me me' live made slots was refl (block_looked me.0.layout kept slot word found) (same_room kept.place.inside kept.place.making (nat_lt slot kept.lists.room))
       (load_part (mean s) me.0.layout slot word found kept me.0.part made.met before (was.of_table s live).room stands)
 
   -- a descriptor's word is loaded outside a run

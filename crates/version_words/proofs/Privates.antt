@@ -340,7 +340,7 @@ module _ {T : Type 0} (mean : T → Meaning) (s : T) (slot word number found own
   stored_alone h x asks_so = ap (λ (b : Bool). with_run p (if b then block_emptied (slot - blocks_from m l) h.run else filled m l number h.run)) (store_alone m l slot word number h.run (next_of m h.run) x asks_so)
 
   pub store_kept : IsKept mean own_number kept' me'
-  store_kept = then_kept mean s k found own_number kept old_table new_table me me' live made same_slots was kept' refl
+  store_kept = then_kept mean s k found own_number kept old_table new_table me me' live made same_slots was refl kept' refl
       (⊎_elim
       (λ (none : p.run ≡ None). subst (KeepsPart m kept') (sym (ap (λ (o : Option RunState). after_by m l k p o found) none)) (store_resting kept'.place.worn none))
       (λ (h : IsOpenFor m l k p made.met). subst (KeepsPart m kept') (sym (step_is m l k p found h.open_run ∙ stored_alone h.open_run made.met h.asks_so)) (store_running h.open_run made.met h.asks_so))
@@ -350,5 +350,5 @@ module _ {T : Type 0} (mean : T → Meaning) (s : T) (slot word number found own
   pub store_kept_of : slot_count l m.fixed_slots ≤ slot → IsKept mean own_number kept me'
   store_kept_of past =
       let none = not_in_run m l slot word number p made.met past (store_asked m l me.0.requests me.0.number slot word number p made.met made.asked).1 in
-      then_kept mean s k found own_number kept old_table new_table me me' live made same_slots was kept refl
+      then_kept mean s k found own_number kept old_table new_table me me' live made same_slots was refl kept refl
       (subst (KeepsPart m kept) (sym (ap (λ (o : Option RunState). after_by m l k p o found) none)) (store_resting kept.place.worn none))

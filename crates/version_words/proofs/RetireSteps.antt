@@ -162,7 +162,7 @@ module _ {T : Type 0} (mean : T → Meaning) (s : T) (spot : Spot) (slot number 
   }
 
   pub retire_kept : IsKept mean number kept' me'
-  retire_kept = then_kept mean s kinds.RetireCommit found number kept own_table new_table me me' live made slots was kept' refl
+  retire_kept = then_kept mean s kinds.RetireCommit found number kept own_table new_table me me' live made slots was refl kept' refl
       (subst (KeepsPart (mean s) kept') (sym after_is) part_retired)
 
   -- the log word that it left is 0 or names the slot that the section retires, so it is known what it found

@@ -7,6 +7,7 @@ use Rattle.machine_states.specs.table_words.specs.declared.spot.Spot.{Spot}
 use Rattle.machine_states.specs.table_words.specs.declared.access.Access.{Access}
 use Rattle.machine_states.specs.structure_laws.specs.Meaning.{Meaning}
 use Rattle.machine_states.specs.epoch_core.specs.Moves.{is_clear}
+use Rattle.machine_states.specs.runner_parts.specs.declared.entries.BoardRead.{BoardRead}
 use Rattle.machine_states.specs.runner_parts.specs.declared.event.EventKind.{EventKind}
 use Rattle.machine_states.specs.runner_parts.specs.declared.event.EventKind.TheVariants as kinds
 use Rattle.machine_states.specs.epoch_core.specs.declared.stage.Stage.{Stage}
@@ -16,6 +17,7 @@ use Rattle.machine_states.specs.epoch_core.specs.State.{last_epoch}
 use Rattle.machine_states.specs.body_terms.specs.Word.{value_of, is_free}
 use Rattle.machine_states.specs.runner_parts.specs.State.{GuardsState}
 use Rattle.machine_states.specs.runner_parts.specs.Lists.{descriptors_swept, published_seen, with_looked}
+use Rattle.machine_states.specs.runner_steps.specs.Board.{board_after}
 use Rattle.machine_states.specs.runner_steps.specs.Guards.{guard_after, is_last_guard, load_guard_after}
 use Rattle.runner_block.specs.Kept.{only_looked}
 use Rattle.machine_states.specs.runner_steps.specs.AfterOutside.{with_stage, collected, scanned, scan_one_after, advance_after, read_after}
@@ -34,6 +36,21 @@ module _ (m : Meaning) (l : Layout) (r : ℕ) (k : EventKind) (spot : Spot) (acc
   -- after an event in no run
   pub told_outside : p.run ≡ None → told_part (after m l r k spot access p found) ≡ told_part (outside_after m l k p found)
   told_outside none = told ∙ ap (λ (o : Option RunState). told_part (after_by m l k p o found)) none
+
+-- the kinds of step that leave what the runner knows of the board
+abbrev pub leaves_board : EventKind → Bool
+leaves_board kinds.Idle = false
+leaves_board (kinds.BoardLoad word) = false
+leaves_board (kinds.BoardTake word link) = false
+leaves_board (kinds.BoardGive word slot) = false
+leaves_board _ = true
+
+pub board_left : (k : EventKind) (board : List BoardRead) (found : ℕ) → leaves_board k ≡ true → board_after k board found ≡ board
+board_left kinds.Idle board found e = absurd (let z = e in cc)
+board_left (kinds.BoardLoad word) board found e = absurd (let z = e in cc)
+board_left (kinds.BoardTake word link) board found e = absurd (let z = e in cc)
+board_left (kinds.BoardGive word slot) board found e = absurd (let z = e in cc)
+board_left _ board found e = refl
 
 -- a choice between two parts
 told_chosen : (b : Bool) (p q p' q' : PartState) → p' ≡ told_part p → q' ≡ told_part q → (if b then p' else q') ≡ told_part (if b then p else q)

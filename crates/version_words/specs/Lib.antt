@@ -13,3 +13,4 @@ pub mod Closed
 pub mod Stages
 -- Passed on to the layers above, so that they needn't name these libraries themselves.
 pub use Rattle.machine_invariant
+pub use Rattle.runner_block

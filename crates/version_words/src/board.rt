@@ -21,6 +21,7 @@ impl<S: Structure> FlockTable<S> {
         ensures event { Makes (S.meaning self.now.structure) (kinds.BoardLoad word) result.1 runner result.0 }
     {
         let found = self.load::<plays::BoardLoad>(&mut runner.seat, Spot::Board(word));
+        runner.kept.lists.load_board(word, found);
         (runner, found)
     }
 
@@ -36,7 +37,7 @@ impl<S: Structure> FlockTable<S> {
         let spot = Spot::Board(word);
         let found = self.exchange::<plays::BoardTake>(&mut runner.seat, spot, link, 0);
         let slot = Word::from_bits(link - 1).value();
-        runner.kept.lists.draw_slot(slot, found == link);
+        runner.kept.lists.draw_slot(word, slot, found == link);
         (runner, found == link)
     }
 
@@ -53,7 +54,7 @@ impl<S: Structure> FlockTable<S> {
         let spot = Spot::Board(word);
         let link = slot as u64 + 1;
         let found = self.exchange::<plays::BoardGive>(&mut runner.seat, spot, 0, link);
-        runner.kept.lists.give_slot(slot, found == 0);
+        runner.kept.lists.give_slot(word, slot, found == 0);
         (runner, found == 0)
     }
 }

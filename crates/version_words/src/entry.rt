@@ -59,7 +59,7 @@ impl<S: Structure> FlockTable<S> {
     {
         let spot = Spot::Announcement(runner.number);
         self.store::<plays::Idle>(&mut runner.seat, spot, 0);
-        runner.kept.lists.set_stage(Stage::Idle);
+        runner.kept.lists.leave();
         runner
     }
 

@@ -2,6 +2,7 @@
 ghost use Rattle.std.specs.Prelude.{◌≡◌, ◌<◌, ◌^◌, length, Some};
 ghost use Rattle.machine_states.specs.runner_parts.specs.State.{RunState};
 ghost use Rattle.version_words.specs.RunnerState.{entered_of};
+ghost use Rattle.runner_block.specs.Marks.{lost_links};
 
 use crate::view::View;
 use atomic_table::Seat;
@@ -103,6 +104,14 @@ impl<S: Structure> Runner<S> {
         ensures { result ≡ length self.now.part.nodes.worn }
     {
         self.kept.lists.worn()
+    }
+
+    /// In how many words of the board the runner's latest load, since it left last, found a link, and the exchange behind
+    /// it lost, as another runner had taken that slot.
+    pub fn lost_links(&self) -> u32
+        ensures { result ≡ lost_links self.now.part.board }
+    {
+        self.kept.lists.lost_links()
     }
 
     /// Hands out the room that the runner keeps for its runs, unless it is out already. A run refills the body, begins

@@ -1,11 +1,12 @@
 //! How runners are made and joined, and how a table begins and ends.
-ghost use Rattle.std.specs.Prelude.{◌≡◌, ◌≤◌, ◌<◌, IfOk, IfErr, length, All};
+ghost use Rattle.std.specs.Prelude.{◌≡◌, ◌≤◌, ◌<◌, [], IfOk, IfErr, length, All};
 ghost use Rattle.machine_states.specs.map_history.specs.declared.op.Request.{Request};
 ghost use Rattle.machine_states.specs.map_history.specs.Requests.{AreInOrder};
 ghost use Rattle.machine_states.specs.table_words.specs.Limits.{IsWithinLimits};
 ghost use Rattle.machine_states.specs.table_words.specs.Places.{slot_count};
 ghost use Rattle.machine_states.specs.runner_parts.specs.declared.event.EventKind.TheVariants as kinds;
 ghost use Rattle.machine_states.specs.First.{keeper_part, worker_part};
+ghost use Rattle.runner_block.specs.Marks.{marks_of};
 ghost use Rattle.runner_block.specs.Places.{IsAtRest};
 ghost use Rattle.version_words.specs.TableState.{IsOf, IsNew, HasSmallValue, first_keeper, HasJoinedAll, IsClosing};
 ghost use Rattle.version_words.specs.Events.{IsEnabled, HasSplit, next_worker, joined_by};
@@ -51,6 +52,7 @@ fn keeper_lists<S: Structure>(
 ) -> Result<Box<Block, Global>, AllocError>
     requires { IsWithinLimits layout }
     ensures lists { IfOk result (λ b. b.value.lists.part ≡ keeper_part (S.meaning structure.now) layout) }
+    ensures marks { IfOk result (λ b. b.value.lists.marks ≡ marks_of []) }
     ensures room { IfOk result (λ b. b.value.lists.room ≡ slot_count layout (S.meaning structure.now).fixed_slots) }
     ensures place { IfOk result (λ b. IsAtRest b.value.place) }
 {
@@ -80,6 +82,7 @@ fn worker_lists<S: Structure>(
     requires limits { IsWithinLimits layout }
     requires worker { worker < layout.runners }
     ensures lists { IfOk result (λ b. b.value.lists.part ≡ worker_part (S.meaning structure.now) layout worker) }
+    ensures marks { IfOk result (λ b. b.value.lists.marks ≡ marks_of []) }
     ensures room { IfOk result (λ b. b.value.lists.room ≡ slot_count layout (S.meaning structure.now).fixed_slots) }
     ensures place { IfOk result (λ b. IsAtRest b.value.place) }
 {

@@ -3,8 +3,12 @@ use Rattle.caller_facts.specs.epoch_slots.specs.Entries.{Enters}
 use Rattle.attempts.specs.Attempts.{Attempts}
 use Rattle.attempts.specs.declared.answers.Attempt.TheVariants as answers
 use Rattle.caller_facts.specs.Counted.{IsCounted, IsSeen}
+use Rattle.attempts.proofs.Resting.{is_worker}
 use Rattle.attempts.proofs.Wholly.{short_attempts, entered_so, entry_halted, attempts_so}
 use Rattle.attempts.proofs.attempting.attempt.Goals as goal
+
+pub reclaim-runner-requires-clause-worker : goal.reclaim-runner-requires-clause-worker
+reclaim-runner-requires-clause-worker g c κs within = is_worker (g.S.Planner.planning c.args.table.now.structure) c.args.request.now c.args.runner c.requires.next (c.requires.own.limits _ c.requires.own.layout)
 
 pub returns-then-not-goes_on-clause-attempts : goal.returns-then-not-goes_on-clause-attempts
 returns-then-not-goes_on-clause-attempts g c =

@@ -4,9 +4,13 @@ use Rattle.attempts.specs.lock_walks.specs.Own.{own_thunk}
 use Rattle.attempts.specs.Attempts.{Attempts}
 use Rattle.attempts.specs.declared.answers.Attempt.TheVariants as answers
 use Rattle.attempts.specs.caller_facts.specs.Counted.{IsCounted, IsSeen}
+use Rattle.attempts.proofs.Resting.{is_worker}
 use Rattle.attempts.proofs.Wholly.{short_attempts, entered_so, entry_halted}
 use Rattle.lock_attempts.proofs.Along.{section_entered}
 use Rattle.lock_attempts.proofs.attempting.attempt_section.Goals as goal
+
+pub reclaim-runner-requires-clause-worker : goal.reclaim-runner-requires-clause-worker
+reclaim-runner-requires-clause-worker g c κs within = is_worker (g.W.Walker.way.planning c.args.walk) c.args.request.now c.args.runner c.requires.next (c.requires.own.limits _ c.requires.own.layout)
 
 pub returns-then-not-goes_on-clause-attempts : goal.returns-then-not-goes_on-clause-attempts
 returns-then-not-goes_on-clause-attempts g c =

@@ -7,12 +7,13 @@ use Rattle.machine_states.specs.runner_parts.specs.Lists.{slot_drawn}
 use Rattle.machine_states.specs.runner_steps.specs.Board.{free_if}
 use Rattle.machine_invariant.specs.After.{AreAllowed}
 use Rattle.runner_block.specs.declared.block.Block.{Block}
-use Rattle.runner_block.specs.Kept.{with_nodes}
+use Rattle.runner_block.specs.Kept.{with_nodes, with_marks}
+use Rattle.runner_block.specs.Marks.{slot_tried}
 use Rattle.runner_block.specs.Room.{AreFew}
 use Rattle.version_words.specs.TableState.{IsOf}
 use Rattle.version_words.specs.Kept.{IsKept}
 use Rattle.version_words.specs.Events.{IsEnabled, Tries, seen_seat}
-use Rattle.version_words.proofs.BoardSteps.{link_some, take_named, take_event, take_tries, take_low, take_room, take_kept}
+use Rattle.version_words.proofs.BoardSteps.{link_some, take_named, take_event, take_tries, take_low, take_room, take_word, take_kept}
 use Rattle.version_words.proofs.table.FlockTable.board_take.Goals as goal
 
 pub exchange-found-requires-clause-named : goal.exchange-found-requires-clause-named
@@ -28,6 +29,13 @@ overflow_sub-link g c =
     let own = subst (λ r. IsOf t r) (sym c.runner.view_is) c.requires.own in
     let next = subst (IsEnabled m (BoardTake c.args.word c.args.link)) (sym c.runner.view_is) c.requires.next in
     let some = link_some m t (seen_seat seat.table_id seat.me) own c.args.word c.args.link next in omega (arith, some)
+
+pub draw_slot-requires-clause-word : goal.draw_slot-requires-clause-word
+draw_slot-requires-clause-word g c =
+    let t = c.args.self.now in let m = g.S.Structure.meaning t.structure in let seat = c.runner.inside.seat in
+    let own = subst (λ r. IsOf t r) (sym c.runner.view_is) c.requires.own in
+    let next = subst (IsEnabled m (BoardTake c.args.word c.args.link)) (sym c.runner.view_is) c.requires.next in
+    take_word m t (seen_seat seat.table_id seat.me) own c.args.word c.args.link next
 
 pub draw_slot-requires-clause-node : goal.draw_slot-requires-clause-node
 draw_slot-requires-clause-node g c = λ won.
@@ -66,8 +74,8 @@ invariant_of-runner g c =
     let slot = c.value-slot.ensures ∙ ap value_of c.from_bits.ensures in
     let tells = c.exchange-found.ensures in
     subst (λ (b : Block). IsKept mean c.runner.inside.number (record b { lists = c.draw_slot.new.self }) new.me) (sym c.deref_mut.ensures.value)
-    (take_kept mean s c.args.word c.runner.inside.number c.runner.inside.kept.value seat.table_id seat.me own.structure c.runner.invariant found new.table_id new.me tells.slots c.args.link event c.draw_slot.new.self
-    (c.draw_slot.ensures ∙ (λ i. let b = c.deref_mut.ensures.value i in with_nodes b.lists (free_if (found == c.args.link) (slot_drawn b.lists.part.nodes (slot i)) b.lists.part.nodes))))
+    (take_kept mean s c.args.word c.runner.inside.number c.runner.inside.kept.value seat.table_id seat.me own.structure c.runner.invariant found new.table_id new.me tells.slots c.args.link event (take_word (mean s) t (seen_seat seat.table_id seat.me) own c.args.word c.args.link next) c.draw_slot.new.self
+    (c.draw_slot.ensures ∙ (λ i. let b = c.deref_mut.ensures.value i in with_marks (with_nodes b.lists (free_if (found == c.args.link) (slot_drawn b.lists.part.nodes (slot i)) b.lists.part.nodes)) (slot_tried b.lists.marks c.args.word (found == c.args.link)))))
 
 pub returns-clause-event : goal.returns-clause-event
 returns-clause-event g c =
