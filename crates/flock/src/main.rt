@@ -5,7 +5,7 @@ mod start;
 
 use flock_tool::threaded_runs::runner_gate::PlannedGates;
 use flock_tool::{StdSink, StdSource};
-use start::{MEMORY, arguments, run, words_of};
+use start::{MEMORY, arguments, keep_freed_memory, run, words_of};
 use std::process::ExitCode;
 
 /// Runs the command of the program's words on its standard streams, with threads and with gates that halt as planned,
@@ -13,6 +13,7 @@ use std::process::ExitCode;
 /// refused.
 fn main(rt: HostRuntime) -> ExitCode {
     let alloc = rt.alloc();
+    keep_freed_memory(alloc);
     let Ok(args) = arguments(&rt) else {
         return ExitCode::from(MEMORY);
     };

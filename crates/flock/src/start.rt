@@ -71,6 +71,19 @@ pub fn run<'a, T: Threads + Wait + Sync, R: Source, K: Sink, F: Sink, G: Gates>(
     ExitCode::from(status)
 }
 
+/// The size of the block that `keep_freed_memory` takes: such a large one is no part of the C library's heap, and the
+/// largest of these that changes what the library does has 32 MiB.
+const LARGE_BLOCK: usize = 31 << 20;
+
+/// Has the heap keep what is let go, and give it out again: so the system makes fewer new pages for a run.
+///
+/// glibc asks the system for each large block by itself, and gives it back when it is let go. From then on a block is
+/// large only if it is larger than that one. So one is taken here and let go, and no byte of it is touched. It makes no
+/// difference but to the time: where there is no such block, or another allocator, all goes on as it would have.
+pub fn keep_freed_memory(alloc: Global) {
+    let _ = Vec::<u8>::with_capacity(alloc, LARGE_BLOCK);
+}
+
 /// The arguments, with the program's name. Where one is no text there are none, and no command has no words.
 pub fn arguments(rt: &HostRuntime) -> Result<Vec<String>, AllocError> {
     match env::args(rt) {
