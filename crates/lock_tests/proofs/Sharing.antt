@@ -1,5 +1,5 @@
 -- What a worker knows of its own requests, from one to the next.
-use Rattle.std.specs.Prelude.{◌==◌, ◌&&◌, ◌||◌, ◌%◌, not, nat_lt, Bool, true, false, slice_get}
+use Rattle.std.specs.Prelude.{◌==◌, ◌&&◌, ◌||◌, ◌%◌, not, nat_lt, Bool, true, false, slice_get, Result, Ok, IfOk}
 use Rattle.std.specs.List.{list_all}
 use Rattle.std.proofs.Common.{◌≡◌, ◌≢◌, ℕ, zero, suc, ◌+◌, ◌<◌, List, [], ◌∷◌, refl, sym, ap, ◌∙◌, subst, eq-eqb, arith, ⊎_elim, Some}
 use Rattle.std.proofs.lemmas.Bool.{cases_eq}
@@ -30,6 +30,10 @@ use Rattle.lock_tests.proofs.Next.{knows_entry}
 all_of : {A : Type 0} (p : A → Bool) (xs : List A) → ((i : ℕ) (x : A) → slice_get xs i ≡ Some x → p x ≡ true) → list_all p xs ≡ true
 all_of p [] each = refl
 all_of p (x ∷ xs) each = (λ i. each zero x refl i && all_of p xs (λ n y at. each (suc n) y at) i)
+
+-- what is said of an Ok
+pub ok_then : {A B : Type 0} (told : Result A B) (a : A) (P : Type 0) → told ≡ Ok a → IfOk told (λ _. P) → P
+ok_then told a P is holds = subst (λ o. IfOk o (λ _. P)) is holds
 
 is_same : (a b : ℕ) → (a == b) ≡ true → a ≡ b
 is_same a b e = grind (arith, nat_tests, e)

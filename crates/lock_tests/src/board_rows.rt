@@ -1,7 +1,9 @@
 //! Tests of a worker that adds pairs and one that takes them out.
 ghost use Rattle.std.specs.Prelude.{◌≡◌, ◌+◌, IfErr, IfOk, IfSome, Some, slice_get};
 ghost use Rattle.settled_tables.specs.closed_words.specs.version_words.specs.TableState.{IsOf};
+ghost use Rattle.machine_states.specs.map_history.specs.Requests.{AreInOrder};
 ghost use Rattle.lock_tests.specs.Sharing.{HasServedOwn};
+ghost use Rattle.lock_tests.specs.Workers.{IsNewWorker};
 
 use crate::lone_scene::trace_of;
 use crate::texts::check;
@@ -66,8 +68,10 @@ fn attempt_in_turn<S: Planner>(
 {
     let mut runner = runner;
     let mut last = None;
-    for number in from..requests.len() as u32 {
-        let Some((next, told)) = visit(table, runner, &requests[number as usize]) else {
+    for number in from as usize..requests.len() {
+        let request = &requests[number];
+        let visited = visit(table, runner, request);
+        let Some((next, told)) = visited else {
             return None;
         };
         match told {
@@ -75,7 +79,7 @@ fn attempt_in_turn<S: Planner>(
                 runner = next;
                 last = reply.or(last);
             }
-            Err(short) => return Some((next, last, Some((number, short)))),
+            Err(short) => return Some((next, last, Some((request.number, short)))),
         }
     }
     Some((runner, last, None))
@@ -94,13 +98,19 @@ fn by_turns<S: Planner>(
     requires all { requests.now ≡ table.now.requests }
     requires before { HasServedOwn 0 first × HasServedOwn 0 second }
 {
-    let Some((first, _, Some((number, short)))) = attempt_in_turn(table, first, requests, 0) else {
+    let begun = attempt_in_turn(table, first, requests, 0);
+    let Some((first, _, lacking)) = begun else {
         return None;
     };
-    let Some((_, _, None)) = attempt_in_turn(table, second, requests, 0) else {
+    let Some((number, short)) = lacking else {
         return None;
     };
-    let Some((_, last, None)) = attempt_in_turn(table, first, requests, number) else {
+    let served = attempt_in_turn(table, second, requests, 0);
+    let Some((_, _, None)) = served else {
+        return None;
+    };
+    let ended = attempt_in_turn(table, first, requests, number);
+    let Some((_, last, None)) = ended else {
         return None;
     };
     Some((short, last))
@@ -109,10 +119,12 @@ fn by_turns<S: Planner>(
 /// The first worker adds three pairs, and the second one takes two of them out and asks four times for another key.
 const LINES: &str = "ins 1 1\nins 2 2\nins 3 3\ntrace\ndel 1\ndel 2\nget 9\nget 9\nget 9\nget 9\n";
 
-/// That on a hash table of 64 buckets, with three node slots for each worker.
-fn shared(alloc: Global) -> Result<String, AllocError> {
-    let traces = trace_of(alloc, LINES)?;
-    let requests = traces.requests.as_slice();
+/// A hash table of 64 buckets with these requests, and its two workers, each with three node slots.
+fn open(alloc: Global, requests: &[Request]) -> Result<Crew<HashTable>, AllocError>
+    requires { AreInOrder requests.now 64 }
+    ensures requests { IfOk result (λ crew. crew.table.requests ≡ requests.now) }
+    ensures workers { IfOk result (λ crew. IsNewWorker 0 crew.first × IsNewWorker 1 crew.second) }
+{
     let layout = Layout {
         runners: 2,
         nodes: 3,
@@ -120,12 +132,20 @@ fn shared(alloc: Global) -> Result<String, AllocError> {
         version_max: 4294967295,
     };
     let (table, keeper) = FlockTable::new(alloc, HashTable::new(6), layout, requests)?;
+    make_crew(alloc, table, keeper)
+}
+
+/// What comes of these lines.
+fn shared(alloc: Global) -> Result<String, AllocError> {
+    let traces = trace_of(alloc, LINES)?;
+    let requests = traces.requests.as_slice();
+    let crew = open(alloc, requests)?;
     let Crew {
         table,
         keeper,
         first,
         second,
-    } = make_crew(alloc, table, keeper)?;
+    } = crew;
     drop(keeper);
     let told = by_turns(&table, first, second, requests);
     format!(in alloc; "{told:?}")
