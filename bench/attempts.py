@@ -1,7 +1,7 @@
 #!/usr/bin/env python3
 """Nanoseconds an attempt, on one runner, side by side with a model that makes the same atomic steps on plain atomics.
 
-Usage: bench/attempts.py MODEL [PROGRAM]     (default: crates/attempt_speed/out/attempt_speed, made by `rt run` in crates/attempt_speed)
+Usage: bench/attempts.py MODEL [PROGRAM]     (default: crates/speed/out/speed, made by `rt run` in crates/speed)
 
 MODEL is a program that takes the words of `flock run` and a text, and with `--stats` writes `run_ns=` and how long it served to standard error.
 
@@ -47,7 +47,7 @@ def text_of(kind: str, count: int) -> bytes:
 
 def spent(program: str, table: str, kind: str, served: int) -> float:
     """The processor time of a process that serves the first so many requests of all, in seconds."""
-    with subprocess.Popen([program, table, kind, str(SIZES[-1]), str(served)], stdout=subprocess.PIPE, text=True) as child:
+    with subprocess.Popen([program, "attempts", table, kind, str(SIZES[-1]), str(served)], stdout=subprocess.PIPE, text=True) as child:
         told = child.stdout.read()
         _, status, usage = os.wait4(child.pid, 0)
         child.returncode = os.waitstatus_to_exitcode(status)
@@ -87,7 +87,7 @@ def main() -> None:
     if len(sys.argv) < 2:
         sys.exit(__doc__)
     model = sys.argv[1]
-    program = sys.argv[2] if len(sys.argv) > 2 else str(TOP / "crates/attempt_speed/out/attempt_speed")
+    program = sys.argv[2] if len(sys.argv) > 2 else str(TOP / "crates/speed/out/speed")
     with tempfile.TemporaryDirectory() as folder:
         texts = [pathlib.Path(folder) / str(size) for size in SIZES]
         for table in ("hash", "tree"):

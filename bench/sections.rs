@@ -1,4 +1,4 @@
-// The same atomic steps as the program `section_speed` makes, in plain Rust over a row of words: what its time is compared with. Both add up the replies,
+// The same atomic steps as the program `speed` makes, in plain Rust over a row of words: what its time is compared with. Both add up the replies,
 // and print the same line.
 //
 // It is a table for any sizes that threads may share, as the shared table is: a step reads where the row is and where the group of its word begins. What
@@ -7,7 +7,7 @@ use std::hint::black_box;
 use std::sync::atomic::AtomicU64;
 use std::sync::atomic::Ordering::SeqCst;
 
-const DESCRIPTOR: usize = 77;
+const DESCRIPTOR: usize = 78;
 const DONE: usize = 12;
 const LOG: usize = 13;
 const SECTIONS: usize = 8;

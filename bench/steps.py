@@ -1,7 +1,7 @@
 #!/usr/bin/env python3
 """Nanoseconds a step on the shared table, by kind, side by side with a plain Rust loop of the same atomic operations.
 
-Usage: bench/steps.py [PROGRAM]     (default: crates/table_speed/out/table_speed, made by `rt run` in crates/table_speed)
+Usage: bench/steps.py [PROGRAM]     (default: crates/speed/out/speed, made by `rt run` in crates/speed)
 
 It wants rustc. The plain program is built three times. As rustc builds it, which writes eight rounds of a short loop behind one
 another; with no loop unrolled, as the proved program is built; and, unrolled or not as rustc likes, as a table for any sizes: in the
@@ -30,18 +30,18 @@ def steps_by_kind(program: str) -> list[tuple[str, int]]:
     return [(kind, int(steps)) for kind, steps in re.findall(r"^(\w+): \d+ rounds of (\d+) steps", told, re.MULTILINE)]
 
 
-def measure(program: str, kind: str, rounds: int) -> tuple[float, bytes]:
-    """The processor time of one process, and what it prints."""
-    with subprocess.Popen([program, kind, str(rounds)], stdout=subprocess.PIPE) as child:
+def measure(program: tuple[str, ...], kind: str, rounds: int) -> tuple[float, bytes]:
+    """The processor time of one process of a program, which stands with its first words, and what it prints."""
+    with subprocess.Popen([*program, kind, str(rounds)], stdout=subprocess.PIPE) as child:
         text = child.stdout.read()
         _, status, usage = os.wait4(child.pid, 0)
         child.returncode = os.waitstatus_to_exitcode(status)
     if child.returncode != 0:
-        sys.exit(f"{program}: status {child.returncode}")
+        sys.exit(f"{program[0]}: status {child.returncode}")
     return usage.ru_utime + usage.ru_stime, text
 
 
-def compare(programs: list[str], kind: str, steps: int) -> list[float]:
+def compare(programs: list[tuple[str, ...]], kind: str, steps: int) -> list[float]:
     """Nanoseconds a step, by program."""
     many = FEW + MORE_STEPS // steps
     best = {(program, rounds): float("inf") for program in programs for rounds in (FEW, many)}
@@ -57,7 +57,7 @@ def compare(programs: list[str], kind: str, steps: int) -> list[float]:
 
 
 def main() -> None:
-    ours = sys.argv[1] if len(sys.argv) > 1 else str(TOP / "crates/table_speed/out/table_speed")
+    ours = sys.argv[1] if len(sys.argv) > 1 else str(TOP / "crates/speed/out/speed")
     with tempfile.TemporaryDirectory() as folder:
         plain, rolled, table = (str(pathlib.Path(folder) / name) for name in ("plain", "rolled", "table"))
         build = ["rustc", "-O", TOP / "bench/steps.rs", "-o"]
@@ -65,7 +65,7 @@ def main() -> None:
         subprocess.run([*build, rolled, "-C", "llvm-args=-unroll-count=1"], check=True)
         subprocess.run([*build, table, "--cfg", "table"], check=True)
         for kind, steps in steps_by_kind(ours):
-            proved, *others = compare([ours, plain, rolled, table], kind, steps)
+            proved, *others = compare([(ours, "steps"), (plain,), (rolled,), (table,)], kind, steps)
             told = (f"{name} {time:.2f} ns, ratio {proved / time:.2f}" for name, time in zip(("plain", "not unrolled", "plain table"), others))
             print(f"{kind}: {proved:.2f} ns a step; {'; '.join(told)}", flush=True)
 

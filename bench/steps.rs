@@ -1,4 +1,4 @@
-// The same atomic operations as the program `table_speed` makes on the shared table, in plain Rust over a row of words: what its time is
+// The same atomic operations as the program `speed` makes on the shared table, in plain Rust over a row of words: what its time is
 // compared with. Both add up what they find, and print the same line.
 //
 // Each word stands at a place that is known when this is built, and the row's pointer stays at hand. Built with `--cfg table` it is a table for
@@ -10,8 +10,8 @@ use std::sync::atomic::Ordering::SeqCst;
 // How many runners announce and guard, the keeper among them; the number of the first descriptor among all slots, and how many words it has.
 const RUNNERS: usize = 3;
 const SLOT: usize = 10;
-const DESCRIPTOR: usize = 77;
-const WORDS: usize = 372;
+const DESCRIPTOR: usize = 78;
+const WORDS: usize = 376;
 
 struct Words {
     words: &'static [AtomicU64],
@@ -106,7 +106,7 @@ fn main() {
         "load_cell" => (1, sum_of(rounds, |_| words.cell(1).load(SeqCst))),
         "private_load" => (1, sum_of(rounds, |_| words.own(SLOT, 13).load(SeqCst))),
         "private_store" => (1, sum_of(rounds, |round| words.store(u64::from(round)))),
-        "descriptor" => (77, sum_of(rounds, |round| words.others(u64::from(round)))),
+        "descriptor" => (DESCRIPTOR, sum_of(rounds, |round| words.others(u64::from(round)))),
         "enter" => (5, sum_of(rounds, |_| words.enter())),
         "scan" => (5, sum_of(rounds, |_| u64::from(words.scan()))),
         _ => panic!("no kind of step has this name"),

@@ -82,7 +82,7 @@ module _ (c : CellRules) (w : AgreementState) (old : IsSound c w) (h : History) 
 
     -- what is said of the numbers of used descriptors: of the new one, and of the others as before
     by_used : (Q : ℕ → Section → Type 0)
-        → Q n (record (w.section d) { lock = lock; word = word; request = request; code = code; slot = slot; edge = 0 })
+        → Q n (record (w.section d) { lock = lock; word = word; request = request; code = code; slot = slot; log = λ k. 0; edge = 0 })
         → ((d' : ℕ) → w.used d' ≡ true → Q (h.section d') (w.section d')) → (d' : ℕ) → w1.used d' ≡ true → Q (numbers d') (w1.section d')
     by_used Q here else d' u = ⊎_elim
         (λ e. subst (λ m. Q (numbers m) (w1.section m)) (sym e)

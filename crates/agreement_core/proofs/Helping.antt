@@ -26,7 +26,7 @@ released p e = grind arith
 
 leads : AllEnabled few (first_state fresh) leading
 leads = (
-  (refl, refl, publishable, refl, λ k. refl),
+  (refl, refl, publishable, refl),
   (
     (refl, refl),
     (

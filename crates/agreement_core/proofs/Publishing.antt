@@ -121,7 +121,7 @@ module _ (c : CellRules) (w : AgreementState) (old : IsSound c w) (d lock word r
   held = held_word d word
 
   abbrev s' : Section
-  s' = record (w.section d) { lock = lock; word = word; request = request; code = code; slot = slot; edge = 0 }
+  s' = record (w.section d) { lock = lock; word = word; request = request; code = code; slot = slot; log = λ k. 0; edge = 0 }
 
   published : IsPublishable c d lock word code slot
   published = ok.2
@@ -167,7 +167,7 @@ module _ (c : CellRules) (w : AgreementState) (old : IsSound c w) (d lock word r
   new_section = record {
     in_log = record {
       full = λ k lt. absurd (let z = published.line.counted.slot_start in omega arith);
-      empty = λ k le. ok.4 k;
+      empty = λ k le. refl;
       passed = λ i lt e. absurd (omega arith);
       within = λ i lt. absurd (omega arith);
       retired = λ i slot k lt e. absurd (omega arith);

@@ -13,8 +13,8 @@ use Rattle.agreement_core.specs.Checks.{passes, is_stop, stored_word, exchanged,
 
 -- what may happen; `r` is the runner, `d` a descriptor, `log` a place in a log
 pub data Event : Type 0 where
-  -- a section is published; a published descriptor is retired; a retired one is free again; words of a free
-  -- one are stored
+  -- a section with an empty log is published; a published descriptor is retired; a retired one is free again;
+  -- words of a free one are stored
   Publish : (d lock word request : ℕ) (code : ℕ → Micro) (slot : ℕ → ℕ) → Event
   RetireDescriptor : (d : ℕ) → Event
   Free : (d : ℕ) → Event
@@ -94,7 +94,8 @@ finished_of s q = record { lock = s.lock; word = s.word; descriptor = q.descript
 abbrev pub after : AgreementState → Event → AgreementState
 after w (Publish d lock word request code slot) = record (with_cell w lock (held_word d word)) {
   section = upd w.section d
-      (record (w.section d) { lock = lock; word = word; request = request; code = code; slot = slot; edge = 0 });
+      (record (w.section d)
+      { lock = lock; word = word; request = request; code = code; slot = slot; log = λ k. 0; edge = 0 });
   used = upd w.used d true;
   live = upd w.live d true;
   over = upd w.over d false;
@@ -200,8 +201,7 @@ module _ (c : CellRules) where
   -- when an event may come; what it asks for beside the runner's step is what the machine supplies
   abbrev pub Enabled : AgreementState → Event → Type 0
   Enabled w (Publish d lock word request code slot) = (w.used d ≡ false) × (w.shared.cells lock ≡ word)
-      × IsPublishable c d lock word code slot
-      × ((w.section d).done ≡ 0) × ((log : ℕ) → (w.section d).log log ≡ 0)
+      × IsPublishable c d lock word code slot × ((w.section d).done ≡ 0)
   Enabled w (RetireDescriptor d) = (w.live d ≡ true) × (w.over d ≡ true)
   Enabled w (Free d) = (w.live d ≡ false) × ((r : ℕ) → (w.run r).running ≡ true → (w.run r).descriptor ≢ d)
   Enabled w (StoreLog d log word) = w.used d ≡ false

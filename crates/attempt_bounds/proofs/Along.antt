@@ -9,8 +9,8 @@ use Rattle.machine_states.specs.runner_parts.specs.declared.event.EventKind.{Eve
 use Rattle.machine_states.specs.runner_parts.specs.declared.event.EventKind.TheVariants as kinds
 use Rattle.machine_states.specs.runner_parts.specs.State.{RunState, PartState}
 use Rattle.machine_states.specs.runner_steps.specs.After.{own_epoch}
-use Rattle.machine_states.specs.Blockless.{asks, after}
-use Rattle.machine_states.proofs.Blockless.{unblocked, after_same}
+use Rattle.machine_states.specs.runner_steps.specs.Asks.{asks}
+use Rattle.machine_states.specs.runner_steps.specs.After.{after}
 use Rattle.lone_plans.specs.one_worker.proofs.Onward.{is_advance, was_uncrossed, same_own}
 use Rattle.version_words.specs.RunnerState.{RunnerState}
 use Rattle.version_words.specs.Events.{Makes, IsMade}
@@ -49,10 +49,9 @@ module _ {T : Type 0} where
     module _ (kind : EventKind) (found : ℕ) (a b : RunnerState T) (made : Makes m kind found a b) where
       made_part : b.part ≡ after m a.layout a.number kind made.met.0 made.met.1 a.part found
       made_part = ap (λ (r : RunnerState T). r.part) made.made
-          ∙ after_same m a.layout a.requests a.number a.part found made.met kind (unblocked m a.layout a.requests a.number kind a.part made.met made.asked)
 
       pub made_asked : asks m a.layout a.requests a.number kind a.part ≡ Some made.met
-      made_asked = unblocked m a.layout a.requests a.number kind a.part made.met made.asked
+      made_asked = made.asked
 
       pub made_uncrossed : b.part.records.crossed ≡ false
           → (after m a.layout a.number kind made.met.0 made.met.1 a.part found).records.crossed ≡ false

@@ -4,7 +4,7 @@ use Rattle.std.proofs.Common.{◌≡◌, ℕ, ◌+◌, ◌*◌, ◌^◌, ◌<◌
 use Rattle.std.proofs.lemmas.Bool.Decides.{nat_tests}
 use Rattle.machine_states.specs.map_history.specs.declared.op.Request.{Request}
 use Rattle.machine_states.specs.map_history.specs.declared.reply.Reply.{Reply}
-use Rattle.machine_states.specs.table_words.specs.Places.{slot_count}
+use Rattle.machine_states.specs.table_words.specs.Places.{slot_count, part_words}
 use Rattle.machine_states.specs.structure_laws.specs.Meaning.{Meaning}
 use Rattle.machine_states.specs.runner_parts.specs.declared.event.EventKind.TheVariants as kinds
 use Rattle.machine_states.specs.epoch_core.specs.declared.stage.Stage.TheVariants as stages
@@ -87,7 +87,7 @@ module _ {T : Type 0} (m : Meaning) (planning : Planning) where
     behind : Onward ready new
     behind = then_on ready entered new (enters_on m ready entered is.run.ended.tries.plans.enters.enters)
         (then_on entered planned new (loads_on m is.run.ended.tries.readings entered planned is.run.ended.tries.plans.walked.loads)
-        (then_on planned prepared new (sets_on m (slot_count planned.layout m.fixed_slots + is.run.ended.tries.publishes.descriptor) 0 (thunk_words is.thunk ++ replicate 65 0) planned prepared is.run.ended.tries.publishes.sets)
+        (then_on planned prepared new (sets_on m (slot_count planned.layout m.fixed_slots + is.run.ended.tries.publishes.descriptor) 0 (thunk_words is.thunk ++ replicate (part_words + 2) 0) planned prepared is.run.ended.tries.publishes.sets)
         (then_on prepared guarding new (is_made_on m (kinds.Guard (Some is.run.ended.tries.publishes.descriptor)) prepared guarding refl is.run.ended.tries.publishes.guard)
         (then_on guarding published new
         (made_on m (kinds.Hold is.thunk is.run.ended.tries.publishes.descriptor) is.run.ended.tries.publishes.found guarding published refl is.run.ended.tries.publishes.hold)

@@ -11,8 +11,7 @@ use Rattle.machine_states.specs.structure_laws.specs.Laws.{Laws}
 use Rattle.machine_states.specs.runner_parts.specs.State.{RunState, PartState}
 use Rattle.machine_states.specs.runner_steps.specs.Sections.{next_of, commits_to}
 use Rattle.machine_states.specs.runner_steps.specs.InRun.{make_slot}
-use Rattle.machine_states.specs.Blockless.{line_ask}
-use Rattle.machine_states.proofs.Blockless.{unblocked}
+use Rattle.machine_states.specs.runner_steps.specs.Asks.{line_ask}
 use Rattle.version_words.specs.machine_invariant.specs.machine_blocks.specs.machine_guards.specs.machine_agreement.proofs.LineAsked.{line_asked}
 use Rattle.machine_states.specs.runner_steps.specs.AfterInRun.{goes_on, ended_more}
 use Rattle.version_words.specs.machine_invariant.specs.After.{AreAllowed}
@@ -97,10 +96,10 @@ module _ {T : Type 0} (m : Meaning) (laws : Laws m) (t : TableState T) (limits :
   may_make has = may_step m laws r.layout within r.requests few r.number r.part q is.inside is.opened micro ahead has
 
   -- so the machine's rule for a line has this word for it
-  pub asked_there : has_slot r.part q micro ≡ true → line_ask m r.layout (kind_at r.part q micro) r.part.nodes.free q micro ≡ Some (ask_at m r.part q micro)
-  asked_there has = ap (λ (x : Micro). line_ask m r.layout (kind_at r.part q micro) r.part.nodes.free q x) (sym ahead)
+  pub asked_there : has_slot r.part q micro ≡ true → line_ask m r.layout (kind_at r.part q micro) r.part.nodes.free r.part.blocks.free q micro ≡ Some (ask_at m r.part q micro)
+  asked_there has = ap (λ (x : Micro). line_ask m r.layout (kind_at r.part q micro) r.part.nodes.free r.part.blocks.free q x) (sym ahead)
       ∙ line_asked m r.layout r.requests r.number (kind_at r.part q micro) r.part q (ask_at m r.part q micro)
-      (unblocked m r.layout r.requests r.number (kind_at r.part q micro) r.part (ask_at m r.part q micro) (may_make has)) is.inside.running
+      (may_make has) is.inside.running
       ((in_table m laws r.layout within r.requests few r.number r.part q is.inside).goes is.opened)
 
   -- a commit goes behind the words that were agreed on

@@ -25,7 +25,7 @@ pub struct Row {
 
 impl Row {
     /// The replies, in order of number. None for a request that has no entry.
-    pub fn replies(&self, alloc: Global) -> Result<Vec<Option<Reply>>, AllocError> {
+    fn replies(&self, alloc: Global) -> Result<Vec<Option<Reply>>, AllocError> {
         let mut replies = Vec::new(alloc);
         for entry in self.entries.as_slice() {
             match entry {
@@ -34,6 +34,19 @@ impl Row {
             }
         }
         Ok(replies)
+    }
+
+    /// As a text: what each worker answered, the stamps and the replies, and the pairs.
+    pub fn shown(&self, alloc: Global) -> Result<String, AllocError> {
+        let (answers, entries, pairs) = (&self.answers, &self.entries, &self.pairs);
+        format!(in alloc; "{answers:?} {entries:?} {pairs:?}")
+    }
+
+    /// The same without the stamps.
+    pub fn shown_replies(&self, alloc: Global) -> Result<String, AllocError> {
+        let replies = self.replies(alloc)?;
+        let (answers, pairs) = (&self.answers, &self.pairs);
+        format!(in alloc; "{answers:?} {replies:?} {pairs:?}")
     }
 }
 

@@ -8,7 +8,7 @@ use Rattle.machine_states.specs.table_words.specs.declared.layout.Layout.{Layout
 use Rattle.machine_states.specs.table_words.specs.declared.sizes.Sizes.{Sizes}
 use Rattle.machine_states.specs.table_words.specs.declared.spot.Spot.{Spot}
 use Rattle.machine_states.specs.table_words.specs.declared.access.Access.{Access}
-use Rattle.machine_states.specs.table_words.specs.Places.{fits}
+use Rattle.machine_states.specs.table_words.specs.Places.{fits, block_words}
 use Rattle.machine_states.specs.structure_laws.specs.Meaning.{Meaning}
 use Rattle.machine_states.specs.runner_parts.specs.declared.event.EventKind.{EventKind}
 use Rattle.machine_states.specs.runner_parts.specs.declared.event.EventKind.TheVariants as kinds
@@ -17,10 +17,11 @@ use Rattle.machine_states.specs.epoch_core.specs.declared.stage.Stage.TheVariant
 use Rattle.machine_states.specs.runner_parts.specs.State.{RunState, PartState}
 use Rattle.machine_states.specs.runner_parts.specs.Tests.{has, is_resting}
 use Rattle.runner_steps.specs.Outside.{Ask, when}
-use Rattle.runner_steps.specs.Sections.{is_open_run}
-use Rattle.runner_steps.specs.Asks.{fitting, sizes_for, asks}
-use Rattle.machine_states.proofs.Blockless.{outside_ask, inside_ask, ask_by, asks_same, unblocked}
+use Rattle.runner_steps.specs.Sections.{is_open_run, next_of, needs_link}
+use Rattle.runner_steps.specs.Asks.{fitting, sizes_for, outside_ask, inside_ask, ask_by, asks}
+use Rattle.runner_steps.specs.InRun.{is_slot, link_commit_ask}
 use Rattle.enabled_kinds.specs.May.{is_enabled}
+use Rattle.enabled_kinds.specs.Tried.{linked, link_of}
 
 pub absent : {A : Type 0} (a : A) → None ≡ Some a → ⊥
 absent a e = cc
@@ -131,7 +132,7 @@ module _ (m : Meaning) (l : Layout) (rs : List Request) (r : ℕ) (p : PartState
   pub asked : (k : EventKind) → is_enabled m l rs r p k ≡ true → Asked k
   asked k e =
       let some = some_is (asks m l rs r k p) e in
-      let is = stays_asks p.gone (sizes_for m l rs) (ask_by m l rs r k p p.run) some.0 (unblocked m l rs r k p some.0 some.1) in
+      let is = stays_asks p.gone (sizes_for m l rs) (ask_by m l rs r k p p.run) some.0 some.1 in
       record { ask = some.0; stays = is.0; asked = is.1; fitting = is.2 }
 
   enabled_by : (gone : Bool) (s : Sizes) (o : Ask) (x : Spot × Access) → gone ≡ false → o ≡ Some x → fits s x.0 ≡ true → is_some (if gone then None else fitting s o) ≡ true
@@ -139,38 +140,49 @@ module _ (m : Meaning) (l : Layout) (rs : List Request) (r : ℕ) (p : PartState
 
   -- an event is enabled that asks for a word which the table has
   pub enabled : (k : EventKind) (x : Spot × Access) → p.gone ≡ false → ask_by m l rs r k p p.run ≡ Some x → fits (sizes_for m l rs) x.0 ≡ true → is_enabled m l rs r p k ≡ true
-  enabled k x stays asked fitting = ap is_some (asks_same m l rs r k p) ∙ enabled_by p.gone (sizes_for m l rs) (ask_by m l rs r k p p.run) x stays asked fitting
+  enabled k x stays asked fitting = enabled_by p.gone (sizes_for m l rs) (ask_by m l rs r k p p.run) x stays asked fitting
 
   nothing : (b : Bool) (x : Spot × Access) → (if b then None else None) ≡ Some x → ⊥
   nothing true x e = absent x e
   nothing false x e = absent x e
 
-  not_inside : (k : EventKind) (q : RunState) (free : List ℕ) (x : Spot × Access) → is_outside_kind k ≡ true → inside_ask m l k free q ≡ Some x → ⊥
-  not_inside (kinds.ScanOne n) q free x h e = nothing (is_open_run q) x e
-  not_inside (kinds.LoadCell (Some place)) q free x h e = nothing (is_open_run q) x e
-  not_inside (kinds.LoadThunk (Some d)) q free x h e = nothing (is_open_run q) x e
-  not_inside (kinds.Hold thunk d) q free x h e = nothing (is_open_run q) x e
-  not_inside (kinds.Join worker) q free x h e = nothing (is_open_run q) x e
-  not_inside (kinds.LoadEntry request reply) q free x h e = nothing (is_open_run q) x e
-  not_inside (kinds.ReadPlan thunk) q free x h e = nothing (is_open_run q) x e
-  not_inside (kinds.Guard d) q free x h e = nothing (is_open_run q) x e
-  not_inside (kinds.LoadGuard n) q free x h e = nothing (is_open_run q) x e
-  not_inside (kinds.BoardLoad word) q free x h e = nothing (is_open_run q) x e
-  not_inside (kinds.BoardTake word link) q free x h e = nothing (is_open_run q) x e
-  not_inside (kinds.BoardGive word slot) q free x h e = nothing (is_open_run q) x e
-  not_inside _ q free x h e = absurd (not_both false h refl)
+  not_inside : (k : EventKind) (q : RunState) (free blocks : List ℕ) (x : Spot × Access) → is_outside_kind k ≡ true → inside_ask m l k free blocks q ≡ Some x → ⊥
+  not_inside (kinds.ScanOne n) q free blocks x h e = nothing (is_open_run q) x e
+  not_inside (kinds.LoadCell (Some place)) q free blocks x h e = nothing (is_open_run q) x e
+  not_inside (kinds.LoadThunk (Some d)) q free blocks x h e = nothing (is_open_run q) x e
+  not_inside (kinds.Hold thunk d) q free blocks x h e = nothing (is_open_run q) x e
+  not_inside (kinds.Join worker) q free blocks x h e = nothing (is_open_run q) x e
+  not_inside (kinds.LoadEntry request reply) q free blocks x h e = nothing (is_open_run q) x e
+  not_inside (kinds.ReadPlan thunk) q free blocks x h e = nothing (is_open_run q) x e
+  not_inside (kinds.Guard d) q free blocks x h e = nothing (is_open_run q) x e
+  not_inside (kinds.LoadGuard n) q free blocks x h e = nothing (is_open_run q) x e
+  not_inside (kinds.BoardLoad word) q free blocks x h e = nothing (is_open_run q) x e
+  not_inside (kinds.BoardTake word link) q free blocks x h e = nothing (is_open_run q) x e
+  not_inside (kinds.BoardGive word slot) q free blocks x h e = nothing (is_open_run q) x e
+  not_inside _ q free blocks x h e = absurd (not_both false h refl)
 
   outside_by : (k : EventKind) (o : Option RunState) (x : Spot × Access) → is_outside_kind k ≡ true → ask_by m l rs r k p o ≡ Some x → outside_ask m l rs r k p ≡ Some x
   outside_by k None x h e = e
-  outside_by k (Some q) x h e = absurd (not_inside k q p.nodes.free x h e)
+  outside_by k (Some q) x h e = absurd (not_inside k q p.nodes.free p.blocks.free x h e)
 
-  -- without blocks no run links one
-  link_by : (b : ℕ) (o : Option RunState) (x : Spot × Access) → ask_by m l rs r (kinds.LinkCommit b) p o ≡ Some x → ⊥
-  link_by b None x e = absent x e
-  link_by b (Some q) x e = nothing (is_open_run q) x e
+  -- a run links no block but the one in its hand
+  link_by : (b : ℕ) (o : Option RunState) (x : Spot × Access) → ask_by m l rs r (kinds.LinkCommit b) p o ≡ Some x → linked o ≡ Some (kinds.LinkCommit b)
+  link_by b None x e = absurd (absent x e)
+  link_by b (Some q) x e = by_open (is_open_run q) e
+    where
+      in_hand : (o : Option ℕ) → is_slot o b ≡ true → link_of o ≡ Some (kinds.LinkCommit b)
+      in_hand None e = absurd (not_both false e refl)
+      in_hand (Some c) e = ap (λ (n : ℕ). Some (kinds.LinkCommit n)) (equal c b e)
 
-  pub no_link : (b : ℕ) → is_enabled m l rs r p (kinds.LinkCommit b) ≡ false
-  no_link b = not_true _ (λ e. let a = asked (kinds.LinkCommit b) e in link_by b p.run a.ask a.asked)
+      by_open : (open_run : Bool) → (if open_run then link_commit_ask l b q (next_of m q) else None) ≡ Some x → link_of q.block ≡ Some (kinds.LinkCommit b)
+      by_open true e =
+          let test = (when_asks _ _ _ x e).0 in
+          let whole = (both (needs_link q (next_of m q)) _ test).1 in
+          in_hand q.block (both (is_slot q.block b) _ (both (q.emptied == block_words) _ whole).1).0
+      by_open false e = absurd (absent x e)
+
+  pub link_hand : (b : ℕ) → is_enabled m l rs r p (kinds.LinkCommit b) ≡ true → linked p.run ≡ Some (kinds.LinkCommit b)
+  link_hand b e = let a = asked (kinds.LinkCommit b) e in link_by b p.run a.ask a.asked
 
   -- an event that no run makes is enabled outside a run
   pub asked_outside : (k : EventKind) (a : Asked k) → is_outside_kind k ≡ true → outside_ask m l rs r k p ≡ Some a.ask
@@ -179,7 +191,7 @@ module _ (m : Meaning) (l : Layout) (rs : List Request) (r : ℕ) (p : PartState
   -- so the runner is in no run
   no_run_by : (k : EventKind) (o : Option RunState) (x : Spot × Access) → is_outside_kind k ≡ true → ask_by m l rs r k p o ≡ Some x → o ≡ None
   no_run_by k None x h e = refl
-  no_run_by k (Some q) x h e = absurd (not_inside k q p.nodes.free x h e)
+  no_run_by k (Some q) x h e = absurd (not_inside k q p.nodes.free p.blocks.free x h e)
 
   pub no_run : (k : EventKind) (a : Asked k) → is_outside_kind k ≡ true → p.run ≡ None
   no_run k a h = no_run_by k p.run a.ask h a.asked

@@ -1,8 +1,8 @@
--- The numbers of slots and descriptors are small.
+-- The numbers of slots, descriptors and blocks are small.
 use Rattle.std.proofs.Common.{ℕ, ◌+◌, ◌*◌, ◌^◌, ◌<◌, ◌≤◌, arith}
 use Rattle.machine_states.specs.table_words.specs.declared.layout.Layout.{Layout}
 use Rattle.machine_states.specs.table_words.specs.Limits.{IsWithinLimits}
-use Rattle.machine_states.specs.table_words.specs.Places.{slot_count, descriptor_count}
+use Rattle.machine_states.specs.table_words.specs.Places.{slot_count, descriptor_count, block_count}
 
 few_products : (sections runners : ℕ) → sections ≤ 1024 → runners ≤ 16 → sections * runners ≤ 1024 * 16
 few_products sections runners a b = grind arith
@@ -13,3 +13,6 @@ few_numbers l fixed_slots limits few =
     let nodes = limits.few_nodes in
     let runners = limits.few_runners in
     omega (arith, products, nodes, runners, few)
+
+pub few_blocks : (l : Layout) (fixed_slots : ℕ) → IsWithinLimits l → fixed_slots ≤ 3 → slot_count l fixed_slots + descriptor_count l + block_count l < 2 ^ 32
+few_blocks l fixed_slots limits few = let low = few_numbers l fixed_slots limits few in omega (arith, low)

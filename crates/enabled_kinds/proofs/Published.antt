@@ -12,7 +12,7 @@ use Rattle.machine_states.specs.table_words.specs.declared.spot.Spot.TheVariants
 use Rattle.machine_states.specs.table_words.specs.declared.access.Access.{Access}
 use Rattle.machine_states.specs.table_words.specs.declared.access.Access.TheVariants.{Exchanges}
 use Rattle.machine_states.specs.table_words.specs.Limits.{IsWithinLimits}
-use Rattle.machine_states.specs.table_words.specs.Places.{fits, descriptor_count}
+use Rattle.machine_states.specs.table_words.specs.Places.{fits, descriptor_count, part_words}
 use Rattle.machine_states.specs.structure_laws.specs.Meaning.{Meaning}
 use Rattle.machine_states.specs.runner_parts.specs.declared.event.EventKind.TheVariants as kinds
 use Rattle.machine_states.specs.runner_parts.specs.declared.entries.Stored.{Stored}
@@ -52,7 +52,7 @@ module _ (stored : List Stored) (d : ℕ) where
   pub thunk_is : (t : Thunk) → length t.operands ≡ 8 → t.request < 2 ^ 32 → t.lock < 2 ^ 32 → is_prepared stored d t ≡ true → stored_thunk stored d ≡ t
   thunk_is t given request lock e =
       let o = slice_index t.operands in
-      let all = (both (are_stored stored d 0 (thunk_words t)) (are_stored stored d 12 (replicate 65 0)) e).0 in
+      let all = (both (are_stored stored d 0 (thunk_words t)) (are_stored stored d 12 (replicate (part_words + 2) 0)) e).0 in
       let s0 = first_stored stored d 0 t.form (t.request ∷ t.lock ∷ t.word ∷ o 0 ∷ o 1 ∷ o 2 ∷ o 3 ∷ o 4 ∷ o 5 ∷ o 6 ∷ o 7 ∷ []) all in
       let s1 = first_stored stored d 1 t.request (t.lock ∷ t.word ∷ o 0 ∷ o 1 ∷ o 2 ∷ o 3 ∷ o 4 ∷ o 5 ∷ o 6 ∷ o 7 ∷ []) s0.1 in
       let s2 = first_stored stored d 2 t.lock (t.word ∷ o 0 ∷ o 1 ∷ o 2 ∷ o 3 ∷ o 4 ∷ o 5 ∷ o 6 ∷ o 7 ∷ []) s1.1 in

@@ -23,11 +23,11 @@ use Rattle.runner_steps.specs.Outside.{when, scan_one_ask, entry_spot, is_sure_o
 use Rattle.runner_steps.specs.Guards.{load_guard_by}
 use Rattle.runner_steps.specs.Board.{may_use, last_read}
 use Rattle.runner_steps.specs.Asks.{sizes_for}
-use Rattle.machine_states.proofs.Blockless.{outside_ask, ask_by}
+use Rattle.runner_steps.specs.Asks.{outside_ask, ask_by}
 use Rattle.enabled_kinds.specs.Kinds.{kind_number, plain_kind, IsGiven}
 use Rattle.enabled_kinds.specs.May.{is_enabled, is_enabled_if, May, Tells}
 use Rattle.enabled_kinds.specs.Tried.{begun, link_of, linked, no_thunk}
-use Rattle.enabled_kinds.proofs.Asked.{absent, not_both, not_true, both, either, neither, equal, some_passes, none_passes, when_asks, asks_when, below, is_below, resting_asks, asked, enabled, no_link, no_run, asked_outside}
+use Rattle.enabled_kinds.proofs.Asked.{absent, not_both, not_true, both, either, neither, equal, some_passes, none_passes, when_asks, asks_when, below, is_below, resting_asks, asked, enabled, link_hand, no_run, asked_outside}
 use Rattle.enabled_kinds.proofs.Numbers.{plain_only, only_scan, only_cell, only_thunk, only_link, only_board_load, only_take, only_give, only_clock, only_plan, only_guard, only_sweep, only_join, only_entry}
 
 most : (a b : ℕ) → nat_le a b ≡ true → a ≤ b
@@ -156,7 +156,8 @@ module _ (m : Meaning) (l : Layout) (rs : List Request) (r : ℕ) (p : PartState
   pub link_tells : Tells m l rs r p 31 (is_enabled_if m l rs r p (linked p.run))
   link_tells = record {
     found = λ h. links (linked p.run) refl h;
-    missed = λ h. only_link (λ k. IsGiven k → can k ≡ false) (λ b given. no_link m l rs r p b);
+    missed = λ h. only_link (λ k. IsGiven k → can k ≡ false) (λ b given. not_true (can (kinds.LinkCommit b)) (λ e.
+        not_both (can (kinds.LinkCommit b)) e (sym (ap (is_enabled_if m l rs r p) (link_hand m l rs r p b e)) ∙ h)));
   }
 
   pub clock_tells : Tells m l rs r p 21 (can kinds.ClockLoad || can kinds.ReadClock)

@@ -1,5 +1,5 @@
 -- The events that are tried, for kinds whose events carry arguments.
-use Rattle.std.specs.Prelude.{ℕ, ◌%◌, ◌^◌, List, [], ◌∷◌, Option, Some, None, if◌then◌else◌}
+use Rattle.std.specs.Prelude.{ℕ, ◌+◌, ◌%◌, ◌^◌, nat_lt, List, [], ◌∷◌, Option, Some, None, if◌then◌else◌}
 use Rattle.machine_states.specs.body_terms.specs.declared.thunk.Thunk.{Thunk}
 use Rattle.machine_states.specs.body_terms.specs.declared.micro.Micro.{Micro}
 use Rattle.machine_states.specs.body_terms.specs.declared.micro.Micro.TheVariants as micros
@@ -12,7 +12,9 @@ use Rattle.machine_states.specs.runner_parts.specs.declared.event.EventKind.{Eve
 use Rattle.machine_states.specs.runner_parts.specs.declared.event.EventKind.TheVariants as kinds
 use Rattle.machine_states.specs.runner_parts.specs.State.{RunState}
 use Rattle.machine_states.specs.runner_parts.specs.Tests.{last_stored}
-use Rattle.runner_steps.specs.Sections.{is_open_run, next_of}
+use Rattle.machine_states.specs.table_words.specs.Places.{block_count}
+use Rattle.runner_steps.specs.Sections.{is_open_run, next_of, needs_link}
+use Rattle.runner_steps.specs.Outside.{blocks_from}
 use Rattle.runner_steps.specs.InRun.{make_slot, can_raise}
 
 -- a run begins with the descriptor that the guard word names
@@ -37,10 +39,21 @@ store_at l q (Some slot) (micros.PrivateStore cell log value) =
     None
 store_at l q _ _ = None
 
--- the private store that a run makes next
-abbrev pub made_store : Meaning → Layout → Option RunState → Option EventKind
-made_store m l None = None
-made_store m l (Some q) = if is_open_run q then store_at l q q.made (next_of m q) else None
+-- the store into the next word of this block, which a run empties to link it
+abbrev pub emptied_at : Meaning → Layout → RunState → Option ℕ → Option EventKind
+emptied_at m l q None = None
+emptied_at m l q (Some block) =
+    if nat_lt block (block_count l) then Some (kinds.PrivateStore (blocks_from m l + block) q.emptied 0) else None
+
+-- the private store of a run that stands before this step
+abbrev pub stored_next : Meaning → Layout → List ℕ → RunState → Micro → Option EventKind
+stored_next m l blocks q micro =
+    if needs_link q micro then emptied_at m l q (make_slot q.block blocks) else store_at l q q.made micro
+
+-- the private store that a run makes next; `blocks` is the list of free blocks
+abbrev pub made_store : Meaning → Layout → List ℕ → Option RunState → Option EventKind
+made_store m l blocks None = None
+made_store m l blocks (Some q) = if is_open_run q then stored_next m l blocks q (next_of m q) else None
 
 -- the link of the block in the hand
 abbrev pub link_of : Option ℕ → Option EventKind

@@ -3,7 +3,8 @@ ghost use Rattle.std.specs.Prelude.{◌≡◌, ◌<◌, ◌≤◌, ◌+◌, ◌^
 ghost use Rattle.std.specs.List.{list_any};
 ghost use Rattle.machine_states.specs.map_history.specs.Requests.{most_requests};
 ghost use Rattle.machine_states.specs.table_words.specs.Limits.{IsWithinLimits};
-ghost use Rattle.machine_states.specs.table_words.specs.Places.{slot_count, descriptor_count};
+ghost use Rattle.machine_states.specs.table_words.specs.Places.{slot_count, descriptor_count, block_count};
+ghost use Rattle.runner_steps.specs.Outside.{blocks_from};
 ghost use Rattle.runner_steps.specs.Asks.{sizes_for};
 ghost use Rattle.machine_states.specs.runner_parts.specs.declared.event.EventKind.TheVariants as kinds;
 ghost use Rattle.machine_states.specs.epoch_core.specs.declared.stage.Stage.TheVariants.{Scanning};
@@ -18,7 +19,7 @@ use machine_states::runner_parts::{EventKind, Part, Stored};
 use machine_states::structure_laws::Structure;
 use machine_states::table_words::Layout;
 use runner_asks::{asks, last_stored, thunk_of};
-use runner_steps::{sizes_for, slot_count};
+use runner_steps::{block_count, blocks_from, sizes_for, slot_count};
 
 /// Whether the runner may make this event next.
 pub fn may<S: Structure>(
@@ -206,6 +207,68 @@ pub fn may_prepare<S: Structure>(
     for descriptor in &part.descriptors.free {
         if *descriptor < descriptors {
             let slot = slots + *descriptor;
+            let kind = EventKind::PrivateStore {
+                slot,
+                word: 0,
+                number: 0,
+            };
+            if may(part, structure, layout, requests, runner, kind) {
+                return true;
+            }
+        }
+    }
+    false
+}
+
+/// Whether it may load the first word of an own free block.
+#[tactic(auto, using(crate::proofs::Bounds::few_blocks))]
+pub fn may_reread_block<S: Structure>(
+    part: &Part,
+    structure: &S,
+    layout: Layout,
+    requests: &[Request],
+    runner: u32,
+) -> bool
+    requires limits { IsWithinLimits layout }
+    requires few { length requests.now ≤ most_requests }
+    ensures { result ≡ list_any (λ b. nat_lt b (block_count layout)
+        && is_enabled (S.meaning structure.now) layout requests.now runner part.now
+        (kinds.PrivateLoad (blocks_from (S.meaning structure.now) layout + b) 0)) part.now.blocks.free }
+{
+    let from = blocks_from(structure, layout);
+    let blocks = block_count(layout);
+    for block in &part.blocks.free {
+        if *block < blocks {
+            let slot = from + *block;
+            let kind = EventKind::PrivateLoad { slot, word: 0 };
+            if may(part, structure, layout, requests, runner, kind) {
+                return true;
+            }
+        }
+    }
+    false
+}
+
+/// Whether it may store into the first word of an own free block.
+#[tactic(auto, using(crate::proofs::Bounds::few_blocks))]
+pub fn may_empty<S: Structure>(
+    part: &Part,
+    structure: &S,
+    layout: Layout,
+    requests: &[Request],
+    runner: u32,
+) -> bool
+    requires limits { IsWithinLimits layout }
+    requires few { length requests.now ≤ most_requests }
+    ensures { result ≡ list_any (λ b. nat_lt b (block_count layout)
+        && is_enabled (S.meaning structure.now) layout requests.now runner part.now
+        (kinds.PrivateStore (blocks_from (S.meaning structure.now) layout + b) 0 0)) part.now.blocks.free }
+{
+    let from = blocks_from(structure, layout);
+    let blocks = block_count(layout);
+    for block in &part.blocks.free {
+        if *block < blocks {
+            let slot = from + *block;
             let kind = EventKind::PrivateStore {
                 slot,
                 word: 0,

@@ -6,8 +6,9 @@ ghost use Rattle.machine_states.specs.table_words.specs.Limits.{IsWithinLimits};
 ghost use Rattle.enabled_kinds.specs.May.{Tells, AreEnabled, is_enabled_if};
 
 use crate::arguments::{
-    may, may_announce_read, may_begin, may_give, may_join, may_link, may_look_free, may_look_guard,
-    may_look_hand, may_prepare, may_publish, may_reread, may_scan, may_take, may_walk,
+    may, may_announce_read, may_begin, may_empty, may_give, may_join, may_link, may_look_free,
+    may_look_guard, may_look_hand, may_prepare, may_publish, may_reread, may_reread_block,
+    may_scan, may_take, may_walk,
 };
 use crate::makes::{made_load, made_store};
 use crate::plain::plain_kind;
@@ -74,9 +75,10 @@ fn may_load_private<S: Structure>(
     let free = may_look_free(part, structure, layout, requests, runner);
     let hand = may_look_hand(part, structure, layout, requests, runner);
     let descriptor = may_reread(part, structure, layout, requests, runner);
+    let block = may_reread_block(part, structure, layout, requests, runner);
     let made = made_load(part, structure);
     let inside = may_if(part, structure, layout, requests, runner, made);
-    free | (hand | (descriptor | inside))
+    free | (hand | (descriptor | (block | inside)))
 }
 
 /// Whether it may store into a word privately.
@@ -92,9 +94,10 @@ fn may_store_private<S: Structure>(
     ensures { Tells (S.meaning structure.now) layout requests.now runner part.now 12 result }
 {
     let descriptor = may_prepare(part, structure, layout, requests, runner);
+    let block = may_empty(part, structure, layout, requests, runner);
     let made = made_store(part, structure, layout);
     let inside = may_if(part, structure, layout, requests, runner, made);
-    descriptor | inside
+    descriptor | (block | inside)
 }
 
 /// Whether it may load a thunk word.

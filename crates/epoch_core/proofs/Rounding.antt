@@ -16,12 +16,12 @@ only_first s here =
 pub comes_round : ComesRound
 comes_round =
     record {
-      makes = (refl, ((lit≤ tt, refl), (refl, ((refl, refl, λ k. refl), ((refl, lit< tt), ((refl, refl, refl), ((refl, refl), tt)))))));
+      makes = (refl, ((lit≤ tt, refl), (refl, ((refl, refl), ((refl, lit< tt), ((refl, refl, refl), ((refl, refl), tt)))))));
       live = refl;
       retires = (
         (refl, λ s here. only_first s here),
         (
-          (refl, refl, λ k. refl),
+          (refl, refl),
           ((refl, refl, refl, lit< tt, λ h. refl, λ h r' pending e. absurd (none pending.0)), (refl, ((refl, refl), ((refl, refl), tt)))),
         ),
       );

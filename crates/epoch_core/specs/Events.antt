@@ -35,7 +35,7 @@ pub data Event : Type 0 where
   StoreLog : (r d index word : ℕ) → Event
   -- these slots come to be held
   Reach : (r : ℕ) (slots : ℕ → Bool) → Event
-  -- a section is published in an own free descriptor; a published descriptor is retired
+  -- a section with an empty log is published in an own free descriptor; a published descriptor is retired
   Publish : (r d : ℕ) (roles : ℕ → Role) → Event
   RetireDescriptor : (r d : ℕ) → Event
   -- a runner holds no descriptor any more; at the end of its sweep those of these that are in its limbo are free
@@ -97,6 +97,7 @@ module _ (c : Counts) where
     location = upd w.location (slot_of d) Live;
     holds = upd2 w.holds r (slot_of d) true;
     role = upd_row w.role d roles;
+    log = upd_row w.log d (λ k. 0);
   }
   after w (RetireDescriptor r d) = record w { location = upd w.location (slot_of d) (Limbo r w.epoch) }
   after w (Unguard r) = record w { holds = upd_row w.holds r (λ s. w.holds r s && nat_lt s c.nodes) }
@@ -132,8 +133,7 @@ module _ (c : Counts) where
   Enabled w (WordCommit r d k word) = (w.holds r (slot_of d) ≡ true) × (w.role d k ≡ Agrees)
   Enabled w (StoreLog r d k word) = w.location (slot_of d) ≡ Free r
   Enabled w (Reach r slots) = (is_entered (w.stage r) ≡ true) × ((s : ℕ) → slots s ≡ true → MayHold w r s)
-  Enabled w (Publish r d roles) =
-      (is_entered (w.stage r) ≡ true) × (w.location (slot_of d) ≡ Free r) × ((k : ℕ) → w.log d k ≡ 0)
+  Enabled w (Publish r d roles) = (is_entered (w.stage r) ≡ true) × (w.location (slot_of d) ≡ Free r)
   Enabled w (RetireDescriptor r d) = (is_entered (w.stage r) ≡ true) × (w.location (slot_of d) ≡ Live)
   Enabled w (Unguard r) = (w.retire r).loaded ≡ false
   Enabled w (Sweep r descriptors) = (d : ℕ) → descriptors d ≡ true → MayFree w r d

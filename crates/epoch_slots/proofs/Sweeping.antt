@@ -14,7 +14,7 @@ use Rattle.machine_states.proofs.Reached.{reached_all}
 use Rattle.machine_states.proofs.Sights.{happens_steps}
 use Rattle.version_words.specs.machine_invariant.specs.After.{AreAllowed}
 use Rattle.version_words.specs.machine_invariant.specs.machine_blocks.specs.machine_guards.specs.Sweeps.{SweepIsExact}
-use Rattle.version_words.specs.machine_invariant.specs.machine_blocks.specs.machine_guards.proofs.Holding.{sweep_exact}
+use Rattle.version_words.specs.machine_invariant.specs.machine_blocks.specs.machine_guards.proofs.Safe.{sweep_exact}
 use Rattle.reached_histories.specs.Laws.{HasHistory}
 use Rattle.reached_histories.proofs.Histories.{reached_have}
 use Rattle.version_words.specs.RunnerState.{RunnerState}
@@ -60,7 +60,7 @@ module _ {T : Type 0} (m : Meaning) (laws : Laws m) (r r' : RunnerState T) (coun
   was = ap part_or_first made.shown.was_own
 
   exact : SweepIsExact l s s' r'.number (s.word (step.ask.0))
-  exact = sweep_exact m l rs stands.beside.agreement stands.beside.epochs s s' r'.number count stands.whole.slots stands.whole.guards step
+  exact = sweep_exact m l rs stands.whole.logs.chain stands.beside.agreement stands.beside.epochs s s' r'.number count stands.whole.slots stands.whole.logs.guards step
       (ap (λ (p : PartState). is_last_guard l p.guards.looked) was ∙ eq-eqb (length r.part.guards.looked) l.runners last)
 
   few_stay : length r'.part.descriptors.limbo ≤ l.runners

@@ -225,13 +225,14 @@ const CHANGES: [(&str, &str); 6] = [
 
 // What the program prints where such a change was made on the line with this number.
 fn verdict_of(alloc: Global, change: u8, line: usize) -> Result<String, AllocError> {
-    match change {
-        b'f' => format!(in alloc; "line {line}: form\n"),
-        b'n' => format!(in alloc; "line {}: rank\n", line.saturating_add(1)),
-        b'r' => format!(in alloc; "line {line}: rank\n"),
-        b'p' => format!(in alloc; "line {line}: reply\n"),
-        _ => format!(in alloc; "line {line}: final\n"),
-    }
+    let (line, word) = match change {
+        b'f' => (line, "form"),
+        b'n' => (line.saturating_add(1), "rank"),
+        b'r' => (line, "rank"),
+        b'p' => (line, "reply"),
+        _ => (line, "final"),
+    };
+    format!(in alloc; "line {line}: {word}\n")
 }
 
 // Whether the check finds this change of the legal report's byte at this place, which is on this line.

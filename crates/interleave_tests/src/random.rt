@@ -11,6 +11,7 @@ use interleave_core::{EventKind, StepError};
 use machine_states::body_terms::{Outcome, Thunk, Word};
 use machine_states::map_history::{Op, Request};
 use machine_states::runner_parts::{Finished, Part, thunk_words};
+use machine_states::table_words::DESCRIPTOR_WORDS;
 use std::alloc::{AllocError, Global};
 
 /// The first descriptor, behind the node slots of two workers and six of the keeper.
@@ -248,7 +249,7 @@ fn helps(machine: &mut TwoWorkers, runner: u32, numbers: &mut Numbers) -> bool {
 /// Stores the worker's next word, and gives the kinds that it may make where it can't or has none
 /// to store.
 fn stores(machine: &mut TwoWorkers, worker: &mut Worker) -> Option<u64> {
-    if worker.published || worker.next >= 77 {
+    if worker.published || worker.next >= DESCRIPTOR_WORDS as u32 {
         return Some(machine.kinds(worker.runner));
     }
     if worker.next == 0 && !worker.again {
@@ -266,11 +267,15 @@ fn stores(machine: &mut TwoWorkers, worker: &mut Worker) -> Option<u64> {
         EventKind::PrivateStore { slot, word, number },
     ) {
         Ok(()) => {
-            let last = if worker.again { 4 } else { 76 };
+            let last = if worker.again {
+                4
+            } else {
+                DESCRIPTOR_WORDS as u32 - 1
+            };
             worker.next = if word < last {
                 word.saturating_add(1)
             } else {
-                77
+                DESCRIPTOR_WORDS as u32
             };
             None
         }

@@ -7,7 +7,7 @@ use interleave_core::{Event, EventKind, Machine, ScheduleError, StepError, Tray,
 use machine_states::body_terms::{Thunk, Word};
 use machine_states::map_history::{Op, Request};
 use machine_states::runner_parts::{Part, thunk_words};
-use machine_states::table_words::Layout;
+use machine_states::table_words::{DESCRIPTOR_WORDS, Layout};
 use std::alloc::{AllocError, Global};
 use std::process::Abort;
 
@@ -87,7 +87,7 @@ fn prepares(machine: &mut Played, runner: u32, descriptor: u32, thunk: &Thunk) -
     }
     let words = thunk_words(thunk);
     let slot = DESCRIPTORS.saturating_add(descriptor);
-    for word in 0..77u32 {
+    for word in 0..DESCRIPTOR_WORDS as u32 {
         let number = words.get(word as usize).copied().unwrap_or(0);
         if !goes(
             machine,
@@ -608,11 +608,11 @@ fn two_runners_make_one_node(rt: HostRuntime) -> Result<(), AllocError> {
 
 #[test]
 fn a_node_is_taken_out(rt: HostRuntime) -> Result<(), AllocError> {
-    // The last section makes 24 steps. Before it there are 202, with the load by which `runs` sees that a run is over.
+    // The last section makes 24 steps. Before it there are 204, with the load by which `runs` sees that a run is over.
     let row =
         "0 prepare 0 102 0 0@1 0@1; 0 hold 0 102 0 0@1 0@1; 0 run 0: 33; 0 clear; 0 leave; 0 prepare 1 103 1 1@2 \
-        0@3; 0 hold 1 103 1 1@2 0@3; 0 events: 202; 0 open 1; 0 load; 0 commit; 0 clock; 0 stamp; 0 raise; 0 \
-        store; 0 epoch; 0 retire; 0 answer; 0 done; 0 release; 0 events: 226; 0 cell 2: 0@3; 0 live 0: no; 0 \
+        0@3; 0 hold 1 103 1 1@2 0@3; 0 events: 204; 0 open 1; 0 load; 0 commit; 0 clock; 0 stamp; 0 raise; 0 \
+        store; 0 epoch; 0 retire; 0 answer; 0 done; 0 release; 0 events: 228; 0 cell 2: 0@3; 0 live 0: no; 0 \
         free 0: no";
     check(&rt, rt.alloc(), row)
 }

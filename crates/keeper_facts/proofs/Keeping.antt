@@ -24,7 +24,7 @@ use Rattle.machine_states.specs.runner_steps.specs.InRun.{last_clock}
 use Rattle.machine_states.specs.runner_steps.specs.AfterInRun as inside
 use Rattle.machine_states.specs.runner_steps.specs.AfterOutside as outside
 use Rattle.machine_states.specs.runner_steps.specs.After.{left_more, noted}
-use Rattle.machine_states.specs.Blockless.{line_after, inside_after, outside_after, after_by}
+use Rattle.machine_states.specs.runner_steps.specs.After.{line_after, inside_after, outside_after, after_by}
 use Rattle.machine_states.specs.World.{is_join}
 
 -- whom the keeper has joined, and what its steps since then left

@@ -1,5 +1,5 @@
 -- A step of a run leaves the run in its descriptor, or brings it to its end.
-use Rattle.std.specs.Prelude.{nat_lt, Bool, true, false, if◌then◌else◌}
+use Rattle.std.specs.Prelude.{nat_lt, Bool, true, false, if◌then◌else◌, ◌-◌}
 use Rattle.std.proofs.Common.{◌≡◌, ℕ, [], ◌∷◌, ◌++◌, refl, ap, inl, inr, Option, Some, None}
 use Rattle.std.specs.Prelude.{◌⊎◌}
 use Rattle.machine_states.specs.body_terms.specs.Line.{is_end}
@@ -10,11 +10,12 @@ use Rattle.machine_states.specs.runner_parts.specs.declared.event.EventKind.{Eve
 use Rattle.machine_states.specs.runner_parts.specs.declared.event.EventKind.TheVariants as kinds
 use Rattle.machine_states.specs.runner_parts.specs.State.{RunState, RecordsState, PartState}
 use Rattle.machine_states.specs.runner_parts.specs.Lists.{cell_read}
-use Rattle.machine_states.specs.runner_steps.specs.Sections.{is_open_run, next_of}
+use Rattle.machine_states.specs.runner_steps.specs.Sections.{is_open_run, next_of, needs_link}
 use Rattle.machine_states.specs.runner_steps.specs.InRun.{last_clock}
 use Rattle.machine_states.specs.runner_steps.specs.AfterInRun as inside
 use Rattle.machine_states.specs.runner_steps.specs.AfterInRun.{ended_more, finished_of}
-use Rattle.machine_states.specs.Blockless.{line_after, inside_after}
+use Rattle.machine_states.specs.runner_steps.specs.After.{line_after, inside_after}
+use Rattle.machine_states.specs.runner_steps.specs.Outside.{blocks_from}
 
 -- the part is in a run of this descriptor
 pub record IsIn (p : PartState) (d : ℕ) : Type 0 where
@@ -56,7 +57,12 @@ module _ (m : Meaning) (l : Layout) (p : PartState) (q : RunState) (runs : p.run
   line_on (kinds.LoadCell place) is micro = on _ _ refl refl
   line_on kinds.ExchangeCell is micro = on _ _ refl refl
   line_on (kinds.PrivateLoad slot word) is micro = fill_on slot q.made
-  line_on (kinds.PrivateStore slot word number) is micro = on _ _ refl refl
+  line_on (kinds.PrivateStore slot word number) is micro = by (needs_link q micro)
+    where
+      by : (b : Bool) → GoesOn (inside.with_run p (if b then inside.block_emptied (slot - blocks_from m l) q else inside.filled m l number q))
+      by true = on _ _ refl refl
+      by false = on _ _ refl refl
+  line_on (kinds.LinkCommit b) is micro = on _ _ refl refl
   line_on kinds.MakeCommit is micro = make_on q.made
   line_on kinds.RetireCommit is micro = on _ _ refl refl
   line_on kinds.EpochForRetire is micro = on _ _ refl refl

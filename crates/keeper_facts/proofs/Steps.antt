@@ -26,7 +26,8 @@ use Rattle.machine_states.specs.runner_parts.specs.declared.event.EventKind.TheV
 use Rattle.machine_states.specs.runner_parts.specs.State.{RunState, FinishedState, PartState}
 use Rattle.machine_states.specs.runner_parts.specs.Tests.{has, is_next, is_open, is_walking, is_between}
 use Rattle.machine_states.specs.runner_steps.specs.Asks.{sizes_for}
-use Rattle.machine_states.specs.Blockless.{ask_by, after_by, after}
+use Rattle.machine_states.specs.runner_steps.specs.Asks.{ask_by}
+use Rattle.machine_states.specs.runner_steps.specs.After.{after_by, after}
 use Rattle.machine_states.specs.runner_steps.specs.Outside.{hold_ask, is_ready, is_publishable}
 use Rattle.machine_states.specs.runner_steps.specs.Sections.{thunk_of, is_open_run}
 use Rattle.machine_states.specs.runner_steps.specs.AfterInRun.{ended_more, finished_of}

@@ -22,7 +22,7 @@ use Rattle.machine_states.specs.runner_parts.specs.declared.event.EventKind.TheV
 use Rattle.machine_states.specs.runner_parts.specs.State.{RunState, RecordsState, PartState}
 use Rattle.machine_states.specs.runner_parts.specs.Tests.{has}
 use Rattle.machine_states.specs.runner_steps.specs.After.{left_more, noted, knows_also, leaves}
-use Rattle.machine_states.specs.Blockless.{after, after_by}
+use Rattle.machine_states.specs.runner_steps.specs.After.{after, after_by}
 use Rattle.machine_states.specs.World.{World, happens, is_join, seat_of}
 use Rattle.machine_states.specs.First.{IsFirst}
 use Rattle.machine_states.specs.Reached.{Reached}

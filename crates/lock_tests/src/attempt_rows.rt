@@ -1,4 +1,5 @@
 //! Tests.
+ghost use Rattle.std.specs.Prelude.{IfOk};
 ghost use Rattle.settled_tables.specs.closed_words.specs.version_words.specs.TableState.{IsOf};
 ghost use Rattle.lock_tests.specs.AttemptScene.{IsScene, IsFresh, ServesThem};
 
@@ -14,6 +15,23 @@ use settled_tables::settling::runner_gate::{Free, Gates, HaltAt, Pause, Scripted
 use std::alloc::{AllocError, Global};
 use std::thread;
 use std::thread::Threads;
+
+/// A new table of this structure with its two workers.
+fn two_workers<S: Planner>(
+    alloc: Global,
+    structure: S,
+) -> Result<(FlockTable<S>, Runner<S>, Runner<S>), AllocError>
+    requires { ServesThem (S.planning structure) }
+    ensures own { IfOk result (λ x. IsOf x.0 x.1 × IsOf x.0 x.2) }
+    ensures scene { IfOk result (λ x. IsScene (S.planning x.0.structure) x.0) }
+    ensures fresh { IfOk result (λ x. IsFresh 0 x.1 × IsFresh 1 x.2) }
+{
+    let (table, keeper) = new_table(alloc, structure)?;
+    let (keeper, first) = split(&table, alloc, keeper, 0)?;
+    let (keeper, second) = split(&table, alloc, keeper, 1)?;
+    drop(keeper);
+    Ok((table, first, second))
+}
 
 /// Gates of a script in which the first worker waits inside its section, behind its publication, until the second one
 /// has published its own; and the second one, as it enters, until the first one has published.
@@ -73,11 +91,8 @@ where
     S::Walk: Send + Sync,
     requires { ServesThem (S.planning structure) }
 {
-    let (table, keeper) = new_table(alloc, structure)?;
-    let (keeper, first) = split(&table, alloc, keeper, 0)?;
-    let (keeper, second) = split(&table, alloc, keeper, 1)?;
-    drop(keeper);
     let mut gates = one_waits_inside(alloc)?;
+    let (table, first, second) = two_workers(alloc, structure)?;
     let (added, (busy, asked)) = side_by_side(rt, &table, first, second, &mut gates);
     match (added, asked) {
         (
@@ -120,10 +135,7 @@ fn told_behind<S: Planner>(
 ) -> Result<Option<Reply>, AllocError>
     requires { ServesThem (S.planning structure) }
 {
-    let (table, keeper) = new_table(alloc, structure)?;
-    let (keeper, first) = split(&table, alloc, keeper, 0)?;
-    let (keeper, second) = split(&table, alloc, keeper, 1)?;
-    drop(keeper);
+    let (table, first, second) = two_workers(alloc, structure)?;
     let mut gate = HaltAt::new(Some(ask));
     let last = match stopped {
         Stopped::Insertion => add_once(&table, first, &mut gate),

@@ -16,6 +16,7 @@ use crate::turns::{Turn, run_own};
 use crate::watched::{Ended, Watched, watch_section};
 use crate::workers::Crew;
 use hash_table::HashTable;
+use hash_table::lock_walks::section_runs::RunEnd;
 use hash_table::lock_walks::version_words::{FlockTable, Runner};
 use machine_states::body_terms::StepKind;
 use machine_states::map_history::Op;
@@ -61,10 +62,12 @@ fn helped<R: Threads + Sync>(
     requires keys { key_of op ≤ 4294967293 }
     requires one_key { has_one_key op ≡ true }
 {
+    let gates = scripted(alloc, lines)?;
     let (watched, loads) = watched(alloc, op)?;
-    let Ended { crew, ran, helped } = watched.on_threads(rt, scripted(alloc, lines)?);
-    let (ran, helped) = (ran.shown(alloc)?, helped.shown(alloc)?);
-    let pairs = pairs_of(alloc, &crew.gather())?;
+    let Ended { crew, ran, helped } = watched.on_threads(rt, gates);
+    let (ran, helped) = (ran.shown(alloc), helped.shown(alloc));
+    let pairs = pairs_of(alloc, &crew.gather());
+    let (ran, helped, pairs) = (ran?, helped?, pairs?);
     format!(in alloc; "{loads:?} loads\n{ran}\n{helped}\n{pairs:?}")
 }
 
@@ -94,25 +97,30 @@ fn a_worker_that_waits_in_its_section_is_helped_to_the_end(
 }
 
 /// The worker plans its request, publishes the section and runs it. How the run went, and how many loads the plan made.
+/// Where it can't publish it makes no step.
 fn serve(
     table: &FlockTable<HashTable>,
     runner: Runner<HashTable>,
     ops: (Op, Op),
-) -> Result<(Runner<HashTable>, Turn, u64), AllocError>
+) -> (Runner<HashTable>, Turn, u64)
     requires own { IsOf table.now runner }
     requires scene { IsScene ops.0 ops.1 table.now }
     requires ready { IsReady runner.number runner }
     requires worker { runner.number < 2 }
     requires one_key { (has_one_key ops.0 ≡ true) × (has_one_key ops.1 ≡ true) }
-    ensures own { IfOk result (λ x. IsOf table.now x.0) }
-    ensures number { IfOk result (λ x. x.0.number ≡ runner.number) }
+    ensures own { IsOf table.now result.0 }
+    ensures number { result.0.number ≡ runner.number }
 {
     let (runner, offered, loads) = plan_and_publish(table, runner, ops);
     let Offer::Published(section) = offered else {
-        return Err(AllocError);
+        let turn = Turn {
+            end: RunEnd::Halted,
+            steps: 0,
+        };
+        return (runner, turn, loads);
     };
     let (runner, turn) = run_own(table, runner, section, &mut Free::new());
-    Ok((runner, turn, loads))
+    (runner, turn, loads)
 }
 
 /// The first worker's section is run, and then the second one's. The steps of both, the loads of the second one's plan,
@@ -127,8 +135,8 @@ fn in_turn(alloc: Global, ops: (Op, Op)) -> Result<String, AllocError>
         first,
         second,
     } = new_crew(alloc, ops)?;
-    let (first, one, _) = serve(&table, first, ops)?;
-    let (second, two, loads) = serve(&table, second, ops)?;
+    let (first, one, _) = serve(&table, first, ops);
+    let (second, two, loads) = serve(&table, second, ops);
     let crew = Crew {
         table,
         keeper,
@@ -136,9 +144,10 @@ fn in_turn(alloc: Global, ops: (Op, Op)) -> Result<String, AllocError>
         second,
     };
     let words = crew.gather();
-    let pairs = pairs_of(alloc, &words)?;
+    let pairs = pairs_of(alloc, &words);
     let entries = (words.entry(0), words.entry(1));
-    let steps = (one.steps, two.steps);
+    drop(words);
+    let (steps, pairs) = ((one.steps, two.steps), pairs?);
     format!(in alloc; "{steps:?}, {loads:?} loads\n{entries:?}\n{pairs:?}")
 }
 

@@ -60,10 +60,12 @@ fn cells_left(alloc: Global, words: &Words<Tray>) -> Result<String, AllocError>
 fn left(alloc: Global, crew: Crew<Tray>) -> Result<String, AllocError>
     requires { crew.table.requests ≡ two_requests }
 {
-    let slots = slots_left(alloc, &crew)?;
+    let slots = slots_left(alloc, &crew);
     let words = crew.gather();
-    let cells = cells_left(alloc, &words)?;
+    let cells = cells_left(alloc, &words);
     let (one, two) = (words.entry(0), words.entry(1));
+    drop(words);
+    let (slots, cells) = (slots?, cells?);
     format!(in alloc; "{slots}, cells {cells}, entries {one:?} {two:?}")
 }
 
@@ -95,8 +97,9 @@ fn shown(alloc: Global, ended: Ended<Tray>) -> Result<String, AllocError>
     requires { ended.crew.table.requests ≡ two_requests }
 {
     let Ended { crew, ran, helped } = ended;
-    let (ran, helped) = (ran.shown(alloc)?, helped.shown(alloc)?);
-    let left = left(alloc, crew)?;
+    let (ran, helped) = (ran.shown(alloc), helped.shown(alloc));
+    let left = left(alloc, crew);
+    let (ran, helped, left) = (ran?, helped?, left?);
     format!(in alloc; "{ran}\n{helped}\n{left}")
 }
 
@@ -120,8 +123,8 @@ fn on_threads<R: Threads + Sync>(
     operand: u64,
     lines: &[(u32, StepKind, u32, StepKind)],
 ) -> Result<String, AllocError> {
-    let watched = watched(alloc, form, operand)?;
     let gates = scripted(alloc, lines)?;
+    let watched = watched(alloc, form, operand)?;
     shown(alloc, watched.on_threads(rt, gates))
 }
 
@@ -214,27 +217,32 @@ fn two_threads_in_any_order_store_a_number_once(rt: HostRuntime) -> Result<(), A
     check(&rt, rt.alloc(), row, &[ANSWERED, ANSWERED, STORED])
 }
 
-/// The worker reads the lock, publishes such a section, and runs it.
+/// The worker reads the lock, publishes such a section, and runs it. Where the lock is taken it makes no step.
 fn run_next(
     table: &FlockTable<Tray>,
     runner: Runner<Tray>,
     form: u64,
     operand: u64,
-) -> Result<(Runner<Tray>, Turn), AllocError>
+) -> (Runner<Tray>, Turn)
     requires own { IsOf table.now runner }
     requires scene { IsScene table.now }
     requires ready { (number : ℕ) × IsReady number runner }
     requires worker { runner.number < 2 }
-    ensures own { IfOk result (λ x. IsOf table.now x.0) }
-    ensures number { IfOk result (λ x. x.0.number ≡ runner.number) }
-    ensures tidy { IfOk result (λ x. (outcome : Outcome) (trail : Agreed) → x.1.end ≡ Done outcome trail
-        → IsTidy x.0) }
+    ensures own { IsOf table.now result.0 }
+    ensures number { result.0.number ≡ runner.number }
+    ensures tidy { (outcome : Outcome) (trail : Agreed) → result.1.end ≡ Done outcome trail → IsTidy result.0 }
 {
     let (runner, free) = read_lock(table, runner, 0);
     let (runner, offered) = offer(table, runner, free, form, operand);
     match offered {
-        Offer::Published(section) => Ok(run_own(table, runner, section, &mut Free::new())),
-        _ => Err(AllocError),
+        Offer::Published(section) => run_own(table, runner, section, &mut Free::new()),
+        _ => (
+            runner,
+            Turn {
+                end: RunEnd::Halted,
+                steps: 0,
+            },
+        ),
     }
 }
 
@@ -262,8 +270,8 @@ fn made_and_retired(alloc: Global) -> Result<String, AllocError> {
         first,
         second,
     } = new_crew(alloc)?;
-    let (first, ran) = run_next(&table, first, 102, FIRST)?;
-    let (second, helped) = run_next(&table, second, 103, 8589934593)?;
+    let (first, ran) = run_next(&table, first, 102, FIRST);
+    let (second, helped) = run_next(&table, second, 103, 8589934593);
     let second = scan_twice(&table, second, &helped);
     let crew = Crew {
         table,

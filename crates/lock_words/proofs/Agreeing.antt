@@ -22,7 +22,7 @@ use Rattle.machine_states.specs.runner_parts.specs.declared.event.EventKind.{Eve
 use Rattle.machine_states.specs.runner_parts.specs.State.{RunState, PartState}
 use Rattle.machine_states.specs.runner_parts.specs.Tests.{has}
 use Rattle.machine_states.specs.runner_steps.specs.Asks.{opening_ask}
-use Rattle.machine_states.specs.Blockless.{ask_by, line_ask}
+use Rattle.machine_states.specs.runner_steps.specs.Asks.{ask_by, line_ask}
 use Rattle.machine_states.specs.runner_steps.specs.Sections.{is_open_run, line_of, next_of}
 use Rattle.agreement_core.specs.State.{Section}
 use Rattle.machine_states.specs.Sight.{Sight}
@@ -84,10 +84,10 @@ module _ (m : Meaning) (laws : Laws m) (l : Layout) (limits : IsWithinLimits l) 
   log_step k = by p.run refl (asks_by m laws l limits rs s s' r kind st)
     where
       by_run : (q : RunState) → p.run ≡ Some q → (b : Bool) → is_open_run q ≡ b
-          → (if b then line_ask m l kind p.nodes.free q (next_of m q) else opening_ask kind q) ≡ Some x → LogStays s.word d k x ⊎ Writes k
+          → (if b then line_ask m l kind p.nodes.free p.blocks.free q (next_of m q) else opening_ask kind q) ≡ Some x → LogStays s.word d k x ⊎ Writes k
       by_run q is true opened e = ⊎_elim (λ stays. inl stays)
           (λ commits. inr (record { run = q; runs = is; open_q = opened; commits = commits }))
-          (line_log s.word d k m l q x kind p.nodes.free (next_of m q) e)
+          (line_log s.word d k m l q x kind p.nodes.free p.blocks.free (next_of m q) e)
       by_run q is false opened e = inl (opening_log s.word d k m l q x kind e)
 
       by : (o : Option RunState) → p.run ≡ o → ask_by m l rs r kind p o ≡ Some x → LogStays s.word d k x ⊎ Writes k

@@ -2,7 +2,7 @@
 use Rattle.std.specs.Prelude.{◌==◌, ◌||◌, ◌&&◌, not, nat_lt, nat_le, Bool, true, false, if◌then◌else◌}
 use Rattle.std.specs.List.{filter}
 use Rattle.std.proofs.Common.{◌⊎◌, inl, inr, ◌≡◌, ◌≢◌, ℕ, ◌+◌, List, refl, sym, ap, ◌∙◌, subst, ⊎_elim, Option, Some, None}
-use Rattle.std.proofs.lemmas.Bool.{cases_eq}
+use Rattle.std.proofs.lemmas.Bool.{cases_eq, cases_lt}
 use Rattle.machine_states.specs.map_history.specs.declared.op.Request.{Request}
 use Rattle.machine_states.specs.body_terms.specs.Line.{is_end}
 use Rattle.machine_states.specs.body_terms.specs.declared.micro.Micro.{Micro}
@@ -12,7 +12,7 @@ use Rattle.machine_states.specs.table_words.specs.declared.spot.Spot.{Spot}
 use Rattle.machine_states.specs.table_words.specs.declared.spot.Spot.TheVariants.{LogWord}
 use Rattle.machine_states.specs.table_words.specs.declared.access.Access.{Access}
 use Rattle.machine_states.specs.table_words.specs.Access.{written}
-use Rattle.machine_states.specs.table_words.specs.Places.{slot_count}
+use Rattle.machine_states.specs.table_words.specs.Places.{slot_count, part_words}
 use Rattle.machine_states.specs.table_words.specs.Seen.{put}
 use Rattle.machine_states.specs.structure_laws.specs.Meaning.{Meaning}
 use Rattle.machine_states.specs.epoch_core.specs.Moves.{is_clear}
@@ -25,7 +25,8 @@ use Rattle.machine_states.specs.runner_parts.specs.declared.event.EventKind.TheV
 use Rattle.machine_states.specs.runner_parts.specs.Lists.{descriptor_retired, descriptors_swept}
 use Rattle.machine_states.specs.runner_parts.specs.State.{RunState, GuardsState, PartState}
 use Rattle.machine_states.specs.runner_parts.specs.Tests.{has}
-use Rattle.machine_states.specs.Blockless.{ask_by, outside_ask, line_after, inside_after, outside_after, after_by}
+use Rattle.machine_states.specs.runner_steps.specs.Asks.{ask_by, outside_ask}
+use Rattle.machine_states.specs.runner_steps.specs.After.{line_after, inside_after, outside_after, after_by}
 use Rattle.machine_states.specs.epoch_core.specs.State.{last_epoch}
 use Rattle.machine_states.specs.runner_steps.specs.AfterInRun as inside
 use Rattle.machine_states.specs.runner_steps.specs.AfterOutside as outside
@@ -36,7 +37,7 @@ use Rattle.machine_states.specs.Sight.{Sight}
 use Rattle.machine_states.proofs.Sights.{unless_gone, joins}
 use Rattle.machine_epochs.proofs.OutsideAsked.{hold_asked}
 use Rattle.machine_epochs.proofs.Places.{has_append}
-use Rattle.runner_facts.specs.machine_facts.specs.machine_invariant.proofs.Prepared.{log_is}
+use Rattle.machine_epochs.proofs.Prepared.{log_is}
 use Rattle.runner_facts.specs.machine_facts.specs.machine_invariant.proofs.Keeping.{IsStep}
 use Rattle.runner_facts.specs.next_steps.proofs.Parts.{each_part}
 use Rattle.runner_facts.specs.next_steps.proofs.Tests.{without_not}
@@ -180,7 +181,8 @@ module _ (m : Meaning) (l : Layout) (rs : List Request) (s s' : Sight) (r : ℕ)
   published : (t : Thunk) → outside_ask m l rs r (kinds.Hold t d) p ≡ Some x → IsEmpty
   published t e k =
       let h = hold_asked m l rs r t d p x e in
-      let empty : s.word (LogWord d k) ≡ 0 = log_is m l st.beside.epochs s st.whole.slots r t d h.free h.prepared st.beside.agreement st.whole.logs k in
+      let empty : s.word (LogWord d k) ≡ 0 = ⊎_elim
+      (λ low. log_is m l st.beside.epochs s st.whole.slots r t d h.free h.prepared k low) (λ high. st.whole.logs.beyond d k high) (cases_lt k part_words) in
       ap (λ (y : Sight). y.word (LogWord d k)) st.step.next
       ∙ (subst (λ (y : Spot × Access). put s.word y.0 (written y.1 (s.word y.0)) (LogWord d k) ≡ s.word (LogWord d k)) h.is refl ∙ empty)
 

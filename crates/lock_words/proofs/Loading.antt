@@ -17,7 +17,8 @@ use Rattle.machine_states.specs.structure_laws.specs.Meaning.{Meaning}
 use Rattle.machine_states.specs.runner_parts.specs.declared.event.EventKind.{EventKind}
 use Rattle.machine_states.specs.runner_parts.specs.State.{RunState, PartState}
 use Rattle.machine_states.specs.runner_steps.specs.Asks.{opening_ask}
-use Rattle.machine_states.specs.Blockless.{ask_by, line_ask, after_by, line_after}
+use Rattle.machine_states.specs.runner_steps.specs.Asks.{ask_by, line_ask}
+use Rattle.machine_states.specs.runner_steps.specs.After.{after_by, line_after}
 use Rattle.machine_states.specs.runner_steps.specs.AfterInRun.{opened_more}
 use Rattle.machine_states.specs.runner_steps.specs.Sections.{thunk_of, is_open_run, line_of, next_of, setting_of}
 use Rattle.agreement_core.specs.State.{Section}
@@ -75,7 +76,7 @@ module _ (m : Meaning) (l : Layout) (rs : List Request) (s s' : Sight) (r : ℕ)
   abbrev section_of : RunState → Section
   section_of q = st.beside.agreement.section q.descriptor
 
-  in_line : (q : RunState) → p.run ≡ Some q → is_open_run q ≡ true → line_ask m l kind p.nodes.free q (next_of m q) ≡ Some x
+  in_line : (q : RunState) → p.run ≡ Some q → is_open_run q ≡ true → line_ask m l kind p.nodes.free p.blocks.free q (next_of m q) ≡ Some x
       → Loaded r (line_after m l kind p q (next_of m q) found)
   in_line q runs open_q e q' place log is all commits = ⊎_elim
       (λ over. absurd (none_some q' (sym is ∙ over)))
@@ -120,14 +121,14 @@ module _ (m : Meaning) (l : Layout) (rs : List Request) (s s' : Sight) (r : ℕ)
               let in_run = sym (code load.0) ∙ load.2 in
               let back = rests_behind (setting_of l q.descriptor) trail (line_of m q) q.at load.0 (sym at ∙ load.1) (ap is_check in_run) in
               let event = event_next m q (micros.NestedLoad place log) (ap (micro_at (line_of m q)) (sym back) ∙ in_run) refl in
-              let asks = nested_kind m l p.nodes.free q x place log kind (ap (λ u. line_ask m l kind p.nodes.free q u) (sym event) ∙ e) in
+              let asks = nested_kind m l p.nodes.free p.blocks.free q x place log kind (ap (λ u. line_ask m l kind p.nodes.free p.blocks.free q u) (sym event) ∙ e) in
               (word (ap loads_lock asks.0) ∙ ap (λ (u : Spot × Access). s.word u.0) (sym asks.1), load.1 ∙ ap suc back))
               (λ outcome.
               let load = section_line.ordered.outcome_before q'.at place log outcome in
               let in_run = sym (code load.0) ∙ load.2 in
               let back = rests_behind (setting_of l q.descriptor) trail (line_of m q) q.at load.0 (sym at ∙ load.1) (ap is_check in_run) in
               let event = event_next m q (micros.OutcomeLoad place log) (ap (micro_at (line_of m q)) (sym back) ∙ in_run) refl in
-              let asks = outcome_kind m l p.nodes.free q x place log kind (ap (λ u. line_ask m l kind p.nodes.free q u) (sym event) ∙ e) in
+              let asks = outcome_kind m l p.nodes.free p.blocks.free q x place log kind (ap (λ u. line_ask m l kind p.nodes.free p.blocks.free q u) (sym event) ∙ e) in
               (word (ap loads_lock asks.0) ∙ ap (λ (u : Spot × Access). s.word u.0) (sym asks.1), load.1 ∙ ap suc back))
               here
 
@@ -144,7 +145,7 @@ module _ (m : Meaning) (l : Layout) (rs : List Request) (s s' : Sight) (r : ℕ)
       let one = (runs_of.outside_runs m l p found kind is kind).run q' now in omega (arith, one, all))
   own (Some q) is e = by (is_open_run q) refl e
     where
-      by : (b : Bool) → is_open_run q ≡ b → (if b then line_ask m l kind p.nodes.free q (next_of m q) else opening_ask kind q) ≡ Some x
+      by : (b : Bool) → is_open_run q ≡ b → (if b then line_ask m l kind p.nodes.free p.blocks.free q (next_of m q) else opening_ask kind q) ≡ Some x
           → Loaded r (if b then line_after m l kind p q (next_of m q) found else opened_more p q found)
       by true opened e = in_line q is opened e
       by false opened e = in_opening q is

@@ -39,6 +39,7 @@ use Rattle.lock_words.proofs.Facts.{used_of, unfree_of, line_of_section, code_is
 use Rattle.lock_words.proofs.Freeing.{free_or_empty, unfree_before}
 use Rattle.lock_words.proofs.Loading.{Was, loaded_before}
 use Rattle.lock_words.proofs.StaleLeaving.{IsHeldCheck, differs, not_reply}
+use Rattle.runner_facts.specs.machine_facts.specs.machine_invariant.proofs.Holding.{own_words}
 
 module _ (m : Meaning) (s : Sight) (d place free word : ℕ) where
   -- the section in this descriptor has agreed on this word as the outcome of its Take of this lock, which was expected
@@ -234,7 +235,7 @@ module _ (m : Meaning) (laws : Laws m) (l : Layout) (limits : IsWithinLimits l) 
             log = held.log;
             hold = in_section before.0 ∙ before.2;
             commit = in_section at ∙ before.3;
-            agreed = st.whole.logs.own q.descriptor held.log ∙ word;
+            agreed = own_words m l st.whole.logs q.descriptor held.log ∙ word;
           })
           (λ zero. omega (arith, some, word, zero)) in
           let equal = ap version_of same in

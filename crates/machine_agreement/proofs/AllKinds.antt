@@ -18,9 +18,9 @@ use Rattle.machine_states.specs.runner_steps.specs.Sections.{is_open_run, next_o
 use Rattle.machine_states.specs.runner_parts.specs.Tests.{has_pair}
 use Rattle.machine_states.specs.runner_steps.specs.Outside.{join_ask}
 use Rattle.machine_states.specs.runner_steps.specs.AfterInRun.{opened_more}
-use Rattle.machine_states.specs.runner_steps.specs.Asks.{opening_ask}
-use Rattle.machine_states.specs.Blockless.{outside_ask, line_ask, ask_by, asks, after, after_by, line_after}
-use Rattle.machine_states.specs.runner_steps.specs.After.{leaves, knows_also, joins as joins_after}
+use Rattle.machine_states.specs.runner_steps.specs.Asks.{outside_ask, line_ask, ask_by, asks, opening_ask, sizes_for}
+use Rattle.machine_states.specs.table_words.specs.Places.{Fits}
+use Rattle.machine_states.specs.runner_steps.specs.After.{after, after_by, line_after, leaves, knows_also, joins as joins_after}
 use Rattle.agreement_core.specs.State.{AgreementState}
 use Rattle.agreement_core.specs.Events.{Event}
 use Rattle.machine_states.specs.World.{is_join}
@@ -61,12 +61,13 @@ module _ (m : Meaning) (l : Layout) (rs : List Request) (w : AgreementState) (s 
     inside_to kind x b heads is chunk goes =
         (heads, subst (λ o. IsChunk m l w r kind p o (s.word x.0) heads) (sym at) (subst (λ c. IsInsideChunk m l w r c kind p q (s.word x.0) heads) (sym is) chunk), goes)
 
-    line_goes : (kind : EventKind) (x : Spot × Access) → is_open_run q ≡ true → AgreementIsSupplied m l w s r kind (s.word x.0) → asks m l rs r kind p ≡ Some x → line_ask m l kind p.nodes.free q (next_of m q) ≡ Some x → LineTo kind x
+    line_goes : (kind : EventKind) (x : Spot × Access) → is_open_run q ≡ true → AgreementIsSupplied m l w s r kind (s.word x.0) → asks m l rs r kind p ≡ Some x → line_ask m l kind p.nodes.free p.blocks.free q (next_of m q) ≡ Some x → LineTo kind x
     line_goes kinds.Commit x open_q u e k = loads.commit m l rs w s old r q at open_q x (λ log. u.logged q log at open_q) e
     line_goes (kinds.LoadCell None) x open_q u e k = loads.load_cell m l rs w s old r q at open_q x e (λ place log is. u.alone q place log at open_q is)
     line_goes kinds.ExchangeCell x open_q u e k = stores.exchange_cell m l rs w s old r q at open_q x e
     line_goes (kinds.PrivateLoad slot word) x open_q u e k = stores.private_load m l rs w s old r q at open_q slot word x e
-    line_goes (kinds.PrivateStore slot word number) x open_q u e k = stores.private_store m l rs w s old r q at open_q slot word number x e (u.private q slot word number at refl)
+    line_goes (kinds.PrivateStore slot word number) x open_q u e k = stores.private_store m l rs w s old r q at open_q slot word number x e (λ linked. u.private q slot word number at linked refl)
+    line_goes (kinds.LinkCommit b) x open_q u e k = stores.link_commit m l rs w s old r q at open_q b x e
     line_goes kinds.MakeCommit x open_q u e k = loads.make_commit m l rs w s old r q at open_q x (λ log. u.logged q log at open_q) e
     line_goes kinds.RetireCommit x open_q u e k = loads.retire_commit m l rs w s old r q at open_q x (λ log. u.logged q log at open_q) e
     line_goes kinds.EpochForRetire x open_q u e k = loads.epoch_load m l rs w s old r q at open_q x e
@@ -89,7 +90,7 @@ module _ (m : Meaning) (l : Layout) (rs : List Request) (w : AgreementState) (s 
 
     opens : (kind : EventKind) (a : Spot) → length q.opened < 13 → (length q.opened < 12 → s.word a ≡ s.word (spots.ThunkWord q.descriptor (length q.opened)))
         → Goes m l r [] w (record { word = put s.word a (s.word a); part = upd s.part r (noting m l r kind a Loads (s.word a) p (opened_more p q (s.word a))) })
-    opens kind a few word = descriptors.run_opens m l w s old r q (s.word a) _ at few word refl refl (noted_finished l r kind a Loads (s.word a) p.records) refl (put s.word a (s.word a)) (load_same m l s.word a)
+    opens kind a few word = descriptors.run_opens m l w s old r q (s.word a) _ at few word refl refl (noted_finished l r kind a Loads (s.word a) p.records) refl (put s.word a (s.word a)) (load_same s.word a)
 
     less : (a b : ℕ) → nat_lt a b ≡ true → a < b
     less a b e = grind (arith, nat_tests)
@@ -112,7 +113,7 @@ module _ (m : Meaning) (l : Layout) (rs : List Request) (w : AgreementState) (s 
 
     inside_goes : (kind : EventKind) (x : Spot × Access) (b : Bool) → is_open_run q ≡ b → is_join kind ≡ false → AgreementIsSupplied m l w s r kind (s.word x.0) → asks m l rs r kind p ≡ Some x → To kind x
     inside_goes kind x true is j u e = let to = line_goes kind x is u e (asked.line_asked m l rs r kind p q x e at is) in inside_to kind x true to.0 is to.1 to.2
-    inside_goes kind x false is j u e = opening_goes kind x is j (ap (λ b. if b then line_ask m l kind p.nodes.free q (next_of m q) else opening_ask kind q) (sym is) ∙ asked.inside_asked m l rs r kind p q x e at)
+    inside_goes kind x false is j u e = opening_goes kind x is j (ap (λ b. if b then line_ask m l kind p.nodes.free p.blocks.free q (next_of m q) else opening_ask kind q) (sym is) ∙ asked.inside_asked m l rs r kind p q x e at)
 
   -- the steps of a runner in no run
   module _ (none : p.run ≡ None) where
@@ -124,33 +125,33 @@ module _ (m : Meaning) (l : Layout) (rs : List Request) (w : AgreementState) (s 
       subst (λ (y : PartState). Goes m l r to.0 w (record { word = put s.word x.0 (written x.1 (s.word x.0)); part = upd s.part r y })) (sym (after_outside m l r kind x p (s.word x.0) none)) to.2,
     )
 
-    outside_goes : (kind : EventKind) (x : Spot × Access) → is_join kind ≡ false → AgreementIsSupplied m l w s r kind (s.word x.0) → outside_ask m l rs r kind p ≡ Some x → outside.To m l rs w s old r none kind x
-    outside_goes kinds.EnterLoad x j u e = outside.enter_load m l rs w s old r none x e
-    outside_goes kinds.Announce x j u e = outside.announce m l rs w s old r none x e
-    outside_goes kinds.EnterAgain x j u e = outside.enter_again m l rs w s old r none x e
-    outside_goes kinds.Idle x j u e = outside.exit m l rs w s old r none x e
-    outside_goes kinds.ScanEpoch x j u e = outside.scan_epoch m l rs w s old r none x e
-    outside_goes (kinds.ScanOne n) x j u e = outside.scan_one m l rs w s old r none n x e
-    outside_goes kinds.Advance x j u e = outside.advance m l rs w s old r none x e
-    outside_goes kinds.Split x j u e = outside.split m l rs w s old r none x e
-    outside_goes (kinds.Join worker) x j u e = absurd (let y = j in cc)
-    outside_goes (kinds.LoadCell (Some place)) x j u e = outside.load_cell m l rs w s old r none place x e
-    outside_goes (kinds.LoadEntry request reply) x j u e = outside.load_entry m l rs w s old r none request reply x e
-    outside_goes (kinds.PrivateLoad slot word) x j u e = outside.private_load m l rs w s old r none slot word x e
-    outside_goes (kinds.PrivateStore slot word number) x j u e = outside.private_store m l rs w s old r none slot word number x e u.unused
-    outside_goes (kinds.Hold thunk d) x j u e = let h = asked_outside.hold_asked m l rs r thunk d p x e in
+    outside_goes : (kind : EventKind) (x : Spot × Access) → Fits (sizes_for m l rs) x.0 → is_join kind ≡ false → AgreementIsSupplied m l w s r kind (s.word x.0) → outside_ask m l rs r kind p ≡ Some x → outside.To m l rs w s old r none kind x
+    outside_goes kinds.EnterLoad x fits j u e = outside.enter_load m l rs w s old r none x e
+    outside_goes kinds.Announce x fits j u e = outside.announce m l rs w s old r none x e
+    outside_goes kinds.EnterAgain x fits j u e = outside.enter_again m l rs w s old r none x e
+    outside_goes kinds.Idle x fits j u e = outside.exit m l rs w s old r none x e
+    outside_goes kinds.ScanEpoch x fits j u e = outside.scan_epoch m l rs w s old r none x e
+    outside_goes (kinds.ScanOne n) x fits j u e = outside.scan_one m l rs w s old r none n x e
+    outside_goes kinds.Advance x fits j u e = outside.advance m l rs w s old r none x e
+    outside_goes kinds.Split x fits j u e = outside.split m l rs w s old r none x e
+    outside_goes (kinds.Join worker) x fits j u e = absurd (let y = j in cc)
+    outside_goes (kinds.LoadCell (Some place)) x fits j u e = outside.load_cell m l rs w s old r none place x e
+    outside_goes (kinds.LoadEntry request reply) x fits j u e = outside.load_entry m l rs w s old r none request reply x e
+    outside_goes (kinds.PrivateLoad slot word) x fits j u e = outside.private_load m l rs w s old r none slot word x e
+    outside_goes (kinds.PrivateStore slot word number) x fits j u e = outside.private_store m l rs w s old r none slot word number x fits e u.unused
+    outside_goes (kinds.Hold thunk d) x fits j u e = let h = asked_outside.hold_asked m l rs r thunk d p x e in
         outside.hold_kind m l rs w s old r none thunk d x e u.unused (λ same. u.publishes thunk d refl none (ap (λ (y : Spot × Access). s.word y.0) (sym h.is) ∙ same))
-    outside_goes (kinds.LoadThunk (Some d)) x j u e = outside.load_thunk m l rs w s old r none d x e (u.used d refl)
-    outside_goes (kinds.ReadPlan thunk) x j u e = outside.read_plan m l rs w s old r none thunk x e
-    outside_goes kinds.ReadClock x j u e = outside.read_clock m l rs w s old r none x e
-    outside_goes kinds.ReadReply x j u e = outside.read_reply m l rs w s old r none x e
-    outside_goes kinds.ReadStamp x j u e = outside.read_stamp m l rs w s old r none x e
-    outside_goes (kinds.Guard d) x j u e = outside.guard m l rs w s old r none d x e
-    outside_goes (kinds.LoadGuard n) x j u e = outside.load_guard m l rs w s old r none n x e (λ last d is. u.idle n d refl last is)
-    outside_goes (kinds.BoardLoad word) x j u e = outside.board_load m l rs w s old r none word x e
-    outside_goes (kinds.BoardTake word link) x j u e = outside.board_take m l rs w s old r none word link x e
-    outside_goes (kinds.BoardGive word slot) x j u e = outside.board_give m l rs w s old r none word slot x e
-    outside_goes _ x j u e = some_none x e
+    outside_goes (kinds.LoadThunk (Some d)) x fits j u e = outside.load_thunk m l rs w s old r none d x e (u.used d refl)
+    outside_goes (kinds.ReadPlan thunk) x fits j u e = outside.read_plan m l rs w s old r none thunk x e
+    outside_goes kinds.ReadClock x fits j u e = outside.read_clock m l rs w s old r none x e
+    outside_goes kinds.ReadReply x fits j u e = outside.read_reply m l rs w s old r none x e
+    outside_goes kinds.ReadStamp x fits j u e = outside.read_stamp m l rs w s old r none x e
+    outside_goes (kinds.Guard d) x fits j u e = outside.guard m l rs w s old r none d x e
+    outside_goes (kinds.LoadGuard n) x fits j u e = outside.load_guard m l rs w s old r none n x e (λ last d is. u.idle n d refl last is)
+    outside_goes (kinds.BoardLoad word) x fits j u e = outside.board_load m l rs w s old r none word x e
+    outside_goes (kinds.BoardTake word link) x fits j u e = outside.board_take m l rs w s old r none word link x e
+    outside_goes (kinds.BoardGive word slot) x fits j u e = outside.board_give m l rs w s old r none word slot x e
+    outside_goes _ x fits j u e = some_none x e
 
     -- a join: the keeper takes over what the worker knew, and the worker makes no further step
     join_goes : (worker : ℕ) (x : Spot × Access) → worker ≢ r → join_ask l r worker p ≡ Some x → To (kinds.Join worker) x
@@ -164,7 +165,7 @@ module _ (m : Meaning) (l : Layout) (rs : List Request) (w : AgreementState) (s 
             let p1 = after m l r (kinds.Join worker) spots.Seat Loads p (s.word spots.Seat) in
             let known = knows_also p1 (s.part worker) in
             let same : p1 ≡ noting m l r (kinds.Join worker) spots.Seat Loads (s.word spots.Seat) p (joins_after p worker) = after_outside m l r (kinds.Join worker) (spots.Seat, Loads) p (s.word spots.Seat) none in
-            let one = quiet_joined m l w s old r word' known (load_same m l s.word spots.Seat)
+            let one = quiet_joined m l w s old r word' known (load_same s.word spots.Seat)
             (record {
               run = ap (λ (y : PartState). y.run) same;
               finished = ap (λ (z : PartState). z.records.finished) same ∙ noted_finished l r (kinds.Join worker) spots.Seat Loads (s.word spots.Seat) ((joins_after p worker).records);
@@ -183,14 +184,14 @@ module _ (m : Meaning) (l : Layout) (rs : List Request) (w : AgreementState) (s 
 
   -- the step by whether the runner is in a run
   by_run : (kind : EventKind) (x : Spot × Access) → is_join kind ≡ false → AgreementIsSupplied m l w s r kind (s.word x.0) → asks m l rs r kind p ≡ Some x → (o : Option RunState) → p.run ≡ o → To kind x
-  by_run kind x j u e None none = outside_to none kind x j (outside_goes none kind x j u (ap (ask_by m l rs r kind p) (sym none) ∙ (unless_gone _ p.gone _ x e).1))
+  by_run kind x j u e None none = let ask = unless_gone (sizes_for m l rs) p.gone _ x e in outside_to none kind x j (outside_goes none kind x ask.2 j u (ap (ask_by m l rs r kind p) (sym none) ∙ ask.1))
   by_run kind x j u e (Some q) at = inside_goes q at kind x (is_open_run q) refl j u e
 
   join_by : (worker : ℕ) (x : Spot × Access) → worker ≢ r → (o : Option RunState) → p.run ≡ o → ask_by m l rs r (kinds.Join worker) p o ≡ Some x → To (kinds.Join worker) x
   join_by worker x other None none e = join_goes none worker x other e
   join_by worker x other (Some q) at e = no_join (is_open_run q) e
     where
-      no_join : (b : Bool) → (if b then line_ask m l (kinds.Join worker) p.nodes.free q (next_of m q) else opening_ask (kinds.Join worker) q) ≡ Some x → To (kinds.Join worker) x
+      no_join : (b : Bool) → (if b then line_ask m l (kinds.Join worker) p.nodes.free p.blocks.free q (next_of m q) else opening_ask (kinds.Join worker) q) ≡ Some x → To (kinds.Join worker) x
       no_join true e = some_none x e
       no_join false e = some_none x e
 

@@ -148,7 +148,7 @@ module _ (m : Meaning) (l : Layout) (w : AgreementState) (s : Sight) (old : IsJo
 
   -- a run begins with the first word of a published descriptor
   pub run_begins : (d : ℕ) (p' : PartState) → (s.part r).run ≡ None → w.used d ≡ true → p'.run ≡ Some (opened d (s.word (spots.ThunkWord d 0))) → p'.published ≡ (s.part r).published
-      → p'.records.finished ≡ (s.part r).records.finished → p'.reads ≡ (s.part r).reads → (word' : Spot → ℕ) → SameWords m l s.word word' → Goes m l r (events.Open r d ∷ []) w (record { word = word'; part = table.upd s.part r p' })
+      → p'.records.finished ≡ (s.part r).records.finished → p'.reads ≡ (s.part r).reads → (word' : Spot → ℕ) → SameWords s.word word' → Goes m l r (events.Open r d ∷ []) w (record { word = word'; part = table.upd s.part r p' })
   run_begins d p' none used run published records reads_same word' words =
       let w1 = events.after w (events.Open r d) in
       let first = opened d (s.word (spots.ThunkWord d 0)) in
@@ -183,7 +183,7 @@ module _ (m : Meaning) (l : Layout) (w : AgreementState) (s : Sight) (old : IsJo
   -- a run loads one more of its words
   pub run_opens : (q : RunState) (found : ℕ) (p' : PartState) → (s.part r).run ≡ Some q → length q.opened < 13 → (length q.opened < 12 → found ≡ s.word (spots.ThunkWord q.descriptor (length q.opened)))
       → p'.run ≡ Some (record q { opened = q.opened ++ found ∷ [] }) → p'.published ≡ (s.part r).published → p'.records.finished ≡ (s.part r).records.finished → p'.reads ≡ (s.part r).reads
-      → (word' : Spot → ℕ) → SameWords m l s.word word' → Goes m l r [] w (record { word = word'; part = table.upd s.part r p' })
+      → (word' : Spot → ℕ) → SameWords s.word word' → Goes m l r [] w (record { word = word'; part = table.upd s.part r p' })
   run_opens q found p' is low word run published records reads_same word' words =
       let q1 : RunState = record q { opened = q.opened ++ found ∷ [] } in
       let here : IsRunOf (w.run r) q = places.run_here m l w s old r q is in
@@ -248,7 +248,7 @@ module _ (m : Meaning) (l : Layout) (w : AgreementState) (s : Sight) (old : IsJo
 
   -- a section is published: the outer lock stood free with the thunk's word, and names the descriptor from now on
   module _ (d : ℕ) (t : Thunk) (p' : PartState) (none : (s.part r).run ≡ None) (unused : w.used d ≡ false) (found : s.word (spots.Cell t.lock) ≡ t.word) (words_of : thunk_in s.word d ≡ t)
-      (line_of_t : IsPublishable c d t.lock t.word (micro_at (line (m.body t))) (committed (line (m.body t)))) (undone : s.word (spots.DoneWord d) ≡ 0) (unlogged : (k : ℕ) → (w.section d).log k ≡ 0)
+      (line_of_t : IsPublishable c d t.lock t.word (micro_at (line (m.body t))) (committed (line (m.body t)))) (undone : s.word (spots.DoneWord d) ≡ 0)
       (run : p'.run ≡ None) (records : p'.records.finished ≡ (s.part r).records.finished)
       (cells : p'.reads.cells ≡ (s.part r).reads.cells ++ (t.lock, s.word (spots.Cell t.lock)) ∷ []) where
     abbrev word' : Spot → ℕ
@@ -264,12 +264,12 @@ module _ (m : Meaning) (l : Layout) (w : AgreementState) (s : Sight) (old : IsJo
     w1 = events.after w0 publish
 
     abbrev section1 : Section
-    section1 = record (w.section d) { lock = t.lock; word = t.word; request = t.request; code = micro_at (line (m.body t)); slot = committed (line (m.body t)); edge = 0 }
+    section1 = record (w.section d) { lock = t.lock; word = t.word; request = t.request; code = micro_at (line (m.body t)); slot = committed (line (m.body t)); log = λ k. 0; edge = 0 }
 
     leads : LeadBy m l (events.Read t.lock ∷ publish ∷ []) w w1
     leads = record {
       there = refl;
-      enabled = (tt, ((unused, old.words.cells t.lock ∙ found, line_of_t, (old.sections d).done ∙ undone, unlogged), tt));
+      enabled = (tt, ((unused, old.words.cells t.lock ∙ found, line_of_t, (old.sections d).done ∙ undone), tt));
     }
 
     pub publishes : Goes m l r (events.Read t.lock ∷ publish ∷ []) w (record { word = word'; part = table.upd s.part r p' })

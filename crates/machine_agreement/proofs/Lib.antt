@@ -10,7 +10,9 @@ pub mod Stores
 pub mod Endings
 pub mod Ends
 pub mod Releases
+pub mod Words
 pub mod Outside
+pub mod Linking
 pub mod Descriptors
 pub mod Freeing
 pub mod OutsideKinds

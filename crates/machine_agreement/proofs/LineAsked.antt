@@ -1,5 +1,5 @@
 -- What it says of a run that an event of its line is enabled.
-use Rattle.std.specs.Prelude.{◌==◌, ◌&&◌, ◌/◌, ◌^◌, Bool, true, nat_lt, slice_index, if◌then◌else◌}
+use Rattle.std.specs.Prelude.{◌==◌, ◌&&◌, ◌/◌, ◌^◌, Bool, true, nat_lt, slice_index, if◌then◌else◌, false, ◌-◌, length}
 use Rattle.std.proofs.Common.{◌≡◌, ℕ, ◌+◌, List, sym, refl, ap, ◌∙◌, arith, inl, inr, Option, Some, None}
 use Rattle.std.specs.Prelude.{◌⊎◌}
 use Rattle.std.proofs.lemmas.Bool.Decides.{nat_tests}
@@ -18,24 +18,31 @@ use Rattle.machine_states.specs.table_words.specs.declared.access.Access.TheVari
 use Rattle.machine_states.specs.structure_laws.specs.Meaning.{Meaning}
 use Rattle.machine_states.specs.runner_parts.specs.declared.event.EventKind.{EventKind}
 use Rattle.machine_states.specs.runner_parts.specs.State.{RunState, PartState}
-use Rattle.machine_states.specs.runner_steps.specs.Sections.{thunk_of, is_open_run, next_of}
-use Rattle.machine_states.specs.runner_steps.specs.InRun.{load_cell_ask, exchange_cell_ask, fill_load_ask, fill_store_ask, epoch_for_retire_ask, clock_load_ask, stamp_exchange_ask, clock_raise_ask, reply_exchange_ask, nested_load_ask, nested_hold_ask, outcome_load_ask, set_done_ask, release_ask, can_raise, stamp_after, is_slot, make_slot}
-use Rattle.machine_states.specs.Blockless.{commit_ask, make_commit_ask, make_commit_to, retire_commit_ask, outcome_commit_ask, asks, ask_by, line_ask, inside_ask}
-use Rattle.machine_states.specs.runner_steps.specs.Asks.{opening_ask}
+use Rattle.machine_states.specs.runner_steps.specs.Sections.{thunk_of, is_open_run, next_of, is_beyond, needs_link}
+use Rattle.machine_states.specs.runner_steps.specs.InRun.{commit_ask, commit_to, make_commit_ask, make_commit_to, retire_commit_ask, outcome_commit_ask, private_store_in_run_ask, link_commit_ask, load_cell_ask, exchange_cell_ask, fill_load_ask, fill_store_ask, epoch_for_retire_ask, clock_load_ask, stamp_exchange_ask, clock_raise_ask, reply_exchange_ask, nested_load_ask, nested_hold_ask, outcome_load_ask, set_done_ask, release_ask, can_raise, stamp_after, is_slot, make_slot}
+use Rattle.machine_states.specs.runner_parts.specs.block_words.specs.Blocks.{link_spot, log_spot}
+use Rattle.machine_states.specs.epoch_core.specs.small_lemmas.proofs.Bools.{negated as not_so}
+use Rattle.machine_states.specs.runner_steps.specs.Outside.{block_spot, blocks_from}
+use Rattle.machine_states.specs.runner_steps.specs.Asks.{asks, ask_by, line_ask, inside_ask, opening_ask}
 use Rattle.machine_states.proofs.Sights.{if_some, some_none, unless_gone}
 use Rattle.machine_states.proofs.Steps.{some_same}
+use Rattle.machine_epochs.proofs.InsideAsked as epochs
 
 module _ (q : RunState) (x : Spot × Access) where
   abbrev logs : ℕ → ℕ → Spot × Access
-  logs k proposal = (spots.LogWord q.descriptor k, Exchanges 0 proposal)
+  logs k proposal = (log_spot q.descriptor q.links k, Exchanges 0 proposal)
 
-  pub commit_asked : (micro : Micro) → commit_ask q micro ≡ Some x → (p k : ℕ) × ((micro ≡ micros.Commit p k) ⊎ (micro ≡ micros.NestedCommit p k)) × (logs k q.word ≡ x)
-  commit_asked (micros.Commit p k) e = (p, k, inl refl, some_same _ _ e)
-  commit_asked (micros.NestedCommit p k) e = (p, k, inr refl, some_same _ _ e)
+  -- a commit is one at a place in a part that is linked
+  at_log : (k proposal : ℕ) → commit_to q k proposal ≡ Some x → (is_beyond q (Some k) ≡ false) × (logs k proposal ≡ x)
+  at_log k proposal e = let h = if_some _ _ x e in (not_so _ h.0, h.1)
+
+  pub commit_asked : (micro : Micro) → commit_ask q micro ≡ Some x → (p k : ℕ) × ((micro ≡ micros.Commit p k) ⊎ (micro ≡ micros.NestedCommit p k)) × (is_beyond q (Some k) ≡ false) × (logs k q.word ≡ x)
+  commit_asked (micros.Commit p k) e = let h = at_log k q.word e in (p, k, inl refl, h.0, h.1)
+  commit_asked (micros.NestedCommit p k) e = let h = at_log k q.word e in (p, k, inr refl, h.0, h.1)
   commit_asked _ e = some_none x e
 
-  pub outcome_commit_asked : (micro : Micro) → outcome_commit_ask q micro ≡ Some x → (p k : ℕ) × (micro ≡ micros.OutcomeCommit p k) × (logs k q.word ≡ x)
-  outcome_commit_asked (micros.OutcomeCommit p k) e = (p, k, refl, some_same _ _ e)
+  pub outcome_commit_asked : (micro : Micro) → outcome_commit_ask q micro ≡ Some x → (p k : ℕ) × (micro ≡ micros.OutcomeCommit p k) × (is_beyond q (Some k) ≡ false) × (logs k q.word ≡ x)
+  outcome_commit_asked (micros.OutcomeCommit p k) e = let h = at_log k q.word e in (p, k, refl, h.0, h.1)
   outcome_commit_asked _ e = some_none x e
 
   pub load_cell_asked : (micro : Micro) → load_cell_ask q micro ≡ Some x → (p k : ℕ) × (micro ≡ micros.LoadCell p k) × ((spots.Cell p, Loads) ≡ x)
@@ -81,16 +88,24 @@ module _ (q : RunState) (x : Spot × Access) where
       five a b word cell d number n e = grind (arith, nat_tests)
   fill_store_asked m l slot word number _ e = some_none x e
 
-  pub make_commit_asked : (micro : Micro) → make_commit_ask q micro ≡ Some x → (k slot : ℕ) × (micro ≡ micros.MakeCommit k) × (q.made ≡ Some slot) × (logs k (slot + 1) ≡ x)
-  make_commit_asked (micros.MakeCommit k) e = let h = by k q.made refl e in (k, h.0, refl, h.1, h.2)
+  -- before a commit behind its blocks a run stores into a block, and otherwise into the cells of a Make
+  pub run_store_asked : (m : Meaning) (l : Layout) (slot word number : ℕ) (blocks : List ℕ) (micro : Micro) → private_store_in_run_ask m l slot word number blocks q micro ≡ Some x
+      → ((needs_link q micro ≡ true) × ((block_spot (slot - blocks_from m l) word, Stores number) ≡ x)) ⊎ ((needs_link q micro ≡ false) × (fill_store_ask m l slot word number q micro ≡ Some x))
+  run_store_asked m l slot word number blocks micro e = epochs.run_store_asked q x m l slot word number blocks micro e
+
+  pub link_asked : (l : Layout) (b : ℕ) (micro : Micro) → link_commit_ask l b q micro ≡ Some x → (link_spot q.descriptor q.links (length q.links), Exchanges 0 (b + 1)) ≡ x
+  link_asked l b micro e = epochs.link_asked q x l b micro e
+
+  pub make_commit_asked : (micro : Micro) → make_commit_ask q micro ≡ Some x → (k slot : ℕ) × (micro ≡ micros.MakeCommit k) × (q.made ≡ Some slot) × (is_beyond q (Some k) ≡ false) × (logs k (slot + 1) ≡ x)
+  make_commit_asked (micros.MakeCommit k) e = let h = by k q.made refl e in (k, h.0, refl, h.1, h.2, h.3)
     where
-      by : (k : ℕ) (made : Option ℕ) → q.made ≡ made → make_commit_to q k made ≡ Some x → (slot : ℕ) × (q.made ≡ Some slot) × (logs k (slot + 1) ≡ x)
+      by : (k : ℕ) (made : Option ℕ) → q.made ≡ made → make_commit_to q k made ≡ Some x → (slot : ℕ) × (q.made ≡ Some slot) × (is_beyond q (Some k) ≡ false) × (logs k (slot + 1) ≡ x)
       by k None is e = some_none x e
-      by k (Some slot) is e = (slot, is, some_same _ _ e)
+      by k (Some slot) is e = let h = at_log k (slot + 1) e in (slot, is, h.0, h.1)
   make_commit_asked _ e = some_none x e
 
-  pub retire_commit_asked : (micro : Micro) → retire_commit_ask q micro ≡ Some x → (slot k : ℕ) × (micro ≡ micros.RetireCommit slot k) × (logs k (slot + 1) ≡ x)
-  retire_commit_asked (micros.RetireCommit slot k) e = (slot, k, refl, some_same _ _ e)
+  pub retire_commit_asked : (micro : Micro) → retire_commit_ask q micro ≡ Some x → (slot k : ℕ) × (micro ≡ micros.RetireCommit slot k) × (is_beyond q (Some k) ≡ false) × (logs k (slot + 1) ≡ x)
+  retire_commit_asked (micros.RetireCommit slot k) e = let h = at_log k (slot + 1) e in (slot, k, refl, h.0, h.1)
   retire_commit_asked _ e = some_none x e
 
   pub epoch_asked : (micro : Micro) → epoch_for_retire_ask q micro ≡ Some x → (slot k : ℕ) × (micro ≡ micros.EpochForRetire slot k) × ((spots.Epoch, Loads) ≡ x)
@@ -125,9 +140,9 @@ module _ (q : RunState) (x : Spot × Access) where
 
 -- an enabled event of an open run is one of its line, and one of a run that isn't open loads its words
 module _ (m : Meaning) (l : Layout) (rs : List Request) where
-  pub inside_asked : (r : ℕ) (kind : EventKind) (p : PartState) (q : RunState) (x : Spot × Access) → asks m l rs r kind p ≡ Some x → p.run ≡ Some q → inside_ask m l kind p.nodes.free q ≡ Some x
+  pub inside_asked : (r : ℕ) (kind : EventKind) (p : PartState) (q : RunState) (x : Spot × Access) → asks m l rs r kind p ≡ Some x → p.run ≡ Some q → inside_ask m l kind p.nodes.free p.blocks.free q ≡ Some x
   inside_asked r kind p q x e run = ap (ask_by m l rs r kind p) (sym run) ∙ (unless_gone _ p.gone _ x e).1
 
-  pub line_asked : (r : ℕ) (kind : EventKind) (p : PartState) (q : RunState) (x : Spot × Access) → asks m l rs r kind p ≡ Some x → p.run ≡ Some q → is_open_run q ≡ true → line_ask m l kind p.nodes.free q (next_of m q) ≡ Some x
+  pub line_asked : (r : ℕ) (kind : EventKind) (p : PartState) (q : RunState) (x : Spot × Access) → asks m l rs r kind p ≡ Some x → p.run ≡ Some q → is_open_run q ≡ true → line_ask m l kind p.nodes.free p.blocks.free q (next_of m q) ≡ Some x
   line_asked r kind p q x e run opened =
-      ap (λ b. if b then line_ask m l kind p.nodes.free q (next_of m q) else opening_ask kind q) (sym opened) ∙ inside_asked r kind p q x e run
+      ap (λ b. if b then line_ask m l kind p.nodes.free p.blocks.free q (next_of m q) else opening_ask kind q) (sym opened) ∙ inside_asked r kind p q x e run

@@ -21,7 +21,8 @@ use Rattle.machine_states.specs.runner_steps.specs.AfterInRun.{opened_more}
 use Rattle.machine_states.specs.runner_steps.specs.After.{noted}
 use Rattle.machine_states.specs.runner_steps.specs.Blocks.{blocks_after}
 use Rattle.machine_states.specs.runner_steps.specs.Board.{board_after}
-use Rattle.machine_states.specs.Blockless.{after, after_by, line_after}
+use Rattle.machine_states.specs.runner_steps.specs.After.{after, after_by, line_after}
+use Rattle.machine_states.specs.runner_parts.specs.block_words.specs.Blocks.{log_spot}
 use Rattle.agreement_core.specs.State.{CellRules, AgreementState, section_of}
 use Rattle.agreement_core.specs.Events as events
 use Rattle.agreement_core.specs.Events.{IsBefore, IsAlone, goes_on, agrees, with_cell, reads}
@@ -35,6 +36,7 @@ use Rattle.machine_agreement.proofs.Frames.{IsOwnStep, IsOwnPart}
 use Rattle.machine_agreement.proofs.Components.{own_then, goes_on_own, goes_on_run, goes_on_sections, agrees_own, agrees_run, agrees_sections, reads_own, reads_more}
 use Rattle.machine_agreement.specs.Goes.{Goes}
 use Rattle.machine_agreement.proofs.Assembly.{LeadBy, ThunksStay, line_goes}
+use Rattle.machine_agreement.proofs.Words.{SameWords, shows_same, log_same}
 
 -- what is noted of a step keeps what came to its end
 pub noted_finished : (l : Layout) (r : ℕ) (kind : EventKind) (spot : Spot) (access : Access) (n : ℕ) (s : RecordsState) → (noted l r kind spot access n s).finished ≡ s.finished
@@ -141,10 +143,13 @@ module _ (m : Meaning) (l : Layout) where
 
     -- a word is committed by a step of the run
     module _ (kind : EventKind) (k proposal number : ℕ) (micro : Micro) (e : events.Event) (next : next_of m q ≡ micro) (event : is_event micro ≡ true) (inner : is_of_end micro ≡ false)
-        (is_commit : events.after w e ≡ agrees w r k proposal) (same : proposal ≡ number) (logged : (w.section q.descriptor).log k ≡ s.word (spots.LogWord q.descriptor k))
+        (is_commit : events.after w e ≡ agrees w r k proposal) (same : proposal ≡ number) (logged : (w.section q.descriptor).log k ≡ s.word (log_spot q.descriptor q.links k))
         (enabled : events.Enabled c w e) where
       abbrev log : Spot
-      log = spots.LogWord q.descriptor k
+      log = log_spot q.descriptor q.links k
+
+      log_words : SameWords s.word (word_after (log, Exchanges 0 number))
+      log_words = log_same s.word _ q.descriptor q.links k
 
       abbrev agreed : ℕ
       agreed = written_once (s.word log) number
@@ -153,7 +158,7 @@ module _ (m : Meaning) (l : Layout) where
       agreed_same = ap (λ d. written_once ((w.section d).log k) proposal) own_descriptor ∙ (ap (λ n. written_once n proposal) logged ∙ ap (written_once (s.word log)) same)
 
       commit_sections : (d : ℕ) → ShowsSection ((agrees w r k proposal).section d) (word_after (log, Exchanges 0 number)) d
-      commit_sections = agrees_sections w r k proposal s.word (word_after (log, Exchanges 0 number)) (λ i. refl) old.sections
+      commit_sections = agrees_sections w r k proposal s.word (word_after (log, Exchanges 0 number)) log_words.done old.sections
 
       pub commit_goes : (q1 : RunState) → q1.descriptor ≡ q.descriptor → q1.at ≡ q.at + 1 → q1.word ≡ q.word → q1.trail ≡ q.trail ++ agreed ∷ [] → q1.ended ≡ q.ended → q1.opened ≡ q.opened
           → IsOwnPart m l (s.part r) (line_after m l kind (s.part r) q micro (s.word log)) q1
@@ -162,5 +167,5 @@ module _ (m : Meaning) (l : Layout) where
       commit_goes q1 d a n t ended o own cells = step_goes (e ∷ []) kind (log, Exchanges 0 number) micro q1 (agrees w r k proposal) next event inner
           (subst (LeadBy m l (e ∷ []) w) is_commit (one e enabled)) (agrees_own w r k proposal)
           (agrees_run w r q q1 k proposal agreed (places.run_here m l w s old r q is) agreed_same d a n t ended) ended d o own
-          (let x = old.words in record { cells = x.cells; clock = x.clock; stamp = x.stamp; reply = x.reply }) commit_sections (λ d j. refl)
+          (let x = shows_same w.shared s.word (word_after (log, Exchanges 0 number)) log_words old.words in record { cells = x.cells; clock = x.clock; stamp = x.stamp; reply = x.reply }) commit_sections log_words.thunks
           (λ place found has. (old.tied r).read place found (subst (λ xs. has_pair xs place found ≡ true) cells has))

@@ -14,8 +14,10 @@ use Rattle.machine_states.specs.structure_laws.specs.Meaning.{Meaning}
 use Rattle.machine_states.specs.runner_parts.specs.declared.event.EventKind.{EventKind}
 use Rattle.machine_states.specs.runner_parts.specs.declared.event.EventKind.TheVariants as kinds
 use Rattle.machine_states.specs.runner_parts.specs.State.{RunState, PartState}
-use Rattle.machine_states.specs.runner_steps.specs.Sections.{is_open_run, next_of, commits_to}
-use Rattle.machine_states.specs.Blockless.{asks, line_after}
+use Rattle.machine_states.specs.runner_steps.specs.Sections.{is_open_run, next_of, commits_to, needs_link}
+use Rattle.machine_states.specs.runner_steps.specs.Asks.{asks}
+use Rattle.machine_states.specs.runner_steps.specs.After.{line_after}
+use Rattle.machine_states.specs.runner_parts.specs.block_words.specs.Blocks.{log_spot}
 use Rattle.machine_states.specs.runner_steps.specs.AfterInRun.{make_committed}
 use Rattle.agreement_core.specs.State.{AgreementState, section_of}
 use Rattle.agreement_core.specs.Events as events
@@ -94,55 +96,55 @@ module _ (m : Meaning) (l : Layout) (rs : List Request) (w : AgreementState) (s 
 
   -- a commit on this word finds what the section's log has there
   abbrev FindsLog : Spot × Access → Type 0
-  FindsLog x = (k : ℕ) → commits_to (next_of m q) ≡ Some k → (w.section q.descriptor).log k ≡ s.word x.0
+  FindsLog x = (k : ℕ) → commits_to (next_of m q) ≡ Some k → needs_link q (next_of m q) ≡ false → (w.section q.descriptor).log k ≡ s.word x.0
 
-  logged_at : (x : Spot × Access) (micro : Micro) (k number : ℕ) → FindsLog x → next_of m q ≡ micro → commits_to micro ≡ Some k → (spots.LogWord q.descriptor k, Exchanges 0 number) ≡ x
-      → (w.section q.descriptor).log k ≡ s.word (spots.LogWord q.descriptor k)
-  logged_at x micro k number finds next there is_word = finds k (ap commits_to next ∙ there) ∙ ap (λ (y : Spot × Access). s.word y.0) (sym is_word)
+  logged_at : (x : Spot × Access) (micro : Micro) (k number : ℕ) → FindsLog x → next_of m q ≡ micro → commits_to micro ≡ Some k → needs_link q micro ≡ false → (log_spot q.descriptor q.links k, Exchanges 0 number) ≡ x
+      → (w.section q.descriptor).log k ≡ s.word (log_spot q.descriptor q.links k)
+  logged_at x micro k number finds next there linked is_word = finds k (ap commits_to next ∙ there) (ap (needs_link q) next ∙ linked) ∙ ap (λ (y : Spot × Access). s.word y.0) (sym is_word)
 
   pub commit : (x : Spot × Access) → FindsLog x → asks m l rs r kinds.Commit (s.part r) ≡ Some x → After kinds.Commit x
   commit x finds e =
       let h = asked.commit_asked q x (next_of m q) (asked.line_asked m l rs r kinds.Commit (s.part r) q x e is opened) in
-      subst (After kinds.Commit) h.3 (⊎_elim
+      subst (After kinds.Commit) h.4 (⊎_elim
       (λ word. (
         events.Commit r h.0 h.1 ∷ [],
         (h.0, h.1, inl (word, refl)),
         commit_goes m l rs w s old r q is opened kinds.Commit h.1 ((w.run r).word) q.word (micros.Commit h.0 h.1) (events.Commit r h.0 h.1) word refl refl refl own_word
-            (logged_at x (micros.Commit h.0 h.1) h.1 q.word finds word refl h.3)
+            (logged_at x (micros.Commit h.0 h.1) h.1 q.word finds word refl h.3 h.4)
             (before (micros.Commit h.0 h.1) refl refl word)
-            (record q { at = q.at + 1; trail = q.trail ++ written_once (s.word (spots.LogWord q.descriptor h.1)) q.word ∷ [] }) refl refl refl refl refl refl (record { run = refl; published = refl; finished = refl }) refl,
+            (record q { at = q.at + 1; trail = q.trail ++ written_once (s.word (log_spot q.descriptor q.links h.1)) q.word ∷ [] }) refl refl refl refl refl refl (record { run = refl; published = refl; finished = refl }) refl,
       ))
       (λ lock. (
         events.NestedCommit r h.0 h.1 ∷ [],
         (h.0, h.1, inr (lock, refl)),
         commit_goes m l rs w s old r q is opened kinds.Commit h.1 ((w.run r).word) q.word (micros.NestedCommit h.0 h.1) (events.NestedCommit r h.0 h.1) lock refl refl refl own_word
-            (logged_at x (micros.NestedCommit h.0 h.1) h.1 q.word finds lock refl h.3)
+            (logged_at x (micros.NestedCommit h.0 h.1) h.1 q.word finds lock refl h.3 h.4)
             (before (micros.NestedCommit h.0 h.1) refl refl lock)
-            (record q { at = q.at + 1; trail = q.trail ++ written_once (s.word (spots.LogWord q.descriptor h.1)) q.word ∷ [] }) refl refl refl refl refl refl (record { run = refl; published = refl; finished = refl }) refl,
+            (record q { at = q.at + 1; trail = q.trail ++ written_once (s.word (log_spot q.descriptor q.links h.1)) q.word ∷ [] }) refl refl refl refl refl refl (record { run = refl; published = refl; finished = refl }) refl,
       )) h.2)
 
   pub outcome_commit : (x : Spot × Access) → FindsLog x → asks m l rs r kinds.OutcomeCommit (s.part r) ≡ Some x → After kinds.OutcomeCommit x
   outcome_commit x finds e =
       let h = asked.outcome_commit_asked q x (next_of m q) (asked.line_asked m l rs r kinds.OutcomeCommit (s.part r) q x e is opened) in
-      subst (After kinds.OutcomeCommit) h.3 (
+      subst (After kinds.OutcomeCommit) h.4 (
         events.OutcomeCommit r h.0 h.1 ∷ [],
         (h.0, h.1, h.2, refl),
         commit_goes m l rs w s old r q is opened kinds.OutcomeCommit h.1 ((w.run r).word) q.word (micros.OutcomeCommit h.0 h.1) (events.OutcomeCommit r h.0 h.1) h.2 refl refl refl own_word
-            (logged_at x (micros.OutcomeCommit h.0 h.1) h.1 q.word finds h.2 refl h.3)
+            (logged_at x (micros.OutcomeCommit h.0 h.1) h.1 q.word finds h.2 refl h.3 h.4)
             (before (micros.OutcomeCommit h.0 h.1) refl refl h.2)
-            (record q { at = q.at + 1; trail = q.trail ++ written_once (s.word (spots.LogWord q.descriptor h.1)) q.word ∷ [] }) refl refl refl refl refl refl (record { run = refl; published = refl; finished = refl }) refl,
+            (record q { at = q.at + 1; trail = q.trail ++ written_once (s.word (log_spot q.descriptor q.links h.1)) q.word ∷ [] }) refl refl refl refl refl refl (record { run = refl; published = refl; finished = refl }) refl,
       )
 
   pub retire_commit : (x : Spot × Access) → FindsLog x → asks m l rs r kinds.RetireCommit (s.part r) ≡ Some x → After kinds.RetireCommit x
   retire_commit x finds e =
       let h = asked.retire_commit_asked q x (next_of m q) (asked.line_asked m l rs r kinds.RetireCommit (s.part r) q x e is opened) in
-      subst (After kinds.RetireCommit) h.3 (
+      subst (After kinds.RetireCommit) h.4 (
         events.RetireCommit r h.0 h.1 ∷ [],
         (h.0, h.1, h.2, refl),
         commit_goes m l rs w s old r q is opened kinds.RetireCommit h.1 (suc h.0) (h.0 + 1) (micros.RetireCommit h.0 h.1) (events.RetireCommit r h.0 h.1) h.2 refl refl refl (let e : suc h.0 ≡ h.0 + 1 = omega arith in e)
-            (logged_at x (micros.RetireCommit h.0 h.1) h.1 (h.0 + 1) finds h.2 refl h.3)
+            (logged_at x (micros.RetireCommit h.0 h.1) h.1 (h.0 + 1) finds h.2 refl h.3 h.4)
             (before (micros.RetireCommit h.0 h.1) refl refl h.2)
-            (record q { at = q.at + 1; trail = q.trail ++ written_once (s.word (spots.LogWord q.descriptor h.1)) (h.0 + 1) ∷ [] }) refl refl refl refl refl refl (record { run = refl; published = refl; finished = refl }) refl,
+            (record q { at = q.at + 1; trail = q.trail ++ written_once (s.word (log_spot q.descriptor q.links h.1)) (h.0 + 1) ∷ [] }) refl refl refl refl refl refl (record { run = refl; published = refl; finished = refl }) refl,
       )
 
   -- the part after a Make's commit of this slot
@@ -152,13 +154,13 @@ module _ (m : Meaning) (l : Layout) (rs : List Request) (w : AgreementState) (s 
   pub make_commit : (x : Spot × Access) → FindsLog x → asks m l rs r kinds.MakeCommit (s.part r) ≡ Some x → After kinds.MakeCommit x
   make_commit x finds e =
       let h = asked.make_commit_asked q x (next_of m q) (asked.line_asked m l rs r kinds.MakeCommit (s.part r) q x e is opened) in
-      let found = s.word (spots.LogWord q.descriptor h.0) in
+      let found = s.word (log_spot q.descriptor q.links h.0) in
       let next = make_after h.0 h.1 found h.3 in
-      subst (After kinds.MakeCommit) h.4 (
+      subst (After kinds.MakeCommit) h.5 (
         events.MakeCommit r h.0 (suc h.1) ∷ [],
         (h.0, h.1, h.2, h.3, refl),
         commit_goes m l rs w s old r q is opened kinds.MakeCommit h.0 (suc h.1) (h.1 + 1) (micros.MakeCommit h.0) (events.MakeCommit r h.0 (suc h.1)) h.2 refl refl refl (let e : suc h.1 ≡ h.1 + 1 = omega arith in e)
-            (logged_at x (micros.MakeCommit h.0) h.0 (h.1 + 1) finds h.2 refl h.4)
+            (logged_at x (micros.MakeCommit h.0) h.0 (h.1 + 1) finds h.2 refl h.4 h.5)
             (before (micros.MakeCommit h.0) refl refl h.2, λ none. absurd (omega arith))
             (record q { made = None; worn = false; at = q.at + 1; trail = q.trail ++ written_once found (h.1 + 1) ∷ [] }) refl refl refl refl refl refl
             (record { run = ap (λ (p : PartState). p.run) next; published = ap (λ (p : PartState). p.published) next; finished = ap (λ (p : PartState). p.records.finished) next })

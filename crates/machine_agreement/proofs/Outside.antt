@@ -12,18 +12,19 @@ use Rattle.machine_states.specs.structure_laws.specs.Meaning.{Meaning}
 use Rattle.machine_states.specs.runner_parts.specs.declared.event.EventKind.{EventKind}
 use Rattle.machine_states.specs.runner_parts.specs.State.{PartState}
 use Rattle.machine_states.specs.runner_parts.specs.Tests.{has_pair}
-use Rattle.machine_states.specs.Blockless.{after, after_by, outside_after}
-use Rattle.agreement_core.specs.State.{Shared, Section, Run, Finished, AgreementState}
+use Rattle.machine_states.specs.runner_steps.specs.After.{after, after_by, outside_after}
+use Rattle.agreement_core.specs.State.{Run, Finished, AgreementState}
 use Rattle.agreement_core.specs.Events as events
 use Rattle.agreement_core.specs.Events.{reads}
 use Rattle.machine_states.specs.Sight.{Sight}
-use Rattle.machine_states.proofs.Updates.{put_same}
-use Rattle.machine_agreement.specs.Joined.{ShowsRun, IsFinishOf, ShowsWords, ShowsSection, IsTied, IsJoinedToAgreement}
+use Rattle.machine_agreement.specs.Joined.{ShowsRun, IsFinishOf, IsTied, IsJoinedToAgreement}
 use Rattle.machine_agreement.proofs.Frames.{tied_stays}
 use Rattle.machine_agreement.proofs.Components.{reads_own, reads_more}
 use Rattle.machine_agreement.specs.Goes.{Goes}
 use Rattle.machine_agreement.proofs.Assembly.{LeadBy, IsOtherStep, ThunksStay, leads_alone, plain_joined, plain_goes, thunks_kept}
 use Rattle.machine_agreement.proofs.LineKinds.{noting}
+use Rattle.machine_agreement.proofs.Words.{shows_same, section_same}
+pub use Rattle.machine_agreement.proofs.Words.{SameWords, load_same}
 
 module _ (m : Meaning) (l : Layout) where
   -- the part after an event outside a run
@@ -31,7 +32,7 @@ module _ (m : Meaning) (l : Layout) where
       → after m l r kind x.0 x.1 p found ≡ noting m l r kind x.0 x.1 found p (outside_after m l kind p found)
   after_outside r kind x p found none = ap (noting m l r kind x.0 x.1 found p) (ap (λ o. after_by m l kind p o found) none)
 
-  other_none : (w : AgreementState) (r : ℕ) → IsOtherStep m l w w r
+  pub other_none : (w : AgreementState) (r : ℕ) → IsOtherStep m l w w r
   other_none w r = record { others = λ i ne. refl; finishes = λ i ne. refl; finished = λ i k ne. refl; seen = λ p word e. e }
 
   pub lead_none : (w : AgreementState) → LeadBy m l [] w w
@@ -42,26 +43,6 @@ module _ (m : Meaning) (l : Layout) where
     pub run : p'.run ≡ p.run
     pub finished : p'.records.finished ≡ p.records.finished
     pub read : (place found : ℕ) → has_pair p'.reads.cells place found ≡ true → has_pair p.reads.cells place found ≡ true
-
-  -- the component's words are as before
-  pub record SameWords (word word' : Spot → ℕ) : Type 0 where
-    pub cells : (p : ℕ) → word' (spots.Cell p) ≡ word (spots.Cell p)
-    pub clock : word' spots.Clock ≡ word spots.Clock
-    pub stamp : (q : ℕ) → word' (spots.Stamp q) ≡ word (spots.Stamp q)
-    pub reply : (q : ℕ) → word' (spots.Reply q) ≡ word (spots.Reply q)
-    pub thunks : ThunksStay word word'
-    pub done : (d : ℕ) → word' (spots.DoneWord d) ≡ word (spots.DoneWord d)
-
-  -- a load changes no word
-  pub load_same : (word : Spot → ℕ) (a : Spot) → SameWords word (put word a (word a))
-  load_same word a = subst (SameWords word) (sym (put_same word a))
-      (record { cells = λ p. refl; clock = refl; stamp = λ q. refl; reply = λ q. refl; thunks = λ d j. refl; done = λ d. refl })
-
-  shows_same : (x : Shared) (word word' : Spot → ℕ) → SameWords word word' → ShowsWords x word → ShowsWords x word'
-  shows_same x word word' same old = record { cells = λ p. old.cells p ∙ sym (same.cells p); clock = old.clock ∙ sym same.clock; stamp = λ q. old.stamp q ∙ sym (same.stamp q); reply = λ q. old.reply q ∙ sym (same.reply q) }
-
-  section_same : (x : Section) (word word' : Spot → ℕ) (d : ℕ) → SameWords word word' → ShowsSection x word d → ShowsSection x word' d
-  section_same x word word' d same old = record { done = old.done ∙ sym (same.done d) }
 
   -- a part that keeps what the component sees is tied as before, with what else it has read
   tied_same : (w w' : AgreementState) (word : Spot → ℕ) (r : ℕ) (p p' : PartState) → w'.run ≡ w.run → w'.finishes ≡ w.finishes → w'.finished ≡ w.finished

@@ -1,6 +1,6 @@
 -- The kinds of step outside a run, joined.
 use Rattle.std.specs.Prelude.{◌==◌, ◌&&◌, not, Bool, true, false, nat_le, nat_lt, if◌then◌else◌}
-use Rattle.std.proofs.Common.{◌≡◌, ◌≢◌, ℕ, ◌+◌, ◌-◌, List, [], ◌∷◌, ◌++◌, sym, refl, ap, ◌∙◌, subst, arith, inl, inr, Option, Some, None}
+use Rattle.std.proofs.Common.{◌≡◌, ◌≢◌, ℕ, ◌+◌, ◌-◌, List, [], ◌∷◌, ◌++◌, sym, refl, ap, ◌∙◌, subst, arith, inl, inr, Option, Some, None, ⊎_elim}
 use Rattle.std.proofs.lemmas.Bool.Decides.{nat_tests}
 use Rattle.machine_states.specs.map_history.specs.declared.op.Request.{Request}
 use Rattle.machine_states.specs.body_terms.specs.Word.{held_word}
@@ -11,7 +11,7 @@ use Rattle.machine_states.specs.table_words.specs.declared.spot.Spot.TheVariants
 use Rattle.machine_states.specs.table_words.specs.declared.access.Access.{Access}
 use Rattle.machine_states.specs.table_words.specs.declared.access.Access.TheVariants.{Loads, Stores, Exchanges}
 use Rattle.machine_states.specs.table_words.specs.Access.{written}
-use Rattle.machine_states.specs.table_words.specs.Places.{slot_count}
+use Rattle.machine_states.specs.table_words.specs.Places.{Fits, part_words, slot_count}
 use Rattle.machine_states.specs.table_words.specs.Seen.{put}
 use Rattle.machine_states.specs.table_words.specs.Seen as table
 use Rattle.machine_states.specs.structure_laws.specs.Meaning.{Meaning}
@@ -23,14 +23,17 @@ use Rattle.machine_states.specs.epoch_core.specs.declared.stage.Stage.{Stage}
 use Rattle.machine_states.specs.epoch_core.specs.declared.stage.Stage.TheVariants as stages
 use Rattle.machine_states.specs.runner_parts.specs.declared.entries.Look.{Look}
 use Rattle.machine_states.specs.runner_parts.specs.declared.entries.LookStage.TheVariants.{Replied, Stamped}
-use Rattle.machine_states.specs.runner_parts.specs.State.{RecordsState, NodesState, DescriptorsState, BlocksState, PartState}
-use Rattle.machine_states.specs.runner_parts.specs.Tests.{has}
-use Rattle.machine_states.specs.runner_steps.specs.Outside.{descriptor_spot, is_sure_of}
+use Rattle.machine_states.specs.runner_parts.specs.State.{ReadsState, RecordsState, NodesState, DescriptorsState, BlocksState, PartState}
+use Rattle.machine_states.specs.runner_parts.specs.Tests.{has, has_pair}
+use Rattle.machine_states.specs.runner_steps.specs.Asks.{sizes_for}
+use Rattle.machine_states.specs.runner_steps.specs.Outside.{descriptor_spot, is_sure_of, blocks_from, block_spot}
 use Rattle.machine_states.specs.runner_steps.specs.Guards.{is_last_guard}
 use Rattle.machine_states.specs.epoch_core.specs.State.{last_epoch}
 use Rattle.machine_states.specs.runner_steps.specs.Sections.{reply_in}
 use Rattle.machine_states.specs.runner_steps.specs.Reads.{read_stamp_after, plan_by, looked_by, come_to, reply_known, stamp_known}
-use Rattle.machine_states.specs.Blockless.{outside_ask, outside_after}
+use Rattle.machine_states.specs.runner_steps.specs.Asks.{outside_ask}
+use Rattle.machine_states.specs.runner_steps.specs.After.{outside_after}
+use Rattle.machine_states.specs.runner_steps.specs.AfterOutside.{descriptor_known, stored_if}
 use Rattle.machine_states.specs.runner_parts.specs.Lists as lists
 use Rattle.machine_states.specs.runner_steps.specs.AfterOutside as outside
 use Rattle.machine_states.specs.runner_steps.specs.After.{noted}
@@ -46,6 +49,7 @@ use Rattle.machine_agreement.specs.Joined.{IsJoinedToAgreement}
 use Rattle.machine_agreement.specs.Supplied.{IsIdle, MayPublish}
 use Rattle.machine_agreement.specs.Chunks.{publication, stored, frees, unnamed, IsOutsideChunk}
 use Rattle.machine_agreement.specs.Goes.{Goes}
+use Rattle.machine_agreement.proofs.Words.{block_same, own_link}
 use Rattle.machine_agreement.proofs.Assembly.{leads_alone}
 use Rattle.machine_agreement.proofs.LineKinds.{noting, noted_finished}
 use Rattle.machine_agreement.proofs.Outside.{IsSamePart, SameWords, load_same, quiet_joined, quiet_goes, reply_goes, stamp_goes, read_goes}
@@ -101,10 +105,10 @@ module _ (m : Meaning) (l : Layout) (rs : List Request) (w : AgreementState) (s 
   abbrev pub To : EventKind → Spot × Access → Type 0
   To kind x = (heads : List events.Event) × IsOutsideChunk m l w r kind p (s.word x.0) heads × Goes m l r heads w (sight_of kind x)
 
-  loads : (a : Spot) (x : Spot × Access) → (a, Loads) ≡ x → SameWords m l s.word (word_of x)
-  loads a x e = subst (λ (y : Spot × Access). SameWords m l s.word (word_of y)) e (load_same m l s.word a)
+  loads : (a : Spot) (x : Spot × Access) → (a, Loads) ≡ x → SameWords s.word (word_of x)
+  loads a x e = subst (λ (y : Spot × Access). SameWords s.word (word_of y)) e (load_same s.word a)
 
-  quiet : (kind : EventKind) (x : Spot × Access) → IsOutsideChunk m l w r kind p (s.word x.0) [] → SameWords m l s.word (word_of x) → IsSamePart m l p (noting m l r kind x.0 x.1 (s.word x.0) p (outside_after m l kind p (s.word x.0))) → To kind x
+  quiet : (kind : EventKind) (x : Spot × Access) → IsOutsideChunk m l w r kind p (s.word x.0) [] → SameWords s.word (word_of x) → IsSamePart m l p (noting m l r kind x.0 x.1 (s.word x.0) p (outside_after m l kind p (s.word x.0))) → To kind x
   quiet kind x none_of words same = ([], none_of, quiet_goes m l w s old r (word_of x) _ words same)
 
   noted_part : (kind : EventKind) (x : Spot × Access) (stage : Stage) (nodes : NodesState) (records : RecordsState) → records.finished ≡ p.records.finished
@@ -116,9 +120,9 @@ module _ (m : Meaning) (l : Layout) (rs : List Request) (w : AgreementState) (s 
 
   pub announce : (x : Spot × Access) → outside_ask m l rs r kinds.Announce p ≡ Some x → To kinds.Announce x
   announce x e = let h = asked.announce_asked r p.stage x e in
-      quiet kinds.Announce x refl (subst (λ (y : Spot × Access). SameWords m l s.word (word_of y)) h.2 (elsewhere h.0)) (noted_part kinds.Announce x stages.Announced p.nodes p.records refl)
+      quiet kinds.Announce x refl (subst (λ (y : Spot × Access). SameWords s.word (word_of y)) h.2 (elsewhere h.0)) (noted_part kinds.Announce x stages.Announced p.nodes p.records refl)
     where
-      elsewhere : (e : ℕ) → SameWords m l s.word (word_of (spots.Announcement r, Stores e))
+      elsewhere : (e : ℕ) → SameWords s.word (word_of (spots.Announcement r, Stores e))
       elsewhere e = record { cells = λ i. refl; clock = refl; stamp = λ i. refl; reply = λ i. refl; thunks = λ d j. refl; done = λ d. refl }
 
   pub enter_again : (x : Spot × Access) → outside_ask m l rs r kinds.EnterAgain p ≡ Some x → To kinds.EnterAgain x
@@ -127,7 +131,7 @@ module _ (m : Meaning) (l : Layout) (rs : List Request) (w : AgreementState) (s 
 
   pub exit : (x : Spot × Access) → outside_ask m l rs r kinds.Idle p ≡ Some x → To kinds.Idle x
   exit x e = let h = asked.idle_asked r p x e in
-      quiet kinds.Idle x refl (subst (λ (y : Spot × Access). SameWords m l s.word (word_of y)) h.3
+      quiet kinds.Idle x refl (subst (λ (y : Spot × Access). SameWords s.word (word_of y)) h.3
       (record { cells = λ i. refl; clock = refl; stamp = λ i. refl; reply = λ i. refl; thunks = λ d j. refl; done = λ d. refl })) (noted_part kinds.Idle x stages.Idle p.nodes p.records refl)
 
   pub scan_epoch : (x : Spot × Access) → outside_ask m l rs r kinds.ScanEpoch p ≡ Some x → To kinds.ScanEpoch x
@@ -148,10 +152,10 @@ module _ (m : Meaning) (l : Layout) (rs : List Request) (w : AgreementState) (s 
 
   pub read_plan : (thunk : Thunk) (x : Spot × Access) → outside_ask m l rs r (kinds.ReadPlan thunk) p ≡ Some x → To (kinds.ReadPlan thunk) x
   read_plan thunk x e = quiet (kinds.ReadPlan thunk) x refl
-      (subst (λ (y : Spot × Access). SameWords m l s.word (word_of y)) (reads_asked.read_plan_asked r thunk p x e).is elsewhere)
+      (subst (λ (y : Spot × Access). SameWords s.word (word_of y)) (reads_asked.read_plan_asked r thunk p x e).is elsewhere)
       (look_part (kinds.ReadPlan thunk) x (Some (plan_by thunk)) p.records refl)
     where
-      elsewhere : SameWords m l s.word (word_of (spots.Announcement r, Exchanges 0 0))
+      elsewhere : SameWords s.word (word_of (spots.Announcement r, Exchanges 0 0))
       elsewhere = record { cells = λ i. refl; clock = refl; stamp = λ i. refl; reply = λ i. refl; thunks = λ d j. refl; done = λ d. refl }
 
   pub read_clock : (x : Spot × Access) → outside_ask m l rs r kinds.ReadClock p ≡ Some x → To kinds.ReadClock x
@@ -189,9 +193,9 @@ module _ (m : Meaning) (l : Layout) (rs : List Request) (w : AgreementState) (s 
       quiet (kinds.PrivateLoad slot word) x refl (loads h.0 x h.1) (looked_part (nat_lt slot (slot_count l m.fixed_slots)))
     where
       looked_part : (b : Bool) → IsSamePart m l p (noting m l r (kinds.PrivateLoad slot word) x.0 x.1 (s.word x.0) p
-          (if b then record p { nodes = lists.nodes_looked l p.nodes slot word (s.word x.0) } else record p { descriptors = lists.descriptor_stored p.descriptors (slot - slot_count l m.fixed_slots) word (s.word x.0) }))
+          (if b then record p { nodes = lists.nodes_looked l p.nodes slot word (s.word x.0) } else descriptor_known m l slot word p (s.word x.0)))
       looked_part true = noted_part (kinds.PrivateLoad slot word) x p.stage (lists.nodes_looked l p.nodes slot word (s.word x.0)) p.records refl
-      looked_part false = same_part m l p p.stage p.nodes (lists.descriptor_stored p.descriptors (slot - slot_count l m.fixed_slots) word (s.word x.0)) (blocks_after m l (kinds.PrivateLoad slot word) p p.run (s.word x.0)) p.board
+      looked_part false = same_part m l p p.stage p.nodes (stored_if (nat_lt slot (blocks_from m l)) p.descriptors (slot - slot_count l m.fixed_slots) word (s.word x.0)) (blocks_after m l (kinds.PrivateLoad slot word) p p.run (s.word x.0)) p.board
           (noted l r (kinds.PrivateLoad slot word) x.0 x.1 (s.word x.0) p.records) (noted_finished l r (kinds.PrivateLoad slot word) x.0 x.1 (s.word x.0) p.records)
 
   pub load_cell : (place : ℕ) (x : Spot × Access) → outside_ask m l rs r (kinds.LoadCell (Some place)) p ≡ Some x → To (kinds.LoadCell (Some place)) x
@@ -200,7 +204,7 @@ module _ (m : Meaning) (l : Layout) (rs : List Request) (w : AgreementState) (s 
         events.Read place ∷ [],
         refl,
         read_goes m l w s old r place _ refl (noted_finished l r (kinds.LoadCell (Some place)) (spots.Cell place) Loads (s.word (spots.Cell place)) p.records) refl
-            (word_of (spots.Cell place, Loads)) (load_same m l s.word (spots.Cell place)),
+            (word_of (spots.Cell place, Loads)) (load_same s.word (spots.Cell place)),
       )
 
   -- a runner in no run begins one with the first word of a published descriptor
@@ -210,27 +214,39 @@ module _ (m : Meaning) (l : Layout) (rs : List Request) (w : AgreementState) (s 
         events.Open r d ∷ [],
         refl,
         descriptors.run_begins m l w s old r d _ none (used h.2) refl refl (noted_finished l r (kinds.LoadThunk (Some d)) (spots.ThunkWord d 0) Loads (s.word (spots.ThunkWord d 0)) p.records) refl
-            (word_of (spots.ThunkWord d 0, Loads)) (load_same m l s.word (spots.ThunkWord d 0)),
+            (word_of (spots.ThunkWord d 0, Loads)) (load_same s.word (spots.ThunkWord d 0)),
       )
 
   -- a private store into a word of an own free descriptor
   store_at : (d word number : ℕ) (q : PartState) → w.used d ≡ false → q.run ≡ p.run → q.published ≡ p.published → q.records.finished ≡ p.records.finished → q.reads ≡ p.reads
       → Goes m l r (stored d word number) w (record { word = put s.word (descriptor_spot d word) number; part = table.upd s.part r q })
-  store_at d word number q unused run published records reads = by (nat_lt word 12) (word == 12)
+  store_at d word number q unused run published records reads = by (nat_lt word 12) (word == 12) (word == 13 + part_words)
     where
-      by : (a b : Bool) → Goes m l r (if a then [] else (if b then events.StoreDone d number ∷ [] else events.StoreLog d (word - 13) number ∷ [])) w
-          (record { word = put s.word (if a then spots.ThunkWord d word else (if b then spots.DoneWord d else spots.LogWord d (word - 13))) number; part = table.upd s.part r q })
-      by true b = descriptors.thunk_stored m l w s old r d word number q unused run published records reads
-      by false true = descriptors.done_stored m l w s old r d number q unused run published records reads
-      by false false = descriptors.log_stored m l w s old r d (word - 13) number q unused run published records reads
+      by : (a b c : Bool) → Goes m l r (if a then [] else (if b then events.StoreDone d number ∷ [] else (if c then [] else events.StoreLog d (word - 13) number ∷ []))) w
+          (record { word = put s.word (if a then spots.ThunkWord d word else (if b then spots.DoneWord d else (if c then spots.LinkWord d else spots.LogWord d (word - 13)))) number; part = table.upd s.part r q })
+      by true b c = descriptors.thunk_stored m l w s old r d word number q unused run published records reads
+      by false true c = descriptors.done_stored m l w s old r d number q unused run published records reads
+      by false false true = quiet_goes m l w s old r (put s.word (spots.LinkWord d) number) q (own_link s.word number d) (record { run = run; finished = records; read = λ place found has. subst (λ (y : ReadsState). has_pair y.cells place found ≡ true) reads has })
+      by false false false = descriptors.log_stored m l w s old r d (word - 13) number q unused run published records reads
 
-  pub private_store : (slot word number : ℕ) (x : Spot × Access) → outside_ask m l rs r (kinds.PrivateStore slot word number) p ≡ Some x
+  pub private_store : (slot word number : ℕ) (x : Spot × Access) → Fits (sizes_for m l rs) x.0 → outside_ask m l rs r (kinds.PrivateStore slot word number) p ≡ Some x
       → ((d : ℕ) → has p.descriptors.free d ≡ true → w.used d ≡ false) → To (kinds.PrivateStore slot word number) x
-  private_store slot word number x e unused =
-      let h = asked.private_store_asked m l slot word number p x e in
+  private_store slot word number x fits e unused =
+      let kind : EventKind = kinds.PrivateStore slot word number in
       let d = slot - slot_count l m.fixed_slots in
-      subst (To (kinds.PrivateStore slot word number)) h.1
-      (stored d word number, (unused d h.0, refl), store_at d word number _ (unused d h.0) refl refl (noted_finished l r (kinds.PrivateStore slot word number) (descriptor_spot d word) (Stores number) (s.word (descriptor_spot d word)) p.records) refl)
+      ⊎_elim
+      (λ own. subst (To kind) own.2
+      (stored d word number, ((λ inside. unused d own.1), ap (λ b. if b then stored d word number else []) (sym own.0)), store_at d word number _ (unused d own.1) refl refl (noted_finished l r kind (descriptor_spot d word) (Stores number) (s.word (descriptor_spot d word)) p.records) refl))
+      (λ block.
+      let a = block_spot (slot - blocks_from m l) word in
+      subst (To kind) block.1 (
+        [],
+        ((λ inside. absurd (let y = sym block.0 ∙ inside in cc)), ap (λ b. if b then stored d word number else []) (sym block.0)),
+        quiet_goes m l w s old r (put s.word a number) _ (block_same s.word number (slot - blocks_from m l) word)
+            (same_part m l p p.stage p.nodes (stored_if (nat_lt slot (blocks_from m l)) p.descriptors d word number) (blocks_after m l kind p p.run (s.word a)) p.board
+            (noted l r kind a (Stores number) (s.word a) p.records) (noted_finished l r kind a (Stores number) (s.word a) p.records)),
+      ))
+      (asked.private_store_cases m l slot word number p x e)
 
   -- a publication: where the lock was free, the section is published, otherwise its word is read
   module _ (t : Thunk) (d : ℕ) (unused : w.used d ≡ false) (supplied : s.word (spots.Cell t.lock) ≡ t.word → MayPublish m l w s r t d) where
@@ -268,7 +284,7 @@ module _ (m : Meaning) (l : Layout) (rs : List Request) (w : AgreementState) (s 
                   reads = lists.cell_read p.reads t.lock found;
                 }));
               })) (sym new)
-              (descriptors.publishes m l w s old r d t _ none unused same may.words may.publishable may.undone may.unlogged none
+              (descriptors.publishes m l w s old r d t _ none unused same may.words may.publishable may.undone none
               (noted_finished l r (kinds.Hold t d) (spots.Cell t.lock) (Exchanges t.word (held_word d t.word)) found p.records) refl)),
         )
       where
@@ -289,7 +305,7 @@ module _ (m : Meaning) (l : Layout) (rs : List Request) (w : AgreementState) (s 
           inr (differ found t.word e, refl),
           subst (λ (q : PartState). Goes m l r (events.Read t.lock ∷ []) w (record { word = word_of hold; part = table.upd s.part r (noting m l r (kinds.Hold t d) (spots.Cell t.lock) (Exchanges t.word (held_word d t.word)) found p q) })) (sym after)
               (read_goes m l w s old r t.lock _ refl (noted_finished l r (kinds.Hold t d) (spots.Cell t.lock) (Exchanges t.word (held_word d t.word)) found p.records) refl (word_of hold)
-              (subst (λ n. SameWords m l s.word (put s.word (spots.Cell t.lock) n)) (sym same) (load_same m l s.word (spots.Cell t.lock)))),
+              (subst (λ n. SameWords s.word (put s.word (spots.Cell t.lock) n)) (sym same) (load_same s.word (spots.Cell t.lock)))),
         )
       where
         differ : (a b : ℕ) → (a == b) ≡ false → a ≢ b
@@ -332,7 +348,7 @@ module _ (m : Meaning) (l : Layout) (rs : List Request) (w : AgreementState) (s 
   pub advance : (x : Spot × Access) → outside_ask m l rs r kinds.Advance p ≡ Some x → To kinds.Advance x
   advance x e =
       let h = asked.advance_asked l p.stage x e in
-      quiet kinds.Advance x refl (subst (λ (y : Spot × Access). SameWords m l s.word (word_of y)) h.5
+      quiet kinds.Advance x refl (subst (λ (y : Spot × Access). SameWords s.word (word_of y)) h.5
       (record { cells = λ i. refl; clock = refl; stamp = λ i. refl; reply = λ i. refl; thunks = λ d j. refl; done = λ d. refl })) (by_stage p.stage)
     where
       Same : PartState → Type 0
@@ -355,7 +371,7 @@ module _ (m : Meaning) (l : Layout) (rs : List Request) (w : AgreementState) (s 
   -- a guard word moves, or is read
   pub guard : (d : Option ℕ) (x : Spot × Access) → outside_ask m l rs r (kinds.Guard d) p ≡ Some x → To (kinds.Guard d) x
   guard d x e = let h = asked.guard_asked l r d p x e in
-      quiet (kinds.Guard d) x refl (subst (λ (y : Spot × Access). SameWords m l s.word (word_of y)) h.is
+      quiet (kinds.Guard d) x refl (subst (λ (y : Spot × Access). SameWords s.word (word_of y)) h.is
       (record { cells = λ i. refl; clock = refl; stamp = λ i. refl; reply = λ i. refl; thunks = λ d j. refl; done = λ d. refl }))
       (record { run = refl; finished = noted_finished l r (kinds.Guard d) x.0 x.1 (s.word x.0) p.records; read = λ a b h. h })
 
@@ -375,7 +391,7 @@ module _ (m : Meaning) (l : Layout) (rs : List Request) (w : AgreementState) (s 
       same : (b : Bool) → IsSamePart m l p (noting m l r (kinds.LoadGuard n) x.0 x.1 (s.word x.0) p (swept_part b (p.guards.looked ++ s.word x.0 ∷ [])))
       same b = record { run = refl; finished = noted_finished l r (kinds.LoadGuard n) x.0 x.1 (s.word x.0) p.records; read = λ a b h. h }
 
-      sweeps_by : (b : Bool) → SameWords m l s.word (word_of x) → (b ≡ true → (d : ℕ) → has (unnamed (p.guards.looked ++ s.word x.0 ∷ []) p) d ≡ true → IsIdle w d)
+      sweeps_by : (b : Bool) → SameWords s.word (word_of x) → (b ≡ true → (d : ℕ) → has (unnamed (p.guards.looked ++ s.word x.0 ∷ []) p) d ≡ true → IsIdle w d)
           → Goes m l r (if b then frees (unnamed (p.guards.looked ++ s.word x.0 ∷ []) p) else []) w (record { word = word_of x; part = table.upd s.part r (noting m l r (kinds.LoadGuard n) x.0 x.1 (s.word x.0) p (swept_part b (p.guards.looked ++ s.word x.0 ∷ []))) })
       sweeps_by true seen idle =
           let free = freed m l s (unnamed (p.guards.looked ++ s.word x.0 ∷ []) p) w old (idle refl) in
@@ -387,7 +403,7 @@ module _ (m : Meaning) (l : Layout) (rs : List Request) (w : AgreementState) (s 
       sweeps_by false seen idle = quiet_goes m l w s old r (word_of x) _ seen (same false)
 
   -- a word of the board is loaded, or a node slot comes from there or goes there: the component sees nothing of it
-  abbrev board_words : (i v : ℕ) → SameWords m l s.word (put s.word (spots.Board i) v)
+  abbrev board_words : (i v : ℕ) → SameWords s.word (put s.word (spots.Board i) v)
   board_words i v = record { cells = λ k. refl; clock = refl; stamp = λ k. refl; reply = λ k. refl; thunks = λ d j. refl; done = λ d. refl }
 
   pub board_load : (word : ℕ) (x : Spot × Access) → outside_ask m l rs r (kinds.BoardLoad word) p ≡ Some x → To (kinds.BoardLoad word) x
@@ -396,10 +412,10 @@ module _ (m : Meaning) (l : Layout) (rs : List Request) (w : AgreementState) (s 
 
   pub board_take : (word link : ℕ) (x : Spot × Access) → outside_ask m l rs r (kinds.BoardTake word link) p ≡ Some x → To (kinds.BoardTake word link) x
   board_take word link x e =
-      quiet (kinds.BoardTake word link) x refl (subst (λ (y : Spot × Access). SameWords m l s.word (word_of y)) (board.board_take_asked l r word link p x e).is (board_words word _))
+      quiet (kinds.BoardTake word link) x refl (subst (λ (y : Spot × Access). SameWords s.word (word_of y)) (board.board_take_asked l r word link p x e).is (board_words word _))
       (noted_part (kinds.BoardTake word link) x p.stage (outside_after m l (kinds.BoardTake word link) p (s.word x.0)).nodes p.records refl)
 
   pub board_give : (word slot : ℕ) (x : Spot × Access) → outside_ask m l rs r (kinds.BoardGive word slot) p ≡ Some x → To (kinds.BoardGive word slot) x
   board_give word slot x e =
-      quiet (kinds.BoardGive word slot) x refl (subst (λ (y : Spot × Access). SameWords m l s.word (word_of y)) (board.board_give_asked l r word slot p x e).is (board_words word _))
+      quiet (kinds.BoardGive word slot) x refl (subst (λ (y : Spot × Access). SameWords s.word (word_of y)) (board.board_give_asked l r word slot p x e).is (board_words word _))
       (let given = outside_after m l (kinds.BoardGive word slot) p (s.word x.0) in noted_part (kinds.BoardGive word slot) x p.stage given.nodes given.records refl)

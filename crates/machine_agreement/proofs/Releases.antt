@@ -27,7 +27,7 @@ use Rattle.machine_states.specs.runner_parts.specs.Tests.{has_pair}
 use Rattle.machine_states.specs.runner_parts.specs.Lists.{cell_read, descriptor_retired}
 use Rattle.machine_states.specs.runner_parts.specs.declared.entries.Published.{Published}
 use Rattle.machine_states.specs.runner_steps.specs.Sections.{thunk_of, is_open_run, next_of, line_of, settles}
-use Rattle.machine_states.specs.Blockless.{asks}
+use Rattle.machine_states.specs.runner_steps.specs.Asks.{asks}
 use Rattle.machine_states.specs.runner_steps.specs.AfterInRun.{place_of, ended_more, run_over, kept_unless, retired_if, finished_of}
 use Rattle.agreement_core.specs.State.{CellRules, Section, Run, Finished, AgreementState, section_of}
 use Rattle.agreement_core.specs.Checks.{exchanged}

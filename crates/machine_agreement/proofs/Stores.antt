@@ -1,6 +1,6 @@
 -- The private steps, the exchanges and the words of the request in a run's line, each kind of step joined.
 use Rattle.std.specs.Prelude.{◌==◌, ◌||◌, nat_le, slice_index, max, ◌/◌, Bool, true, false, cond, if◌then◌else◌}
-use Rattle.std.proofs.Common.{◌≡◌, ℕ, ◌+◌, ◌*◌, List, [], ◌∷◌, ◌++◌, length, sym, refl, ap, ◌∙◌, subst, arith, Option, Some, None}
+use Rattle.std.proofs.Common.{◌≡◌, inl, inr, ⊎_elim, ℕ, ◌-◌, ◌+◌, ◌*◌, List, [], ◌∷◌, ◌++◌, length, sym, refl, ap, ◌∙◌, subst, arith, Option, Some, None}
 use Rattle.std.proofs.lemmas.Bool.Decides.{nat_tests}
 use Rattle.machine_states.specs.map_history.specs.declared.op.Request.{Request}
 use Rattle.machine_states.specs.body_terms.specs.declared.micro.Micro.{Micro}
@@ -25,9 +25,12 @@ use Rattle.machine_states.specs.runner_parts.specs.declared.event.EventKind.TheV
 use Rattle.machine_states.specs.runner_parts.specs.State.{RunState, RecordsState, PartState}
 use Rattle.machine_states.specs.runner_parts.specs.Tests.{has_pair}
 use Rattle.machine_states.specs.runner_parts.specs.Lists.{learned}
-use Rattle.machine_states.specs.runner_steps.specs.Sections.{thunk_of, is_open_run, next_of}
-use Rattle.machine_states.specs.runner_steps.specs.InRun.{stamp_after, is_slot}
-use Rattle.machine_states.specs.Blockless.{asks, after, line_after}
+use Rattle.machine_states.specs.runner_steps.specs.Sections.{thunk_of, is_open_run, next_of, needs_link}
+use Rattle.machine_states.specs.runner_steps.specs.InRun.{fill_store_ask, stamp_after, is_slot}
+use Rattle.machine_states.specs.runner_steps.specs.Asks.{asks}
+use Rattle.machine_states.specs.runner_steps.specs.After.{after, line_after}
+use Rattle.machine_states.specs.runner_steps.specs.Outside.{block_spot, blocks_from}
+use Rattle.machine_states.specs.runner_parts.specs.block_words.specs.Blocks.{link_spot}
 use Rattle.machine_states.specs.runner_steps.specs.AfterInRun.{fill_loaded}
 use Rattle.machine_states.specs.runner_steps.specs.AfterInRun as run_steps
 use Rattle.agreement_core.specs.State.{CellRules, Shared, Run, AgreementState, section_of}
@@ -44,7 +47,9 @@ use Rattle.machine_agreement.proofs.Frames.{IsOwnPart}
 use Rattle.machine_agreement.specs.Chunks.{IsLineChunk}
 use Rattle.machine_agreement.specs.Goes.{Goes}
 use Rattle.machine_agreement.proofs.Assembly.{LeadBy}
-use Rattle.machine_agreement.proofs.LineKinds.{step_goes, one, load_words, load_sections, load_thunks, all}
+use Rattle.machine_agreement.proofs.LineKinds.{step_goes, one, load_words, load_sections, load_thunks, all, after_line, word_after, noting, noted_finished}
+use Rattle.machine_agreement.proofs.Linking.{links_goes}
+use Rattle.machine_agreement.proofs.Words.{SameWords, link_same, block_same}
 use Rattle.machine_agreement.proofs.Components.{own_then, own_shared, goes_on_own, goes_on_run, goes_on_sections, reads_own, reads_more, with_cell_own}
 
 module _ (m : Meaning) (l : Layout) (rs : List Request) (w : AgreementState) (s : Sight) (old : IsJoinedToAgreement m l w s) (r : ℕ) (q : RunState) (is : (s.part r).run ≡ Some q) (opened : is_open_run q ≡ true) where
@@ -131,15 +136,15 @@ module _ (m : Meaning) (l : Layout) (rs : List Request) (w : AgreementState) (s 
     reply = λ i. ap (λ (f : ℕ → ℕ). f i) reply ∙ old.words.reply i;
   }
 
-  pub private_store : (slot word number : ℕ) (x : Spot × Access) → asks m l rs r (kinds.PrivateStore slot word number) (s.part r) ≡ Some x
+  filled_store : (slot word number : ℕ) (x : Spot × Access) → fill_store_ask m l slot word number q (next_of m q) ≡ Some x
       → IsPrivateStore c w (cell_of m.fixed_cells slot word) number → After (kinds.PrivateStore slot word number) x
-  private_store slot word number x e supplied =
-      let h = asked.fill_store_asked q x m l slot word number (next_of m q) (asked.line_asked m l rs r (kinds.PrivateStore slot word number) (s.part r) q x e is opened) in
+  filled_store slot word number x e supplied =
+      let h = asked.fill_store_asked q x m l slot word number (next_of m q) e in
       let p = cell_of m.fixed_cells slot word in
       let w1 = with_cell (goes_on w r ((w.run r).word)) p number in
       subst (After (kinds.PrivateStore slot word number)) h.6 (
         events.PrivateStore r word h.0 h.1 p number ∷ [],
-        (h.0, h.1, h.2, own_slot q.made slot h.3, refl),
+        inr (h.0, h.1, h.2, own_slot q.made slot h.3, refl),
         step_goes m l rs w s old r q is opened (events.PrivateStore r word h.0 h.1 p number ∷ []) (kinds.PrivateStore slot word number) (spots.Cell p, Stores number) (micros.PrivateStore word h.0 h.1)
             (record q { worn = q.worn || version_of number == l.version_max; at = q.at + 1; word = q.word }) w1 h.2 refl refl
             (one m l rs w s old r q is opened (events.PrivateStore r word h.0 h.1 p number) (before (micros.PrivateStore word h.0 h.1) refl refl h.2, supplied))
@@ -158,6 +163,38 @@ module _ (m : Meaning) (l : Layout) (rs : List Request) (w : AgreementState) (s 
 
       moved_run : (n : ℕ) → n ≡ q.word → IsRunOf ((goes_on w r n).run r) (record q { worn = q.worn || version_of number == l.version_max; at = q.at + 1; word = q.word })
       moved_run n e = let run = goes_on_run w r q n run_here in record { running = run.running; descriptor = run.descriptor; at = run.at; word = run.word ∙ e; count = run.count; trail = run.trail; ended = run.ended }
+
+  -- a step by which the run links a block
+  links : (kind : EventKind) (x : Spot × Access) (blocks : List ℕ) (block : Option ℕ) (emptied : ℕ) (won : List ℕ) → SameWords s.word (word_after m l rs w s old r q is opened x)
+      → line_after m l kind (s.part r) q (next_of m q) (s.word x.0) ≡ record (s.part r) { run = Some (record q { links = blocks; block = block; emptied = emptied; won = won }) }
+      → Goes m l r [] w (record { word = word_after m l rs w s old r q is opened x; part = table.upd s.part r (after m l r kind x.0 x.1 (s.part r) (s.word x.0)) })
+  links kind x blocks block emptied won same part =
+      let words = word_after m l rs w s old r q is opened x in
+      let left = line_after m l kind (s.part r) q (next_of m q) (s.word x.0) in
+      subst (λ (y : PartState). Goes m l r [] w (record { word = words; part = table.upd s.part r y })) (sym (after_line m l r kind x (s.part r) (s.word x.0) q (next_of m q) is opened refl))
+      (links_goes m l w s old r q is blocks block emptied won words (noting m l r kind x.0 x.1 (s.word x.0) (s.part r) left) same
+      (ap (λ (y : PartState). y.run) part) (noted_finished l r kind x.0 x.1 (s.word x.0) left.records ∙ ap (λ (y : PartState). y.records.finished) part) (ap (λ (y : PartState). y.reads) part))
+
+  pub link_commit : (b : ℕ) (x : Spot × Access) → asks m l rs r (kinds.LinkCommit b) (s.part r) ≡ Some x → After (kinds.LinkCommit b) x
+  link_commit b x e =
+      let a = link_spot q.descriptor q.links (length q.links) in
+      subst (After (kinds.LinkCommit b)) (asked.link_asked q x l b (next_of m q) (asked.line_asked m l rs r (kinds.LinkCommit b) (s.part r) q x e is opened))
+      ([], refl, links (kinds.LinkCommit b) (a, Exchanges 0 (b + 1)) _ None 0 _ (link_same s.word _ q.descriptor q.links (length q.links)) refl)
+
+  pub private_store : (slot word number : ℕ) (x : Spot × Access) → asks m l rs r (kinds.PrivateStore slot word number) (s.part r) ≡ Some x
+      → (needs_link q (next_of m q) ≡ false → IsPrivateStore c w (cell_of m.fixed_cells slot word) number) → After (kinds.PrivateStore slot word number) x
+  private_store slot word number x e supplied = ⊎_elim
+      (λ link.
+      let kind : EventKind = kinds.PrivateStore slot word number in
+      let a = block_spot (slot - blocks_from m l) word in
+      subst (After kind) link.1 (
+        [],
+        inl (link.0, refl),
+        links kind (a, Stores number) q.links (Some (slot - blocks_from m l)) (run_steps.emptied_more q) q.won (block_same s.word number (slot - blocks_from m l) word)
+            (ap (λ b. run_steps.with_run (s.part r) (if b then run_steps.block_emptied (slot - blocks_from m l) q else run_steps.filled m l number q)) link.0),
+      ))
+      (λ fills. filled_store slot word number x fills.1 (supplied fills.0))
+      (asked.run_store_asked q x m l slot word number (s.part r).blocks.free (next_of m q) (asked.line_asked m l rs r (kinds.PrivateStore slot word number) (s.part r) q x e is opened))
 
   -- the run behind its step, which goes by the same number
   behind : RunState

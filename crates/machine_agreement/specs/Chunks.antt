@@ -1,5 +1,5 @@
 -- Which events of agreement a step of the machine is, by its kind.
-use Rattle.std.specs.Prelude.{◌≡◌, ◌≢◌, ◌⊎◌, ℕ, suc, ◌-◌, ◌==◌, nat_lt, List, [], ◌∷◌, ◌++◌, map, Bool, true, false, Option, Some, None, if◌then◌else◌}
+use Rattle.std.specs.Prelude.{◌≡◌, ◌≢◌, ◌⊎◌, ℕ, suc, ◌+◌, ◌-◌, ◌==◌, nat_lt, List, [], ◌∷◌, ◌++◌, map, Bool, true, false, Option, Some, None, if◌then◌else◌}
 use Rattle.std.specs.List.{filter}
 use Rattle.machine_states.specs.body_terms.specs.declared.micro.Micro.TheVariants as micros
 use Rattle.machine_states.specs.body_terms.specs.declared.micro.Source.{Source}
@@ -7,7 +7,7 @@ use Rattle.machine_states.specs.body_terms.specs.declared.thunk.Thunk.{Thunk}
 use Rattle.machine_states.specs.body_terms.specs.Line.{line, micro_at, committed, is_end}
 use Rattle.machine_states.specs.body_terms.specs.Memory.{cell_of}
 use Rattle.machine_states.specs.table_words.specs.declared.layout.Layout.{Layout}
-use Rattle.machine_states.specs.table_words.specs.Places.{slot_count}
+use Rattle.machine_states.specs.table_words.specs.Places.{part_words, slot_count}
 use Rattle.machine_states.specs.structure_laws.specs.Meaning.{Meaning}
 use Rattle.machine_states.specs.runner_parts.specs.declared.event.EventKind.{EventKind}
 use Rattle.machine_states.specs.runner_parts.specs.declared.event.EventKind.TheVariants as kinds
@@ -16,7 +16,8 @@ use Rattle.machine_states.specs.runner_parts.specs.declared.entries.Published.{P
 use Rattle.machine_states.specs.runner_parts.specs.State.{RunState, PartState}
 use Rattle.machine_states.specs.guard_core.specs.Moves.{is_unnamed}
 use Rattle.machine_states.specs.runner_steps.specs.Guards.{is_last_guard}
-use Rattle.machine_states.specs.runner_steps.specs.Sections.{is_open_run, next_of, reply_in}
+use Rattle.machine_states.specs.runner_steps.specs.Outside.{blocks_from}
+use Rattle.machine_states.specs.runner_steps.specs.Sections.{is_open_run, next_of, needs_link, reply_in}
 use Rattle.machine_states.specs.runner_steps.specs.Reads.{read_stamp_after}
 use Rattle.machine_states.specs.runner_steps.specs.AfterInRun.{ended_more}
 use Rattle.agreement_core.specs.State.{AgreementState}
@@ -27,10 +28,11 @@ use Rattle.agreement_core.specs.Events as events
 abbrev pub publication : Meaning → ℕ → Thunk → Event
 publication m d t = events.Publish d t.lock t.word t.request (micro_at (line (m.body t))) (committed (line (m.body t)))
 
--- a store of this number into this word of a descriptor: the thunk words are no words of agreement
+-- a store of this number into this word of a descriptor: the thunk words and the link are no words of agreement
 abbrev pub stored : ℕ → ℕ → ℕ → List Event
 stored d word number = if nat_lt word 12 then [] else (
-    if word == 12 then events.StoreDone d number ∷ [] else events.StoreLog d (word - 13) number ∷ [])
+    if word == 12 then events.StoreDone d number ∷ [] else (
+    if word == 13 + part_words then [] else events.StoreLog d (word - 13) number ∷ []))
 
 -- these descriptors become free, one after the other
 abbrev pub frees : List ℕ → List Event
@@ -61,9 +63,10 @@ module _ (m : Meaning) (l : Layout) (w : AgreementState) (r : ℕ) where
   IsOutsideChunk (kinds.LoadGuard n) p found heads = heads ≡ swept l p found
   IsOutsideChunk (kinds.LoadCell (Some place)) p found heads = heads ≡ events.Read place ∷ []
   IsOutsideChunk (kinds.LoadThunk (Some d)) p found heads = heads ≡ events.Open r d ∷ []
+  -- a word of an own free descriptor; one of a block is no word of agreement
   IsOutsideChunk (kinds.PrivateStore slot word number) p found heads =
-      (w.used (slot - slot_count l m.fixed_slots) ≡ false)
-      × (heads ≡ stored (slot - slot_count l m.fixed_slots) word number)
+      (nat_lt slot (blocks_from m l) ≡ true → w.used (slot - slot_count l m.fixed_slots) ≡ false)
+      × (heads ≡ (if nat_lt slot (blocks_from m l) then stored (slot - slot_count l m.fixed_slots) word number else []))
   -- the words that a read without a lock writes
   IsOutsideChunk kinds.ReadReply p found heads = (x : Look) × (p.reads.look ≡ Some x)
       × (heads ≡ events.ReadReply x.thunk.request (reply_in (m.body x.thunk)) ∷ [])
@@ -84,9 +87,11 @@ module _ (m : Meaning) (l : Layout) (w : AgreementState) (r : ℕ) where
       × (heads ≡ events.Read place ∷ events.ExchangeCell r place log value ∷ [])
   IsLineChunk (kinds.PrivateLoad slot cell) p q found heads = (log : ℕ) × (next_of m q ≡ micros.PrivateLoad cell log)
       × (heads ≡ events.PrivateLoad r cell log (cell_of m.fixed_cells slot cell) ∷ [])
-  IsLineChunk (kinds.PrivateStore slot cell number) p q found heads = (log : ℕ) × (value : Source)
-      × (next_of m q ≡ micros.PrivateStore cell log value) × (q.made ≡ Some slot)
-      × (heads ≡ events.PrivateStore r cell log value (cell_of m.fixed_cells slot cell) number ∷ [])
+  -- a word of a block that is to be linked, or a cell of a Make's slot
+  IsLineChunk (kinds.PrivateStore slot cell number) p q found heads =
+      ((needs_link q (next_of m q) ≡ true) × (heads ≡ []))
+      ⊎ ((log : ℕ) × (value : Source) × (next_of m q ≡ micros.PrivateStore cell log value) × (q.made ≡ Some slot)
+      × (heads ≡ events.PrivateStore r cell log value (cell_of m.fixed_cells slot cell) number ∷ []))
   IsLineChunk kinds.MakeCommit p q found heads =
       (log slot : ℕ) × (next_of m q ≡ micros.MakeCommit log) × (q.made ≡ Some slot)
       × (heads ≡ events.MakeCommit r log (suc slot) ∷ [])

@@ -16,7 +16,7 @@ use Rattle.machine_states.specs.runner_parts.specs.Tests.{has}
 use Rattle.machine_states.specs.guard_core.specs.Moves.{is_unnamed}
 use Rattle.machine_states.specs.runner_steps.specs.Guards.{is_last_guard}
 use Rattle.machine_states.specs.runner_steps.specs.Outside.{is_sure_of}
-use Rattle.machine_states.specs.runner_steps.specs.Sections.{is_open_run, next_of, commits_to}
+use Rattle.machine_states.specs.runner_steps.specs.Sections.{is_open_run, next_of, commits_to, needs_link}
 use Rattle.agreement_core.specs.State.{AgreementState, section_of}
 use Rattle.agreement_core.specs.Events.{IsAlone, IsPrivateStore, IsPublishable}
 use Rattle.machine_states.specs.Sight.{Sight}
@@ -28,12 +28,11 @@ pub record IsIdle (w : AgreementState) (d : ℕ) : Type 0 where
   pub retired : w.live d ≡ false
   pub unrun : (r : ℕ) → (w.run r).running ≡ true → (w.run r).descriptor ≢ d
 
--- a descriptor whose words are those of this thunk, with no done and an empty log, may be published
+-- a descriptor whose words are those of this thunk, with no done, may be published
 pub record MayPublish (m : Meaning) (l : Layout) (w : AgreementState) (s : Sight) (r : ℕ) (t : Thunk)
     (d : ℕ) : Type 0 where
   pub words : thunk_in s.word d ≡ t
   pub undone : s.word (DoneWord d) ≡ 0
-  pub unlogged : (k : ℕ) → (w.section d).log k ≡ 0
   pub publishable : IsPublishable (rules_of m l) d t.lock t.word (micro_at (line (m.body t)))
       (committed (line (m.body t)))
 
@@ -44,11 +43,12 @@ module _ (m : Meaning) (l : Layout) where
     pub alone : (q : RunState) (p k : ℕ) → (s.part r).run ≡ Some q → is_open_run q ≡ true
         → next_of m q ≡ LoadCell p k → (w.run r).at ≡ (section_of w r).edge → (section_of w r).done ≡ 0
         → IsAlone w ((w.run r).descriptor) p
-    -- a commit of a run finds the word that the section's log has there
+    -- a commit of a run finds the word that the section's log has there; before a part is linked it is no commit
     pub logged : (q : RunState) (k : ℕ) → (s.part r).run ≡ Some q → is_open_run q ≡ true
-        → commits_to (next_of m q) ≡ Some k → (w.section q.descriptor).log k ≡ found
+        → commits_to (next_of m q) ≡ Some k → needs_link q (next_of m q) ≡ false
+        → (w.section q.descriptor).log k ≡ found
     -- a Make's store into a cell of its slot
-    pub private : (q : RunState) (slot cell number : ℕ) → (s.part r).run ≡ Some q
+    pub private : (q : RunState) (slot cell number : ℕ) → (s.part r).run ≡ Some q → needs_link q (next_of m q) ≡ false
         → kind ≡ kinds.PrivateStore slot cell number
         → IsPrivateStore (rules_of m l) w (cell_of m.fixed_cells slot cell) number
     -- an own free descriptor isn't published; the own published one isn't retired; that of which the runner is sure

@@ -33,6 +33,16 @@ abbrev pub is_store : EventKind → Bool
 is_store (kinds.PrivateStore slot word number) = true
 is_store _ = false
 
+-- or a try to publish, by which a log is emptied
+abbrev pub is_writing : EventKind → Bool
+is_writing (kinds.PrivateStore slot word number) = true
+is_writing (kinds.Hold t d) = true
+is_writing _ = false
+
+pub not_store : (kind : EventKind) → is_writing kind ≡ false → is_store kind ≡ false
+not_store (kinds.PrivateStore slot word number) k = absurd (let y = k in cc)
+not_store _ k = refl
+
 -- the events of agreement
 module _ (m : Meaning) (l : Layout) (w : AgreementState) (r : ℕ) where
   one_of : (v : agreement.Event) (heads : List agreement.Event) → leaves_logs v ≡ true → heads ≡ v ∷ [] → AllAre leaves_logs heads
@@ -58,7 +68,7 @@ module _ (m : Meaning) (l : Layout) (w : AgreementState) (r : ℕ) where
   line_logs (kinds.LoadCell None) p q found heads k chunk = one_of _ heads refl chunk.3
   line_logs kinds.ExchangeCell p q found heads k chunk = read_and _ _ heads refl chunk.4
   line_logs (kinds.PrivateLoad slot cell) p q found heads k chunk = one_of _ heads refl chunk.2
-  line_logs (kinds.PrivateStore slot cell number) p q found heads k chunk = one_of _ heads refl chunk.4
+  line_logs (kinds.PrivateStore slot cell number) p q found heads k chunk = ⊎_elim (λ link. none_of heads link.1) (λ fills. one_of _ heads refl fills.4) chunk
   line_logs kinds.MakeCommit p q found heads k chunk = absurd (let y = k in cc)
   line_logs kinds.EpochForRetire p q found heads k chunk = one_of _ heads refl chunk.3
   line_logs kinds.RetireCommit p q found heads k chunk = absurd (let y = k in cc)
@@ -93,9 +103,9 @@ module _ (m : Meaning) (l : Layout) (w : AgreementState) (r : ℕ) where
       by true = frees_leave (sections.unnamed (p.guards.looked ++ found ∷ []) p)
       by false = tt
 
-  pub outside_logs : (kind : EventKind) (p : PartState) (found : ℕ) (heads : List agreement.Event) → is_store kind ≡ false
+  pub outside_logs : (kind : EventKind) (p : PartState) (found : ℕ) (heads : List agreement.Event) → is_writing kind ≡ false
       → sections.IsOutsideChunk m l w r kind p found heads → AllAre leaves_logs heads
-  outside_logs (kinds.Hold t d) p found heads k chunk = ⊎_elim (λ h. read_and _ _ heads refl h.1) (λ h. one_of _ heads refl h.1) chunk
+  outside_logs (kinds.Hold t d) p found heads k chunk = absurd (let y = k in cc)
   outside_logs (kinds.LoadGuard n) p found heads k chunk = subst (AllAre leaves_logs) (sym chunk) (swept_leave p found)
   outside_logs (kinds.LoadCell (Some place)) p found heads k chunk = one_of _ heads refl chunk
   outside_logs (kinds.LoadThunk (Some d)) p found heads k chunk = one_of _ heads refl chunk
@@ -141,7 +151,7 @@ module _ (m : Meaning) (l : Layout) (r : ℕ) where
   inside_log kind p q found vs true k chunk = line_log kind p q (next_of m q) found vs k chunk
   inside_log kind p q found vs false k chunk = no_slot vs chunk
 
-  pub outside_log : (kind : EventKind) (p : PartState) (found : ℕ) (vs : List epochs.Event) → is_store kind ≡ false
+  pub outside_log : (kind : EventKind) (p : PartState) (found : ℕ) (vs : List epochs.Event) → is_writing kind ≡ false
       → slots.IsOutsideChunk m l r kind p found vs → AllAre leaves_log vs
   outside_log kinds.EnterLoad p found vs k chunk = one_slot _ vs refl chunk
   outside_log kinds.Announce p found vs k chunk = one_slot _ vs refl chunk.2
@@ -153,7 +163,7 @@ module _ (m : Meaning) (l : Layout) (r : ℕ) where
   outside_log (kinds.LoadCell (Some place)) p found vs k chunk = one_slot _ vs refl chunk
   outside_log (kinds.PrivateLoad slot cell) p found vs k chunk = subst (AllAre leaves_log) (sym chunk) (if_leaves (slots.is_last_look p.nodes slot cell) _ refl)
   outside_log (kinds.PrivateStore slot word number) p found vs k chunk = absurd (let y = k in cc)
-  outside_log (kinds.Hold t d) p found vs k chunk = ⊎_elim (λ h. one_slot _ vs refl h.1) (λ h. no_slot vs h.1) chunk
+  outside_log (kinds.Hold t d) p found vs k chunk = absurd (let y = k in cc)
   outside_log (kinds.Guard d) p found vs k chunk = one_slot _ vs refl chunk
   outside_log (kinds.LoadGuard n) p found vs k chunk = subst (AllAre leaves_log) (sym chunk) (if_leaves (is_last_guard l p.guards.looked) _ refl)
   outside_log (kinds.BoardTake word link) p found vs k chunk = subst (AllAre leaves_log) (sym chunk) (if_leaves (found == link) _ refl)

@@ -6,6 +6,7 @@ use Rattle.machine_states.specs.table_words.specs.declared.layout.Layout.{Layout
 use Rattle.machine_states.specs.table_words.specs.Seen.{upd}
 use Rattle.machine_states.specs.structure_laws.specs.Meaning.{Meaning}
 use Rattle.machine_states.specs.body_terms.specs.Run.{written_once}
+use Rattle.machine_states.specs.body_terms.specs.declared.micro.Micro.{Micro}
 use Rattle.agreement_core.specs.State.{CellRules, Section, AgreementState, section_of}
 use Rattle.agreement_core.specs.Checks.{came}
 use Rattle.agreement_core.specs.Events as agreement
@@ -25,6 +26,7 @@ logs_of w d k = (w.section d).log k
 
 -- an event of agreement that writes no log word
 abbrev pub leaves_logs : agreement.Event → Bool
+leaves_logs (agreement.Publish d lock word request code slot) = false
 leaves_logs (agreement.StoreLog d log word) = false
 leaves_logs (agreement.Commit r place log) = false
 leaves_logs (agreement.NestedCommit r place log) = false
@@ -54,8 +56,7 @@ module _ (w : AgreementState) where
   goes_on_logs r = same_log w.section ((w.run r).descriptor) (came (section_of w r) (suc ((w.run r).at))) (λ k. refl)
 
   logs_stay : (v : agreement.Event) → leaves_logs v ≡ true → (d k : ℕ) → logs_of (agreement.after w v) d k ≡ logs_of w d k
-  logs_stay (agreement.Publish d lock word request code slot) e =
-      same_log w.section d (record (w.section d) { lock = lock; word = word; request = request; code = code; slot = slot; edge = 0 }) (λ k. refl)
+  logs_stay (agreement.Publish d lock word request code slot) e = absurd (let y = e in cc)
   logs_stay (agreement.StoreLog d log word) e = absurd (let y = e in cc)
   logs_stay (agreement.StoreDone d word) e = same_log w.section d (record (w.section d) { done = word }) (λ k. refl)
   logs_stay (agreement.Pass r) e = goes_on_logs r
@@ -87,6 +88,12 @@ module _ (w : AgreementState) where
       (came (record (section_of w r) { log = upd ((section_of w r).log) log (written_once ((section_of w r).log log) proposal) }) (suc ((w.run r).at)))
       (λ j. refl)
 
+  -- a publication, which begins with an empty log
+  pub published_logs : (n lock word request : ℕ) (code : ℕ → Micro) (slot : ℕ → ℕ) (i j : ℕ)
+      → logs_of (agreement.after w (agreement.Publish n lock word request code slot)) i j ≡ cond (i == n) 0 (logs_of w i j)
+  published_logs n lock word request code slot i j = map_cond (λ (y : Section). y.log j) (i == n)
+      (record (w.section n) { lock = lock; word = word; request = request; code = code; slot = slot; log = λ k. 0; edge = 0 }) (w.section i)
+
   -- a private store
   pub stored_logs : (d log word i j : ℕ) → logs_of (agreement.after w (agreement.StoreLog d log word)) i j ≡ upd2 (logs_of w) d log word i j
   stored_logs d log word = written_log w.section d log word (record (w.section d) { log = upd ((w.section d).log) log word }) (λ j. refl)
@@ -114,8 +121,14 @@ module _ (m : Meaning) (l : Layout) (a a' : AgreementState) (r : ℕ) (heads : L
       ap (λ (u : AgreementState). logs_of u d k) (sym leads.there ∙ ap (λ es. agreement_schedules.after_all (rules_of m l) a (es ++ checks)) is)
       ∙ all_stay (rules_of m l) (agreement.after a v) checks (checks_leave r leads.passes) d k
 
+  pub logs_behind : (u v : agreement.Event) → heads ≡ u ∷ v ∷ [] → (d k : ℕ) → logs_of a' d k ≡ logs_of (agreement.after (agreement.after a u) v) d k
+  logs_behind u v is d k =
+      ap (λ (w : AgreementState). logs_of w d k) (sym leads.there ∙ ap (λ es. agreement_schedules.after_all (rules_of m l) a (es ++ checks)) is)
+      ∙ all_stay (rules_of m l) (agreement.after (agreement.after a u) v) checks (checks_leave r leads.passes) d k
+
 -- an event of epochs and slots that writes no log word
 abbrev pub leaves_log : epochs.Event → Bool
+leaves_log (epochs.Publish r d roles) = false
 leaves_log (epochs.MakeCommit r d index slot worn) = false
 leaves_log (epochs.RetireCommit r) = false
 leaves_log (epochs.WordCommit r d index word) = false
@@ -123,6 +136,7 @@ leaves_log (epochs.StoreLog r d index word) = false
 leaves_log _ = true
 
 log_stays : (c : Counts) (w : EpochState) (v : epochs.Event) → leaves_log v ≡ true → (epochs.after c w v).log ≡ w.log
+log_stays c w (epochs.Publish r d roles) e = absurd (let y = e in cc)
 log_stays c w (epochs.MakeCommit r d index slot worn) e = absurd (let y = e in cc)
 log_stays c w (epochs.RetireCommit r) e = absurd (let y = e in cc)
 log_stays c w (epochs.WordCommit r d index word) e = absurd (let y = e in cc)

@@ -1,6 +1,12 @@
 pub mod Events
 pub mod Chunks
-pub mod Words
+pub mod Seen
+pub mod Asked
+pub mod Apart
 pub mod Keeping
+pub mod Words
+pub mod Steps
 pub mod AllKinds
 pub mod First
+pub mod Finding
+pub mod Holding

@@ -1,11 +1,11 @@
 -- Which steps leave the log words as they are, and on which word a commit is.
-use Rattle.std.specs.Prelude.{Bool, true, false, if◌then◌else◌}
-use Rattle.std.proofs.Common.{◌≡◌, ℕ, List, sym, ap, ◌∙◌, subst, ⊎_elim, Some, None, refl, ◌+◌}
+use Rattle.std.specs.Prelude.{◌/◌, nat_lt, cond, Bool, true, false, if◌then◌else◌}
+use Rattle.std.proofs.Common.{◌≡◌, ℕ, List, length, sym, ap, ◌∙◌, subst, ⊎_elim, Some, None, refl, ◌+◌, ◌<◌, arith}
 use Rattle.machine_states.specs.map_history.specs.declared.op.Request.{Request}
 use Rattle.machine_states.specs.body_terms.specs.declared.micro.Micro.{Micro}
 use Rattle.machine_states.specs.table_words.specs.declared.layout.Layout.{Layout}
 use Rattle.machine_states.specs.table_words.specs.declared.spot.Spot.{Spot}
-use Rattle.machine_states.specs.table_words.specs.declared.spot.Spot.TheVariants.{LogWord, LinkWord}
+use Rattle.machine_states.specs.table_words.specs.Places.{part_words, slot_count}
 use Rattle.machine_states.specs.table_words.specs.declared.access.Access.{Access}
 use Rattle.machine_states.specs.table_words.specs.declared.access.Access.TheVariants.{Loads, Exchanges}
 use Rattle.machine_states.specs.table_words.specs.Access.{written}
@@ -13,15 +13,14 @@ use Rattle.machine_states.specs.table_words.specs.Seen.{put}
 use Rattle.machine_states.specs.table_words.proofs.Seen.{put_elsewhere}
 use Rattle.machine_states.specs.structure_laws.specs.Meaning.{Meaning}
 use Rattle.machine_states.specs.epoch_core.specs.small_lemmas.proofs.Bools.{not_both}
-use Rattle.machine_states.specs.epoch_core.specs.State.{EpochState}
+use Rattle.machine_states.specs.epoch_core.specs.small_lemmas.proofs.Numbers.{tested_not_less}
 use Rattle.machine_states.specs.runner_parts.specs.declared.event.EventKind.{EventKind}
 use Rattle.machine_states.specs.runner_parts.specs.declared.event.EventKind.TheVariants as kinds
 use Rattle.machine_states.specs.runner_parts.specs.State.{RunState, PartState}
-use Rattle.machine_states.specs.runner_steps.specs.Asks.{opening_ask}
-use Rattle.machine_states.specs.Blockless.{outside_ask, line_ask, asks}
-use Rattle.machine_states.specs.runner_steps.specs.Sections.{is_open_run, next_of, commits_to}
-use Rattle.agreement_core.specs.State.{AgreementState}
-use Rattle.machine_states.specs.Sight.{Sight}
+use Rattle.machine_states.specs.runner_steps.specs.Asks.{opening_ask, outside_ask, line_ask}
+use Rattle.machine_states.specs.runner_steps.specs.InRun.{fill_store_ask, block_empty_ask}
+use Rattle.machine_states.specs.runner_steps.specs.Outside.{Ask, when, private_load_ask, blocks_from}
+use Rattle.machine_states.specs.runner_steps.specs.Sections.{next_of, commits_to, is_beyond, needs_link}
 use Rattle.machine_states.proofs.Sights.{if_some, some_none}
 use Rattle.machine_states.proofs.Steps.{some_same}
 use Rattle.machine_states.proofs.Updates.{put_same}
@@ -29,71 +28,69 @@ use Rattle.machine_guards.specs.machine_agreement.specs.machine_epochs.proofs.In
 use Rattle.machine_guards.specs.machine_agreement.specs.machine_epochs.proofs.OutsideAsked as outside
 use Rattle.machine_guards.specs.machine_agreement.specs.machine_epochs.proofs.ReadsAsked as reads
 use Rattle.machine_guards.specs.machine_agreement.specs.machine_epochs.proofs.BoardAsked as board
-use Rattle.machine_guards.specs.machine_agreement.proofs.LineAsked.{line_asked}
-use Rattle.machine_blocks.specs.Stands.{LogsStand}
+use Rattle.machine_guards.proofs.Views.{is_linking}
+use Rattle.block_words.specs.Blocks.{log_spot, room}
+use Rattle.machine_blocks.proofs.Asked as asked
 use Rattle.machine_blocks.proofs.Chunks.{is_commit, is_store}
+use Rattle.machine_blocks.proofs.Keeping.{is_of_log}
 
--- a log word of a descriptor, or its link
-abbrev is_of_log : Spot → Bool
-is_of_log (LogWord d k) = true
-is_of_log (LinkWord d) = true
-is_of_log _ = false
-
-module _ (f : Spot → ℕ) (x : Spot × Access) where
-  -- a step on this word leaves them all
-  pub record LogWordsStay : Type 0 where
-    pub log : (d k : ℕ) → put f x.0 (written x.1 (f x.0)) (LogWord d k) ≡ f (LogWord d k)
-    pub link : (d : ℕ) → put f x.0 (written x.1 (f x.0)) (LinkWord d) ≡ f (LinkWord d)
+-- the step leaves the words of logs, their links, and the words of blocks
+abbrev pub LogWordsStay : (Spot → ℕ) → Spot × Access → Type 0
+LogWordsStay f x = (y : Spot) → is_of_log y ≡ true → put f x.0 (written x.1 (f x.0)) y ≡ f y
 
 module _ (f : Spot → ℕ) where
-  -- where it is another word
-  apart : (x : Spot × Access) → is_of_log x.0 ≡ false → LogWordsStay f x
-  apart x off = record {
-    log = λ d k. put_elsewhere f x.0 _ (LogWord d k) (λ same. not_both (sym (ap is_of_log same)) off);
-    link = λ d. put_elsewhere f x.0 _ (LinkWord d) (λ same. not_both (sym (ap is_of_log same)) off);
-  }
-
+  -- where it is on another word
   pub off : (a : Spot) (access : Access) (x : Spot × Access) → (a, access) ≡ x → is_of_log a ≡ false → LogWordsStay f x
-  off a access x is other = subst (LogWordsStay f) is (apart (a, access) other)
+  off a access x is other = subst (LogWordsStay f) is (λ y of. put_elsewhere f a _ y (λ same. not_both of (ap is_of_log same ∙ other)))
 
   -- or where it is a load
-  loads : (a : Spot) (x : Spot × Access) → (a, Loads) ≡ x → LogWordsStay f x
-  loads a x is = subst (LogWordsStay f) is (record {
-    log = λ d k. ap (λ (g : Spot → ℕ). g (LogWord d k)) (put_same f a);
-    link = λ d. ap (λ (g : Spot → ℕ). g (LinkWord d)) (put_same f a);
-  })
+  pub loads : (a : Spot) (x : Spot × Access) → (a, Loads) ≡ x → LogWordsStay f x
+  loads a x is = subst (LogWordsStay f) is (λ y of. ap (λ (g : Spot → ℕ). g y) (put_same f a))
+
+  when_loads : (b : Bool) (a : Spot) (x : Spot × Access) → when b a Loads ≡ Some x → LogWordsStay f x
+  when_loads b a x e = loads a x (if_some b _ x e).1
+
+  either_loads : (b : Bool) (o o' : Ask) (x : Spot × Access) → (o ≡ Some x → LogWordsStay f x) → (o' ≡ Some x → LogWordsStay f x) → cond b o o' ≡ Some x → LogWordsStay f x
+  either_loads true o o' x h h' e = h e
+  either_loads false o o' x h h' e = h' e
 
   module _ (m : Meaning) (l : Layout) (q : RunState) (x : Spot × Access) where
-    line_words : (kind : EventKind) (free : List ℕ) (micro : Micro) → is_commit kind ≡ false → line_ask m l kind free q micro ≡ Some x → LogWordsStay f x
-    line_words kinds.Commit free micro k e = absurd (let y = k in cc)
-    line_words (kinds.LoadCell None) free micro k e = off _ _ x (inside.load_cell_asked q x micro e).is refl
-    line_words kinds.ExchangeCell free micro k e = off _ _ x (inside.exchange_cell_asked q x l micro e).is refl
-    line_words (kinds.PrivateLoad slot word) free micro k e = off _ _ x (inside.fill_load_asked q x m l slot word free micro e).6 refl
-    line_words (kinds.PrivateStore slot word number) free micro k e = off _ _ x (inside.fill_store_asked q x m l slot word number micro e).5 refl
-    line_words kinds.MakeCommit free micro k e = absurd (let y = k in cc)
-    line_words kinds.RetireCommit free micro k e = absurd (let y = k in cc)
-    line_words kinds.EpochForRetire free micro k e = off _ _ x (inside.epoch_for_retire_asked q x micro e).3 refl
-    line_words kinds.SetDone free micro k e = off _ _ x (inside.set_done_asked q x micro e).1 refl
-    line_words kinds.Release free micro k e = off _ _ x (inside.release_asked q x l micro e).is refl
-    line_words kinds.ClockLoad free micro k e = off _ _ x (inside.clock_load_asked q x micro e).1 refl
-    line_words kinds.StampExchange free micro k e = off _ _ x (inside.stamp_exchange_asked q x micro e).3 refl
-    line_words kinds.ClockRaise free micro k e = off _ _ x (inside.clock_raise_asked q x micro e).2 refl
-    line_words kinds.ReplyExchange free micro k e = off _ _ x (inside.reply_exchange_asked q x micro e).3 refl
-    line_words kinds.NestedLoad free micro k e = off _ _ x (inside.nested_load_asked q x micro e).is refl
-    line_words kinds.NestedHold free micro k e = off _ _ x (inside.nested_hold_asked q x l micro e).is refl
-    line_words kinds.OutcomeLoad free micro k e = off _ _ x (inside.outcome_load_asked q x micro e).is refl
-    line_words kinds.OutcomeCommit free micro k e = absurd (let y = k in cc)
-    line_words _ free micro k e = some_none x e
+    line_words : (kind : EventKind) (free blocks : List ℕ) (micro : Micro) → is_commit kind ≡ false → is_linking kind ≡ false → line_ask m l kind free blocks q micro ≡ Some x → LogWordsStay f x
+    line_words kinds.Commit free blocks micro k n e = absurd (let y = k in cc)
+    line_words (kinds.LoadCell None) free blocks micro k n e = off _ _ x (inside.load_cell_asked q x micro e).is refl
+    line_words kinds.ExchangeCell free blocks micro k n e = off _ _ x (inside.exchange_cell_asked q x l micro e).is refl
+    line_words (kinds.PrivateLoad slot word) free blocks micro k n e = off _ _ x (inside.fill_load_asked q x m l slot word free micro e).6 refl
+    line_words (kinds.PrivateStore slot word number) free blocks micro k n e = absurd (let y = n in cc)
+    line_words (kinds.LinkCommit b) free blocks micro k n e = absurd (let y = n in cc)
+    line_words kinds.MakeCommit free blocks micro k n e = absurd (let y = k in cc)
+    line_words kinds.RetireCommit free blocks micro k n e = absurd (let y = k in cc)
+    line_words kinds.EpochForRetire free blocks micro k n e = off _ _ x (inside.epoch_for_retire_asked q x micro e).3 refl
+    line_words kinds.SetDone free blocks micro k n e = off _ _ x (inside.set_done_asked q x micro e).1 refl
+    line_words kinds.Release free blocks micro k n e = off _ _ x (inside.release_asked q x l micro e).is refl
+    line_words kinds.ClockLoad free blocks micro k n e = off _ _ x (inside.clock_load_asked q x micro e).1 refl
+    line_words kinds.StampExchange free blocks micro k n e = off _ _ x (inside.stamp_exchange_asked q x micro e).3 refl
+    line_words kinds.ClockRaise free blocks micro k n e = off _ _ x (inside.clock_raise_asked q x micro e).2 refl
+    line_words kinds.ReplyExchange free blocks micro k n e = off _ _ x (inside.reply_exchange_asked q x micro e).3 refl
+    line_words kinds.NestedLoad free blocks micro k n e = off _ _ x (inside.nested_load_asked q x micro e).is refl
+    line_words kinds.NestedHold free blocks micro k n e = off _ _ x (inside.nested_hold_asked q x l micro e).is refl
+    line_words kinds.OutcomeLoad free blocks micro k n e = off _ _ x (inside.outcome_load_asked q x micro e).is refl
+    line_words kinds.OutcomeCommit free blocks micro k n e = absurd (let y = k in cc)
+    line_words _ free blocks micro k n e = some_none x e
 
     opening_words : (kind : EventKind) → opening_ask kind q ≡ Some x → LogWordsStay f x
     opening_words (kinds.LoadThunk None) e = off _ _ x (inside.open_more_asked q x e).1 refl
     opening_words kinds.LoadDone e = off _ _ x (inside.load_done_asked q x e).1 refl
     opening_words _ e = some_none x e
 
-    pub inside_words : (kind : EventKind) (free : List ℕ) (b : Bool) → is_commit kind ≡ false
-        → (if b then line_ask m l kind free q (next_of m q) else opening_ask kind q) ≡ Some x → LogWordsStay f x
-    inside_words kind free true k e = line_words kind free (next_of m q) k e
-    inside_words kind free false k e = opening_words kind e
+    pub inside_words : (kind : EventKind) (free blocks : List ℕ) (b : Bool) → is_commit kind ≡ false → is_linking kind ≡ false
+        → (if b then line_ask m l kind free blocks q (next_of m q) else opening_ask kind q) ≡ Some x → LogWordsStay f x
+    inside_words kind free blocks true k n e = line_words kind free blocks (next_of m q) k n e
+    inside_words kind free blocks false k n e = opening_words kind e
+
+  -- a private load is on a cell, on a word of a descriptor, or on one of a block
+  private_loads : (m : Meaning) (l : Layout) (p : PartState) (slot word : ℕ) (x : Spot × Access) → private_load_ask m l slot word p ≡ Some x → LogWordsStay f x
+  private_loads m l p slot word x e = either_loads (nat_lt slot (slot_count l m.fixed_slots)) _ _ x (when_loads _ _ x)
+      (either_loads (nat_lt slot (blocks_from m l)) _ _ x (when_loads _ _ x) (when_loads _ _ x)) e
 
   pub outside_words : (m : Meaning) (l : Layout) (rs : List Request) (r : ℕ) (p : PartState) (x : Spot × Access) (kind : EventKind) → is_store kind ≡ false
       → outside_ask m l rs r kind p ≡ Some x → LogWordsStay f x
@@ -108,7 +105,7 @@ module _ (f : Spot → ℕ) where
   outside_words m l rs r p x (kinds.Join worker) k e = loads _ x (if_some _ _ x e).1
   outside_words m l rs r p x (kinds.LoadCell (Some place)) k e = loads _ x (outside.read_asked m place p x e).2
   outside_words m l rs r p x (kinds.LoadEntry request reply) k e = loads _ x (outside.entry_asked request reply p x e)
-  outside_words m l rs r p x (kinds.PrivateLoad slot word) k e = let h = outside.private_load_asked m l slot word p x e in loads h.0 x h.1
+  outside_words m l rs r p x (kinds.PrivateLoad slot word) k e = private_loads m l p slot word x e
   outside_words m l rs r p x (kinds.PrivateStore slot word number) k e = absurd (let y = k in cc)
   outside_words m l rs r p x (kinds.Hold thunk d) k e = off _ _ x (outside.hold_asked m l rs r thunk d p x e).is refl
   outside_words m l rs r p x (kinds.LoadThunk (Some d)) k e = loads _ x (outside.open_asked d p x e).3
@@ -123,47 +120,51 @@ module _ (f : Spot → ℕ) where
   outside_words m l rs r p x (kinds.BoardGive word slot) k e = off _ _ x (board.board_give_asked l r word slot p x e).is refl
   outside_words m l rs r p x _ k e = some_none x e
 
--- a run that stands before a commit makes no other step: it exchanges the log word
+-- a place that isn't beyond the parts that the run knows
+pub near_room : (q : RunState) (k : ℕ) → is_beyond q (Some k) ≡ false → k < room q.links
+near_room q k near = let most = tested_not_less (length q.links) (k / part_words) near in omega (arith, most)
+
+-- a run that stands before a commit, and has no block to link, makes no other step: it exchanges the log word
 module _ (m : Meaning) (l : Layout) (q : RunState) (x : Spot × Access) (k : ℕ) where
-  -- the step is on this log word
-  abbrev pub OnLogWord : Type 0
-  OnLogWord = LogWord q.descriptor k ≡ x.0
+  -- the step is on this log word, which stands where the run looks for it
+  pub record OnLogWord : Type 0 where
+    pub near : is_beyond q (Some k) ≡ false
+    pub is : log_spot q.descriptor q.links k ≡ x.0
 
   another : (micro μ : Micro) → micro ≡ μ → commits_to μ ≡ None → commits_to micro ≡ Some k → OnLogWord
   another micro μ is none commits = some_none k (sym (ap commits_to is ∙ none) ∙ commits)
 
-  here : (micro μ : Micro) (log proposal : ℕ) → micro ≡ μ → commits_to μ ≡ Some log → (LogWord q.descriptor log, Exchanges 0 proposal) ≡ x
-      → commits_to micro ≡ Some k → OnLogWord
-  here micro μ log proposal step at is commits =
-      ap (LogWord q.descriptor) (some_same k log (sym commits ∙ (ap commits_to step ∙ at))) ∙ ap (λ (y : Spot × Access). y.0) is
+  here : (micro μ : Micro) (log proposal : ℕ) → micro ≡ μ → commits_to μ ≡ Some log → is_beyond q (Some log) ≡ false
+      → (log_spot q.descriptor q.links log, Exchanges 0 proposal) ≡ x → commits_to micro ≡ Some k → OnLogWord
+  here micro μ log proposal step at near is commits =
+      let same : k ≡ log = some_same k log (sym commits ∙ (ap commits_to step ∙ at)) in
+      record { near = ap (λ n. is_beyond q (Some n)) same ∙ near; is = ap (log_spot q.descriptor q.links) same ∙ ap (λ (y : Spot × Access). y.0) is }
 
-  pub commit_word : (kind : EventKind) (free : List ℕ) (micro : Micro) → line_ask m l kind free q micro ≡ Some x → commits_to micro ≡ Some k → OnLogWord
-  commit_word kinds.Commit free micro e commits = let h = inside.commit_asked q x micro e in ⊎_elim
-      (λ word. here micro _ h.log q.word word refl h.is commits) (λ lock. here micro _ h.log q.word lock refl h.is commits) h.step.1
-  commit_word (kinds.LoadCell None) free micro e commits = another micro _ (inside.load_cell_asked q x micro e).step.1 refl commits
-  commit_word kinds.ExchangeCell free micro e commits = another micro _ (inside.exchange_cell_asked q x l micro e).step.2 refl commits
-  commit_word (kinds.PrivateLoad slot word) free micro e commits = another micro _ (inside.fill_load_asked q x m l slot word free micro e).3 refl commits
-  commit_word (kinds.PrivateStore slot word number) free micro e commits =
-      another micro _ (inside.fill_store_asked q x m l slot word number micro e).4 refl commits
-  commit_word kinds.MakeCommit free micro e commits = let h = inside.make_commit_asked q x micro e in here micro _ h.2.log (h.0 + 1) h.2.step refl h.2.is commits
-  commit_word kinds.RetireCommit free micro e commits = let h = inside.retire_commit_asked q x micro e in here micro _ h.1.log (h.0 + 1) h.1.step refl h.1.is commits
-  commit_word kinds.EpochForRetire free micro e commits = another micro _ (inside.epoch_for_retire_asked q x micro e).2 refl commits
-  commit_word kinds.SetDone free micro e commits = another micro _ (inside.set_done_asked q x micro e).0 refl commits
-  commit_word kinds.Release free micro e commits = another micro _ (inside.release_asked q x l micro e).step.1 refl commits
-  commit_word kinds.ClockLoad free micro e commits = another micro _ (inside.clock_load_asked q x micro e).0 refl commits
-  commit_word kinds.StampExchange free micro e commits = another micro _ (inside.stamp_exchange_asked q x micro e).0 refl commits
-  commit_word kinds.ClockRaise free micro e commits = another micro _ (inside.clock_raise_asked q x micro e).0 refl commits
-  commit_word kinds.ReplyExchange free micro e commits = another micro _ (inside.reply_exchange_asked q x micro e).1 refl commits
-  commit_word kinds.NestedLoad free micro e commits = another micro _ (inside.nested_load_asked q x micro e).step.1 refl commits
-  commit_word kinds.NestedHold free micro e commits = another micro _ (inside.nested_hold_asked q x l micro e).step.1 refl commits
-  commit_word kinds.OutcomeLoad free micro e commits = another micro _ (inside.outcome_load_asked q x micro e).step.1 refl commits
-  commit_word kinds.OutcomeCommit free micro e commits = let h = inside.outcome_commit_asked q x micro e in here micro _ h.log q.word h.step.1 refl h.is commits
-  commit_word _ free micro e commits = some_none x e
-
--- so it finds its section's log there
-pub commit_finds : (m : Meaning) (l : Layout) (rs : List Request) (a : AgreementState) (e : EpochState) (s : Sight) → LogsStand a e s
-    → (r : ℕ) (kind : EventKind) (x : Spot × Access) → asks m l rs r kind (s.part r) ≡ Some x → (q : RunState) → (s.part r).run ≡ Some q
-    → is_open_run q ≡ true → (k : ℕ) → commits_to (next_of m q) ≡ Some k → s.word x.0 ≡ (a.section q.descriptor).log k
-commit_finds m l rs a e s old r kind x asked q at opened k commits =
-    ap s.word (sym (commit_word m l q x k kind (s.part r).nodes.free (next_of m q) (line_asked m l rs r kind (s.part r) q x asked at opened) commits))
-    ∙ old.own q.descriptor k
+  pub commit_word : (kind : EventKind) (free blocks : List ℕ) (micro : Micro) → line_ask m l kind free blocks q micro ≡ Some x → commits_to micro ≡ Some k → needs_link q micro ≡ false → OnLogWord
+  commit_word kinds.Commit free blocks micro e commits n = let h = asked.commit_asked q x micro e in ⊎_elim
+      (λ word. here micro _ h.log q.word word refl h.near h.is commits) (λ lock. here micro _ h.log q.word lock refl h.near h.is commits) h.step.1
+  commit_word (kinds.LoadCell None) free blocks micro e commits n = another micro _ (inside.load_cell_asked q x micro e).step.1 refl commits
+  commit_word kinds.ExchangeCell free blocks micro e commits n = another micro _ (inside.exchange_cell_asked q x l micro e).step.2 refl commits
+  commit_word (kinds.PrivateLoad slot word) free blocks micro e commits n = another micro _ (inside.fill_load_asked q x m l slot word free micro e).3 refl commits
+  commit_word (kinds.PrivateStore slot word number) free blocks micro e commits n =
+      another micro _ (inside.fill_store_asked q x m l slot word number micro (unlinking (needs_link q micro) n e)).4 refl commits
+    where
+      unlinking : (b : Bool) → b ≡ false → cond b (block_empty_ask m l slot word number blocks q) (fill_store_ask m l slot word number q micro) ≡ Some x
+          → fill_store_ask m l slot word number q micro ≡ Some x
+      unlinking true is e0 = absurd (let y = is in cc)
+      unlinking false is e0 = e0
+  commit_word (kinds.LinkCommit b) free blocks micro e commits n = absurd (not_both (asked.link_asked q x l b micro e).needs n)
+  commit_word kinds.MakeCommit free blocks micro e commits n = let h = asked.make_commit_asked q x micro e in here micro _ h.2.log (h.0 + 1) h.2.step refl h.2.near h.2.is commits
+  commit_word kinds.RetireCommit free blocks micro e commits n = let h = asked.retire_commit_asked q x micro e in here micro _ h.1.log (h.0 + 1) h.1.step refl h.1.near h.1.is commits
+  commit_word kinds.EpochForRetire free blocks micro e commits n = another micro _ (inside.epoch_for_retire_asked q x micro e).2 refl commits
+  commit_word kinds.SetDone free blocks micro e commits n = another micro _ (inside.set_done_asked q x micro e).0 refl commits
+  commit_word kinds.Release free blocks micro e commits n = another micro _ (inside.release_asked q x l micro e).step.1 refl commits
+  commit_word kinds.ClockLoad free blocks micro e commits n = another micro _ (inside.clock_load_asked q x micro e).0 refl commits
+  commit_word kinds.StampExchange free blocks micro e commits n = another micro _ (inside.stamp_exchange_asked q x micro e).0 refl commits
+  commit_word kinds.ClockRaise free blocks micro e commits n = another micro _ (inside.clock_raise_asked q x micro e).0 refl commits
+  commit_word kinds.ReplyExchange free blocks micro e commits n = another micro _ (inside.reply_exchange_asked q x micro e).1 refl commits
+  commit_word kinds.NestedLoad free blocks micro e commits n = another micro _ (inside.nested_load_asked q x micro e).step.1 refl commits
+  commit_word kinds.NestedHold free blocks micro e commits n = another micro _ (inside.nested_hold_asked q x l micro e).step.1 refl commits
+  commit_word kinds.OutcomeLoad free blocks micro e commits n = another micro _ (inside.outcome_load_asked q x micro e).step.1 refl commits
+  commit_word kinds.OutcomeCommit free blocks micro e commits n = let h = asked.outcome_commit_asked q x micro e in here micro _ h.log q.word h.step.1 refl h.near h.is commits
+  commit_word _ free blocks micro e commits n = some_none x e

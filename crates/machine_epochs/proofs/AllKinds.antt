@@ -17,8 +17,8 @@ use Rattle.machine_states.specs.runner_parts.specs.declared.event.EventKind.TheV
 use Rattle.machine_states.specs.runner_parts.specs.State.{RunState, BlocksState, PartState, RecordsState}
 use Rattle.machine_states.specs.runner_steps.specs.Sections.{is_open_run, next_of}
 use Rattle.machine_states.specs.runner_steps.specs.AfterInRun.{opened_more}
-use Rattle.machine_states.specs.runner_steps.specs.Asks.{opening_ask, sizes_for}
-use Rattle.machine_states.specs.Blockless.{outside_ask, line_ask, inside_ask, ask_by, asks, outside_after, line_after, inside_after, after_by, after}
+use Rattle.machine_states.specs.runner_steps.specs.Asks.{outside_ask, line_ask, opening_ask, inside_ask, ask_by, asks, sizes_for}
+use Rattle.machine_states.specs.runner_steps.specs.After.{outside_after, line_after, inside_after, after_by, after}
 use Rattle.machine_states.specs.runner_steps.specs.After.{noted, leaves, knows_also}
 use Rattle.machine_states.specs.runner_steps.specs.Blocks.{blocks_after}
 use Rattle.machine_states.specs.runner_steps.specs.Board.{board_after}
@@ -89,15 +89,16 @@ module _ (m : Meaning) (l : Layout) (rs : List Request) (w : EpochState) (s : Si
   -- the steps of a run
   module _ (q : RunState) (at : p.run ≡ Some q) where
     module _ (is_open : is_open_run q ≡ true) where
-      line_goes : (kind : EventKind) → EpochsAreSupplied m l w s r kind x.0 → line_ask m l kind p.nodes.free q (next_of m q) ≡ Some x
+      line_goes : (kind : EventKind) → EpochsAreSupplied m l w s r kind x.0 → line_ask m l kind p.nodes.free p.blocks.free q (next_of m q) ≡ Some x
           → To (IsLineChunk m l r kind p q (next_of m q) found) kind (line_after m l kind p q (next_of m q) found)
-      line_goes kinds.Commit u e = commits.commit m l w s old r q at is_open rs _ (next_of m q) refl x fits e
+      line_goes kinds.Commit u e = commits.commit m l w s old r q at is_open _ (next_of m q) refl x e
       line_goes (kinds.LoadCell None) u e = runs.load_cell m l w s old r q at is_open _ (next_of m q) refl x e
       line_goes kinds.ExchangeCell u e = runs.exchange_cell m l w s old r q at is_open _ (next_of m q) refl x e
       line_goes (kinds.PrivateLoad slot word) u e = slots.fill_load m l w s old r q at is_open _ (next_of m q) refl x slot word e
-      line_goes (kinds.PrivateStore slot word number) u e = slots.fill_store m l w s old r q at is_open _ (next_of m q) refl x slot word number e
-      line_goes kinds.MakeCommit u e = slots.make_commit m l w s old r q at is_open _ (next_of m q) refl x rs fits (λ k. u.logged q k at is_open) e
-      line_goes kinds.RetireCommit u e = retires.retire_commit m l w s old r q at is_open _ (next_of m q) refl x rs fits (λ k. u.logged q k at is_open) e
+      line_goes (kinds.PrivateStore slot word number) u e = slots.run_store m l w s old r q at is_open _ (next_of m q) refl x slot word number p.blocks.free e
+      line_goes (kinds.LinkCommit b) u e = slots.link_commit m l w s old r q at is_open _ (next_of m q) refl x b e
+      line_goes kinds.MakeCommit u e = slots.make_commit m l w s old r q at is_open _ (next_of m q) refl x (λ k. u.logged q k at is_open) e
+      line_goes kinds.RetireCommit u e = retires.retire_commit m l w s old r q at is_open _ (next_of m q) refl x (λ k. u.logged q k at is_open) e
       line_goes kinds.EpochForRetire u e = retires.epoch_for_retire m l w s old r q at is_open _ (next_of m q) refl x (λ slot k is. u.retires q slot k at is_open is) e
       line_goes kinds.SetDone u e = ends.set_done m l w s old r q at is_open _ (next_of m q) refl x rs fits e
       line_goes kinds.Release u e = ends.release m l w s old r q at is_open _ (next_of m q) refl x e
@@ -108,7 +109,7 @@ module _ (m : Meaning) (l : Layout) (rs : List Request) (w : EpochState) (s : Si
       line_goes kinds.NestedLoad u e = runs.nested_load m l w s old r q at is_open _ (next_of m q) refl x e
       line_goes kinds.NestedHold u e = runs.nested_hold m l w s old r q at is_open _ (next_of m q) refl x e
       line_goes kinds.OutcomeLoad u e = runs.outcome_load m l w s old r q at is_open _ (next_of m q) refl x e
-      line_goes kinds.OutcomeCommit u e = commits.outcome_commit m l w s old r q at is_open rs _ (next_of m q) refl x fits e
+      line_goes kinds.OutcomeCommit u e = commits.outcome_commit m l w s old r q at is_open _ (next_of m q) refl x e
       line_goes _ u e = some_none x e
 
     opening_goes : (kind : EventKind) → opening_ask kind q ≡ Some x → To (λ es. es ≡ []) kind (opened_more p q found)
@@ -116,12 +117,12 @@ module _ (m : Meaning) (l : Layout) (rs : List Request) (w : EpochState) (s : Si
     opening_goes kinds.LoadDone e = ends.load_done m l w s old r q at _ x e
     opening_goes _ e = some_none x e
 
-    inside_by : (kind : EventKind) (b : Bool) → is_open_run q ≡ b → EpochsAreSupplied m l w s r kind x.0 → cond b (line_ask m l kind p.nodes.free q (next_of m q)) (opening_ask kind q) ≡ Some x
+    inside_by : (kind : EventKind) (b : Bool) → is_open_run q ≡ b → EpochsAreSupplied m l w s r kind x.0 → cond b (line_ask m l kind p.nodes.free p.blocks.free q (next_of m q)) (opening_ask kind q) ≡ Some x
         → To (IsInsideChunk m l r b kind p q found) kind (cond b (line_after m l kind p q (next_of m q) found) (opened_more p q found))
     inside_by kind true is u e = line_goes is kind u e
     inside_by kind false is u e = opening_goes kind e
 
-    inside_goes : (kind : EventKind) → EpochsAreSupplied m l w s r kind x.0 → inside_ask m l kind p.nodes.free q ≡ Some x
+    inside_goes : (kind : EventKind) → EpochsAreSupplied m l w s r kind x.0 → inside_ask m l kind p.nodes.free p.blocks.free q ≡ Some x
         → To (IsInsideChunk m l r (is_open_run q) kind p q found) kind (inside_after m l kind p q found)
     inside_goes kind u e = inside_by kind (is_open_run q) refl u e
 
@@ -142,7 +143,7 @@ module _ (m : Meaning) (l : Layout) (rs : List Request) (w : EpochState) (s : Si
     outside_goes (kinds.LoadEntry request reply) j u e = outside.load_entry m l w s old r none _ request reply x e
     outside_goes (kinds.PrivateLoad slot word) j u e = stores.private_load m l w s old r none rs _ slot word x fits e
     outside_goes (kinds.PrivateStore slot word number) j u e = stores.private_store m l w s old r none rs _ slot word number x fits e
-    outside_goes (kinds.Hold thunk d) j u e = sections.hold m l w s old r none _ x rs thunk d (λ k. u.unlogged thunk d k refl none) e
+    outside_goes (kinds.Hold thunk d) j u e = sections.hold m l w s old r none _ x rs thunk d e
     outside_goes (kinds.LoadThunk (Some d)) j u e = outside.load_thunk m l w s old r none _ d x e
     outside_goes (kinds.ReadPlan thunk) j u e = outside.read_plan m l w s old r none _ thunk x e
     outside_goes kinds.ReadClock j u e = outside.read_clock m l w s old r none _ x e
@@ -193,7 +194,7 @@ module _ (m : Meaning) (l : Layout) (w : EpochState) (s : Sight) (old : IsJoined
     refl,
     record {
       enabled = tt;
-      joined = stays_joined m l w kept keeper_joined worker seat (leaves (s.part worker)) (record { epoch = refl; announced = λ i. refl; thunk = λ d j. refl; done = λ d. refl; log = λ d k. refl; board = λ i. refl })
+      joined = stays_joined m l w kept keeper_joined worker seat (leaves (s.part worker)) (record { epoch = refl; announced = λ i. refl; thunk = λ d j. refl; done = λ d. refl; log = λ d k. refl; link = λ d. refl; board = λ i. refl })
           (ap (λ (q : PartState). q.stage) (sym worker_is)) (ap lists_of (sym worker_is))
           (as_published m l w kept keeper_joined worker (leaves (s.part worker)) (ap (λ (q : PartState). q.published) (sym worker_is))) worker_tied;
     },

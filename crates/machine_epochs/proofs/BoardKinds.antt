@@ -75,7 +75,6 @@ module _ (m : Meaning) (l : Layout) (w : EpochState) (s : Sight) (old : IsJoined
           stage = stages_stay m l w s old r f p' refl;
         }))
         (subst (λ (v : EpochState). ShowsBoard v (next m l w s old r f p')) (sym is) shown)
-        (λ d k high. ap (λ (v : EpochState). v.log d k) is ∙ old.past d k high)
         (λ d k out. ap (λ (v : EpochState). v.role d k) is ∙ old.roles d k (ap is_out (sym (descriptor_place d)) ∙ (ap (λ (v : EpochState). is_out (v.location (slot_of (counts_of m l) d))) (sym is) ∙ out)))
         (once m l w s old r p' (as_published m l w s old r p' refl))
         (subst (λ (v : EpochState). IsTied m l v f r p') (sym is) (record {
@@ -106,7 +105,7 @@ module _ (m : Meaning) (l : Layout) (w : EpochState) (s : Sight) (old : IsJoined
         }))
       where
         at_descriptor : (d j : ℕ) → f (descriptor_spot d j) ≡ s.word (descriptor_spot d j)
-        at_descriptor d j = section_same f s.word (record { thunk = λ n k. refl; done = λ n. refl; log = λ n k. refl }) d j
+        at_descriptor d j = section_same f s.word (record { thunk = λ n k. refl; done = λ n. refl; log = λ n k. refl; link = λ n. refl }) d j
 
   -- a slot goes onto a word that was 0
   module _ (word slot : ℕ) (own : has p.nodes.free slot ≡ true) (empty : on word ≡ 0) (records : RecordsState) where

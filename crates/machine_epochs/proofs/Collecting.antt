@@ -19,13 +19,14 @@ use Rattle.machine_states.specs.runner_parts.specs.declared.event.EventKind.TheV
 use Rattle.machine_states.specs.runner_parts.specs.State.{RunState, PartState, RecordsState}
 use Rattle.machine_states.specs.runner_parts.specs.Lists as lists
 use Rattle.machine_states.specs.runner_steps.specs.AfterOutside as outside
-use Rattle.machine_states.specs.Blockless.{outside_ask, after, outside_after, after_by}
+use Rattle.machine_states.specs.runner_steps.specs.Asks.{outside_ask}
+use Rattle.machine_states.specs.runner_steps.specs.After.{after, outside_after, after_by}
 use Rattle.machine_states.specs.runner_steps.specs.After.{noted}
 use Rattle.machine_states.specs.runner_steps.specs.Blocks.{blocks_outside, blocks_after}
 use Rattle.machine_states.specs.runner_steps.specs.Board.{board_after}
 use Rattle.machine_states.specs.epoch_core.specs.Moves.{is_clear}
 use Rattle.machine_states.specs.World.{World, happens}
-use Rattle.machine_states.specs.Sight.{Sight, sight, sight_after, Steps, IsWhole}
+use Rattle.machine_states.specs.Sight.{Sight, sight, IsWhole, sight_after, Steps}
 use Rattle.machine_states.specs.Reached.{Reached}
 use Rattle.machine_states.proofs.Reached.{reached_all}
 use Rattle.machine_states.proofs.Sights.{happens_steps}

@@ -1,13 +1,13 @@
 -- The kinds of step that change neither the epoch, nor an announcement, nor a stage.
-use Rattle.std.specs.Prelude.{cond, Bool, true, false}
-use Rattle.std.proofs.Common.{◌≡◌, ℕ, ◌-◌, List, refl, sym, ap, subst, Option, Some, None}
+use Rattle.std.specs.Prelude.{cond, Bool, true, false, nat_lt}
+use Rattle.std.proofs.Common.{◌≡◌, ℕ, zero, suc, ◌-◌, List, refl, sym, ap, subst, Option, Some, None}
 use Rattle.section_lines.specs.small_lemmas.proofs.Bools.{not_both}
 use Rattle.machine_states.specs.map_history.specs.declared.op.Request.{Request}
 use Rattle.machine_states.specs.body_terms.specs.declared.micro.Micro.{Micro}
 use Rattle.machine_states.specs.body_terms.specs.declared.micro.Micro.TheVariants as micros
 use Rattle.machine_states.specs.table_words.specs.declared.layout.Layout.{Layout}
 use Rattle.machine_states.specs.table_words.specs.declared.spot.Spot.{Spot}
-use Rattle.machine_states.specs.table_words.specs.declared.spot.Spot.TheVariants.{Epoch, Announcement, ThunkWord, DoneWord, LogWord}
+use Rattle.machine_states.specs.table_words.specs.declared.spot.Spot.TheVariants.{Epoch, Announcement, ThunkWord, DoneWord, LogWord, LinkWord, BlockWord, BlockLink}
 use Rattle.machine_states.specs.table_words.specs.declared.access.Access.{Access}
 use Rattle.machine_states.specs.table_words.specs.declared.access.Access.TheVariants.{Loads, Exchanges}
 use Rattle.machine_states.specs.table_words.specs.Access.{written}
@@ -18,12 +18,14 @@ use Rattle.machine_states.specs.runner_parts.specs.declared.event.EventKind.{Eve
 use Rattle.machine_states.specs.runner_parts.specs.declared.event.EventKind.TheVariants as kinds
 use Rattle.machine_states.specs.runner_parts.specs.declared.entries.Look.{Look}
 use Rattle.machine_states.specs.runner_parts.specs.State.{RunState, PartState}
-use Rattle.machine_states.specs.runner_steps.specs.Sections.{is_open_run, next_of}
-use Rattle.machine_states.specs.runner_steps.specs.Outside.{when}
+use Rattle.machine_states.specs.runner_steps.specs.Sections.{is_open_run, next_of, needs_link}
+use Rattle.machine_states.specs.runner_steps.specs.Outside.{when, blocks_from}
+use Rattle.machine_states.specs.table_words.specs.Places.{slot_count}
 use Rattle.machine_states.specs.runner_steps.specs.Reads.{read_clock_ask, read_reply_ask, read_stamp_ask}
-use Rattle.machine_states.specs.runner_steps.specs.InRun.{load_cell_ask, exchange_cell_ask, fill_load_ask, fill_store_ask, epoch_for_retire_ask, clock_load_ask, stamp_exchange_ask, clock_raise_ask, reply_exchange_ask, nested_load_ask, nested_hold_ask, outcome_load_ask, set_done_ask, release_ask}
-use Rattle.machine_states.specs.Blockless.{commit_ask, make_commit_ask, make_commit_to, retire_commit_ask, outcome_commit_ask, outside_ask, line_ask, ask_by, outside_after, line_after, inside_after, after_by}
-use Rattle.machine_states.specs.runner_steps.specs.Asks.{opening_ask}
+use Rattle.machine_states.specs.runner_steps.specs.InRun.{commit_ask, make_commit_ask, make_commit_to, retire_commit_ask, outcome_commit_ask, private_store_in_run_ask, block_empty_ask, link_commit_ask, load_cell_ask, exchange_cell_ask, fill_load_ask, fill_store_ask, epoch_for_retire_ask, clock_load_ask, stamp_exchange_ask, clock_raise_ask, reply_exchange_ask, nested_load_ask, nested_hold_ask, outcome_load_ask, set_done_ask, release_ask}
+use Rattle.machine_states.specs.runner_steps.specs.After.{outside_after, line_after, inside_after, after_by}
+use Rattle.machine_states.specs.runner_parts.specs.block_words.specs.Blocks.{part_spot, link_spot}
+use Rattle.machine_states.specs.runner_steps.specs.Asks.{outside_ask, line_ask, opening_ask, ask_by}
 use Rattle.machine_states.specs.runner_steps.specs.Guards.{load_guard_by}
 use Rattle.machine_states.specs.epoch_core.specs.declared.stage.Stage.{Stage}
 use Rattle.machine_states.specs.epoch_core.specs.declared.stage.Stage.TheVariants.{Idle, Loaded, Announced, Entered, Scanning}
@@ -81,10 +83,32 @@ either_load : (c b b' : Bool) (a a' : Spot) (x : Spot × Access) → cond c (whe
 either_load true b b' a a' x e = when_load b a x e
 either_load false b b' a a' x e = when_load b' a' x e
 
-in_descriptor : (b c : Bool) (d word : ℕ) → is_entry_word (cond b (ThunkWord d word) (cond c (DoneWord d) (LogWord d (word - 13)))) ≡ false
-in_descriptor true c d word = refl
-in_descriptor false true d word = refl
-in_descriptor false false d word = refl
+one_load : (c c' b b' b'' : Bool) (a a' a'' : Spot) (x : Spot × Access) → cond c (when b a Loads) (cond c' (when b' a' Loads) (when b'' a'' Loads)) ≡ Some x → Quiet x
+one_load true c' b b' b'' a a' a'' x e = when_load b a x e
+one_load false c' b b' b'' a a' a'' x e = either_load c' b' b'' a' a'' x e
+
+either_word : (c b b' : Bool) (a a' : Spot) (access access' : Access) (x : Spot × Access) → is_entry_word a ≡ false → is_entry_word a' ≡ false
+    → cond c (when b a access) (when b' a' access') ≡ Some x → Quiet x
+either_word true b b' a a' access access' x q q' e = when_word b a access x q e
+either_word false b b' a a' access access' x q q' e = when_word b' a' access' x q' e
+
+in_block : (c : Bool) (b word : ℕ) → is_entry_word (cond c (BlockLink b) (BlockWord b word)) ≡ false
+in_block true b word = refl
+in_block false b word = refl
+
+in_part : (d : ℕ) (links : List ℕ) (i j : ℕ) → is_entry_word (part_spot d links i j) ≡ false
+in_part d links zero j = refl
+in_part d links (suc i) j = refl
+
+in_link : (d : ℕ) (links : List ℕ) (i : ℕ) → is_entry_word (link_spot d links i) ≡ false
+in_link d links zero = refl
+in_link d links (suc i) = refl
+
+in_descriptor : (b c e : Bool) (d word : ℕ) → is_entry_word (cond b (ThunkWord d word) (cond c (DoneWord d) (cond e (LinkWord d) (LogWord d (word - 13))))) ≡ false
+in_descriptor true c e d word = refl
+in_descriptor false true e d word = refl
+in_descriptor false false true d word = refl
+in_descriptor false false false d word = refl
 
 module _ (m : Meaning) (l : Layout) (rs : List Request) where
   quiet_clock : (p : PartState) (o : Option Look) (x : Spot × Access) → read_clock_ask p o ≡ Some x → Quiet x
@@ -118,8 +142,8 @@ module _ (m : Meaning) (l : Layout) (rs : List Request) where
   quiet_outside r (kinds.Join worker) p x k e = when_load _ _ x e
   quiet_outside r (kinds.LoadCell (Some place)) p x k e = when_load _ _ x e
   quiet_outside r (kinds.LoadEntry request reply) p x k e = when_load _ _ x e
-  quiet_outside r (kinds.PrivateLoad slot word) p x k e = either_load _ _ _ _ _ x e
-  quiet_outside r (kinds.PrivateStore slot word number) p x k e = when_word _ _ _ x (in_descriptor _ _ _ _) e
+  quiet_outside r (kinds.PrivateLoad slot word) p x k e = one_load (nat_lt slot (slot_count l m.fixed_slots)) (nat_lt slot (blocks_from m l)) _ _ _ _ _ _ x e
+  quiet_outside r (kinds.PrivateStore slot word number) p x k e = either_word _ _ _ _ _ _ _ x (in_descriptor _ _ _ _ _) (in_block _ _ _) e
   quiet_outside r (kinds.Hold thunk d) p x k e = when_word _ _ _ x refl e
   quiet_outside r (kinds.LoadThunk (Some d)) p x k e = when_load _ _ x e
   quiet_outside r (kinds.ReadPlan thunk) p x k e = when_kept _ _ x e
@@ -135,8 +159,8 @@ module _ (m : Meaning) (l : Layout) (rs : List Request) where
 
 module _ (l : Layout) (q : RunState) (x : Spot × Access) where
   quiet_commit : (micro : Micro) → commit_ask q micro ≡ Some x → Quiet x
-  quiet_commit (micros.Commit place log) e = of_word _ _ x refl e
-  quiet_commit (micros.NestedCommit place log) e = of_word _ _ x refl e
+  quiet_commit (micros.Commit place log) e = when_word _ _ _ x (in_part q.descriptor q.links _ _) e
+  quiet_commit (micros.NestedCommit place log) e = when_word _ _ _ x (in_part q.descriptor q.links _ _) e
   quiet_commit _ e = some_none x e
 
   quiet_load_cell : (micro : Micro) → load_cell_ask q micro ≡ Some x → Quiet x
@@ -155,16 +179,26 @@ module _ (l : Layout) (q : RunState) (x : Spot × Access) where
   quiet_fill_store m slot word number (micros.PrivateStore cell log value) e = when_word _ _ _ x refl e
   quiet_fill_store m slot word number _ e = some_none x e
 
+  quiet_run_store : (m : Meaning) (slot word number : ℕ) (blocks : List ℕ) (micro : Micro) → private_store_in_run_ask m l slot word number blocks q micro ≡ Some x → Quiet x
+  quiet_run_store m slot word number blocks micro e = by (needs_link q micro) e
+    where
+      by : (b : Bool) → cond b (block_empty_ask m l slot word number blocks q) (fill_store_ask m l slot word number q micro) ≡ Some x → Quiet x
+      by true e = when_word _ _ _ x (in_block _ _ _) e
+      by false e = quiet_fill_store m slot word number micro e
+
+  quiet_link_commit : (b : ℕ) (micro : Micro) → link_commit_ask l b q micro ≡ Some x → Quiet x
+  quiet_link_commit b micro e = when_word _ _ _ x (in_link q.descriptor q.links _) e
+
   quiet_make_commit_to : (log : ℕ) (o : Option ℕ) → make_commit_to q log o ≡ Some x → Quiet x
   quiet_make_commit_to log None e = some_none x e
-  quiet_make_commit_to log (Some s) e = of_word _ _ x refl e
+  quiet_make_commit_to log (Some s) e = when_word _ _ _ x (in_part q.descriptor q.links _ _) e
 
   quiet_make_commit : (micro : Micro) → make_commit_ask q micro ≡ Some x → Quiet x
   quiet_make_commit (micros.MakeCommit log) e = quiet_make_commit_to log q.made e
   quiet_make_commit _ e = some_none x e
 
   quiet_retire_commit : (micro : Micro) → retire_commit_ask q micro ≡ Some x → Quiet x
-  quiet_retire_commit (micros.RetireCommit slot log) e = of_word _ _ x refl e
+  quiet_retire_commit (micros.RetireCommit slot log) e = when_word _ _ _ x (in_part q.descriptor q.links _ _) e
   quiet_retire_commit _ e = some_none x e
 
   quiet_epoch_for_retire : (micro : Micro) → epoch_for_retire_ask q micro ≡ Some x → Quiet x
@@ -200,7 +234,7 @@ module _ (l : Layout) (q : RunState) (x : Spot × Access) where
   quiet_outcome_load _ e = some_none x e
 
   quiet_outcome_commit : (micro : Micro) → outcome_commit_ask q micro ≡ Some x → Quiet x
-  quiet_outcome_commit (micros.OutcomeCommit place log) e = of_word _ _ x refl e
+  quiet_outcome_commit (micros.OutcomeCommit place log) e = when_word _ _ _ x (in_part q.descriptor q.links _ _) e
   quiet_outcome_commit _ e = some_none x e
 
   quiet_set_done : (micro : Micro) → set_done_ask q micro ≡ Some x → Quiet x
@@ -211,41 +245,42 @@ module _ (l : Layout) (q : RunState) (x : Spot × Access) where
   quiet_release (micros.Release place word) e = when_word _ _ _ x refl e
   quiet_release _ e = some_none x e
 
-  quiet_line : (m : Meaning) (kind : EventKind) (free : List ℕ) (micro : Micro) → line_ask m l kind free q micro ≡ Some x → Quiet x
-  quiet_line m kinds.Commit free micro e = quiet_commit micro e
-  quiet_line m (kinds.LoadCell None) free micro e = quiet_load_cell micro e
-  quiet_line m kinds.ExchangeCell free micro e = quiet_exchange_cell micro e
-  quiet_line m (kinds.PrivateLoad slot word) free micro e = quiet_fill_load m slot word free micro e
-  quiet_line m (kinds.PrivateStore slot word number) free micro e = quiet_fill_store m slot word number micro e
-  quiet_line m kinds.MakeCommit free micro e = quiet_make_commit micro e
-  quiet_line m kinds.RetireCommit free micro e = quiet_retire_commit micro e
-  quiet_line m kinds.EpochForRetire free micro e = quiet_epoch_for_retire micro e
-  quiet_line m kinds.SetDone free micro e = quiet_set_done micro e
-  quiet_line m kinds.Release free micro e = quiet_release micro e
-  quiet_line m kinds.ClockLoad free micro e = quiet_clock_load micro e
-  quiet_line m kinds.StampExchange free micro e = quiet_stamp_exchange micro e
-  quiet_line m kinds.ClockRaise free micro e = quiet_clock_raise micro e
-  quiet_line m kinds.ReplyExchange free micro e = quiet_reply_exchange micro e
-  quiet_line m kinds.NestedLoad free micro e = quiet_nested_load micro e
-  quiet_line m kinds.NestedHold free micro e = quiet_nested_hold micro e
-  quiet_line m kinds.OutcomeLoad free micro e = quiet_outcome_load micro e
-  quiet_line m kinds.OutcomeCommit free micro e = quiet_outcome_commit micro e
-  quiet_line m _ free micro e = some_none x e
+  quiet_line : (m : Meaning) (kind : EventKind) (free blocks : List ℕ) (micro : Micro) → line_ask m l kind free blocks q micro ≡ Some x → Quiet x
+  quiet_line m kinds.Commit free blocks micro e = quiet_commit micro e
+  quiet_line m (kinds.LoadCell None) free blocks micro e = quiet_load_cell micro e
+  quiet_line m kinds.ExchangeCell free blocks micro e = quiet_exchange_cell micro e
+  quiet_line m (kinds.PrivateLoad slot word) free blocks micro e = quiet_fill_load m slot word free micro e
+  quiet_line m (kinds.PrivateStore slot word number) free blocks micro e = quiet_run_store m slot word number blocks micro e
+  quiet_line m (kinds.LinkCommit b) free blocks micro e = quiet_link_commit b micro e
+  quiet_line m kinds.MakeCommit free blocks micro e = quiet_make_commit micro e
+  quiet_line m kinds.RetireCommit free blocks micro e = quiet_retire_commit micro e
+  quiet_line m kinds.EpochForRetire free blocks micro e = quiet_epoch_for_retire micro e
+  quiet_line m kinds.SetDone free blocks micro e = quiet_set_done micro e
+  quiet_line m kinds.Release free blocks micro e = quiet_release micro e
+  quiet_line m kinds.ClockLoad free blocks micro e = quiet_clock_load micro e
+  quiet_line m kinds.StampExchange free blocks micro e = quiet_stamp_exchange micro e
+  quiet_line m kinds.ClockRaise free blocks micro e = quiet_clock_raise micro e
+  quiet_line m kinds.ReplyExchange free blocks micro e = quiet_reply_exchange micro e
+  quiet_line m kinds.NestedLoad free blocks micro e = quiet_nested_load micro e
+  quiet_line m kinds.NestedHold free blocks micro e = quiet_nested_hold micro e
+  quiet_line m kinds.OutcomeLoad free blocks micro e = quiet_outcome_load micro e
+  quiet_line m kinds.OutcomeCommit free blocks micro e = quiet_outcome_commit micro e
+  quiet_line m _ free blocks micro e = some_none x e
 
   quiet_opening : (kind : EventKind) → opening_ask kind q ≡ Some x → Quiet x
   quiet_opening (kinds.LoadThunk None) e = when_word _ _ _ x refl e
   quiet_opening kinds.LoadDone e = when_word _ _ _ x refl e
   quiet_opening _ e = some_none x e
 
-  quiet_inside : (m : Meaning) (kind : EventKind) (free : List ℕ) (b : Bool) → cond b (line_ask m l kind free q (next_of m q)) (opening_ask kind q) ≡ Some x → Quiet x
-  quiet_inside m kind free true e = quiet_line m kind free (next_of m q) e
-  quiet_inside m kind free false e = quiet_opening kind e
+  quiet_inside : (m : Meaning) (kind : EventKind) (free blocks : List ℕ) (b : Bool) → cond b (line_ask m l kind free blocks q (next_of m q)) (opening_ask kind q) ≡ Some x → Quiet x
+  quiet_inside m kind free blocks true e = quiet_line m kind free blocks (next_of m q) e
+  quiet_inside m kind free blocks false e = quiet_opening kind e
 
 -- in a run no kind changes an entry; outside, none but those that say so
 pub quiet_asks : (m : Meaning) (l : Layout) (rs : List Request) (r : ℕ) (kind : EventKind) (p : PartState) (o : Option RunState) (x : Spot × Access)
     → is_entry kind ≡ false → ask_by m l rs r kind p o ≡ Some x → Quiet x
 quiet_asks m l rs r kind p None x k e = quiet_outside m l rs r kind p x k e
-quiet_asks m l rs r kind p (Some q) x k e = quiet_inside l q x m kind p.nodes.free (is_open_run q) e
+quiet_asks m l rs r kind p (Some q) x k e = quiet_inside l q x m kind p.nodes.free p.blocks.free (is_open_run q) e
 
 either_stage : (b : Bool) (p p' p'' : PartState) → p'.stage ≡ p.stage → p''.stage ≡ p.stage → (cond b p' p'').stage ≡ p.stage
 either_stage true p p' p'' e e' = e

@@ -157,7 +157,6 @@ module _ (m : Meaning) (l : Layout) (w : EpochState) (s : Sight) (old : IsJoined
             seen_epoch = epoch;
             seen_announced = announced;
             seen_board = board;
-            past = old.past;
           })
           (λ i ne. record {
             holds = λ t h. h;
@@ -247,7 +246,6 @@ module _ (m : Meaning) (l : Layout) (w : EpochState) (s : Sight) (old : IsJoined
             (sym (map_upd lists_of s.part r gone))
             (record { epoch = old.entries.epoch; announced = old.entries.announced; stage = stages_stay m l w s old r words gone refl })
             (board_kept m l w s old r (events.RetireDescriptor r q.descriptor ∷ []) refl ((old.sound.holder r _ held, at_live), tt) words gone (λ i. refl))
-            old.past
             (λ d k out. old.roles d k (out_before (slot_of (counts_of m l) d) out))
             (once m l w s old r gone (λ z e. absurd (none-some _ e)))
             (over_tied (after (counts_of m l) w (events.RetireDescriptor r q.descriptor)) (descriptor_retired now.descriptors q.descriptor) None

@@ -18,7 +18,8 @@ use Rattle.machine_states.specs.epoch_core.specs.declared.stage.Stage.{Stage}
 use Rattle.machine_states.specs.epoch_core.specs.declared.stage.Stage.TheVariants.{Idle, Loaded, Announced, Entered, Scanning}
 use Rattle.machine_states.specs.runner_parts.specs.State.{RunState, BlocksState, PartState, RecordsState}
 use Rattle.machine_states.specs.runner_steps.specs.Outside.{enter_load_ask, announce_ask, enter_again_ask, idle_ask, scan_one_ask, advance_ask}
-use Rattle.machine_states.specs.Blockless.{asks, ask_by, outside_ask, after, outside_after, after_by}
+use Rattle.machine_states.specs.runner_steps.specs.Asks.{asks, ask_by, outside_ask}
+use Rattle.machine_states.specs.runner_steps.specs.After.{after, outside_after, after_by}
 use Rattle.machine_states.specs.runner_steps.specs.AfterOutside as outside
 use Rattle.machine_states.specs.runner_steps.specs.After.{noted, leaves, knows_also}
 use Rattle.machine_states.specs.runner_steps.specs.Blocks.{blocks_after}

@@ -22,7 +22,7 @@ use Rattle.machine_states.specs.runner_parts.specs.State.{PartState, GuardsState
 use Rattle.machine_states.specs.runner_parts.specs.Tests.{has, is_some_of, last_stored}
 use Rattle.machine_states.specs.runner_steps.specs.Outside.{enter_load_ask, announce_ask, enter_again_ask, idle_ask, scan_one_ask, advance_ask, is_sure_of}
 use Rattle.machine_states.specs.runner_parts.specs.Lists as lists
-use Rattle.machine_states.specs.Blockless.{outside_after}
+use Rattle.machine_states.specs.runner_steps.specs.After.{outside_after}
 use Rattle.machine_states.specs.runner_steps.specs.AfterOutside as outside
 use Rattle.machine_states.specs.epoch_core.specs.Update.{upd_row}
 use Rattle.machine_states.specs.epoch_core.specs.declared.location.Location.{Location}
@@ -146,7 +146,6 @@ module _ (m : Meaning) (l : Layout) (w : EpochState) (s : Sight) (old : IsJoined
   enters e off f p' goes lists k =
       goes_with m l w s old r (e ∷ []) (goes.0, tt) f p' lists goes.1
       (board_kept m l w s old r (e ∷ []) off (goes.0, tt) f p' k.board)
-      (λ d i high. k.log d i ∙ old.past d i high)
       (λ d i out. k.role d i ∙ (old.roles d i (k.out _ out) ∙ ap (λ (t : Thunk). role_at (m.body t) i) (sym (thunk_same f s.word d (k.same.thunk d)))))
       (once m l w s old r p' (as_published m l w s old r p' k.published))
       (record {
@@ -238,7 +237,7 @@ module _ (m : Meaning) (l : Layout) (w : EpochState) (s : Sight) (old : IsJoined
             role = λ d k. refl;
             log = λ d k. refl;
             stage = λ i ne. upd_else w.stage r _ i ne;
-            same = record { thunk = λ d j. refl; done = λ d. refl; log = λ d k. refl };
+            same = record { thunk = λ d j. refl; done = λ d. refl; log = λ d k. refl; link = λ d. refl };
             board = λ i. refl;
             run = none;
             published = refl;
@@ -301,7 +300,7 @@ module _ (m : Meaning) (l : Layout) (w : EpochState) (s : Sight) (old : IsJoined
             role = λ d k. refl;
             log = λ d k. refl;
             stage = λ i ne. upd_else w.stage r _ i ne;
-            same = record { thunk = λ d j. refl; done = λ d. refl; log = λ d k. refl };
+            same = record { thunk = λ d j. refl; done = λ d. refl; log = λ d k. refl; link = λ d. refl };
             board = λ i. refl;
             run = none;
             published = refl;
@@ -389,7 +388,7 @@ module _ (m : Meaning) (l : Layout) (w : EpochState) (s : Sight) (old : IsJoined
           subst (λ (q : PartState). Goes m l (events.Advance r h.0 h.1 ∷ []) w (next m l w s old r (put s.word Epoch (exchanged (s.word Epoch) h.0 (h.0 + 1))) (record q { records = records })))
               (sym (ap (λ (q : Stage). outside.advance_after p q) h.2 ∙ below_test h.0 last_epoch _ p h.4))
               (enters (events.Advance r h.0 h.1) refl _ (over (h.0 + 1)) (entrances.advance m l w s old.entries r (over (h.0 + 1)) h.0 h.1 h.2 h.3 h.4 refl) (own_lists (h.0 + 1))
-              (ends (h.0 + 1) (after (counts_of m l) w (events.Advance r h.0 h.1)) _ (record { thunk = λ d j. refl; done = λ d. refl; log = λ d k. refl }) (λ i. refl) refl)),
+              (ends (h.0 + 1) (after (counts_of m l) w (events.Advance r h.0 h.1)) _ (record { thunk = λ d j. refl; done = λ d. refl; log = λ d k. refl; link = λ d. refl }) (λ i. refl) refl)),
         )
 
     module _ (x n : ℕ) (clear : Bool) (some : n ≤ l.runners) (was : p.stage ≡ Scanning x n clear) where

@@ -214,7 +214,6 @@ module _ (m : Meaning) (l : Layout) where
         word = λ t i at. absurd (let x = sym (at_first m l (λ p. board_of p ≡ None) refl (λ r. refl) t) ∙ ap board_of at in cc);
         slot = λ i t named. absurd (let x = sym (unwritten i) ∙ named in cc);
       };
-      past = λ d k high. refl;
       roles = λ d k out. absurd (let x = sym (ap is_out (at_descriptor m l d)) ∙ out in cc);
       published_once = λ r r' x x' e e' same. absurd (none-some _ (sym (of_part (λ q. q.published ≡ None) (λ nodes descriptors. refl) r) ∙ e));
       tied = λ r. of_part (λ q. IsTied m l begun s.word r q) (tied s.word r) r;

@@ -88,7 +88,7 @@ module _ (m : Meaning) (l : Layout) (w : EpochState) (s : Sight) (old : IsJoined
     f = put s.word (Guard r) v
 
     elsewhere : IsSameSections f s.word
-    elsewhere = record { thunk = λ n j. refl; done = λ n. refl; log = λ n k. refl }
+    elsewhere = record { thunk = λ n j. refl; done = λ n. refl; log = λ n k. refl; link = λ n. refl }
 
     abbrev moved : PartState
     moved = record p { guards = guard_moved p.guards d; records = records }
@@ -99,7 +99,7 @@ module _ (m : Meaning) (l : Layout) (w : EpochState) (s : Sight) (old : IsJoined
         (sym (map_same lists_of s.part r moved refl))
         (record { epoch = old.entries.epoch; announced = old.entries.announced; stage = stages_stay m l w s old r f moved refl })
         (board_kept m l w s old r (events.Unguard r ∷ []) refl (ap (λ (y : Retiring). y.loaded) ((old.tied r).retire ∙ ap (retiring_of m) none), tt) f moved (λ i. refl))
-        old.past old.roles
+        old.roles
         (once m l w s old r moved (as_published m l w s old r moved refl))
         (record {
           run_held = λ q e. absurd (none-some _ (sym none ∙ e));
@@ -207,7 +207,6 @@ module _ (m : Meaning) (l : Layout) (w : EpochState) (s : Sight) (old : IsJoined
           stage = stages_stay m l w s old r seen freed refl;
         })
         (board_kept m l w s old r (events.Sweep r (is_unnamed words) ∷ []) refl (may_free unsure, tt) seen freed same.board)
-        old.past
         (λ d k out. old.roles d k (swept_out _ r _ out) ∙ ap (λ (t : Thunk). role_at (m.body t) k) (sym (thunk_same seen s.word d (same.thunk d))))
         (once m l w s old r freed (as_published m l w s old r freed refl))
         (record {

@@ -1,12 +1,12 @@
 -- What every kind of step has in common: what is new for the stepping runner, and why the facts on the others stay.
 use Rattle.std.specs.Prelude.{◌==◌, cond, Bool, true, false, nat_lt}
-use Rattle.std.proofs.Common.{◌≡◌, ◌≢◌, ℕ, ◌-◌, ◌≤◌, List, [], refl, sym, ap, ◌∙◌, subst, Some, Option}
+use Rattle.std.proofs.Common.{◌≡◌, ◌≢◌, ℕ, ◌+◌, ◌-◌, List, [], refl, sym, ap, ◌∙◌, subst, Some, Option}
 use Rattle.machine_states.specs.table_words.specs.declared.layout.Layout.{Layout}
 use Rattle.machine_states.specs.table_words.specs.declared.spot.Spot.{Spot}
-use Rattle.machine_states.specs.table_words.specs.declared.spot.Spot.TheVariants.{Epoch, Clock, Announcement, Stamp, Reply, Cell, ThunkWord, DoneWord, LogWord, Board}
+use Rattle.machine_states.specs.table_words.specs.Places.{part_words}
+use Rattle.machine_states.specs.table_words.specs.declared.spot.Spot.TheVariants.{Epoch, Clock, Announcement, Stamp, Reply, Cell, ThunkWord, DoneWord, LogWord, LinkWord, Board}
 use Rattle.machine_states.specs.table_words.specs.declared.access.Access.TheVariants.{Exchanges}
 use Rattle.machine_states.specs.table_words.specs.Access.{written}
-use Rattle.machine_states.specs.table_words.specs.Places.{part_words}
 use Rattle.machine_states.specs.table_words.specs.Seen.{upd, put}
 use Rattle.machine_states.specs.body_terms.specs.declared.thunk.Thunk.{Thunk}
 use Rattle.machine_states.specs.structure_laws.specs.Meaning.{Meaning}
@@ -33,12 +33,14 @@ use Rattle.machine_epochs.specs.Slots.{lists_of, thunk_in, ShowsEntries, ShowsBo
 pub use Rattle.machine_epochs.specs.Goes.{Goes, GoesBy}
 use Rattle.machine_epochs.specs.Joined.{IsTied, IsJoinedToEpochs}
 use Rattle.machine_epochs.proofs.Boards.{is_off_board, board_shown}
+use Rattle.machine_epochs.proofs.Places.{spot_by}
 
 -- the words of descriptors are the same
 pub record IsSameSections (f g : Spot → ℕ) : Type 0 where
   pub thunk : (d j : ℕ) → f (ThunkWord d j) ≡ g (ThunkWord d j)
   pub done : (d : ℕ) → f (DoneWord d) ≡ g (DoneWord d)
   pub log : (d k : ℕ) → f (LogWord d k) ≡ g (LogWord d k)
+  pub link : (d : ℕ) → f (LinkWord d) ≡ g (LinkWord d)
 
 -- these words are the same but for cells, stamps, replies, the clock and the seat word
 pub record IsSameBut (f g : Spot → ℕ) : Type 0 where
@@ -47,20 +49,21 @@ pub record IsSameBut (f g : Spot → ℕ) : Type 0 where
   pub thunk : (d j : ℕ) → f (ThunkWord d j) ≡ g (ThunkWord d j)
   pub done : (d : ℕ) → f (DoneWord d) ≡ g (DoneWord d)
   pub log : (d k : ℕ) → f (LogWord d k) ≡ g (LogWord d k)
+  pub link : (d : ℕ) → f (LinkWord d) ≡ g (LinkWord d)
   pub board : (i : ℕ) → f (Board i) ≡ g (Board i)
 
 module _ (f : Spot → ℕ) where
   pub but_cell : (p v : ℕ) → IsSameBut (put f (Cell p) v) f
-  but_cell p v = record { epoch = refl; announced = λ r. refl; thunk = λ d j. refl; done = λ d. refl; log = λ d k. refl; board = λ i. refl }
+  but_cell p v = record { epoch = refl; announced = λ r. refl; thunk = λ d j. refl; done = λ d. refl; log = λ d k. refl; link = λ d. refl; board = λ i. refl }
 
   pub but_clock : (v : ℕ) → IsSameBut (put f Clock v) f
-  but_clock v = record { epoch = refl; announced = λ r. refl; thunk = λ d j. refl; done = λ d. refl; log = λ d k. refl; board = λ i. refl }
+  but_clock v = record { epoch = refl; announced = λ r. refl; thunk = λ d j. refl; done = λ d. refl; log = λ d k. refl; link = λ d. refl; board = λ i. refl }
 
   pub but_stamp : (q v : ℕ) → IsSameBut (put f (Stamp q) v) f
-  but_stamp q v = record { epoch = refl; announced = λ r. refl; thunk = λ d j. refl; done = λ d. refl; log = λ d k. refl; board = λ i. refl }
+  but_stamp q v = record { epoch = refl; announced = λ r. refl; thunk = λ d j. refl; done = λ d. refl; log = λ d k. refl; link = λ d. refl; board = λ i. refl }
 
   pub but_reply : (q v : ℕ) → IsSameBut (put f (Reply q) v) f
-  but_reply q v = record { epoch = refl; announced = λ r. refl; thunk = λ d j. refl; done = λ d. refl; log = λ d k. refl; board = λ i. refl }
+  but_reply q v = record { epoch = refl; announced = λ r. refl; thunk = λ d j. refl; done = λ d. refl; log = λ d k. refl; link = λ d. refl; board = λ i. refl }
 
   pub but_load : (a : Spot) → IsSameBut (put f a (f a)) f
   but_load a = record {
@@ -69,6 +72,7 @@ module _ (f : Spot → ℕ) where
     thunk = λ d j. ap (λ (g : Spot → ℕ). g (ThunkWord d j)) (put_same f a);
     done = λ d. ap (λ (g : Spot → ℕ). g (DoneWord d)) (put_same f a);
     log = λ d k. ap (λ (g : Spot → ℕ). g (LogWord d k)) (put_same f a);
+    link = λ d. ap (λ (g : Spot → ℕ). g (LinkWord d)) (put_same f a);
     board = λ i. ap (λ (g : Spot → ℕ). g (Board i)) (put_same f a);
   }
 
@@ -80,20 +84,22 @@ module _ (f : Spot → ℕ) where
     thunk = λ d j. ap (λ (g : Spot → ℕ). g (ThunkWord d j)) (put_kept f a);
     done = λ d. ap (λ (g : Spot → ℕ). g (DoneWord d)) (put_kept f a);
     log = λ d k. ap (λ (g : Spot → ℕ). g (LogWord d k)) (put_kept f a);
+    link = λ d. ap (λ (g : Spot → ℕ). g (LinkWord d)) (put_kept f a);
     board = λ i. ap (λ (g : Spot → ℕ). g (Board i)) (put_kept f a);
   }
 
 pub but_entries : (f g : Spot → ℕ) → IsSameBut f g → IsSameSections f g
-but_entries f g same = record { thunk = same.thunk; done = same.done; log = same.log }
+but_entries f g same = record { thunk = same.thunk; done = same.done; log = same.log; link = same.link }
 
 -- each word of a descriptor is then the same
 pub section_same : (f g : Spot → ℕ) → IsSameSections f g → (d j : ℕ) → f (descriptor_spot d j) ≡ g (descriptor_spot d j)
-section_same f g same d j = by_word (nat_lt j 12) (j == 12)
+section_same f g same d j = by_word (nat_lt j 12) (j == 12) (j == 13 + part_words)
   where
-    by_word : (b b' : Bool) → f (cond b (ThunkWord d j) (cond b' (DoneWord d) (LogWord d (j - 13)))) ≡ g (cond b (ThunkWord d j) (cond b' (DoneWord d) (LogWord d (j - 13))))
-    by_word true b' = same.thunk d j
-    by_word false true = same.done d
-    by_word false false = same.log d (j - 13)
+    by_word : (b b' b'' : Bool) → f (spot_by d j b b' b'') ≡ g (spot_by d j b b' b'')
+    by_word true b' b'' = same.thunk d j
+    by_word false true b'' = same.done d
+    by_word false false true = same.link d
+    by_word false false false = same.log d (j - 13)
 
 pub descriptor_same : (f g : Spot → ℕ) → IsSameBut f g → (d j : ℕ) → f (descriptor_spot d j) ≡ g (descriptor_spot d j)
 descriptor_same f g same d j = section_same f g (but_entries f g same) d j
@@ -187,7 +193,6 @@ module _ (m : Meaning) (l : Layout) (w : EpochState) (f : Spot → ℕ) (part : 
     listed = subst (IsListed (counts_of m l) w) (λ j i. seen lists_of refl i j) old.listed;
     entries = record { epoch = old.entries.epoch; announced = old.entries.announced; stage = λ i. old.entries.stage i ∙ seen (λ q. q.stage) refl i };
     board = record { word = old.board.word; slot = old.board.slot };
-    past = old.past;
     roles = old.roles;
     published_once = λ i i' x x' e e'. old.published_once i i' x x' (seen (λ q. q.published) refl i ∙ e) (seen (λ q. q.published) refl i' ∙ e');
     tied = λ i. tied_on i (old.tied i);
@@ -267,7 +272,6 @@ module _ (m : Meaning) (l : Layout) where
         stage = stages_stay f p stage;
       };
       board = board_shown c w s (next f p) [] refl tt old.sound same.board old.board;
-      past = old.past;
       roles = λ d k out. old.roles d k out ∙ ap (λ (t : Thunk). role_at (m.body t) k) (sym (thunk_same f s.word d (same.thunk d)));
       published_once = once p back;
       tied = all_tied w f p own (λ i ne. record {
@@ -292,18 +296,17 @@ module _ (m : Meaning) (l : Layout) where
     -- a step of these events of the component, by which a runner's part becomes this one
     pub goes_with : (es : List events.Event) → AllEnabled c w es → (f : Spot → ℕ) (p : PartState)
         → ◌≡◌ {A = ℕ → Lists} (listed_all c w (λ i. lists_of (s.part i)) es) (λ i. lists_of (upd s.part r p i))
-        → ShowsEntries (after_all c w es) (next f p) → ShowsBoard (after_all c w es) (next f p) → ((d k : ℕ) → part_words ≤ k → (after_all c w es).log d k ≡ 0)
+        → ShowsEntries (after_all c w es) (next f p) → ShowsBoard (after_all c w es) (next f p)
         → ((d k : ℕ) → is_out ((after_all c w es).location (slot_of c d)) ≡ true → (after_all c w es).role d k ≡ role_at (m.body (thunk_in f d)) k)
         → ((i i' : ℕ) (x x' : Published) → (upd s.part r p i).published ≡ Some x → (upd s.part r p i').published ≡ Some x' → x.descriptor ≡ x'.descriptor → i ≡ i')
         → IsTied m l (after_all c w es) f r p → ((i : ℕ) → i ≢ r → IsElsewhere w (after_all c w es) s.word f i (s.part i)) → Goes m l es w (next f p)
-    goes_with es ok f p lists entries board past roles apart own others = record {
+    goes_with es ok f p lists entries board roles apart own others = record {
       enabled = ok;
       joined = record {
         sound = keeps_all c w es ok old.sound;
         listed = subst (IsListed c (after_all c w es)) lists (lists_follow_all c w (λ i. lists_of (s.part i)) es ok old.sound old.listed);
         entries = entries;
         board = board;
-        past = past;
         roles = roles;
         published_once = apart;
         tied = all_tied (after_all c w es) f p own others;

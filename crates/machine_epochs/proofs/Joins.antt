@@ -13,7 +13,7 @@ use Rattle.machine_states.specs.epoch_core.proofs.Exactly.{exact_first, exact_al
 use Rattle.machine_epochs.specs.Firsts.{first_place}
 use Rattle.machine_states.specs.World.{World, happens, run}
 use Rattle.machine_states.specs.First.{IsFirst}
-use Rattle.machine_states.specs.Sight.{sight, Steps, IsWhole}
+use Rattle.machine_states.specs.Sight.{sight, IsWhole, Steps}
 use Rattle.machine_states.proofs.Sights.{happens_steps}
 use Rattle.machine_states.proofs.Reached.{run_has}
 use Rattle.machine_states.proofs.FirstSights.{first_whole}

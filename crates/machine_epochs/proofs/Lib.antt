@@ -11,6 +11,8 @@ pub mod Roles
 pub mod RunPlaces
 pub mod Boards
 pub mod Joining
+pub mod LogSpots
+pub mod Prepared
 pub mod Reaching
 pub mod Places
 pub mod EntryKinds

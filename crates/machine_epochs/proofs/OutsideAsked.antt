@@ -19,10 +19,9 @@ use Rattle.machine_states.specs.structure_laws.specs.Meaning.{Meaning}
 use Rattle.machine_states.specs.epoch_core.specs.declared.stage.Stage.{Stage}
 use Rattle.machine_states.specs.epoch_core.specs.declared.stage.Stage.TheVariants.{Idle, Loaded, Announced, Entered, Scanning}
 use Rattle.machine_states.specs.runner_parts.specs.State.{RunState, PartState}
-use Rattle.machine_states.specs.runner_parts.specs.Tests.{has, is_walking, is_prepared, is_between}
+use Rattle.machine_states.specs.runner_parts.specs.Tests.{has, is_walking, is_prepared, is_between, is_resting}
 use Rattle.machine_states.specs.runner_parts.specs.Tests as tests
-use Rattle.machine_states.specs.runner_steps.specs.Outside.{when, enter_load_ask, announce_ask, enter_again_by, enter_again_ask, idle_ask, scan_one_ask, advance_ask, split_ask, entry_spot, entry_ask, read_ask, descriptor_spot, hold_ask, open_ask, is_sure_of}
-use Rattle.machine_states.specs.Blockless.{private_load_ask, private_store_ask}
+use Rattle.machine_states.specs.runner_steps.specs.Outside.{when, enter_load_ask, announce_ask, enter_again_by, enter_again_ask, idle_ask, scan_one_ask, advance_ask, split_ask, entry_spot, entry_ask, read_ask, descriptor_spot, block_spot, blocks_from, private_load_ask, private_store_ask, hold_ask, open_ask, is_sure_of}
 use Rattle.machine_states.specs.runner_steps.specs.Guards.{is_numbered, guard_ask, load_guard_by, load_guard_ask}
 use Rattle.machine_states.specs.guard_core.specs.State.{word_of}
 use Rattle.machine_states.specs.epoch_core.specs.State.{last_epoch}
@@ -98,33 +97,46 @@ read_asked m place p x e =
     let h = if_some _ _ x e in
     let w = walking p.stage p.run (and_parts _ _ h.0).0 in (w.0, w.1, h.1)
 
-load_of : (b b' c : Bool) (a a' : Spot) (x : Spot × Access) → cond c (when b a Loads) (when b' a' Loads) ≡ Some x → (spot : Spot) × ((spot, Loads) ≡ x)
-load_of b b' true a a' x e = (a, (if_some b _ x e).1)
-load_of b b' false a a' x e = (a', (if_some b' _ x e).1)
+load_of : (b b' b'' c c' : Bool) (a a' a'' : Spot) (x : Spot × Access) → cond c (when b a Loads) (cond c' (when b' a' Loads) (when b'' a'' Loads)) ≡ Some x
+    → (spot : Spot) × ((spot, Loads) ≡ x)
+load_of b b' b'' true c' a a' a'' x e = (a, (if_some b _ x e).1)
+load_of b b' b'' false true a a' a'' x e = (a', (if_some b' _ x e).1)
+load_of b b' b'' false false a a' a'' x e = (a'', (if_some b'' _ x e).1)
 
 pub private_load_asked : (m : Meaning) (l : Layout) (slot word : ℕ) (p : PartState) (x : Spot × Access) → private_load_ask m l slot word p ≡ Some x → (spot : Spot) × ((spot, Loads) ≡ x)
-private_load_asked m l slot word p x e = load_of _ _ (nat_lt slot (slot_count l m.fixed_slots)) _ _ x e
+private_load_asked m l slot word p x e = load_of _ _ _ (nat_lt slot (slot_count l m.fixed_slots)) (nat_lt slot (blocks_from m l)) _ _ _ x e
 
-load_cases : (b a t c : Bool) (n n' : Spot) (x : Spot × Access) (c' : Bool) → c ≡ c' → cond c' (when b n Loads) (when (a && t) n' Loads) ≡ Some x
-    → ((c ≡ true) × (spot : Spot) × ((spot, Loads) ≡ x)) ⊎ ((c ≡ false) × (t ≡ true) × ((n', Loads) ≡ x))
-load_cases b a t c n n' x true is e = inl (is, n, (if_some b _ x e).1)
-load_cases b a t c n n' x false is e = let h = if_some (a && t) _ x e in inr (is, (and_parts a t h.0).1, h.1)
+load_cases : (b a t b' c d : Bool) (n n' n'' : Spot) (x : Spot × Access) (c' d' : Bool) → c ≡ c' → d ≡ d' → cond c' (when b n Loads) (cond d' (when (a && t) n' Loads) (when b' n'' Loads)) ≡ Some x
+    → ((c ≡ true) × (spot : Spot) × ((spot, Loads) ≡ x)) ⊎ (((c ≡ false) × (d ≡ true) × (t ≡ true) × ((n', Loads) ≡ x)) ⊎ ((c ≡ false) × (d ≡ false) × ((n'', Loads) ≡ x)))
+load_cases b a t b' c d n n' n'' x true d' is is' e = inl (is, n, (if_some b _ x e).1)
+load_cases b a t b' c d n n' n'' x false true is is' e = let h = if_some (a && t) _ x e in inr (inl (is, is', (and_parts a t h.0).1, h.1))
+load_cases b a t b' c d n n' n'' x false false is is' e = inr (inr (is, is', (if_some b' _ x e).1))
 
--- a private load is one of a cell of a node slot, or of a word of an own free descriptor
+-- a private load is one of a cell of a node slot, of a word of an own free descriptor, or of a word of a block
 pub private_load_cases : (m : Meaning) (l : Layout) (slot word : ℕ) (p : PartState) (x : Spot × Access) → private_load_ask m l slot word p ≡ Some x
     → ((nat_lt slot (slot_count l m.fixed_slots) ≡ true) × (spot : Spot) × ((spot, Loads) ≡ x))
-    ⊎ ((nat_lt slot (slot_count l m.fixed_slots) ≡ false) × (has p.descriptors.free (slot - slot_count l m.fixed_slots) ≡ true) × ((descriptor_spot (slot - slot_count l m.fixed_slots) word, Loads) ≡ x))
-private_load_cases m l slot word p x e = load_cases _ _ _ (nat_lt slot (slot_count l m.fixed_slots)) _ _ x _ refl e
+    ⊎ (((nat_lt slot (slot_count l m.fixed_slots) ≡ false) × (nat_lt slot (blocks_from m l) ≡ true) × (has p.descriptors.free (slot - slot_count l m.fixed_slots) ≡ true) × ((descriptor_spot (slot - slot_count l m.fixed_slots) word, Loads) ≡ x))
+    ⊎ ((nat_lt slot (slot_count l m.fixed_slots) ≡ false) × (nat_lt slot (blocks_from m l) ≡ false) × ((block_spot (slot - blocks_from m l) word, Loads) ≡ x)))
+private_load_cases m l slot word p x e = load_cases _ _ _ _ (nat_lt slot (slot_count l m.fixed_slots)) (nat_lt slot (blocks_from m l)) _ _ _ x _ _ refl refl e
 
 store_test : (n slot : ℕ) (a b : Bool) → (nat_le n slot && (a && b)) ≡ true → b ≡ true
 store_test n slot a true e = refl
 store_test n slot true false e = grind (arith, nat_tests)
 store_test n slot false false e = grind (arith, nat_tests)
 
--- a private store is one into a word of an own free descriptor
-pub private_store_asked : (m : Meaning) (l : Layout) (slot word number : ℕ) (p : PartState) (x : Spot × Access) → private_store_ask m l slot word number p ≡ Some x
-    → (has p.descriptors.free (slot - slot_count l m.fixed_slots) ≡ true) × ((descriptor_spot (slot - slot_count l m.fixed_slots) word, Stores number) ≡ x)
-private_store_asked m l slot word number p x e = let h = if_some _ _ x e in (store_test (slot_count l m.fixed_slots) slot _ _ h.0, h.1)
+-- a private store is one into a word of an own free descriptor, or into a word of a block
+pub private_store_cases : (m : Meaning) (l : Layout) (slot word number : ℕ) (p : PartState) (x : Spot × Access) → private_store_ask m l slot word number p ≡ Some x
+    → ((nat_lt slot (blocks_from m l) ≡ true) × (has p.descriptors.free (slot - slot_count l m.fixed_slots) ≡ true) × ((descriptor_spot (slot - slot_count l m.fixed_slots) word, Stores number) ≡ x))
+    ⊎ ((nat_lt slot (blocks_from m l) ≡ false) × ((block_spot (slot - blocks_from m l) word, Stores number) ≡ x))
+private_store_cases m l slot word number p x e = by (nat_lt slot (blocks_from m l)) refl e
+  where
+    by : (b : Bool) → nat_lt slot (blocks_from m l) ≡ b
+        → cond b (when (nat_le (slot_count l m.fixed_slots) slot && (is_resting p.stage p.run && has p.descriptors.free (slot - slot_count l m.fixed_slots))) (descriptor_spot (slot - slot_count l m.fixed_slots) word) (Stores number))
+        (when (is_resting p.stage p.run && (has p.blocks.free (slot - blocks_from m l) && number == 0)) (block_spot (slot - blocks_from m l) word) (Stores number)) ≡ Some x
+        → ((nat_lt slot (blocks_from m l) ≡ true) × (has p.descriptors.free (slot - slot_count l m.fixed_slots) ≡ true) × ((descriptor_spot (slot - slot_count l m.fixed_slots) word, Stores number) ≡ x))
+        ⊎ ((nat_lt slot (blocks_from m l) ≡ false) × ((block_spot (slot - blocks_from m l) word, Stores number) ≡ x))
+    by true is e = let h = if_some _ _ x e in inl (is, store_test (slot_count l m.fixed_slots) slot _ _ h.0, h.1)
+    by false is e = inr (is, (if_some _ _ x e).1)
 
 -- what a publication needs
 pub record HoldAsked (m : Meaning) (l : Layout) (rs : List Request) (t : Thunk) (d : ℕ) (p : PartState) (x : Spot × Access) : Type 0 where

@@ -26,7 +26,7 @@ use Rattle.machine_states.specs.runner_steps.specs.Outside.{split_ask, entry_ask
 use Rattle.machine_states.specs.runner_steps.specs.Reads.{read_plan_ask, read_clock_ask, read_reply_ask, read_stamp_ask, plan_by, looked_by, come_to}
 use Rattle.machine_states.specs.runner_parts.specs.Lists as lists
 use Rattle.machine_states.specs.runner_steps.specs.AfterOutside as outside
-use Rattle.machine_states.specs.Blockless.{outside_after}
+use Rattle.machine_states.specs.runner_steps.specs.After.{outside_after}
 use Rattle.machine_states.specs.epoch_core.specs.declared.location.Location.TheVariants.{Hand}
 use Rattle.machine_states.specs.epoch_core.specs.Moves.{tested}
 use Rattle.machine_states.specs.epoch_core.specs.State.{EpochState, no_retire, MayHold, is_entered}
@@ -130,6 +130,12 @@ module _ (m : Meaning) (l : Layout) (w : EpochState) (s : Sight) (old : IsJoined
   same_tied : (f : Spot → ℕ) → IsSameBut f s.word → (tests : List Tested) (records : RecordsState) → IsTied m l w f r (record p { nodes = record (p.nodes) { tests = tests }; records = records })
   same_tied f same tests records = copied m l w f r p (record (p.nodes) { tests = tests }) records p.gone (tied_by f same)
 
+  -- a step after which records alone have changed
+  pub leaves : (f : Spot → ℕ) → IsSameBut f s.word → (records : RecordsState) → StaysAt m l w (next m l w s old r f (record p { records = records }))
+  leaves f same records =
+      let p' : PartState = record p { records = records } in
+      stays m l w s old r f p' same refl refl (as_published m l w s old r p' refl) (copied m l w f r p p.nodes records p.gone (tied_by f same))
+
   -- a load after which tests and records alone have changed
   pub notes : (a : Spot) (tests : List Tested) (records : RecordsState) → StaysAt m l w (next m l w s old r (put s.word a (s.word a)) (record p { nodes = record (p.nodes) { tests = tests }; records = records }))
   notes a tests records = stays m l w s old r _ p' (but_load s.word a) refl refl (as_published m l w s old r p' refl) (same_tied _ (but_load s.word a) tests records)
@@ -226,7 +232,6 @@ module _ (m : Meaning) (l : Layout) (w : EpochState) (s : Sight) (old : IsJoined
           stage = stages_stay m l w s old r f p' refl;
         })
         (board_kept m l w s old r (events.Reach r comes ∷ []) refl ((entered, λ t h. may_hold (counts_of m l) w old.sound r t (may t h)), tt) f p' same.board)
-        old.past
         (λ d k out. old.roles d k out ∙ ap (λ (t : Thunk). role_at (m.body t) k) (sym (thunk_same f s.word d (same.thunk d))))
         (once m l w s old r p' (as_published m l w s old r p' refl))
         (record {
@@ -338,7 +343,6 @@ module _ (m : Meaning) (l : Layout) (w : EpochState) (s : Sight) (old : IsJoined
           stage = stages_stay m l w s old r f back refl;
         })
         (board_kept m l w s old r (events.Test r t worn ∷ []) refl (in_hand, tt) f back same.board)
-        old.past
         (λ d k out. old.roles d k (ap is_out (sym (descriptor_place d)) ∙ out) ∙ ap (λ (u : Thunk). role_at (m.body u) k) (sym (thunk_same f s.word d (same.thunk d))))
         (once m l w s old r back (as_published m l w s old r back refl))
         (record {
@@ -398,7 +402,7 @@ module _ (m : Meaning) (l : Layout) (w : EpochState) (s : Sight) (old : IsJoined
   pub node_load : (records : RecordsState) (slot word : ℕ) (a : Spot) → nat_lt slot (slot_count l m.fixed_slots) ≡ true → Leads (kinds.PrivateLoad slot word) records (a, Loads)
   node_load records slot word a low =
       subst (λ (b : Bool). GoesBy m l (λ es. es ≡ looked_events l r p.nodes slot word (s.word a)) w (next m l w s old r (put s.word a (s.word a))
-      (record (if b then record p { nodes = lists.nodes_looked l p.nodes slot word (s.word a) } else record p { descriptors = lists.descriptor_stored p.descriptors (slot - slot_count l m.fixed_slots) word (s.word a) }) { records = records })))
+      (record (if b then record p { nodes = lists.nodes_looked l p.nodes slot word (s.word a) } else outside.descriptor_known m l slot word p (s.word a)) { records = records })))
       (sym low) (looks_at records slot word a)
 
   -- a slot that is no node slot is in no hand, so to look at its words is not to look at a node slot

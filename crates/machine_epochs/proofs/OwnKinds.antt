@@ -1,5 +1,5 @@
 -- Every kind of step keeps what a part says of its descriptors and limbo lists.
-use Rattle.std.specs.Prelude.{◌==◌, ◌&&◌, ◌||◌, cond, Bool, true, false, nat_lt, nat_le, slice_index_or, All}
+use Rattle.std.specs.Prelude.{◌==◌, ◌&&◌, cond, if◌then◌else◌, Bool, true, false, nat_lt, nat_le, slice_index_or, All}
 use Rattle.std.proofs.Common.{◌≡◌, ℕ, ◌+◌, ◌-◌, ◌<◌, ◌≤◌, List, [], ◌∷◌, ◌++◌, length, refl, sym, ap, ◌∙◌, subst, arith, ⊎_elim, Option, Some, None}
 use Rattle.std.proofs.lemmas.List.Elements.{All-push}
 use Rattle.machine_states.specs.map_history.specs.declared.op.Request.{Request}
@@ -8,7 +8,6 @@ use Rattle.machine_states.specs.body_terms.specs.declared.micro.Micro.{Micro}
 use Rattle.machine_states.specs.body_terms.specs.declared.micro.Micro.TheVariants as micros
 use Rattle.machine_states.specs.body_terms.specs.Line.{is_event, micro_at, ending}
 use Rattle.machine_states.specs.body_terms.specs.Run.{settled, written_once}
-use Rattle.machine_states.specs.body_terms.specs.Word.{version_of}
 use Rattle.machine_states.specs.table_words.specs.declared.layout.Layout.{Layout}
 use Rattle.machine_states.specs.table_words.specs.declared.spot.Spot.{Spot}
 use Rattle.machine_states.specs.table_words.specs.declared.spot.Spot.TheVariants.{Epoch}
@@ -21,12 +20,13 @@ use Rattle.machine_states.specs.epoch_core.specs.declared.stage.Stage.TheVariant
 use Rattle.machine_states.specs.runner_parts.specs.declared.entries.Tested.{Tested}
 use Rattle.machine_states.specs.runner_parts.specs.State.{RunState, PartState, NodesState, GuardsState, ReadsState, RecordsState}
 use Rattle.machine_states.specs.runner_parts.specs.Tests.{has}
-use Rattle.machine_states.specs.runner_steps.specs.Sections.{thunk_of, is_open_run, line_of, next_of, setting_of}
+use Rattle.machine_states.specs.runner_steps.specs.Sections.{thunk_of, is_open_run, line_of, next_of, setting_of, needs_link}
+use Rattle.machine_states.specs.runner_steps.specs.Outside.{blocks_from}
 use Rattle.machine_states.specs.runner_parts.specs.Lists as lists
 use Rattle.machine_states.specs.runner_steps.specs.AfterOutside as outside
 use Rattle.machine_states.specs.runner_steps.specs.AfterInRun as runs
-use Rattle.machine_states.specs.runner_steps.specs.Asks.{opening_ask}
-use Rattle.machine_states.specs.Blockless.{outside_ask, line_ask, inside_ask, outside_after, line_after, inside_after}
+use Rattle.machine_states.specs.runner_steps.specs.Asks.{outside_ask, line_ask, opening_ask, inside_ask}
+use Rattle.machine_states.specs.runner_steps.specs.After.{outside_after, line_after, inside_after}
 use Rattle.machine_states.proofs.Steps.{some_same}
 use Rattle.machine_states.proofs.Sights.{some_none}
 use Rattle.machine_epochs.specs.Slots.{retire_before, retiring_of}
@@ -36,7 +36,6 @@ use Rattle.machine_epochs.proofs.InsideAsked as inside
 use Rattle.machine_epochs.proofs.RunPlaces.{next_in_line, open_run, goes_on_unretired, begins_unretired}
 use Rattle.machine_epochs.proofs.OwnDescriptors.{IsOwn, IsRecent, IsSameLists, stays, idles, collects, sweeps, publishes, over_counts}
 use Rattle.machine_states.specs.runner_steps.specs.AfterOutside.{published_by}
-use Rattle.machine_states.specs.table_words.specs.Places.{slot_count}
 
 -- whether this is a step that loads an epoch for a Retire
 abbrev is_retire : Micro → Bool
@@ -111,12 +110,12 @@ module _ (m : Meaning) (l : Layout) (rs : List Request) (epoch r : ℕ) (p : Par
     splits true = alike
     splits false = alike
 
-    stores : (d word number : ℕ) → Own (record p { descriptors = lists.descriptor_stored p.descriptors d word number })
-    stores d word number = idles m l epoch r p (record p { descriptors = lists.descriptor_stored p.descriptors d word number; records = records }) (record { free = refl; limbo = refl; published = λ d. refl; nodes = refl }) none old
+    stores : (slot word number : ℕ) → Own (outside.descriptor_known m l slot word p number)
+    stores slot word number = idles m l epoch r p (record (outside.descriptor_known m l slot word p number) { records = records }) (record { free = refl; limbo = refl; published = λ d. refl; nodes = refl }) none old
 
-    looks : (slot word : ℕ) (b : Bool) → Own (cond b (record p { nodes = lists.nodes_looked l p.nodes slot word found }) (record p { descriptors = lists.descriptor_stored p.descriptors (slot - slot_count l m.fixed_slots) word found }))
+    looks : (slot word : ℕ) (b : Bool) → Own (cond b (record p { nodes = lists.nodes_looked l p.nodes slot word found }) (outside.descriptor_known m l slot word p found))
     looks slot word true = unmoved p.guards _ (looked_limbo l p.nodes slot word found) p.reads
-    looks slot word false = stores _ word found
+    looks slot word false = stores slot word found
 
     holds : (t : Thunk) (d : ℕ) → asked.HoldAsked m l rs t d p x → (b : Bool) → Own (cond b (record p {
       published = Some (published_by t d p);
@@ -146,7 +145,7 @@ module _ (m : Meaning) (l : Layout) (rs : List Request) (epoch r : ℕ) (p : Par
     outside_own (kinds.LoadCell (Some place)) e = unmoved _ p.nodes refl _
     outside_own (kinds.LoadEntry request reply) e = alike
     outside_own (kinds.PrivateLoad slot word) e = looks slot word _
-    outside_own (kinds.PrivateStore slot word number) e = stores _ word number
+    outside_own (kinds.PrivateStore slot word number) e = stores slot word number
     outside_own (kinds.Hold thunk d) e = holds thunk d (asked.hold_asked m l rs r thunk d p x e) _
     outside_own (kinds.LoadThunk (Some d)) e = opens d
     outside_own (kinds.ReadPlan thunk) e = unmoved _ p.nodes refl _
@@ -231,6 +230,24 @@ module _ (m : Meaning) (l : Layout) (rs : List Request) (epoch r : ℕ) (p : Par
       releases true reads finished = is_over reads
       releases false reads finished = ends_more reads
 
+      -- a run that links a block stands where it stood
+      linking_retire : (links : List ℕ) (block : Option ℕ) (emptied : ℕ) (won : List ℕ) (micro : Micro) → retire_before (record q { links = links; block = block; emptied = emptied; won = won }) micro ≡ retire_before q micro
+      linking_retire links block emptied won (micros.RetireCommit s k) = refl
+      linking_retire links block emptied won _ = refl
+
+      links_more : (links : List ℕ) (block : Option ℕ) (emptied : ℕ) (won : List ℕ) → Own (record p { run = Some (record q { links = links; block = block; emptied = emptied; won = won }) })
+      links_more links block emptied won =
+          let q' : RunState = record q { links = links; block = block; emptied = emptied; won = won } in
+          let same = linking_retire links block emptied won (micro_at (line_of m q) q.at) in
+          in_run (record p { run = Some q'; records = records }) (record { free = refl; limbo = refl; published = λ d. refl; nodes = refl })
+          (subst (λ n. n ≤ epoch) (sym (ap (λ (y : Retiring). y.epoch) same)) was_most)
+          (λ g stage is. subst (λ n. g ≤ n) (sym (ap (λ (y : Retiring). y.epoch) same)) (was_least g stage (sym (ap (λ (y : Retiring). y.loaded) same) ∙ is)))
+          (λ q2 e few. absurd (let all = ap (λ (a : RunState). length a.opened) (sym (some_same q' q2 e)) ∙ all_loaded in omega arith))
+
+      stores_by : (slot number : ℕ) (b : Bool) → needs_link q (next_of m q) ≡ b → Own (runs.with_run p (if b then runs.block_emptied (slot - blocks_from m l) q else runs.filled m l number q))
+          → Own (runs.private_stored m l slot number p q (next_of m q))
+      stores_by slot number b is own = subst (λ c. Own (runs.with_run p (if c then runs.block_emptied (slot - blocks_from m l) q else runs.filled m l number q))) (sym is) own
+
       -- the epoch for a Retire is loaded
       some_most : (q' : RunState) (micro : Micro) → q'.word ≡ epoch → (retire_before q' micro).epoch ≤ epoch
       some_most q' (micros.RetireCommit s k) e = omega arith
@@ -295,14 +312,18 @@ module _ (m : Meaning) (l : Layout) (rs : List Request) (epoch r : ℕ) (p : Par
         stamps true stamp learned e = goes stamp p.reads
         stamps false stamp learned e = absurd (let y = e in cc)
 
-      line_own : (kind : EventKind) → line_ask m l kind p.nodes.free q (next_of m q) ≡ Some x → Own (line_after m l kind p q (next_of m q) found)
+      line_own : (kind : EventKind) → line_ask m l kind p.nodes.free p.blocks.free q (next_of m q) ≡ Some x → Own (line_after m l kind p q (next_of m q) found)
       line_own kinds.Commit e = let h = inside.commit_asked q x (next_of m q) e in
           commits (⊎_elim (λ a. no_other (micros.Commit h.step.0 h.log) refl a) (λ a. no_other (micros.NestedCommit h.step.0 h.log) refl a) h.step.1)
       line_own (kinds.LoadCell None) e = let h = inside.load_cell_asked q x (next_of m q) e in goes (no_other (micros.LoadCell h.place h.step.0) refl h.step.1) found _
       line_own kinds.ExchangeCell e = let h = inside.exchange_cell_asked q x l (next_of m q) e in goes (no_other (micros.ExchangeCell h.place h.step.0 h.step.1) refl h.step.2) q.word _
       line_own (kinds.PrivateLoad slot word) e = let h = inside.fill_load_asked q x m l slot word p.nodes.free (next_of m q) e in fills (no_other (micros.PrivateLoad h.0 h.1) refl h.3) slot q.made
-      line_own (kinds.PrivateStore slot word number) e = let h = inside.fill_store_asked q x m l slot word number (next_of m q) e in
-          moves (no_other (micros.PrivateStore h.0 h.1 h.3) refl h.4) (runs.goes_on m l (record q { worn = q.worn || version_of number == l.version_max }) q.word) refl q.trail refl p.nodes refl p.reads
+      line_own (kinds.PrivateStore slot word number) e = ⊎_elim
+          (λ link. stores_by slot number true link.0 (links_more q.links (Some (slot - blocks_from m l)) (runs.emptied_more q) q.won))
+          (λ fills. let h = inside.fill_store_asked q x m l slot word number (next_of m q) fills.1 in
+          stores_by slot number false fills.0 (moves (no_other (micros.PrivateStore h.0 h.1 h.3) refl h.4) (runs.filled m l number q) refl q.trail refl p.nodes refl p.reads))
+          (inside.run_store_asked q x m l slot word number p.blocks.free (next_of m q) e)
+      line_own (kinds.LinkCommit b) e = links_more _ None 0 _
       line_own kinds.MakeCommit e = let h = inside.make_commit_asked q x (next_of m q) e in makes (no_other (micros.MakeCommit h.2.log) refl h.2.step) q.made refl h.0 h.1
       line_own kinds.RetireCommit e = let h = inside.retire_commit_asked q x (next_of m q) e in retire_own h.0 h.1.log h.1.step _
       line_own kinds.EpochForRetire e = let h = inside.epoch_for_retire_asked q x (next_of m q) e in loads_epoch (loaded (ap (λ (y : Spot × Access). y.0) (sym h.3)))
@@ -318,9 +339,9 @@ module _ (m : Meaning) (l : Layout) (rs : List Request) (epoch r : ℕ) (p : Par
       line_own kinds.OutcomeCommit e = let h = inside.outcome_commit_asked q x (next_of m q) e in commits (no_other (micros.OutcomeCommit h.step.0 h.log) refl h.step.1)
       line_own _ e = some_none x e
 
-    inside_by : (kind : EventKind) (b : Bool) → is_open_run q ≡ b → cond b (line_ask m l kind p.nodes.free q (next_of m q)) (opening_ask kind q) ≡ Some x → Own (cond b (line_after m l kind p q (next_of m q) found) (runs.opened_more p q found))
+    inside_by : (kind : EventKind) (b : Bool) → is_open_run q ≡ b → cond b (line_ask m l kind p.nodes.free p.blocks.free q (next_of m q)) (opening_ask kind q) ≡ Some x → Own (cond b (line_after m l kind p q (next_of m q) found) (runs.opened_more p q found))
     inside_by kind true is e = line_own is kind e
     inside_by kind false is e = opening_own kind e
 
-    pub inside_own : (kind : EventKind) → inside_ask m l kind p.nodes.free q ≡ Some x → Own (inside_after m l kind p q found)
+    pub inside_own : (kind : EventKind) → inside_ask m l kind p.nodes.free p.blocks.free q ≡ Some x → Own (inside_after m l kind p q found)
     inside_own kind e = inside_by kind (is_open_run q) refl e

@@ -17,7 +17,8 @@ use Rattle.machine_states.specs.runner_parts.specs.declared.event.EventKind.{Eve
 use Rattle.machine_states.specs.runner_parts.specs.declared.event.EventKind.TheVariants as kinds
 use Rattle.machine_states.specs.epoch_core.specs.declared.stage.Stage.TheVariants.{Entered}
 use Rattle.machine_states.specs.runner_parts.specs.State.{RunState, BlocksState, PartState, RecordsState}
-use Rattle.machine_states.specs.Blockless.{asks, ask_by, outside_ask, after, after_by}
+use Rattle.machine_states.specs.runner_steps.specs.Asks.{asks, ask_by, outside_ask}
+use Rattle.machine_states.specs.runner_steps.specs.After.{after, after_by}
 use Rattle.machine_states.specs.runner_steps.specs.After.{leaves, knows_also}
 use Rattle.machine_states.specs.epoch_core.specs.State.{is_entered, entry_of}
 use Rattle.machine_states.specs.epoch_core.specs.Lists.{times}

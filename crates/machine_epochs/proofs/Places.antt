@@ -1,11 +1,13 @@
 -- What the lists and the holders say of where slots are.
 use Rattle.std.specs.Prelude.{◌==◌, ◌||◌, cond, Bool, true, false, nat_lt, slice_index}
 use Rattle.std.proofs.Common.{◌≡◌, ◌≢◌, ℕ, ◌+◌, ◌-◌, ◌<◌, ◌≤◌, List, [], ◌∷◌, ◌++◌, length, refl, sym, ap, ◌∙◌, subst, arith, Some}
+use Rattle.std.proofs.lemmas.Bool.{and_parts}
 use Rattle.std.proofs.lemmas.Bool.Decides.{nat_tests}
 use Rattle.machine_states.specs.body_terms.specs.declared.thunk.Thunk.{Thunk}
 use Rattle.machine_states.specs.table_words.specs.declared.layout.Layout.{Layout}
 use Rattle.machine_states.specs.table_words.specs.declared.spot.Spot.{Spot}
-use Rattle.machine_states.specs.table_words.specs.declared.spot.Spot.TheVariants.{ThunkWord, DoneWord, LogWord}
+use Rattle.machine_states.specs.table_words.specs.Places.{part_words}
+use Rattle.machine_states.specs.table_words.specs.declared.spot.Spot.TheVariants.{ThunkWord, DoneWord, LogWord, LinkWord}
 use Rattle.machine_states.specs.table_words.specs.Seen.{put}
 use Rattle.machine_states.specs.structure_laws.specs.Meaning.{Meaning}
 use Rattle.machine_states.specs.runner_parts.specs.State.{RunState}
@@ -23,6 +25,7 @@ use Rattle.machine_epochs.specs.Entries.{counts_of}
 use Rattle.machine_epochs.specs.Roles.{role_at}
 use Rattle.machine_epochs.specs.Slots.{thunk_in}
 use Rattle.machine_epochs.specs.Joined.{IsJoinedToEpochs}
+use Rattle.machine_epochs.proofs.OutsideAsked.{named_is}
 
 has_first : (y x n : ℕ) (b : Bool) → (b ≡ true → 1 ≤ n) → (y == x || b) ≡ true → 1 ≤ cond (y == x) (1 + n) n
 has_first y x n b rest e = grind (arith, nat_tests)
@@ -74,29 +77,48 @@ kept_out (Free r) g h = absurd h
 kept_out (Worn r) g h = absurd h
 kept_out (OnBoard i) g h = absurd h
 
+-- a word of a descriptor, by its number
+abbrev pub spot_by : ℕ → ℕ → Bool → Bool → Bool → Spot
+spot_by d word b b' b'' = cond b (ThunkWord d word) (cond b' (DoneWord d) (cond b'' (LinkWord d) (LogWord d (word - 13))))
+
 -- a write into the log of one descriptor isn't seen in the words of another
 pub log_elsewhere : (f : Spot → ℕ) (d k v d' j : ℕ) → d' ≢ d → put f (LogWord d k) v (descriptor_spot d' j) ≡ f (descriptor_spot d' j)
-log_elsewhere f d k v d' j ne = by_word (nat_lt j 12) (j == 12)
+log_elsewhere f d k v d' j ne = by_word (nat_lt j 12) (j == 12) (j == 13 + part_words)
   where
     not_there : (a b x y z : ℕ) → a ≢ b → cond (a == b) (cond (x == y) z (f (LogWord a x))) (f (LogWord a x)) ≡ f (LogWord a x)
     not_there a b x y z ne = grind (arith, nat_tests)
 
-    by_word : (b b' : Bool) → put f (LogWord d k) v (cond b (ThunkWord d' j) (cond b' (DoneWord d') (LogWord d' (j - 13)))) ≡ f (cond b (ThunkWord d' j) (cond b' (DoneWord d') (LogWord d' (j - 13))))
-    by_word true b' = refl
-    by_word false true = refl
-    by_word false false = not_there d' d (j - 13) k v ne
+    by_word : (b b' b'' : Bool) → put f (LogWord d k) v (spot_by d' j b b' b'') ≡ f (spot_by d' j b b' b'')
+    by_word true b' b'' = refl
+    by_word false true b'' = refl
+    by_word false false true = refl
+    by_word false false false = not_there d' d (j - 13) k v ne
 
 -- nor is a write of its done word
 pub done_elsewhere : (f : Spot → ℕ) (d v d' j : ℕ) → d' ≢ d → put f (DoneWord d) v (descriptor_spot d' j) ≡ f (descriptor_spot d' j)
-done_elsewhere f d v d' j ne = by_word (nat_lt j 12) (j == 12)
+done_elsewhere f d v d' j ne = by_word (nat_lt j 12) (j == 12) (j == 13 + part_words)
   where
     not_there : (a b z : ℕ) → a ≢ b → cond (a == b) z (f (DoneWord a)) ≡ f (DoneWord a)
     not_there a b z ne = grind (arith, nat_tests)
 
-    by_word : (b b' : Bool) → put f (DoneWord d) v (cond b (ThunkWord d' j) (cond b' (DoneWord d') (LogWord d' (j - 13)))) ≡ f (cond b (ThunkWord d' j) (cond b' (DoneWord d') (LogWord d' (j - 13))))
-    by_word true b' = refl
-    by_word false true = not_there d' d v ne
-    by_word false false = refl
+    by_word : (b b' b'' : Bool) → put f (DoneWord d) v (spot_by d' j b b' b'') ≡ f (spot_by d' j b b' b'')
+    by_word true b' b'' = refl
+    by_word false true b'' = not_there d' d v ne
+    by_word false false true = refl
+    by_word false false false = refl
+
+-- nor is one of its link
+pub link_elsewhere : (f : Spot → ℕ) (d v d' j : ℕ) → d' ≢ d → put f (LinkWord d) v (descriptor_spot d' j) ≡ f (descriptor_spot d' j)
+link_elsewhere f d v d' j ne = by_word (nat_lt j 12) (j == 12) (j == 13 + part_words)
+  where
+    not_there : (a b z : ℕ) → a ≢ b → cond (a == b) z (f (LinkWord a)) ≡ f (LinkWord a)
+    not_there a b z ne = grind (arith, nat_tests)
+
+    by_word : (b b' b'' : Bool) → put f (LinkWord d) v (spot_by d' j b b' b'') ≡ f (spot_by d' j b b' b'')
+    by_word true b' b'' = refl
+    by_word false true b'' = refl
+    by_word false false true = not_there d' d v ne
+    by_word false false false = refl
 
 module _ (m : Meaning) (l : Layout) (w : EpochState) (s : Sight) (old : IsJoinedToEpochs m l w s) where
   pub free_descriptor : (r d : ℕ) → d < (counts_of m l).descriptors → has (s.part r).descriptors.free d ≡ true → w.location (slot_of (counts_of m l) d) ≡ Free r
@@ -117,6 +139,12 @@ module _ (m : Meaning) (l : Layout) (w : EpochState) (s : Sight) (old : IsJoined
 
   pub apart : (r i d d' : ℕ) → w.holds r (slot_of (counts_of m l) d) ≡ true → d < (counts_of m l).descriptors → has (s.part i).descriptors.free d' ≡ true → d' ≢ d
   apart r i d d' e few free same = held_unfree r i d e few (ap (λ n. has (s.part i).descriptors.free n) (sym same) ∙ free)
+
+  -- whoever runs a section is sure of its descriptor, which is one that the table has
+  pub run_few : (r : ℕ) (q : RunState) → (s.part r).run ≡ Some q → q.descriptor < (counts_of m l).descriptors
+  run_few r q at =
+      let g = (s.part r).guards in
+      (old.tied r).numbered q.descriptor (named_is g.named q.descriptor (and_parts _ _ ((old.tied r).run_sure q at)).1)
 
   -- a run's section
   module _ (r : ℕ) (q : RunState) (at : (s.part r).run ≡ Some q) (loaded : length q.opened ≡ 13) where

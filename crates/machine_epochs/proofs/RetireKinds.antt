@@ -2,28 +2,25 @@
 use Rattle.std.specs.Prelude.{◌==◌, cond, if◌then◌else◌, Bool, true, false}
 use Rattle.std.proofs.Common.{◌≡◌, ◌≢◌, ℕ, suc, ◌+◌, ◌<◌, List, [], ◌∷◌, ◌++◌, map, refl, sym, ap, ◌∙◌, subst, arith, Some}
 use Rattle.std.proofs.lemmas.Bool.Decides.{nat_tests}
-use Rattle.machine_states.specs.map_history.specs.declared.op.Request.{Request}
 use Rattle.machine_states.specs.body_terms.specs.declared.micro.Micro.{Micro}
 use Rattle.machine_states.specs.body_terms.specs.declared.micro.Micro.TheVariants as micros
 use Rattle.machine_states.specs.body_terms.specs.Line.{micro_at}
 use Rattle.machine_states.specs.body_terms.specs.Run.{written_once}
 use Rattle.machine_states.specs.table_words.specs.declared.layout.Layout.{Layout}
 use Rattle.machine_states.specs.table_words.specs.declared.spot.Spot.{Spot}
-use Rattle.machine_states.specs.table_words.specs.declared.spot.Spot.TheVariants.{Epoch, LogWord}
+use Rattle.machine_states.specs.table_words.specs.declared.spot.Spot.TheVariants.{Epoch}
 use Rattle.machine_states.specs.table_words.specs.declared.access.Access.{Access}
 use Rattle.machine_states.specs.table_words.specs.declared.access.Access.TheVariants.{Loads, Exchanges}
 use Rattle.machine_states.specs.table_words.specs.Access.{exchanged}
-use Rattle.machine_states.specs.table_words.specs.Places.{Fits, part_words}
 use Rattle.machine_states.specs.table_words.specs.Seen.{upd, put}
 use Rattle.machine_states.specs.structure_laws.specs.Meaning.{Meaning}
 use Rattle.machine_states.specs.runner_parts.specs.declared.event.EventKind.TheVariants as kinds
 use Rattle.machine_states.specs.runner_parts.specs.declared.entries.Retired.{Retired}
 use Rattle.machine_states.specs.runner_parts.specs.State.{RunState, PartState, RecordsState}
-use Rattle.machine_states.specs.runner_steps.specs.Sections.{thunk_of, is_open_run, line_of, next_of, setting_of, commits_to}
+use Rattle.machine_states.specs.runner_steps.specs.Sections.{thunk_of, is_open_run, line_of, next_of, setting_of, commits_to, needs_link}
 use Rattle.machine_states.specs.runner_parts.specs.Lists.{slot_retired}
-use Rattle.machine_states.specs.runner_steps.specs.Asks.{sizes_for}
-use Rattle.machine_states.specs.runner_steps.specs.InRun.{epoch_for_retire_ask}
-use Rattle.machine_states.specs.Blockless.{retire_commit_ask}
+use Rattle.machine_states.specs.runner_steps.specs.InRun.{epoch_for_retire_ask, retire_commit_ask}
+use Rattle.machine_states.specs.runner_parts.specs.block_words.specs.Blocks.{log_spot}
 use Rattle.machine_states.specs.runner_steps.specs.AfterInRun as runs
 use Rattle.machine_states.specs.epoch_core.specs.declared.location.Location.{Location}
 use Rattle.machine_states.specs.epoch_core.specs.declared.location.Location.TheVariants.{Live, Hand}
@@ -43,10 +40,10 @@ use Rattle.machine_epochs.specs.Supplied.{MayRetire}
 use Rattle.machine_epochs.proofs.InsideAsked as asked
 use Rattle.machine_epochs.proofs.Roles as roles
 use Rattle.machine_epochs.proofs.RunPlaces.{next_in_line, open_run, goes_on_unretired, unretired_before, retire_next}
-use Rattle.machine_epochs.proofs.Places.{apart, log_elsewhere, run_role}
+use Rattle.machine_epochs.proofs.Places.{apart, run_few, run_role}
 use Rattle.machine_epochs.proofs.Joining.{but_load, descriptor_same, IsElsewhere, Goes, next}
+use Rattle.machine_epochs.proofs.LogSpots.{LeavesRest, log_leaves}
 use Rattle.machine_epochs.proofs.RunKinds.{KeepsRun, KeepsRest, run_goes, Leads, for_step}
-use Rattle.machine_epochs.proofs.CommitKinds.{log_past}
 use Rattle.machine_epochs.proofs.SlotKinds.{other_place, kept_place, live_hand}
 
 other_retire : (f : ℕ → Retiring) (r i : ℕ) (x : Retiring) → i ≢ r → upd f r x i ≡ f i
@@ -113,7 +110,6 @@ module _ (m : Meaning) (l : Layout) (w : EpochState) (s : Sight) (old : IsJoined
           seen_epoch = refl;
           seen_announced = λ i. refl;
           seen_board = λ i. refl;
-          past = old.past;
         })
         (λ i ne. record {
           holds = λ t h. h;
@@ -128,13 +124,21 @@ module _ (m : Meaning) (l : Layout) (w : EpochState) (s : Sight) (old : IsJoined
         (sym (map_same lists_of s.part r _ refl))
 
   -- its commit
-  module _ (here : micro_at (line_of m q) q.at ≡ micros.RetireCommit slot k) (few : d < (counts_of m l).descriptors) (low : k < part_words)
-      (logged : w.log d k ≡ s.word (LogWord d k)) where
+  module _ (here : micro_at (line_of m q) q.at ≡ micros.RetireCommit slot k) (logged : w.log d k ≡ s.word (log_spot d q.links k)) where
+    abbrev a : Spot
+    a = log_spot d q.links k
+
     abbrev found : ℕ
-    found = s.word (LogWord d k)
+    found = s.word a
 
     abbrev f : Spot → ℕ
-    f = put s.word (LogWord d k) (exchanged found 0 (slot + 1))
+    f = put s.word a (exchanged found 0 (slot + 1))
+
+    rest : LeavesRest s.word a (exchanged found 0 (slot + 1)) d
+    rest = log_leaves s.word (exchanged found 0 (slot + 1)) d q.links k
+
+    few : d < (counts_of m l).descriptors
+    few = run_few m l w s old r q at
 
     abbrev agreed : RunState
     agreed = runs.agrees m l q (written_once found (slot + 1))
@@ -192,8 +196,8 @@ module _ (m : Meaning) (l : Layout) (w : EpochState) (s : Sight) (old : IsJoined
           alone = λ d h. h;
           entered = λ h. h;
           live = λ i h. descriptor_place i ∙ h;
-          thunk = λ i j. refl;
-          stored = λ i j has_it. log_elsewhere s.word d k _ i j (apart m l w s old r r d i held few has_it);
+          thunk = rest.thunk;
+          stored = λ i j has_it. rest.elsewhere i j (apart m l w s old r r d i held few has_it);
           on_run = record { descriptor = refl; opened = refl };
           made = λ t e. keeps_hand (w.log d k == 0) refl r t ((old.tied r).run_made q t at e);
           moved = record { stage = refl; published = refl; descriptors = refl; guards = refl; walk = refl };
@@ -207,20 +211,19 @@ module _ (m : Meaning) (l : Layout) (w : EpochState) (s : Sight) (old : IsJoined
           stage = λ i. refl;
           role = λ i j. refl;
           out = λ i h. ap is_out (sym (descriptor_place i)) ∙ h;
-          seen_epoch = refl;
-          seen_announced = λ i. refl;
-          seen_board = λ i. refl;
-          past = λ i j high. log_past m l w s old d k _ i j low high;
+          seen_epoch = rest.epoch;
+          seen_announced = rest.announced;
+          seen_board = rest.board;
         }))
         (λ i ne. subst (λ (x : Retiring). IsElsewhere m l w (committed x) s.word f i (s.part i)) (sym is_now) (record {
           holds = λ t h. h;
           alone = λ d h. h;
-          words = λ j j' h. refl;
+          words = λ j j' h. rest.thunk j j';
           hand = λ t h. keeps_hand (w.log d k == 0) refl i t h;
           retire = other_retire w.retire r i no_retire ne;
           live = λ x e h. descriptor_place x.descriptor ∙ h;
           entered = λ h. h;
-          stored = λ j j' has_it. log_elsewhere s.word d k _ j j' (apart m l w s old r i d j held few has_it);
+          stored = λ j j' has_it. rest.elsewhere j j' (apart m l w s old r i d j held few has_it);
         }))
         (ap (λ (x : Retiring). upd (λ i. lists_of (s.part i)) r (retired_lists (w.log x.descriptor x.index) x.slot x.epoch (lists_of p))) is_now
         ∙ (ap (λ (x : Lists). upd (λ i. lists_of (s.part i)) r x) own_lists ∙ sym (map_upd lists_of s.part r _)))
@@ -235,16 +238,15 @@ module _ (m : Meaning) (l : Layout) (w : EpochState) (s : Sight) (old : IsJoined
       for_step m l w s old r q at is_open kinds.EpochForRetire records micro x μ (Epoch, Loads) h.2 h.3
       (_, (h.0, h.1, refl, refl), loads_epoch m l w s old r q at is_open h.0 h.1 (next_in_line m q μ refl (ahead ∙ h.2)) (may h.0 h.1 h.2) records)
 
-  pub retire_commit : (rs : List Request) → Fits (sizes_for m l rs) x.0 → ((k : ℕ) → commits_to micro ≡ Some k → w.log q.descriptor k ≡ s.word x.0)
+  pub retire_commit : ((k : ℕ) → commits_to micro ≡ Some k → needs_link q micro ≡ false → w.log q.descriptor k ≡ s.word x.0)
       → retire_commit_ask q micro ≡ Some x → Leads m l w s old r q at is_open kinds.RetireCommit records micro x
-  retire_commit rs fits logged e =
+  retire_commit logged e =
       let h = asked.retire_commit_asked q x micro e in
       let k = h.1.log in
-      let few : (q.descriptor < (counts_of m l).descriptors) × (k < part_words) = subst (λ (y : Spot × Access). Fits (sizes_for m l rs) y.0) (sym h.1.is) fits in
       let μ : Micro = micros.RetireCommit h.0 k in
-      for_step m l w s old r q at is_open kinds.RetireCommit records micro x μ (LogWord q.descriptor k, Exchanges 0 (h.0 + 1)) h.1.step h.1.is (
+      for_step m l w s old r q at is_open kinds.RetireCommit records micro x μ (log_spot q.descriptor q.links k, Exchanges 0 (h.0 + 1)) h.1.step h.1.is (
         _,
         (h.0, k, refl, refl),
-        retires m l w s old r q at is_open h.0 k (next_in_line m q μ refl (ahead ∙ h.1.step)) few.0 few.1
-            (logged k (ap commits_to h.1.step) ∙ ap (λ (y : Spot × Access). s.word y.0) (sym h.1.is)) records,
+        retires m l w s old r q at is_open h.0 k (next_in_line m q μ refl (ahead ∙ h.1.step))
+            (logged k (ap commits_to h.1.step) (ap (needs_link q) h.1.step ∙ h.1.linked) ∙ ap (λ (y : Spot × Access). s.word y.0) (sym h.1.is)) records,
       )

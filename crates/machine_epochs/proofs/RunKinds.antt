@@ -1,6 +1,6 @@
 -- The kinds of step by which a run goes on and no slot and no log changes.
 use Rattle.std.specs.Prelude.{cond, Bool, true, false, slice_index}
-use Rattle.std.proofs.Common.{◌≡◌, ◌≢◌, ℕ, ◌+◌, ◌<◌, ◌≤◌, List, length, refl, sym, ap, ◌∙◌, subst, arith, Some, None}
+use Rattle.std.proofs.Common.{◌≡◌, ◌≢◌, ℕ, ◌+◌, ◌<◌, List, [], length, refl, sym, ap, ◌∙◌, subst, arith, Option, Some, None}
 use Rattle.machine_states.specs.body_terms.specs.declared.micro.Micro.{Micro}
 use Rattle.machine_states.specs.body_terms.specs.declared.micro.Micro.TheVariants as micros
 use Rattle.machine_states.specs.body_terms.specs.Line.{micro_at}
@@ -11,7 +11,6 @@ use Rattle.machine_states.specs.table_words.specs.declared.spot.Spot.TheVariants
 use Rattle.machine_states.specs.table_words.specs.declared.access.Access.{Access}
 use Rattle.machine_states.specs.table_words.specs.declared.access.Access.TheVariants.{Loads}
 use Rattle.machine_states.specs.table_words.specs.Access.{written}
-use Rattle.machine_states.specs.table_words.specs.Places.{part_words}
 use Rattle.machine_states.specs.table_words.specs.Seen.{upd, put}
 use Rattle.machine_states.specs.structure_laws.specs.Meaning.{Meaning}
 use Rattle.machine_states.specs.runner_parts.specs.declared.event.EventKind.{EventKind}
@@ -23,7 +22,7 @@ use Rattle.machine_states.specs.runner_steps.specs.Outside.{descriptor_spot, is_
 use Rattle.machine_states.specs.runner_parts.specs.Tests.{has, last_stored}
 use Rattle.machine_states.specs.runner_parts.specs.Lists.{cell_read, learned}
 use Rattle.machine_states.specs.runner_steps.specs.AfterInRun as runs
-use Rattle.machine_states.specs.Blockless.{line_after}
+use Rattle.machine_states.specs.runner_steps.specs.After.{line_after}
 use Rattle.machine_states.specs.epoch_core.specs.declared.location.Location.TheVariants.{Live, Hand}
 use Rattle.machine_states.specs.epoch_core.specs.State.{EpochState, is_entered}
 use Rattle.machine_states.specs.epoch_core.specs.Events.{slot_of}
@@ -33,15 +32,18 @@ use Rattle.machine_states.specs.epoch_core.specs.History.{is_out}
 use Rattle.machine_states.specs.epoch_core.specs.Lists.{Lists, listed_all}
 use Rattle.machine_states.specs.Sight.{Sight}
 use Rattle.machine_states.proofs.Steps.{some_same}
+use Rattle.machine_states.proofs.Updates.{map_same}
 use Rattle.machine_states.specs.body_terms.specs.declared.thunk.Thunk.{Thunk}
 use Rattle.machine_epochs.specs.Entries.{counts_of}
 use Rattle.machine_epochs.specs.Roles.{role_at}
-use Rattle.machine_epochs.specs.Slots.{lists_of, retiring_of}
+use Rattle.machine_epochs.specs.Slots.{lists_of, retire_before, retiring_of}
 use Rattle.machine_epochs.specs.Joined.{IsTied, IsJoinedToEpochs}
 use Rattle.machine_epochs.specs.Chunks.{IsLineChunk}
 use Rattle.machine_epochs.proofs.InsideAsked as asked
 use Rattle.machine_epochs.proofs.RunPlaces.{is_of_end, next_in_line, open_run, goes_on_unretired, unretired_before}
 use Rattle.machine_epochs.proofs.Boards.{is_off_board}
+use Rattle.machine_epochs.proofs.LogSpots.{LeavesRest}
+use Rattle.machine_epochs.proofs.Places.{apart, run_few}
 use Rattle.machine_epochs.proofs.Joining.{IsSameBut, but_cell, but_clock, but_stamp, but_reply, descriptor_same, thunk_same, IsElsewhere, Goes, GoesBy, StaysAt, next, as_published, once, stages_stay, stays, board_kept, goes_with}
 
 -- a step of a Retire
@@ -136,7 +138,6 @@ module _ (m : Meaning) (l : Layout) (w : EpochState) (s : Sight) (old : IsJoined
     pub seen_epoch : f Epoch ≡ s.word Epoch
     pub seen_announced : (i : ℕ) → f (Announcement i) ≡ s.word (Announcement i)
     pub seen_board : (i : ℕ) → f (Board i) ≡ s.word (Board i)
-    pub past : (d k : ℕ) → part_words ≤ k → w'.log d k ≡ 0
 
   -- a step of the run that is these events of the component
   pub run_goes : (es : List events.Event) → is_off_board es ≡ true → AllEnabled (counts_of m l) w es → (f : Spot → ℕ) (q' : RunState) (p' : PartState) → KeepsRun (after_all (counts_of m l) w es) f q' p'
@@ -151,9 +152,63 @@ module _ (m : Meaning) (l : Layout) (w : EpochState) (s : Sight) (old : IsJoined
         stage = λ i. rest.stage i ∙ stages_stay m l w s old r f p' k.moved.stage i;
       })
       (board_kept m l w s old r es off ok f p' rest.seen_board)
-      rest.past
       (λ d j out. rest.role d j ∙ (old.roles d j (rest.out d out) ∙ ap (λ (t : Thunk). role_at (m.body t) j) (sym (thunk_same f s.word d (k.thunk d)))))
       (once m l w s old r p' (as_published m l w s old r p' k.moved.published)) (run_tied (after_all (counts_of m l) w es) f q' p' k) others
+
+  -- a step by which a run stays where it stands: it links a block
+  module _ (links : List ℕ) (block : Option ℕ) (emptied : ℕ) (won : List ℕ) where
+    abbrev linking : RunState
+    linking = record q { links = links; block = block; emptied = emptied; won = won }
+
+    same_retire : (micro : Micro) → retire_before q micro ≡ retire_before linking micro
+    same_retire (micros.RetireCommit slot log) = refl
+    same_retire _ = refl
+
+  pub stands : (a : Spot) (v : ℕ) → LeavesRest s.word a v q.descriptor → (links : List ℕ) (block : Option ℕ) (emptied : ℕ) (won : List ℕ) (records : RecordsState)
+      → StaysAt m l w (next m l w s old r (put s.word a v) (record p { run = Some (linking links block emptied won); records = records }))
+  stands a v rest links block emptied won records =
+      let q' = linking links block emptied won in
+      let p' : PartState = record p { run = Some q'; records = records } in
+      let held = (old.tied r).run_held q at in
+      let few = run_few m l w s old r q at in (
+        [],
+        refl,
+        run_goes [] refl tt (put s.word a v) q' p'
+            (record {
+              holds = λ t h. h;
+              alone = λ d h. h;
+              entered = λ h. h;
+              live = λ d h. h;
+              thunk = rest.thunk;
+              stored = λ d j free. rest.elsewhere d j (apart m l w s old r r q.descriptor d held few free);
+              on_run = record { descriptor = refl; opened = refl };
+              made = λ t e. (old.tied r).run_made q t at e;
+              moved = record { stage = refl; published = refl; descriptors = refl; guards = refl; walk = refl };
+              here = refl;
+              retire = (old.tied r).retire ∙ (ap (retiring_of m) at ∙ same_retire links block emptied won (micro_at (line_of m q) q.at));
+            })
+            (record {
+              epoch = refl;
+              announced = λ i. refl;
+              stage = λ i. refl;
+              role = λ i j. refl;
+              out = λ i h. h;
+              seen_epoch = rest.epoch;
+              seen_announced = rest.announced;
+              seen_board = rest.board;
+            })
+            (λ i ne. record {
+              holds = λ t h. h;
+              alone = λ d h. h;
+              words = λ d j h. rest.thunk d j;
+              hand = λ t h. h;
+              retire = refl;
+              live = λ x here h. h;
+              entered = λ h. h;
+              stored = λ d j free. rest.elsewhere d j (apart m l w s old r i q.descriptor d held few free);
+            })
+            (sym (map_same lists_of s.part r p' refl)),
+      )
 
   module _ (micro : Micro) (ahead : next_of m q ≡ micro) (inner : is_of_end micro ≡ false) (other : is_of_retire micro ≡ false) where
     here : micro_at (line_of m q) q.at ≡ micro

@@ -4,16 +4,17 @@ use Rattle.std.specs.List.{filter}
 use Rattle.std.proofs.Common.{◌≡◌, ◌≢◌, ℕ, zero, suc, ◌+◌, ◌-◌, ◌<◌, List, [], ◌∷◌, length, refl, sym, ap, ◌∙◌, subst, arith, ⊎_elim, inl, inr, Option, Some, None}
 use Rattle.std.proofs.lemmas.Bool.{cases_eq}
 use Rattle.std.proofs.lemmas.Bool.Decides.{nat_tests}
-use Rattle.section_lines.specs.small_lemmas.proofs.Numbers.{tested_equal as same_word, tested_other as other_word}
+use Rattle.section_lines.specs.small_lemmas.proofs.Numbers.{tested_equal as same_word, tested_other as other_word, other_tested}
 use Rattle.machine_states.specs.map_history.specs.declared.op.Request.{Request}
 use Rattle.machine_states.specs.body_terms.specs.declared.thunk.Thunk.{Thunk}
 use Rattle.machine_states.specs.body_terms.specs.Word.{held_word}
 use Rattle.machine_states.specs.table_words.specs.declared.layout.Layout.{Layout}
 use Rattle.machine_states.specs.table_words.specs.declared.spot.Spot.{Spot}
-use Rattle.machine_states.specs.table_words.specs.declared.spot.Spot.TheVariants.{Cell, ThunkWord, LogWord}
+use Rattle.machine_states.specs.table_words.specs.declared.spot.Spot.TheVariants.{Cell, ThunkWord, LogWord, LinkWord}
 use Rattle.machine_states.specs.table_words.specs.declared.access.Access.{Access}
 use Rattle.machine_states.specs.table_words.specs.declared.access.Access.TheVariants.{Exchanges}
 use Rattle.machine_states.specs.table_words.specs.Access.{written}
+use Rattle.machine_states.specs.table_words.specs.Places.{part_words}
 use Rattle.machine_states.specs.table_words.specs.Seen.{upd, put}
 use Rattle.machine_states.specs.structure_laws.specs.Meaning.{Meaning}
 use Rattle.machine_states.specs.runner_parts.specs.declared.event.EventKind.TheVariants as kinds
@@ -131,14 +132,20 @@ free_live r e = let x = e in cc
 free_not_hand : (r i : ℕ) → Free r ≡ Hand i → ⊥
 free_not_hand r i e = let x = e in cc
 
-pub log_spot : (d k : ℕ) → descriptor_spot d (13 + k) ≡ LogWord d k
-log_spot d k = rw (far k, near k, back k) refl
+pub link_spot : (d : ℕ) → descriptor_spot d (13 + part_words) ≡ LinkWord d
+link_spot d = refl
+
+pub log_spot : (d k : ℕ) → k < part_words → descriptor_spot d (13 + k) ≡ LogWord d k
+log_spot d k low = rw (far k, near k, inner k low, back k) refl
   where
     far : (k : ℕ) → nat_lt (13 + k) 12 ≡ false
     far k = grind (arith, nat_tests)
 
     near : (k : ℕ) → (13 + k == 12) ≡ false
     near k = grind (arith, nat_tests)
+
+    inner : (k : ℕ) → k < part_words → (13 + k == 13 + part_words) ≡ false
+    inner k low = other_tested (13 + k) (13 + part_words) (λ same. omega (arith, low, same))
 
     back : (k : ℕ) → 13 + k - 13 ≡ k
     back k = omega arith
@@ -209,8 +216,7 @@ module _ (m : Meaning) (l : Layout) (w : EpochState) (s : Sight) (old : IsJoined
   here = slot_of (counts_of m l) d
 
   -- the section is published
-  module _ (few : d < (counts_of m l).descriptors) (free : has (s.part r).descriptors.free d ≡ true) (prepared : is_prepared (s.part r).descriptors.stored d t ≡ true) (unpublished : (s.part r).published ≡ None) (named : (s.part r).guards.named ≡ Some d)
-      (empty : (k : ℕ) → w.log d k ≡ 0) where
+  module _ (few : d < (counts_of m l).descriptors) (free : has (s.part r).descriptors.free d ≡ true) (prepared : is_prepared (s.part r).descriptors.stored d t ≡ true) (unpublished : (s.part r).published ≡ None) (named : (s.part r).guards.named ≡ Some d) where
     abbrev mine : Published
     mine = published_by t d p
 
@@ -273,11 +279,10 @@ module _ (m : Meaning) (l : Layout) (w : EpochState) (s : Sight) (old : IsJoined
 
     publishes : Goes m l (events.Publish r d roles ∷ []) w (next m l w s old r f holding)
     publishes =
-        goes_with m l w s old r (events.Publish r d roles ∷ []) ((entered, at_free, empty), tt) f holding
+        goes_with m l w s old r (events.Publish r d roles ∷ []) ((entered, at_free), tt) f holding
         (sym (map_upd lists_of s.part r holding))
         (record { epoch = old.entries.epoch; announced = old.entries.announced; stage = stages_stay m l w s old r f holding refl })
-        (board_kept m l w s old r (events.Publish r d roles ∷ []) refl ((entered, at_free, empty), tt) f holding (λ i. refl))
-        old.past
+        (board_kept m l w s old r (events.Publish r d roles ∷ []) refl ((entered, at_free), tt) f holding (λ i. refl))
         (λ d' k out. ⊎_elim
         (λ same. row_here w.role d d' k roles same ∙ (ap (λ (u : Thunk). role_at (m.body u) k) (sym (prepared_thunk m l w s old r t d free prepared)) ∙ ap (λ n. role_at (m.body (thunk_in s.word n)) k) (sym same)))
         (λ other. row_other w.role d d' k roles other ∙ old.roles d' k (ap is_out (sym (other_place w.location here (slot_of (counts_of m l) d') Live (slot_apart (counts_of m l).nodes d d' other))) ∙ out))
@@ -338,9 +343,8 @@ module _ (m : Meaning) (l : Layout) (w : EpochState) (s : Sight) (old : IsJoined
   abbrev now : PartState
   now = s.part r
 
-  pub hold : (rs : List Request) (t : Thunk) (d : ℕ) → ((k : ℕ) → s.word x.0 ≡ t.word → w.log d k ≡ 0) → hold_ask m l rs r t d now ≡ Some x
-      → Leads m l w s old r none (kinds.Hold t d) records x
-  hold rs t d unlogged e =
+  pub hold : (rs : List Request) (t : Thunk) (d : ℕ) → hold_ask m l rs r t d now ≡ Some x → Leads m l w s old r none (kinds.Hold t d) records x
+  hold rs t d e =
       let h = asked.hold_asked m l rs r t d now x e in
       subst (Leads m l w s old r none (kinds.Hold t d) records) h.is (by_test h (s.word (Cell t.lock) == t.word) refl)
     where
@@ -363,7 +367,6 @@ module _ (m : Meaning) (l : Layout) (w : EpochState) (s : Sight) (old : IsJoined
       by_test h true is = (
         _,
         inl (same_word _ _ is, refl),
-        publishes m l w s old r none t d records _ (entered h.entry h.entered) h.few h.free h.prepared h.unpublished h.named
-            (λ k. unlogged k (ap (λ (y : Spot × Access). s.word y.0) (sym h.is) ∙ same_word _ _ is)),
+        publishes m l w s old r none t d records _ (entered h.entry h.entered) h.few h.free h.prepared h.unpublished h.named,
       )
       by_test h false is = let stay = loses m l w s old r none t d records _ (entered h.entry h.entered) in (stay.0, inr (other_word _ _ is, stay.1), stay.2)

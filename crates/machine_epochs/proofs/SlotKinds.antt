@@ -1,32 +1,30 @@
 -- The kinds of step of a run by which node slots change their places.
 use Rattle.std.specs.Prelude.{◌==◌, ◌||◌, cond, if◌then◌else◌, Bool, true, false, slice_index}
-use Rattle.std.proofs.Common.{◌≡◌, ◌≢◌, ℕ, zero, suc, ◌+◌, ◌-◌, ◌<◌, List, [], ◌∷◌, ◌++◌, length, refl, sym, ap, ◌∙◌, subst, arith, ◌⊎◌, inl, inr, Option, Some, None}
+use Rattle.std.proofs.Common.{◌≡◌, ◌≢◌, ℕ, zero, suc, ◌+◌, ◌-◌, ◌<◌, List, [], ◌∷◌, ◌++◌, length, refl, sym, ap, ◌∙◌, subst, arith, ◌⊎◌, inl, inr, Option, Some, None, ⊎_elim}
 use Rattle.std.proofs.lemmas.Bool.Decides.{nat_tests}
 use Rattle.section_lines.specs.small_lemmas.proofs.Numbers.{tested_equal as same_slot}
-use Rattle.machine_states.specs.map_history.specs.declared.op.Request.{Request}
 use Rattle.machine_states.specs.body_terms.specs.declared.micro.Micro.{Micro}
 use Rattle.machine_states.specs.body_terms.specs.declared.micro.Micro.TheVariants as micros
 use Rattle.machine_states.specs.body_terms.specs.Line.{line, micro_at}
 use Rattle.machine_states.specs.body_terms.specs.Run.{written_once}
-use Rattle.machine_states.specs.body_terms.specs.Word.{version_of}
 use Rattle.machine_states.specs.table_words.specs.declared.layout.Layout.{Layout}
 use Rattle.machine_states.specs.table_words.specs.declared.spot.Spot.{Spot}
-use Rattle.machine_states.specs.table_words.specs.declared.spot.Spot.TheVariants.{Cell, LogWord}
+use Rattle.machine_states.specs.table_words.specs.declared.spot.Spot.TheVariants.{Cell}
 use Rattle.machine_states.specs.table_words.specs.declared.access.Access.{Access}
-use Rattle.machine_states.specs.table_words.specs.declared.access.Access.TheVariants.{Loads, Stores, Exchanges}
-use Rattle.machine_states.specs.table_words.specs.Access.{exchanged}
-use Rattle.machine_states.specs.table_words.specs.Places.{Fits, part_words}
+use Rattle.machine_states.specs.table_words.specs.declared.access.Access.TheVariants.{Loads, Exchanges}
+use Rattle.machine_states.specs.table_words.specs.Access.{exchanged, written}
 use Rattle.machine_states.specs.table_words.specs.Seen.{upd, put}
 use Rattle.machine_states.specs.structure_laws.specs.Meaning.{Meaning}
 use Rattle.machine_states.specs.runner_parts.specs.declared.event.EventKind.TheVariants as kinds
 use Rattle.machine_states.specs.runner_parts.specs.State.{RunState, PartState, RecordsState}
-use Rattle.machine_states.specs.runner_steps.specs.Sections.{thunk_of, is_open_run, next_of, commits_to}
+use Rattle.machine_states.specs.runner_steps.specs.Sections.{thunk_of, is_open_run, next_of, commits_to, needs_link}
 use Rattle.machine_states.specs.runner_parts.specs.Tests.{has}
 use Rattle.machine_states.specs.runner_parts.specs.Lists.{without, slot_taken, slot_made, slot_back}
-use Rattle.machine_states.specs.runner_steps.specs.Asks.{sizes_for}
-use Rattle.machine_states.specs.runner_steps.specs.InRun.{last_of, make_slot, is_slot, fill_load_ask, fill_store_ask}
-use Rattle.machine_states.specs.Blockless.{make_commit_ask}
+use Rattle.machine_states.specs.runner_steps.specs.InRun.{last_of, make_slot, is_slot, fill_load_ask, private_store_in_run_ask, link_commit_ask, make_commit_ask}
+use Rattle.machine_states.specs.runner_parts.specs.block_words.specs.Blocks.{log_spot}
 use Rattle.machine_states.specs.runner_steps.specs.AfterInRun as runs
+use Rattle.machine_states.specs.runner_steps.specs.Outside.{block_spot, blocks_from}
+use Rattle.machine_states.specs.runner_parts.specs.block_words.specs.Blocks.{link_spot}
 use Rattle.machine_states.specs.epoch_core.specs.declared.location.Location.{Location}
 use Rattle.machine_states.specs.epoch_core.specs.declared.location.Location.TheVariants.{Live, Hand, Free}
 use Rattle.machine_states.specs.epoch_core.specs.Moves as moves
@@ -44,10 +42,10 @@ use Rattle.machine_epochs.specs.Slots.{lists_of}
 use Rattle.machine_epochs.proofs.InsideAsked as asked
 use Rattle.machine_epochs.proofs.Roles as roles
 use Rattle.machine_epochs.proofs.RunPlaces.{is_of_end, next_in_line, open_run}
-use Rattle.machine_epochs.proofs.Places.{free_node, apart, log_elsewhere, run_role}
-use Rattle.machine_epochs.proofs.Joining.{but_cell, descriptor_same, Goes, GoesBy, next}
-use Rattle.machine_epochs.proofs.RunKinds.{is_of_retire, run_goes, still, steps, goes_on, Leads, for_step}
-use Rattle.machine_epochs.proofs.CommitKinds.{log_past}
+use Rattle.machine_epochs.proofs.Places.{free_node, apart, run_few, run_role}
+use Rattle.machine_epochs.proofs.Joining.{but_cell, descriptor_same, Goes, GoesBy, StaysAt, next}
+use Rattle.machine_epochs.proofs.LogSpots.{LeavesRest, same_leaves, log_leaves, link_leaves, but_block}
+use Rattle.machine_epochs.proofs.RunKinds.{is_of_retire, run_goes, still, stands, steps, goes_on, Leads, for_step}
 
 -- a place changes at one slot
 pub other_place : (f : ℕ → Location) (t i : ℕ) (p : Location) → i ≢ t → upd f t p i ≡ f i
@@ -112,13 +110,22 @@ module _ (m : Meaning) (l : Layout) (w : EpochState) (s : Sight) (old : IsJoined
 
   -- a Make's commit, and where its slot is then
   module _ (slot k : ℕ) (in_hand : w.location slot ≡ Hand r) (micro : Micro) (ahead : next_of m q ≡ micro) (inner : is_of_end micro ≡ false) (other : is_of_retire micro ≡ false)
-      (role : w.role q.descriptor k ≡ Makes) (few : q.descriptor < (counts_of m l).descriptors) (low : k < part_words)
-      (logged : w.log q.descriptor k ≡ s.word (LogWord q.descriptor k)) where
+      (role : w.role q.descriptor k ≡ Makes)
+      (logged : w.log q.descriptor k ≡ s.word (log_spot q.descriptor q.links k)) where
+    abbrev a : Spot
+    a = log_spot q.descriptor q.links k
+
     abbrev found : ℕ
-    found = s.word (LogWord q.descriptor k)
+    found = s.word a
 
     abbrev f : Spot → ℕ
-    f = put s.word (LogWord q.descriptor k) (exchanged found 0 (slot + 1))
+    f = put s.word a (exchanged found 0 (slot + 1))
+
+    rest : LeavesRest s.word a (exchanged found 0 (slot + 1)) q.descriptor
+    rest = log_leaves s.word (exchanged found 0 (slot + 1)) q.descriptor q.links k
+
+    few : q.descriptor < (counts_of m l).descriptors
+    few = run_few m l w s old r q at
 
     abbrev making : RunState
     making = record q { made = None; worn = false }
@@ -150,8 +157,8 @@ module _ (m : Meaning) (l : Layout) (w : EpochState) (s : Sight) (old : IsJoined
           alone = λ d h. h;
           entered = λ h. h;
           live = λ d h. descriptor_place slot place d node ∙ h;
-          thunk = λ d j. refl;
-          stored = λ d j has_it. log_elsewhere s.word q.descriptor k _ d j (apart m l w s old r r q.descriptor d held few has_it);
+          thunk = rest.thunk;
+          stored = λ d j has_it. rest.elsewhere d j (apart m l w s old r r q.descriptor d held few has_it);
           on_run = record { descriptor = refl; opened = refl };
           made = λ t e. absurd (let x = e in cc);
           moved = record { stage = refl; published = refl; descriptors = refl; guards = refl; walk = refl };
@@ -164,20 +171,19 @@ module _ (m : Meaning) (l : Layout) (w : EpochState) (s : Sight) (old : IsJoined
           stage = λ i. refl;
           role = λ d i. refl;
           out = λ d h. ap is_out (sym (descriptor_place slot place d node)) ∙ h;
-          seen_epoch = refl;
-          seen_announced = λ i. refl;
-          seen_board = λ i. refl;
-          past = λ d i high. log_past m l w s old q.descriptor k _ d i low high;
+          seen_epoch = rest.epoch;
+          seen_announced = rest.announced;
+          seen_board = rest.board;
         })
         (λ i ne. record {
           holds = λ t h. h;
           alone = λ d h. h;
-          words = λ d j h. refl;
+          words = λ d j h. rest.thunk d j;
           hand = λ t h. kept_place w.location slot t place (Hand r) (Hand i) in_hand (hand_hand r i ne) h;
           retire = refl;
           live = λ x e h. descriptor_place slot place x.descriptor node ∙ h;
           entered = λ h. h;
-          stored = λ d j has_it. log_elsewhere s.word q.descriptor k _ d j (apart m l w s old r i q.descriptor d held few has_it);
+          stored = λ d j has_it. rest.elsewhere d j (apart m l w s old r i q.descriptor d held few has_it);
         })
         (ap (λ (x : Lists). upd (λ i. lists_of (s.part i)) r x) own_lists ∙ sym (map_upd lists_of s.part r _))
 
@@ -215,7 +221,6 @@ module _ (m : Meaning) (l : Layout) (w : EpochState) (s : Sight) (old : IsJoined
           seen_epoch = refl;
           seen_announced = λ i. refl;
           seen_board = λ i. refl;
-          past = old.past;
         })
         (λ i ne. record {
           holds = λ t h. h;
@@ -248,27 +253,48 @@ module _ (m : Meaning) (l : Layout) (w : EpochState) (s : Sight) (old : IsJoined
         let h = asked.fill_load_asked q x m l slot word p.nodes.free micro e in
         for_step m l w s old r q at is_open (kinds.PrivateLoad slot word) records micro x (micros.PrivateLoad h.0 h.1) (Cell h.2, Loads) h.3 h.6 (fill_by slot word h.2 h.0 h.1 h.3 q.made h.4 h.5)
 
-    pub fill_store : (slot word number : ℕ) → fill_store_ask m l slot word number q micro ≡ Some x → Leads m l w s old r q at is_open (kinds.PrivateStore slot word number) records micro x
-    fill_store slot word number e =
-        let h = asked.fill_store_asked q x m l slot word number micro e in
-        let μ : Micro = micros.PrivateStore h.0 h.1 h.3 in
-        for_step m l w s old r q at is_open (kinds.PrivateStore slot word number) records micro x μ (Cell h.2, Stores number) h.4 h.5
-        (goes_on m l w s old r q at is_open μ (ahead ∙ h.4) refl refl (put s.word (Cell h.2) number) (but_cell s.word h.2 number)
-        (runs.goes_on m l (record q { worn = q.worn || version_of number == l.version_max }) q.word) (record { descriptor = refl; opened = refl }) refl q.trail refl _
-        (record { stage = refl; published = refl; descriptors = refl; guards = refl; walk = refl }) refl refl)
+    -- a private store of a run: of a Make, or into a block
+    abbrev stored_part : ℕ → ℕ → Bool → PartState
+    stored_part slot number b = record (runs.with_run p (if b then runs.block_emptied (slot - blocks_from m l) q else runs.filled m l number q)) { records = records }
 
-    pub make_commit : (rs : List Request) → Fits (sizes_for m l rs) x.0 → ((k : ℕ) → commits_to micro ≡ Some k → w.log q.descriptor k ≡ s.word x.0)
+    pub run_store : (slot word number : ℕ) (blocks : List ℕ) → private_store_in_run_ask m l slot word number blocks q micro ≡ Some x
+        → Leads m l w s old r q at is_open (kinds.PrivateStore slot word number) records micro x
+    run_store slot word number blocks e = ⊎_elim
+        (λ link.
+        let a = block_spot (slot - blocks_from m l) word in
+        subst (λ (y : Spot × Access). StaysAt m l w (next m l w s old r (put s.word y.0 (written y.1 (s.word y.0))) (stored_part slot number (needs_link q micro)))) link.1
+        (subst (λ b. StaysAt m l w (next m l w s old r (put s.word a number) (stored_part slot number b))) (sym link.0)
+        (stands m l w s old r q at is_open a number (same_leaves s.word number a q.descriptor (but_block s.word number (slot - blocks_from m l) word)) q.links (Some (slot - blocks_from m l)) (runs.emptied_more q) q.won records)))
+        (λ fills.
+        let h = asked.fill_store_asked q x m l slot word number micro fills.1 in
+        let μ : Micro = micros.PrivateStore h.0 h.1 h.3 in
+        let a = Cell h.2 in
+        subst (λ (y : Spot × Access). StaysAt m l w (next m l w s old r (put s.word y.0 (written y.1 (s.word y.0))) (stored_part slot number (needs_link q micro)))) h.5
+        (subst (λ b. StaysAt m l w (next m l w s old r (put s.word a number) (stored_part slot number b))) (sym fills.0)
+        (goes_on m l w s old r q at is_open μ (ahead ∙ h.4) refl refl (put s.word a number) (but_cell s.word h.2 number)
+        (runs.filled m l number q) (record { descriptor = refl; opened = refl }) refl q.trail refl _
+        (record { stage = refl; published = refl; descriptors = refl; guards = refl; walk = refl }) refl refl)))
+        (asked.run_store_asked q x m l slot word number blocks micro e)
+
+    -- and its link
+    pub link_commit : (b : ℕ) → link_commit_ask l b q micro ≡ Some x → Leads m l w s old r q at is_open (kinds.LinkCommit b) records micro x
+    link_commit b e =
+        let a = link_spot q.descriptor q.links (length q.links) in
+        let v = exchanged (s.word a) 0 (b + 1) in
+        subst (λ (y : Spot × Access). StaysAt m l w (next m l w s old r (put s.word y.0 (written y.1 (s.word y.0))) (record (runs.link_committed b p q (s.word y.0)) { records = records }))) (asked.link_asked q x l b micro e)
+        (stands m l w s old r q at is_open a v (link_leaves s.word v q.descriptor q.links (length q.links)) _ None 0 _ records)
+
+    pub make_commit : ((k : ℕ) → commits_to micro ≡ Some k → needs_link q micro ≡ false → w.log q.descriptor k ≡ s.word x.0)
         → make_commit_ask q micro ≡ Some x → Leads m l w s old r q at is_open kinds.MakeCommit records micro x
-    make_commit rs fits logged e =
+    make_commit logged e =
         let h = asked.make_commit_asked q x micro e in
         let k = h.2.log in
-        let few : (q.descriptor < (counts_of m l).descriptors) × (k < part_words) = subst (λ (y : Spot × Access). Fits (sizes_for m l rs) y.0) (sym h.2.is) fits in
         let here : micro_at (line (m.body (thunk_of q.opened))) q.at ≡ micros.MakeCommit k = next_in_line m q (micros.MakeCommit k) refl (ahead ∙ h.2.step) in
-        for_step m l w s old r q at is_open kinds.MakeCommit records micro x (micros.MakeCommit k) (LogWord q.descriptor k, Exchanges 0 (h.0 + 1)) h.2.step h.2.is (
+        for_step m l w s old r q at is_open kinds.MakeCommit records micro x (micros.MakeCommit k) (log_spot q.descriptor q.links k, Exchanges 0 (h.0 + 1)) h.2.step h.2.is (
           _,
           (k, h.0, refl, h.1, refl),
-          subst (λ (o : Option ℕ). Goes m l (events.MakeCommit r q.descriptor k h.0 q.worn ∷ []) w (next m l w s old r (put s.word (LogWord q.descriptor k) (exchanged (s.word (LogWord q.descriptor k)) 0 (h.0 + 1))) (record (runs.make_committed m l p q o (s.word (LogWord q.descriptor k))) { records = records }))) (sym h.1)
+          subst (λ (o : Option ℕ). Goes m l (events.MakeCommit r q.descriptor k h.0 q.worn ∷ []) w (next m l w s old r (put s.word (log_spot q.descriptor q.links k) (exchanged (s.word (log_spot q.descriptor q.links k)) 0 (h.0 + 1))) (record (runs.make_committed m l p q o (s.word (log_spot q.descriptor q.links k))) { records = records }))) (sym h.1)
               (makes h.0 k ((old.tied r).run_made q h.0 at h.1) (micros.MakeCommit k) (ahead ∙ h.2.step) refl refl
-              (run_role m l w s old r q at (open_run q is_open) k Makes (roles.make_role (m.body (thunk_of q.opened)) q.at k here)) few.0 few.1
-              (logged k (ap commits_to h.2.step) ∙ ap (λ (y : Spot × Access). s.word y.0) (sym h.2.is)) records),
+              (run_role m l w s old r q at (open_run q is_open) k Makes (roles.make_role (m.body (thunk_of q.opened)) q.at k here))
+              (logged k (ap commits_to h.2.step) (ap (needs_link q) h.2.step ∙ h.2.linked) ∙ ap (λ (y : Spot × Access). s.word y.0) (sym h.2.is)) records),
         )

@@ -1,16 +1,18 @@
 -- Private stores into the words of own free descriptors, and private loads of these.
 use Rattle.std.specs.Prelude.{◌==◌, ◌&&◌, cond, if◌then◌else◌, Bool, true, false, nat_lt}
-use Rattle.std.proofs.Common.{◌≡◌, ◌≢◌, ℕ, ◌-◌, ◌<◌, ◌≤◌, List, [], ◌∷◌, ◌++◌, refl, sym, ap, ◌∙◌, subst, ⊎_elim, arith, Option, Some, None}
+use Rattle.std.proofs.Common.{◌≡◌, ◌≢◌, ℕ, ◌+◌, ◌-◌, ◌<◌, List, [], ◌∷◌, ◌++◌, refl, sym, ap, ◌∙◌, subst, ⊎_elim, arith, Option, Some, None}
 use Rattle.std.proofs.lemmas.Bool.Decides.{nat_tests}
 use Rattle.section_lines.specs.small_lemmas.proofs.Lists.{same_number as some_number}
+use Rattle.section_lines.specs.small_lemmas.proofs.Numbers.{less_tested}
 use Rattle.machine_states.specs.map_history.specs.declared.op.Request.{Request}
 use Rattle.machine_states.specs.body_terms.specs.declared.thunk.Thunk.{Thunk}
 use Rattle.machine_states.specs.table_words.specs.declared.layout.Layout.{Layout}
 use Rattle.machine_states.specs.table_words.specs.declared.sizes.Sizes.{Sizes}
 use Rattle.machine_states.specs.table_words.specs.declared.spot.Spot.{Spot}
-use Rattle.machine_states.specs.table_words.specs.declared.spot.Spot.TheVariants.{Epoch, Announcement, ThunkWord, DoneWord, LogWord, Board}
+use Rattle.machine_states.specs.table_words.specs.declared.spot.Spot.TheVariants.{Epoch, Announcement, ThunkWord, DoneWord, LogWord, LinkWord, Board}
 use Rattle.machine_states.specs.table_words.specs.declared.access.Access.{Access}
-use Rattle.machine_states.specs.table_words.specs.Places.{Fits, slot_count, part_words}
+use Rattle.machine_states.specs.table_words.specs.declared.access.Access.TheVariants.{Loads}
+use Rattle.machine_states.specs.table_words.specs.Places.{Fits, part_words, slot_count, descriptor_count}
 use Rattle.machine_states.specs.table_words.specs.Seen.{put}
 use Rattle.machine_states.specs.structure_laws.specs.Meaning.{Meaning}
 use Rattle.machine_states.specs.runner_parts.specs.declared.event.EventKind.TheVariants as kinds
@@ -18,8 +20,10 @@ use Rattle.machine_states.specs.runner_parts.specs.declared.entries.Stored.{Stor
 use Rattle.machine_states.specs.runner_parts.specs.State.{PartState, RecordsState}
 use Rattle.machine_states.specs.runner_parts.specs.Tests.{has, last_stored}
 use Rattle.machine_states.specs.runner_parts.specs.Lists.{nodes_looked, descriptor_stored}
-use Rattle.machine_states.specs.runner_steps.specs.Outside.{descriptor_spot}
-use Rattle.machine_states.specs.Blockless.{private_load_ask, private_store_ask}
+use Rattle.machine_states.specs.runner_steps.specs.Outside.{descriptor_spot, blocks_from}
+use Rattle.machine_states.specs.runner_steps.specs.Outside.{private_load_ask, private_store_ask, block_spot}
+use Rattle.machine_states.specs.runner_steps.specs.AfterOutside.{stored_if, descriptor_known}
+use Rattle.machine_epochs.proofs.LogSpots.{but_block}
 use Rattle.machine_states.specs.runner_steps.specs.Asks.{sizes_for}
 use Rattle.machine_states.specs.epoch_core.specs.declared.location.Location.TheVariants.{Free}
 use Rattle.machine_states.specs.epoch_core.specs.Update.{upd2}
@@ -37,18 +41,17 @@ use Rattle.machine_epochs.specs.Slots.{lists_of, thunk_in, ShowsEntries}
 use Rattle.machine_epochs.specs.Joined.{IsTied, IsJoinedToEpochs}
 use Rattle.machine_epochs.specs.Chunks.{looked, stored}
 use Rattle.machine_epochs.proofs.OutsideAsked as asked
-use Rattle.machine_epochs.proofs.Places.{free_descriptor, held_unfree}
+use Rattle.machine_epochs.proofs.Places.{spot_by, free_descriptor, held_unfree}
 use Rattle.machine_epochs.proofs.Boards.{is_off_board}
-use Rattle.machine_epochs.proofs.Joining.{but_load, thunk_same, IsElsewhere, Goes, GoesBy, next, as_published, once, stages_stay, board_kept, goes_with}
-use Rattle.machine_epochs.proofs.OutsideKinds.{Leads, node_load, unlooked}
-use Rattle.machine_epochs.proofs.CommitKinds.{log_past}
+use Rattle.machine_epochs.proofs.Joining.{but_load, thunk_same, IsElsewhere, Goes, GoesBy, next, as_published, once, stages_stay, board_kept, goes_with, StaysAt}
+use Rattle.machine_epochs.proofs.OutsideKinds.{Leads, node_load, unlooked, leaves}
 
 hits : (a b : Bool) (v x : ℕ) → cond a (cond b v x) x ≡ cond (a && b) v x
 hits true b v x = refl
 hits false b v x = refl
 
-hits_done : (d d' j word v x : ℕ) → (word == 12) ≡ true → (j == 12) ≡ true → cond (d' == d) v x ≡ cond (d' == d && j == word) v x
-hits_done d d' j word v x e e' = grind (arith, nat_tests)
+hits_one : (n d d' j word v x : ℕ) → (word == n) ≡ true → (j == n) ≡ true → cond (d' == d) v x ≡ cond (d' == d && j == word) v x
+hits_one n d d' j word v x e e' = grind (arith, nat_tests)
 
 hits_log : (d d' j word v x : ℕ) → nat_lt word 12 ≡ false → (word == 12) ≡ false → nat_lt j 12 ≡ false → (j == 12) ≡ false
     → cond (d' == d) (cond (j - 13 == word - 13) v x) x ≡ cond (d' == d && j == word) v x
@@ -63,34 +66,50 @@ apart_below j word e e' = grind (arith, nat_tests)
 apart_above : (j word : ℕ) → nat_lt word 12 ≡ false → nat_lt j 12 ≡ true → j ≢ word
 apart_above j word e e' = grind (arith, nat_tests)
 
-apart_done : (j word : ℕ) → (word == 12) ≡ true → (j == 12) ≡ false → j ≢ word
-apart_done j word e e' = grind (arith, nat_tests)
+apart_here : (n j word : ℕ) → (word == n) ≡ true → (j == n) ≡ false → j ≢ word
+apart_here n j word e e' = grind (arith, nat_tests)
 
-apart_log : (j word : ℕ) → (word == 12) ≡ false → (j == 12) ≡ true → j ≢ word
-apart_log j word e e' = grind (arith, nat_tests)
-
--- a word of a descriptor, by its number
-abbrev spot_by : Bool → Bool → ℕ → ℕ → Spot
-spot_by b b' d word = cond b (ThunkWord d word) (cond b' (DoneWord d) (LogWord d (word - 13)))
+apart_there : (n j word : ℕ) → (word == n) ≡ false → (j == n) ≡ true → j ≢ word
+apart_there n j word e e' = grind (arith, nat_tests)
 
 -- a store into a word of a descriptor is seen in that word and in no other of a descriptor
 module _ (f : Spot → ℕ) (d word v d' j : ℕ) where
-  abbrev Seen : Bool → Bool → Bool → Bool → Type 0
-  Seen b b' a a' = put f (spot_by b b' d word) v (spot_by a a' d' j) ≡ cond (d' == d && j == word) v (f (spot_by a a' d' j))
+  abbrev n : ℕ
+  n = 13 + part_words
 
-  put_by : (b b' a a' : Bool) → nat_lt word 12 ≡ b → (word == 12) ≡ b' → nat_lt j 12 ≡ a → (j == 12) ≡ a' → Seen b b' a a'
-  put_by true b' true a' e e1 e2 e3 = hits (d' == d) (j == word) v (f (ThunkWord d' j))
-  put_by true b' false true e e1 e2 e3 = misses (d' == d) j word v _ (apart_below j word e e2)
-  put_by true b' false false e e1 e2 e3 = misses (d' == d) j word v _ (apart_below j word e e2)
-  put_by false true true a' e e1 e2 e3 = misses (d' == d) j word v _ (apart_above j word e e2)
-  put_by false false true a' e e1 e2 e3 = misses (d' == d) j word v _ (apart_above j word e e2)
-  put_by false true false true e e1 e2 e3 = hits_done d d' j word v (f (DoneWord d')) e1 e3
-  put_by false true false false e e1 e2 e3 = misses (d' == d) j word v _ (apart_done j word e1 e3)
-  put_by false false false true e e1 e2 e3 = misses (d' == d) j word v _ (apart_log j word e1 e3)
-  put_by false false false false e e1 e2 e3 = hits_log d d' j word v (f (LogWord d' (j - 13))) e e1 e2 e3
+  -- of two words whose numbers are like this
+  record Alike (b b' b'' a a' a'' : Bool) : Type 0 where
+    small : nat_lt word 12 ≡ b
+    done : (word == 12) ≡ b'
+    link : (word == n) ≡ b''
+    small_there : nat_lt j 12 ≡ a
+    done_there : (j == 12) ≡ a'
+    link_there : (j == n) ≡ a''
+
+  abbrev Seen : Bool → Bool → Bool → Bool → Bool → Bool → Type 0
+  Seen b b' b'' a a' a'' = put f (spot_by d word b b' b'') v (spot_by d' j a a' a'') ≡ cond (d' == d && j == word) v (f (spot_by d' j a a' a''))
+
+  put_by : (b b' b'' a a' a'' : Bool) → Alike b b' b'' a a' a'' → Seen b b' b'' a a' a''
+  put_by true b' b'' true a' a'' e = hits (d' == d) (j == word) v (f (ThunkWord d' j))
+  put_by true b' b'' false true a'' e = misses (d' == d) j word v _ (apart_below j word e.small e.small_there)
+  put_by true b' b'' false false true e = misses (d' == d) j word v _ (apart_below j word e.small e.small_there)
+  put_by true b' b'' false false false e = misses (d' == d) j word v _ (apart_below j word e.small e.small_there)
+  put_by false true b'' true a' a'' e = misses (d' == d) j word v _ (apart_above j word e.small e.small_there)
+  put_by false false true true a' a'' e = misses (d' == d) j word v _ (apart_above j word e.small e.small_there)
+  put_by false false false true a' a'' e = misses (d' == d) j word v _ (apart_above j word e.small e.small_there)
+  put_by false true b'' false true a'' e = hits_one 12 d d' j word v (f (DoneWord d')) e.done e.done_there
+  put_by false true b'' false false true e = misses (d' == d) j word v _ (apart_here 12 j word e.done e.done_there)
+  put_by false true b'' false false false e = misses (d' == d) j word v _ (apart_here 12 j word e.done e.done_there)
+  put_by false false true false true a'' e = misses (d' == d) j word v _ (apart_there 12 j word e.done e.done_there)
+  put_by false false false false true a'' e = misses (d' == d) j word v _ (apart_there 12 j word e.done e.done_there)
+  put_by false false true false false true e = hits_one n d d' j word v (f (LinkWord d')) e.link e.link_there
+  put_by false false true false false false e = misses (d' == d) j word v _ (apart_here n j word e.link e.link_there)
+  put_by false false false false false true e = misses (d' == d) j word v _ (apart_there n j word e.link e.link_there)
+  put_by false false false false false false e = hits_log d d' j word v (f (LogWord d' (j - 13))) e.small e.done e.small_there e.done_there
 
   pub put_spot : put f (descriptor_spot d word) v (descriptor_spot d' j) ≡ cond (d' == d && j == word) v (f (descriptor_spot d' j))
-  put_spot = put_by (nat_lt word 12) (word == 12) (nat_lt j 12) (j == 12) refl refl refl refl
+  put_spot = put_by (nat_lt word 12) (word == 12) (word == n) (nat_lt j 12) (j == 12) (j == n)
+      (record { small = refl; done = refl; link = refl; small_there = refl; done_there = refl; link_there = refl })
 
 -- what was stored last, after one more store
 last_push : (xs : List Stored) (x : Stored) (d j : ℕ) (so_far : Option ℕ) → last_stored (xs ++ x ∷ []) d j so_far ≡ cond (x.descriptor == d && x.word == j) (Some x.number) (last_stored xs d j so_far)
@@ -155,8 +174,8 @@ module _ (m : Meaning) (l : Layout) (w : EpochState) (s : Sight) (old : IsJoined
 
     stores : (es : List events.Event) → is_off_board es ≡ true → AllEnabled (counts_of m l) w es → (log : ℕ → ℕ → ℕ) → after_all (counts_of m l) w es ≡ record w { log = log }
         → listed_all (counts_of m l) w (λ i. lists_of (s.part i)) es ≡ (λ i. lists_of (s.part i))
-        → ((d' k : ℕ) → part_words ≤ k → log d' k ≡ 0) → Goes m l es w (next m l w s old r f p')
-    stores es off ok log is lists past =
+        → Goes m l es w (next m l w s old r f p')
+    stores es off ok log is lists =
         goes_with m l w s old r es ok f p' (lists ∙ sym (map_same lists_of s.part r p' refl))
         (subst (λ (v : EpochState). ShowsEntries v (next m l w s old r f p')) (sym is) (record {
           epoch = old.entries.epoch ∙ sym epoch;
@@ -164,7 +183,6 @@ module _ (m : Meaning) (l : Layout) (w : EpochState) (s : Sight) (old : IsJoined
           stage = stages_stay m l w s old r f p' refl;
         }))
         (board_kept m l w s old r es off ok f p' board)
-        (λ d' k high. ap (λ (v : EpochState). v.log d' k) is ∙ past d' k high)
         (λ d' k out. ap (λ (v : EpochState). v.role d' k) is ∙ roles d' k (ap (λ (v : EpochState). is_out (v.location (slot_of (counts_of m l) d'))) (sym is) ∙ out))
         (once m l w s old r p' (as_published m l w s old r p' refl))
         (subst (λ (v : EpochState). IsTied m l v f r p') (sym is) (record {
@@ -201,20 +219,19 @@ module _ (m : Meaning) (l : Layout) (w : EpochState) (s : Sight) (old : IsJoined
   thunk_else a b j k v x ne = grind (arith, nat_tests)
 
   -- the store, by the word that it meets
-  store_by : (b b' : Bool) (sizes : Sizes) → ((d' j : ℕ) → put s.word (spot_by b b' d word) number (descriptor_spot d' j) ≡ cond (d' == d && j == word) number (s.word (descriptor_spot d' j)))
-      → Fits sizes (spot_by b b' d word)
-      → GoesBy m l (λ es. es ≡ cond b [] (cond b' [] (events.StoreLog r d (word - 13) number ∷ []))) w (next m l w s old r (put s.word (spot_by b b' d word) number) p')
-  store_by true b' sizes spot fits = (_, refl, stores _ spot (λ d' j ne. thunk_else d' d j word number _ ne) refl (λ i. refl) (λ i. refl) [] refl tt w.log refl refl old.past)
-  store_by false true sizes spot fits = (_, refl, stores _ spot (λ d' j ne. refl) refl (λ i. refl) (λ i. refl) [] refl tt w.log refl refl old.past)
-  store_by false false sizes spot fits = (
+  store_by : (b b' b'' : Bool) → ((d' j : ℕ) → put s.word (spot_by d word b b' b'') number (descriptor_spot d' j) ≡ cond (d' == d && j == word) number (s.word (descriptor_spot d' j)))
+      → GoesBy m l (λ es. es ≡ cond b [] (cond b' [] (cond b'' [] (events.StoreLog r d (word - 13) number ∷ [])))) w (next m l w s old r (put s.word (spot_by d word b b' b'') number) p')
+  store_by true b' b'' spot = (_, refl, stores _ spot (λ d' j ne. thunk_else d' d j word number _ ne) refl (λ i. refl) (λ i. refl) [] refl tt w.log refl refl)
+  store_by false true b'' spot = (_, refl, stores _ spot (λ d' j ne. refl) refl (λ i. refl) (λ i. refl) [] refl tt w.log refl refl)
+  store_by false false true spot = (_, refl, stores _ spot (λ d' j ne. refl) refl (λ i. refl) (λ i. refl) [] refl tt w.log refl refl)
+  store_by false false false spot = (
     _,
     refl,
-    stores _ spot (λ d' j ne. refl) refl (λ i. refl) (λ i. refl) (events.StoreLog r d (word - 13) number ∷ []) refl (at_free, tt) (upd2 w.log d (word - 13) number) refl refl
-        (λ d' k high. log_past m l w s old d (word - 13) number d' k fits.1 high),
+    stores _ spot (λ d' j ne. refl) refl (λ i. refl) (λ i. refl) (events.StoreLog r d (word - 13) number ∷ []) refl (at_free, tt) (upd2 w.log d (word - 13) number) refl refl,
   )
 
-  pub stores_there : (rs : List Request) → Fits (sizes_for m l rs) (descriptor_spot d word) → GoesBy m l (λ es. es ≡ stored r d word number) w (next m l w s old r (put s.word (descriptor_spot d word) number) p')
-  stores_there rs fits = store_by (nat_lt word 12) (word == 12) (sizes_for m l rs) (λ d' j. put_spot s.word d word number d' j) fits
+  pub stores_there : GoesBy m l (λ es. es ≡ stored r d word number) w (next m l w s old r (put s.word (descriptor_spot d word) number) p')
+  stores_there = store_by (nat_lt word 12) (word == 12) (word == 13 + part_words) (λ d' j. put_spot s.word d word number d' j)
 
   -- what is found there is known as what was stored there
   pub loads_there : number ≡ s.word (descriptor_spot d word) → Goes m l [] w (next m l w s old r (put s.word (descriptor_spot d word) (s.word (descriptor_spot d word))) p')
@@ -223,36 +240,75 @@ module _ (m : Meaning) (l : Layout) (w : EpochState) (s : Sight) (old : IsJoined
       let same = but_load s.word a in
       stores (put s.word a (s.word a))
       (λ d' j. subst (λ n. put s.word a n (descriptor_spot d' j) ≡ cond (d' == d && j == word) number (s.word (descriptor_spot d' j))) found (put_spot s.word d word number d' j))
-      (λ d' j ne. same.thunk d' j) same.epoch same.announced same.board [] refl tt w.log refl refl old.past
+      (λ d' j ne. same.thunk d' j) same.epoch same.announced same.board [] refl tt w.log refl refl
 
-fits_few : (sizes : Sizes) (d word : ℕ) (b b' : Bool) → Fits sizes (spot_by b b' d word) → d < sizes.descriptors
-fits_few sizes d word true b' h = h.0
-fits_few sizes d word false true h = h
-fits_few sizes d word false false h = h.0
+few_by : (sizes : Sizes) (d word : ℕ) (b b' b'' : Bool) → Fits sizes (spot_by d word b b' b'') → d < sizes.descriptors
+few_by sizes d word true b' b'' h = h.0
+few_by sizes d word false true b'' h = h
+few_by sizes d word false false true h = h
+few_by sizes d word false false false h = h.0
+
+fits_few : (sizes : Sizes) (d word : ℕ) → Fits sizes (descriptor_spot d word) → d < sizes.descriptors
+fits_few sizes d word h = few_by sizes d word (nat_lt word 12) (word == 12) (word == 13 + part_words) h
+
+-- the words of descriptors stand before those of blocks
+pub before_blocks : (m : Meaning) (l : Layout) (rs : List Request) (slot word : ℕ) → Fits (sizes_for m l rs) (descriptor_spot (slot - slot_count l m.fixed_slots) word)
+    → nat_lt slot (blocks_from m l) ≡ true
+before_blocks m l rs slot word fits = less_tested slot (blocks_from m l)
+    (let few = fits_few (sizes_for m l rs) (slot - slot_count l m.fixed_slots) word fits in behind slot (slot_count l m.fixed_slots) (descriptor_count l) few)
+  where
+    behind : (i n c : ℕ) → i - n < c → i < n + c
+    behind i n c few = omega (arith, few)
 
 module _ (m : Meaning) (l : Layout) (w : EpochState) (s : Sight) (old : IsJoinedToEpochs m l w s) (r : ℕ) (none : (s.part r).run ≡ None) where
+  -- the part after a private load or store of this number, of a descriptor or of a block
+  abbrev known : ℕ → ℕ → ℕ → RecordsState → Bool → PartState
+  known slot word number records b = record (s.part r) { descriptors = stored_if b (s.part r).descriptors (slot - slot_count l m.fixed_slots) word number; records = records }
+
   pub private_store : (rs : List Request) (records : RecordsState) (slot word number : ℕ) (x : Spot × Access) → Fits (sizes_for m l rs) x.0
       → private_store_ask m l slot word number (s.part r) ≡ Some x → Leads m l w s old r none (kinds.PrivateStore slot word number) records x
   private_store rs records slot word number x fits e =
-      let h = asked.private_store_asked m l slot word number (s.part r) x e in
       let d = slot - slot_count l m.fixed_slots in
-      let there : Fits (sizes_for m l rs) (descriptor_spot d word) = subst (λ (y : Spot × Access). Fits (sizes_for m l rs) y.0) (sym h.1) fits in
-      subst (Leads m l w s old r none (kinds.PrivateStore slot word number) records) h.1
-      (stores_there m l w s old r none d word number (fits_few (sizes_for m l rs) d word (nat_lt word 12) (word == 12) there) h.0 records rs there)
+      ⊎_elim
+      (λ own.
+      let a = descriptor_spot d word in
+      let there : Fits (sizes_for m l rs) a = subst (λ (y : Spot × Access). Fits (sizes_for m l rs) y.0) (sym own.2) fits in
+      subst (Leads m l w s old r none (kinds.PrivateStore slot word number) records) own.2
+      (subst (λ (b : Bool). GoesBy m l (λ es. es ≡ (if b then stored r d word number else [])) w (next m l w s old r (put s.word a number) (known slot word number records b))) (sym own.0)
+      (stores_there m l w s old r none d word number (fits_few (sizes_for m l rs) d word there) own.1 records)))
+      (λ block.
+      let a = block_spot (slot - blocks_from m l) word in
+      subst (Leads m l w s old r none (kinds.PrivateStore slot word number) records) block.1
+      (subst (λ (b : Bool). GoesBy m l (λ es. es ≡ (if b then stored r d word number else [])) w (next m l w s old r (put s.word a number) (known slot word number records b))) (sym block.0)
+      (leaves m l w s old r none (put s.word a number) (but_block s.word number (slot - blocks_from m l) word) records)))
+      (asked.private_store_cases m l slot word number (s.part r) x e)
 
-  -- a private load of a cell of a node slot, or of a word of an own free descriptor
+  -- a private load of a cell of a node slot, of a word of an own free descriptor, or of a word of a block
   pub private_load : (rs : List Request) (records : RecordsState) (slot word : ℕ) (x : Spot × Access) → Fits (sizes_for m l rs) x.0
       → private_load_ask m l slot word (s.part r) ≡ Some x → Leads m l w s old r none (kinds.PrivateLoad slot word) records x
   private_load rs records slot word x fits e = ⊎_elim
       (λ node. subst (Leads m l w s old r none (kinds.PrivateLoad slot word) records) node.2 (node_load m l w s old r none records slot word node.1 node.0))
+      (⊎_elim
       (λ own.
       let d = slot - slot_count l m.fixed_slots in
       let a = descriptor_spot d word in
-      let there : Fits (sizes_for m l rs) a = subst (λ (y : Spot × Access). Fits (sizes_for m l rs) y.0) (sym own.2) fits in
-      let few = fits_few (sizes_for m l rs) d word (nat_lt word 12) (word == 12) there in
-      let p = s.part r in
-      subst (Leads m l w s old r none (kinds.PrivateLoad slot word) records) own.2
-      (subst (λ (b : Bool). GoesBy m l (λ es. es ≡ looked l r p.nodes slot word (s.word a)) w (next m l w s old r (put s.word a (s.word a))
-      (record (if b then record p { nodes = nodes_looked l p.nodes slot word (s.word a) } else record p { descriptors = descriptor_stored p.descriptors d word (s.word a) }) { records = records })))
-      (sym own.0) ([], unlooked m l w s old r none slot word (s.word a) own.0, loads_there m l w s old r none d word (s.word a) few own.1 records refl)))
+      let there : Fits (sizes_for m l rs) a = subst (λ (y : Spot × Access). Fits (sizes_for m l rs) y.0) (sym own.3) fits in
+      let few = fits_few (sizes_for m l rs) d word there in
+      subst (Leads m l w s old r none (kinds.PrivateLoad slot word) records) own.3
+      (behind_nodes records slot word a own.0 true own.1 ([], refl, loads_there m l w s old r none d word (s.word a) few own.2 records refl)))
+      (λ block.
+      let a = block_spot (slot - blocks_from m l) word in
+      subst (Leads m l w s old r none (kinds.PrivateLoad slot word) records) block.2
+      (behind_nodes records slot word a block.0 false block.1 (leaves m l w s old r none (put s.word a (s.word a)) (but_load s.word a) records))))
       (asked.private_load_cases m l slot word (s.part r) x e)
+    where
+      -- behind the node slots no slot is looked at
+      behind_nodes : (records : RecordsState) (slot word : ℕ) (a : Spot) → nat_lt slot (slot_count l m.fixed_slots) ≡ false → (b : Bool) → nat_lt slot (blocks_from m l) ≡ b
+          → StaysAt m l w (next m l w s old r (put s.word a (s.word a)) (known slot word (s.word a) records b)) → Leads m l w s old r none (kinds.PrivateLoad slot word) records (a, Loads)
+      behind_nodes records slot word a high b is goes =
+          let p = s.part r in
+          subst (λ (c : Bool). GoesBy m l (λ es. es ≡ looked l r p.nodes slot word (s.word a)) w (next m l w s old r (put s.word a (s.word a))
+          (record (if c then record p { nodes = nodes_looked l p.nodes slot word (s.word a) } else descriptor_known m l slot word p (s.word a)) { records = records })))
+          (sym high)
+          (subst (λ (c : Bool). GoesBy m l (λ es. es ≡ looked l r p.nodes slot word (s.word a)) w (next m l w s old r (put s.word a (s.word a)) (known slot word (s.word a) records c))) (sym is)
+          (goes.0, goes.1 ∙ unlooked m l w s old r none slot word (s.word a) high, goes.2))

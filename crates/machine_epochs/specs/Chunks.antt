@@ -4,13 +4,14 @@ use Rattle.machine_states.specs.body_terms.specs.declared.micro.Micro.{Micro}
 use Rattle.machine_states.specs.body_terms.specs.declared.micro.Micro.TheVariants as micros
 use Rattle.machine_states.specs.body_terms.specs.Word.{value_of}
 use Rattle.machine_states.specs.table_words.specs.declared.layout.Layout.{Layout}
-use Rattle.machine_states.specs.table_words.specs.Places.{slot_count}
+use Rattle.machine_states.specs.table_words.specs.Places.{part_words, slot_count}
 use Rattle.machine_states.specs.structure_laws.specs.Meaning.{Meaning}
 use Rattle.machine_states.specs.runner_parts.specs.declared.event.EventKind.{EventKind}
 use Rattle.machine_states.specs.runner_parts.specs.declared.event.EventKind.TheVariants as kinds
 use Rattle.machine_states.specs.epoch_core.specs.declared.stage.Stage.TheVariants.{Loaded, Scanning}
 use Rattle.machine_states.specs.runner_parts.specs.declared.entries.Published.{Published}
 use Rattle.machine_states.specs.runner_parts.specs.State.{RunState, PartState, NodesState}
+use Rattle.machine_states.specs.runner_steps.specs.Outside.{blocks_from}
 use Rattle.machine_states.specs.runner_steps.specs.Sections.{thunk_of, is_open_run, next_of}
 use Rattle.machine_states.specs.runner_parts.specs.Tests.{has, thunk_words}
 use Rattle.machine_states.specs.runner_parts.specs.Lists.{test_of, one_more}
@@ -36,11 +37,12 @@ abbrev pub looked : Layout → ℕ → NodesState → ℕ → ℕ → ℕ → Li
 looked l r n slot cell found =
     if is_last_look n slot cell then events.Test r slot (one_more l (test_of n.tests slot) found).worn ∷ [] else []
 
--- a store of this number into this word of a descriptor: the thunk words and the done word are no words of
+-- a store of this number into this word of a descriptor: the thunk words, the done word and the link are no words of
 -- epochs and slots
 abbrev pub stored : ℕ → ℕ → ℕ → ℕ → List Event
 stored r d word number =
-    if nat_lt word 12 then [] else (if word == 12 then [] else events.StoreLog r d (word - 13) number ∷ [])
+    if nat_lt word 12 then [] else (if word == 12 then [] else (
+    if word == 13 + part_words then [] else events.StoreLog r d (word - 13) number ∷ []))
 
 -- the words commit what the body of the thunk does that they hold
 abbrev pub roles_of : Meaning → List ℕ → ℕ → Role
@@ -84,8 +86,9 @@ module _ (m : Meaning) (l : Layout) (r : ℕ) where
   IsOutsideChunk (kinds.LoadCell (Some place)) p found es =
       es ≡ events.Reach r (comes_outside m (counts_of m l) (kinds.LoadCell (Some place)) p found) ∷ []
   IsOutsideChunk (kinds.PrivateLoad slot cell) p found es = es ≡ looked l r p.nodes slot cell found
+  -- a word of an own free descriptor; one of a block is no word of epochs and slots
   IsOutsideChunk (kinds.PrivateStore slot word number) p found es =
-      es ≡ stored r (slot - slot_count l m.fixed_slots) word number
+      es ≡ (if nat_lt slot (blocks_from m l) then stored r (slot - slot_count l m.fixed_slots) word number else [])
   -- the section is published where the lock stood free with the thunk's word
   IsOutsideChunk (kinds.Hold t d) p found es =
       ((found ≡ t.word) × (es ≡ events.Publish r d (roles_of m (thunk_words t)) ∷ [])) ⊎ ((found ≢ t.word) × (es ≡ []))

@@ -1,9 +1,8 @@
 -- The machine's state and the component's state of epochs and slots, joined.
-use Rattle.std.specs.Prelude.{ℕ, ◌<◌, ◌≤◌, ◌≡◌, true, length, slice_index, None, Some}
+use Rattle.std.specs.Prelude.{ℕ, ◌<◌, ◌≡◌, true, length, slice_index, None, Some}
 use Rattle.machine_states.specs.table_words.specs.declared.layout.Layout.{Layout}
 use Rattle.machine_states.specs.table_words.specs.declared.spot.Spot.{Spot}
 use Rattle.machine_states.specs.table_words.specs.declared.spot.Spot.TheVariants.{ThunkWord}
-use Rattle.machine_states.specs.table_words.specs.Places.{part_words}
 use Rattle.machine_states.specs.structure_laws.specs.Meaning.{Meaning}
 use Rattle.machine_states.specs.runner_parts.specs.declared.entries.Published.{Published}
 use Rattle.machine_states.specs.runner_parts.specs.State.{RunState, PartState}
@@ -58,8 +57,6 @@ module _ (m : Meaning) (l : Layout) where
     pub listed : IsListed (counts_of m l) w (λ r. lists_of (s.part r))
     pub entries : ShowsEntries w s
     pub board : ShowsBoard w s
-    -- no log goes on behind the last word for which a descriptor has room. Where its words stand isn't said here
-    pub past : (d k : ℕ) → part_words ≤ k → w.log d k ≡ 0
     -- a descriptor that isn't free again commits what its thunk's body does
     pub roles : (d k : ℕ) → is_out (w.location (slot_of (counts_of m l) d)) ≡ true
         → w.role d k ≡ role_at (m.body (thunk_in s.word d)) k

@@ -2,7 +2,6 @@
 use Rattle.std.specs.Prelude.{ℕ, ◌+◌, ◌-◌, ◌^◌, ◌<◌, ◌≤◌, ◌≡◌, Bool, true, false, not, ◌==◌, ◌&&◌, ◌||◌, nat_lt, nat_le, [], ◌∷◌, ◌++◌, Option, Some, None}
 use Rattle.machine_states.specs.body_terms.specs.Word.{value_of, is_free}
 use Rattle.machine_states.specs.body_terms.specs.declared.micro.Micro.TheVariants.{EpochForRetire}
-use Rattle.machine_states.specs.body_terms.specs.declared.thunk.Thunk.{Thunk}
 use Rattle.machine_states.specs.table_words.specs.declared.layout.Layout.{Layout}
 use Rattle.machine_states.specs.table_words.specs.declared.spot.Spot.{Spot}
 use Rattle.machine_states.specs.structure_laws.specs.Scene.{Readings}
@@ -10,7 +9,7 @@ use Rattle.machine_states.specs.structure_laws.specs.Meaning.{Meaning}
 use Rattle.machine_states.specs.runner_parts.specs.declared.event.EventKind.{EventKind}
 use Rattle.machine_states.specs.runner_parts.specs.declared.event.EventKind.TheVariants as kinds
 use Rattle.machine_states.specs.runner_parts.specs.State.{RunState, GuardsState, PartState}
-use Rattle.machine_states.specs.runner_steps.specs.Sections.{is_open_run, next_of, commits_to}
+use Rattle.machine_states.specs.runner_steps.specs.Sections.{is_open_run, next_of, commits_to, needs_link}
 use Rattle.machine_states.specs.runner_parts.specs.Tests.{has, is_some_of}
 use Rattle.machine_states.specs.runner_steps.specs.Outside.{is_sure_of}
 use Rattle.machine_states.specs.runner_steps.specs.Guards.{is_last_guard}
@@ -56,12 +55,9 @@ module _ (m : Meaning) (l : Layout) where
     -- what the runner comes to hold, it may hold
     pub held : (t : ℕ) → comes_by m (counts_of m l) kind (s.part r) (s.part r).run (s.word spot) t ≡ true
         → w.holds r t ≡ false → MayHold w r t
-    -- a commit of a run finds the word that the section's log has there
+    -- a commit of a run finds the word that the section's log has there; before a part is linked it is no commit
     pub logged : (q : RunState) (k : ℕ) → (s.part r).run ≡ Some q → is_open_run q ≡ true
-        → commits_to (next_of m q) ≡ Some k → w.log q.descriptor k ≡ s.word spot
-    -- a section that is published now has an empty log
-    pub unlogged : (t : Thunk) (d k : ℕ) → kind ≡ kinds.Hold t d → (s.part r).run ≡ None → s.word spot ≡ t.word
-        → w.log d k ≡ 0
+        → commits_to (next_of m q) ≡ Some k → needs_link q (next_of m q) ≡ false → w.log q.descriptor k ≡ s.word spot
     -- a Retire before which its run stands may be made
     pub retires : (q : RunState) (slot index : ℕ) → (s.part r).run ≡ Some q → is_open_run q ≡ true
         → next_of m q ≡ EpochForRetire slot index

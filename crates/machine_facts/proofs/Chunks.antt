@@ -1,17 +1,18 @@
 -- Of what sort the events are that a step of the machine is: they publish and free nothing, or publish one section, or free descriptors.
 use Rattle.std.specs.Prelude.{◌-◌, ◌==◌, nat_lt, if◌then◌else◌}
-use Rattle.std.proofs.Common.{◌≡◌, ℕ, Bool, true, false, List, [], ◌∷◌, ◌++◌, refl, sym, ◌∙◌, subst, inl, inr, ⊎_elim, Option, Some, None}
+use Rattle.std.proofs.Common.{◌≡◌, ℕ, Bool, true, false, List, [], ◌∷◌, ◌++◌, refl, sym, ◌∙◌, subst, inl, inr, ⊎_elim, Option, Some, None, ◌+◌}
 use Rattle.std.specs.Prelude.{◌⊎◌}
 use Rattle.machine_states.specs.body_terms.specs.declared.micro.Micro.{Micro}
 use Rattle.machine_states.specs.body_terms.specs.Word.{value_of}
 use Rattle.machine_states.specs.body_terms.specs.declared.thunk.Thunk.{Thunk}
 use Rattle.machine_states.specs.table_words.specs.declared.layout.Layout.{Layout}
-use Rattle.machine_states.specs.table_words.specs.Places.{slot_count}
+use Rattle.machine_states.specs.table_words.specs.Places.{slot_count, part_words}
 use Rattle.machine_states.specs.structure_laws.specs.Meaning.{Meaning}
 use Rattle.machine_states.specs.runner_parts.specs.declared.event.EventKind.{EventKind}
 use Rattle.machine_states.specs.runner_parts.specs.declared.event.EventKind.TheVariants as kinds
 use Rattle.machine_states.specs.runner_parts.specs.State.{RunState, NodesState, PartState}
 use Rattle.machine_states.specs.runner_parts.specs.Lists.{test_of, one_more}
+use Rattle.machine_states.specs.runner_steps.specs.Outside.{blocks_from}
 use Rattle.machine_states.specs.runner_steps.specs.Sections.{is_open_run, next_of}
 use Rattle.agreement_core.specs.State.{AgreementState}
 use Rattle.agreement_core.specs.Events as agreement
@@ -103,7 +104,7 @@ module _ (m : Meaning) (l : Layout) (w : AgreementState) (r : ℕ) where
   line_heads (kinds.LoadCell None) p q found heads chunk = subst Last (sym chunk.3) (refl, tt)
   line_heads kinds.ExchangeCell p q found heads chunk = subst Last (sym chunk.4) (refl, (refl, tt))
   line_heads (kinds.PrivateLoad slot cell) p q found heads chunk = subst Last (sym chunk.2) (refl, tt)
-  line_heads (kinds.PrivateStore slot cell number) p q found heads chunk = subst Last (sym chunk.4) (refl, tt)
+  line_heads (kinds.PrivateStore slot cell number) p q found heads chunk = ⊎_elim (λ link. subst Last (sym link.1) tt) (λ fills. subst Last (sym fills.4) (refl, tt)) chunk
   line_heads kinds.MakeCommit p q found heads chunk = subst Last (sym chunk.4) (refl, tt)
   line_heads kinds.RetireCommit p q found heads chunk = subst Last (sym chunk.3) (refl, tt)
   line_heads kinds.EpochForRetire p q found heads chunk = subst Last (sym chunk.3) (refl, tt)
@@ -155,13 +156,18 @@ module _ (m : Meaning) (l : Layout) (w : AgreementState) (r : ℕ) where
   inside_tails kind p q found vs true chunk = line_tails kind p q (next_of m q) found vs chunk
   inside_tails kind p q found vs false chunk = subst AreCalm (sym chunk) none_calm
 
+  if_heads : (b : Bool) (heads : List agreement.Event) → Last heads → Last (if b then heads else [])
+  if_heads true heads last = last
+  if_heads false heads last = tt
+
   stored_heads : (d word number : ℕ) → Last (sections.stored d word number)
-  stored_heads d word number = by (nat_lt word 12) (word == 12)
+  stored_heads d word number = by (nat_lt word 12) (word == 12) (word == 13 + part_words)
     where
-      by : (b b' : Bool) → Last (if b then [] else (if b' then agreement.StoreDone d number ∷ [] else agreement.StoreLog d (word - 13) number ∷ []))
-      by true b' = tt
-      by false true = (refl, tt)
-      by false false = (refl, tt)
+      by : (b b' c : Bool) → Last (if b then [] else (if b' then agreement.StoreDone d number ∷ [] else (if c then [] else agreement.StoreLog d (word - 13) number ∷ [])))
+      by true b' c = tt
+      by false true c = (refl, tt)
+      by false false true = tt
+      by false false false = (refl, tt)
 
   looked_tails : (n : NodesState) (slot cell found : ℕ) → AreCalm (slots.looked l r n slot cell found)
   looked_tails n slot cell found = by (slots.is_last_look n slot cell)
@@ -170,13 +176,18 @@ module _ (m : Meaning) (l : Layout) (w : AgreementState) (r : ℕ) where
       by true = one_calm _ refl
       by false = none_calm
 
+  if_tails : (b : Bool) (vs : List epochs.Event) → AreCalm vs → AreCalm (if b then vs else [])
+  if_tails true vs calm = calm
+  if_tails false vs calm = none_calm
+
   stored_tails : (d word number : ℕ) → AreCalm (slots.stored r d word number)
-  stored_tails d word number = by (nat_lt word 12) (word == 12)
+  stored_tails d word number = by (nat_lt word 12) (word == 12) (word == 13 + part_words)
     where
-      by : (b b' : Bool) → AreCalm (if b then [] else (if b' then [] else epochs.StoreLog r d (word - 13) number ∷ []))
-      by true b' = none_calm
-      by false true = none_calm
-      by false false = one_calm _ refl
+      by : (b b' c : Bool) → AreCalm (if b then [] else (if b' then [] else (if c then [] else epochs.StoreLog r d (word - 13) number ∷ [])))
+      by true b' c = none_calm
+      by false true c = none_calm
+      by false false true = none_calm
+      by false false false = one_calm _ refl
 
   -- a sweep may end, and then some descriptors are freed
   pub swept_frees : (p : PartState) (found : ℕ) → (ds : List ℕ) × (sections.swept l p found ≡ sections.frees ds)
@@ -233,8 +244,8 @@ module _ (m : Meaning) (l : Layout) (w : AgreementState) (r : ℕ) where
   outside_sort (kinds.PrivateLoad slot cell) p found heads vs chunk slots =
       quiet heads vs (subst Last (sym chunk) tt) (subst AreCalm (sym slots) (looked_tails p.nodes slot cell found))
   outside_sort (kinds.PrivateStore slot word number) p found heads vs chunk slots =
-      quiet heads vs (subst Last (sym chunk.1) (stored_heads (slot - slot_count l m.fixed_slots) word number))
-      (subst AreCalm (sym slots) (stored_tails (slot - slot_count l m.fixed_slots) word number))
+      quiet heads vs (subst Last (sym chunk.1) (if_heads (nat_lt slot (blocks_from m l)) (sections.stored (slot - slot_count l m.fixed_slots) word number) (stored_heads (slot - slot_count l m.fixed_slots) word number)))
+      (subst AreCalm (sym slots) (if_tails (nat_lt slot (blocks_from m l)) _ (stored_tails (slot - slot_count l m.fixed_slots) word number)))
   outside_sort (kinds.Hold t d) p found heads vs chunk slots = ⊎_elim
       (λ won. ⊎_elim
       (λ published. inr (inl (record {

@@ -10,7 +10,7 @@ use Rattle.machine_states.specs.runner_parts.specs.declared.event.EventKind.{Eve
 use Rattle.machine_states.specs.runner_parts.specs.declared.event.EventKind.TheVariants as kinds
 use Rattle.machine_states.specs.runner_parts.specs.State.{FinishedState, PartState, RunState}
 use Rattle.machine_states.specs.runner_steps.specs.After.{leaves as leaves_part, knows_also}
-use Rattle.machine_states.specs.Blockless.{after, stepped}
+use Rattle.machine_states.specs.runner_steps.specs.After.{after, stepped}
 use Rattle.machine_states.specs.Sight.{Sight, Steps, parts_after}
 use Rattle.machine_states.proofs.Updates.{upd_here, upd_else}
 use Rattle.machine_states.specs.runner_steps.specs.Sections.{is_open_run}

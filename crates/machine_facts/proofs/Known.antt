@@ -32,7 +32,8 @@ use Rattle.machine_states.specs.runner_steps.specs.InRun.{last_clock, stamp_afte
 use Rattle.machine_states.specs.runner_steps.specs.Outside.{entry_spot}
 use Rattle.machine_states.specs.epoch_core.specs.State.{last_epoch}
 use Rattle.machine_states.specs.runner_steps.specs.Asks.{opening_ask}
-use Rattle.machine_states.specs.Blockless.{asks, outside_ask, inside_ask, line_ask, outside_after, line_after, inside_after, after_by, stepped, after}
+use Rattle.machine_states.specs.runner_steps.specs.Asks.{asks, outside_ask, inside_ask, line_ask}
+use Rattle.machine_states.specs.runner_steps.specs.After.{outside_after, line_after, inside_after, after_by, stepped, after}
 use Rattle.machine_states.specs.runner_steps.specs.AfterInRun as inside
 use Rattle.machine_states.specs.runner_steps.specs.AfterOutside as outside
 use Rattle.machine_states.specs.runner_steps.specs.After.{leaves, knows_also}
@@ -191,7 +192,7 @@ module _ (m : Meaning) (l : Layout) (rs : List Request) (r : ℕ) (f : Spot → 
         (reply_put f t.request _)) refl
     reply_knows _ asked = some_none x asked
 
-    line_knows : (kind : EventKind) (micro : Micro) → line_ask m l kind p.nodes.free q micro ≡ Some x → K p (line_after m l kind p q micro found)
+    line_knows : (kind : EventKind) (micro : Micro) → line_ask m l kind p.nodes.free p.blocks.free q micro ≡ Some x → K p (line_after m l kind p q micro found)
     line_knows (kinds.PrivateLoad slot word) micro asked = fill_knows slot q.made
     line_knows kinds.MakeCommit micro asked = make_knows q.made
     line_knows kinds.StampExchange micro asked = stamp_knows micro asked
@@ -199,10 +200,10 @@ module _ (m : Meaning) (l : Layout) (rs : List Request) (r : ℕ) (f : Spot → 
     line_knows kinds.Release micro asked = released_knows (record p { reads = cell_read p.reads (inside.place_of micro) found }) (inside.ended_more q) refl
     line_knows _ micro asked = inl refl
 
-    inside_knows : (kind : EventKind) → inside_ask m l kind p.nodes.free q ≡ Some x → K p (inside_after m l kind p q found)
+    inside_knows : (kind : EventKind) → inside_ask m l kind p.nodes.free p.blocks.free q ≡ Some x → K p (inside_after m l kind p q found)
     inside_knows kind asked = by (is_open_run q) asked
       where
-        by : (b : Bool) → (if b then line_ask m l kind p.nodes.free q (next_of m q) else opening_ask kind q) ≡ Some x
+        by : (b : Bool) → (if b then line_ask m l kind p.nodes.free p.blocks.free q (next_of m q) else opening_ask kind q) ≡ Some x
             → K p (if b then line_after m l kind p q (next_of m q) found else inside.opened_more p q found)
         by true e = line_knows kind (next_of m q) e
         by false e = inl refl

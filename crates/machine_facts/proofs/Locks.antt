@@ -1,16 +1,17 @@
 -- A lock that names a section stands until a run of that section releases it.
 use Rattle.std.specs.Prelude.{◌-◌, ◌==◌, nat_lt, Bool, true, false, replicate, if◌then◌else◌}
-use Rattle.std.proofs.Common.{◌≡◌, ℕ, suc, List, [], ◌∷◌, ◌++◌, refl, sym, ap, ◌∙◌, subst, inl, inr, ⊎_elim, arith, Option, Some, None}
+use Rattle.std.proofs.Common.{◌≡◌, ℕ, suc, List, [], ◌∷◌, ◌++◌, refl, sym, ap, ◌∙◌, subst, inl, inr, ⊎_elim, arith, Option, Some, None, ◌+◌}
 use Rattle.std.specs.Prelude.{◌⊎◌}
 use Rattle.machine_states.specs.body_terms.specs.Word.{value_of}
 use Rattle.machine_states.specs.table_words.specs.declared.layout.Layout.{Layout}
 use Rattle.machine_states.specs.table_words.specs.declared.spot.Spot.TheVariants.{Cell}
-use Rattle.machine_states.specs.table_words.specs.Places.{slot_count}
+use Rattle.machine_states.specs.table_words.specs.Places.{slot_count, part_words}
 use Rattle.machine_states.specs.map_history.specs.declared.op.Request.{Request}
 use Rattle.machine_states.specs.structure_laws.specs.Meaning.{Meaning}
 use Rattle.machine_states.specs.runner_parts.specs.declared.event.EventKind.{EventKind}
 use Rattle.machine_states.specs.runner_parts.specs.declared.event.EventKind.TheVariants as kinds
 use Rattle.machine_states.specs.runner_parts.specs.State.{RunState, PartState}
+use Rattle.machine_states.specs.runner_steps.specs.Outside.{blocks_from}
 use Rattle.machine_states.specs.runner_steps.specs.Sections.{is_open_run}
 use Rattle.agreement_core.specs.State.{CellRules, AgreementState}
 use Rattle.agreement_core.specs.Events as agreement
@@ -62,7 +63,7 @@ module _ (m : Meaning) (l : Layout) (w : AgreementState) (r : ℕ) where
   line_un (kinds.LoadCell None) is p q found heads chunk = subst Un (sym chunk.3) (refl, tt)
   line_un kinds.ExchangeCell is p q found heads chunk = subst Un (sym chunk.4) (refl, (refl, tt))
   line_un (kinds.PrivateLoad slot cell) is p q found heads chunk = subst Un (sym chunk.2) (refl, tt)
-  line_un (kinds.PrivateStore slot cell number) is p q found heads chunk = subst Un (sym chunk.4) (refl, tt)
+  line_un (kinds.PrivateStore slot cell number) is p q found heads chunk = ⊎_elim (λ link. subst Un (sym link.1) tt) (λ fills. subst Un (sym fills.4) (refl, tt)) chunk
   line_un kinds.MakeCommit is p q found heads chunk = subst Un (sym chunk.4) (refl, tt)
   line_un kinds.RetireCommit is p q found heads chunk = subst Un (sym chunk.3) (refl, tt)
   line_un kinds.EpochForRetire is p q found heads chunk = subst Un (sym chunk.3) (refl, tt)
@@ -79,12 +80,13 @@ module _ (m : Meaning) (l : Layout) (w : AgreementState) (r : ℕ) where
   line_un _ is p q found heads chunk = subst Un (sym chunk) tt
 
   stored_un : (d word number : ℕ) → Un (sections.stored d word number)
-  stored_un d word number = by (nat_lt word 12) (word == 12)
+  stored_un d word number = by (nat_lt word 12) (word == 12) (word == 13 + part_words)
     where
-      by : (b b' : Bool) → Un (if b then [] else (if b' then agreement.StoreDone d number ∷ [] else agreement.StoreLog d (word - 13) number ∷ []))
-      by true b' = tt
-      by false true = (refl, tt)
-      by false false = (refl, tt)
+      by : (b b' c : Bool) → Un (if b then [] else (if b' then agreement.StoreDone d number ∷ [] else (if c then [] else agreement.StoreLog d (word - 13) number ∷ [])))
+      by true b' c = tt
+      by false true c = (refl, tt)
+      by false false true = tt
+      by false false false = (refl, tt)
 
   frees_un : (ds : List ℕ) → Un (sections.frees ds)
   frees_un [] = tt
@@ -102,12 +104,16 @@ module _ (m : Meaning) (l : Layout) (w : AgreementState) (r : ℕ) where
       by true = (refl, tt)
       by false = tt
 
+  if_un : (b : Bool) (heads : List agreement.Event) → Un heads → Un (if b then heads else [])
+  if_un true heads un = un
+  if_un false heads un = tt
+
   outside_un : (kind : EventKind) (p : PartState) (found : ℕ) (heads : List agreement.Event)
       → sections.IsOutsideChunk m l w r kind p found heads → Un heads
   outside_un (kinds.LoadGuard n) p found heads chunk = subst Un (sym chunk) (swept_un p found)
   outside_un (kinds.LoadCell (Some place)) p found heads chunk = subst Un (sym chunk) (refl, tt)
   outside_un (kinds.PrivateStore slot word number) p found heads chunk =
-      subst Un (sym chunk.1) (stored_un (slot - slot_count l m.fixed_slots) word number)
+      subst Un (sym chunk.1) (if_un (nat_lt slot (blocks_from m l)) (sections.stored (slot - slot_count l m.fixed_slots) word number) (stored_un (slot - slot_count l m.fixed_slots) word number))
   outside_un (kinds.Hold t d) p found heads chunk =
       ⊎_elim (λ won. subst Un (sym won.1) (refl, (refl, tt))) (λ lost. subst Un (sym lost.1) (refl, tt)) chunk
   outside_un (kinds.LoadThunk (Some d)) p found heads chunk = subst Un (sym chunk) (refl, tt)

@@ -22,7 +22,8 @@ use Rattle.machine_states.specs.runner_parts.specs.Tests.{has_pair}
 use Rattle.machine_states.specs.runner_steps.specs.Sections.{is_open_run, next_of}
 use Rattle.machine_states.specs.runner_steps.specs.InRun.{last_clock}
 use Rattle.machine_states.specs.runner_steps.specs.Asks.{opening_ask}
-use Rattle.machine_states.specs.Blockless.{asks, outside_ask, inside_ask, line_ask, outside_after, line_after, inside_after, after_by, stepped}
+use Rattle.machine_states.specs.runner_steps.specs.Asks.{asks, outside_ask, inside_ask, line_ask}
+use Rattle.machine_states.specs.runner_steps.specs.After.{outside_after, line_after, inside_after, after_by, stepped}
 use Rattle.machine_states.specs.runner_steps.specs.AfterInRun as inside
 use Rattle.machine_states.specs.runner_steps.specs.AfterOutside as outside
 use Rattle.machine_states.proofs.Sights.{some_none}
@@ -104,7 +105,7 @@ module _ (m : Meaning) (l : Layout) (rs : List Request) (r : ℕ) (p : PartState
     released_adds : (place : ℕ) → Cell place ≡ x.0 → Adds (inside.lock_released m l place p q found)
     released_adds place is = if_adds (is_end (next_of m (inside.ended_more q))) _ _ (adds _ place is refl) (adds _ place is refl)
 
-    line_adds : (kind : EventKind) (micro : Micro) → line_ask m l kind p.nodes.free q micro ≡ Some x
+    line_adds : (kind : EventKind) (micro : Micro) → line_ask m l kind p.nodes.free p.blocks.free q micro ≡ Some x
         → Adds (line_after m l kind p q micro found)
     line_adds (kinds.LoadCell None) micro e = let h = asked_inside.load_cell_asked q x micro e in
         adds _ (inside.place_of micro) (at_cell micro h.place h.access (ap inside.place_of h.step.1) h.is) refl
@@ -124,10 +125,10 @@ module _ (m : Meaning) (l : Layout) (rs : List Request) (r : ℕ) (p : PartState
     line_adds kinds.StampExchange micro e = if_adds (nat_lt q.word last_clock) _ _ (keeps _ refl) (keeps p refl)
     line_adds _ micro e = keeps _ refl
 
-    inside_adds : (kind : EventKind) → inside_ask m l kind p.nodes.free q ≡ Some x → Adds (inside_after m l kind p q found)
+    inside_adds : (kind : EventKind) → inside_ask m l kind p.nodes.free p.blocks.free q ≡ Some x → Adds (inside_after m l kind p q found)
     inside_adds kind e = by (is_open_run q) e
       where
-        by : (b : Bool) → (if b then line_ask m l kind p.nodes.free q (next_of m q) else opening_ask kind q) ≡ Some x
+        by : (b : Bool) → (if b then line_ask m l kind p.nodes.free p.blocks.free q (next_of m q) else opening_ask kind q) ≡ Some x
             → Adds (if b then line_after m l kind p q (next_of m q) found else inside.opened_more p q found)
         by true e = line_adds kind (next_of m q) e
         by false e = keeps _ refl

@@ -18,7 +18,7 @@ use Rattle.machine_states.specs.runner_steps.specs.InRun.{last_clock}
 use Rattle.machine_states.specs.epoch_core.specs.State.{last_epoch}
 use Rattle.machine_states.specs.runner_steps.specs.AfterInRun as inside
 use Rattle.machine_states.specs.runner_steps.specs.AfterOutside as outside
-use Rattle.machine_states.specs.Blockless.{outside_after, line_after, inside_after, after_by, stepped}
+use Rattle.machine_states.specs.runner_steps.specs.After.{outside_after, line_after, inside_after, after_by, stepped}
 use Rattle.machine_states.specs.table_words.specs.Places.{slot_count}
 
 -- the runs that came to their end are the same

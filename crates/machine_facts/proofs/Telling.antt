@@ -19,9 +19,11 @@ use Rattle.machine_states.specs.runner_parts.specs.declared.event.EventKind.TheV
 use Rattle.machine_states.specs.runner_parts.specs.State.{RunState, RecordsState, PartState}
 use Rattle.machine_states.specs.runner_parts.specs.Lists.{learned}
 use Rattle.machine_states.specs.runner_parts.specs.Tests.{knows}
-use Rattle.machine_states.specs.runner_steps.specs.Sections.{thunk_of, line_of, next_of, settles}
+use Rattle.machine_states.specs.runner_steps.specs.Sections.{thunk_of, line_of, next_of, needs_link, settles}
+use Rattle.machine_states.specs.runner_steps.specs.Outside.{blocks_from}
 use Rattle.machine_states.specs.runner_steps.specs.InRun.{last_clock, stamp_after}
-use Rattle.machine_states.specs.Blockless.{line_ask, line_after}
+use Rattle.machine_states.specs.runner_steps.specs.Asks.{line_ask}
+use Rattle.machine_states.specs.runner_steps.specs.After.{line_after}
 use Rattle.machine_states.specs.runner_steps.specs.AfterInRun as inside
 use Rattle.machine_states.proofs.Sights.{some_none}
 use Rattle.machine_states.proofs.Steps.{some_same}
@@ -95,19 +97,19 @@ module _ (m : Meaning) (l : Layout) (p : PartState) (q : RunState) (is : p.run �
   request = (thunk_of q.opened).request
 
   -- no other step asks of a run that stands before such an exchange
-  other_stamp : {A : Type 0} (kind : EventKind) → is_telling kind ≡ false → line_ask m l kind p.nodes.free q micros.StampExchange ≡ Some x → A
+  other_stamp : {A : Type 0} (kind : EventKind) → is_telling kind ≡ false → line_ask m l kind p.nodes.free p.blocks.free q micros.StampExchange ≡ Some x → A
   other_stamp kinds.StampExchange other e = absurd (let z = other in cc)
   other_stamp (kinds.LoadCell None) other e = some_none x e
   other_stamp (kinds.LoadCell (Some place)) other e = some_none x e
   other_stamp _ other e = some_none x e
 
-  other_reply : {A : Type 0} (kind : EventKind) (reply : ℕ) → is_telling kind ≡ false → line_ask m l kind p.nodes.free q (micros.ReplyExchange reply) ≡ Some x → A
+  other_reply : {A : Type 0} (kind : EventKind) (reply : ℕ) → is_telling kind ≡ false → line_ask m l kind p.nodes.free p.blocks.free q (micros.ReplyExchange reply) ≡ Some x → A
   other_reply kinds.ReplyExchange reply other e = absurd (let z = other in cc)
   other_reply (kinds.LoadCell None) reply other e = some_none x e
   other_reply (kinds.LoadCell (Some place)) reply other e = some_none x e
   other_reply _ reply other e = some_none x e
 
-  told_other : (known : List Known) (kind : EventKind) (micro : Micro) → is_telling kind ≡ false → line_ask m l kind p.nodes.free q micro ≡ Some x → IsTold known request micro
+  told_other : (known : List Known) (kind : EventKind) (micro : Micro) → is_telling kind ≡ false → line_ask m l kind p.nodes.free p.blocks.free q micro ≡ Some x → IsTold known request micro
   told_other known kind micros.StampExchange other e = other_stamp kind other e
   told_other known kind (micros.ReplyExchange reply) other e = other_reply kind reply other e
   told_other known kind _ other e = tt
@@ -162,16 +164,16 @@ module _ (m : Meaning) (l : Layout) (p : PartState) (q : RunState) (is : p.run �
     either true y z one two = one
     either false y z one two = two
 
-    module _ (kind : EventKind) (found : ℕ) (other : is_telling kind ≡ false) (asked : line_ask m l kind p.nodes.free q (next_of m q) ≡ Some x) where
+    module _ (kind : EventKind) (found : ℕ) (other : is_telling kind ≡ false) (asked : line_ask m l kind p.nodes.free p.blocks.free q (next_of m q) ≡ Some x) where
       on : (p' : PartState) (y : RunState) → p'.run ≡ Some (settles m l y) → y.at ≡ q.at + 1 → y.opened ≡ q.opened → p'.records.known ≡ p.records.known → PartIsTold m p'
       on p' y run place opened known = goes p' y run place opened (λ n reply e. ap (λ xs. knows xs n reply) known ∙ e) (told_other p'.records.known kind (next_of m q) other asked)
 
-    fill_told : (slot word found : ℕ) (asked : line_ask m l (kinds.PrivateLoad slot word) p.nodes.free q (next_of m q) ≡ Some x) (made : Option ℕ)
+    fill_told : (slot word found : ℕ) (asked : line_ask m l (kinds.PrivateLoad slot word) p.nodes.free p.blocks.free q (next_of m q) ≡ Some x) (made : Option ℕ)
         → PartIsTold m (inside.fill_loaded m l slot p q made found)
     fill_told slot word found asked None = on (kinds.PrivateLoad slot word) found refl asked _ _ refl refl refl refl
     fill_told slot word found asked (Some t) = on (kinds.PrivateLoad slot word) found refl asked _ _ refl refl refl refl
 
-    make_told : (found : ℕ) (asked : line_ask m l kinds.MakeCommit p.nodes.free q (next_of m q) ≡ Some x) (made : Option ℕ)
+    make_told : (found : ℕ) (asked : line_ask m l kinds.MakeCommit p.nodes.free p.blocks.free q (next_of m q) ≡ Some x) (made : Option ℕ)
         → PartIsTold m (inside.make_committed m l p q made found)
     make_told found asked None = stays p q is refl refl refl
     make_told found asked (Some t) = on kinds.MakeCommit found refl asked _ _ refl refl refl refl
@@ -179,7 +181,7 @@ module _ (m : Meaning) (l : Layout) (p : PartState) (q : RunState) (is : p.run �
     released_told : (found place : ℕ) → PartIsTold m (inside.lock_released m l place p q found)
     released_told found place = either (is_end (next_of m (inside.ended_more q))) _ _ (over _ refl) (stays _ (inside.ended_more q) refl refl refl refl)
 
-    stamp_told : (found : ℕ) (micro : Micro) → next_of m q ≡ micro → line_ask m l kinds.StampExchange p.nodes.free q micro ≡ Some x → PartIsTold m (inside.stamp_agreed m l p q found)
+    stamp_told : (found : ℕ) (micro : Micro) → next_of m q ≡ micro → line_ask m l kinds.StampExchange p.nodes.free p.blocks.free q micro ≡ Some x → PartIsTold m (inside.stamp_agreed m l p q found)
     stamp_told found micros.StampExchange next asked = either (nat_lt q.word last_clock) _ _
         (goes _ _ refl refl refl (grows_learned p.records request false stamp)
         (subst (IsTold (learned p.records request false stamp).known request) (sym next) (learned_known p.records request false stamp some)))
@@ -196,7 +198,7 @@ module _ (m : Meaning) (l : Layout) (p : PartState) (q : RunState) (is : p.run �
     stamp_told found _ next asked = some_none x asked
 
     reply_told : (found : ℕ) (micro : Micro) → ((n : ℕ) → micro ≡ micros.ReplyExchange n → n ≢ 0) → next_of m q ≡ micro
-        → line_ask m l kinds.ReplyExchange p.nodes.free q micro ≡ Some x → PartIsTold m (inside.reply_agreed m l (inside.reply_word_of micro) p q found)
+        → line_ask m l kinds.ReplyExchange p.nodes.free p.blocks.free q micro ≡ Some x → PartIsTold m (inside.reply_agreed m l (inside.reply_word_of micro) p q found)
     reply_told found (micros.ReplyExchange reply) some next asked =
         goes _ _ refl refl refl (grows_learned p.records request true (written_once found reply))
         (subst (IsTold (learned p.records request true (written_once found reply)).known request) (sym next)
@@ -205,12 +207,17 @@ module _ (m : Meaning) (l : Layout) (p : PartState) (q : RunState) (is : p.run �
 
     -- a step of a run's line
     pub line_told : (kind : EventKind) (found : ℕ) → ((n : ℕ) → next_of m q ≡ micros.ReplyExchange n → n ≢ 0)
-        → line_ask m l kind p.nodes.free q (next_of m q) ≡ Some x → PartIsTold m (line_after m l kind p q (next_of m q) found)
+        → line_ask m l kind p.nodes.free p.blocks.free q (next_of m q) ≡ Some x → PartIsTold m (line_after m l kind p q (next_of m q) found)
     line_told kinds.Commit found some asked = on kinds.Commit found refl asked _ _ refl refl refl refl
     line_told (kinds.LoadCell place) found some asked = on (kinds.LoadCell place) found refl asked _ _ refl refl refl refl
     line_told kinds.ExchangeCell found some asked = on kinds.ExchangeCell found refl asked _ _ refl refl refl refl
     line_told (kinds.PrivateLoad slot word) found some asked = fill_told slot word found asked q.made
-    line_told (kinds.PrivateStore slot word number) found some asked = on (kinds.PrivateStore slot word number) found refl asked _ _ refl refl refl refl
+    line_told (kinds.PrivateStore slot word number) found some asked = by (needs_link q (next_of m q))
+      where
+        by : (b : Bool) → PartIsTold m (inside.with_run p (if b then inside.block_emptied (slot - blocks_from m l) q else inside.filled m l number q))
+        by true = stays _ _ refl refl refl refl
+        by false = on (kinds.PrivateStore slot word number) found refl asked _ _ refl refl refl refl
+    line_told (kinds.LinkCommit b) found some asked = stays _ _ refl refl refl refl
     line_told kinds.MakeCommit found some asked = make_told found asked q.made
     line_told kinds.RetireCommit found some asked = on kinds.RetireCommit found refl asked _ _ refl refl refl refl
     line_told kinds.EpochForRetire found some asked = on kinds.EpochForRetire found refl asked _ _ refl refl refl refl

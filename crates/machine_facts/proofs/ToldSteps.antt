@@ -22,7 +22,8 @@ use Rattle.machine_states.specs.runner_parts.specs.Tests.{knows}
 use Rattle.machine_states.specs.runner_steps.specs.Sections.{thunk_of, line_of, is_open_run, next_of}
 use Rattle.machine_states.specs.epoch_core.specs.State.{last_epoch}
 use Rattle.machine_states.specs.runner_steps.specs.Asks.{opening_ask}
-use Rattle.machine_states.specs.Blockless.{asks, line_ask, outside_after, line_after, after_by, stepped, after}
+use Rattle.machine_states.specs.runner_steps.specs.Asks.{asks, line_ask}
+use Rattle.machine_states.specs.runner_steps.specs.After.{outside_after, line_after, after_by, stepped, after}
 use Rattle.machine_states.specs.runner_steps.specs.AfterInRun as inside
 use Rattle.machine_states.specs.runner_steps.specs.AfterOutside as outside
 use Rattle.machine_states.specs.runner_steps.specs.After.{noted, leaves, knows_also}
@@ -120,7 +121,7 @@ module _ (m : Meaning) (l : Layout) (rs : List Request) (g : Beside) (s : Sight)
   stepped_told kind found asked = by p.run refl
     where
       in_run : (q : RunState) → p.run ≡ Some q → (b : Bool) → is_open_run q ≡ b
-          → (if b then line_ask m l kind p.nodes.free q (next_of m q) else opening_ask kind q) ≡ Some x
+          → (if b then line_ask m l kind p.nodes.free p.blocks.free q (next_of m q) else opening_ask kind q) ≡ Some x
           → PartIsTold m (if b then line_after m l kind p q (next_of m q) found else inside.opened_more p q found)
       in_run q is true opened e = line_told m l p q is x old kind found (reply_some q is opened) e
       in_run q is false opened e = starts m (inside.opened_more p q found) (λ q' is'.

@@ -25,8 +25,7 @@ use Rattle.machine_states.specs.epoch_core.specs.State.{EpochState}
 use Rattle.machine_states.specs.epoch_core.specs.Events.{slot_of}
 use Rattle.machine_states.specs.guard_core.specs.Events.{Event}
 use Rattle.machine_states.specs.World.{is_join}
-use Rattle.machine_states.specs.Sight.{Sight}
-use Rattle.machine_states.specs.Full.{full_sight_after, FullSteps}
+use Rattle.machine_states.specs.Sight.{Sight, sight_after, Steps}
 use Rattle.machine_states.proofs.Sights.{some_none, cond_none, unless_gone}
 use Rattle.machine_states.proofs.Updates.{map_same}
 use Rattle.machine_agreement.specs.machine_epochs.specs.Chunks as slots
@@ -240,7 +239,7 @@ module _ (m : Meaning) (l : Layout) (rs : List Request) (chain : ℕ → List �
   by_run kind (Some q) at ask u go = inside q at kind ask u go
 
   abbrev Shows : EventKind → Type 0
-  Shows kind = Goes m l (guard_events m l r kind p p.run found) chain (chain_after chain kind p found) a a' e e' s (full_sight_after m l s r kind x)
+  Shows kind = Goes m l (guard_events m l r kind p p.run found) chain (chain_after chain kind p found) a a' e e' s (sight_after m l s r kind x)
 
   -- a join is no event: the keeper takes over what the worker knew, and the worker makes no further step
   module _ (worker : ℕ) (ask : ask_by m l rs r (kinds.Join worker) p p.run ≡ Some x) (go : Others (kinds.Join worker)) where
@@ -265,15 +264,15 @@ module _ (m : Meaning) (l : Layout) (rs : List Request) (chain : ℕ → List �
     run_same = all_same (λ y. y.run) (ap (λ o. (after_by m l (kinds.Join worker) p o found).run) none_runs) refl
 
     join : Shows (kinds.Join worker)
-    join = subst (λ o. Goes m l (guard_events m l r (kinds.Join worker) p o found) chain chain a a' e e' s (full_sight_after m l s r (kinds.Join worker) x)) (sym none_runs)
-        (steps.quiet_all m l chain chain a a' e e' s old (full_sight_after m l s r (kinds.Join worker) x) (λ d. refl) (left_by (kinds.Join worker) p.run refl ask)
+    join = subst (λ o. Goes m l (guard_events m l r (kinds.Join worker) p o found) chain chain a a' e e' s (sight_after m l s r (kinds.Join worker) x)) (sym none_runs)
+        (steps.quiet_all m l chain chain a a' e e' s old (sight_after m l s r (kinds.Join worker) x) (λ d. refl) (left_by (kinds.Join worker) p.run refl ask)
         (others.over_same m l a a' r go.heads go.leads (outside_over m l a r (kinds.Join worker) p found go.heads refl (in_sections none_runs (kinds.Join worker) go)))
         (others.places_same m l e e' s joined go.tails go.enabled go.there (outside_places m l r (kinds.Join worker) p found go.tails refl (in_slots none_runs (kinds.Join worker) go)))
         (all_same view (ap (λ o. view (after_by m l (kinds.Join worker) p o found)) none_runs) refl)
         (all_same (λ y. y.blocks) (ap (λ o. blocks_after m l (kinds.Join worker) p o found) none_runs) refl)
         (λ i b q runs held. old.hand i b q (sym (run_same i) ∙ runs) held))
 
-  not_join : (kind : EventKind) → is_join kind ≡ false → full_sight_after m l s r kind x ≡ record { word = f; part = upd s.part r (after m l r kind x.0 x.1 p found) }
+  not_join : (kind : EventKind) → is_join kind ≡ false → sight_after m l s r kind x ≡ record { word = f; part = upd s.part r (after m l r kind x.0 x.1 p found) }
   not_join (kinds.Join worker) k = absurd (let y = k in cc)
   not_join _ k = refl
 
@@ -285,7 +284,7 @@ module _ (m : Meaning) (l : Layout) (rs : List Request) (chain : ℕ → List �
   shows kind e0 u go = plain kind refl e0 u go
 
 pub step_goes : (m : Meaning) (l : Layout) (rs : List Request) (chain : ℕ → List ℕ) (a a' : AgreementState) (e e' : EpochState) (s s' : Sight) (r : ℕ) (kind : EventKind)
-    → IsJoinedToAgreement m l a s → IsJoinedToEpochs m l e s → GuardsStand m l chain a e s → (step : FullSteps m l rs s s' r kind)
+    → IsJoinedToAgreement m l a s → IsJoinedToEpochs m l e s → GuardsStand m l chain a e s → (step : Steps m l rs s s' r kind)
     → GuardsAreSupplied m l chain a e s r kind (s.word (step.ask.0)) → OthersGo m l a a' e e' s r kind (s.word (step.ask.0))
     → Goes m l (guard_events m l r kind (s.part r) (s.part r).run (s.word (step.ask.0))) chain (chain_after chain kind (s.part r) (s.word (step.ask.0))) a a' e e' s s'
 step_goes m l rs chain a a' e e' s s' r kind of_sections joined old step u go =

@@ -11,4 +11,3 @@ pub mod Linking
 pub mod AllKinds
 pub mod First
 pub mod Safe
-pub mod Holding

@@ -1,10 +1,10 @@
 -- Which events of the other components leave the places of descriptors, and which sections a run came to an end of.
 use Rattle.std.specs.Prelude.{◌==◌, ◌-◌, Bool, true, false, nat_lt, replicate, if◌then◌else◌}
-use Rattle.std.proofs.Common.{◌≡◌, ℕ, zero, suc, List, [], ◌∷◌, ◌++◌, refl, sym, ◌∙◌, subst, ⊎_elim, Some, None}
+use Rattle.std.proofs.Common.{◌≡◌, ℕ, zero, suc, List, [], ◌∷◌, ◌++◌, ◌+◌, refl, sym, ◌∙◌, subst, ⊎_elim, Some, None}
 use Rattle.machine_states.specs.body_terms.specs.declared.micro.Micro.{Micro}
 use Rattle.machine_states.specs.body_terms.specs.Word.{value_of}
 use Rattle.machine_states.specs.table_words.specs.declared.layout.Layout.{Layout}
-use Rattle.machine_states.specs.table_words.specs.Places.{slot_count}
+use Rattle.machine_states.specs.table_words.specs.Places.{part_words, slot_count}
 use Rattle.agreement_core.specs.State.{CellRules, AgreementState}
 use Rattle.agreement_core.specs.Events as agreement
 use Rattle.agreement_core.specs.Schedules as agreement_schedules
@@ -14,6 +14,7 @@ use Rattle.machine_states.specs.runner_parts.specs.declared.event.EventKind.TheV
 use Rattle.machine_states.specs.runner_parts.specs.State.{RunState, NodesState, PartState}
 use Rattle.machine_states.specs.runner_parts.specs.Lists.{test_of, one_more}
 use Rattle.machine_states.specs.runner_steps.specs.Guards.{is_last_guard}
+use Rattle.machine_states.specs.runner_steps.specs.Outside.{blocks_from}
 use Rattle.machine_states.specs.runner_steps.specs.Sections.{next_of}
 use Rattle.machine_states.specs.epoch_core.specs.State.{Counts, EpochState}
 use Rattle.machine_states.specs.epoch_core.specs.Events as epochs
@@ -88,7 +89,7 @@ module _ (m : Meaning) (l : Layout) (w : AgreementState) (r : ℕ) where
   line_over (kinds.LoadCell None) p q found heads k chunk = one_of _ heads refl chunk.3
   line_over kinds.ExchangeCell p q found heads k chunk = read_and _ _ heads refl chunk.4
   line_over (kinds.PrivateLoad slot cell) p q found heads k chunk = one_of _ heads refl chunk.2
-  line_over (kinds.PrivateStore slot cell number) p q found heads k chunk = one_of _ heads refl chunk.4
+  line_over (kinds.PrivateStore slot cell number) p q found heads k chunk = ⊎_elim (λ link. none_of heads link.1) (λ fills. one_of _ heads refl fills.4) chunk
   line_over kinds.MakeCommit p q found heads k chunk = one_of _ heads refl chunk.4
   line_over kinds.EpochForRetire p q found heads k chunk = one_of _ heads refl chunk.3
   line_over kinds.RetireCommit p q found heads k chunk = one_of _ heads refl chunk.3
@@ -110,12 +111,17 @@ module _ (m : Meaning) (l : Layout) (w : AgreementState) (r : ℕ) where
   inside_over kind p q found heads false k chunk = none_of heads chunk
 
   stored_over : (d word number : ℕ) → AllAre leaves_over (sections.stored d word number)
-  stored_over d word number = by (nat_lt word 12) (word == 12)
+  stored_over d word number = by (nat_lt word 12) (word == 12) (word == 13 + part_words)
     where
-      by : (b b' : Bool) → AllAre leaves_over (if b then [] else (if b' then agreement.StoreDone d number ∷ [] else agreement.StoreLog d (word - 13) number ∷ []))
-      by true b' = tt
-      by false true = (refl, tt)
-      by false false = (refl, tt)
+      by : (b b' b'' : Bool) → AllAre leaves_over (if b then [] else (if b' then agreement.StoreDone d number ∷ [] else (if b'' then [] else agreement.StoreLog d (word - 13) number ∷ [])))
+      by true b' b'' = tt
+      by false true b'' = (refl, tt)
+      by false false true = tt
+      by false false false = (refl, tt)
+
+  if_over : (b : Bool) (heads : List agreement.Event) → AllAre leaves_over heads → AllAre leaves_over (if b then heads else [])
+  if_over true heads are = are
+  if_over false heads are = tt
 
   frees_over : (ds : List ℕ) → AllAre leaves_over (sections.frees ds)
   frees_over [] = tt
@@ -135,7 +141,7 @@ module _ (m : Meaning) (l : Layout) (w : AgreementState) (r : ℕ) where
   outside_over (kinds.LoadGuard n) p found heads k chunk = subst (AllAre leaves_over) (sym chunk) (swept_over p found)
   outside_over (kinds.LoadCell (Some place)) p found heads k chunk = one_of _ heads refl chunk
   outside_over (kinds.LoadThunk (Some d)) p found heads k chunk = one_of _ heads refl chunk
-  outside_over (kinds.PrivateStore slot word number) p found heads k chunk = subst (AllAre leaves_over) (sym chunk.1) (stored_over (slot - slot_count l m.fixed_slots) word number)
+  outside_over (kinds.PrivateStore slot word number) p found heads k chunk = subst (AllAre leaves_over) (sym chunk.1) (if_over (nat_lt slot (blocks_from m l)) (sections.stored (slot - slot_count l m.fixed_slots) word number) (stored_over (slot - slot_count l m.fixed_slots) word number))
   outside_over kinds.ReadReply p found heads k chunk = one_of _ heads refl chunk.2
   outside_over kinds.ReadStamp p found heads k chunk = one_of _ heads refl chunk.2
   outside_over _ p found heads k chunk = none_of heads chunk
@@ -177,12 +183,17 @@ module _ (m : Meaning) (l : Layout) (r : ℕ) where
       by false = tt
 
   stored_places : (d word number : ℕ) → AllAre leaves_descriptors (slots.stored r d word number)
-  stored_places d word number = by (nat_lt word 12) (word == 12)
+  stored_places d word number = by (nat_lt word 12) (word == 12) (word == 13 + part_words)
     where
-      by : (b b' : Bool) → AllAre leaves_descriptors (if b then [] else (if b' then [] else epochs.StoreLog r d (word - 13) number ∷ []))
-      by true b' = tt
-      by false true = tt
-      by false false = (refl, tt)
+      by : (b b' b'' : Bool) → AllAre leaves_descriptors (if b then [] else (if b' then [] else (if b'' then [] else epochs.StoreLog r d (word - 13) number ∷ [])))
+      by true b' b'' = tt
+      by false true b'' = tt
+      by false false true = tt
+      by false false false = (refl, tt)
+
+  if_places : (b : Bool) (vs : List epochs.Event) → AllAre leaves_descriptors vs → AllAre leaves_descriptors (if b then vs else [])
+  if_places true vs are = are
+  if_places false vs are = tt
 
   taken_places : (word link found : ℕ) → AllAre leaves_descriptors (slots.takes r word link found)
   taken_places word link found = by (found == link)
@@ -209,7 +220,7 @@ module _ (m : Meaning) (l : Layout) (r : ℕ) where
   outside_places kinds.Advance p found vs k chunk = one_slot _ vs refl chunk.4
   outside_places (kinds.LoadCell (Some place)) p found vs k chunk = one_slot _ vs refl chunk
   outside_places (kinds.PrivateLoad slot cell) p found vs k chunk = subst (AllAre leaves_descriptors) (sym chunk) (looked_places p.nodes slot cell found)
-  outside_places (kinds.PrivateStore slot word number) p found vs k chunk = subst (AllAre leaves_descriptors) (sym chunk) (stored_places (slot - slot_count l m.fixed_slots) word number)
+  outside_places (kinds.PrivateStore slot word number) p found vs k chunk = subst (AllAre leaves_descriptors) (sym chunk) (if_places (nat_lt slot (blocks_from m l)) (slots.stored r (slot - slot_count l m.fixed_slots) word number) (stored_places (slot - slot_count l m.fixed_slots) word number))
   outside_places (kinds.Hold t d) p found vs k chunk = absurd (let y = k in cc)
   outside_places (kinds.BoardTake word link) p found vs k chunk = subst (AllAre leaves_descriptors) (sym chunk) (taken_places word link found)
   outside_places (kinds.BoardGive word slot) p found vs k chunk = subst (AllAre leaves_descriptors) (sym chunk) (given_places word slot found)

@@ -38,8 +38,7 @@ use Rattle.machine_states.specs.guard_core.specs.Update.{count}
 use Rattle.machine_states.specs.guard_core.specs.Update as guard_update
 use Rattle.machine_states.specs.guard_core.proofs.Enough.{leaves_enough}
 use Rattle.machine_states.specs.guard_core.proofs.Sweeping.{unheld}
-use Rattle.machine_states.specs.Sight.{Sight}
-use Rattle.machine_states.specs.Full.{FullSteps}
+use Rattle.machine_states.specs.Sight.{Sight, Steps}
 use Rattle.machine_agreement.specs.machine_epochs.specs.Entries.{counts_of}
 use Rattle.machine_states.proofs.Sights.{cond_none, unless_gone}
 use Rattle.machine_states.proofs.Updates.{upd_here}
@@ -150,7 +149,7 @@ stays_there l r d words epoch_places.Live told = omega arith
 stays_there l r d words epoch_places.Fixed told = omega arith
 
 module _ (m : Meaning) (l : Layout) (rs : List Request) (chain : ℕ → List ℕ) (a : AgreementState) (e : EpochState) (s s' : Sight) (r n : ℕ) (joined : IsJoinedToEpochs m l e s)
-    (old : GuardsStand m l chain a e s) (step : FullSteps m l rs s s' r (kinds.LoadGuard n)) (last : is_last_guard l (s.part r).guards.looked ≡ true) where
+    (old : GuardsStand m l chain a e s) (step : Steps m l rs s s' r (kinds.LoadGuard n)) (last : is_last_guard l (s.part r).guards.looked ≡ true) where
   abbrev p : PartState
   p = s.part r
 

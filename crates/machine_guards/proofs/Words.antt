@@ -1,6 +1,6 @@
 -- Which steps leave the guard words as they are.
 use Rattle.std.specs.Prelude.{◌-◌, ◌/◌, ◌%◌, ◌==◌, not, nat_lt, length, cond, Bool, true, false}
-use Rattle.std.proofs.Common.{◌≡◌, ℕ, zero, suc, List, refl, sym, ap, ◌∙◌, Option, Some, None}
+use Rattle.std.proofs.Common.{◌≡◌, ℕ, zero, suc, ◌+◌, List, refl, sym, ap, ◌∙◌, Option, Some, None}
 use Rattle.machine_states.specs.epoch_core.specs.small_lemmas.proofs.Bools.{not_both}
 use Rattle.machine_states.specs.map_history.specs.declared.op.Request.{Request}
 use Rattle.machine_states.specs.body_terms.specs.Memory.{cell_of}
@@ -8,7 +8,7 @@ use Rattle.machine_states.specs.body_terms.specs.declared.micro.Micro.{Micro}
 use Rattle.machine_states.specs.body_terms.specs.declared.micro.Micro.TheVariants as micros
 use Rattle.machine_states.specs.table_words.specs.declared.layout.Layout.{Layout}
 use Rattle.machine_states.specs.table_words.specs.declared.spot.Spot.{Spot}
-use Rattle.machine_states.specs.table_words.specs.declared.spot.Spot.TheVariants.{Guard, Cell, ThunkWord, DoneWord, LogWord, BlockWord, BlockLink}
+use Rattle.machine_states.specs.table_words.specs.declared.spot.Spot.TheVariants.{Guard, Cell, BlockWord, BlockLink}
 use Rattle.machine_states.specs.table_words.specs.declared.access.Access.{Access}
 use Rattle.machine_states.specs.table_words.specs.declared.access.Access.TheVariants.{Loads, Stores, Exchanges}
 use Rattle.machine_states.specs.table_words.specs.Places.{part_words, slot_count}
@@ -29,6 +29,7 @@ use Rattle.machine_states.specs.runner_steps.specs.Reads.{read_clock_ask, read_r
 use Rattle.machine_states.specs.runner_steps.specs.Sections.{is_open_run, next_of, is_beyond, needs_link}
 use Rattle.machine_states.proofs.Updates.{put_same}
 use Rattle.machine_guards.proofs.Views.{is_linking}
+use Rattle.machine_agreement.specs.machine_epochs.proofs.Places.{spot_by}
 
 -- it is a guard word
 abbrev is_guard : Spot → Bool
@@ -58,10 +59,11 @@ of_entry : (request : ℕ) (reply : Bool) → is_guard (entry_spot request reply
 of_entry request true = refl
 of_entry request false = refl
 
-of_descriptor : (b c : Bool) (d word : ℕ) → is_guard (cond b (ThunkWord d word) (cond c (DoneWord d) (LogWord d (word - 13)))) ≡ false
-of_descriptor true c d word = refl
-of_descriptor false true d word = refl
-of_descriptor false false d word = refl
+of_descriptor : (b c e : Bool) (d word : ℕ) → is_guard (spot_by d word b c e) ≡ false
+of_descriptor true c e d word = refl
+of_descriptor false true e d word = refl
+of_descriptor false false true d word = refl
+of_descriptor false false false d word = refl
 
 of_block : (b word : ℕ) → is_guard (block_spot b word) ≡ false
 of_block b word = by (word == part_words)
@@ -125,9 +127,9 @@ module _ (m : Meaning) (l : Layout) (rs : List Request) (r : ℕ) where
   outside (kinds.LoadCell (Some place)) p k = no_when _ _ _ refl
   outside (kinds.LoadEntry request reply) p k = no_when _ _ _ (of_entry request reply)
   outside (kinds.PrivateLoad slot word) p k = either_ask (nat_lt slot (slot_count l m.fixed_slots)) _ _ (no_when _ (Cell (cell_of m.fixed_cells slot word)) Loads refl)
-      (either_ask (nat_lt slot (blocks_from m l)) _ _ (no_when _ (descriptor_spot (slot - slot_count l m.fixed_slots) word) Loads (of_descriptor _ _ _ _)) (no_when _ (block_spot (slot - blocks_from m l) word) Loads (of_block (slot - blocks_from m l) word)))
+      (either_ask (nat_lt slot (blocks_from m l)) _ _ (no_when _ (descriptor_spot (slot - slot_count l m.fixed_slots) word) Loads (of_descriptor (nat_lt word 12) (word == 12) (word == 13 + part_words) _ _)) (no_when _ (block_spot (slot - blocks_from m l) word) Loads (of_block (slot - blocks_from m l) word)))
   outside (kinds.PrivateStore slot word number) p k = either_ask (nat_lt slot (blocks_from m l)) _ _
-      (no_when _ (descriptor_spot (slot - slot_count l m.fixed_slots) word) (Stores number) (of_descriptor _ _ _ _)) (no_when _ (block_spot (slot - blocks_from m l) word) (Stores number) (of_block (slot - blocks_from m l) word))
+      (no_when _ (descriptor_spot (slot - slot_count l m.fixed_slots) word) (Stores number) (of_descriptor (nat_lt word 12) (word == 12) (word == 13 + part_words) _ _)) (no_when _ (block_spot (slot - blocks_from m l) word) (Stores number) (of_block (slot - blocks_from m l) word))
   outside (kinds.Hold thunk d) p k = no_when _ _ _ refl
   outside (kinds.LoadThunk (Some d)) p k = no_when _ _ _ refl
   outside (kinds.ReadPlan thunk) p k = no_when _ _ _ refl

@@ -17,8 +17,7 @@ use Rattle.machine_states.specs.guard_core.specs.Frame.{IsSame}
 use Rattle.machine_states.specs.guard_core.specs.Schedules.{AllEnabled, after_all}
 use Rattle.machine_states.specs.World.{World}
 use Rattle.machine_states.specs.First.{IsFirst}
-use Rattle.machine_states.specs.Sight.{Sight, sight}
-use Rattle.machine_states.specs.Full.{FullSteps}
+use Rattle.machine_states.specs.Sight.{Sight, sight, Steps}
 use Rattle.machine_agreement.specs.machine_epochs.specs.Entries.{counts_of}
 use Rattle.machine_agreement.specs.machine_epochs.specs.Firsts.{first_place}
 use Rattle.machine_agreement.specs.machine_epochs.specs.Joined.{IsJoinedToEpochs}
@@ -56,7 +55,7 @@ module _ (m : Meaning) (l : Layout) where
   abbrev pub StepsAreEvents : List Request → Type 0
   StepsAreEvents requests = (chain : ℕ → List ℕ) (a a' : AgreementState) (e e' : EpochState) (s s' : Sight) (r : ℕ)
       (kind : EventKind) → IsJoinedToAgreement m l a s → IsJoinedToEpochs m l e s
-      → GuardsStand m l chain a e s → (step : FullSteps m l requests s s' r kind)
+      → GuardsStand m l chain a e s → (step : Steps m l requests s s' r kind)
       → GuardsAreSupplied m l chain a e s r kind (s.word (step.ask.0))
       → OthersGo a a' e e' s r kind (s.word (step.ask.0))
       → Goes (guard_events m l r kind (s.part r) (s.part r).run (s.word (step.ask.0))) chain

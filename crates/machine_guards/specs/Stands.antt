@@ -54,8 +54,3 @@ pub record GuardsStand (m : Meaning) (l : Layout) (chain : ℕ → List ℕ) (a 
   pub blocks : (r b : ℕ) → block_times (s.part r) b ≡ cond (nat_lt b (block_count l) && block_owner l b == r) 1 0
   -- who has one in its hand is about to link it
   pub hand : (r b : ℕ) (q : RunState) → (s.part r).run ≡ Some q → q.block ≡ Some b → StandsAtLink m q
-
--- they stand with some blocks linked in the descriptors' latest publications
-pub record GuardsHold (m : Meaning) (l : Layout) (a : AgreementState) (e : EpochState) (s : Sight) : Type 0 where
-  pub chain : ℕ → List ℕ
-  pub stands : GuardsStand m l chain a e s

@@ -12,8 +12,7 @@ use Rattle.machine_states.specs.epoch_core.specs.State.{EpochState}
 use Rattle.machine_states.specs.epoch_core.specs.Lists.{times}
 use Rattle.machine_states.specs.guard_core.specs.Moves.{is_unnamed}
 use Rattle.machine_states.specs.guard_core.specs.Sound.{named}
-use Rattle.machine_states.specs.Sight.{Sight}
-use Rattle.machine_states.specs.Full.{FullSteps}
+use Rattle.machine_states.specs.Sight.{Sight, Steps}
 use Rattle.machine_agreement.specs.machine_epochs.specs.Joined.{IsJoinedToEpochs}
 use Rattle.machine_guards.specs.Stands.{GuardsStand}
 
@@ -48,7 +47,7 @@ module _ (m : Meaning) (l : Layout) where
   abbrev pub SweepsAreSafe : List Request → Type 0
   SweepsAreSafe requests = (chain : ℕ → List ℕ) (a : AgreementState) (e : EpochState) (s s' : Sight) (r n : ℕ)
       → IsJoinedToEpochs m l e s → GuardsStand m l chain a e s
-      → (step : FullSteps m l requests s s' r (kinds.LoadGuard n))
+      → (step : Steps m l requests s s' r (kinds.LoadGuard n))
       → is_last_guard l (s.part r).guards.looked ≡ true
       → (d q : ℕ) → has (s.part r).descriptors.limbo d ≡ true
       → is_unnamed (words_read s r (s.word (step.ask.0))) d ≡ true → is_sure_of (s.part q).guards d ≡ false
@@ -57,6 +56,6 @@ module _ (m : Meaning) (l : Layout) where
   abbrev pub SweepsAreExact : List Request → Type 0
   SweepsAreExact requests = (chain : ℕ → List ℕ) (a : AgreementState) (e : EpochState) (s s' : Sight) (r n : ℕ)
       → IsJoinedToEpochs m l e s → GuardsStand m l chain a e s
-      → (step : FullSteps m l requests s s' r (kinds.LoadGuard n))
+      → (step : Steps m l requests s s' r (kinds.LoadGuard n))
       → is_last_guard l (s.part r).guards.looked ≡ true
       → SweepIsExact l s s' r (s.word (step.ask.0))

@@ -217,7 +217,7 @@ module _ (m : Meaning) (laws : Laws m) (layout : Layout) (limits : IsWithinLimit
 
   -- the section that a publication leaves
   abbrev new_section : ℕ → ℕ → ℕ → ℕ → (ℕ → Micro) → (ℕ → ℕ) → Section
-  new_section d lock word request code slot = record (a.section d) { lock = lock; word = word; request = request; code = code; slot = slot; edge = 0 }
+  new_section d lock word request code slot = record (a.section d) { lock = lock; word = word; request = request; code = code; slot = slot; log = λ k. 0; edge = 0 }
 
   -- a publication
   pub publish_tied : (r d lock word request : ℕ) (code : ℕ → Micro) (slot : ℕ → ℕ) (op : Op) (thunk : Thunk) (answer : ℕ)

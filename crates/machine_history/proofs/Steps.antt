@@ -80,7 +80,7 @@ module _ (m : Meaning) (laws : Laws m) (layout : Layout) (limits : IsWithinLimit
         j' = after m layout c j (Publish r d lock word request code slot op thunk)
 
         new : Section
-        new = record (a.section d) { lock = lock; word = word; request = request; code = code; slot = slot; edge = 0 }
+        new = record (a.section d) { lock = lock; word = word; request = request; code = code; slot = slot; log = λ k. 0; edge = 0 }
 
         st : StandsCompleted m layout (with_cell (scene_of m c j) lock (held_word d word)) (marks_of a) pairs
         st = (by_memory m laws layout limits c).lock (scene_of m c j) (marks_of a) pairs lock (held_word d word) (whole m layout c j kept pairs memory) ok.enabled.2.line.placed.outer_lock
@@ -94,10 +94,10 @@ module _ (m : Meaning) (laws : Laws m) (layout : Layout) (limits : IsWithinLimit
         next e = ap (λ sections. sections e) (sections_publish m laws layout limits p j.epochs.epoch status reader a kept.agreement kept.thunks kept.lawful d lock word request code slot ok.enabled op thunk (j.walk r) r)
 
         marked : (e : ℕ) → e ≢ d → marks_of j'.agreement e ≡ marks_of a e
-        marked e other = ap (λ x. passed_stamp (x.code) (x.edge)) (upd_other a.section d e (record (a.section d) { lock = lock; word = word; request = request; code = code; slot = slot; edge = 0 }) other)
+        marked e other = ap (λ x. passed_stamp (x.code) (x.edge)) (upd_other a.section d e (record (a.section d) { lock = lock; word = word; request = request; code = code; slot = slot; log = λ k. 0; edge = 0 }) other)
 
         fresh : (e : ℕ) → e ≡ d → marks_of j'.agreement e ≡ false
-        fresh e is = ap (λ x. passed_stamp (x.code) (x.edge)) (upd_same a.section d e (record (a.section d) { lock = lock; word = word; request = request; code = code; slot = slot; edge = 0 }) is)
+        fresh e is = ap (λ x. passed_stamp (x.code) (x.edge)) (upd_same a.section d e (record (a.section d) { lock = lock; word = word; request = request; code = code; slot = slot; log = λ k. 0; edge = 0 }) is)
 
         keep : Keep m layout (with_cell (scene_of m c j) lock (held_word d word)) (scene_of m c j') (marks_of a) (marks_of j'.agreement)
         keep e z n w here mark store = dite (ℕ_discrete e d)

@@ -15,7 +15,7 @@ use Rattle.machine_states.specs.runner_parts.specs.declared.event.EventKind.TheV
 use Rattle.machine_states.specs.runner_parts.specs.State.{RunState, PartState}
 use Rattle.machine_states.specs.runner_steps.specs.Sections.{is_open_run, next_of}
 use Rattle.machine_states.specs.runner_steps.specs.Asks.{opening_ask, sizes_for}
-use Rattle.machine_states.specs.Blockless.{line_ask, asks}
+use Rattle.machine_states.specs.runner_steps.specs.Asks.{line_ask, asks}
 use Rattle.machine_states.specs.World.{is_join}
 use Rattle.machine_states.specs.Sight.{Sight, sight_after, Steps}
 use Rattle.machine_states.proofs.Sights.{some_none}
@@ -73,7 +73,7 @@ module _ (m : Meaning) (laws : Laws m) (l : Layout) (limits : IsWithinLimits l) 
   -- the steps of a run
   module _ (q : RunState) (is : p.run ≡ Some q) where
     asked_inside : (kind : EventKind) → asks m l rs r kind p ≡ Some x
-        → (if is_open_run q then line_ask m l kind p.nodes.free q (next_of m q) else opening_ask kind q) ≡ Some x
+        → (if is_open_run q then line_ask m l kind p.nodes.free p.blocks.free q (next_of m q) else opening_ask kind q) ≡ Some x
     asked_inside kind asked = asked_by m l r kind p rs x (Some q) is asked
 
     plain : (kind : EventKind) → asks m l rs r kind p ≡ Some x → is_read kind ≡ false → is_join kind ≡ false → is_plain_line kind ≡ true
@@ -101,7 +101,7 @@ module _ (m : Meaning) (laws : Laws m) (l : Layout) (limits : IsWithinLimits l) 
 
     module _ (unopened : is_open_run q ≡ false) where
       asked_opening : (kind : EventKind) → asks m l rs r kind p ≡ Some x → opening_ask kind q ≡ Some x
-      asked_opening kind asked = ap (λ b. if b then line_ask m l kind p.nodes.free q (next_of m q) else opening_ask kind q) (sym unopened)
+      asked_opening kind asked = ap (λ b. if b then line_ask m l kind p.nodes.free p.blocks.free q (next_of m q) else opening_ask kind q) (sym unopened)
           ∙ asked_inside kind asked
 
       opening : (kind : EventKind) → asks m l rs r kind p ≡ Some x → To kind

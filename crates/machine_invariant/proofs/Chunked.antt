@@ -1,13 +1,14 @@
 -- Of what sort the events are that a step of the machine is.
 use Rattle.std.specs.Prelude.{Bool, true, false, nat_lt, ◌==◌, ◌-◌, if◌then◌else◌}
-use Rattle.std.proofs.Common.{◌≡◌, ℕ, List, [], ◌∷◌, sym, refl, subst, ⊎_elim, Option, Some, None}
+use Rattle.std.proofs.Common.{◌≡◌, ℕ, List, [], ◌∷◌, sym, refl, subst, ⊎_elim, Option, Some, None, ◌+◌}
 use Rattle.machine_states.specs.body_terms.specs.declared.micro.Micro.{Micro}
 use Rattle.machine_states.specs.table_words.specs.declared.layout.Layout.{Layout}
-use Rattle.machine_states.specs.table_words.specs.Places.{slot_count}
+use Rattle.machine_states.specs.table_words.specs.Places.{slot_count, part_words}
 use Rattle.machine_states.specs.structure_laws.specs.Meaning.{Meaning}
 use Rattle.machine_states.specs.runner_parts.specs.declared.event.EventKind.{EventKind}
 use Rattle.machine_states.specs.runner_parts.specs.declared.event.EventKind.TheVariants as kinds
 use Rattle.machine_states.specs.runner_parts.specs.State.{RunState, PartState}
+use Rattle.machine_states.specs.runner_steps.specs.Outside.{blocks_from}
 use Rattle.machine_states.specs.runner_steps.specs.Sections.{is_open_run, next_of}
 use Rattle.agreement_core.specs.State.{AgreementState}
 use Rattle.agreement_core.specs.Events as agreement
@@ -115,14 +116,18 @@ is_plain_outside kinds.ReadStamp = false
 is_plain_outside _ = true
 
 module _ (m : Meaning) (l : Layout) (w : AgreementState) (r : ℕ) where
+  if_calm : (b : Bool) (heads : List agreement.Event) → AreCalm heads → AreCalm (if b then heads else [])
+  if_calm true heads calm = calm
+  if_calm false heads calm = none_calm
+
   stored_calm : (d word number : ℕ) → AreCalm (sections.stored d word number)
-  stored_calm d word number = by (nat_lt word 12) (word == 12)
+  stored_calm d word number = by (nat_lt word 12) (word == 12) (word == 13 + part_words)
     where
-      by : (b b' : Bool) → AreCalm (if b then [] else (if b' then agreement.StoreDone d number ∷ [] else agreement.StoreLog d
-          (word - 13) number ∷ []))
-      by true b' = none_calm
-      by false true = one_calm _ refl
-      by false false = one_calm _ refl
+      by : (b b' b'' : Bool) → AreCalm (if b then [] else (if b' then agreement.StoreDone d number ∷ [] else (if b'' then [] else agreement.StoreLog d (word - 13) number ∷ [])))
+      by true b' b'' = none_calm
+      by false true b'' = one_calm _ refl
+      by false false true = none_calm
+      by false false false = one_calm _ refl
 
   pub outside_calm : (kind : EventKind) (p : PartState) (found : ℕ) (heads : List agreement.Event) → is_plain_outside kind ≡ true
       → sections.IsOutsideChunk m l w r kind p found heads → AreCalm heads
@@ -136,7 +141,7 @@ module _ (m : Meaning) (l : Layout) (w : AgreementState) (r : ℕ) where
   outside_calm kinds.ReadStamp p found heads plain chunk = absurd (cc)
   outside_calm (kinds.LoadThunk (Some d)) p found heads plain chunk = subst AreCalm (sym chunk) (one_calm _ refl)
   outside_calm (kinds.PrivateStore slot word number) p found heads plain chunk =
-      subst AreCalm (sym chunk.1) (stored_calm (slot - slot_count l m.fixed_slots) word number)
+      subst AreCalm (sym chunk.1) (if_calm (nat_lt slot (blocks_from m l)) (sections.stored (slot - slot_count l m.fixed_slots) word number) (stored_calm (slot - slot_count l m.fixed_slots) word number))
   outside_calm _ p found heads plain chunk = subst AreCalm (sym chunk) none_calm
 
   -- an event that comes or not
@@ -144,13 +149,18 @@ module _ (m : Meaning) (l : Layout) (w : AgreementState) (r : ℕ) where
   if_steady true v alone leaves = one_steady v alone leaves
   if_steady false v alone leaves = none_steady
 
+  all_steady : (b : Bool) (vs : List epochs.Event) → AreSteady vs → AreSteady (if b then vs else [])
+  all_steady true vs are = are
+  all_steady false vs are = none_steady
+
   stored_steady : (d word number : ℕ) → AreSteady (slots.stored r d word number)
-  stored_steady d word number = by (nat_lt word 12) (word == 12)
+  stored_steady d word number = by (nat_lt word 12) (word == 12) (word == 13 + part_words)
     where
-      by : (b b' : Bool) → AreSteady (if b then [] else (if b' then [] else epochs.StoreLog r d (word - 13) number ∷ []))
-      by true b' = none_steady
-      by false true = none_steady
-      by false false = one_steady _ refl refl
+      by : (b b' b'' : Bool) → AreSteady (if b then [] else (if b' then [] else (if b'' then [] else epochs.StoreLog r d (word - 13) number ∷ [])))
+      by true b' b'' = none_steady
+      by false true b'' = none_steady
+      by false false true = none_steady
+      by false false false = one_steady _ refl refl
 
   pub outside_steady : (kind : EventKind) (p : PartState) (found : ℕ) (vs : List epochs.Event) → is_plain_outside kind ≡ true
       → slots.IsOutsideChunk m l r kind p found vs → AreSteady vs
@@ -169,7 +179,7 @@ module _ (m : Meaning) (l : Layout) (w : AgreementState) (r : ℕ) where
   outside_steady (kinds.Join worker) p found vs plain chunk = absurd (cc)
   outside_steady (kinds.PrivateLoad slot cell) p found vs plain chunk = subst AreSteady (sym chunk) (if_steady (slots.is_last_look p.nodes slot cell) _ refl refl)
   outside_steady (kinds.PrivateStore slot word number) p found vs plain chunk =
-      subst AreSteady (sym chunk) (stored_steady (slot - slot_count l m.fixed_slots) word number)
+      subst AreSteady (sym chunk) (all_steady (nat_lt slot (blocks_from m l)) (slots.stored r (slot - slot_count l m.fixed_slots) word number) (stored_steady (slot - slot_count l m.fixed_slots) word number))
   outside_steady (kinds.BoardTake word link) p found vs plain chunk = subst AreSteady (sym chunk) (if_steady (found == link) _ refl refl)
   outside_steady (kinds.BoardGive word slot) p found vs plain chunk = subst AreSteady (sym chunk) (if_steady (found == 0) _ refl refl)
   outside_steady _ p found vs plain chunk = subst AreSteady (sym chunk) none_steady

@@ -13,7 +13,8 @@ use Rattle.machine_states.specs.structure_laws.proofs.Changes.{upd_same, upd_oth
 use Rattle.machine_states.specs.runner_parts.specs.declared.event.EventKind.TheVariants as kinds
 use Rattle.machine_states.specs.runner_parts.specs.State.{ReadsState, PartState}
 use Rattle.machine_blocks.specs.machine_guards.specs.machine_agreement.specs.machine_epochs.proofs.OutsideAsked.{idle_away}
-use Rattle.machine_states.specs.Blockless.{asks, after_by, after}
+use Rattle.machine_states.specs.runner_steps.specs.Asks.{asks}
+use Rattle.machine_states.specs.runner_steps.specs.After.{after_by, after}
 use Rattle.machine_states.specs.table_words.specs.Seen.{upd}
 use Rattle.agreement_core.specs.State.{IsOpen}
 use Rattle.agreement_core.specs.Events as agreement
@@ -70,7 +71,7 @@ module _ (m : Meaning) (laws : Laws m) (l : Layout) (limits : IsWithinLimits l) 
         (upd_split s.part r entered_part (λ i y. y.reads.walk ≡ upd (λ i. (s.part i).reads.walk) r [] i)
         (ap (λ (y : ReadsState). y.walk) reads ∙ sym (upd_same (λ i. (s.part i).reads.walk) r r [] refl))
         (λ i ne. sym (upd_other (λ i. (s.part i).reads.walk) r i [] ne)))
-        (made_outside m l s r kinds.EnterAgain x refl none) two go.guards go.logs
+        (made_outside m l s r kinds.EnterAgain x refl none) two go.logs
 
     pub enter_again_whole : (pieces : Pieces m l g s entered_sight r kinds.EnterAgain x)
         → KeepsWhole m l g s entered_sight r kinds.EnterAgain x pieces
@@ -109,7 +110,7 @@ module _ (m : Meaning) (laws : Laws m) (l : Layout) (limits : IsWithinLimits l) 
         (λ d. refl) quiet.stay.published
         (thunks_after m l s r kinds.Idle x (outside_leaves m l rs r p x kinds.Idle refl
         (outside_asked m l rs g s left_sight r kinds.Idle x none asked)))
-        (λ i. (s.part i).reads.walk) quiet.stay.walk quiet.made two go.guards go.logs
+        (λ i. (s.part i).reads.walk) quiet.stay.walk quiet.made two go.logs
 
     pub idle_whole : (pieces : Pieces m l g s left_sight r kinds.Idle x) → KeepsWhole m l g s left_sight r kinds.Idle x pieces
     idle_whole pieces = keeps_by m l g s left_sight r kinds.Idle x pieces [] (epochs.Exit r ∷ [])

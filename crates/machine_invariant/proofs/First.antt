@@ -37,8 +37,7 @@ use Rattle.machine_slots.specs.Hands.{LocksAreHeld, SlotsAreFilled}
 use Rattle.machine_slots.proofs.Stores.{first_held, first_filled}
 use Rattle.machine_invariant.specs.Whole.{Beside, states_of, made_of, IsWhole}
 use Rattle.machine_invariant.proofs.Basics.{not_both}
-use Rattle.machine_blocks.specs.machine_guards.proofs.Holding.{first_holds}
-use Rattle.machine_blocks.proofs.First.{first_stand}
+use Rattle.machine_blocks.proofs.Holding.{first_hold}
 
 -- nothing is published at first
 abbrev pub no_publications : List Request → Publications
@@ -131,6 +130,5 @@ module _ (m : Meaning) (laws : Laws m) (l : Layout) (limits : IsWithinLimits l) 
     held = subst (LocksAreHeld m c) same_states (first_held m c (first_place m l) (no_publications rs));
     filled = subst (λ (j : States). SlotsAreFilled m c j (made_of s)) same_states
         (first_filled m c (first_place m l) (no_publications rs) (made_of s));
-    guards = first_holds m l rs w start;
-    logs = first_stand m l rs w start;
+    logs = first_hold m l rs w start;
   }

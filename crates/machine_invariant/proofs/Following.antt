@@ -8,7 +8,7 @@ use Rattle.machine_states.specs.table_words.specs.declared.access.Access.{Access
 use Rattle.machine_states.specs.structure_laws.specs.Meaning.{Meaning}
 use Rattle.machine_states.specs.runner_parts.specs.declared.event.Event.{Event}
 use Rattle.machine_states.specs.runner_parts.specs.declared.event.EventKind.{EventKind}
-use Rattle.machine_states.specs.Blockless.{asks}
+use Rattle.machine_states.specs.runner_steps.specs.Asks.{asks}
 use Rattle.agreement_core.specs.Events as agreement
 use Rattle.agreement_core.specs.Schedules as agreement_schedules
 use Rattle.agreement_core.specs.History as agreement_history

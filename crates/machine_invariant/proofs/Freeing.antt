@@ -16,7 +16,7 @@ use Rattle.machine_states.specs.runner_parts.specs.declared.event.EventKind.TheV
 use Rattle.machine_states.specs.runner_parts.specs.State.{PartState}
 use Rattle.machine_states.specs.runner_parts.specs.Tests.{has}
 use Rattle.machine_states.specs.runner_steps.specs.Guards.{is_last_guard}
-use Rattle.machine_states.specs.Blockless.{asks}
+use Rattle.machine_states.specs.runner_steps.specs.Asks.{asks}
 use Rattle.agreement_core.specs.State.{CellRules, AgreementState}
 use Rattle.agreement_core.specs.Events as agreement
 use Rattle.agreement_core.specs.Schedules as agreement_schedules
@@ -30,7 +30,6 @@ use Rattle.machine_states.specs.epoch_core.specs.Events.{Event, slot_of, is_amon
 use Rattle.machine_states.specs.epoch_core.specs.History.{is_out}
 use Rattle.machine_states.specs.Sight.{Sight, sight_after}
 use Rattle.machine_slots.specs.Hands.{Made}
-use Rattle.machine_blocks.specs.machine_guards.specs.Stands.{GuardsHold}
 use Rattle.machine_blocks.specs.machine_guards.specs.machine_agreement.specs.machine_epochs.specs.Entries.{counts_of}
 use Rattle.machine_blocks.specs.machine_guards.specs.machine_agreement.specs.machine_epochs.specs.Slots.{thunk_in}
 use Rattle.machine_blocks.specs.machine_guards.specs.machine_agreement.specs.machine_epochs.specs.Joined as joins
@@ -39,6 +38,7 @@ use Rattle.machine_blocks.specs.machine_guards.specs.machine_agreement.specs.mac
 use Rattle.machine_blocks.specs.machine_guards.specs.machine_agreement.specs.machine_scenes.specs.Steps as steps
 use Rattle.machine_blocks.specs.machine_guards.specs.machine_agreement.specs.Chunks.{frees}
 use Rattle.machine_blocks.specs.machine_guards.specs.machine_agreement.specs.Chunks as chunks
+use Rattle.machine_blocks.specs.Stands.{LogsHold}
 use Rattle.machine_invariant.specs.Whole.{Beside, states_of, made_of, AreTied, IsWhole}
 use Rattle.machine_invariant.proofs.Basics.{both_hold, both}
 use Rattle.machine_invariant.proofs.Runs.{is_calm, AllAre, passes_are, InHands, Stands, step_stands, agreement_stands, epochs_stand}
@@ -133,7 +133,7 @@ among_descriptors c test n = by (nat_le c.nodes (c.nodes + n)) (above c.nodes n)
 
 -- a sweep ends in which these words were read
 module _ (m : Meaning) (l : Layout) (g : Beside) (s s' : Sight) (old : AreTied m l g s) (slots : joins.IsJoinedToEpochs m l g.epochs s)
-    (guards : GuardsHold m l g.agreement g.epochs s) (r : ℕ) (words : List ℕ) (a' : AgreementState) where
+    (logs : LogsHold m l g.agreement g.epochs s) (r : ℕ) (words : List ℕ) (a' : AgreementState) where
   abbrev c : Counts
   c = counts_of m l
 
@@ -153,7 +153,7 @@ module _ (m : Meaning) (l : Layout) (g : Beside) (s s' : Sight) (old : AreTied m
   gone : (n : ℕ) → has leaving n ≡ true → is_out (swept.location (slot_of c n)) ≡ false
   gone n leaves =
       let h = both (has (s.part r).descriptors.limbo n) _ (sym (has_filter (is_unnamed words) (s.part r).descriptors.limbo n) ∙ leaves) in
-      let there = at_its_limbo m l g.epochs s slots r n (guards.stands.within r n h.0) h.0 in
+      let there = at_its_limbo m l g.epochs s slots r n (logs.guards.within r n h.0) h.0 in
       ap is_out (place n ∙ (ap (moves.swept (is_unnamed words n) r) there.1 ∙ own_freed r there.0 (is_unnamed words n) h.1))
 
   -- any other is where it was
@@ -245,10 +245,10 @@ module _ (m : Meaning) (laws : Laws m) (l : Layout) (limits : IsWithinLimits l) 
         (states_of g s) (made_of s) refl go.enabled (hands_of m laws l limits g.epochs s whole.slots) (stands_now m laws l limits g s whole) in
         let two = epochs_stand m laws l limits sweep (record (states_of g s) { agreement = a' }) (made_of s)
         (refl, tt) go.enabled_slots one in
-        let tied = tied_freed m l g s looked_sight whole.tied whole.slots whole.guards r words a' (freed (rules_of m l) g.agreement ds passes still)
+        let tied = tied_freed m l g s looked_sight whole.tied whole.slots whole.logs r words a' (freed (rules_of m l) g.agreement ds passes still)
         (freed_live (rules_of m l) g.agreement ds passes still) quiet thunks in
         parts_whole m laws l limits (led m l g r leave go.passes sweep g.publications) s looked_sight go.joined go.joined_slots tied
-        (λ i. (s.part i).reads.walk) quiet.stay.walk quiet.made two go.guards go.logs
+        (λ i. (s.part i).reads.walk) quiet.stay.walk quiet.made two go.logs
 
     pub load_guard_whole : (pieces : Pieces m l g s looked_sight r look x) → KeepsWhole m l g s looked_sight r look x pieces
     load_guard_whole pieces = by (is_last_guard l p.guards.looked)

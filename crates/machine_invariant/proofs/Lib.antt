@@ -1,6 +1,5 @@
 pub mod Basics
 pub mod Asked
-pub mod Prepared
 mod Limbo
 pub mod Jointly
 pub mod Slots
@@ -9,7 +8,9 @@ mod Lines
 pub mod Sections
 pub mod Unwon
 pub mod Lengths
+pub mod Holding
 pub mod LogWords
+mod Linked
 pub mod States
 pub mod Along
 pub mod Runs

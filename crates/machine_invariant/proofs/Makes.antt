@@ -1,5 +1,5 @@
 -- A Make's private loads and stores and its commit keep the whole invariant.
-use Rattle.std.specs.Prelude.{◌⊎◌, ◌^◌, ◌&&◌, Bool, true, nat_lt, All}
+use Rattle.std.specs.Prelude.{◌⊎◌, ◌-◌, ◌^◌, ◌&&◌, Bool, true, false, nat_lt, All}
 use Rattle.std.proofs.Common.{◌≡◌, ℕ, suc, ◌<◌, ◌≤◌, List, [], ◌∷◌, length, inl, inr, ⊎_elim, sym, refl, ap, ◌∙◌, subst, arith, Option}
 use Rattle.std.proofs.Common.{Some, None}
 use Rattle.std.proofs.lemmas.Bool.{cases_eq}
@@ -23,16 +23,17 @@ use Rattle.machine_states.specs.structure_laws.specs.Sections.{IsAllowed}
 use Rattle.machine_states.specs.runner_parts.specs.declared.event.EventKind.{EventKind}
 use Rattle.machine_states.specs.runner_parts.specs.declared.event.EventKind.TheVariants as kinds
 use Rattle.machine_states.specs.runner_parts.specs.State.{RunState, PartState}
-use Rattle.machine_states.specs.runner_steps.specs.Sections.{is_open_run, next_of}
+use Rattle.machine_states.specs.runner_steps.specs.Sections.{is_open_run, next_of, needs_link}
 use Rattle.machine_states.specs.runner_steps.specs.InRun.{fill_load_ask, fill_store_ask}
 use Rattle.machine_states.specs.runner_steps.specs.AfterInRun.{fill_loaded, make_committed}
-use Rattle.machine_states.specs.Blockless.{asks, line_ask}
+use Rattle.machine_states.specs.runner_steps.specs.Asks.{asks, line_ask}
 use Rattle.agreement_core.specs.Checks.{source_in}
 use Rattle.agreement_core.specs.Events as agreement
 use Rattle.agreement_core.proofs.Words.{value_next}
 use Rattle.machine_states.specs.epoch_core.specs.State.{Counts}
 use Rattle.machine_states.specs.epoch_core.specs.Events as epochs
 use Rattle.machine_states.specs.Sight.{Sight, sight_after}
+use Rattle.machine_states.specs.epoch_core.specs.small_lemmas.proofs.Bools.{not_both}
 use Rattle.machine_states.proofs.Sights.{if_some, some_none}
 use Rattle.machine_states.proofs.Steps.{some_same}
 use Rattle.machine_states.proofs.Updates.{upd_here, upd_else}
@@ -46,7 +47,12 @@ use Rattle.machine_blocks.specs.machine_guards.specs.machine_agreement.proofs.Ru
 use Rattle.machine_slots.specs.Hands.{LooksAt}
 use Rattle.machine_slots.proofs.Stores.{may_make_filled, fill_small}
 use Rattle.machine_invariant.specs.Whole.{Beside, states_of, made_in, made_of, IsWhole}
+use Rattle.machine_states.specs.runner_steps.specs.Outside.{blocks_from}
+use Rattle.machine_invariant.proofs.Parts.{store_made}
 use Rattle.machine_invariant.proofs.Asked.{line_heads, line_events, source_same}
+use Rattle.machine_invariant.proofs.Chunked.{AreCalm, AreSteady}
+use Rattle.machine_invariant.proofs.Plain.{calm_whole}
+use Rattle.machine_invariant.proofs.Sights.{inside_quiet}
 use Rattle.machine_invariant.proofs.Runs.{AllAre, InHands, Stands, step_stands, epochs_stand}
 use Rattle.machine_invariant.proofs.Quiet.{hands_of, stands_now}
 use Rattle.machine_invariant.proofs.Jointly.{no_hold}
@@ -173,15 +179,20 @@ module _ (m : Meaning) (laws : Laws m) (l : Layout) (limits : IsWithinLimits l) 
     abbrev stores : ℕ → Source → agreement.Event
     stores log value = agreement.PrivateStore r cell log value (cell_of m.fixed_cells slot cell) number
 
-    abbrev line_asked : line_ask m l store (s.part r).nodes.free q (next_of m q) ≡ Some x
+    abbrev line_asked : line_ask m l store (s.part r).nodes.free (s.part r).blocks.free q (next_of m q) ≡ Some x
     line_asked = asked_line.line_asked m l rs r store (s.part r) q x asked is opened
+
+    -- a run that has no block to link stores into the slot of its Make
+    filling : needs_link q (next_of m q) ≡ false → fill_store_ask m l slot cell number q (next_of m q) ≡ Some x
+    filling near = ⊎_elim (λ link. absurd (not_both link.0 near)) (λ fills. fills.1)
+        (asked_line.run_store_asked q x m l slot cell number (s.part r).blocks.free (next_of m q) line_asked)
 
     -- the stored word has the value that the Make's line gives
     store_value : (log : ℕ) (value : Source) → next_of m q ≡ micros.PrivateStore cell log value
         → agreement.IsBefore g.agreement r (micros.PrivateStore cell log value)
         → value_of number ≡ source_in ((g.agreement.run r).trail) value
     store_value log value next before =
-        let h = asked_line.fill_store_asked q x m l slot cell number (next_of m q) line_asked in
+        let h = asked_line.fill_store_asked q x m l slot cell number (next_of m q) (filling (ap (needs_link q) next)) in
         let word : number ≡ next_word q.word (source_value q.trail value) =
         h.5 ∙ ap (λ v. next_word q.word (source_value q.trail v)) (one_value cell h.0 log h.1 value (next_of m q) h.2 next) in
         let same = source_same (g.agreement.run r) q (run_here m l g.agreement s whole.sections r q is) value in
@@ -198,26 +209,41 @@ module _ (m : Meaning) (laws : Laws m) (l : Layout) (limits : IsWithinLimits l) 
     store_stands log value next makes go =
         let mine : made_of s r ≡ Some slot = ap made_in is ∙ makes in
         let hands : InHands m laws l limits g.epochs (made_of s) = hands_of m laws l limits g.epochs s whole.slots in
-        let low : cell < 5 = store_within m l slot cell q x number (next_of m q) line_asked in
+        let low : cell < 5 = store_within m l slot cell q x number (next_of m q) (filling (ap (needs_link q) next)) in
         passes_stand m laws l limits r go.passes (steps.after m l c (states_of g s) (Fill r cell log value slot number))
         (made_of stored) go.enabled.1
         (hands_of m laws l limits g.epochs stored go.joined_slots)
         (step_stands m laws l limits (states_of g s) (made_of s) (made_of stored) (Fill r cell log value slot number)
-        (go.enabled.0, (r, (hands r slot mine).1), low) tt tt hands
-        (mine, store_value log value next go.enabled.0.0, made_same m l s r store x refl q is opened refl)
+        (go.enabled.0, (r, (hands r slot mine).1), low) tt tt hands (
+          mine,
+          store_value log value next go.enabled.0.0,
+          made_same m l s r store x refl q is opened
+              (store_made m l (s.part r) q is (s.word x.0) (slot - blocks_from m l) number (needs_link q (next_of m q))),
+        )
         (stands_now m laws l limits g s whole))
 
     pub private_store_whole : (pieces : Pieces m l g s stored r store x) → KeepsWhole m l g s stored r store x pieces
-    private_store_whole pieces =
-        let heads = line_heads m l r store (s.part r) q is opened (s.word x.0) g.agreement pieces.heads pieces.in_sections in
-        let stay = stays_read m l s r store x refl q is opened refl in
-        let thunks = thunks_stay m l s r store x refl q is opened rs asked in
-        keeps_by m l g s stored r store x pieces (stores heads.0 heads.1 ∷ []) [] heads.4
-        (line_events m l r store (s.part r) q is opened (s.word x.0) pieces.events pieces.in_slots) g.publications refl
-        (no_hold m l store (s.word x.0) refl) refl
-        (λ go. line_whole m laws l limits g s stored whole stay thunks r (stores heads.0 heads.1) [] go
-        (record { used = refl; live = refl }) tt
-        (store_stands heads.0 heads.1 heads.2 heads.3 go))
+    private_store_whole pieces = ⊎_elim (λ link. empties_whole link.1) (λ fills. fills_whole fills.0 fills.1 fills.2 fills.3 fills.4)
+        (line_heads m l r store (s.part r) q is opened (s.word x.0) g.agreement pieces.heads pieces.in_sections)
+      where
+        -- a word of a block is made 0, of which nothing is known here
+        empties_whole : pieces.heads ≡ [] → KeepsWhole m l g s stored r store x pieces
+        empties_whole none = calm_whole m laws l limits g s stored whole r store x pieces
+            (subst AreCalm (sym none) (record { still = tt }))
+            (subst AreSteady (sym (line_events m l r store (s.part r) q is opened (s.word x.0) pieces.events pieces.in_slots)) (record { alone = tt; leaves = tt }))
+            (inside_quiet m l s r store x q is refl refl refl) (λ d used. thunks_stay m l s r store x refl q is opened rs asked d) refl refl
+
+        fills_whole : (log : ℕ) (value : Source) → next_of m q ≡ micros.PrivateStore cell log value → q.made ≡ Some slot → pieces.heads ≡ stores log value ∷ []
+            → KeepsWhole m l g s stored r store x pieces
+        fills_whole log value next makes heads =
+            let stay = stays_read m l s r store x refl q is opened refl in
+            let thunks = thunks_stay m l s r store x refl q is opened rs asked in
+            keeps_by m l g s stored r store x pieces (stores log value ∷ []) [] heads
+            (line_events m l r store (s.part r) q is opened (s.word x.0) pieces.events pieces.in_slots) g.publications refl
+            (no_hold m l store (s.word x.0) refl) refl
+            (λ go. line_whole m laws l limits g s stored whole stay thunks r (stores log value) [] go
+            (record { used = refl; live = refl }) tt
+            (store_stands log value next makes go))
 
   -- a Make commits its slot
   module _ (asked : asks m l rs r kinds.MakeCommit (s.part r) ≡ Some x) (q : RunState) (is : (s.part r).run ≡ Some q)
@@ -248,7 +274,7 @@ module _ (m : Meaning) (laws : Laws m) (l : Layout) (limits : IsWithinLimits l) 
           enabled = go.enabled.0;
           takes = go.enabled_slots.0;
           node = (hands r slot mine).0;
-          word = whole.logs.same d log;
+          word = whole.logs.stands.same d log;
           filled = may_make_filled m l c (states_of g s) whole.kept (made_of s) whole.filled r log slot go.enabled.0.0 mine;
         } in
         passes_stand m laws l limits r go.passes (steps.after m l c (states_of g s) (Make r log slot q.worn))

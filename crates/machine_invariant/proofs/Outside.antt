@@ -13,7 +13,8 @@ use Rattle.machine_states.specs.structure_laws.specs.Laws.{Laws}
 use Rattle.machine_states.specs.structure_laws.proofs.Changes.{upd_same, upd_other}
 use Rattle.machine_states.specs.runner_parts.specs.declared.event.EventKind.{EventKind}
 use Rattle.machine_states.specs.runner_parts.specs.State.{RunState, PartState}
-use Rattle.machine_states.specs.Blockless.{asks, outside_ask, after_by, after}
+use Rattle.machine_states.specs.runner_steps.specs.Asks.{asks, outside_ask}
+use Rattle.machine_states.specs.runner_steps.specs.After.{after_by, after}
 use Rattle.agreement_core.specs.Events as agreement
 use Rattle.agreement_core.specs.Schedules as agreement_schedules
 use Rattle.machine_states.specs.epoch_core.specs.declared.location.Location.{Location}
@@ -29,7 +30,6 @@ use Rattle.machine_blocks.specs.machine_guards.specs.machine_agreement.specs.mac
 use Rattle.machine_blocks.specs.machine_guards.specs.machine_agreement.specs.machine_scenes.specs.Shown.{States, rules_of}
 use Rattle.machine_blocks.specs.machine_guards.specs.machine_agreement.specs.Joined as sections
 use Rattle.machine_blocks.specs.machine_guards.specs.machine_agreement.specs.Chunks as chunks
-use Rattle.machine_blocks.specs.machine_guards.specs.Stands.{GuardsHold}
 use Rattle.machine_invariant.specs.Whole.{Beside, states_of, made_in, made_of, HasPublished, AreTied, IsWhole}
 use Rattle.machine_invariant.proofs.Asked.{asked_by}
 use Rattle.machine_invariant.proofs.Runs.{AllAre, Stands, filled_other}
@@ -40,7 +40,7 @@ use Rattle.machine_invariant.proofs.Parts.{outside_made}
 use Rattle.machine_invariant.proofs.Sights.{after_is}
 use Rattle.machine_invariant.proofs.Pieces.{Pieces}
 use Rattle.machine_states.specs.body_terms.specs.declared.thunk.Thunk.{Thunk}
-use Rattle.machine_blocks.specs.Stands.{LogsStand}
+use Rattle.machine_blocks.specs.Stands.{LogsHold}
 
 -- a descriptor's place, where one has changed
 module _ (c : Counts) (f : ℕ → Location) (d n : ℕ) (v : Location) where
@@ -94,8 +94,8 @@ module _ (m : Meaning) (laws : Laws m) (l : Layout) (limits : IsWithinLimits l) 
       → (walk : ℕ → Readings) → ((i : ℕ) → (s'.part i).reads.walk ≡ walk i)
       → ((i : ℕ) (q : RunState) → (s'.part i).run ≡ Some q → q.made ≡ made_of s i)
       → Stands m laws l limits from (record (states_of g' s') { walk = walk }) (made_of s)
-      → GuardsHold m l g'.agreement g'.epochs s' → LogsStand g'.agreement g'.epochs s' → IsWholeAfter m l from g' s'
-  parts_whole g' s s' joined joined' tied walk same made stands guards logs =
+      → LogsHold m l g'.agreement g'.epochs s' → IsWholeAfter m l from g' s'
+  parts_whole g' s s' joined joined' tied walk same made stands logs =
       let new = with_walk m laws l limits (record (states_of g' s') { walk = walk }) (made_of s)
       (λ i. (s'.part i).reads.walk) same stands in
       record {
@@ -108,7 +108,6 @@ module _ (m : Meaning) (laws : Laws m) (l : Layout) (limits : IsWithinLimits l) 
           held = new.held;
           filled = filled_other m laws l limits (states_of g' s') (made_of s) (made_of s')
               (λ r running. let q = in_run m l g'.agreement s' joined r running in ap made_in q.1 ∙ made r q.0 q.1) new.filled;
-          guards = guards;
           logs = logs;
         };
       }
@@ -130,18 +129,17 @@ module _ (m : Meaning) (laws : Laws m) (l : Layout) (limits : IsWithinLimits l) 
         publications = g.publications;
         walk = walk;
       }) (made_of s)
-      → GuardsHold m l (agreement_schedules.after_all (rules_of m l) g.agreement es) e' s'
-      → LogsStand (agreement_schedules.after_all (rules_of m l) g.agreement es) e' s'
+      → LogsHold m l (agreement_schedules.after_all (rules_of m l) g.agreement es) e' s'
       → IsWholeAfter m l from (record {
         agreement = agreement_schedules.after_all
             (rules_of m l) g.agreement es;
         epochs = e';
         publications = g.publications;
       }) s'
-  onward_whole g s s' whole es still joined e' joined' places published thunks walk same made stands guards logs =
+  onward_whole g s s' whole es still joined e' joined' places published thunks walk same made stands logs =
       let w = agreement_schedules.after_all (rules_of m l) g.agreement es in
       let uses = all_still (rules_of m l) g.agreement es still in
       parts_whole (record { agreement = w; epochs = e'; publications = g.publications }) s s' joined joined'
       (tied_onward m l g.agreement w g.epochs e' g.publications s s' whole.tied
       (λ d. ap (λ (f : ℕ → Bool). f d) uses.used) (λ d. ap (λ (f : ℕ → Bool). f d) uses.live) places published (λ d used. thunks d))
-      walk same made stands guards logs
+      walk same made stands logs

@@ -1,5 +1,5 @@
 -- What a step leaves of a runner's part.
-use Rattle.std.specs.Prelude.{◌==◌, ◌&&◌, not, Bool, true, false, nat_lt, nat_le, if◌then◌else◌}
+use Rattle.std.specs.Prelude.{◌==◌, ◌&&◌, not, Bool, true, false, nat_lt, nat_le, if◌then◌else◌, ◌-◌}
 use Rattle.std.proofs.Common.{◌≡◌, ℕ, refl, sym, ap, ◌∙◌, Option, Some, None}
 use Rattle.machine_states.specs.body_terms.specs.declared.micro.Micro.{Micro}
 use Rattle.machine_states.specs.body_terms.specs.Line.{is_end}
@@ -15,15 +15,16 @@ use Rattle.machine_states.specs.epoch_core.specs.declared.stage.Stage.{Stage}
 use Rattle.machine_states.specs.epoch_core.specs.declared.stage.Stage.TheVariants as stages
 use Rattle.machine_states.specs.runner_parts.specs.State.{RunState, PartState}
 use Rattle.machine_states.specs.runner_parts.specs.Lists.{cell_read}
-use Rattle.machine_states.specs.runner_steps.specs.Sections.{is_open_run, next_of}
+use Rattle.machine_states.specs.runner_steps.specs.Sections.{is_open_run, next_of, needs_link}
 use Rattle.machine_states.specs.runner_steps.specs.InRun.{last_clock}
 use Rattle.machine_states.specs.epoch_core.specs.State.{last_epoch}
 use Rattle.machine_states.specs.runner_steps.specs.AfterInRun as inside
 use Rattle.machine_states.specs.runner_steps.specs.AfterOutside as outside
-use Rattle.machine_states.specs.Blockless.{outside_after, line_after, inside_after, after_by, after}
+use Rattle.machine_states.specs.runner_steps.specs.After.{outside_after, line_after, inside_after, after_by, after}
 use Rattle.machine_invariant.specs.Whole.{HasPublished, made_in}
 use Rattle.machine_states.specs.table_words.specs.Places.{slot_count}
 use Rattle.machine_states.specs.body_terms.specs.declared.thunk.Thunk.{Thunk}
+use Rattle.machine_states.specs.runner_steps.specs.Outside.{blocks_from}
 
 -- no entry, no load of a cell and no publication
 abbrev pub is_other : EventKind → Bool
@@ -96,6 +97,7 @@ module _ (m : Meaning) (l : Layout) where
     line_same kinds.ExchangeCell micro other = by_reads p _ refl refl
     line_same (kinds.PrivateLoad slot word) micro other = load_same slot q.made
     line_same (kinds.PrivateStore slot word number) micro other = by_reads p _ refl refl
+    line_same (kinds.LinkCommit b) micro other = by_reads p _ refl refl
     line_same kinds.MakeCommit micro other = make_same q.made
     line_same kinds.RetireCommit micro other = by_reads p _ refl refl
     line_same kinds.EpochForRetire micro other = by_reads p _ refl refl
@@ -170,12 +172,18 @@ module _ (m : Meaning) (l : Layout) where
     unchanged : HasMade p
     unchanged = by_run p (ap made_in at)
 
+    -- a private store leaves it, be it one into a block or into the slot
+    pub store_made : (b number : ℕ) (c : Bool) → (if c then inside.block_emptied b q else inside.filled m l number q).made ≡ q.made
+    store_made b number true = refl
+    store_made b number false = refl
+
     line_made : (kind : EventKind) (micro : Micro) → is_making kind ≡ false → HasMade (line_after m l kind p q micro found)
     line_made kinds.Commit micro is = by_run _ refl
     line_made (kinds.LoadCell place) micro is = by_run _ refl
     line_made kinds.ExchangeCell micro is = by_run _ refl
     line_made (kinds.PrivateLoad slot word) micro is = absurd (cc)
-    line_made (kinds.PrivateStore slot word number) micro is = by_run _ refl
+    line_made (kinds.PrivateStore slot word number) micro is = by_run _ (store_made (slot - blocks_from m l) number (needs_link q micro))
+    line_made (kinds.LinkCommit b) micro is = by_run _ refl
     line_made kinds.MakeCommit micro is = absurd (cc)
     line_made kinds.RetireCommit micro is = by_run _ refl
     line_made kinds.EpochForRetire micro is = by_run _ refl

@@ -25,16 +25,16 @@ use Rattle.machine_blocks.specs.machine_guards.specs.machine_agreement.specs.mac
 use Rattle.machine_blocks.specs.machine_guards.specs.machine_agreement.specs.Joined as sections
 use Rattle.machine_blocks.specs.machine_guards.specs.machine_agreement.specs.Chunks as chunks
 use Rattle.machine_blocks.specs.machine_guards.specs.machine_agreement.proofs.AllKinds as sections_kinds
+use Rattle.machine_invariant.proofs.Holding.{few_blocks}
 use Rattle.machine_invariant.specs.Whole.{Beside, states_of, IsWhole}
 use Rattle.machine_invariant.proofs.Jointly.{IsWholeAfter, is_reading, HoldsNothing, Goes, GoesByPublishing, GoesByReading}
 use Rattle.machine_invariant.proofs.SuppliesSections.{sections_supplied}
 use Rattle.machine_invariant.proofs.SuppliesSlots.{HoldsMet, slots_supplied, guards_supplied}
 use Rattle.machine_invariant.proofs.Limbo.{SweepsSafely}
-use Rattle.machine_blocks.specs.machine_guards.specs.Stands.{GuardsHold}
 use Rattle.machine_blocks.specs.machine_guards.specs.Goes.{OthersGo}
-use Rattle.machine_blocks.specs.Stands.{LogsStand}
-use Rattle.machine_blocks.proofs.AllKinds.{logs_kept}
-use Rattle.machine_blocks.specs.machine_guards.proofs.Holding.{step_holds, sweep_safe}
+use Rattle.machine_blocks.specs.Stands.{LogsHold}
+use Rattle.machine_blocks.proofs.Holding.{logs_hold}
+use Rattle.machine_blocks.specs.machine_guards.proofs.Safe.{sweep_safe}
 
 module _ (m : Meaning) (l : Layout) where
   -- the components' events of this runner's step of this kind on this word, and the states to which they lead
@@ -49,11 +49,8 @@ module _ (m : Meaning) (l : Layout) where
     pub in_slots : slots.IsChunk m l r kind (s.part r) (s.part r).run (s.word x.0) events
     pub enabled_slots : epoch_schedules.AllEnabled (counts_of m l) g.epochs events
     pub joined_slots : joins.IsJoinedToEpochs m l (epoch_schedules.after_all (counts_of m l) g.epochs events) s'
-    -- guards stand there
-    pub guards : GuardsHold m l (agreement_schedules.after_all (rules_of m l) g.agreement (heads ++ replicate passes (agreement.Pass r)))
-        (epoch_schedules.after_all (counts_of m l) g.epochs events) s'
-    -- and so do the logs
-    pub logs : LogsStand (agreement_schedules.after_all (rules_of m l) g.agreement (heads ++ replicate passes (agreement.Pass r)))
+    -- guards and the logs stand there
+    pub logs : LogsHold m l (agreement_schedules.after_all (rules_of m l) g.agreement (heads ++ replicate passes (agreement.Pass r)))
         (epoch_schedules.after_all (counts_of m l) g.epochs events) s'
 
   -- the states after these events of agreement, so many checks that pass behind them, and these events of epochs and slots
@@ -94,9 +91,7 @@ module _ (m : Meaning) (l : Layout) where
         (heads ++ replicate passes (agreement.Pass r))) s'
     pub enabled_slots : epoch_schedules.AllEnabled (counts_of m l) g.epochs events
     pub joined_slots : joins.IsJoinedToEpochs m l (epoch_schedules.after_all (counts_of m l) g.epochs events) s'
-    pub guards : GuardsHold m l (agreement_schedules.after_all (rules_of m l) g.agreement (heads ++ replicate passes (agreement.Pass r)))
-        (epoch_schedules.after_all (counts_of m l) g.epochs events) s'
-    pub logs : LogsStand (agreement_schedules.after_all (rules_of m l) g.agreement (heads ++ replicate passes (agreement.Pass r)))
+    pub logs : LogsHold m l (agreement_schedules.after_all (rules_of m l) g.agreement (heads ++ replicate passes (agreement.Pass r)))
         (epoch_schedules.after_all (counts_of m l) g.epochs events) s'
 
   module _ (g : Beside) (s s' : Sight) (r : ℕ) (kind : EventKind) (x : Spot × Access) (pieces : Pieces g s s' r kind x)
@@ -111,14 +106,9 @@ module _ (m : Meaning) (l : Layout) where
           (es ++ replicate pieces.passes (agreement.Pass r))) s') same pieces.joined;
       enabled_slots = subst (λ es. epoch_schedules.AllEnabled (counts_of m l) g.epochs es) same' pieces.enabled_slots;
       joined_slots = subst (λ es. joins.IsJoinedToEpochs m l (epoch_schedules.after_all (counts_of m l) g.epochs es) s') same' pieces.joined_slots;
-      guards = subst (λ vs. GuardsHold m l (agreement_schedules.after_all (rules_of m l) g.agreement
+      logs = subst (λ vs. LogsHold m l (agreement_schedules.after_all (rules_of m l) g.agreement
           (heads ++ replicate pieces.passes (agreement.Pass r))) (epoch_schedules.after_all (counts_of m l) g.epochs vs) s') same'
-          (subst (λ es. GuardsHold m l (agreement_schedules.after_all (rules_of m l) g.agreement
-          (es ++ replicate pieces.passes (agreement.Pass r))) (epoch_schedules.after_all (counts_of m l) g.epochs pieces.events) s') same
-          pieces.guards);
-      logs = subst (λ vs. LogsStand (agreement_schedules.after_all (rules_of m l) g.agreement
-          (heads ++ replicate pieces.passes (agreement.Pass r))) (epoch_schedules.after_all (counts_of m l) g.epochs vs) s') same'
-          (subst (λ es. LogsStand (agreement_schedules.after_all (rules_of m l) g.agreement
+          (subst (λ es. LogsHold m l (agreement_schedules.after_all (rules_of m l) g.agreement
           (es ++ replicate pieces.passes (agreement.Pass r))) (epoch_schedules.after_all (counts_of m l) g.epochs pieces.events) s') same
           pieces.logs);
     }
@@ -176,7 +166,7 @@ module _ (m : Meaning) (l : Layout) where
 sweeps_safely : (m : Meaning) (l : Layout) (rs : List Request) (g : Beside) (s s' : Sight) → IsWhole m l g s → (r : ℕ) (kind : EventKind)
     → (step : Steps m l rs s s' r kind) → SweepsSafely l s r kind (s.word step.ask.0)
 sweeps_safely m l rs g s s' whole r (kinds.LoadGuard n) step n' d q is last lies unnamed =
-    sweep_safe m l rs g.agreement g.epochs s s' r n whole.slots whole.guards step last d q lies unnamed
+    sweep_safe m l rs whole.logs.chain g.agreement g.epochs s s' r n whole.slots whole.logs.guards step last d q lies unnamed
 sweeps_safely m l rs g s s' whole r _ step n' d q is last lies unnamed = absurd (let y = is in cc)
 
 module _ (m : Meaning) (laws : Laws m) (l : Layout) (limits : IsWithinLimits l) (rs : List Request) (few : length rs ≤ 131072)
@@ -211,7 +201,6 @@ module _ (m : Meaning) (laws : Laws m) (l : Layout) (limits : IsWithinLimits l) 
         in_slots = e.1;
         enabled_slots = e.2.enabled;
         joined_slots = e.2.joined;
-        guards = step_holds m l rs g.agreement after g.epochs slots_after s s' r kind whole.sections whole.slots whole.guards step
+        logs = logs_hold m l rs g.agreement after g.epochs slots_after s s' r kind whole.sections whole.slots (few_blocks l) whole.logs step
             (guards_supplied m laws l limits rs few allowed g s whole r kind step.ask step.asked) others;
-        logs = logs_kept m l rs g.agreement after g.epochs slots_after s s' r kind whole.sections whole.slots whole.logs step others;
       }

@@ -1,6 +1,6 @@
 -- The kinds of step that are quiet keep the whole invariant.
-use Rattle.std.specs.Prelude.{◌-◌, Bool, true, false, replicate, if◌then◌else◌}
-use Rattle.std.proofs.Common.{◌≡◌, ◌≢◌, ℕ, List, ◌++◌, sym, refl, ap, ◌∙◌, subst, Option, Some, None}
+use Rattle.std.specs.Prelude.{◌-◌, Bool, true, false, nat_lt, replicate, if◌then◌else◌}
+use Rattle.std.proofs.Common.{◌≡◌, ◌≢◌, ℕ, List, ◌++◌, sym, refl, ap, ◌∙◌, subst, Option, Some, None, ⊎_elim}
 use Rattle.machine_states.specs.map_history.specs.declared.op.Request.{Request}
 use Rattle.machine_states.specs.table_words.specs.declared.layout.Layout.{Layout}
 use Rattle.machine_states.specs.table_words.specs.declared.spot.Spot.{Spot}
@@ -16,8 +16,10 @@ use Rattle.machine_states.specs.runner_parts.specs.declared.event.EventKind.{Eve
 use Rattle.machine_states.specs.runner_parts.specs.declared.event.EventKind.TheVariants as kinds
 use Rattle.machine_states.specs.runner_parts.specs.State.{RunState, PartState}
 use Rattle.machine_states.specs.runner_steps.specs.Sections.{is_open_run, next_of}
-use Rattle.machine_states.specs.Blockless.{private_store_ask, outside_ask, inside_ask, line_ask, asks}
+use Rattle.machine_states.specs.runner_steps.specs.Outside.{private_store_ask}
+use Rattle.machine_states.specs.runner_steps.specs.Asks.{outside_ask, inside_ask, line_ask, asks}
 use Rattle.machine_states.specs.runner_steps.specs.Asks.{opening_ask}
+use Rattle.machine_states.specs.runner_steps.specs.Outside.{blocks_from}
 use Rattle.agreement_core.specs.Events as agreement
 use Rattle.machine_states.specs.World.{is_join}
 use Rattle.machine_states.specs.Sight.{Sight, sight_after}
@@ -25,7 +27,7 @@ use Rattle.machine_states.proofs.Sights.{some_none}
 use Rattle.machine_blocks.specs.machine_guards.specs.machine_agreement.specs.machine_epochs.specs.Slots.{thunk_in}
 use Rattle.machine_blocks.specs.machine_guards.specs.machine_agreement.specs.machine_epochs.specs.Chunks as slots
 use Rattle.machine_blocks.specs.machine_guards.specs.machine_agreement.specs.machine_epochs.proofs.Joining.{thunk_same}
-use Rattle.machine_blocks.specs.machine_guards.specs.machine_agreement.specs.machine_epochs.proofs.OutsideAsked.{private_store_asked}
+use Rattle.machine_blocks.specs.machine_guards.specs.machine_agreement.specs.machine_epochs.proofs.OutsideAsked.{private_store_cases}
 use Rattle.machine_blocks.specs.machine_guards.specs.machine_agreement.specs.Chunks as chunks
 use Rattle.machine_blocks.specs.machine_guards.specs.machine_agreement.proofs.LineAsked.{inside_asked}
 use Rattle.machine_invariant.specs.Whole.{Beside, IsWhole}
@@ -33,13 +35,14 @@ use Rattle.machine_invariant.proofs.Asked.{asked_by}
 use Rattle.machine_invariant.proofs.Parts.{is_making, is_release, is_other}
 use Rattle.machine_invariant.proofs.Runs.{passes_are, append_are}
 use Rattle.machine_invariant.proofs.Quiet.{is_still, IsQuiet, quiet_whole}
-use Rattle.machine_invariant.proofs.Thunks.{inside_leaves, outside_leaves, other_thunk}
+use Rattle.machine_invariant.proofs.Thunks.{inside_leaves, outside_leaves, other_thunk, block_leaves}
 use Rattle.machine_invariant.proofs.Sights.{inside_quiet, outside_quiet, join_quiet, thunks_after}
 use Rattle.machine_invariant.proofs.Chunked.{AreCalm, AreSteady, is_plain_line, inside_calm, inside_steady}
 use Rattle.machine_invariant.proofs.Chunked.{is_plain_outside, outside_calm, outside_steady, join_calm, join_steady}
 use Rattle.machine_invariant.proofs.Outside.{outside_asked, outside_heads, outside_events}
 use Rattle.machine_invariant.proofs.Jointly.{is_hold, is_reading, no_hold}
 use Rattle.machine_invariant.proofs.Pieces.{Pieces, KeepsWhole, keeps_quietly}
+use Rattle.machine_states.specs.table_words.specs.declared.access.Access.TheVariants.{Stores}
 
 plain_making : (kind : EventKind) → is_plain_line kind ≡ true → is_making kind ≡ false
 plain_making (kinds.PrivateLoad slot word) plain = absurd (cc)
@@ -91,7 +94,7 @@ module _ (m : Meaning) (laws : Laws m) (l : Layout) (limits : IsWithinLimits l) 
   calm_whole calm steady quiet thunks other apart =
       keeps_quietly m l g s s' r kind x pieces (no_hold m l kind (s.word x.0) other) apart
       (quiet_whole m laws l limits g s s' whole quiet thunks es (calm_heads calm).still pieces.enabled pieces.joined
-      pieces.events steady.alone steady.leaves pieces.enabled_slots pieces.joined_slots pieces.guards pieces.logs)
+      pieces.events steady.alone steady.leaves pieces.enabled_slots pieces.joined_slots pieces.logs)
 
 module _ (m : Meaning) (laws : Laws m) (l : Layout) (limits : IsWithinLimits l) (rs : List Request) (g : Beside) (s : Sight)
     (whole : IsWhole m l g s) (r : ℕ) (x : Spot × Access) where
@@ -99,15 +102,15 @@ module _ (m : Meaning) (laws : Laws m) (l : Layout) (limits : IsWithinLimits l) 
   p = s.part r
 
   -- in a run nobody writes a word of a read
-  inside_apart : (kind : EventKind) (q : RunState) → inside_ask m l kind p.nodes.free q ≡ Some x → is_reading kind ≡ false
+  inside_apart : (kind : EventKind) (q : RunState) → inside_ask m l kind p.nodes.free p.blocks.free q ≡ Some x → is_reading kind ≡ false
   inside_apart kinds.ReadReply q e = by (is_open_run q) e
     where
-      by : (b : Bool) → (if b then line_ask m l kinds.ReadReply p.nodes.free q (next_of m q) else opening_ask kinds.ReadReply q) ≡ Some x → true ≡ false
+      by : (b : Bool) → (if b then line_ask m l kinds.ReadReply p.nodes.free p.blocks.free q (next_of m q) else opening_ask kinds.ReadReply q) ≡ Some x → true ≡ false
       by true e = some_none x e
       by false e = some_none x e
   inside_apart kinds.ReadStamp q e = by (is_open_run q) e
     where
-      by : (b : Bool) → (if b then line_ask m l kinds.ReadStamp p.nodes.free q (next_of m q) else opening_ask kinds.ReadStamp q) ≡ Some x → true ≡ false
+      by : (b : Bool) → (if b then line_ask m l kinds.ReadStamp p.nodes.free p.blocks.free q (next_of m q) else opening_ask kinds.ReadStamp q) ≡ Some x → true ≡ false
       by true e = some_none x e
       by false e = some_none x e
   inside_apart _ q e = refl
@@ -122,23 +125,24 @@ module _ (m : Meaning) (laws : Laws m) (l : Layout) (limits : IsWithinLimits l) 
       (inside_steady m l g.agreement r kind p q (s.word x.0) pieces.events (is_open_run q) plain
       (subst (λ o. slots.IsChunk m l r kind p o (s.word x.0) pieces.events) is pieces.in_slots))
       (inside_quiet m l s r kind x q is j (plain_making kind plain) (plain_release kind plain))
-      (λ d used. thunks_after m l s r kind x (inside_leaves m l q x kind p.nodes.free (inside_asked m l rs r kind p q x asked is)) d)
+      (λ d used. thunks_after m l s r kind x (inside_leaves m l q x kind p.nodes.free p.blocks.free (inside_asked m l rs r kind p q x asked is)) d)
       (plain_hold kind plain) (inside_apart kind q (inside_asked m l rs r kind p q x asked is))
 
   unused_apart : (d d0 : ℕ) → g.agreement.used d ≡ true → g.agreement.used d0 ≡ false → d ≢ d0
   unused_apart d d0 used unused same = let clash = sym used ∙ (ap g.agreement.used same ∙ unused) in cc
 
-  -- a private store to a word of an own free descriptor leaves the others' thunks
+  -- a private store to a word of an own free descriptor leaves the others' thunks, and one to a word of a block all
   store_thunks : (slot word number : ℕ) → private_store_ask m l slot word number p ≡ Some x
-      → g.agreement.used (slot - slot_count l m.fixed_slots) ≡ false
+      → (nat_lt slot (blocks_from m l) ≡ true → g.agreement.used (slot - slot_count l m.fixed_slots) ≡ false)
       → (d : ℕ) → g.agreement.used d ≡ true → thunk_in (sight_after m l s r (kinds.PrivateStore slot word number) x).word d
       ≡ thunk_in s.word d
-  store_thunks slot word number e unused d used =
-      let h = private_store_asked m l slot word number p x e in
-      thunk_same (put s.word x.0 (written x.1 (s.word x.0))) s.word d (λ j.
-      subst (λ (y : Spot × Access). put s.word y.0 (written y.1 (s.word y.0)) (ThunkWord d j) ≡ s.word (ThunkWord d j)) h.1
+  store_thunks slot word number e inside d used = thunk_same (put s.word x.0 (written x.1 (s.word x.0))) s.word d (λ j. ⊎_elim
+      (λ own. subst (λ (y : Spot × Access). put s.word y.0 (written y.1 (s.word y.0)) (ThunkWord d j) ≡ s.word (ThunkWord d j)) own.2
       (other_thunk s.word (slot - slot_count l m.fixed_slots) word number d j
-      (unused_apart d (slot - slot_count l m.fixed_slots) used unused)))
+      (unused_apart d (slot - slot_count l m.fixed_slots) used (inside own.0))))
+      (λ block. subst (λ (y : Spot × Access). put s.word y.0 (written y.1 (s.word y.0)) (ThunkWord d j) ≡ s.word (ThunkWord d j)) block.1
+      ((block_leaves (slot - blocks_from m l) word (Stores number)).same s.word d j))
+      (private_store_cases m l slot word number p x e))
 
   outside_thunks : (kind : EventKind) → outside_ask m l rs r kind p ≡ Some x → (heads : List agreement.Event)
       → chunks.IsOutsideChunk m l g.agreement r kind p (s.word x.0) heads
@@ -177,7 +181,7 @@ module _ (m : Meaning) (laws : Laws m) (l : Layout) (limits : IsWithinLimits l) 
       by (Some q) is = no_join (is_open_run q) (asked_by m l r (kinds.Join worker) p rs x (Some q) is asked)
         where
           no_join : (b : Bool)
-              → (if b then line_ask m l (kinds.Join worker) p.nodes.free q (next_of m q) else opening_ask (kinds.Join worker) q) ≡ Some x
+              → (if b then line_ask m l (kinds.Join worker) p.nodes.free p.blocks.free q (next_of m q) else opening_ask (kinds.Join worker) q) ≡ Some x
               → KeepsWhole m l g s (sight_after m l s r (kinds.Join worker) x) r (kinds.Join worker) x pieces
           no_join true e = some_none x e
           no_join false e = some_none x e

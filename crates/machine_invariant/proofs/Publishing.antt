@@ -24,7 +24,8 @@ use Rattle.machine_states.specs.runner_parts.specs.State.{PartState}
 use Rattle.machine_states.specs.runner_parts.specs.Tests.{thunk_words}
 use Rattle.machine_states.specs.runner_parts.specs.Lists.{descriptor_taken, published_seen, cell_read}
 use Rattle.machine_states.specs.runner_steps.specs.Outside.{hold_ask}
-use Rattle.machine_states.specs.Blockless.{asks, after_by, after}
+use Rattle.machine_states.specs.runner_steps.specs.Asks.{asks}
+use Rattle.machine_states.specs.runner_steps.specs.After.{after_by, after}
 use Rattle.machine_states.specs.runner_steps.specs.AfterOutside.{hold_after, published_by}
 use Rattle.agreement_core.specs.State.{AgreementState}
 use Rattle.agreement_core.specs.Events as agreement
@@ -198,7 +199,7 @@ module _ (m : Meaning) (laws : Laws m) (l : Layout) (limits : IsWithinLimits l) 
         (ap (λ o. (after_by m l kind p o (s.word x.0)).run) (sym none) ∙ e) ∙ ap made_in (sym none)) in
         quiet_whole m laws l limits g s hold_sight whole quiet (λ n used. thunks n) (agreement.Read t.lock ∷ passes)
         (refl, passes_are is_still (agreement.Pass r) refl go.passes) go.enabled go.joined
-        [] tt tt go.enabled_slots go.joined_slots go.guards go.logs
+        [] tt tt go.enabled_slots go.joined_slots go.logs
 
     -- it did
     module _ (same : s.word x.0 ≡ t.word) where
@@ -267,7 +268,7 @@ module _ (m : Meaning) (laws : Laws m) (l : Layout) (limits : IsWithinLimits l) 
           (λ i. (s.part i).reads.walk)
           (upd_split s.part r won_part (λ i y. y.reads.walk ≡ (s.part i).reads.walk) (ap (λ (y : PartState). y.reads.walk) won_is)
           (λ i ne. refl))
-          (made_outside m l s r kind x refl none) four go.guards go.logs
+          (made_outside m l s r kind x refl none) four go.logs
 
     -- the lock stands with another word than the try's
     still_other : s.word x.0 ≢ t.word → HoldsNothing m l kind (s.word x.0)

@@ -26,13 +26,12 @@ use Rattle.machine_blocks.specs.machine_guards.specs.machine_agreement.specs.mac
 use Rattle.machine_blocks.specs.machine_guards.specs.machine_agreement.specs.Joined as sections
 use Rattle.machine_blocks.specs.machine_guards.specs.machine_agreement.specs.Joined.{ShowsRun}
 use Rattle.machine_slots.specs.Hands.{Made}
-use Rattle.machine_blocks.specs.machine_guards.specs.Stands.{GuardsHold}
 use Rattle.machine_invariant.specs.Whole.{Beside, states_of, made_in, made_of, HasPublished, IsWhole}
 use Rattle.machine_invariant.proofs.Runs.{AllAre, is_calm, InHands, Stands, agreement_stands, epochs_stand, filled_other}
 use Rattle.machine_invariant.proofs.Jointly.{no_steps, IsWholeAfter}
 use Rattle.machine_invariant.proofs.Ties.{tied_onward}
 use Rattle.machine_states.specs.body_terms.specs.declared.thunk.Thunk.{Thunk}
-use Rattle.machine_blocks.specs.Stands.{LogsStand}
+use Rattle.machine_blocks.specs.Stands.{LogsHold}
 
 -- an event of agreement that publishes, retires and frees nothing, and has nothing to do with a Make's slot, a Retire or
 -- a read without a lock
@@ -150,14 +149,13 @@ module _ (m : Meaning) (laws : Laws m) (l : Layout) (limits : IsWithinLimits l) 
       → sections.IsJoinedToAgreement m l (agreement_schedules.after_all (rules_of m l) g.agreement es) s'
       → (fs : List epochs.Event) → AllAre is_alone fs → AllAre leaves_descriptors fs → epoch_schedules.AllEnabled c g.epochs fs
       → joins.IsJoinedToEpochs m l (epoch_schedules.after_all c g.epochs fs) s'
-      → GuardsHold m l (agreement_schedules.after_all (rules_of m l) g.agreement es) (epoch_schedules.after_all c g.epochs fs) s'
-      → LogsStand (agreement_schedules.after_all (rules_of m l) g.agreement es) (epoch_schedules.after_all c g.epochs fs) s'
+      → LogsHold m l (agreement_schedules.after_all (rules_of m l) g.agreement es) (epoch_schedules.after_all c g.epochs fs) s'
       → IsWholeAfter m l (states_of g s) (record {
         agreement = agreement_schedules.after_all (rules_of m l) g.agreement es;
         epochs = epoch_schedules.after_all c g.epochs fs;
         publications = g.publications;
       }) s'
-  quiet_whole g s s' whole quiet thunks es still ok joined fs alone leaves ok' joined' guards logs =
+  quiet_whole g s s' whole quiet thunks es still ok joined fs alone leaves ok' joined' logs =
       let w = agreement_schedules.after_all (rules_of m l) g.agreement es in
       let e = epoch_schedules.after_all c g.epochs fs in
       let uses = all_still (rules_of m l) g.agreement es still in
@@ -178,7 +176,6 @@ module _ (m : Meaning) (laws : Laws m) (l : Layout) (limits : IsWithinLimits l) 
           filled = filled_other m laws l limits (states_of (record { agreement = w; epochs = e; publications = g.publications }) s')
               (made_of s) (made_of s')
               (λ r running. let q = in_run m l w s' joined r running in ap made_in q.1 ∙ quiet.made r q.0 q.1) new.filled;
-          guards = guards;
           logs = logs;
         };
       }

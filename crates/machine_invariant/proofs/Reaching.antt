@@ -21,7 +21,7 @@ use Rattle.machine_blocks.specs.machine_guards.specs.machine_agreement.specs.mac
 use Rattle.machine_slots.specs.Hands.{LocksAreHeld}
 use Rattle.machine_slots.proofs.Locks.{locks_held_after}
 use Rattle.machine_blocks.specs.machine_guards.specs.machine_agreement.specs.machine_scenes.specs.Kept.{IsKept}
-use Rattle.machine_blocks.specs.machine_guards.proofs.Holding.{places_hold}
+use Rattle.machine_blocks.specs.machine_guards.proofs.First.{stands_by_places}
 use Rattle.machine_invariant.specs.Whole.{Beside, states_of, IsWhole}
 
 -- what a runner comes to hold it holds
@@ -44,7 +44,6 @@ module _ (m : Meaning) (l : Layout) (w : EpochState) (r : ℕ) (slots : ℕ → 
     listed = lists_follow (counts_of m l) w (λ i. lists_of (s.part i)) (Reach r slots) ok old.sound old.listed;
     entries = record { epoch = old.entries.epoch; announced = old.entries.announced; stage = old.entries.stage };
     board = record { word = old.board.word; slot = old.board.slot };
-    past = old.past;
     roles = old.roles;
     published_once = old.published_once;
     tied = λ i. still_tied m l w (after (counts_of m l) w (Reach r slots)) s.word s.word i (s.part i) (record {
@@ -89,6 +88,19 @@ module _ (m : Meaning) (laws : Laws m) (l : Layout) (limits : IsWithinLimits l) 
       kept = kept_after;
       held = held_after;
       filled = record { filled = whole.filled.filled; looked = whole.filled.looked };
-      guards = places_hold m l g.agreement g.agreement g.epochs (after (counts_of m l) g.epochs (Reach i slots)) s (λ d. refl) (λ d. refl) whole.guards;
-      logs = record { same = whole.logs.same; own = whole.logs.own; logs = whole.logs.logs };
+      logs = record {
+        chain = whole.logs.chain;
+        guards = stands_by_places m l whole.logs.chain g.agreement g.agreement g.epochs (after (counts_of m l) g.epochs (Reach i slots)) s (λ d. refl) (λ d. refl) whole.logs.guards;
+        stands = record {
+          same = whole.logs.stands.same;
+          own = whole.logs.stands.own;
+          rest = whole.logs.stands.rest;
+          logs = whole.logs.stands.logs;
+          agreed = whole.logs.stands.agreed;
+          emptied = whole.logs.stands.emptied;
+          begun = whole.logs.stands.begun;
+        };
+        beyond = whole.logs.beyond;
+        none = whole.logs.none;
+      };
     }

@@ -13,7 +13,7 @@ use Rattle.machine_states.specs.runner_parts.specs.declared.event.EventKind.TheV
 use Rattle.machine_states.specs.runner_parts.specs.State.{PartState}
 use Rattle.machine_states.specs.runner_steps.specs.Sections.{reply_in}
 use Rattle.machine_states.specs.runner_steps.specs.Reads.{read_stamp_after}
-use Rattle.machine_states.specs.Blockless.{asks}
+use Rattle.machine_states.specs.runner_steps.specs.Asks.{asks}
 use Rattle.agreement_core.specs.State.{AgreementState}
 use Rattle.agreement_core.specs.Events as agreement
 use Rattle.agreement_core.specs.Schedules as agreement_schedules
@@ -92,7 +92,7 @@ module _ (m : Meaning) (laws : Laws m) (l : Layout) (limits : IsWithinLimits l) 
         (λ d. ap (λ (f : ℕ → Bool). f d) (uses.used ∙ first.used)) (λ d. ap (λ (f : ℕ → Bool). f d) (uses.live ∙ first.live))
         (λ d. refl) quiet.stay.published (λ d used. thunks d) in
         parts_whole m laws l limits (record { agreement = w; epochs = g.epochs; publications = g.publications }) s read_sight go.joined go.joined_slots
-        tied (λ i. (s.part i).reads.walk) quiet.stay.walk quiet.made two go.guards go.logs
+        tied (λ i. (s.part i).reads.walk) quiet.stay.walk quiet.made two go.logs
 
   pub read_reply_whole : asks m l rs r kinds.ReadReply p ≡ Some x → p.run ≡ None
       → (pieces : Pieces m l g s (sight_after m l s r kinds.ReadReply x) r kinds.ReadReply x)

@@ -16,7 +16,7 @@ use Rattle.machine_states.specs.runner_parts.specs.declared.event.EventKind.TheV
 use Rattle.machine_states.specs.runner_parts.specs.State.{RunState}
 use Rattle.machine_states.specs.runner_steps.specs.Sections.{thunk_of, is_open_run, line_of, next_of, setting_of}
 use Rattle.machine_states.specs.runner_steps.specs.AfterInRun.{goes_on}
-use Rattle.machine_states.specs.Blockless.{asks}
+use Rattle.machine_states.specs.runner_steps.specs.Asks.{asks}
 use Rattle.agreement_core.specs.Events as agreement
 use Rattle.machine_states.specs.epoch_core.specs.State.{Counts, Retiring}
 use Rattle.machine_states.specs.epoch_core.specs.Events as epochs
@@ -70,7 +70,7 @@ module _ (m : Meaning) (laws : Laws m) (l : Layout) (limits : IsWithinLimits l) 
           descriptor = ap (λ (y : Retiring). y.descriptor) at ∙ sym (run_here m l g.agreement s whole.sections r q is).descriptor;
           index = ap (λ (y : Retiring). y.index) at;
           slot = ap (λ (y : Retiring). y.slot) at;
-          word = whole.logs.same d log;
+          word = whole.logs.stands.same d log;
         } in
         passes_stand m laws l limits r go.passes (steps.after m l c (states_of g s) (Retire r log slot)) (made_of retired) go.enabled.1
         (hands_of m laws l limits e retired go.joined_slots)
@@ -136,7 +136,7 @@ module _ (m : Meaning) (laws : Laws m) (l : Layout) (limits : IsWithinLimits l) 
           enabled = subst (λ d. epochs.Enabled c g.epochs (epochs.RetireEpoch r d log slot)) (sym here.descriptor) go.enabled_slots.0;
           before = before m l w known go.joined r behind is' (open_run q opened) (micros.RetireCommit slot log) refl refl
               (behind_next slot log next);
-          word = go.logs.same ((w.run r).descriptor) log;
+          word = go.logs.stands.same ((w.run r).descriptor) log;
         } in
         subst (λ d. Stands m laws l limits (states_of g s) (record j { epochs = epochs.after c g.epochs (epochs.RetireEpoch r d log slot) })
         (made_of known)) here.descriptor

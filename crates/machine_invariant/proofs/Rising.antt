@@ -1,10 +1,10 @@
 -- Each step of the machine raises the versions of cells by one at most.
 use Rattle.std.specs.Prelude.{◌⊎◌, Bool, true, false, nat_lt, ◌==◌, ◌-◌, replicate, if◌then◌else◌}
-use Rattle.std.proofs.Common.{◌≡◌, ℕ, suc, List, [], ◌∷◌, ◌++◌, sym, refl, ap, ◌∙◌, subst, inl, inr, ⊎_elim, Option, Some, None}
+use Rattle.std.proofs.Common.{◌≡◌, ℕ, suc, ◌+◌, List, [], ◌∷◌, ◌++◌, sym, refl, ap, ◌∙◌, subst, inl, inr, ⊎_elim, Option, Some, None}
 use Rattle.machine_states.specs.map_history.specs.declared.op.Request.{Request}
 use Rattle.machine_states.specs.body_terms.specs.Word.{version_of}
 use Rattle.machine_states.specs.table_words.specs.declared.layout.Layout.{Layout}
-use Rattle.machine_states.specs.table_words.specs.Places.{slot_count}
+use Rattle.machine_states.specs.table_words.specs.Places.{part_words, slot_count}
 use Rattle.machine_states.specs.structure_laws.specs.Meaning.{Meaning}
 use Rattle.machine_states.specs.structure_laws.specs.Laws.{Laws}
 use Rattle.machine_states.specs.runner_parts.specs.declared.event.Event.{Event}
@@ -34,6 +34,7 @@ use Rattle.machine_blocks.specs.machine_guards.specs.machine_agreement.specs.mac
 use Rattle.machine_blocks.specs.machine_guards.specs.machine_agreement.specs.Chunks as sections
 use Rattle.machine_blocks.specs.machine_guards.specs.machine_agreement.specs.Joined.{IsJoinedToAgreement}
 use Rattle.machine_states.specs.runner_steps.specs.Guards.{is_last_guard}
+use Rattle.machine_states.specs.runner_steps.specs.Outside.{blocks_from}
 use Rattle.machine_states.specs.runner_parts.specs.declared.entries.Published.{Published}
 use Rattle.machine_invariant.specs.Along.{Components, AreEventsOf}
 use Rattle.machine_invariant.specs.Rising.{CellsRise, StepsRise, RisesAfter}
@@ -111,13 +112,14 @@ retires_same (Some x) d = by (x.descriptor == d)
     by false = tt
 
 stored_once : (d word number : ℕ) → ChangeOnce (sections.stored d word number)
-stored_once d word number = by (nat_lt word 12) (word == 12)
+stored_once d word number = by (nat_lt word 12) (word == 12) (word == 13 + part_words)
   where
-    by : (b b' : Bool) → ChangeOnce (if b then [] else (
-        if b' then agreement.StoreDone d number ∷ [] else agreement.StoreLog d (word - 13) number ∷ []))
-    by true b' = tt
-    by false true = inr tt
-    by false false = inr tt
+    by : (b b' b'' : Bool) → ChangeOnce (if b then [] else (
+        if b' then agreement.StoreDone d number ∷ [] else (if b'' then [] else agreement.StoreLog d (word - 13) number ∷ [])))
+    by true b' b'' = tt
+    by false true b'' = inr tt
+    by false false true = tt
+    by false false false = inr tt
 
 -- no event, one event, one behind a reading, and a release that is the last
 none_once : (heads : List agreement.Event) → heads ≡ [] → ChangeOnce heads
@@ -133,6 +135,11 @@ last_once : (heads : List agreement.Event) {r p place word : ℕ} (o : Option Pu
     → heads ≡ agreement.Read p ∷ agreement.Release r place word ∷ agreement.Finish r ∷ sections.retires_own o d → ChangeOnce heads
 last_once heads o d is = subst ChangeOnce (sym is) (inl (refl, inr (refl, retires_same o d)))
 
+-- events that come or not
+if_once : (b : Bool) (heads : List agreement.Event) → ChangeOnce heads → ChangeOnce (if b then heads else [])
+if_once true heads once = once
+if_once false heads once = none_once [] refl
+
 module _ (m : Meaning) (l : Layout) (w : AgreementState) (r : ℕ) where
   line_once : (kind : EventKind) (p : PartState) (q : RunState) (found : ℕ) (heads : List agreement.Event)
       → sections.IsLineChunk m l w r kind p q found heads → ChangeOnce heads
@@ -140,7 +147,7 @@ module _ (m : Meaning) (l : Layout) (w : AgreementState) (r : ℕ) where
   line_once (kinds.LoadCell None) p q found heads chunk = one_once heads chunk.3
   line_once kinds.ExchangeCell p q found heads chunk = read_once heads chunk.4
   line_once (kinds.PrivateLoad slot cell) p q found heads chunk = one_once heads chunk.2
-  line_once (kinds.PrivateStore slot cell number) p q found heads chunk = one_once heads chunk.4
+  line_once (kinds.PrivateStore slot cell number) p q found heads chunk = ⊎_elim (λ link. none_once heads link.1) (λ fills. one_once heads fills.4) chunk
   line_once kinds.MakeCommit p q found heads chunk = one_once heads chunk.4
   line_once kinds.EpochForRetire p q found heads chunk = one_once heads chunk.3
   line_once kinds.RetireCommit p q found heads chunk = one_once heads chunk.3
@@ -165,7 +172,7 @@ module _ (m : Meaning) (l : Layout) (w : AgreementState) (r : ℕ) where
   outside_once (kinds.LoadCell (Some place)) p found heads chunk = one_once heads chunk
   outside_once (kinds.LoadThunk (Some d)) p found heads chunk = one_once heads chunk
   outside_once (kinds.PrivateStore slot word number) p found heads chunk =
-      subst ChangeOnce (sym chunk.1) (stored_once (slot - slot_count l m.fixed_slots) word number)
+      subst ChangeOnce (sym chunk.1) (if_once (nat_lt slot (blocks_from m l)) (sections.stored (slot - slot_count l m.fixed_slots) word number) (stored_once (slot - slot_count l m.fixed_slots) word number))
   outside_once _ p found heads chunk = none_once heads chunk
 
   inside_once : (kind : EventKind) (p : PartState) (q : RunState) (found : ℕ) (heads : List agreement.Event) (b : Bool)

@@ -10,7 +10,7 @@ use Rattle.machine_states.specs.body_terms.specs.declared.micro.Micro.{Micro}
 use Rattle.machine_states.specs.body_terms.specs.declared.micro.Micro.TheVariants.{MakeCommit, RetireCommit}
 use Rattle.agreement_core.specs.section_lines.specs.Line.{phase, IsCounted}
 use Rattle.machine_states.specs.table_words.specs.declared.layout.Layout.{Layout}
-use Rattle.machine_states.specs.table_words.specs.declared.spot.Spot.TheVariants.{Stamp, Reply, DoneWord, LogWord}
+use Rattle.machine_states.specs.table_words.specs.declared.spot.Spot.TheVariants.{Stamp, Reply, DoneWord}
 use Rattle.machine_states.specs.structure_laws.specs.Meaning.{Meaning}
 use Rattle.machine_states.specs.runner_parts.specs.declared.entries.Published.{Published}
 use Rattle.machine_states.specs.epoch_core.specs.State.{EpochState, Role}
@@ -35,7 +35,7 @@ use Rattle.machine_invariant.proofs.Slots.{commits_won}
 use Rattle.machine_invariant.proofs.Lines.{lines_same, follows_same}
 use Rattle.machine_invariant.proofs.Unwon.{none_made, none_retired, empty_of}
 use Rattle.machine_invariant.proofs.Trails.{trails_agree, locks_name, cells_past}
-use Rattle.machine_blocks.specs.Stands.{LogsStand}
+use Rattle.machine_blocks.specs.Stands.{LogsHold}
 use Rattle.machine_blocks.specs.machine_guards.specs.machine_agreement.specs.machine_epochs.specs.Roles.{role_at}
 
 agreed_one : (word : ℕ) → 0 < word → epochs.agreed_slot word ≡ (word - 1) ∷ []
@@ -121,9 +121,9 @@ module _ (m : Meaning) (l : Layout) (a : AgreementState) (s : Sight) (joined : I
       let rises = own.published.line.counted.slot_rises (suc i) ((a.section d).edge) below in
       own.section.in_log.full k (omega arith)
 
-  module _ (e : EpochState) (wins : epochs.History) (won : CommitsAreWonOnce m l e.location s wins)
+  module _ (e : EpochState) (wins : epochs.History) (won : CommitsAreWonOnce m l e.location s e.log wins)
       (tie : (d : ℕ) → a.used d ≡ epochs.is_out (e.location (slot_of (counts_of m l) d)))
-      (logged : (d k : ℕ) → s.word (LogWord d k) ≡ log_of m a s d k) where
+      (logged : (d k : ℕ) → e.log d k ≡ log_of m a s d k) where
     -- which commits won, by the logs
     won_made : (d k : ℕ) → a.used d ≡ true → wins.made (wins.section d) k
         ≡ cond (epochs.is_makes (role_at (m.body (thunk_at m a s d)) k)) (epochs.agreed_slot (log_of m a s d k)) []
@@ -202,7 +202,7 @@ module _ (m : Meaning) (l : Layout) (a : AgreementState) (s : Sight) (joined : I
 
 -- a state of the machine with which a state of agreement is joined, and one of epochs and slots that says the same of descriptors
 pub sections_sound : (m : Meaning) (l : Layout) (a : AgreementState) (e : EpochState) (s : Sight) → IsJoinedToAgreement m l a s
-    → slots.IsJoinedToEpochs m l e s → LogsStand a e s
+    → slots.IsJoinedToEpochs m l e s → LogsHold m l a e s
     → (changes : History) → IsExact a changes → (wins : epochs.History) → epochs.IsExact (counts_of m l) e wins
     → ((d : ℕ) → a.used d ≡ epochs.is_out (e.location (slot_of (counts_of m l) d)))
     → ((d : ℕ) → a.used d ≡ true → (t : Thunk) × IsOfThunk m (a.section d) t × IsShaped (m.body t))
@@ -216,5 +216,5 @@ sections_sound m l a e s joined with_slots logs changes exact wins wins_exact ti
   in_locks = locks_name m l a s joined publishers;
   in_published = published;
   in_cells = cells_past m l a s joined;
-  in_effects = effects_once m l a s joined changes exact e wins (commits_won m l e s with_slots (λ d k. logs.same d k ∙ sym (logs.own d k)) wins wins_exact) tie logs.own;
+  in_effects = effects_once m l a s joined changes exact e wins (commits_won m l e s with_slots wins wins_exact) tie logs.stands.same;
 }

@@ -16,7 +16,8 @@ use Rattle.machine_states.specs.runner_parts.specs.declared.entries.Published.{P
 use Rattle.machine_states.specs.runner_parts.specs.declared.event.EventKind.TheVariants as kinds
 use Rattle.machine_states.specs.runner_parts.specs.State.{RunState, PartState}
 use Rattle.machine_states.specs.runner_steps.specs.Sections.{is_open_run, next_of}
-use Rattle.machine_states.specs.Blockless.{asks, after_by, after}
+use Rattle.machine_states.specs.runner_steps.specs.Asks.{asks}
+use Rattle.machine_states.specs.runner_steps.specs.After.{after_by, after}
 use Rattle.machine_states.specs.runner_steps.specs.AfterInRun.{ended_more, kept_unless, opened_more, place_of}
 use Rattle.agreement_core.specs.State.{AgreementState}
 use Rattle.agreement_core.specs.Events as agreement
@@ -179,7 +180,7 @@ module _ (m : Meaning) (laws : Laws m) (l : Layout) (limits : IsWithinLimits l) 
           parts_whole m laws l limits (led m l g r heads go.passes events g.publications) s released go.joined go.joined_slots
           (tied_retired m l g s whole.tied r y at q.descriptor own released_part released.word a'
           (λ n. ap (λ (f : ℕ → Bool). f n) uses.used) (λ n. ap (λ (f : ℕ → Bool). f n) uses.live) go.enabled_slots.0.1 thunks)
-          (λ i. (s.part i).reads.walk) walks made_behind two go.guards go.logs
+          (λ i. (s.part i).reads.walk) walks made_behind two go.logs
 
     abbrev over : ℕ → ℕ → List agreement.Event → List agreement.Event
     over place word more = agreement.Read place ∷ agreement.Release r place word ∷ agreement.Finish r ∷ more

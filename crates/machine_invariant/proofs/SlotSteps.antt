@@ -14,7 +14,8 @@ use Rattle.machine_states.specs.runner_parts.specs.declared.event.EventKind.{Eve
 use Rattle.machine_states.specs.runner_parts.specs.State.{RunState, PartState}
 use Rattle.machine_states.specs.runner_steps.specs.Sections.{is_open_run, next_of}
 use Rattle.machine_states.specs.runner_steps.specs.AfterInRun.{opened_more}
-use Rattle.machine_states.specs.Blockless.{line_after, after_by, after, asks}
+use Rattle.machine_states.specs.runner_steps.specs.After.{line_after, after_by, after}
+use Rattle.machine_states.specs.runner_steps.specs.Asks.{asks}
 use Rattle.agreement_core.specs.State.{AgreementState}
 use Rattle.agreement_core.specs.Events as agreement
 use Rattle.agreement_core.specs.Schedules as agreement_schedules
@@ -88,7 +89,7 @@ module _ (m : Meaning) (l : Layout) (s : Sight) (r : ℕ) (kind : EventKind) (x 
   -- nor of the thunks
   pub thunks_stay : (rs : List Request) → asks m l rs r kind p ≡ Some x → (d : ℕ) → thunk_in s'.word d ≡ thunk_in s.word d
   thunks_stay rs asked =
-      thunks_after m l s r kind x (inside_leaves m l q x kind p.nodes.free (asked_line.inside_asked m l rs r kind p q x asked is))
+      thunks_after m l s r kind x (inside_leaves m l q x kind p.nodes.free p.blocks.free (asked_line.inside_asked m l rs r kind p q x asked is))
 
 module _ (m : Meaning) (laws : Laws m) (l : Layout) (limits : IsWithinLimits l) where
   -- the checks that pass
@@ -134,7 +135,6 @@ module _ (m : Meaning) (laws : Laws m) (l : Layout) (limits : IsWithinLimits l) 
             kept = new.kept;
             held = new.held;
             filled = new.filled;
-            guards = go.guards;
             logs = go.logs;
           };
         }

@@ -21,7 +21,6 @@ use Rattle.machine_states.specs.epoch_core.specs.Sound.{is_for_nodes}
 use Rattle.machine_states.specs.Sight.{Sight}
 use Rattle.machine_blocks.specs.machine_guards.specs.machine_agreement.specs.machine_epochs.specs.Entries.{counts_of}
 use Rattle.machine_blocks.specs.machine_guards.specs.machine_agreement.specs.machine_epochs.specs.Slots.{retiring_of, retire_before}
-use Rattle.machine_blocks.specs.machine_guards.specs.machine_agreement.specs.machine_epochs.specs.Roles.{role_at}
 use Rattle.machine_blocks.specs.machine_guards.specs.machine_agreement.specs.machine_epochs.specs.Slots as shows
 use Rattle.machine_blocks.specs.machine_guards.specs.machine_agreement.specs.machine_epochs.specs.Descriptors.{times_limbo}
 use Rattle.machine_blocks.specs.machine_guards.specs.machine_agreement.specs.machine_epochs.specs.Joined.{IsJoinedToEpochs}
@@ -32,7 +31,6 @@ use Rattle.machine_invariant.proofs.Asked.{entered_at}
 use Rattle.machine_states.specs.runner_parts.specs.State.{GuardsState}
 use Rattle.machine_states.specs.runner_steps.specs.Outside.{is_sure_of}
 use Rattle.machine_blocks.specs.machine_guards.specs.machine_agreement.specs.machine_epochs.proofs.OutsideAsked.{named_is}
-use Rattle.machine_states.specs.table_words.specs.declared.spot.Spot.TheVariants.{LogWord}
 
 -- a slot that isn't in limbo at all, and one that is there once
 limbo_none : (t : ℕ) (xs : List Retired) → ((y : ℕ) → times_retired t y (map shows.entry_of xs) ≡ 0) → times_limbo t xs ≡ 0
@@ -210,7 +208,7 @@ module _ (m : Meaning) (l : Layout) (e : EpochState) (s : Sight) (joined : IsJoi
   }
 
   -- the Retire at which a runner is
-  retire_is : (r d k t y : ℕ) → IsRetiring m s r d k t y
+  retire_is : (r d k t y : ℕ) → IsRetiring m e.log s r d k t y
       → e.retire r ≡ record { loaded = true; descriptor = d; index = k; slot = t; epoch = y }
   retire_is r d k t y x = (joined.tied r).retire ∙ ap (retiring_of m) x.runs ∙ ap (retire_before x.run) x.step
       ∙ subst (λ (a : ℕ). retire_before x.run (RetireCommit t k) ≡ record { loaded = true; descriptor = a; index = k; slot = t; epoch = y })
@@ -218,53 +216,49 @@ module _ (m : Meaning) (l : Layout) (e : EpochState) (s : Sight) (joined : IsJoi
       (subst (λ (b : ℕ). retire_before x.run (RetireCommit t k)
       ≡ record { loaded = true; descriptor = x.run.descriptor; index = k; slot = t; epoch = b }) x.loaded refl)
 
-  -- where the component's logs are the log words
-  module _ (logged : (d k : ℕ) → e.log d k ≡ s.word (LogWord d k)) where
-    pending : (r d k t y : ℕ) → IsRetiring m s r d k t y → IsPending e r
-    pending r d k t y x = let is = retire_is r d k t y x in (
-      ap (λ (z : Retiring). z.loaded) is,
-      ap (λ (z : Retiring). e.log z.descriptor z.index) is ∙ logged d k ∙ x.unagreed,
-    )
+  pending : (r d k t y : ℕ) → IsRetiring m e.log s r d k t y → IsPending e r
+  pending r d k t y x = let is = retire_is r d k t y x in (
+    ap (λ (z : Retiring). z.loaded) is,
+    ap (λ (z : Retiring). e.log z.descriptor z.index) is ∙ x.unagreed,
+  )
 
-    retires_stand : RetiresStand m l e.location e.holds s
-    retires_stand = record {
-      node = λ r d k t y x. subst (λ (z : Retiring). z.slot < (counts_of m l).nodes) (retire_is r d k t y x)
-          (joined.sound.retire_node r ((pending r d k t y x).0));
-      live = λ r d k t y x. subst (λ (z : Retiring). e.location z.slot ≡ Live) (retire_is r d k t y x)
-          (joined.sound.retire_live r (pending r d k t y x));
-      recent = λ r d k t y x. subst (λ n. y ≤ n) joined.entries.epoch (subst (λ (z : Retiring). z.epoch ≤ e.epoch) (retire_is r d k t y x)
-          (joined.sound.retire_most r ((pending r d k t y x).0)));
-      holders = λ r d k t y r' g x at h. subst (λ n. n ≤ y) (entry r' g at)
-          (subst (λ (z : Retiring). e.holds r' z.slot ≡ true → entry_of (e.stage r') ≤ z.epoch) (retire_is r d k t y x)
-          (joined.sound.retire_holders r r' (pending r d k t y x)) h);
-      once = λ r d k t y r' d' k' y' x x'. let is = retire_is r d k t y x in let is' = retire_is r' d' k' t y' x' in
-          let same = joined.sound.retire_once r r' (pending r d k t y x) (pending r' d' k' t y' x')
-          (ap (λ (z : Retiring). z.slot) is ∙ sym (ap (λ (z : Retiring). z.slot) is')) in (
-            sym (ap (λ (z : Retiring). z.descriptor) is) ∙ same.0 ∙ ap (λ (z : Retiring). z.descriptor) is',
-            sym (ap (λ (z : Retiring). z.index) is) ∙ same.1 ∙ ap (λ (z : Retiring). z.index) is',
-          );
-    }
+  retires_stand : RetiresStand m l e.location e.holds s e.log
+  retires_stand = record {
+    node = λ r d k t y x. subst (λ (z : Retiring). z.slot < (counts_of m l).nodes) (retire_is r d k t y x)
+        (joined.sound.retire_node r ((pending r d k t y x).0));
+    live = λ r d k t y x. subst (λ (z : Retiring). e.location z.slot ≡ Live) (retire_is r d k t y x)
+        (joined.sound.retire_live r (pending r d k t y x));
+    recent = λ r d k t y x. subst (λ n. y ≤ n) joined.entries.epoch (subst (λ (z : Retiring). z.epoch ≤ e.epoch) (retire_is r d k t y x)
+        (joined.sound.retire_most r ((pending r d k t y x).0)));
+    holders = λ r d k t y r' g x at h. subst (λ n. n ≤ y) (entry r' g at)
+        (subst (λ (z : Retiring). e.holds r' z.slot ≡ true → entry_of (e.stage r') ≤ z.epoch) (retire_is r d k t y x)
+        (joined.sound.retire_holders r r' (pending r d k t y x)) h);
+    once = λ r d k t y r' d' k' y' x x'. let is = retire_is r d k t y x in let is' = retire_is r' d' k' t y' x' in
+        let same = joined.sound.retire_once r r' (pending r d k t y x) (pending r' d' k' t y' x')
+        (ap (λ (z : Retiring). z.slot) is ∙ sym (ap (λ (z : Retiring). z.slot) is')) in (
+          sym (ap (λ (z : Retiring). z.descriptor) is) ∙ same.0 ∙ ap (λ (z : Retiring). z.descriptor) is',
+          sym (ap (λ (z : Retiring). z.index) is) ∙ same.1 ∙ ap (λ (z : Retiring). z.index) is',
+        );
+  }
 
-    pub commits_won : (h : History) → IsExact (counts_of m l) e h → CommitsAreWonOnce m l e.location s h
-    commits_won h exact = record {
-      named = exact.named;
-      apart = exact.apart;
-      made = λ d k used. exact.made d k used ∙ ap (λ x. cond (is_makes x) (agreed_slot (e.log d k)) []) (joined.roles d k used)
-          ∙ ap (λ n. cond (is_makes (role_at (m.body (shows.thunk_in s.word d)) k)) (agreed_slot n) []) (logged d k);
-      retired = λ d k used. exact.retired d k used ∙ ap (λ x. cond (is_retires x) (agreed_count (e.log d k)) 0) (joined.roles d k used)
-          ∙ ap (λ n. cond (is_retires (role_at (m.body (shows.thunk_in s.word d)) k)) (agreed_count n) 0) (logged d k);
-      made_once = exact.made_once;
-      retired_once = exact.retired_once;
-    }
+  pub commits_won : (h : History) → IsExact (counts_of m l) e h → CommitsAreWonOnce m l e.location s e.log h
+  commits_won h exact = record {
+    named = exact.named;
+    apart = exact.apart;
+    made = λ d k used. exact.made d k used ∙ ap (λ x. cond (is_makes x) (agreed_slot (e.log d k)) []) (joined.roles d k used);
+    retired = λ d k used. exact.retired d k used ∙ ap (λ x. cond (is_retires x) (agreed_count (e.log d k)) 0) (joined.roles d k used);
+    made_once = exact.made_once;
+    retired_once = exact.retired_once;
+  }
 
-    -- a state of the machine with which a state of epochs and slots is joined
-    pub slots_sound : (h : History) → IsExact (counts_of m l) e h → SlotsAreSound m l e.location e.holds s h
-    slots_sound h exact = record {
-      in_nodes = nodes_stand;
-      in_descriptors = descriptors_stand;
-      recent = λ t r y is. subst (λ n. y ≤ n) joined.entries.epoch (joined.sound.limbo_most t r y is);
-      in_held = held_stand;
-      in_use = in_use;
-      in_retires = retires_stand;
-      in_commits = commits_won h exact;
-    }
+  -- a state of the machine with which a state of epochs and slots is joined
+  pub slots_sound : (h : History) → IsExact (counts_of m l) e h → SlotsAreSound m l e.location e.holds s e.log h
+  slots_sound h exact = record {
+    in_nodes = nodes_stand;
+    in_descriptors = descriptors_stand;
+    recent = λ t r y is. subst (λ n. y ≤ n) joined.entries.epoch (joined.sound.limbo_most t r y is);
+    in_held = held_stand;
+    in_use = in_use;
+    in_retires = retires_stand;
+    in_commits = commits_won h exact;
+  }

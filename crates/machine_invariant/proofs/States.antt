@@ -41,11 +41,10 @@ module _ (m : Meaning) (l : Layout) (g : Beside) (s : Sight) (whole : IsWhole m 
       → (wins : epoch_history.History) → epoch_history.IsExact (counts_of m l) g.epochs wins
       → StateIsSound m l s (with_histories g changes wins)
   sound_with changes exact wins won = record {
-    slots = slots_sound m l g.epochs s whole.slots (λ d k. whole.logs.same d k ∙ sym (whole.logs.own d k)) wins won;
+    slots = slots_sound m l g.epochs s whole.slots wins won;
     sections = sections_sound m l g.agreement g.epochs s whole.sections whole.slots whole.logs changes exact wins won whole.tied.used
         (λ d used. (g.publications.thunk d, whole.kept.thunks d used, (whole.kept.shaped d used).shape))
         (λ d live. let p = whole.tied.publisher d live in (g.publications.runner d, p.0, p.1, p.2)) published_stand;
-    guards = whole.guards;
     logs = whole.logs;
     used = whole.tied.used;
     live = whole.tied.live;

@@ -1,7 +1,7 @@
 -- The whole invariant supplies what the join of sections asks for, step by step.
 use Rattle.std.specs.Prelude.{◌*◌, ◌^◌, Bool, true, false, slice_get, All, if◌then◌else◌}
 use Rattle.std.specs.List.{filter}
-use Rattle.std.proofs.Common.{◌≡◌, ◌≢◌, ℕ, suc, ◌<◌, ◌≤◌, List, [], ◌∷◌, ◌++◌, length, refl, sym, ap, ◌∙◌, subst, arith, Option, Some, None}
+use Rattle.std.proofs.Common.{◌≡◌, ◌≢◌, ℕ, suc, ◌<◌, ◌≤◌, List, [], ◌∷◌, ◌++◌, length, refl, sym, ap, ◌∙◌, subst, arith, ⊎_elim, Option, Some, None}
 use Rattle.std.proofs.lemmas.Option.{slice_get_within, get_or_from_slice_get}
 use Rattle.std.proofs.lemmas.List.Elements.{All-get_or}
 use Rattle.machine_states.specs.map_history.specs.declared.op.Request.{Request}
@@ -28,10 +28,10 @@ use Rattle.machine_states.specs.runner_parts.specs.Tests.{has}
 use Rattle.machine_states.specs.guard_core.specs.Moves.{is_unnamed}
 use Rattle.machine_states.specs.runner_steps.specs.Guards.{is_last_guard}
 use Rattle.machine_states.specs.runner_steps.specs.Asks.{sizes_for, opening_ask}
-use Rattle.machine_states.specs.Blockless.{asks, ask_by, line_ask}
-use Rattle.machine_states.specs.runner_steps.specs.InRun.{is_slot, can_raise}
+use Rattle.machine_states.specs.runner_steps.specs.Asks.{asks, ask_by, line_ask}
+use Rattle.machine_states.specs.runner_steps.specs.InRun.{is_slot, can_raise, fill_store_ask}
 use Rattle.machine_states.specs.runner_steps.specs.Outside.{is_sure_of, hold_ask}
-use Rattle.machine_states.specs.runner_steps.specs.Sections.{is_open_run, next_of}
+use Rattle.machine_states.specs.runner_steps.specs.Sections.{is_open_run, next_of, needs_link}
 use Rattle.agreement_core.specs.State.{AgreementState, section_of}
 use Rattle.agreement_core.specs.Events.{IsAlone, IsPrivateStore, IsPublishable}
 use Rattle.machine_states.specs.epoch_core.specs.declared.location.Location.TheVariants.{Hand}
@@ -56,9 +56,9 @@ use Rattle.machine_slots.proofs.Stores.{private_store_is}
 use Rattle.machine_invariant.specs.Whole.{Beside, states_of, made_in, made_of, IsWhole}
 use Rattle.machine_invariant.proofs.Basics.{not_both, by_bool, both, below_test, same_test}
 use Rattle.machine_invariant.proofs.Asked.{source_same, entered_at}
-use Rattle.machine_invariant.proofs.Prepared.{thunk_is, done_is, unlogged}
+use Rattle.machine_blocks.specs.machine_guards.specs.machine_agreement.specs.machine_epochs.proofs.Prepared.{thunk_is, done_is}
 use Rattle.machine_invariant.proofs.Limbo.{SweepsSafely, has_filter, limbo_unlive}
-use Rattle.machine_blocks.proofs.Words.{commit_finds}
+use Rattle.machine_blocks.proofs.Finding.{commit_finds}
 
 some_product : (a b n k : ℕ) → a ≤ n → b ≤ k → a * b ≤ n * k
 some_product a b n k h h' = grind arith
@@ -99,16 +99,18 @@ module _ (m : Meaning) (laws : Laws m) (l : Layout) (limits : IsWithinLimits l) 
     own_slot (Some u) t e = ap (λ k. Some k) (same_test u t e)
 
     -- a Make's store into a cell of its slot
-    private_in : (t cell number : ℕ) → kind ≡ kinds.PrivateStore t cell number → (b : Bool) → is_open_run q ≡ b
+    private_in : (t cell number : ℕ) → needs_link q (next_of m q) ≡ false → kind ≡ kinds.PrivateStore t cell number → (b : Bool) → is_open_run q ≡ b
         → IsPrivateStore (rules_of m l) a (cell_of m.fixed_cells t cell) number
-    private_in t cell number is_store false closed =
+    private_in t cell number near is_store false closed =
         let inside = asked_line.inside_asked m l rs r kind p q x asked is in
         some_none x (ap (λ k. opening_ask k q) (sym is_store)
-        ∙ (ap (λ b. if b then line_ask m l kind p.nodes.free q (next_of m q) else opening_ask kind q) (sym closed) ∙ inside))
-    private_in t cell number is_store true opened =
+        ∙ (ap (λ b. if b then line_ask m l kind p.nodes.free p.blocks.free q (next_of m q) else opening_ask kind q) (sym closed) ∙ inside))
+    private_in t cell number near is_store true opened =
         let asked_store = ap (λ k. asks m l rs r k p) (sym is_store) ∙ asked in
-        let h = asked_line.fill_store_asked q x m l t cell number (next_of m q)
-        (asked_line.line_asked m l rs r (kinds.PrivateStore t cell number) p q x asked_store is opened) in
+        let fills : fill_store_ask m l t cell number q (next_of m q) ≡ Some x = ⊎_elim (λ link. not_both link.0 near) (λ fills. fills.1)
+        (asked_line.run_store_asked q x m l t cell number p.blocks.free (next_of m q)
+        (asked_line.line_asked m l rs r (kinds.PrivateStore t cell number) p q x asked_store is opened)) in
+        let h = asked_line.fill_store_asked q x m l t cell number (next_of m q) fills in
         let mine : made_of s r ≡ Some t = ap made_in is ∙ own_slot q.made t h.3 in
         let in_hand : g.epochs.location t ≡ Hand r = (whole.slots.tied r).run_made q t is (own_slot q.made t h.3) in
         private_store_is m laws l limits (counts_of m l) refl (states_of g s) whole.kept
@@ -155,7 +157,6 @@ module _ (m : Meaning) (laws : Laws m) (l : Layout) (limits : IsWithinLimits l) 
       record {
         words = thunk_is m l g.epochs s whole.slots r t d h.free h.prepared h.eight (omega arith) (few_places t.lock lock);
         undone = done_is m l g.epochs s whole.slots r t d h.free h.prepared;
-        unlogged = unlogged m l g.epochs s whole.slots r t d h.free h.prepared a whole.logs;
         publishable = hold_publishable t d holds;
       }
     where
@@ -191,8 +192,8 @@ module _ (m : Meaning) (laws : Laws m) (l : Layout) (limits : IsWithinLimits l) 
     pub sections_supplied : supplied.AgreementIsSupplied m l a s r kind (s.word x.0)
     sections_supplied = record {
       alone = λ q place log is opened next at undone. alone q is place log opened next at;
-      logged = λ q k is opened commits. sym (commit_finds m l rs a g.epochs s whole.logs r kind x asked q is opened k commits);
-      private = λ q t cell number is is_store. private_in q is t cell number is_store (is_open_run q) refl;
+      logged = λ q k is opened commits near. sym (commit_finds m l rs whole.logs.chain a g.epochs s whole.slots whole.logs.stands r kind x asked q is opened k commits near);
+      private = λ q t cell number is near is_store. private_in q is t cell number near is_store (is_open_run q) refl;
       unused = unused;
       live = live;
       used = λ d is sure. used d sure;

@@ -26,9 +26,9 @@ use Rattle.machine_states.specs.runner_parts.specs.declared.event.EventKind.TheV
 use Rattle.machine_states.specs.runner_parts.specs.State.{RunState, GuardsState, PartState}
 use Rattle.machine_states.specs.runner_parts.specs.Tests.{is_readable}
 use Rattle.machine_states.specs.runner_steps.specs.Asks.{opening_ask}
-use Rattle.machine_states.specs.Blockless.{asks, ask_by, outside_ask, line_ask}
-use Rattle.machine_states.specs.runner_steps.specs.Outside.{read_ask, hold_ask}
-use Rattle.machine_states.specs.runner_steps.specs.Sections.{is_open_run, next_of, commits_to}
+use Rattle.machine_states.specs.runner_steps.specs.Asks.{asks, ask_by, outside_ask, line_ask}
+use Rattle.machine_states.specs.runner_steps.specs.Outside.{read_ask}
+use Rattle.machine_states.specs.runner_steps.specs.Sections.{is_open_run, next_of, commits_to, needs_link}
 use Rattle.agreement_core.specs.State.{AgreementState}
 use Rattle.agreement_core.specs.Events.{IsBefore}
 use Rattle.machine_states.specs.epoch_core.specs.State.{Counts, is_entered, entry_of, IsKept, MayHold}
@@ -49,14 +49,13 @@ use Rattle.machine_blocks.specs.machine_guards.specs.machine_agreement.specs.mac
 use Rattle.machine_blocks.specs.machine_guards.specs.machine_agreement.specs.machine_scenes.proofs.Kept.{step_kept}
 use Rattle.machine_blocks.specs.machine_guards.specs.machine_agreement.specs.Joined.{IsRunOf}
 use Rattle.machine_blocks.specs.machine_guards.specs.machine_agreement.proofs.RunPlaces.{run_here, before}
-use Rattle.machine_blocks.specs.machine_guards.proofs.Holding.{AreSupplied}
+use Rattle.machine_blocks.specs.machine_guards.specs.Supplied.{GuardsAreSupplied}
 use Rattle.machine_invariant.specs.Whole.{Beside, states_of, IsWhole}
 use Rattle.machine_invariant.proofs.Basics.{not_both, by_bool, both, below_test, same_test}
 use Rattle.machine_invariant.proofs.Asked.{asked_by, entered_at}
 use Rattle.machine_invariant.proofs.Limbo.{SweepsSafely}
-use Rattle.machine_states.specs.body_terms.specs.declared.thunk.Thunk.{Thunk}
-use Rattle.machine_blocks.proofs.Words.{commit_finds}
-use Rattle.machine_invariant.proofs.Prepared.{unlogged}
+use Rattle.machine_blocks.proofs.Finding.{commit_finds}
+use Rattle.machine_invariant.proofs.Linked.{link_few}
 
 -- a lock's word that names the guarded descriptor with this slot number has that descriptor in its value
 names : (c : Counts) (g : GuardsState) (word t : ℕ) → sees_slot c g word t ≡ true → (d : ℕ) × (slot_of c d ≡ t) × (value_of word ≡ suc d)
@@ -238,7 +237,7 @@ module _ (m : Meaning) (laws : Laws m) (l : Layout) (limits : IsWithinLimits l) 
     -- a Retire before which the run stands may be made
     retires : (t k : ℕ) → is_open_run q ≡ true → next ≡ micros.EpochForRetire t k → MayRetire c g.epochs q.descriptor k t
     retires t k opened ahead =
-        let may = supplies.retirable r t k (before_next (micros.EpochForRetire t k) opened refl refl ahead) (whole.logs.same d k) in
+        let may = supplies.retirable r t k (before_next (micros.EpochForRetire t k) opened refl refl ahead) (whole.logs.stands.same d k) in
         subst (λ n. MayRetire c g.epochs n k t) here.descriptor (record { node = may.node; live = may.live; once = may.once })
 
   held : HoldsMet m l g s r kind → (t : ℕ) → (run : Option RunState) → p.run ≡ run → comes_by m c kind p run (s.word x.0) t ≡ true
@@ -248,16 +247,10 @@ module _ (m : Meaning) (laws : Laws m) (l : Layout) (limits : IsWithinLimits l) 
   held met t (Some q) at comes out = absurd (let y = comes in cc)
 
   -- a commit of the run finds what the log has there
-  logged : (q : RunState) (k : ℕ) → p.run ≡ Some q → is_open_run q ≡ true → commits_to (next_of m q) ≡ Some k
+  logged : (q : RunState) (k : ℕ) → p.run ≡ Some q → is_open_run q ≡ true → commits_to (next_of m q) ≡ Some k → needs_link q (next_of m q) ≡ false
       → g.epochs.log q.descriptor k ≡ s.word x.0
-  logged q k is opened commits = whole.logs.same q.descriptor k ∙ sym (commit_finds m l rs a g.epochs s whole.logs r kind x asked q is opened k commits)
-
-  -- the log of a section that is published now is empty
-  empty_log : (t : Thunk) (d k : ℕ) → kind ≡ kinds.Hold t d → p.run ≡ None → g.epochs.log d k ≡ 0
-  empty_log t d k is none =
-      let holds : hold_ask m l rs r t d p ≡ Some x = ap (λ y. outside_ask m l rs r y p) (sym is) ∙ asked_by m l r kind p rs x None none asked in
-      let h = outside.hold_asked m l rs r t d p x holds in
-      whole.logs.same d k ∙ unlogged m l g.epochs s whole.slots r t d h.free h.prepared a whole.logs k
+  logged q k is opened commits near = whole.logs.stands.same q.descriptor k
+      ∙ sym (commit_finds m l rs whole.logs.chain a g.epochs s whole.slots whole.logs.stands r kind x asked q is opened k commits near)
 
   -- the table has few node slots
   few_slots : c.nodes ≤ 2 ^ 32
@@ -269,7 +262,6 @@ module _ (m : Meaning) (laws : Laws m) (l : Layout) (limits : IsWithinLimits l) 
     unread = supplies.unread;
     held = λ t comes out. held met t p.run refl comes out;
     logged = logged;
-    unlogged = λ t d k is none same. empty_log t d k is none;
     retires = λ q t k is opened ahead. retires q is t k opened ahead;
     swept = swept;
     small = few_slots;
@@ -282,7 +274,7 @@ module _ (m : Meaning) (laws : Laws m) (l : Layout) (limits : IsWithinLimits l) 
   read_outside place (Some q) e = by (is_open_run q) e
     where
       by : (b : Bool)
-          → (if b then line_ask m l (kinds.LoadCell (Some place)) p.nodes.free q (next_of m q) else opening_ask (kinds.LoadCell (Some place)) q)
+          → (if b then line_ask m l (kinds.LoadCell (Some place)) p.nodes.free p.blocks.free q (next_of m q) else opening_ask (kinds.LoadCell (Some place)) q)
           ≡ Some x → read_ask m place p ≡ Some x
       by true e = some_none x e
       by false e = some_none x e
@@ -293,7 +285,7 @@ module _ (m : Meaning) (laws : Laws m) (l : Layout) (limits : IsWithinLimits l) 
       (ap (λ k. ask_by m l rs r k p p.run) (sym is) ∙ (unless_gone _ p.gone _ x asked).1))
 
   -- guards are supplied as well
-  pub guards_supplied : AreSupplied m l a g.epochs s kind (s.word x.0)
+  pub guards_supplied : GuardsAreSupplied m l whole.logs.chain a g.epochs s r kind (s.word x.0)
   guards_supplied = record {
     published = λ d is. let there = whole.tied.publisher d (whole.tied.is_live d is) in (g.publications.runner d, there.0, there.1, there.2);
     live = λ place d is lock value. whole.tied.live d (named_live m l g s whole place d lock (found place d is value));
@@ -301,6 +293,7 @@ module _ (m : Meaning) (laws : Laws m) (l : Layout) (limits : IsWithinLimits l) 
         let word = found place d is value in
         let own = whole.sections.sound.sections d (whole.sections.sound.live_used d (named_live m l g s whole place d lock word)) in
         by_bool (a.over d) (λ over. own.over_unnamed over place lock (ap value_of (whole.sections.words.cells place) ∙ word));
+    few = λ b q is at won. link_few m l rs g s whole r b x (subst (λ k. asks m l rs r k p ≡ Some x) is asked) q at won;
   }
     where
       -- the word is the cell's

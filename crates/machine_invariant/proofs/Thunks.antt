@@ -1,6 +1,6 @@
 -- No step changes the thunk words of a descriptor but a private store to them.
-use Rattle.std.specs.Prelude.{◌-◌, ◌==◌, Bool, true, false, nat_lt, if◌then◌else◌}
-use Rattle.std.proofs.Common.{◌≡◌, ◌≢◌, ℕ, List, refl, ap, subst, arith, Some, None}
+use Rattle.std.specs.Prelude.{◌-◌, ◌==◌, Bool, true, false, nat_lt, if◌then◌else◌, ◌/◌, ◌%◌, cond}
+use Rattle.std.proofs.Common.{◌≡◌, ◌≢◌, ℕ, List, refl, ap, subst, arith, Some, None, zero, suc, ◌+◌, ⊎_elim}
 use Rattle.std.proofs.lemmas.Bool.Decides.{nat_tests}
 use Rattle.machine_states.specs.map_history.specs.declared.op.Request.{Request}
 use Rattle.machine_states.specs.body_terms.specs.declared.micro.Micro.{Micro}
@@ -8,7 +8,7 @@ use Rattle.machine_states.specs.table_words.specs.declared.layout.Layout.{Layout
 use Rattle.machine_states.specs.table_words.specs.declared.spot.Spot.{Spot}
 use Rattle.machine_states.specs.table_words.specs.declared.spot.Spot.TheVariants as spots
 use Rattle.machine_states.specs.table_words.specs.declared.access.Access.{Access}
-use Rattle.machine_states.specs.table_words.specs.declared.access.Access.TheVariants.{Loads}
+use Rattle.machine_states.specs.table_words.specs.declared.access.Access.TheVariants.{Loads, Stores}
 use Rattle.machine_states.specs.table_words.specs.Access.{written}
 use Rattle.machine_states.specs.table_words.specs.Seen.{put}
 use Rattle.machine_states.specs.structure_laws.specs.Meaning.{Meaning}
@@ -16,15 +16,18 @@ use Rattle.machine_states.specs.runner_parts.specs.declared.event.EventKind.{Eve
 use Rattle.machine_states.specs.runner_parts.specs.declared.event.EventKind.TheVariants as kinds
 use Rattle.machine_states.specs.runner_parts.specs.State.{RunState, PartState}
 use Rattle.machine_states.specs.runner_steps.specs.Sections.{is_open_run, next_of}
-use Rattle.machine_states.specs.runner_steps.specs.Outside.{descriptor_spot}
+use Rattle.machine_states.specs.runner_steps.specs.Outside.{descriptor_spot, block_spot, blocks_from}
 use Rattle.machine_states.specs.runner_steps.specs.Asks.{opening_ask}
-use Rattle.machine_states.specs.Blockless.{outside_ask, line_ask, inside_ask}
+use Rattle.machine_states.specs.runner_steps.specs.Asks.{outside_ask, line_ask, inside_ask}
 use Rattle.machine_states.proofs.Sights.{if_some, some_none}
 use Rattle.machine_states.proofs.Updates.{put_same}
 use Rattle.machine_blocks.specs.machine_guards.specs.machine_agreement.specs.machine_epochs.proofs.InsideAsked as inside
 use Rattle.machine_blocks.specs.machine_guards.specs.machine_agreement.specs.machine_epochs.proofs.OutsideAsked as outside
 use Rattle.machine_blocks.specs.machine_guards.specs.machine_agreement.specs.machine_epochs.proofs.ReadsAsked as reads
 use Rattle.machine_blocks.specs.machine_guards.specs.machine_agreement.specs.machine_epochs.proofs.BoardAsked as board
+use Rattle.machine_states.specs.table_words.specs.Places.{part_words}
+use Rattle.machine_states.specs.runner_parts.specs.block_words.specs.Blocks.{part_spot, link_spot, log_spot}
+use Rattle.machine_blocks.specs.machine_guards.specs.machine_agreement.specs.machine_epochs.proofs.Places.{spot_by}
 
 -- the step leaves every thunk word
 pub record LeavesThunks (x : Spot × Access) : Type 0 where
@@ -36,55 +39,73 @@ load_leaves a = record { same = λ word d j. ap (λ (f : Spot → ℕ). f (spots
 cell_leaves : (p : ℕ) (access : Access) → LeavesThunks (spots.Cell p, access)
 cell_leaves p access = record { same = λ word d j. refl }
 
-log_leaves : (d k : ℕ) (access : Access) → LeavesThunks (spots.LogWord d k, access)
-log_leaves d k access = record { same = λ word d j. refl }
+part_leaves : (d : ℕ) (links : List ℕ) (i j : ℕ) (access : Access) → LeavesThunks (part_spot d links i j, access)
+part_leaves d links zero j access = record { same = λ word d j. refl }
+part_leaves d links (suc i) j access = record { same = λ word d j. refl }
+
+log_leaves : (d : ℕ) (links : List ℕ) (k : ℕ) (access : Access) → LeavesThunks (log_spot d links k, access)
+log_leaves d links k access = part_leaves d links (k / part_words) (k % part_words) access
+
+link_leaves : (d : ℕ) (links : List ℕ) (i : ℕ) (access : Access) → LeavesThunks (link_spot d links i, access)
+link_leaves d links zero access = record { same = λ word d j. refl }
+link_leaves d links (suc i) access = record { same = λ word d j. refl }
+
+pub block_leaves : (b j : ℕ) (access : Access) → LeavesThunks (block_spot b j, access)
+block_leaves b j access = by (j == part_words)
+  where
+    by : (c : Bool) → LeavesThunks (cond c (spots.BlockLink b) (spots.BlockWord b j), access)
+    by true = record { same = λ word d i. refl }
+    by false = record { same = λ word d i. refl }
 
 module _ (m : Meaning) (l : Layout) where
   module _ (q : RunState) (x : Spot × Access) where
-    line_leaves : (kind : EventKind) (free : List ℕ) (micro : Micro) → line_ask m l kind free q micro ≡ Some x → LeavesThunks x
-    line_leaves kinds.Commit free micro e = let h = inside.commit_asked q x micro e in subst LeavesThunks h.is (log_leaves _ _ _)
-    line_leaves (kinds.LoadCell None) free micro e = let h = inside.load_cell_asked q x micro e in subst LeavesThunks h.is (cell_leaves _ _)
-    line_leaves kinds.ExchangeCell free micro e = let h = inside.exchange_cell_asked q x l micro e in
+    line_leaves : (kind : EventKind) (free blocks : List ℕ) (micro : Micro) → line_ask m l kind free blocks q micro ≡ Some x → LeavesThunks x
+    line_leaves kinds.Commit free blocks micro e = let h = inside.commit_asked q x micro e in subst LeavesThunks h.is (log_leaves _ _ _ _)
+    line_leaves (kinds.LoadCell None) free blocks micro e = let h = inside.load_cell_asked q x micro e in subst LeavesThunks h.is (cell_leaves _ _)
+    line_leaves kinds.ExchangeCell free blocks micro e = let h = inside.exchange_cell_asked q x l micro e in
         subst LeavesThunks h.is (cell_leaves _ _)
-    line_leaves (kinds.PrivateLoad slot word) free micro e = let h = inside.fill_load_asked q x m l slot word free micro e in
+    line_leaves (kinds.PrivateLoad slot word) free blocks micro e = let h = inside.fill_load_asked q x m l slot word free micro e in
         subst LeavesThunks h.6 (cell_leaves _ _)
-    line_leaves (kinds.PrivateStore slot word number) free micro e = let h = inside.fill_store_asked q x m l slot word number micro e in
-        subst LeavesThunks h.5 (cell_leaves _ _)
-    line_leaves kinds.MakeCommit free micro e = let h = inside.make_commit_asked q x micro e in subst LeavesThunks h.2.is (log_leaves _ _ _)
-    line_leaves kinds.RetireCommit free micro e = let h = inside.retire_commit_asked q x micro e in
-        subst LeavesThunks h.1.is (log_leaves _ _ _)
-    line_leaves kinds.EpochForRetire free micro e = let h = inside.epoch_for_retire_asked q x micro e in
+    line_leaves (kinds.PrivateStore slot word number) free blocks micro e = ⊎_elim
+        (λ link. subst LeavesThunks link.1 (block_leaves (slot - blocks_from m l) word (Stores number)))
+        (λ fills. let h = inside.fill_store_asked q x m l slot word number micro fills.1 in subst LeavesThunks h.5 (cell_leaves _ _))
+        (inside.run_store_asked q x m l slot word number blocks micro e)
+    line_leaves (kinds.LinkCommit b) free blocks micro e = subst LeavesThunks (inside.link_asked q x l b micro e) (link_leaves _ _ _ _)
+    line_leaves kinds.MakeCommit free blocks micro e = let h = inside.make_commit_asked q x micro e in subst LeavesThunks h.2.is (log_leaves _ _ _ _)
+    line_leaves kinds.RetireCommit free blocks micro e = let h = inside.retire_commit_asked q x micro e in
+        subst LeavesThunks h.1.is (log_leaves _ _ _ _)
+    line_leaves kinds.EpochForRetire free blocks micro e = let h = inside.epoch_for_retire_asked q x micro e in
         subst LeavesThunks h.3 (load_leaves _)
-    line_leaves kinds.SetDone free micro e = let h = inside.set_done_asked q x micro e in
+    line_leaves kinds.SetDone free blocks micro e = let h = inside.set_done_asked q x micro e in
         subst LeavesThunks h.1 (record { same = λ word d j. refl })
-    line_leaves kinds.Release free micro e = let h = inside.release_asked q x l micro e in subst LeavesThunks h.is (cell_leaves _ _)
-    line_leaves kinds.ClockLoad free micro e = let h = inside.clock_load_asked q x micro e in subst LeavesThunks h.1 (load_leaves _)
-    line_leaves kinds.StampExchange free micro e = let h = inside.stamp_exchange_asked q x micro e in
+    line_leaves kinds.Release free blocks micro e = let h = inside.release_asked q x l micro e in subst LeavesThunks h.is (cell_leaves _ _)
+    line_leaves kinds.ClockLoad free blocks micro e = let h = inside.clock_load_asked q x micro e in subst LeavesThunks h.1 (load_leaves _)
+    line_leaves kinds.StampExchange free blocks micro e = let h = inside.stamp_exchange_asked q x micro e in
         subst LeavesThunks h.3 (record { same = λ word d j. refl })
-    line_leaves kinds.ClockRaise free micro e = let h = inside.clock_raise_asked q x micro e in
+    line_leaves kinds.ClockRaise free blocks micro e = let h = inside.clock_raise_asked q x micro e in
         subst LeavesThunks h.2 (record { same = λ word d j. refl })
-    line_leaves kinds.ReplyExchange free micro e = let h = inside.reply_exchange_asked q x micro e in
+    line_leaves kinds.ReplyExchange free blocks micro e = let h = inside.reply_exchange_asked q x micro e in
         subst LeavesThunks h.3 (record { same = λ word d j. refl })
-    line_leaves kinds.NestedLoad free micro e = let h = inside.nested_load_asked q x micro e in subst LeavesThunks h.is (cell_leaves _ _)
-    line_leaves kinds.NestedHold free micro e = let h = inside.nested_hold_asked q x l micro e in subst LeavesThunks h.is (cell_leaves _ _)
-    line_leaves kinds.OutcomeLoad free micro e = let h = inside.outcome_load_asked q x micro e in subst LeavesThunks h.is (cell_leaves _ _)
-    line_leaves kinds.OutcomeCommit free micro e = let h = inside.outcome_commit_asked q x micro e in
-        subst LeavesThunks h.is (log_leaves _ _ _)
-    line_leaves _ free micro e = some_none x e
+    line_leaves kinds.NestedLoad free blocks micro e = let h = inside.nested_load_asked q x micro e in subst LeavesThunks h.is (cell_leaves _ _)
+    line_leaves kinds.NestedHold free blocks micro e = let h = inside.nested_hold_asked q x l micro e in subst LeavesThunks h.is (cell_leaves _ _)
+    line_leaves kinds.OutcomeLoad free blocks micro e = let h = inside.outcome_load_asked q x micro e in subst LeavesThunks h.is (cell_leaves _ _)
+    line_leaves kinds.OutcomeCommit free blocks micro e = let h = inside.outcome_commit_asked q x micro e in
+        subst LeavesThunks h.is (log_leaves _ _ _ _)
+    line_leaves _ free blocks micro e = some_none x e
 
     opening_leaves : (kind : EventKind) → opening_ask kind q ≡ Some x → LeavesThunks x
     opening_leaves (kinds.LoadThunk None) e = subst LeavesThunks (inside.open_more_asked q x e).1 (load_leaves _)
     opening_leaves kinds.LoadDone e = subst LeavesThunks (inside.load_done_asked q x e).1 (load_leaves _)
     opening_leaves _ e = some_none x e
 
-    pub inside_leaves : (kind : EventKind) (free : List ℕ) → inside_ask m l kind free q ≡ Some x → LeavesThunks x
-    inside_leaves kind free e = by (is_open_run q) e
+    pub inside_leaves : (kind : EventKind) (free blocks : List ℕ) → inside_ask m l kind free blocks q ≡ Some x → LeavesThunks x
+    inside_leaves kind free blocks e = by (is_open_run q) e
       where
-        by : (b : Bool) → (if b then line_ask m l kind free q (next_of m q) else opening_ask kind q) ≡ Some x → LeavesThunks x
-        by true e = line_leaves kind free (next_of m q) e
+        by : (b : Bool) → (if b then line_ask m l kind free blocks q (next_of m q) else opening_ask kind q) ≡ Some x → LeavesThunks x
+        by true e = line_leaves kind free blocks (next_of m q) e
         by false e = opening_leaves kind e
 
-  -- a private store, which is one to a word of an own free descriptor
+  -- a private store, which is one to a word of an own free descriptor or block
   abbrev pub is_private_store : EventKind → Bool
   is_private_store (kinds.PrivateStore slot word number) = true
   is_private_store _ = false
@@ -127,13 +148,13 @@ module _ (m : Meaning) (l : Layout) where
 -- a store into a word of another descriptor
 pub other_thunk : (f : Spot → ℕ) (d word v d' j : ℕ) → d' ≢ d → put f (descriptor_spot d word) v (spots.ThunkWord d' j)
     ≡ f (spots.ThunkWord d' j)
-other_thunk f d word v d' j ne = by (nat_lt word 12) (word == 12)
+other_thunk f d word v d' j ne = by (nat_lt word 12) (word == 12) (word == 13 + part_words)
   where
     apart : (d d' j word v : ℕ) → d' ≢ d → put f (spots.ThunkWord d word) v (spots.ThunkWord d' j) ≡ f (spots.ThunkWord d' j)
     apart d d' j word v ne = grind (arith, nat_tests)
 
-    by : (b b' : Bool) → put f (if b then spots.ThunkWord d word else (if b' then spots.DoneWord d else spots.LogWord d (word - 13))) v
-        (spots.ThunkWord d' j) ≡ f (spots.ThunkWord d' j)
-    by true b' = apart d d' j word v ne
-    by false true = refl
-    by false false = refl
+    by : (b b' b'' : Bool) → put f (spot_by d word b b' b'') v (spots.ThunkWord d' j) ≡ f (spots.ThunkWord d' j)
+    by true b' b'' = apart d d' j word v ne
+    by false true b'' = refl
+    by false false true = refl
+    by false false false = refl

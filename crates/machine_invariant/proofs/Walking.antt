@@ -16,7 +16,8 @@ use Rattle.machine_states.specs.runner_parts.specs.declared.event.EventKind.TheV
 use Rattle.machine_states.specs.runner_parts.specs.State.{PartState}
 use Rattle.machine_states.specs.runner_parts.specs.Tests.{is_readable}
 use Rattle.machine_states.specs.runner_steps.specs.Outside.{read_ask}
-use Rattle.machine_states.specs.Blockless.{asks, after_by, after}
+use Rattle.machine_states.specs.runner_steps.specs.Asks.{asks}
+use Rattle.machine_states.specs.runner_steps.specs.After.{after_by, after}
 use Rattle.agreement_core.specs.Events as agreement
 use Rattle.machine_states.specs.epoch_core.specs.State.{Counts}
 use Rattle.machine_states.specs.epoch_core.specs.Events as epochs
@@ -107,7 +108,7 @@ module _ (m : Meaning) (laws : Laws m) (l : Layout) (limits : IsWithinLimits l) 
         (upd_split s.part r read_part
         (λ i y. y.reads.walk ≡ upd (λ i. (s.part i).reads.walk) r (p.reads.walk ++ (place, g.agreement.shared.cells place) ∷ []) i)
         (walked ∙ sym (upd_same (λ i. (s.part i).reads.walk) r r _ refl)) (λ i ne. sym (upd_other (λ i. (s.part i).reads.walk) r i _ ne)))
-        (made_outside m l s r kind x refl none) three go.guards go.logs
+        (made_outside m l s r kind x refl none) three go.logs
 
     pub load_cell_whole : (pieces : Pieces m l g s read_sight r kind x) → KeepsWhole m l g s read_sight r kind x pieces
     load_cell_whole pieces = keeps_by m l g s read_sight r kind x pieces (agreement.Read place ∷ []) reach

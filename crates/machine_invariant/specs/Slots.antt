@@ -3,7 +3,7 @@ use Rattle.std.specs.Prelude.{◌≡◌, ℕ, suc, ◌+◌, ◌<◌, ◌≤◌, 
 use Rattle.machine_states.specs.body_terms.specs.declared.micro.Micro.TheVariants.{RetireCommit}
 use Rattle.machine_states.specs.body_terms.specs.Line.{micro_at}
 use Rattle.machine_states.specs.table_words.specs.declared.layout.Layout.{Layout}
-use Rattle.machine_states.specs.table_words.specs.declared.spot.Spot.TheVariants.{Epoch, LogWord, Board}
+use Rattle.machine_states.specs.table_words.specs.declared.spot.Spot.TheVariants.{Epoch, Board}
 use Rattle.machine_states.specs.table_words.specs.Places.{slot_count, descriptor_count}
 use Rattle.machine_states.specs.structure_laws.specs.Meaning.{Meaning}
 use Rattle.machine_states.specs.epoch_core.specs.declared.stage.Stage.TheVariants.{Entered}
@@ -31,14 +31,14 @@ abbrev pub times_among : NodesState → ℕ → ℕ
 times_among n t = times t n.hand + (times t n.free + (times t n.worn + times_limbo t n.limbo))
 
 -- a runner's run has loaded this epoch for the Retire of this slot at this place of its section's log,
--- where nothing is agreed yet
-pub record IsRetiring (m : Meaning) (s : Sight) (r d index slot epoch : ℕ) : Type 0 where
+-- where nothing is agreed yet; `log` has the sections' logs
+pub record IsRetiring (m : Meaning) (log : ℕ → ℕ → ℕ) (s : Sight) (r d index slot epoch : ℕ) : Type 0 where
   pub run : RunState
   pub runs : (s.part r).run ≡ Some run
   pub step : micro_at (line_of m run) run.at ≡ RetireCommit slot index
   pub of_section : run.descriptor ≡ d
   pub loaded : run.word ≡ epoch
-  pub unagreed : s.word (LogWord d index) ≡ 0
+  pub unagreed : log d index ≡ 0
 
 -- whether a section was published at this descriptor, and the descriptor isn't free again
 abbrev pub is_used : Meaning → Layout → (ℕ → Location) → ℕ → Bool
@@ -78,17 +78,17 @@ module _ (m : Meaning) (l : Layout) (location : ℕ → Location) (s : Sight) wh
         → x.descriptor ≡ x'.descriptor → r ≡ r'
 
   -- `history` says which commits of Makes and Retires won
-  pub record CommitsAreWonOnce (history : History) : Type 0 where
+  pub record CommitsAreWonOnce (log : ℕ → ℕ → ℕ) (history : History) : Type 0 where
     -- no two descriptors have the same section there
     pub named : (d : ℕ) → is_used m l location d ≡ true → 1 ≤ history.section d
     pub apart : (d d' : ℕ) → 1 ≤ history.section d → history.section d ≡ history.section d' → d ≡ d'
     -- while a section's descriptor isn't free again, one commit of each Make won that is agreed, with the
     -- agreed slot, and none of any other
     pub made : (d k : ℕ) → is_used m l location d ≡ true → history.made (history.section d) k
-        ≡ cond (is_makes (role_at (m.body (thunk_in s.word d)) k)) (agreed_slot (s.word (LogWord d k))) []
+        ≡ cond (is_makes (role_at (m.body (thunk_in s.word d)) k)) (agreed_slot (log d k)) []
     -- and one commit of each Retire that is agreed, with one epoch, and none of any other
     pub retired : (d k : ℕ) → is_used m l location d ≡ true → length (history.retired (history.section d) k)
-        ≡ cond (is_retires (role_at (m.body (thunk_in s.word d)) k)) (agreed_count (s.word (LogWord d k))) 0
+        ≡ cond (is_retires (role_at (m.body (thunk_in s.word d)) k)) (agreed_count (log d k)) 0
     -- no Make and no Retire of any section was won twice
     pub made_once : (n k : ℕ) → length (history.made n k) ≤ 1
     pub retired_once : (n k : ℕ) → length (history.retired n k) ≤ 1
@@ -133,25 +133,25 @@ module _ (m : Meaning) (l : Layout) (location : ℕ → Location) (holds : ℕ �
         → times q.descriptor (s.part r').descriptors.free ≡ 0
 
   -- as long as a Retire isn't agreed whose epoch a runner has loaded
-  pub record RetiresStand : Type 0 where
+  pub record RetiresStand (log : ℕ → ℕ → ℕ) : Type 0 where
     -- its slot is a live node slot, and the epoch isn't to come
-    pub node : (r d k t y : ℕ) → IsRetiring m s r d k t y → t < node_count m l
-    pub live : (r d k t y : ℕ) → IsRetiring m s r d k t y → location t ≡ Live
-    pub recent : (r d k t y : ℕ) → IsRetiring m s r d k t y → y ≤ s.word Epoch
+    pub node : (r d k t y : ℕ) → IsRetiring m log s r d k t y → t < node_count m l
+    pub live : (r d k t y : ℕ) → IsRetiring m log s r d k t y → location t ≡ Live
+    pub recent : (r d k t y : ℕ) → IsRetiring m log s r d k t y → y ≤ s.word Epoch
     -- each runner that holds the slot entered in that epoch or before
-    pub holders : (r d k t y r' g : ℕ) → IsRetiring m s r d k t y → (s.part r').stage ≡ Entered g
+    pub holders : (r d k t y r' g : ℕ) → IsRetiring m log s r d k t y → (s.part r').stage ≡ Entered g
         → holds r' t ≡ true → g ≤ y
     -- no other such Retire names the slot
-    pub once : (r d k t y r' d' k' y' : ℕ) → IsRetiring m s r d k t y → IsRetiring m s r' d' k' t y'
+    pub once : (r d k t y r' d' k' y' : ℕ) → IsRetiring m log s r d k t y → IsRetiring m log s r' d' k' t y'
         → (d ≡ d') × (k ≡ k')
 
   -- where the slots are, who holds them, and which commits won
-  pub record SlotsAreSound (history : History) : Type 0 where
+  pub record SlotsAreSound (log : ℕ → ℕ → ℕ) (history : History) : Type 0 where
     pub in_nodes : NodesStand m l location s
     pub in_descriptors : DescriptorsStand m l location s
     -- no slot was retired in an epoch to come
     pub recent : (t r y : ℕ) → location t ≡ Limbo r y → y ≤ s.word Epoch
     pub in_held : HeldStand
     pub in_use : InUseAreKept
-    pub in_retires : RetiresStand
-    pub in_commits : CommitsAreWonOnce m l location s history
+    pub in_retires : RetiresStand log
+    pub in_commits : CommitsAreWonOnce m l location s log history

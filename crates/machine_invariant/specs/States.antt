@@ -7,8 +7,7 @@ use Rattle.machine_states.specs.epoch_core.specs.History as epoch_history
 use Rattle.agreement_core.specs.History as agreement_history
 use Rattle.machine_states.specs.Sight.{Sight}
 use Rattle.machine_blocks.specs.machine_guards.specs.machine_agreement.specs.machine_epochs.specs.Entries.{counts_of}
-use Rattle.machine_blocks.specs.machine_guards.specs.Stands.{GuardsHold}
-use Rattle.machine_blocks.specs.Stands.{LogsStand}
+use Rattle.machine_blocks.specs.Stands.{LogsHold}
 use Rattle.machine_invariant.specs.Slots.{node_count, is_used, SlotsAreSound}
 use Rattle.machine_invariant.specs.Sections.{SectionsAreSound}
 use Rattle.machine_invariant.specs.Along.{Components}
@@ -16,12 +15,11 @@ use Rattle.machine_invariant.specs.Whole.{Beside, IsWhole}
 
 -- a state of the machine beside these states and histories of the components
 pub record StateIsSound (m : Meaning) (l : Layout) (s : Sight) (k : Components) : Type 0 where
-  pub slots : SlotsAreSound m l k.epochs.location k.epochs.holds s k.wins
+  pub slots : SlotsAreSound m l k.epochs.location k.epochs.holds s k.epochs.log k.wins
   pub sections : SectionsAreSound m l k.agreement s k.changes k.wins
-  -- a descriptor of which a runner is sure is given out to nobody
-  pub guards : GuardsHold m l k.agreement k.epochs s
-  -- both components have the same logs, and the words of each stand in its descriptor
-  pub logs : LogsStand k.agreement k.epochs s
+  -- a descriptor of which a runner is sure is given out to nobody; both components have the same logs, and these stand
+  -- in the descriptors and in the blocks that are linked to them
+  pub logs : LogsHold m l k.agreement k.epochs s
   -- the components say the same of descriptors: a section was published there and the descriptor isn't free
   -- again, or isn't even retired
   pub used : (d : ℕ) → k.agreement.used d ≡ is_used m l k.epochs.location d

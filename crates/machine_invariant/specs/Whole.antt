@@ -19,8 +19,7 @@ use Rattle.machine_blocks.specs.machine_guards.specs.machine_agreement.specs.mac
 use Rattle.machine_blocks.specs.machine_guards.specs.machine_agreement.specs.machine_scenes.specs.Kept.{IsKept}
 use Rattle.machine_blocks.specs.machine_guards.specs.machine_agreement.specs.Joined as sections
 use Rattle.machine_slots.specs.Hands.{Made, LocksAreHeld, SlotsAreFilled}
-use Rattle.machine_blocks.specs.machine_guards.specs.Stands.{GuardsHold}
-use Rattle.machine_blocks.specs.Stands.{LogsStand}
+use Rattle.machine_blocks.specs.Stands.{LogsHold}
 
 -- what stands beside the machine's state: the components' states, and what was published
 pub record Beside : Type 0 where
@@ -81,7 +80,5 @@ module _ (m : Meaning) (l : Layout) where
     -- who holds the slots of locks, and what stands in the slots that Makes fill
     pub held : LocksAreHeld m (counts_of m l) (states_of g s)
     pub filled : SlotsAreFilled m (counts_of m l) (states_of g s) (made_of s)
-    -- a descriptor of which a runner is sure is given out to nobody
-    pub guards : GuardsHold m l g.agreement g.epochs s
-    -- where the words of the sections' logs stand
-    pub logs : LogsStand g.agreement g.epochs s
+    -- a descriptor of which a runner is sure is given out to nobody; where the words of the sections' logs stand
+    pub logs : LogsHold m l g.agreement g.epochs s

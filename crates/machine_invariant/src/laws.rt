@@ -61,9 +61,10 @@ pub fn lists_are_short<S: Structure>(structure: &S)
 
 /// Where a runner runs a section, the section's done word is 0 or 1. Once the run has loaded its thunk and
 /// the done word, the log word of each Make of its line is 0 or the number plus one of a node slot, and
-/// that of each Retire is 0 or the number plus one of the slot that it retires. The run has agreed on as
-/// many words as its line commits below where it stands, so its next commit goes to the log word behind
-/// those. So it is in each state that meets the whole invariant, and in each one that the machine reaches.
+/// that of each Retire is 0 or the number plus one of the slot that it retires, where the run knows the part
+/// of the log in which the word stands; the link behind the last such part is 0 or the number plus one of a
+/// block of the table. The run has agreed on as many words as its line commits below where
+/// it stands, so its next commit goes to the log word behind those, and a line commits at most 64. So it is in each state that meets the whole invariant, and in each one that the machine reaches.
 pub fn log_words_follow_runs<S: Structure>(structure: &S)
     ensures whole { (layout : Layout) → WholeLogWordsSay (S.meaning structure.now) layout }
     ensures reached { (layout : Layout) (requests : List Request) (events : List Event) (w : World)

@@ -172,4 +172,4 @@ module _ (c : CellRules) (w : AgreementState) (old : IsSound c w) (nodes : ℕ) 
       (cases_eq e d)
     where
       new : Section
-      new = record (w.section d) { lock = lock; word = word; request = request; code = code; slot = slot; edge = 0 }
+      new = record (w.section d) { lock = lock; word = word; request = request; code = code; slot = slot; log = λ k. 0; edge = 0 }

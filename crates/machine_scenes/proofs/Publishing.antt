@@ -41,7 +41,7 @@ module _ (m : Meaning) (laws : Laws m) (layout : Layout) (limits : IsWithinLimit
   all i = shown m p w.used w.section i
 
   abbrev pub new : Section
-  new = record (w.section d) { lock = lock; word = word; request = request; code = code; slot = slot; edge = 0 }
+  new = record (w.section d) { lock = lock; word = word; request = request; code = code; slot = slot; log = λ k. 0; edge = 0 }
 
   abbrev p' : Publications
   p' = publishes p d r op thunk readings

@@ -3,7 +3,7 @@ use Rattle.std.proofs.Common.{◌≡◌, ◌≢◌, ℕ, suc, ◌<◌, ◌≤◌
 use Rattle.std.proofs.lemmas.Bool.{cases_eq, both_ways}
 use Rattle.std.proofs.lemmas.Bool.Decides.{nat_tests}
 use Rattle.agreement_core.specs.section_lines.specs.structure_laws.proofs.Changes.{upd_same, upd_other}
-use Rattle.epoch_core.specs.Update.{upd, upd2}
+use Rattle.epoch_core.specs.Update.{upd, upd2, upd_row}
 use Rattle.epoch_core.specs.declared.stage.Stage.{Stage}
 use Rattle.epoch_core.specs.declared.stage.Stage.TheVariants as stages
 use Rattle.epoch_core.specs.declared.location.Location.TheVariants as locations
@@ -22,6 +22,9 @@ pair_other f d k v i j ne = grind (arith, nat_tests)
 
 row_other : (f : ℕ → ℕ → ℕ) (d k v i j : ℕ) → i ≢ d → upd2 f d k v i j ≡ f i j
 row_other f d k v i j ne = grind (arith, nat_tests)
+
+all_row_other : (f : ℕ → ℕ → ℕ) (d : ℕ) (row : ℕ → ℕ) (i j : ℕ) → i ≢ d → upd_row f d row i j ≡ f i j
+all_row_other f d row i j ne = grind (arith, nat_tests)
 
 was_zero : (found v : ℕ) → written_once found v ≡ 0 → found ≡ 0
 was_zero found v e = grind (arith, nat_tests)
@@ -129,7 +132,10 @@ module _ (c : Counts) (e : EpochState) (old : IsSound c e) where
     sym (row_other e.log d k word ((e.retire i).descriptor) ((e.retire i).index) (store_other r d k word i ok pending.0)) ∙ pending.1,
   )
   was_pending (events.Reach r slots) alone ok i pending = pending
-  was_pending (events.Publish r d roles) alone ok i pending = pending
+  was_pending (events.Publish r d roles) alone ok i pending = (
+    pending.0,
+    sym (all_row_other e.log d (λ k. 0) ((e.retire i).descriptor) ((e.retire i).index) (store_other r d 0 0 i ok.1 pending.0)) ∙ pending.1,
+  )
   was_pending (events.RetireDescriptor r d) alone ok i pending = pending
   was_pending (events.Unguard r) alone ok i pending = pending
   was_pending (events.Sweep r descriptors) alone ok i pending = pending

@@ -45,7 +45,7 @@ descriptor_of j r = (j.agreement.run r).descriptor
 -- the section that a publication leaves
 abbrev pub published : AgreementState → ℕ → ℕ → ℕ → ℕ → (ℕ → Micro) → (ℕ → ℕ) → Section
 published a d lock word request code slot = record
-    (a.section d) { lock = lock; word = word; request = request; code = code; slot = slot; edge = 0 }
+    (a.section d) { lock = lock; word = word; request = request; code = code; slot = slot; log = λ k. 0; edge = 0 }
 
 -- the component of epochs has the word that agreement has in this log
 abbrev pub HasWord : States → ℕ → ℕ → Type 0

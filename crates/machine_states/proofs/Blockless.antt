@@ -72,25 +72,28 @@ module _ (m : Meaning) (l : Layout) (rs : List Request) where
       by false = block_word b j
 
   beyond : (d j : ℕ) → descriptor_count l ≤ d → fits sizes (descriptor_spot d j) ≡ false
-  beyond d j many = by (nat_lt j 12) (j == 12)
+  beyond d j many = by (nat_lt j 12) (j == 12) (j == 13 + part_words)
     where
       out : nat_lt d (descriptor_count l) ≡ false
       out = grind (arith, nat_tests)
 
-      by : (t t' : Bool)
-          → fits sizes (if t then spots.ThunkWord d j else (if t' then spots.DoneWord d else spots.LogWord d (j - 13))) ≡ false
-      by true t' = ap (λ t. t && nat_lt j 12) out
-      by false true = out
-      by false false = ap (λ t. t && nat_lt (j - 13) part_words) out
+      by : (t t' t'' : Bool) → fits sizes (if t then spots.ThunkWord d j else (if t' then spots.DoneWord d
+          else (if t'' then spots.LinkWord d else spots.LogWord d (j - 13)))) ≡ false
+      by true t' t'' = ap (λ t. t && nat_lt j 12) out
+      by false true t'' = out
+      by false false true = out
+      by false false false = ap (λ t. t && nat_lt (j - 13) part_words) out
 
   -- so no word of a descriptor behind the last one is a word of the table
   unfits : (d j : ℕ) → descriptor_count l ≤ d → Fits sizes (descriptor_spot d j) → ⊥
-  unfits d j many = by (nat_lt j 12) (j == 12)
+  unfits d j many = by (nat_lt j 12) (j == 12) (j == 13 + part_words)
     where
-      by : (t t' : Bool) → Fits sizes (if t then spots.ThunkWord d j else (if t' then spots.DoneWord d else spots.LogWord d (j - 13))) → ⊥
-      by true t' h = let few = h.0 in omega (arith, few, many)
-      by false true h = omega (arith, h, many)
-      by false false h = let few = h.0 in omega (arith, few, many)
+      by : (t t' t'' : Bool) → Fits sizes (if t then spots.ThunkWord d j else (if t' then spots.DoneWord d
+          else (if t'' then spots.LinkWord d else spots.LogWord d (j - 13)))) → ⊥
+      by true t' t'' h = let few = h.0 in omega (arith, few, many)
+      by false true t'' h = omega (arith, h, many)
+      by false false true h = omega (arith, h, many)
+      by false false false h = let few = h.0 in omega (arith, few, many)
 
   -- a commit
   module _ (q : RunState) (log v : ℕ) where

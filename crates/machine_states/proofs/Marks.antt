@@ -18,7 +18,7 @@ use Rattle.runner_steps.specs.runner_parts.specs.epoch_core.specs.State.{last_ep
 use Rattle.runner_steps.specs.InRun.{last_clock}
 use Rattle.runner_steps.specs.AfterInRun as inside
 use Rattle.runner_steps.specs.AfterOutside as outside
-use Rattle.machine_states.specs.Blockless.{line_after, inside_after, outside_after, after_by}
+use Rattle.runner_steps.specs.After.{line_after, inside_after, outside_after, after_by}
 
 -- what is kept of the epoch: the one seen, whether others crossed the own steps, and whether the own ones crossed others'
 abbrev pub marks : RecordsState → ℕ × (Bool × Bool)
@@ -62,6 +62,7 @@ module _ (m : Meaning) (l : Layout) (p : PartState) (found : ℕ) where
     line_keeps kinds.ExchangeCell micro = same _ refl refl
     line_keeps (kinds.PrivateLoad slot word) micro = fill_keeps slot q.made
     line_keeps (kinds.PrivateStore slot word number) micro = same _ refl refl
+    line_keeps (kinds.LinkCommit b) micro = same _ refl refl
     line_keeps kinds.MakeCommit micro = make_keeps q.made
     line_keeps kinds.RetireCommit micro = same _ refl refl
     line_keeps kinds.EpochForRetire micro = same _ refl refl

@@ -21,16 +21,11 @@ use Rattle.runner_steps.specs.runner_parts.specs.declared.event.EventKind.TheVar
 use Rattle.runner_steps.specs.runner_parts.specs.declared.event.Event.{Event}
 use Rattle.runner_steps.specs.runner_parts.specs.State.{PartState, RunState}
 use Rattle.runner_steps.specs.Outside.{Ask}
-use Rattle.runner_steps.specs.Asks as all
-use Rattle.runner_steps.specs.Asks.{fitting, sizes_for}
-use Rattle.runner_steps.specs.After as alls
-use Rattle.runner_steps.specs.After.{leaves, knows_also}
+use Rattle.runner_steps.specs.Asks.{fitting, sizes_for, ask_by, asks}
+use Rattle.runner_steps.specs.After.{after, leaves, knows_also}
 use Rattle.machine_states.specs.World.{World, seat_of, settled_part, knowing, left_by, put_part, acted, acts, happens}
-use Rattle.machine_states.specs.Blockless.{asks, ask_by}
 use Rattle.machine_states.specs.Sight.{Sight, part_or_first, part_of, sight, parts_after, sight_after, Steps, IsWhole}
-use Rattle.machine_states.specs.Full.{full_sight_after, FullSteps}
 use Rattle.machine_states.proofs.Steps.{some_same, length_put, fitting_fits}
-use Rattle.machine_states.proofs.Blockless.{asks_same, after_same}
 
 pub some_none : {A B : Type 0} → (a : A) → None ≡ Some a → B
 some_none a e = absurd (let x = e in cc)
@@ -146,22 +141,18 @@ module _ (m : Meaning) (l : Layout) (rs : List Request) where
     abbrev sizes : Sizes
     sizes = sizes_for m l rs
 
-    module _ (p : PartState) (x : Spot × Access) (here : slice_get w.parts (seat_of l event.runner) ≡ Some p) (asked : all.asks m l rs event.runner event.kind p ≡ Some x) where
+    module _ (p : PartState) (x : Spot × Access) (here : slice_get w.parts (seat_of l event.runner) ≡ Some p) (asked : asks m l rs event.runner event.kind p ≡ Some x) where
       abbrev found : ℕ
       found = slice_index w.words (address sizes x.0)
 
       abbrev made : World
       made = record {
         words = slice_set w.words (address sizes x.0) (written x.1 found);
-        parts = put_part w.parts event.kind (seat_of l event.runner) (settled_part event.kind (alls.after m l event.runner event.kind x.0 x.1 p found) w.parts);
+        parts = put_part w.parts event.kind (seat_of l event.runner) (settled_part event.kind (after m l event.runner event.kind x.0 x.1 p found) w.parts);
       }
 
       inside : Fits sizes x.0
-      inside = (unless_gone sizes p.gone (all.ask_by m l rs event.runner event.kind p p.run) x asked).2
-
-      -- without blocks it asks the same
-      asked_so : asks m l rs event.runner event.kind p ≡ Some x
-      asked_so = sym (asks_same m l rs event.runner event.kind p) ∙ asked
+      inside = (unless_gone sizes p.gone (ask_by m l rs event.runner event.kind p p.run) x asked).2
 
       some_runner : event.runner ≤ l.runners
       some_runner = seat_some w.parts event.runner p whole.parts here
@@ -176,16 +167,16 @@ module _ (m : Meaning) (l : Layout) (rs : List Request) where
       words_seen = fun_ext (λ a. words.seen_set sizes w.words (written x.1 found) whole.words x.0 a inside)
           ∙ ap (λ n. put (seen sizes w.words) x.0 (written x.1 n)) found_seen
 
-      parts_path : part_of l made.parts ≡ (full_sight_after m l (sight m l rs w) event.runner event.kind x).part
-      parts_path = parts_seen w.parts whole.parts event.runner some_runner (alls.after m l event.runner event.kind x.0 x.1 p found) event.kind (joins event.kind event.runner p x asked_so)
-          ∙ (ap (λ n. parts_after event.kind (part_of l w.parts) event.runner (alls.after m l event.runner event.kind x.0 x.1 p n)) found_seen
-          ∙ ap (λ (q : PartState). parts_after event.kind (part_of l w.parts) event.runner (alls.after m l event.runner event.kind x.0 x.1 q (seen sizes w.words x.0))) own)
+      parts_path : part_of l made.parts ≡ (sight_after m l (sight m l rs w) event.runner event.kind x).part
+      parts_path = parts_seen w.parts whole.parts event.runner some_runner (after m l event.runner event.kind x.0 x.1 p found) event.kind (joins event.kind event.runner p x asked)
+          ∙ (ap (λ n. parts_after event.kind (part_of l w.parts) event.runner (after m l event.runner event.kind x.0 x.1 p n)) found_seen
+          ∙ ap (λ (q : PartState). parts_after event.kind (part_of l w.parts) event.runner (after m l event.runner event.kind x.0 x.1 q (seen sizes w.words x.0))) own)
 
-      steps : made ≡ w' → FullSteps m l rs (sight m l rs w) (sight m l rs w') event.runner event.kind
+      steps : made ≡ w' → Steps m l rs (sight m l rs w) (sight m l rs w') event.runner event.kind
       steps e = record {
         runner = some_runner;
         ask = x;
-        asked = ap (λ (q : PartState). all.asks m l rs event.runner event.kind q) (sym own) ∙ asked;
+        asked = ap (λ (q : PartState). asks m l rs event.runner event.kind q) (sym own) ∙ asked;
         has_word = inside;
         next = sym (ap (λ (v : World). sight m l rs v) e) ∙ (λ i. record { word = words_seen i; part = parts_path i });
       }
@@ -196,47 +187,27 @@ module _ (m : Meaning) (l : Layout) (rs : List Request) where
         parts = length_put w.parts event.kind (seat_of l event.runner) _ ∙ whole.parts;
       })
 
-    by_ask : (p : PartState) (a : Ask) → slice_get w.parts (seat_of l event.runner) ≡ Some p → all.asks m l rs event.runner event.kind p ≡ a → acted m l rs w event.runner event.kind p a ≡ Some w'
-        → FullSteps m l rs (sight m l rs w) (sight m l rs w') event.runner event.kind × IsWhole m l rs w'
+    by_ask : (p : PartState) (a : Ask) → slice_get w.parts (seat_of l event.runner) ≡ Some p → asks m l rs event.runner event.kind p ≡ a → acted m l rs w event.runner event.kind p a ≡ Some w'
+        → Steps m l rs (sight m l rs w) (sight m l rs w') event.runner event.kind × IsWhole m l rs w'
     by_ask p None here asked e = some_none w' e
     by_ask p (Some x) here asked e = let same = some_same _ _ e in (steps p x here asked same, whole_after p x here asked same)
 
     by_part : (o : Option PartState) → slice_get w.parts (seat_of l event.runner) ≡ o → acts m l rs w event.runner event.kind o ≡ Some w'
-        → FullSteps m l rs (sight m l rs w) (sight m l rs w') event.runner event.kind × IsWhole m l rs w'
+        → Steps m l rs (sight m l rs w) (sight m l rs w') event.runner event.kind × IsWhole m l rs w'
     by_part None here e = some_none w' e
-    by_part (Some p) here e = by_ask p (all.asks m l rs event.runner event.kind p) here refl e
+    by_part (Some p) here e = by_ask p (asks m l rs event.runner event.kind p) here refl e
 
     -- an event that happens is a step of the sight, and leaves the machine whole
-    pub happens_in_full : happens m l rs w event ≡ Some w' → FullSteps m l rs (sight m l rs w) (sight m l rs w') event.runner event.kind × IsWhole m l rs w'
-    happens_in_full e = by_part (slice_get w.parts (seat_of l event.runner)) refl e
+    pub happens_steps : happens m l rs w event ≡ Some w' → Steps m l rs (sight m l rs w) (sight m l rs w') event.runner event.kind × IsWhole m l rs w'
+    happens_steps e = by_part (slice_get w.parts (seat_of l event.runner)) refl e
 
--- as long as no table has a block, a step is one without them
-module _ (m : Meaning) (l : Layout) (rs : List Request) (s s' : Sight) (r : ℕ) (kind : EventKind) where
-  same_next : (x : Spot × Access) → asks m l rs r kind (s.part r) ≡ Some x → full_sight_after m l s r kind x ≡ sight_after m l s r kind x
-  same_next x asked = λ i. record {
-    word = put s.word x.0 (written x.1 (s.word x.0));
-    part = parts_after kind s.part r (after_same m l rs r (s.part r) (s.word x.0) x kind asked i);
-  }
+-- the same by other names
+module _ (m : Meaning) (l : Layout) (rs : List Request) where
+  pub bare_step : (s s' : Sight) (r : ℕ) (kind : EventKind) → Steps m l rs s s' r kind → Steps m l rs s s' r kind
+  bare_step s s' r kind step = step
 
-  pub bare_asked : (step : FullSteps m l rs s s' r kind) → asks m l rs r kind (s.part r) ≡ Some step.ask
-  bare_asked step = sym (asks_same m l rs r kind (s.part r)) ∙ step.asked
+  abbrev pub full_step : (s s' : Sight) (r : ℕ) (kind : EventKind) → Steps m l rs s s' r kind → Steps m l rs s s' r kind
+  full_step s s' r kind step = step
 
-  pub bare_next : (step : FullSteps m l rs s s' r kind) → s' ≡ sight_after m l s r kind step.ask
-  bare_next step = step.next ∙ same_next step.ask (bare_asked step)
-
-  abbrev pub bare_step : FullSteps m l rs s s' r kind → Steps m l rs s s' r kind
-  bare_step step = record { runner = step.runner; ask = step.ask; asked = bare_asked step; has_word = step.has_word; next = bare_next step }
-
-  -- and the other way round
-  pub full_asked : (step : Steps m l rs s s' r kind) → all.asks m l rs r kind (s.part r) ≡ Some step.ask
-  full_asked step = asks_same m l rs r kind (s.part r) ∙ step.asked
-
-  pub full_next : (step : Steps m l rs s s' r kind) → s' ≡ full_sight_after m l s r kind step.ask
-  full_next step = step.next ∙ sym (same_next step.ask step.asked)
-
-  abbrev pub full_step : Steps m l rs s s' r kind → FullSteps m l rs s s' r kind
-  full_step step = record { runner = step.runner; ask = step.ask; asked = full_asked step; has_word = step.has_word; next = full_next step }
-
-module _ (m : Meaning) (l : Layout) (rs : List Request) (w w' : World) (event : Event) (whole : IsWhole m l rs w) where
-  pub happens_steps : happens m l rs w event ≡ Some w' → Steps m l rs (sight m l rs w) (sight m l rs w') event.runner event.kind × IsWhole m l rs w'
-  happens_steps e = let h = happens_in_full m l rs w w' event whole e in (bare_step m l rs (sight m l rs w) (sight m l rs w') event.runner event.kind h.0, h.1)
+  pub happens_in_full : (w w' : World) (event : Event) (whole : IsWhole m l rs w) → happens m l rs w event ≡ Some w' → Steps m l rs (sight m l rs w) (sight m l rs w') event.runner event.kind × IsWhole m l rs w'
+  happens_in_full w w' event whole e = happens_steps m l rs w w' event whole e

@@ -11,11 +11,10 @@ use Rattle.runner_steps.specs.runner_parts.specs.structure_laws.specs.Meaning.{M
 use Rattle.runner_steps.specs.runner_parts.specs.declared.event.EventKind.{EventKind}
 use Rattle.runner_steps.specs.runner_parts.specs.declared.event.EventKind.TheVariants as kinds
 use Rattle.runner_steps.specs.runner_parts.specs.State.{PartState}
-use Rattle.runner_steps.specs.Asks.{sizes_for}
-use Rattle.runner_steps.specs.After.{leaves, knows_also}
+use Rattle.runner_steps.specs.Asks.{asks, sizes_for}
+use Rattle.runner_steps.specs.After.{after, leaves, knows_also}
 use Rattle.machine_states.specs.World.{World, seat_of}
 use Rattle.machine_states.specs.First.{first_part}
-use Rattle.machine_states.specs.Blockless.{asks, after}
 
 pub record Sight : Type 0 where
   pub word : Spot → ℕ

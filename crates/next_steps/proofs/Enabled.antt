@@ -23,7 +23,7 @@ use Rattle.machine_states.specs.table_words.specs.declared.spot.Spot.TheVariants
 use Rattle.machine_states.specs.table_words.specs.declared.access.Access.{Access}
 use Rattle.machine_states.specs.table_words.specs.declared.access.Access.TheVariants.{Loads, Exchanges}
 use Rattle.machine_states.specs.table_words.specs.Limits.{IsWithinLimits}
-use Rattle.machine_states.specs.table_words.specs.Places.{fits, slot_count, descriptor_count}
+use Rattle.machine_states.specs.table_words.specs.Places.{part_words, fits, slot_count, descriptor_count}
 use Rattle.machine_states.specs.structure_laws.specs.Meaning.{Meaning}
 use Rattle.machine_states.specs.structure_laws.specs.Laws.{Laws}
 use Rattle.machine_states.specs.runner_parts.specs.declared.event.EventKind.{EventKind}
@@ -32,7 +32,9 @@ use Rattle.machine_states.specs.runner_parts.specs.State.{RunState, PartState}
 use Rattle.machine_states.specs.runner_parts.specs.Tests.{has}
 use Rattle.machine_states.specs.runner_steps.specs.Sections.{thunk_of, is_open_run, line_of, next_of, commits_to}
 use Rattle.machine_states.specs.runner_steps.specs.InRun.{can_hold, make_slot, is_slot, last_clock}
-use Rattle.machine_states.specs.Blockless.{make_commit_to, line_ask, inside_ask, ask_by}
+use Rattle.machine_states.specs.runner_steps.specs.InRun.{commit_to, make_commit_to}
+use Rattle.machine_states.specs.runner_parts.specs.block_words.specs.Blocks.{log_spot}
+use Rattle.machine_states.specs.runner_steps.specs.Asks.{line_ask, inside_ask, ask_by}
 use Rattle.machine_states.specs.runner_steps.specs.AfterInRun.{place_of}
 use Rattle.machine_states.specs.runner_steps.specs.Outside.{Ask, when}
 use Rattle.machine_states.specs.runner_steps.specs.Asks.{opening_ask, fitting, sizes_for}
@@ -42,7 +44,6 @@ use Rattle.agreement_core.proofs.Words.{unspent_room, version_held}
 use Rattle.machine_states.specs.World.{World}
 use Rattle.machine_states.specs.Sight.{Sight, sight}
 use Rattle.machine_states.specs.Reached.{Reached}
-use Rattle.machine_states.proofs.Blockless.{asks_same}
 use Rattle.machine_states.proofs.Steps.{some_same}
 use Rattle.machine_invariant.specs.machine_blocks.specs.machine_guards.specs.machine_agreement.specs.machine_scenes.specs.Shown.{rules_of}
 use Rattle.machine_invariant.specs.machine_blocks.specs.machine_guards.specs.machine_agreement.specs.machine_epochs.proofs.RunPlaces.{is_of_end, next_in_line}
@@ -64,7 +65,7 @@ use Rattle.next_steps.proofs.Standing.{IsOwn, own_node}
 use Rattle.next_steps.proofs.Filling.{low_cell, fill_log}
 use Rattle.next_steps.proofs.RoomsKept.{made_hand}
 use Rattle.next_steps.proofs.RoomsReached.{reached_rooms}
-use Rattle.next_steps.proofs.Lines.{next_no_check, shape, ordered, run_open, log_low}
+use Rattle.next_steps.proofs.Lines.{never_beyond, in_first_part, next_no_check, shape, ordered, run_open, log_low}
 use Rattle.machine_invariant.proofs.Basics.{both_hold}
 
 -- a cell of a slot of the table is one of the table's
@@ -101,9 +102,9 @@ module _ (m : Meaning) (laws : Laws m) (l : Layout) (limits : IsWithinLimits l) 
   descriptor = few_descriptors m l g s whole r q is
 
   -- an event that is asked for, on a word of the table, is enabled
-  enabled_by : (kind : EventKind) (x : Spot × Access) → p.gone ≡ false → inside_ask m l kind p.nodes.free q ≡ Some x → fits sizes x.0 ≡ true
+  enabled_by : (kind : EventKind) (x : Spot × Access) → p.gone ≡ false → inside_ask m l kind p.nodes.free p.blocks.free q ≡ Some x → fits sizes x.0 ≡ true
       → Meets m l rs r p kind x
-  enabled_by kind x there asked fit = asks_same m l rs r kind p ∙ by p.gone there (ap (ask_by m l rs r kind p) is ∙ asked)
+  enabled_by kind x there asked fit = by p.gone there (ap (ask_by m l rs r kind p) is ∙ asked)
     where
       fitted : (a : Ask) → a ≡ Some x → fitting sizes a ≡ Some x
       fitted None e = absurd (none-some _ e)
@@ -122,8 +123,8 @@ module _ (m : Meaning) (laws : Laws m) (l : Layout) (limits : IsWithinLimits l) 
       closed : (n : ℕ) (b : Bool) → n < 13 → (n == 13 && b) ≡ false
       closed n b low = grind (arith, nat_tests)
 
-      opens : (kind : EventKind) (x : Spot × Access) → opening_ask kind q ≡ Some x → inside_ask m l kind p.nodes.free q ≡ Some x
-      opens kind x e = ap (λ b. if b then line_ask m l kind p.nodes.free q (next_of m q) else opening_ask kind q) (closed (length q.opened) _ low) ∙ e
+      opens : (kind : EventKind) (x : Spot × Access) → opening_ask kind q ≡ Some x → inside_ask m l kind p.nodes.free p.blocks.free q ≡ Some x
+      opens kind x e = ap (λ b. if b then line_ask m l kind p.nodes.free p.blocks.free q (next_of m q) else opening_ask kind q) (closed (length q.opened) _ low) ∙ e
 
       last : (n : ℕ) → n < 13 → nat_lt n 12 ≡ false → n ≡ 12
       last n low e = grind (arith, nat_tests)
@@ -150,7 +151,7 @@ module _ (m : Meaning) (laws : Laws m) (l : Layout) (limits : IsWithinLimits l) 
 
     -- a step that is asked for, on a word of the table
     record Goes (kind : EventKind) (micro : Micro) : Type 0 where
-      asked : line_ask m l kind p.nodes.free q micro ≡ Some (ask_at m p q micro)
+      asked : line_ask m l kind p.nodes.free p.blocks.free q micro ≡ Some (ask_at m p q micro)
       fit : fits sizes ((ask_at m p q micro).0) ≡ true
 
     module _ (micro : Micro) (ahead : next_of m q ≡ micro) where
@@ -165,7 +166,14 @@ module _ (m : Meaning) (laws : Laws m) (l : Layout) (limits : IsWithinLimits l) 
       -- a commit
       log_fit : is_of_end micro ≡ false → (k : ℕ) → commits_to micro ≡ Some k → fits sizes (spots.LogWord q.descriptor k) ≡ true
       log_fit inner k commits = both_hold _ _ (below_test q.descriptor (descriptor_count l) descriptor)
-          (below_test k 64 (log_low m l g s whole r q is all q.at k micro (line_at inner) commits))
+          (below_test k part_words (log_low m l g s whole r q is all q.at k micro (line_at inner) commits))
+
+      -- it needs no block
+      log_asks : is_of_end micro ≡ false → (k v : ℕ) → commits_to micro ≡ Some k → commit_to q k v ≡ Some (spots.LogWord q.descriptor k, Exchanges 0 v)
+      log_asks inner k v commits =
+          let low = log_low m l g s whole r q is all q.at k micro (line_at inner) commits in
+          asks_when _ (log_spot q.descriptor q.links k) (Exchanges 0 v) (ap not (never_beyond q k low))
+          ∙ ap (λ (a : Spot). Some (a, Exchanges 0 v)) (in_first_part q.descriptor q.links k low)
 
       -- a lock of the section: a word in the table, and room for two versions
       lock_fit : (place word : ℕ) → IsLockWith m t place word → place < cell_count m l
@@ -307,7 +315,8 @@ module _ (m : Meaning) (laws : Laws m) (l : Layout) (limits : IsWithinLimits l) 
         let before = (ordered m l g s whole r q is all).make_before q.at k at in
         let made = stored_made before.0 4 k before.1 (let e = before.2 in omega arith) before.3
         ((is_counted (m.body t) (shape m l g s whole r q is all).short).make_log q.at k at) in record {
-          asked = ap (make_commit_to q k) made.1 ∙ ap (λ (o : Option ℕ). Some (spots.LogWord q.descriptor k, Exchanges 0 (slot_in o + 1))) (sym made.1);
+          asked = ap (make_commit_to q k) made.1 ∙ (log_asks (micros.MakeCommit k) ahead refl k (made.0 + 1) refl
+              ∙ ap (λ (o : Option ℕ). Some (spots.LogWord q.descriptor k, Exchanges 0 (slot_in o + 1))) (sym made.1));
           fit = log_fit (micros.MakeCommit k) ahead refl k refl;
         }
 
@@ -328,7 +337,7 @@ module _ (m : Meaning) (laws : Laws m) (l : Layout) (limits : IsWithinLimits l) 
       fit = cell_fit (micros.LoadCell place log) ahead refl;
     }
     next_goes (micros.Commit place log) ahead has = record {
-      asked = refl;
+      asked = log_asks (micros.Commit place log) ahead refl log q.word refl;
       fit = log_fit (micros.Commit place log) ahead refl log refl;
     }
     next_goes (micros.NestedLoad place log) ahead has = record {
@@ -336,7 +345,7 @@ module _ (m : Meaning) (laws : Laws m) (l : Layout) (limits : IsWithinLimits l) 
       fit = cell_fit (micros.NestedLoad place log) ahead refl;
     }
     next_goes (micros.NestedCommit place log) ahead has = record {
-      asked = refl;
+      asked = log_asks (micros.NestedCommit place log) ahead refl log q.word refl;
       fit = log_fit (micros.NestedCommit place log) ahead refl log refl;
     }
     next_goes (micros.NestedHold place word) ahead has =
@@ -349,7 +358,7 @@ module _ (m : Meaning) (laws : Laws m) (l : Layout) (limits : IsWithinLimits l) 
       fit = cell_fit (micros.OutcomeLoad place log) ahead refl;
     }
     next_goes (micros.OutcomeCommit place log) ahead has = record {
-      asked = refl;
+      asked = log_asks (micros.OutcomeCommit place log) ahead refl log q.word refl;
       fit = log_fit (micros.OutcomeCommit place log) ahead refl log refl;
     }
     next_goes (micros.PrivateLoad cell log) ahead has = load_goes cell log ahead has
@@ -366,7 +375,7 @@ module _ (m : Meaning) (laws : Laws m) (l : Layout) (limits : IsWithinLimits l) 
         }
     next_goes (micros.EpochForRetire slot log) ahead has = record { asked = refl; fit = refl }
     next_goes (micros.RetireCommit slot log) ahead has = record {
-      asked = refl;
+      asked = log_asks (micros.RetireCommit slot log) ahead refl log (slot + 1) refl;
       fit = log_fit (micros.RetireCommit slot log) ahead refl log refl;
     }
     next_goes (micros.ReplyExchange reply) ahead has = record {
@@ -393,7 +402,7 @@ module _ (m : Meaning) (laws : Laws m) (l : Layout) (limits : IsWithinLimits l) 
     inside_enabled there has =
         let goes = next_goes (next_of m q) refl has in
         enabled_by (kind_at p q (next_of m q)) (ask_at m p q (next_of m q)) there
-        (ap (λ b. if b then line_ask m l (kind_at p q (next_of m q)) p.nodes.free q (next_of m q) else opening_ask (kind_at p q (next_of m q)) q) opened
+        (ap (λ b. if b then line_ask m l (kind_at p q (next_of m q)) p.nodes.free p.blocks.free q (next_of m q) else opening_ask (kind_at p q (next_of m q)) q) opened
         ∙ goes.asked) goes.fit
 
   in_table : IsInTable m l rs q

@@ -1,5 +1,5 @@
 -- A run in progress has a step that comes next.
-use Rattle.std.specs.Prelude.{◌==◌, ◌&&◌, not, nat_lt, nat_le, cond, slice_index_or, Bool, true, false, if◌then◌else◌}
+use Rattle.std.specs.Prelude.{◌==◌, ◌&&◌, not, nat_lt, nat_le, cond, slice_index_or, Bool, true, false, if◌then◌else◌, ◌-◌}
 use Rattle.std.proofs.Common.{◌≡◌, ℕ, zero, suc, ◌+◌, ◌≤◌, List, [], ◌∷◌, ◌++◌, length, length-append, take, sym, refl, ap, ◌∙◌, subst, arith, Option, Some, None}
 use Rattle.machine_states.specs.map_history.specs.declared.op.Request.{Request}
 use Rattle.machine_states.specs.body_terms.specs.declared.micro.Micro.{Micro}
@@ -19,12 +19,13 @@ use Rattle.machine_states.specs.epoch_core.specs.declared.stage.Stage.TheVariant
 use Rattle.machine_states.specs.runner_parts.specs.declared.event.EventKind.{EventKind}
 use Rattle.machine_states.specs.runner_parts.specs.declared.event.EventKind.TheVariants as kinds
 use Rattle.machine_states.specs.runner_parts.specs.State.{RunState, PartState}
-use Rattle.machine_states.specs.runner_steps.specs.Sections.{thunk_of, is_open_run, line_of, next_of}
+use Rattle.machine_states.specs.runner_steps.specs.Sections.{thunk_of, is_open_run, line_of, next_of, needs_link}
 use Rattle.machine_states.specs.runner_parts.specs.Lists.{cell_read}
 use Rattle.machine_states.specs.epoch_core.specs.State.{last_epoch}
 use Rattle.machine_states.specs.runner_steps.specs.InRun.{last_clock}
 use Rattle.machine_states.specs.runner_steps.specs.Asks.{opening_ask}
-use Rattle.machine_states.specs.Blockless.{ask_by, line_ask, line_after, outside_after, after_by}
+use Rattle.machine_states.specs.runner_steps.specs.Asks.{ask_by, line_ask}
+use Rattle.machine_states.specs.runner_steps.specs.After.{line_after, outside_after, after_by}
 use Rattle.machine_states.specs.runner_steps.specs.AfterInRun as inside
 use Rattle.machine_states.specs.runner_steps.specs.AfterOutside as outside
 use Rattle.machine_states.specs.World.{World}
@@ -44,6 +45,7 @@ use Rattle.machine_invariant.specs.After.{AreAllowed}
 use Rattle.machine_invariant.specs.Whole.{Beside, IsWhole}
 use Rattle.machine_invariant.proofs.Keeping.{IsStep, reached_keeps}
 use Rattle.next_steps.proofs.Parts.{each_part}
+use Rattle.machine_states.specs.runner_steps.specs.Outside.{blocks_from}
 
 -- a run loads thirteen words, and then has a step that comes next
 pub record HasNext (m : Meaning) (q : RunState) : Type 0 where
@@ -75,9 +77,9 @@ is_ending kinds.Release = true
 is_ending _ = false
 
 -- an enabled event of a line that is no exchange of its end is that of an event of the line
-module _ (m : Meaning) (l : Layout) (q : RunState) (x : Spot × Access) (free : List ℕ) where
+module _ (m : Meaning) (l : Layout) (q : RunState) (x : Spot × Access) (free blocks : List ℕ) where
   abbrev Asked : EventKind → Micro → Type 0
-  Asked kind micro = line_ask m l kind free q micro ≡ Some x
+  Asked kind micro = line_ask m l kind free blocks q micro ≡ Some x
 
   none_done : {A : Type 0} (kind : EventKind) → is_ending kind ≡ false → Asked kind micros.SetDone → A
   none_done kinds.SetDone h e = absurd (let z = h in cc)
@@ -155,7 +157,12 @@ module _ (m : Meaning) (l : Layout) (p : PartState) (q : RunState) (at : p.run �
   line_same (kinds.LoadCell place) micro h = by_run _ _ refl refl refl
   line_same kinds.ExchangeCell micro h = by_run _ _ refl refl refl
   line_same (kinds.PrivateLoad slot word) micro h = fill_same slot q.made
-  line_same (kinds.PrivateStore slot word number) micro h = by_run _ _ refl refl refl
+  line_same (kinds.PrivateStore slot word number) micro h = by (needs_link q micro)
+    where
+      by : (b : Bool) → SameEnd q (inside.with_run p (if b then inside.block_emptied (slot - blocks_from m l) q else inside.filled m l number q))
+      by true = by_run _ _ refl refl refl
+      by false = by_run _ _ refl refl refl
+  line_same (kinds.LinkCommit b) micro h = by_run _ _ refl refl refl
   line_same kinds.MakeCommit micro h = make_same q.made
   line_same kinds.RetireCommit micro h = by_run _ _ refl refl refl
   line_same kinds.EpochForRetire micro h = by_run _ _ refl refl refl
@@ -197,11 +204,11 @@ module _ (m : Meaning) (l : Layout) (rs : List Request) (g : Beside) (s : Sight)
   found = s.word x.0
 
   -- a step of the line
-  in_line_next : (kind : EventKind) → is_open_run q ≡ true → is_ending kind ≡ false → line_ask m l kind p.nodes.free q (next_of m q) ≡ Some x
+  in_line_next : (kind : EventKind) → is_open_run q ≡ true → is_ending kind ≡ false → line_ask m l kind p.nodes.free p.blocks.free q (next_of m q) ≡ Some x
       → HaveNext m (line_after m l kind p q (next_of m q) found)
   in_line_next kind opened h e =
       let all = open_run q opened in
-      let going = not_ended m l g.agreement s whole.sections r q is all (stands_at_event m l q x p.nodes.free kind h e) in
+      let going = not_ended m l g.agreement s whole.sections r q is all (stands_at_event m l q x p.nodes.free p.blocks.free kind h e) in
       record {
         have = λ q' is'. let same = (line_same m l p q is found kind (next_of m q) h).same q' is' in record {
           most = subst (λ (xs : List ℕ). length xs ≤ 13) (sym same.0) old.most;
@@ -225,7 +232,7 @@ module _ (m : Meaning) (l : Layout) (rs : List Request) (g : Beside) (s : Sight)
         ∙ (ap (λ n. is_end (slice_index_or (ending (line_of m q) q.at t.lock t.word) (n + 1) micros.End)) going
         ∙ first_release (take q.at (line_of m q)) t.lock t.word)
 
-    set_done_next : line_ask m l kinds.SetDone p.nodes.free q (next_of m q) ≡ Some x → HaveNext m (line_after m l kinds.SetDone p q (next_of m q) found)
+    set_done_next : line_ask m l kinds.SetDone p.nodes.free p.blocks.free q (next_of m q) ≡ Some x → HaveNext m (line_after m l kinds.SetDone p q (next_of m q) found)
     set_done_next e = one_next (inside.done_set p q) (inside.ended_more q) refl
         (record { most = old.most; next = λ long. done_next ((asked.set_done_asked q x (next_of m q) e).0) })
 
@@ -238,7 +245,7 @@ module _ (m : Meaning) (l : Layout) (rs : List Request) (g : Beside) (s : Sight)
         by false e pp = one_next (inside.with_run pp (inside.ended_more q)) (inside.ended_more q) refl
             (record { most = old.most; next = λ long. e })
 
-    line_next : (kind : EventKind) → line_ask m l kind p.nodes.free q (next_of m q) ≡ Some x → HaveNext m (line_after m l kind p q (next_of m q) found)
+    line_next : (kind : EventKind) → line_ask m l kind p.nodes.free p.blocks.free q (next_of m q) ≡ Some x → HaveNext m (line_after m l kind p q (next_of m q) found)
     line_next kinds.SetDone e = set_done_next e
     line_next kinds.Release e = release_next
     line_next kind e = in_line_next kind opened refl e
@@ -261,7 +268,7 @@ module _ (m : Meaning) (l : Layout) (rs : List Request) (g : Beside) (s : Sight)
   pub inside_next : (kind : EventKind) → ask_by m l rs r kind p (Some q) ≡ Some x → HaveNext m (after_by m l kind p (Some q) found)
   inside_next kind e = by (is_open_run q) refl e
     where
-      by : (b : Bool) → is_open_run q ≡ b → (if b then line_ask m l kind p.nodes.free q (next_of m q) else opening_ask kind q) ≡ Some x
+      by : (b : Bool) → is_open_run q ≡ b → (if b then line_ask m l kind p.nodes.free p.blocks.free q (next_of m q) else opening_ask kind q) ≡ Some x
           → HaveNext m (if b then line_after m l kind p q (next_of m q) found else inside.opened_more p q found)
       by true opened e = line_next opened kind e
       by false opened e = opening_next kind e

@@ -20,7 +20,7 @@ use Rattle.machine_states.specs.runner_parts.specs.declared.event.EventKind.{Eve
 use Rattle.machine_states.specs.runner_parts.specs.declared.event.EventKind.TheVariants as kinds
 use Rattle.machine_states.specs.runner_parts.specs.State.{RunState}
 use Rattle.machine_states.specs.runner_steps.specs.Sections.{thunk_of, line_of, next_of}
-use Rattle.machine_states.specs.Blockless.{line_ask}
+use Rattle.machine_states.specs.runner_steps.specs.Asks.{line_ask}
 use Rattle.machine_states.proofs.Sights.{some_none}
 use Rattle.machine_invariant.specs.machine_blocks.specs.machine_guards.specs.machine_agreement.proofs.Passes.{settled_here}
 use Rattle.next_steps.specs.Rooms.{filling}
@@ -47,10 +47,11 @@ rests_behind setting trail ms at micro next no_check =
     ap (micro_at ms) (settled_here setting trail ms (at + 1)
     (ap (λ b. b && is_none (leaves setting trail (micro_at ms (at + 1)))) (ap is_check is ∙ no_check))) ∙ is
 
--- the kinds of a Make's steps
+-- the kinds of a Make's steps, and of those that may come before its commit
 abbrev pub fills_slot : EventKind → Bool
 fills_slot (kinds.PrivateLoad slot word) = true
 fills_slot (kinds.PrivateStore slot word number) = true
+fills_slot (kinds.LinkCommit b) = true
 fills_slot kinds.MakeCommit = true
 fills_slot _ = false
 
@@ -61,37 +62,41 @@ check_fills_none (micros.MakeCommit k) e = absurd (let z = e in cc)
 check_fills_none _ e = refl
 
 -- where an event of another kind is enabled, the run is in no Make
-module _ (m : Meaning) (l : Layout) (q : RunState) (x : Spot × Access) (free : List ℕ) where
-  none_load : {A : Type 0} (kind : EventKind) (c k : ℕ) → fills_slot kind ≡ false → line_ask m l kind free q (micros.PrivateLoad c k) ≡ Some x → A
+module _ (m : Meaning) (l : Layout) (q : RunState) (x : Spot × Access) (free blocks : List ℕ) where
+  none_load : {A : Type 0} (kind : EventKind) (c k : ℕ) → fills_slot kind ≡ false → line_ask m l kind free blocks q (micros.PrivateLoad c k) ≡ Some x → A
   none_load (kinds.PrivateLoad slot word) c k h e = absurd (let z = h in cc)
+  none_load (kinds.LinkCommit b) c k h e = absurd (let z = h in cc)
   none_load (kinds.LoadCell None) c k h e = some_none x e
   none_load _ c k h e = some_none x e
 
   none_store : {A : Type 0} (kind : EventKind) (c k : ℕ) (v : Source) → fills_slot kind ≡ false
-      → line_ask m l kind free q (micros.PrivateStore c k v) ≡ Some x → A
+      → line_ask m l kind free blocks q (micros.PrivateStore c k v) ≡ Some x → A
   none_store (kinds.PrivateStore slot word number) c k v h e = absurd (let z = h in cc)
+  none_store (kinds.LinkCommit b) c k v h e = absurd (let z = h in cc)
   none_store (kinds.LoadCell None) c k v h e = some_none x e
   none_store _ c k v h e = some_none x e
 
-  none_commit : {A : Type 0} (kind : EventKind) (k : ℕ) → fills_slot kind ≡ false → line_ask m l kind free q (micros.MakeCommit k) ≡ Some x → A
+  none_commit : {A : Type 0} (kind : EventKind) (k : ℕ) → fills_slot kind ≡ false → line_ask m l kind free blocks q (micros.MakeCommit k) ≡ Some x → A
   none_commit kinds.MakeCommit k h e = absurd (let z = h in cc)
+  none_commit (kinds.PrivateStore slot word number) k h e = absurd (let z = h in cc)
+  none_commit (kinds.LinkCommit b) k h e = absurd (let z = h in cc)
   none_commit (kinds.LoadCell None) k h e = some_none x e
   none_commit _ k h e = some_none x e
 
-  other_none : (kind : EventKind) (micro : Micro) → fills_slot kind ≡ false → line_ask m l kind free q micro ≡ Some x → filling micro ≡ None
+  other_none : (kind : EventKind) (micro : Micro) → fills_slot kind ≡ false → line_ask m l kind free blocks q micro ≡ Some x → filling micro ≡ None
   other_none kind (micros.PrivateLoad c k) h e = none_load kind c k h e
   other_none kind (micros.PrivateStore c k v) h e = none_store kind c k v h e
   other_none kind (micros.MakeCommit k) h e = none_commit kind k h e
   other_none kind _ h e = refl
 
-  pub in_no_make : (kind : EventKind) → fills_slot kind ≡ false → line_ask m l kind free q (next_of m q) ≡ Some x
+  pub in_no_make : (kind : EventKind) → fills_slot kind ≡ false → line_ask m l kind free blocks q (next_of m q) ≡ Some x
       → filling (micro_at (line_of m q) q.at) ≡ None
   in_no_make kind h e = by (is_event (micro_at (line_of m q) q.at)) refl
     where
       by : (b : Bool) → is_event (micro_at (line_of m q) q.at) ≡ b → filling (micro_at (line_of m q) q.at) ≡ None
       by false is = check_fills_none _ is
       by true is = other_none kind (micro_at (line_of m q) q.at) h
-          (subst (λ (micro : Micro). line_ask m l kind free q micro ≡ Some x) (here is) e)
+          (subst (λ (micro : Micro). line_ask m l kind free blocks q micro ≡ Some x) (here is) e)
         where
           here : is_event (micro_at (line_of m q) q.at) ≡ true → next_of m q ≡ micro_at (line_of m q) q.at
           here is = ap (λ b. cond b (micro_at (line_of m q) q.at)

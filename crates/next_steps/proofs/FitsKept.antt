@@ -22,7 +22,8 @@ use Rattle.machine_states.specs.runner_parts.specs.declared.event.EventKind.TheV
 use Rattle.machine_states.specs.runner_parts.specs.State.{RunState, PartState}
 use Rattle.machine_states.specs.runner_parts.specs.Tests.{has, thunk_words}
 use Rattle.machine_states.specs.runner_steps.specs.Sections.{thunk_of}
-use Rattle.machine_states.specs.Blockless.{ask_by, after_by, after}
+use Rattle.machine_states.specs.runner_steps.specs.Asks.{ask_by}
+use Rattle.machine_states.specs.runner_steps.specs.After.{after_by, after}
 use Rattle.machine_states.specs.runner_steps.specs.AfterOutside as outside
 use Rattle.machine_states.specs.World.{World}
 use Rattle.machine_states.specs.First.{IsFirst}
@@ -32,11 +33,12 @@ use Rattle.machine_states.proofs.Sights.{unless_gone, joins}
 use Rattle.machine_states.proofs.Updates.{upd_here}
 use Rattle.machine_invariant.specs.machine_blocks.specs.machine_guards.specs.machine_agreement.specs.machine_epochs.specs.Slots.{thunk_in}
 use Rattle.machine_invariant.specs.machine_blocks.specs.machine_guards.specs.machine_agreement.specs.machine_epochs.proofs.Joining.{thunk_same}
-use Rattle.machine_invariant.specs.machine_blocks.specs.machine_guards.specs.machine_agreement.specs.machine_epochs.proofs.OutsideAsked.{HoldAsked, hold_asked, private_store_asked}
+use Rattle.machine_invariant.specs.machine_blocks.specs.machine_guards.specs.machine_agreement.specs.machine_epochs.proofs.OutsideAsked.{HoldAsked, hold_asked, private_store_cases}
+use Rattle.machine_invariant.specs.machine_blocks.specs.machine_guards.specs.machine_agreement.proofs.Words.{block_same}
 use Rattle.machine_invariant.specs.machine_blocks.specs.machine_guards.specs.machine_agreement.specs.machine_epochs.proofs.SectionKinds.{prepared_thunk}
 use Rattle.machine_invariant.specs.After.{AreAllowed}
 use Rattle.machine_invariant.proofs.First.{first_beside, first_whole}
-use Rattle.machine_invariant.proofs.Prepared.{done_is}
+use Rattle.machine_invariant.specs.machine_blocks.specs.machine_guards.specs.machine_agreement.specs.machine_epochs.proofs.Prepared.{done_is}
 use Rattle.machine_invariant.proofs.Sights.{thunks_after}
 use Rattle.machine_invariant.proofs.Thunks.{inside_leaves, outside_leaves, other_thunk}
 use Rattle.next_steps.specs.Rooms.{ThunkFits, ThunksFit}
@@ -45,6 +47,7 @@ use Rattle.next_steps.proofs.Parts.{each_part}
 use Rattle.next_steps.proofs.Runs.{OutOfRun, out_of_run}
 use Rattle.next_steps.proofs.Fits.{open_fits, used_here, LeavesFree, by_same, inside_free, publishes_at, outside_free}
 use Rattle.machine_invariant.proofs.Basics.{not_both}
+use Rattle.machine_states.specs.runner_steps.specs.Outside.{blocks_from}
 
 module _ (m : Meaning) (laws : Laws m) (l : Layout) (limits : IsWithinLimits l) (rs : List Request) (s s' : Sight) (r : ℕ) where
   abbrev p : PartState
@@ -65,14 +68,15 @@ module _ (m : Meaning) (laws : Laws m) (l : Layout) (limits : IsWithinLimits l) 
         → has p.descriptors.free d ≡ false
         → thunk_in (sight_after m l s r kind' x).word d ≡ thunk_in s.word d
     thunk_by (kinds.PrivateStore slot word number) same None e d unfree =
-        let h = private_store_asked m l slot word number p x e in
-        let d1 = slot - slot_count l m.fixed_slots in
-        let ne : d ≢ d1 = λ here. not_both (ap (has p.descriptors.free) here ∙ h.0) unfree in
         thunk_same (put s.word x.0 (written x.1 (s.word x.0))) s.word d (λ j.
-        subst (λ (y : Spot × Access). put s.word y.0 (written y.1 (s.word y.0)) (spots.ThunkWord d j) ≡ s.word (spots.ThunkWord d j)) h.1
-        (other_thunk s.word d1 word number d j ne))
+        let is = λ (y : Spot × Access). put s.word y.0 (written y.1 (s.word y.0)) (spots.ThunkWord d j) ≡ s.word (spots.ThunkWord d j) in
+        ⊎_elim
+        (λ own. let d1 = slot - slot_count l m.fixed_slots in
+        let ne : d ≢ d1 = λ here. not_both (ap (has p.descriptors.free) here ∙ own.1) unfree in subst is own.2 (other_thunk s.word d1 word number d j ne))
+        (λ block. subst is block.1 ((block_same s.word number (slot - blocks_from m l) word).thunks d j))
+        (private_store_cases m l slot word number p x e))
     thunk_by kind' same None e d unfree = thunks_after m l s r kind' x (outside_leaves m l rs r p x kind' refl e) d
-    thunk_by kind' same (Some q) e d unfree = thunks_after m l s r kind' x (inside_leaves m l q x kind' p.nodes.free e) d
+    thunk_by kind' same (Some q) e d unfree = thunks_after m l s r kind' x (inside_leaves m l q x kind' p.nodes.free p.blocks.free e) d
 
     thunk_stays : (d : ℕ) → has p.descriptors.free d ≡ false → thunk_in s'.word d ≡ thunk_in s.word d
     thunk_stays d unfree = subst (λ (y : Sight). thunk_in y.word d ≡ thunk_in s.word d) (sym st.step.next)

@@ -14,9 +14,9 @@ mod RoomParts
 mod SlotFrames
 mod RoomsKept
 mod RoomsReached
-mod Lines
 mod PartNumbers
 pub mod Numbers
 pub mod Enabled
 pub mod GoingOn
 pub mod Stages
+pub mod Lines

@@ -28,7 +28,8 @@ use Rattle.machine_states.specs.runner_steps.specs.Sections.{is_open_run, next_o
 use Rattle.machine_states.specs.epoch_core.specs.State.{last_epoch}
 use Rattle.machine_states.specs.runner_steps.specs.InRun.{last_clock}
 use Rattle.machine_states.specs.runner_steps.specs.Asks.{opening_ask, sizes_for}
-use Rattle.machine_states.specs.Blockless.{ask_by, outside_ask, line_ask, line_after, inside_after, outside_after}
+use Rattle.machine_states.specs.runner_steps.specs.Asks.{ask_by, outside_ask, line_ask}
+use Rattle.machine_states.specs.runner_steps.specs.After.{line_after, inside_after, outside_after}
 use Rattle.machine_states.specs.runner_steps.specs.AfterInRun as inside
 use Rattle.machine_states.specs.runner_steps.specs.AfterOutside as outside
 use Rattle.machine_states.specs.runner_steps.specs.Guards.{is_last_guard}
@@ -172,7 +173,7 @@ module _ (m : Meaning) (l : Layout) (p : PartState) (old : PartFits m l p) where
           (ap (λ (y : DescriptorsState). y.limbo) descriptors) (λ y e. old.published y (sym published ∙ e))
           (ap (λ (y : ReadsState). y.cells) read) (ap (λ (y : ReadsState). y.walk) read)
 
-      line_fits : (kind : EventKind) (micro : Micro) → line_ask m l kind p.nodes.free q micro ≡ Some x → PartFits m l (line_after m l kind p q micro found)
+      line_fits : (kind : EventKind) (micro : Micro) → line_ask m l kind p.nodes.free p.blocks.free q micro ≡ Some x → PartFits m l (line_after m l kind p q micro found)
       line_fits kinds.Commit micro e = by_fields _ refl refl refl refl refl
       line_fits (kinds.LoadCell None) micro e = let h = asked.load_cell_asked q x micro e in
           reads _ (inside.place_of micro) (met h.place _ h.access h.is (ap inside.place_of h.step.1)) refl refl refl
@@ -180,6 +181,7 @@ module _ (m : Meaning) (l : Layout) (p : PartState) (old : PartFits m l p) where
           reads _ (inside.place_of micro) (met h.place _ h.access h.is (ap inside.place_of h.step.2)) refl refl refl
       line_fits (kinds.PrivateLoad slot word) micro e = fill_fits slot q.made
       line_fits (kinds.PrivateStore slot word number) micro e = by_fields _ refl refl refl refl refl
+      line_fits (kinds.LinkCommit b) micro e = by_fields _ refl refl refl refl refl
       line_fits kinds.MakeCommit micro e = make_fits q.made
       line_fits kinds.RetireCommit micro e = by_fields _ refl refl refl refl refl
       line_fits kinds.EpochForRetire micro e = by_fields _ refl refl refl refl refl
@@ -203,7 +205,7 @@ module _ (m : Meaning) (l : Layout) (p : PartState) (old : PartFits m l p) where
       pub inside_fits : (r : ℕ) (kind : EventKind) → ask_by m l rs r kind p (Some q) ≡ Some x → PartFits m l (inside_after m l kind p q found)
       inside_fits r kind e = by (is_open_run q) e
         where
-          by : (b : Bool) → (if b then line_ask m l kind p.nodes.free q (next_of m q) else opening_ask kind q) ≡ Some x
+          by : (b : Bool) → (if b then line_ask m l kind p.nodes.free p.blocks.free q (next_of m q) else opening_ask kind q) ≡ Some x
               → PartFits m l (if b then line_after m l kind p q (next_of m q) found else inside.opened_more p q found)
           by true e = line_fits kind (next_of m q) e
           by false e = by_fields _ refl refl refl refl refl

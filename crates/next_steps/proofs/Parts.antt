@@ -11,7 +11,7 @@ use Rattle.machine_states.specs.runner_parts.specs.declared.event.EventKind.TheV
 use Rattle.machine_states.specs.runner_parts.specs.declared.entries.BoardRead.{BoardRead}
 use Rattle.machine_states.specs.runner_parts.specs.State.{BlocksState, RecordsState, PartState}
 use Rattle.machine_states.specs.runner_steps.specs.After.{knows_also, leaves}
-use Rattle.machine_states.specs.Blockless.{after, after_by}
+use Rattle.machine_states.specs.runner_steps.specs.After.{after, after_by}
 use Rattle.machine_states.specs.Sight.{Sight, sight_after}
 use Rattle.machine_states.proofs.Sights.{Joins}
 use Rattle.machine_states.proofs.Updates.{upd_split}

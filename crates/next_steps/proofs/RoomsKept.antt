@@ -19,7 +19,7 @@ use Rattle.machine_states.specs.table_words.specs.declared.spot.Spot.TheVariants
 use Rattle.machine_states.specs.table_words.specs.declared.access.Access.{Access}
 use Rattle.machine_states.specs.table_words.specs.declared.access.Access.TheVariants.{Loads, Stores}
 use Rattle.machine_states.specs.table_words.specs.Access.{written}
-use Rattle.machine_states.specs.table_words.specs.Places.{slot_count}
+use Rattle.machine_states.specs.table_words.specs.Places.{slot_count, part_words}
 use Rattle.machine_states.specs.table_words.specs.Seen.{put}
 use Rattle.machine_states.specs.table_words.specs.Limits.{IsWithinLimits}
 use Rattle.machine_states.specs.structure_laws.specs.Meaning.{Meaning}
@@ -31,12 +31,13 @@ use Rattle.machine_states.specs.runner_parts.specs.declared.event.EventKind.{Eve
 use Rattle.machine_states.specs.runner_parts.specs.declared.event.EventKind.TheVariants as kinds
 use Rattle.machine_states.specs.runner_parts.specs.State.{RunState, PartState}
 use Rattle.machine_states.specs.runner_parts.specs.Tests.{has, is_resting}
-use Rattle.machine_states.specs.runner_parts.specs.Lists.{test_of, slot_made, slot_back, slot_given, slot_drawn, nodes_looked, descriptor_stored}
+use Rattle.machine_states.specs.runner_parts.specs.Lists.{test_of, slot_made, slot_back, slot_given, slot_drawn, nodes_looked}
 use Rattle.machine_states.specs.runner_steps.specs.Sections.{thunk_of, is_open_run, line_of, next_of, setting_of}
-use Rattle.machine_states.specs.runner_steps.specs.InRun.{is_slot, make_slot}
-use Rattle.machine_states.specs.runner_steps.specs.Outside.{when, descriptor_spot}
+use Rattle.machine_states.specs.runner_steps.specs.InRun.{is_slot, make_slot, fill_store_ask}
+use Rattle.machine_states.specs.runner_steps.specs.Outside.{when, descriptor_spot, block_spot, blocks_from, private_load_ask, private_store_ask}
 use Rattle.machine_states.specs.runner_steps.specs.Board.{free_if, board_take_ask, board_give_ask, board_take_after, board_give_after}
-use Rattle.machine_states.specs.Blockless.{private_load_ask, ask_by, line_ask, outside_ask, outside_after, fill_stored, after_by}
+use Rattle.machine_states.specs.runner_steps.specs.Asks.{ask_by, line_ask, outside_ask}
+use Rattle.machine_states.specs.runner_steps.specs.After.{outside_after, after_by}
 use Rattle.machine_states.specs.epoch_core.specs.State.{last_epoch}
 use Rattle.machine_states.specs.runner_steps.specs.Asks.{opening_ask}
 use Rattle.machine_states.specs.runner_steps.specs.AfterInRun as inside
@@ -49,11 +50,11 @@ use Rattle.machine_states.proofs.Sights.{if_some, some_none, unless_gone, joins}
 use Rattle.machine_states.proofs.Steps.{some_same}
 use Rattle.machine_invariant.specs.machine_blocks.specs.machine_guards.specs.machine_agreement.specs.machine_epochs.specs.Entries.{counts_of}
 use Rattle.machine_invariant.specs.machine_blocks.specs.machine_guards.specs.machine_agreement.specs.machine_epochs.proofs.InsideAsked as asked
-use Rattle.machine_invariant.specs.machine_blocks.specs.machine_guards.specs.machine_agreement.specs.machine_epochs.proofs.OutsideAsked.{private_store_asked}
+use Rattle.machine_invariant.specs.machine_blocks.specs.machine_guards.specs.machine_agreement.specs.machine_epochs.proofs.OutsideAsked.{private_store_cases}
 use Rattle.machine_invariant.specs.machine_blocks.specs.machine_guards.specs.machine_agreement.specs.machine_epochs.proofs.BoardAsked.{board_take_asked, board_give_asked}
 use Rattle.machine_invariant.specs.machine_blocks.specs.machine_guards.specs.machine_agreement.specs.machine_epochs.proofs.Places.{free_node, hand_node}
 use Rattle.machine_invariant.specs.machine_blocks.specs.machine_guards.specs.machine_agreement.specs.machine_epochs.proofs.RunPlaces.{next_in_line, open_run}
-use Rattle.machine_invariant.specs.machine_blocks.specs.machine_guards.specs.machine_agreement.proofs.LineAsked.{fill_load_asked, fill_store_asked, make_commit_asked}
+use Rattle.machine_invariant.specs.machine_blocks.specs.machine_guards.specs.machine_agreement.proofs.LineAsked.{fill_load_asked, fill_store_asked, make_commit_asked, run_store_asked}
 use Rattle.machine_invariant.specs.After.{AreAllowed}
 use Rattle.machine_invariant.specs.Whole.{Beside, IsWhole}
 use Rattle.machine_invariant.proofs.Parts.{is_making, inside_made, outside_made}
@@ -99,6 +100,30 @@ module _ (m : Meaning) (l : Layout) (g : Beside) (s : Sight) (whole : IsWhole m 
   -- versions are within the greatest
   pub version_most : (p : ℕ) → version_of (s.word (spots.Cell p)) ≤ l.version_max
   version_most p = subst (λ n. version_of n ≤ l.version_max) (whole.sections.words.cells p) (whole.sections.sound.versions.bounded p)
+
+-- a private store outside a Make meets no cell
+descriptor_no_cell : (d word place : ℕ) → descriptor_spot d word ≡ spots.Cell place → ⊥
+descriptor_no_cell d word place = by (nat_lt word 12) (word == 12) (word == 13 + part_words)
+  where
+    by : (b b' c : Bool) → (if b then spots.ThunkWord d word else (if b' then spots.DoneWord d else (if c then spots.LinkWord d else spots.LogWord d (word - 13)))) ≡ spots.Cell place → ⊥
+    by true b' c e = let z = e in cc
+    by false true c e = let z = e in cc
+    by false false true e = let z = e in cc
+    by false false false e = let z = e in cc
+
+block_no_cell : (b word place : ℕ) → block_spot b word ≡ spots.Cell place → ⊥
+block_no_cell b word place = by (word == part_words)
+  where
+    by : (c : Bool) → (if c then spots.BlockLink b else spots.BlockWord b word) ≡ spots.Cell place → ⊥
+    by true e = let z = e in cc
+    by false e = let z = e in cc
+
+private_no_cell : (m : Meaning) (l : Layout) (slot word number place : ℕ) (p : PartState) (x : Spot × Access) → private_store_ask m l slot word number p ≡ Some x
+    → x.0 ≢ spots.Cell place
+private_no_cell m l slot word number place p x e met = ⊎_elim
+    (λ own. descriptor_no_cell _ word place (ap (λ (y : Spot × Access). y.0) own.2 ∙ met))
+    (λ block. block_no_cell _ word place (ap (λ (y : Spot × Access). y.0) block.1 ∙ met))
+    (private_store_cases m l slot word number p x e)
 
 -- a private load or store of a Make is one of a cell of its slot
 five_test : (a b c : Bool) (cell : ℕ) → ((a && nat_lt cell 5) && b) ≡ true → cell < 5
@@ -165,8 +190,8 @@ module _ (m : Meaning) (laws : Laws m) (l : Layout) (limits : IsWithinLimits l) 
             has_room : MakeHasRoom m l s.word q t
             has_room = old.made q t is made
 
-            by : (b : Bool) → (if b then line_ask m l kind p.nodes.free q (next_of m q) else opening_ask kind q) ≡ Some x → ⊥
-            by true e = none_some (in_no_make m l q x p.nodes.free kind other e) has_room.at
+            by : (b : Bool) → (if b then line_ask m l kind p.nodes.free p.blocks.free q (next_of m q) else opening_ask kind q) ≡ Some x → ⊥
+            by true e = none_some (in_no_make m l q x p.nodes.free p.blocks.free kind other e) has_room.at
             by false e = let low = opening_short e in let all = has_room.opened in omega arith
 
       other_step : (kind : EventKind) (st : IsStep m l rs s s' r kind) → fills_slot kind ≡ false
@@ -195,7 +220,7 @@ module _ (m : Meaning) (laws : Laws m) (l : Layout) (limits : IsWithinLimits l) 
 
         -- a Make looks at its slot's next cell
         load_step : (slot cell : ℕ) (st : IsStep m l rs s s' r (kinds.PrivateLoad slot cell))
-            → line_ask m l (kinds.PrivateLoad slot cell) p.nodes.free q (next_of m q) ≡ Some st.step.ask
+            → line_ask m l (kinds.PrivateLoad slot cell) p.nodes.free p.blocks.free q (next_of m q) ≡ Some st.step.ask
             → SlotsHaveRoom m l s'.word (inside.fill_loaded m l slot p q q.made (s.word st.step.ask.0))
         load_step slot cell st e = by q.made refl
           where
@@ -258,7 +283,7 @@ module _ (m : Meaning) (laws : Laws m) (l : Layout) (limits : IsWithinLimits l) 
 
         -- a Make's commit
         commit_step : (st : IsStep m l rs s s' r kinds.MakeCommit)
-            → line_ask m l kinds.MakeCommit p.nodes.free q (next_of m q) ≡ Some st.step.ask
+            → line_ask m l kinds.MakeCommit p.nodes.free p.blocks.free q (next_of m q) ≡ Some st.step.ask
             → SlotsHaveRoom m l s'.word (inside.make_committed m l p q q.made (s.word st.step.ask.0))
         commit_step st e =
             let h = make_commit_asked q st.step.ask (next_of m q) e in
@@ -281,7 +306,7 @@ module _ (m : Meaning) (laws : Laws m) (l : Layout) (limits : IsWithinLimits l) 
 
         -- a Make stores into its slot's next cell
         module _ (slot cell number : ℕ) (st : IsStep m l rs s s' r (kinds.PrivateStore slot cell number))
-            (e : line_ask m l (kinds.PrivateStore slot cell number) p.nodes.free q (next_of m q) ≡ Some st.step.ask) where
+            (e : fill_store_ask m l slot cell number q (next_of m q) ≡ Some st.step.ask) where
           abbrev store : EventKind
           store = kinds.PrivateStore slot cell number
 
@@ -325,7 +350,7 @@ module _ (m : Meaning) (laws : Laws m) (l : Layout) (limits : IsWithinLimits l) 
               let at = cell_apart m.fixed_cells slot t cell j low_cell five same in absurd (apart (sym at.0) (sym at.1)))
             where
               low_cell : cell < 5
-              low_cell = five_test _ _ true cell (if_some _ _ st.step.ask (ap (λ (micro : Micro). line_ask m l store p.nodes.free q micro) (sym stored.next) ∙ e)).0
+              low_cell = five_test _ _ true cell (if_some _ _ st.step.ask (ap (λ (micro : Micro). fill_store_ask m l slot cell number q micro) (sym stored.next) ∙ e)).0
 
           moves : (t j : ℕ) → IsOwn p t → j < 5 → (t ≡ slot → j ≡ cell → ⊥) → CellHasRoom m l s.word t j → CellHasRoom m l s'.word t j
           moves t j own five apart = subst (λ n. version_of n < l.version_max) (sym (stands_else t j own five apart))
@@ -372,9 +397,9 @@ module _ (m : Meaning) (laws : Laws m) (l : Layout) (limits : IsWithinLimits l) 
               (store_next (m.body (thunk_of q.opened)) q.at cell stored.log stored.value here)
             where
               low_cell : suc cell ≤ 5
-              low_cell = five_test _ _ true cell (if_some _ _ st.step.ask (ap (λ (micro : Micro). line_ask m l store p.nodes.free q micro) (sym stored.next) ∙ e)).0
+              low_cell = five_test _ _ true cell (if_some _ _ st.step.ask (ap (λ (micro : Micro). fill_store_ask m l slot cell number q micro) (sym stored.next) ∙ e)).0
 
-          store_step : SlotsHaveRoom m l s'.word (fill_stored m l number p q)
+          store_step : SlotsHaveRoom m l s'.word (inside.with_run p (inside.filled m l number q))
           store_step = record {
             free = λ t i own five. moves t i (inl own) five (λ same. absurd (free_apart t own same)) (old.free t i own five);
             made = λ q' t at made. let one : q1 ≡ q' = some_same q1 q' at in
@@ -390,6 +415,29 @@ module _ (m : Meaning) (laws : Laws m) (l : Layout) (limits : IsWithinLimits l) 
                 old.unlooked_made q t is (ap (λ (y : RunState). y.made) one ∙ made);
           }
 
+        -- a step by which the run links a block leaves its Make as it is
+        module _ (links : List ℕ) (block : Option ℕ) (emptied : ℕ) (won : List ℕ) where
+          abbrev q2 : RunState
+          q2 = record q { links = links; block = block; emptied = emptied; won = won }
+
+          link_room : SlotsHaveRoom m l s'.word p → SlotsHaveRoom m l s'.word (inside.with_run p q2)
+          link_room words = going_room m l s'.word p (inside.with_run p q2) (same_nodes p.nodes) words (λ q' t at made.
+              let one : q2 ≡ q' = some_same q2 q' at in
+              let was : q.made ≡ Some t = ap (λ (y : RunState). y.made) one ∙ made in
+              let x = words.made q t is was in (
+                subst (λ (y : RunState). MakeHasRoom m l s'.word y t) one (record { opened = x.opened; next = x.next; at = x.at; room = x.room; all = x.all }),
+                words.unlooked_made q t is was,
+              ))
+
+        -- it stores into a word of the block
+        block_step : (slot word number : ℕ) (st : IsStep m l rs s s' r (kinds.PrivateStore slot word number))
+            → (block_spot (slot - blocks_from m l) word, Stores number) ≡ st.step.ask
+            → SlotsHaveRoom m l s'.word (inside.with_run p (inside.block_emptied (slot - blocks_from m l) q))
+        block_step slot word number st asks_it = link_room q.links (Some (slot - blocks_from m l)) (inside.emptied_more q) q.won
+            (words_room st.beside st.whole r (λ t j own five.
+            cell_stands m laws l limits rs allowed s s' r t j (inl (r, own)) five (kinds.PrivateStore slot word number) st (λ store met.
+            absurd (block_no_cell (slot - blocks_from m l) word _ (ap (λ (y : Spot × Access). y.0) asks_it ∙ met)))) old)
+
   opens : (b : Bool) (y z : PartState) → b ≡ true → SlotsHaveRoom m l s'.word y → SlotsHaveRoom m l s'.word (if b then y else z)
   opens true y z e h = h
   opens false y z e h = not_both e refl
@@ -397,11 +445,16 @@ module _ (m : Meaning) (laws : Laws m) (l : Layout) (limits : IsWithinLimits l) 
   -- a step of a run
   module _ (old : SlotsHaveRoom m l s.word p) (q : RunState) (is : p.run ≡ Some q) where
     line_room : (kind : EventKind) (st : IsStep m l rs s s' r kind) → is_open_run q ≡ true
-        → line_ask m l kind p.nodes.free q (next_of m q) ≡ Some st.step.ask
+        → line_ask m l kind p.nodes.free p.blocks.free q (next_of m q) ≡ Some st.step.ask
         → ask_by m l rs r kind p (Some q) ≡ Some st.step.ask → SlotsHaveRoom m l s'.word (after_by m l kind p (Some q) (s.word st.step.ask.0))
     line_room (kinds.PrivateLoad slot cell) st opened e whole_ask = opens (is_open_run q) _ _ opened (load_step old q is opened slot cell st e)
     line_room (kinds.PrivateStore slot cell number) st opened e whole_ask =
-        opens (is_open_run q) _ _ opened (store_step old q is opened slot cell number st e)
+        opens (is_open_run q) _ _ opened (⊎_elim
+        (λ block. subst (λ b. SlotsHaveRoom m l s'.word (inside.with_run p (if b then inside.block_emptied (slot - blocks_from m l) q else inside.filled m l number q))) (sym block.0) (block_step old q is opened slot cell number st block.1))
+        (λ fills. subst (λ b. SlotsHaveRoom m l s'.word (inside.with_run p (if b then inside.block_emptied (slot - blocks_from m l) q else inside.filled m l number q))) (sym fills.0) (store_step old q is opened slot cell number st fills.1))
+        (run_store_asked q st.step.ask m l slot cell number p.blocks.free (next_of m q) e))
+    line_room (kinds.LinkCommit b) st opened e whole_ask = opens (is_open_run q) _ _ opened
+        (link_room old q is opened _ None 0 _ (same_words old (kinds.LinkCommit b) st (λ store. not_both store refl)))
     line_room kinds.MakeCommit st opened e whole_ask = opens (is_open_run q) _ _ opened (commit_step old q is opened st e)
     line_room kind st opened e whole_ask = other_step old q is kind st refl whole_ask
 
@@ -415,19 +468,10 @@ module _ (m : Meaning) (laws : Laws m) (l : Layout) (limits : IsWithinLimits l) 
         opening_fills _ a = some_none st.step.ask a
 
         by : (b : Bool) → is_open_run q ≡ b
-            → (if b then line_ask m l kind p.nodes.free q (next_of m q) else opening_ask kind q) ≡ Some st.step.ask
+            → (if b then line_ask m l kind p.nodes.free p.blocks.free q (next_of m q) else opening_ask kind q) ≡ Some st.step.ask
             → SlotsHaveRoom m l s'.word (after_by m l kind p (Some q) (s.word st.step.ask.0))
         by true opened a = line_room kind st opened a e
         by false opened a = other_step old q is kind st (opening_fills kind a) e
-
-  -- the private store of a step is one into the slot of a Make, or it meets no cell
-  descriptor_no_cell : (d word place : ℕ) → descriptor_spot d word ≡ spots.Cell place → ⊥
-  descriptor_no_cell d word place = by (nat_lt word 12) (word == 12)
-    where
-      by : (b b' : Bool) → (if b then spots.ThunkWord d word else (if b' then spots.DoneWord d else spots.LogWord d (word - 13))) ≡ spots.Cell place → ⊥
-      by true b' e = let z = e in cc
-      by false true e = let z = e in cc
-      by false false e = let z = e in cc
 
   module _ (old : SlotsHaveRoom m l s.word p) where
     -- it is no cell of a slot that isn't in the runner's hand
@@ -437,23 +481,28 @@ module _ (m : Meaning) (laws : Laws m) (l : Layout) (limits : IsWithinLimits l) 
     store_apart t j five (kinds.PrivateStore slot cell number) st node ne is met = by p.run refl (unless_gone _ p.gone _ st.step.ask st.step.asked).1
       where
         by : (o : Option RunState) → p.run ≡ o → ask_by m l rs r (kinds.PrivateStore slot cell number) p o ≡ Some st.step.ask → ⊥
-        by None none e = let h = private_store_asked m l slot cell number p st.step.ask e in
-            descriptor_no_cell _ cell _ (ap (λ (y : Spot × Access). y.0) h.1 ∙ met)
+        by None none e = private_no_cell m l slot cell number _ p st.step.ask e met
         by (Some q) is e = open_by (is_open_run q) refl e
           where
             open_by : (b : Bool) → is_open_run q ≡ b
-                → (if b then line_ask m l (kinds.PrivateStore slot cell number) p.nodes.free q (next_of m q) else opening_ask (kinds.PrivateStore slot cell number) q)
+                → (if b then line_ask m l (kinds.PrivateStore slot cell number) p.nodes.free p.blocks.free q (next_of m q) else opening_ask (kinds.PrivateStore slot cell number) q)
                 ≡ Some st.step.ask → ⊥
             open_by false opened a = some_none st.step.ask a
-            open_by true opened a =
-                let x = stored old q is opened slot cell number st a in
-                let place : cell_of m.fixed_cells slot cell ≡ cell_of m.fixed_cells t j =
-                cell_place old q is opened slot cell number st a (ap (λ (y : Spot × Access). y.0) x.asks_it ∙ met) in
-                let low = five_test _ _ true cell (if_some _ _ st.step.ask
-                (ap (λ (micro : Micro). line_ask m l (kinds.PrivateStore slot cell number) p.nodes.free q micro) (sym x.next) ∙ a)).0 in
-                let same : slot ≡ t = (cell_apart old q is opened slot cell number st a m.fixed_cells slot t cell j low five place).0 in
-                let hand = hand old q is opened slot cell number st a in
-                ne (hand_node m l st.beside.epochs s st.whole.slots r t node (ap (has p.nodes.hand) (sym same) ∙ hand))
+            open_by true opened a = ⊎_elim
+                (λ block. block_no_cell _ cell _ (ap (λ (y : Spot × Access). y.0) block.1 ∙ met))
+                (λ fills. fills_other opened fills.1)
+                (run_store_asked q st.step.ask m l slot cell number p.blocks.free (next_of m q) a)
+              where
+                fills_other : is_open_run q ≡ true → fill_store_ask m l slot cell number q (next_of m q) ≡ Some st.step.ask → ⊥
+                fills_other opened a =
+                    let x = stored old q is opened slot cell number st a in
+                    let place : cell_of m.fixed_cells slot cell ≡ cell_of m.fixed_cells t j =
+                    cell_place old q is opened slot cell number st a (ap (λ (y : Spot × Access). y.0) x.asks_it ∙ met) in
+                    let low = five_test _ _ true cell (if_some _ _ st.step.ask
+                    (ap (λ (micro : Micro). fill_store_ask m l slot cell number q micro) (sym x.next) ∙ a)).0 in
+                    let same : slot ≡ t = (cell_apart old q is opened slot cell number st a m.fixed_cells slot t cell j low five place).0 in
+                    let hand = hand old q is opened slot cell number st a in
+                    ne (hand_node m l st.beside.epochs s st.whole.slots r t node (ap (has p.nodes.hand) (sym same) ∙ hand))
     store_apart t j five kind st node ne is met = not_both is refl
 
     -- so it is none of another runner's slots
@@ -490,8 +539,7 @@ module _ (m : Meaning) (laws : Laws m) (l : Layout) (limits : IsWithinLimits l) 
     outside_words : (kind : EventKind) (st : IsStep m l rs s s' r kind) → outside_ask m l rs r kind p ≡ Some st.step.ask → SlotsHaveRoom m l s'.word p
     outside_words (kinds.PrivateStore slot word number) st e = words_room st.beside st.whole r
         (λ t j own five. cell_stands m laws l limits rs allowed s s' r t j (inl (r, own)) five (kinds.PrivateStore slot word number) st (λ store met.
-        let h = private_store_asked m l slot word number p st.step.ask e in
-        absurd (descriptor_no_cell _ word _ (ap (λ (y : Spot × Access). y.0) h.1 ∙ met)))) old
+        absurd (private_no_cell m l slot word number _ p st.step.ask e met))) old
     outside_words kind st e = same_words old kind st (λ store. not_both store refl)
 
     makes_none : (kind : EventKind) (found : ℕ) → MakesNone (outside_after m l kind p found)
@@ -513,7 +561,9 @@ module _ (m : Meaning) (laws : Laws m) (l : Layout) (limits : IsWithinLimits l) 
             ap (λ (y : Spot × Access). y.0) (if_some _ _ st.step.ask
             (ap (λ b. if b
             then when (is_resting p.stage p.run && (nat_lt cell 5 && (has p.nodes.free slot || has p.nodes.hand slot))) (spots.Cell (cell_of m.fixed_cells slot cell)) Loads
-            else when (is_resting p.stage p.run && has p.descriptors.free (slot - slot_count l m.fixed_slots)) (descriptor_spot (slot - slot_count l m.fixed_slots) cell) Loads)
+            else (if nat_lt slot (blocks_from m l)
+            then when (is_resting p.stage p.run && has p.descriptors.free (slot - slot_count l m.fixed_slots)) (descriptor_spot (slot - slot_count l m.fixed_slots) cell) Loads
+            else when (is_resting p.stage p.run && has p.blocks.free (slot - blocks_from m l)) (block_spot (slot - blocks_from m l) cell) Loads))
             (sym test) ∙ e)).1
 
         found : ℕ
@@ -533,9 +583,9 @@ module _ (m : Meaning) (laws : Laws m) (l : Layout) (limits : IsWithinLimits l) 
             )
 
         by : (b : Bool) → MakesNone (if b then record p { nodes = nodes_looked l p.nodes slot cell found }
-            else record p { descriptors = descriptor_stored p.descriptors (slot - slot_count l m.fixed_slots) cell found })
+            else outside.descriptor_known m l slot cell p found)
             → SlotsHaveRoom m l s'.word (if b then record p { nodes = nodes_looked l p.nodes slot cell found }
-            else record p { descriptors = descriptor_stored p.descriptors (slot - slot_count l m.fixed_slots) cell found })
+            else outside.descriptor_known m l slot cell p found)
         by true none = looked_room m l s'.word p slot cell found words finds _ refl none
         by false none = kept_room m l s'.word p _ (same_nodes p.nodes) none words
 

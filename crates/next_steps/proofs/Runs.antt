@@ -13,7 +13,7 @@ use Rattle.machine_states.specs.runner_parts.specs.declared.event.EventKind.{Eve
 use Rattle.machine_states.specs.runner_parts.specs.State.{RunState, PartState}
 use Rattle.machine_states.specs.runner_steps.specs.Sections.{thunk_of, is_open_run, line_of, next_of}
 use Rattle.machine_states.specs.runner_steps.specs.Asks.{opening_ask}
-use Rattle.machine_states.specs.Blockless.{outside_ask, line_ask, ask_by, asks}
+use Rattle.machine_states.specs.runner_steps.specs.Asks.{outside_ask, line_ask, ask_by, asks}
 use Rattle.agreement_core.specs.State.{Section}
 use Rattle.agreement_core.specs.State as agreement
 use Rattle.agreement_core.specs.Runs.{RunIsSound}
@@ -30,7 +30,7 @@ pub record InLine (m : Meaning) (l : Layout) (kind : EventKind) (p : PartState) 
   pub run : RunState
   pub runs : p.run ≡ Some run
   pub opened : is_open_run run ≡ true
-  pub asked : line_ask m l kind p.nodes.free run (next_of m run) ≡ Some x
+  pub asked : line_ask m l kind p.nodes.free p.blocks.free run (next_of m run) ≡ Some x
 
 pub in_line : (m : Meaning) (l : Layout) (rs : List Request) (r : ℕ) (kind : EventKind) (p : PartState) (x : Spot × Access)
     → outside_ask m l rs r kind p ≡ None → ((q : RunState) → opening_ask kind q ≡ None) → asks m l rs r kind p ≡ Some x
@@ -42,7 +42,7 @@ in_line m l rs r kind p x outside opening asked = by_run p.run refl (unless_gone
     by_run (Some q) is e = by_open (is_open_run q) refl e
       where
         by_open : (b : Bool) → is_open_run q ≡ b
-            → (if b then line_ask m l kind p.nodes.free q (next_of m q) else opening_ask kind q) ≡ Some x → InLine m l kind p x
+            → (if b then line_ask m l kind p.nodes.free p.blocks.free q (next_of m q) else opening_ask kind q) ≡ Some x → InLine m l kind p x
         by_open true is_open e = record { run = q; runs = is; opened = is_open; asked = e }
         by_open false is_open e = some_none x (sym (opening q) ∙ e)
 
@@ -52,7 +52,7 @@ pub record OutOfRun (m : Meaning) (l : Layout) (rs : List Request) (r : ℕ) (ki
   pub asked : outside_ask m l rs r kind p ≡ Some x
 
 pub out_of_run : (m : Meaning) (l : Layout) (rs : List Request) (r : ℕ) (kind : EventKind) (p : PartState) (x : Spot × Access)
-    → ((q : RunState) → line_ask m l kind p.nodes.free q (next_of m q) ≡ None) → ((q : RunState) → opening_ask kind q ≡ None)
+    → ((q : RunState) → line_ask m l kind p.nodes.free p.blocks.free q (next_of m q) ≡ None) → ((q : RunState) → opening_ask kind q ≡ None)
     → asks m l rs r kind p ≡ Some x → OutOfRun m l rs r kind p x
 out_of_run m l rs r kind p x line opening asked = by_run p.run refl (unless_gone _ p.gone _ x asked).1
   where
@@ -60,7 +60,7 @@ out_of_run m l rs r kind p x line opening asked = by_run p.run refl (unless_gone
     by_run None is e = record { none = is; asked = e }
     by_run (Some q) is e = by_open (is_open_run q) e
       where
-        by_open : (b : Bool) → (if b then line_ask m l kind p.nodes.free q (next_of m q) else opening_ask kind q) ≡ Some x
+        by_open : (b : Bool) → (if b then line_ask m l kind p.nodes.free p.blocks.free q (next_of m q) else opening_ask kind q) ≡ Some x
             → OutOfRun m l rs r kind p x
         by_open true e = some_none x (sym (line q) ∙ e)
         by_open false e = some_none x (sym (opening q) ∙ e)

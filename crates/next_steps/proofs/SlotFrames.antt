@@ -12,7 +12,7 @@ use Rattle.machine_states.specs.runner_parts.specs.Lists.{slot_retired}
 use Rattle.machine_states.specs.runner_steps.specs.Sections.{is_open_run, next_of}
 use Rattle.machine_states.specs.runner_steps.specs.InRun.{last_clock}
 use Rattle.machine_states.specs.runner_steps.specs.AfterInRun as inside
-use Rattle.machine_states.specs.Blockless.{line_after, inside_after, outside_after}
+use Rattle.machine_states.specs.runner_steps.specs.After.{line_after, inside_after, outside_after}
 use Rattle.next_steps.proofs.Filling.{fills_slot}
 use Rattle.next_steps.proofs.RoomParts.{SameNodes, same_nodes}
 
@@ -45,6 +45,7 @@ module _ (m : Meaning) (l : Layout) (p : PartState) (found : ℕ) where
     line_same kinds.ExchangeCell micro h = same _ refl
     line_same (kinds.PrivateLoad slot word) micro h = absurd (let z = h in cc)
     line_same (kinds.PrivateStore slot word number) micro h = absurd (let z = h in cc)
+    line_same (kinds.LinkCommit b) micro h = absurd (let z = h in cc)
     line_same kinds.MakeCommit micro h = absurd (let z = h in cc)
     line_same kinds.RetireCommit micro h = record { nodes = retired_same (inside.retired_slot_of micro) (found == 0) }
     line_same kinds.EpochForRetire micro h = same _ refl

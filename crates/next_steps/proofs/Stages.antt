@@ -19,8 +19,7 @@ use Rattle.machine_states.specs.runner_parts.specs.State.{RunState, FinishedStat
 use Rattle.machine_states.specs.runner_steps.specs.Sections.{thunk_of, is_open_run, next_of, commits_to}
 use Rattle.machine_states.specs.runner_steps.specs.InRun.{make_slot, last_clock, stamp_after}
 use Rattle.machine_states.specs.runner_steps.specs.After.{line_after, after_by, after}
-use Rattle.machine_states.specs.Blockless.{line_ask}
-use Rattle.machine_states.proofs.Blockless.{asks_same}
+use Rattle.machine_states.specs.runner_steps.specs.Asks.{line_ask}
 use Rattle.machine_states.specs.runner_parts.specs.Lists.{cell_read, learned}
 use Rattle.machine_states.specs.runner_steps.specs.AfterInRun as inside
 use Rattle.machine_states.specs.Sight.{Sight, sight, part_or_first}
@@ -281,23 +280,23 @@ module _ (m : Meaning) (l : Layout) (p : PartState) (q : RunState) (runs : p.run
 -- an enabled exchange of a stamp has room, and a Make that may commit has a slot
 module _ (m : Meaning) (l : Layout) (rs : List Request) (r : ℕ) (p : PartState) (q : RunState) (runs : p.run ≡ Some q) (opened : is_open_run q ≡ true)
     (micro : Micro) where
-  asked_here : (kind : EventKind) (x : Spot × Access) → next_of m q ≡ micro → Meets m l rs r p kind x → line_ask m l kind p.nodes.free q micro ≡ Some x
-  asked_here kind x ahead meets = ap (λ (y : Micro). line_ask m l kind p.nodes.free q y) (sym ahead)
-      ∙ line_asked m l rs r kind p q x (sym (asks_same m l rs r kind p) ∙ meets) runs opened
+  asked_here : (kind : EventKind) (x : Spot × Access) → next_of m q ≡ micro → Meets m l rs r p kind x → line_ask m l kind p.nodes.free p.blocks.free q micro ≡ Some x
+  asked_here kind x ahead meets = ap (λ (y : Micro). line_ask m l kind p.nodes.free p.blocks.free q y) (sym ahead)
+      ∙ line_asked m l rs r kind p q x meets runs opened
 
   stamp_low : micro ≡ micros.StampExchange → next_of m q ≡ micro → Meets m l rs r p (kind_at p q micro) (ask_at m p q micro)
       → nat_lt q.word last_clock ≡ true
   stamp_low e ahead meets =
       let asked = asked_here (kind_at p q micro) (ask_at m p q micro) ahead meets in
       (stamp_asked q (ask_at m p q micros.StampExchange) micros.StampExchange
-      (subst (λ (y : Micro). line_ask m l (kind_at p q y) p.nodes.free q y ≡ Some (ask_at m p q y)) e asked)).1
+      (subst (λ (y : Micro). line_ask m l (kind_at p q y) p.nodes.free p.blocks.free q y ≡ Some (ask_at m p q y)) e asked)).1
 
   made_some : (log : ℕ) → micro ≡ micros.MakeCommit log → next_of m q ≡ micro → Meets m l rs r p (kind_at p q micro) (ask_at m p q micro)
       → is_some q.made ≡ true
   made_some log e ahead meets =
       let asked = asked_here (kind_at p q micro) (ask_at m p q micro) ahead meets in
       let h = make_commit_asked q (ask_at m p q (micros.MakeCommit log)) (micros.MakeCommit log)
-      (subst (λ (y : Micro). line_ask m l (kind_at p q y) p.nodes.free q y ≡ Some (ask_at m p q y)) e asked) in ap is_some h.3
+      (subst (λ (y : Micro). line_ask m l (kind_at p q y) p.nodes.free p.blocks.free q y ≡ Some (ask_at m p q y)) e asked) in ap is_some h.3
 
 module _ (m : Meaning) (laws : Laws m) (l : Layout) (limits : IsWithinLimits l) (rs : List Request) (allowed : AreAllowed rs) where
   pub then_stepped : ThenStepped m l rs

@@ -1,6 +1,6 @@
 -- Which words a step of each kind may change.
-use Rattle.std.specs.Prelude.{◌==◌, ◌-◌, nat_lt, Bool, true, false, if◌then◌else◌}
-use Rattle.std.proofs.Common.{◌≡◌, ℕ, List, refl, sym, ap, ◌∙◌, subst, Option, Some, None}
+use Rattle.std.specs.Prelude.{◌==◌, ◌-◌, nat_lt, Bool, true, false, if◌then◌else◌, ◌/◌, ◌%◌}
+use Rattle.std.proofs.Common.{◌≡◌, ℕ, List, refl, sym, ap, ◌∙◌, subst, Option, Some, None, suc, zero, ⊎_elim, ◌+◌, length}
 use Rattle.machine_states.specs.map_history.specs.declared.op.Request.{Request}
 use Rattle.machine_states.specs.body_terms.specs.declared.micro.Micro.{Micro}
 use Rattle.machine_states.specs.body_terms.specs.declared.micro.Micro.TheVariants as micros
@@ -11,7 +11,7 @@ use Rattle.machine_states.specs.table_words.specs.declared.spot.Spot.TheVariants
 use Rattle.machine_states.specs.table_words.specs.declared.access.Access.{Access}
 use Rattle.machine_states.specs.table_words.specs.declared.access.Access.TheVariants.{Loads, Stores, Exchanges, Raises}
 use Rattle.machine_states.specs.table_words.specs.Access.{written}
-use Rattle.machine_states.specs.table_words.specs.Places.{slot_count}
+use Rattle.machine_states.specs.table_words.specs.Places.{slot_count, part_words}
 use Rattle.machine_states.specs.table_words.specs.Seen.{put}
 use Rattle.machine_states.specs.structure_laws.specs.Meaning.{Meaning}
 use Rattle.machine_states.specs.runner_parts.specs.declared.event.EventKind.{EventKind}
@@ -19,9 +19,10 @@ use Rattle.machine_states.specs.runner_parts.specs.declared.event.EventKind.TheV
 use Rattle.machine_states.specs.runner_parts.specs.State.{RunState, PartState}
 use Rattle.machine_states.specs.runner_steps.specs.Sections.{thunk_of, is_open_run, next_of}
 use Rattle.machine_states.specs.runner_steps.specs.InRun.{load_cell_ask, nested_load_ask, outcome_load_ask}
-use Rattle.machine_states.specs.runner_steps.specs.Outside.{descriptor_spot}
+use Rattle.machine_states.specs.runner_steps.specs.Outside.{descriptor_spot, block_spot, blocks_from}
+use Rattle.machine_states.specs.runner_parts.specs.block_words.specs.Blocks.{part_spot, link_spot, log_spot}
 use Rattle.machine_states.specs.runner_steps.specs.Asks.{opening_ask}
-use Rattle.machine_states.specs.Blockless.{outside_ask, line_ask, inside_ask, ask_by, asks}
+use Rattle.machine_states.specs.runner_steps.specs.Asks.{outside_ask, line_ask, inside_ask, ask_by, asks}
 use Rattle.machine_states.proofs.Sights.{if_some, some_none, unless_gone}
 use Rattle.machine_states.proofs.Steps.{some_same}
 use Rattle.machine_states.proofs.Updates.{put_same}
@@ -94,6 +95,31 @@ at_spot kind a (Stores number) h = h
 at_spot kind a (Exchanges old new) h = h
 at_spot kind a (Raises number) h = h
 
+-- each kind may change the words of logs, links and blocks
+other_may : (kind : EventKind) (a : Spot) (access : Access) → changed a ≡ Another → May kind (a, access)
+other_may kind a access e = at_spot kind a access (ap (may kind) e)
+
+log_may : (kind : EventKind) (d : ℕ) (links : List ℕ) (k : ℕ) (access : Access) → May kind (log_spot d links k, access)
+log_may kind d links k access = other_may kind (log_spot d links k) access (by (k / part_words) (k % part_words))
+  where
+    by : (i j : ℕ) → changed (part_spot d links i j) ≡ Another
+    by zero j = refl
+    by (suc i) j = refl
+
+link_may : (kind : EventKind) (d : ℕ) (links : List ℕ) (i : ℕ) (access : Access) → May kind (link_spot d links i, access)
+link_may kind d links i access = other_may kind (link_spot d links i) access (by i)
+  where
+    by : (i : ℕ) → changed (link_spot d links i) ≡ Another
+    by zero = refl
+    by (suc i) = refl
+
+block_may : (kind : EventKind) (b j : ℕ) (access : Access) → May kind (block_spot b j, access)
+block_may kind b j access = other_may kind (block_spot b j) access (by (j == part_words))
+  where
+    by : (link : Bool) → changed (if link then spots.BlockLink b else spots.BlockWord b j) ≡ Another
+    by true = refl
+    by false = refl
+
 module _ (m : Meaning) (l : Layout) where
   module _ (q : RunState) (x : Spot × Access) where
     load_may : (micro : Micro) → load_cell_ask q micro ≡ Some x → May (kinds.LoadCell None) x
@@ -108,56 +134,65 @@ module _ (m : Meaning) (l : Layout) where
     outcome_may (micros.OutcomeLoad place log) e = subst (May kinds.OutcomeLoad) (some_same _ _ e) refl
     outcome_may _ e = some_none x e
 
-    line_may : (kind : EventKind) (free : List ℕ) (micro : Micro) → line_ask m l kind free q micro ≡ Some x → May kind x
-    line_may kinds.Commit free micro e = subst (May kinds.Commit) (inside.commit_asked q x micro e).is refl
-    line_may (kinds.LoadCell None) free micro e = load_may micro e
-    line_may kinds.ExchangeCell free micro e =
+    line_may : (kind : EventKind) (free blocks : List ℕ) (micro : Micro) → line_ask m l kind free blocks q micro ≡ Some x → May kind x
+    line_may kinds.Commit free blocks micro e = subst (May kinds.Commit) (inside.commit_asked q x micro e).is
+        (log_may kinds.Commit q.descriptor q.links (inside.commit_asked q x micro e).log (Exchanges 0 q.word))
+    line_may (kinds.LoadCell None) free blocks micro e = load_may micro e
+    line_may kinds.ExchangeCell free blocks micro e =
         subst (May kinds.ExchangeCell) (inside.exchange_cell_asked q x l micro e).is (at_spot kinds.ExchangeCell (spots.Cell (inside.exchange_cell_asked q x l micro e).place) _ refl)
-    line_may (kinds.PrivateLoad slot word) free micro e = let h = inside.fill_load_asked q x m l slot word free micro e in
+    line_may (kinds.PrivateLoad slot word) free blocks micro e = let h = inside.fill_load_asked q x m l slot word free micro e in
         subst (May (kinds.PrivateLoad slot word)) h.6 refl
-    line_may (kinds.PrivateStore slot word number) free micro e = let h = inside.fill_store_asked q x m l slot word number micro e in
-        subst (May (kinds.PrivateStore slot word number)) h.5 refl
-    line_may kinds.MakeCommit free micro e = subst (May kinds.MakeCommit) (inside.make_commit_asked q x micro e).2.is refl
-    line_may kinds.RetireCommit free micro e = subst (May kinds.RetireCommit) (inside.retire_commit_asked q x micro e).1.is refl
-    line_may kinds.EpochForRetire free micro e = subst (May kinds.EpochForRetire) (inside.epoch_for_retire_asked q x micro e).3 refl
-    line_may kinds.SetDone free micro e = subst (May kinds.SetDone) (inside.set_done_asked q x micro e).1 refl
-    line_may kinds.Release free micro e =
+    line_may (kinds.PrivateStore slot word number) free blocks micro e = ⊎_elim
+        (λ block. subst (May (kinds.PrivateStore slot word number)) block.1 (block_may (kinds.PrivateStore slot word number) (slot - blocks_from m l) word (Stores number)))
+        (λ fills. subst (May (kinds.PrivateStore slot word number)) (inside.fill_store_asked q x m l slot word number micro fills.1).5 refl)
+        (inside.run_store_asked q x m l slot word number blocks micro e)
+    line_may (kinds.LinkCommit b) free blocks micro e =
+        subst (May (kinds.LinkCommit b)) (inside.link_asked q x l b micro e) (link_may (kinds.LinkCommit b) q.descriptor q.links (length q.links) (Exchanges 0 (b + 1)))
+    line_may kinds.MakeCommit free blocks micro e = let h = inside.make_commit_asked q x micro e in
+        subst (May kinds.MakeCommit) h.2.is (log_may kinds.MakeCommit q.descriptor q.links h.2.log (Exchanges 0 (h.0 + 1)))
+    line_may kinds.RetireCommit free blocks micro e = let h = inside.retire_commit_asked q x micro e in
+        subst (May kinds.RetireCommit) h.1.is (log_may kinds.RetireCommit q.descriptor q.links h.1.log (Exchanges 0 (h.0 + 1)))
+    line_may kinds.EpochForRetire free blocks micro e = subst (May kinds.EpochForRetire) (inside.epoch_for_retire_asked q x micro e).3 refl
+    line_may kinds.SetDone free blocks micro e = subst (May kinds.SetDone) (inside.set_done_asked q x micro e).1 refl
+    line_may kinds.Release free blocks micro e =
         subst (May kinds.Release) (inside.release_asked q x l micro e).is (at_spot kinds.Release (spots.Cell (inside.release_asked q x l micro e).place) _ refl)
-    line_may kinds.ClockLoad free micro e = subst (May kinds.ClockLoad) (inside.clock_load_asked q x micro e).1 refl
-    line_may kinds.StampExchange free micro e =
+    line_may kinds.ClockLoad free blocks micro e = subst (May kinds.ClockLoad) (inside.clock_load_asked q x micro e).1 refl
+    line_may kinds.StampExchange free blocks micro e =
         subst (May kinds.StampExchange) (inside.stamp_exchange_asked q x micro e).3 (at_spot kinds.StampExchange (spots.Stamp (thunk_of q.opened).request) _ refl)
-    line_may kinds.ClockRaise free micro e =
+    line_may kinds.ClockRaise free blocks micro e =
         subst (May kinds.ClockRaise) (inside.clock_raise_asked q x micro e).2 (at_spot kinds.ClockRaise (spots.Clock) _ refl)
-    line_may kinds.ReplyExchange free micro e =
+    line_may kinds.ReplyExchange free blocks micro e =
         subst (May kinds.ReplyExchange) (inside.reply_exchange_asked q x micro e).3 (at_spot kinds.ReplyExchange (spots.Reply (thunk_of q.opened).request) _ refl)
-    line_may kinds.NestedLoad free micro e = nested_may micro e
-    line_may kinds.NestedHold free micro e =
+    line_may kinds.NestedLoad free blocks micro e = nested_may micro e
+    line_may kinds.NestedHold free blocks micro e =
         subst (May kinds.NestedHold) (inside.nested_hold_asked q x l micro e).is (at_spot kinds.NestedHold (spots.Cell (inside.nested_hold_asked q x l micro e).place) _ refl)
-    line_may kinds.OutcomeLoad free micro e = outcome_may micro e
-    line_may kinds.OutcomeCommit free micro e = subst (May kinds.OutcomeCommit) (inside.outcome_commit_asked q x micro e).is refl
-    line_may _ free micro e = some_none x e
+    line_may kinds.OutcomeLoad free blocks micro e = outcome_may micro e
+    line_may kinds.OutcomeCommit free blocks micro e = subst (May kinds.OutcomeCommit) (inside.outcome_commit_asked q x micro e).is
+        (log_may kinds.OutcomeCommit q.descriptor q.links (inside.outcome_commit_asked q x micro e).log (Exchanges 0 q.word))
+    line_may _ free blocks micro e = some_none x e
 
     opening_may : (kind : EventKind) → opening_ask kind q ≡ Some x → May kind x
     opening_may (kinds.LoadThunk None) e = subst (May (kinds.LoadThunk None)) (inside.open_more_asked q x e).1 refl
     opening_may kinds.LoadDone e = subst (May kinds.LoadDone) (inside.load_done_asked q x e).1 refl
     opening_may _ e = some_none x e
 
-    inside_may : (kind : EventKind) (free : List ℕ) → inside_ask m l kind free q ≡ Some x → May kind x
-    inside_may kind free e = by (is_open_run q) e
+    inside_may : (kind : EventKind) (free blocks : List ℕ) → inside_ask m l kind free blocks q ≡ Some x → May kind x
+    inside_may kind free blocks e = by (is_open_run q) e
       where
-        by : (b : Bool) → (if b then line_ask m l kind free q (next_of m q) else opening_ask kind q) ≡ Some x → May kind x
-        by true e = line_may kind free (next_of m q) e
+        by : (b : Bool) → (if b then line_ask m l kind free blocks q (next_of m q) else opening_ask kind q) ≡ Some x → May kind x
+        by true e = line_may kind free blocks (next_of m q) e
         by false e = opening_may kind e
 
   -- a private store outside a run is one to a word of a descriptor
   store_may : (slot word number d : ℕ) → May (kinds.PrivateStore slot word number) (descriptor_spot d word, Stores number)
-  store_may slot word number d = by (nat_lt word 12) (word == 12)
+  store_may slot word number d = by (nat_lt word 12) (word == 12) (word == 13 + part_words)
     where
-      by : (b b' : Bool) → May (kinds.PrivateStore slot word number)
-          ((if b then spots.ThunkWord d word else (if b' then spots.DoneWord d else spots.LogWord d (word - 13))), Stores number)
-      by true b' = refl
-      by false true = refl
-      by false false = refl
+      by : (b b' c : Bool) → May (kinds.PrivateStore slot word number)
+          ((if b then spots.ThunkWord d word else (if b' then spots.DoneWord d else (if c then spots.LinkWord d else spots.LogWord d (word - 13)))), Stores number)
+      by true b' c = refl
+      by false true c = refl
+      by false false true = refl
+      by false false false = refl
 
   module _ (rs : List Request) (r : ℕ) (p : PartState) (x : Spot × Access) where
     outside_may : (kind : EventKind) → outside_ask m l rs r kind p ≡ Some x → May kind x
@@ -175,8 +210,10 @@ module _ (m : Meaning) (l : Layout) where
         subst (May (kinds.LoadEntry request reply)) (outside.entry_asked request reply p x e) refl
     outside_may (kinds.PrivateLoad slot word) e =
         subst (May (kinds.PrivateLoad slot word)) (outside.private_load_asked m l slot word p x e).1 refl
-    outside_may (kinds.PrivateStore slot word number) e = subst (May (kinds.PrivateStore slot word number))
-        (outside.private_store_asked m l slot word number p x e).1 (store_may slot word number (slot - slot_count l m.fixed_slots))
+    outside_may (kinds.PrivateStore slot word number) e = ⊎_elim
+        (λ own. subst (May (kinds.PrivateStore slot word number)) own.2 (store_may slot word number (slot - slot_count l m.fixed_slots)))
+        (λ block. subst (May (kinds.PrivateStore slot word number)) block.1 (block_may (kinds.PrivateStore slot word number) (slot - blocks_from m l) word (Stores number)))
+        (outside.private_store_cases m l slot word number p x e)
     outside_may (kinds.Hold thunk d) e = subst (May (kinds.Hold thunk d)) (outside.hold_asked m l rs r thunk d p x e).is
         (at_spot (kinds.Hold thunk d) (spots.Cell thunk.lock) (Exchanges thunk.word (held_word d thunk.word)) refl)
     outside_may (kinds.LoadThunk (Some d)) e = subst (May (kinds.LoadThunk (Some d))) (outside.open_asked d p x e).3 refl
@@ -193,7 +230,7 @@ module _ (m : Meaning) (l : Layout) where
 
     by_run : (kind : EventKind) (o : Option RunState) → ask_by m l rs r kind p o ≡ Some x → May kind x
     by_run kind None e = outside_may kind e
-    by_run kind (Some q) e = inside_may q x kind p.nodes.free e
+    by_run kind (Some q) e = inside_may q x kind p.nodes.free p.blocks.free e
 
     -- what a step of this kind asks is what the kind may change
     pub asked_may : (kind : EventKind) → asks m l rs r kind p ≡ Some x → May kind x

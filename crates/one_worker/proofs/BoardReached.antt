@@ -24,7 +24,8 @@ use Rattle.machine_states.specs.epoch_core.specs.declared.location.Location.TheV
 use Rattle.machine_states.specs.runner_parts.specs.Lists.{without}
 use Rattle.machine_states.specs.runner_parts.specs.Tests.{has}
 use Rattle.machine_states.specs.runner_parts.specs.State.{RunState, NodesState, RecordsState, PartState}
-use Rattle.machine_states.specs.Blockless.{asks, ask_by, after, after_by, stepped}
+use Rattle.machine_states.specs.runner_steps.specs.Asks.{asks, ask_by}
+use Rattle.machine_states.specs.runner_steps.specs.After.{after, after_by, stepped}
 use Rattle.machine_states.specs.runner_steps.specs.After.{leaves, knows_also, epoch_after, is_late_join}
 use Rattle.machine_states.specs.runner_steps.specs.Asks.{sizes_for}
 use Rattle.machine_states.specs.epoch_core.specs.declared.stage.Stage.TheVariants.{Idle}

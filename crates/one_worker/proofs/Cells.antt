@@ -1,5 +1,5 @@
 -- Where one section alone is open a step changes a cell by that section, or in the slot of a Make.
-use Rattle.std.specs.Prelude.{◌^◌, ◌⊎◌, nat_le, Bool, true, false, slice_index, slice_index_or, if◌then◌else◌}
+use Rattle.std.specs.Prelude.{◌^◌, ◌⊎◌, nat_le, Bool, true, false, slice_index, slice_index_or, if◌then◌else◌, ◌-◌}
 use Rattle.std.proofs.Common.{◌≡◌, ◌≢◌, ℕ, zero, suc, ◌<◌, ◌≤◌, List, length, refl, sym, ap, ◌∙◌, subst, ⊎_elim, inl, inr, arith, Option, Some, None}
 use Rattle.std.proofs.lemmas.Bool.{cases_eq}
 use Rattle.std.proofs.lemmas.Bool.Decides.{nat_tests}
@@ -23,8 +23,8 @@ use Rattle.machine_states.specs.runner_parts.specs.declared.event.EventKind.{Eve
 use Rattle.machine_states.specs.runner_parts.specs.declared.event.EventKind.TheVariants as kinds
 use Rattle.machine_states.specs.runner_parts.specs.State.{RunState, PartState}
 use Rattle.machine_states.specs.runner_steps.specs.Asks.{opening_ask}
-use Rattle.machine_states.specs.Blockless.{ask_by, line_ask, outside_ask}
-use Rattle.machine_states.specs.runner_steps.specs.InRun.{is_slot}
+use Rattle.machine_states.specs.runner_steps.specs.Asks.{ask_by, line_ask, outside_ask}
+use Rattle.machine_states.specs.runner_steps.specs.InRun.{is_slot, fill_store_ask}
 use Rattle.machine_states.specs.runner_steps.specs.Sections.{thunk_of, is_open_run, line_of, next_of}
 use Rattle.agreement_core.specs.State.{AgreementState, Section, Run}
 use Rattle.agreement_core.specs.Checks.{is_stop}
@@ -44,8 +44,9 @@ use Rattle.runner_facts.specs.machine_facts.specs.machine_agreement.proofs.RunPl
 use Rattle.runner_facts.specs.machine_facts.specs.machine_agreement.proofs.LineAsked as asked_line
 use Rattle.runner_facts.specs.machine_facts.specs.machine_invariant.specs.Whole.{Beside, states_of, IsWhole}
 use Rattle.resource_bounds.proofs.Releases.{released_lock}
-use Rattle.resource_bounds.proofs.Words.{Stays, line_stays, opening_stays, outside_stays}
+use Rattle.resource_bounds.proofs.Words.{Stays, line_stays, opening_stays, outside_stays, block_stays}
 use Rattle.one_worker.proofs.OneCell.{test_same, other, it, misses}
+use Rattle.machine_states.specs.runner_steps.specs.Outside.{blocks_from}
 
 -- a run of a section: its place, and what a late one does
 module _ (m : Meaning) (l : Layout) (g : Beside) (s : Sight) (whole : IsWhole m l g s) (r : ℕ) (q : RunState) (runs : (s.part r).run ≡ Some q)
@@ -150,7 +151,7 @@ module _ (m : Meaning) (l : Layout) (rs : List Request) (g : Beside) (s : Sight)
     either_way zero e = inl (alone q.descriptor (used m l g s whole r q runs all) e)
     either_way (suc n) e = inr (λ z. omega (arith, e, z))
 
-    store_leaves : line_ask m l kinds.ExchangeCell y.nodes.free q (next_of m q) ≡ Some x → Leaves
+    store_leaves : line_ask m l kinds.ExchangeCell y.nodes.free y.blocks.free q (next_of m q) ≡ Some x → Leaves
     store_leaves e =
         let h = asked_line.exchange_asked q x l (next_of m q) e in
         let at = next_in_line m q (micros.ExchangeCell h.0 h.1 h.2) refl h.3 in
@@ -173,7 +174,7 @@ module _ (m : Meaning) (l : Layout) (rs : List Request) (g : Beside) (s : Sight)
         let v = ap version_of same in omega (arith, past, v))))
         (either_way x0.done refl)
 
-    take_leaves : line_ask m l kinds.NestedHold y.nodes.free q (next_of m q) ≡ Some x → Leaves
+    take_leaves : line_ask m l kinds.NestedHold y.nodes.free y.blocks.free q (next_of m q) ≡ Some x → Leaves
     take_leaves e =
         let h = asked_line.nested_hold_asked q x l (next_of m q) e in
         let at = next_in_line m q (micros.NestedHold h.0 h.1) refl h.2 in
@@ -198,7 +199,7 @@ module _ (m : Meaning) (l : Layout) (rs : List Request) (g : Beside) (s : Sight)
         let v = ap version_of (cell_same h.0 ∙ finds) in omega (arith, past, v))))
         (either_way x0.done refl)
 
-    release_leaves : line_ask m l kinds.Release y.nodes.free q (next_of m q) ≡ Some x → Stays f p x
+    release_leaves : line_ask m l kinds.Release y.nodes.free y.blocks.free q (next_of m q) ≡ Some x → Stays f p x
     release_leaves e =
         let h = asked_line.release_asked q x l (next_of m q) e in
         let lock = released_lock m l rs g s whole r q runs opened h.0 h.1 h.2 in
@@ -227,7 +228,7 @@ module _ (m : Meaning) (l : Layout) (rs : List Request) (g : Beside) (s : Sight)
     own_slot None t e = absurd (let fails = e in cc)
     own_slot (Some u) t e = ap (λ k. Some k) (test_same u t e)
 
-    fill_leaves : (t cell number : ℕ) → line_ask m l (kinds.PrivateStore t cell number) y.nodes.free q (next_of m q) ≡ Some x → Leaves
+    fill_leaves : (t cell number : ℕ) → fill_store_ask m l t cell number q (next_of m q) ≡ Some x → Leaves
     fill_leaves t cell number e =
         let h = asked_line.fill_store_asked q x m l t cell number (next_of m q) e in
         ⊎_elim
@@ -242,15 +243,18 @@ module _ (m : Meaning) (l : Layout) (rs : List Request) (g : Beside) (s : Sight)
         (λ ne. inl (other f p x (cell_of m.fixed_cells t cell) _ h.6 ne))
         (cases_eq p (cell_of m.fixed_cells t cell))
 
-    line_leaves : (kind' : EventKind) → line_ask m l kind' y.nodes.free q (next_of m q) ≡ Some x → Leaves
+    line_leaves : (kind' : EventKind) → line_ask m l kind' y.nodes.free y.blocks.free q (next_of m q) ≡ Some x → Leaves
     line_leaves kinds.ExchangeCell e = store_leaves e
-    line_leaves (kinds.PrivateStore t cell number) e = fill_leaves t cell number e
+    line_leaves (kinds.PrivateStore t cell number) e = ⊎_elim
+        (λ block. inl (subst (Stays f p) block.1 (block_stays f p (t - blocks_from m l) cell number)))
+        (λ fills. fill_leaves t cell number fills.1)
+        (asked_line.run_store_asked q x m l t cell number y.blocks.free (next_of m q) e)
     line_leaves kinds.NestedHold e = take_leaves e
     line_leaves kinds.Release e = inl (release_leaves e)
-    line_leaves kind' e = inl (line_stays f p m l q x kind' y.nodes.free (next_of m q) refl e)
+    line_leaves kind' e = inl (line_stays f p m l q x kind' y.nodes.free y.blocks.free (next_of m q) refl e)
 
   inside_leaves : (q : RunState) → y.run ≡ Some q → (b : Bool) → is_open_run q ≡ b
-      → (if b then line_ask m l kind y.nodes.free q (next_of m q) else opening_ask kind q) ≡ Some x → Leaves
+      → (if b then line_ask m l kind y.nodes.free y.blocks.free q (next_of m q) else opening_ask kind q) ≡ Some x → Leaves
   inside_leaves q runs true opened e = line_leaves q runs opened kind e
   inside_leaves q runs false opened e = inl (opening_stays f p m l q x kind e)
 

@@ -20,7 +20,8 @@ use Rattle.machine_states.specs.epoch_core.specs.State.{is_entered}
 use Rattle.machine_states.specs.epoch_core.specs.declared.stage.Stage.TheVariants.{Idle, Scanning}
 use Rattle.machine_states.specs.guard_core.specs.State.{word_of}
 use Rattle.machine_states.specs.runner_parts.specs.State.{RunState, RecordsState, PartState}
-use Rattle.machine_states.specs.Blockless.{ask_by, after, stepped}
+use Rattle.machine_states.specs.runner_steps.specs.Asks.{ask_by}
+use Rattle.machine_states.specs.runner_steps.specs.After.{after, stepped}
 use Rattle.machine_states.specs.runner_steps.specs.After.{leaves, knows_also, own_epoch, epoch_after, is_busy, is_moved, is_late_join}
 use Rattle.machine_states.specs.World.{World, happens, is_join}
 use Rattle.machine_states.specs.First.{IsFirst, first_part, keeper_part, worker_part}

@@ -25,11 +25,10 @@ use Rattle.machine_states.specs.runner_steps.specs.Sections.{is_open_run, next_o
 use Rattle.machine_states.specs.World.{World, happens}
 use Rattle.machine_states.specs.First.{IsFirst}
 use Rattle.machine_states.specs.Reached.{Reached}
-use Rattle.machine_states.specs.Sight.{Sight, sight, parts_after}
-use Rattle.machine_states.specs.Full.{full_sight_after}
+use Rattle.machine_states.specs.Sight.{Sight, sight, parts_after, sight_after}
 use Rattle.machine_states.proofs.FirstSights.{first_parts}
 use Rattle.machine_states.proofs.Reached.{first_reached, more_reached, reached_has, reached_all}
-use Rattle.machine_states.proofs.Sights.{happens_in_full, unless_gone, cond_none}
+use Rattle.machine_states.proofs.Sights.{happens_steps, unless_gone, cond_none}
 use Rattle.machine_states.proofs.Updates.{upd_here, upd_else, upd_split}
 use Rattle.resource_bounds.specs.machine_epochs.proofs.OutsideAsked as asked
 use Rattle.resource_bounds.specs.machine_epochs.proofs.FirstJoin as FirstJoin
@@ -161,7 +160,7 @@ module _ (m : Meaning) (l : Layout) (rs : List Request) (s : Sight) (r : ℕ) (x
       (staying (same r) (record { named = stays.named; away = stays.away }) (old r))
       (λ j ne'. record { stored = same j ∙ (old j).stored; away = (old j).away }) i)
 
-  kept : (kind : EventKind) → ask_by m l rs r kind p p.run ≡ Some x → GuardsFit (full_sight_after m l s r kind x)
+  kept : (kind : EventKind) → ask_by m l rs r kind p p.run ≡ Some x → GuardsFit (sight_after m l s r kind x)
   kept (kinds.Join worker) e = joining worker e
   kept (kinds.Guard d) e = storing d p.run refl e
   kept kind e = keeping kind refl e
@@ -188,7 +187,7 @@ module _ (m : Meaning) (l : Layout) (rs : List Request) where
   step_fit : (w v : World) (e : Event) → Has w → happens m l rs w e ≡ Some v → Has v
   step_fit w v e old goes =
       let all = reached_all m l rs w old.reached in
-      let step = (happens_in_full m l rs w v e (record { words = le_of_eq (sym all.words); parts = all.parts }) goes).0 in
+      let step = (happens_steps m l rs w v e (record { words = le_of_eq (sym all.words); parts = all.parts }) goes).0 in
       record {
         reached = more_reached m l rs w v e old.reached goes;
         has = subst GuardsFit (sym step.next)

@@ -27,7 +27,7 @@ use Rattle.machine_states.specs.runner_steps.specs.InRun.{last_clock}
 use Rattle.machine_states.specs.runner_steps.specs.Board.{free_if}
 use Rattle.machine_states.specs.runner_steps.specs.AfterInRun as inside
 use Rattle.machine_states.specs.runner_steps.specs.AfterOutside as outside
-use Rattle.machine_states.specs.Blockless.{line_after, inside_after, outside_after}
+use Rattle.machine_states.specs.runner_steps.specs.After.{line_after, inside_after, outside_after}
 use Rattle.machine_states.specs.epoch_core.specs.State.{EpochState}
 use Rattle.machine_states.specs.epoch_core.specs.declared.location.Location.TheVariants.{Hand}
 use Rattle.machine_states.specs.epoch_core.specs.Sound.{is_for_nodes}
@@ -129,6 +129,7 @@ module _ (m : Meaning) (l : Layout) (y : PartState) (found : ℕ) where
     line_keeps kinds.ExchangeCell lost micro = same _ refl
     line_keeps (kinds.PrivateLoad slot word) lost micro = fill slot q.made
     line_keeps (kinds.PrivateStore slot word number) lost micro = same _ refl
+    line_keeps (kinds.LinkCommit b) lost micro = same _ refl
     line_keeps kinds.MakeCommit lost micro = make (lost refl) q.made
     line_keeps kinds.RetireCommit lost micro = retire (inside.retired_slot_of micro)
     line_keeps kinds.EpochForRetire lost micro = same _ refl

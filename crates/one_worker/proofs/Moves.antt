@@ -19,7 +19,7 @@ use Rattle.machine_states.specs.epoch_core.specs.State.{last_epoch}
 use Rattle.machine_states.specs.runner_steps.specs.InRun.{last_clock}
 use Rattle.machine_states.specs.runner_steps.specs.AfterInRun as inside
 use Rattle.machine_states.specs.runner_steps.specs.AfterOutside as outside
-use Rattle.machine_states.specs.Blockless.{line_after, inside_after, outside_after}
+use Rattle.machine_states.specs.runner_steps.specs.After.{line_after, inside_after, outside_after}
 use Rattle.machine_states.proofs.Steps.{some_same, none_some}
 
 -- how many cells were read since the runner entered, and how many of them in walks
@@ -138,6 +138,7 @@ module _ (m : Meaning) (l : Layout) (y : PartState) (found : ℕ) (kind : EventK
     line_moves kinds.ExchangeCell micro = read_more _ _ refl refl refl refl
     line_moves (kinds.PrivateLoad slot word) micro = fill slot q.made
     line_moves (kinds.PrivateStore slot word number) micro = same _ refl refl refl refl
+    line_moves (kinds.LinkCommit b) micro = same _ refl refl refl refl
     line_moves kinds.MakeCommit micro = make q.made
     line_moves kinds.RetireCommit micro = same _ refl refl refl refl
     line_moves kinds.EpochForRetire micro = same _ refl refl refl refl

@@ -13,7 +13,8 @@ use Rattle.machine_states.specs.structure_laws.specs.Meaning.{Meaning}
 use Rattle.machine_states.specs.runner_parts.specs.declared.event.EventKind.{EventKind}
 use Rattle.machine_states.specs.runner_parts.specs.declared.event.EventKind.TheVariants as kinds
 use Rattle.machine_states.specs.runner_parts.specs.State.{RunState, RecordsState, PartState}
-use Rattle.machine_states.specs.Blockless.{asks, ask_by, after, stepped}
+use Rattle.machine_states.specs.runner_steps.specs.Asks.{asks, ask_by}
+use Rattle.machine_states.specs.runner_steps.specs.After.{after, stepped}
 use Rattle.machine_states.specs.runner_steps.specs.After.{own_epoch, epoch_after, is_busy, is_moved}
 use Rattle.machine_states.proofs.Sights.{unless_gone, cond_none}
 use Rattle.resource_bounds.specs.machine_epochs.proofs.OutsideAsked as asked

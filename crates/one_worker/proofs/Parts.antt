@@ -21,7 +21,7 @@ use Rattle.machine_states.specs.epoch_core.specs.State.{last_epoch}
 use Rattle.machine_states.specs.runner_steps.specs.InRun.{last_clock}
 use Rattle.machine_states.specs.runner_steps.specs.AfterInRun as inside
 use Rattle.machine_states.specs.runner_steps.specs.AfterOutside as outside
-use Rattle.machine_states.specs.Blockless.{line_after, inside_after, outside_after}
+use Rattle.machine_states.specs.runner_steps.specs.After.{line_after, inside_after, outside_after}
 use Rattle.machine_states.proofs.Steps.{some_same, none_some}
 
 module _ (m : Meaning) (l : Layout) (y : PartState) (found : ℕ) (kind : EventKind) where
@@ -94,6 +94,7 @@ module _ (m : Meaning) (l : Layout) (y : PartState) (found : ℕ) (kind : EventK
     line_keeps kinds.ExchangeCell micro = read_more _ _ refl refl
     line_keeps (kinds.PrivateLoad slot word) micro = fill slot q.made
     line_keeps (kinds.PrivateStore slot word number) micro = as_before _ refl refl
+    line_keeps (kinds.LinkCommit b) micro = as_before _ refl refl
     line_keeps kinds.MakeCommit micro = make q.made
     line_keeps kinds.RetireCommit micro = as_before _ refl refl
     line_keeps kinds.EpochForRetire micro = as_before _ refl refl

@@ -1,5 +1,5 @@
 -- Where no section is open a step changes no cell, but by a publication or in the slot of a Make.
-use Rattle.std.specs.Prelude.{◌==◌, ◌^◌, ◌⊎◌, Bool, true, false, slice_index, if◌then◌else◌}
+use Rattle.std.specs.Prelude.{◌==◌, ◌^◌, ◌⊎◌, Bool, true, false, slice_index, if◌then◌else◌, ◌-◌}
 use Rattle.std.proofs.Common.{◌≡◌, ◌≢◌, ℕ, suc, ◌<◌, ◌≤◌, List, length, refl, sym, ap, ◌∙◌, subst, ⊎_elim, inl, inr, arith, Option, Some, None}
 use Rattle.std.proofs.lemmas.Bool.{cases_eq}
 use Rattle.std.proofs.lemmas.Bool.Decides.{nat_tests}
@@ -20,8 +20,8 @@ use Rattle.machine_states.specs.runner_parts.specs.declared.event.EventKind.{Eve
 use Rattle.machine_states.specs.runner_parts.specs.declared.event.EventKind.TheVariants as kinds
 use Rattle.machine_states.specs.runner_parts.specs.State.{RunState, PartState}
 use Rattle.machine_states.specs.runner_steps.specs.Asks.{opening_ask}
-use Rattle.machine_states.specs.Blockless.{ask_by, line_ask, outside_ask}
-use Rattle.machine_states.specs.runner_steps.specs.InRun.{is_slot}
+use Rattle.machine_states.specs.runner_steps.specs.Asks.{ask_by, line_ask, outside_ask}
+use Rattle.machine_states.specs.runner_steps.specs.InRun.{is_slot, fill_store_ask}
 use Rattle.machine_states.specs.runner_steps.specs.Sections.{is_open_run, line_of, next_of}
 use Rattle.agreement_core.specs.State.{AgreementState, Section, Run}
 use Rattle.agreement_core.specs.Checks.{is_stop}
@@ -40,9 +40,11 @@ use Rattle.runner_facts.specs.machine_facts.specs.machine_agreement.proofs.RunPl
 use Rattle.runner_facts.specs.machine_facts.specs.machine_agreement.proofs.LineAsked as asked_line
 use Rattle.runner_facts.specs.machine_facts.specs.machine_invariant.specs.Whole.{Beside, states_of, IsWhole}
 use Rattle.resource_bounds.proofs.Releases.{released_lock}
-use Rattle.resource_bounds.proofs.Words.{Stays, line_stays, opening_stays, outside_stays}
+use Rattle.resource_bounds.proofs.Words.{Stays, line_stays, opening_stays, outside_stays, block_stays}
 use Rattle.one_worker.proofs.OneCell.{test_same, other, misses}
 use Rattle.one_worker.specs.Alone.{NoneIsOpen}
+use Rattle.machine_states.specs.runner_steps.specs.Outside.{blocks_from}
+use Rattle.runner_facts.specs.next_steps.proofs.Lines.{in_first_part, log_low}
 
 -- a step of a runner that has this part in this state, which asks this
 module _ (m : Meaning) (l : Layout) (rs : List Request) (g : Beside) (s : Sight) (whole : IsWhole m l g s) (quiet : NoneIsOpen m s)
@@ -124,7 +126,7 @@ module _ (m : Meaning) (l : Layout) (rs : List Request) (g : Beside) (s : Sight)
     cell_same : (place : ℕ) → a.shared.cells place ≡ f (spots.Cell place)
     cell_same place = whole.sections.words.cells place
 
-    store_leaves : line_ask m l kinds.ExchangeCell y.nodes.free q (next_of m q) ≡ Some x → Stays f p x
+    store_leaves : line_ask m l kinds.ExchangeCell y.nodes.free y.blocks.free q (next_of m q) ≡ Some x → Stays f p x
     store_leaves e =
         let h = asked_line.exchange_asked q x l (next_of m q) e in
         let at = next_in_line m q (micros.ExchangeCell h.0 h.1 h.2) refl h.3 in
@@ -136,7 +138,7 @@ module _ (m : Meaning) (l : Layout) (rs : List Request) (g : Beside) (s : Sight)
         let same : a.shared.cells h.0 ≡ section.log h.1 = cell_same h.0 ∙ (finds ∙ trail) in
         let v = ap version_of same in omega (arith, past, v)))
 
-    take_leaves : line_ask m l kinds.NestedHold y.nodes.free q (next_of m q) ≡ Some x → Stays f p x
+    take_leaves : line_ask m l kinds.NestedHold y.nodes.free y.blocks.free q (next_of m q) ≡ Some x → Stays f p x
     take_leaves e =
         let h = asked_line.nested_hold_asked q x l (next_of m q) e in
         let at = next_in_line m q (micros.NestedHold h.0 h.1) refl h.2 in
@@ -144,7 +146,7 @@ module _ (m : Meaning) (l : Layout) (rs : List Request) (g : Beside) (s : Sight)
         let past = sound.section.in_locks.nested_past q.at h.0 h.1 (late _ at refl) (code _ at) in
         let v = ap version_of (cell_same h.0 ∙ finds) in omega (arith, past, v)))
 
-    release_leaves : line_ask m l kinds.Release y.nodes.free q (next_of m q) ≡ Some x → Stays f p x
+    release_leaves : line_ask m l kinds.Release y.nodes.free y.blocks.free q (next_of m q) ≡ Some x → Stays f p x
     release_leaves e =
         let h = asked_line.release_asked q x l (next_of m q) e in
         let lock = released_lock m l rs g s whole r q runs opened h.0 h.1 h.2 in
@@ -155,7 +157,7 @@ module _ (m : Meaning) (l : Layout) (rs : List Request) (g : Beside) (s : Sight)
         held_value d w low none = absurd (omega (arith, low, none))
 
     -- a commit of a Make comes late
-    make_loses : line_ask m l kinds.MakeCommit y.nodes.free q (next_of m q) ≡ Some x → f x.0 ≡ 0 → ⊥
+    make_loses : line_ask m l kinds.MakeCommit y.nodes.free y.blocks.free q (next_of m q) ≡ Some x → f x.0 ≡ 0 → ⊥
     make_loses e none =
         let h = asked_line.make_commit_asked q x (next_of m q) e in
         let at = next_in_line m q (micros.MakeCommit h.0) refl h.2 in
@@ -164,14 +166,16 @@ module _ (m : Meaning) (l : Layout) (rs : List Request) (g : Beside) (s : Sight)
         let more = in_line.counted.slot_commit q.at (ap is_commit (code _ at)) in
         let rises = in_line.counted.slot_rises (suc q.at) section.edge (omega (arith, behind)) in
         let full = sound.section.in_log.full h.0 (omega (arith, place, more, rises)) in
-        let same : section.log h.0 ≡ 0 = sym (whole.logs.own q.descriptor h.0) ∙ (ap (λ (u : Spot × Access). f u.0) h.4 ∙ none) in
+        let first = log_low m l g s whole r q runs all q.at h.0 (micros.MakeCommit h.0) at refl in
+        let same : section.log h.0 ≡ 0 = sym (whole.logs.stands.own q.descriptor h.0 first)
+        ∙ (ap f (sym (in_first_part q.descriptor q.links h.0 first)) ∙ (ap (λ (u : Spot × Access). f u.0) h.5 ∙ none)) in
         absurd (omega (arith, full, same))
 
     own_slot : (made : Option ℕ) (t : ℕ) → is_slot made t ≡ true → made ≡ Some t
     own_slot None t e = absurd (let no = e in cc)
     own_slot (Some u) t e = ap (λ k. Some k) (test_same u t e)
 
-    fill_leaves : (t cell number : ℕ) → line_ask m l (kinds.PrivateStore t cell number) y.nodes.free q (next_of m q) ≡ Some x → Leaves
+    fill_leaves : (t cell number : ℕ) → fill_store_ask m l t cell number q (next_of m q) ≡ Some x → Leaves
     fill_leaves t cell number e =
         let h = asked_line.fill_store_asked q x m l t cell number (next_of m q) e in
         ⊎_elim
@@ -186,15 +190,18 @@ module _ (m : Meaning) (l : Layout) (rs : List Request) (g : Beside) (s : Sight)
         (λ ne. inl (other f p x (cell_of m.fixed_cells t cell) _ h.6 ne))
         (cases_eq p (cell_of m.fixed_cells t cell))
 
-    line_leaves : (kind' : EventKind) → line_ask m l kind' y.nodes.free q (next_of m q) ≡ Some x → Leaves
+    line_leaves : (kind' : EventKind) → line_ask m l kind' y.nodes.free y.blocks.free q (next_of m q) ≡ Some x → Leaves
     line_leaves kinds.ExchangeCell e = inl (store_leaves e)
-    line_leaves (kinds.PrivateStore t cell number) e = fill_leaves t cell number e
+    line_leaves (kinds.PrivateStore t cell number) e = ⊎_elim
+        (λ block. inl (subst (Stays f p) block.1 (block_stays f p (t - blocks_from m l) cell number)))
+        (λ fills. fill_leaves t cell number fills.1)
+        (asked_line.run_store_asked q x m l t cell number y.blocks.free (next_of m q) e)
     line_leaves kinds.NestedHold e = inl (take_leaves e)
     line_leaves kinds.Release e = inl (release_leaves e)
-    line_leaves kind' e = inl (line_stays f p m l q x kind' y.nodes.free (next_of m q) refl e)
+    line_leaves kind' e = inl (line_stays f p m l q x kind' y.nodes.free y.blocks.free (next_of m q) refl e)
 
   inside_leaves : (q : RunState) → y.run ≡ Some q → (b : Bool) → is_open_run q ≡ b
-      → (if b then line_ask m l kind y.nodes.free q (next_of m q) else opening_ask kind q) ≡ Some x → Leaves
+      → (if b then line_ask m l kind y.nodes.free y.blocks.free q (next_of m q) else opening_ask kind q) ≡ Some x → Leaves
   inside_leaves q runs true opened e = line_leaves q runs opened kind e
   inside_leaves q runs false opened e = inl (opening_stays f p m l q x kind e)
 
@@ -226,5 +233,5 @@ module _ (m : Meaning) (l : Layout) (rs : List Request) (g : Beside) (s : Sight)
   -- no Make wins
   pub no_make : ask_by m l rs r kind y y.run ≡ Some x → (q : RunState) → y.run ≡ Some q → is_open_run q ≡ true → kind ≡ kinds.MakeCommit → f x.0 ≡ 0 → ⊥
   no_make asked q runs opened is none = make_loses q runs opened
-      (ap (λ b. if b then line_ask m l kinds.MakeCommit y.nodes.free q (next_of m q) else opening_ask kinds.MakeCommit q) (sym opened)
+      (ap (λ b. if b then line_ask m l kinds.MakeCommit y.nodes.free y.blocks.free q (next_of m q) else opening_ask kinds.MakeCommit q) (sym opened)
       ∙ subst (λ k. ask_by m l rs r k y (Some q) ≡ Some x) is (subst (λ o. ask_by m l rs r kind y o ≡ Some x) runs asked)) none

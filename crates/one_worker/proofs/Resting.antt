@@ -13,7 +13,8 @@ use Rattle.machine_states.specs.runner_parts.specs.declared.event.EventKind.TheV
 use Rattle.machine_states.specs.runner_parts.specs.State.{PartState}
 use Rattle.machine_states.specs.runner_parts.specs.Lists.{nodes_looked, slot_tested, one_more, test_of}
 use Rattle.machine_states.specs.runner_parts.specs.Tests.{has}
-use Rattle.machine_states.specs.Blockless.{outside_ask, outside_after}
+use Rattle.machine_states.specs.runner_steps.specs.Asks.{outside_ask}
+use Rattle.machine_states.specs.runner_steps.specs.After.{outside_after}
 use Rattle.resource_bounds.specs.machine_epochs.proofs.OutsideAsked as asked
 use Rattle.resource_bounds.specs.machine_epochs.proofs.BoardAsked.{board_take_asked, board_give_asked}
 

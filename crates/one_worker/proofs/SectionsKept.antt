@@ -31,7 +31,8 @@ use Rattle.machine_states.specs.runner_parts.specs.declared.event.EventKind.TheV
 use Rattle.machine_states.specs.runner_parts.specs.State.{RunState, PartState}
 use Rattle.machine_states.specs.runner_parts.specs.Tests.{has}
 use Rattle.machine_states.specs.runner_steps.specs.Asks.{opening_ask}
-use Rattle.machine_states.specs.Blockless.{ask_by, line_ask, after_by, line_after}
+use Rattle.machine_states.specs.runner_steps.specs.Asks.{ask_by, line_ask}
+use Rattle.machine_states.specs.runner_steps.specs.After.{after_by, line_after}
 use Rattle.machine_states.specs.runner_steps.specs.AfterInRun.{opened_more}
 use Rattle.machine_states.specs.runner_steps.specs.Sections.{thunk_of, is_open_run, line_of, next_of, setting_of}
 use Rattle.agreement_core.specs.State.{AgreementState, Section}
@@ -141,7 +142,7 @@ module _ (m : Meaning) (l : Layout) (limits : IsWithinLimits l) (rs : List Reque
       stays same = absurd (some (word_now (spots.LogWord d k) ∙ (same ∙ none)))
 
       in_run : (q : RunState) → y.run ≡ Some q → (b : Bool) → is_open_run q ≡ b
-          → (if b then line_ask m l kind y.nodes.free q (next_of m q) else opening_ask kind q) ≡ Some x → IsNew k
+          → (if b then line_ask m l kind y.nodes.free y.blocks.free q (next_of m q) else opening_ask kind q) ≡ Some x → IsNew k
       in_run q runs false opened e = stays (opening_log f d k m l q x kind e)
       in_run q runs true opened e = ⊎_elim stays
           (λ c. record {
@@ -157,7 +158,7 @@ module _ (m : Meaning) (l : Layout) (limits : IsWithinLimits l) (rs : List Reque
                 ∙ (subst (λ (u : Spot × Access). put f u.0 (written u.1 (f u.0)) (spots.LogWord d k) ≡ c.proposal) c.is (log_now f d k c.proposal none)
                 ∙ c.carried carries);
           })
-          (line_log f d k m l q x kind y.nodes.free (next_of m q) e)
+          (line_log f d k m l q x kind y.nodes.free y.blocks.free (next_of m q) e)
         where
           commit_at : (q : RunState) (micro : Micro) → next_of m q ≡ micro → is_commit micro ≡ true → micro_at (line_of m q) q.at ≡ micro
           commit_at q (micros.Commit p k) e c = next_in_line m q (micros.Commit p k) refl e
@@ -379,7 +380,7 @@ module _ (m : Meaning) (l : Layout) (limits : IsWithinLimits l) (rs : List Reque
   own_loaded : Loaded r (after_by m l kind y y.run found).run
   own_loaded = by y.run refl asked
     where
-      in_open : (q : RunState) → y.run ≡ Some q → is_open_run q ≡ true → line_ask m l kind y.nodes.free q (next_of m q) ≡ Some x
+      in_open : (q : RunState) → y.run ≡ Some q → is_open_run q ≡ true → line_ask m l kind y.nodes.free y.blocks.free q (next_of m q) ≡ Some x
           → Loaded r (line_after m l kind y q (next_of m q) found).run
       in_open q runs opened e q' p k w is of all at next none = ⊎_elim
           (λ over. absurd (none_some q' (sym is ∙ over)))
@@ -411,7 +412,7 @@ module _ (m : Meaning) (l : Layout) (limits : IsWithinLimits l) (rs : List Reque
                   let in_run : micro_at (line_of m q) load.0 ≡ micros.NestedLoad p k = back load.0 _ load_line in
                   let here = rests_behind (setting_of l q.descriptor) trail (line_of m q) q.at load.0 (sym place ∙ load.1) (ap is_check in_run) in
                   let event : next_of m q ≡ micros.NestedLoad p k = event_next q (micros.NestedLoad p k) (ap (micro_at (line_of m q)) (sym here) ∙ in_run) refl in
-                  let k1 = nested_kind m l y.nodes.free q x p k kind (ap (λ u. line_ask m l kind y.nodes.free q u) (sym event) ∙ e) in
+                  let k1 = nested_kind m l y.nodes.free y.blocks.free q x p k kind (ap (λ u. line_ask m l kind y.nodes.free y.blocks.free q u) (sym event) ∙ e) in
                   word (ap runs_of.loads_lock k1.0) ∙ (ap (λ (u : Spot × Access). f u.0) (sym k1.1) ∙ cell_here (load.1 ∙ ap suc here) (in_section q.at _ (ap cd (sym here) ∙ load_line)))
                 where
                   back : (i : ℕ) (micro : Micro) → cd i ≡ micro → micro_at (line_of m q) i ≡ micro
@@ -459,7 +460,7 @@ module _ (m : Meaning) (l : Layout) (limits : IsWithinLimits l) (rs : List Reque
           let one = (runs_of.outside_runs m l y found kind is kind).run q now in omega (arith, one, all))
       by (Some q) is e = opened_or (is_open_run q) refl e
         where
-          opened_or : (b : Bool) → is_open_run q ≡ b → (if b then line_ask m l kind y.nodes.free q (next_of m q) else opening_ask kind q) ≡ Some x
+          opened_or : (b : Bool) → is_open_run q ≡ b → (if b then line_ask m l kind y.nodes.free y.blocks.free q (next_of m q) else opening_ask kind q) ≡ Some x
               → Loaded r (if b then line_after m l kind y q (next_of m q) found else opened_more y q found).run
           opened_or true opened e = in_open q is opened e
           opened_or false opened e = in_opening q is e

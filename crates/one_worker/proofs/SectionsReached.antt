@@ -25,7 +25,8 @@ use Rattle.machine_states.specs.runner_parts.specs.declared.event.Event.{Event}
 use Rattle.machine_states.specs.runner_parts.specs.declared.event.EventKind.TheVariants as kinds
 use Rattle.machine_states.specs.runner_parts.specs.State.{RunState, NodesState, PartState}
 use Rattle.machine_states.specs.runner_parts.specs.Lists.{cell_read, descriptor_taken, published_seen}
-use Rattle.machine_states.specs.Blockless.{ask_by, after_by}
+use Rattle.machine_states.specs.runner_steps.specs.Asks.{ask_by}
+use Rattle.machine_states.specs.runner_steps.specs.After.{after_by}
 use Rattle.machine_states.specs.runner_steps.specs.Sections.{is_open_run}
 use Rattle.machine_states.specs.runner_steps.specs.AfterOutside.{published_by}
 use Rattle.agreement_core.specs.State.{AgreementState}
@@ -54,7 +55,7 @@ use Rattle.runner_facts.specs.machine_facts.specs.After.{AreFactsOfStep}
 use Rattle.runner_facts.specs.machine_facts.proofs.Following.{facts_after, step_facts_after}
 use Rattle.runner_facts.specs.machine_facts.specs.machine_invariant.specs.After.{AreAllowed}
 use Rattle.runner_facts.specs.machine_facts.specs.machine_invariant.specs.Whole.{IsWhole}
-use Rattle.runner_facts.specs.machine_facts.specs.machine_invariant.proofs.Prepared.{done_is, log_is}
+use Rattle.resource_bounds.specs.machine_epochs.proofs.Prepared.{done_is, log_is}
 use Rattle.resource_bounds.specs.reached_histories.specs.Kept.{link_of}
 use Rattle.runner_facts.specs.next_steps.proofs.Parts.{each_part}
 use Rattle.resource_bounds.specs.reached_histories.specs.Laws.{HasHistory}
@@ -71,6 +72,7 @@ use Rattle.one_worker.proofs.Goes.{Goes}
 use Rattle.one_worker.proofs.SectionsKept.{kept}
 use Rattle.one_worker.proofs.Published.{published}
 use Rattle.one_worker.proofs.Ends.{ends_so}
+use Rattle.machine_states.specs.table_words.specs.Places.{part_words}
 
 -- what a list has it has with one more, and what it has then at a place below its end it had
 get_kept : {A : Type 0} (xs : List A) (f y : A) (i : ℕ) → slice_get xs i ≡ Some y → slice_get (xs ++ f ∷ []) i ≡ Some y
@@ -387,8 +389,8 @@ module _ (m : Meaning) (l : Layout) (limits : IsWithinLimits l) (rs : List Reque
     goes_new = subst (λ n. Goes m s' n x'.thunk) (sym descriptor_is) (subst (λ u. Goes m s' d u) (sym thunk_of_it)
         (published m l rs per_pair (planner.over l limits) s' after d t used' thunk_there
         (other_word (spots.DoneWord d) (λ p same lock. absurd (let z = same in cc)) ∙ done_is m l before.beside.epochs s whole_before.slots r t d ha.free ha.prepared)
-        (λ k. other_word (spots.LogWord d k) (λ p same lock. absurd (let z = same in cc)) ∙ log_is m l before.beside.epochs s whole_before.slots r t d ha.free ha.prepared
-        before.beside.agreement whole_before.logs k)
+        (λ k. other_word (spots.LogWord d k) (λ p same lock. absurd (let z = same in cc)) ∙ ⊎_elim
+        (λ low. log_is m l before.beside.epochs s whole_before.slots r t d ha.free ha.prepared k low) (λ high. whole_before.logs.beyond d k high) (cases_lt k part_words))
         publisher no_run cell_stands lock_stands))
 
   goes_step : Goes m s' x'.descriptor x'.thunk

@@ -31,6 +31,7 @@ use Rattle.resource_bounds.specs.machine_scenes.proofs.JointSteps.{hand_status}
 use Rattle.runner_facts.specs.machine_facts.specs.machine_invariant.specs.Whole.{states_of, IsWhole}
 use Rattle.resource_bounds.specs.reached_histories.specs.Laws.{HasHistory}
 use Rattle.runner_facts.proofs.Logs.{log_of, log_place}
+use Rattle.runner_facts.specs.machine_facts.specs.machine_invariant.proofs.Holding.{own_words}
 
 pub event_commit : (micro : Micro) → is_commit micro ≡ true → is_event micro ≡ true
 event_commit micro e = grind arith
@@ -79,7 +80,7 @@ module _ (m : Meaning) (l : Layout) (rs : List Request) (s : Sight) (before : Ha
   code_back i micro e = sym (code_is i _ refl) ∙ e
 
   pub log_same : (k : ℕ) → x.log k ≡ s.word (spots.LogWord d k)
-  log_same k = sym (whole.logs.own d k)
+  log_same k = sym (own_words m l whole.logs d k)
 
   -- a commit that is passed is agreed
   pub passed_some : (i k : ℕ) (micro : Micro) → x.code i ≡ micro → is_commit micro ≡ true → log_of micro ≡ k → i < x.edge → s.word (spots.LogWord d k) ≢ 0

@@ -18,7 +18,8 @@ use Rattle.machine_states.specs.runner_parts.specs.declared.event.EventKind.TheV
 use Rattle.machine_states.specs.runner_parts.specs.State.{RunState, PartState}
 use Rattle.machine_states.specs.runner_parts.specs.Tests.{has, knows, is_answered}
 use Rattle.machine_states.specs.runner_steps.specs.After.{leaves, knows_also}
-use Rattle.machine_states.specs.Blockless.{stepped, after, after_by, line_ask}
+use Rattle.machine_states.specs.runner_steps.specs.After.{stepped, after, after_by}
+use Rattle.machine_states.specs.runner_steps.specs.Asks.{line_ask}
 use Rattle.machine_states.specs.runner_steps.specs.AfterOutside as outside
 use Rattle.machine_states.specs.runner_steps.specs.Asks.{opening_ask}
 use Rattle.machine_states.specs.runner_steps.specs.Sections.{is_open_run, next_of}
@@ -291,7 +292,7 @@ module _ (m : Meaning) (l : Layout) (rs : List Request) (s s' : Sight) (r d : �
       is_same : (a b : ℕ) → a ≡ b → (a == b) ≡ true
       is_same a b e = grind (arith, nat_tests)
 
-      in_run : (q : RunState) (b : Bool) → (if b then line_ask m l (kinds.Hold t d) (s.part r).nodes.free q (next_of m q) else opening_ask (kinds.Hold t d) q) ≡ Some step.ask
+      in_run : (q : RunState) (b : Bool) → (if b then line_ask m l (kinds.Hold t d) (s.part r).nodes.free (s.part r).blocks.free q (next_of m q) else opening_ask (kinds.Hold t d) q) ≡ Some step.ask
           → IsPublished (after_by m l (kinds.Hold t d) (s.part r) (Some q) (s.word step.ask.0))
       in_run q true e = some_none step.ask e
       in_run q false e = some_none step.ask e

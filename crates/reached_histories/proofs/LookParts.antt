@@ -21,7 +21,7 @@ use Rattle.machine_states.specs.runner_steps.specs.InRun.{last_clock}
 use Rattle.machine_states.specs.runner_steps.specs.AfterInRun as inside
 use Rattle.machine_states.specs.runner_steps.specs.AfterOutside as outside
 use Rattle.machine_states.specs.runner_steps.specs.After.{knows_also, leaves}
-use Rattle.machine_states.specs.Blockless.{line_after, inside_after, outside_after, after_by, after}
+use Rattle.machine_states.specs.runner_steps.specs.After.{line_after, inside_after, outside_after, after_by, after}
 use Rattle.machine_states.specs.Sight.{Sight, Steps, parts_after}
 use Rattle.machine_states.proofs.Updates.{upd_here, upd_else}
 

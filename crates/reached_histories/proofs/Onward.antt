@@ -29,7 +29,7 @@ use Rattle.machine_states.specs.runner_parts.specs.Tests.{has_pair, knows, is_an
 use Rattle.machine_states.specs.runner_steps.specs.Sections.{is_open_run, next_of, reply_in}
 use Rattle.machine_states.specs.runner_steps.specs.Reads.{plan_by, look_by, is_fit, read_stamp_after}
 use Rattle.machine_states.specs.runner_steps.specs.Asks.{opening_ask}
-use Rattle.machine_states.specs.Blockless.{asks, outside_ask, line_ask}
+use Rattle.machine_states.specs.runner_steps.specs.Asks.{asks, outside_ask, line_ask}
 use Rattle.still_reads.specs.agreement_core.specs.Events as agreement
 use Rattle.machine_states.specs.epoch_core.specs.State.{Counts}
 use Rattle.machine_history.specs.history_core.specs.State as history_states
@@ -168,7 +168,7 @@ module _ (m : Meaning) (laws : Laws m) (l : Layout) (limits : IsWithinLimits l) 
     no_run looking = by p.run refl
       where
         inside : (k : EventKind) (q : RunState) (b : Bool) → is_looking_kind k ≡ true
-            → (if b then line_ask m l k p.nodes.free q (next_of m q) else opening_ask k q) ≡ Some step.ask → ⊥
+            → (if b then line_ask m l k p.nodes.free p.blocks.free q (next_of m q) else opening_ask k q) ≡ Some step.ask → ⊥
         inside kinds.EnterAgain q true is e = some_none step.ask e
         inside kinds.EnterAgain q false is e = some_none step.ask e
         inside (kinds.ReadPlan t) q true is e = some_none step.ask e

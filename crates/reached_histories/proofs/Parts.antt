@@ -30,7 +30,8 @@ use Rattle.machine_states.specs.runner_steps.specs.Sections.{thunk_of, line_of, 
 use Rattle.machine_states.specs.runner_steps.specs.InRun.{last_clock, stamp_after, release_ask}
 use Rattle.machine_states.specs.epoch_core.specs.State.{last_epoch}
 use Rattle.machine_states.specs.runner_steps.specs.Asks.{opening_ask}
-use Rattle.machine_states.specs.Blockless.{asks, line_ask, outside_after, line_after, after_by, stepped}
+use Rattle.machine_states.specs.runner_steps.specs.Asks.{asks, line_ask}
+use Rattle.machine_states.specs.runner_steps.specs.After.{outside_after, line_after, after_by, stepped}
 use Rattle.machine_states.specs.runner_steps.specs.AfterInRun as inside
 use Rattle.machine_states.specs.runner_steps.specs.AfterOutside as outside
 use Rattle.machine_states.specs.runner_steps.specs.Reads.{read_stamp_after, reply_known, stamp_known}
@@ -200,6 +201,7 @@ module _ (m : Meaning) (l : Layout) (p : PartState) where
     line_keeps kinds.ExchangeCell micro ended = on p _ refl refl
     line_keeps (kinds.PrivateLoad slot word) micro ended = fill_keeps slot q.made
     line_keeps (kinds.PrivateStore slot word number) micro ended = on p _ refl refl
+    line_keeps (kinds.LinkCommit b) micro ended = on p _ refl refl
     line_keeps kinds.MakeCommit micro ended = make_keeps q.made
     line_keeps kinds.RetireCommit micro ended = on p _ refl refl
     line_keeps kinds.EpochForRetire micro ended = on p _ refl refl
@@ -240,10 +242,10 @@ module _ (m : Meaning) (l : Layout) (rs : List Request) (g : Beside) (s : Sight)
   stepped_keeps found quiet = by p.run refl
     where
       in_run : (q : RunState) → p.run ≡ Some q → (b : Bool) → is_open_run q ≡ b
-          → (if b then line_ask m l kind p.nodes.free q (next_of m q) else opening_ask kind q) ≡ Some x
+          → (if b then line_ask m l kind p.nodes.free p.blocks.free q (next_of m q) else opening_ask kind q) ≡ Some x
           → KeepsOn p (if b then line_after m l kind p q (next_of m q) found else inside.opened_more p q found)
       in_run q is true opened e = line_keeps m l p q is opened found kind (next_of m q)
-          (λ same. release_ended q is opened (next_of m q) refl (subst (λ k. line_ask m l k p.nodes.free q (next_of m q) ≡ Some x) same e))
+          (λ same. release_ended q is opened (next_of m q) refl (subst (λ k. line_ask m l k p.nodes.free p.blocks.free q (next_of m q) ≡ Some x) same e))
       in_run q is false opened e = on p _ refl refl
 
       by : (run : Option RunState) → p.run ≡ run → KeepsOn p (after_by m l kind p run found)

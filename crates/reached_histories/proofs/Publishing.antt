@@ -12,7 +12,7 @@ use Rattle.machine_states.specs.table_words.specs.declared.access.Access.{Access
 use Rattle.machine_states.specs.structure_laws.specs.Meaning.{Meaning}
 use Rattle.machine_states.specs.structure_laws.specs.Sections.{IsAllowed}
 use Rattle.machine_states.specs.runner_parts.specs.declared.event.EventKind.TheVariants.{Hold}
-use Rattle.machine_states.specs.Blockless.{asks}
+use Rattle.machine_states.specs.runner_steps.specs.Asks.{asks}
 use Rattle.still_reads.specs.agreement_core.specs.Events as agreement
 use Rattle.machine_history.specs.history_core.specs.State.{HistoryState, is_replied}
 use Rattle.machine_states.specs.Sight.{Sight}

@@ -17,7 +17,7 @@ use Rattle.machine_states.specs.runner_parts.specs.Tests.{knows}
 use Rattle.machine_states.specs.runner_steps.specs.Sections.{reply_in}
 use Rattle.machine_states.specs.runner_steps.specs.InRun.{last_clock}
 use Rattle.machine_states.specs.runner_steps.specs.Reads.{read_stamp_after, plan_by, look_by, looked_by, come_to, reply_known, stamp_known}
-use Rattle.machine_states.specs.Blockless.{outside_after, after_by, after}
+use Rattle.machine_states.specs.runner_steps.specs.After.{outside_after, after_by, after}
 use Rattle.machine_states.specs.World.{is_join}
 use Rattle.machine_states.specs.Sight.{Sight, Steps, parts_after}
 use Rattle.machine_states.proofs.Updates.{upd_here}

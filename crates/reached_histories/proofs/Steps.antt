@@ -20,7 +20,7 @@ use Rattle.machine_states.specs.runner_parts.specs.State.{PartState}
 use Rattle.machine_states.specs.runner_parts.specs.Tests.{has, is_answered}
 use Rattle.machine_states.specs.body_terms.specs.Update.{upd}
 use Rattle.machine_states.specs.runner_steps.specs.AfterOutside.{published_by}
-use Rattle.machine_states.specs.Blockless.{asks}
+use Rattle.machine_states.specs.runner_steps.specs.Asks.{asks}
 use Rattle.still_reads.specs.agreement_core.specs.Events as agreement
 use Rattle.still_reads.specs.agreement_core.specs.Schedules as agreement_schedules
 use Rattle.machine_states.specs.epoch_core.specs.State.{Counts}

@@ -23,7 +23,7 @@ use Rattle.machine_states.specs.runner_parts.specs.Tests.{is_answered, are_answe
 use Rattle.machine_states.specs.runner_steps.specs.Sections.{is_open_run, next_of}
 use Rattle.machine_states.specs.runner_steps.specs.Outside.{hold_ask}
 use Rattle.machine_states.specs.runner_steps.specs.Asks.{opening_ask}
-use Rattle.machine_states.specs.Blockless.{ask_by, line_ask}
+use Rattle.machine_states.specs.runner_steps.specs.Asks.{ask_by, line_ask}
 use Rattle.machine_states.specs.epoch_core.specs.declared.location.Location.{Location}
 use Rattle.machine_states.specs.epoch_core.specs.declared.location.Location.TheVariants.{Fixed, Live, Hand, Free, Worn, Limbo, OnBoard}
 use Rattle.machine_states.specs.epoch_core.specs.Events.{slot_of}
@@ -121,7 +121,7 @@ module _ (m : Meaning) (l : Layout) (rs : List Request) where
   hold_outside r d t p None x e = e
   hold_outside r d t p (Some q) x e = by (is_open_run q) e
     where
-      by : (b : Bool) → cond b (line_ask m l (Hold t d) p.nodes.free q (next_of m q)) (opening_ask (Hold t d) q) ≡ Some x → hold_ask m l rs r t d p ≡ Some x
+      by : (b : Bool) → cond b (line_ask m l (Hold t d) p.nodes.free p.blocks.free q (next_of m q)) (opening_ask (Hold t d) q) ≡ Some x → hold_ask m l rs r t d p ≡ Some x
       by true e = some_none x e
       by false e = some_none x e
 

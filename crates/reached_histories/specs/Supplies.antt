@@ -12,7 +12,7 @@ use Rattle.machine_states.specs.runner_parts.specs.declared.event.EventKind.TheV
 use Rattle.machine_states.specs.runner_parts.specs.Tests.{has, is_answered}
 use Rattle.machine_states.specs.runner_parts.specs.State.{RunState}
 use Rattle.machine_states.specs.runner_steps.specs.Sections.{is_open_run}
-use Rattle.machine_states.specs.Blockless.{asks}
+use Rattle.machine_states.specs.runner_steps.specs.Asks.{asks}
 use Rattle.machine_history.specs.history_core.specs.State.{Requests, HistoryState}
 use Rattle.machine_history.specs.history_core.specs.Schedules.{first_state}
 use Rattle.machine_history.specs.history_core.specs.Sound.{IsSound}

@@ -29,7 +29,7 @@ use Rattle.machine_states.specs.runner_steps.specs.InRun.{last_clock}
 use Rattle.machine_states.specs.runner_steps.specs.Board.{free_if}
 use Rattle.machine_states.specs.runner_steps.specs.AfterInRun as inside
 use Rattle.machine_states.specs.runner_steps.specs.AfterOutside as outside
-use Rattle.machine_states.specs.Blockless.{line_after, inside_after, outside_after}
+use Rattle.machine_states.specs.runner_steps.specs.After.{line_after, inside_after, outside_after}
 use Rattle.machine_states.specs.epoch_core.specs.Lists.{times}
 use Rattle.machine_states.proofs.Steps.{some_same, none_some}
 use Rattle.reached_histories.specs.machine_facts.specs.machine_invariant.specs.Slots.{times_among}
@@ -179,6 +179,7 @@ module _ (m : Meaning) (l : Layout) (p : PartState) (once : (t : ℕ) → times_
     line_leaves kinds.ExchangeCell micro = same kinds.ExchangeCell _ refl refl refl
     line_leaves (kinds.PrivateLoad slot word) micro = fill (kinds.PrivateLoad slot word) slot q.made
     line_leaves (kinds.PrivateStore slot word number) micro = same (kinds.PrivateStore slot word number) _ refl refl refl
+    line_leaves (kinds.LinkCommit b) micro = same (kinds.LinkCommit b) _ refl refl refl
     line_leaves kinds.MakeCommit micro = make q.made
     line_leaves kinds.RetireCommit micro = retire (inside.retired_slot_of micro)
     line_leaves kinds.EpochForRetire micro = same kinds.EpochForRetire _ refl refl refl

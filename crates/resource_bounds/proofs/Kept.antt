@@ -27,10 +27,11 @@ use Rattle.machine_states.specs.runner_parts.specs.declared.event.EventKind.{Eve
 use Rattle.machine_states.specs.runner_parts.specs.declared.event.EventKind.TheVariants as kinds
 use Rattle.machine_states.specs.runner_parts.specs.State.{RunState, PartState}
 use Rattle.machine_states.specs.runner_steps.specs.Asks.{opening_ask}
-use Rattle.machine_states.specs.Blockless.{ask_by, line_ask, outside_ask, after, after_by, line_after, outside_after}
-use Rattle.machine_states.specs.runner_steps.specs.InRun.{is_slot}
-use Rattle.machine_states.specs.runner_steps.specs.Sections.{thunk_of, is_open_run, line_of, next_of}
-use Rattle.machine_states.specs.runner_steps.specs.AfterInRun.{goes_on, opened_more, place_of}
+use Rattle.machine_states.specs.runner_steps.specs.Asks.{ask_by, line_ask, outside_ask}
+use Rattle.machine_states.specs.runner_steps.specs.After.{after, after_by, line_after, outside_after}
+use Rattle.machine_states.specs.runner_steps.specs.InRun.{is_slot, fill_store_ask}
+use Rattle.machine_states.specs.runner_steps.specs.Sections.{thunk_of, is_open_run, line_of, next_of, needs_link}
+use Rattle.machine_states.specs.runner_steps.specs.AfterInRun.{goes_on, opened_more, place_of, with_run, block_emptied, filled}
 use Rattle.machine_states.specs.runner_steps.specs.After.{knows_also, leaves}
 use Rattle.agreement_core.specs.State.{Section}
 use Rattle.agreement_core.proofs.Lines.{exchange_unlocked}
@@ -61,8 +62,9 @@ use Rattle.resource_bounds.proofs.Weights.{weight, spent}
 use Rattle.resource_bounds.proofs.Releases.{released_lock}
 use Rattle.resource_bounds.proofs.Runs.{run_most, outer_most}
 use Rattle.resource_bounds.proofs.Parts.{index, charge, same_charge, exchanged as gains_exchanged, stored as gains_stored, line_keeps, opening_keeps, held as gains_held, MayGo, outside_keeps}
-use Rattle.resource_bounds.proofs.Words.{Stays, line_stays, opening_stays, outside_stays}
+use Rattle.resource_bounds.proofs.Words.{Stays, block_stays, line_stays, opening_stays, outside_stays}
 use Rattle.resource_bounds.proofs.Sums.{sum_to, one_changed}
+use Rattle.machine_states.specs.runner_steps.specs.Outside.{blocks_from}
 
 -- 1 where the place is a lock that isn't free
 abbrev pub held : Meaning → ℕ → ℕ → ℕ
@@ -217,7 +219,7 @@ module _ (m : Meaning) (laws : Laws m) (l : Layout) (limits : IsWithinLimits l) 
     counts k z micro here is more = let same = ap (weight p (index m p)) here ∙ is in omega (arith, same, more)
 
     -- a Store
-    store_fine : line_ask m l kinds.ExchangeCell y.nodes.free q (next_of m q) ≡ Some x → Fine (line_after m l kinds.ExchangeCell y q (next_of m q) found)
+    store_fine : line_ask m l kinds.ExchangeCell y.nodes.free y.blocks.free q (next_of m q) ≡ Some x → Fine (line_after m l kinds.ExchangeCell y q (next_of m q) found)
     store_fine e =
         let h = asked_line.exchange_asked q x l (next_of m q) e in
         let here = next_in_line m q (micros.ExchangeCell h.0 h.1 h.2) refl h.3 in
@@ -232,7 +234,7 @@ module _ (m : Meaning) (laws : Laws m) (l : Layout) (limits : IsWithinLimits l) 
         (cases_eq p h.0)
 
     -- a Take
-    take_fine : line_ask m l kinds.NestedHold y.nodes.free q (next_of m q) ≡ Some x → Fine (line_after m l kinds.NestedHold y q (next_of m q) found)
+    take_fine : line_ask m l kinds.NestedHold y.nodes.free y.blocks.free q (next_of m q) ≡ Some x → Fine (line_after m l kinds.NestedHold y q (next_of m q) found)
     take_fine e =
         let h = asked_line.nested_hold_asked q x l (next_of m q) e in
         let here = next_in_line m q (micros.NestedHold h.0 h.1) refl h.2 in
@@ -245,7 +247,7 @@ module _ (m : Meaning) (laws : Laws m) (l : Layout) (limits : IsWithinLimits l) 
         (cases_eq p h.0)
 
     -- a release
-    release_fine : line_ask m l kinds.Release y.nodes.free q (next_of m q) ≡ Some x → Fine (line_after m l kinds.Release y q (next_of m q) found)
+    release_fine : line_ask m l kinds.Release y.nodes.free y.blocks.free q (next_of m q) ≡ Some x → Fine (line_after m l kinds.Release y q (next_of m q) found)
     release_fine e =
         let h = asked_line.release_asked q x l (next_of m q) e in
         ⊎_elim (λ at. by h.0 h.1 h.2 h.3 at (word == held_word q.descriptor h.1) refl) (λ ne. inl (other h.0 _ h.3 ne, keeps kinds.Release)) (cases_eq p h.0)
@@ -282,37 +284,44 @@ module _ (m : Meaning) (laws : Laws m) (l : Layout) (limits : IsWithinLimits l) 
     abbrev fill_stored_run : ℕ → RunState
     fill_stored_run number = goes_on m l (record q { worn = q.worn || version_of number == l.version_max }) q.word
 
-    fill_fine : (t cell number : ℕ) → kind ≡ kinds.PrivateStore t cell number
-        → line_ask m l (kinds.PrivateStore t cell number) y.nodes.free q (next_of m q) ≡ Some x
+    -- the part after a private store: of a Make, or into a block to be linked
+    abbrev stored_part : ℕ → ℕ → Bool → PartState
+    stored_part t number b = with_run y (if b then block_emptied (t - blocks_from m l) q else filled m l number q)
+
+    fill_fine : (t cell number : ℕ) → kind ≡ kinds.PrivateStore t cell number → needs_link q (next_of m q) ≡ false
+        → fill_store_ask m l t cell number q (next_of m q) ≡ Some x
         → Fine (line_after m l (kinds.PrivateStore t cell number) y q (next_of m q) found)
-    fill_fine t cell number of_kind e =
+    fill_fine t cell number of_kind linked e =
         let h = asked_line.fill_store_asked q x m l t cell number (next_of m q) e in
         let here = next_in_line m q (micros.PrivateStore cell h.0 h.1) refl h.2 in
         let low = fill_low m l (counts_of m l) (states_of st.beside s) st.whole.kept q.descriptor q.at cell h.0 h.1 used (code _ here) in
         let made = own_slot q.made t h.3 in
-        ⊎_elim
+        let gains = (gains_stored m p l y found q runs all number).up in
+        subst (λ b. Fine (stored_part t number b)) (sym linked) (⊎_elim
         (λ at. inr (
-        let more = counts 1 (line_after m l (kinds.PrivateStore t cell number) y q (next_of m q) found) _ here
-        (same_weight cell (index m p) 1 (cell_index m.fixed_cells t cell p low at))
-        (gains_stored m p l y found q runs all number).up in
+        let more = counts 1 (stored_part t number false) _ here (same_weight cell (index m p) 1 (cell_index m.fixed_cells t cell p low at)) gains in
         let after = free m p word' (λ lock. ap value_of (sym (ap (λ (u : Sight). u.word (spots.Cell p)) st.step.next))
         ∙ (ap (λ i. value_of (s'.word (spots.Cell i))) at
-        ∙ hand_free m l st.beside' s' st.whole' laws limits r (fill_stored_run number) (run_is t cell number of_kind) t cell made low (ap m.is_lock (sym at) ∙ lock))) in
+        ∙ hand_free m l st.beside' s' st.whole' laws limits r (fill_stored_run number) run_is t cell made low (ap m.is_lock (sym at) ∙ lock))) in
         omega (arith, more, after)))
-        (λ ne. inl (other (cell_of m.fixed_cells t cell) _ h.6 ne, keeps (kinds.PrivateStore t cell number)))
-        (cases_eq p (cell_of m.fixed_cells t cell))
+        (λ ne. inl (other (cell_of m.fixed_cells t cell) _ h.6 ne, omega (arith, gains)))
+        (cases_eq p (cell_of m.fixed_cells t cell)))
       where
-        run_is : (t cell number : ℕ) → kind ≡ kinds.PrivateStore t cell number → (s'.part r).run ≡ Some (fill_stored_run number)
-        run_is t cell number of_kind = run_now ∙ (ap (λ k. (after_by m l k y y.run found).run) of_kind
+        run_is : (s'.part r).run ≡ Some (fill_stored_run number)
+        run_is = run_now ∙ (ap (λ k. (after_by m l k y y.run found).run) of_kind
             ∙ (ap (λ o. (after_by m l (kinds.PrivateStore t cell number) y o found).run) runs
-            ∙ ap (λ b. (if b then line_after m l (kinds.PrivateStore t cell number) y q (next_of m q) found else opened_more y q found).run) opened))
+            ∙ (ap (λ b. (if b then line_after m l (kinds.PrivateStore t cell number) y q (next_of m q) found else opened_more y q found).run) opened
+            ∙ ap (λ b. (stored_part t number b).run) linked)))
 
-    line_fine : (kind' : EventKind) → kind ≡ kind' → line_ask m l kind' y.nodes.free q (next_of m q) ≡ Some x → Fine (line_after m l kind' y q (next_of m q) found)
+    line_fine : (kind' : EventKind) → kind ≡ kind' → line_ask m l kind' y.nodes.free y.blocks.free q (next_of m q) ≡ Some x → Fine (line_after m l kind' y q (next_of m q) found)
     line_fine kinds.ExchangeCell of_kind e = store_fine e
-    line_fine (kinds.PrivateStore t cell number) of_kind e = fill_fine t cell number of_kind e
+    line_fine (kinds.PrivateStore t cell number) of_kind e = ⊎_elim
+        (λ block. inl (subst (Stays f p) block.1 (block_stays f p (t - blocks_from m l) cell number), keeps (kinds.PrivateStore t cell number)))
+        (λ fills. fill_fine t cell number of_kind fills.0 fills.1)
+        (asked_line.run_store_asked q x m l t cell number y.blocks.free (next_of m q) e)
     line_fine kinds.NestedHold of_kind e = take_fine e
     line_fine kinds.Release of_kind e = release_fine e
-    line_fine kind' of_kind e = inl (line_stays f p m l q x kind' y.nodes.free (next_of m q) refl e, keeps kind')
+    line_fine kind' of_kind e = inl (line_stays f p m l q x kind' y.nodes.free y.blocks.free (next_of m q) refl e, keeps kind')
 
   module _ (q : RunState) (runs : y.run ≡ Some q) where
     opening_few : (kind' : EventKind) → opening_ask kind' q ≡ Some x → (length q.opened == 13) ≡ false
@@ -324,7 +333,7 @@ module _ (m : Meaning) (laws : Laws m) (l : Layout) (limits : IsWithinLimits l) 
     opening_few _ e = some_none x e
 
     inside_fine : (b : Bool) → is_open_run q ≡ b
-        → (if b then line_ask m l kind y.nodes.free q (next_of m q) else opening_ask kind q) ≡ Some x
+        → (if b then line_ask m l kind y.nodes.free y.blocks.free q (next_of m q) else opening_ask kind q) ≡ Some x
         → Fine (if b then line_after m l kind y q (next_of m q) found else opened_more y q found)
     inside_fine true opened e = line_fine q runs opened kind refl e
     inside_fine false opened e = inl (opening_stays f p m l q x kind e, (opening_keeps m p l y found q runs (opening_few kind e)).up)

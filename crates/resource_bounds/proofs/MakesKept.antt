@@ -28,7 +28,8 @@ use Rattle.machine_states.specs.runner_parts.specs.declared.event.Event.{Event}
 use Rattle.machine_states.specs.runner_parts.specs.declared.event.EventKind.TheVariants as kinds
 use Rattle.machine_states.specs.runner_parts.specs.State.{RunState, PartState}
 use Rattle.machine_states.specs.runner_steps.specs.Asks.{opening_ask}
-use Rattle.machine_states.specs.Blockless.{ask_by, line_ask, after_by}
+use Rattle.machine_states.specs.runner_steps.specs.Asks.{ask_by, line_ask}
+use Rattle.machine_states.specs.runner_steps.specs.After.{after_by}
 use Rattle.machine_states.specs.runner_steps.specs.Sections.{is_open_run, next_of}
 use Rattle.machine_states.specs.World.{World}
 use Rattle.machine_states.specs.Reached.{Reached}
@@ -61,6 +62,8 @@ use Rattle.resource_bounds.proofs.Entries.{Stays, WinsMake, Ends, Gives, Leaves}
 use Rattle.resource_bounds.proofs.Above.{leaves_own, above_own, above_before}
 use Rattle.resource_bounds.proofs.Releases.{released_done}
 use Rattle.resource_bounds.proofs.Sections.{reply_new, publisher, unreplied, answers_new}
+use Rattle.next_steps.proofs.Lines.{in_first_part, log_low}
+use Rattle.reached_histories.specs.machine_facts.specs.machine_invariant.proofs.Holding.{own_words}
 
 order : (a b : ℕ) → (a < b) ⊎ (b ≤ a)
 order a b = search arith
@@ -194,7 +197,7 @@ module _ (m : Meaning) (laws : Laws m) (l : Layout) (limits : IsWithinLimits l) 
   -- a run releases a lock behind the store of its section's done word
   ended_done : (q : RunState) → p.run ≡ Some q → is_open_run q ≡ true → e.kind ≡ kinds.Release → s.word (spots.DoneWord q.descriptor) ≢ 0
   ended_done q runs opened is z =
-      let in_line = subst (λ b. (if b then line_ask m l kinds.Release p.nodes.free q (next_of m q) else opening_ask kinds.Release q) ≡ Some x) opened
+      let in_line = subst (λ b. (if b then line_ask m l kinds.Release p.nodes.free p.blocks.free q (next_of m q) else opening_ask kinds.Release q) ≡ Some x) opened
       (subst (λ k. ask_by m l rs r k p (Some q) ≡ Some x) is (subst (λ o. ask_by m l rs r e.kind p o ≡ Some x) runs asked)) in
       let h = asked_line.release_asked q x l (next_of m q) in_line in
       released_done m l rs stands.beside s stands.whole r q runs opened h.0 h.1 h.2 ((stands.whole.sections.sections q.descriptor).done ∙ z)
@@ -272,8 +275,8 @@ module _ (m : Meaning) (laws : Laws m) (l : Layout) (limits : IsWithinLimits l) 
       abbrev d : ℕ
       d = q0.descriptor
 
-      in_line : line_ask m l kinds.MakeCommit p.nodes.free q0 (next_of m q0) ≡ Some x
-      in_line = subst (λ b. (if b then line_ask m l kinds.MakeCommit p.nodes.free q0 (next_of m q0) else opening_ask kinds.MakeCommit q0) ≡ Some x) wins.opened
+      in_line : line_ask m l kinds.MakeCommit p.nodes.free p.blocks.free q0 (next_of m q0) ≡ Some x
+      in_line = subst (λ b. (if b then line_ask m l kinds.MakeCommit p.nodes.free p.blocks.free q0 (next_of m q0) else opening_ask kinds.MakeCommit q0) ≡ Some x) wins.opened
           (subst (λ k. ask_by m l rs r k p (Some q0) ≡ Some x) wins.is (subst (λ o. ask_by m l rs r e.kind p o ≡ Some x) wins.runs asked))
 
       module _ (slot k : ℕ) (next : next_of m q0 ≡ micros.MakeCommit k) (ask : (spots.LogWord d k, Exchanges 0 (slot + 1)) ≡ x) where
@@ -314,7 +317,7 @@ module _ (m : Meaning) (laws : Laws m) (l : Layout) (limits : IsWithinLimits l) 
             let more = line.counted.slot_commit q0.at (ap is_commit code) in
             let rises = line.counted.slot_rises (suc q0.at) (a.section d).edge (omega (arith, less)) in
             let full = sound.section.in_log.full k (omega (arith, log, more, rises)) in
-            let same = stands.whole.logs.own d k in omega (arith, full, same, none)))
+            let same = own_words m l stands.whole.logs d k in omega (arith, full, same, none)))
             (λ le. omega (arith, le, behind, place))
             (order q0.at (a.section d).edge)
 
@@ -385,7 +388,11 @@ module _ (m : Meaning) (laws : Laws m) (l : Layout) (limits : IsWithinLimits l) 
         }
 
       won_one : Counted m l rs s'
-      won_one = let c = make_commit_asked q0 x (next_of m q0) in_line in won_more c.0 c.2.log c.2.step c.2.is
+      won_one =
+          let c = make_commit_asked q0 x (next_of m q0) in_line in
+          let low = log_low m l stands.beside s stands.whole r q0 wins.runs (open_run q0 wins.opened) q0.at c.2.log (micros.MakeCommit c.2.log)
+          (next_in_line m q0 (micros.MakeCommit c.2.log) refl c.2.step) refl in
+          won_more c.0 c.2.log c.2.step (ap (λ (a : Spot). (a, Exchanges 0 (c.0 + 1))) (sym (in_first_part d q0.links c.2.log low)) ∙ c.2.is)
 
     pub counted_on : Counted m l rs s'
     counted_on = ⊎_elim kept (λ more. ⊎_elim won_one gave more) own_leaves.slots

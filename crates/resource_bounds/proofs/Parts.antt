@@ -16,13 +16,14 @@ use Rattle.machine_states.specs.runner_parts.specs.declared.event.EventKind.{Eve
 use Rattle.machine_states.specs.runner_parts.specs.declared.event.EventKind.TheVariants as kinds
 use Rattle.machine_states.specs.runner_parts.specs.State.{RunState, FinishedState, PartState}
 use Rattle.machine_states.specs.runner_parts.specs.Lists as lists
-use Rattle.machine_states.specs.runner_steps.specs.Sections.{thunk_of, line_of, next_of}
+use Rattle.machine_states.specs.runner_steps.specs.Sections.{thunk_of, line_of, next_of, needs_link}
 use Rattle.machine_states.specs.epoch_core.specs.State.{last_epoch}
 use Rattle.machine_states.specs.runner_steps.specs.InRun.{last_clock}
 use Rattle.machine_states.specs.runner_steps.specs.AfterInRun as inside
 use Rattle.machine_states.specs.runner_steps.specs.AfterOutside as outside
-use Rattle.machine_states.specs.Blockless.{fill_stored, line_after, outside_after}
+use Rattle.machine_states.specs.runner_steps.specs.After.{line_after, outside_after}
 use Rattle.resource_bounds.proofs.Weights.{weight, spent, spent_here}
+use Rattle.machine_states.specs.runner_steps.specs.Outside.{blocks_from}
 
 module _ (m : Meaning) (p : ℕ) where
   -- which of a slot's cells the place is, where it is one
@@ -97,11 +98,21 @@ module _ (m : Meaning) (p : ℕ) where
       pub exchanged : (place : ℕ) → Gains (inside.cell_exchanged m l place y q found)
       exchanged place = went _ _ refl refl (on_more q.at _) refl refl
 
-      pub stored : (number : ℕ) → Gains (fill_stored m l number y q)
+      pub stored : (number : ℕ) → Gains (inside.with_run y (inside.filled m l number q))
       stored number = went _ _ refl refl (on_more q.at _) refl refl
 
       loses : (z : PartState) → Gains z → Keeps z
       loses z h = record { up = let more = h.up in omega (arith, more) }
+
+      -- the run stays at its place
+      waits : (z : PartState) (q' : RunState) → z.run ≡ Some q' → q'.opened ≡ q.opened → q'.at ≡ q.at
+          → z.records.finished ≡ y.records.finished → z.published ≡ y.published → Keeps z
+      waits z q' now opened at finished published =
+          let a = ap (λ (xs : List FinishedState). length xs) finished in
+          let c = ap by_open published in
+          let before = ap by_run runs ∙ by_opened_run q all in
+          let after = ap by_run now ∙ (ap (λ (xs : List ℕ). spent_by xs q'.at) opened ∙ (ap (spent_by q.opened) at ∙ thirteen q.opened q.at all)) in
+          record { up = omega (arith, a, c, before, after) }
 
       -- the run made one more exchange of its end
       ended : (z : PartState) → z.run ≡ Some (inside.ended_more q) → z.records.finished ≡ y.records.finished → z.published ≡ y.published → Keeps z
@@ -165,7 +176,12 @@ module _ (m : Meaning) (p : ℕ) where
         line_keeps (kinds.LoadCell place) micro = gone _ _ refl refl (on_more q.at _) refl refl
         line_keeps kinds.ExchangeCell micro = loses _ (exchanged (inside.place_of micro))
         line_keeps (kinds.PrivateLoad slot word) micro = fill slot q.made
-        line_keeps (kinds.PrivateStore slot word number) micro = loses _ (stored number)
+        line_keeps (kinds.PrivateStore slot word number) micro = by (needs_link q micro)
+          where
+            by : (b : Bool) → Keeps (inside.with_run y (if b then inside.block_emptied (slot - blocks_from m l) q else inside.filled m l number q))
+            by true = waits _ _ refl refl refl refl refl
+            by false = loses _ (stored number)
+        line_keeps (kinds.LinkCommit b) micro = waits _ _ refl refl refl refl refl
         line_keeps kinds.MakeCommit micro = make q.made
         line_keeps kinds.RetireCommit micro = gone _ _ refl refl (on_more q.at _) refl refl
         line_keeps kinds.EpochForRetire micro = gone _ _ refl refl (on_more q.at _) refl refl

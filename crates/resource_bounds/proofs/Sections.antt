@@ -37,6 +37,7 @@ use Rattle.reached_histories.specs.machine_facts.specs.machine_invariant.specs.W
 use Rattle.reached_histories.specs.Requests.{requests_of}
 use Rattle.reached_histories.specs.Kept.{link_of}
 use Rattle.reached_histories.specs.Laws.{HasHistory}
+use Rattle.reached_histories.specs.machine_facts.specs.machine_invariant.proofs.Holding.{own_words}
 
 -- between a Make and its Stamp no section stops
 goes_on : (c : CellRules) (d : ℕ) (log : ℕ → ℕ) (x : Micro) → 2 ≤ phase x → phase x ≤ 3 → is_stop c d log x ≡ false
@@ -100,7 +101,7 @@ module _ (m : Meaning) (l : Layout) (rs : List Request) (s : Sight) (stands : Ha
   stamp_rank = ap rank in_line.stamped.stamps
 
   log_is : (k : ℕ) → x.log k ≡ s.word (spots.LogWord d k)
-  log_is k = sym (whole.logs.own d k)
+  log_is k = sym (own_words m l whole.logs d k)
 
   -- the request of the section
   request_is : h.request d ≡ t.request

@@ -2,6 +2,7 @@
 ghost use Rattle.std.specs.Prelude.{◌≡◌, ◌<◌, ◌+◌, ◌^◌, None, length};
 ghost use Rattle.runner_steps.specs.runner_parts.specs.Tests.{last_stored, is_some_of, are_stored, is_prepared};
 
+use runner_steps::block_words::table_words::PART_WORDS;
 use runner_steps::body_terms::Thunk;
 use runner_steps::runner_parts::{Stored, thunk_words};
 
@@ -43,10 +44,10 @@ fn are_stored(stored: &[Stored], descriptor: u32, from: u32, numbers: &[u64]) ->
     true
 }
 
-/// Whether the descriptor's words were stored or found with this thunk, no done, and an empty log.
+/// Whether the descriptor's words were stored or found with this thunk, no done, an empty log and no link.
 pub fn is_prepared(stored: &[Stored], descriptor: u32, thunk: &Thunk) -> bool
     ensures { result ≡ is_prepared stored.now descriptor thunk.now }
 {
     are_stored(stored, descriptor, 0, &thunk_words(thunk))
-        && are_stored(stored, descriptor, 12, &[0; 65])
+        && are_stored(stored, descriptor, 12, &[0; PART_WORDS + 2])
 }

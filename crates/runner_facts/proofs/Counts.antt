@@ -10,7 +10,8 @@ use Rattle.machine_states.specs.structure_laws.specs.Laws.{Laws}
 use Rattle.machine_states.specs.runner_parts.specs.declared.event.EventKind.{EventKind}
 use Rattle.machine_states.specs.runner_parts.specs.declared.event.EventKind.TheVariants as kinds
 use Rattle.machine_states.specs.runner_parts.specs.State.{RunState, PartState}
-use Rattle.machine_states.specs.Blockless.{ask_by, outside_ask, after_by}
+use Rattle.machine_states.specs.runner_steps.specs.Asks.{ask_by, outside_ask}
+use Rattle.machine_states.specs.runner_steps.specs.After.{after_by}
 use Rattle.machine_states.specs.epoch_core.specs.declared.location.Location.TheVariants.{Free}
 use Rattle.machine_states.specs.epoch_core.specs.Lists.{in_free}
 use Rattle.machine_states.specs.World.{World}

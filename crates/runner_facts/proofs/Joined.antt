@@ -14,7 +14,8 @@ use Rattle.machine_states.specs.runner_parts.specs.declared.event.EventKind.TheV
 use Rattle.machine_states.specs.runner_parts.specs.declared.entries.Left.{Left}
 use Rattle.machine_states.specs.runner_parts.specs.State.{RunState, PartState}
 use Rattle.machine_states.specs.runner_parts.specs.Tests.{has}
-use Rattle.machine_states.specs.Blockless.{ask_by, after_by, after}
+use Rattle.machine_states.specs.runner_steps.specs.Asks.{ask_by}
+use Rattle.machine_states.specs.runner_steps.specs.After.{after_by, after}
 use Rattle.machine_states.specs.runner_steps.specs.After.{knows_also, leaves}
 use Rattle.machine_states.specs.World.{World, is_join}
 use Rattle.machine_states.specs.First.{IsFirst}

@@ -24,7 +24,7 @@ use Rattle.machine_states.specs.epoch_core.specs.State.{last_epoch}
 use Rattle.machine_states.specs.runner_steps.specs.InRun.{last_clock}
 use Rattle.machine_states.specs.runner_steps.specs.AfterInRun as inside
 use Rattle.machine_states.specs.runner_steps.specs.AfterOutside as outside
-use Rattle.machine_states.specs.Blockless.{line_after, inside_after, outside_after}
+use Rattle.machine_states.specs.runner_steps.specs.After.{line_after, inside_after, outside_after}
 use Rattle.machine_states.specs.runner_steps.specs.Guards.{is_last_guard}
 use Rattle.machine_states.specs.epoch_core.specs.Lists.{times}
 use Rattle.machine_states.specs.World.{is_join}
@@ -99,6 +99,7 @@ module _ (m : Meaning) (l : Layout) (p : PartState) where
     line_keeps kinds.ExchangeCell micro = keeps _ refl refl refl
     line_keeps (kinds.PrivateLoad slot word) micro = fill_keeps slot q.made
     line_keeps (kinds.PrivateStore slot word number) micro = keeps _ refl refl refl
+    line_keeps (kinds.LinkCommit b) micro = keeps _ refl refl refl
     line_keeps kinds.MakeCommit micro = make_keeps q.made
     line_keeps kinds.RetireCommit micro = keeps _ refl refl refl
     line_keeps kinds.EpochForRetire micro = keeps _ refl refl refl

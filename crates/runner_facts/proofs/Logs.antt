@@ -1,6 +1,6 @@
 -- What a step writes into a log word.
-use Rattle.std.specs.Prelude.{◌==◌, ◌-◌, ◌⊎◌, cond, nat_lt, Bool, true, false, if◌then◌else◌}
-use Rattle.std.proofs.Common.{◌≡◌, ◌≢◌, ℕ, List, refl, sym, ap, ◌∙◌, subst, ⊎_elim, inl, inr, arith, Some, None}
+use Rattle.std.specs.Prelude.{◌==◌, ◌-◌, ◌⊎◌, cond, nat_lt, Bool, true, false, if◌then◌else◌, ◌/◌, ◌%◌}
+use Rattle.std.proofs.Common.{◌≡◌, ◌≢◌, ℕ, List, refl, sym, ap, ◌∙◌, subst, ⊎_elim, inl, inr, arith, Some, None, suc, zero, length, ◌+◌}
 use Rattle.std.proofs.lemmas.Bool.{cases_eq}
 use Rattle.std.proofs.lemmas.Bool.Decides.{nat_tests}
 use Rattle.section_lines.specs.small_lemmas.proofs.Numbers.{chosen_here as one_here}
@@ -15,7 +15,7 @@ use Rattle.machine_states.specs.table_words.specs.declared.spot.Spot.TheVariants
 use Rattle.machine_states.specs.table_words.specs.declared.access.Access.{Access}
 use Rattle.machine_states.specs.table_words.specs.declared.access.Access.TheVariants.{Loads, Stores, Exchanges}
 use Rattle.machine_states.specs.table_words.specs.Access.{written}
-use Rattle.machine_states.specs.table_words.specs.Places.{slot_count}
+use Rattle.machine_states.specs.table_words.specs.Places.{slot_count, part_words}
 use Rattle.machine_states.specs.table_words.specs.Seen.{put}
 use Rattle.machine_states.specs.structure_laws.specs.Meaning.{Meaning}
 use Rattle.machine_states.specs.runner_parts.specs.declared.event.EventKind.{EventKind}
@@ -23,9 +23,9 @@ use Rattle.machine_states.specs.runner_parts.specs.declared.event.EventKind.TheV
 use Rattle.machine_states.specs.runner_parts.specs.State.{RunState, PartState}
 use Rattle.machine_states.specs.runner_parts.specs.Tests.{has}
 use Rattle.machine_states.specs.runner_steps.specs.InRun.{load_cell_ask, nested_load_ask, outcome_load_ask}
-use Rattle.machine_states.specs.runner_steps.specs.Outside.{descriptor_spot}
+use Rattle.machine_states.specs.runner_steps.specs.Outside.{descriptor_spot, block_spot, blocks_from}
 use Rattle.machine_states.specs.runner_steps.specs.Asks.{opening_ask}
-use Rattle.machine_states.specs.Blockless.{outside_ask, line_ask}
+use Rattle.machine_states.specs.runner_steps.specs.Asks.{outside_ask, line_ask}
 use Rattle.machine_states.proofs.Sights.{if_some, some_none}
 use Rattle.machine_states.proofs.Steps.{some_same}
 use Rattle.machine_states.proofs.Updates.{put_same}
@@ -33,6 +33,7 @@ use Rattle.machine_facts.specs.machine_agreement.specs.machine_epochs.proofs.Ins
 use Rattle.machine_facts.specs.machine_agreement.specs.machine_epochs.proofs.OutsideAsked as outside
 use Rattle.machine_facts.specs.machine_agreement.specs.machine_epochs.proofs.ReadsAsked as reads
 use Rattle.machine_facts.specs.machine_agreement.specs.machine_epochs.proofs.BoardAsked as board
+use Rattle.machine_states.specs.runner_parts.specs.block_words.specs.Blocks.{part_spot, link_spot, log_spot}
 
 -- the place in the log to which a step commits
 abbrev pub log_of : Micro → ℕ
@@ -83,6 +84,18 @@ module _ (f : Spot → ℕ) (d k : ℕ) where
       not_second : (d' k' v : ℕ) → k ≢ k' → cond (d == d') (cond (k == k') v (f (spots.LogWord d k))) (f (spots.LogWord d k)) ≡ f (spots.LogWord d k)
       not_second d' k' v ne = grind (arith, nat_tests)
 
+  -- a store into a word of a block, or an exchange of a link
+  block_stays : (b word number : ℕ) → LogStays (block_spot b word, Stores number)
+  block_stays b word number = by (word == part_words)
+    where
+      by : (c : Bool) → LogStays ((if c then spots.BlockLink b else spots.BlockWord b word), Stores number)
+      by true = refl
+      by false = refl
+
+  link_stays : (d' : ℕ) (links : List ℕ) (i new : ℕ) → LogStays (link_spot d' links i, Exchanges 0 new)
+  link_stays d' links zero new = refl
+  link_stays d' links (suc i) new = refl
+
   module _ (m : Meaning) (l : Layout) (q : RunState) (x : Spot × Access) where
     -- the run commits there
     pub record Commits (micro : Micro) : Type 0 where
@@ -93,9 +106,9 @@ module _ (f : Spot → ℕ) (d k : ℕ) where
       pub is : (spots.LogWord d k, Exchanges 0 proposal) ≡ x
       pub carried : carries micro ≡ true → proposal ≡ q.word
 
-    at_log : (micro : Micro) (log proposal : ℕ) → (spots.LogWord q.descriptor log, Exchanges 0 proposal) ≡ x → is_commit micro ≡ true → log_of micro ≡ log
+    at_own : (micro : Micro) (log proposal : ℕ) → (spots.LogWord q.descriptor log, Exchanges 0 proposal) ≡ x → is_commit micro ≡ true → log_of micro ≡ log
         → (carries micro ≡ true → proposal ≡ q.word) → LogStays x ⊎ Commits micro
-    at_log micro log proposal is commit place word = ⊎_elim
+    at_own micro log proposal is commit place word = ⊎_elim
         (λ own. ⊎_elim
         (λ here. inr (record {
           of = sym own;
@@ -109,6 +122,18 @@ module _ (f : Spot → ℕ) (d k : ℕ) where
         (cases_eq k log))
         (λ ne. inl (subst LogStays is (other_log q.descriptor log _ (λ e e'. ne e))))
         (cases_eq d q.descriptor)
+
+    -- what stands in the descriptor's part has its place there, and the rest is in blocks
+    at_log : (micro : Micro) (log proposal : ℕ) → (log_spot q.descriptor q.links log, Exchanges 0 proposal) ≡ x → is_commit micro ≡ true → log_of micro ≡ log
+        → (carries micro ≡ true → proposal ≡ q.word) → LogStays x ⊎ Commits micro
+    at_log micro log proposal is commit place word = by (log / part_words) (log % part_words) refl refl is
+      where
+        first : (i j : ℕ) → log / part_words ≡ i → log % part_words ≡ j → i ≡ 0 → j ≡ log
+        first i j e e' none = omega (arith, e, e', none)
+
+        by : (i j : ℕ) → log / part_words ≡ i → log % part_words ≡ j → (part_spot q.descriptor q.links i j, Exchanges 0 proposal) ≡ x → LogStays x ⊎ Commits micro
+        by zero j e e' is = at_own micro log proposal (ap (λ n. (spots.LogWord q.descriptor n, Exchanges 0 proposal)) (sym (first zero j e e' refl)) ∙ is) commit place word
+        by (suc i) j e e' is = inl (subst LogStays is refl)
 
     load_stays : (micro : Micro) → load_cell_ask q micro ≡ Some x → LogStays x
     load_stays (micros.LoadCell place log) e = loads (spots.Cell place) x (some_same _ _ e)
@@ -125,33 +150,37 @@ module _ (f : Spot → ℕ) (d k : ℕ) where
     commits : (micro micro' : Micro) → micro ≡ micro' → LogStays x ⊎ Commits micro' → LogStays x ⊎ Commits micro
     commits micro micro' e h = subst (λ y. LogStays x ⊎ Commits y) (sym e) h
 
-    pub line_log : (kind : EventKind) (free : List ℕ) (micro : Micro) → line_ask m l kind free q micro ≡ Some x → LogStays x ⊎ Commits micro
-    line_log kinds.Commit free micro e = let h = inside.commit_asked q x micro e in
+    pub line_log : (kind : EventKind) (free blocks : List ℕ) (micro : Micro) → line_ask m l kind free blocks q micro ≡ Some x → LogStays x ⊎ Commits micro
+    line_log kinds.Commit free blocks micro e = let h = inside.commit_asked q x micro e in
         ⊎_elim
         (λ is. commits micro _ is (at_log _ h.log q.word h.is refl refl (λ c. refl)))
         (λ is. commits micro _ is (at_log _ h.log q.word h.is refl refl (λ c. refl)))
         h.step.1
-    line_log (kinds.LoadCell None) free micro e = inl (load_stays micro e)
-    line_log kinds.ExchangeCell free micro e = inl (subst LogStays (inside.exchange_cell_asked q x l micro e).is refl)
-    line_log (kinds.PrivateLoad slot word) free micro e = let h = inside.fill_load_asked q x m l slot word free micro e in inl (loads (spots.Cell h.2) x h.6)
-    line_log (kinds.PrivateStore slot word number) free micro e = inl (subst LogStays (inside.fill_store_asked q x m l slot word number micro e).5 refl)
-    line_log kinds.MakeCommit free micro e = let h = (inside.make_commit_asked q x micro e).2 in
+    line_log (kinds.LoadCell None) free blocks micro e = inl (load_stays micro e)
+    line_log kinds.ExchangeCell free blocks micro e = inl (subst LogStays (inside.exchange_cell_asked q x l micro e).is refl)
+    line_log (kinds.PrivateLoad slot word) free blocks micro e = let h = inside.fill_load_asked q x m l slot word free micro e in inl (loads (spots.Cell h.2) x h.6)
+    line_log (kinds.PrivateStore slot word number) free blocks micro e = ⊎_elim
+        (λ block. inl (subst LogStays block.1 (block_stays (slot - blocks_from m l) word number)))
+        (λ fills. inl (subst LogStays (inside.fill_store_asked q x m l slot word number micro fills.1).5 refl))
+        (inside.run_store_asked q x m l slot word number blocks micro e)
+    line_log (kinds.LinkCommit b) free blocks micro e = inl (subst LogStays (inside.link_asked q x l b micro e) (link_stays q.descriptor q.links (length q.links) (b + 1)))
+    line_log kinds.MakeCommit free blocks micro e = let h = (inside.make_commit_asked q x micro e).2 in
         commits micro _ h.step (at_log _ h.log _ h.is refl refl (λ c. absurd (let z = c in cc)))
-    line_log kinds.RetireCommit free micro e = let h = inside.retire_commit_asked q x micro e in
+    line_log kinds.RetireCommit free blocks micro e = let h = inside.retire_commit_asked q x micro e in
         commits micro _ h.1.step (at_log _ h.1.log _ h.1.is refl refl (λ c. absurd (let z = c in cc)))
-    line_log kinds.EpochForRetire free micro e = inl (loads spots.Epoch x (inside.epoch_for_retire_asked q x micro e).3)
-    line_log kinds.SetDone free micro e = inl (subst LogStays (inside.set_done_asked q x micro e).1 refl)
-    line_log kinds.Release free micro e = inl (subst LogStays (inside.release_asked q x l micro e).is refl)
-    line_log kinds.ClockLoad free micro e = inl (loads spots.Clock x (inside.clock_load_asked q x micro e).1)
-    line_log kinds.StampExchange free micro e = inl (subst LogStays (inside.stamp_exchange_asked q x micro e).3 refl)
-    line_log kinds.ClockRaise free micro e = inl (subst LogStays (inside.clock_raise_asked q x micro e).2 refl)
-    line_log kinds.ReplyExchange free micro e = inl (subst LogStays (inside.reply_exchange_asked q x micro e).3 refl)
-    line_log kinds.NestedLoad free micro e = inl (nested_stays micro e)
-    line_log kinds.NestedHold free micro e = inl (subst LogStays (inside.nested_hold_asked q x l micro e).is refl)
-    line_log kinds.OutcomeLoad free micro e = inl (outcome_stays micro e)
-    line_log kinds.OutcomeCommit free micro e = let h = inside.outcome_commit_asked q x micro e in
+    line_log kinds.EpochForRetire free blocks micro e = inl (loads spots.Epoch x (inside.epoch_for_retire_asked q x micro e).3)
+    line_log kinds.SetDone free blocks micro e = inl (subst LogStays (inside.set_done_asked q x micro e).1 refl)
+    line_log kinds.Release free blocks micro e = inl (subst LogStays (inside.release_asked q x l micro e).is refl)
+    line_log kinds.ClockLoad free blocks micro e = inl (loads spots.Clock x (inside.clock_load_asked q x micro e).1)
+    line_log kinds.StampExchange free blocks micro e = inl (subst LogStays (inside.stamp_exchange_asked q x micro e).3 refl)
+    line_log kinds.ClockRaise free blocks micro e = inl (subst LogStays (inside.clock_raise_asked q x micro e).2 refl)
+    line_log kinds.ReplyExchange free blocks micro e = inl (subst LogStays (inside.reply_exchange_asked q x micro e).3 refl)
+    line_log kinds.NestedLoad free blocks micro e = inl (nested_stays micro e)
+    line_log kinds.NestedHold free blocks micro e = inl (subst LogStays (inside.nested_hold_asked q x l micro e).is refl)
+    line_log kinds.OutcomeLoad free blocks micro e = inl (outcome_stays micro e)
+    line_log kinds.OutcomeCommit free blocks micro e = let h = inside.outcome_commit_asked q x micro e in
         commits micro _ h.step.1 (at_log _ h.log q.word h.is refl refl (λ c. refl))
-    line_log _ free micro e = some_none x e
+    line_log _ free blocks micro e = some_none x e
 
     pub opening_log : (kind : EventKind) → opening_ask kind q ≡ Some x → LogStays x
     opening_log (kinds.LoadThunk None) e = loads _ x (inside.open_more_asked q x e).1
@@ -160,12 +189,14 @@ module _ (f : Spot → ℕ) (d k : ℕ) where
 
   -- a store to a word of another descriptor
   other_store : (d' word number : ℕ) → d ≢ d' → LogStays (descriptor_spot d' word, Stores number)
-  other_store d' word number ne = by (nat_lt word 12) (word == 12)
+  other_store d' word number ne = by (nat_lt word 12) (word == 12) (word == 13 + part_words)
     where
-      by : (b b' : Bool) → LogStays ((if b then spots.ThunkWord d' word else (if b' then spots.DoneWord d' else spots.LogWord d' (word - 13))), Stores number)
-      by true b' = refl
-      by false true = refl
-      by false false = other_log d' (word - 13) number (λ e e'. ne e)
+      by : (b b' c : Bool)
+          → LogStays ((if b then spots.ThunkWord d' word else (if b' then spots.DoneWord d' else (if c then spots.LinkWord d' else spots.LogWord d' (word - 13)))), Stores number)
+      by true b' c = refl
+      by false true c = refl
+      by false false true = refl
+      by false false false = other_log d' (word - 13) number (λ e e'. ne e)
 
   module _ (m : Meaning) (l : Layout) (rs : List Request) (r : ℕ) (y : PartState) (x : Spot × Access)
       (unfree : has y.descriptors.free d ≡ true → ⊥) where
@@ -183,9 +214,11 @@ module _ (f : Spot → ℕ) (d k : ℕ) where
     outside_log (kinds.LoadEntry request reply) e = loads _ x (outside.entry_asked request reply y x e)
     outside_log (kinds.PrivateLoad slot word) e = let h = outside.private_load_asked m l slot word y x e in loads h.0 x h.1
     outside_log (kinds.PrivateStore slot word number) e =
-        let h = outside.private_store_asked m l slot word number y x e in
-        subst LogStays h.1 (other_store (slot - slot_count l m.fixed_slots) word number
-        (λ same. unfree (ap (λ i. has y.descriptors.free i) same ∙ h.0)))
+        ⊎_elim
+        (λ own. subst LogStays own.2 (other_store (slot - slot_count l m.fixed_slots) word number
+        (λ same. unfree (ap (λ i. has y.descriptors.free i) same ∙ own.1))))
+        (λ block. subst LogStays block.1 (block_stays (slot - blocks_from m l) word number))
+        (outside.private_store_cases m l slot word number y x e)
     outside_log (kinds.Hold thunk d') e = subst LogStays (outside.hold_asked m l rs r thunk d' y x e).is refl
     outside_log (kinds.Guard d') e = subst LogStays (outside.guard_asked l r d' y x e).is refl
     outside_log (kinds.LoadGuard n) e = loads _ x (outside.load_guard_asked l n y x e).is

@@ -28,8 +28,9 @@ use Rattle.machine_states.specs.runner_parts.specs.declared.event.EventKind.TheV
 use Rattle.machine_states.specs.runner_parts.specs.State.{RunState, DescriptorsState, GuardsState, PartState}
 use Rattle.machine_states.specs.runner_parts.specs.Lists.{descriptor_retired, descriptor_taken, published_seen, cell_read}
 use Rattle.machine_states.specs.runner_parts.specs.Tests.{has, has_pair, is_some_of}
-use Rattle.machine_states.specs.Blockless.{ask_by, outside_ask, line_after, inside_after, outside_after, after_by}
-use Rattle.machine_states.specs.runner_steps.specs.Outside.{is_sure_of}
+use Rattle.machine_states.specs.runner_steps.specs.Asks.{ask_by, outside_ask}
+use Rattle.machine_states.specs.runner_steps.specs.After.{line_after, inside_after, outside_after, after_by}
+use Rattle.machine_states.specs.runner_steps.specs.Outside.{is_sure_of, blocks_from}
 use Rattle.machine_states.specs.runner_steps.specs.Sections.{is_open_run, next_of}
 use Rattle.machine_states.specs.epoch_core.specs.State.{last_epoch}
 use Rattle.machine_states.specs.runner_steps.specs.InRun.{last_clock}
@@ -60,6 +61,7 @@ use Rattle.machine_facts.specs.machine_invariant.proofs.Keeping.{IsStep, reached
 use Rattle.next_steps.proofs.Parts.{each_part}
 use Rattle.next_steps.proofs.Tests.{without_has}
 use Rattle.runner_facts.specs.Names.{HasLock, HasReadLast, IsNamed, NamesStand}
+use Rattle.machine_facts.specs.machine_agreement.proofs.Words.{block_same}
 
 -- a list has its last pair
 pub pair_last : (xs : List (ℕ × ℕ)) (a b : ℕ) → has_pair (xs ++ (a, b) ∷ []) a b ≡ true
@@ -162,6 +164,7 @@ module _ (m : Meaning) (l : Layout) (p : PartState) (found : ℕ) (x : Spot × A
     line_looks kinds.ExchangeCell micro = same _ refl refl refl refl
     line_looks (kinds.PrivateLoad slot word) micro = fill_looks slot q.made
     line_looks (kinds.PrivateStore slot word number) micro = same _ refl refl refl refl
+    line_looks (kinds.LinkCommit b) micro = same _ refl refl refl refl
     line_looks kinds.MakeCommit micro = make_looks q.made
     line_looks kinds.RetireCommit micro = same _ refl refl refl refl
     line_looks kinds.EpochForRetire micro = same _ refl refl refl refl
@@ -271,7 +274,7 @@ sure_unfree : (m : Meaning) (l : Layout) (b : Beside) (s : Sight) → IsWhole m 
     → (i : ℕ) → has (s.part i).descriptors.free d ≡ false
 sure_unfree m l b s whole r d sure i = not_has (has (s.part i).descriptors.free d) (λ h.
     let some = has_times (s.part i).descriptors.free d h in
-    let none = sure_kept m l whole.guards.chain b.agreement b.epochs s whole.slots whole.guards.stands r i d sure in omega arith)
+    let none = sure_kept m l whole.logs.chain b.agreement b.epochs s whole.slots whole.logs.guards r i d sure in omega arith)
 
 -- what holds of the last readings, of sure runners and of entered ones
 record AllSay (m : Meaning) (s : Sight) : Type 0 where
@@ -297,12 +300,15 @@ module _ (m : Meaning) (laws : Laws m) (l : Layout) (limits : IsWithinLimits l) 
   thunk_by : (k : EventKind) (o : Option RunState) → ask_by m l rs r k p o ≡ Some x → (d : ℕ) → has p.descriptors.free d ≡ false
       → thunk_in (sight_after m l s r k x).word d ≡ thunk_in s.word d
   thunk_by (kinds.PrivateStore slot word number) None e d unfree =
-      let h = outside_asked.private_store_asked m l slot word number p x e in
       thunk_same (put s.word x.0 (written x.1 (s.word x.0))) s.word d (λ j.
-      subst (λ (y : Spot × Access). put s.word y.0 (written y.1 (s.word y.0)) (spots.ThunkWord d j) ≡ s.word (spots.ThunkWord d j)) h.1
-      (other_thunk s.word (slot - slot_count l m.fixed_slots) word number d j (λ here. not_both (ap (has p.descriptors.free) here ∙ h.0) unfree)))
+      let is = λ (y : Spot × Access). put s.word y.0 (written y.1 (s.word y.0)) (spots.ThunkWord d j) ≡ s.word (spots.ThunkWord d j) in
+      ⊎_elim
+      (λ own. subst is own.2
+      (other_thunk s.word (slot - slot_count l m.fixed_slots) word number d j (λ here. not_both (ap (has p.descriptors.free) here ∙ own.1) unfree)))
+      (λ block. subst is block.1 ((block_same s.word number (slot - blocks_from m l) word).thunks d j))
+      (outside_asked.private_store_cases m l slot word number p x e))
   thunk_by k None e d unfree = thunks_after m l s r k x (outside_leaves m l rs r p x k refl e) d
-  thunk_by k (Some q) e d unfree = thunks_after m l s r k x (inside_leaves m l q x k p.nodes.free e) d
+  thunk_by k (Some q) e d unfree = thunks_after m l s r k x (inside_leaves m l q x k p.nodes.free p.blocks.free e) d
 
   pub thunk_stays : (d : ℕ) → has p.descriptors.free d ≡ false → thunk_in s'.word d ≡ thunk_in s.word d
   thunk_stays d unfree = ap (λ (y : Sight). thunk_in y.word d) st.step.next ∙ thunk_by kind p.run asks_by d unfree

@@ -26,7 +26,7 @@ use Rattle.machine_states.specs.epoch_core.specs.State.{last_epoch}
 use Rattle.machine_states.specs.runner_steps.specs.InRun.{last_clock}
 use Rattle.machine_states.specs.runner_steps.specs.AfterInRun as inside
 use Rattle.machine_states.specs.runner_steps.specs.AfterOutside as outside
-use Rattle.machine_states.specs.Blockless.{line_after, inside_after, outside_after}
+use Rattle.machine_states.specs.runner_steps.specs.After.{line_after, inside_after, outside_after}
 use Rattle.machine_states.specs.runner_steps.specs.Guards.{is_last_guard}
 use Rattle.machine_states.proofs.Steps.{some_same, none_some}
 use Rattle.machine_facts.specs.machine_agreement.specs.machine_epochs.proofs.Places.{has_append}
@@ -121,6 +121,7 @@ module _ (m : Meaning) (l : Layout) (d : ℕ) (p : PartState) (found : ℕ) wher
     line_keeps kinds.ExchangeCell micro = same _ refl refl refl
     line_keeps (kinds.PrivateLoad slot word) micro = fill slot q.made
     line_keeps (kinds.PrivateStore slot word number) micro = same _ refl refl refl
+    line_keeps (kinds.LinkCommit b) micro = same _ refl refl refl
     line_keeps kinds.MakeCommit micro = make q.made
     line_keeps kinds.RetireCommit micro = same _ refl refl refl
     line_keeps kinds.EpochForRetire micro = same _ refl refl refl

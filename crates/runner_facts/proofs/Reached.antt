@@ -12,7 +12,8 @@ use Rattle.machine_states.specs.runner_parts.specs.declared.event.EventKind.{Eve
 use Rattle.machine_states.specs.runner_parts.specs.declared.event.EventKind.TheVariants as kinds
 use Rattle.machine_states.specs.runner_parts.specs.State.{RunState, PartState}
 use Rattle.machine_states.specs.runner_parts.specs.Tests.{has}
-use Rattle.machine_states.specs.Blockless.{ask_by, outside_ask, after_by}
+use Rattle.machine_states.specs.runner_steps.specs.Asks.{ask_by, outside_ask}
+use Rattle.machine_states.specs.runner_steps.specs.After.{after_by}
 use Rattle.machine_states.specs.World.{World}
 use Rattle.machine_states.specs.First.{falling, first_part, keeper_part, worker_part}
 use Rattle.machine_states.specs.Reached.{Reached}

@@ -1,5 +1,5 @@
 -- What a step leaves of a runner's run, and of what it has published.
-use Rattle.std.specs.Prelude.{◌==◌, ◌&&◌, ◌⊎◌, not, nat_lt, nat_le, Bool, true, false, if◌then◌else◌}
+use Rattle.std.specs.Prelude.{◌==◌, ◌&&◌, ◌⊎◌, not, nat_lt, nat_le, Bool, true, false, if◌then◌else◌, ◌-◌}
 use Rattle.std.proofs.Common.{◌≡◌, ℕ, ◌+◌, List, [], ◌∷◌, ◌++◌, length, refl, sym, ap, ◌∙◌, inl, inr, Option, Some, None}
 use Rattle.machine_states.specs.body_terms.specs.Line.{is_end}
 use Rattle.machine_states.specs.body_terms.specs.Run.{settled, written_once}
@@ -18,14 +18,16 @@ use Rattle.machine_states.specs.epoch_core.specs.declared.stage.Stage.TheVariant
 use Rattle.machine_states.specs.runner_parts.specs.declared.event.EventKind.{EventKind}
 use Rattle.machine_states.specs.runner_parts.specs.declared.event.EventKind.TheVariants as kinds
 use Rattle.machine_states.specs.runner_parts.specs.State.{RunState, PartState}
-use Rattle.machine_states.specs.runner_steps.specs.Sections.{line_of, next_of, setting_of}
+use Rattle.machine_states.specs.runner_steps.specs.Sections.{line_of, next_of, setting_of, needs_link}
 use Rattle.machine_states.specs.epoch_core.specs.State.{last_epoch}
-use Rattle.machine_states.specs.Blockless.{line_ask, line_after, outside_after}
+use Rattle.machine_states.specs.runner_steps.specs.Asks.{line_ask}
+use Rattle.machine_states.specs.runner_steps.specs.After.{line_after, outside_after}
 use Rattle.machine_states.specs.runner_steps.specs.InRun.{last_clock}
 use Rattle.machine_states.specs.runner_steps.specs.AfterInRun as inside
 use Rattle.machine_states.specs.runner_steps.specs.AfterOutside as outside
 use Rattle.machine_states.proofs.Sights.{some_none}
 use Rattle.machine_states.proofs.Steps.{some_same}
+use Rattle.machine_states.specs.runner_steps.specs.Outside.{blocks_from}
 
 -- a load of a lock's word for a Take
 abbrev pub loads_lock : EventKind → Bool
@@ -34,19 +36,19 @@ loads_lock kinds.OutcomeLoad = true
 loads_lock _ = false
 
 -- a run that stands before the load of a lock loads it
-pub nested_kind : (m : Meaning) (l : Layout) (free : List ℕ) (q : RunState) (x : Spot × Access) (p k : ℕ) (kind : EventKind)
-    → line_ask m l kind free q (micros.NestedLoad p k) ≡ Some x → (kind ≡ kinds.NestedLoad) × ((spots.Cell p, Loads) ≡ x)
-nested_kind m l free q x p k kinds.NestedLoad e = (refl, some_same _ _ e)
-nested_kind m l free q x p k (kinds.LoadCell None) e = some_none x e
-nested_kind m l free q x p k (kinds.LoadCell (Some place)) e = some_none x e
-nested_kind m l free q x p k _ e = some_none x e
+pub nested_kind : (m : Meaning) (l : Layout) (free blocks : List ℕ) (q : RunState) (x : Spot × Access) (p k : ℕ) (kind : EventKind)
+    → line_ask m l kind free blocks q (micros.NestedLoad p k) ≡ Some x → (kind ≡ kinds.NestedLoad) × ((spots.Cell p, Loads) ≡ x)
+nested_kind m l free blocks q x p k kinds.NestedLoad e = (refl, some_same _ _ e)
+nested_kind m l free blocks q x p k (kinds.LoadCell None) e = some_none x e
+nested_kind m l free blocks q x p k (kinds.LoadCell (Some place)) e = some_none x e
+nested_kind m l free blocks q x p k _ e = some_none x e
 
-pub outcome_kind : (m : Meaning) (l : Layout) (free : List ℕ) (q : RunState) (x : Spot × Access) (p k : ℕ) (kind : EventKind)
-    → line_ask m l kind free q (micros.OutcomeLoad p k) ≡ Some x → (kind ≡ kinds.OutcomeLoad) × ((spots.Cell p, Loads) ≡ x)
-outcome_kind m l free q x p k kinds.OutcomeLoad e = (refl, some_same _ _ e)
-outcome_kind m l free q x p k (kinds.LoadCell None) e = some_none x e
-outcome_kind m l free q x p k (kinds.LoadCell (Some place)) e = some_none x e
-outcome_kind m l free q x p k _ e = some_none x e
+pub outcome_kind : (m : Meaning) (l : Layout) (free blocks : List ℕ) (q : RunState) (x : Spot × Access) (p k : ℕ) (kind : EventKind)
+    → line_ask m l kind free blocks q (micros.OutcomeLoad p k) ≡ Some x → (kind ≡ kinds.OutcomeLoad) × ((spots.Cell p, Loads) ≡ x)
+outcome_kind m l free blocks q x p k kinds.OutcomeLoad e = (refl, some_same _ _ e)
+outcome_kind m l free blocks q x p k (kinds.LoadCell None) e = some_none x e
+outcome_kind m l free blocks q x p k (kinds.LoadCell (Some place)) e = some_none x e
+outcome_kind m l free blocks q x p k _ e = some_none x e
 
 module _ (m : Meaning) (l : Layout) (y : PartState) (found : ℕ) (kind : EventKind) where
   -- the run after a step of a run that has loaded its words
@@ -95,7 +97,12 @@ module _ (m : Meaning) (l : Layout) (y : PartState) (found : ℕ) (kind : EventK
       line_runs (kinds.LoadCell place) of_kind micro = rests _ _ q.trail refl refl refl refl (no_load of_kind refl)
       line_runs kinds.ExchangeCell of_kind micro = rests _ _ q.trail refl refl refl refl (no_load of_kind refl)
       line_runs (kinds.PrivateLoad slot word) of_kind micro = fill slot q.made (no_load of_kind refl)
-      line_runs (kinds.PrivateStore slot word number) of_kind micro = rests _ _ q.trail refl refl refl refl (no_load of_kind refl)
+      line_runs (kinds.PrivateStore slot word number) of_kind micro = by (needs_link q micro)
+        where
+          by : (b : Bool) → Runs (inside.with_run y (if b then inside.block_emptied (slot - blocks_from m l) q else inside.filled m l number q))
+          by true = waits _ _ refl refl refl refl refl
+          by false = rests _ _ q.trail refl refl refl refl (no_load of_kind refl)
+      line_runs (kinds.LinkCommit b) of_kind micro = waits _ _ refl refl refl refl refl
       line_runs kinds.MakeCommit of_kind micro = make q.made (no_load of_kind refl)
       line_runs kinds.RetireCommit of_kind micro = rests _ _ (q.trail ++ written_once found (inside.retired_slot_of micro + 1) ∷ []) refl refl refl refl (no_load of_kind refl)
       line_runs kinds.EpochForRetire of_kind micro = rests _ _ q.trail refl refl refl refl (no_load of_kind refl)

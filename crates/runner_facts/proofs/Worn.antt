@@ -27,14 +27,17 @@ use Rattle.machine_states.specs.epoch_core.specs.declared.stage.Stage.TheVariant
 use Rattle.machine_states.specs.runner_parts.specs.declared.event.EventKind.{EventKind}
 use Rattle.machine_states.specs.runner_parts.specs.declared.event.EventKind.TheVariants as kinds
 use Rattle.machine_states.specs.runner_parts.specs.State.{RunState, NodesState, PartState}
-use Rattle.machine_states.specs.runner_parts.specs.Lists.{test_of, tests_without, slot_back, slot_tested, one_more, nodes_looked, slot_made, slot_retired, descriptor_stored}
+use Rattle.machine_states.specs.runner_parts.specs.Lists.{test_of, tests_without, slot_back, slot_tested, one_more, nodes_looked, slot_made, slot_retired}
 use Rattle.machine_states.specs.runner_parts.specs.Tests.{has, is_resting}
 use Rattle.machine_states.specs.runner_steps.specs.Asks.{opening_ask}
-use Rattle.machine_states.specs.Blockless.{ask_by, line_ask, outside_ask, private_load_ask, private_load_after, fill_stored, line_after, inside_after, outside_after, after_by}
-use Rattle.machine_states.specs.runner_steps.specs.Sections.{is_open_run, next_of}
+use Rattle.machine_states.specs.runner_steps.specs.Asks.{ask_by, line_ask, outside_ask}
+use Rattle.machine_states.specs.runner_steps.specs.Outside.{private_load_ask, blocks_from, block_spot}
+use Rattle.machine_states.specs.runner_steps.specs.AfterOutside.{private_load_after}
+use Rattle.machine_states.specs.runner_steps.specs.After.{line_after, inside_after, outside_after, after_by}
+use Rattle.machine_states.specs.runner_steps.specs.Sections.{is_open_run, next_of, needs_link}
 use Rattle.machine_states.specs.runner_steps.specs.Outside.{when, descriptor_spot}
 use Rattle.machine_states.specs.epoch_core.specs.State.{last_epoch}
-use Rattle.machine_states.specs.runner_steps.specs.InRun.{last_clock, is_slot}
+use Rattle.machine_states.specs.runner_steps.specs.InRun.{last_clock, is_slot, fill_store_ask, block_empty_ask}
 use Rattle.machine_states.specs.runner_steps.specs.AfterInRun as inside
 use Rattle.machine_states.specs.runner_steps.specs.AfterOutside as outside
 use Rattle.machine_states.specs.World.{World}
@@ -180,16 +183,16 @@ module _ (m : Meaning) (l : Layout) (word : Spot → ℕ) where
     goes p' q1 lists runs made worn = kept p p' lists (subst FillsWorn (sym runs) (fills_as q1 made worn)) old
 
     -- a store shows a word of the greatest version in the slot that the Make fills
-    abbrev StoresShow : EventKind → Type 0
-    StoresShow (kinds.PrivateStore slot cell number) = (t : ℕ) → q.made ≡ Some t → version_of number ≡ l.version_max → Worn t
-    StoresShow _ = Unit {0}
+    abbrev StoresShow : EventKind → Micro → Type 0
+    StoresShow (kinds.PrivateStore slot cell number) micro = needs_link q micro ≡ false → (t : ℕ) → q.made ≡ Some t → version_of number ≡ l.version_max → Worn t
+    StoresShow _ micro = Unit {0}
 
     fill_worn : (slot : ℕ) (o : Option ℕ) → IsWorn (inside.fill_loaded m l slot p q o found)
     fill_worn slot None = kept p _ (record { worn = refl; tests = refl })
         (λ q' t at made worn. let one = some_same _ q' at in not_both worn (ap (λ (y : RunState). y.worn) (sym one))) old
     fill_worn slot (Some t) = goes _ _ (same p.nodes) refl refl refl
 
-    store_worn : (number : ℕ) → ((t : ℕ) → q.made ≡ Some t → version_of number ≡ l.version_max → Worn t) → IsWorn (fill_stored m l number p q)
+    store_worn : (number : ℕ) → ((t : ℕ) → q.made ≡ Some t → version_of number ≡ l.version_max → Worn t) → IsWorn (inside.with_run p (inside.filled m l number q))
     store_worn number shows = kept p _ (same p.nodes)
         (λ q' t at made worn. let one = some_same _ q' at in
         let made' : q.made ≡ Some t = ap (λ (y : RunState). y.made) one ∙ made in
@@ -214,12 +217,17 @@ module _ (m : Meaning) (l : Layout) (word : Spot → ℕ) where
     retired_same slot true = record { worn = refl; tests = refl }
     retired_same slot false = same p.nodes
 
-    line_worn : (kind : EventKind) (micro : Micro) → StoresShow kind → IsWorn (line_after m l kind p q micro found)
+    line_worn : (kind : EventKind) (micro : Micro) → StoresShow kind micro → IsWorn (line_after m l kind p q micro found)
     line_worn kinds.Commit micro h = goes _ _ (same p.nodes) refl refl refl
     line_worn (kinds.LoadCell place) micro h = goes _ _ (same p.nodes) refl refl refl
     line_worn kinds.ExchangeCell micro h = goes _ _ (same p.nodes) refl refl refl
     line_worn (kinds.PrivateLoad slot cell) micro h = fill_worn slot q.made
-    line_worn (kinds.PrivateStore slot cell number) micro h = store_worn number h
+    line_worn (kinds.PrivateStore slot cell number) micro h = by (needs_link q micro) refl
+      where
+        by : (b : Bool) → needs_link q micro ≡ b → IsWorn (inside.with_run p (if b then inside.block_emptied (slot - blocks_from m l) q else inside.filled m l number q))
+        by true e = goes _ _ (same p.nodes) refl refl refl
+        by false e = store_worn number (h e)
+    line_worn (kinds.LinkCommit b) micro h = goes _ _ (same p.nodes) refl refl refl
     line_worn kinds.MakeCommit micro h = commit_worn q.made refl
     line_worn kinds.RetireCommit micro h = goes _ _ (retired_same (inside.retired_slot_of micro) (found == 0)) refl refl refl
     line_worn kinds.EpochForRetire micro h = goes _ _ (same p.nodes) refl refl refl
@@ -236,7 +244,7 @@ module _ (m : Meaning) (l : Layout) (word : Spot → ℕ) where
     line_worn kinds.OutcomeCommit micro h = goes _ _ (same p.nodes) refl refl refl
     line_worn _ micro h = old
 
-    inside_worn : (kind : EventKind) → (is_open_run q ≡ true → StoresShow kind) → IsWorn (inside_after m l kind p q found)
+    inside_worn : (kind : EventKind) → (is_open_run q ≡ true → StoresShow kind (next_of m q)) → IsWorn (inside_after m l kind p q found)
     inside_worn kind shows = by (is_open_run q) refl
       where
         by : (b : Bool) → is_open_run q ≡ b → IsWorn (if b then line_after m l kind p q (next_of m q) found else inside.opened_more p q found)
@@ -257,7 +265,7 @@ module _ (m : Meaning) (l : Layout) (word : Spot → ℕ) where
       where
         by : (b : Bool) → nat_lt slot (slot_count l m.fixed_slots) ≡ b
             → IsWorn (if b then record p { nodes = nodes_looked l p.nodes slot cell found }
-            else record p { descriptors = descriptor_stored p.descriptors (slot - slot_count l m.fixed_slots) cell found })
+            else outside.descriptor_known m l slot cell p found)
         by true e = looked p slot cell found old (shows e) _ refl (subst FillsWorn (sym none) fills_none)
         by false e = rests _ refl (same p.nodes)
 
@@ -318,7 +326,7 @@ module _ (m : Meaning) (l : Layout) (rs : List Request) (s s' : Sight) (r : ℕ)
   }
 
   -- a Make's store
-  store_shows : (q : RunState) (slot cell number : ℕ) → line_ask m l (kinds.PrivateStore slot cell number) p.nodes.free q (next_of m q) ≡ Some st.step.ask
+  store_shows : (q : RunState) (slot cell number : ℕ) → fill_store_ask m l slot cell number q (next_of m q) ≡ Some st.step.ask
       → (t : ℕ) → q.made ≡ Some t → version_of number ≡ l.version_max → HasWornCell m l s'.word t
   store_shows q slot cell number e t made most =
       let h = fill_store_asked q st.step.ask m l slot cell number (next_of m q) e in
@@ -326,7 +334,7 @@ module _ (m : Meaning) (l : Layout) (rs : List Request) (s s' : Sight) (r : ℕ)
       record {
         cell = cell;
         low = few _ _ cell (if_some _ _ st.step.ask
-            (ap (λ (micro : Micro). line_ask m l (kinds.PrivateStore slot cell number) p.nodes.free q micro) (sym h.2) ∙ e)).0;
+            (ap (λ (micro : Micro). fill_store_ask m l slot cell number q micro) (sym h.2) ∙ e)).0;
         worn = ap version_of (ap (λ n. s'.word (Cell (cell_of m.fixed_cells n cell))) (sym same) ∙ new_word h.6) ∙ most;
       }
     where
@@ -360,7 +368,9 @@ module _ (m : Meaning) (l : Layout) (rs : List Request) (s s' : Sight) (r : ℕ)
       met = ap (λ (y : Spot × Access). y.0) (if_some _ _ st.step.ask
           (ap (λ b. if b
           then when (is_resting p.stage p.run && (nat_lt cell 5 && (has p.nodes.free slot || has p.nodes.hand slot))) (Cell (cell_of m.fixed_cells slot cell)) Loads
-          else when (is_resting p.stage p.run && has p.descriptors.free (slot - slot_count l m.fixed_slots)) (descriptor_spot (slot - slot_count l m.fixed_slots) cell) Loads)
+          else (if nat_lt slot (blocks_from m l)
+          then when (is_resting p.stage p.run && has p.descriptors.free (slot - slot_count l m.fixed_slots)) (descriptor_spot (slot - slot_count l m.fixed_slots) cell) Loads
+          else when (is_resting p.stage p.run && has p.blocks.free (slot - blocks_from m l)) (block_spot (slot - blocks_from m l) cell) Loads))
           (sym test) ∙ e)).1
 
   outside_shows : (k : EventKind) → (none : p.run ≡ None) → (old : IsWorn m l s.word p) → outside_ask m l rs r k p ≡ Some st.step.ask
@@ -370,10 +380,11 @@ module _ (m : Meaning) (l : Layout) (rs : List Request) (s s' : Sight) (r : ℕ)
   outside_shows k none old e = outside_worn m l s.word p none old (s.word st.step.ask.0) k tt
 
   inside_shows : (k : EventKind) (q : RunState) → ask_by m l rs r k p (Some q) ≡ Some st.step.ask → is_open_run q ≡ true
-      → (is : p.run ≡ Some q) (old : IsWorn m l s'.word p) → StoresShow m l s'.word p q is old (s.word st.step.ask.0) k
-  inside_shows (kinds.PrivateStore slot cell number) q e opened is old = store_shows q slot cell number
-      (ap (λ (b : Bool). if b then line_ask m l (kinds.PrivateStore slot cell number) p.nodes.free q (next_of m q)
-      else opening_ask (kinds.PrivateStore slot cell number) q) (sym opened) ∙ e)
+      → (is : p.run ≡ Some q) (old : IsWorn m l s'.word p) → StoresShow m l s'.word p q is old (s.word st.step.ask.0) k (next_of m q)
+  inside_shows (kinds.PrivateStore slot cell number) q e opened is old = λ linked. store_shows q slot cell number
+      (ap (λ (b : Bool). if b then block_empty_ask m l slot cell number p.blocks.free q else fill_store_ask m l slot cell number q (next_of m q)) (sym linked)
+      ∙ (ap (λ (b : Bool). if b then line_ask m l (kinds.PrivateStore slot cell number) p.nodes.free p.blocks.free q (next_of m q)
+      else opening_ask (kinds.PrivateStore slot cell number) q) (sym opened) ∙ e))
   inside_shows k q e opened is old = tt
 
   own_worn : (o : Option RunState) → p.run ≡ o → ask_by m l rs r kind p o ≡ Some st.step.ask → IsWorn m l s.word p

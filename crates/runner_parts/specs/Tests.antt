@@ -5,6 +5,7 @@ use Rattle.structure_laws.specs.map_history.specs.declared.op.Request.{Request}
 use Rattle.structure_laws.specs.body_terms.specs.declared.thunk.Thunk.{Thunk}
 use Rattle.structure_laws.specs.body_terms.specs.Word.{is_free, is_spent}
 use Rattle.block_words.specs.table_words.specs.declared.layout.Layout.{Layout}
+use Rattle.block_words.specs.table_words.specs.Places.{part_words}
 use Rattle.structure_laws.specs.Meaning.{Meaning}
 use Rattle.epoch_core.specs.declared.stage.Stage.{Stage}
 use Rattle.epoch_core.specs.declared.stage.Stage.TheVariants as stages
@@ -81,10 +82,10 @@ thunk_words t =
     let o = slice_index t.operands in
     t.form ∷ t.request ∷ t.lock ∷ t.word ∷ o 0 ∷ o 1 ∷ o 2 ∷ o 3 ∷ o 4 ∷ o 5 ∷ o 6 ∷ o 7 ∷ []
 
--- the descriptor's words were stored or found with this thunk, no done, and an empty log
+-- the descriptor's words were stored or found with this thunk, no done, an empty log and no link
 abbrev pub is_prepared : List Stored → ℕ → Thunk → Bool
 is_prepared stored descriptor t =
-    are_stored stored descriptor 0 (thunk_words t) && are_stored stored descriptor 12 (replicate 65 0)
+    are_stored stored descriptor 0 (thunk_words t) && are_stored stored descriptor 12 (replicate (part_words + 2) 0)
 
 -- the outer lock's word is free, isn't spent, and was read
 abbrev pub is_open : Layout → List (ℕ × ℕ) → Thunk → Bool

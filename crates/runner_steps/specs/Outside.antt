@@ -82,11 +82,12 @@ entry_spot request false = spots.Stamp request
 abbrev pub entry_ask : ℕ → Bool → PartState → Ask
 entry_ask request reply p = when (is_resting p.stage p.run) (entry_spot request reply) Loads
 
--- a descriptor's word: the thunk words, the done word, the first part of the log
+-- a descriptor's word: the thunk words, the done word, the first part of the log, the link
 abbrev pub descriptor_spot : ℕ → ℕ → Spot
 descriptor_spot d word =
     if nat_lt word 12 then spots.ThunkWord d word else
-    (if word == 12 then spots.DoneWord d else spots.LogWord d (word - 13))
+    (if word == 12 then spots.DoneWord d else
+    (if word == 13 + part_words then spots.LinkWord d else spots.LogWord d (word - 13)))
 
 -- a block's word: a part of a log, the link
 abbrev pub block_spot : ℕ → ℕ → Spot

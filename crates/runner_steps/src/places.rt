@@ -58,7 +58,7 @@ pub fn cell_place<S: Structure>(structure: &S, layout: Layout, slot: u32, cell: 
     structure.fixed_cells() + 5 * slot + cell
 }
 
-/// Where a descriptor's word stands: the thunk words, the done word, the first part of the log.
+/// Where a descriptor's word stands: the thunk words, the done word, the first part of the log, the link.
 #[inline(always)]
 pub fn descriptor_spot(descriptor: u32, word: u32) -> Spot
     ensures { result ≡ descriptor_spot descriptor word }
@@ -67,6 +67,8 @@ pub fn descriptor_spot(descriptor: u32, word: u32) -> Spot
         Spot::ThunkWord(descriptor, word)
     } else if word == 12 {
         Spot::DoneWord(descriptor)
+    } else if word as usize == 13 + PART_WORDS {
+        Spot::LinkWord(descriptor)
     } else {
         Spot::LogWord(descriptor, word - 13)
     }

@@ -36,6 +36,7 @@ use Rattle.idem_alloc.specs.commit_log.specs.Runs.{Stepped}
 use Rattle.section_runs.specs.Reached.{IsReached}
 use Rattle.section_runs.specs.Ended.{IsDone}
 use mathlib.Core.Path.{fun_ext}
+use Rattle.nested_lock.specs.machine_facts.specs.machine_invariant.proofs.Holding.{own_words}
 
 -- what is held is out of its lists
 kept_out : (x : Location) (g : ℕ) → IsKept x g → is_out x ≡ true
@@ -127,8 +128,7 @@ module _ {T : Type 0} (m : Meaning) (laws : Laws m) (last new : RunnerState T) (
   end_shows =
       let trails = all.here.sound.sections.in_trails in
       let log : ℕ → ℕ = λ k. s1.word (spots.LogWord q.descriptor k) in
-      let own = all.here.sound.logs.own q.descriptor in
-      let stands : (all.after.agreement.section q.descriptor).log ≡ log = fun_ext (λ k. sym (own k)) in
+      let stands : (all.after.agreement.section q.descriptor).log ≡ log = fun_ext (λ k. sym (own_words m new.layout all.here.sound.logs q.descriptor k)) in
       let whole = trails.whole new.number q.descriptor f used1 ends_there
       ∙ ap (first_values (agreed_words m all.after.agreement s1 q.descriptor)) stands in
       let many = ap length whole ∙ length_values _ log in
@@ -139,7 +139,7 @@ module _ {T : Type 0} (m : Meaning) (laws : Laws m) (last new : RunnerState T) (
           done = trails.done new.number q.descriptor f used1 ends_there;
           unnamed = λ p lock. all.here.sound.sections.in_locks.unnamed new.number q.descriptor p f used1 ends_there lock;
           whole = whole ∙ ap (λ n. first_values n log) (sym many);
-          over = λ k low. own k ∙ trails.empty q.descriptor k used1 (subst (λ n. n ≤ k) many low);
+          over = λ k low. own_words m new.layout all.here.sound.logs q.descriptor k ∙ trails.empty q.descriptor k used1 (subst (λ n. n ≤ k) many low);
         };
         components = all.after;
         facts = all.here;

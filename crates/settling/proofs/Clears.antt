@@ -25,8 +25,7 @@ use Rattle.machine_states.specs.runner_parts.specs.Tests.{has, is_walking, is_re
 use Rattle.machine_states.specs.runner_steps.specs.Outside.{when}
 use Rattle.machine_states.specs.runner_steps.specs.Asks.{ask_by, fitting, sizes_for}
 use Rattle.machine_states.specs.runner_steps.specs.AfterInRun.{kept_unless}
-use Rattle.machine_states.specs.Blockless as bare
-use Rattle.machine_states.proofs.Blockless.{unblocked, after_same}
+use Rattle.machine_states.specs.runner_steps.specs.After.{after, after_by}
 use Rattle.machine_states.specs.Sight.{Sight, sight, part_or_first}
 use Rattle.machine_states.specs.Reached.{Reached}
 use Rattle.machine_states.specs.World.{World, seat_of}
@@ -252,11 +251,10 @@ module _ {T : Type 0} (m : Meaning) (begun below : ℕ) (a b : RunnerState T) (i
 
       left_more : b.part.records.left ≡ a.part.records.left ++ record { spot = spots.Cell place; number = found } ∷ []
       left_more =
-          let part : b.part ≡ bare.after m a.layout a.number load made.met.0 made.met.1 a.part found
-          = ap (λ (y : RunnerState T). y.part) made.made
-          ∙ after_same m a.layout a.requests a.number a.part found made.met load (unblocked m a.layout a.requests a.number load a.part made.met made.asked) in
+          let part : b.part ≡ after m a.layout a.number load made.met.0 made.met.1 a.part found
+          = ap (λ (y : RunnerState T). y.part) made.made in
           ap (λ (p : PartState). p.records.left) part
-          ∙ (noted_left a.layout a.number is.keeper load made.met.0 made.met.1 found (bare.after_by m a.layout load a.part a.part.run found).records refl
+          ∙ (noted_left a.layout a.number is.keeper load made.met.0 made.met.1 found (after_by m a.layout load a.part a.part.run found).records refl
           ∙ (ap (λ (z : List ℕ × List Left). z.1 ++ record { spot = made.met.0; number = written made.met.1 found } ∷ []) (after_keeps m a.layout a.part found load refl a.part.run)
           ∙ (λ i. a.part.records.left ++ record { spot = (met i).0; number = written (met i).1 found } ∷ [])))
 

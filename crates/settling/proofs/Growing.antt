@@ -13,8 +13,7 @@ use Rattle.machine_states.specs.runner_parts.specs.declared.event.EventKind.{Eve
 use Rattle.machine_states.specs.runner_parts.specs.declared.event.EventKind.TheVariants as kinds
 use Rattle.machine_states.specs.runner_parts.specs.State.{RunState, RecordsState, PartState}
 use Rattle.machine_states.specs.runner_steps.specs.After.{left_more, is_late_join, noted}
-use Rattle.machine_states.specs.Blockless.{after_by, after}
-use Rattle.machine_states.proofs.Blockless.{unblocked, after_same}
+use Rattle.machine_states.specs.runner_steps.specs.After.{after_by, after}
 use Rattle.machine_states.specs.World.{is_join}
 use Rattle.keeper_facts.specs.runner_facts.specs.next_steps.specs.Steps.{kind_at}
 use Rattle.keeper_facts.proofs.Keeping.{after_keeps, noted_joined}
@@ -110,8 +109,7 @@ module _ {T : Type 0} (m : Meaning) where
   pub grows_made : (kind : EventKind) (found : ℕ) (r r' : RunnerState T) → is_plain kind ≡ true → Makes m kind found r r' → Grows r r'
   grows_made kind found r r' is made =
       let part : r'.part ≡ after m r.layout r.number kind made.met.0 made.met.1 r.part found
-      = ap (λ (y : RunnerState T). y.part) made.made
-      ∙ after_same m r.layout r.requests r.number r.part found made.met kind (unblocked m r.layout r.requests r.number kind r.part made.met made.asked) in
+      = ap (λ (y : RunnerState T). y.part) made.made in
       record {
         table = ap (λ (y : RunnerState T). y.table) made.made;
         structure = ap (λ (y : RunnerState T). y.structure) made.made;

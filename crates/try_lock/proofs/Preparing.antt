@@ -7,7 +7,7 @@ use Rattle.std.proofs.lemmas.List.{get_or_append_left}
 use Rattle.std.proofs.Math.Seq.{get_or-append_seam, get_or-append_right}
 use Rattle.machine_states.specs.epoch_core.specs.small_lemmas.proofs.Numbers.{less_tested}
 use Rattle.machine_states.specs.body_terms.specs.declared.thunk.Thunk.{Thunk}
-use Rattle.machine_states.specs.table_words.specs.Places.{slot_count, descriptor_count}
+use Rattle.machine_states.specs.table_words.specs.Places.{part_words, descriptor_words, slot_count, descriptor_count}
 use Rattle.machine_states.specs.structure_laws.specs.Meaning.{Meaning}
 use Rattle.machine_states.specs.runner_parts.specs.declared.entries.Stored.{Stored}
 use Rattle.machine_states.specs.runner_parts.specs.declared.event.EventKind.{EventKind}
@@ -136,7 +136,7 @@ module _ {T : Type 0} where
     free = record { own = ap (λ xs. has xs d) keeps.free ∙ may.free.own; few = subst (λ l. d < descriptor_count l) (sym keeps.layout) may.free.few };
   }
 
-  module _ (m : Meaning) (d word : ℕ) (r : RunnerState T) (may : MaySet r d) (few : word < 77) where
+  module _ (m : Meaning) (d word : ℕ) (r : RunnerState T) (may : MaySet r d) (few : word < descriptor_words) where
     abbrev slot : ℕ
     slot = slot_count r.layout m.fixed_slots + d
 
@@ -200,7 +200,7 @@ module _ {T : Type 0} where
             ∙ (two.stored (i - length ns) (omega (arith, past, low, len)) ∙ ap Some (sym (get_or-append_right ns ks i 0 past)))
 
     -- and one more
-    module _ (d first : ℕ) (ns : List ℕ) (n : ℕ) (old r r' : RunnerState T) (so : HasSet m d first ns old r) (may : MaySet old d) (few : first + length ns < 77)
+    module _ (d first : ℕ) (ns : List ℕ) (n : ℕ) (old r r' : RunnerState T) (so : HasSet m d first ns old r) (may : MaySet old d) (few : first + length ns < descriptor_words)
         (set : SetsWord m (slot_count r.layout m.fixed_slots + d) (first + length ns) n r r') where
       noted : IsNoted d (first + length ns) n r r'
       noted = noted_set m d (first + length ns) r (may_set d old r so.keeps so.at may) few n r' set
@@ -248,17 +248,17 @@ stored_by stored d word (n ∷ ns) each =
     (λ i. is_some_of (here i) n && rest i) ∙ ap (λ (b : Bool). b && true) (eq-eqb n n refl)
 
 -- the thunk's words, and then the others
-module _ {T : Type 0} (m : Meaning) (r a b : RunnerState T) (t : Thunk) (d : ℕ) (first : HasSet m d 0 (thunk_words t) r a) (second : HasSet m d 12 (replicate 65 0) a b) where
+module _ {T : Type 0} (m : Meaning) (r a b : RunnerState T) (t : Thunk) (d : ℕ) (first : HasSet m d 0 (thunk_words t) r a) (second : HasSet m d 12 (replicate (part_words + 2) 0) a b) where
   prepared : is_prepared b.part.descriptors.stored d t ≡ true
   prepared =
       let words = stored_by b.part.descriptors.stored d 0 (thunk_words t) (λ i low. second.others (0 + i) (let few : i < 12 = low in omega (arith, few)) ∙ first.stored i low) in
-      let rest = stored_by b.part.descriptors.stored d 12 (replicate 65 0) second.stored in
+      let rest = stored_by b.part.descriptors.stored d 12 (replicate (part_words + 2) 0) second.stored in
       (λ i. words i && rest i)
 
   pub is_ready : IsReady m d t r b
   is_ready = record {
-    sets = sets_all m (thunk_words t) (replicate 65 0) (slot_count r.layout m.fixed_slots + d) 0 12 r a b refl first.sets
-        (subst (λ l. SetsWords m (slot_count l m.fixed_slots + d) 12 (replicate 65 0) a b) first.keeps.layout second.sets);
+    sets = sets_all m (thunk_words t) (replicate (part_words + 2) 0) (slot_count r.layout m.fixed_slots + d) 0 12 r a b refl first.sets
+        (subst (λ l. SetsWords m (slot_count l m.fixed_slots + d) 12 (replicate (part_words + 2) 0) a b) first.keeps.layout second.sets);
     at = λ epoch at. second.at epoch (first.at epoch at);
     keeps = keeps_on r a b first.keeps second.keeps;
     prepared = prepared;

@@ -16,7 +16,7 @@ use Rattle.machine_states.specs.table_words.specs.declared.access.Access.TheVari
 use Rattle.machine_states.specs.table_words.specs.Access.{written}
 use Rattle.machine_states.specs.table_words.specs.Seen.{put}
 use Rattle.machine_states.specs.table_words.specs.Limits.{IsWithinLimits}
-use Rattle.machine_states.specs.table_words.specs.Places.{slot_count, descriptor_count}
+use Rattle.machine_states.specs.table_words.specs.Places.{part_words, slot_count, descriptor_count}
 use Rattle.machine_states.specs.structure_laws.specs.Meaning.{Meaning}
 use Rattle.machine_states.specs.structure_laws.specs.Laws.{Laws}
 use Rattle.machine_states.specs.runner_parts.specs.declared.event.EventKind.TheVariants as kinds
@@ -30,8 +30,6 @@ use Rattle.machine_states.specs.runner_steps.specs.Asks.{asks}
 use Rattle.machine_states.specs.Sight.{Sight, sight, part_or_first, Steps}
 use Rattle.machine_states.specs.Sight as states
 use Rattle.machine_states.proofs.Reached.{reached_all}
-use Rattle.machine_states.specs.Blockless as bare
-use Rattle.machine_states.proofs.Blockless.{asks_same}
 use Rattle.machine_states.proofs.Steps.{some_same}
 use Rattle.machine_states.proofs.Sights.{happens_steps}
 use Rattle.machine_epochs.proofs.SectionKinds.{stored_index, replicate_index, log_spot}
@@ -276,25 +274,26 @@ module _ {T : Type 0} (m : Meaning) (laws : Laws m) (t : Thunk) (d found : ℕ) 
 
   lock_spot : step.ask.0 ≡ spots.Cell t.lock
   lock_spot =
-      let same = some_same step.ask made.met (sym step.asked ∙ (ap (bare.asks m l rs r'.number (kinds.Hold t d)) before
-      ∙ (sym (asks_same m l rs r'.number (kinds.Hold t d) b.part) ∙ (λ i. asks m (made.made i).layout (made.made i).requests (made.made i).number (kinds.Hold t d) b.part) ∙ made.asked))) in
+      let same = some_same step.ask made.met (sym step.asked ∙ (ap (asks m l rs r'.number (kinds.Hold t d)) before
+      ∙ ((λ i. asks m (made.made i).layout (made.made i).requests (made.made i).number (kinds.Hold t d) b.part) ∙ made.asked))) in
       ap (λ (x : Spot × Access). x.0) (same ∙ (holds_so m b t d (record { met = made.met; asked = made.asked })).met)
 
   same_word : (spot : Spot) → (sight m l rs made.shown.world).word spot ≡ put word (spots.Cell t.lock) (written step.ask.1 (word step.ask.0)) spot
   same_word spot = ap (λ (s : Sight). s.word spot) step.next ∙ ap (λ (x : Spot). put word x (written step.ask.1 (word step.ask.0)) spot) lock_spot
 
-  zero_before : (i : ℕ) → i < 65 → word (descriptor_spot d (12 + i)) ≡ 0
+  zero_before : (i : ℕ) → i < part_words + 2 → word (descriptor_spot d (12 + i)) ≡ 0
   zero_before i low = facts.there.stored r'.number d (12 + i) 0
       (ap (λ (p : PartState). has p.descriptors.free d) before ∙ (ap (λ xs. has xs d) keeps.free ∙ free))
       (ap (λ (p : PartState). last_stored p.descriptors.stored d (12 + i) None) before
-      ∙ (stored_index b.part.descriptors.stored d (replicate 65 0) 12 i (let h = length-replicate {A = ℕ} 65 0 in omega (arith, h, low)) (and_right _ _ prepared)
-      ∙ ap Some (replicate_index 65 0 i low)))
+      ∙ (stored_index b.part.descriptors.stored d (replicate (part_words + 2) 0) 12 i (let h = length-replicate {A = ℕ} (part_words + 2) 0 in omega (arith, h, low)) (and_right _ _ prepared)
+      ∙ ap Some (replicate_index (part_words + 2) 0 i low)))
 
   pub unrun : IsUnrun d t (sight m l rs made.shown.world)
   unrun = record {
     thunk = facts.here.sound.sections.in_published.thunk r'.number (published_by t d r.part) (ap (λ (p : PartState). p.published) here ∙ published);
     undone = same_word (spots.DoneWord d) ∙ zero_before 0 (omega arith);
-    empty = λ k low. same_word (spots.LogWord d k) ∙ (ap word (sym (log_spot d k)) ∙ (ap (λ n. word (descriptor_spot d n)) (let e : 13 + k ≡ 12 + (1 + k) = omega arith in e) ∙ zero_before (1 + k) (omega (arith, low))));
+    empty = λ k low. same_word (spots.LogWord d k) ∙ (ap word (sym (log_spot d k low)) ∙ (ap (λ n. word (descriptor_spot d n)) (let e : 13 + k ≡ 12 + (1 + k) = omega arith in e) ∙ zero_before (1 + k) (omega (arith, low))));
+    unlinked = same_word (spots.LinkWord d) ∙ zero_before (1 + part_words) (omega arith);
   }
 
 -- the whole publication

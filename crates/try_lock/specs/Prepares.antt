@@ -1,7 +1,7 @@
 -- Words of an own free descriptor.
 use Rattle.std.specs.Prelude.{◌≡◌, ℕ, ◌+◌, ◌<◌, List, [], ◌∷◌, ◌++◌, replicate, Bool, true, false, ◌==◌, length, slice_index, None, Some}
 use Rattle.machine_states.specs.body_terms.specs.declared.thunk.Thunk.{Thunk}
-use Rattle.machine_states.specs.table_words.specs.Places.{slot_count}
+use Rattle.machine_states.specs.table_words.specs.Places.{slot_count, part_words}
 use Rattle.machine_states.specs.structure_laws.specs.Meaning.{Meaning}
 use Rattle.machine_states.specs.runner_parts.specs.declared.event.EventKind.TheVariants as kinds
 use Rattle.machine_states.specs.epoch_core.specs.declared.stage.Stage.TheVariants as stages
@@ -61,11 +61,11 @@ module _ {T : Type 0} where
           → last_stored new.part.descriptors.stored descriptor word None
           ≡ last_stored old.part.descriptors.stored descriptor word None
 
-    -- the descriptor's words are those of this thunk, no done and an empty log, as the runner knows; each was
+    -- the descriptor's words are those of this thunk, no done, an empty log and no link, as the runner knows; each was
     -- loaded, and stored where it was another
     pub record IsReady (descriptor : ℕ) (t : Thunk) (old new : RunnerState T) : Type 0 where
-      pub sets : SetsWords (slot_count old.layout m.fixed_slots + descriptor) 0 (thunk_words t ++ replicate 65 0) old
-          new
+      pub sets : SetsWords (slot_count old.layout m.fixed_slots + descriptor) 0
+          (thunk_words t ++ replicate (part_words + 2) 0) old new
       pub at : (epoch : ℕ) → IsAt old (stages.Entered epoch) None → IsAt new (stages.Entered epoch) None
       pub keeps : KeepsElse old new
       pub prepared : is_prepared new.part.descriptors.stored descriptor t ≡ true

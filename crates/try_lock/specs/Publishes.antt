@@ -2,8 +2,8 @@
 use Rattle.std.specs.Prelude.{◌≡◌, ℕ, ◌+◌, ◌<◌, ◌≤◌, ◌++◌, true, false, ◌==◌, length, replicate, Result, IfOk, IfErr, Some, None}
 use Rattle.machine_states.specs.body_terms.specs.declared.outcome.Refused.{Refused}
 use Rattle.machine_states.specs.body_terms.specs.declared.thunk.Thunk.{Thunk}
-use Rattle.machine_states.specs.table_words.specs.declared.spot.Spot.TheVariants.{DoneWord, LogWord}
-use Rattle.machine_states.specs.table_words.specs.Places.{slot_count}
+use Rattle.machine_states.specs.table_words.specs.declared.spot.Spot.TheVariants.{DoneWord, LogWord, LinkWord}
+use Rattle.machine_states.specs.table_words.specs.Places.{slot_count, part_words}
 use Rattle.machine_states.specs.structure_laws.specs.Meaning.{Meaning}
 use Rattle.machine_states.specs.runner_parts.specs.declared.event.EventKind.TheVariants as kinds
 use Rattle.machine_states.specs.epoch_core.specs.declared.stage.Stage.TheVariants as stages
@@ -25,7 +25,8 @@ use Rattle.try_lock.specs.Prepares.{SetsWords}
 pub record IsUnrun (descriptor : ℕ) (t : Thunk) (s : Sight) : Type 0 where
   pub thunk : thunk_in s.word descriptor ≡ t
   pub undone : s.word (DoneWord descriptor) ≡ 0
-  pub empty : (k : ℕ) → k < 64 → s.word (LogWord descriptor k) ≡ 0
+  pub empty : (k : ℕ) → k < part_words → s.word (LogWord descriptor k) ≡ 0
+  pub unlinked : s.word (LinkWord descriptor) ≡ 0
 
 module _ {T : Type 0} where
   -- the exchange won: the section is published with this descriptor, which isn't free any more, and the runner is
@@ -61,17 +62,17 @@ module _ {T : Type 0} (m : Meaning) where
     pub reserve : 1 ≤ length r.part.descriptors.free
     pub reached : IsReached m r
 
-  -- each word of an own free descriptor was loaded, and stored where it wasn't the thunk's, no done or an empty
-  -- log; then the guard word was stored to name it; then one exchange of the outer lock was made from the thunk's word
-  -- to the one that names the descriptor
+  -- each word of an own free descriptor was loaded, and stored where it wasn't the thunk's, no done, an empty log or
+  -- no link; then the guard word was stored to name it; then one exchange of the outer lock was made from the thunk's
+  -- word to the one that names the descriptor
   pub record Publishes (t : Thunk) (answer : Result Section Refused) (old new : RunnerState T) : Type 0 where
     pub descriptor : ℕ
     pub found : ℕ
     pub ready : RunnerState T
     pub guarding : RunnerState T
     pub was_free : has old.part.descriptors.free descriptor ≡ true
-    pub sets : SetsWords m (slot_count old.layout m.fixed_slots + descriptor) 0 (thunk_words t ++ replicate 65 0) old
-        ready
+    pub sets : SetsWords m (slot_count old.layout m.fixed_slots + descriptor) 0
+        (thunk_words t ++ replicate (part_words + 2) 0) old ready
     pub guard : IsMade m (kinds.Guard (Some descriptor)) ready guarding
     pub hold : Makes m (kinds.Hold t descriptor) found guarding new
     pub published : IfOk answer (IsPublished t descriptor found old new)

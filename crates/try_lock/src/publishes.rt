@@ -1,6 +1,6 @@
 //! The publication of a section.
 ghost use Rattle.std.specs.Prelude.{◌≡◌, ◌+◌, ◌<◌, ◌≤◌, length, replicate};
-ghost use Rattle.machine_states.specs.table_words.specs.Places.{slot_count};
+ghost use Rattle.machine_states.specs.table_words.specs.Places.{slot_count, part_words, descriptor_words};
 ghost use Rattle.section_runs.specs.commit_log.specs.version_words.specs.TableState.{IsOf};
 ghost use Rattle.section_runs.specs.commit_log.specs.version_words.specs.Events.{start_of};
 ghost use Rattle.try_lock.specs.Prepares.{MaySet, SetsWord, HasSet, IsReady};
@@ -10,6 +10,7 @@ use crate::section::Section;
 use machine_states::body_terms::{Refused, Thunk};
 use machine_states::runner_parts::thunk_words;
 use machine_states::structure_laws::Structure;
+use machine_states::table_words::PART_WORDS;
 use section_runs::commit_log::version_words::{FlockTable, Runner, held_word};
 use section_runs::nested_lock::refused;
 
@@ -27,7 +28,7 @@ fn set_word<S: Structure>(
     requires own { IsOf table.now runner }
     requires free { MaySet runner descriptor }
     requires start { start ≡ start_of (S.meaning table.now.structure) table.now descriptor }
-    requires word { word < 77 }
+    requires word { word < descriptor_words }
     ensures own { IsOf table.now result }
     ensures set { SetsWord (S.meaning table.now.structure)
         (slot_count runner.layout (S.meaning table.now.structure).fixed_slots + descriptor) word number runner
@@ -54,7 +55,7 @@ fn set_words<S: Structure>(
     requires own { IsOf table.now runner }
     requires free { MaySet runner descriptor }
     requires start { start ≡ start_of (S.meaning table.now.structure) table.now descriptor }
-    requires few { first + length numbers.now ≤ 77 }
+    requires few { first + length numbers.now ≤ descriptor_words }
     ensures own { IsOf table.now result }
     ensures set { HasSet (S.meaning table.now.structure) descriptor first numbers.now runner result }
 {
@@ -66,8 +67,11 @@ fn set_words<S: Structure>(
     runner
 }
 
-/// The done word of an own free descriptor and the words of its log become 0. They are set thirteen by thirteen: so
-/// many turns the compiler unrolls, and not all of them.
+/// So many words are cleared in a row: the turns that the compiler unrolls.
+const CLEARED: usize = 11;
+
+/// The done word of an own free descriptor, the words of its log and its link become 0. They are set eleven by eleven:
+/// so many turns the compiler unrolls, and not all of them.
 #[inline(always)]
 fn clear_words<S: Structure>(
     table: &FlockTable<S>,
@@ -79,17 +83,33 @@ fn clear_words<S: Structure>(
     requires free { MaySet runner descriptor }
     requires start { start ≡ start_of (S.meaning table.now.structure) table.now descriptor }
     ensures own { IsOf table.now result }
-    ensures set { HasSet (S.meaning table.now.structure) descriptor 12 (replicate 65 0) runner result }
+    ensures set { HasSet (S.meaning table.now.structure) descriptor 12 (replicate (part_words + 2) 0) runner result }
 {
     let mut runner = runner;
-    for part in 0..5u32 {
-        runner = set_words(table, runner, descriptor, start, 12 + 13 * part, &[0; 13]);
+    for part in 0..(PART_WORDS + 2) / CLEARED {
+        let first = 12 + CLEARED * part;
+        runner = set_words(
+            table,
+            runner,
+            descriptor,
+            start,
+            first as u32,
+            &[0; CLEARED],
+        );
     }
-    runner
+    let first = 14 + PART_WORDS - (PART_WORDS + 2) % CLEARED;
+    set_words(
+        table,
+        runner,
+        descriptor,
+        start,
+        first as u32,
+        &[0; (PART_WORDS + 2) % CLEARED],
+    )
 }
 
 /// The words of an own free descriptor become those of a section with this thunk that no run has begun: the
-/// thunk's, no done, an empty log.
+/// thunk's, no done, an empty log, no link.
 #[inline(always)]
 fn prepare<S: Structure>(
     table: &FlockTable<S>,
@@ -115,8 +135,8 @@ fn has_eight_operands(thunk: &Thunk)
     let _ = operands.len();
 }
 
-/// Publishes a section with this thunk: writes the thunk into an own free descriptor, with no done and an empty
-/// log, stores the own guard word to name it, and makes one exchange of the thunk's outer lock, from the free word that
+/// Publishes a section with this thunk: writes the thunk into an own free descriptor, with no done, an empty log and
+/// no link, stores the own guard word to name it, and makes one exchange of the thunk's outer lock, from the free word that
 /// was read to the one that names the descriptor. A word of the descriptor that is right already isn't written.
 ///
 /// The runner has to be entered and in no run, without a section that it hasn't retired, and have a reserve of one

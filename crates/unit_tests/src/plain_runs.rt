@@ -31,30 +31,21 @@ fn inserted(alloc: Global) -> Result<(Outcome, usize, Memory), AllocError> {
     Ok((outcome, trail.words.len(), memory))
 }
 
-/// Whether these words have these values and versions.
-fn are(words: &[Word], pairs: &[(u32, u32)]) -> bool {
-    words.len() == pairs.len()
-        && words
-            .iter()
-            .zip(pairs)
-            .all(|(word, pair)| (word.value(), word.version()) == *pair)
-}
-
 #[test]
 fn an_insertion_links_its_node(rt: HostRuntime) -> Result<(), Fail> {
     let (outcome, agreed, memory) = inserted(rt.alloc())?;
     assert!(rt; outcome == Outcome::Answered(1 << 32) && agreed == 3);
     assert!(rt; memory.free.len() == 0 && memory.clock == 5);
     let cells = [
-        (0, 1),
-        (0, 2),
-        (1, 2),
-        (0, 2),
-        (5, 2),
-        (70, 2),
-        (0, 2),
-        (0, 2),
+        Word::pack(0, 1),
+        Word::pack(0, 2),
+        Word::pack(1, 2),
+        Word::pack(0, 2),
+        Word::pack(5, 2),
+        Word::pack(70, 2),
+        Word::pack(0, 2),
+        Word::pack(0, 2),
     ];
-    assert!(rt; are(&memory.cells, &cells));
+    assert!(rt; memory.cells.as_slice() == cells.as_slice());
     Ok(())
 }

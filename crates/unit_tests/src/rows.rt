@@ -8,27 +8,25 @@ pub trait Shown {
     fn shown(alloc: Global, text: &str) -> Result<String, AllocError>;
 }
 
+/// Whether a row comes out as it says.
+fn comes_out<S: Shown>(alloc: Global, row: &str) -> Result<bool, AllocError> {
+    let (text, wanted) = row.split_once(" => ").unwrap_or((row, ""));
+    Ok(S::shown(alloc, text)?.as_str() == wanted)
+}
+
 /// Runs each row of a table, and compares.
 pub fn check<S: Shown>(rt: &impl Abort, alloc: Global, table: &str) -> Result<(), AllocError> {
     for row in table.lines() {
-        let (text, wanted) = row.split_once(" => ").unwrap_or((row, ""));
-        let shown = S::shown(alloc, text)?;
-        assert!(rt; shown.as_str() == wanted, "{text} => {shown}");
+        let comes_out = comes_out::<S>(alloc, row)?;
+        assert!(rt; comes_out, "{row}");
     }
     Ok(())
 }
 
 /// The bytes of a row's text.
 pub fn bytes_of(alloc: Global, row: &str) -> Result<Vec<u8>, AllocError> {
-    let mut bytes = row.as_bytes().to_vec(alloc)?;
-    for byte in bytes.iter_mut() {
-        *byte = match *byte {
-            b'/' => b'\n',
-            b'^' => b'\r',
-            other => other,
-        };
-    }
-    Ok(bytes)
+    let text = row.replace(alloc, "/", "\n")?.replace(alloc, "^", "\r")?;
+    Ok(text.into_bytes())
 }
 
 /// The number that a text is, and 0 for another text.

@@ -145,13 +145,10 @@ impl Shown for Again {
         let Ok(traces) = read_traces(alloc, &mut source) else {
             return format!(in alloc; "refused");
         };
-        let mut printed = trace_text(alloc, traces.requests.as_slice(), traces.count)?;
-        for byte in printed.iter_mut() {
-            if *byte == b'\n' {
-                *byte = b'/';
-            }
-        }
-        format!(in alloc; "{}", str::from_utf8(&printed).unwrap_or(""))
+        let printed = trace_text(alloc, traces.requests.as_slice(), traces.count)?;
+        str::from_utf8(&printed)
+            .unwrap_or("")
+            .replace(alloc, "\n", "/")
     }
 }
 

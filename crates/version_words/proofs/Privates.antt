@@ -18,7 +18,7 @@ use Rattle.machine_states.specs.table_words.specs.declared.spot.Spot.{Spot}
 use Rattle.machine_states.specs.table_words.specs.declared.spot.Spot.TheVariants as spots
 use Rattle.machine_states.specs.table_words.specs.declared.access.Access.{Access}
 use Rattle.machine_states.specs.table_words.specs.declared.access.Access.TheVariants.{Stores}
-use Rattle.machine_states.specs.table_words.specs.Places.{address, Fits, slot_count, cells_at, descriptor_at, descriptor_words}
+use Rattle.machine_states.specs.table_words.specs.Places.{address, Fits, part_words, slot_count, cells_at, descriptor_at, descriptor_words}
 use Rattle.machine_states.specs.structure_laws.specs.Meaning.{Meaning}
 use Rattle.machine_states.specs.runner_parts.specs.declared.event.EventKind.{EventKind}
 use Rattle.machine_states.specs.runner_parts.specs.declared.event.EventKind.TheVariants as kinds
@@ -52,14 +52,16 @@ pub record StandsAt (s : Sizes) (d word at : ℕ) : Type 0 where
   pub is : at ≡ descriptor_at s d + word
   pub few : word < descriptor_words
 
-stands_by : (s : Sizes) (d word : ℕ) (b b' : Bool) → nat_lt word 12 ≡ b → word == 12 ≡ b' → Fits s (if b then spots.ThunkWord d word else (if b' then spots.DoneWord d else spots.LogWord d (word - 13)))
-    → StandsAt s d word (address s (if b then spots.ThunkWord d word else (if b' then spots.DoneWord d else spots.LogWord d (word - 13))))
-stands_by s d word true b' e e' fits = let a = fits.1 in record { is = refl; few = omega (arith, a) }
-stands_by s d word false true e e' fits = let a : word ≡ 12 = grind (arith, nat_tests) in record { is = omega (arith, a); few = omega (arith, a) }
-stands_by s d word false false e e' fits = let a : 13 ≤ word = grind (arith, nat_tests) in let b = fits.1 in record { is = omega (arith, a); few = omega (arith, a, b) }
+stands_by : (s : Sizes) (d word : ℕ) (b b' b'' : Bool) → nat_lt word 12 ≡ b → word == 12 ≡ b' → word == 13 + part_words ≡ b''
+    → Fits s (if b then spots.ThunkWord d word else (if b' then spots.DoneWord d else (if b'' then spots.LinkWord d else spots.LogWord d (word - 13))))
+    → StandsAt s d word (address s (if b then spots.ThunkWord d word else (if b' then spots.DoneWord d else (if b'' then spots.LinkWord d else spots.LogWord d (word - 13)))))
+stands_by s d word true b' b'' e e' e'' fits = let a = fits.1 in record { is = refl; few = omega (arith, a) }
+stands_by s d word false true b'' e e' e'' fits = let a : word ≡ 12 = grind (arith, nat_tests) in record { is = omega (arith, a); few = omega (arith, a) }
+stands_by s d word false false true e e' e'' fits = let a : word ≡ 13 + part_words = grind (arith, nat_tests) in record { is = omega (arith, a); few = omega (arith, a) }
+stands_by s d word false false false e e' e'' fits = let a : 13 ≤ word = grind (arith, nat_tests) in let b = fits.1 in record { is = omega (arith, a); few = omega (arith, a, b) }
 
 pub word_stands : (s : Sizes) (d word : ℕ) → Fits s (descriptor_spot d word) → StandsAt s d word (address s (descriptor_spot d word))
-word_stands s d word fits = stands_by s d word (nat_lt word 12) (word == 12) refl refl fits
+word_stands s d word fits = stands_by s d word (nat_lt word 12) (word == 12) (word == 13 + part_words) refl refl refl fits
 
 fifth : (a f slot word at : ℕ) → at ≡ a + (f + 5 * slot + word) → word < 5 → ((at - (a + f)) / 5 ≡ slot) × ((at - (a + f)) % 5 ≡ word)
 fifth a f slot word at is few = (grind arith, grind arith)
@@ -196,12 +198,13 @@ stored_alike m l slot word number p x at a b = ⊎_elim
     (λ (h : IsOpenFor m l (kinds.PrivateStore slot word number) p x). step_is m l (kinds.PrivateStore slot word number) p a h.open_run ∙ sym (step_is m l (kinds.PrivateStore slot word number) p b h.open_run)) at
 
 -- a word of an own slot isn't the epoch
-own_unmoved : (node thunk done : Bool) (place d word n epoch : ℕ)
-    → is_moved (if node then spots.Cell place else (if thunk then spots.ThunkWord d word else (if done then spots.DoneWord d else spots.LogWord d (word - 13)))) n epoch ≡ false
-own_unmoved true thunk done place d word n epoch = refl
-own_unmoved false true done place d word n epoch = refl
-own_unmoved false false true place d word n epoch = refl
-own_unmoved false false false place d word n epoch = refl
+own_unmoved : (node thunk done link : Bool) (place d word n epoch : ℕ)
+    → is_moved (if node then spots.Cell place else (if thunk then spots.ThunkWord d word else (if done then spots.DoneWord d else (if link then spots.LinkWord d else spots.LogWord d (word - 13))))) n epoch ≡ false
+own_unmoved true thunk done link place d word n epoch = refl
+own_unmoved false true done link place d word n epoch = refl
+own_unmoved false false true link place d word n epoch = refl
+own_unmoved false false false true place d word n epoch = refl
+own_unmoved false false false false place d word n epoch = refl
 
 -- so what is noted of a store there doesn't go by what was found
 noted_alike : (l : Layout) (r slot word number : ℕ) (spot : Spot) (a b : ℕ) (z : RecordsState) → is_moved spot a z.epoch_seen ≡ is_moved spot b z.epoch_seen
@@ -264,7 +267,7 @@ module _ {T : Type 0} (m : Meaning) (t : TableState T) (r : RunnerState T) (own 
 
     unmoved : (n epoch : ℕ) → is_moved spot n epoch ≡ false
     unmoved n epoch = ap (λ (z : Spot). is_moved z n epoch) spot_is
-        ∙ own_unmoved (nat_lt slot (slot_count t.layout m.fixed_slots)) (nat_lt word 12) (word == 12) (cell_of m.fixed_cells slot word)
+        ∙ own_unmoved (nat_lt slot (slot_count t.layout m.fixed_slots)) (nat_lt word 12) (word == 12) (word == 13 + part_words) (cell_of m.fixed_cells slot word)
         (slot - slot_count t.layout m.fixed_slots) word n epoch
 
     pub store_blind : IsBlind m (kinds.PrivateStore (slot_at m r.layout r.requests at) (word_at m r.layout r.requests at) number) (spot, Stores number) r

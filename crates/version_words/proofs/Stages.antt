@@ -14,7 +14,7 @@ use Rattle.machine_states.specs.table_words.specs.declared.spot.Spot.{Spot}
 use Rattle.machine_states.specs.table_words.specs.declared.spot.Spot.TheVariants as spots
 use Rattle.machine_states.specs.table_words.specs.declared.access.Access.{Access}
 use Rattle.machine_states.specs.table_words.specs.declared.access.Access.TheVariants.{Loads, Stores, Exchanges}
-use Rattle.machine_states.specs.table_words.specs.Places.{Fits, slot_count, descriptor_count}
+use Rattle.machine_states.specs.table_words.specs.Places.{Fits, part_words, descriptor_words, slot_count, descriptor_count}
 use Rattle.machine_states.specs.table_words.proofs.Seen.{fits_is}
 use Rattle.machine_states.specs.structure_laws.specs.Meaning.{Meaning}
 use Rattle.machine_states.specs.epoch_core.specs.Moves.{is_clear}
@@ -300,21 +300,24 @@ then_loaded_cell {T} m found epoch place r r' section made is =
     let read : Makes m (kinds.LoadCell (Some place)) found r r' = subst (λ (o : Option RunState). Makes m (load_of o place) found r r') is.resting made in
     made_at m (kinds.LoadCell (Some place)) found r r' read is.resting (stages.Entered epoch) section is.seated is.present is.resting is.at is.published is.settled
 
-fits_by : (s : Sizes) (d word : ℕ) (b b' : Bool) → nat_lt word 12 ≡ b → word == 12 ≡ b' → d < s.descriptors → word < 77 → Fits s (if b then spots.ThunkWord d word else (if b' then spots.DoneWord d else spots.LogWord d (word - 13)))
-fits_by s d word true b' e e' few low = (few, grind (arith, nat_tests, e))
-fits_by s d word false true e e' few low = few
-fits_by s d word false false e e' few low = (few, let past : 13 ≤ word = grind (arith, nat_tests, e, e') in omega (arith, past, low))
+fits_by : (s : Sizes) (d word : ℕ) (b b' b'' : Bool) → nat_lt word 12 ≡ b → word == 12 ≡ b' → word == 13 + part_words ≡ b'' → d < s.descriptors → word < descriptor_words
+    → Fits s (if b then spots.ThunkWord d word else (if b' then spots.DoneWord d else (if b'' then spots.LinkWord d else spots.LogWord d (word - 13))))
+fits_by s d word true b' b'' e e' e'' few low = (few, grind (arith, nat_tests, e))
+fits_by s d word false true b'' e e' e'' few low = few
+fits_by s d word false false true e e' e'' few low = few
+fits_by s d word false false false e e' e'' few low =
+    (few, let past : 13 ≤ word = grind (arith, nat_tests, e, e') in let other : word ≢ 13 + part_words = grind (arith, nat_tests, e'') in omega (arith, past, low, other))
 
 own_word : (slots d : ℕ) → slots + d - slots ≡ d
 own_word slots d = omega arith
 
 -- a runner that is idle, or entered and in no run, may load and store words of its free descriptors
-module _ {T : Type 0} (m : Meaning) (r : RunnerState T) (stage : Stage) (section : Option Published) (d word : ℕ) (rests : is_resting stage None ≡ true) (is : IsAt r stage section) (free : HasFree r d) (few : word < 77) where
+module _ {T : Type 0} (m : Meaning) (r : RunnerState T) (stage : Stage) (section : Option Published) (d word : ℕ) (rests : is_resting stage None ≡ true) (is : IsAt r stage section) (free : HasFree r d) (few : word < descriptor_words) where
   abbrev slots : ℕ
   slots = slot_count r.layout m.fixed_slots
 
   word_fits : Fits (sizes_for m r.layout r.requests) (descriptor_spot d word)
-  word_fits = fits_by (sizes_for m r.layout r.requests) d word (nat_lt word 12) (word == 12) refl refl free.few few
+  word_fits = fits_by (sizes_for m r.layout r.requests) d word (nat_lt word 12) (word == 12) (word == 13 + part_words) refl refl refl free.few few
 
   may_own : is_resting r.part.stage r.part.run && has r.part.descriptors.free d ≡ true
   may_own = (λ i. is_resting (is.at i) (is.resting i) && free.own i) ∙ ap (λ (b : Bool). b && true) rests

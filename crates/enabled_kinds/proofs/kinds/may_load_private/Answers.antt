@@ -12,5 +12,5 @@ returns g c =
     let p = c.args.part.now in
     let inside : c.may_if-inside.result ≡ is_enabled_if (g.S.Structure.meaning c.args.structure.now) c.args.layout c.args.requests.now c.args.runner c.args.part.now (made_load m p.nodes.free p.run) =
     c.may_if-inside.ensures ∙ ap (λ (k : Option EventKind). is_enabled_if (g.S.Structure.meaning c.args.structure.now) c.args.layout c.args.requests.now c.args.runner c.args.part.now k) c.made_load-made.ensures in
-    subst (λ (b : Bool). Tells (g.S.Structure.meaning c.args.structure.now) c.args.layout c.args.requests.now c.args.runner c.args.part.now 11 b) (λ i. sym c.may_look_free-free.ensures i || (sym c.may_look_hand-hand.ensures i || (sym c.may_reread-descriptor.ensures i || sym inside i)))
+    subst (λ (b : Bool). Tells (g.S.Structure.meaning c.args.structure.now) c.args.layout c.args.requests.now c.args.runner c.args.part.now 11 b) (λ i. sym c.may_look_free-free.ensures i || (sym c.may_look_hand-hand.ensures i || (sym c.may_reread-descriptor.ensures i || (sym c.may_reread_block-block.ensures i || sym inside i))))
     (load_tells (g.S.Structure.meaning c.args.structure.now) c.args.layout c.args.requests.now c.args.runner c.args.part.now)

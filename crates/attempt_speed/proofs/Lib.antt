@@ -1,3 +1,0 @@
-mod Asked
-mod Fronts
-mod Serving

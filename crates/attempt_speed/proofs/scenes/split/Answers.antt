@@ -1,8 +1,0 @@
-use Rattle.std.proofs.Common.{ap, arith}
-use Rattle.machine_states.specs.table_words.specs.declared.layout.Layout.{Layout}
-use Rattle.serving.specs.attempt_bounds.specs.version_words.proofs.Stages.{may_split}
-use Rattle.attempt_speed.proofs.scenes.split.Goals as goal
-
-pub runner-requires-clause-next : goal.runner-requires-clause-next
-runner-requires-clause-next g c κs within = may_split _ c.args.keeper 0 c.requires.keeper.0
-    (let one = c.requires.runners in let same = ap (λ (l : Layout). l.runners) c.requires.own.layout in omega (arith, one, same))

@@ -1,9 +1,0 @@
-use Rattle.try_lock.specs.commit_log.specs.version_words.specs.TableState.{IsOf}
-use Rattle.section_speed.specs.Workers.{IsBefore}
-use Rattle.section_speed.proofs.rounds.serve_all.Given as goal
-
-abbrev pub invariant-loop-request : goal.invariant-loop-request
-invariant-loop-request l = record {
-  own : IsOf l.table l.worker;
-  before : IsBefore l.request l.worker;
-}

@@ -1,8 +1,0 @@
-use Rattle.std.proofs.Common.{ap, arith}
-use Rattle.runner_steps.specs.runner_parts.specs.structure_laws.specs.Tray.{tray}
-use Rattle.runner_steps.specs.table_words.specs.declared.layout.Layout.{Layout}
-use Rattle.try_lock.specs.commit_log.specs.version_words.proofs.Stages.{may_split}
-use Rattle.section_speed.proofs.scenes.worker.Goals as goal
-
-pub runner-requires-clause-next : goal.runner-requires-clause-next
-runner-requires-clause-next c κs = may_split tray c.args.keeper 0 c.requires.keeper.0 (let a = ap (λ (l : Layout). l.runners) c.requires.own.layout in let b = c.requires.scene.runners in omega (arith, a, b))

@@ -1,0 +1,4 @@
+mod Asked
+mod Fronts
+mod Serving
+mod Whole

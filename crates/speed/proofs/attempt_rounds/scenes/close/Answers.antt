@@ -1,0 +1,8 @@
+use Rattle.std.proofs.Common.{ap, arith}
+use Rattle.machine_states.specs.table_words.specs.declared.layout.Layout.{Layout}
+use Rattle.serving.specs.attempt_bounds.specs.version_words.proofs.Stages.{may_join}
+use Rattle.speed.proofs.attempt_rounds.scenes.close.Goals as goal
+
+pub join_runner-keeper-requires-clause-next : goal.join_runner-keeper-requires-clause-next
+join_runner-keeper-requires-clause-next g c κs within = may_join _ c.args.keeper c.args.worker.number 1 0 c.requires.keeper.0 c.requires.keeper.1 c.requires.number
+    (let same = ap (λ (l : Layout). l.runners) c.requires.own.0.layout in let one = c.requires.runners in let first = c.requires.number in omega (arith, same, one, first))
