@@ -18,7 +18,7 @@ end_build() {
 
 interrupted() {
   end_build
-  echo 'flock: interrupted, so nothing was built' >&2
+  tell 'flock: interrupted, so nothing was built\n'
   exit $((128 + $1))
 }
 
@@ -30,14 +30,18 @@ build_checked() {
   room=$(new_room) || cannot "no file can be written in $out"
   trap end_build EXIT
   stop_by interrupted
-  printf 'flock: building the program once without proofs, in about a minute\n' >&2
+  tell 'flock: building the program once without proofs, in about a minute\n'
 
   {
     mkdir "$room/cases" "$room/files" && : > "$room/cases/long" &&
       printf '%s\n' load --seed=1 --traces=1 --length=131072 --keys=32768 --buckets=1 > "$room/cases/long.args"
   } 2> /dev/null || cannot "no file can be written in $out"
+  # In a group of its own: a key at the terminal comes to this script alone, which then stops rt once. A second signal
+  # would end rt before it has ended what it started.
+  set -m
   (cd "$top/crates/flock" && TMPDIR=$room/files exec rt try --cases "$room/cases") > "$room/log" 2>&1 < /dev/null &
   trying=$!
+  set +m
   echo "$trying" > "$room/runs"
   while [ -z "$is_kept" ] && kill -0 "$trying" 2> /dev/null; do
     sleep 0.1

@@ -3,9 +3,17 @@
 
 out=$top/out
 
+# Says a line on standard error, as printf makes it. Where nobody reads there any more, the script goes on.
+tell() {
+  trap '' PIPE
+  # shellcheck disable=SC2059
+  printf "$@" >&2
+  trap - PIPE
+}
+
 # Says in one line that the program can't be run, and why. 70 is no status of the program.
 cannot() {
-  printf 'flock: the program cannot be run: %s\n' "$1" >&2
+  tell 'flock: the program cannot be run: %s\n' "$1"
   exit 70
 }
 
@@ -99,7 +107,7 @@ current_sum() {
 new_room() {
   local room
   for room in "$out"/new-*; do
-    [[ $room =~ new-([0-9]+)- && -d /proc/${BASH_REMATCH[1]} ]] && continue
+    [[ ${room##*/} =~ ^new-([0-9]+)- && -d /proc/${BASH_REMATCH[1]} ]] && continue
     [ -s "$room/runs" ] && grep -qzF "$room/" "/proc/$(< "$room/runs")/environ" && kill "$(< "$room/runs")"
     rm -rf "$room"
   done
