@@ -58,6 +58,8 @@ build_checked() {
   if [ -z "$is_kept" ]; then
     wait "$trying"
     [ $? = 1 ] && why='its sources do not build' || why='the command rt could not build it'
+    # Where the disk is full, this makes room for what is told.
+    rm -rf "$room/files"
     cp "$room/log" "$out/checked.log" 2> /dev/null
     cannot "$why, as $out/checked.log says"
   fi

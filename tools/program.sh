@@ -139,7 +139,7 @@ keep() {
   built "$1" "$2" > /dev/null && return
   room=$(new_room) || return 1
   cp "$3" "$room/flock" && chmod 755 "$room" "$room/flock" && toolchain > "$room/toolchain" || return 1
-  rm -rf "$out/$1"-*
+  rm -rf "$out/$1"-* 2> /dev/null
   mv -T "$room" "$out/$1-$2" 2> /dev/null || rm -rf "$room"
   [ -x "$out/$1-$2/flock" ]
 }
